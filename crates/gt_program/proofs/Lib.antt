@@ -1,5 +1,1 @@
-pub mod GivenLemmas
 pub mod Obeyed
-pub mod QuestionLemmas
-mod RanDomains
-pub mod RelayLemmas

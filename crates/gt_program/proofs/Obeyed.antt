@@ -1,9 +1,9 @@
 -- From the plan of a command line, or its refusal, to what the line comes to.
-use Rattle.std.proofs.Common.{◌≡◌, ◌∙◌, ℕ, Bool, List, Option, None, Some, Result, Err, IfSome, refl, sym, subst, inl}
+use Rattle.std.proofs.Common.{◌≡◌, ◌∙◌, ℕ, Bool, List, Option, None, Some, Result, refl, sym, subst, inl}
 use Rattle.std.proofs.Common.{inr, true, false, codes, cond, ◌∷◌, [], ap, Ok, ◌==◌, ◌⊎◌}
 use Rattle.std.specs.Io.KnownBytes.{Keeps}
 use Rattle.std.specs.Prelude.{drop}
-use Rattle.gt_text.specs.Laws.{keeps_same, of_any_input}
+use Rattle.gt_text.specs.Laws.{keeps_same}
 use Rattle.gt_text.specs.Streams.{OfInput}
 use Rattle.clap.specs.Kinds.{HasKind}
 use Rattle.clap.specs.Words.{kind_of}
@@ -13,7 +13,6 @@ use Rattle.clap.specs.declared.error.kind.ErrorKind.TheVariants.{ArgumentConflic
 use Rattle.clap.specs.declared.error.kind.ErrorKind.TheVariants.{OutOfMemory, InvalidSubcommand, InvalidValue}
 use Rattle.clap.specs.declared.error.kind.ErrorKind.TheVariants.{MissingRequiredArgument, MissingSubcommand}
 use Rattle.clap.specs.declared.error.kind.ErrorKind.TheVariants.{TooManyValues, UnknownArgument}
-use Rattle.gt_policy_check.specs.declared.asking.WhyQuestion.{WhyQuestion}
 use Rattle.gt_commands.specs.Commands.{Request, to_play, to_run, to_explore, to_list, to_tell_rules, to_check}
 use Rattle.gt_commands.specs.Commands.{to_check_never, to_explain, to_explain_each, to_find_text}
 use Rattle.gt_commands.specs.Commands.{to_tell_entries, for_help, for_version, nothing, asked_by_plan, refusals}
@@ -32,56 +31,20 @@ use Rattle.gt_commands.specs.declared.invocation.Mode.TheVariants as modes
 use Rattle.std.specs.Str.{bytes_eq}
 use Rattle.std.proofs.lemmas.Slice.Eq.{bytes_eq-Decides}
 use Rattle.gt_commands.specs.declared.invocation.Invocation.{Invocation}
-use Rattle.gt_entries.specs.declared.asked.DumpOptions.{DumpOptions}
 use Rattle.gt_commands.specs.declared.invocation.Format.{Format}
-use Rattle.gt_policy_list.specs.declared.fault.ListingFault.{ListingFault}
-use Rattle.gt_json_commands.specs.AsJson.{Promise}
-use Rattle.gt_program.specs.Formats.{CheckedAs, RanAs}
-use Rattle.gt_run.specs.declared.fault.RunFault.{RunFault}
-use Rattle.gt_program.specs.Obeying.{AnswersVerdict, IsSearched, Searches, Seeks, verdict_outcome}
-use Rattle.gt_program.specs.Formats.{explore_format}
+use Rattle.gt_fault_reports.specs.Names.{shown_name}
 use Rattle.gt_explore_verdict.specs.declared.judging.Verdict.{Verdict}
 use Rattle.gt_explore_verdict.specs.declared.judging.Verdict.TheVariants.{Holds, Fails, Undecided}
 use Rattle.gt_explore_answers.specs.declared.asking.ExploreOptions.{ExploreOptions as Searched}
-use Rattle.gt_program.specs.Obeying.{AnswersLines, ChecksAll, ChecksAs, ChecksNever, Deed, IsGiven, OrNothing, SeeksText, kind_checked}
-use Rattle.gt_program.specs.Obeying.{WithFile}
-use Rattle.gt_program.specs.declared.checking.CheckKind.{CheckKind}
 use Rattle.std.specs.Str.Lines.{lines}
-use Rattle.gt_program.specs.Obeying.{AnswersQuestion, Checks, Does, Doing, Ending, Explains, FitsKind, IsAsked}
-use Rattle.gt_program.specs.Obeying.{IsQuestion}
-use Rattle.gt_program.specs.Obeying.{Lists, Obeys, Performs, Plays, RunsDomains, AnswersDump, AnswersEntries, Works}
-use Rattle.gt_program.specs.Obeying.{known_text, shown_name, answer_of, failed_command, failed_mode, failed_word, first_word}
-use Rattle.gt_program.specs.Obeying.{outcome_of, Answers, ChecksFiles, IsHelped}
-use Rattle.gt_program.specs.declared.outcome.Outcome.{Outcome}
-use Rattle.gt_program.specs.declared.outcome.Outcome.TheVariants.{No, Unknown, Yes}
-use Rattle.gt_program.specs.declared.commands.Work.{Work}
-use Rattle.gt_program.specs.declared.failure.Failure.TheVariants as failures
-
--- it was done
-pub worked : (P : Doing) (failed : Outcome) (known old new : Option (List ℕ)) (r : Ending) (outcome : Outcome) → IfSome known (λ bytes. Does P bytes old new r) → outcome ≡ outcome_of failed r
-    → Works P failed known old new outcome
-worked P failed None old new r outcome does is = tt
-worked P failed (Some bytes) old new r outcome does is = (r, is, inl does)
-
--- the same, where a failure comes to what it was found to
-pub worked_as : (P : Doing) (failed same : Outcome) (known old new : Option (List ℕ)) (r : Ending) (outcome : Outcome) → failed ≡ same → IfSome known (λ bytes. Does P bytes old new r) → outcome ≡ outcome_of failed r
-    → Works P same known old new outcome
-worked_as P failed same known old new r outcome is does of = subst (λ (f : Outcome). Works P f known old new outcome) is (worked P failed known old new r outcome does of)
-
-pub no_memory : (P : Doing) (failed : Outcome) (known old new : Option (List ℕ)) (outcome : Outcome) → outcome ≡ failed → Keeps old new → Works P failed known old new outcome
-no_memory P failed None old new outcome is kept = tt
-no_memory P failed (Some bytes) old new outcome is kept = (Err failures.Memory, is, inr (refl, kept))
-
--- an answer of yes or no
-answered_one : {F : Type 0} (Wrote : Result Bool F → Type 0) (answer : Bool) → Wrote (Ok answer) → Answers Wrote (answer_of answer)
-answered_one Wrote true wrote = wrote
-answered_one Wrote false wrote = wrote
-
--- the same for the input
-pub answered_input : {F : Type 0} (known : Option (List ℕ)) (Wrote : List ℕ → Result Bool F → Type 0) (answer : Bool) (outcome : Outcome) → outcome ≡ answer_of answer → OfInput known (λ input. Wrote input (Ok answer))
-    → OfInput known (λ input. Answers (Wrote input) outcome)
-answered_input None Wrote answer outcome is (input, few, wrote) = (input, few, subst (λ (o : Outcome). Answers (Wrote input) o) (sym is) (answered_one (Wrote input) answer wrote))
-answered_input (Some all) Wrote answer outcome is wrote = subst (λ (o : Outcome). Answers (Wrote all) o) (sym is) (answered_one (Wrote all) answer wrote)
+use Rattle.gt_file_commands.specs.Laws.{no_memory, nothing_done}
+use Rattle.gt_file_commands.specs.Working.{AnswersDump, AnswersLines, AnswersQuestion, ChecksAll, ChecksAs, ChecksFiles}
+use Rattle.gt_file_commands.specs.Working.{ChecksNever, Does, Doing, Ending, Lists, Plays, RunsDomains, Works, known_text}
+use Rattle.gt_file_commands.specs.declared.outcome.Outcome.{Outcome}
+use Rattle.gt_file_commands.specs.declared.outcome.Outcome.TheVariants.{No, Unknown, Yes}
+use Rattle.gt_program.specs.Obeying.{AnswersVerdict, FitsKind, IsGiven, IsHelped, IsSearched, Obeys, Searches, Seeks}
+use Rattle.gt_program.specs.Obeying.{SeeksText, explore_format, failed_command, failed_mode, failed_word, first_word}
+use Rattle.gt_program.specs.Obeying.{verdict_outcome}
 
 -- a verdict is an answer
 verdict_one : {F : Type 0} (Wrote : Result Verdict F → Type 0) (verdict : Verdict) → Wrote (Ok verdict) → AnswersVerdict Wrote (verdict_outcome verdict)
@@ -98,49 +61,6 @@ verdict_input (Some all) Wrote verdict outcome is wrote = subst (λ (o : Outcome
 pub as_planned : (p same : Invocation) (file : List ℕ → Option (List ℕ)) (input old new : Option (List ℕ)) (outcome : Outcome) → p ≡ same → Obeys (asked_by_plan same) file input old new outcome
     → Obeys (asked_by_plan p) file input old new outcome
 as_planned p same file input old new outcome is obeys = subst (λ (q : Invocation). Obeys (asked_by_plan q) file input old new outcome) (sym is) obeys
-
--- a run with a log or without, as was asked for
-pub ran_as_asked : (format : Format) (logged audited : Bool) (known old new : Option (List ℕ)) (r : Result (Unit {0}) RunFault) → audited ≡ logged → OfInput known (λ input. RanAs format logged input old new r)
-    → OfInput known (λ input. RanAs format audited input old new r)
-ran_as_asked format logged audited known old new r is ran = subst (λ (b : Bool). OfInput known (λ input. RanAs format b input old new r)) (sym is) ran
-
--- what was written in the format that was asked for
-pub in_format : {F : Type 0} (Wrote : Format → List ℕ → Promise F) (format other : Format) (known old new : Option (List ℕ)) (r : Result (Unit {0}) F) → format ≡ other → OfInput known (λ input. Wrote other input old new r)
-    → OfInput known (λ input. Wrote format input old new r)
-in_format Wrote format other known old new r is wrote = subst (λ (f : Format). OfInput known (λ input. Wrote f input old new r)) (sym is) wrote
-
--- a policy was checked or a script, as was asked for
-pub checked_as_asked : (checked script : Bool) (known old new : Option (List ℕ)) (r : Result Bool ListingFault) → script ≡ checked → OfInput known (λ input. CheckedAs checked input old new r)
-    → OfInput known (λ input. CheckedAs script input old new r)
-checked_as_asked checked script known old new r is does = subst (λ (b : Bool). OfInput known (λ input. CheckedAs b input old new r)) (sym is) does
-
--- no memory was there before the text was read
-pub unread_run : (format : Format) (audited : Bool) (known old : Option (List ℕ)) → OfInput known (λ input. RunsDomains format audited input old old (Err failures.Memory))
-unread_run format audited known old = of_any_input known (λ (input : List ℕ). RunsDomains format audited input old old (Err failures.Memory)) (λ (input : List ℕ). keeps_same old)
-
--- the files of these names were checked
-pub files_named : (P : Doing) (file : List ℕ → Option (List ℕ)) (given names : List (Option (List ℕ))) (old new : Option (List ℕ)) (outcome : Outcome) → given ≡ names → ChecksFiles P file given old new outcome → ChecksFiles P file names old new outcome
-files_named P file given names old new outcome is checked = subst (λ (l : List (Option (List ℕ))). ChecksFiles P file l old new outcome) is checked
-
--- all files were checked as what was asked for
-pub checked_kind : (script : Bool) (kind : CheckKind) (file : List ℕ → Option (List ℕ)) (input name : Option (List ℕ)) (more : List (Option (List ℕ))) (old new : Option (List ℕ)) (outcome : Outcome) → kind ≡ kind_checked script
-    → ChecksAll (Checks kind) file input name more old new outcome → ChecksAll (ChecksAs script) file input name more old new outcome
-checked_kind true kind file input name more old new outcome is checked = subst (λ (k : CheckKind). ChecksAll (Checks k) file input name more old new outcome) is checked
-checked_kind false kind file input name more old new outcome is checked = subst (λ (k : CheckKind). ChecksAll (Checks k) file input name more old new outcome) is checked
-
--- all files were checked against these statements
-pub checked_never : (text bytes : List ℕ) (file : List ℕ → Option (List ℕ)) (input name : Option (List ℕ)) (more : List (Option (List ℕ))) (old new : Option (List ℕ)) (outcome : Outcome) → text ≡ bytes
-    → ChecksAll (ChecksNever text) file input name more old new outcome → OrNothing (ChecksAll (ChecksNever bytes) file input name more) old new outcome
-checked_never text bytes file input name more old new outcome is checked = inl (subst (λ (t : List ℕ). ChecksAll (ChecksNever t) file input name more old new outcome) is checked)
-
--- the text was checked as what was asked for
-pub for_kind : (known old new : Option (List ℕ)) (kind other : CheckKind) (r : Ending) → kind ≡ other → OfInput known (λ input. Checks other input old new r) → OfInput known (λ input. Checks kind input old new r)
-for_kind known old new kind other r is does = subst (λ (k : CheckKind). OfInput known (λ input. Checks k input old new r)) (sym is) does
-
--- something was done with a further text
-pub with_text : (known : Option (List ℕ)) (D : List ℕ → Deed) (bytes : List ℕ) (old new : Option (List ℕ)) (outcome : Outcome) → IfSome known (λ all. bytes ≡ all) → OrNothing (D bytes) old new outcome → WithFile known D old new outcome
-with_text None D bytes old new outcome is done = tt
-with_text (Some all) D bytes old new outcome is done = subst (λ (b : List ℕ). OrNothing (D b) old new outcome) is done
 
 -- a text was sought among those of a script
 seeks_given : (asked : Searched) (text : List ℕ) (format : Format) (states : ℕ) (input : List ℕ) (old new : Option (List ℕ)) (r : Ending) → IsGiven text asked.request
@@ -201,11 +121,6 @@ unread_files P file (None ∷ more) here = unread_files P file more here
 unread_files P file (Some name ∷ more) here =
     let others = unread_files P file more here in
     (Unknown, (here, Unknown, others.0, no_memory P Unknown (file name) here here Unknown refl (keeps_same here), others.1, refl))
-
--- nothing was done with a further text
-pub nothing_done : (known : Option (List ℕ)) (D : List ℕ → Deed) (old new : Option (List ℕ)) (outcome : Outcome) → outcome ≡ Unknown → Keeps old new → WithFile known D old new outcome
-nothing_done None D old new outcome is kept = tt
-nothing_done (Some bytes) D old new outcome is kept = inr (is, kept)
 
 out_of_memory : (request : Request) (failed : Outcome) (file : List ℕ → Option (List ℕ)) (input old new : Option (List ℕ)) (outcome : Outcome) → FailedFor request failed → outcome ≡ failed → Keeps old new
     → Obeys request file input old new outcome
@@ -438,40 +353,6 @@ pub refused_words : (words : List (List ℕ)) (file : List ℕ → Option (List 
     → FitsKind failed (kind_of error) old new outcome → Obeys (request_in_words words) file input old new outcome
 refused_words words file input old new error failed outcome is has fits = refused (request_in_words words) file input old new error failed outcome (failed_in_words words failed is) has fits
 
--- a question of these names was answered
-explains_names : (file : List ℕ) (q : WhyQuestion) (source target permission : Option (List ℕ)) (input : List ℕ) (old new : Option (List ℕ)) (r : Ending) → IsQuestion source target permission q
-    → Does (Explains file q) input old new r → Does (AnswersQuestion file source target permission) input old new r
-explains_names file q source target permission input old new r is (inl does) = inl (q, is, does)
-explains_names file q source target permission input old new r is (inr unopened) = inr unopened
-
-question_by : (file : List ℕ) (q : WhyQuestion) (source target permission : Option (List ℕ)) (known old new : Option (List ℕ)) (outcome : Outcome) → IsQuestion source target permission q
-    → Works (Explains file q) Unknown known old new outcome → Works (AnswersQuestion file source target permission) Unknown known old new outcome
-question_by file q source target permission None old new outcome asks works = tt
-question_by file q source target permission (Some bytes) old new outcome asks (r, is, inl does) = (r, is, inl (explains_names file q source target permission bytes old new r asks does))
-question_by file q source target permission (Some bytes) old new outcome asks (r, is, inr none) = (r, is, inr none)
-
-pub answered : (file same : List ℕ) (q : WhyQuestion) (source target permission : Option (List ℕ)) (known old new : Option (List ℕ)) (outcome : Outcome) → file ≡ same → IsQuestion source target permission q
-    → Works (Explains file q) Unknown known old new outcome → Works (AnswersQuestion same source target permission) Unknown known old new outcome
-answered file same q source target permission known old new outcome shown asks works =
-    subst (λ (f : List ℕ). Works (AnswersQuestion f source target permission) Unknown known old new outcome) shown (question_by file q source target permission known old new outcome asks works)
-
--- a dump was told as it was asked
-tells_asked : (asked : DumpOptions) (version : ℕ) (hex every : Bool) (script : Option ℕ) (format : Format) (input : List ℕ) (old new : Option (List ℕ)) (r : Ending) → IsAsked version hex every script asked
-    → Does (AnswersEntries format asked) input old new r → Does (AnswersDump version hex every script format) input old new r
-tells_asked asked version hex every script format input old new r is (inl does) = inl (asked, is, does)
-tells_asked asked version hex every script format input old new r is (inr unopened) = inr unopened
-
-pub told : (asked : DumpOptions) (version : ℕ) (hex every : Bool) (script : Option ℕ) (format : Format) (known old new : Option (List ℕ)) (outcome : Outcome) → IsAsked version hex every script asked
-    → Works (AnswersEntries format asked) Unknown known old new outcome → Works (AnswersDump version hex every script format) Unknown known old new outcome
-told asked version hex every script format None old new outcome asks works = tt
-told asked version hex every script format (Some bytes) old new outcome asks (r, is, inl does) = (r, is, inl (tells_asked asked version hex every script format bytes old new r asks does))
-told asked version hex every script format (Some bytes) old new outcome asks (r, is, inr none) = (r, is, inr none)
-
--- the domain of a dump's script by its number
-pub of_number : (version : ℕ) (hex every : Bool) (one script : Option ℕ) (format : Format) (known old new : Option (List ℕ)) (outcome : Outcome) → one ≡ script
-    → Works (AnswersDump version hex every one format) Unknown known old new outcome → Works (AnswersDump version hex every script format) Unknown known old new outcome
-of_number version hex every one script format known old new outcome is works = subst (λ (n : Option ℕ). Works (AnswersDump version hex every n format) Unknown known old new outcome) is works
-
 -- a script was explored as it was asked
 seeks_asked : (asked : Searched) (sought : Sought) (format : Format) (states : ℕ) (input : List ℕ) (old new : Option (List ℕ)) (r : Ending) → IsSearched sought format states asked
     → Does (Searches asked) input old new r → Does (Seeks sought format states) input old new r
@@ -483,7 +364,3 @@ pub sought_so : (asked : Searched) (sought : Sought) (format : Format) (states :
 sought_so asked sought format states None old new outcome asks works = tt
 sought_so asked sought format states (Some bytes) old new outcome asks (r, is, inl does) = (r, is, inl (seeks_asked asked sought format states bytes old new r asks does))
 sought_so asked sought format states (Some bytes) old new outcome asks (r, is, inr none) = (r, is, inr none)
-
--- the work is the one that was asked for
-pub for_work : (known old new : Option (List ℕ)) (work other : Work) (r : Ending) → work ≡ other → OfInput known (λ input. Performs other input old new r) → OfInput known (λ input. Performs work input old new r)
-for_work known old new work other r is does = subst (λ (w : Work). OfInput known (λ input. Performs w input old new r)) (sym is) does

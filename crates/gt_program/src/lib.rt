@@ -12,30 +12,12 @@
 //! tested.
 #![tactic(auto)]
 
-mod checking;
-mod commands;
-mod copying;
-mod explained;
-mod failure;
+mod exploring;
 mod following;
-mod formats;
-mod given;
-mod given_reasons;
 mod obeying;
-mod outcome;
-mod questions;
-mod reasons;
 mod rules;
-mod style;
 mod system;
-mod texts;
-mod told;
 
-pub use checking::{CheckKind, ReportSettings};
-pub use commands::{Context, Work};
-pub use failure::Failure;
+pub use gt_file_commands::{Context, Outcome, Style, TextSource};
 pub use obeying::{obey, obey_read};
-pub use outcome::{Outcome, outcome_of};
-pub use style::Style;
 pub use system::{System, run};
-pub use texts::TextSource;

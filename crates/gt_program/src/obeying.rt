@@ -1,45 +1,25 @@
 //! The execution of a command line.
 ghost use Rattle.std.specs.Prelude.{◌≡◌, IfErr, IfOk, drop, map, string_bytes};
 ghost use Rattle.std.specs.Io.KnownBytes.{Keeps};
-ghost use Rattle.std.specs.Option.{option_map};
 ghost use Rattle.clap.specs.Words.{kind_of};
 ghost use Rattle.gt_commands.specs.Commands.{request_in_words};
 ghost use Rattle.gt_commands.specs.Leading.{command_first, leading_word};
 ghost use Rattle.gt_commands.specs.Letters.{with_long_flags};
-ghost use Rattle.gt_program.specs.Obeying.{failed_mode, failed_word, first_word, outcome_of, shown_name, FitsKind};
+ghost use Rattle.gt_program.specs.Obeying.{failed_mode, failed_word, first_word, FitsKind};
 ghost use Rattle.gt_program.specs.Obeying.{FitsUnread, IsHelped, Obeys};
 ghost use Rattle.std.specs.IoError.{error_kind};
 
-use crate::commands::Context;
-use crate::failure::Failure;
 use crate::following::follow;
-use crate::outcome::{Outcome, outcome_of};
-use crate::reasons::Reasons;
-use crate::texts::TextSource;
 use clap::Error;
 use clap::error::ErrorKind;
 use gt_commands::{Mode, command_first, leading_word, mode_of, plan, with_long_flags};
+use gt_fault_reports::Reasons;
+use gt_file_commands::{Context, Failure, Outcome, TextSource, report};
 use gt_text::WriteFault;
 use std::alloc::{AllocError, Global};
 use std::io::{self, Write};
 use std::sync::Wait;
 use std::thread::Threads;
-
-// Reports the failure of a command, if it failed, and returns the outcome, where a failure comes to `failed`. A failed
-// write of the report is not reported.
-pub(crate) fn report<E: Eprint>(
-    err: &E,
-    ending: Result<Outcome, Failure>,
-    failed: Outcome,
-) -> Outcome
-    ensures { result ≡ outcome_of failed ending }
-{
-    let outcome = outcome_of(failed, &ending);
-    if let Err(failure) = ending {
-        let _ = err.eprintln(failure);
-    }
-    outcome
-}
 
 // Returns what a failure of this command comes to.
 fn failed_mode(mode: Mode) -> Outcome
@@ -90,16 +70,6 @@ fn refuse<W: Write, E: Eprint>(out: &mut W, err: &E, error: &Error, failed: Outc
     }
     let _ = err.eprint(error);
     Outcome::Unknown
-}
-
-// Returns the name with which lines begin.
-pub(crate) fn shown_name<'a>(name: Option<&'a str>) -> &'a str
-    ensures { result.now ≡ shown_name (option_map (λ f. f.now) name.entry) }
-{
-    match name {
-        Some(name) => name,
-        None => "<stdin>",
-    }
 }
 
 // Does what words with the command before its long flags ask for. A failed allocation comes to `failed`.

@@ -1,9 +1,7 @@
 //! The rules by which calls are refused, a line each.
 ghost use Rattle.std.specs.Prelude.{◌≡◌, ◌⊎◌};
 
-use crate::failure::Failure;
-use crate::obeying::report;
-use crate::outcome::Outcome;
+use gt_file_commands::{Failure, Outcome, report};
 use gt_text::WriteFault;
 use gt_types::{Rule, Status};
 use std::alloc::{AllocError, Global};

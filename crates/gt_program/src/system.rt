@@ -1,9 +1,6 @@
 //! The program over the system's files, words and streams.
-use crate::commands::Context;
 use crate::obeying::obey_read;
-use crate::outcome::Outcome;
-use crate::style::Style;
-use crate::texts::TextSource;
+use gt_file_commands::{Context, Outcome, Style, TextSource};
 use std::fs::File;
 use std::io;
 use std::rt::Runtime;

@@ -14,7 +14,7 @@ pub returns-in-ExploreHas : goal.returns-in-ExploreHas
 returns-in-ExploreHas g c = as_planned _ _ _ _ _ _ _ c.in-ExploreHas.is c.find_text.ensures
 
 pub returns-in-Policy : goal.returns-in-Policy
-returns-in-Policy g c = as_planned _ _ _ _ _ _ _ c.in-Policy.is c.work_asked.ensures
+returns-in-Policy g c = as_planned _ _ _ _ _ _ _ c.in-Policy.is c.list.ensures
 
 pub returns-in-Check : goal.returns-in-Check
 returns-in-Check g c = as_planned _ _ _ _ _ _ _ c.in-Check.is c.check_files.ensures

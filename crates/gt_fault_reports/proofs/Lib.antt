@@ -1,0 +1,3 @@
+pub mod FormatLemmas
+pub mod RelayLemmas
+pub mod WholeTexts

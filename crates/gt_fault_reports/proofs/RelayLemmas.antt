@@ -1,0 +1,95 @@
+-- From the text that a run wrote to memory to the one that goes out.
+use Rattle.std.proofs.Common.{◌≡◌, ◌∙◌, ℕ, Bool, List, [], ◌++◌, Option, None, Some, Result, Ok, Err, sym, subst, inl, true, false}
+use Rattle.std.proofs.Common.{inr}
+use Rattle.std.proofs.Common.{arith}
+use Rattle.std.proofs.lemmas.List.{append-nil}
+use Rattle.std.specs.Io.KnownBytes.{Appends, Keeps}
+use Rattle.gt_json_commands.specs.AsJson.{AsJson, Failed, Promise}
+use Rattle.gt_json_commands.specs.Prelude.{Run, json_text}
+use Rattle.gt_commands.specs.declared.invocation.Format.{Format}
+use Rattle.gt_commands.specs.declared.invocation.Format.TheVariants.{Text, Json}
+use Rattle.gt_host.specs.Rights.{may_by}
+use Rattle.gt_host.specs.declared.rights.ScriptPolicy.{ScriptPolicy as ScriptRights}
+use Rattle.gt_host.specs.declared.fault.PlayFault.TheVariants.{Memory, Read, Write, Script, Policy}
+use Rattle.gt_run.specs.Printing.{BeginsAll, run_text, texts_in}
+use Rattle.gt_run.specs.Runs.{Ran}
+use Rattle.gt_run.specs.declared.fault.RunFault.{RunFault}
+use Rattle.gt_run.specs.declared.fault.RunFault.TheVariants.{Play, Thread}
+use Rattle.gt_run.specs.declared.lists.ThreadJob.{ThreadJob}
+use Rattle.gt_script.specs.RunContents.{RunContents}
+use Rattle.gt_script.specs.RunScripts.{RunTells}
+use Rattle.gt_script.specs.Script.{Wrong}
+use Rattle.gt_text.specs.Streams.{AppendsBeginning, OfInput}
+use Rattle.gt_order.specs.Running.{AppendsText, WroteIfOk}
+use Rattle.gt_fault_reports.specs.Formats.{RanAs, Relays}
+
+-- where all stays nothing went out, which is a beginning of any text
+kept_nothing : (old new : Option (List ℕ)) → Keeps old new → Appends old new []
+kept_nothing None new kept = tt
+kept_nothing (Some xs) None kept = kept
+kept_nothing (Some xs) (Some ys) kept = kept ∙ sym (append-nil xs)
+
+begins_nothing : (old new : Option (List ℕ)) (text : List ℕ) → Keeps old new → AppendsBeginning old new text
+begins_nothing old new text kept = (0, omega arith, kept_nothing old new kept)
+
+begins_all : (duties : List (ThreadJob ScriptRights)) (a b old new : Option (List ℕ)) → Keeps old new → BeginsAll may_by duties a b → BeginsAll may_by duties old new
+begins_all duties a b old new kept (inl (all, rest, text, is, served, prints, begins)) = inl (all, rest, text, is, served, prints, begins_nothing old new (texts_in all ++ text) kept)
+begins_all duties a b old new kept (inr (all, is, served, begins)) = inr (all, is, served, begins_nothing old new (run_text all) kept)
+
+-- a run that ended with a fault, and of which nothing goes out
+kept_on : (logged : Bool) (Told : Result RunContents Wrong → Type 0) (a b old new : Option (List ℕ)) (why : RunFault) → Keeps old new → Ran logged Told a b (Err why) → Ran logged Told old new (Err why)
+kept_on logged Told a b old new Thread kept (c, told, same) = (c, told, kept)
+kept_on logged Told a b old new (Play (Script fault)) kept (told, same) = (told, kept)
+kept_on logged Told a b old new (Play (Policy fault)) kept (g, shown, told, same) = (g, shown, told, kept)
+kept_on logged Told a b old new (Play Memory) kept ran = inl kept
+kept_on logged Told a b old new (Play Write) kept (c, told, (duties, are, begins)) = (c, told, (duties, are, begins_all duties a b old new kept begins))
+kept_on logged Told a b old new (Play Read) kept same = kept
+
+module _ (old new : Option (List ℕ)) (text : List ℕ) where
+  relayed_text : (logged : Bool) (Told : Result RunContents Wrong → Type 0) (outcome answer : Result (Unit {0}) RunFault) → Ran logged Told (Some []) (Some text) outcome → Relays text outcome old new answer → Ran logged Told old new answer
+  relayed_text logged Told (Ok done) (Ok sent) (c, told, (duties, are, (all, is, served, one, whole))) went =
+      (c, told, (duties, are, (all, is, served, one, subst (λ (l : List ℕ). Appends old new l) whole went)))
+  relayed_text logged Told (Ok done) (Err fault) (c, told, (duties, are, (all, is, served, one, whole))) (wrote, begins) =
+      subst (λ (f : RunFault). Ran logged Told old new (Err f)) (sym wrote) (c, told, (duties, are, inr (all, is, served, subst (λ (l : List ℕ). AppendsBeginning old new l) whole begins)))
+  relayed_text logged Told (Err why) (Ok sent) ran went = absurd went
+  relayed_text logged Told (Err why) (Err fault) ran (inl memory, kept) = subst (λ (f : RunFault). Ran logged Told old new (Err f)) (sym memory) (inl kept)
+  relayed_text logged Told (Err why) (Err fault) ran (inr same, kept) = subst (λ (f : RunFault). Ran logged Told old new (Err f)) (sym same) (kept_on logged Told (Some []) (Some text) old new why kept ran)
+
+  sent_on : (logged : Bool) (part : List ℕ) → AppendsText logged (Some []) (Some text) part → Appends old new text → AppendsText logged old new part
+  sent_on false part is went = subst (λ (l : List ℕ). Appends old new l) is went
+  sent_on true part (audit, is) went = (audit, subst (λ (l : List ℕ). Appends old new l) is went)
+
+  relayed_wrote : (logged : Bool) (Told : Result RunContents Wrong → Type 0) (outcome answer : Result (Unit {0}) RunFault) → WroteIfOk logged Told (Some []) (Some text) outcome → Relays text outcome old new answer → WroteIfOk logged Told old new answer
+  relayed_wrote logged Told (Ok done) (Ok sent) (c, told, wrote) went =
+      (c, told, record { text = wrote.text; appends = sent_on logged wrote.text wrote.appends went; printed = wrote.printed; given = wrote.given })
+  relayed_wrote logged Told (Err why) (Ok sent) wrote went = absurd went
+  relayed_wrote logged Told outcome (Err fault) wrote went = tt
+
+  relayed_json : (Wrote : Promise RunFault) (outcome answer : Result (Unit {0}) RunFault) → AsJson Run (Play Memory) (Play Write) Wrote (Some []) (Some text) outcome → Relays text outcome old new answer
+      → AsJson Run (Play Memory) (Play Write) Wrote old new answer
+  relayed_json Wrote (Ok done) (Ok sent) (lines, wrote, whole) went = (lines, wrote, subst (λ (l : List ℕ). Appends old new l) whole went)
+  relayed_json Wrote (Ok done) (Err fault) (lines, wrote, whole) (is, begins) = inr (inr is, (lines, wrote, subst (λ (l : List ℕ). AppendsBeginning old new l) whole begins))
+  relayed_json Wrote (Err why) (Ok sent) ran went = absurd went
+  relayed_json Wrote (Err why) (Err fault) ran (inl memory, kept) = inl (kept, inl memory)
+  relayed_json Wrote (Err why) (Err fault) (inl (nothing, because)) (inr same, kept) =
+      subst (λ (f : RunFault). Failed Run (Play Memory) (Play Write) Wrote old new f) (sym same) (inl (kept, because))
+  relayed_json Wrote (Err why) (Err fault) (inr (because, (lines, wrote, begins))) (inr same, kept) =
+      subst (λ (f : RunFault). Failed Run (Play Memory) (Play Write) Wrote old new f) (sym same) (inr (because, (lines, wrote, begins_nothing old new (json_text Run lines) kept)))
+
+relayed_one : (old new : Option (List ℕ)) (text : List ℕ) (format : Format) (logged : Bool) (input : List ℕ) (outcome answer : Result (Unit {0}) RunFault) → RanAs format logged input (Some []) (Some text) outcome → Relays text outcome old new answer
+    → RanAs format logged input old new answer
+relayed_one old new text Text logged input outcome answer ran went = (relayed_text old new text logged (RunTells input) outcome answer ran.0 went, relayed_wrote old new text logged (RunTells input) outcome answer ran.1 went)
+relayed_one old new text Json logged input outcome answer ran went = relayed_json old new text (Ran logged (RunTells input)) outcome answer ran went
+
+-- what follows for each input follows for the one that there is
+of_input_more : (known : Option (List ℕ)) (P Q : List ℕ → Type 0) → ((input : List ℕ) → P input → Q input) → OfInput known P → OfInput known Q
+of_input_more None P Q f (input, few, p) = (input, few, f input p)
+of_input_more (Some all) P Q f p = f all p
+
+-- the text of a run, which began with nothing, went out
+pub relayed : (known : Option (List ℕ)) (format : Format) (logged : Bool) (start text given : List ℕ) (outcome answer : Result (Unit {0}) RunFault) (old new : Option (List ℕ)) → start ≡ [] → given ≡ text
+    → OfInput known (λ input. RanAs format logged input (Some start) (Some text) outcome) → Relays given outcome old new answer → OfInput known (λ input. RanAs format logged input old new answer)
+relayed known format logged start text given outcome answer old new none is ran went =
+    let gone : Relays text outcome old new answer = subst (λ (l : List ℕ). Relays l outcome old new answer) is went in
+    of_input_more known (λ (input : List ℕ). RanAs format logged input (Some start) (Some text) outcome) (λ (input : List ℕ). RanAs format logged input old new answer)
+    (λ (input : List ℕ) (r : RanAs format logged input (Some start) (Some text) outcome). relayed_one old new text format logged input outcome answer (subst (λ (l : List ℕ). RanAs format logged input (Some l) (Some text) outcome) none r) gone) ran

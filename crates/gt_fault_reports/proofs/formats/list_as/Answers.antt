@@ -1,0 +1,11 @@
+use Rattle.std.proofs.Common.{ℕ, List}
+use Rattle.gt_commands.specs.declared.invocation.Format.{Format}
+use Rattle.gt_fault_reports.specs.Formats.{ListedAs}
+use Rattle.gt_fault_reports.proofs.FormatLemmas.{in_format}
+use Rattle.gt_fault_reports.proofs.formats.list_as.Goals as goal
+
+pub returns-in-Text : goal.returns-in-Text
+returns-in-Text g c = in_format (λ (f : Format) (input : List ℕ). ListedAs f input) _ _ _ _ _ _ c.in-Text.is c.policy.ensures.text
+
+pub returns-in-Json : goal.returns-in-Json
+returns-in-Json g c = in_format (λ (f : Format) (input : List ℕ). ListedAs f input) _ _ _ _ _ _ c.in-Json.is c.policy_json.ensures.text

@@ -1,0 +1,119 @@
+//! Commands that explain their faults.
+ghost use Rattle.gt_text.specs.Streams.{OfInput};
+ghost use Rattle.gt_checks.specs.Breaking.{CheckedNever};
+ghost use Rattle.gt_checks.specs.Explaining.{Explained};
+ghost use Rattle.gt_fault_reports.specs.Formats.{CheckedAs, ListedAs, ToldAs};
+
+use crate::copying::CopyingReader;
+use crate::formats::{ReportSettings, check_as, entries_as, list_as};
+use crate::reasons::Reasons;
+use gt_checks::{BreachFault, NeverText, WhyFault, check_never, why};
+use gt_commands::Format;
+use gt_entries::{DumpFault, DumpOptions};
+use gt_policy_check::WhyQuestion;
+use gt_policy_list::ListingFault;
+use std::alloc::Global;
+use std::io::{Read, Write};
+
+/// Lists what the policy of a reader allows, and adds the reason of a fault, if it is asked for.
+pub fn list_with_reasons<R: Read, W: Write>(
+    alloc: Global,
+    format: Format,
+    reader: &mut R,
+    out: &mut W,
+    reasons: &mut Reasons,
+) -> Result<(), ListingFault>
+    ensures { OfInput (R.remaining reader.old) (λ input.
+        ListedAs format input (W.contents out.old) (W.contents out.new) result) }
+{
+    if !reasons.are_asked() {
+        return list_as(alloc, format, reader, out);
+    }
+    let mut input = CopyingReader::new(alloc, reader);
+    let ending = list_as(alloc, format, &mut input, out);
+    if let Err(fault) = &ending {
+        reasons.add_listing(&input.kept, fault);
+    }
+    ending
+}
+
+/// Checks the policy of a reader, or its script, and adds the reason of a fault.
+pub fn check_explained<R: Read, W: Write>(
+    alloc: Global,
+    script: bool,
+    report: ReportSettings,
+    reader: &mut R,
+    out: &mut W,
+    reasons: &mut Reasons,
+) -> Result<bool, ListingFault>
+    ensures { OfInput (R.remaining reader.old) (λ input.
+        CheckedAs script input (W.contents out.old) (W.contents out.new) result) }
+{
+    let mut input = CopyingReader::new(alloc, reader);
+    let ending = check_as(alloc, script, report, &mut input, out);
+    if let Err(fault) = &ending {
+        reasons.add_listing(&input.kept, fault);
+    }
+    ending
+}
+
+/// Checks the policy of a reader against `neverallow` statements, and adds the reason of a fault.
+pub fn check_never_explained<R: Read, W: Write>(
+    alloc: Global,
+    never: NeverText,
+    report: ReportSettings,
+    reader: &mut R,
+    out: &mut W,
+    reasons: &mut Reasons,
+) -> Result<bool, BreachFault>
+    ensures { OfInput (R.remaining reader.old) (λ input.
+        CheckedNever never.entry.text.now input (W.contents out.old) (W.contents out.new) result) }
+{
+    let mut input = CopyingReader::new(alloc, reader);
+    let ending = check_never(alloc, report.file, report.form, never, &mut input, out);
+    if let Err(fault) = &ending {
+        reasons.add_breach(&input.kept, never.file, fault);
+    }
+    ending
+}
+
+/// Answers a question about the policy of a reader, and adds the reason of a fault.
+pub fn why_explained<R: Read, W: Write>(
+    alloc: Global,
+    file: &str,
+    question: &WhyQuestion,
+    reader: &mut R,
+    out: &mut W,
+    reasons: &mut Reasons,
+) -> Result<bool, WhyFault>
+    ensures { OfInput (R.remaining reader.old) (λ input.
+        Explained file.now question.now input (W.contents out.old) (W.contents out.new) result) }
+{
+    let mut input = CopyingReader::new(alloc, reader);
+    let ending = why(alloc, file, question, &mut input, out);
+    if let Err(fault) = &ending {
+        reasons.add_why(&input.kept, question, fault);
+    }
+    ending
+}
+
+/// Prints the entries of the dump of a reader, and adds the reason of a fault, or that it looks like no table.
+pub fn entries_explained<R: Read, W: Write>(
+    alloc: Global,
+    format: Format,
+    asked: DumpOptions,
+    reader: &mut R,
+    out: &mut W,
+    reasons: &mut Reasons,
+) -> Result<(), DumpFault>
+    ensures { OfInput (R.remaining reader.old) (λ input.
+        ToldAs format asked input (W.contents out.old) (W.contents out.new) result) }
+{
+    let mut input = CopyingReader::new(alloc, reader);
+    let ending = entries_as(alloc, format, asked, &mut input, out);
+    match &ending {
+        Ok(()) => reasons.add_look(&input.kept, asked),
+        Err(fault) => reasons.add_dump(&input.kept, *fault),
+    }
+    ending
+}

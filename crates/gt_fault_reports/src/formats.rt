@@ -1,0 +1,133 @@
+//! Commands in the two formats of their output.
+ghost use Rattle.std.specs.Prelude.{is_some};
+ghost use Rattle.gt_text.specs.Streams.{OfInput};
+ghost use Rattle.gt_fault_reports.specs.Formats.{CheckedAs, ListedAs, PlayedAs, RanAs, ToldAs};
+
+use gt_audit::SharedLog;
+use gt_checks::{check, check_script};
+use gt_commands::Format;
+use gt_entries::{DumpFault, DumpOptions, entries};
+use gt_host::{PlayFault, play};
+use gt_json_commands::{entries_json, play_json, policy_json, run_json};
+use gt_order::run;
+use gt_policy_check::ReportForm;
+use gt_policy_list::{ListingFault, policy};
+use gt_run::{Gate, RunFault};
+use std::alloc::Global;
+use std::io::{Read, Write};
+use std::sync::Wait;
+use std::thread::Threads;
+
+/// Plays the script of a reader.
+pub(crate) fn play_as<R: Read, W: Write>(
+    alloc: Global,
+    format: Format,
+    audit: bool,
+    reader: &mut R,
+    out: &mut W,
+) -> Result<(), PlayFault>
+    ensures { OfInput (R.remaining reader.old) (λ input.
+        PlayedAs format audit input (W.contents out.old) (W.contents out.new) result) }
+{
+    match format {
+        Format::Text => play(alloc, reader, out, audit),
+        Format::Json => play_json(alloc, reader, out, audit),
+    }
+}
+
+/// The settings of a run: its threads, with a log or without, its gate, and the format of its output.
+#[derive(Drop)]
+pub struct RunSettings<'r, R, G> {
+    pub rt: &'r R,
+    pub alloc: Global,
+    pub format: Format,
+    pub log: Option<&'r SharedLog>,
+    pub gate: &'r G,
+}
+
+/// Runs the script of a reader, its domains in threads.
+pub(crate) fn run_as<R: Threads + Wait + Sync, I: Read, W: Write, G: Gate + Sync>(
+    settings: &RunSettings<R, G>,
+    reader: &mut I,
+    out: &mut W,
+) -> Result<(), RunFault>
+    ensures { OfInput (I.remaining reader.old) (λ input.
+        RanAs settings.now.format (is_some settings.now.log) input (W.contents out.old) (W.contents out.new) result) }
+{
+    match settings.format {
+        Format::Text => run(
+            settings.rt,
+            settings.alloc,
+            reader,
+            out,
+            settings.log,
+            settings.gate,
+        ),
+        Format::Json => run_json(
+            settings.rt,
+            settings.alloc,
+            reader,
+            out,
+            settings.log,
+            settings.gate,
+        ),
+    }
+}
+
+/// Lists what the policy of a reader allows.
+pub(crate) fn list_as<R: Read, W: Write>(
+    alloc: Global,
+    format: Format,
+    reader: &mut R,
+    out: &mut W,
+) -> Result<(), ListingFault>
+    ensures { OfInput (R.remaining reader.old) (λ input.
+        ListedAs format input (W.contents out.old) (W.contents out.new) result) }
+{
+    match format {
+        Format::Text => policy(alloc, reader, out),
+        Format::Json => policy_json(alloc, reader, out),
+    }
+}
+
+/// Prints the entries of the dump of a reader.
+pub(crate) fn entries_as<R: Read, W: Write>(
+    alloc: Global,
+    format: Format,
+    asked: DumpOptions,
+    reader: &mut R,
+    out: &mut W,
+) -> Result<(), DumpFault>
+    ensures { OfInput (R.remaining reader.old) (λ input.
+        ToldAs format asked input (W.contents out.old) (W.contents out.new) result) }
+{
+    match format {
+        Format::Text => entries(alloc, asked, reader, out),
+        Format::Json => entries_json(alloc, asked, reader, out),
+    }
+}
+
+/// How the findings of a text are reported: the name with which their lines begin, and their form.
+#[derive(Clone, Copy)]
+pub struct ReportSettings<'w> {
+    pub file: &'w str,
+    pub form: ReportForm,
+}
+
+/// Checks the policy of a reader, or its script.
+pub(crate) fn check_as<R: Read, W: Write>(
+    alloc: Global,
+    script: bool,
+    report: ReportSettings,
+    reader: &mut R,
+    out: &mut W,
+) -> Result<bool, ListingFault>
+    ensures { OfInput (R.remaining reader.old) (λ input.
+        CheckedAs script input (W.contents out.old) (W.contents out.new) result) }
+{
+    if script {
+        check_script(alloc, report.file, report.form, reader, out)
+    } else {
+        check(alloc, report.file, report.form, reader, out)
+    }
+}

@@ -1,0 +1,4 @@
+pub mod GivenLemmas
+pub mod QuestionLemmas
+mod RanDomains
+pub mod Worked

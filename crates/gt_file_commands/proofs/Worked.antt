@@ -1,0 +1,101 @@
+-- From what was done with a text to what was asked for.
+use Rattle.std.proofs.Common.{◌≡◌, ℕ, Bool, List, Option, None, Some, Result, Ok, Err, IfSome, sym, subst, inl, inr, true}
+use Rattle.std.proofs.Common.{false}
+use Rattle.gt_text.specs.Laws.{keeps_same, of_any_input}
+use Rattle.gt_text.specs.Streams.{OfInput}
+use Rattle.gt_policy_check.specs.declared.asking.WhyQuestion.{WhyQuestion}
+use Rattle.gt_entries.specs.declared.asked.DumpOptions.{DumpOptions}
+use Rattle.gt_commands.specs.declared.invocation.Format.{Format}
+use Rattle.gt_run.specs.declared.fault.RunFault.{RunFault}
+use Rattle.gt_fault_reports.specs.Formats.{RanAs}
+use Rattle.gt_file_commands.specs.Laws.{worked}
+use Rattle.gt_file_commands.specs.Working.{AnswersDump, AnswersEntries, AnswersQuestion, Answers, Checks, ChecksAll, ChecksAs}
+use Rattle.gt_file_commands.specs.Working.{ChecksFiles, ChecksNever, Does, Doing, Ending, Explains, IsAsked, IsQuestion}
+use Rattle.gt_file_commands.specs.Working.{OrNothing, Performs, RunsDomains, Works, answer_of, kind_checked, outcome_of}
+use Rattle.gt_file_commands.specs.declared.checking.CheckKind.{CheckKind}
+use Rattle.gt_file_commands.specs.declared.commands.Work.{Work}
+use Rattle.gt_file_commands.specs.declared.failure.Failure.TheVariants as failures
+use Rattle.gt_file_commands.specs.declared.outcome.Outcome.{Outcome}
+use Rattle.gt_file_commands.specs.declared.outcome.Outcome.TheVariants.{Unknown}
+
+-- the same, where a failure comes to what it was found to
+pub worked_as : (P : Doing) (failed same : Outcome) (known old new : Option (List ℕ)) (r : Ending) (outcome : Outcome) → failed ≡ same → IfSome known (λ bytes. Does P bytes old new r) → outcome ≡ outcome_of failed r
+    → Works P same known old new outcome
+worked_as P failed same known old new r outcome is does of = subst (λ (f : Outcome). Works P f known old new outcome) is (worked P failed known old new r outcome does of)
+
+-- an answer of yes or no
+answered_one : {F : Type 0} (Wrote : Result Bool F → Type 0) (answer : Bool) → Wrote (Ok answer) → Answers Wrote (answer_of answer)
+answered_one Wrote true wrote = wrote
+answered_one Wrote false wrote = wrote
+
+-- the same for the input
+pub answered_input : {F : Type 0} (known : Option (List ℕ)) (Wrote : List ℕ → Result Bool F → Type 0) (answer : Bool) (outcome : Outcome) → outcome ≡ answer_of answer → OfInput known (λ input. Wrote input (Ok answer))
+    → OfInput known (λ input. Answers (Wrote input) outcome)
+answered_input None Wrote answer outcome is (input, few, wrote) = (input, few, subst (λ (o : Outcome). Answers (Wrote input) o) (sym is) (answered_one (Wrote input) answer wrote))
+answered_input (Some all) Wrote answer outcome is wrote = subst (λ (o : Outcome). Answers (Wrote all) o) (sym is) (answered_one (Wrote all) answer wrote)
+
+-- a run with a log or without, as was asked for
+pub ran_as_asked : (format : Format) (logged audited : Bool) (known old new : Option (List ℕ)) (r : Result (Unit {0}) RunFault) → audited ≡ logged → OfInput known (λ input. RanAs format logged input old new r)
+    → OfInput known (λ input. RanAs format audited input old new r)
+ran_as_asked format logged audited known old new r is ran = subst (λ (b : Bool). OfInput known (λ input. RanAs format b input old new r)) (sym is) ran
+
+-- no memory was there before the text was read
+pub unread_run : (format : Format) (audited : Bool) (known old : Option (List ℕ)) → OfInput known (λ input. RunsDomains format audited input old old (Err failures.Memory))
+unread_run format audited known old = of_any_input known (λ (input : List ℕ). RunsDomains format audited input old old (Err failures.Memory)) (λ (input : List ℕ). keeps_same old)
+
+-- the files of these names were checked
+pub files_named : (P : Doing) (file : List ℕ → Option (List ℕ)) (given names : List (Option (List ℕ))) (old new : Option (List ℕ)) (outcome : Outcome) → given ≡ names → ChecksFiles P file given old new outcome → ChecksFiles P file names old new outcome
+files_named P file given names old new outcome is checked = subst (λ (l : List (Option (List ℕ))). ChecksFiles P file l old new outcome) is checked
+
+-- all files were checked as what was asked for
+pub checked_kind : (script : Bool) (kind : CheckKind) (file : List ℕ → Option (List ℕ)) (input name : Option (List ℕ)) (more : List (Option (List ℕ))) (old new : Option (List ℕ)) (outcome : Outcome) → kind ≡ kind_checked script
+    → ChecksAll (Checks kind) file input name more old new outcome → ChecksAll (ChecksAs script) file input name more old new outcome
+checked_kind true kind file input name more old new outcome is checked = subst (λ (k : CheckKind). ChecksAll (Checks k) file input name more old new outcome) is checked
+checked_kind false kind file input name more old new outcome is checked = subst (λ (k : CheckKind). ChecksAll (Checks k) file input name more old new outcome) is checked
+
+-- all files were checked against these statements
+pub checked_never : (text bytes : List ℕ) (file : List ℕ → Option (List ℕ)) (input name : Option (List ℕ)) (more : List (Option (List ℕ))) (old new : Option (List ℕ)) (outcome : Outcome) → text ≡ bytes
+    → ChecksAll (ChecksNever text) file input name more old new outcome → OrNothing (ChecksAll (ChecksNever bytes) file input name more) old new outcome
+checked_never text bytes file input name more old new outcome is checked = inl (subst (λ (t : List ℕ). ChecksAll (ChecksNever t) file input name more old new outcome) is checked)
+
+-- the text was checked as what was asked for
+pub for_kind : (known old new : Option (List ℕ)) (kind other : CheckKind) (r : Ending) → kind ≡ other → OfInput known (λ input. Checks other input old new r) → OfInput known (λ input. Checks kind input old new r)
+for_kind known old new kind other r is does = subst (λ (k : CheckKind). OfInput known (λ input. Checks k input old new r)) (sym is) does
+
+-- a question of these names was answered
+explains_names : (file : List ℕ) (q : WhyQuestion) (source target permission : Option (List ℕ)) (input : List ℕ) (old new : Option (List ℕ)) (r : Ending) → IsQuestion source target permission q
+    → Does (Explains file q) input old new r → Does (AnswersQuestion file source target permission) input old new r
+explains_names file q source target permission input old new r is (inl does) = inl (q, is, does)
+explains_names file q source target permission input old new r is (inr unopened) = inr unopened
+
+question_by : (file : List ℕ) (q : WhyQuestion) (source target permission : Option (List ℕ)) (known old new : Option (List ℕ)) (outcome : Outcome) → IsQuestion source target permission q
+    → Works (Explains file q) Unknown known old new outcome → Works (AnswersQuestion file source target permission) Unknown known old new outcome
+question_by file q source target permission None old new outcome asks works = tt
+question_by file q source target permission (Some bytes) old new outcome asks (r, is, inl does) = (r, is, inl (explains_names file q source target permission bytes old new r asks does))
+question_by file q source target permission (Some bytes) old new outcome asks (r, is, inr none) = (r, is, inr none)
+
+pub answered : (file same : List ℕ) (q : WhyQuestion) (source target permission : Option (List ℕ)) (known old new : Option (List ℕ)) (outcome : Outcome) → file ≡ same → IsQuestion source target permission q
+    → Works (Explains file q) Unknown known old new outcome → Works (AnswersQuestion same source target permission) Unknown known old new outcome
+answered file same q source target permission known old new outcome shown asks works =
+    subst (λ (f : List ℕ). Works (AnswersQuestion f source target permission) Unknown known old new outcome) shown (question_by file q source target permission known old new outcome asks works)
+
+-- a dump was told as it was asked
+tells_asked : (asked : DumpOptions) (version : ℕ) (hex every : Bool) (script : Option ℕ) (format : Format) (input : List ℕ) (old new : Option (List ℕ)) (r : Ending) → IsAsked version hex every script asked
+    → Does (AnswersEntries format asked) input old new r → Does (AnswersDump version hex every script format) input old new r
+tells_asked asked version hex every script format input old new r is (inl does) = inl (asked, is, does)
+tells_asked asked version hex every script format input old new r is (inr unopened) = inr unopened
+
+pub told : (asked : DumpOptions) (version : ℕ) (hex every : Bool) (script : Option ℕ) (format : Format) (known old new : Option (List ℕ)) (outcome : Outcome) → IsAsked version hex every script asked
+    → Works (AnswersEntries format asked) Unknown known old new outcome → Works (AnswersDump version hex every script format) Unknown known old new outcome
+told asked version hex every script format None old new outcome asks works = tt
+told asked version hex every script format (Some bytes) old new outcome asks (r, is, inl does) = (r, is, inl (tells_asked asked version hex every script format bytes old new r asks does))
+told asked version hex every script format (Some bytes) old new outcome asks (r, is, inr none) = (r, is, inr none)
+
+-- the domain of a dump's script by its number
+pub of_number : (version : ℕ) (hex every : Bool) (one script : Option ℕ) (format : Format) (known old new : Option (List ℕ)) (outcome : Outcome) → one ≡ script
+    → Works (AnswersDump version hex every one format) Unknown known old new outcome → Works (AnswersDump version hex every script format) Unknown known old new outcome
+of_number version hex every one script format known old new outcome is works = subst (λ (n : Option ℕ). Works (AnswersDump version hex every n format) Unknown known old new outcome) is works
+
+-- the work is the one that was asked for
+pub for_work : (known old new : Option (List ℕ)) (work other : Work) (r : Ending) → work ≡ other → OfInput known (λ input. Performs other input old new r) → OfInput known (λ input. Performs work input old new r)
+for_work known old new work other r is does = subst (λ (w : Work). OfInput known (λ input. Performs w input old new r)) (sym is) does

@@ -1,0 +1,24 @@
+-- Names of other crates, and of the code, that the definitions here use.
+pub use Rattle.gt_policy_check.specs.Why.{perm_asked, source_asked, target_asked}
+pub use Rattle.gt_policy_check.specs.declared.asking.WhyQuestion.{WhyQuestion}
+pub use Rattle.gt_checks.specs.Explaining.{Explained}
+pub use Rattle.gt_checks.specs.Breaking.{CheckedNever}
+pub use Rattle.gt_checks.specs.Faults.{breach_fault_text, why_fault_text}
+pub use Rattle.gt_commands.specs.Commands.{type_of}
+pub use Rattle.gt_commands.specs.declared.invocation.Format.{Format}
+pub use Rattle.gt_entries.specs.Faults.{dump_fault_text}
+pub use Rattle.gt_entries.specs.declared.asked.DumpOptions.{DumpOptions}
+pub use Rattle.gt_explore_answers.specs.Faults.{explore_fault_text}
+pub use Rattle.gt_file_commands.specs.declared.checking.CheckKind.{CheckKind}
+pub use Rattle.gt_file_commands.specs.declared.commands.Work.{Work}
+pub use Rattle.gt_file_commands.specs.declared.failure.Failure.{Failure}
+pub use Rattle.gt_file_commands.specs.declared.outcome.Outcome.{Outcome}
+pub use Rattle.gt_file_commands.specs.declared.outcome.Outcome.TheVariants.{No, Unknown, Yes}
+pub use Rattle.gt_host.specs.Faults.{play_fault_text}
+pub use Rattle.gt_policy_list.specs.Faults.{listing_fault_text}
+pub use Rattle.gt_run.specs.Faults.{run_fault_text}
+pub use Rattle.gt_script_lines.specs.Words.{words}
+pub use Rattle.gt_text.specs.Streams.{AppendsBeginning}
+pub use Rattle.gt_text.specs.Texts.{read_word}
+pub use Rattle.std.specs.Io.KnownBytes.{Appends, Keeps}
+pub use Rattle.std.specs.Option.{option_map}

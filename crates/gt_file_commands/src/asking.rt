@@ -1,0 +1,103 @@
+//! Commands by the options of a command line.
+ghost use Rattle.std.specs.Prelude.{◌≡◌};
+ghost use Rattle.std.specs.Option.{option_map};
+ghost use Rattle.gt_fault_reports.specs.Names.{shown_name};
+ghost use Rattle.gt_file_commands.specs.Working.{known_input, AnswersDump, AnswersQuestion, Lists, Plays, Works};
+
+use crate::commands::{Context, Work, work_asked};
+use crate::outcome::Outcome;
+use crate::texts::TextSource;
+use gt_commands::{EntriesOptions, Format, ScriptOptions};
+use gt_entries::DumpOptions;
+use gt_fault_reports::{Reasons, shown_name};
+use gt_policy_check::WhyQuestion;
+use gt_types::DomId;
+use std::io::Write;
+
+/// Plays the script of the named file, or of the standard input, and returns the outcome.
+pub fn play<R, T: TextSource, W: Write, E: Eprint>(
+    context: &Context<R, T, E>,
+    options: ScriptOptions,
+    out: &mut W,
+    reasons: &mut Reasons,
+) -> Outcome
+    ensures { Works (Plays options.entry.format options.entry.audit) Outcome.No
+        (known_input (T.file context.now.texts.now) (T.input context.now.texts.now) options.entry.file)
+        (W.contents out.old) (W.contents out.new) result }
+{
+    let work = Work::Play {
+        audit: options.audit,
+        format: options.format,
+    };
+    work_asked(context, work, options.file, out, reasons)
+}
+
+/// Lists what the policy of the named file, or of the standard input, allows, and returns the outcome.
+pub fn list<R, T: TextSource, W: Write, E: Eprint>(
+    context: &Context<R, T, E>,
+    format: Format,
+    file: Option<&str>,
+    out: &mut W,
+    reasons: &mut Reasons,
+) -> Outcome
+    ensures { Works (Lists format) Outcome.No
+        (known_input (T.file context.now.texts.now) (T.input context.now.texts.now) file.entry)
+        (W.contents out.old) (W.contents out.new) result }
+{
+    work_asked(context, Work::List { format }, file, out, reasons)
+}
+
+/// Answers a question about the policy of the named file, or of the standard input, and returns the outcome.
+pub fn answer<'a, R, T: TextSource, W: Write, E: Eprint>(
+    context: &Context<R, T, E>,
+    question: WhyQuestion<'a>,
+    file: Option<&'a str>,
+    out: &mut W,
+    reasons: &mut Reasons<'a>,
+) -> Outcome
+    ensures { Works (AnswersQuestion (shown_name (option_map (λ f. f.now) file.entry))
+        (option_map (λ a. a.now) question.entry.source) (option_map (λ a. a.now) question.entry.target)
+        (option_map (λ a. a.now) question.entry.perm)) Outcome.Unknown
+        (known_input (T.file context.now.texts.now) (T.input context.now.texts.now) file.entry)
+        (W.contents out.old) (W.contents out.new) result }
+{
+    let file_name = shown_name(file);
+    let work = Work::Why {
+        file: file_name,
+        question,
+    };
+    work_asked(context, work, file, out, reasons)
+}
+
+// Returns the domain of this number.
+fn domain(number: Option<u16>) -> Option<DomId>
+    ensures { option_map (λ d. d.0) result ≡ number }
+{
+    match number {
+        Some(number) => Some(DomId(number)),
+        None => None,
+    }
+}
+
+/// Prints the entries of the dump in the named file, or in the standard input, and returns the outcome.
+pub fn show_entries<R, T: TextSource, W: Write, E: Eprint>(
+    context: &Context<R, T, E>,
+    dump: EntriesOptions,
+    format: Format,
+    file: Option<&str>,
+    out: &mut W,
+    reasons: &mut Reasons,
+) -> Outcome
+    ensures { Works (AnswersDump dump.version dump.hex dump.all dump.script format) Outcome.Unknown
+        (known_input (T.file context.now.texts.now) (T.input context.now.texts.now) file.entry)
+        (W.contents out.old) (W.contents out.new) result }
+{
+    let script = domain(dump.script);
+    let asked = DumpOptions {
+        version: dump.version,
+        hex: dump.hex,
+        all: dump.all,
+        script,
+    };
+    work_asked(context, Work::Entries { asked, format }, file, out, reasons)
+}

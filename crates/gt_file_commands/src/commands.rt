@@ -1,0 +1,241 @@
+//! The execution of each command, with the text that it names.
+ghost use Rattle.std.specs.Prelude.{◌≡◌, IfSome, is_some};
+ghost use Rattle.gt_text.specs.Streams.{OfInput};
+ghost use Rattle.gt_file_commands.specs.Working.{failed_work, known_input, Does, Performs, RunsDomains, Works};
+ghost use Rattle.gt_file_commands.specs.declared.outcome.Outcome.TheVariants.{No};
+
+use crate::checking::{CheckKind, perform_check};
+use crate::failure::Failure;
+use crate::outcome::Outcome;
+use crate::reporting::{finish, report};
+use crate::style::Style;
+use crate::texts::{TextSource, read_fault};
+use gt_audit::SharedLog;
+use gt_commands::{Format, ScriptOptions};
+use gt_entries::DumpOptions;
+use gt_fault_reports::{
+    Reasons, ReportSettings, RunSettings, entries_explained, list_with_reasons, play_with_reasons,
+    run_with_reasons, why_explained,
+};
+use gt_policy_check::WhyQuestion;
+use gt_run::FlagGate;
+use std::alloc::Global;
+use std::io::{Read, Write};
+use std::sync::Wait;
+use std::thread::Threads;
+
+/// A command on a text.
+#[derive(Clone, Copy)]
+pub(crate) enum Work<'w> {
+    /// Play the script on the core, with its audit lines or without.
+    Play {
+        audit: bool,
+        format: Format,
+    },
+    /// List what the policy allows.
+    List {
+        format: Format,
+    },
+    /// Report what is wrong or useless in the policy, or in the script, or which statements break `neverallow` statements.
+    Check {
+        kind: CheckKind<'w>,
+        report: ReportSettings<'w>,
+    },
+    /// Answer the question about the policy. The lines begin with the name.
+    Why {
+        file: &'w str,
+        question: WhyQuestion<'w>,
+    },
+    /// Print the entries of the dump.
+    Entries {
+        asked: DumpOptions,
+        format: Format,
+    },
+}
+
+impl Work<'_> {
+    // Returns what a failure of this comes to.
+    fn failed(self) -> Outcome
+        ensures { result ≡ failed_work self.entry }
+    {
+        match self {
+            Work::Play { .. } | Work::List { .. } => Outcome::No,
+            Work::Check { .. } | Work::Why { .. } | Work::Entries { .. } => Outcome::Unknown,
+        }
+    }
+}
+
+// Executes this with the text of a reader.
+fn perform<R: Read, W: Write>(
+    alloc: Global,
+    work: Work,
+    reader: &mut R,
+    out: &mut W,
+    reasons: &mut Reasons,
+) -> Result<Outcome, Failure>
+    ensures { OfInput (R.remaining reader.old) (λ input.
+        Performs work.entry input (W.contents out.old) (W.contents out.new) result) }
+{
+    match work {
+        Work::Play { audit, format } => match play_with_reasons(
+            alloc, format, audit, reader, out, reasons,
+        ) {
+            Ok(()) => Ok(Outcome::Yes),
+            Err(fault) => Err(Failure::Play(fault)),
+        },
+        Work::List { format } => match list_with_reasons(alloc, format, reader, out, reasons) {
+            Ok(()) => Ok(Outcome::Yes),
+            Err(fault) => Err(Failure::List(fault)),
+        },
+        Work::Check { kind, report } => perform_check(alloc, kind, report, reader, out, reasons),
+        Work::Why { file, question } => match why_explained(
+            alloc, file, &question, reader, out, reasons,
+        ) {
+            Ok(allowed) => Ok(Outcome::of_answer(allowed)),
+            Err(fault) => Err(Failure::Why(fault)),
+        },
+        Work::Entries { asked, format } => match entries_explained(
+            alloc, format, asked, reader, out, reasons,
+        ) {
+            Ok(()) => Ok(Outcome::Yes),
+            Err(fault) => Err(Failure::Dump(fault)),
+        },
+    }
+}
+
+/// The environment of a command: the runtime, memory, the texts, the standard error, and the style of the output.
+#[derive(Drop)]
+pub struct Context<'c, R, T, E> {
+    pub rt: &'c R,
+    pub alloc: Global,
+    pub texts: &'c T,
+    pub err: &'c E,
+    pub style: Style,
+}
+
+// Executes this with the text of the named file, or of the standard input.
+fn perform_on<R, T: TextSource, W: Write, E>(
+    context: &Context<R, T, E>,
+    work: Work,
+    name: Option<&str>,
+    out: &mut W,
+    reasons: &mut Reasons,
+) -> Result<Outcome, Failure>
+    ensures { IfSome (known_input (T.file context.now.texts.now) (T.input context.now.texts.now) name.entry)
+        (λ input. Does (Performs work.entry) input (W.contents out.old) (W.contents out.new) result) }
+{
+    let alloc = context.alloc;
+    let Some(name) = name else {
+        return perform(alloc, work, &mut context.texts.input(), out, reasons);
+    };
+    match context.texts.open(name) {
+        Ok(mut file) => perform(alloc, work, &mut file, out, reasons),
+        Err(error) => {
+            reasons.add_unread(&error);
+            Err(Failure::File(read_fault(&error)))
+        }
+    }
+}
+
+// Returns the log, if calls are to be recorded.
+fn log_for<'l>(audit: bool, log: &'l SharedLog) -> Option<&'l SharedLog>
+    ensures { is_some result ≡ audit }
+{
+    if audit { Some(log) } else { None }
+}
+
+// Runs the script of a reader, its domains in threads.
+#[tactic(auto, using(crate::proofs::Worked::unread_run))]
+fn run_script<R: Threads + Wait + Sync, T, E, I: Read, W: Write>(
+    context: &Context<R, T, E>,
+    format: Format,
+    audit: bool,
+    reader: &mut I,
+    out: &mut W,
+    reasons: &mut Reasons,
+) -> Result<Outcome, Failure>
+    ensures { OfInput (I.remaining reader.old) (λ input.
+        RunsDomains format audit input (W.contents out.old) (W.contents out.new) result) }
+{
+    let Ok(gate) = FlagGate::new(context.rt, context.alloc) else {
+        return Err(Failure::Memory);
+    };
+    let Ok(log) = SharedLog::new(context.alloc) else {
+        return Err(Failure::Memory);
+    };
+    let settings = RunSettings {
+        rt: context.rt,
+        alloc: context.alloc,
+        format,
+        log: log_for(audit, &log),
+        gate: &gate,
+    };
+    match run_with_reasons(&settings, reader, out, reasons) {
+        Ok(()) => Ok(Outcome::Yes),
+        Err(fault) => Err(Failure::Run(fault)),
+    }
+}
+
+// Runs the script of the named file, or of the standard input.
+fn run_on<R: Threads + Wait + Sync, T: TextSource, W: Write, E>(
+    context: &Context<R, T, E>,
+    format: Format,
+    audit: bool,
+    name: Option<&str>,
+    out: &mut W,
+    reasons: &mut Reasons,
+) -> Result<Outcome, Failure>
+    ensures { IfSome (known_input (T.file context.now.texts.now) (T.input context.now.texts.now) name.entry)
+        (λ input. Does (RunsDomains format audit) input (W.contents out.old) (W.contents out.new) result) }
+{
+    let Some(name) = name else {
+        let mut input = context.texts.input();
+        return run_script(context, format, audit, &mut input, out, reasons);
+    };
+    match context.texts.open(name) {
+        Ok(mut file) => run_script(context, format, audit, &mut file, out, reasons),
+        Err(error) => {
+            reasons.add_unread(&error);
+            Err(Failure::File(read_fault(&error)))
+        }
+    }
+}
+
+/// Executes this with the text of the named file, or of the standard input, and returns the outcome.
+pub(crate) fn work_asked<R, T: TextSource, W: Write, E: Eprint>(
+    context: &Context<R, T, E>,
+    work: Work,
+    file: Option<&str>,
+    out: &mut W,
+    reasons: &mut Reasons,
+) -> Outcome
+    ensures { Works (Performs work.entry) (failed_work work.entry)
+        (known_input (T.file context.now.texts.now) (T.input context.now.texts.now) file.entry)
+        (W.contents out.old) (W.contents out.new) result }
+{
+    let failed = work.failed();
+    let ending = perform_on(context, work, file, out, reasons);
+    finish(context, ending, failed, reasons)
+}
+
+/// Runs the script of the named file, or of the standard input, its domains in threads, and returns the outcome.
+pub fn run_asked<R: Threads + Wait + Sync, T: TextSource, W: Write, E: Eprint>(
+    context: &Context<R, T, E>,
+    options: ScriptOptions,
+    out: &mut W,
+    reasons: &mut Reasons,
+) -> Outcome
+    ensures { Works (RunsDomains options.entry.format options.entry.audit) No
+        (known_input (T.file context.now.texts.now) (T.input context.now.texts.now) options.entry.file)
+        (W.contents out.old) (W.contents out.new) result }
+{
+    let ending = run_on(
+        context,
+        options.format,
+        options.audit,
+        options.file,
+        out,
+        reasons,
+    );
+    report(context.err, ending, Outcome::No)
+}

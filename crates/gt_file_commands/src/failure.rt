@@ -1,0 +1,56 @@
+//! Failures of commands.
+use gt_checks::{BreachFault, WhyFault};
+use gt_entries::DumpFault;
+use gt_explore_answers::ExploreFault;
+use gt_host::PlayFault;
+use gt_policy_list::ListingFault;
+use gt_run::RunFault;
+use gt_text::{ReadFault, WriteFault};
+use std::fmt;
+
+/// The failure that ended a command. It prints as one line, without a line end.
+#[derive(Drop)]
+pub enum Failure {
+    /// A script was not played to its end.
+    Play(PlayFault),
+    /// The domains of a script were not run to their end.
+    Run(RunFault),
+    /// The texts of a script were not found, or not all written.
+    Explore(ExploreFault),
+    /// A policy was not listed or checked to its end.
+    List(ListingFault),
+    /// A question was not answered.
+    Why(WhyFault),
+    /// A policy was not checked against `neverallow` statements.
+    Breach(BreachFault),
+    /// A dump was not written to its end.
+    Dump(DumpFault),
+    /// The file can't be opened. Nothing was written.
+    File(ReadFault),
+    /// The help was not written completely.
+    Help(WriteFault),
+    /// An allocation failed before there was anything to do.
+    Memory,
+}
+
+impl fmt::Display for Failure {
+    ghost use Rattle.std.specs.Prelude.{Some};
+    ghost use Rattle.gt_file_commands.specs.Working.{failure_text};
+
+    ghost output = { λ failure. Some (failure_text failure) };
+
+    fn fmt<W: fmt::Write>(&self, f: &mut fmt::Formatter<W>) -> fmt::Result {
+        match self {
+            Failure::Play(fault) => write!(f, "gthost: {fault}"),
+            Failure::Run(fault) => write!(f, "gthost: {fault}"),
+            Failure::Explore(fault) => write!(f, "gthost: {fault}"),
+            Failure::List(fault) => write!(f, "gthost: {fault}"),
+            Failure::Why(fault) => write!(f, "gthost: {fault}"),
+            Failure::Breach(fault) => write!(f, "gthost: {fault}"),
+            Failure::Dump(fault) => write!(f, "gthost: {fault}"),
+            Failure::File(fault) => write!(f, "gthost: {fault}"),
+            Failure::Help(fault) => write!(f, "gthost: {fault}"),
+            Failure::Memory => f.write_str("gthost: memory"),
+        }
+    }
+}

@@ -1,0 +1,300 @@
+//! The questions of the standard input about a policy.
+ghost use Rattle.std.specs.Prelude.{◌≡◌, map, IfOk, IfSome, OnOk, Some};
+ghost use Rattle.std.specs.Option.{option_map};
+ghost use Rattle.std.specs.Str.Lines.{lines as lines_in};
+ghost use Rattle.std.specs.Io.KnownBytes.{Appends};
+ghost use Rattle.gt_text.specs.Streams.{AppendsBeginning};
+ghost use Rattle.gt_commands.specs.Commands.{type_of};
+ghost use Rattle.gt_file_commands.specs.Working.{AnswersLine, AnswersLines, AnswersQuestion, AnswersWords, Asks};
+ghost use Rattle.gt_file_commands.specs.Working.{OrNothing, WithFile, Works, heading};
+ghost use Rattle.gt_file_commands.specs.declared.outcome.Outcome.TheVariants.{Unknown};
+
+use crate::commands::{Context, Work, work_asked};
+use crate::failure::Failure;
+use crate::outcome::{Outcome, worse};
+use crate::reporting::fail;
+use crate::texts::TextSource;
+use gt_fault_reports::{Reasons, read_whole};
+use gt_policy_check::WhyQuestion;
+use gt_policy_list::ListingFault;
+use gt_script_lines::{line_words, text_lines};
+use gt_text::{ReadFault, push_text, text_of, write_text};
+use std::alloc::{AllocError, Global};
+use std::io::Write;
+
+// The three words of a question, as they were read.
+#[derive(Clone, Copy)]
+struct ReadWords<'t> {
+    source: &'t [u8],
+    target: &'t [u8],
+    perm: &'t [u8],
+}
+
+// The same as text.
+#[derive(Clone, Copy)]
+struct AskedWords<'t> {
+    source: &'t str,
+    target: &'t str,
+    perm: &'t str,
+}
+
+// Returns the words as text, if they are UTF-8.
+fn asked_words<'t>(words: ReadWords<'t>) -> Option<AskedWords<'t>>
+    ensures source { IfSome result (λ w. w.source.now ≡ words.entry.source.now) }
+    ensures target { IfSome result (λ w. w.target.now ≡ words.entry.target.now) }
+    ensures perm { IfSome result (λ w. w.perm.now ≡ words.entry.perm.now) }
+{
+    match (
+        text_of(words.source),
+        text_of(words.target),
+        text_of(words.perm),
+    ) {
+        (Ok(source), Ok(target), Ok(perm)) => Some(AskedWords {
+            source,
+            target,
+            perm,
+        }),
+        _ => None,
+    }
+}
+
+// Returns the type or the permission of a name; `-` is any.
+fn named<'n>(name: &'n str) -> Option<&'n str>
+    ensures { option_map (λ v. v.now) result ≡ type_of (Some name.entry.now) }
+{
+    if name == "-" { None } else { Some(name) }
+}
+
+// Makes the line that is printed before an answer.
+fn heading(alloc: Global, words: &AskedWords) -> Result<Vec<u8>, AllocError>
+    ensures { IfOk result (λ line. line.items
+        ≡ heading words.now.source.now words.now.target.now words.now.perm.now) }
+{
+    let mut line = Vec::new(alloc);
+    push_text(&mut line, "# ")?;
+    push_text(&mut line, words.source)?;
+    push_text(&mut line, " ")?;
+    push_text(&mut line, words.target)?;
+    push_text(&mut line, " ")?;
+    push_text(&mut line, words.perm)?;
+    push_text(&mut line, "\n")?;
+    Ok(line)
+}
+
+// Writes the line before an answer.
+fn write_heading<W: Write>(
+    alloc: Global,
+    words: &AskedWords,
+    out: &mut W,
+) -> Result<(), ListingFault>
+    ensures whole { OnOk result (Appends (W.contents out.old) (W.contents out.new)
+        (heading words.now.source.now words.now.target.now words.now.perm.now)) }
+    ensures beginning { AppendsBeginning (W.contents out.old) (W.contents out.new)
+        (heading words.now.source.now words.now.target.now words.now.perm.now) }
+{
+    let Ok(line) = heading(alloc, words) else {
+        return Err(ListingFault::Memory);
+    };
+    match write_text(out, line.as_slice()) {
+        Ok(()) => Ok(()),
+        Err(_) => Err(ListingFault::Write),
+    }
+}
+
+// Answers the question of these words, under the line before it.
+fn answer_asked<'a, R, T: TextSource, W: Write, E: Eprint>(
+    context: &Context<R, T, E>,
+    file: &'a str,
+    words: &AskedWords,
+    out: &mut W,
+    reasons: &mut Reasons<'a>,
+) -> Outcome
+    ensures { Works (AnswersQuestion file.entry.now (type_of (Some words.now.source.now))
+        (type_of (Some words.now.target.now)) (type_of (Some words.now.perm.now))) Unknown
+        (T.file context.now.texts.now file.entry.now) (W.contents out.old) (W.contents out.new) result }
+{
+    let question = WhyQuestion {
+        source: named(words.source),
+        target: named(words.target),
+        perm: named(words.perm),
+    };
+    reasons.begin(Some(file));
+    work_asked(
+        context,
+        Work::Why { file, question },
+        Some(file),
+        out,
+        reasons,
+    )
+}
+
+// Prints the question of these words, and answers it.
+fn ask<'a, R, T: TextSource, W: Write, E: Eprint>(
+    context: &Context<R, T, E>,
+    file: &'a str,
+    words: &AskedWords,
+    out: &mut W,
+    reasons: &mut Reasons<'a>,
+) -> Outcome
+    ensures { Asks file.entry.now (T.file context.now.texts.now file.entry.now) words.now.source.now
+        words.now.target.now words.now.perm.now (W.contents out.old) (W.contents out.new) result }
+{
+    match write_heading(context.alloc, words, out) {
+        Ok(()) => answer_asked(context, file, words, out, reasons),
+        Err(fault) => fail(context, Failure::List(fault), reasons),
+    }
+}
+
+// Asks the question of these words, if they are UTF-8.
+fn ask_words<'a, R, T: TextSource, W: Write, E: Eprint>(
+    context: &Context<R, T, E>,
+    file: &'a str,
+    words: ReadWords,
+    out: &mut W,
+    reasons: &mut Reasons<'a>,
+) -> Outcome
+    ensures { OrNothing (Asks file.entry.now (T.file context.now.texts.now file.entry.now) words.entry.source.now
+        words.entry.target.now words.entry.perm.now) (W.contents out.old) (W.contents out.new) result }
+{
+    match asked_words(words) {
+        Some(words) => ask(context, file, &words, out, reasons),
+        None => fail(context, Failure::File(ReadFault::Read), reasons),
+    }
+}
+
+// Reports a line of this number that is not a question.
+fn refuse_line<R, T, E: Eprint>(
+    context: &Context<R, T, E>,
+    number: usize,
+    reasons: &mut Reasons,
+) -> Outcome
+    ensures { result ≡ Outcome.Unknown }
+{
+    reasons.add_no_question(number);
+    fail(context, Failure::File(ReadFault::Read), reasons)
+}
+
+// Answers the question of a line by its words.
+fn answer_words<'a, R, T: TextSource, W: Write, E: Eprint>(
+    context: &Context<R, T, E>,
+    file: &'a str,
+    number: usize,
+    words: &[&[u8]],
+    out: &mut W,
+    reasons: &mut Reasons<'a>,
+) -> Outcome
+    ensures { OrNothing (AnswersWords file.entry.now (T.file context.now.texts.now file.entry.now)
+        (map (λ w. w.now) words.now)) (W.contents out.old) (W.contents out.new) result }
+{
+    match words {
+        [] => Outcome::Yes,
+        [_] => refuse_line(context, number, reasons),
+        [_, _] => refuse_line(context, number, reasons),
+        [source, target, perm] => {
+            let words = ReadWords {
+                source: *source,
+                target: *target,
+                perm: *perm,
+            };
+            ask_words(context, file, words, out, reasons)
+        }
+        [_, _, _, _, ..] => refuse_line(context, number, reasons),
+    }
+}
+
+// Answers the question of a line.
+fn answer_line<'a, R, T: TextSource, W: Write, E: Eprint>(
+    context: &Context<R, T, E>,
+    file: &'a str,
+    number: usize,
+    line: &str,
+    out: &mut W,
+    reasons: &mut Reasons<'a>,
+) -> Outcome
+    ensures { AnswersLine file.entry.now (T.file context.now.texts.now file.entry.now) line.now
+        (W.contents out.old) (W.contents out.new) result }
+{
+    match line_words(context.alloc, line) {
+        Ok(words) => answer_words(context, file, number, words.as_slice(), out, reasons),
+        Err(_) => fail(context, Failure::Memory, reasons),
+    }
+}
+
+// Answers the questions of these lines, and returns the worst outcome.
+fn answer_lines<'a, R, T: TextSource, W: Write, E: Eprint>(
+    context: &Context<R, T, E>,
+    file: &'a str,
+    lines: &[&str],
+    out: &mut W,
+    reasons: &mut Reasons<'a>,
+) -> Outcome
+    ensures { AnswersLines file.entry.now (T.file context.now.texts.now file.entry.now)
+        (map (λ l. l.now) lines.now) (W.contents out.old) (W.contents out.new) result }
+{
+    let mut outcome = Outcome::Yes;
+    let mut number: usize = 0;
+    'lines: for line in lines {
+        number = number.saturating_add(1);
+        let one = answer_line(context, file, number, line, out, reasons);
+        outcome = worse(outcome, one);
+    }
+    outcome
+}
+
+// Answers the questions of a text.
+fn answer_text<'a, R, T: TextSource, W: Write, E: Eprint>(
+    context: &Context<R, T, E>,
+    file: &'a str,
+    text: &str,
+    out: &mut W,
+    reasons: &mut Reasons<'a>,
+) -> Outcome
+    ensures { OrNothing (AnswersLines file.entry.now (T.file context.now.texts.now file.entry.now)
+        (lines_in text.now)) (W.contents out.old) (W.contents out.new) result }
+{
+    match text_lines(context.alloc, text) {
+        Ok(lines) => answer_lines(context, file, lines.as_slice(), out, reasons),
+        Err(_) => fail(context, Failure::Memory, reasons),
+    }
+}
+
+// Answers the questions of these bytes.
+fn answer_bytes<'a, R, T: TextSource, W: Write, E: Eprint>(
+    context: &Context<R, T, E>,
+    file: &'a str,
+    bytes: &[u8],
+    out: &mut W,
+    reasons: &mut Reasons<'a>,
+) -> Outcome
+    ensures { OrNothing (AnswersLines file.entry.now (T.file context.now.texts.now file.entry.now)
+        (lines_in bytes.now)) (W.contents out.old) (W.contents out.new) result }
+{
+    match text_of(bytes) {
+        Ok(text) => answer_text(context, file, text, out, reasons),
+        Err(line) => {
+            let fault = ListingFault::Utf8 { line };
+            reasons.add_text(bytes, &fault);
+            fail(context, Failure::List(fault), reasons)
+        }
+    }
+}
+
+/// Answers each question of the standard input about the policy of the file, and returns the worst outcome. Blank lines
+/// and comments are skipped. Each answer comes after a line `# SOURCE TARGET PERMISSION`. A line that is not a question
+/// is reported with its number.
+pub fn answer_each<'a, R, T: TextSource, W: Write, E: Eprint>(
+    context: &Context<R, T, E>,
+    file: &'a str,
+    out: &mut W,
+    reasons: &mut Reasons<'a>,
+) -> Outcome
+    ensures { WithFile (T.input context.now.texts.now) (λ asked. AnswersLines file.entry.now
+        (T.file context.now.texts.now file.entry.now) (lines_in asked))
+        (W.contents out.old) (W.contents out.new) result }
+{
+    reasons.begin(None);
+    match read_whole(context.alloc, &mut context.texts.input(), reasons) {
+        Ok(bytes) => answer_bytes(context, file, bytes.as_slice(), out, reasons),
+        Err(fault) => fail(context, Failure::File(fault), reasons),
+    }
+}

@@ -1,6 +1,0 @@
-use Rattle.std.proofs.Common.{refl}
-use Rattle.gt_program.proofs.Obeyed.{answered}
-use Rattle.gt_program.proofs.following.answer.Goals as goal
-
-pub returns : goal.returns
-returns g c = answered c.shown_name-file_name.result.now _ _ _ _ _ _ _ _ _ c.shown_name-file_name.ensures (refl, refl, refl) c.work_asked.ensures

@@ -1,6 +1,0 @@
-use Rattle.std.proofs.Common.{refl}
-use Rattle.gt_program.proofs.Obeyed.{answered}
-use Rattle.gt_program.proofs.questions.answer_asked.Goals as goal
-
-pub returns : goal.returns
-returns g c = answered c.args.file.now _ _ _ _ _ _ _ _ _ refl (c.named.ensures, c.named-2.ensures, c.named-3.ensures) c.work_asked.ensures

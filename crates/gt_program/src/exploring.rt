@@ -1,0 +1,195 @@
+//! Explorations of scripts.
+ghost use Rattle.std.specs.Prelude.{◌≡◌, IfSome};
+ghost use Rattle.std.specs.Option.{option_map};
+ghost use Rattle.gt_text.specs.Streams.{OfInput};
+ghost use Rattle.gt_script.specs.RunScripts.{RunTells};
+ghost use Rattle.gt_commands.specs.Commands.{sought_told};
+ghost use Rattle.gt_explore.specs.Writing.{Explored};
+ghost use Rattle.gt_file_commands.specs.Working.{known_input, Does, Works};
+ghost use Rattle.gt_file_commands.specs.declared.outcome.Outcome.TheVariants.{Unknown};
+ghost use Rattle.gt_program.specs.Obeying.{explore_format, verdict_outcome, FindsText, IsRequestFor, Searches, Seeks};
+ghost use Rattle.gt_program.specs.Obeying.{SeeksText};
+
+use gt_commands::{Exploration, Format, SearchOptions};
+use gt_explore::explore as explore_reader;
+use gt_explore_answers::{ExploreFault, ExploreFormat, ExploreOptions as Searched, ExploreRequest};
+use gt_explore_verdict::Verdict;
+use gt_fault_reports::{CopyingReader, Reasons};
+use gt_file_commands::{Context, Failure, Outcome, TextSource, finish, read_fault, read_given};
+use std::alloc::Global;
+use std::io::{Read, Write};
+
+// Returns the format of an exploration.
+fn explore_format(format: Format) -> ExploreFormat
+    ensures { result ≡ explore_format format }
+{
+    match format {
+        Format::Text => ExploreFormat::Text,
+        Format::Json => ExploreFormat::Json,
+    }
+}
+
+// Returns the request for what is sought.
+fn request_of<'w>(asked: Exploration<'w>) -> ExploreRequest<'w>
+    ensures { IsRequestFor (sought_told asked.entry) result }
+{
+    match asked {
+        Exploration::Texts => ExploreRequest::Texts,
+        Exploration::Decide { claim, expression } => ExploreRequest::Decide { claim, expression },
+        Exploration::Witness(number) => ExploreRequest::Witness(number),
+        Exploration::Witnesses => ExploreRequest::Witnesses,
+        Exploration::Trace(number) => ExploreRequest::Trace(number),
+        Exploration::Diagram(number) => ExploreRequest::Diagram(number),
+    }
+}
+
+// Returns the outcome of a verdict.
+fn of_verdict(verdict: Verdict) -> Outcome
+    ensures { result ≡ verdict_outcome verdict }
+{
+    match verdict {
+        Verdict::Holds => Outcome::Yes,
+        Verdict::Fails => Outcome::No,
+        Verdict::Undecided => Outcome::Unknown,
+    }
+}
+
+// Answers a request on the texts that the script of a reader may give, and adds the reason of a fault.
+fn explore_explained<R: Read, W: Write>(
+    alloc: Global,
+    asked: &Searched,
+    reader: &mut R,
+    out: &mut W,
+    reasons: &mut Reasons,
+) -> Result<Verdict, ExploreFault>
+    ensures { OfInput (R.remaining reader.old) (λ input.
+        Explored asked.now (RunTells input) (W.contents out.old) (W.contents out.new) result) }
+{
+    let mut input = CopyingReader::new(alloc, reader);
+    let ending = explore_reader(alloc, asked, &mut input, out);
+    if let Err(fault) = &ending {
+        reasons.add_explore(&input.kept, asked.states, fault);
+    }
+    ending
+}
+
+// Explores the script of a reader.
+fn search<R: Read, W: Write>(
+    alloc: Global,
+    asked: &Searched,
+    reader: &mut R,
+    out: &mut W,
+    reasons: &mut Reasons,
+) -> Result<Outcome, Failure>
+    ensures { OfInput (R.remaining reader.old) (λ input.
+        Searches asked.now input (W.contents out.old) (W.contents out.new) result) }
+{
+    match explore_explained(alloc, asked, reader, out, reasons) {
+        Ok(verdict) => Ok(of_verdict(verdict)),
+        Err(fault) => Err(Failure::Explore(fault)),
+    }
+}
+
+// Explores the script of the named file, or of the standard input.
+fn search_on<R, T: TextSource, W: Write, E>(
+    context: &Context<R, T, E>,
+    asked: &Searched,
+    name: Option<&str>,
+    out: &mut W,
+    reasons: &mut Reasons,
+) -> Result<Outcome, Failure>
+    ensures { IfSome (known_input (T.file context.now.texts.now) (T.input context.now.texts.now) name.entry)
+        (λ input. Does (Searches asked.now) input (W.contents out.old) (W.contents out.new) result) }
+{
+    let Some(name) = name else {
+        return search(
+            context.alloc,
+            asked,
+            &mut context.texts.input(),
+            out,
+            reasons,
+        );
+    };
+    match context.texts.open(name) {
+        Ok(mut file) => search(context.alloc, asked, &mut file, out, reasons),
+        Err(error) => {
+            reasons.add_unread(&error);
+            Err(Failure::File(read_fault(&error)))
+        }
+    }
+}
+
+// Explores the script of the named file, or of the standard input, and returns the outcome.
+fn search_asked<R, T: TextSource, W: Write, E: Eprint>(
+    context: &Context<R, T, E>,
+    asked: &Searched,
+    file: Option<&str>,
+    out: &mut W,
+    reasons: &mut Reasons,
+) -> Outcome
+    ensures { Works (Searches asked.now) Unknown
+        (known_input (T.file context.now.texts.now) (T.input context.now.texts.now) file.entry)
+        (W.contents out.old) (W.contents out.new) result }
+{
+    let ending = search_on(context, asked, file, out, reasons);
+    finish(context, ending, Outcome::Unknown, reasons)
+}
+
+/// Explores the script of the named file, or of the standard input, and returns the outcome.
+pub(crate) fn explore<'a, R, T: TextSource, W: Write, E: Eprint>(
+    context: &Context<R, T, E>,
+    asked: Exploration<'a>,
+    options: SearchOptions<'a>,
+    out: &mut W,
+    reasons: &mut Reasons<'a>,
+) -> Outcome
+    ensures { Works (Seeks (sought_told asked.entry) options.entry.format options.entry.states) Outcome.Unknown
+        (known_input (T.file context.now.texts.now) (T.input context.now.texts.now) options.entry.file)
+        (W.contents out.old) (W.contents out.new) result }
+{
+    let asked = Searched {
+        request: request_of(asked),
+        states: options.states,
+        format: explore_format(options.format),
+    };
+    search_asked(context, &asked, options.file, out, reasons)
+}
+
+// Decides whether this text is one of those of the script in the named file, or in the standard input.
+fn find_bytes<'a, R, T: TextSource, W: Write, E: Eprint>(
+    context: &Context<R, T, E>,
+    text: &[u8],
+    options: SearchOptions<'a>,
+    out: &mut W,
+    reasons: &mut Reasons<'a>,
+) -> Outcome
+    ensures { Works (SeeksText text.now options.entry.format options.entry.states) Unknown
+        (known_input (T.file context.now.texts.now) (T.input context.now.texts.now) options.entry.file)
+        (W.contents out.old) (W.contents out.new) result }
+{
+    let asked = Searched {
+        request: ExploreRequest::Has(text),
+        states: options.states,
+        format: explore_format(options.format),
+    };
+    reasons.begin(options.file);
+    search_asked(context, &asked, options.file, out, reasons)
+}
+
+/// Decides whether the text of a file is one of those of a script.
+pub(crate) fn find_text<'a, R, T: TextSource, W: Write, E: Eprint>(
+    context: &Context<R, T, E>,
+    given: &'a str,
+    options: SearchOptions<'a>,
+    out: &mut W,
+    reasons: &mut Reasons<'a>,
+) -> Outcome
+    ensures { FindsText given.entry.now options.entry.format options.entry.states (T.file context.now.texts.now)
+        (T.input context.now.texts.now) (option_map (λ f. f.now) options.entry.file)
+        (W.contents out.old) (W.contents out.new) result }
+{
+    match read_given(context, given, reasons) {
+        Some(text) => find_bytes(context, text.as_slice(), options, out, reasons),
+        None => Outcome::Unknown,
+    }
+}
