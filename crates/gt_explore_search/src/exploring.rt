@@ -7,7 +7,7 @@ ghost use Rattle.gt_explore_search.specs.Parts.{by_numbers};
 use crate::fault::SearchFault;
 use crate::sharing::{NextNode, next_of, same_lists, turn_to};
 use crate::spaces::{TransitionSystem, Turn, TurnResult};
-use crate::states::StateIndex;
+use crate::states::{StateIndex, WholeState};
 use crate::suffixes::{AnswerLine, AnswerLists};
 use indexmap::IndexSet;
 use std::alloc::{AllocError, Global};
@@ -56,12 +56,21 @@ pub struct Node {
     pub next: Option<NextNode>,
 }
 
-/// A state whose moves are being tried.
+/// A turn that was made: the number of the state that it led to, and the line that it printed.
+#[derive(Clone, Copy)]
+pub struct MadeTurn {
+    pub state: usize,
+    pub line: Option<AnswerLine>,
+}
+
+/// A state whose moves are being tried. `made` is the next turn, if it was made. Its ends are to be gathered when the
+/// state that it led to is done.
 #[derive(Drop)]
 pub struct OpenNode {
     pub state: usize,
     pub turns: Vec<Turn>,
     pub next: usize,
+    pub made: Option<MadeTurn>,
     pub lists: IndexSet<usize>,
     pub ends: Vec<ReachedList>,
 }
@@ -138,7 +147,7 @@ impl<P: Drop> Explorer<P> {
     ghost use Rattle.gt_explore_search.specs.Exploring.{SearchHolds, EachVisitHolds, VisitHolds, Grew, TurnLeads, Gathered};
     ghost use Rattle.gt_explore_search.specs.Exploring.{Stepped};
     ghost use Rattle.gt_explore_search.specs.Exploring.{AllTextsFound, IsLineOf, PartsGrew, SearchStarts, SearchFinishes};
-    ghost use Rattle.gt_explore_search.specs.Parts.{Extends, by_numbers};
+    ghost use Rattle.gt_explore_search.specs.Parts.{Extends, HandHolds, IsStateAt, by_numbers};
 
     // Returns the number of the node of a state, if the state is done.
     fn node_of(&self, state: usize) -> Option<usize>
@@ -158,14 +167,14 @@ impl<P: Drop> Explorer<P> {
         &mut self,
         space: &S,
         state: usize,
+        world: &S::State,
     ) -> Result<OpenNode, SearchFault>
         ensures states { OnOk result (self.new.states ≡ self.old.states) }
-        ensures holds { (all : List P) → Extends self.old.states.parts.kept.items all →
-            let ways = by_numbers (S.ways space.now) (S.parts space.now) all in
-            SearchHolds ways self.old → IfOk result (λ v.
-            SearchHolds ways self.new × Grew self.old self.new × VisitHolds ways self.new v) }
+        ensures holds { (all : List P) → let ways = by_numbers (S.ways space.now) (S.parts space.now) all in
+            SearchHolds ways self.old →
+            IsStateAt (S.ways space.now) (S.parts space.now) all self.old.states.met.keys state world.now →
+            IfOk result (λ v. SearchHolds ways self.new × Grew self.old self.new × VisitHolds ways self.new v) }
     {
-        let world = self.states.state(space, state)?;
         if self.states.len() > self.limit {
             return Err(SearchFault::States);
         }
@@ -173,12 +182,13 @@ impl<P: Drop> Explorer<P> {
         self.done.push(None)?;
         let mut visit = OpenNode {
             state,
-            turns: space.turns(&world)?,
+            turns: space.turns(world)?,
             next: 0,
+            made: None,
             lists: IndexSet::new(alloc),
             ends: Vec::new(alloc),
         };
-        if !space.is_finished(&world) {
+        if !space.is_finished(world) {
             return Ok(visit);
         }
         visit.note(0, None)?;
@@ -207,10 +217,9 @@ impl<P: Drop> Explorer<P> {
         node: usize,
         line: Option<AnswerLine>,
     ) -> Result<(), AllocError>
-        requires { HasItsLine self.old.suffixes line }
         ensures states { OnOk result (self.new.states ≡ self.old.states) }
         ensures gathered { (all : List P) → let ways = by_numbers (S.ways _space.now) (S.parts _space.now) all in
-            SearchHolds ways self.old → VisitHolds ways self.old visit.old →
+            SearchHolds ways self.old → VisitHolds ways self.old visit.old → HasItsLine self.old.suffixes line →
             TurnLeads ways self.old visit.old turn node line →
             OnOk result (Gathered ways self.old visit.old turn self.new visit.new) }
     {
@@ -232,39 +241,68 @@ impl<P: Drop> Explorer<P> {
         Ok(())
     }
 
-    // Tries this turn of the state. Returns the state that it leads to, if that is new. The turn is then tried again
-    // when that state is done.
-    fn step<S: TransitionSystem<Part = P>>(
+    // Makes this turn of the state. Returns the state that it leads to, if that is new, which is then at hand.
+    fn make<S: TransitionSystem<Part = P>>(
         &mut self,
         space: &S,
+        hand: &mut Option<WholeState<S::State>>,
         visit: &mut OpenNode,
         turn: Turn,
     ) -> Result<Option<OpenNode>, SearchFault>
         ensures grows { OnOk result (PartsGrew self.old self.new) }
+        ensures hand { (all : List P) → Extends self.new.states.parts.kept.items all →
+            OnOk result (HandHolds (S.ways space.now) (S.parts space.now) all self.new.states.met.keys hand.new) }
         ensures steps { (all : List P) → Extends self.new.states.parts.kept.items all →
             let ways = by_numbers (S.ways space.now) (S.parts space.now) all in
             SearchHolds ways self.old → VisitHolds ways self.old visit.old →
+            HandHolds (S.ways space.now) (S.parts space.now) all self.old.states.met.keys hand.old →
             slice_get visit.old.turns.items visit.old.next ≡ Some turn →
             IfOk result (λ deeper. Stepped ways self.old visit.new deeper self.new) }
     {
-        let mut world = self.states.state(space, visit.state)?;
+        space.alike();
+        let mut world = self.states.take(space, hand, visit.state)?;
         let led = space.advance(&mut world, turn)?;
         if leads_nowhere(&led) {
+            visit.made = None;
             visit.next = visit.next.saturating_add(1);
             return Ok(None);
         }
         let line = self.line(turn.place, led)?;
         let met = self.states.len();
-        let state = self.states.number(space, world, visit.state)?;
+        let state = self.states.number(space, &world, visit.state)?;
+        visit.made = Some(MadeTurn { state, line });
         if state == met {
-            return Ok(Some(self.visit(space, state)?));
+            let deeper = self.visit(space, state, &world)?;
+            *hand = Some(WholeState {
+                number: state,
+                state: world,
+            });
+            return Ok(Some(deeper));
         }
-        let Some(node) = self.node_of(state) else {
+        Ok(None)
+    }
+
+    // Gathers the ends of the next turn of a state, which was made. The state that it led to is done.
+    fn back<S: TransitionSystem<Part = P>>(
+        &mut self,
+        space: &S,
+        visit: &mut OpenNode,
+        turn: Turn,
+        made: MadeTurn,
+    ) -> Result<(), SearchFault>
+        ensures states { OnOk result (self.new.states ≡ self.old.states) }
+        ensures steps { (all : List P) → let ways = by_numbers (S.ways space.now) (S.parts space.now) all in
+            SearchHolds ways self.old → VisitHolds ways self.old visit.old →
+            slice_get visit.old.turns.items visit.old.next ≡ Some turn → visit.old.made ≡ Some made →
+            OnOk result (Stepped ways self.old visit.new None self.new) }
+    {
+        let Some(node) = self.node_of(made.state) else {
             return Err(SearchFault::Circle);
         };
-        self.gather(space, visit, turn, node, line)?;
+        self.gather(space, visit, turn, node, made.line)?;
+        visit.made = None;
         visit.next = visit.next.saturating_add(1);
-        Ok(None)
+        Ok(())
     }
 
     // Returns the ends of this node, if their lists are those of these ends.
@@ -319,14 +357,17 @@ impl<P: Drop> Explorer<P> {
     fn try_next<S: TransitionSystem<Part = P>>(
         &mut self,
         space: &S,
+        hand: &mut Option<WholeState<S::State>>,
         stack: &mut Vec<OpenNode>,
     ) -> Result<bool, SearchFault>
         ensures grows { OnOk result (PartsGrew self.old self.new) }
         ensures holds { (all : List P) → Extends self.new.states.parts.kept.items all →
             let ways = by_numbers (S.ways space.now) (S.parts space.now) all in
             SearchHolds ways self.old → EachVisitHolds ways self.old stack.old.items →
+            HandHolds (S.ways space.now) (S.parts space.now) all self.old.states.met.keys hand.old →
             OnOk result (SearchHolds ways self.new × Grew self.old self.new
-            × EachVisitHolds ways self.new stack.new.items) }
+            × EachVisitHolds ways self.new stack.new.items
+            × HandHolds (S.ways space.now) (S.parts space.now) all self.new.states.met.keys hand.new) }
     {
         let Some(mut visit) = stack.pop() else {
             return Ok(false);
@@ -335,7 +376,12 @@ impl<P: Drop> Explorer<P> {
             self.finish(space, visit)?;
             return Ok(true);
         };
-        let deeper = self.step(space, &mut visit, turn)?;
+        if let Some(made) = visit.made {
+            self.back(space, &mut visit, turn, made)?;
+            stack.push(visit)?;
+            return Ok(true);
+        }
+        let deeper = self.make(space, hand, &mut visit, turn)?;
         stack.push(visit)?;
         if let Some(deeper) = deeper {
             stack.push(deeper)?;
@@ -355,10 +401,11 @@ impl<P: Drop> Explorer<P> {
             SearchHolds ways self.old → VisitHolds ways self.old first →
             OnOk result (SearchHolds ways self.new × Grew self.old self.new) }
     {
+        let mut hand = None;
         let mut stack = Vec::new(self.alloc);
         stack.push(first)?;
         'tries: for _ in 0..u64::MAX {
-            if !self.try_next(space, &mut stack)? {
+            if !self.try_next(space, &mut hand, &mut stack)? {
                 return Ok(());
             }
         }
@@ -395,8 +442,9 @@ impl<P: Drop> Explorer<P> {
             SearchStarts ways self.old → OnOk result (SearchFinishes ways self.new) }
     {
         let world = space.start()?;
-        let state = self.states.number(space, world, 0)?;
-        let first = self.visit(space, state)?;
+        let state = self.states.number(space, &world, 0)?;
+        space.alike();
+        let first = self.visit(space, state, &world)?;
         self.walk(space, first)
     }
 

@@ -83,15 +83,17 @@ impl AnswerLists {
 
     /// Returns the number of this list with the answer in front, if there is one.
     pub fn longer(&mut self, list: usize, line: Option<AnswerLine>) -> Result<usize, AllocError>
-        requires { HasItsLine self.old line }
         ensures grows { OnOk result (GrowsInto self.old self.new) }
         ensures there { HasListAt self.old list → IfOk result (λ n. HasListAt self.new n) }
-        ensures longer { AreWhole self.old → HasListAt self.old list →
+        ensures longer { HasItsLine self.old line → AreWhole self.old → HasListAt self.old list →
             IfOk result (λ n. IsLonger self.new line list n) }
     {
         let Some(line) = line else {
             return Ok(list);
         };
+        if line.number >= self.lines.len() {
+            return Ok(list);
+        }
         let Some(old) = self.lists.get_index(list) else {
             return Ok(list);
         };
