@@ -6,7 +6,7 @@ use Rattle.std.proofs.Common.{◌==◌, if◌then◌else◌}
 use Rattle.std.proofs.lemmas.List.{append-nil}
 use Rattle.std.proofs.lemmas.Option.{none-some, same_Some, slice_get_within}
 use Rattle.std.specs.List.{flat_map, range_with_len}
-use Rattle.gt_explore_search.specs.Lists.{HasItsLine, HasListAt, AreWhole, line_by, rest_by}
+use Rattle.gt_explore_search.specs.Lists.{HasItsLine, HasListAt, AreWhole, rest_by}
 use Rattle.gt_explore_search.specs.Ways.{Ways, HasEnoughTurns, IsShownSo, LedFits, MayEnd, MovesTo, PrintsTo, ShowsFirst, only_at}
 use Rattle.gt_explore_search.specs.Ways.{text_at, text_led}
 use Rattle.gt_explore_search.specs.Exploring.{AllHaveLists, AllByTurn, AllTextsFound, EachVisitHolds, IsNumbered, IsLineOf}
@@ -15,11 +15,11 @@ use Rattle.gt_explore_search.specs.Exploring.{LeadsOn, Grew, VisitHolds, Notes, 
 use Rattle.gt_explore_search.specs.declared.exploring.ReachedList.{ReachedList}
 use Rattle.gt_explore_search.specs.declared.exploring.Explorer.{Explorer}
 use Rattle.gt_explore_search.specs.declared.exploring.SearchResult.{SearchResult}
+use Rattle.gt_explore_search.specs.declared.sharing.TriedTurn.{TriedTurn}
 use Rattle.gt_explore_search.specs.declared.exploring.Node.{Node}
 use Rattle.gt_explore_search.specs.declared.exploring.FoundText.{FoundText}
 use Rattle.gt_explore_search.specs.declared.exploring.MadeTurn.{MadeTurn}
 use Rattle.gt_explore_search.specs.declared.exploring.OpenNode.{OpenNode}
-use Rattle.gt_explore_search.specs.declared.exploring.FirstTurn.{FirstTurn}
 use Rattle.gt_explore_search.specs.declared.spaces.TurnResult.{TurnResult}
 use Rattle.gt_explore_search.specs.declared.spaces.TurnResult.TheVariants as leds
 use Rattle.gt_explore_search.specs.declared.spaces.Turn.{Turn}
@@ -51,9 +51,9 @@ each_pop ways ex old new v is each = (
 )
 
 -- a turn more was tried
-pub tries_more : {P : Type 0} (ways : Ways (Vec ℕ)) (ex : Explorer P) (v : OpenNode) (turn : Turn) (next : ℕ) (holds : VisitHolds ways ex v) → next ≤ v.next + 1 → slice_get v.turns.items v.next ≡ Some turn
-    → AllByTurn ways ex.suffixes holds.world v.ends.items turn → VisitHolds ways ex (record v { made = None; next = next })
-tries_more ways ex v turn next holds le there found = record {
+pub tries_more : {P : Type 0} (ways : Ways (Vec ℕ)) (ex : Explorer P) (v : OpenNode) (turn : Turn) (tried : Vec TriedTurn) (next : ℕ) (holds : VisitHolds ways ex v) → next ≤ v.next + 1 → slice_get v.turns.items v.next ≡ Some turn
+    → AllByTurn ways ex.suffixes holds.world v.ends.items turn → VisitHolds ways ex (record v { made = None; tried = tried; next = next })
+tries_more ways ex v turn tried next holds le there found = record {
   world = holds.world;
   there = holds.there;
   turns = holds.turns;
@@ -79,7 +79,7 @@ pub steps_nowhere : {P : Type 0} (ways : Ways (Vec ℕ)) (ex : Explorer P) (v : 
 steps_nowhere ways ex v turn here copied moved led next holds visit at there copies moves nowhere le = record {
   holds = holds;
   grew = grew_same ex;
-  visit = tries_more ways ex v turn next visit le at (λ p m turns q shows comes goes.
+  visit = tries_more ways ex v turn v.tried next visit le at (λ p m turns q shows comes goes.
       let same : visit.world ≡ here = same_Some visit.world here (sym visit.there ∙ there) in
       absurd (subst (λ (l : TurnResult). LedFits ways l turn.place p m) nowhere (moves p m (copies p (subst (λ i. ways.shows i p) same shows)) comes).0));
   deeper = tt;
@@ -230,13 +230,13 @@ leads_done ways ex v turn made node holds visit at is done = (
     it = holds.done made.state node done
 
 -- what it leads to was gathered
-pub back_on : {P : Type 0} (ways : Ways (Vec ℕ)) (old new : Explorer P) (v w : OpenNode) (turn : Turn) (next : ℕ) → slice_get v.turns.items v.next ≡ Some turn → Gathered ways old v turn new w → next ≤ w.next + 1
-    → Stepped ways old (record w { made = None; next = next }) None new
-back_on ways old new v w turn next at all le = record {
+pub back_on : {P : Type 0} (ways : Ways (Vec ℕ)) (old new : Explorer P) (v w : OpenNode) (turn : Turn) (tried : Vec TriedTurn) (next : ℕ) → slice_get v.turns.items v.next ≡ Some turn → Gathered ways old v turn new w → next ≤ w.next + 1
+    → Stepped ways old (record w { made = None; tried = tried; next = next }) None new
+back_on ways old new v w turn tried next at all le = record {
   holds = all.holds;
   grew = all.grew;
   visit =
-      tries_more ways new w turn next all.visit le
+      tries_more ways new w turn tried next all.visit le
       (ap (λ (n : ℕ). slice_get w.turns.items n) all.next ∙ ap (λ t. slice_get t.items v.next) all.turns ∙ at) all.found;
   deeper = tt;
 }
@@ -292,10 +292,10 @@ prints_none : {W : Type 0} (ways : Ways W) (rest : ℕ → List ℕ) (p : ways.P
 prints_none ways rest p none = λ at. sym (append-nil (ways.printed p at)) ∙ ap (λ (i : List ℕ). ways.printed p at ++ i) (sym (none at))
 
 -- they may end there: the empty list was noted
-pub visits_end : {P : Type 0} (ways : Ways (Vec ℕ)) (old : Explorer P) (done : Vec (Option ℕ)) (v w : OpenNode) (onward : Option FirstTurn) (world : Vec ℕ) → done.items ≡ old.done.items ++ None ∷ []
+pub visits_end : {P : Type 0} (ways : Ways (Vec ℕ)) (old : Explorer P) (done : Vec (Option ℕ)) (v w : OpenNode) (world : Vec ℕ) → done.items ≡ old.done.items ++ None ∷ []
     → slice_get old.states.met.keys v.state ≡ Some world → HasEnoughTurns ways world v.turns.items → v.next ≡ 0 → v.made ≡ None → v.ends.items ≡ [] → v.lists.keys ≡ []
-    → Notes v (record { list = 0; onward = onward }) w → SearchHolds ways old → SearchHolds ways (with_done old done) × Grew old (with_done old done) × VisitHolds ways (with_done old done) w
-visits_end ways old done v w onward world more there turns none unmade ends keys notes holds =
+    → Notes v (record { list = 0 }) w → SearchHolds ways old → SearchHolds ways (with_done old done) × Grew old (with_done old done) × VisitHolds ways (with_done old done) w
+visits_end ways old done v w world more there turns none unmade ends keys notes holds =
     let it = done_on ways old done more holds in (
       it.0,
       it.1,
@@ -314,13 +314,13 @@ visits_end ways old done v w onward world more there turns none unmade ends keys
     numbers : map (λ (e : ReachedList). e.list) v.ends.items ≡ v.lists.keys
     numbers = ap (map (λ (e : ReachedList). e.list)) ends ∙ sym keys
 
-    either : (at : ℕ) (e : ReachedList) → (slice_get v.ends.items at ≡ Some e) ⊎ ((e ≡ record { list = 0; onward = onward }) × (at ≡ length v.ends.items)) → HasListAt old.suffixes e.list
+    either : (at : ℕ) (e : ReachedList) → (slice_get v.ends.items at ≡ Some e) ⊎ ((e ≡ record { list = 0 }) × (at ≡ length v.ends.items)) → HasListAt old.suffixes e.list
     either at e (inl was) = absurd (none_there v.ends.items at e ends was)
     either at e (inr (one, place)) = subst (λ (i : ReachedList). HasListAt old.suffixes i.list) (sym one) holds.empty.0
 
-    by : ((w.ends.items ≡ v.ends.items) ⊎ (w.ends.items ≡ v.ends.items ++ record { list = 0; onward = onward } ∷ [])) → AllHaveLists old.suffixes w.ends.items
+    by : ((w.ends.items ≡ v.ends.items) ⊎ (w.ends.items ≡ v.ends.items ++ record { list = 0 } ∷ [])) → AllHaveLists old.suffixes w.ends.items
     by (inl same) = λ at e is. absurd (none_there v.ends.items at e ends (ap (λ (l : List ReachedList). slice_get l at) (sym same) ∙ is))
-    by (inr one) = λ at e is. either at e (last_or v.ends.items (record { list = 0; onward = onward }) e at (ap (λ (l : List ReachedList). slice_get l at) (sym one) ∙ is))
+    by (inr one) = λ at e is. either at e (last_or v.ends.items (record { list = 0 }) e at (ap (λ (l : List ReachedList). slice_get l at) (sym one) ∙ is))
 
 pub not_both : (b : Bool) → b ≡ true → b ≡ false → ⊥
 not_both b is isnt = let same : true ≡ false = sym is ∙ isnt in absurd (cc)

@@ -5,7 +5,7 @@ ghost use Rattle.gt_explore_search.specs.Exploring.{AllTextsFound, SearchStarts}
 ghost use Rattle.gt_explore_search.specs.Parts.{by_numbers};
 
 use crate::fault::SearchFault;
-use crate::sharing::{NextNode, next_of, same_lists, turn_to};
+use crate::sharing::{TriedTurn, same_lists, tried_turn};
 use crate::spaces::{TransitionSystem, Turn, TurnResult};
 use crate::states::{StateIndex, WholeState};
 use crate::suffixes::{AnswerLine, AnswerLists};
@@ -13,6 +13,7 @@ use indexmap::IndexSet;
 use std::alloc::{AllocError, Global};
 use std::rc::Rc;
 
+mod orders;
 mod partial;
 
 pub use partial::{PartialResult, search_within};
@@ -31,29 +32,20 @@ pub struct SearchResult {
     pub states: usize,
 }
 
-/// The first turn towards an end. It leads to a state that is done, and continues to the end of that state at this
-/// index.
-#[derive(Clone, Copy)]
-pub struct FirstTurn {
-    pub turn: Turn,
-    pub node: usize,
-    pub end: usize,
-}
-
-/// A list of answers that a state leads to, by its number. If all domains are at their ends, there is no turn onward.
+/// A list of answers that a state leads to, by its number.
 #[derive(Clone, Copy)]
 pub struct ReachedList {
-    pub list: usize,
-    pub onward: Option<FirstTurn>,
+    pub list: u32,
 }
 
-/// A state whose moves have all been tried, and the lists of answers that it leads to. It shares them with the next node
-/// if they are the same.
+/// A state whose moves have all been tried, and the lists of answers that it leads to. It shares them with a node to
+/// which it leads if they are the same. The turns that were tried are those from the index `tried` on, up to those of
+/// the next node.
 #[derive(Drop)]
 pub struct Node {
-    pub state: usize,
+    pub state: u32,
+    pub tried: u32,
     pub ends: Rc<Vec<ReachedList>>,
-    pub next: Option<NextNode>,
 }
 
 /// A turn that was made: the number of the state that it led to, and the line that it printed.
@@ -71,6 +63,7 @@ pub struct OpenNode {
     pub turns: Vec<Turn>,
     pub next: usize,
     pub made: Option<MadeTurn>,
+    pub tried: Vec<TriedTurn>,
     pub lists: IndexSet<usize>,
     pub ends: Vec<ReachedList>,
 }
@@ -83,6 +76,7 @@ pub struct Explorer<P> {
     pub states: StateIndex<P>,
     pub done: Vec<Option<u32>>,
     pub nodes: Vec<Node>,
+    pub tried: Vec<TriedTurn>,
     pub suffixes: AnswerLists,
 }
 
@@ -102,12 +96,15 @@ impl OpenNode {
     }
 
     // Notes that the state leads to this list of answers, if that is new.
-    fn note(&mut self, list: usize, onward: Option<FirstTurn>) -> Result<(), AllocError>
-        ensures { OnOk result (Notes self.old (record { list = list; onward = onward }) self.new) }
+    fn note(&mut self, list: usize) -> Result<(), SearchFault>
+        ensures { OnOk result (Notes self.old (record { list = list }) self.new) }
     {
+        if list >= 4_294_967_296 {
+            return Err(SearchFault::States);
+        }
         let (_, is_new) = self.lists.insert_full(list)?;
         if is_new {
-            self.ends.push(ReachedList { list, onward })?;
+            self.ends.push(ReachedList { list: list as u32 })?;
         }
         Ok(())
     }
@@ -185,13 +182,14 @@ impl<P: Drop> Explorer<P> {
             turns: space.turns(world)?,
             next: 0,
             made: None,
+            tried: Vec::new(alloc),
             lists: IndexSet::new(alloc),
             ends: Vec::new(alloc),
         };
         if !space.is_finished(world) {
             return Ok(visit);
         }
-        visit.note(0, None)?;
+        visit.note(0)?;
         Ok(visit)
     }
 
@@ -213,12 +211,11 @@ impl<P: Drop> Explorer<P> {
         &mut self,
         _space: &S,
         visit: &mut OpenNode,
-        turn: Turn,
         node: usize,
         line: Option<AnswerLine>,
-    ) -> Result<(), AllocError>
+    ) -> Result<(), SearchFault>
         ensures states { OnOk result (self.new.states ≡ self.old.states) }
-        ensures gathered { (all : List P) → let ways = by_numbers (S.ways _space.now) (S.parts _space.now) all in
+        ensures gathered { (all : List P) (turn : Turn) → let ways = by_numbers (S.ways _space.now) (S.parts _space.now) all in
             SearchHolds ways self.old → VisitHolds ways self.old visit.old → HasItsLine self.old.suffixes line →
             TurnLeads ways self.old visit.old turn node line →
             OnOk result (Gathered ways self.old visit.old turn self.new visit.new) }
@@ -227,16 +224,9 @@ impl<P: Drop> Explorer<P> {
             return Ok(());
         };
         let suffixes = &mut self.suffixes;
-        let mut at = 0_usize;
         'ends: for end in done.ends.as_slice() {
-            let list = suffixes.longer(end.list, line)?;
-            let onward = FirstTurn {
-                turn,
-                node,
-                end: at,
-            };
-            visit.note(list, Some(onward))?;
-            at = at.saturating_add(1);
+            let list = suffixes.longer(end.list as usize, line)?;
+            visit.note(list)?;
         }
         Ok(())
     }
@@ -299,17 +289,18 @@ impl<P: Drop> Explorer<P> {
         let Some(node) = self.node_of(made.state) else {
             return Err(SearchFault::Circle);
         };
-        self.gather(space, visit, turn, node, made.line)?;
+        self.gather(space, visit, node, made.line)?;
+        visit.tried.push(tried_turn(turn, node, made.line)?)?;
         visit.made = None;
         visit.next = visit.next.saturating_add(1);
         Ok(())
     }
 
     // Returns the ends of this node, if their lists are those of these ends.
-    fn shared(&self, next: NextNode, ends: &[ReachedList]) -> Option<&Rc<Vec<ReachedList>>>
+    fn shared(&self, node: usize, ends: &[ReachedList]) -> Option<&Rc<Vec<ReachedList>>>
         ensures { IfSome result (λ kept. map (λ e. e.list) kept.now.value.items ≡ map (λ e. e.list) ends.now) }
     {
-        let done = node_at(self.nodes.as_slice(), next.node as usize)?;
+        let done = node_at(self.nodes.as_slice(), node)?;
         if same_lists(ends, done.ends.as_slice()) {
             Some(&done.ends)
         } else {
@@ -317,20 +308,21 @@ impl<P: Drop> Explorer<P> {
         }
     }
 
-    // Keeps these ends, or shares those of the next node.
+    // Keeps these ends, or shares those of a node to which one of these turns led.
     fn kept(
         &self,
+        tried: &[TriedTurn],
         ends: &[ReachedList],
-    ) -> Result<(Rc<Vec<ReachedList>>, Option<NextNode>), AllocError>
-        ensures { IfOk result (λ made. map (λ e. e.list) made.0.value.items ≡ map (λ e. e.list) ends.now) }
+    ) -> Result<Rc<Vec<ReachedList>>, AllocError>
+        ensures { IfOk result (λ made. map (λ e. e.list) made.value.items ≡ map (λ e. e.list) ends.now) }
     {
-        if let Some(next) = next_of(ends) {
-            if let Some(kept) = self.shared(next, ends) {
-                return Ok((kept.clone()?, Some(next)));
+        'tried: for turn in tried {
+            if let Some(kept) = self.shared(turn.node as usize, ends) {
+                return Ok(kept.clone()?);
             }
         }
         let own = Vec::from_slice(self.alloc, ends)?;
-        Ok((Rc::new(self.alloc, own)?, None))
+        Ok(Rc::new(self.alloc, own)?)
     }
 
     // Finishes a state whose moves have all been tried.
@@ -338,7 +330,7 @@ impl<P: Drop> Explorer<P> {
         &mut self,
         _space: &S,
         visit: OpenNode,
-    ) -> Result<(), AllocError>
+    ) -> Result<(), SearchFault>
         ensures states { OnOk result (self.new.states ≡ self.old.states) }
         ensures holds { (all : List P) → let ways = by_numbers (S.ways _space.now) (S.parts _space.now) all in
             SearchHolds ways self.old → VisitHolds ways self.old visit →
@@ -347,8 +339,17 @@ impl<P: Drop> Explorer<P> {
     {
         let node = self.nodes.as_slice().len();
         let state = visit.state;
-        let (ends, next) = self.kept(visit.ends.as_slice())?;
-        self.nodes.push(Node { state, ends, next })?;
+        let first = self.tried.len();
+        if state >= 4_294_967_296 || first >= 4_294_967_296 {
+            return Err(SearchFault::States);
+        }
+        let ends = self.kept(visit.tried.as_slice(), visit.ends.as_slice())?;
+        self.tried.extend_from_slice(visit.tried.as_slice())?;
+        self.nodes.push(Node {
+            state: state as u32,
+            tried: first as u32,
+            ends,
+        })?;
         set_done(&mut self.done, state, node);
         Ok(())
     }
@@ -412,29 +413,6 @@ impl<P: Drop> Explorer<P> {
         Err(SearchFault::States)
     }
 
-    // Returns the first turn from a state that is done to the end at this index.
-    fn onward(&self, node: usize, end: usize) -> Option<FirstTurn> {
-        let done = self.nodes.get(node)?;
-        match done.next {
-            None => done.ends.get(end)?.onward,
-            Some(next) => Some(turn_to(next, end)),
-        }
-    }
-
-    // Returns the turns that lead from a state that is done to the end at this index.
-    fn turns(&self, node: usize, end: usize) -> Result<Vec<Turn>, AllocError> {
-        let mut turns = Vec::new(self.alloc);
-        let mut next = self.onward(node, end);
-        for _ in 0..self.nodes.len() {
-            let Some(onward) = next else {
-                return Ok(turns);
-            };
-            turns.push(onward.turn)?;
-            next = self.onward(onward.node, onward.end);
-        }
-        Ok(turns)
-    }
-
     // Visits all states of the space.
     fn run<S: TransitionSystem<Part = P>>(&mut self, space: &S) -> Result<(), SearchFault>
         ensures { (all : List P) → Extends self.new.states.parts.kept.items all →
@@ -462,8 +440,9 @@ impl<P: Drop> Explorer<P> {
         let mut orders = Vec::new(self.alloc);
         let domains = space.domains();
         'ends: for end in done.ends.as_slice() {
-            let turns = self.turns(first, orders.len())?;
-            let text = self.suffixes.text(end.list, domains)?;
+            let list = end.list as usize;
+            let turns = self.turns(first, list, orders.len())?;
+            let text = self.suffixes.text(list, domains)?;
             orders.push(FoundText { turns, text })?;
         }
         let states = self.states.len();
@@ -485,6 +464,7 @@ fn new_explorer<S: TransitionSystem>(
         states: StateIndex::new(alloc),
         done: Vec::new(alloc),
         nodes: Vec::new(alloc),
+        tried: Vec::new(alloc),
         suffixes: AnswerLists::new(alloc)?,
     })
 }

@@ -102,6 +102,27 @@ impl AnswerLists {
         Ok(number)
     }
 
+    /// Returns the number of this list without the answer in front, if it has that one there.
+    pub fn shorter(
+        &self,
+        list: usize,
+        line: Option<AnswerLine>,
+    ) -> Result<Option<usize>, AllocError> {
+        let Some(line) = line else {
+            return Ok(Some(list));
+        };
+        let Some(old) = self.lists.get_index(list) else {
+            return Ok(None);
+        };
+        let at = place_in(old.as_slice(), line.place);
+        if old.get(at) != Some(&line) {
+            return Ok(None);
+        }
+        let mut rest = Vec::from_slice(self.alloc, old.as_slice())?;
+        rest.remove(at);
+        Ok(self.lists.get_index_of(&rest))
+    }
+
     // Returns what the domain at this position prints of a line.
     fn printed(&self, line: AnswerLine, place: usize) -> &[u8]
         ensures { result.now ≡ line_by self.now (Some line) place }

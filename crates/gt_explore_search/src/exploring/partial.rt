@@ -4,6 +4,7 @@ ghost use Rattle.gt_explore_search.specs.Exploring.{AllTextsFound, SearchStarts}
 
 use crate::exploring::{Explorer, MadeTurn, OpenNode, SearchResult, leads_nowhere, new_explorer};
 use crate::fault::SearchFault;
+use crate::sharing::tried_turn;
 use crate::spaces::{TransitionSystem, Turn};
 use std::alloc::Global;
 
@@ -103,7 +104,8 @@ impl<P: Drop> Explorer<P> {
         let Some(node) = self.node_of(made.state) else {
             return Ok(());
         };
-        self.gather(space, visit, turn, node, made.line)?;
+        self.gather(space, visit, node, made.line)?;
+        visit.tried.push(tried_turn(turn, node, made.line)?)?;
         Ok(())
     }
 

@@ -1,5 +1,4 @@
-use Rattle.std.proofs.Common.{subst, sym, ◌∙◌}
-use Rattle.gt_explore_search.specs.Parts.{HandHolds}
+use Rattle.std.proofs.Common.{sym, ◌∙◌}
 use Rattle.gt_explore_search.proofs.Numbering.{hand-here}
 use Rattle.gt_explore_search.proofs.states.StateIndex.take.Goals as goal
 
