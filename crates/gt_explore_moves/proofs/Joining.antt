@@ -1,13 +1,15 @@
 -- A state with the same parts is the same.
-use Rattle.std.proofs.Common.{◌≡◌, refl, List, [], ◌∷◌, ◌++◌, Bool, map, ap, sym, ◌∙◌, subst, append_assoc}
+use Rattle.std.proofs.Common.{◌≡◌, ◌≤◌, ℕ, zero, suc, refl, List, [], ◌∷◌, ◌++◌, Bool, map, ap, sym, ◌∙◌, subst}
+use Rattle.std.proofs.Common.{arith, append_assoc, length, slice_get, None}
 use Rattle.std.proofs.lemmas.List.{append-nil}
+use Rattle.std.proofs.lemmas.Option.{none-some}
 use Rattle.gt_explore_search.specs.Parts.{Pairwise}
 use Rattle.gt_explore_state.specs.Copies.{SamePages, SameTables}
 use Rattle.gt_explore_state.specs.declared.pages.SparsePage.{SparsePage}
 use Rattle.gt_explore_state.specs.declared.table.SparseTable.{SparseTable}
 use Rattle.gt_explore_state.proofs.Copying.{pages-more, tables-more}
 use Rattle.gt_explore_moves.specs.Copies.{SameActors, SameWorld}
-use Rattle.gt_explore_moves.specs.Parts.{PartLists, SamePart, lists_in, no_parts, with_part, with_parts}
+use Rattle.gt_explore_moves.specs.Parts.{PartLists, SamePart, lists_in, no_parts, parts_of, with_part, with_parts}
 use Rattle.gt_explore_moves.specs.declared.actor.Actor.{Actor}
 use Rattle.gt_explore_moves.specs.declared.parts.StatePart.{StatePart}
 use Rattle.gt_explore_moves.specs.declared.parts.StatePart.TheVariants.{Domain, Flag, Page, Table}
@@ -41,7 +43,7 @@ with-pages l [] = ap (λ (f : List SparsePage). record l { pages = f }) (sym (ap
 with-pages l (x ∷ xs) = with-pages (with_part l (Page x)) xs ∙ ap (λ (f : List SparsePage). record l { pages = f }) (append_assoc l.pages (x ∷ []) xs)
 
 -- the parts of a state that was split
-pub split-whole : (flags : List Bool) (actors : List Actor) (tables : List SparseTable) (pages : List SparsePage) (none first second third all : List StatePart) → none ≡ [] → first ≡ none ++ map Flag flags
+split-whole : (flags : List Bool) (actors : List Actor) (tables : List SparseTable) (pages : List SparsePage) (none first second third all : List StatePart) → none ≡ [] → first ≡ none ++ map Flag flags
     → second ≡ first ++ map Domain actors → third ≡ second ++ map Table tables → all ≡ third ++ map Page pages → record { flags = flags; actors = actors; tables = tables; pages = pages } ≡ with_parts no_parts all
 split-whole flags actors tables pages none first second third all empty one two three four = sym d
   where
@@ -56,6 +58,29 @@ split-whole flags actors tables pages none first second third all empty one two 
 
     d : with_parts no_parts all ≡ record { flags = flags; actors = actors; tables = tables; pages = pages }
     d = ap (with_parts no_parts) four ∙ with-both no_parts third (map Page pages) ∙ ap (λ (l : PartLists). with_parts l (map Page pages)) c ∙ with-pages (record { flags = flags; actors = actors; tables = tables; pages = [] }) pages
+
+-- the parts of a state are its own
+whole-parts : (w : SearchState) → lists_in w ≡ with_parts no_parts (parts_of w)
+whole-parts w = split-whole w.told.items w.actors.items w.ground.tables.items w.ground.pages.items [] flags (flags ++ actors) ((flags ++ actors) ++ tables) (parts_of w) refl refl refl refl
+    (sym (append_assoc (flags ++ actors) tables pages ∙ append_assoc flags actors (tables ++ pages)))
+  where
+    flags : List StatePart
+    flags = map Flag w.told.items
+
+    actors : List StatePart
+    actors = map Domain w.actors.items
+
+    tables : List StatePart
+    tables = map Table w.ground.tables.items
+
+    pages : List StatePart
+    pages = map Page w.ground.pages.items
+
+-- an index past the end
+pub past-none : {X : Type 0} (xs : List X) (at : ℕ) → slice_get xs at ≡ None → length xs ≤ at
+past-none [] at is = omega arith
+past-none (x ∷ xs) zero is = absurd (none-some x (sym is))
+past-none (x ∷ xs) (suc at) is = let rest = past-none xs at is in omega (arith, rest)
 
 -- states with the same parts
 
@@ -98,7 +123,7 @@ same-lists (p ∷ ps) (q ∷ qs) l m each same = same-lists ps qs (with_part l p
 same-lists [] (q ∷ qs) l m each same = absurd each
 same-lists (p ∷ ps) [] l m each same = absurd each
 
-pub joined-same : (w v : SearchState) (ps qs : List StatePart) → lists_in w ≡ with_parts no_parts ps → lists_in v ≡ with_parts no_parts qs → Pairwise SamePart ps qs → SameWorld w v
+joined-same : (w v : SearchState) (ps qs : List StatePart) → lists_in w ≡ with_parts no_parts ps → lists_in v ≡ with_parts no_parts qs → Pairwise SamePart ps qs → SameWorld w v
 joined-same w v ps qs has made each = record { actors = same.actors; tables = same.tables; pages = same.pages; told = same.flags }
   where
     none : SameLists no_parts no_parts
@@ -106,3 +131,9 @@ joined-same w v ps qs has made each = record { actors = same.actors; tables = sa
 
     same : SameLists (lists_in w) (lists_in v)
     same = subst (λ (m : PartLists). SameLists (lists_in w) m) (sym made) (subst (λ (l : PartLists). SameLists l (with_parts no_parts qs)) (sym has) (same-lists ps qs no_parts no_parts each none))
+
+pub parts-same : (w v : SearchState) → Pairwise SamePart (parts_of w) (parts_of v) → SameWorld w v
+parts-same w v each = joined-same w v (parts_of w) (parts_of v) (whole-parts w) (whole-parts v) each
+
+pub made-same : (w v : SearchState) (made : List StatePart) → lists_in v ≡ with_parts no_parts made → Pairwise SamePart (parts_of w) made → SameWorld w v
+made-same w v made is each = joined-same w v (parts_of w) made (whole-parts w) is each

@@ -1,6 +1,6 @@
 -- The parts of states.
-use Rattle.std.specs.Prelude.{◌≡◌, ◌++◌, List, [], ◌∷◌, Bool}
-use mathlib.Core.Path.{◌∙◌}
+use Rattle.std.specs.Prelude.{◌≡◌, ◌++◌, List, [], ◌∷◌, Bool, map}
+use mathlib.Core.Path.{◌∙◌, sym}
 use Rattle.gt_explore_search.specs.Parts.{Splitting}
 use Rattle.gt_explore_state.specs.Copies.{SamePage}
 use Rattle.gt_explore_state.specs.Tables.{SameTable}
@@ -8,6 +8,8 @@ use Rattle.gt_explore_state.specs.declared.pages.SparsePage.{SparsePage}
 use Rattle.gt_explore_state.specs.declared.table.SparseTable.{SparseTable}
 use Rattle.gt_explore_moves.specs.Copies.{SameActor}
 use Rattle.gt_explore_moves.specs.declared.actor.Actor.{Actor}
+use Rattle.gt_explore_moves.specs.declared.parts.PartInState.{PartInState}
+use Rattle.gt_explore_moves.specs.declared.parts.PartInState.TheVariants as shown
 use Rattle.gt_explore_moves.specs.declared.parts.StatePart.{StatePart}
 use Rattle.gt_explore_moves.specs.declared.parts.StatePart.TheVariants.{Domain, Flag, Page, Table}
 use Rattle.gt_explore_moves.specs.declared.scene.SearchState.{SearchState}
@@ -65,6 +67,25 @@ same_table_on a b c f g = record { header = g.header ∙ f.header; own = g.own �
 same_page_on : (a b c : SparsePage) → SamePage a b → SamePage b c → SamePage a c
 same_page_on a b c f g = record { owner = g.owner ∙ f.owner; frame = g.frame ∙ f.frame; bytes = g.bytes ∙ f.bytes }
 
+-- the tables and the pages of a state
+abbrev pub tables_and_pages : SearchState → List StatePart
+tables_and_pages w = map Table w.ground.tables.items ++ map Page w.ground.pages.items
+
+-- its domains, tables and pages
+abbrev pub all_but_flags : SearchState → List StatePart
+all_but_flags w = map Domain w.actors.items ++ tables_and_pages w
+
+-- the parts of a state: its flags, its domains, their tables and the pages
+abbrev pub parts_of : SearchState → List StatePart
+parts_of w = map Flag w.told.items ++ all_but_flags w
+
+-- the part that stands in a state
+abbrev pub part_shown : PartInState → StatePart
+part_shown (shown.Flag b) = Flag b
+part_shown (shown.Domain a) = Domain a.now
+part_shown (shown.Table t) = Table t.now
+part_shown (shown.Page p) = Page p.now
+
 -- what is the same as a part that is the same is so too
 pub same_part_on : (p q r : StatePart) → SamePart p q → SamePart q r → SamePart p r
 same_part_on (Flag a) (Flag b) (Flag c) f g = g ∙ f
@@ -77,10 +98,20 @@ same_part_on (Table a) (Table b) r f g = absurd g
 same_part_on (Page a) (Page b) r f g = absurd g
 same_part_on p q r f g = absurd f
 
--- a state has its flags, its domains, its tables and its pages, those of each kind in their order
+-- a part is the same as each that is the same as it
+pub same_part_back : (p q : StatePart) → SamePart p q → SamePart q p
+same_part_back (Flag a) (Flag b) f = sym f
+same_part_back (Domain a) (Domain b) f =
+    record { next = sym f.next; pins = sym f.pins; labels = sym f.labels; open_call = sym f.open_call }
+same_part_back (Table a) (Table b) f = record { header = sym f.header; own = sym f.own; counts = sym f.counts }
+same_part_back (Page a) (Page b) f = record { owner = sym f.owner; frame = sym f.frame; bytes = sym f.bytes }
+same_part_back p q f = absurd f
+
+-- the parts of a state, and which of them are the same
 abbrev pub splitting : Splitting SearchState StatePart
 splitting = record {
-  has = λ w parts. lists_in w ≡ with_parts no_parts parts;
+  of = parts_of;
   same = SamePart;
   same_on = same_part_on;
+  same_back = same_part_back;
 }

@@ -1,6 +1,6 @@
 //! The digests by which parts of states are found again.
 use crate::actor::{Actor, ActorCall, LabelledMapping};
-use crate::parts::StatePart;
+use crate::parts::PartInState;
 use crate::phases::{Digest, mix_held, mix_phase};
 use crate::scene::SearchContext;
 use gt_calls::{BodyWord, PinHolder, Step};
@@ -98,15 +98,15 @@ fn mix_page(digest: &mut Digest, page: &SparsePage) {
 
 impl<'s, 'a> SearchContext<'s, 'a> {
     /// Returns a number that is equal for parts that are the same, and rarely for others.
-    pub fn digest(&self, part: &StatePart<'a>) -> u64 {
+    pub fn digest(&self, part: PartInState<'_, 'a>) -> u64 {
         let mut digest = Digest::new();
         match part {
-            StatePart::Flag(is_raised) => digest.mix(u64::from(*is_raised)),
-            StatePart::Domain(actor) => mix_actor(&mut digest, actor),
-            StatePart::Table(table) => {
+            PartInState::Flag(is_raised) => digest.mix(u64::from(is_raised)),
+            PartInState::Domain(actor) => mix_actor(&mut digest, actor),
+            PartInState::Table(table) => {
                 mix_table(&mut digest, self.roster.config().first_gen, table);
             }
-            StatePart::Page(page) => mix_page(&mut digest, page),
+            PartInState::Page(page) => mix_page(&mut digest, page),
         }
         digest.value
     }

@@ -1,8 +1,4 @@
 //! The parts of states.
-ghost use Rattle.std.specs.Prelude.{◌≡◌, ◌++◌, map, IfOk, OnOk};
-ghost use Rattle.gt_explore_moves.specs.Parts.{lists_in, no_parts, with_parts};
-ghost use Rattle.gt_explore_moves.specs.declared.parts.StatePart.TheVariants.{Domain, Flag, Page, Table};
-
 use crate::actor::Actor;
 use crate::scene::SearchState;
 use gt_explore_state::{SparsePage, SparseState, SparseTable};
@@ -38,72 +34,89 @@ impl<'a> StatePart<'a> {
     }
 }
 
-// Appends flags to these parts.
-fn push_flags<'a>(parts: &mut Vec<StatePart<'a>>, flags: &[bool]) -> Result<(), AllocError>
-    ensures { OnOk result (parts.new.items ≡ parts.old.items ++ map Flag flags.now) }
-{
-    'flags: for is_raised in flags {
-        parts.push(StatePart::Flag(*is_raised))?;
-    }
-    Ok(())
+/// A part of a state, where it stands in it.
+#[derive(Clone, Copy)]
+pub enum PartInState<'p, 'a> {
+    /// Whether a flag was raised.
+    Flag(bool),
+    /// A domain.
+    Domain(&'p Actor<'a>),
+    /// The grant table of a domain.
+    Table(&'p SparseTable),
+    /// The bytes of a frame.
+    Page(&'p SparsePage),
 }
 
-// Appends domains to these parts.
-fn push_domains<'a>(
-    parts: &mut Vec<StatePart<'a>>,
-    actors: Vec<Actor<'a>>,
-) -> Result<(), AllocError>
-    ensures { OnOk result (parts.new.items ≡ parts.old.items ++ map Domain actors.entry.items) }
-{
-    'actors: for actor in actors {
-        parts.push(StatePart::Domain(actor))?;
-    }
-    Ok(())
-}
+impl<'p, 'a> PartInState<'p, 'a> {
+    ghost use Rattle.std.specs.Prelude.{IfOk};
+    ghost use Rattle.gt_explore_moves.specs.Parts.{SamePart, part_shown};
 
-// Appends tables to these parts.
-fn push_tables<'a>(
-    parts: &mut Vec<StatePart<'a>>,
-    tables: Vec<SparseTable>,
-) -> Result<(), AllocError>
-    ensures { OnOk result (parts.new.items ≡ parts.old.items ++ map Table tables.items) }
-{
-    'tables: for table in tables {
-        parts.push(StatePart::Table(table))?;
+    /// Copies the part.
+    pub fn copy(self, alloc: Global) -> Result<StatePart<'a>, AllocError>
+        ensures { IfOk result (SamePart (part_shown self.entry)) }
+    {
+        match self {
+            PartInState::Flag(is_raised) => Ok(StatePart::Flag(is_raised)),
+            PartInState::Domain(actor) => Ok(StatePart::Domain(actor.copy(alloc)?)),
+            PartInState::Table(table) => Ok(StatePart::Table(table.copy(alloc)?)),
+            PartInState::Page(page) => Ok(StatePart::Page(page.copy(alloc)?)),
+        }
     }
-    Ok(())
-}
-
-// Appends pages to these parts.
-fn push_pages<'a>(parts: &mut Vec<StatePart<'a>>, pages: Vec<SparsePage>) -> Result<(), AllocError>
-    ensures { OnOk result (parts.new.items ≡ parts.old.items ++ map Page pages.items) }
-{
-    'pages: for page in pages {
-        parts.push(StatePart::Page(page))?;
-    }
-    Ok(())
 }
 
 impl<'a> SearchState<'a> {
-    ghost use Rattle.std.specs.Prelude.{◌≡◌, IfOk, OnOk};
-    ghost use Rattle.gt_explore_moves.specs.Parts.{lists_in, no_parts, with_part, with_parts};
+    ghost use Rattle.std.specs.Prelude.{◌≡◌, IfOk, OnOk, map, slice_get};
+    ghost use Rattle.std.specs.Option.{option_map};
+    ghost use Rattle.gt_explore_moves.specs.Parts.{all_but_flags, lists_in, no_parts, part_shown, parts_of};
+    ghost use Rattle.gt_explore_moves.specs.Parts.{tables_and_pages, with_part, with_parts};
+    ghost use Rattle.gt_explore_moves.specs.declared.parts.StatePart.TheVariants.{Page};
 
-    /// Splits the state into its parts.
-    pub fn split(self, alloc: Global) -> Result<Vec<StatePart<'a>>, AllocError>
-        ensures { IfOk result (λ parts. lists_in self.entry ≡ with_parts no_parts parts.items) }
+    // Returns the page at this index.
+    fn page_at(&self, at: usize) -> Option<PartInState<'_, 'a>>
+        ensures { option_map part_shown result ≡ slice_get (map Page self.now.ground.pages.items) at }
     {
-        let SearchState {
-            actors,
-            ground,
-            told,
-        } = self;
-        let SparseState { tables, pages } = ground;
-        let mut parts = Vec::new(alloc);
-        push_flags(&mut parts, told.as_slice())?;
-        push_domains(&mut parts, actors)?;
-        push_tables(&mut parts, tables)?;
-        push_pages(&mut parts, pages)?;
-        Ok(parts)
+        let pages = self.ground.pages.as_slice();
+        if at < pages.len() {
+            Some(PartInState::Page(&pages[at]))
+        } else {
+            None
+        }
+    }
+
+    // Returns the part at this index, tables first.
+    fn table_at(&self, at: usize) -> Option<PartInState<'_, 'a>>
+        ensures { option_map part_shown result ≡ slice_get (tables_and_pages self.now) at }
+    {
+        let tables = self.ground.tables.as_slice();
+        if at < tables.len() {
+            Some(PartInState::Table(&tables[at]))
+        } else {
+            self.page_at(at - tables.len())
+        }
+    }
+
+    // Returns the part at this index, domains first.
+    fn actor_at(&self, at: usize) -> Option<PartInState<'_, 'a>>
+        ensures { option_map part_shown result ≡ slice_get (all_but_flags self.now) at }
+    {
+        let actors = self.actors.as_slice();
+        if at < actors.len() {
+            Some(PartInState::Domain(&actors[at]))
+        } else {
+            self.table_at(at - actors.len())
+        }
+    }
+
+    /// Returns the part at this index.
+    pub fn part_at(&self, at: usize) -> Option<PartInState<'_, 'a>>
+        ensures { option_map part_shown result ≡ slice_get (parts_of self.now) at }
+    {
+        let told = self.told.as_slice();
+        if at < told.len() {
+            Some(PartInState::Flag(told[at]))
+        } else {
+            self.actor_at(at - told.len())
+        }
     }
 
     // Makes a state without any parts.

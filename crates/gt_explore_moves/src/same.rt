@@ -4,11 +4,11 @@
 //! twice.
 ghost use Rattle.std.specs.Prelude.{◌≡◌, IsTrue};
 ghost use Rattle.gt_explore_moves.specs.Copies.{SameActor};
-ghost use Rattle.gt_explore_moves.specs.Parts.{SamePart};
+ghost use Rattle.gt_explore_moves.specs.Parts.{SamePart, part_shown};
 ghost use Rattle.gt_explore_moves.specs.Mappings.{labels_of, mapping_pins, label_bytes};
 
 use crate::actor::{Actor, ActorCall, LabelledMapping};
-use crate::parts::StatePart;
+use crate::parts::{PartInState, StatePart};
 use crate::same_steps::same_step;
 use gt_calls::{
     AccessPath, Call, CallPins, CallResult, CallValue, HeaderQuery, HeldPin, Leg, LegPhase,
@@ -406,14 +406,14 @@ fn same_actor(one: &Actor, other: &Actor) -> bool
 }
 
 /// Returns whether the parts are the same.
-pub fn same_parts(one: &StatePart, other: &StatePart) -> bool
-    ensures { IsTrue result → SamePart one.now other.now }
+pub fn same_parts(one: PartInState<'_, '_>, other: &StatePart) -> bool
+    ensures { IsTrue result → SamePart (part_shown one.entry) other.now }
 {
     match (one, other) {
-        (StatePart::Flag(is_raised), StatePart::Flag(raised)) => is_raised == raised,
-        (StatePart::Domain(actor), StatePart::Domain(a)) => same_actor(actor, a),
-        (StatePart::Table(table), StatePart::Table(t)) => table.is_same(t),
-        (StatePart::Page(page), StatePart::Page(p)) => page.is_same(p),
+        (PartInState::Flag(is_raised), StatePart::Flag(raised)) => is_raised == *raised,
+        (PartInState::Domain(actor), StatePart::Domain(a)) => same_actor(actor, a),
+        (PartInState::Table(table), StatePart::Table(t)) => table.is_same(t),
+        (PartInState::Page(page), StatePart::Page(p)) => page.is_same(p),
         _ => false,
     }
 }

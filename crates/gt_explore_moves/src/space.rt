@@ -1,10 +1,9 @@
 //! A search context as a transition system.
-ghost use Rattle.std.specs.Prelude.{List, IfOk};
+ghost use Rattle.std.specs.Prelude.{IfOk};
 ghost use Rattle.gt_explore_search.specs.Parts.{Pairwise};
 ghost use Rattle.gt_explore_search.specs.Ways.{IsShownSo};
-ghost use Rattle.gt_explore_moves.specs.Parts.{splitting};
+ghost use Rattle.gt_explore_moves.specs.Parts.{parts_of, splitting};
 ghost use Rattle.gt_explore_moves.specs.Spaces.{scene_ways};
-ghost use Rattle.gt_explore_moves.specs.declared.parts.StatePart.{StatePart};
 ghost use Rattle.gt_explore_moves.specs.declared.scene.SearchState.{SearchState};
 
 use crate::parts::StatePart;
@@ -42,23 +41,41 @@ impl<'s> TransitionSystem for SearchContext<'s, 's> {
         self.is_finished(state)
     }
 
-    fn split(&self, state: SearchState<'s>) -> Result<Vec<StatePart<'s>>, AllocError> {
-        state.split(self.alloc)
+    fn alike(&self) {}
+
+    fn is_past(&self, state: &SearchState<'s>, at: usize) -> bool {
+        match state.part_at(at) {
+            Some(_) => false,
+            None => true,
+        }
+    }
+
+    fn has_part(&self, state: &SearchState<'s>, at: usize, part: &StatePart<'s>) -> bool {
+        match state.part_at(at) {
+            Some(one) => same_parts(one, part),
+            None => false,
+        }
+    }
+
+    fn copy_part(&self, state: &SearchState<'s>, at: usize) -> Result<StatePart<'s>, SearchFault> {
+        match state.part_at(at) {
+            Some(part) => Ok(part.copy(self.alloc)?),
+            None => Err(SearchFault::States),
+        }
+    }
+
+    fn digest(&self, state: &SearchState<'s>, at: usize) -> u64 {
+        match state.part_at(at) {
+            Some(part) => self.digest(part),
+            None => 0,
+        }
     }
 
     fn join(&self, made: Vec<StatePart<'s>>) -> Result<SearchState<'s>, AllocError>
-        ensures { (w : SearchState) (ps : List StatePart) → splitting.has w ps →
-            Pairwise splitting.same ps made.entry.items → IfOk result (IsShownSo (scene_ways self.now) w) }
+        ensures { (w : SearchState) → Pairwise splitting.same (parts_of w) made.entry.items →
+            IfOk result (IsShownSo (scene_ways self.now) w) }
     {
         SearchState::join(self.alloc, made)
-    }
-
-    fn digest(&self, part: &StatePart<'s>) -> u64 {
-        self.digest(part)
-    }
-
-    fn is_same(&self, one: &StatePart<'s>, other: &StatePart<'s>) -> bool {
-        same_parts(one, other)
     }
 
     fn copy(&self, part: &StatePart<'s>) -> Result<StatePart<'s>, AllocError> {

@@ -65,23 +65,25 @@ key_kept false r keys new k is so new_is = let same : false ≡ true = sym so �
 
 -- notes
 
-pub notes_new : (v : OpenNode) (e : ReachedList) (w : OpenNode) → w.state ≡ v.state → w.turns ≡ v.turns → w.next ≡ v.next → w.ends.items ≡ v.ends.items ++ e ∷ [] → w.lists.keys ≡ v.lists.keys ++ e.list ∷ []
+pub notes_new : (v : OpenNode) (e : ReachedList) (w : OpenNode) → w.state ≡ v.state → w.turns ≡ v.turns → w.next ≡ v.next → w.made ≡ v.made → w.ends.items ≡ v.ends.items ++ e ∷ [] → w.lists.keys ≡ v.lists.keys ++ e.list ∷ []
     → Notes v e w
-notes_new v e w state turns next ends keys = record {
+notes_new v e w state turns next made ends keys = record {
   state = state;
   turns = turns;
   next = next;
+  made = made;
   ends = inr ends;
   has = λ lists. (length v.ends.items, e, ap (λ (l : List ReachedList). slice_get l (length v.ends.items)) ends ∙ at_last v.ends.items e, refl);
   numbers = λ lists. ap (map (λ (i : ReachedList). i.list)) ends ∙ map_last v.ends.items e ∙ ap (λ (l : List ℕ). l ++ e.list ∷ []) lists ∙ sym keys;
 }
 
-pub notes_old : (v : OpenNode) (e : ReachedList) (w : OpenNode) (at n : ℕ) → w.state ≡ v.state → w.turns ≡ v.turns → w.next ≡ v.next → w.ends.items ≡ v.ends.items → w.lists.keys ≡ v.lists.keys
+pub notes_old : (v : OpenNode) (e : ReachedList) (w : OpenNode) (at n : ℕ) → w.state ≡ v.state → w.turns ≡ v.turns → w.next ≡ v.next → w.made ≡ v.made → w.ends.items ≡ v.ends.items → w.lists.keys ≡ v.lists.keys
     → slice_get w.lists.keys at ≡ Some n → nat_eq e.list n ≡ true → Notes v e w
-notes_old v e w at n state turns next ends keys there same = record {
+notes_old v e w at n state turns next made ends keys there same = record {
   state = state;
   turns = turns;
   next = next;
+  made = made;
   ends = inl ends;
   has = λ lists.
       let back = end_back v.ends.items at n (ap (λ (l : List ℕ). slice_get l at) (lists ∙ sym keys) ∙ there) in
@@ -105,6 +107,10 @@ visit_noted ways ex v e w notes has holds = record {
   tried = λ at turn lt there p m turns q shows next goes.
       among_noted ways ex.suffixes v e w p q notes
       (holds.tried at turn (subst (λ (n : ℕ). at < n) notes.next lt) (ap (λ (l : List Turn). slice_get l at) (ap (λ t. t.items) (sym notes.turns)) ∙ there) p m turns q shows next goes);
+  made = λ turn m at is.
+      holds.made turn m
+      (ap (λ (n : ℕ). slice_get v.turns.items n) (sym notes.next) ∙ ap (λ (l : List Turn). slice_get l w.next) (ap (λ t. t.items) (sym notes.turns)) ∙ at)
+      (sym notes.made ∙ is);
   over = λ p shows ended. among_noted ways ex.suffixes v e w p p notes (holds.over p shows ended);
   lists = by notes.ends;
   numbers = notes.numbers holds.numbers;

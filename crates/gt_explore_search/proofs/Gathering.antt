@@ -11,7 +11,6 @@ use Rattle.gt_explore_search.specs.Exploring.{Gathered}
 use Rattle.gt_explore_search.specs.declared.exploring.ReachedList.{ReachedList}
 use Rattle.gt_explore_search.specs.declared.exploring.Explorer.{Explorer}
 use Rattle.gt_explore_search.specs.declared.exploring.Node.{Node}
-use Rattle.gt_explore_search.specs.declared.exploring.FirstTurn.{FirstTurn}
 use Rattle.gt_explore_search.specs.declared.exploring.OpenNode.{OpenNode}
 use Rattle.gt_explore_search.specs.declared.spaces.Turn.{Turn}
 use Rattle.gt_explore_search.specs.declared.suffixes.AnswerLine.{AnswerLine}
@@ -78,20 +77,20 @@ less_or (suc at) (suc i) lt = by (less_or at i (omega (arith, lt)))
 abbrev with_suffixes : {P : Type 0} → Explorer P → AnswerLists → Explorer P
 with_suffixes ex t = record ex { suffixes = t }
 
-abbrev noted_of : ℕ → Option FirstTurn → ReachedList
-noted_of list onward = record { list = list; onward = onward }
+abbrev noted_of : ℕ → ReachedList
+noted_of list = record { list = list }
 
 -- the next list was gathered
 pub gathers_more : {P : Type 0} (ways : Ways (Vec ℕ)) (old : Explorer P) (v : OpenNode) (turn : Turn) (node : ℕ) (line : Option AnswerLine) (done : Node) (ex : Explorer P) (w : OpenNode) (i : ℕ) (e : ReachedList)
-    (t : AnswerLists) (list : ℕ) (onward : Option FirstTurn) (u : OpenNode)
+    (t : AnswerLists) (list : ℕ) (u : OpenNode)
     → slice_get old.nodes.items node ≡ Some done → HasItsLine ex.suffixes line → IsGathering ways old v turn line done ex w i → slice_get done.ends.value.items i ≡ Some e → GrowsInto ex.suffixes t → (HasListAt ex.suffixes e.list → HasListAt t list)
     → (AreWhole ex.suffixes → HasListAt ex.suffixes e.list → IsLonger t line e.list list)
-    → Notes w (record { list = list; onward = onward }) u
+    → Notes w (record { list = list }) u
     → IsGathering ways old v turn line done (record ex { suffixes = t }) u (i + 1)
-gathers_more ways old v turn node line done ex w i e t list onward u is line_on gathers there grows lists longers notes = record {
+gathers_more ways old v turn node line done ex w i e t list u is line_on gathers there grows lists longers notes = record {
   holds = holds;
   grew = grew;
-  visit = visit_noted ways (with_suffixes ex t) w (noted_of list onward) u notes has now;
+  visit = visit_noted ways (with_suffixes ex t) w (noted_of list) u notes has now;
   next = notes.next ∙ gathers.next;
   turns = notes.turns ∙ gathers.turns;
   state = notes.state ∙ gathers.state;
@@ -137,7 +136,7 @@ gathers_more ways old v turn node line done ex w i e t list onward u is line_on 
         by (inl less) =
             let f = gathers.found at d less so in (
               f.0,
-              end_more w (noted_of list onward) u f.0 notes.ends f.1,
+              end_more w (noted_of list) u f.0 notes.ends f.1,
               list_grown ex.suffixes t f.0 grows f.2,
               longer_on ex.suffixes t line d.list f.0 gathers.holds.whole grows line_on (it.lists at d so) f.2 f.3,
             )

@@ -6,13 +6,15 @@ use Rattle.std.proofs.lemmas.Option.{none-some}
 use Rattle.std.specs.Global.{Vec}
 use Rattle.gt_explore_search.specs.Lists.{HasListAt, AreWhole, GrowsInto, rest_by}
 use Rattle.gt_explore_search.specs.Ways.{Ways, PrintsTo}
-use Rattle.gt_explore_search.specs.Exploring.{IsAmongEnds, AllHaveLists, NodeHolds, SearchHolds, Grew, VisitHolds}
+use Rattle.gt_explore_search.specs.Exploring.{IsAmongEnds, AllHaveLists, LeadsOn, NodeHolds, SearchHolds, Grew, VisitHolds}
 use Rattle.gt_explore_search.specs.declared.exploring.ReachedList.{ReachedList}
 use Rattle.gt_explore_search.specs.declared.exploring.Explorer.{Explorer}
 use Rattle.gt_explore_search.specs.declared.exploring.Node.{Node}
+use Rattle.gt_explore_search.specs.declared.exploring.MadeTurn.{MadeTurn}
 use Rattle.gt_explore_search.specs.declared.exploring.OpenNode.{OpenNode}
+use Rattle.gt_explore_search.specs.declared.spaces.Turn.{Turn}
 use Rattle.gt_explore_search.specs.declared.suffixes.AnswerLists.{AnswerLists}
-use Rattle.gt_explore_search.proofs.Listing.{rest_kept, list_grown, grows_same, grows_on}
+use Rattle.gt_explore_search.proofs.Listing.{rest_kept, line_grown, line_kept, list_grown, grows_same, grows_on}
 
 -- lists
 
@@ -65,6 +67,18 @@ node_on ways old new n whole grew holds = record {
   lists = lists_grown old.suffixes new.suffixes n.ends.value.items grew.suffixes holds.lists;
 }
 
+leads_grown : {P : Type 0} (ways : Ways (Vec ℕ)) (old new : Explorer P) (w : Vec ℕ) (turn : Turn) (m : MadeTurn) → Grew old new → LeadsOn ways old w turn m → LeadsOn ways new w turn m
+leads_grown ways old new w turn m grew leads = record {
+  line = line_grown old.suffixes new.suffixes m.line grew.suffixes leads.line;
+  other = leads.other;
+  there = get_grown old.states.met.keys new.states.met.keys m.state leads.other grew.worlds leads.there;
+  leads = λ p q shows next.
+      let led = leads.leads p q shows next in (
+        led.0,
+        λ at. led.1 at ∙ ap (λ (i : List ℕ). ways.printed p at ++ i) (sym (line_kept old.suffixes new.suffixes m.line at grew.suffixes leads.line)),
+      );
+}
+
 pub visit_on : {P : Type 0} (ways : Ways (Vec ℕ)) (old new : Explorer P) (v : OpenNode) → AreWhole old.suffixes → Grew old new → VisitHolds ways old v → VisitHolds ways new v
 visit_on ways old new v whole grew holds = record {
   world = holds.world;
@@ -72,6 +86,7 @@ visit_on ways old new v whole grew holds = record {
   turns = holds.turns;
   tried = λ at turn lt there p m turns q shows next goes.
       among_grown ways old.suffixes new.suffixes v.ends.items p q whole grew.suffixes (holds.tried at turn lt there p m turns q shows next goes);
+  made = λ turn m at is. leads_grown ways old new holds.world turn m grew (holds.made turn m at is);
   over = λ p shows ended. among_grown ways old.suffixes new.suffixes v.ends.items p p whole grew.suffixes (holds.over p shows ended);
   lists = lists_grown old.suffixes new.suffixes v.ends.items grew.suffixes holds.lists;
   numbers = holds.numbers;

@@ -1,17 +1,18 @@
 -- States as lists of numbers of their parts.
-use Rattle.std.proofs.Common.{◌≡◌, ◌<◌, ◌+◌, ℕ, suc, List, [], ◌∷◌, ◌++◌, length, take, get_or, ap, sym, ◌∙◌, refl}
+use Rattle.std.proofs.Common.{◌≡◌, ◌<◌, ◌≤◌, ◌+◌, ℕ, zero, suc, Option, None, List, [], ◌∷◌, ◌++◌, length, take, get_or, ap, sym, ◌∙◌, refl}
 use Rattle.std.proofs.Common.{arith, subst, inl, inr, Result, Ok, Err, OnOk, IfOk, Bool, true, false, Some, slice_get, not, if◌then◌else◌, ◌||◌, cond, append_assoc}
 use Rattle.std.proofs.lemmas.List.{append-nil, take_more}
-use Rattle.std.proofs.lemmas.Option.{same_Some}
+use Rattle.std.proofs.lemmas.Option.{same_Some, slice_get_within}
 use Rattle.std.specs.Global.{Vec}
 use Rattle.std.specs.List.{list_any, position_or_len}
 use Rattle.gt_explore_search.specs.declared.spaces.Turn.{Turn}
 use Rattle.gt_explore_search.specs.Exploring.{IsNumbered}
-use Rattle.gt_explore_search.specs.Parts.{Extends, HasNumber, HasNumbers, IsCopyOf, IsJoined, IsStateAt, Pairwise, Splitting}
-use Rattle.gt_explore_search.specs.Parts.{by_numbers}
+use Rattle.gt_explore_search.specs.Parts.{Extends, HandHolds, HasNumber, HasNumberAt, HasNumbers, HasPart, IsCopyOf, IsJoined, IsStateAt}
+use Rattle.gt_explore_search.specs.Parts.{Pairwise, Splitting, by_numbers}
 use Rattle.gt_explore_search.specs.Ways.{Ways, HasEnoughTurns, IsShownSo, LedFits, MayEnd, MovesTo, ShowsFirst}
 use Rattle.gt_explore_search.specs.declared.spaces.TurnResult.{TurnResult}
 use Rattle.gt_explore_search.specs.declared.states.StateIndex.{StateIndex}
+use Rattle.gt_explore_search.specs.declared.states.WholeState.{WholeState}
 use Rattle.gt_explore_search.specs.declared.spaces.TurnResult.TheVariants as leds
 use Rattle.gt_explore_search.proofs.Finding.{at_last}
 use Rattle.gt_explore_search.proofs.Growing.{get_grown}
@@ -58,9 +59,24 @@ number-grown parts old new p n more (q, there, same) = (q, get_grown old new n q
 pub numbers-grown : {W P : Type 0} (parts : Splitting W P) (old new : List P) (ps : List P) (ns : List ℕ) → Extends old new → Pairwise (HasNumber parts old) ps ns → Pairwise (HasNumber parts new) ps ns
 numbers-grown parts old new ps ns more a = pair-on (HasNumber parts old) (HasNumber parts new) (λ p n has. number-grown parts old new p n more has) ps ns a
 
+got : {X : Type 0} (xs : List X) (i : ℕ) (x : X) → slice_get xs i ≡ Some x → x ≡ get_or xs i x
+got [] i x is = refl
+got (y ∷ xs) zero x is = sym (same_Some y x is)
+got (y ∷ xs) (suc i) x is = got xs i x is
+
 -- a loop's step
-pub number-step : {W P : Type 0} (parts : Splitting W P) (old new ps : List P) (ns more : List ℕ) (i : ℕ) (p : P) (n : ℕ) → i < length ps → Pairwise (HasNumber parts old) (take i ps) ns → p ≡ get_or ps i p → HasNumber parts new p n → Extends old new → more ≡ ns ++ n ∷ [] → Pairwise (HasNumber parts new) (take (i + 1) ps) more
-number-step parts old new ps ns more i p n within each is has grows e = pair-step (HasNumber parts new) ps ns more i p p n within (numbers-grown parts old new (take i ps) ns grows each) is has e
+pub number-step : {W P : Type 0} (parts : Splitting W P) (old new : List P) (w : W) (ns more : List ℕ) (i n : ℕ) → Pairwise (HasNumber parts old) (take i (parts.of w)) ns → HasNumberAt parts new w i n → Extends old new → more ≡ ns ++ n ∷ [] → Pairwise (HasNumber parts new) (take (i + 1) (parts.of w)) more
+number-step parts old new w ns more i n each (p, there, has) grows e = pair-step (HasNumber parts new) (parts.of w) ns more i p p n (slice_get_within (parts.of w) i p there) (numbers-grown parts old new (take i (parts.of w)) ns grows each) (got (parts.of w) i p there) has e
+
+-- its end
+pub numbers-all : {W P : Type 0} (parts : Splitting W P) (kept : List P) (w : W) (ns : List ℕ) (i : ℕ) → length (parts.of w) ≤ i → Pairwise (HasNumber parts kept) (take i (parts.of w)) ns → HasNumbers parts kept w ns
+numbers-all parts kept w ns i all each = subst (λ l. Pairwise (HasNumber parts kept) l ns) (whole (parts.of w) i all) each
+  where
+    whole : {X : Type 0} (xs : List X) (n : ℕ) → length xs ≤ n → take n xs ≡ xs
+    whole [] zero le = refl
+    whole [] (suc n) le = refl
+    whole (x ∷ xs) zero le = absurd (omega (arith, le))
+    whole (x ∷ xs) (suc n) le = ap (λ l. x ∷ l) (whole xs n (omega (arith, le)))
 
 -- a copy of the part with a number is the same as each part with this number
 one-copied : {W P : Type 0} (parts : Splitting W P) (old all : List P) (p : P) (n : ℕ) (s : P) → Extends old all → HasNumber parts all p n → IsCopyOf parts old n s → parts.same p s
@@ -80,21 +96,55 @@ copied parts old all (p ∷ ps) [] qs more a b = absurd a
 pub kept-more : {X : Type 0} (xs new : List X) (x : X) → new ≡ xs ++ x ∷ [] → Extends xs new
 kept-more xs new x is = (x ∷ [], is)
 
-pub kept-last : {W P : Type 0} (parts : Splitting W P) (old new : List P) (p q : P) (n : ℕ) → n ≡ length old → new ≡ old ++ q ∷ [] → parts.same p q → HasNumber parts new p n
-kept-last parts old new p q n last is same = (q, ap (λ (i : ℕ). slice_get new i) last ∙ ap (λ l. slice_get l (length old)) is ∙ at_last old q, same)
+pub kept-last : {W P : Type 0} (parts : Splitting W P) (old new : List P) (w : W) (at : ℕ) (q : P) (n : ℕ) → n ≡ length old → new ≡ old ++ q ∷ [] → HasPart parts w at q → HasNumberAt parts new w at n
+kept-last parts old new w at q n last is (p, here, same) = (
+  p,
+  here,
+  (q, ap (λ (i : ℕ). slice_get new i) last ∙ ap (λ l. slice_get l (length old)) is ∙ at_last old q, same),
+)
 
 -- states
 
 -- the state with this number is made of copies of its parts
 pub state-at : {W P : Type 0} (ways : Ways W) (parts : Splitting W P) (old all : List P) (states : List (Vec ℕ)) (n : ℕ) (k : Vec ℕ) (made : List P) (v : W) → slice_get states n ≡ Some k → Extends old all
-    → Pairwise (IsCopyOf parts old) k.items made → ((w : W) (ps : List P) → parts.has w ps → Pairwise parts.same ps made → IsShownSo ways w v) → IsStateAt ways parts all states n v
+    → Pairwise (IsCopyOf parts old) k.items made → ((w : W) → Pairwise parts.same (parts.of w) made → IsShownSo ways w v) → IsStateAt ways parts all states n v
 state-at ways parts old all states n k made v at more copies joins = (
   k,
   at,
-  λ p shows.
-      let has = shows.1.0 in
-      joins shows.0 has shows.1.1 (copied parts old all has k.items made more shows.1.2 copies) p shows.2,
+  λ p shows. joins shows.0 (copied parts old all (parts.of shows.0) k.items made more shows.1 copies) p shows.2,
 )
+
+-- parts with the same number are the same
+one-same : {W P : Type 0} (parts : Splitting W P) (all : List P) (p q : P) (n : ℕ) → HasNumber parts all p n → HasNumber parts all q n → parts.same p q
+one-same parts all p q n (a, there, first) (b, here, second) =
+    let is : a ≡ b = same_Some a b (sym there ∙ here) in
+    parts.same_on p b q (subst (λ x. parts.same p x) is first) (parts.same_back q b second)
+
+all-same : {W P : Type 0} (parts : Splitting W P) (all ps qs : List P) (ns : List ℕ) → Pairwise (HasNumber parts all) ps ns → Pairwise (HasNumber parts all) qs ns → Pairwise parts.same ps qs
+all-same parts all [] [] [] a b = tt
+all-same parts all (p ∷ ps) (q ∷ qs) (n ∷ ns) a b = (one-same parts all p q n a.0 b.0, all-same parts all ps qs ns a.1 b.1)
+all-same parts all [] [] (n ∷ ns) a b = absurd a
+all-same parts all [] (q ∷ qs) [] a b = absurd b
+all-same parts all [] (q ∷ qs) (n ∷ ns) a b = absurd a
+all-same parts all (p ∷ ps) qs [] a b = absurd a
+all-same parts all (p ∷ ps) [] (n ∷ ns) a b = absurd b
+
+-- a state shows all that its numbers show
+pub joined-alike : {W P : Type 0} (ways : Ways W) (parts : Splitting W P) (all : List P) (k : Vec ℕ) (v : W) → ((w u : W) → Pairwise parts.same (parts.of w) (parts.of u) → IsShownSo ways w u) → HasNumbers parts all v k.items → IsJoined ways parts all k v
+joined-alike ways parts all k v alike has = λ p shows. alike shows.0 v (all-same parts all (parts.of shows.0) (parts.of v) k.items shows.1 has) p shows.2
+
+-- the state at hand, when more states were met
+pub hand-grown : {W P : Type 0} (ways : Ways W) (parts : Splitting W P) (all : List P) (old new : List (Vec ℕ)) (hand : Option (WholeState W)) → (more : List (Vec ℕ)) × (new ≡ old ++ more) → HandHolds ways parts all old hand → HandHolds ways parts all new hand
+hand-grown ways parts all old new None grew holds = tt
+hand-grown ways parts all old new (Some whole) grew (k, there, joined) = (k, get_grown old new whole.number k grew there, joined)
+
+-- the state at hand has this number
+pub hand-here : {W P : Type 0} (ways : Ways W) (parts : Splitting W P) (all : List P) (states : List (Vec ℕ)) (hand : Option (WholeState W)) (whole : WholeState W) (number : ℕ) → hand ≡ Some whole → whole.number ≡ number → HandHolds ways parts all states hand → IsStateAt ways parts all states number whole.state
+hand-here ways parts all states hand whole number is same holds = subst (λ (n : ℕ). IsStateAt ways parts all states n whole.state) same (subst (HandHolds ways parts all states) is holds)
+
+-- none is at hand
+pub hand-none : {W P : Type 0} (ways : Ways W) (parts : Splitting W P) (all : List P) (states : List (Vec ℕ)) (hand : Option (WholeState W)) → hand ≡ None → HandHolds ways parts all states hand
+hand-none ways parts all states hand none = subst (HandHolds ways parts all states) (sym none) tt
 
 last-place : {X : Type 0} (test : X → Bool) (xs : List X) → list_any test xs ≡ false → position_or_len test xs ≡ length xs
 last-place test [] none = refl

@@ -4,21 +4,22 @@ use Rattle.std.proofs.Common.{refl, subst, arith, inl, inr}
 use Rattle.std.proofs.Common.{Result, Ok, Err, OnOk, length-append, Option, Some, None, slice_get, Bool, true, false}
 use Rattle.std.proofs.Common.{◌==◌, if◌then◌else◌}
 use Rattle.std.proofs.lemmas.List.{append-nil}
-use Rattle.std.proofs.lemmas.Option.{none-some, same_Some}
+use Rattle.std.proofs.lemmas.Option.{none-some, same_Some, slice_get_within}
 use Rattle.std.specs.List.{flat_map, range_with_len}
-use Rattle.gt_explore_search.specs.Lists.{HasListAt, AreWhole, rest_by}
+use Rattle.gt_explore_search.specs.Lists.{HasItsLine, HasListAt, AreWhole, rest_by}
 use Rattle.gt_explore_search.specs.Ways.{Ways, HasEnoughTurns, IsShownSo, LedFits, MayEnd, MovesTo, PrintsTo, ShowsFirst, only_at}
 use Rattle.gt_explore_search.specs.Ways.{text_at, text_led}
 use Rattle.gt_explore_search.specs.Exploring.{AllHaveLists, AllByTurn, AllTextsFound, EachVisitHolds, IsNumbered, IsLineOf}
 use Rattle.gt_explore_search.specs.Exploring.{SearchHolds}
-use Rattle.gt_explore_search.specs.Exploring.{Grew, VisitHolds, Notes, TurnLeads, Gathered, Stepped, SearchStarts, SearchFinishes}
+use Rattle.gt_explore_search.specs.Exploring.{LeadsOn, Grew, VisitHolds, Notes, TurnLeads, Gathered, Stepped, SearchStarts, SearchFinishes}
 use Rattle.gt_explore_search.specs.declared.exploring.ReachedList.{ReachedList}
 use Rattle.gt_explore_search.specs.declared.exploring.Explorer.{Explorer}
 use Rattle.gt_explore_search.specs.declared.exploring.SearchResult.{SearchResult}
+use Rattle.gt_explore_search.specs.declared.sharing.TriedTurn.{TriedTurn}
 use Rattle.gt_explore_search.specs.declared.exploring.Node.{Node}
 use Rattle.gt_explore_search.specs.declared.exploring.FoundText.{FoundText}
+use Rattle.gt_explore_search.specs.declared.exploring.MadeTurn.{MadeTurn}
 use Rattle.gt_explore_search.specs.declared.exploring.OpenNode.{OpenNode}
-use Rattle.gt_explore_search.specs.declared.exploring.FirstTurn.{FirstTurn}
 use Rattle.gt_explore_search.specs.declared.spaces.TurnResult.{TurnResult}
 use Rattle.gt_explore_search.specs.declared.spaces.TurnResult.TheVariants as leds
 use Rattle.gt_explore_search.specs.declared.spaces.Turn.{Turn}
@@ -50,13 +51,14 @@ each_pop ways ex old new v is each = (
 )
 
 -- a turn more was tried
-pub tries_more : {P : Type 0} (ways : Ways (Vec ℕ)) (ex : Explorer P) (v : OpenNode) (turn : Turn) (next : ℕ) (holds : VisitHolds ways ex v) → next ≤ v.next + 1 → slice_get v.turns.items v.next ≡ Some turn
-    → AllByTurn ways ex.suffixes holds.world v.ends.items turn → VisitHolds ways ex (record v { next = next })
-tries_more ways ex v turn next holds le there found = record {
+pub tries_more : {P : Type 0} (ways : Ways (Vec ℕ)) (ex : Explorer P) (v : OpenNode) (turn : Turn) (tried : Vec TriedTurn) (next : ℕ) (holds : VisitHolds ways ex v) → next ≤ v.next + 1 → slice_get v.turns.items v.next ≡ Some turn
+    → AllByTurn ways ex.suffixes holds.world v.ends.items turn → VisitHolds ways ex (record v { made = None; tried = tried; next = next })
+tries_more ways ex v turn tried next holds le there found = record {
   world = holds.world;
   there = holds.there;
   turns = holds.turns;
   tried = λ at one lt is. by at one (less_or at v.next (omega (arith, lt, le))) is;
+  made = λ other m at is. absurd (none-some m is);
   over = holds.over;
   lists = holds.lists;
   numbers = holds.numbers;
@@ -73,11 +75,11 @@ tries_more ways ex v turn next holds le there found = record {
 -- it leads nowhere, so the domain has no move
 pub steps_nowhere : {P : Type 0} (ways : Ways (Vec ℕ)) (ex : Explorer P) (v : OpenNode) (turn : Turn) (here copied moved : Vec ℕ) (led : TurnResult) (next : ℕ) → SearchHolds ways ex → VisitHolds ways ex v
     → slice_get v.turns.items v.next ≡ Some turn → slice_get ex.states.met.keys v.state ≡ Some here → IsShownSo ways here copied → MovesTo ways copied turn led moved → led ≡ leds.Nowhere
-    → next ≤ v.next + 1 → Stepped ways ex (record v { next = next }) None ex
+    → next ≤ v.next + 1 → Stepped ways ex (record v { made = None; next = next }) None ex
 steps_nowhere ways ex v turn here copied moved led next holds visit at there copies moves nowhere le = record {
   holds = holds;
   grew = grew_same ex;
-  visit = tries_more ways ex v turn next visit le at (λ p m turns q shows comes goes.
+  visit = tries_more ways ex v turn v.tried next visit le at (λ p m turns q shows comes goes.
       let same : visit.world ≡ here = same_Some visit.world here (sym visit.there ∙ there) in
       absurd (subst (λ (l : TurnResult). LedFits ways l turn.place p m) nowhere (moves p m (copies p (subst (λ i. ways.shows i p) same shows)) comes).0));
   deeper = tt;
@@ -132,35 +134,39 @@ fits_prints ways leds.Nowhere place p q fits = absurd fits
 fits_prints ways leds.On place p q fits = λ at. fits at ∙ ap (λ (l : List ℕ). ways.printed p at ++ l) (nothing_at place at)
 fits_prints ways (leds.Answered line) place p q fits = fits
 
--- it leads to a state that is new
-pub steps_new : {P : Type 0} (ways : Ways (Vec ℕ)) (old mid : Explorer P) (states : StateIndex P) (v : OpenNode) (turn : Turn) (moved : Vec ℕ) (led : TurnResult) (line : Option AnswerLine) (state : ℕ) (new : Explorer P) (deeper : OpenNode)
-    → SearchHolds ways old → VisitHolds ways old v → IsLineOf old turn.place led line mid → IsNumbered ways mid.states.met.keys moved state states.met.keys
-    → (SearchHolds ways (with_states mid states) → SearchHolds ways new × Grew (with_states mid states) new × VisitHolds ways new deeper) → Stepped ways old v (Some deeper) new
-steps_new ways old mid states v turn moved led line state new deeper holds visit lines numbers visits =
-    let first = line_on ways old mid turn.place led line lines holds in
-    let second = numbered_on ways mid states moved state numbers first.0 in
-    let third = visits second.0 in
-    let grew = grew_on old mid new first.1 (grew_on mid (with_states mid states) new second.1 third.1) in
-    record { holds = third.0; grew = grew; visit = visit_on ways old new v holds.whole grew visit; deeper = third.2 }
+-- the number has a state
+numbered_there : {W : Type 0} (ways : Ways W) (old : List W) (w : W) (n : ℕ) (new : List W) → IsNumbered ways old w n new → (u : W) × (slice_get new n ≡ Some u)
+numbered_there ways old w n new (inl (same, (v, at, shows))) = (v, ap (λ l. slice_get l n) same ∙ at)
+numbered_there ways old w n new (inr (next, more)) = (w, ap (λ l. slice_get l n) more ∙ ap (λ (m : ℕ). slice_get (old ++ w ∷ []) m) next ∙ at_last old w)
 
--- it leads to a state that is done
-pub steps_on : {P : Type 0} (ways : Ways (Vec ℕ)) (old mid : Explorer P) (states : StateIndex P) (v : OpenNode) (turn : Turn) (here copied moved : Vec ℕ) (led : TurnResult) (line : Option AnswerLine) (state node : ℕ) (new : Explorer P)
-    (w : OpenNode) (next : ℕ)
-    → SearchHolds ways old → VisitHolds ways old v → slice_get v.turns.items v.next ≡ Some turn → slice_get old.states.met.keys v.state ≡ Some here → IsShownSo ways here copied
-    → MovesTo ways copied turn led moved → IsLineOf old turn.place led line mid → IsNumbered ways mid.states.met.keys moved state states.met.keys
-    → slice_get mid.done.items state ≡ Some (Some node)
-    → (SearchHolds ways (with_states mid states) → VisitHolds ways (with_states mid states) v → TurnLeads ways (with_states mid states) v turn node line
-    → Gathered ways (with_states mid states) v turn new w)
-    → next ≤ w.next + 1 → Stepped ways old (record w { next = next }) None new
-steps_on ways old mid states v turn here copied moved led line state node new w next holds visit at there copies moves lines numbers is gathers le =
-    let all = gathers second.0 now leads in
-    let grew = grew_on old (with_states mid states) new both all.grew in
+-- a state that is new has its number
+pub new_there : {W : Type 0} (ways : Ways W) (old : List W) (w : W) (n : ℕ) (new : List W) → IsNumbered ways old w n new → n ≡ length old → slice_get new n ≡ Some w
+new_there ways old w n new (inl (same, (v, at, shows))) last = let within = slice_get_within old n v at in absurd (omega (arith, within, last))
+new_there ways old w n new (inr (next, more)) last = ap (λ l. slice_get l n) more ∙ ap (λ (m : ℕ). slice_get (old ++ w ∷ []) m) next ∙ at_last old w
+
+abbrev pub made_of : ℕ → Option AnswerLine → MadeTurn
+made_of state line = record { state = state; line = line }
+
+-- the turn was made, and its state has a number
+pub made_on : {P : Type 0} (ways : Ways (Vec ℕ)) (old mid : Explorer P) (states : StateIndex P) (v : OpenNode) (turn : Turn) (here moved : Vec ℕ) (led : TurnResult) (line : Option AnswerLine) (state : ℕ)
+    → SearchHolds ways old → VisitHolds ways old v → slice_get v.turns.items v.next ≡ Some turn → slice_get old.states.met.keys v.state ≡ Some here
+    → MovesTo ways here turn led moved → IsLineOf old turn.place led line mid → IsNumbered ways mid.states.met.keys moved state states.met.keys
+    → Stepped ways old (record v { made = Some (made_of state line) }) None (with_states mid states)
+made_on ways old mid states v turn here moved led line state holds visit at there moves lines numbers =
     record {
-      holds = all.holds;
-      grew = grew;
-      visit =
-          tries_more ways new w turn next all.visit le
-          (ap (λ (n : ℕ). slice_get w.turns.items n) all.next ∙ ap (λ t. slice_get t.items v.next) all.turns ∙ at) all.found;
+      holds = second.0;
+      grew = both;
+      visit = record {
+        world = now.world;
+        there = now.there;
+        turns = now.turns;
+        tried = now.tried;
+        made = λ other m is same. subst (λ (t : Turn). LeadsOn ways (with_states mid states) now.world t m) (same_Some turn other (sym at ∙ is))
+            (subst (λ (n : MadeTurn). LeadsOn ways (with_states mid states) now.world turn n) (same_Some (made_of state line) m same) leads);
+        over = now.over;
+        lists = now.lists;
+        numbers = now.numbers;
+      };
       deeper = tt;
     }
   where
@@ -176,20 +182,64 @@ steps_on ways old mid states v turn here copied moved led line state node new w 
     now : VisitHolds ways (with_states mid states) v
     now = visit_on ways old (with_states mid states) v holds.whole both visit
 
-    leads : TurnLeads ways (with_states mid states) v turn node line
+    leads : LeadsOn ways (with_states mid states) now.world turn (made_of state line)
     leads =
-        let it = second.0.done state node is in
+        let other = numbered_there ways mid.states.met.keys moved state states.met.keys numbers in
         record {
-          done = it.0;
-          there = it.1;
-          leads = λ own other first_there other_there p m shows comes.
-              let same : own ≡ here = same_Some own here (sym first_there ∙ get_grown old.states.met.keys states.met.keys v.state here both.worlds there) in
-              let moved_so = moves p m (copies p (subst (λ i. ways.shows i p) same shows)) comes in (
-                shown_at ways mid.states.met.keys moved state states.met.keys other numbers
-                    (ap (λ (n : ℕ). slice_get states.met.keys n) (sym it.2) ∙ other_there) m moved_so.1,
+          line = lines.line;
+          other = other.0;
+          there = other.1;
+          leads = λ p m shows comes.
+              let same : now.world ≡ here = same_Some now.world here (sym now.there ∙ get_grown old.states.met.keys states.met.keys v.state here both.worlds there) in
+              let moved_so = moves p m (subst (λ i. ways.shows i p) same shows) comes in (
+                shown_at ways mid.states.met.keys moved state states.met.keys other.0 numbers other.1 m moved_so.1,
                 λ at. fits_prints ways led turn.place p m moved_so.0 at ∙ ap (λ (l : List ℕ). ways.printed p at ++ l) (sym (lines.printed at)),
               );
         }
+
+-- its state is new
+pub made_new : {P : Type 0} (ways : Ways (Vec ℕ)) (old mid new : Explorer P) (v deeper : OpenNode) → SearchHolds ways old → Stepped ways old v None mid → SearchHolds ways new × Grew mid new × VisitHolds ways new deeper
+    → Stepped ways old v (Some deeper) new
+made_new ways old mid new v deeper holds step opened = record {
+  holds = opened.0;
+  grew = grew_on old mid new step.grew opened.1;
+  visit = visit_on ways mid new v step.holds.whole opened.1 step.visit;
+  deeper = opened.2;
+}
+
+-- the state that the turn led to is done
+pub leads_done : {P : Type 0} (ways : Ways (Vec ℕ)) (ex : Explorer P) (v : OpenNode) (turn : Turn) (made : MadeTurn) (node : ℕ) → SearchHolds ways ex → VisitHolds ways ex v → slice_get v.turns.items v.next ≡ Some turn
+    → v.made ≡ Some made → slice_get ex.done.items made.state ≡ Some (Some node) → HasItsLine ex.suffixes made.line × TurnLeads ways ex v turn node made.line
+leads_done ways ex v turn made node holds visit at is done = (
+  leads.line,
+  record {
+    done = it.0;
+    there = it.1;
+    leads = λ w u here there p m shows comes.
+        let own : w ≡ visit.world = same_Some w visit.world (sym here ∙ visit.there) in
+        let other : leads.other ≡ u = same_Some leads.other u (sym leads.there ∙ ap (λ (n : ℕ). slice_get ex.states.met.keys n) (sym it.2) ∙ there) in
+        let led = leads.leads p m (subst (λ i. ways.shows i p) own shows) comes in
+        (subst (λ i. ways.shows i m) other led.0, led.1);
+  },
+)
+  where
+    leads : LeadsOn ways ex visit.world turn made
+    leads = visit.made turn made at is
+
+    it : (n : Node) × (slice_get ex.nodes.items node ≡ Some n) × (n.state ≡ made.state)
+    it = holds.done made.state node done
+
+-- what it leads to was gathered
+pub back_on : {P : Type 0} (ways : Ways (Vec ℕ)) (old new : Explorer P) (v w : OpenNode) (turn : Turn) (tried : Vec TriedTurn) (next : ℕ) → slice_get v.turns.items v.next ≡ Some turn → Gathered ways old v turn new w → next ≤ w.next + 1
+    → Stepped ways old (record w { made = None; tried = tried; next = next }) None new
+back_on ways old new v w turn tried next at all le = record {
+  holds = all.holds;
+  grew = all.grew;
+  visit =
+      tries_more ways new w turn tried next all.visit le
+      (ap (λ (n : ℕ). slice_get w.turns.items n) all.next ∙ ap (λ t. slice_get t.items v.next) all.turns ∙ at) all.found;
+  deeper = tt;
+}
 
 -- a new state
 
@@ -219,10 +269,10 @@ below_none at next is lt = omega (arith, is, lt)
 
 -- no domain ends there
 pub visits_on : {P : Type 0} (ways : Ways (Vec ℕ)) (old : Explorer P) (done : Vec (Option ℕ)) (v : OpenNode) (world : Vec ℕ) → done.items ≡ old.done.items ++ None ∷ [] → slice_get old.states.met.keys v.state ≡ Some world
-    → HasEnoughTurns ways world v.turns.items → v.next ≡ 0 → v.ends.items ≡ [] → v.lists.keys ≡ []
+    → HasEnoughTurns ways world v.turns.items → v.next ≡ 0 → v.made ≡ None → v.ends.items ≡ [] → v.lists.keys ≡ []
     → (MayEnd ways world → ⊥)
     → SearchHolds ways old → SearchHolds ways (with_done old done) × Grew old (with_done old done) × VisitHolds ways (with_done old done) v
-visits_on ways old done v world more there turns none ends keys goes holds =
+visits_on ways old done v world more there turns none unmade ends keys goes holds =
     let it = done_on ways old done more holds in (
       it.0,
       it.1,
@@ -231,6 +281,7 @@ visits_on ways old done v world more there turns none ends keys goes holds =
         there = there;
         turns = turns;
         tried = λ at turn lt is p m more q shows comes on. absurd (below_none at v.next none lt);
+        made = λ other m at is. absurd (none-some m (sym unmade ∙ is));
         over = λ p shows over. absurd (goes (p, shows, over));
         lists = λ at e is. absurd (none_there v.ends.items at e ends is);
         numbers = ap (map (λ (e : ReachedList). e.list)) ends ∙ sym keys;
@@ -241,10 +292,10 @@ prints_none : {W : Type 0} (ways : Ways W) (rest : ℕ → List ℕ) (p : ways.P
 prints_none ways rest p none = λ at. sym (append-nil (ways.printed p at)) ∙ ap (λ (i : List ℕ). ways.printed p at ++ i) (sym (none at))
 
 -- they may end there: the empty list was noted
-pub visits_end : {P : Type 0} (ways : Ways (Vec ℕ)) (old : Explorer P) (done : Vec (Option ℕ)) (v w : OpenNode) (onward : Option FirstTurn) (world : Vec ℕ) → done.items ≡ old.done.items ++ None ∷ []
-    → slice_get old.states.met.keys v.state ≡ Some world → HasEnoughTurns ways world v.turns.items → v.next ≡ 0 → v.ends.items ≡ [] → v.lists.keys ≡ []
-    → Notes v (record { list = 0; onward = onward }) w → SearchHolds ways old → SearchHolds ways (with_done old done) × Grew old (with_done old done) × VisitHolds ways (with_done old done) w
-visits_end ways old done v w onward world more there turns none ends keys notes holds =
+pub visits_end : {P : Type 0} (ways : Ways (Vec ℕ)) (old : Explorer P) (done : Vec (Option ℕ)) (v w : OpenNode) (world : Vec ℕ) → done.items ≡ old.done.items ++ None ∷ []
+    → slice_get old.states.met.keys v.state ≡ Some world → HasEnoughTurns ways world v.turns.items → v.next ≡ 0 → v.made ≡ None → v.ends.items ≡ [] → v.lists.keys ≡ []
+    → Notes v (record { list = 0 }) w → SearchHolds ways old → SearchHolds ways (with_done old done) × Grew old (with_done old done) × VisitHolds ways (with_done old done) w
+visits_end ways old done v w world more there turns none unmade ends keys notes holds =
     let it = done_on ways old done more holds in (
       it.0,
       it.1,
@@ -253,6 +304,7 @@ visits_end ways old done v w onward world more there turns none ends keys notes 
         there = ap (λ (n : ℕ). slice_get old.states.met.keys n) notes.state ∙ there;
         turns = subst (λ (t : Vec Turn). HasEnoughTurns ways world t.items) (sym notes.turns) turns;
         tried = λ at turn lt is p m more q shows comes on. absurd (below_none at w.next (notes.next ∙ none) lt);
+        made = λ other m at is. absurd (none-some m (sym unmade ∙ sym notes.made ∙ is));
         over = λ p shows over. (0, notes.has numbers, holds.empty.0, prints_none ways (rest_by old.suffixes 0) p holds.empty.1);
         lists = by notes.ends;
         numbers = notes.numbers numbers;
@@ -262,13 +314,13 @@ visits_end ways old done v w onward world more there turns none ends keys notes 
     numbers : map (λ (e : ReachedList). e.list) v.ends.items ≡ v.lists.keys
     numbers = ap (map (λ (e : ReachedList). e.list)) ends ∙ sym keys
 
-    either : (at : ℕ) (e : ReachedList) → (slice_get v.ends.items at ≡ Some e) ⊎ ((e ≡ record { list = 0; onward = onward }) × (at ≡ length v.ends.items)) → HasListAt old.suffixes e.list
+    either : (at : ℕ) (e : ReachedList) → (slice_get v.ends.items at ≡ Some e) ⊎ ((e ≡ record { list = 0 }) × (at ≡ length v.ends.items)) → HasListAt old.suffixes e.list
     either at e (inl was) = absurd (none_there v.ends.items at e ends was)
     either at e (inr (one, place)) = subst (λ (i : ReachedList). HasListAt old.suffixes i.list) (sym one) holds.empty.0
 
-    by : ((w.ends.items ≡ v.ends.items) ⊎ (w.ends.items ≡ v.ends.items ++ record { list = 0; onward = onward } ∷ [])) → AllHaveLists old.suffixes w.ends.items
+    by : ((w.ends.items ≡ v.ends.items) ⊎ (w.ends.items ≡ v.ends.items ++ record { list = 0 } ∷ [])) → AllHaveLists old.suffixes w.ends.items
     by (inl same) = λ at e is. absurd (none_there v.ends.items at e ends (ap (λ (l : List ReachedList). slice_get l at) (sym same) ∙ is))
-    by (inr one) = λ at e is. either at e (last_or v.ends.items (record { list = 0; onward = onward }) e at (ap (λ (l : List ReachedList). slice_get l at) (sym one) ∙ is))
+    by (inr one) = λ at e is. either at e (last_or v.ends.items (record { list = 0 }) e at (ap (λ (l : List ReachedList). slice_get l at) (sym one) ∙ is))
 
 pub not_both : (b : Bool) → b ≡ true → b ≡ false → ⊥
 not_both b is isnt = let same : true ≡ false = sym is ∙ isnt in absurd (cc)
@@ -290,6 +342,11 @@ pub starts_on : {P : Type 0} (ways : Ways (Vec ℕ)) (old : Explorer P) (states 
     → SearchHolds ways (with_states old states) × (slice_get states.met.keys 0 ≡ Some w)
 starts_on ways old states w n starts numbers =
     ((numbered_on ways old states w n numbers starts.holds).0, first_there ways old.states.met.keys w n states.met.keys starts.none numbers)
+
+-- the first state has the number 0
+pub started-at : {P : Type 0} (ways : Ways (Vec ℕ)) (old : Explorer P) (states : StateIndex P) (w : Vec ℕ) (n : ℕ) → SearchStarts ways old → IsNumbered ways old.states.met.keys w n states.met.keys → n ≡ length old.states.met.keys
+started-at ways old states w n starts (inl (same, (v, at, shows))) = absurd (none_there old.states.met.keys n v starts.none at)
+started-at ways old states w n starts (inr (next, more)) = next
 
 pub finishes_on : {P : Type 0} (ways : Ways (Vec ℕ)) (old mid new : Explorer P) (w : Vec ℕ) → slice_get old.states.met.keys 0 ≡ Some w → ShowsFirst ways w → Grew old mid → SearchHolds ways new × Grew mid new
     → SearchFinishes ways new

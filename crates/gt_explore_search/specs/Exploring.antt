@@ -10,6 +10,7 @@ use Rattle.gt_explore_search.specs.declared.exploring.Explorer.{Explorer}
 use Rattle.gt_explore_search.specs.declared.exploring.SearchResult.{SearchResult}
 use Rattle.gt_explore_search.specs.declared.exploring.Node.{Node}
 use Rattle.gt_explore_search.specs.declared.exploring.FoundText.{FoundText}
+use Rattle.gt_explore_search.specs.declared.exploring.MadeTurn.{MadeTurn}
 use Rattle.gt_explore_search.specs.declared.exploring.OpenNode.{OpenNode}
 use Rattle.gt_explore_search.specs.declared.spaces.TurnResult.{TurnResult}
 use Rattle.gt_explore_search.specs.declared.suffixes.AnswerLine.{AnswerLine}
@@ -79,6 +80,14 @@ pub record Grew {P : Type 0} (old new : Explorer P) : Type 0 where
 abbrev pub PartsGrew : {P : Type 0} → Explorer P → Explorer P → Type 0
 PartsGrew old new = Extends old.states.parts.kept.items new.states.parts.kept.items
 
+-- the state led by this turn to the one with the number that was noted, and printed the line that was noted
+pub record LeadsOn {P : Type 0} (ways : Ways (Vec ℕ)) (ex : Explorer P) (w : Vec ℕ) (turn : Turn) (made : MadeTurn) : Type 0 where
+  pub line : HasItsLine ex.suffixes made.line
+  pub other : Vec ℕ
+  pub there : slice_get ex.states.met.keys made.state ≡ Some other
+  pub leads : (p m : ways.Point) → ways.shows w p → ways.next p turn m
+      → ways.shows other m × PrintsTo ways (line_by ex.suffixes made.line) p m
+
 -- a state's moves are being tried: its runs onward by the turns tried so far are found
 pub record VisitHolds {P : Type 0} (ways : Ways (Vec ℕ)) (ex : Explorer P) (v : OpenNode) : Type 0 where
   pub world : Vec ℕ
@@ -86,6 +95,8 @@ pub record VisitHolds {P : Type 0} (ways : Ways (Vec ℕ)) (ex : Explorer P) (v 
   pub turns : HasEnoughTurns ways world v.turns.items
   pub tried : (at : ℕ) (turn : Turn) → at < v.next → slice_get v.turns.items at ≡ Some turn
       → AllByTurn ways ex.suffixes world v.ends.items turn
+  pub made : (turn : Turn) (m : MadeTurn) → slice_get v.turns.items v.next ≡ Some turn → v.made ≡ Some m
+      → LeadsOn ways ex world turn m
   pub over : (p : ways.Point) → ways.shows world p → ways.ends p → IsAmongEnds ways ex.suffixes v.ends.items p p
   pub lists : AllHaveLists ex.suffixes v.ends.items
   pub numbers : map (λ e. e.list) v.ends.items ≡ v.lists.keys
@@ -99,6 +110,7 @@ pub record Notes (v : OpenNode) (e : ReachedList) (w : OpenNode) : Type 0 where
   pub state : w.state ≡ v.state
   pub turns : w.turns ≡ v.turns
   pub next : w.next ≡ v.next
+  pub made : w.made ≡ v.made
   pub ends : (w.ends.items ≡ v.ends.items) ⊎ (w.ends.items ≡ v.ends.items ++ e ∷ [])
   pub has : map (λ e. e.list) v.ends.items ≡ v.lists.keys → HasEnd w.ends.items e.list
   pub numbers : map (λ e. e.list) v.ends.items ≡ v.lists.keys → map (λ e. e.list) w.ends.items ≡ w.lists.keys

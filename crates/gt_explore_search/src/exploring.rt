@@ -5,14 +5,15 @@ ghost use Rattle.gt_explore_search.specs.Exploring.{AllTextsFound, SearchStarts}
 ghost use Rattle.gt_explore_search.specs.Parts.{by_numbers};
 
 use crate::fault::SearchFault;
-use crate::sharing::{NextNode, next_of, same_lists, turn_to};
+use crate::sharing::{TriedTurn, same_lists, tried_turn};
 use crate::spaces::{TransitionSystem, Turn, TurnResult};
-use crate::states::StateIndex;
+use crate::states::{StateIndex, WholeState};
 use crate::suffixes::{AnswerLine, AnswerLists};
 use indexmap::IndexSet;
 use std::alloc::{AllocError, Global};
 use std::rc::Rc;
 
+mod orders;
 mod partial;
 
 pub use partial::{PartialResult, search_within};
@@ -31,37 +32,38 @@ pub struct SearchResult {
     pub states: usize,
 }
 
-/// The first turn towards an end. It leads to a state that is done, and continues to the end of that state at this
-/// index.
-#[derive(Clone, Copy)]
-pub struct FirstTurn {
-    pub turn: Turn,
-    pub node: usize,
-    pub end: usize,
-}
-
-/// A list of answers that a state leads to, by its number. If all domains are at their ends, there is no turn onward.
+/// A list of answers that a state leads to, by its number.
 #[derive(Clone, Copy)]
 pub struct ReachedList {
-    pub list: usize,
-    pub onward: Option<FirstTurn>,
+    pub list: u32,
 }
 
-/// A state whose moves have all been tried, and the lists of answers that it leads to. It shares them with the next node
-/// if they are the same.
+/// A state whose moves have all been tried, and the lists of answers that it leads to. It shares them with a node to
+/// which it leads if they are the same. The turns that were tried are those from the index `tried` on, up to those of
+/// the next node.
 #[derive(Drop)]
 pub struct Node {
-    pub state: usize,
+    pub state: u32,
+    pub tried: u32,
     pub ends: Rc<Vec<ReachedList>>,
-    pub next: Option<NextNode>,
 }
 
-/// A state whose moves are being tried.
+/// A turn that was made: the number of the state that it led to, and the line that it printed.
+#[derive(Clone, Copy)]
+pub struct MadeTurn {
+    pub state: usize,
+    pub line: Option<AnswerLine>,
+}
+
+/// A state whose moves are being tried. `made` is the next turn, if it was made. Its ends are to be gathered when the
+/// state that it led to is done.
 #[derive(Drop)]
 pub struct OpenNode {
     pub state: usize,
     pub turns: Vec<Turn>,
     pub next: usize,
+    pub made: Option<MadeTurn>,
+    pub tried: Vec<TriedTurn>,
     pub lists: IndexSet<usize>,
     pub ends: Vec<ReachedList>,
 }
@@ -74,6 +76,7 @@ pub struct Explorer<P> {
     pub states: StateIndex<P>,
     pub done: Vec<Option<u32>>,
     pub nodes: Vec<Node>,
+    pub tried: Vec<TriedTurn>,
     pub suffixes: AnswerLists,
 }
 
@@ -93,12 +96,15 @@ impl OpenNode {
     }
 
     // Notes that the state leads to this list of answers, if that is new.
-    fn note(&mut self, list: usize, onward: Option<FirstTurn>) -> Result<(), AllocError>
-        ensures { OnOk result (Notes self.old (record { list = list; onward = onward }) self.new) }
+    fn note(&mut self, list: usize) -> Result<(), SearchFault>
+        ensures { OnOk result (Notes self.old (record { list = list }) self.new) }
     {
+        if list >= 4_294_967_296 {
+            return Err(SearchFault::States);
+        }
         let (_, is_new) = self.lists.insert_full(list)?;
         if is_new {
-            self.ends.push(ReachedList { list, onward })?;
+            self.ends.push(ReachedList { list: list as u32 })?;
         }
         Ok(())
     }
@@ -138,7 +144,7 @@ impl<P: Drop> Explorer<P> {
     ghost use Rattle.gt_explore_search.specs.Exploring.{SearchHolds, EachVisitHolds, VisitHolds, Grew, TurnLeads, Gathered};
     ghost use Rattle.gt_explore_search.specs.Exploring.{Stepped};
     ghost use Rattle.gt_explore_search.specs.Exploring.{AllTextsFound, IsLineOf, PartsGrew, SearchStarts, SearchFinishes};
-    ghost use Rattle.gt_explore_search.specs.Parts.{Extends, by_numbers};
+    ghost use Rattle.gt_explore_search.specs.Parts.{Extends, HandHolds, IsStateAt, by_numbers};
 
     // Returns the number of the node of a state, if the state is done.
     fn node_of(&self, state: usize) -> Option<usize>
@@ -158,14 +164,14 @@ impl<P: Drop> Explorer<P> {
         &mut self,
         space: &S,
         state: usize,
+        world: &S::State,
     ) -> Result<OpenNode, SearchFault>
         ensures states { OnOk result (self.new.states ≡ self.old.states) }
-        ensures holds { (all : List P) → Extends self.old.states.parts.kept.items all →
-            let ways = by_numbers (S.ways space.now) (S.parts space.now) all in
-            SearchHolds ways self.old → IfOk result (λ v.
-            SearchHolds ways self.new × Grew self.old self.new × VisitHolds ways self.new v) }
+        ensures holds { (all : List P) → let ways = by_numbers (S.ways space.now) (S.parts space.now) all in
+            SearchHolds ways self.old →
+            IsStateAt (S.ways space.now) (S.parts space.now) all self.old.states.met.keys state world.now →
+            IfOk result (λ v. SearchHolds ways self.new × Grew self.old self.new × VisitHolds ways self.new v) }
     {
-        let world = self.states.state(space, state)?;
         if self.states.len() > self.limit {
             return Err(SearchFault::States);
         }
@@ -173,15 +179,17 @@ impl<P: Drop> Explorer<P> {
         self.done.push(None)?;
         let mut visit = OpenNode {
             state,
-            turns: space.turns(&world)?,
+            turns: space.turns(world)?,
             next: 0,
+            made: None,
+            tried: Vec::new(alloc),
             lists: IndexSet::new(alloc),
             ends: Vec::new(alloc),
         };
-        if !space.is_finished(&world) {
+        if !space.is_finished(world) {
             return Ok(visit);
         }
-        visit.note(0, None)?;
+        visit.note(0)?;
         Ok(visit)
     }
 
@@ -203,14 +211,12 @@ impl<P: Drop> Explorer<P> {
         &mut self,
         _space: &S,
         visit: &mut OpenNode,
-        turn: Turn,
         node: usize,
         line: Option<AnswerLine>,
-    ) -> Result<(), AllocError>
-        requires { HasItsLine self.old.suffixes line }
+    ) -> Result<(), SearchFault>
         ensures states { OnOk result (self.new.states ≡ self.old.states) }
-        ensures gathered { (all : List P) → let ways = by_numbers (S.ways _space.now) (S.parts _space.now) all in
-            SearchHolds ways self.old → VisitHolds ways self.old visit.old →
+        ensures gathered { (all : List P) (turn : Turn) → let ways = by_numbers (S.ways _space.now) (S.parts _space.now) all in
+            SearchHolds ways self.old → VisitHolds ways self.old visit.old → HasItsLine self.old.suffixes line →
             TurnLeads ways self.old visit.old turn node line →
             OnOk result (Gathered ways self.old visit.old turn self.new visit.new) }
     {
@@ -218,60 +224,83 @@ impl<P: Drop> Explorer<P> {
             return Ok(());
         };
         let suffixes = &mut self.suffixes;
-        let mut at = 0_usize;
         'ends: for end in done.ends.as_slice() {
-            let list = suffixes.longer(end.list, line)?;
-            let onward = FirstTurn {
-                turn,
-                node,
-                end: at,
-            };
-            visit.note(list, Some(onward))?;
-            at = at.saturating_add(1);
+            let list = suffixes.longer(end.list as usize, line)?;
+            visit.note(list)?;
         }
         Ok(())
     }
 
-    // Tries this turn of the state. Returns the state that it leads to, if that is new. The turn is then tried again
-    // when that state is done.
-    fn step<S: TransitionSystem<Part = P>>(
+    // Makes this turn of the state. Returns the state that it leads to, if that is new, which is then at hand.
+    fn make<S: TransitionSystem<Part = P>>(
         &mut self,
         space: &S,
+        hand: &mut Option<WholeState<S::State>>,
         visit: &mut OpenNode,
         turn: Turn,
     ) -> Result<Option<OpenNode>, SearchFault>
         ensures grows { OnOk result (PartsGrew self.old self.new) }
+        ensures hand { (all : List P) → Extends self.new.states.parts.kept.items all →
+            OnOk result (HandHolds (S.ways space.now) (S.parts space.now) all self.new.states.met.keys hand.new) }
         ensures steps { (all : List P) → Extends self.new.states.parts.kept.items all →
             let ways = by_numbers (S.ways space.now) (S.parts space.now) all in
             SearchHolds ways self.old → VisitHolds ways self.old visit.old →
+            HandHolds (S.ways space.now) (S.parts space.now) all self.old.states.met.keys hand.old →
             slice_get visit.old.turns.items visit.old.next ≡ Some turn →
             IfOk result (λ deeper. Stepped ways self.old visit.new deeper self.new) }
     {
-        let mut world = self.states.state(space, visit.state)?;
+        space.alike();
+        let mut world = self.states.take(space, hand, visit.state)?;
         let led = space.advance(&mut world, turn)?;
         if leads_nowhere(&led) {
+            visit.made = None;
             visit.next = visit.next.saturating_add(1);
             return Ok(None);
         }
         let line = self.line(turn.place, led)?;
         let met = self.states.len();
-        let state = self.states.number(space, world, visit.state)?;
+        let state = self.states.number(space, &world, visit.state)?;
+        visit.made = Some(MadeTurn { state, line });
         if state == met {
-            return Ok(Some(self.visit(space, state)?));
+            let deeper = self.visit(space, state, &world)?;
+            *hand = Some(WholeState {
+                number: state,
+                state: world,
+            });
+            return Ok(Some(deeper));
         }
-        let Some(node) = self.node_of(state) else {
-            return Err(SearchFault::Circle);
-        };
-        self.gather(space, visit, turn, node, line)?;
-        visit.next = visit.next.saturating_add(1);
         Ok(None)
     }
 
+    // Gathers the ends of the next turn of a state, which was made. The state that it led to is done.
+    fn back<S: TransitionSystem<Part = P>>(
+        &mut self,
+        space: &S,
+        visit: &mut OpenNode,
+        turn: Turn,
+        made: MadeTurn,
+    ) -> Result<(), SearchFault>
+        ensures states { OnOk result (self.new.states ≡ self.old.states) }
+        ensures steps { (all : List P) → let ways = by_numbers (S.ways space.now) (S.parts space.now) all in
+            SearchHolds ways self.old → VisitHolds ways self.old visit.old →
+            slice_get visit.old.turns.items visit.old.next ≡ Some turn → visit.old.made ≡ Some made →
+            OnOk result (Stepped ways self.old visit.new None self.new) }
+    {
+        let Some(node) = self.node_of(made.state) else {
+            return Err(SearchFault::Circle);
+        };
+        self.gather(space, visit, node, made.line)?;
+        visit.tried.push(tried_turn(turn, node, made.line)?)?;
+        visit.made = None;
+        visit.next = visit.next.saturating_add(1);
+        Ok(())
+    }
+
     // Returns the ends of this node, if their lists are those of these ends.
-    fn shared(&self, next: NextNode, ends: &[ReachedList]) -> Option<&Rc<Vec<ReachedList>>>
+    fn shared(&self, node: usize, ends: &[ReachedList]) -> Option<&Rc<Vec<ReachedList>>>
         ensures { IfSome result (λ kept. map (λ e. e.list) kept.now.value.items ≡ map (λ e. e.list) ends.now) }
     {
-        let done = node_at(self.nodes.as_slice(), next.node as usize)?;
+        let done = node_at(self.nodes.as_slice(), node)?;
         if same_lists(ends, done.ends.as_slice()) {
             Some(&done.ends)
         } else {
@@ -279,20 +308,21 @@ impl<P: Drop> Explorer<P> {
         }
     }
 
-    // Keeps these ends, or shares those of the next node.
+    // Keeps these ends, or shares those of a node to which one of these turns led.
     fn kept(
         &self,
+        tried: &[TriedTurn],
         ends: &[ReachedList],
-    ) -> Result<(Rc<Vec<ReachedList>>, Option<NextNode>), AllocError>
-        ensures { IfOk result (λ made. map (λ e. e.list) made.0.value.items ≡ map (λ e. e.list) ends.now) }
+    ) -> Result<Rc<Vec<ReachedList>>, AllocError>
+        ensures { IfOk result (λ made. map (λ e. e.list) made.value.items ≡ map (λ e. e.list) ends.now) }
     {
-        if let Some(next) = next_of(ends) {
-            if let Some(kept) = self.shared(next, ends) {
-                return Ok((kept.clone()?, Some(next)));
+        'tried: for turn in tried {
+            if let Some(kept) = self.shared(turn.node as usize, ends) {
+                return Ok(kept.clone()?);
             }
         }
         let own = Vec::from_slice(self.alloc, ends)?;
-        Ok((Rc::new(self.alloc, own)?, None))
+        Ok(Rc::new(self.alloc, own)?)
     }
 
     // Finishes a state whose moves have all been tried.
@@ -300,7 +330,7 @@ impl<P: Drop> Explorer<P> {
         &mut self,
         _space: &S,
         visit: OpenNode,
-    ) -> Result<(), AllocError>
+    ) -> Result<(), SearchFault>
         ensures states { OnOk result (self.new.states ≡ self.old.states) }
         ensures holds { (all : List P) → let ways = by_numbers (S.ways _space.now) (S.parts _space.now) all in
             SearchHolds ways self.old → VisitHolds ways self.old visit →
@@ -309,8 +339,17 @@ impl<P: Drop> Explorer<P> {
     {
         let node = self.nodes.as_slice().len();
         let state = visit.state;
-        let (ends, next) = self.kept(visit.ends.as_slice())?;
-        self.nodes.push(Node { state, ends, next })?;
+        let first = self.tried.len();
+        if state >= 4_294_967_296 || first >= 4_294_967_296 {
+            return Err(SearchFault::States);
+        }
+        let ends = self.kept(visit.tried.as_slice(), visit.ends.as_slice())?;
+        self.tried.extend_from_slice(visit.tried.as_slice())?;
+        self.nodes.push(Node {
+            state: state as u32,
+            tried: first as u32,
+            ends,
+        })?;
         set_done(&mut self.done, state, node);
         Ok(())
     }
@@ -319,14 +358,17 @@ impl<P: Drop> Explorer<P> {
     fn try_next<S: TransitionSystem<Part = P>>(
         &mut self,
         space: &S,
+        hand: &mut Option<WholeState<S::State>>,
         stack: &mut Vec<OpenNode>,
     ) -> Result<bool, SearchFault>
         ensures grows { OnOk result (PartsGrew self.old self.new) }
         ensures holds { (all : List P) → Extends self.new.states.parts.kept.items all →
             let ways = by_numbers (S.ways space.now) (S.parts space.now) all in
             SearchHolds ways self.old → EachVisitHolds ways self.old stack.old.items →
+            HandHolds (S.ways space.now) (S.parts space.now) all self.old.states.met.keys hand.old →
             OnOk result (SearchHolds ways self.new × Grew self.old self.new
-            × EachVisitHolds ways self.new stack.new.items) }
+            × EachVisitHolds ways self.new stack.new.items
+            × HandHolds (S.ways space.now) (S.parts space.now) all self.new.states.met.keys hand.new) }
     {
         let Some(mut visit) = stack.pop() else {
             return Ok(false);
@@ -335,7 +377,12 @@ impl<P: Drop> Explorer<P> {
             self.finish(space, visit)?;
             return Ok(true);
         };
-        let deeper = self.step(space, &mut visit, turn)?;
+        if let Some(made) = visit.made {
+            self.back(space, &mut visit, turn, made)?;
+            stack.push(visit)?;
+            return Ok(true);
+        }
+        let deeper = self.make(space, hand, &mut visit, turn)?;
         stack.push(visit)?;
         if let Some(deeper) = deeper {
             stack.push(deeper)?;
@@ -355,37 +402,15 @@ impl<P: Drop> Explorer<P> {
             SearchHolds ways self.old → VisitHolds ways self.old first →
             OnOk result (SearchHolds ways self.new × Grew self.old self.new) }
     {
+        let mut hand = None;
         let mut stack = Vec::new(self.alloc);
         stack.push(first)?;
         'tries: for _ in 0..u64::MAX {
-            if !self.try_next(space, &mut stack)? {
+            if !self.try_next(space, &mut hand, &mut stack)? {
                 return Ok(());
             }
         }
         Err(SearchFault::States)
-    }
-
-    // Returns the first turn from a state that is done to the end at this index.
-    fn onward(&self, node: usize, end: usize) -> Option<FirstTurn> {
-        let done = self.nodes.get(node)?;
-        match done.next {
-            None => done.ends.get(end)?.onward,
-            Some(next) => Some(turn_to(next, end)),
-        }
-    }
-
-    // Returns the turns that lead from a state that is done to the end at this index.
-    fn turns(&self, node: usize, end: usize) -> Result<Vec<Turn>, AllocError> {
-        let mut turns = Vec::new(self.alloc);
-        let mut next = self.onward(node, end);
-        for _ in 0..self.nodes.len() {
-            let Some(onward) = next else {
-                return Ok(turns);
-            };
-            turns.push(onward.turn)?;
-            next = self.onward(onward.node, onward.end);
-        }
-        Ok(turns)
     }
 
     // Visits all states of the space.
@@ -395,8 +420,9 @@ impl<P: Drop> Explorer<P> {
             SearchStarts ways self.old → OnOk result (SearchFinishes ways self.new) }
     {
         let world = space.start()?;
-        let state = self.states.number(space, world, 0)?;
-        let first = self.visit(space, state)?;
+        let state = self.states.number(space, &world, 0)?;
+        space.alike();
+        let first = self.visit(space, state, &world)?;
         self.walk(space, first)
     }
 
@@ -414,8 +440,9 @@ impl<P: Drop> Explorer<P> {
         let mut orders = Vec::new(self.alloc);
         let domains = space.domains();
         'ends: for end in done.ends.as_slice() {
-            let turns = self.turns(first, orders.len())?;
-            let text = self.suffixes.text(end.list, domains)?;
+            let list = end.list as usize;
+            let turns = self.turns(first, list, orders.len())?;
+            let text = self.suffixes.text(list, domains)?;
             orders.push(FoundText { turns, text })?;
         }
         let states = self.states.len();
@@ -437,6 +464,7 @@ fn new_explorer<S: TransitionSystem>(
         states: StateIndex::new(alloc),
         done: Vec::new(alloc),
         nodes: Vec::new(alloc),
+        tried: Vec::new(alloc),
         suffixes: AnswerLists::new(alloc)?,
     })
 }

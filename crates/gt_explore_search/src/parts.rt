@@ -1,7 +1,7 @@
 //! The parts of the states that a search has met, each kept once.
 ghost use Rattle.std.specs.Prelude.{◌≡◌, slice_get, IfOk, IfSome, IsTrue, OnOk};
 ghost use Rattle.std.specs.Option.{option_map};
-ghost use Rattle.gt_explore_search.specs.Parts.{Extends, HasNumber, IsCopyOf, Pairwise};
+ghost use Rattle.gt_explore_search.specs.Parts.{Extends, HasNumberAt, HasNumbers, IsCopyOf, Pairwise};
 
 use crate::fault::SearchFault;
 use crate::spaces::TransitionSystem;
@@ -24,6 +24,14 @@ fn number_at(numbers: Option<&Vec<u32>>, at: usize) -> Option<u32> {
     }
 }
 
+// Counts these numbers.
+fn count(numbers: Option<&Vec<u32>>) -> usize {
+    match numbers {
+        Some(numbers) => numbers.len(),
+        None => 0,
+    }
+}
+
 impl<P: Drop> PartIndex<P> {
     /// Makes an empty index.
     pub fn new(alloc: Global) -> PartIndex<P> {
@@ -41,23 +49,35 @@ impl<P: Drop> PartIndex<P> {
         self.kept.get(number as usize)
     }
 
-    // Returns whether the part with this number is the same.
-    fn is_part<S: TransitionSystem<Part = P>>(&self, space: &S, number: u32, part: &P) -> bool
-        ensures { IsTrue result → HasNumber (S.parts space.now) self.now.kept.items part.now number }
+    // Returns whether the part of a state at this index is the same as the one with this number.
+    fn is_part<S: TransitionSystem<Part = P>>(
+        &self,
+        space: &S,
+        state: &S::State,
+        at: usize,
+        number: u32,
+    ) -> bool
+        ensures { IsTrue result → HasNumberAt (S.parts space.now) self.now.kept.items state.now at number }
     {
         match self.part(number) {
-            Some(other) => space.is_same(part, other),
+            Some(part) => space.has_part(state, at, part),
             None => false,
         }
     }
 
-    // Returns the number of the part with this digest that is the same.
-    fn find<S: TransitionSystem<Part = P>>(&self, space: &S, digest: u64, part: &P) -> Option<u32>
-        ensures { IfSome result (HasNumber (S.parts space.now) self.now.kept.items part.now) }
+    // Returns the number of the part with this digest that is the same as the part of a state at this index.
+    fn find<S: TransitionSystem<Part = P>>(
+        &self,
+        space: &S,
+        state: &S::State,
+        at: usize,
+        digest: u64,
+    ) -> Option<u32>
+        ensures { IfSome result (HasNumberAt (S.parts space.now) self.now.kept.items state.now at) }
     {
         let numbers = self.digests.get(&digest)?;
         'numbers: for number in numbers.as_slice() {
-            if self.is_part(space, *number, part) {
+            if self.is_part(space, state, at, *number) {
                 return Some(*number);
             }
         }
@@ -73,68 +93,74 @@ impl<P: Drop> PartIndex<P> {
         Ok(())
     }
 
-    // Returns the number of a part, which is the next one if the part is new.
+    // Returns the number of the part of a state at this index, which is the next one if the part is new.
     fn number<S: TransitionSystem<Part = P>>(
         &mut self,
         space: &S,
-        part: &P,
+        state: &S::State,
+        at: usize,
     ) -> Result<u32, SearchFault>
-        ensures number { IfOk result (HasNumber (S.parts space.now) self.new.kept.items part.now) }
+        ensures number { IfOk result (HasNumberAt (S.parts space.now) self.new.kept.items state.now at) }
         ensures grows { OnOk result (Extends self.old.kept.items self.new.kept.items) }
     {
-        let digest = space.digest(part);
-        if let Some(number) = self.find(space, digest, part) {
+        let digest = space.digest(state, at);
+        if let Some(number) = self.find(space, state, at, digest) {
             return Ok(number);
         }
-        let at = self.kept.len();
-        if at >= 4_294_967_296 {
+        let count = self.kept.len();
+        if count >= 4_294_967_296 {
             return Err(SearchFault::States);
         }
-        let number = at as u32;
+        let number = count as u32;
         self.file(digest, number)?;
-        self.kept.push(space.copy(part)?)?;
+        self.kept.push(space.copy_part(state, at)?)?;
         Ok(number)
     }
 
-    // Returns the number of a part. If it is the same as the part with the number `last`, it needs no digest.
+    // Returns the number of the part of a state at this index. If it is the same as the part with the number `last`, it
+    // needs no digest.
     fn number_near<S: TransitionSystem<Part = P>>(
         &mut self,
         space: &S,
-        part: &P,
+        state: &S::State,
+        at: usize,
         last: Option<u32>,
     ) -> Result<u32, SearchFault>
-        ensures number { IfOk result (HasNumber (S.parts space.now) self.new.kept.items part.now) }
+        ensures number { IfOk result (HasNumberAt (S.parts space.now) self.new.kept.items state.now at) }
         ensures grows { OnOk result (Extends self.old.kept.items self.new.kept.items) }
     {
         if let Some(number) = last {
-            if self.is_part(space, number, part) {
+            if self.is_part(space, state, at, number) {
                 return Ok(number);
             }
         }
-        self.number(space, part)
+        self.number(space, state, at)
     }
 
-    /// Returns the numbers of these parts. The parts with the numbers `last` are likely to be the same, each as the
-    /// part at its index.
+    /// Returns the numbers of the parts of a state. The parts with the numbers `last` are likely to be the same, each as
+    /// the part at its index.
     ///
     /// # Errors
     /// `Memory`, or `States` if there are too many parts for numbers of 32 bits.
     pub fn numbers<S: TransitionSystem<Part = P>>(
         &mut self,
         space: &S,
-        parts: &[P],
+        state: &S::State,
         last: Option<&Vec<u32>>,
     ) -> Result<Vec<u32>, SearchFault>
         ensures numbers { IfOk result (λ numbers.
-            Pairwise (HasNumber (S.parts space.now) self.new.kept.items) parts.now numbers.items) }
+            HasNumbers (S.parts space.now) self.new.kept.items state.now numbers.items) }
         ensures grows { OnOk result (Extends self.old.kept.items self.new.kept.items) }
     {
-        let mut numbers = Vec::with_capacity(self.alloc, parts.len())?;
-        'parts: for part in parts {
-            let near = number_at(last, numbers.len());
-            numbers.push(self.number_near(space, part, near)?)?;
+        let mut numbers = Vec::with_capacity(self.alloc, count(last))?;
+        'parts: for at in 0..usize::MAX {
+            if space.is_past(state, at) {
+                return Ok(numbers);
+            }
+            let near = number_at(last, at);
+            numbers.push(self.number_near(space, state, at, near)?)?;
         }
-        Ok(numbers)
+        Err(SearchFault::States)
     }
 
     /// Returns copies of the parts with these numbers.

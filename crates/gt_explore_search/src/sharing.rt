@@ -1,42 +1,52 @@
-//! Lists of answers that a state shares with the next one.
+//! The turns that were tried, and lists of answers that a state shares with a next one.
 ghost use Rattle.std.specs.Prelude.{◌≡◌, IsTrue, map};
 
-use crate::exploring::{FirstTurn, ReachedList};
+use crate::exploring::ReachedList;
+use crate::fault::SearchFault;
 use crate::spaces::Turn;
+use crate::suffixes::AnswerLine;
 
-/// The turn by which a state leads to a node whose ends are its own, each at the same index.
+/// A turn that was tried. It led to the node with this number, and printed the line with this number, if it printed one.
 #[derive(Clone, Copy)]
-pub struct NextNode {
+pub struct TriedTurn {
     pub place: u32,
     pub choice: u32,
     pub node: u32,
+    pub line: Option<u32>,
 }
 
-/// Returns the node to which each of these ends leads by one turn, if it is at the same index there.
-pub fn next_of(ends: &[ReachedList]) -> Option<NextNode> {
-    let first = ends.first()?.onward?;
-    for (at, end) in ends.iter().enumerate() {
-        let onward = end.onward?;
-        let by = onward.turn;
-        let is_alike = by.place == first.turn.place && by.choice == first.turn.choice;
-        if !is_alike || onward.node != first.node || onward.end != at {
-            return None;
-        }
+impl TriedTurn {
+    /// Returns the turn.
+    pub fn turn(&self) -> Turn {
+        let place = self.place as usize;
+        let choice = self.choice as usize;
+        Turn { place, choice }
     }
-    Some(NextNode {
-        place: u32::try_from(first.turn.place).ok()?,
-        choice: u32::try_from(first.turn.choice).ok()?,
-        node: u32::try_from(first.node).ok()?,
-    })
 }
 
-/// Returns the turn to the next node, and to the end at this index.
-pub fn turn_to(next: NextNode, end: usize) -> FirstTurn {
-    let place = next.place as usize;
-    let choice = next.choice as usize;
-    let node = next.node as usize;
-    let turn = Turn { place, choice };
-    FirstTurn { turn, node, end }
+// Returns the number, if it has 32 bits.
+fn in_32_bits(number: usize) -> Result<u32, SearchFault> {
+    u32::try_from(number).map_err(|_| SearchFault::States)
+}
+
+/// Returns a turn that was tried, and led to this node and printed this line.
+///
+/// # Errors
+/// `States` if one of the numbers does not fit in 32 bits.
+pub fn tried_turn(
+    turn: Turn,
+    node: usize,
+    line: Option<AnswerLine>,
+) -> Result<TriedTurn, SearchFault> {
+    Ok(TriedTurn {
+        place: in_32_bits(turn.place)?,
+        choice: in_32_bits(turn.choice)?,
+        node: in_32_bits(node)?,
+        line: match line {
+            Some(line) => Some(in_32_bits(line.number)?),
+            None => None,
+        },
+    })
 }
 
 /// Returns whether both have the same lists, in the same order.

@@ -1,6 +1,6 @@
 //! Transition systems.
-ghost use Rattle.std.specs.Prelude.{◌≡◌, List, IfOk, IsTrue};
-ghost use Rattle.gt_explore_search.specs.Parts.{Pairwise, Splitting};
+ghost use Rattle.std.specs.Prelude.{◌≡◌, ◌≤◌, IfOk, IsTrue, length};
+ghost use Rattle.gt_explore_search.specs.Parts.{HasPart, Pairwise, Splitting};
 ghost use Rattle.gt_explore_search.specs.Ways.{Ways, HasEnoughTurns, IsShownSo, MayEnd, MovesTo, ShowsFirst};
 
 use crate::fault::SearchFault;
@@ -59,21 +59,32 @@ pub trait TransitionSystem {
     fn is_finished(&self, state: &Self::State) -> bool
         ensures { MayEnd (ways self.now) state.now → IsTrue result };
 
-    /// Returns the parts of a state.
-    fn split(&self, state: Self::State) -> Result<Vec<Self::Part>, AllocError>
-        ensures { IfOk result (λ made. (parts self.now).has state made.items) };
+    /// A law: states with the same parts show the same runs.
+    fn alike(&self)
+        ensures { (w v : Self.State) →
+            Pairwise (parts self.now).same ((parts self.now).of w) ((parts self.now).of v) →
+            IsShownSo (ways self.now) w v };
+
+    /// Returns whether the parts of a state end before this index.
+    fn is_past(&self, state: &Self::State, at: usize) -> bool
+        ensures { IsTrue result → length ((parts self.now).of state.now) ≤ at };
+
+    /// Returns whether the part of a state at this index is the same as this one.
+    fn has_part(&self, state: &Self::State, at: usize, part: &Self::Part) -> bool
+        ensures { IsTrue result → HasPart (parts self.now) state.now at part.now };
+
+    /// Copies the part of a state at this index. Fails with `States` if there is no such part.
+    fn copy_part(&self, state: &Self::State, at: usize) -> Result<Self::Part, SearchFault>
+        ensures { IfOk result (HasPart (parts self.now) state.now at) };
+
+    /// Returns a number for the part of a state at this index. It is equal for parts that are the same, and rarely for
+    /// others.
+    fn digest(&self, state: &Self::State, at: usize) -> u64;
 
     /// Returns a state that shows each run that a state with the same parts shows.
     fn join(&self, made: Vec<Self::Part>) -> Result<Self::State, AllocError>
-        ensures { (w : Self.State) (ps : List Self.Part) → (parts self.now).has w ps →
-            Pairwise (parts self.now).same ps made.items → IfOk result (IsShownSo (ways self.now) w) };
-
-    /// Returns a number that is equal for parts that are the same, and rarely for others.
-    fn digest(&self, part: &Self::Part) -> u64;
-
-    /// Returns whether the parts are the same.
-    fn is_same(&self, one: &Self::Part, other: &Self::Part) -> bool
-        ensures { IsTrue result → (parts self.now).same one.now other.now };
+        ensures { (w : Self.State) → Pairwise (parts self.now).same ((parts self.now).of w) made.items →
+            IfOk result (IsShownSo (ways self.now) w) };
 
     /// Copies a part.
     fn copy(&self, part: &Self::Part) -> Result<Self::Part, AllocError>

@@ -1,14 +1,21 @@
 //! The states that a search has met.
-ghost use Rattle.std.specs.Prelude.{◌≡◌, [], ℕ, List, OnOk, length, IfOk};
+ghost use Rattle.std.specs.Prelude.{◌≡◌, [], ℕ, List, None, OnOk, length, IfOk};
 ghost use Rattle.std.specs.Global.{Vec};
 ghost use Rattle.gt_explore_search.specs.Exploring.{IsNumbered};
-ghost use Rattle.gt_explore_search.specs.Parts.{Extends, HasNumbers, IsStateAt, by_numbers};
+ghost use Rattle.gt_explore_search.specs.Parts.{Extends, HandHolds, HasNumbers, IsStateAt, by_numbers};
 
 use crate::fault::SearchFault;
 use crate::parts::PartIndex;
 use crate::spaces::TransitionSystem;
 use indexmap::IndexSet;
 use std::alloc::Global;
+
+/// A state that was met, as a whole, and its number.
+#[derive(Drop)]
+pub struct WholeState<W> {
+    pub number: usize,
+    pub state: W,
+}
 
 /// The states that were met, each with a number. A state is kept as the numbers of its parts.
 #[derive(Drop)]
@@ -54,6 +61,30 @@ impl<P: Drop> StateIndex<P> {
         Ok(space.join(parts)?)
     }
 
+    /// Returns the state with this number, which is the one at hand or joined from copies of its parts. Then none is at
+    /// hand.
+    ///
+    /// # Errors
+    /// `Memory`, or `States` if the number has no state.
+    pub fn take<S: TransitionSystem<Part = P>>(
+        &self,
+        space: &S,
+        hand: &mut Option<WholeState<S::State>>,
+        number: usize,
+    ) -> Result<S::State, SearchFault>
+        ensures hand { OnOk result (hand.new ≡ None) }
+        ensures state { (all : List P) → Extends self.now.parts.kept.items all →
+            HandHolds (S.ways space.now) (S.parts space.now) all self.now.met.keys hand.old →
+            IfOk result (IsStateAt (S.ways space.now) (S.parts space.now) all self.now.met.keys number) }
+    {
+        if let Some(whole) = hand.take() {
+            if whole.number == number {
+                return Ok(whole.state);
+            }
+        }
+        self.state(space, number)
+    }
+
     /// Returns the number of a state, which is the next one if the state is new. Its parts are first compared with
     /// those of the state with the number `last`, from which a turn may have led to it.
     ///
@@ -62,17 +93,16 @@ impl<P: Drop> StateIndex<P> {
     pub fn number<S: TransitionSystem<Part = P>>(
         &mut self,
         space: &S,
-        state: S::State,
+        state: &S::State,
         last: usize,
     ) -> Result<usize, SearchFault>
         ensures grows { OnOk result (Extends self.old.parts.kept.items self.new.parts.kept.items) }
         ensures number { (all : List P) → Extends self.new.parts.kept.items all → IfOk result (λ n. (k : Vec ℕ)
-            × HasNumbers (S.parts space.now) all state k.items
+            × HasNumbers (S.parts space.now) all state.now k.items
             × IsNumbered (by_numbers (S.ways space.now) (S.parts space.now) all) self.old.met.keys k n self.new.met.keys) }
     {
-        let parts = space.split(state)?;
         let near = self.met.get_index(last);
-        let numbers = self.parts.numbers(space, parts.as_slice(), near)?;
+        let numbers = self.parts.numbers(space, state, near)?;
         let (number, _) = self.met.insert_full(numbers)?;
         Ok(number)
     }

@@ -83,21 +83,44 @@ impl AnswerLists {
 
     /// Returns the number of this list with the answer in front, if there is one.
     pub fn longer(&mut self, list: usize, line: Option<AnswerLine>) -> Result<usize, AllocError>
-        requires { HasItsLine self.old line }
         ensures grows { OnOk result (GrowsInto self.old self.new) }
         ensures there { HasListAt self.old list → IfOk result (λ n. HasListAt self.new n) }
-        ensures longer { AreWhole self.old → HasListAt self.old list →
+        ensures longer { HasItsLine self.old line → AreWhole self.old → HasListAt self.old list →
             IfOk result (λ n. IsLonger self.new line list n) }
     {
         let Some(line) = line else {
             return Ok(list);
         };
+        if line.number >= self.lines.len() {
+            return Ok(list);
+        }
         let Some(old) = self.lists.get_index(list) else {
             return Ok(list);
         };
         let longer = with_line(self.alloc, old.as_slice(), line)?;
         let (number, _) = self.lists.insert_full(longer)?;
         Ok(number)
+    }
+
+    /// Returns the number of this list without the answer in front, if it has that one there.
+    pub fn shorter(
+        &self,
+        list: usize,
+        line: Option<AnswerLine>,
+    ) -> Result<Option<usize>, AllocError> {
+        let Some(line) = line else {
+            return Ok(Some(list));
+        };
+        let Some(old) = self.lists.get_index(list) else {
+            return Ok(None);
+        };
+        let at = place_in(old.as_slice(), line.place);
+        if old.get(at) != Some(&line) {
+            return Ok(None);
+        }
+        let mut rest = Vec::from_slice(self.alloc, old.as_slice())?;
+        rest.remove(at);
+        Ok(self.lists.get_index_of(&rest))
     }
 
     // Returns what the domain at this position prints of a line.

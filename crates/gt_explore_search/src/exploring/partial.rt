@@ -2,9 +2,10 @@
 ghost use Rattle.std.specs.Prelude.{IfOk, IsTrue};
 ghost use Rattle.gt_explore_search.specs.Exploring.{AllTextsFound, SearchStarts};
 
-use crate::exploring::{Explorer, OpenNode, SearchResult, leads_nowhere, new_explorer};
+use crate::exploring::{Explorer, MadeTurn, OpenNode, SearchResult, leads_nowhere, new_explorer};
 use crate::fault::SearchFault;
-use crate::spaces::TransitionSystem;
+use crate::sharing::tried_turn;
+use crate::spaces::{TransitionSystem, Turn};
 use std::alloc::Global;
 
 /// What a search found: orders, and whether these are all. If not, the search met more states than the limit, and
@@ -35,13 +36,14 @@ impl<P: Drop> Explorer<P> {
             SearchHolds ways self.old → VisitHolds ways self.old first →
             IfOk result (λ left. IfNone left (SearchHolds ways self.new × Grew self.old self.new)) }
     {
+        let mut hand = None;
         let mut stack = Vec::new(self.alloc);
         stack.push(first)?;
         'tries: for _ in 0..u64::MAX {
             if self.states.len() > limit {
                 return Ok(Some(stack));
             }
-            if !self.try_next(space, &mut stack)? {
+            if !self.try_next(space, &mut hand, &mut stack)? {
                 return Ok(None);
             }
         }
@@ -60,9 +62,27 @@ impl<P: Drop> Explorer<P> {
             SearchStarts ways self.old → IfOk result (λ left. IfNone left (SearchFinishes ways self.new)) }
     {
         let world = space.start()?;
-        let state = self.states.number(space, world, 0)?;
-        let first = self.visit(space, state)?;
+        let state = self.states.number(space, &world, 0)?;
+        space.alike();
+        let first = self.visit(space, state, &world)?;
         self.walk_within(space, first, limit)
+    }
+
+    // Makes the next turn of a state. Returns none if it leads nowhere.
+    fn made_anew<S: TransitionSystem<Part = P>>(
+        &mut self,
+        space: &S,
+        visit: &OpenNode,
+        turn: Turn,
+    ) -> Result<Option<MadeTurn>, SearchFault> {
+        let mut world = self.states.state(space, visit.state)?;
+        let led = space.advance(&mut world, turn)?;
+        if leads_nowhere(&led) {
+            return Ok(None);
+        }
+        let line = self.line(turn.place, led)?;
+        let state = self.states.number(space, &world, visit.state)?;
+        Ok(Some(MadeTurn { state, line }))
     }
 
     // Gathers the ends of the turn that is being tried, if it leads to a state that is done.
@@ -74,17 +94,18 @@ impl<P: Drop> Explorer<P> {
         let Some(turn) = visit.turn() else {
             return Ok(());
         };
-        let mut world = self.states.state(space, visit.state)?;
-        let led = space.advance(&mut world, turn)?;
-        if leads_nowhere(&led) {
-            return Ok(());
-        }
-        let line = self.line(turn.place, led)?;
-        let state = self.states.number(space, world, 0)?;
-        let Some(node) = self.node_of(state) else {
+        let made = match visit.made {
+            Some(made) => Some(made),
+            None => self.made_anew(space, visit, turn)?,
+        };
+        let Some(made) = made else {
             return Ok(());
         };
-        self.gather(space, visit, turn, node, line)?;
+        let Some(node) = self.node_of(made.state) else {
+            return Ok(());
+        };
+        self.gather(space, visit, node, made.line)?;
+        visit.tried.push(tried_turn(turn, node, made.line)?)?;
         Ok(())
     }
 

@@ -8,5 +8,5 @@ use Rattle.gt_explore_search.proofs.exploring.Explorer.finish.Goals as goal
 pub returns-clause-holds : goal.returns-clause-holds
 returns-clause-holds g c = λ all holds visit past.
     let node : length c.as_slice-node.result.now ≡ length c.args.self.now.nodes.items = ap (λ (l : List Node). length l) c.as_slice-node.ensures.value in
-    holds_done (by_numbers (g.S.TransitionSystem.ways c.args._space.now) (g.S.TransitionSystem.parts c.args._space.now) all) c.args.self.now _ c.args.visit _ refl (c.in_ok-ends.ensures ∙ ap (λ (l : List ReachedList). map (λ (e : ReachedList). e.list) l) c.as_slice.ensures.value) holds visit past refl refl c.in_ok-push.ensures.items
+    holds_done (by_numbers (g.S.TransitionSystem.ways c.args._space.now) (g.S.TransitionSystem.parts c.args._space.now) all) c.args.self.now _ c.args.visit _ refl (c.in_ok-ends.ensures ∙ ap (λ (l : List ReachedList). map (λ (e : ReachedList). e.list) l) c.as_slice-2.ensures.value) holds visit past refl refl c.in_ok-push.ensures.items
     (λ state i is. subst (λ (n : ℕ). (slice_get c.args.self.now.done.items state ≡ Some (Some i)) ⊎ ((state ≡ c.args.visit.state) × (i ≡ n))) node (c.set_done.ensures state i is))

@@ -1,4 +1,4 @@
-use Rattle.std.proofs.Common.{sym, ◌∙◌, ap, ◌≡◌, ◌<◌, ◌≤◌, List, ℕ, length, Some, None, slice_get, get_or, Bor, arith}
+use Rattle.std.proofs.Common.{sym, ◌∙◌, ap, ◌≡◌, ◌<◌, ◌≤◌, List, ℕ, length, Some, slice_get, get_or, Bor, arith}
 use Rattle.std.proofs.lemmas.Option.{same_Some, slice_get_within, slice_get-get_or}
 use Rattle.std.specs.List.{flat_map, range_with_len}
 use Rattle.std.specs.Global.{Vec}
@@ -15,9 +15,9 @@ ends-preserved g c = record {
   many = length_more c.ends.orders.items c.push.new.self.items _ c.ends.end-index c.ends.invariant.many c.in_ok-push.ensures.items;
   each =
       texts_more c.args.self.now.suffixes c.domains-domains.result c.ends.end-index c.as_slice-end-items.result.now
-      (get_or c.as_slice-end-items.result.now c.ends.end-index (record { list = 0; onward = None })) c.ends.orders.items c.push.new.self.items
+      (get_or c.as_slice-end-items.result.now c.ends.end-index (record { list = 0 })) c.ends.orders.items c.push.new.self.items
       (record { turns = c.in_ok-turns.turns; text = c.in_ok-text.text }) c.ends.invariant.many
-      (slice_get-get_or c.as_slice-end-items.result.now c.ends.end-index (record { list = 0; onward = None }) c.ends-test.true) c.in_ok-push.ensures.items c.in_ok-text.ensures c.ends.invariant.each;
+      (slice_get-get_or c.as_slice-end-items.result.now c.ends.end-index (record { list = 0 }) c.ends-test.true) c.in_ok-push.ensures.items c.in_ok-text.ensures c.ends.invariant.each;
 }
 
 pub returns : goal.returns

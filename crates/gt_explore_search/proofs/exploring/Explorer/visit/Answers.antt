@@ -5,16 +5,14 @@ use Rattle.gt_explore_search.proofs.Trying.{not_both, visits_end, visits_on}
 use Rattle.gt_explore_search.proofs.exploring.Explorer.visit.Goals as goal
 
 pub returns-clause-holds : goal.returns-clause-holds
-returns-clause-holds g c = λ all more holds.
-    let here = c.in_ok-world.ensures all more in
-    visits_end (by_numbers (g.S.TransitionSystem.ways c.args.space.now) (g.S.TransitionSystem.parts c.args.space.now) all) c.args.self.now c.push.new.self _ c.note.new.self _ here.0 c.in_ok-push.ensures.items
-    here.1 (enough (g.S.TransitionSystem.ways c.args.space.now) (g.S.TransitionSystem.parts c.args.space.now) all here.0 c.in_ok-world.world c.in_ok-turns.field-0.items here.2 c.in_ok-turns.ensures)
-    refl c.new-2.ensures.items c.new.ensures.empty c.in_ok-note.ensures holds
+returns-clause-holds g c = λ all holds here.
+    visits_end (by_numbers (g.S.TransitionSystem.ways c.args.space.now) (g.S.TransitionSystem.parts c.args.space.now) all) c.args.self.now c.push.new.self _ c.note.new.self here.0 c.in_ok-push.ensures.items
+    here.1 (enough (g.S.TransitionSystem.ways c.args.space.now) (g.S.TransitionSystem.parts c.args.space.now) all here.0 c.args.world.now c.in_ok-turns.field-0.items here.2 c.in_ok-turns.ensures)
+    refl refl c.new-3.ensures.items c.new-2.ensures.empty c.in_ok-note.ensures holds
 
 pub returns-then-not-is_finished-clause-holds : goal.returns-then-not-is_finished-clause-holds
-returns-then-not-is_finished-clause-holds g c = λ all more holds.
-    let here = c.in_ok-world.ensures all more in
+returns-then-not-is_finished-clause-holds g c = λ all holds here.
     visits_on (by_numbers (g.S.TransitionSystem.ways c.args.space.now) (g.S.TransitionSystem.parts c.args.space.now) all) c.args.self.now c.push.new.self _ here.0 c.in_ok-push.ensures.items
-    here.1 (enough (g.S.TransitionSystem.ways c.args.space.now) (g.S.TransitionSystem.parts c.args.space.now) all here.0 c.in_ok-world.world c.in_ok-turns.field-0.items here.2 c.in_ok-turns.ensures)
-    refl c.new-2.ensures.items c.new.ensures.empty
-    (λ may. not_both c.is_finished.result (c.is_finished.ensures (may-end (g.S.TransitionSystem.ways c.args.space.now) (g.S.TransitionSystem.parts c.args.space.now) all here.0 c.in_ok-world.world here.2 may)) (search rules)) holds
+    here.1 (enough (g.S.TransitionSystem.ways c.args.space.now) (g.S.TransitionSystem.parts c.args.space.now) all here.0 c.args.world.now c.in_ok-turns.field-0.items here.2 c.in_ok-turns.ensures)
+    refl refl c.new-3.ensures.items c.new-2.ensures.empty
+    (λ may. not_both c.is_finished.result (c.is_finished.ensures (may-end (g.S.TransitionSystem.ways c.args.space.now) (g.S.TransitionSystem.parts c.args.space.now) all here.0 c.args.world.now here.2 may)) (search rules)) holds

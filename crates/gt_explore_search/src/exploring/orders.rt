@@ -1,0 +1,77 @@
+//! The turns of the orders that a search found.
+use crate::exploring::Explorer;
+use crate::sharing::TriedTurn;
+use crate::spaces::Turn;
+use crate::suffixes::AnswerLine;
+use std::alloc::AllocError;
+
+// A turn towards a list of answers: the list that is left after it, and its index among those of the next node.
+#[derive(Clone, Copy)]
+struct Onward {
+    turn: TriedTurn,
+    list: usize,
+    at: usize,
+}
+
+impl<P: Drop> Explorer<P> {
+    // Returns the turns from a node that were tried.
+    fn tried_at(&self, node: usize) -> &[TriedTurn] {
+        let Some(done) = self.nodes.get(node) else {
+            return &[];
+        };
+        let end = match self.nodes.get(node.saturating_add(1)) {
+            Some(next) => next.tried as usize,
+            None => self.tried.len(),
+        };
+        self.tried
+            .as_slice()
+            .get(done.tried as usize..end)
+            .unwrap_or(&[])
+    }
+
+    // Returns the index of this list among those of a node. It is likely to be this one.
+    fn place_of(&self, node: usize, list: usize, likely: usize) -> Option<usize> {
+        let ends = self.nodes.get(node)?.ends.as_slice();
+        match ends.get(likely) {
+            Some(end) if end.list as usize == list => Some(likely),
+            _ => ends.iter().position(|end| end.list as usize == list),
+        }
+    }
+
+    // Returns the first turn from a node to this list of answers, which may stand at this index, and the list that is
+    // left after that turn, with its index.
+    fn onward(&self, node: usize, list: usize, at: usize) -> Result<Option<Onward>, AllocError> {
+        for turn in self.tried_at(node) {
+            let line = turn.line.map(|number| AnswerLine {
+                place: turn.place as usize,
+                number: number as usize,
+            });
+            if let Some(list) = self.suffixes.shorter(list, line)? {
+                if let Some(at) = self.place_of(turn.node as usize, list, at) {
+                    let turn = *turn;
+                    return Ok(Some(Onward { turn, list, at }));
+                }
+            }
+        }
+        Ok(None)
+    }
+
+    // Returns the turns that lead from a node to this list of answers, which stands at this index.
+    pub(super) fn turns(
+        &self,
+        node: usize,
+        list: usize,
+        at: usize,
+    ) -> Result<Vec<Turn>, AllocError> {
+        let mut turns = Vec::new(self.alloc);
+        let mut next = self.onward(node, list, at)?;
+        for _ in 0..self.nodes.len() {
+            let Some(onward) = next else {
+                return Ok(turns);
+            };
+            turns.push(onward.turn.turn())?;
+            next = self.onward(onward.turn.node as usize, onward.list, onward.at)?;
+        }
+        Ok(turns)
+    }
+}
