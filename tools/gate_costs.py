@@ -2,9 +2,10 @@
 """Runs a command, and prints before its last line what each crate's proof, tests and edits cost.
 
 The costs are processor seconds (user and system) of the kit's processes, as /proc shows them twice a second while they
-run, so each process may cost up to half a second more. The status is that of the command.
+run, so each process may cost up to half a second more. The status is that of the command. If that is 0, the command
+CHECK runs too, before the last line is printed, and its failure makes the status 1.
 
-usage: tools/gate_costs.py COMMAND [WORD..]        in .ci/run: tools/gate_costs.py rt ci
+usage: tools/gate_costs.py [--then CHECK] COMMAND [WORD..]        as .ci/run does, with the command rt ci
 """
 
 import glob
@@ -98,6 +99,9 @@ def watch(costs, is_over):
 
 
 def main(words):
+    check = None
+    if words[:1] == ["--then"]:
+        check, words = words[1:2], words[2:]
     if not words:
         print(__doc__.strip().splitlines()[-1], file=sys.stderr)
         return 2
@@ -116,6 +120,8 @@ def main(words):
     watcher.join()
     show(costs, time.monotonic() - began)
     sys.stdout.flush()
+    if check and status == 0:
+        status = 1 if subprocess.run(check, check=False).returncode else 0
     sys.stdout.buffer.write(last)
     sys.stdout.buffer.flush()
     return status if status >= 0 else 128 - status

@@ -49,7 +49,7 @@ refuses are among the edits. The bodies of \`gt_program\` and \`gt_run\` were ch
 | \`gt_explore_search\` | 20 | 15 | 5 | 0 |
 | \`gt_explore_replay\` | 15 | 15 | 0 | 0 |
 | \`gt_explore_moves\` | 16 | 15 | 1 | 0 |
-| \`gt_explore\` | 12 | 11 | 0 | 1 |
+| \`gt_explore\`, \`gt_explore_answers\` | 12 | 11 | 0 | 1 |
 | \`gt_commands\` | 12 | 12 | 0 | 0 |
 | \`gt_neverallow\` | 15 | 14 | 0 | 1 |
 | \`gt_checks\` | 2 | 0 | 0 | 2 |

@@ -1,31 +1,15 @@
 -- Orders whose texts are in the order of their bytes, with one more order.
-use Rattle.std.specs.Prelude.{◌≡◌, ◌≢◌, ◌⊎◌, ◌++◌, ℕ, List, [], ◌∷◌, All, map, Some, slice_get}
+use Rattle.std.specs.Prelude.{◌≡◌, ◌⊎◌, ◌++◌, ℕ, List, [], ◌∷◌}
 use Rattle.std.specs.Cmp.Lexicographic.{slice_cmp}
 use Rattle.std.specs.Ordering.{nat_cmp}
 use Rattle.std.specs.declared.cmp.Ordering.{Ordering}
 use Rattle.std.specs.declared.cmp.Ordering.TheVariants.{Less}
 use Rattle.gt_explore_search.specs.declared.exploring.FoundText.{FoundText}
+use Rattle.gt_explore_answers.specs.Texts.{IsTextAmong, texts_of_orders}
 
 -- x was added at the end, or not at all
 abbrev pub IsAdded : {X : Type 0} → List X → X → List X → Type 0
 IsAdded old x new = (new ≡ old) ⊎ (new ≡ old ++ x ∷ [])
-
--- the texts of these orders
-abbrev pub texts_of_orders : List FoundText → List (List ℕ)
-texts_of_orders orders = map (λ o. o.text.items) orders
-
--- the text is one of these
-abbrev pub IsTextAmong : List ℕ → List (List ℕ) → Type 0
-IsTextAmong text texts = (at : ℕ) × (slice_get texts at ≡ Some text)
-
--- it differs from each of these
-abbrev pub IsApart : List ℕ → List (List ℕ) → Type 0
-IsApart text texts = All (λ other. other ≢ text) texts
-
--- no two of them are the same
-abbrev pub AreDifferentTexts : List (List ℕ) → Type 0
-AreDifferentTexts [] = Unit {0}
-AreDifferentTexts (text ∷ texts) = IsApart text texts × AreDifferentTexts texts
 
 -- two texts by the order of their bytes
 abbrev pub compared : List ℕ → List ℕ → Ordering

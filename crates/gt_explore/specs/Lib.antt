@@ -1,9 +1,2 @@
 pub mod Adding
-pub mod AsObjects
-pub mod Exploring
-pub mod Faults
-pub mod Objects
-pub mod Telling
-pub mod Tracing
-pub mod Witness
 pub mod Writing

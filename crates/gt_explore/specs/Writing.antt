@@ -9,20 +9,12 @@ use Rattle.gt_text.specs.Streams.{AppendsBeginning}
 use Rattle.gt_host.specs.declared.fault.PlayFault.TheVariants.{Memory, Read, Write, Script, Policy}
 use Rattle.gt_explore_verdict.specs.declared.judging.Verdict.{Verdict}
 use Rattle.gt_explore_verdict.specs.Expressions.{Asked}
-use Rattle.gt_explore.specs.AsObjects.{ShowsBy}
-use Rattle.gt_explore.specs.Exploring.{AreAsked, AreTextsOf, TellsBy}
-use Rattle.gt_explore.specs.Telling.{Found}
-use Rattle.gt_explore.specs.declared.exploring.ExploreFormat.{ExploreFormat}
-use Rattle.gt_explore.specs.declared.exploring.ExploreFormat.TheVariants.{Json, Text}
-use Rattle.gt_explore.specs.declared.exploring.ExploreOptions.{ExploreOptions}
-use Rattle.gt_explore.specs.declared.exploring.ExploreRequest.{ExploreRequest}
-use Rattle.gt_explore.specs.declared.fault.ExploreFault.{ExploreFault}
-use Rattle.gt_explore.specs.declared.fault.ExploreFault.TheVariants.{Play, Texts}
-
--- the output and the verdict, by the format and the request
-abbrev pub ShownAs : RunContents → ExploreFormat → ℕ → ExploreRequest → List Asked → Found → List ℕ → Verdict → Type 0
-ShownAs c Text limit request = TellsBy c request
-ShownAs c Json limit request = ShowsBy c limit request
+use Rattle.gt_explore_answers.specs.Answering.{ShownAs}
+use Rattle.gt_explore_answers.specs.Exploring.{AreAsked, AreTextsOf}
+use Rattle.gt_explore_answers.specs.Telling.{Found}
+use Rattle.gt_explore_answers.specs.declared.asking.ExploreOptions.{ExploreOptions}
+use Rattle.gt_explore_answers.specs.declared.fault.ExploreFault.{ExploreFault}
+use Rattle.gt_explore_answers.specs.declared.fault.ExploreFault.TheVariants.{Play, Texts}
 
 -- the output for a script and the verdict: what is shown of texts that it may give
 pub record IsMade (c : RunContents) (asked : ExploreOptions) (text : List ℕ) (verdict : Verdict) : Type 0 where

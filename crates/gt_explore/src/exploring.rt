@@ -1,101 +1,23 @@
 //! The command `explore`.
-ghost use Rattle.std.specs.Prelude.{◌≡◌, ℕ, List, true, All, IfOk, length, map, take};
+ghost use Rattle.std.specs.Prelude.{◌≡◌, ℕ, List, IfOk, take};
 ghost use Rattle.gt_script.specs.Contents.{contents_told};
 ghost use Rattle.gt_script.specs.RunContents.{run_told};
 ghost use Rattle.gt_script.specs.RunScripts.{CanConfigure, RunTells};
 ghost use Rattle.gt_text.specs.Streams.{ConsumesAtMost, OfInput};
 ghost use Rattle.gt_text.specs.declared.streams.TheConstants.{READ_LIMIT};
 ghost use Rattle.gt_script.specs.Stuck.{AreNumbered};
-ghost use Rattle.gt_explore_verdict.specs.Expressions.{told};
-ghost use Rattle.gt_explore.specs.Exploring.{AreTextsOf};
-ghost use Rattle.gt_explore.specs.Telling.{found_told};
-ghost use Rattle.gt_explore.specs.Writing.{Explored, Explores, IsMade, ShownAs};
+ghost use Rattle.gt_explore.specs.Writing.{Explored, Explores, IsMade};
 
-use crate::answering::{ExploreOutput, answer_in_text};
-use crate::conditions::conditions_asked;
-use crate::fault::{ExploreFault, TextsFault};
-use crate::json::ObjectWriter;
-use crate::texts::{FoundTexts, texts_found};
-use gt_explore_verdict::{Claim, Condition, Verdict};
+use crate::texts::texts_found;
+use gt_explore_answers::{
+    ExploreFault, ExploreOptions, ExploreOutput, TextsFault, answer_request, conditions_asked,
+};
+use gt_explore_verdict::Verdict;
 use gt_host::PlayFault;
 use gt_script::{RunScript, parse_run};
 use gt_text::{read_text, write_text};
 use std::alloc::Global;
 use std::io::{Read, Write};
-
-/// What `explore` is asked for.
-#[derive(Clone, Copy)]
-pub enum ExploreRequest<'w> {
-    /// Print the texts.
-    Texts,
-    /// Decide a claim on the conditions of an expression. `Find` prints the texts that satisfy them; the other claims
-    /// print the verdict, or the first text that shows that they do not hold with a script for `play` that gives it.
-    Decide { claim: Claim, expression: &'w str },
-    /// Print the number of this text, if it is one of the texts.
-    Has(&'w [u8]),
-    /// Print a script for `play` that gives the text of this number.
-    Witness(usize),
-    /// Print such a script for each text.
-    Witnesses,
-    /// Print the moves that lead to the text of this number, a line each.
-    Trace(usize),
-    /// Print these moves as a sequence diagram of mermaid.
-    Diagram(usize),
-}
-
-/// The format of the output of `explore`.
-#[derive(Clone, Copy)]
-pub enum ExploreFormat {
-    /// Lines of text, and scripts for `play`.
-    Text,
-    /// A JSON object a line: one for each text that is shown, and one at the end. A sequence diagram is the same in both
-    /// formats.
-    Json,
-}
-
-/// The options of `explore`: the request, the largest number of states that the search may meet, and the format of the
-/// output.
-#[derive(Clone, Copy)]
-pub struct ExploreOptions<'w> {
-    pub request: ExploreRequest<'w>,
-    pub states: usize,
-    pub format: ExploreFormat,
-}
-
-// Answers a request by the texts that were found, in its format.
-fn answered(
-    alloc: Global,
-    asked: &ExploreOptions,
-    source: &[u8],
-    script: &RunScript,
-    found: &FoundTexts,
-    conditions: &[Condition<'_>],
-) -> Result<ExploreOutput, TextsFault>
-    requires fits { CanConfigure (contents_told script.now.head) }
-    requires texts { AreTextsOf (run_told script.now) (found_told found.now) }
-    ensures { IfOk result (λ made. ShownAs (run_told script.now) asked.now.format asked.now.states asked.now.request
-        (map told conditions.now) (found_told found.now) made.text.items made.verdict) }
-{
-    match asked.format {
-        ExploreFormat::Text => answer_in_text(
-            alloc,
-            asked.request,
-            source,
-            script,
-            found,
-            conditions,
-        ),
-        ExploreFormat::Json => {
-            let writer = ObjectWriter {
-                alloc,
-                source,
-                script,
-                found,
-            };
-            writer.answer(asked.request, asked.states, conditions)
-        }
-    }
-}
 
 // Finds the texts of a script, and answers a request by them.
 fn made_as(
@@ -110,7 +32,7 @@ fn made_as(
 {
     let conditions = conditions_asked(alloc, script, asked.request)?;
     let found = texts_found(alloc, script, asked.states)?;
-    let made = answered(alloc, asked, source, script, &found, conditions.as_slice())?;
+    let made = answer_request(alloc, asked, source, script, &found, conditions.as_slice())?;
     Ok(made)
 }
 

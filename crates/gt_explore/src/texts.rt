@@ -7,29 +7,18 @@ ghost use Rattle.gt_script.specs.RunScripts.{CanConfigure};
 ghost use Rattle.gt_script.specs.Stuck.{AreNumbered};
 ghost use Rattle.gt_explore_replay.specs.Orders.{MayGive};
 ghost use Rattle.gt_explore_search.specs.declared.exploring.FoundText.{FoundText};
-ghost use Rattle.gt_explore.specs.Adding.{AddsOrder, AreAscending, AreDifferentTexts, IsTextAmong, last_compared};
-ghost use Rattle.gt_explore.specs.Adding.{texts_of_orders};
-ghost use Rattle.gt_explore.specs.Exploring.{AreTextsOf};
-ghost use Rattle.gt_explore.specs.Telling.{found_told};
+ghost use Rattle.gt_explore.specs.Adding.{AddsOrder, AreAscending, last_compared};
+ghost use Rattle.gt_explore_answers.specs.Texts.{AreDifferentTexts, IsTextAmong, texts_of_orders};
+ghost use Rattle.gt_explore_answers.specs.Exploring.{AreTextsOf};
+ghost use Rattle.gt_explore_answers.specs.Telling.{found_told};
 
-use crate::fault::TextsFault;
+use gt_explore_answers::{FoundTexts, TextsFault};
 use gt_explore_moves::search_within;
 use gt_explore_replay::text_of;
 use gt_explore_search::FoundText;
 use gt_script::RunScript;
 use std::alloc::{AllocError, Global};
 use std::cmp::Ordering;
-
-/// Texts that a script may give, each with turns that lead to it, in the order of their bytes, and the number of states
-/// that the search met. `whole`: these are all texts. If not, the search met more states than its limit, and `depth` is
-/// the number of states on the way to the last of them.
-#[derive(Drop)]
-pub struct FoundTexts {
-    pub texts: Vec<FoundText>,
-    pub states: usize,
-    pub whole: bool,
-    pub depth: usize,
-}
 
 // Compares the last of these texts with a text; before the first text there is nothing.
 fn last_compared(texts: &[FoundText], text: &[u8]) -> Ordering

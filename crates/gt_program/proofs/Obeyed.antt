@@ -42,7 +42,7 @@ use Rattle.gt_program.specs.Obeying.{AnswersVerdict, IsSearched, Searches, Seeks
 use Rattle.gt_program.specs.Formats.{explore_format}
 use Rattle.gt_explore_verdict.specs.declared.judging.Verdict.{Verdict}
 use Rattle.gt_explore_verdict.specs.declared.judging.Verdict.TheVariants.{Holds, Fails, Undecided}
-use Rattle.gt_explore.specs.declared.exploring.ExploreOptions.{ExploreOptions as Searched}
+use Rattle.gt_explore_answers.specs.declared.asking.ExploreOptions.{ExploreOptions as Searched}
 use Rattle.gt_program.specs.Obeying.{AnswersLines, ChecksAll, ChecksAs, ChecksNever, Deed, IsGiven, OrNothing, SeeksText, kind_checked}
 use Rattle.gt_program.specs.Obeying.{WithFile}
 use Rattle.gt_program.specs.declared.checking.CheckKind.{CheckKind}

@@ -6,8 +6,8 @@ use Rattle.gt_checks.specs.Checking.{Checked}
 use Rattle.gt_checks.specs.Scripts.{CheckedScript}
 use Rattle.gt_json_commands.specs.AsJson.{Promise, ListedAsJson, PlayedAsJson, RanAsJson, ToldAsJson}
 use Rattle.gt_commands.specs.declared.invocation.Format.TheVariants.{Text, Json}
-use Rattle.gt_explore.specs.declared.exploring.ExploreFormat.{ExploreFormat}
-use Rattle.gt_explore.specs.declared.exploring.ExploreFormat.TheVariants as explored
+use Rattle.gt_explore_answers.specs.declared.asking.ExploreFormat.{ExploreFormat}
+use Rattle.gt_explore_answers.specs.declared.asking.ExploreFormat.TheVariants as explored
 use Rattle.gt_entries.specs.Dumps.{Told}
 use Rattle.gt_entries.specs.declared.fault.DumpFault.{DumpFault}
 use Rattle.gt_host.specs.Playing.{Played}

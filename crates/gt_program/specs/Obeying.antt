@@ -9,7 +9,7 @@ use Rattle.gt_program.specs.Prelude.{one_script, one_trace, one_diagram, all_scr
 use Rattle.gt_program.specs.Prelude.{to_check_never, to_find_text, breach_fault_text, type_of, lines, words, CheckKind}
 use Rattle.gt_program.specs.Prelude.{CheckedNever, Appends, AppendsBeginning}
 use Rattle.gt_program.specs.declared.checking.CheckKind.TheVariants as checks
-use Rattle.gt_explore.specs.declared.exploring.ExploreRequest.TheVariants as requests
+use Rattle.gt_explore_answers.specs.declared.asking.ExploreRequest.TheVariants as requests
 use Rattle.gt_program.specs.Prelude.{to_run, to_list, to_tell_rules, to_check, to_explain, to_explain_each}
 use Rattle.gt_program.specs.Prelude.{to_tell_entries, for_help}
 use Rattle.gt_program.specs.Prelude.{for_version, nothing, dump_fault_text, DumpOptions, read_word, play_fault_text}

@@ -14,12 +14,12 @@ pub use Rattle.gt_commands.specs.declared.invocation.Format.{Format}
 pub use Rattle.gt_entries.specs.Faults.{dump_fault_text}
 pub use Rattle.gt_entries.specs.declared.asked.DumpOptions.{DumpOptions}
 pub use Rattle.gt_explore.specs.Writing.{Explored}
-pub use Rattle.gt_explore.specs.declared.exploring.ExploreRequest.{ExploreRequest}
+pub use Rattle.gt_explore_answers.specs.declared.asking.ExploreRequest.{ExploreRequest}
 pub use Rattle.gt_explore_verdict.specs.declared.judging.Verdict.{Verdict}
 pub use Rattle.gt_explore_verdict.specs.declared.judging.Verdict.TheVariants.{Holds, Fails, Undecided}
 pub use Rattle.gt_commands.specs.Commands.{Sought, all_texts, a_claim, one_diagram, one_script, one_trace, all_scripts}
-pub use Rattle.gt_explore.specs.Faults.{explore_fault_text}
-pub use Rattle.gt_explore.specs.declared.exploring.ExploreOptions.{ExploreOptions as Searched}
+pub use Rattle.gt_explore_answers.specs.Faults.{explore_fault_text}
+pub use Rattle.gt_explore_answers.specs.declared.asking.ExploreOptions.{ExploreOptions as Searched}
 pub use Rattle.gt_host.specs.Faults.{play_fault_text}
 pub use Rattle.gt_policy_list.specs.Faults.{listing_fault_text}
 pub use Rattle.gt_program.specs.declared.failure.Failure.{Failure}

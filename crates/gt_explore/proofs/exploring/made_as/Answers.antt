@@ -2,8 +2,8 @@ use Rattle.std.proofs.Common.{List, map, subst, sym}
 use Rattle.gt_script.specs.RunContents.{run_told}
 use Rattle.gt_explore_verdict.specs.Expressions.{told}
 use Rattle.gt_explore_verdict.specs.declared.conditions.Condition.{Condition}
-use Rattle.gt_explore.specs.Exploring.{AreAsked}
-use Rattle.gt_explore.specs.Telling.{found_told}
+use Rattle.gt_explore_answers.specs.Exploring.{AreAsked}
+use Rattle.gt_explore_answers.specs.Telling.{found_told}
 use Rattle.gt_explore.proofs.exploring.made_as.Goals as goal
 
 pub returns : goal.returns

@@ -1,5 +1,5 @@
 use Rattle.std.proofs.Common.{ℕ, List, subst}
-use Rattle.gt_explore.specs.Adding.{IsTextAmong, texts_of_orders}
+use Rattle.gt_explore_answers.specs.Texts.{IsTextAmong, texts_of_orders}
 use Rattle.gt_explore.proofs.Added.{ascending_apart, moved}
 use Rattle.gt_explore.proofs.texts.texts_within.Goals as goal
 

@@ -1,6 +1,6 @@
 use Rattle.std.proofs.Common.{refl}
-use Rattle.gt_explore.specs.declared.exploring.ExploreOptions.{ExploreOptions}
-use Rattle.gt_explore.specs.declared.exploring.ExploreRequest.TheVariants as requests
+use Rattle.gt_explore_answers.specs.declared.asking.ExploreOptions.{ExploreOptions}
+use Rattle.gt_explore_answers.specs.declared.asking.ExploreRequest.TheVariants as requests
 use Rattle.gt_program.proofs.Obeyed.{found_so}
 use Rattle.gt_program.proofs.given.find_bytes.Goals as goal
 

@@ -1,8 +1,0 @@
-use Rattle.std.proofs.Common.{◌≡◌, map, take}
-use Rattle.gt_explore_verdict.specs.Expressions.{told}
-use Rattle.gt_explore_verdict.specs.Satisfying.{satisfies}
-use Rattle.gt_explore.specs.Adding.{texts_of_orders}
-use Rattle.gt_explore.proofs.conditions.satisfied.Given as goal
-
-abbrev pub invariant-texts : goal.invariant-texts
-invariant-texts l = l.met.items ≡ map (satisfies (map told l.conditions)) (texts_of_orders (take l.order-index l.texts))

@@ -1,0 +1,27 @@
+use Rattle.std.proofs.Common.{◌≡◌, ◌∙◌, Bool, List, ap, map, subst, sym}
+use Rattle.gt_script.specs.RunContents.{run_told}
+use Rattle.gt_explore_replay.specs.Orders.{MayGive}
+use Rattle.gt_explore_verdict.proofs.Judged.{judged_means}
+use Rattle.gt_explore_verdict.specs.Expressions.{told}
+use Rattle.gt_explore_verdict.specs.Judging.{Means, judged}
+use Rattle.gt_explore_verdict.specs.declared.judging.Judgement.{Judgement}
+use Rattle.gt_explore_verdict.specs.declared.judging.Verdict.{Verdict}
+use Rattle.gt_explore_answers.specs.Exploring.{satisfied}
+use Rattle.gt_explore_answers.specs.Telling.{found_told}
+use Rattle.gt_explore_answers.proofs.Answered.{tells_by}
+use Rattle.gt_explore_answers.proofs.answering.claim_made.Goals as goal
+
+pub returns : goal.returns
+returns c =
+    let run = run_told c.args.script.now in
+    let f = found_told c.args.found.now in
+    let cs = map told c.args.conditions.now in
+    let are = c.requires.texts in
+    let met : c.in_ok-met.met.items ≡ satisfied cs f = rw c.as_slice.ensures.value at c.in_ok-met.ensures in
+    let verdict : c.judge-judgement.result.verdict ≡ (judged c.args.claim (satisfied cs f) f.whole).verdict =
+    ap (λ (j : Judgement). j.verdict) (c.judge-judgement.ensures ∙ ap (λ (m : List Bool). judged c.args.claim m c.args.found.now.whole) (c.as_slice-2.ensures.value ∙ met)) in record {
+      is = verdict;
+      means = subst (λ (v : Verdict). Means (MayGive run) c.args.claim cs v) (sym verdict) (judged_means (MayGive run) c.args.claim cs f.texts f.whole are.possible are.whole);
+      tells = tells_by run c.args.claim cs f c.as_slice-3.result.now c.as_slice-2.result.now c.judge-judgement.result c.in_ok-text.text.items
+          (c.as_slice-3.ensures.value ∙ met) (c.as_slice-2.ensures.value ∙ met) c.judge-judgement.ensures c.in_ok-text.ensures;
+    }

@@ -1,0 +1,157 @@
+-- The output of `explore` for a script.
+use Rattle.std.specs.Prelude.{◌≡◌, ◌+◌, ◌++◌, ◌&&◌, ℕ, Bool, true, false, List, [], ◌∷◌, All, length, map, Option, Some}
+use Rattle.std.specs.Prelude.{None, Ok, codes, decimal, if◌then◌else◌, is_some, slice_get}
+use Rattle.std.specs.List.{list_all, list_any, position}
+use Rattle.std.specs.Str.{bytes_eq}
+use Rattle.gt_script.specs.Lists.{RunAction}
+use Rattle.gt_script.specs.RunContents.{RunContents}
+use Rattle.gt_script.specs.declared.tasks.RunActionBy.TheVariants.{Do, Tell, Await}
+use Rattle.gt_explore_replay.specs.Orders.{MayGive}
+use Rattle.gt_explore_verdict.specs.Expressions.{Answers, Asked, conditions_in, of_all, of_domain, of_line}
+use Rattle.gt_explore_verdict.specs.Judging.{Means, judged, verdict_at}
+use Rattle.gt_explore_verdict.specs.Satisfying.{satisfies}
+use Rattle.gt_explore_verdict.specs.declared.judging.Claim.{Claim}
+use Rattle.gt_explore_verdict.specs.declared.judging.Claim.TheVariants.{Find, Never, Always}
+use Rattle.gt_explore_verdict.specs.declared.judging.Judgement.{Judgement}
+use Rattle.gt_explore_verdict.specs.declared.judging.Verdict.{Verdict}
+use Rattle.gt_explore_verdict.specs.declared.judging.Verdict.TheVariants.{Holds, Fails, Undecided}
+use Rattle.gt_explore_answers.specs.Texts.{AreDifferentTexts, IsTextAmong}
+use Rattle.gt_explore_answers.specs.Telling.{Found, counterexample_comment, heading, states_line, texts_told, witness_comment}
+use Rattle.gt_explore_answers.specs.Tracing.{IsDiagram, IsTrace}
+use Rattle.gt_explore_answers.specs.Witness.{IsWitness, ShowsAfter}
+use Rattle.gt_explore_answers.specs.declared.asking.ExploreRequest.{ExploreRequest}
+use Rattle.gt_explore_answers.specs.declared.asking.ExploreRequest.TheVariants as requests
+
+-- these are texts that a script may give, each of them once, and all of them if the search is over
+pub record AreTextsOf (c : RunContents) (f : Found) : Type 0 where
+  pub possible : All (MayGive c) f.texts
+  pub whole : f.whole ≡ true → (text : List ℕ) → MayGive c text → IsTextAmong text f.texts
+  pub apart : AreDifferentTexts f.texts
+
+-- an action is a call, which has an answer
+abbrev pub is_call : RunAction → Bool
+is_call (Do call) = true
+is_call (Tell flag) = false
+is_call (Await flag) = false
+
+-- the script has a call on the line of a condition, or a domain of that number
+abbrev pub is_askable : RunContents → Answers → Bool
+is_askable c of_all = true
+is_askable c (of_line number) = list_any (λ t. is_call t.deed && bytes_eq (decimal t.line) number) c.tasks
+is_askable c (of_domain number) = list_any (λ d. bytes_eq (decimal d.id.0) number) c.head.domains
+
+-- the conditions of an expression, each of them about lines or domains that the script has
+pub record AreConditions (c : RunContents) (expression : List ℕ) (conditions : List Asked) : Type 0 where
+  pub read : conditions_in expression ≡ Ok conditions
+  pub askable : list_all (λ asked. is_askable c asked.place) conditions ≡ true
+
+-- which of the texts satisfy the conditions
+abbrev pub satisfied : List Asked → Found → List Bool
+satisfied conditions f = map (satisfies conditions) f.texts
+
+-- the verdict on all texts, if there is nothing to decide
+abbrev pub verdict_of_all : Bool → Verdict
+verdict_of_all whole = if whole then Holds else Undecided
+
+-- the first line of a verdict that no text shows
+abbrev pub verdict_line : Verdict → List ℕ
+verdict_line Holds = codes "holds\n"
+verdict_line Fails = codes "does not hold\n"
+verdict_line Undecided = codes "not decided\n"
+
+-- the output for a claim that no text satisfies the conditions, or that each does: the verdict, or the first text that
+-- shows that it does not hold, as a comment, and a script for `play` that gives it, if one was found
+abbrev pub TellsVerdict : RunContents → Found → Verdict → Option ℕ → List ℕ → Type 0
+TellsVerdict c f verdict None text = text ≡ verdict_line verdict ++ states_line f
+TellsVerdict c f verdict (Some at) text =
+    (given : List ℕ) × (slice_get f.texts at ≡ Some given)
+    × ShowsAfter c.head (counterexample_comment f (at + 1) given) text given
+
+-- the output for a claim, by whether each text satisfies the conditions, and by the judgement
+abbrev pub TellsClaimBy : RunContents → Claim → Found → List Bool → Judgement → List ℕ → Type 0
+TellsClaimBy c Find f met judgement text = text ≡ texts_told f met
+TellsClaimBy c Never f met judgement text = TellsVerdict c f judgement.verdict judgement.shown_by text
+TellsClaimBy c Always f met judgement text = TellsVerdict c f judgement.verdict judgement.shown_by text
+
+-- the output for a claim on these conditions
+abbrev pub TellsClaim : RunContents → Claim → List Asked → Found → List ℕ → Type 0
+TellsClaim c claim conditions f text =
+    TellsClaimBy c claim f (satisfied conditions f) (judged claim (satisfied conditions f) f.whole) text
+
+-- the index of a text among these
+abbrev pub place_of : List ℕ → List (List ℕ) → Option ℕ
+place_of text texts = position (λ other. bytes_eq other text) texts
+
+-- the output for the question whether a text is one of these: its number
+abbrev pub number_told : Found → Option ℕ → List ℕ
+number_told f None = states_line f
+number_told f (Some at) = heading f.whole (length f.texts) (at + 1) ++ codes "\n" ++ states_line f
+
+-- what a verdict on a text means: the script may give it, or it may not
+abbrev pub MeansGiven : RunContents → List ℕ → Verdict → Type 0
+MeansGiven c text Holds = MayGive c text
+MeansGiven c text Fails = MayGive c text → ⊥
+MeansGiven c text Undecided = Unit {0}
+
+-- the output of a script for each of these texts, each under the number of its text, the first of them under the
+-- number after this one
+abbrev pub TellsWitnesses : RunContents → Found → ℕ → List (List ℕ) → List ℕ → Type 0
+TellsWitnesses c f before [] out = out ≡ []
+TellsWitnesses c f before (text ∷ texts) out =
+    (script : List ℕ) × (rest : List ℕ) × (out ≡ witness_comment f (before + 1) ++ (script ++ rest))
+    × ShowsAfter c.head [] script text × TellsWitnesses c f (before + 1) texts rest
+
+-- the conditions that a request states: those of the expression of a claim
+abbrev pub AreAsked : RunContents → ExploreRequest → List Asked → Type 0
+AreAsked c requests.Texts conditions = Unit {0}
+AreAsked c (requests.Decide claim expression) conditions = AreConditions c expression.now conditions
+AreAsked c (requests.Has given) conditions = Unit {0}
+AreAsked c (requests.Witness number) conditions = Unit {0}
+AreAsked c requests.Witnesses conditions = Unit {0}
+AreAsked c (requests.Trace number) conditions = Unit {0}
+AreAsked c (requests.Diagram number) conditions = Unit {0}
+
+-- ---- the output and the verdict, for the texts that were found
+
+-- the texts, each under its number
+abbrev pub GivesTexts : Found → List ℕ → Verdict → Type 0
+GivesTexts f text verdict = (text ≡ texts_told f (satisfied [] f)) × (verdict ≡ verdict_of_all f.whole)
+
+-- a claim on these conditions is decided
+pub record DecidesClaim (c : RunContents) (claim : Claim) (conditions : List Asked) (f : Found) (text : List ℕ)
+    (verdict : Verdict) : Type 0 where
+  pub is : verdict ≡ (judged claim (satisfied conditions f) f.whole).verdict
+  pub means : Means (MayGive c) claim conditions verdict
+  pub tells : TellsClaim c claim conditions f text
+
+-- the number of a text that the script may give
+pub record NumbersText (c : RunContents) (given : List ℕ) (f : Found) (text : List ℕ) (verdict : Verdict) : Type 0 where
+  pub is : verdict ≡ verdict_at Find (is_some (place_of given f.texts)) f.whole
+  pub means : MeansGiven c given verdict
+  pub tells : text ≡ number_told f (place_of given f.texts)
+
+-- a script for `play` that gives the answers of the text of a number, if one was found
+abbrev pub GivesWitness : RunContents → ℕ → Found → List ℕ → Verdict → Type 0
+GivesWitness c number f text verdict = IsWitness c.head f.texts number text × (verdict ≡ verdict_of_all f.whole)
+
+-- such a script for each text
+abbrev pub GivesWitnesses : RunContents → Found → List ℕ → Verdict → Type 0
+GivesWitnesses c f text verdict = TellsWitnesses c f 0 f.texts text × (verdict ≡ verdict_of_all f.whole)
+
+-- the moves of an order that gives the text of a number
+abbrev pub GivesTrace : RunContents → ℕ → Found → List ℕ → Verdict → Type 0
+GivesTrace c number f text verdict = IsTrace c f number text × (verdict ≡ verdict_of_all f.whole)
+
+-- the moves of such an order as a sequence diagram
+abbrev pub GivesDiagram : RunContents → ℕ → Found → List ℕ → Verdict → Type 0
+GivesDiagram c number f text verdict = IsDiagram c f number text × (verdict ≡ verdict_of_all f.whole)
+
+-- the output and the verdict, by the request
+abbrev pub TellsBy : RunContents → ExploreRequest → List Asked → Found → List ℕ → Verdict → Type 0
+TellsBy c requests.Texts conditions = GivesTexts
+TellsBy c (requests.Decide claim expression) conditions = DecidesClaim c claim conditions
+TellsBy c (requests.Has given) conditions = NumbersText c given.now
+TellsBy c (requests.Witness number) conditions = GivesWitness c number
+TellsBy c requests.Witnesses conditions = GivesWitnesses c
+TellsBy c (requests.Trace number) conditions = GivesTrace c number
+TellsBy c (requests.Diagram number) conditions = GivesDiagram c number

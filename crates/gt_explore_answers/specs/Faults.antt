@@ -1,0 +1,19 @@
+-- The lines that the faults of an exploration print.
+use Rattle.std.specs.Prelude.{ℕ, List, codes}
+use Rattle.gt_host.specs.Faults.{play_fault_text}
+use Rattle.gt_explore_verdict.specs.Faults.{expression_fault_text}
+use Rattle.gt_explore_answers.specs.declared.fault.ExploreFault.{ExploreFault}
+use Rattle.gt_explore_answers.specs.declared.fault.ExploreFault.TheVariants.{Play, Texts}
+use Rattle.gt_explore_answers.specs.declared.fault.TextsFault.{TextsFault}
+use Rattle.gt_explore_answers.specs.declared.fault.TextsFault.TheVariants.{Memory, States, Astray, Witness, Expression}
+
+abbrev pub texts_fault_text : TextsFault → List ℕ
+texts_fault_text Memory = codes "memory"
+texts_fault_text States = codes "states"
+texts_fault_text Astray = codes "astray"
+texts_fault_text Witness = codes "no such text"
+texts_fault_text (Expression fault) = expression_fault_text fault
+
+abbrev pub explore_fault_text : ExploreFault → List ℕ
+explore_fault_text (Play fault) = play_fault_text fault
+explore_fault_text (Texts fault) = texts_fault_text fault

@@ -1,0 +1,20 @@
+-- Texts of orders.
+use Rattle.std.specs.Prelude.{◌≡◌, ◌≢◌, ℕ, List, [], ◌∷◌, All, map, Some, slice_get}
+use Rattle.gt_explore_search.specs.declared.exploring.FoundText.{FoundText}
+
+-- the texts of these orders
+abbrev pub texts_of_orders : List FoundText → List (List ℕ)
+texts_of_orders orders = map (λ o. o.text.items) orders
+
+-- the text is one of these
+abbrev pub IsTextAmong : List ℕ → List (List ℕ) → Type 0
+IsTextAmong text texts = (at : ℕ) × (slice_get texts at ≡ Some text)
+
+-- it differs from each of these
+abbrev pub IsApart : List ℕ → List (List ℕ) → Type 0
+IsApart text texts = All (λ other. other ≢ text) texts
+
+-- no two of them are the same
+abbrev pub AreDifferentTexts : List (List ℕ) → Type 0
+AreDifferentTexts [] = Unit {0}
+AreDifferentTexts (text ∷ texts) = IsApart text texts × AreDifferentTexts texts

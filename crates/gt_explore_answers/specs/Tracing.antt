@@ -1,0 +1,51 @@
+-- The moves that lead to a text.
+use Rattle.std.specs.Prelude.{◌≡◌, ◌++◌, ℕ, List, codes, length}
+use Rattle.gt_script.specs.RunContents.{RunContents}
+use Rattle.gt_explore_trace.specs.Diagram.{participants_text}
+use Rattle.gt_explore_trace.specs.Lines.{trace_told}
+use Rattle.gt_explore_trace.specs.Moves.{GivesText}
+use Rattle.gt_explore_trace.specs.declared.facts.TraceForm.TheVariants.{Json, Mermaid, Text}
+use Rattle.gt_explore_trace.specs.declared.moves.TracedMove.{TracedMove}
+use Rattle.gt_explore_answers.specs.Objects.{text_object}
+use Rattle.gt_explore_answers.specs.Telling.{Found, heading, states_line}
+use Rattle.gt_explore_answers.specs.Witness.{IsTextNumbered}
+
+-- the moves are those of an order of the script that gives the text of this number, and the output is this of them
+pub record ShowsMoves (c : RunContents) (f : Found) (number : ℕ) (shown : List ℕ → List TracedMove → List ℕ)
+    (out : List ℕ) : Type 0 where
+  pub text : List ℕ
+  pub numbered : IsTextNumbered f.texts number text
+  pub moves : List TracedMove
+  pub gives : GivesText c moves text
+  pub told : out ≡ shown text moves
+
+-- the number of the text
+abbrev pub heading_line : Found → ℕ → List ℕ
+heading_line f number = heading f.whole (length f.texts) number ++ codes "\n"
+
+-- a line for each move
+abbrev pub trace_shown : RunContents → Found → ℕ → List TracedMove → List ℕ
+trace_shown c f number moves = heading_line f number ++ (trace_told c Text moves ++ states_line f)
+
+-- the title of a sequence diagram
+abbrev pub title_text : Found → ℕ → List ℕ
+title_text f number = codes "sequenceDiagram\n    title " ++ heading_line f number
+
+-- a sequence diagram
+abbrev pub diagram_shown : RunContents → Found → ℕ → List TracedMove → List ℕ
+diagram_shown c f number moves =
+    title_text f number ++ participants_text c.head.domains ++ trace_told c Mermaid moves
+    ++ (codes "    %% " ++ states_line f)
+
+-- the object of the text, and one for each move
+abbrev pub moves_shown : RunContents → Found → ℕ → List ℕ → List TracedMove → List ℕ
+moves_shown c f number text moves = text_object f number text ++ trace_told c Json moves
+
+abbrev pub IsTrace : RunContents → Found → ℕ → List ℕ → Type 0
+IsTrace c f number out = ShowsMoves c f number (λ text moves. trace_shown c f number moves) out
+
+abbrev pub IsDiagram : RunContents → Found → ℕ → List ℕ → Type 0
+IsDiagram c f number out = ShowsMoves c f number (λ text moves. diagram_shown c f number moves) out
+
+abbrev pub TracesText : RunContents → Found → ℕ → List ℕ → Type 0
+TracesText c f number out = ShowsMoves c f number (moves_shown c f number) out

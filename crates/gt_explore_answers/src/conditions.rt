@@ -1,0 +1,150 @@
+//! The conditions of a claim about a script.
+ghost use Rattle.std.specs.Prelude.{◌≡◌, ◌&&◌, true, IfOk, OnOk, decimal, map};
+ghost use Rattle.std.specs.List.{list_all, list_any};
+ghost use Rattle.std.specs.Str.{bytes_eq};
+ghost use Rattle.gt_script.specs.RunContents.{run_told};
+ghost use Rattle.gt_explore_verdict.specs.Expressions.{place_told, told};
+ghost use Rattle.gt_explore_verdict.specs.Satisfying.{satisfies};
+ghost use Rattle.gt_explore_answers.specs.Texts.{texts_of_orders};
+ghost use Rattle.gt_explore_answers.specs.Exploring.{AreAsked, AreConditions, is_askable, is_call};
+
+use crate::asking::ExploreRequest;
+use crate::fault::TextsFault;
+use gt_explore_search::FoundText;
+use gt_explore_verdict::{
+    Condition, ConditionFault, ExpressionFault, Place, conditions_of, satisfies,
+};
+use gt_script::{RunAction, RunScript, RunTask};
+use gt_text::push_number;
+use gt_types::DomainConfig;
+use std::alloc::{AllocError, Global};
+
+// Returns whether a number is written so.
+fn is_written(alloc: Global, number: usize, text: &[u8]) -> Result<bool, AllocError>
+    ensures { IfOk result (λ b. b ≡ bytes_eq (decimal number) text.now) }
+{
+    let mut digits = Vec::new(alloc);
+    push_number(&mut digits, number)?;
+    Ok(digits.as_slice() == text)
+}
+
+// Returns whether an action is a call.
+fn is_call(action: &RunAction) -> bool
+    ensures { result ≡ is_call action.now }
+{
+    match action {
+        RunAction::Do(_) => true,
+        RunAction::Tell(_) | RunAction::Await(_) => false,
+    }
+}
+
+// Returns whether one of these tasks is a call on the line of this number.
+fn has_call(alloc: Global, tasks: &[RunTask], number: &[u8]) -> Result<bool, AllocError>
+    ensures { IfOk result (λ b. b ≡ list_any (λ t. is_call t.deed && bytes_eq (decimal t.line) number.now) tasks.now) }
+{
+    'tasks: for task in tasks {
+        if is_call(&task.deed) && is_written(alloc, task.line, number)? {
+            return Ok(true);
+        }
+    }
+    Ok(false)
+}
+
+// Returns whether one of these domains has this number.
+fn has_domain(alloc: Global, domains: &[DomainConfig], number: &[u8]) -> Result<bool, AllocError>
+    ensures { IfOk result (λ b. b ≡ list_any (λ d. bytes_eq (decimal d.id.0) number.now) domains.now) }
+{
+    'domains: for domain in domains {
+        if is_written(alloc, usize::from(domain.id.0), number)? {
+            return Ok(true);
+        }
+    }
+    Ok(false)
+}
+
+// Returns whether the script has what a condition speaks of.
+fn has_place(alloc: Global, script: &RunScript, place: Place<'_>) -> Result<bool, AllocError>
+    ensures { IfOk result (λ b. b ≡ is_askable (run_told script.now) (place_told place.entry)) }
+{
+    match place {
+        Place::Anywhere => Ok(true),
+        Place::Line(number) => has_call(alloc, script.tasks(), number),
+        Place::Domain(number) => has_domain(alloc, script.head().domains(), number),
+    }
+}
+
+// Returns the fault of a condition that speaks of what the script does not have.
+fn place_fault(place: Place<'_>) -> ConditionFault {
+    match place {
+        Place::Anywhere | Place::Line(_) => ConditionFault::NoCall,
+        Place::Domain(_) => ConditionFault::NoDomain,
+    }
+}
+
+// Checks that the script has what each of these conditions speaks of.
+fn check_places(
+    alloc: Global,
+    script: &RunScript,
+    conditions: &[Condition<'_>],
+) -> Result<(), TextsFault>
+    ensures { OnOk result (list_all (λ asked. is_askable (run_told script.now) asked.place)
+        (map told conditions.now) ≡ true) }
+{
+    let mut number = 0;
+    'conditions: for condition in conditions {
+        number += 1;
+        if !has_place(alloc, script, condition.place)? {
+            let fault = place_fault(condition.place);
+            return Err(TextsFault::Expression(ExpressionFault::Term { number, fault }));
+        }
+    }
+    Ok(())
+}
+
+/// Reads an expression as conditions on the texts of a script.
+///
+/// # Errors
+/// `Expression` with the first term that is not a condition, or that names a line or a domain that the script does not
+/// have; and `Memory`.
+pub fn conditions_for<'e>(
+    alloc: Global,
+    script: &RunScript,
+    expression: &'e str,
+) -> Result<Vec<Condition<'e>>, TextsFault>
+    ensures { IfOk result (λ cs. AreConditions (run_told script.now) expression.entry.now (map told cs.items)) }
+{
+    let conditions = conditions_of(alloc, expression)?;
+    check_places(alloc, script, conditions.as_slice())?;
+    Ok(conditions)
+}
+
+/// Reads the conditions of a request. Only a claim has any.
+pub fn conditions_asked<'e>(
+    alloc: Global,
+    script: &RunScript,
+    request: ExploreRequest<'e>,
+) -> Result<Vec<Condition<'e>>, TextsFault>
+    ensures { IfOk result (λ cs. AreAsked (run_told script.now) request.entry (map told cs.items)) }
+{
+    match request {
+        ExploreRequest::Decide { expression, .. } => conditions_for(alloc, script, expression),
+        ExploreRequest::Texts | ExploreRequest::Has(_) => Ok(Vec::new(alloc)),
+        ExploreRequest::Witness(_) | ExploreRequest::Witnesses => Ok(Vec::new(alloc)),
+        ExploreRequest::Trace(_) | ExploreRequest::Diagram(_) => Ok(Vec::new(alloc)),
+    }
+}
+
+/// Returns for each text whether it satisfies these conditions.
+pub fn satisfied(
+    alloc: Global,
+    conditions: &[Condition<'_>],
+    texts: &[FoundText],
+) -> Result<Vec<bool>, AllocError>
+    ensures { IfOk result (λ met. met.items ≡ map (satisfies (map told conditions.now)) (texts_of_orders texts.now)) }
+{
+    let mut met = Vec::new(alloc);
+    'texts: for order in texts {
+        met.push(satisfies(alloc, conditions, order.text.as_slice())?)?;
+    }
+    Ok(met)
+}

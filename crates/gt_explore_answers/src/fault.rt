@@ -1,0 +1,106 @@
+//! Faults of an exploration.
+use gt_explore_search::SearchFault;
+use gt_explore_verdict::ExpressionFault;
+use gt_host::PlayFault;
+use gt_types::Memory;
+use std::alloc::{AllocError, AllocFailed};
+use std::error::Error;
+use std::fmt;
+
+/// The reason that the texts of a script were not found. It prints as one line, without a line end.
+#[derive(Clone, Copy, Debug)]
+pub enum TextsFault {
+    /// An allocation failed.
+    Memory,
+    /// There are more states than the limit.
+    States,
+    /// The search found an order that the core does not follow to its text, a run that returned to a state, or a
+    /// witness that does not give its text.
+    Astray,
+    /// No text has the number of the witness or of the trace.
+    Witness,
+    /// A term of the expression is not a condition, or names a line or a domain that the script does not have.
+    Expression(ExpressionFault),
+}
+
+impl fmt::Display for TextsFault {
+    ghost use Rattle.std.specs.Prelude.{Some};
+    ghost use Rattle.gt_explore_answers.specs.Faults.{texts_fault_text};
+
+    ghost output = { λ fault. Some (texts_fault_text fault) };
+
+    fn fmt<W: fmt::Write>(&self, f: &mut fmt::Formatter<W>) -> fmt::Result {
+        match self {
+            TextsFault::Memory => f.write_str("memory"),
+            TextsFault::States => f.write_str("states"),
+            TextsFault::Astray => f.write_str("astray"),
+            TextsFault::Witness => f.write_str("no such text"),
+            TextsFault::Expression(fault) => write!(f, "{fault}"),
+        }
+    }
+}
+
+impl Error for TextsFault {}
+
+impl From<AllocError> for TextsFault {
+    fn from(_error: AllocError) -> TextsFault {
+        TextsFault::Memory
+    }
+}
+
+impl<T: Drop> From<AllocFailed<T>> for TextsFault {
+    fn from(_error: AllocFailed<T>) -> TextsFault {
+        TextsFault::Memory
+    }
+}
+
+impl From<ExpressionFault> for TextsFault {
+    fn from(error: ExpressionFault) -> TextsFault {
+        match error {
+            ExpressionFault::Memory => TextsFault::Memory,
+            ExpressionFault::Term { .. } => TextsFault::Expression(error),
+        }
+    }
+}
+
+impl From<SearchFault> for TextsFault {
+    fn from(error: SearchFault) -> TextsFault {
+        match error {
+            SearchFault::Memory => TextsFault::Memory,
+            SearchFault::States => TextsFault::States,
+            SearchFault::Circle => TextsFault::Astray,
+        }
+    }
+}
+
+impl From<Memory> for TextsFault {
+    fn from(_error: Memory) -> TextsFault {
+        TextsFault::Memory
+    }
+}
+
+/// The fault that ended an exploration. It prints as one line, without a line end.
+#[derive(Debug, Drop)]
+pub enum ExploreFault {
+    /// A fault that a play can have too: of the script, of memory, or of a read or a write. Only after a failed write
+    /// was anything written: a prefix of the text.
+    Play(PlayFault),
+    /// The texts of the script were not found. Nothing was written.
+    Texts(TextsFault),
+}
+
+impl fmt::Display for ExploreFault {
+    ghost use Rattle.std.specs.Prelude.{Some};
+    ghost use Rattle.gt_explore_answers.specs.Faults.{explore_fault_text};
+
+    ghost output = { λ fault. Some (explore_fault_text fault) };
+
+    fn fmt<W: fmt::Write>(&self, f: &mut fmt::Formatter<W>) -> fmt::Result {
+        match self {
+            ExploreFault::Play(fault) => write!(f, "{fault}"),
+            ExploreFault::Texts(fault) => write!(f, "{fault}"),
+        }
+    }
+}
+
+impl Error for ExploreFault {}

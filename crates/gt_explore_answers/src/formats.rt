@@ -1,0 +1,58 @@
+//! The answer to a request, in the format of its output.
+ghost use Rattle.std.specs.Prelude.{IfOk, map};
+ghost use Rattle.gt_script.specs.Contents.{contents_told};
+ghost use Rattle.gt_script.specs.RunContents.{run_told};
+ghost use Rattle.gt_script.specs.RunScripts.{CanConfigure};
+ghost use Rattle.gt_explore_verdict.specs.Expressions.{told};
+ghost use Rattle.gt_explore_answers.specs.Answering.{ShownAs};
+ghost use Rattle.gt_explore_answers.specs.Exploring.{AreTextsOf};
+ghost use Rattle.gt_explore_answers.specs.Telling.{found_told};
+
+use crate::answering::{ExploreOutput, answer_in_text};
+use crate::asking::{ExploreFormat, ExploreOptions};
+use crate::fault::TextsFault;
+use crate::found::FoundTexts;
+use crate::json::ObjectWriter;
+use gt_explore_verdict::Condition;
+use gt_script::RunScript;
+use std::alloc::Global;
+
+/// Answers a request about a script by the texts that were found, in the format of its output. A claim is one on these
+/// conditions.
+///
+/// # Errors
+/// `Witness` if no text has the number of the witness or of the trace, `Astray` if an order or a witness does not give
+/// its text, and `Memory`.
+pub fn answer_request(
+    alloc: Global,
+    asked: &ExploreOptions,
+    source: &[u8],
+    script: &RunScript,
+    found: &FoundTexts,
+    conditions: &[Condition<'_>],
+) -> Result<ExploreOutput, TextsFault>
+    requires fits { CanConfigure (contents_told script.now.head) }
+    requires texts { AreTextsOf (run_told script.now) (found_told found.now) }
+    ensures { IfOk result (λ made. ShownAs (run_told script.now) asked.now.format asked.now.states asked.now.request
+        (map told conditions.now) (found_told found.now) made.text.items made.verdict) }
+{
+    match asked.format {
+        ExploreFormat::Text => answer_in_text(
+            alloc,
+            asked.request,
+            source,
+            script,
+            found,
+            conditions,
+        ),
+        ExploreFormat::Json => {
+            let writer = ObjectWriter {
+                alloc,
+                source,
+                script,
+                found,
+            };
+            writer.answer(asked.request, asked.states, conditions)
+        }
+    }
+}

@@ -1,0 +1,32 @@
+//! What `explore` says of the texts that were found for a script: the answer to each request, as text and as JSON.
+//!
+//! [`conditions_asked`] reads the conditions of a request. [`answer_request`] returns the whole output and the verdict: the
+//! texts under their numbers, the verdict on a claim, the number of a text, scripts for `play` that give texts, or the
+//! moves that lead to one. It is given the texts; `gt_explore` finds them.
+//!
+//! A script for `play` that is returned gives the answers of its text: it is played before, and the answers are
+//! compared. Moves are made again on the core. So nothing is claimed of how a script or an order was made. The
+//! definitions are in `specs/`.
+#![tactic(auto)]
+
+mod answering;
+mod asking;
+mod checked;
+mod conditions;
+mod fault;
+mod formats;
+mod found;
+mod json;
+mod leaving;
+mod naming;
+mod objects;
+mod telling;
+mod tracing;
+mod witness;
+
+pub use answering::ExploreOutput;
+pub use asking::{ExploreFormat, ExploreOptions, ExploreRequest};
+pub use conditions::conditions_asked;
+pub use fault::{ExploreFault, TextsFault};
+pub use formats::answer_request;
+pub use found::FoundTexts;
