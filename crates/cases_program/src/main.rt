@@ -3,12 +3,16 @@
 //! Each word of this program's own command line is a command line of `gthost`, whose words are separated by blanks.
 //! After `full: ` comes one whose texts go to a writer that is full, after `unflushed: ` one whose texts go to a writer
 //! that takes all and fails to flush, after `asked: ` one with questions as the standard input, after `terminal: ` one
-//! for a terminal of 60 columns with colours, and after `not UTF-8: ` and `no memory: ` one whose words can't be read.
+//! for a terminal of 60 columns with colours, after `not UTF-8: ` and `no memory: ` one whose words can't be read, and
+//! after `made: ` and `counted: ` one for the texts of [`made`], whose output is printed, or only counted.
 //! What `gthost` writes to the standard error goes to the standard output here, so that `stdout` has it. `args` has the
 //! command lines, `data/` their files, and `stdin` the text for those that name none. A command line is added there;
 //! that costs no proof.
 #![tactic(auto)]
 
+mod made;
+
+use crate::made::{Counted, Made};
 use gt_program::{Context, Outcome, Style, System, TextSource, obey_read};
 use std::alloc::{AllocError, Global};
 use std::fmt::Display;
@@ -106,15 +110,21 @@ enum Setting {
     Terminal,
     // The words can't be read.
     Unread(ErrorKind),
+    // The files and the standard input are made texts.
+    Made,
+    // The same, and the output is counted.
+    Counted,
 }
 
-const PREFIXES: [(&str, Setting); 6] = [
+const PREFIXES: [(&str, Setting); 8] = [
     ("full: ", Setting::Full(Full::TakesNothing)),
     ("unflushed: ", Setting::Full(Full::HandsNothingOn)),
     ("asked: ", Setting::Asked),
     ("terminal: ", Setting::Terminal),
     ("not UTF-8: ", Setting::Unread(ErrorKind::InvalidData)),
     ("no memory: ", Setting::Unread(ErrorKind::OutOfMemory)),
+    ("made: ", Setting::Made),
+    ("counted: ", Setting::Counted),
 ];
 
 // Returns the setting that the prefix of a line names, and the line without it.
@@ -153,11 +163,22 @@ fn try_words<R: Print + AllocGlobal + Threads + Wait + Sync, T: TextSource, W: W
     obey_read(&context, words, out)
 }
 
+// Does what words ask for with the made texts, and prints what the output comes to.
+fn try_counted<R: Runtime + AllocGlobal + Threads + Wait + Sync>(
+    rt: &R,
+    words: io::Result<Vec<String>>,
+) -> io::Result<Outcome> {
+    let mut counted = Counted::new(rt.alloc());
+    let outcome = try_words(rt, &Made, words, Style::plain(), &mut counted);
+    counted.tell(rt.alloc(), rt)?;
+    Ok(outcome)
+}
+
 // Does what a command line asks for, and returns the outcome.
 fn try_line<R: Runtime + AllocGlobal + Threads + Wait + Sync>(
     rt: &R,
     line: &str,
-) -> Result<Outcome, AllocError> {
+) -> io::Result<Outcome> {
     let (setting, line) = setting_of(line);
     let words = Ok(words_of(rt.alloc(), line)?);
     let files = System { rt };
@@ -171,6 +192,8 @@ fn try_line<R: Runtime + AllocGlobal + Threads + Wait + Sync>(
         Setting::Unread(kind) => {
             try_words(rt, &files, Err(io::Error::from(kind)), plain, &mut screen)
         }
+        Setting::Made => try_words(rt, &Made, words, plain, &mut screen),
+        Setting::Counted => try_counted(rt, words)?,
     })
 }
 
