@@ -14,8 +14,7 @@ Draws COUNT texts (1,000) of this KIND by a seed (1):
   policies  policies whose allow statements are evaluated here: `policy` lists these triples, `why` answers by them, and
             `check --never` has an error for each pair of an allow and a neverallow statement that have one in common
 
-If PROGRAM is a folder, it has the built programs gthost_play, cases_run and cases_explore. They play, list, run and
-explore, but do not check, decide claims or answer questions. Prints what was counted. The status is 1 if something
+Prints what was counted. The status is 1 if something
 differs; the text is then left as draws-KIND-SEED-NUMBER.
 """
 
@@ -43,16 +42,13 @@ class Differs(Exception):
 
 class Draws:
     def __init__(self, program, seed):
-        self.is_whole = not os.path.isdir(program)
-        self.folder, self.seed = program, seed
-        self.program = program if self.is_whole else os.path.join(program, "gthost_play")
+        self.program, self.seed = program, seed
         self.seen = collections.Counter()
         self.text = b""
         self.work = tempfile.mkdtemp(prefix="draws-")
 
-    def run(self, *words, text=b"", statuses=(0, 1, 2), program=""):
-        path = os.path.join(self.folder, program) if program else self.program
-        done = subprocess.run([path, *words], input=text, capture_output=True, timeout=300, cwd=self.work)
+    def run(self, *words, text=b"", statuses=(0, 1, 2)):
+        done = subprocess.run([self.program, *words], input=text, capture_output=True, timeout=300, cwd=self.work)
         self.seen["processes"] += 1
         if done.returncode not in statuses:
             raise Differs(f"{words[0]}: status {done.returncode}: {done.stderr[:200]}")
@@ -60,13 +56,8 @@ class Draws:
 
     def ran(self, text, audit):
         """What `run` prints of a script, and its fault."""
-        if self.is_whole:
-            done = self.run("run", *["--audit"][: int(audit)], text=text, statuses=(0, 1))
-            return done.stdout.decode(), done.stderr.decode()
-        self.file("drawn.gt", text)
-        done = self.run("--audit" if audit else "--run", "drawn", program="cases_run", statuses=(0,))
-        said, fault = re.fullmatch(r"== drawn\n((?:.*\n)*?)(line \d+: .*\n)?", done.stdout.decode()).groups()
-        return said, f"gthost: {fault}" if fault else ""
+        done = self.run("run", *["--audit"][: int(audit)], text=text, statuses=(0, 1))
+        return done.stdout.decode(), done.stderr.decode()
 
     def file(self, name, text):
         path = os.path.join(self.work, name)
@@ -109,22 +100,8 @@ class Draws:
         if fault:
             self.want(FAULT.fullmatch(fault.encode()) and said == "", f"run has the fault {fault}")
             self.seen["faults"] += 1
-        elif self.is_whole:
-            self.explored(rng, script, said)
         else:
-            self.among_texts(script, said)
-
-    def among_texts(self, script, said):
-        """Whether what was run is one of the texts that cases_explore prints, each of which has a witness."""
-        self.file("drawn.gt", script)
-        printed = self.run("drawn", program="cases_explore", statuses=(0,)).stdout.decode()
-        astray = re.findall(r"^witness \d+: (?!no script).*", printed, re.M)
-        self.want(not astray, f"cases_explore prints {astray}")
-        self.seen["texts without a script"] += printed.count("\nwitness ")
-        parts = re.split(r"^text \d+ of .*\n", re.sub(r"^witness .*\n", "", printed, flags=re.M), flags=re.M)[1:]
-        self.seen["not all texts"] += "of at least" in printed
-        self.seen["texts"] += len(parts)
-        self.want(said in parts or "of at least" in printed, "explore does not print what run prints")
+            self.explored(rng, script, said)
 
     def explored(self, rng, script, said):
         explored = self.run("explore", "--states", STATES, text=script)
@@ -210,9 +187,6 @@ class Draws:
     def faulty_script(self, text):
         self.text = text
         played = self.fault(self.run("play", text=text, statuses=(0, 1)), "play")
-        if not self.is_whole:
-            self.seen["accepted" if not played else "refused"] += 1
-            return
         ran = self.fault(self.run("run", text=text, statuses=(0, 1)), "run")
         found = self.error(self.run("check", "--script", text=text, statuses=(0, 1)), "check")
         wanted = max(played, ran) if played and ran else 0
@@ -224,8 +198,6 @@ class Draws:
         listed = self.run("policy", text=text, statuses=(0, 1))
         line = self.fault(listed, "policy")
         self.seen["accepted" if not line else "refused"] += 1
-        if not self.is_whole:
-            return
         done = self.run("check", text=text)
         if done.returncode == 2:
             self.want(b": utf8\n" in listed.stderr, "check has no answer")
@@ -247,9 +219,8 @@ class Draws:
         wanted = "".join(" ".join(one) + "\n" for one in order)
         self.want(listed.stdout.decode() == wanted, "policy lists other triples")
         self.seen["triples"] += len(triples)
-        if self.is_whole:
-            self.questions(rng, rules, triples)
-            self.breaches(rng, rules)
+        self.questions(rng, rules, triples)
+        self.breaches(rng, rules)
 
     def questions(self, rng, rules, triples):
         asked, wanted = [], []

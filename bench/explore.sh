@@ -8,7 +8,7 @@
 # A program has two or three domains with two to four calls each on the entries 0 and 1 of the first domain, and some
 # flags between them. In some programs the policy does not let a domain unmap what it maps. One that can't run (`stuck`),
 # or has more states than the limit, is drawn anew. The same seed draws the same programs. With the word `cases` the
-# programs are those of `cases_explore`, whose texts the gate compares with stored ones. It is no part of the gate.
+# programs are those of `explored/` in `cases_program`, whose texts the gate compares with stored ones. It is no part of the gate.
 # Prints how much was tried; the status is 1 if something is wrong, and the program is then left as explore-N.gt.
 # PROGRAM=FILE takes the built program gthost.
 # usage: bench/explore.sh [SEED [PROGRAMS [RUNS]]]        1, 50 and 200 if they are left out
@@ -136,7 +136,7 @@ try() {
 
 texts=0 ran=0 witnesses=0 unplayable=0 states=0 tried=0 passed=0
 if [ "$seed" = cases ]; then
-  for file in "$top"/crates/cases_explore/data/*.gt; do
+  for file in "$top"/crates/cases_program/data/explored/*.gt; do
     cp "$file" "$work/program.gt"
     if try "$(basename "$file" .gt)"; then tried=$((tried + 1)); else passed=$((passed + 1)); fi
   done

@@ -1,4 +1,4 @@
-/* Makes the dumps of crates/cases_entries/data from Xen's own header (Debian's libxen-dev):
+/* Makes the dumps of crates/cases_program/data/dumps from Xen's own header (Debian's libxen-dev):
  *
  *     cc -std=c11 -o entries tools/entries.c && ./entries v1 > one.bin && ./entries v2 > two.bin
  *

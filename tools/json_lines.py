@@ -4,7 +4,7 @@
     tools/json_lines.py check            compares crates/cases_json/stdout with this program's JSON, reads each of its
                                    lines as JSON, and makes the line of the text of it again
     tools/json_lines.py expected         prints what that file has to be
-    tools/json_lines.py program GTHOST   runs GTHOST on the examples, on the dumps of crates/cases_entries and on dumps of
+    tools/json_lines.py program GTHOST   runs GTHOST on the examples, on the dumps of crates/cases_program and on dumps of
                                    drawn bytes, with --format json and without, and compares
 
 Exit status: 0 if all is the same. docs/FORMATS_SCRIPTS.md has the form, from which this is written.
@@ -233,7 +233,7 @@ def entries_of(gthost):
         for number in range(40):
             with open(os.path.join(folder, "%d.bin" % number), "wb") as file:
                 file.write(drawn_dump(rng))
-        dumps = glob.glob(os.path.join(folder, "*.bin")) + glob.glob(os.path.join(TOP, "crates", "cases_entries", "data", "*"))
+        dumps = glob.glob(os.path.join(folder, "*.bin")) + glob.glob(os.path.join(TOP, "crates", "cases_program", "data", "dumps", "*"))
         for path in sorted(dumps + glob.glob(os.path.join(TOP, "examples", "*.hex"))):
             hexadecimal = ["--hex"] if path.endswith(".hex") else []
             for words in (["--version", version, *every, *hexadecimal] for version in "12" for every in ([], ["--all"])):
