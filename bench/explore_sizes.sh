@@ -5,6 +5,7 @@
 #   copy N   N domains copy from a page each, while the owner grants and revokes all of them
 #   race N   an owner revokes and grants a page N times against a domain that maps and unmaps it N times
 #   pairs N  N pairs of domains that share nothing with each other
+#   ring N   N domains grant a page to the next one and revoke it, and map that of the one before and unmap it
 #   text N   an owner pokes a frame N times against a domain that loads it N times: few states, many texts
 #
 # A program that meets more states than the limit, or takes more than a minute, is reported as such. The gate does
@@ -38,7 +39,7 @@ granted_and_revoked() {
 
 # Prints the program of a family and a size.
 write() {
-  local family="$1" size="$2" at dom
+  local family="$1" size="$2" at dom before
   case "$family" in
     map)
       head_of $((size + 1))
@@ -68,6 +69,14 @@ write() {
         printf 'do %d grant 0 page %d rw 1\ntell %d g%d\ndo %d revoke 0\n' "$dom" $((dom + 1)) "$dom" "$at" "$dom"
         printf 'await %d g%d\ndo %d map h %d 0 rw\ndo %d store h 0 01\ndo %d unmap h\n' \
           $((dom + 1)) "$at" $((dom + 1)) "$dom" $((dom + 1)) $((dom + 1))
+      done ;;
+    ring)
+      head_of "$size"
+      for ((dom = 1; dom <= size; dom++)); do
+        before=$(((dom + size - 2) % size + 1))
+        printf 'do %d grant 0 page %d rw 1\ntell %d g%d\n' "$dom" $((dom % size + 1)) "$dom" "$dom"
+        printf 'do %d revoke 0\nawait %d g%d\n' "$dom" "$dom" "$before"
+        printf 'do %d map h %d 0 rw\ndo %d unmap h\n' "$dom" "$before" "$dom"
       done ;;
     text)
       head_of 2
@@ -99,4 +108,5 @@ for size in 1 2 3 4 5 6; do measure map "$size"; done
 for size in 1 2 3 4; do measure copy "$size"; done
 for size in 1 2 3 4; do measure race "$size"; done
 for size in 1 2 3; do measure pairs "$size"; done
+for size in 2 3 4 5; do measure ring "$size"; done
 for size in 4 6 7 8; do measure text "$size"; done

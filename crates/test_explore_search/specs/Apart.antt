@@ -1,6 +1,6 @@
 -- The runs of two independent counters.
 use Rattle.std.specs.Prelude.{◌≡◌, ◌⊎◌, ◌++◌, ◌<◌, ◌+◌, ℕ, zero, suc, List, [], ◌∷◌, refl}
-use mathlib.Core.Path.{◌∙◌}
+use mathlib.Core.Path.{◌∙◌, sym}
 use Rattle.gt_explore_search.specs.declared.spaces.Turn.{Turn}
 use Rattle.gt_explore_search.specs.Parts.{Splitting}
 use Rattle.gt_explore_search.specs.Ways.{Ways}
@@ -66,7 +66,8 @@ apart_ways counters = record {
 -- the parts of a state: the values of both
 abbrev pub apart_parts : Apart → Splitting Place ℕ
 apart_parts counters = record {
-  has = λ tally ps. ps ≡ tally.first ∷ tally.second ∷ [];
+  of = λ tally. tally.first ∷ tally.second ∷ [];
   same = λ p q. q ≡ p;
   same_on = λ p q r first second. second ∙ first;
+  same_back = λ p q is. sym is;
 }

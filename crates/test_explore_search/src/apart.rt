@@ -78,25 +78,39 @@ impl TransitionSystem for Apart {
         state.first == self.limit && state.second == self.limit
     }
 
-    fn split(&self, state: Place) -> Result<Vec<u8>, AllocError> {
-        Ok(vec![in self.alloc; state.first, state.second]?)
+    fn alike(&self) {}
+
+    fn is_past(&self, _state: &Place, at: usize) -> bool {
+        at >= 2
+    }
+
+    fn has_part(&self, state: &Place, at: usize, part: &u8) -> bool {
+        match at {
+            0 => state.first == *part,
+            1 => state.second == *part,
+            _ => false,
+        }
+    }
+
+    fn copy_part(&self, state: &Place, at: usize) -> Result<u8, SearchFault> {
+        match at {
+            0 => Ok(state.first),
+            1 => Ok(state.second),
+            _ => Err(SearchFault::States),
+        }
+    }
+
+    fn digest(&self, state: &Place, at: usize) -> u64 {
+        u64::from(if at == 0 { state.first } else { state.second } % 2)
     }
 
     fn join(&self, made: Vec<u8>) -> Result<Place, AllocError>
-        ensures { (w : Place) (ps : List ℕ) → (apart_parts self.now).has w ps →
-            Pairwise (apart_parts self.now).same ps made.items → IfOk result (IsShownSo (apart_ways self.now) w) }
+        ensures { (w : Place) → Pairwise (apart_parts self.now).same ((apart_parts self.now).of w) made.items →
+            IfOk result (IsShownSo (apart_ways self.now) w) }
     {
         let first = made.get(0).copied().unwrap_or(0);
         let second = made.get(1).copied().unwrap_or(0);
         Ok(Place { first, second })
-    }
-
-    fn digest(&self, part: &u8) -> u64 {
-        u64::from(*part % 2)
-    }
-
-    fn is_same(&self, one: &u8, other: &u8) -> bool {
-        *one == *other
     }
 
     fn copy(&self, part: &u8) -> Result<u8, AllocError> {

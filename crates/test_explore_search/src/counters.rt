@@ -73,25 +73,39 @@ impl TransitionSystem for Counters {
         state.first == self.limit && state.second == self.limit
     }
 
-    fn split(&self, state: Tally) -> Result<Vec<u8>, AllocError> {
-        Ok(vec![in self.alloc; state.first, state.second]?)
+    fn alike(&self) {}
+
+    fn is_past(&self, _state: &Tally, at: usize) -> bool {
+        at >= 2
+    }
+
+    fn has_part(&self, state: &Tally, at: usize, part: &u8) -> bool {
+        match at {
+            0 => state.first == *part,
+            1 => state.second == *part,
+            _ => false,
+        }
+    }
+
+    fn copy_part(&self, state: &Tally, at: usize) -> Result<u8, SearchFault> {
+        match at {
+            0 => Ok(state.first),
+            1 => Ok(state.second),
+            _ => Err(SearchFault::States),
+        }
+    }
+
+    fn digest(&self, state: &Tally, at: usize) -> u64 {
+        u64::from(if at == 0 { state.first } else { state.second } % 2)
     }
 
     fn join(&self, made: Vec<u8>) -> Result<Tally, AllocError>
-        ensures { (w : Tally) (ps : List ℕ) → (counters_parts self.now).has w ps →
-            Pairwise (counters_parts self.now).same ps made.items → IfOk result (IsShownSo (counters_ways self.now) w) }
+        ensures { (w : Tally) → Pairwise (counters_parts self.now).same ((counters_parts self.now).of w) made.items →
+            IfOk result (IsShownSo (counters_ways self.now) w) }
     {
         let first = made.get(0).copied().unwrap_or(0);
         let second = made.get(1).copied().unwrap_or(0);
         Ok(Tally { first, second })
-    }
-
-    fn digest(&self, part: &u8) -> u64 {
-        u64::from(*part % 2)
-    }
-
-    fn is_same(&self, one: &u8, other: &u8) -> bool {
-        *one == *other
     }
 
     fn copy(&self, part: &u8) -> Result<u8, AllocError> {
