@@ -32,8 +32,7 @@ Each line is a body that the proofs refuse: an edit of a crate, and what it woul
 $(count must-fail) of them (\`must-fail/\`), those that a definition of meaning refuses. The other $(count wrong-bodies)
 (\`wrong-bodies/\`) are tried by \`tools/wrong_bodies.sh CRATE\`, which whoever changes a crate runs for it. Those of
 \`gt_roster\` and \`gt_commands\`, two of \`gt_c\`, three of \`gt_live\`, four of \`gt_explore_trace\`, three each of
-\`gt_explore\` and \`gt_neverallow\`, and most of \`gt_fault_reports\`,
-\`gt_file_commands\` and \`gt_program\` wait for such a run.
+\`gt_explore\` and \`gt_neverallow\`, and most of \`gt_file_commands\` and \`gt_program\` wait for such a run.
 
 A lock round the words of an entry can't be written as an edit: taking one asks for a bound \`Wait\`, and
 no call of \`gt_words\` on words has it.
@@ -54,7 +53,7 @@ refuses are among the edits. The bodies of the program and of \`gt_run\` were ch
 | \`gt_commands\` | 12 | 12 | 0 | 0 |
 | \`gt_neverallow\` | 15 | 14 | 0 | 1 |
 | \`gt_checks\` | 2 | 0 | 0 | 2 |
-| \`gt_program\`, \`gt_file_commands\`, \`gt_fault_reports\` | 32 | 9 | 16 | 7 |
+| \`gt_program\`, \`gt_file_commands\` | 32 | 9 | 16 | 7 |
 | \`gt_run\` | 12 | 7 | 4 | 1 |
 | all | 136 | 98 | 26 | 12 |
 
@@ -68,7 +67,7 @@ By nothing:
 - A report of \`check\`, or of breaches, is cut off at 65,536 bytes. The clauses say only that some report is written.
 - \`explore\` and \`run\` report a failed read as want of memory. No clause names the failure of a read.
 - In \`gt_file_commands\`: a name that begins with a dot is refused unopened, by a command, by \`run\`, or as a further
-  text, and so is a name above 255 bytes. In \`gt_fault_reports\`: a further text above 65,536 bytes is refused; a further
+  text, and so is a name above 255 bytes. A further text above 65,536 bytes is refused; a further
   text that can't be read has no reason; and with \`-v\` a run whose text could not be allocated is reported as a failed
   write.
 

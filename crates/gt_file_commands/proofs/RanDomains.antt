@@ -3,7 +3,7 @@ use Rattle.std.proofs.Common.{◌≡◌, ℕ, Bool, List, Option, Result, Ok, su
 use Rattle.gt_commands.specs.declared.invocation.Format.{Format}
 use Rattle.gt_run.specs.declared.fault.RunFault.{RunFault}
 use Rattle.gt_text.specs.Streams.{OfInput}
-use Rattle.gt_fault_reports.specs.Formats.{RanAs}
+use Rattle.gt_file_commands.specs.Formats.{RanAs}
 use Rattle.gt_file_commands.specs.Working.{RunsDomains}
 use Rattle.gt_file_commands.specs.declared.outcome.Outcome.TheVariants.{Yes}
 use Rattle.gt_file_commands.proofs.Worked.{ran_as_asked}

@@ -7,7 +7,7 @@ use Rattle.gt_policy_check.specs.declared.asking.WhyQuestion.{WhyQuestion}
 use Rattle.gt_entries.specs.declared.asked.DumpOptions.{DumpOptions}
 use Rattle.gt_commands.specs.declared.invocation.Format.{Format}
 use Rattle.gt_run.specs.declared.fault.RunFault.{RunFault}
-use Rattle.gt_fault_reports.specs.Formats.{RanAs}
+use Rattle.gt_file_commands.specs.Formats.{RanAs}
 use Rattle.gt_file_commands.specs.Laws.{worked}
 use Rattle.gt_file_commands.specs.Working.{AnswersDump, AnswersEntries, AnswersQuestion, Answers, Checks, ChecksAll, ChecksAs}
 use Rattle.gt_file_commands.specs.Working.{ChecksFiles, ChecksNever, Does, Doing, Ending, Explains, IsAsked, IsQuestion}

@@ -1,3 +1,5 @@
+pub mod Formats
 pub mod Laws
+pub mod Names
 pub mod Prelude
 pub mod Working

@@ -2,7 +2,7 @@
 use Rattle.std.specs.Prelude.{◌≡◌, ◌⊎◌, ℕ, ◌++◌, Bool, true, false, List, [], ◌∷◌, Option, Some, None, Result, Ok, Err}
 use Rattle.std.specs.Prelude.{IfSome, codes}
 use Rattle.std.specs.Borrow.{Bor}
-use Rattle.gt_fault_reports.specs.Formats.{CheckedAs, ListedAs, PlayedAs, RanAs, ToldAs}
+use Rattle.gt_file_commands.specs.Formats.{CheckedAs, ListedAs, PlayedAs, RanAs, ToldAs}
 use Rattle.gt_file_commands.specs.Prelude.{Keeps, option_map, Appends, AppendsBeginning, Format, DumpOptions}
 use Rattle.gt_file_commands.specs.Prelude.{WhyQuestion, perm_asked, source_asked, target_asked, Explained, CheckedNever}
 use Rattle.gt_file_commands.specs.Prelude.{type_of, words, play_fault_text, run_fault_text, explore_fault_text, listing_fault_text}

@@ -7,17 +7,18 @@ ghost use Rattle.gt_file_commands.specs.Working.{known_input, kind_checked, Chec
 ghost use Rattle.gt_file_commands.specs.Working.{ChecksNever, OrNothing, WithFile, Works};
 
 use crate::commands::{Context, Work, work_asked};
+use crate::explained::{check_explained, check_never_explained};
 use crate::failure::Failure;
+use crate::formats::ReportSettings;
 use crate::given::read_given;
+use crate::names::shown_name;
 use crate::outcome::{Outcome, worse};
+use crate::reasons::Reasons;
 use crate::reporting::fail;
 use crate::style::Style;
 use crate::texts::TextSource;
 use gt_checks::NeverText;
 use gt_commands::{CheckedFiles, Format};
-use gt_fault_reports::{
-    Reasons, ReportSettings, check_explained, check_never_explained, shown_name,
-};
 use gt_policy_check::ReportForm;
 use gt_policy_list::policy_text;
 use std::alloc::Global;

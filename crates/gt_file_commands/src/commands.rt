@@ -5,18 +5,18 @@ ghost use Rattle.gt_file_commands.specs.Working.{failed_work, known_input, Does,
 ghost use Rattle.gt_file_commands.specs.declared.outcome.Outcome.TheVariants.{No};
 
 use crate::checking::{CheckKind, perform_check};
+use crate::explained::{entries_explained, list_with_reasons, why_explained};
 use crate::failure::Failure;
+use crate::formats::{ReportSettings, RunSettings};
 use crate::outcome::Outcome;
+use crate::reasons::Reasons;
 use crate::reporting::{finish, report};
 use crate::style::Style;
 use crate::texts::{TextSource, read_fault};
+use crate::told::{play_with_reasons, run_with_reasons};
 use gt_audit::SharedLog;
 use gt_commands::{Format, ScriptOptions};
 use gt_entries::DumpOptions;
-use gt_fault_reports::{
-    Reasons, ReportSettings, RunSettings, entries_explained, list_with_reasons, play_with_reasons,
-    run_with_reasons, why_explained,
-};
 use gt_policy_check::WhyQuestion;
 use gt_run::FlagGate;
 use std::alloc::Global;

@@ -12,9 +12,10 @@ ghost use Rattle.gt_file_commands.specs.declared.outcome.Outcome.TheVariants.{Un
 use crate::commands::{Context, Work, work_asked};
 use crate::failure::Failure;
 use crate::outcome::{Outcome, worse};
+use crate::reading::read_whole;
+use crate::reasons::Reasons;
 use crate::reporting::fail;
 use crate::texts::TextSource;
-use gt_fault_reports::{Reasons, read_whole};
 use gt_policy_check::WhyQuestion;
 use gt_policy_list::ListingFault;
 use gt_script_lines::{line_words, text_lines};

@@ -14,8 +14,9 @@ use gt_commands::{Exploration, Format, SearchOptions};
 use gt_explore::explore as explore_reader;
 use gt_explore_answers::{ExploreFault, ExploreFormat, ExploreOptions as Searched, ExploreRequest};
 use gt_explore_verdict::Verdict;
-use gt_fault_reports::{CopyingReader, Reasons};
-use gt_file_commands::{Context, Failure, Outcome, TextSource, finish, read_fault, read_given};
+use gt_file_commands::{
+    Context, CopyingReader, Failure, Outcome, Reasons, TextSource, finish, read_fault, read_given,
+};
 use std::alloc::Global;
 use std::io::{Read, Write};
 

@@ -5,10 +5,9 @@ ghost use Rattle.gt_program.specs.Obeying.{Obeys};
 use crate::exploring::{explore, find_text};
 use crate::rules::tell_rules;
 use gt_commands::Invocation;
-use gt_fault_reports::Reasons;
 use gt_file_commands::{
-    Context, Outcome, TextSource, answer, answer_each, check_files, check_never_files, list, play,
-    run_asked, show_entries,
+    Context, Outcome, Reasons, TextSource, answer, answer_each, check_files, check_never_files,
+    list, play, run_asked, show_entries,
 };
 use gt_policy_check::WhyQuestion;
 use std::io::Write;

@@ -1,5 +1,5 @@
 use Rattle.std.proofs.Common.{ℕ, List}
-use Rattle.gt_fault_reports.specs.Formats.{CheckedAs}
+use Rattle.gt_file_commands.specs.Formats.{CheckedAs}
 use Rattle.gt_file_commands.proofs.Worked.{answered_input}
 use Rattle.gt_file_commands.proofs.checking.perform_plain.Goals as goal
 

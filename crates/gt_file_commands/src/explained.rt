@@ -2,7 +2,7 @@
 ghost use Rattle.gt_text.specs.Streams.{OfInput};
 ghost use Rattle.gt_checks.specs.Breaking.{CheckedNever};
 ghost use Rattle.gt_checks.specs.Explaining.{Explained};
-ghost use Rattle.gt_fault_reports.specs.Formats.{CheckedAs, ListedAs, ToldAs};
+ghost use Rattle.gt_file_commands.specs.Formats.{CheckedAs, ListedAs, ToldAs};
 
 use crate::copying::CopyingReader;
 use crate::formats::{ReportSettings, check_as, entries_as, list_as};

@@ -1,7 +1,7 @@
 //! Commands in the two formats of their output.
 ghost use Rattle.std.specs.Prelude.{is_some};
 ghost use Rattle.gt_text.specs.Streams.{OfInput};
-ghost use Rattle.gt_fault_reports.specs.Formats.{CheckedAs, ListedAs, PlayedAs, RanAs, ToldAs};
+ghost use Rattle.gt_file_commands.specs.Formats.{CheckedAs, ListedAs, PlayedAs, RanAs, ToldAs};
 
 use gt_audit::SharedLog;
 use gt_checks::{check, check_script};

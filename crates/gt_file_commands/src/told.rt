@@ -1,7 +1,7 @@
 //! Plays and runs of scripts, with their reasons.
 ghost use Rattle.std.specs.Prelude.{is_some};
 ghost use Rattle.gt_text.specs.Streams.{OfInput};
-ghost use Rattle.gt_fault_reports.specs.Formats.{PlayedAs, RanAs, Relays};
+ghost use Rattle.gt_file_commands.specs.Formats.{PlayedAs, RanAs, Relays};
 
 use crate::copying::CopyingReader;
 use crate::formats::{RunSettings, play_as, run_as};

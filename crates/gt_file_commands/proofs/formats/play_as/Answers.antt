@@ -1,8 +1,8 @@
 use Rattle.std.proofs.Common.{ℕ, List}
 use Rattle.gt_commands.specs.declared.invocation.Format.{Format}
-use Rattle.gt_fault_reports.specs.Formats.{PlayedAs}
-use Rattle.gt_fault_reports.proofs.FormatLemmas.{in_format}
-use Rattle.gt_fault_reports.proofs.formats.play_as.Goals as goal
+use Rattle.gt_file_commands.specs.Formats.{PlayedAs}
+use Rattle.gt_file_commands.proofs.FormatLemmas.{in_format}
+use Rattle.gt_file_commands.proofs.formats.play_as.Goals as goal
 
 pub returns-in-Text : goal.returns-in-Text
 returns-in-Text g c = in_format (λ (f : Format) (input : List ℕ). PlayedAs f c.args.audit input) _ _ _ _ _ _ c.in-Text.is c.play.ensures.text

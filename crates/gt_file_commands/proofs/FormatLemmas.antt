@@ -4,7 +4,7 @@ use Rattle.gt_commands.specs.declared.invocation.Format.{Format}
 use Rattle.gt_json_commands.specs.AsJson.{Promise}
 use Rattle.gt_policy_list.specs.declared.fault.ListingFault.{ListingFault}
 use Rattle.gt_text.specs.Streams.{OfInput}
-use Rattle.gt_fault_reports.specs.Formats.{CheckedAs}
+use Rattle.gt_file_commands.specs.Formats.{CheckedAs}
 
 -- what was written in the format that was asked for
 pub in_format : {F : Type 0} (Wrote : Format → List ℕ → Promise F) (format other : Format) (known old new : Option (List ℕ)) (r : Result (Unit {0}) F) → format ≡ other → OfInput known (λ input. Wrote other input old new r)

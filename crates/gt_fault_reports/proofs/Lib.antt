@@ -1,3 +1,0 @@
-pub mod FormatLemmas
-pub mod RelayLemmas
-pub mod WholeTexts
