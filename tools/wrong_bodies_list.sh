@@ -31,8 +31,8 @@ Made by \`tools/wrong_bodies_list.sh\` from the edits themselves; don't edit it.
 Each line is a body that the proofs refuse: an edit of a crate, and what it would do. The gate tries
 $(count must-fail) of them (\`must-fail/\`), those that a definition of meaning refuses. The other $(count wrong-bodies)
 (\`wrong-bodies/\`) are tried by \`tools/wrong_bodies.sh CRATE\`, which whoever changes a crate runs for it. Those of
-\`gt_roster\` and \`gt_commands\`, two of \`gt_c\`, three of \`gt_live\`, four of \`gt_explore_trace\`, three each of
-\`gt_explore\` and \`gt_neverallow\`, and most of \`gt_file_commands\` and \`gt_program\` wait for such a run.
+\`gt_commands\`, two each of \`gt_c\` and \`gt_explore_search\`, three each of \`gt_live\` and \`gt_explore_answers\`,
+eighteen of \`gt_run\`, and most of \`gt_program\` and \`gt_file_commands\` wait for such a run.
 
 A lock round the words of an entry can't be written as an edit: taking one asks for a bound \`Wait\`, and
 no call of \`gt_words\` on words has it.
@@ -49,27 +49,24 @@ refuses are among the edits. The bodies of the program and of \`gt_run\` were ch
 | \`gt_explore_search\` | 20 | 15 | 5 | 0 |
 | \`gt_explore_replay\` | 15 | 15 | 0 | 0 |
 | \`gt_explore_moves\` | 16 | 15 | 1 | 0 |
-| \`gt_explore\`, \`gt_explore_answers\` | 12 | 11 | 0 | 1 |
+| \`gt_explore\`, \`gt_explore_answers\` | 12 | 11 | 1 | 0 |
 | \`gt_commands\` | 12 | 12 | 0 | 0 |
-| \`gt_neverallow\` | 15 | 14 | 0 | 1 |
-| \`gt_checks\` | 2 | 0 | 0 | 2 |
-| \`gt_program\`, \`gt_file_commands\` | 32 | 9 | 16 | 7 |
-| \`gt_run\` | 12 | 7 | 4 | 1 |
-| all | 136 | 98 | 26 | 12 |
+| \`gt_neverallow\` | 15 | 15 | 0 | 0 |
+| \`gt_checks\` | 2 | 0 | 2 | 0 |
+| \`gt_program\`, \`gt_file_commands\` | 32 | 9 | 22 | 1 |
+| \`gt_run\` | 16 | 7 | 9 | 0 |
+| all | 140 | 99 | 40 | 1 |
 
 Of the bodies that a test refuses, one passed all tests at first: a search that gives up at its limit and forgets the
 turn that it is trying. \`test_explore_search\` now compares how many texts are found within each number of states.
 
-By nothing:
+By nothing: in \`gt_file_commands\`, with \`-v\` a run whose text could not be allocated is reported as a failed write.
 
-- In \`gt_neverallow\` the example of a breach is a target that is forbidden, granted or not. A clause now says that the
-  example is granted and forbidden (\`is_example\`), but the prover has not tried that body since.
-- A report of \`check\`, or of breaches, is cut off at 65,536 bytes. The clauses say only that some report is written.
-- \`explore\` and \`run\` report a failed read as want of memory. No clause names the failure of a read.
-- In \`gt_file_commands\`: a name that begins with a dot is refused unopened, by a command, by \`run\`, or as a further
-  text, and so is a name above 255 bytes. A further text above 65,536 bytes is refused; a further
-  text that can't be read has no reason; and with \`-v\` a run whose text could not be allocated is reported as a failed
-  write.
+Ten bodies were refused by nothing when they were planted, and are now refused by command lines of \`cases_program\`,
+most of them with texts that are made while they are read: a report of \`check\`, or of breaches, that is cut off at
+65,536 bytes; \`explore\` or \`run\` that reports a failed read as want of memory; a name that is refused unopened, since
+it begins with a dot or has more than 255 bytes, by a command, by \`run\` or as a further text; a further text that is
+refused above 65,536 bytes; and a further text that can't be read and has no reason.
 
 END
   for crate in $(crates); do
