@@ -1,9 +1,9 @@
 //! The texts that a script for `run` may give, over all orders of its domains' moves: the command `explore`.
 //!
 //! [`texts_of`] searches for orders (`gt_explore_moves`) and replays each of them on the core (`gt_explore_replay`).
-//! [`explore`] reads a script, finds its texts once, and writes what `gt_explore_answers` says of them: the texts, each
-//! with its number, the verdict on a claim, the lines of a script for `play` that gives one of them, or the moves that
-//! lead to one.
+//! [`explore`] reads a script, finds its texts once, and writes the answer that `gt_explore_answers` makes of them: the
+//! texts, each with its number, the verdict on a claim, the lines of a script for `play` that gives one of them, or the
+//! moves that lead to one.
 //!
 //! The texts returned or written are exactly those that the script may give (`MayGive` of `gt_explore_replay`): each of
 //! them once. That a text is possible depends on the core, and that none is missing on the search.

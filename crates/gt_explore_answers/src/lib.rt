@@ -1,11 +1,11 @@
-//! What `explore` says of the texts that were found for a script: the answer to each request, as text and as JSON.
+//! What `explore` prints of the texts found for a script: the answer to each request, as text and as JSON.
 //!
 //! [`conditions_asked`] reads the conditions of a request. [`answer_request`] returns the whole output and the verdict: the
 //! texts under their numbers, the verdict on a claim, the number of a text, scripts for `play` that give texts, or the
 //! moves that lead to one. It is given the texts; `gt_explore` finds them.
 //!
 //! A script for `play` that is returned gives the answers of its text: it is played before, and the answers are
-//! compared. Moves are made again on the core. So nothing is claimed of how a script or an order was made. The
+//! compared. Moves are made again on the core. So no promise depends on how a script or an order was made. The
 //! definitions are in `specs/`.
 #![tactic(auto)]
 
