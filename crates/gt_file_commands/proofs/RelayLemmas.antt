@@ -1,6 +1,6 @@
 -- From the text that a run wrote to memory to the one that goes out.
 use Rattle.std.proofs.Common.{◌≡◌, ◌∙◌, ℕ, Bool, List, [], ◌++◌, Option, None, Some, Result, Ok, Err, sym, subst, inl, true, false}
-use Rattle.std.proofs.Common.{inr}
+use Rattle.std.proofs.Common.{◌⊎◌, inr, refl}
 use Rattle.std.proofs.Common.{arith}
 use Rattle.std.proofs.lemmas.List.{append-nil}
 use Rattle.std.specs.Io.KnownBytes.{Appends, Keeps}
@@ -21,7 +21,7 @@ use Rattle.gt_script.specs.RunScripts.{RunTells}
 use Rattle.gt_script.specs.Script.{Wrong}
 use Rattle.gt_text.specs.Streams.{AppendsBeginning, OfInput}
 use Rattle.gt_order.specs.Running.{AppendsText, WroteIfOk}
-use Rattle.gt_file_commands.specs.Formats.{RanAs, Relays}
+use Rattle.gt_file_commands.specs.Formats.{RanAs, Relays, fault_in_memory}
 
 -- where all stays nothing went out, which is a beginning of any text
 kept_nothing : (old new : Option (List ℕ)) → Keeps old new → Appends old new []
@@ -45,15 +45,30 @@ kept_on logged Told a b old new (Play Memory) kept ran = inl kept
 kept_on logged Told a b old new (Play Write) kept (c, told, (duties, are, begins)) = (c, told, (duties, are, begins_all duties a b old new kept begins))
 kept_on logged Told a b old new (Play Read) kept same = kept
 
+-- the fault is want of memory, or the run's
+memory_or_same : (why : RunFault) → (fault_in_memory why ≡ Play Memory) ⊎ (fault_in_memory why ≡ why)
+memory_or_same Thread = inr refl
+memory_or_same (Play (Script fault)) = inr refl
+memory_or_same (Play (Policy fault)) = inr refl
+memory_or_same (Play Memory) = inl refl
+memory_or_same (Play Write) = inl refl
+memory_or_same (Play Read) = inr refl
+
+either : (fault why : RunFault) → fault ≡ fault_in_memory why → (fault ≡ Play Memory) ⊎ (fault ≡ why)
+either fault why is = subst (λ (f : RunFault). (f ≡ Play Memory) ⊎ (f ≡ why)) (sym is) (memory_or_same why)
+
 module _ (old new : Option (List ℕ)) (text : List ℕ) where
+  text_fault : (logged : Bool) (Told : Result RunContents Wrong → Type 0) (fault why : RunFault) → Ran logged Told (Some []) (Some text) (Err why) → Keeps old new → (fault ≡ Play Memory) ⊎ (fault ≡ why) → Ran logged Told old new (Err fault)
+  text_fault logged Told fault why ran kept (inl memory) = subst (λ (f : RunFault). Ran logged Told old new (Err f)) (sym memory) (inl kept)
+  text_fault logged Told fault why ran kept (inr same) = subst (λ (f : RunFault). Ran logged Told old new (Err f)) (sym same) (kept_on logged Told (Some []) (Some text) old new why kept ran)
+
   relayed_text : (logged : Bool) (Told : Result RunContents Wrong → Type 0) (outcome answer : Result (Unit {0}) RunFault) → Ran logged Told (Some []) (Some text) outcome → Relays text outcome old new answer → Ran logged Told old new answer
   relayed_text logged Told (Ok done) (Ok sent) (c, told, (duties, are, (all, is, served, one, whole))) went =
       (c, told, (duties, are, (all, is, served, one, subst (λ (l : List ℕ). Appends old new l) whole went)))
   relayed_text logged Told (Ok done) (Err fault) (c, told, (duties, are, (all, is, served, one, whole))) (wrote, begins) =
       subst (λ (f : RunFault). Ran logged Told old new (Err f)) (sym wrote) (c, told, (duties, are, inr (all, is, served, subst (λ (l : List ℕ). AppendsBeginning old new l) whole begins)))
   relayed_text logged Told (Err why) (Ok sent) ran went = absurd went
-  relayed_text logged Told (Err why) (Err fault) ran (inl memory, kept) = subst (λ (f : RunFault). Ran logged Told old new (Err f)) (sym memory) (inl kept)
-  relayed_text logged Told (Err why) (Err fault) ran (inr same, kept) = subst (λ (f : RunFault). Ran logged Told old new (Err f)) (sym same) (kept_on logged Told (Some []) (Some text) old new why kept ran)
+  relayed_text logged Told (Err why) (Err fault) ran (is, kept) = text_fault logged Told fault why ran kept (either fault why is)
 
   sent_on : (logged : Bool) (part : List ℕ) → AppendsText logged (Some []) (Some text) part → Appends old new text → AppendsText logged old new part
   sent_on false part is went = subst (λ (l : List ℕ). Appends old new l) is went
@@ -65,16 +80,20 @@ module _ (old new : Option (List ℕ)) (text : List ℕ) where
   relayed_wrote logged Told (Err why) (Ok sent) wrote went = absurd went
   relayed_wrote logged Told outcome (Err fault) wrote went = tt
 
+  json_fault : (Wrote : Promise RunFault) (fault why : RunFault) → Failed Run (Play Memory) (Play Write) Wrote (Some []) (Some text) why → Keeps old new → (fault ≡ Play Memory) ⊎ (fault ≡ why)
+      → Failed Run (Play Memory) (Play Write) Wrote old new fault
+  json_fault Wrote fault why ran kept (inl memory) = inl (kept, inl memory)
+  json_fault Wrote fault why (inl (nothing, because)) kept (inr same) =
+      subst (λ (f : RunFault). Failed Run (Play Memory) (Play Write) Wrote old new f) (sym same) (inl (kept, because))
+  json_fault Wrote fault why (inr (because, (lines, wrote, begins))) kept (inr same) =
+      subst (λ (f : RunFault). Failed Run (Play Memory) (Play Write) Wrote old new f) (sym same) (inr (because, (lines, wrote, begins_nothing old new (json_text Run lines) kept)))
+
   relayed_json : (Wrote : Promise RunFault) (outcome answer : Result (Unit {0}) RunFault) → AsJson Run (Play Memory) (Play Write) Wrote (Some []) (Some text) outcome → Relays text outcome old new answer
       → AsJson Run (Play Memory) (Play Write) Wrote old new answer
   relayed_json Wrote (Ok done) (Ok sent) (lines, wrote, whole) went = (lines, wrote, subst (λ (l : List ℕ). Appends old new l) whole went)
   relayed_json Wrote (Ok done) (Err fault) (lines, wrote, whole) (is, begins) = inr (inr is, (lines, wrote, subst (λ (l : List ℕ). AppendsBeginning old new l) whole begins))
   relayed_json Wrote (Err why) (Ok sent) ran went = absurd went
-  relayed_json Wrote (Err why) (Err fault) ran (inl memory, kept) = inl (kept, inl memory)
-  relayed_json Wrote (Err why) (Err fault) (inl (nothing, because)) (inr same, kept) =
-      subst (λ (f : RunFault). Failed Run (Play Memory) (Play Write) Wrote old new f) (sym same) (inl (kept, because))
-  relayed_json Wrote (Err why) (Err fault) (inr (because, (lines, wrote, begins))) (inr same, kept) =
-      subst (λ (f : RunFault). Failed Run (Play Memory) (Play Write) Wrote old new f) (sym same) (inr (because, (lines, wrote, begins_nothing old new (json_text Run lines) kept)))
+  relayed_json Wrote (Err why) (Err fault) ran (is, kept) = json_fault Wrote fault why ran kept (either fault why is)
 
 relayed_one : (old new : Option (List ℕ)) (text : List ℕ) (format : Format) (logged : Bool) (input : List ℕ) (outcome answer : Result (Unit {0}) RunFault) → RanAs format logged input (Some []) (Some text) outcome → Relays text outcome old new answer
     → RanAs format logged input old new answer

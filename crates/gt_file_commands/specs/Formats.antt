@@ -1,5 +1,5 @@
 -- The output of a command in a format.
-use Rattle.std.specs.Prelude.{◌≡◌, ◌⊎◌, ℕ, Bool, true, false, List, Option, Result, Ok, Err}
+use Rattle.std.specs.Prelude.{◌≡◌, ℕ, Bool, true, false, List, Option, Result, Ok, Err}
 use Rattle.std.specs.Io.KnownBytes.{Appends, Keeps}
 use Rattle.gt_checks.specs.Checking.{Checked}
 use Rattle.gt_checks.specs.Scripts.{CheckedScript}
@@ -18,8 +18,8 @@ use Rattle.gt_run.specs.declared.fault.RunFault.{RunFault}
 use Rattle.gt_script.specs.RunScripts.{RunTells}
 use Rattle.gt_script.specs.Script.{TellsScript}
 use Rattle.gt_text.specs.Streams.{AppendsBeginning}
-use Rattle.gt_host.specs.declared.fault.PlayFault.TheVariants as plays
-use Rattle.gt_run.specs.declared.fault.RunFault.TheVariants as runs
+use Rattle.gt_host.specs.declared.fault.PlayFault.TheVariants.{Memory, Policy, Read, Script, Write}
+use Rattle.gt_run.specs.declared.fault.RunFault.TheVariants.{Play, Thread}
 
 -- the output of `play`
 abbrev pub PlayedAs : Format → Bool → List ℕ → Promise PlayFault
@@ -31,13 +31,22 @@ abbrev pub RanAs : Format → Bool → List ℕ → Promise RunFault
 RanAs Text audited input = RanInOrder audited (RunTells input)
 RanAs Json audited input = RanAsJson input audited
 
+-- the fault of a run that writes to memory, where a write fails only if an allocation does
+abbrev pub fault_in_memory : RunFault → RunFault
+fault_in_memory (Play Write) = Play Memory
+fault_in_memory (Play Memory) = Play Memory
+fault_in_memory (Play Read) = Play Read
+fault_in_memory (Play (Script fault)) = Play (Script fault)
+fault_in_memory (Play (Policy fault)) = Play (Policy fault)
+fault_in_memory Thread = Thread
+
 -- The output of a text that a run wrote to memory, by the run's result. At Ok it is the text, or a prefix of it if a
--- write failed. At a fault it is empty, and the fault is the run's, or that an allocation failed.
+-- write failed. At a fault it is empty, and the fault is the run's, or want of memory if the run could not write.
 abbrev pub Relays : List ℕ → Result (Unit {0}) RunFault → Promise RunFault
 Relays text (Ok done) old new (Ok sent) = Appends old new text
-Relays text (Ok done) old new (Err fault) = (fault ≡ runs.Play plays.Write) × AppendsBeginning old new text
+Relays text (Ok done) old new (Err fault) = (fault ≡ Play Write) × AppendsBeginning old new text
 Relays text (Err why) old new (Ok sent) = ⊥
-Relays text (Err why) old new (Err fault) = ((fault ≡ runs.Play plays.Memory) ⊎ (fault ≡ why)) × Keeps old new
+Relays text (Err why) old new (Err fault) = (fault ≡ fault_in_memory why) × Keeps old new
 
 -- the output of `policy`
 abbrev pub ListedAs : Format → List ℕ → Promise ListingFault
