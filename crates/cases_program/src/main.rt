@@ -163,7 +163,8 @@ fn try_words<R: Print + AllocGlobal + Threads + Wait + Sync, T: TextSource, W: W
     obey_read(&context, words, out)
 }
 
-// Does what words ask for with the made texts, and prints what the output comes to.
+// Executes the command line of these words with the made texts, and prints the size, the sum and the last line of its
+// output.
 fn try_counted<R: Runtime + AllocGlobal + Threads + Wait + Sync>(
     rt: &R,
     words: io::Result<Vec<String>>,

@@ -79,7 +79,7 @@ all_but_flags w = map Domain w.actors.items ++ tables_and_pages w
 abbrev pub parts_of : SearchState → List StatePart
 parts_of w = map Flag w.told.items ++ all_but_flags w
 
--- the part that stands in a state
+-- the part that is borrowed from a state
 abbrev pub part_shown : PartInState → StatePart
 part_shown (shown.Flag b) = Flag b
 part_shown (shown.Domain a) = Domain a.now

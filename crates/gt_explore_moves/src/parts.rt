@@ -34,7 +34,7 @@ impl<'a> StatePart<'a> {
     }
 }
 
-/// A part of a state, where it stands in it.
+/// A part of a state, borrowed from the state.
 #[derive(Clone, Copy)]
 pub enum PartInState<'p, 'a> {
     /// Whether a flag was raised.

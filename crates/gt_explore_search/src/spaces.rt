@@ -73,7 +73,7 @@ pub trait TransitionSystem {
     fn has_part(&self, state: &Self::State, at: usize, part: &Self::Part) -> bool
         ensures { IsTrue result → HasPart (parts self.now) state.now at part.now };
 
-    /// Copies the part of a state at this index. Fails with `States` if there is no such part.
+    /// Copies the part of a state at this index. Fails with `States` if the state has no part there.
     fn copy_part(&self, state: &Self::State, at: usize) -> Result<Self::Part, SearchFault>
         ensures { IfOk result (HasPart (parts self.now) state.now at) };
 

@@ -18,7 +18,7 @@ use Rattle.gt_file_commands.specs.declared.failure.Failure.TheVariants as failur
 use Rattle.gt_file_commands.specs.declared.outcome.Outcome.{Outcome}
 use Rattle.gt_file_commands.specs.declared.outcome.Outcome.TheVariants.{Unknown}
 
--- the same, where a failure comes to what it was found to
+-- the same for an equal outcome of a failure
 pub worked_as : (P : Doing) (failed same : Outcome) (known old new : Option (List ℕ)) (r : Ending) (outcome : Outcome) → failed ≡ same → IfSome known (λ bytes. Does P bytes old new r) → outcome ≡ outcome_of failed r
     → Works P same known old new outcome
 worked_as P failed same known old new r outcome is does of = subst (λ (f : Outcome). Works P f known old new outcome) is (worked P failed known old new r outcome does of)

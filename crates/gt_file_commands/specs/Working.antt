@@ -1,4 +1,4 @@
--- The result of a command on named texts: the output, and what it comes to.
+-- The result of a command on named texts: the output and the outcome.
 use Rattle.std.specs.Prelude.{◌≡◌, ◌⊎◌, ℕ, ◌++◌, Bool, true, false, List, [], ◌∷◌, Option, Some, None, Result, Ok, Err}
 use Rattle.std.specs.Prelude.{IfSome, codes}
 use Rattle.std.specs.Borrow.{Bor}
@@ -40,7 +40,7 @@ answer_of false = No
 abbrev pub Ending : Type 0
 Ending = Result Outcome Failure
 
--- what a command line comes to by the result of its command, where a failure comes to this
+-- the outcome of a command line by the result of its command, and by the outcome of a failure
 abbrev pub outcome_of : Outcome → Ending → Outcome
 outcome_of failed (Ok outcome) = outcome
 outcome_of failed (Err failure) = failed
@@ -118,7 +118,7 @@ Performs (works.Check kind report) = Checks kind
 Performs (works.Why file question) = Explains file.now question
 Performs (works.Entries asked format) = AnswersEntries format asked
 
--- what a failure of this work comes to
+-- the outcome of a failure of this work
 abbrev pub failed_work : Work → Outcome
 failed_work (works.Play audited format) = No
 failed_work (works.List format) = No
@@ -144,7 +144,7 @@ known_text file input (Some name) = file name
 abbrev pub known_input : (List ℕ → Option (List ℕ)) → Option (List ℕ) → Option (Bor (List ℕ)) → Option (List ℕ)
 known_input file input name = known_text file input (option_map (λ f. f.now) name)
 
--- The outcome fits what was done with the named text, if its bytes are known, where a failure comes to `failed`; if an
+-- The outcome fits what was done with the named text, if its bytes are known. After a failure it is `failed`. If an
 -- allocation fails, nothing was written.
 abbrev pub Works : Doing → Outcome → Option (List ℕ) → Option (List ℕ) → Option (List ℕ) → Outcome → Type 0
 Works P failed known old new outcome =

@@ -54,7 +54,7 @@ pub(crate) enum Work<'w> {
 }
 
 impl Work<'_> {
-    // Returns what a failure of this comes to.
+    // Returns the outcome of a failure of this.
     fn failed(self) -> Outcome
         ensures { result ≡ failed_work self.entry }
     {

@@ -1,4 +1,4 @@
-//! The commands of gthost on named texts, except `explore`: the output, and what a command line comes to.
+//! The commands of gthost on named texts, except `explore`: the output and the outcome.
 //!
 //! [`play`], [`run_asked`], [`list`], [`answer`] and [`show_entries`] work on the text of the named file, or of the
 //! standard input. [`check_files`] and [`check_never_files`] check several, and [`answer_each`] answers the questions
@@ -7,7 +7,7 @@
 //! reads through a [`CopyingReader`], which keeps what it read.
 //!
 //! Texts come from a trait, [`TextSource`], and go to any writer. So the contracts specify, for texts and a writer with
-//! known bytes, what is written and what it comes to (specs/Working.antt). `gt_program` has the command line and
+//! known bytes, the output and the outcome (specs/Working.antt). `gt_program` has the command line and
 //! `explore`, whose failures and outcomes are of the same types.
 #![tactic(auto)]
 

@@ -1,10 +1,10 @@
-//! What a command line comes to.
+//! The outcome of a command line.
 ghost use Rattle.std.specs.Prelude.{◌≡◌};
 ghost use Rattle.gt_file_commands.specs.Working.{answer_of, exit_status_of, outcome_of, worse};
 
 use crate::failure::Failure;
 
-/// What a command line comes to. It is the exit status of the program.
+/// The outcome of a command line. The program turns it into its exit status.
 #[derive(Clone, Copy)]
 pub enum Outcome {
     /// The command was done, and if it answers a question, the answer is yes.
@@ -46,7 +46,7 @@ pub(crate) fn worse(one: Outcome, other: Outcome) -> Outcome
     }
 }
 
-/// Returns the outcome of a command with this result, where a failure comes to `failed`.
+/// Returns the outcome of a command with this result: `failed` after a failure.
 pub fn outcome_of(failed: Outcome, ending: &Result<Outcome, Failure>) -> Outcome
     ensures { result ≡ outcome_of failed ending.now }
 {

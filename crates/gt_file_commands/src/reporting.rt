@@ -7,8 +7,8 @@ use crate::failure::Failure;
 use crate::outcome::{Outcome, outcome_of};
 use crate::reasons::Reasons;
 
-/// Reports the failure of a command, if it failed, and returns the outcome, where a failure comes to `failed`. A failed
-/// write of the report is not reported.
+/// Reports the failure of a command, if it failed, and returns the outcome: `failed` after a failure. A failed write of
+/// the report is not reported.
 pub fn report<E: Eprint>(err: &E, ending: Result<Outcome, Failure>, failed: Outcome) -> Outcome
     ensures { result ≡ outcome_of failed ending }
 {
@@ -20,7 +20,7 @@ pub fn report<E: Eprint>(err: &E, ending: Result<Outcome, Failure>, failed: Outc
 }
 
 /// Reports the failure of a command, if it failed, by its reason if the reason is printed as the line of the fault. It
-/// returns the outcome, where a failure comes to `failed`.
+/// returns the outcome: `failed` after a failure.
 pub fn finish<R, T, E: Eprint>(
     context: &Context<R, T, E>,
     ending: Result<Outcome, Failure>,

@@ -1,4 +1,4 @@
--- From the plan of a command line, or its refusal, to what the line comes to.
+-- From the plan of a command line, or its refusal, to the outcome of the line.
 use Rattle.std.proofs.Common.{◌≡◌, ◌∙◌, ℕ, Bool, List, Option, None, Some, Result, refl, sym, subst, inl}
 use Rattle.std.proofs.Common.{inr, true, false, codes, cond, ◌∷◌, [], ap, Ok, ◌==◌, ◌⊎◌}
 use Rattle.std.specs.Io.KnownBytes.{Keeps}
@@ -88,7 +88,7 @@ wrong_one : (failed : Outcome) (kind other : ErrorKind) (old new : Option (List 
 wrong_one failed kind other old new outcome fits is memory help version =
     fits.wrong (λ (e : kind ≡ OutOfMemory). memory (sym is ∙ e)) (λ (e : kind ≡ DisplayHelp). help (sym is ∙ e)) (λ (e : kind ≡ DisplayVersion). version (sym is ∙ e))
 
--- what a failed allocation comes to
+-- the outcome of a failed allocation
 abbrev pub FailedFor : Request → Outcome → Type 0
 FailedFor (to_play audited verbose format name) failed = failed ≡ No
 FailedFor (to_run audited verbose format name) failed = failed ≡ No
@@ -146,7 +146,7 @@ out_of_memory for_help failed file input old new outcome for is kept = helpless 
 out_of_memory for_version failed file input old new outcome for is kept = helpless failed outcome old new for is kept
 out_of_memory nothing failed file input old new outcome for is kept = hopeless failed outcome old new for is kept
 
--- ---- what a failed allocation comes to, by the words
+-- ---- the outcome of a failed allocation, by the words
 
 module _ (failed : Outcome) where
   failed_play : (f : Option Format) (audited verbose : Bool) (file : Option (List ℕ)) → failed ≡ No → FailedFor (play_with f audited verbose file) failed
@@ -248,7 +248,7 @@ long_mode false word = flag_mode word (bytes_eq word (codes "-v")) refl
 help_mode : (word : List ℕ) → bytes_eq word (codes "help") ≡ true → mode_of word ≡ None
 help_mode word e = ap mode_of ((bytes_eq-Decides word (codes "help")).0 e)
 
--- the word where a command is expected comes to be the first
+-- the word where a command is expected becomes the first
 module _ (program : List ℕ) where
   abbrev first_long : List (List ℕ) → Option (List ℕ)
   first_long words = first_word (drop 1 (with_long_flags words))

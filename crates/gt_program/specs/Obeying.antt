@@ -18,8 +18,8 @@ use Rattle.gt_explore_answers.specs.declared.asking.ExploreRequest.TheVariants a
 use Rattle.std.specs.declared.io.ErrorKind.{ErrorKind as IoErrorKind}
 use Rattle.std.specs.declared.io.ErrorKind.TheVariants as io_kinds
 
--- What a failure of a command comes to: to no for a script that is not played or run to its end and for a policy that
--- is not listed, and otherwise there is no answer.
+-- The outcome of a failure: no for a script that is not played or run to its end and for a policy that is not listed,
+-- and unknown for the other commands.
 abbrev pub failed_mode : Mode → Outcome
 failed_mode modes.Play = No
 failed_mode modes.Run = No
@@ -67,8 +67,8 @@ Searches asked input old new (Err failure) = ⊥
 abbrev pub IsHelped : Outcome → Type 0
 IsHelped outcome = (outcome ≡ Yes) ⊎ (outcome ≡ No)
 
--- A command line that is not obeyed: if an allocation fails it comes to `failed`, help and the version come to yes or
--- no, by whether they were written, and any other line has no answer; nothing is written but help and the version.
+-- A command line that is not obeyed. After a failed allocation the outcome is `failed`. For help and the version it is
+-- yes or no, by whether they were written. For any other line it is unknown. Only help and the version are written.
 pub record FitsKind (failed : Outcome) (kind : ErrorKind) (old new : Option (List ℕ)) (outcome : Outcome) : Type 0
   where
     pub memory : kind ≡ OutOfMemory → outcome ≡ failed
@@ -77,7 +77,7 @@ pub record FitsKind (failed : Outcome) (kind : ErrorKind) (old new : Option (Lis
     pub wrong : (kind ≡ OutOfMemory → ⊥) → (kind ≡ DisplayHelp → ⊥) → (kind ≡ DisplayVersion → ⊥) → outcome ≡ Unknown
     pub silent : (kind ≡ DisplayHelp → ⊥) → (kind ≡ DisplayVersion → ⊥) → Keeps old new
 
--- words that could not be read come to no if an allocation failed, and otherwise there is no answer
+-- for words that could not be read the outcome is no if an allocation failed, and otherwise unknown
 abbrev pub FitsUnread : IoErrorKind → Outcome → Type 0
 FitsUnread kind outcome =
     (kind ≡ io_kinds.OutOfMemory → outcome ≡ No) × ((kind ≡ io_kinds.OutOfMemory → ⊥) → outcome ≡ Unknown)
@@ -132,9 +132,9 @@ FindsText given format states file input name =
 
 -- The outcome fits the request, and so does the output: a script was played, run or explored, a text was sought among
 -- those of a script, a policy was listed, a policy or a script was checked, or several, a question was answered, or
--- several, a dump was printed, or the rules were, which come to yes, or to no answer if they were not written or none
--- has the name. Or it is help, the version, or nothing, without an answer, for words that ask for nothing. If an
--- allocation fails it comes to what a failure of the command comes to.
+-- several, a dump was printed, or the rules were: yes, or unknown if they were not written or none has the name. For
+-- words that ask for nothing it is help, the version, or nothing, and unknown. After a failed allocation the outcome is
+-- that of a failure of the command.
 abbrev pub Obeys : Request → (List ℕ → Option (List ℕ)) → Option (List ℕ) → Option (List ℕ) → Option (List ℕ)
     → Outcome → Type 0
 Obeys (to_play audited verbose format name) file input old new outcome =

@@ -20,7 +20,7 @@ use std::io::{self, Write};
 use std::sync::Wait;
 use std::thread::Threads;
 
-// Returns what a failure of this command comes to.
+// Returns the outcome of a failure of this command.
 fn failed_mode(mode: Mode) -> Outcome
     ensures { result ≡ failed_mode mode }
 {
@@ -30,7 +30,7 @@ fn failed_mode(mode: Mode) -> Outcome
     }
 }
 
-// Returns what a failure of a command line comes to.
+// Returns the outcome of a failure of a command line.
 fn failed_line(words: &[String]) -> Outcome
     ensures { result ≡ failed_word (leading_word (map string_bytes words.now)) }
 {
@@ -56,8 +56,8 @@ fn show_help<W: Write, E: Eprint>(out: &mut W, err: &E, help: &Error) -> Outcome
     }
 }
 
-// Writes the refusal of a command line, or the help or the version that it asks for. A failed allocation comes to
-// `failed`.
+// Writes the refusal of a command line, or the help or the version that it asks for. After a failed allocation the
+// outcome is `failed`.
 fn refuse<W: Write, E: Eprint>(out: &mut W, err: &E, error: &Error, failed: Outcome) -> Outcome
     ensures { FitsKind failed (kind_of error.now) (W.contents out.old) (W.contents out.new) result }
 {
@@ -71,7 +71,7 @@ fn refuse<W: Write, E: Eprint>(out: &mut W, err: &E, error: &Error, failed: Outc
     Outcome::Unknown
 }
 
-// Does what words with the command before its long flags ask for. A failed allocation comes to `failed`.
+// Does what words with the command before its long flags ask for. After a failed allocation the outcome is `failed`.
 fn obey_long<R: Threads + Wait + Sync, T: TextSource, W: Write, E: Eprint>(
     context: &Context<R, T, E>,
     words: &[String],

@@ -38,8 +38,8 @@ impl<P: Drop> Explorer<P> {
         }
     }
 
-    // Returns the first turn from a node to this list of answers, which may stand at this index, and the list that is
-    // left after that turn, with its index.
+    // Returns the first turn from a node to this list of answers, and the list that is left after that turn, with its
+    // index. `at` is the likely index of the list among those of the node.
     fn onward(&self, node: usize, list: usize, at: usize) -> Result<Option<Onward>, AllocError> {
         for turn in self.tried_at(node) {
             let line = turn.line.map(|number| AnswerLine {
@@ -56,7 +56,7 @@ impl<P: Drop> Explorer<P> {
         Ok(None)
     }
 
-    // Returns the turns that lead from a node to this list of answers, which stands at this index.
+    // Returns the turns that lead from a node to this list of answers, whose likely index is `at`.
     pub(super) fn turns(
         &self,
         node: usize,
