@@ -15,6 +15,7 @@ tried=0 failed=0
 checkout="$work/checkout"
 for folder in "$top"/crates/gt_*/; do mkdir -p "$checkout/crates/$(basename "$folder")"; done
 mkdir -p "$checkout/crates/gthost/src" "$checkout"/crates/{gthost_play,cases_program} \
+  "$checkout"/crates/gt_types/{must-fail,wrong-bodies} \
   "$checkout/tools" "$checkout/docs" "$work/bin" "$work/other"
 cp -r "$top/gthost" "$top/HANDLES" "$top/crates.txt" "$top/gthost.1" "$top/contrib" "$top/examples" "$checkout/"
 cp "$top"/tools/*.awk "$checkout/tools/"
@@ -49,9 +50,12 @@ case "$1" in
     echo "run=ended status=1 runners=1 races=unchecked proved=no" >&2
     exit 1
     ;;
-  run)
-    echo run >>"$WORK/builds"
-    echo "logic=proved functions=1"
+  ci)
+    echo ci >>"$WORK/builds"
+    echo "rt: gt_types proved"
+    find . -name must-fail -o -name wrong-bodies -o -name out >"$WORK/beyond"
+    sed 's/[: ].*//' crates.txt >"$WORK/copied"
+    ls crates >"$WORK/folders"
     case "$STUB" in
       slow) sleep 300 & echo "$$ $!" >>"$WORK/children"; wait ;;
       brief) sleep 2 ;;
@@ -59,14 +63,9 @@ case "$1" in
       fails_once) sleep 2; if [ ! -e "$WORK/failed" ]; then : >"$WORK/failed"; exit 1; fi ;;
       full) echo "OSError: [Errno 28] No space left on device"; exit 1 ;;
     esac
-    printf '#!/bin/sh\necho "the program: $*"\nexit 3\n' >out/gthost
-    chmod 755 out/gthost
-    ;;
-  lib)
-    mkdir -p out/incremental out/rlib && : >out/incremental/kept
-    echo stamp >out/rlib/stamp
-    echo "$PWD ${*:2}" >>"$WORK/libs"
-    if [ "$STUB" = slow ]; then sleep 300 & echo "$$ $!" >>"$WORK/children"; wait; fi
+    mkdir -p crates/gthost/out
+    printf '#!/bin/sh\necho "the program: $*"\nexit 3\n' >crates/gthost/out/gthost
+    chmod 755 crates/gthost/out/gthost
     ;;
 esac
 STUB
@@ -99,7 +98,7 @@ same() { cmp -s "$work/$2" "$3" || wrong "$1: another text"; }
 unbuilt() { [ ! -e "$out" ] || wrong "$1: something was built"; }
 builds() { [ "$(wc -l <"$work/builds")" -eq "$2" ] || wrong "$1: other than $2 builds"; }
 is_alive() { for child in $(cat "$work/children"); do if kill -0 "$child" 2>/dev/null; then return 0; fi; done; return 1; }
-anew() { chmod -R u+w "$checkout"; rm -rf "$checkout"/crates/*/out "$work/builds" "$work/libs" "$work/failed"; : >"$work/builds"; STUB=good; }
+anew() { chmod -R u+w "$checkout"; rm -rf "$checkout"/crates/*/out "$work/builds" "$work/failed"; : >"$work/builds"; STUB=good; }
 
 stored() { LINE="\$ gthost $1" awk '$0 == ENVIRON["LINE"] { f = 1; next } f && /^status / { exit } f' "$top/crates/cases_program/stdout" >"$work/stored"; }
 
@@ -202,34 +201,14 @@ KIT="$(sed -n 's/^for //p' "$work/stored" "$top/crates/cases_program/stdout" | h
 rm "$out/gthost"; touch "$work/bin/rt"; try 'a program that is gone' 0 build
 builds 'each of them' 4
 
-# A first build is several runs, if there are processors and memory for it; what the others kept is moved.
-processors="$(nproc)" memory="$(awk '/^MemAvailable:/ { print int($2 / 1000000) }' /proc/meminfo)" runs=1
-if [ "$processors" -ge 4 ] && [ "$memory" -ge 8 ]; then runs=2; fi
-if [ "$processors" -ge 4 ] && [ "$memory" -ge 12 ]; then runs=4; fi
-anew; STUB=brief; try 'a build in lanes' 0 build
-if [ "$runs" -eq 1 ]; then
-  [ ! -e "$work/libs" ] || wrong 'a build in lanes'
-  echo "not tried: a build in lanes (four processors and 8 GB are wanted)"
-else
-  # Each crate below the program once, each after those below it, in each lane some of them.
-  sed 's|.*/crates/\([a-z_]*\) .*|\1|' "$work/libs" >"$work/proved"
-  awk -v name=gthost -f "$top/tools/order.awk" "$top/crates.txt" "$top/docs/GATE.md" |
-    cut -d ' ' -f 2- | sed '/^gthost /d' >"$work/below"
-  [ "$(sort "$work/proved")" = "$(cut -d ' ' -f 1 "$work/below" | sort)" ] || wrong 'other crates than those below the program'
-  awk 'NR == FNR { for (i = 2; i <= NF; i++) below[$1] = below[$1] " " $i; next }
-    { n = split(below[$1], parts, " "); for (i = 1; i <= n; i++) if (!(parts[i] in done)) exit 1; done[$1] = 1 }' \
-    "$work/below" "$work/proved" || wrong 'a crate is proved before one below it'
-  for ((lane = 1; lane < runs; lane++)); do
-    grep -q "^$out/beside/$lane/crates/gt_[a-z_]* --jobs [1-4]$" "$work/libs" || wrong "nothing is proved in lane $lane"
-  done
-  grep -q "^$checkout/crates/gt_[a-z_]* --jobs [1-4]$" "$work/libs" || wrong 'nothing is proved in the checkout before the program'
-  while read -r folder _; do
-    [ -e "$checkout/crates/${folder##*/}/out/incremental/kept" ] || wrong "nothing is kept of ${folder##*/}"
-  done <"$work/libs"
-  [ ! -e "$out/beside" ] || wrong 'a copy is left'
-fi
-rm -f "$work/libs"; echo '// more' >>"$checkout/crates/gthost/src/main.rt"
-try 'a later build' 0 build; [ ! -e "$work/libs" ] || wrong 'a later build in lanes'
+# What is built is a copy of the program and of the crates below it, without wrong bodies.
+anew; try 'a copy' 0 build
+awk -v name=gthost -f "$top/tools/below.awk" "$top/crates.txt" | sed 's/[: ].*//' >"$work/below"
+cmp -s "$work/below" "$work/copied" || wrong 'a copy of other crates'
+[ "$(sort "$work/below")" = "$(sort "$work/folders")" ] || wrong 'a copy of other folders'
+grep -q '^gt_types$' "$work/below" && grep -q '^gthost$' "$work/below" || wrong 'a copy without its first or its last crate'
+[ ! -s "$work/beyond" ] || wrong 'a copy of what a build does not read'
+[ ! -e "$out/copy" ] || wrong 'a copy is left'
 
 # Builds that do not end well.
 anew; STUB=fails; try 'an open goal' 1 build; has 'an open goal' err 'a goal is open'; has 'an open goal' err 'not built; log: '
@@ -237,16 +216,12 @@ anew; STUB=fails; try 'an open goal' 1 build; has 'an open goal' err 'a goal is 
 STUB=full; try 'a full disk' 1 build; has 'a full disk' err 'the disk is full.*log: '; lines 'a full disk' 2
 STUB=good; try 'once it is mended' 0 build; try 'the program then' 3 play x
 
-# At first only the crates that have none below them can be proved.
-at_once="$(awk -v name=gthost -f "$top/tools/order.awk" "$top/crates.txt" "$top/docs/GATE.md" | grep -c '^[0-9]* [a-z_]*$')"
-if [ "$at_once" -gt "$runs" ]; then at_once="$runs"; fi
-
 # Signals: the build ends with its children, the status is the signal's, and the next run builds.
 for signal in INT TERM HUP; do
   anew; STUB=slow; tried=$((tried + 1)); rm -f "$work/children"
   env --default-signal="$signal" "$checkout/gthost" build >"$work/out" 2>"$work/err" </dev/null &
   launcher=$! status=0
-  until [ -e "$work/children" ] && [ "$(wc -l <"$work/children")" -eq "$at_once" ]; do sleep 0.1; done
+  until [ -s "$work/children" ]; do sleep 0.1; done
   kill -s "$signal" "$launcher"
   wait "$launcher" || status=$?
   [ "$status" -eq $((128 + $(kill -l "$signal"))) ] || wrong "$signal: status $status"
