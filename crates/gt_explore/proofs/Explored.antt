@@ -16,8 +16,8 @@ use Rattle.gt_text.specs.declared.fault.ReadFault.TheVariants as reads
 use Rattle.gt_explore_verdict.specs.declared.judging.Verdict.{Verdict}
 use Rattle.gt_explore.specs.Writing.{Explored, Explores}
 use Rattle.gt_explore_answers.specs.declared.asking.ExploreOptions.{ExploreOptions}
-use Rattle.gt_explore_answers.specs.declared.fault.ExploreFault.{ExploreFault}
-use Rattle.gt_explore_answers.specs.declared.fault.ExploreFault.TheVariants.{Play, Texts}
+use Rattle.gt_explore_faults.specs.declared.fault.ExploreFault.{ExploreFault}
+use Rattle.gt_explore_faults.specs.declared.fault.ExploreFault.TheVariants.{Play, Texts}
 
 -- a script was explored
 pub explored_script : (asked : ExploreOptions) (Told : Result RunContents Wrong → Type 0) (c : RunContents) (r : Result Verdict ExploreFault) (old new : Option (List ℕ)) → Told (Ok c)

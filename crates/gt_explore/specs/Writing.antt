@@ -13,8 +13,8 @@ use Rattle.gt_explore_answers.specs.Answering.{ShownAs}
 use Rattle.gt_explore_answers.specs.Exploring.{AreAsked, AreTextsOf}
 use Rattle.gt_explore_answers.specs.Telling.{Found}
 use Rattle.gt_explore_answers.specs.declared.asking.ExploreOptions.{ExploreOptions}
-use Rattle.gt_explore_answers.specs.declared.fault.ExploreFault.{ExploreFault}
-use Rattle.gt_explore_answers.specs.declared.fault.ExploreFault.TheVariants.{Play, Texts}
+use Rattle.gt_explore_faults.specs.declared.fault.ExploreFault.{ExploreFault}
+use Rattle.gt_explore_faults.specs.declared.fault.ExploreFault.TheVariants.{Play, Texts}
 
 -- the output for a script and the verdict: what is shown of texts that it may give
 pub record IsMade (c : RunContents) (asked : ExploreOptions) (text : List ℕ) (verdict : Verdict) : Type 0 where

@@ -9,9 +9,8 @@ ghost use Rattle.gt_script.specs.Stuck.{AreNumbered};
 ghost use Rattle.gt_explore.specs.Writing.{Explored, Explores, IsMade};
 
 use crate::texts::texts_found;
-use gt_explore_answers::{
-    ExploreFault, ExploreOptions, ExploreOutput, TextsFault, answer_request, conditions_asked,
-};
+use gt_explore_answers::{ExploreOptions, ExploreOutput, answer_request, conditions_asked};
+use gt_explore_faults::{ExploreFault, TextsFault};
 use gt_explore_verdict::Verdict;
 use gt_host::PlayFault;
 use gt_script::{RunScript, parse_run};

@@ -13,7 +13,6 @@ mod exploring;
 mod texts;
 
 pub use exploring::explore;
-pub use gt_explore_answers::{
-    ExploreFault, ExploreFormat, ExploreOptions, ExploreRequest, FoundTexts, TextsFault,
-};
+pub use gt_explore_answers::{ExploreFormat, ExploreOptions, ExploreRequest, FoundTexts};
+pub use gt_explore_faults::{ExploreFault, TextsFault};
 pub use texts::{texts_of, texts_within};

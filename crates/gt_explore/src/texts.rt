@@ -12,7 +12,8 @@ ghost use Rattle.gt_explore_answers.specs.Texts.{AreDifferentTexts, IsTextAmong,
 ghost use Rattle.gt_explore_answers.specs.Exploring.{AreTextsOf};
 ghost use Rattle.gt_explore_answers.specs.Telling.{found_told};
 
-use gt_explore_answers::{FoundTexts, TextsFault};
+use gt_explore_answers::FoundTexts;
+use gt_explore_faults::TextsFault;
 use gt_explore_moves::search_within;
 use gt_explore_replay::text_of;
 use gt_explore_search::FoundText;

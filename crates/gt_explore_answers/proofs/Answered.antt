@@ -26,7 +26,7 @@ use Rattle.gt_explore_answers.specs.Telling.{Found, counterexample_comment, foun
 use Rattle.gt_explore_answers.specs.Witness.{ShowsAfter}
 use Rattle.gt_explore_answers.specs.declared.answering.ExploreOutput.{ExploreOutput}
 use Rattle.gt_explore_answers.specs.declared.asking.ExploreRequest.{ExploreRequest}
-use Rattle.gt_explore_answers.specs.declared.fault.TextsFault.{TextsFault}
+use Rattle.gt_explore_faults.specs.declared.fault.TextsFault.{TextsFault}
 use Rattle.gt_explore_answers.specs.declared.found.FoundTexts.{FoundTexts}
 
 -- a list of one value for each text is as long as the texts

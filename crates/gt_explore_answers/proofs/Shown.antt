@@ -13,7 +13,7 @@ use Rattle.gt_explore_answers.specs.Objects.{IsObjectIf, ShowsTexts, summary}
 use Rattle.gt_explore_answers.specs.Telling.{Found}
 use Rattle.gt_explore_answers.specs.declared.answering.ExploreOutput.{ExploreOutput}
 use Rattle.gt_explore_answers.specs.declared.asking.ExploreRequest.{ExploreRequest}
-use Rattle.gt_explore_answers.specs.declared.fault.TextsFault.{TextsFault}
+use Rattle.gt_explore_faults.specs.declared.fault.TextsFault.{TextsFault}
 
 -- the object of one text more
 pub objects_more : (c : Contents) (f : Found) (scripts : Bool) (os : List FoundText) (wanted : List Bool) (i j : ℕ) (o : FoundText) (w : Bool) (object rest : List ℕ)

@@ -1,7 +1,6 @@
 pub mod Answering
 pub mod AsObjects
 pub mod Exploring
-pub mod Faults
 pub mod Objects
 pub mod Telling
 pub mod Texts

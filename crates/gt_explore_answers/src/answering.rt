@@ -21,7 +21,6 @@ ghost use Rattle.gt_explore_answers.specs.Witness.{IsWitness, SaysUnplayable, Sh
 use crate::asking::ExploreRequest;
 use crate::checked::gives_answers;
 use crate::conditions::satisfied;
-use crate::fault::TextsFault;
 use crate::found::FoundTexts;
 use crate::leaving::may_not_unmap;
 use crate::telling::{
@@ -30,6 +29,7 @@ use crate::telling::{
 };
 use crate::tracing::{diagram_of, trace_of};
 use crate::witness::witness_of;
+use gt_explore_faults::TextsFault;
 use gt_explore_search::FoundText;
 use gt_explore_verdict::{Claim, Condition, Judgement, Verdict, judge, verdict_at};
 use gt_script::RunScript;

@@ -7,7 +7,7 @@ ghost use Rattle.gt_host.specs.Playing.{Played};
 ghost use Rattle.gt_explore_answers.specs.Witness.{answers_of, begins_with, domain_word, is_end, ok_line, without_number};
 ghost use Rattle.gt_explore_answers.specs.Witness.{GivesAnswers, GoesOnWith, HasAnswers, HaveAnswers};
 
-use crate::fault::TextsFault;
+use gt_explore_faults::TextsFault;
 use gt_host::{PlayFault, play};
 use gt_text::{push_number, push_text};
 use gt_types::{DomId, DomainConfig};

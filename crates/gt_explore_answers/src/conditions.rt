@@ -9,7 +9,7 @@ ghost use Rattle.gt_explore_answers.specs.Texts.{texts_of_orders};
 ghost use Rattle.gt_explore_answers.specs.Exploring.{AreAsked, AreConditions, is_askable, is_call};
 
 use crate::asking::ExploreRequest;
-use crate::fault::TextsFault;
+use gt_explore_faults::TextsFault;
 use gt_explore_search::FoundText;
 use gt_explore_verdict::{
     Condition, ConditionFault, ExpressionFault, Place, conditions_of, satisfies,

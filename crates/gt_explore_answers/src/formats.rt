@@ -10,9 +10,9 @@ ghost use Rattle.gt_explore_answers.specs.Telling.{found_told};
 
 use crate::answering::{ExploreOutput, answer_in_text};
 use crate::asking::{ExploreFormat, ExploreOptions};
-use crate::fault::TextsFault;
 use crate::found::FoundTexts;
 use crate::json::ObjectWriter;
+use gt_explore_faults::TextsFault;
 use gt_explore_verdict::Condition;
 use gt_script::RunScript;
 use std::alloc::Global;

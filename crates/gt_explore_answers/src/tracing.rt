@@ -10,10 +10,10 @@ ghost use Rattle.gt_explore_answers.specs.Tracing.{IsDiagram, IsTrace, TracesTex
 ghost use Rattle.gt_explore_answers.specs.Tracing.{trace_shown};
 ghost use Rattle.gt_explore_answers.specs.Witness.{IsTextNumbered};
 
-use crate::fault::TextsFault;
 use crate::found::FoundTexts;
 use crate::objects::push_text_object;
 use crate::telling::{push_heading, push_states_line};
+use gt_explore_faults::TextsFault;
 use gt_explore_search::FoundText;
 use gt_explore_trace::{TraceForm, TracedMove, push_participants, push_trace, traced};
 use gt_script::RunScript;

@@ -2,8 +2,8 @@
 ghost use Rattle.gt_script.specs.Contents.{contents_told};
 ghost use Rattle.gt_script.specs.RunScripts.{CanConfigure};
 
-use crate::fault::TextsFault;
 use crate::naming::WitnessNames;
+use gt_explore_faults::TextsFault;
 use gt_explore_replay::{Replay, Walker};
 use gt_explore_search::Turn;
 use gt_host::ScriptPolicy;

@@ -1,7 +1,7 @@
 //! Failures of commands.
 use gt_checks::{BreachFault, WhyFault};
 use gt_entries::DumpFault;
-use gt_explore_answers::ExploreFault;
+use gt_explore_faults::ExploreFault;
 use gt_host::PlayFault;
 use gt_policy_list::ListingFault;
 use gt_run::RunFault;

@@ -5,7 +5,7 @@ use crate::names::shown_name;
 use gt_checks::{BreachFault, WhyFault};
 use gt_commands::Invocation;
 use gt_entries::{DumpFault, DumpLook, DumpOptions, look_of};
-use gt_explore_answers::{ExploreFault, TextsFault};
+use gt_explore_faults::{ExploreFault, TextsFault};
 use gt_host::{PlayFault, play};
 use gt_policy_check::WhyQuestion;
 use gt_policy_list::ListingFault;

@@ -12,7 +12,8 @@ ghost use Rattle.gt_program.specs.Obeying.{SeeksText};
 
 use gt_commands::{Exploration, Format, SearchOptions};
 use gt_explore::explore as explore_reader;
-use gt_explore_answers::{ExploreFault, ExploreFormat, ExploreOptions as Searched, ExploreRequest};
+use gt_explore_answers::{ExploreFormat, ExploreOptions as Searched, ExploreRequest};
+use gt_explore_faults::ExploreFault;
 use gt_explore_verdict::Verdict;
 use gt_file_commands::{
     Context, CopyingReader, Failure, Outcome, Reasons, TextSource, finish, read_fault, read_given,

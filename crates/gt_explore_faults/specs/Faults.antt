@@ -2,10 +2,10 @@
 use Rattle.std.specs.Prelude.{ℕ, List, codes}
 use Rattle.gt_host.specs.Faults.{play_fault_text}
 use Rattle.gt_explore_verdict.specs.Faults.{expression_fault_text}
-use Rattle.gt_explore_answers.specs.declared.fault.ExploreFault.{ExploreFault}
-use Rattle.gt_explore_answers.specs.declared.fault.ExploreFault.TheVariants.{Play, Texts}
-use Rattle.gt_explore_answers.specs.declared.fault.TextsFault.{TextsFault}
-use Rattle.gt_explore_answers.specs.declared.fault.TextsFault.TheVariants.{Memory, States, Astray, Witness, Expression}
+use Rattle.gt_explore_faults.specs.declared.fault.ExploreFault.{ExploreFault}
+use Rattle.gt_explore_faults.specs.declared.fault.ExploreFault.TheVariants.{Play, Texts}
+use Rattle.gt_explore_faults.specs.declared.fault.TextsFault.{TextsFault}
+use Rattle.gt_explore_faults.specs.declared.fault.TextsFault.TheVariants.{Memory, States, Astray, Witness, Expression}
 
 abbrev pub texts_fault_text : TextsFault → List ℕ
 texts_fault_text Memory = codes "memory"

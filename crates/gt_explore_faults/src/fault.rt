@@ -1,4 +1,4 @@
-//! Faults of an exploration.
+//! The types of the faults.
 use gt_explore_search::SearchFault;
 use gt_explore_verdict::ExpressionFault;
 use gt_host::PlayFault;
@@ -25,7 +25,7 @@ pub enum TextsFault {
 
 impl fmt::Display for TextsFault {
     ghost use Rattle.std.specs.Prelude.{Some};
-    ghost use Rattle.gt_explore_answers.specs.Faults.{texts_fault_text};
+    ghost use Rattle.gt_explore_faults.specs.Faults.{texts_fault_text};
 
     ghost output = { λ fault. Some (texts_fault_text fault) };
 
@@ -91,7 +91,7 @@ pub enum ExploreFault {
 
 impl fmt::Display for ExploreFault {
     ghost use Rattle.std.specs.Prelude.{Some};
-    ghost use Rattle.gt_explore_answers.specs.Faults.{explore_fault_text};
+    ghost use Rattle.gt_explore_faults.specs.Faults.{explore_fault_text};
 
     ghost output = { λ fault. Some (explore_fault_text fault) };
 
