@@ -1,5 +1,4 @@
 pub mod Formats
 pub mod Laws
-pub mod Names
 pub mod Prelude
 pub mod Working

@@ -3,8 +3,7 @@
 //! [`play`], [`run_asked`], [`list`], [`answer`] and [`show_entries`] work on the text of the named file, or of the
 //! standard input. [`check_files`] and [`check_never_files`] check several, and [`answer_each`] answers the questions
 //! of the standard input. Each returns an [`Outcome`]: yes, no, or no answer. A failure goes to the standard error in
-//! one line ([`finish`]): that of the [`Failure`], or its reason. [`Reasons`] collects the reasons. To give one, a command
-//! reads through a [`CopyingReader`], which keeps what it read.
+//! one line ([`finish`]): that of the [`Failure`], or its reason (`gt_command_reasons`).
 //!
 //! Texts come from a trait, [`TextSource`], and go to any writer. So the contracts specify, for texts and a writer with
 //! known bytes, the output and the outcome (specs/Working.antt). `gt_program` has the command line and
@@ -14,17 +13,13 @@
 mod asking;
 mod checking;
 mod commands;
-mod copying;
 mod explained;
 mod failure;
 mod formats;
 mod given;
-mod given_reasons;
-mod names;
 mod outcome;
 mod questions;
 mod reading;
-mod reasons;
 mod reporting;
 mod style;
 mod texts;
@@ -33,12 +28,10 @@ mod told;
 pub use asking::{answer, list, play, show_entries};
 pub use checking::{check_files, check_never_files};
 pub use commands::{Context, run_asked};
-pub use copying::CopyingReader;
 pub use failure::Failure;
 pub use given::read_given;
 pub use outcome::{Outcome, outcome_of};
 pub use questions::answer_each;
-pub use reasons::Reasons;
 pub use reporting::{finish, report};
 pub use style::Style;
 pub use texts::{TextSource, read_fault};

@@ -3,9 +3,8 @@ ghost use Rattle.std.specs.Prelude.{is_some};
 ghost use Rattle.gt_text.specs.Streams.{OfInput};
 ghost use Rattle.gt_file_commands.specs.Formats.{PlayedAs, RanAs, Relays};
 
-use crate::copying::CopyingReader;
 use crate::formats::{RunSettings, play_as, run_as};
-use crate::reasons::Reasons;
+use gt_command_reasons::{CopyingReader, KeptInput, Reasons};
 use gt_commands::Format;
 use gt_host::PlayFault;
 use gt_run::{Gate, RunFault};
@@ -51,6 +50,15 @@ fn relay<W: Write>(text: &[u8], ending: Result<(), RunFault>, out: &mut W) -> Re
     }
 }
 
+// Adds the reasons of a script that was run, and whose run wrote this text and had this result.
+fn add_run(reasons: &mut Reasons, input: &KeptInput, text: &[u8], ending: &Result<(), RunFault>) {
+    match ending {
+        Ok(()) => reasons.add_refusals(input, text),
+        Err(RunFault::Play(fault)) => reasons.add_refused(input, fault),
+        Err(RunFault::Thread) => {}
+    }
+}
+
 /// Runs the script of a reader, its domains in threads, and adds the reasons, if they are asked for. In that case the
 /// text is kept in memory and written at the end, since a second run may print another.
 pub fn run_with_reasons<R: Threads + Wait + Sync, I: Read, W: Write, G: Gate + Sync>(
@@ -69,6 +77,6 @@ pub fn run_with_reasons<R: Threads + Wait + Sync, I: Read, W: Write, G: Gate + S
     let mut text = Vec::new(settings.alloc);
     let outcome = run_as(settings, &mut input, &mut text);
     let ending = relay(text.as_slice(), outcome, out);
-    reasons.add_run(&input.kept, text.as_slice(), &ending);
+    add_run(reasons, &input.kept, text.as_slice(), &ending);
     ending
 }

@@ -32,7 +32,7 @@ use Rattle.std.specs.Str.{bytes_eq}
 use Rattle.std.proofs.lemmas.Slice.Eq.{bytes_eq-Decides}
 use Rattle.gt_commands.specs.declared.invocation.Invocation.{Invocation}
 use Rattle.gt_commands.specs.declared.invocation.Format.{Format}
-use Rattle.gt_file_commands.specs.Names.{shown_name}
+use Rattle.gt_command_reasons.specs.Names.{shown_name}
 use Rattle.gt_explore_verdict.specs.declared.judging.Verdict.{Verdict}
 use Rattle.gt_explore_verdict.specs.declared.judging.Verdict.TheVariants.{Holds, Fails, Undecided}
 use Rattle.gt_explore_answers.specs.declared.asking.ExploreOptions.{ExploreOptions as Searched}

@@ -4,10 +4,11 @@ ghost use Rattle.gt_program.specs.Obeying.{Obeys};
 
 use crate::exploring::{explore, find_text};
 use crate::rules::tell_rules;
+use gt_command_reasons::Reasons;
 use gt_commands::Invocation;
 use gt_file_commands::{
-    Context, Outcome, Reasons, TextSource, answer, answer_each, check_files, check_never_files,
-    list, play, run_asked, show_entries,
+    Context, Outcome, TextSource, answer, answer_each, check_files, check_never_files, list, play,
+    run_asked, show_entries,
 };
 use gt_policy_check::WhyQuestion;
 use std::io::Write;

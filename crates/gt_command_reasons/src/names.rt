@@ -1,7 +1,7 @@
 //! The name of a text.
 ghost use Rattle.std.specs.Prelude.{◌≡◌};
 ghost use Rattle.std.specs.Option.{option_map};
-ghost use Rattle.gt_file_commands.specs.Names.{shown_name};
+ghost use Rattle.gt_command_reasons.specs.Names.{shown_name};
 
 /// Returns the name with which lines begin: that of the file, or `<stdin>` if none is named.
 pub fn shown_name<'a>(name: Option<&'a str>) -> &'a str

@@ -1,6 +1,6 @@
 //! The reasons that are printed after the line of a fault, or as that line.
 use crate::copying::KeptInput;
-use crate::given_reasons::{given_reason, never_reason, question_reason, text_reason};
+use crate::given::{given_reason, never_reason, question_reason, text_reason};
 use crate::names::shown_name;
 use gt_checks::{BreachFault, WhyFault};
 use gt_commands::Invocation;
@@ -13,7 +13,6 @@ use gt_reasons::{
     push_block_reason, push_permission_reason, push_policy_reason, push_read_reason, push_refusals,
     push_script_reason, push_type_reason, push_utf8_reason,
 };
-use gt_run::RunFault;
 use gt_text::ReadFault;
 use std::alloc::{AllocError, Global};
 use std::io;
@@ -270,7 +269,7 @@ impl<'a> Reasons<'a> {
     }
 
     /// Returns whether reasons are asked for.
-    pub(crate) fn are_asked(&self) -> bool {
+    pub fn are_asked(&self) -> bool {
         self.file.is_some()
     }
 
@@ -282,7 +281,7 @@ impl<'a> Reasons<'a> {
     }
 
     /// Adds the reasons of a script that was read, and whose play had this result.
-    pub(crate) fn add_play(&mut self, input: &KeptInput, ending: &Result<(), PlayFault>) {
+    pub fn add_play(&mut self, input: &KeptInput, ending: &Result<(), PlayFault>) {
         if let Some(file) = self.file {
             let said = match ending {
                 Ok(()) => play_refusals(self.alloc, file, input),
@@ -292,28 +291,20 @@ impl<'a> Reasons<'a> {
         }
     }
 
-    /// Adds the reasons of a script that was read, and whose run wrote this text and had this result.
-    pub(crate) fn add_run(
-        &mut self,
-        input: &KeptInput,
-        text: &[u8],
-        ending: &Result<(), RunFault>,
-    ) {
-        let Some(file) = self.file else {
-            return;
-        };
-        let said = match ending {
-            Ok(()) => run_refusals(self.alloc, file, input, text),
-            Err(RunFault::Play(fault)) => fault_reason(
-                self.alloc,
-                file,
-                self.is_line,
-                input,
-                fault,
-            ),
-            Err(RunFault::Thread) => return,
-        };
-        self.add(said);
+    /// Adds the near misses of what the policy refused when the script that was read was run, and wrote this text.
+    pub fn add_refusals(&mut self, input: &KeptInput, text: &[u8]) {
+        if let Some(file) = self.file {
+            let said = run_refusals(self.alloc, file, input, text);
+            self.add(said);
+        }
+    }
+
+    /// Adds the reason for which the script that was read was refused.
+    pub fn add_refused(&mut self, input: &KeptInput, fault: &PlayFault) {
+        if let Some(file) = self.file {
+            let said = fault_reason(self.alloc, file, self.is_line, input, fault);
+            self.add(said);
+        }
     }
 
     /// Adds the reason for which the file was not opened.
@@ -325,7 +316,7 @@ impl<'a> Reasons<'a> {
     }
 
     /// Adds the reason for which the policy or the script that was read was not listed or checked.
-    pub(crate) fn add_listing(&mut self, input: &KeptInput, fault: &ListingFault) {
+    pub fn add_listing(&mut self, input: &KeptInput, fault: &ListingFault) {
         if let Some(file) = self.file {
             let said = listing_reason(self.alloc, file, self.is_line, input, fault);
             self.add(said);
@@ -334,7 +325,7 @@ impl<'a> Reasons<'a> {
 
     /// Adds the reason for which the policy that was read was not checked against the `neverallow` statements of this
     /// file.
-    pub(crate) fn add_breach(&mut self, input: &KeptInput, never: &str, fault: &BreachFault) {
+    pub fn add_breach(&mut self, input: &KeptInput, never: &str, fault: &BreachFault) {
         let Some(file) = self.file else {
             return;
         };
@@ -362,7 +353,7 @@ impl<'a> Reasons<'a> {
     }
 
     /// Adds the reason for which a text to compare with was not read: the fault of a read, or that it is too long.
-    pub(crate) fn add_given(&mut self, input: &KeptInput, fault: ReadFault) {
+    pub fn add_given(&mut self, input: &KeptInput, fault: ReadFault) {
         if let Some(file) = self.file {
             let said = given_reason(self.alloc, file, input, fault);
             self.add(said);
@@ -370,7 +361,7 @@ impl<'a> Reasons<'a> {
     }
 
     /// Adds the reason for which a question about the policy that was read was not answered.
-    pub(crate) fn add_why(&mut self, input: &KeptInput, question: &WhyQuestion, fault: &WhyFault) {
+    pub fn add_why(&mut self, input: &KeptInput, question: &WhyQuestion, fault: &WhyFault) {
         if let Some(file) = self.file {
             let said = why_reason(self.alloc, file, input, question, fault);
             self.add(said);
@@ -378,7 +369,7 @@ impl<'a> Reasons<'a> {
     }
 
     /// Adds the reason for which the dump that was read was not printed.
-    pub(crate) fn add_dump(&mut self, input: &KeptInput, fault: DumpFault) {
+    pub fn add_dump(&mut self, input: &KeptInput, fault: DumpFault) {
         if let Some(file) = self.file {
             let said = dump_reason(self.alloc, file, input, fault);
             self.add(said);
@@ -386,7 +377,7 @@ impl<'a> Reasons<'a> {
     }
 
     /// Adds what the dump that was read and printed looks like, unless it looks like a table.
-    pub(crate) fn add_look(&mut self, input: &KeptInput, asked: DumpOptions) {
+    pub fn add_look(&mut self, input: &KeptInput, asked: DumpOptions) {
         if let Some(file) = self.file {
             let said = look_said(self.alloc, file, input, asked);
             self.add(said);
