@@ -2,7 +2,7 @@
 use crate::scarce::{Place, Scarce};
 use crate::stops::Stop;
 use gt_core::{Answer, Begun, Core, Request, Ticked};
-use gt_host::ScriptPolicy;
+use gt_script_runs::ScriptPolicy;
 use gt_types::{DomId, DomainConfig, GrantRef, Rule};
 use std::alloc::Global;
 use std::sync::Wait;

@@ -1,7 +1,8 @@
 //! Plays and listings.
 use anyhow::bail;
-use gt_host::{PlayFault, play};
+use gt_host::play;
 use gt_policy_list::{ListingFault, policy};
+use gt_script_runs::PlayFault;
 use std::alloc::Global;
 use std::io::{Read, Write};
 use std::sync::Wait;

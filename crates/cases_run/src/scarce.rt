@@ -1,7 +1,7 @@
 //! Memory that runs out in the course of a run.
 use gt_audit::SharedLog;
-use gt_host::PlayFault;
 use gt_run::{FlagGate, Gate, RunFault, run};
+use gt_script_runs::PlayFault;
 use gt_types::Memory;
 use std::alloc::Global;
 use std::io::{self, Write};

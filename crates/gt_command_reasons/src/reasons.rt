@@ -6,13 +6,14 @@ use gt_checks::{BreachFault, WhyFault};
 use gt_commands::Invocation;
 use gt_entries::{DumpFault, DumpLook, DumpOptions, look_of};
 use gt_explore_faults::{ExploreFault, TextsFault};
-use gt_host::{PlayFault, play};
+use gt_host::play;
 use gt_policy_check::WhyQuestion;
 use gt_policy_list::ListingFault;
 use gt_reasons::{
     push_block_reason, push_permission_reason, push_policy_reason, push_read_reason, push_refusals,
     push_script_reason, push_type_reason, push_utf8_reason,
 };
+use gt_script_runs::PlayFault;
 use gt_text::ReadFault;
 use std::alloc::{AllocError, Global};
 use std::io;

@@ -1,9 +1,9 @@
 -- From what was read to what was written.
 use Rattle.std.proofs.Common.{◌≡◌, ℕ, List, Option, Result}
 use Rattle.std.proofs.Common.{Ok, Err, sym, subst}
-use Rattle.gt_host.specs.Faults.{fault_of, read_fault}
-use Rattle.gt_host.specs.declared.fault.PlayFault.{PlayFault}
-use Rattle.gt_host.specs.declared.fault.PlayFault.TheVariants as plays
+use Rattle.gt_script_runs.specs.Faults.{fault_of, read_fault}
+use Rattle.gt_script_runs.specs.declared.fault.PlayFault.{PlayFault}
+use Rattle.gt_script_runs.specs.declared.fault.PlayFault.TheVariants as plays
 use Rattle.gt_script.specs.RunContents.{RunContents}
 use Rattle.gt_script.specs.RunScripts.{RunAnswers, RunTells}
 use Rattle.gt_script.specs.Script.{Wrong}

@@ -6,7 +6,7 @@ use Rattle.gt_script.specs.Blocks.{block_fault_shown}
 use Rattle.gt_script.specs.RunContents.{RunContents}
 use Rattle.gt_script.specs.Script.{Wrong, in_script, in_policy}
 use Rattle.gt_text.specs.Streams.{AppendsBeginning}
-use Rattle.gt_host.specs.declared.fault.PlayFault.TheVariants.{Memory, Read, Write, Script, Policy}
+use Rattle.gt_script_runs.specs.declared.fault.PlayFault.TheVariants.{Memory, Read, Write, Script, Policy}
 use Rattle.gt_explore_verdict.specs.declared.judging.Verdict.{Verdict}
 use Rattle.gt_explore_verdict.specs.Expressions.{Asked}
 use Rattle.gt_explore_answers.specs.Answering.{ShownAs}

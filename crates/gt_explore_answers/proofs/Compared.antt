@@ -14,7 +14,7 @@ use Rattle.std.specs.List.{position_or_len}
 use Rattle.std.specs.Option.{option_map}
 use Rattle.std.specs.Str.{bytes_eq}
 use lib.Pointwise.{pointwise}
-use Rattle.gt_host.specs.Playing.{Played}
+use Rattle.gt_script_runs.specs.Playing.{Played}
 use Rattle.gt_script.specs.Contents.{Contents}
 use Rattle.gt_script.specs.Script.{TellsScript}
 use Rattle.gt_types.specs.declared.config.DomainConfig.{DomainConfig}

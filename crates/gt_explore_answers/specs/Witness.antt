@@ -10,8 +10,8 @@ use Rattle.gt_types.specs.declared.config.DomainConfig.{DomainConfig}
 use Rattle.gt_types.specs.declared.perms.Perms.{Perms}
 use Rattle.gt_script.specs.Contents.{Contents}
 use Rattle.gt_script.specs.Script.{TellsScript}
-use Rattle.gt_host.specs.Playing.{Played}
-use Rattle.gt_host.specs.Rights.{may_in}
+use Rattle.gt_script_runs.specs.Playing.{Played}
+use Rattle.gt_script_runs.specs.Rights.{may_in}
 use Rattle.gt_explore_answers.specs.Telling.{unplayable_line}
 
 -- a line without its number: what comes after its first space

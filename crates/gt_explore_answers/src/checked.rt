@@ -3,12 +3,13 @@ ghost use Rattle.std.specs.Prelude.{◌≡◌, [], Some, Ok, false, map, IfOk, I
 ghost use Rattle.std.specs.List.{list_all};
 ghost use Rattle.std.specs.Str.{bytes_eq};
 ghost use Rattle.gt_script.specs.Script.{TellsScript};
-ghost use Rattle.gt_host.specs.Playing.{Played};
+ghost use Rattle.gt_script_runs.specs.Playing.{Played};
 ghost use Rattle.gt_explore_answers.specs.Witness.{answers_of, begins_with, domain_word, is_end, ok_line, without_number};
 ghost use Rattle.gt_explore_answers.specs.Witness.{GivesAnswers, GoesOnWith, HasAnswers, HaveAnswers};
 
 use gt_explore_faults::TextsFault;
-use gt_host::{PlayFault, play};
+use gt_host::play;
+use gt_script_runs::PlayFault;
 use gt_text::{push_number, push_text};
 use gt_types::{DomId, DomainConfig};
 use std::alloc::{AllocError, Global};

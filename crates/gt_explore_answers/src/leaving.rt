@@ -1,11 +1,11 @@
 //! Domains that leave with mappings that the policy does not let them unmap.
 ghost use Rattle.std.specs.Prelude.{◌≡◌, IfOk};
 ghost use Rattle.gt_script.specs.Contents.{contents_told};
-ghost use Rattle.gt_host.specs.Rights.{may_by, may_in};
+ghost use Rattle.gt_script_runs.specs.Rights.{may_by, may_in};
 ghost use Rattle.gt_explore_answers.specs.Witness.{is_forbidden, may_not_unmap};
 
-use gt_host::ScriptPolicy;
 use gt_script::Script;
+use gt_script_runs::ScriptPolicy;
 use gt_types::{Allows, DomId, DomainConfig, Memory, Perms, TypeId};
 use std::alloc::Global;
 

@@ -1,6 +1,6 @@
 -- The lines that the faults of an exploration print.
 use Rattle.std.specs.Prelude.{ℕ, List, codes}
-use Rattle.gt_host.specs.Faults.{play_fault_text}
+use Rattle.gt_script_runs.specs.Faults.{play_fault_text}
 use Rattle.gt_explore_verdict.specs.Faults.{expression_fault_text}
 use Rattle.gt_explore_faults.specs.declared.fault.ExploreFault.{ExploreFault}
 use Rattle.gt_explore_faults.specs.declared.fault.ExploreFault.TheVariants.{Play, Texts}

@@ -1,7 +1,7 @@
 //! The types of the faults.
 use gt_explore_search::SearchFault;
 use gt_explore_verdict::ExpressionFault;
-use gt_host::PlayFault;
+use gt_script_runs::PlayFault;
 use gt_types::Memory;
 use std::alloc::{AllocError, AllocFailed};
 use std::error::Error;

@@ -16,7 +16,7 @@ use Rattle.gt_calls.specs.declared.request.OpenRequest.{OpenRequest}
 use Rattle.gt_calls.specs.declared.request.Request.{Request}
 use Rattle.gt_calls.specs.Asking.{asked, begun_of, bytes_of, plainly_asked}
 use Rattle.gt_core.specs.History.{History, Setting, known_at, mapping_of, mappings_at, maps_answered_at}
-use Rattle.gt_host.specs.Runs.{Named, SaysRequest, handle_of, never_given}
+use Rattle.gt_script_runs.specs.Runs.{Named, SaysRequest, handle_of, never_given}
 use Rattle.gt_script_lines.specs.declared.calls.ScriptCall.{ScriptCall}
 use Rattle.gt_explore_replay.specs.Courses.{Course}
 use Rattle.gt_script.specs.Lists.{RunTask}
@@ -42,8 +42,8 @@ use Rattle.std.proofs.lemmas.Option.{none-some}
 use Rattle.gt_calls.specs.Opening.{opens}
 use Rattle.gt_calls.specs.Rules.{CallerKnowledge, release_begun}
 use Rattle.gt_calls.specs.declared.request.OpenRequest.TheVariants as asks-for
-use Rattle.gt_host.specs.Naming.{AreNamed}
-use Rattle.gt_host.specs.Runs.{call_bytes, handle_named, request_of}
+use Rattle.gt_script_runs.specs.Naming.{AreNamed}
+use Rattle.gt_script_runs.specs.Runs.{call_bytes, handle_named, request_of}
 use Rattle.gt_script_lines.specs.declared.calls.ScriptCall.TheVariants as calls
 use Rattle.gt_explore_moves.specs.Beginnings.{OpensSo}
 use Rattle.gt_explore_moves.specs.Calls.{AsksByPlace}

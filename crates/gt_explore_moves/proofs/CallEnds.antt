@@ -28,7 +28,7 @@ use Rattle.gt_core.proofs.Steps.Observers.{answered-stays, exchanged-live, gathe
 use Rattle.gt_core.proofs.Steps.Observers.{pinned-live, stepped}
 use Rattle.gt_core.proofs.Steps.Pin.{leg-maps}
 use Rattle.gt_core.proofs.Steps.Unpin.{leg-mappings}
-use Rattle.gt_host.specs.Runs.{Named, handle_named, with_name}
+use Rattle.gt_script_runs.specs.Runs.{Named, handle_named, with_name}
 use Rattle.gt_explore_replay.specs.Abreast.{HaveAnswered}
 use Rattle.gt_explore_replay.specs.Courses.{Course, resting}
 use Rattle.gt_explore_replay.specs.Orders.{handles_without}

@@ -20,7 +20,7 @@ use Rattle.gt_core.specs.declared.trace.ItemEvent.TheVariants.{Began}
 use Rattle.gt_core.specs.declared.trace.Item.{Item}
 use Rattle.gt_core.proofs.Steps.Observers.{answered-stays, kept-known, kept-live}
 use Rattle.gt_core.proofs.AgreementKept.{open_call-own}
-use Rattle.gt_host.specs.Runs.{SaysRequest}
+use Rattle.gt_script_runs.specs.Runs.{SaysRequest}
 use Rattle.gt_script_lines.specs.declared.calls.ScriptCall.{ScriptCall}
 use Rattle.gt_explore_replay.specs.Courses.{Course, Opened, calling, resting}
 use Rattle.gt_explore_replay.specs.Orders.{given_up}

@@ -13,8 +13,8 @@ use Rattle.gt_core.specs.History.{History}
 use Rattle.gt_core.specs.declared.trace.Answer.{Answer}
 use Rattle.gt_core.specs.declared.trace.Element.TheVariants.{Item as Did}
 use Rattle.gt_core.specs.declared.trace.Item.{Item}
-use Rattle.gt_host.specs.Runs.{Named, SaysRequest, call_bytes, request_of}
-use Rattle.gt_host.proofs.AlikeLemmas.{AnswerGiven}
+use Rattle.gt_script_runs.specs.Runs.{Named, SaysRequest, call_bytes, request_of}
+use Rattle.gt_script_runs.proofs.AlikeLemmas.{AnswerGiven}
 use Rattle.gt_script_lines.specs.declared.calls.ScriptCall.{ScriptCall}
 use Rattle.gt_script_lines.specs.declared.calls.ScriptCall.TheVariants as calls
 use Rattle.gt_explore_replay.specs.Courses.{Course, back_after, course_after}

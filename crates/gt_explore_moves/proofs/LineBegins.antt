@@ -17,8 +17,8 @@ use Rattle.gt_core.specs.GoingOn.{beginning}
 use Rattle.gt_core.specs.History.{History, Setting, known_at}
 use Rattle.gt_core.specs.Legal.{AnsweredBy, BeginsRight}
 use Rattle.gt_core.specs.declared.trace.Answer.{Answer}
-use Rattle.gt_host.specs.Printing.{answer_line}
-use Rattle.gt_host.specs.Runs.{SaysRequest}
+use Rattle.gt_script_runs.specs.Printing.{answer_line}
+use Rattle.gt_script_runs.specs.Runs.{SaysRequest}
 use Rattle.gt_script_lines.specs.declared.calls.ScriptCall.{ScriptCall}
 use Rattle.gt_calls.specs.declared.request.Request.TheVariants.{Release}
 use Rattle.gt_handles.specs.declared.handles.Handle.{Handle}

@@ -13,7 +13,7 @@ use Rattle.gt_calls.specs.declared.request.OpenRequest.TheVariants as asks
 use Rattle.gt_calls.specs.declared.request.Request.{Request}
 use Rattle.gt_calls.specs.Asking.{asked, bytes_of, plainly_asked}
 use Rattle.gt_core.specs.History.{mapping_of}
-use Rattle.gt_host.specs.Runs.{Named, SaysRequest, handle_named, handle_of, never_given, request_of}
+use Rattle.gt_script_runs.specs.Runs.{Named, SaysRequest, handle_named, handle_of, never_given, request_of}
 use Rattle.gt_script_lines.specs.declared.calls.ScriptCall.{ScriptCall}
 use Rattle.gt_script_lines.specs.declared.calls.ScriptCall.TheVariants as calls
 use Rattle.gt_explore_moves.specs.Calls.{SerialsRise}

@@ -25,8 +25,8 @@ use Rattle.gt_core.specs.declared.trace.Event.TheVariants.{Begin, Tick}
 use Rattle.gt_core.specs.declared.trace.ItemEvent.{ItemEvent}
 use Rattle.gt_core.specs.declared.trace.ItemEvent.TheVariants.{Began, Stepped}
 use Rattle.gt_core.specs.declared.trace.Item.{Item}
-use Rattle.gt_host.specs.Playing.{setting_of_script}
-use Rattle.gt_host.specs.Runs.{Named, SaysRequest, answer_in}
+use Rattle.gt_script_runs.specs.Playing.{setting_of_script}
+use Rattle.gt_script_runs.specs.Runs.{Named, SaysRequest, answer_in}
 use Rattle.gt_script_lines.specs.declared.calls.ScriptCall.{ScriptCall}
 use Rattle.gt_explore_replay.specs.Abreast.{CanComeNext, history_in}
 use Rattle.gt_explore_replay.specs.Courses.{Course, CourseLeads, ActionLeads, GivesAt, Opened, OpenLeads, RestLeads}

@@ -21,7 +21,7 @@ use Rattle.gt_core.specs.declared.trace.Answer.TheVariants.{Mapped}
 use Rattle.gt_core.specs.declared.trace.ItemEvent.{ItemEvent}
 use Rattle.gt_core.specs.declared.trace.ItemEvent.TheVariants.{Began, Stepped}
 use Rattle.gt_core.specs.declared.trace.Item.{Item}
-use Rattle.gt_host.specs.Runs.{Named, handle_named}
+use Rattle.gt_script_runs.specs.Runs.{Named, handle_named}
 use Rattle.gt_explore_replay.specs.Abreast.{HaveAnswered}
 
 answered-next : (s : Setting) (h : History) (d : DomId) (r : OpenRequest) (step : Step) (giving : Bool) (v : Option CallResult) (a : Option Answer) (against : Option Denial) (handle : Handle)

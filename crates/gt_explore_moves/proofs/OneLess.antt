@@ -12,7 +12,7 @@ use Rattle.gt_core.specs.History.{History, Pin, gather, live, mapping_named, map
 use Rattle.gt_core.specs.declared.trace.Answer.{Answer}
 use Rattle.gt_core.proofs.Mappings.{less}
 use Rattle.gt_core.proofs.Steps.Observers.{unpinned-live, unpins}
-use Rattle.gt_host.specs.Runs.{Named}
+use Rattle.gt_script_runs.specs.Runs.{Named}
 use Rattle.gt_explore_moves.specs.Calls.{LabelsShow, SerialsRise}
 use Rattle.gt_explore_moves.proofs.MappingFound.{apart-serials, rise-from, same-self}
 

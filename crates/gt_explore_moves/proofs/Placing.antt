@@ -7,9 +7,9 @@ use Rattle.gt_handles.specs.Handles.{HandleMap}
 use Rattle.gt_handles.specs.Listing.{HasJust, InsertedIsListed, IsInserted}
 use Rattle.gt_handles.specs.declared.handles.Handle.{Handle}
 use Rattle.gt_calls.specs.declared.held.HeldPin.{HeldPin}
-use Rattle.gt_host.specs.Labels.{handle_in}
-use Rattle.gt_host.specs.Naming.{AreNamed}
-use Rattle.gt_host.specs.Runs.{Named, with_name}
+use Rattle.gt_script_runs.specs.Labels.{handle_in}
+use Rattle.gt_script_runs.specs.Naming.{AreNamed}
+use Rattle.gt_script_runs.specs.Runs.{Named, with_name}
 use Rattle.gt_explore_moves.specs.Mappings.{labels_of, label_bytes}
 use Rattle.gt_explore_moves.specs.Placing.{ArePlaced, CountFrom, place_names, place_names_after}
 use Rattle.gt_explore_moves.specs.declared.actor.LabelledMapping.{LabelledMapping}

@@ -27,7 +27,7 @@ use Rattle.gt_core.specs.declared.trace.ItemEvent.TheVariants.{Began, Stepped}
 use Rattle.gt_core.specs.declared.trace.Item.{Item}
 use Rattle.gt_core.proofs.Words.{fun_ext}
 use Rattle.gt_core.proofs.Steps.Observers.{kept-entry, kept-raises, stepped}
-use Rattle.gt_host.specs.Runs.{Named, SaysRequest, call_bytes, request_of}
+use Rattle.gt_script_runs.specs.Runs.{Named, SaysRequest, call_bytes, request_of}
 use Rattle.gt_script_lines.specs.declared.calls.ScriptCall.{ScriptCall}
 use Rattle.gt_script_lines.specs.declared.calls.ScriptCall.TheVariants as calls
 use Rattle.gt_explore_replay.specs.Courses.{Course, Opened, calling, giving, resting}

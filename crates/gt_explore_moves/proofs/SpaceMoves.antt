@@ -5,7 +5,7 @@ use Rattle.std.proofs.Common.{sym, ap, ◌∙◌, subst, arith, append-nil}
 use Rattle.std.specs.Prelude.{◌==◌, slice_get, slice_set}
 use Rattle.std.proofs.lemmas.Bool.{eq-eqb, eqb-true}
 use Rattle.std.proofs.lemmas.Option.{none-some, same_Some, slice_get_within}
-use Rattle.gt_host.specs.Playing.{setting_of_script}
+use Rattle.gt_script_runs.specs.Playing.{setting_of_script}
 use Rattle.gt_explore_replay.specs.Abreast.{history_in}
 use Rattle.gt_explore_replay.specs.Courses.{AllCoursesEnd, Course, CourseEnds}
 use Rattle.gt_explore_replay.specs.Orders.{Happening}

@@ -19,7 +19,7 @@ use Rattle.gt_core.specs.declared.trace.Element.TheVariants.{Item as Did}
 use Rattle.gt_core.specs.declared.trace.Event.{Event}
 use Rattle.gt_core.specs.declared.trace.Item.{Item}
 use Rattle.gt_calls.specs.Rules.{own_generation}
-use Rattle.gt_host.specs.Playing.{setting_of_script}
+use Rattle.gt_script_runs.specs.Playing.{setting_of_script}
 use Rattle.gt_explore_replay.specs.Abreast.{history_in}
 use Rattle.gt_explore_replay.specs.Courses.{Course}
 use Rattle.gt_explore_replay.specs.Orders.{Happening, IsRaisedBefore, did, raised}

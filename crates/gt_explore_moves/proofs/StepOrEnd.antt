@@ -40,8 +40,8 @@ use Rattle.gt_core.specs.declared.trace.Item.{Item}
 use Rattle.gt_core.specs.Prelude.{written}
 use Rattle.gt_core.proofs.Outcomes.{IsSingle}
 use Rattle.gt_core.proofs.Steps.Observers.{stepped}
-use Rattle.gt_host.specs.Printing.{answer_line, answer_text, bytes_text, call_text}
-use Rattle.gt_host.specs.Runs.{Named, SaysRequest, handle_given, label_given, request_of, with_name}
+use Rattle.gt_script_runs.specs.Printing.{answer_line, answer_text, bytes_text, call_text}
+use Rattle.gt_script_runs.specs.Runs.{Named, SaysRequest, handle_given, label_given, request_of, with_name}
 use Rattle.gt_script_lines.specs.declared.calls.ScriptCall.{ScriptCall}
 use Rattle.gt_script_lines.specs.declared.calls.ScriptCall.TheVariants as calls
 use Rattle.gt_explore_replay.specs.Courses.{Course, Opened, back_after, calling, course_after, course_answered, giving, resting}

@@ -59,7 +59,7 @@ use Rattle.gt_core.specs.declared.trace.Item.{Item}
 use Rattle.gt_core.specs.declared.trace.ItemEvent.TheVariants.{Stepped}
 use Rattle.gt_core.proofs.Steps.Unpin.{loses-mapping}
 use Rattle.gt_core.proofs.Swapping.{Releases, keeps-elsewhere, steps-apart-in}
-use Rattle.gt_host.specs.Runs.{Named, SaysRequest, request_of}
+use Rattle.gt_script_runs.specs.Runs.{Named, SaysRequest, request_of}
 use Rattle.gt_script_lines.specs.declared.calls.ScriptCall.{ScriptCall}
 use Rattle.gt_script_lines.specs.declared.calls.ScriptCall.TheVariants as calls
 use Rattle.gt_script.specs.Lists.{RunAction, RunTask}

@@ -34,8 +34,8 @@ use Rattle.gt_core.specs.declared.trace.ItemEvent.TheVariants.{Began, Stepped}
 use Rattle.gt_core.proofs.AgreementKept.{open_call-other}
 use Rattle.gt_core.proofs.Steps.Observers.{other-known}
 use Rattle.gt_core.proofs.Swapping.{Releases, began-apart, events-first, grown-same, may-same}
-use Rattle.gt_host.specs.Playing.{setting_of_script}
-use Rattle.gt_host.specs.Runs.{answer_in}
+use Rattle.gt_script_runs.specs.Playing.{setting_of_script}
+use Rattle.gt_script_runs.specs.Runs.{answer_in}
 use Rattle.gt_explore_replay.specs.Abreast.{CanComeNext, history_in}
 use Rattle.gt_explore_replay.specs.Courses.{AllCoursesEnd, Course, CourseEnds, CourseLeads, ActionLeads, Opened}
 use Rattle.gt_explore_replay.specs.Courses.{OpenLeads}

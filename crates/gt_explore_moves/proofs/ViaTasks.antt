@@ -9,7 +9,7 @@ use Rattle.gt_types.specs.declared.DomId.{DomId}
 use Rattle.gt_types.specs.declared.config.DomainConfig.{DomainConfig}
 use Rattle.gt_calls.specs.Asking.{asked}
 use Rattle.gt_calls.specs.declared.request.Request.{Request}
-use Rattle.gt_host.specs.Runs.{Named, SaysRequest, request_of}
+use Rattle.gt_script_runs.specs.Runs.{Named, SaysRequest, request_of}
 use Rattle.gt_script_lines.specs.declared.calls.ScriptCall.{ScriptCall}
 use Rattle.gt_script_lines.specs.declared.calls.ScriptCall.TheVariants as calls
 use Rattle.gt_script.specs.Lists.{RunTask}

@@ -9,7 +9,7 @@ use Rattle.gt_core.specs.History.{History, Setting}
 use Rattle.gt_core.specs.Legal.{LegalAfter, MayDo, grown, history_after}
 use Rattle.gt_core.specs.declared.trace.Element.{Element}
 use Rattle.gt_core.specs.declared.trace.Event.{Event}
-use Rattle.gt_host.specs.Playing.{setting_of_script}
+use Rattle.gt_script_runs.specs.Playing.{setting_of_script}
 use Rattle.gt_explore_replay.specs.Abreast.{CanComeNext}
 use Rattle.gt_explore_replay.specs.Courses.{AllCoursesEnd, Course, IsTurnedBy, TurnsLead, courses_text, first_courses}
 use Rattle.gt_explore_replay.specs.Orders.{Happening, did, raised, passed, events_in, trace_in, IsOrderOf}

@@ -53,7 +53,7 @@ use Rattle.gt_explore_replay.specs.Courses.{course_after, giving, resting}
 use Rattle.gt_explore_replay.specs.Orders.{Happening, did, doer, given_up, passed, raised}
 use Rattle.gt_explore_replay.proofs.Coming.{IsQuiet, tells, waits}
 use Rattle.gt_explore_replay.proofs.Whole.{history_did, history_quiet}
-use Rattle.gt_host.specs.Runs.{answer_in}
+use Rattle.gt_script_runs.specs.Runs.{answer_in}
 use Rattle.gt_script.specs.Lists.{RunAction, RunTask}
 use Rattle.gt_script.specs.declared.tasks.RunActionBy.TheVariants.{Await, Do, Tell}
 use Rattle.gt_script_lines.specs.declared.calls.ScriptCall.{ScriptCall}

@@ -11,7 +11,7 @@ use Rattle.gt_calls.specs.Path.{path}
 use Rattle.gt_calls.specs.Rules.{entry_in, own_generation}
 use Rattle.gt_core.specs.History.{History, Setting, Underway, entry_at, generation_at, known_at, mappings_at}
 use Rattle.gt_core.specs.History.{maps_answered_at, seen_by, values}
-use Rattle.gt_host.specs.Rights.{may_by}
+use Rattle.gt_script_runs.specs.Rights.{may_by}
 use Rattle.gt_explore_moves.specs.Calls.{GoesAlong}
 use Rattle.gt_explore_moves.specs.declared.scene.SearchContext.{SearchContext}
 use Rattle.gt_explore_state.specs.declared.table.SparseTable.{SparseTable}

@@ -4,8 +4,8 @@ use Rattle.gt_types.specs.declared.DomId.{DomId}
 use Rattle.gt_handles.specs.declared.handles.Handle.{Handle}
 use Rattle.gt_handles.specs.Listing.{HasJust}
 use Rattle.gt_calls.specs.declared.held.HeldPin.{HeldPin}
-use Rattle.gt_host.specs.Naming.{AreNamed}
-use Rattle.gt_host.specs.Runs.{Named, with_name}
+use Rattle.gt_script_runs.specs.Naming.{AreNamed}
+use Rattle.gt_script_runs.specs.Runs.{Named, with_name}
 use Rattle.gt_explore_moves.specs.Mappings.{labels_of, mapping_pins}
 use Rattle.gt_explore_moves.specs.declared.actor.LabelledMapping.{LabelledMapping}
 use Rattle.gt_explore_moves.specs.declared.names.ActorHandles.{ActorHandles}

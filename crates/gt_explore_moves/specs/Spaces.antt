@@ -2,7 +2,7 @@
 use Rattle.std.specs.Prelude.{◌≡◌, ◌++◌, ℕ, zero, suc, List, [], ◌∷◌, length, map, Some, refl, slice_get, slice_set}
 use mathlib.Core.Path.{ap, ◌∙◌}
 use Rattle.gt_types.specs.declared.config.DomainConfig.{DomainConfig}
-use Rattle.gt_host.specs.Playing.{setting_of_script}
+use Rattle.gt_script_runs.specs.Playing.{setting_of_script}
 use Rattle.gt_explore_replay.specs.Abreast.{CanComeNext}
 use Rattle.gt_explore_replay.specs.Courses.{AllCoursesEnd, Course, CourseLeads, first_courses}
 use Rattle.gt_explore_replay.specs.Orders.{Happening, MayGive}

@@ -5,7 +5,7 @@ ghost use Rattle.gt_calls.specs.Asking.{FitsAsked, asked};
 ghost use Rattle.gt_calls.specs.declared.request.Request.{Request};
 ghost use Rattle.gt_core.specs.Acting.{answer_of};
 ghost use Rattle.gt_entry.specs.Entries.{IsEntry};
-ghost use Rattle.gt_host.specs.Runs.{Named, SaysRequest};
+ghost use Rattle.gt_script_runs.specs.Runs.{Named, SaysRequest};
 ghost use Rattle.gt_explore_moves.specs.Mappings.{label_bytes};
 ghost use Rattle.gt_explore_moves.specs.Ticking.{bytes_by, label_given_by};
 ghost use Rattle.gt_types.specs.declared.DomId.{DomId};
@@ -25,9 +25,9 @@ use gt_core::{Answer, Bytes, answer_of};
 use gt_entry::Entry;
 use gt_explore_search::{SearchFault, Turn, TurnResult};
 use gt_explore_state::{SparseState, SparseTable};
-use gt_host::{ScriptPolicy, call_bytes, label_given, push_answer_line, request_of};
 use gt_script::{RunAction, RunTask};
 use gt_script_lines::ScriptCall;
+use gt_script_runs::{ScriptPolicy, call_bytes, label_given, push_answer_line, request_of};
 use gt_types::DomId;
 use std::alloc::{AllocError, Global};
 
@@ -75,7 +75,7 @@ impl<'s, 'a> SearchContext<'s, 'a> {
     ghost use Rattle.gt_core.specs.GoingOn.{beginning};
     ghost use Rattle.gt_core.specs.Legal.{BeginsRight};
     ghost use Rattle.gt_core.specs.declared.trace.Answer.{Answer};
-    ghost use Rattle.gt_host.specs.Printing.{answer_line};
+    ghost use Rattle.gt_script_runs.specs.Printing.{answer_line};
     ghost use Rattle.gt_explore_replay.specs.Orders.{given_up};
     ghost use Rattle.gt_explore_moves.specs.declared.actor.Actor.{Actor};
     ghost use Rattle.gt_calls.specs.declared.request.Request.{Request};
@@ -83,7 +83,7 @@ impl<'s, 'a> SearchContext<'s, 'a> {
     ghost use Rattle.gt_calls.specs.declared.judging.TheConstants.{SERIAL_LIMIT};
     ghost use Rattle.gt_core.specs.History.{History, Setting, Underway, known_at, maps_answered_at, seen_by, values};
     ghost use Rattle.gt_explore_moves.specs.Continuing.{GoesOnAsRun, StillKnows};
-    ghost use Rattle.gt_host.specs.Runs.{SaysRequest};
+    ghost use Rattle.gt_script_runs.specs.Runs.{SaysRequest};
     ghost use Rattle.gt_calls.specs.declared.request.Request.TheVariants.{Release};
     ghost use Rattle.gt_handles.specs.declared.handles.Handle.{Handle};
     ghost use Rattle.gt_types.specs.declared.config.DomainConfig.{DomainConfig};
@@ -93,7 +93,7 @@ impl<'s, 'a> SearchContext<'s, 'a> {
     ghost use Rattle.gt_explore_moves.specs.Starting.{held_but};
     ghost use Rattle.gt_calls.specs.Following.{Goes, IsLeftAlike};
     ghost use Rattle.gt_calls.specs.Rules.{CallerKnowledge, knows};
-    ghost use Rattle.gt_host.specs.Rights.{may_by};
+    ghost use Rattle.gt_script_runs.specs.Rights.{may_by};
     ghost use Rattle.gt_explore_moves.specs.Beginnings.{BeginsAlike, OpensSo};
     ghost use Rattle.gt_explore_moves.specs.Calls.{GoesAlong, KnowsTable, SerialsRise, ShowsCalls, handles_at, known_in, no_mappings};
     ghost use Rattle.gt_explore_moves.specs.Ends.{tasks_at};

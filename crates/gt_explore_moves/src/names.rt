@@ -6,7 +6,7 @@ use crate::actor::LabelledMapping;
 use gt_calls::{Handle, Handles, HeldPin};
 use gt_core::Answer;
 use gt_explore_search::SearchFault;
-use gt_host::{Labels, name_mapping};
+use gt_script_runs::{Labels, name_mapping};
 use gt_types::DomId;
 use std::alloc::Global;
 

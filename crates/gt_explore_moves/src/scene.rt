@@ -1,6 +1,6 @@
 //! The context of a search, and its states.
 ghost use Rattle.std.specs.Prelude.{◌≡◌, false, replicate, map, length, All, IfOk};
-ghost use Rattle.gt_host.specs.Playing.{setting_of_script};
+ghost use Rattle.gt_script_runs.specs.Playing.{setting_of_script};
 ghost use Rattle.gt_script.specs.Contents.{contents_told};
 ghost use Rattle.gt_script.specs.RunScripts.{CanConfigure, list_of};
 ghost use Rattle.gt_explore_moves.specs.Copies.{IsFirstActor};
@@ -11,10 +11,10 @@ use crate::actor::Actor;
 use crate::touches::any_grants_via;
 use gt_explore_search::SearchFault;
 use gt_explore_state::SparseState;
-use gt_host::ScriptPolicy;
 use gt_roster::Roster;
 use gt_script::{RunScript, RunTask, Script};
 use gt_script_lines::Text;
+use gt_script_runs::ScriptPolicy;
 use gt_types::{Config, DomainConfig, StartFault};
 use std::alloc::{AllocError, Global};
 

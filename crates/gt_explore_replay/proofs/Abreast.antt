@@ -27,10 +27,10 @@ use Rattle.gt_script_lines.specs.declared.calls.ScriptCall.{ScriptCall}
 use Rattle.gt_script.specs.Lists.{RunAction, RunTask}
 use Rattle.gt_script.specs.Stuck.{AreNumbered, IsBelow}
 use Rattle.gt_script.specs.declared.tasks.RunActionBy.TheVariants.{Do}
-use Rattle.gt_host.specs.Naming.{AreNamed}
-use Rattle.gt_host.specs.Printing.{answer_line, call_text}
-use Rattle.gt_host.specs.Runs.{SaysRequest, answer_in, handle_given, label_given, with_name}
-use Rattle.gt_host.proofs.AlikeLemmas.{text-same}
+use Rattle.gt_script_runs.specs.Naming.{AreNamed}
+use Rattle.gt_script_runs.specs.Printing.{answer_line, call_text}
+use Rattle.gt_script_runs.specs.Runs.{SaysRequest, answer_in, handle_given, label_given, with_name}
+use Rattle.gt_script_runs.proofs.AlikeLemmas.{text-same}
 use Rattle.gt_explore_replay.specs.Orders.{Happening, did, given_up}
 use Rattle.gt_explore_replay.specs.Walking.{AnswersLine, ClosesCall, IsClosedFrom, tasks_left, tasks_left_of}
 use Rattle.gt_explore_replay.specs.Courses.{Opened, resting, calling, giving, Course, course_after, course_answered, back_after}

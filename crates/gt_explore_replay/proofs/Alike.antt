@@ -25,10 +25,10 @@ use Rattle.gt_core.specs.declared.trace.Item.{Item}
 use Rattle.gt_core.proofs.AlikeRuns.{does-alike, alike-grows}
 use Rattle.gt_script_lines.specs.declared.calls.ScriptCall.{ScriptCall}
 use Rattle.gt_script.specs.declared.actions.ScriptAction.TheVariants as actions
-use Rattle.gt_host.specs.Runs.{Named, SaysRequest, answer_in, handle_given, label_given, with_name}
-use Rattle.gt_host.proofs.AlikeLemmas.{bare_names, NamesGiven, AnswerGiven, asks-same, asks-known, named-same}
-use Rattle.gt_host.proofs.AlikeLemmas.{named-given}
-use Rattle.gt_host.proofs.AlikeLemmas.{names-after, answers-same, done-given}
+use Rattle.gt_script_runs.specs.Runs.{Named, SaysRequest, answer_in, handle_given, label_given, with_name}
+use Rattle.gt_script_runs.proofs.AlikeLemmas.{bare_names, NamesGiven, AnswerGiven, asks-same, asks-known, named-same}
+use Rattle.gt_script_runs.proofs.AlikeLemmas.{named-given}
+use Rattle.gt_script_runs.proofs.AlikeLemmas.{names-after, answers-same, done-given}
 use Rattle.gt_types.specs.Names.{domain_of}
 use Rattle.gt_explore_replay.specs.Orders.{held_after, handles_without}
 use Rattle.gt_explore_replay.specs.Abreast.{bare_name, SameNames, SameHandles, HaveAnswered, WereAnswered}

@@ -10,7 +10,7 @@ use Rattle.std.proofs.lemmas.Option.{none-some, same_Some, slice_get_within, sli
 use Rattle.std.specs.Option.{option_map}
 use Rattle.std.specs.Prelude.{◌==◌, slice_get, All, AllPairs, IfOk, IfSome, IsSome, Result, Ok, Err}
 use Rattle.gt_types.specs.declared.config.Config.{Config}
-use Rattle.gt_host.specs.declared.rights.ScriptPolicy.{ScriptPolicy}
+use Rattle.gt_script_runs.specs.declared.rights.ScriptPolicy.{ScriptPolicy}
 use Rattle.gt_explore_replay.specs.declared.replay.Moved.{Moved}
 use Rattle.gt_explore_replay.specs.declared.replay.Moved.TheVariants as made
 use Rattle.gt_types.specs.Names.{domain_of}
@@ -25,8 +25,8 @@ use Rattle.gt_core.specs.declared.trace.Event.{Event}
 use Rattle.gt_script.specs.Contents.{type_names}
 use Rattle.gt_script.specs.RunContents.{RunContents}
 use Rattle.gt_script.specs.RunScripts.{list_of}
-use Rattle.gt_host.specs.Playing.{setting_of_script}
-use Rattle.gt_host.specs.Rights.{may_by}
+use Rattle.gt_script_runs.specs.Playing.{setting_of_script}
+use Rattle.gt_script_runs.specs.Rights.{may_by}
 use Rattle.gt_explore_replay.specs.Orders.{Happening, did, raised, passed, doer, own_happenings, events_in, trace_in}
 use Rattle.gt_explore_replay.specs.Orders.{IsRaisedBefore}
 use Rattle.gt_explore_replay.specs.Orders.{FlagsAreRaised, FollowsList}

@@ -23,7 +23,7 @@ use Rattle.gt_script.specs.Lists.{RunTask}
 use Rattle.gt_script.specs.RunContents.{RunContents}
 use Rattle.gt_script.specs.RunScripts.{list_of}
 use Rattle.gt_script.specs.Stuck.{AreNumbered, IsBelow}
-use Rattle.gt_host.specs.Playing.{StartsFor, setting_of_script}
+use Rattle.gt_script_runs.specs.Playing.{StartsFor, setting_of_script}
 use Rattle.gt_explore_replay.specs.Orders.{Happening, did, raised, passed, events_in, trace_in, IsOrderOf}
 use Rattle.gt_explore_replay.specs.Walking.{HaveOwnIds, IsAtEnd, StartsWalk, tasks_left_of}
 use Rattle.gt_explore_replay.specs.Courses.{Opened, resting, Course, CourseEnds, CourseLeads, TurnsLead}

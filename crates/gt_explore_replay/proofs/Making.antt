@@ -21,8 +21,8 @@ use Rattle.gt_core.specs.declared.trace.Event.TheVariants.{Begin, Tick}
 use Rattle.gt_script_lines.specs.declared.calls.ScriptCall.{ScriptCall}
 use Rattle.gt_script.specs.declared.tasks.RunActionBy.TheVariants.{Do}
 use Rattle.gt_script.specs.Lists.{RunTask}
-use Rattle.gt_host.specs.Naming.{AreNamed}
-use Rattle.gt_host.specs.Runs.{Named, SaysRequest, answer_in}
+use Rattle.gt_script_runs.specs.Naming.{AreNamed}
+use Rattle.gt_script_runs.specs.Runs.{Named, SaysRequest, answer_in}
 use Rattle.gt_explore_replay.specs.Orders.{did, given_up}
 use Rattle.gt_explore_replay.specs.Walking.{AnswersLine, ClosesCall, IsClosedFrom, WalksTo, tasks_left_of}
 use Rattle.gt_explore_replay.specs.declared.replay.Moved.TheVariants as moves

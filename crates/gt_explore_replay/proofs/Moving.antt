@@ -12,9 +12,9 @@ use Rattle.gt_core.specs.declared.trace.Event.TheVariants.{Begin, Tick}
 use Rattle.gt_script_lines.specs.declared.calls.ScriptCall.{ScriptCall}
 use Rattle.gt_script.specs.Lists.{RunAction, RunTask}
 use Rattle.gt_script.specs.declared.tasks.RunActionBy.TheVariants.{Do, Tell, Await}
-use Rattle.gt_host.specs.Naming.{AreNamed}
-use Rattle.gt_host.specs.Printing.{answer_line}
-use Rattle.gt_host.specs.Runs.{Named, SaysRequest, EndsWith, answer_in, handle_given, label_given, with_name}
+use Rattle.gt_script_runs.specs.Naming.{AreNamed}
+use Rattle.gt_script_runs.specs.Printing.{answer_line}
+use Rattle.gt_script_runs.specs.Runs.{Named, SaysRequest, EndsWith, answer_in, handle_given, label_given, with_name}
 use Rattle.gt_explore_replay.specs.Orders.{Happening, did, raised, passed, CallGoesOn, CallHappens, DeedHappens, FollowsList}
 use Rattle.gt_explore_replay.specs.Orders.{GivesMappingsBack}
 use Rattle.gt_explore_replay.specs.Orders.{given_up, held_after}

@@ -6,7 +6,7 @@ use Rattle.std.proofs.lemmas.Option.{none-some, get_or_from_slice_get, slice_get
 use Rattle.std.proofs.lemmas.List.{map-append, map_more}
 use Rattle.std.proofs.lemmas.List.Elements.{All-push}
 use Rattle.gt_types.specs.declared.DomId.{DomId}
-use Rattle.gt_host.specs.Naming.{AreNamed}
+use Rattle.gt_script_runs.specs.Naming.{AreNamed}
 use Rattle.gt_explore_replay.specs.declared.walker.OpenTask.TheVariants.{Nothing}
 use Rattle.gt_types.specs.declared.TypeId.{TypeId}
 use Rattle.gt_types.specs.declared.perms.Perms.{Perms}
@@ -17,9 +17,9 @@ use Rattle.gt_script.specs.Contents.{Contents, first_gen, type_names}
 use Rattle.gt_script.specs.RunContents.{RunContents}
 use Rattle.gt_script.specs.RunScripts.{list_of}
 use Rattle.gt_script.specs.Lists.{RunTask}
-use Rattle.gt_host.specs.declared.rights.ScriptPolicy.{ScriptPolicy}
-use Rattle.gt_host.specs.Playing.{StartsFor, setting_of_script}
-use Rattle.gt_host.specs.Rights.{may_by}
+use Rattle.gt_script_runs.specs.declared.rights.ScriptPolicy.{ScriptPolicy}
+use Rattle.gt_script_runs.specs.Playing.{StartsFor, setting_of_script}
+use Rattle.gt_script_runs.specs.Rights.{may_by}
 use Rattle.gt_explore_replay.specs.Orders.{FollowsList}
 use Rattle.gt_explore_replay.specs.Walking.{HaveOwnIds, Continues, HasWalked, HasFollowed, StartsWalk, tasks_left_of}
 use Rattle.gt_explore_replay.specs.declared.replay.Replay.{Replay}

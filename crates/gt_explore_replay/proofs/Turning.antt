@@ -20,8 +20,8 @@ use Rattle.gt_script.specs.RunScripts.{list_of}
 use Rattle.gt_types.specs.Names.{domain_of}
 use Rattle.gt_types.specs.declared.DomId.{DomId}
 use Rattle.gt_types.specs.declared.config.DomainConfig.{DomainConfig}
-use Rattle.gt_host.specs.Printing.{answer_line}
-use Rattle.gt_host.specs.Runs.{EndsWith, AnswerNothing, answer_in, handle_given, label_given, with_name}
+use Rattle.gt_script_runs.specs.Printing.{answer_line}
+use Rattle.gt_script_runs.specs.Runs.{EndsWith, AnswerNothing, answer_in, handle_given, label_given, with_name}
 use Rattle.gt_explore_search.specs.declared.spaces.Turn.{Turn}
 use Rattle.gt_explore_replay.specs.Orders.{Happening, did, doer, own_happenings, given_up, held_after, ticks_of}
 use Rattle.gt_explore_replay.specs.Orders.{CallGoesOn, CallHappens, GivesMappingsBack, FollowsList, DeedHappens, Prints}

@@ -25,9 +25,9 @@ use Rattle.gt_script.specs.Lists.{RunAction, RunTask}
 use Rattle.gt_script.specs.RunContents.{RunContents}
 use Rattle.gt_script.specs.Stuck.{IsBelow}
 use Rattle.gt_script.specs.declared.tasks.RunActionBy.TheVariants.{Do, Tell, Await}
-use Rattle.gt_host.specs.declared.rights.ScriptPolicy.{ScriptPolicy}
-use Rattle.gt_host.specs.Playing.{setting_of_script}
-use Rattle.gt_host.specs.Rights.{may_by}
+use Rattle.gt_script_runs.specs.declared.rights.ScriptPolicy.{ScriptPolicy}
+use Rattle.gt_script_runs.specs.Playing.{setting_of_script}
+use Rattle.gt_script_runs.specs.Rights.{may_by}
 use Rattle.gt_explore_replay.specs.Orders.{Happening, did, raised, passed, trace_in, IsRaisedBefore}
 use Rattle.gt_explore_replay.specs.Walking.{tasks_left_of}
 use Rattle.gt_explore_replay.specs.Courses.{Course, CourseLeads, ActionLeads}

@@ -13,9 +13,9 @@ ghost use Rattle.gt_explore_replay.specs.Walking.{StartsWalk};
 use crate::walker::Walker;
 use gt_core::{Answer, Core, Observation, Step};
 use gt_explore_search::Turn;
-use gt_host::{ScriptPolicy, core_of};
 use gt_script::{RunAction, RunScript};
 use gt_script_lines::Text;
+use gt_script_runs::{ScriptPolicy, core_of};
 use gt_types::{DomainConfig, Memory};
 use std::alloc::{AllocError, Global};
 
@@ -94,7 +94,7 @@ impl<'s, 'a> Replay<'s, 'a> {
     ghost use Rattle.gt_script.specs.RunContents.{RunContents, run_told};
     ghost use Rattle.gt_script.specs.RunScripts.{CanConfigure};
     ghost use Rattle.gt_script.specs.Stuck.{AreNumbered};
-    ghost use Rattle.gt_host.specs.Playing.{setting_of_script};
+    ghost use Rattle.gt_script_runs.specs.Playing.{setting_of_script};
     ghost use Rattle.gt_explore_replay.specs.Abreast.{IsAbreast, CanComeNext};
     ghost use Rattle.gt_explore_replay.specs.Courses.{AllCoursesEnd, Course, CourseLeads, courses_text, first_courses};
     ghost use Rattle.gt_explore_replay.specs.Orders.{Happening, IsOrderOf};

@@ -4,11 +4,11 @@ ghost use Rattle.gt_explore_replay.specs.Orders.{given_up, held_after, handles_w
 
 use crate::replay::Moved;
 use gt_core::{Answer, Begun, Core, Handle, Request, Ticked};
-use gt_host::{
-    Labels, ScriptPolicy, call_bytes, label_given, name_mapping, push_answer_line, request_of,
-};
 use gt_script::RunTask;
 use gt_script_lines::{ScriptCall, Text};
+use gt_script_runs::{
+    Labels, ScriptPolicy, call_bytes, label_given, name_mapping, push_answer_line, request_of,
+};
 use gt_types::{DomId, Memory};
 use std::alloc::{AllocError, Global};
 
@@ -84,7 +84,7 @@ fn hold(
 impl<'s, 'a> Walker<'s, 'a> {
     ghost use Rattle.std.specs.Prelude.{◌≡◌, ◌≢◌, ◌+◌, ◌<◌, ◌≤◌, [], false, length, slice_get, IfNone, IsSome, IsTrue};
     ghost use Rattle.std.specs.Option.{option_map};
-    ghost use Rattle.gt_host.specs.Naming.{AreNamed};
+    ghost use Rattle.gt_script_runs.specs.Naming.{AreNamed};
     ghost use Rattle.gt_explore_replay.specs.Walking.{IsAtEnd, tasks_left_of};
     ghost use Rattle.gt_explore_replay.specs.declared.walker.OpenTask.TheVariants as doing;
 
@@ -181,7 +181,7 @@ impl<'s, 'a> Walker<'s, 'a> {
 impl<'s, 'a> Walker<'s, 'a> {
     ghost use Rattle.std.specs.Prelude.{◌≡◌, ◌≢◌, ◌<◌, ◌≤◌, ℕ, List, length, slice_get, IsTrue, IfOk, IfSome, Some};
     ghost use Rattle.gt_core.specs.Standing.{setting_in};
-    ghost use Rattle.gt_host.specs.Rights.{may_by};
+    ghost use Rattle.gt_script_runs.specs.Rights.{may_by};
     ghost use Rattle.gt_script.specs.declared.tasks.RunActionBy.TheVariants as deeds;
     ghost use Rattle.gt_explore_replay.specs.Making.{BeginsLine, GivesBackAt, TicksOpen};
     ghost use Rattle.gt_explore_replay.specs.Walking.{AnswersLine, ClosesCall, WalksTo, tasks_left_of};

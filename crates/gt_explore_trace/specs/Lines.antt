@@ -2,7 +2,7 @@
 use Rattle.std.specs.Prelude.{ℕ, ◌+◌, List, [], ◌∷◌, ◌++◌, length, Option, Some, None, codes, decimal}
 use Rattle.gt_types.specs.declared.DomId.{DomId}
 use Rattle.gt_core.specs.declared.trace.Answer.{Answer}
-use Rattle.gt_host.specs.Printing.{answer_text}
+use Rattle.gt_script_runs.specs.Printing.{answer_text}
 use Rattle.gt_json.specs.Strings.{quoted}
 use Rattle.gt_script.specs.Contents.{type_names}
 use Rattle.gt_script.specs.Lists.{RunTask}

@@ -5,9 +5,9 @@ ghost use Rattle.gt_explore_trace.specs.Lines.{answer_member, answer_of, answer_
 
 use gt_core::Answer;
 use gt_explore_replay::Moved;
-use gt_host::push_answer;
 use gt_json::push_quoted;
 use gt_script_lines::Text;
+use gt_script_runs::push_answer;
 use gt_text::push_text;
 use std::alloc::{AllocError, Global};
 

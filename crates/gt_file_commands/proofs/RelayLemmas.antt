@@ -8,9 +8,9 @@ use Rattle.gt_json_commands.specs.AsJson.{AsJson, Failed, Promise}
 use Rattle.gt_json_commands.specs.Prelude.{Run, json_text}
 use Rattle.gt_commands.specs.declared.invocation.Format.{Format}
 use Rattle.gt_commands.specs.declared.invocation.Format.TheVariants.{Text, Json}
-use Rattle.gt_host.specs.Rights.{may_by}
-use Rattle.gt_host.specs.declared.rights.ScriptPolicy.{ScriptPolicy as ScriptRights}
-use Rattle.gt_host.specs.declared.fault.PlayFault.TheVariants.{Memory, Read, Write, Script, Policy}
+use Rattle.gt_script_runs.specs.Rights.{may_by}
+use Rattle.gt_script_runs.specs.declared.rights.ScriptPolicy.{ScriptPolicy as ScriptRights}
+use Rattle.gt_script_runs.specs.declared.fault.PlayFault.TheVariants.{Memory, Read, Write, Script, Policy}
 use Rattle.gt_run.specs.Printing.{BeginsAll, run_text, texts_in}
 use Rattle.gt_run.specs.Runs.{Ran}
 use Rattle.gt_run.specs.declared.fault.RunFault.{RunFault}

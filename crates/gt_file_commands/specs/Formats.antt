@@ -9,8 +9,8 @@ use Rattle.gt_commands.specs.declared.invocation.Format.TheVariants.{Text, Json}
 use Rattle.gt_entries.specs.Dumps.{Told}
 use Rattle.gt_entries.specs.declared.asked.DumpOptions.{DumpOptions}
 use Rattle.gt_entries.specs.declared.fault.DumpFault.{DumpFault}
-use Rattle.gt_host.specs.Playing.{Played}
-use Rattle.gt_host.specs.declared.fault.PlayFault.{PlayFault}
+use Rattle.gt_script_runs.specs.Playing.{Played}
+use Rattle.gt_script_runs.specs.declared.fault.PlayFault.{PlayFault}
 use Rattle.gt_policy_list.specs.Writing.{Listed}
 use Rattle.gt_policy_list.specs.declared.fault.ListingFault.{ListingFault}
 use Rattle.gt_order.specs.Running.{RanInOrder}
@@ -18,7 +18,7 @@ use Rattle.gt_run.specs.declared.fault.RunFault.{RunFault}
 use Rattle.gt_script.specs.RunScripts.{RunTells}
 use Rattle.gt_script.specs.Script.{TellsScript}
 use Rattle.gt_text.specs.Streams.{AppendsBeginning}
-use Rattle.gt_host.specs.declared.fault.PlayFault.TheVariants.{Memory, Policy, Read, Script, Write}
+use Rattle.gt_script_runs.specs.declared.fault.PlayFault.TheVariants.{Memory, Policy, Read, Script, Write}
 use Rattle.gt_run.specs.declared.fault.RunFault.TheVariants.{Play, Thread}
 
 -- the output of `play`

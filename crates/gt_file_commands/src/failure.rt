@@ -2,9 +2,9 @@
 use gt_checks::{BreachFault, WhyFault};
 use gt_entries::DumpFault;
 use gt_explore_faults::ExploreFault;
-use gt_host::PlayFault;
 use gt_policy_list::ListingFault;
 use gt_run::RunFault;
+use gt_script_runs::PlayFault;
 use gt_text::{ReadFault, WriteFault};
 use std::fmt;
 

@@ -27,11 +27,11 @@ use Rattle.gt_core.specs.declared.trace.ItemEvent.{ItemEvent}
 use Rattle.gt_core.specs.declared.trace.ItemEvent.TheVariants.{Began, Stepped}
 use Rattle.gt_core.specs.declared.trace.Item.{Item}
 use Rattle.gt_host.specs.declared.kept.PlayState.{PlayState}
-use Rattle.gt_host.specs.Auditing.{before_begun, before_call, hypercall_of_request, item_told, open_told, record_in, record_of}
-use Rattle.gt_host.specs.Auditing.{encoded_record, record_with, records_of, underway_told, record_lines}
+use Rattle.gt_script_runs.specs.Auditing.{before_begun, before_call, hypercall_of_request, item_told, open_told, record_in, record_of}
+use Rattle.gt_script_runs.specs.Auditing.{encoded_record, record_with, records_of, underway_told, record_lines}
 use Rattle.gt_host.specs.OpenCalls.{told_in}
 use Rattle.gt_host.specs.Recording.{IsAudited}
-use Rattle.gt_host.specs.Runs.{AnswerNothing, answer_in, call_events}
+use Rattle.gt_script_runs.specs.Runs.{AnswerNothing, answer_in, call_events}
 use Rattle.gt_host.proofs.EventLemmas.{AreOf, answered_leaves, begins_fresh, events_close, item_of, same_or_apart}
 use Rattle.gt_host.proofs.EventLemmas.{ticks_of}
 use Rattle.gt_host.proofs.OpenLemmas.{other_call, own_call}

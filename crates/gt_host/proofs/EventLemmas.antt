@@ -15,7 +15,7 @@ use Rattle.gt_core.specs.declared.trace.Element.TheVariants.{Busy, Idle, NoDomai
 use Rattle.gt_core.specs.declared.trace.ItemEvent.{ItemEvent}
 use Rattle.gt_core.specs.declared.trace.ItemEvent.TheVariants.{Began}
 use Rattle.gt_core.specs.declared.trace.Item.{Item}
-use Rattle.gt_host.specs.Runs.{answer_in, call_events}
+use Rattle.gt_script_runs.specs.Runs.{answer_in, call_events}
 use Rattle.gt_host.proofs.OpenLemmas.{own_call, other_call}
 
 -- the events are of this domain

@@ -1,13 +1,10 @@
 pub mod AuditLemmas
 pub mod EventLemmas
-pub mod LabelLemmas
 pub mod LineLemmas
 pub mod OpenLemmas
 pub mod PlayLemmas
 pub mod PlayedLemmas
 pub mod RunLemmas
-pub mod StartLemmas
-pub mod AlikeLemmas
 pub mod TickLemmas
 pub mod OneText
 pub mod RecordLemmas

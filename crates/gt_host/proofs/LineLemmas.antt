@@ -28,17 +28,17 @@ use Rattle.gt_core.specs.declared.trace.ItemEvent.TheVariants.{Began}
 use Rattle.gt_core.specs.declared.trace.Item.{Item}
 use Rattle.gt_host.specs.declared.audit.AuditRecords.{AuditRecords}
 use Rattle.gt_host.specs.declared.kept.PlayState.{PlayState}
-use Rattle.gt_host.specs.declared.labels.Labels.{Labels}
+use Rattle.gt_script_runs.specs.declared.labels.Labels.{Labels}
 use Rattle.gt_host.specs.declared.open_calls.OpenCalls.{OpenCalls}
 use Rattle.gt_audit.specs.declared.record.Hypercall.{Hypercall}
-use Rattle.gt_host.specs.Naming.{AreNamed}
+use Rattle.gt_script_runs.specs.Naming.{AreNamed}
 use Rattle.gt_host.specs.OpenCalls.{call_in, told_in}
-use Rattle.gt_host.specs.Printing.{answer_line, busy_line, idle_line}
-use Rattle.gt_host.specs.Runs.{Progress, Named, DoLine, BeginLine, TickLine, ShowLine, history_of, with_events}
-use Rattle.gt_host.specs.Runs.{with_line, progress_after, after_ticks, progress_begun, named_after, SaysRequest}
-use Rattle.gt_host.specs.Runs.{call_events}
+use Rattle.gt_script_runs.specs.Printing.{answer_line, busy_line, idle_line}
+use Rattle.gt_script_runs.specs.Runs.{Progress, Named, DoLine, BeginLine, TickLine, ShowLine, history_of, with_events}
+use Rattle.gt_script_runs.specs.Runs.{with_line, progress_after, after_ticks, progress_begun, named_after, SaysRequest}
+use Rattle.gt_script_runs.specs.Runs.{call_events}
 use Rattle.gt_host.specs.Recording.{IsAbout}
-use Rattle.gt_host.specs.Showing.{show_line}
+use Rattle.gt_script_runs.specs.Showing.{show_line}
 use Rattle.gt_host.specs.Ticking.{HasHappened, HasCalled, TicksTo, KeepsProgress, HasPlayed, IsAppended}
 use Rattle.gt_host.proofs.AuditLemmas.{AddsRecord, AreTold, Records, audited_begun, audited_busy, audited_call}
 use Rattle.gt_host.proofs.AuditLemmas.{audited_more, audited_ticks, audited_wait}

@@ -28,19 +28,19 @@ use Rattle.gt_core.specs.declared.core_state.EntryView.{EntryView}
 use Rattle.gt_core.specs.Alike.{told_part, SameEvent, SameElement, IsOfKnown, IsRun, AreAlike}
 use Rattle.gt_text.specs.Streams.{AppendsBeginning}
 use Rattle.gt_text.specs.Laws.{begins_longer}
-use Rattle.gt_host.specs.Printing.{answer_text, answer_line, call_text, busy_line, idle_line}
-use Rattle.gt_host.specs.Showing.{show_line}
-use Rattle.gt_host.specs.Playing.{IsLegalRunOf, setting_of_script, play_text, audited_text, BeginsRun, BeginsEvery}
-use Rattle.gt_host.specs.Playing.{Played}
-use Rattle.gt_host.specs.Runs.{Progress, AnswerNothing, EndsWith, EndsAsCall, TicksComeTo, answer_in, call_events}
-use Rattle.gt_host.specs.Runs.{at_start, history_of, with_events, with_line, with_step_of, answered, progress_after}
-use Rattle.gt_host.specs.Runs.{after_item, progress_begun, after_ticks, DoLine, BeginLine, TickLine, ShowLine}
-use Rattle.gt_host.specs.Runs.{RunsLine, PlayLeadsTo, open_lines}
-use Rattle.gt_host.specs.Auditing.{audit_text}
+use Rattle.gt_script_runs.specs.Printing.{answer_text, answer_line, call_text, busy_line, idle_line}
+use Rattle.gt_script_runs.specs.Showing.{show_line}
+use Rattle.gt_script_runs.specs.Playing.{IsLegalRunOf, setting_of_script, play_text, audited_text, BeginsRun, BeginsEvery}
+use Rattle.gt_script_runs.specs.Playing.{Played}
+use Rattle.gt_script_runs.specs.Runs.{Progress, AnswerNothing, EndsWith, EndsAsCall, TicksComeTo, answer_in, call_events}
+use Rattle.gt_script_runs.specs.Runs.{at_start, history_of, with_events, with_line, with_step_of, answered, progress_after}
+use Rattle.gt_script_runs.specs.Runs.{after_item, progress_begun, after_ticks, DoLine, BeginLine, TickLine, ShowLine}
+use Rattle.gt_script_runs.specs.Runs.{RunsLine, PlayLeadsTo, open_lines}
+use Rattle.gt_script_runs.specs.Auditing.{audit_text}
 use Rattle.gt_host.proofs.RecordLemmas.{HasOneSubject, audit-same}
 use Rattle.gt_host.proofs.RunLemmas.{history_after-append}
-use Rattle.gt_host.proofs.AlikeLemmas.{bare_names, NamesGiven, AnswerGiven, asks-same, asks-known, text-same}
-use Rattle.gt_host.proofs.AlikeLemmas.{named-same, named-given, names-after, answers-same, done-given}
+use Rattle.gt_script_runs.proofs.AlikeLemmas.{bare_names, NamesGiven, AnswerGiven, asks-same, asks-known, text-same}
+use Rattle.gt_script_runs.proofs.AlikeLemmas.{named-same, named-given, names-after, answers-same, done-given}
 use Rattle.gt_host.proofs.TickLemmas.{StaysAlike, swapped, answers-alike, call-given, ticks-alike, ticks-apart}
 use Rattle.gt_host.proofs.TickLemmas.{ticks-answered}
 

@@ -25,7 +25,7 @@ use Rattle.gt_core.specs.declared.trace.Element.{Element}
 use Rattle.gt_core.specs.declared.trace.Element.TheVariants.{Busy, Idle, NoDomain, Item as Did}
 use Rattle.gt_core.specs.declared.core_state.Begun.{Begun}
 use Rattle.gt_core.specs.declared.core_state.Begun.TheVariants as begun
-use Rattle.gt_host.specs.Runs.{answer_in, AnswerNothing}
+use Rattle.gt_script_runs.specs.Runs.{answer_in, AnswerNothing}
 use Rattle.gt_host.specs.Ticking.{TicksTo}
 
 -- an item of the domain

@@ -16,19 +16,19 @@ use Rattle.gt_core.specs.Standing.{CoreModel, CoreStands}
 use Rattle.gt_core.specs.Acting.{setting_of}
 use Rattle.gt_core.specs.States.{CoreState}
 use Rattle.gt_host.specs.declared.kept.PlayState.{PlayState}
-use Rattle.gt_host.specs.declared.rights.ScriptPolicy.{ScriptPolicy}
-use Rattle.gt_host.specs.Rights.{may_by}
+use Rattle.gt_script_runs.specs.declared.rights.ScriptPolicy.{ScriptPolicy}
+use Rattle.gt_script_runs.specs.Rights.{may_by}
 use Rattle.gt_host.specs.OpenCalls.{call_in}
-use Rattle.gt_host.specs.Auditing.{asked_lines, audit_text, before_call, record_lines}
-use Rattle.gt_host.specs.Playing.{StartsFor, BeginsRun, WritesRun, IsLegalRunOf, setting_of_script, play_text}
-use Rattle.gt_host.specs.Playing.{audited_text}
+use Rattle.gt_script_runs.specs.Auditing.{asked_lines, audit_text, before_call, record_lines}
+use Rattle.gt_script_runs.specs.Playing.{StartsFor, BeginsRun, WritesRun, IsLegalRunOf, setting_of_script, play_text}
+use Rattle.gt_script_runs.specs.Playing.{audited_text}
 use Rattle.gt_host.specs.Recording.{IsAudited, RecordsNothing}
 use Rattle.gt_core.specs.declared.trace.Element.{Element}
-use Rattle.gt_host.specs.Runs.{Progress, PlayLeadsTo, IsRunOf, RunsLine, at_start, history_of, open_text, open_lines}
+use Rattle.gt_script_runs.specs.Runs.{Progress, PlayLeadsTo, IsRunOf, RunsLine, at_start, history_of, open_text, open_lines}
 use Rattle.gt_text.specs.Laws.{appends_both, appends_nothing, begins_after}
 use Rattle.gt_text.specs.Streams.{AppendsBeginning, Sends}
 use Rattle.gt_host.specs.Ticking.{IsReadyToCall, KeepsProgress, HasPlayed, Leads}
-use Rattle.gt_host.proofs.StartLemmas.{taken_known}
+use Rattle.gt_script_runs.proofs.StartLemmas.{taken_known}
 
 -- how far a run has come: it stands where these steps led, and of its text some went out and the rest waits
 pub record IsUnderway (c : Contents) (audit : Bool) (steps : List ScriptStep) (domains : CoreState) (kept : PlayState) (waiting : List ℕ) (old now : Option (List ℕ)) : Type 0 where

@@ -10,9 +10,10 @@ use Rattle.gt_text.specs.declared.fault.ReadFault.{ReadFault}
 use Rattle.gt_text.specs.declared.fault.ReadFault.TheVariants as reads
 use Rattle.gt_host.specs.declared.fault.StepsFault.{StepsFault}
 use Rattle.gt_host.specs.declared.fault.StepsFault.TheVariants as runs
-use Rattle.gt_host.specs.declared.fault.PlayFault.{PlayFault}
-use Rattle.gt_host.specs.Faults.{fault_of, read_fault, play_ended}
-use Rattle.gt_host.specs.Playing.{BeginsEvery, BeginsRun, WritesRun, Played}
+use Rattle.gt_script_runs.specs.declared.fault.PlayFault.{PlayFault}
+use Rattle.gt_host.specs.Faults.{play_ended}
+use Rattle.gt_script_runs.specs.Faults.{fault_of, read_fault}
+use Rattle.gt_script_runs.specs.Playing.{BeginsEvery, BeginsRun, WritesRun, Played}
 use Rattle.gt_text.specs.Laws.{keeps_same, of_any_input}
 use Rattle.gt_text.specs.Streams.{OfInput}
 

@@ -29,8 +29,8 @@ use Rattle.gt_core.specs.declared.trace.ItemEvent.TheVariants.{Began, Stepped}
 use Rattle.gt_core.specs.declared.trace.Item.{Item}
 use Rattle.gt_core.specs.Alike.{bare_handle, bare_request, bare_happened, told_part, told_item, told_items, ToldItem}
 use Rattle.gt_core.specs.Alike.{IsKnown, AsksKnown, HappensKnown, IsRun, AreAlike}
-use Rattle.gt_host.specs.Auditing.{hypercall_of_request, audited_reply, record_with, before_begun, before_call, underway_told}
-use Rattle.gt_host.specs.Auditing.{item_told, record_of, record_in, records_of, asked_lines, audit_text}
+use Rattle.gt_script_runs.specs.Auditing.{hypercall_of_request, audited_reply, record_with, before_begun, before_call, underway_told}
+use Rattle.gt_script_runs.specs.Auditing.{item_told, record_of, record_in, records_of, asked_lines, audit_text}
 
 -- what the law of gt_core says of handles
 abbrev pub HasOneSubject : Type 0

@@ -25,12 +25,8 @@ use Rattle.gt_core.specs.declared.core_state.Begun.{Begun}
 use Rattle.gt_core.specs.declared.core_state.Begun.TheVariants as begun
 use Rattle.gt_core.specs.declared.core_state.Ticked.{Ticked}
 use Rattle.gt_core.specs.declared.core_state.Ticked.TheVariants as ticked
-use Rattle.gt_host.specs.Runs.{answer_in, AnswerNothing, EndsWith, EndsAsCall}
+use Rattle.gt_script_runs.specs.Runs.{answer_in, AnswerNothing, EndsWith, EndsAsCall}
 use Rattle.gt_host.specs.Ticking.{HasHappened, HasCalled, TicksTo}
-
--- the setting of a core is that of one with the same domains and rights
-pub same_setting : {R : Type 0} (may : R → TypeId → TypeId → Perms → Bool) (a b : Config) (x y : R) → a ≡ b → x ≡ y → setting_of a (may x) ≡ setting_of b (may y)
-same_setting {R} may a b x y e f = ap (λ (c : Config). setting_of c (may x)) e ∙ ap (λ (r : R). setting_of b (may r)) f
 
 -- histories
 

@@ -11,8 +11,8 @@ use Rattle.gt_core.specs.declared.trace.Event.TheVariants.{Tick}
 use Rattle.gt_core.specs.History.{History, Setting}
 use Rattle.gt_core.specs.Legal.{MayDo, LegalAfter, actor_of, grown, history_after}
 use Rattle.gt_core.specs.Alike.{told_part, SameEvent, SameElement, IsOfKnown, AreAlike}
-use Rattle.gt_host.specs.Runs.{answer_in, AnswerNothing}
-use Rattle.gt_host.proofs.AlikeLemmas.{answers-same, AnswerGiven, done-given}
+use Rattle.gt_script_runs.specs.Runs.{answer_in, AnswerNothing}
+use Rattle.gt_script_runs.proofs.AlikeLemmas.{answers-same, AnswerGiven, done-given}
 
 -- what the laws of gt_core say: alike events do the same but for keys in alike runs, and leave alike runs
 abbrev pub StaysAlike : Type 0

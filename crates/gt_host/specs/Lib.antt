@@ -1,13 +1,4 @@
-pub mod Auditing
 pub mod Faults
-pub mod Labels
-pub mod Naming
 pub mod OpenCalls
-pub mod Playing
-pub mod Prelude
-pub mod Printing
 pub mod Recording
-pub mod Rights
-pub mod Runs
-pub mod Showing
 pub mod Ticking

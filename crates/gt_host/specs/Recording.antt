@@ -12,7 +12,7 @@ use Rattle.gt_core.specs.Subject.{subject_at}
 use Rattle.gt_core.specs.declared.trace.Element.{Element}
 use Rattle.gt_host.specs.declared.kept.PlayState.{PlayState}
 use Rattle.gt_host.specs.OpenCalls.{told_in}
-use Rattle.gt_host.specs.Auditing.{hypercall_of_request, open_told, records_of}
+use Rattle.gt_script_runs.specs.Auditing.{hypercall_of_request, open_told, records_of}
 
 -- the record of the domain's request, after the items for which the core stands
 abbrev pub IsAbout : Setting → CoreState → DomId → Request → Option Hypercall → Type 0

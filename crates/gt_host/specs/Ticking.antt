@@ -12,10 +12,10 @@ use Rattle.gt_core.specs.declared.trace.Event.{Event}
 use Rattle.gt_core.specs.declared.trace.Event.TheVariants.{Tick}
 use Rattle.gt_core.specs.declared.trace.Element.{Element}
 use Rattle.gt_host.specs.declared.kept.PlayState.{PlayState}
-use Rattle.gt_host.specs.Naming.{AreNamed}
+use Rattle.gt_script_runs.specs.Naming.{AreNamed}
 use Rattle.gt_host.specs.OpenCalls.{call_in}
 use Rattle.gt_host.specs.Recording.{IsAudited}
-use Rattle.gt_host.specs.Runs.{Progress, EndsAsCall, TicksComeTo, KnowsOpen, call_events, history_of}
+use Rattle.gt_script_runs.specs.Runs.{Progress, EndsAsCall, TicksComeTo, KnowsOpen, call_events, history_of}
 
 -- the events did what they may after the history, and the core stands for the result
 pub record HasHappened (s : Setting) (h : History) (events : List Event) (trace : List Element)

@@ -1,7 +1,7 @@
 //! The state of a run besides the core.
 use crate::audit::AuditRecords;
-use crate::labels::Labels;
 use crate::open_calls::OpenCalls;
+use gt_script_runs::Labels;
 use std::alloc::Global;
 
 /// The state of a run besides the core: the labels, the open calls, and the records of the audit.
@@ -17,7 +17,7 @@ pub struct PlayState<'b, 'a> {
 impl<'b, 'a> PlayState<'b, 'a> {
     ghost use Rattle.std.specs.Prelude.{◌≡◌};
     ghost use Rattle.gt_host.specs.Recording.{RecordsNothing};
-    ghost use Rattle.gt_host.specs.Runs.{at_start};
+    ghost use Rattle.gt_script_runs.specs.Runs.{at_start};
     ghost use Rattle.gt_host.specs.Ticking.{KeepsProgress};
 
     /// Makes the state before the first line. `audit` turns the records on.

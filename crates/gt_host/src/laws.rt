@@ -2,8 +2,8 @@
 ghost use Rattle.std.specs.Prelude.{◌≡◌, ℕ, Bool, List, Option, Some, Ok};
 ghost use Rattle.gt_script.specs.Contents.{Contents};
 ghost use Rattle.gt_script.specs.Script.{TellsScript};
-ghost use Rattle.gt_host.specs.Playing.{BeginsEvery, BeginsRun, IsLegalRunOf, Played, audited_text};
-ghost use Rattle.gt_host.specs.Runs.{Progress};
+ghost use Rattle.gt_script_runs.specs.Playing.{BeginsEvery, BeginsRun, IsLegalRunOf, Played, audited_text};
+ghost use Rattle.gt_script_runs.specs.Runs.{Progress};
 
 use gt_core::{
     every_alike_event_does_one_thing, every_alike_run_shows_one_thing,

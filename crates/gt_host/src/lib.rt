@@ -14,22 +14,14 @@
 //! reads and writes) and `hex`. Its definitions also name the requests of `gt_calls` and the handles of `gt_handles`.
 #![tactic(auto)]
 
-mod answers;
 mod audit;
 mod fault;
 mod kept;
-mod labels;
 mod laws;
 mod open_calls;
 mod playing;
-mod rights;
 mod run;
 mod showing;
 
-pub use answers::{push_answer, push_answer_line};
-pub use fault::PlayFault;
-pub use labels::Labels;
 pub use laws::{every_beginning_is_of_the_text, every_script_prints_one_text};
-pub use playing::{core_of, play};
-pub use rights::ScriptPolicy;
-pub use run::{call_bytes, label_given, name_mapping, request_of};
+pub use playing::play;

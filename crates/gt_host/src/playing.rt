@@ -1,48 +1,27 @@
 //! Plays a script.
-ghost use Rattle.std.specs.Prelude.{◌≡◌, ◌≢◌, ◌⊎◌, ◌++◌, ℕ, List, take, AllPairs, OnOk, OnErr, IfOk, IfErr, IsOk};
+ghost use Rattle.std.specs.Prelude.{◌≡◌, ◌⊎◌, ◌++◌, ℕ, List, take, OnOk, OnErr, IfErr};
 ghost use Rattle.std.specs.Option.{option_map};
 ghost use Rattle.gt_script.specs.Contents.{contents_told};
-ghost use Rattle.gt_script.specs.RunScripts.{CanConfigure};
 ghost use Rattle.gt_script.specs.Script.{TellsScript};
 ghost use Rattle.gt_host.specs.declared.fault.StepsFault.TheVariants as faults;
 ghost use Rattle.gt_host.specs.OpenCalls.{call_in};
-ghost use Rattle.gt_host.specs.Runs.{open_text, open_lines};
+ghost use Rattle.gt_script_runs.specs.Runs.{open_text, open_lines};
 ghost use Rattle.gt_text.specs.Streams.{OfInput, ConsumesAtMost};
 ghost use Rattle.gt_text.specs.declared.streams.TheConstants.{READ_LIMIT};
-ghost use Rattle.gt_host.specs.Playing.{CanStart, StartsFor, WritesRun, BeginsRun, Played};
+ghost use Rattle.gt_script_runs.specs.Playing.{CanStart, StartsFor, WritesRun, BeginsRun, Played};
 
-use crate::answers::push_open_line;
-use crate::fault::{PlayFault, StepsFault};
+use crate::fault::StepsFault;
 use crate::kept::PlayState;
 use crate::laws::every_beginning_is_of_the_text;
 use crate::open_calls::{OpenCalls, Opened};
-use crate::rights::ScriptPolicy;
 use crate::run::run_step;
 use gt_core::Core;
 use gt_script::{Script, parse};
+use gt_script_runs::{PlayFault, ScriptPolicy, core_of, push_open_line};
 use gt_text::{finish, read_text, send};
-use gt_types::{Config, DomId, DomainConfig, Memory, StartFault};
+use gt_types::{DomId, DomainConfig};
 use std::alloc::{AllocError, Global};
 use std::io::{Read, Write};
-
-/// Makes a core with the domains and the rights of a script, on which nothing has happened. The only Err is a failed
-/// allocation.
-pub fn core_of(alloc: Global, script: &Script) -> Result<Core<ScriptPolicy>, Memory>
-    requires { CanConfigure (contents_told script.now) }
-    ensures starts { IfOk result (StartsFor (contents_told script.now)) }
-    ensures apart { IsOk result → AllPairs (λ d e. d.id.0 ≢ e.id.0) (contents_told script.now).domains }
-{
-    let config = Config {
-        domains: Vec::from_slice(alloc, script.domains())?,
-        first_gen: script.first_gen(),
-    };
-    let rights = ScriptPolicy::of(alloc, script)?;
-    match Core::new(alloc, config, rights) {
-        Ok(core) => Ok(core),
-        Err(StartFault::Memory) => Err(Memory),
-        Err(StartFault::Config(_)) => unreachable!(),
-    }
-}
 
 // Appends the line of a domain's open call, if it has one.
 fn push_if_open(out: &mut Vec<u8>, dom: DomId, begun: Option<Opened>) -> Result<(), AllocError>
@@ -128,7 +107,7 @@ fn play_bytes<W: Write>(
 {
     every_beginning_is_of_the_text();
     match parse(alloc, input) {
-        Ok(script) => PlayFault::told(run_script(alloc, &script, writer, audit)),
+        Ok(script) => StepsFault::told(run_script(alloc, &script, writer, audit)),
         Err(error) => Err(PlayFault::from(error)),
     }
 }

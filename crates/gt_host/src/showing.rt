@@ -1,6 +1,6 @@
 //! The lines that show an entry.
 ghost use Rattle.std.specs.Prelude.{◌≡◌, ◌++◌, OnOk, codes};
-ghost use Rattle.gt_host.specs.Showing.{part_text, entry_text, counts_text, status_text, shown_text, show_line};
+ghost use Rattle.gt_script_runs.specs.Showing.{part_text, entry_text, counts_text, status_text, shown_text, show_line};
 
 use gt_core::EntryView;
 use gt_entry::{Control, status_word};

@@ -5,7 +5,7 @@ use Rattle.gt_json_commands.specs.Prelude.{TellsScript}
 use Rattle.gt_json_commands.specs.Prelude.{RunTells, PlayFault, Played, RunFault, Ran, ListingFault, Listed, DumpOptions, DumpFault}
 use Rattle.gt_json_commands.specs.Prelude.{Told}
 use Rattle.gt_text.specs.Streams.{OfInput}
-use Rattle.gt_host.specs.declared.fault.PlayFault.TheVariants as plays
+use Rattle.gt_script_runs.specs.declared.fault.PlayFault.TheVariants as plays
 use Rattle.gt_run.specs.declared.fault.RunFault.TheVariants as runs
 use Rattle.gt_policy_list.specs.declared.fault.ListingFault.TheVariants as listings
 use Rattle.gt_entries.specs.declared.fault.DumpFault.TheVariants as dumps

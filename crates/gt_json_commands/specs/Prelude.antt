@@ -2,8 +2,8 @@
 pub use Rattle.gt_entries.specs.Dumps.{Told}
 pub use Rattle.gt_entries.specs.declared.asked.DumpOptions.{DumpOptions}
 pub use Rattle.gt_entries.specs.declared.fault.DumpFault.{DumpFault}
-pub use Rattle.gt_host.specs.Playing.{Played}
-pub use Rattle.gt_host.specs.declared.fault.PlayFault.{PlayFault}
+pub use Rattle.gt_script_runs.specs.Playing.{Played}
+pub use Rattle.gt_script_runs.specs.declared.fault.PlayFault.{PlayFault}
 pub use Rattle.gt_json.specs.Lines.{json_text}
 pub use Rattle.gt_json.specs.declared.places.PrintedText.{PrintedText}
 pub use Rattle.gt_json.specs.declared.places.PrintedText.TheVariants.{Entries, Policy, Run}

@@ -3,7 +3,7 @@ ghost use Rattle.std.specs.Prelude.{is_some};
 ghost use Rattle.gt_text.specs.Streams.{ConsumesAtMost};
 ghost use Rattle.gt_text.specs.declared.streams.TheConstants.{READ_LIMIT};
 ghost use Rattle.gt_json.specs.declared.places.PrintedText.TheVariants as printed;
-ghost use Rattle.gt_host.specs.declared.fault.PlayFault.TheVariants as plays;
+ghost use Rattle.gt_script_runs.specs.declared.fault.PlayFault.TheVariants as plays;
 ghost use Rattle.gt_run.specs.declared.fault.RunFault.TheVariants as runs;
 ghost use Rattle.gt_policy_list.specs.declared.fault.ListingFault.TheVariants as listings;
 ghost use Rattle.gt_entries.specs.declared.fault.DumpFault.TheVariants as dumps;
@@ -11,10 +11,11 @@ ghost use Rattle.gt_json_commands.specs.AsJson.{ForInput, PlayedAsJson, RanAsJso
 
 use gt_audit::SharedLog;
 use gt_entries::{DumpFault, DumpOptions, entries};
-use gt_host::{PlayFault, play};
+use gt_host::play;
 use gt_json::{JsonFault, PrintedText, write_json};
 use gt_policy_list::{ListingFault, policy};
 use gt_run::{Gate, RunFault, run};
+use gt_script_runs::PlayFault;
 use gt_text::every_writer_keeps_what_it_has;
 use std::alloc::Global;
 use std::io::{Read, Write};

@@ -11,9 +11,9 @@ use Rattle.gt_types.specs.declared.config.DomainConfig.{DomainConfig}
 use Rattle.gt_core.specs.Acting.{setting_of}
 use Rattle.gt_core.specs.History.{Setting}
 use Rattle.gt_core.specs.Legal.{Legal}
-use Rattle.gt_host.specs.Playing.{setting_of_script}
-use Rattle.gt_host.specs.Rights.{may_by}
-use Rattle.gt_host.specs.declared.rights.ScriptPolicy.{ScriptPolicy as ScriptRights}
+use Rattle.gt_script_runs.specs.Playing.{setting_of_script}
+use Rattle.gt_script_runs.specs.Rights.{may_by}
+use Rattle.gt_script_runs.specs.declared.rights.ScriptPolicy.{ScriptPolicy as ScriptRights}
 use Rattle.gt_script.specs.Contents.{type_names}
 use Rattle.gt_script.specs.Lists.{RunTask}
 use Rattle.gt_script.specs.Stuck.{IsBelow}

@@ -19,7 +19,7 @@ use Rattle.gt_core.specs.declared.trace.Event.TheVariants.{Begin, Tick}
 use Rattle.gt_core.specs.declared.trace.Item.{Item}
 use Rattle.gt_core.specs.declared.trace.ItemEvent.{ItemEvent}
 use Rattle.gt_core.specs.declared.trace.ItemEvent.TheVariants.{Began, Stepped}
-use Rattle.gt_host.specs.Runs.{AnswerNothing, answer_in}
+use Rattle.gt_script_runs.specs.Runs.{AnswerNothing, answer_in}
 use Rattle.gt_explore_replay.specs.Orders.{CallHappens, FlagsAreRaised, Happening, IsRaisedBefore, did, doer, events_in}
 use Rattle.gt_explore_replay.specs.Orders.{own_happenings, passed, raised, ticks_of, trace_in}
 use Rattle.gt_live.specs.Domains.{AllowRelation}

@@ -48,8 +48,8 @@ use Rattle.gt_order.specs.Runs.{AreDeeds, CallMade, Deed, FlagMade, IsAtRest, Is
 use Rattle.gt_order.specs.Runs.{SeatRun, domain_after}
 use Rattle.gt_order.specs.Runs.Deed.{Call, OnFlag}
 use Rattle.gt_script_lines.specs.declared.calls.ScriptCall.{ScriptCall}
-use Rattle.gt_host.specs.Printing.{answer_line}
-use Rattle.gt_host.specs.Runs.{Named}
+use Rattle.gt_script_runs.specs.Printing.{answer_line}
+use Rattle.gt_script_runs.specs.Runs.{Named}
 use Rattle.gt_script.specs.RunScripts.{list_of}
 use Rattle.gt_explore_replay.specs.Orders.{DeedHappens, Happening, given_up, held_after, passed, raised}
 use Rattle.gt_script.specs.Lists.{RunAction, RunTask}
@@ -72,7 +72,7 @@ use Rattle.gt_calls.specs.declared.action.CallResult.TheVariants.{Granted}
 use Rattle.gt_calls.specs.declared.request.Request.TheVariants as requests
 use Rattle.gt_core.specs.declared.trace.Answer.{Answer}
 use Rattle.gt_types.specs.declared.copies.CopyArgs.{CopyArgs}
-use Rattle.gt_host.specs.Runs.{SaysRequest, handle_given, label_given, with_name}
+use Rattle.gt_script_runs.specs.Runs.{SaysRequest, handle_given, label_given, with_name}
 use Rattle.gt_word_history.specs.History.{Moment}
 use Rattle.std.proofs.Common.{◌⊎◌}
 

@@ -4,7 +4,7 @@ use Rattle.std.proofs.lemmas.List.Elements.{All-from_get_or}
 use Rattle.hex.specs.Hex.{IsBytes}
 use Rattle.gt_types.specs.declared.DomId.{DomId}
 use Rattle.gt_calls.specs.declared.request.Request.{Request}
-use Rattle.gt_host.specs.Runs.{Named, SaysRequest, call_bytes, request_of}
+use Rattle.gt_script_runs.specs.Runs.{Named, SaysRequest, call_bytes, request_of}
 use Rattle.gt_script_lines.specs.declared.calls.ScriptCall.{ScriptCall}
 use Rattle.gt_script_lines.specs.declared.calls.ScriptCall.TheVariants as calls
 use Rattle.gt_run.specs.Serving.{FitsEntry}

@@ -5,8 +5,8 @@ use Rattle.std.specs.Prelude.{slice_get, take}
 use Rattle.gt_types.specs.declared.DomId.{DomId}
 use Rattle.gt_types.specs.declared.config.DomainConfig.{DomainConfig}
 use Rattle.gt_handles.specs.declared.handles.Handle.{Handle}
-use Rattle.gt_host.specs.Printing.{answer_line}
-use Rattle.gt_host.specs.Runs.{Named}
+use Rattle.gt_script_runs.specs.Printing.{answer_line}
+use Rattle.gt_script_runs.specs.Runs.{Named}
 use Rattle.gt_script.specs.Contents.{type_names}
 use Rattle.gt_script.specs.Lists.{RunAction, RunTask}
 use Rattle.gt_script.specs.RunContents.{RunContents}

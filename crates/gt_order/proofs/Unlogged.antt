@@ -11,8 +11,8 @@ use Rattle.std.proofs.lemmas.List.Sums.{sum_by-append}
 use Rattle.gt_run.specs.Prelude.{line_text, type_text}
 use Rattle.gt_audit.specs.Lines.{lost_text}
 use Rattle.gt_audit.specs.declared.record.Record.{Record}
-use Rattle.gt_host.specs.Rights.{may_by}
-use Rattle.gt_host.specs.declared.rights.ScriptPolicy.{ScriptPolicy as ScriptRights}
+use Rattle.gt_script_runs.specs.Rights.{may_by}
+use Rattle.gt_script_runs.specs.declared.rights.ScriptPolicy.{ScriptPolicy as ScriptRights}
 use Rattle.gt_script.specs.Lists.{RunAction, RunTask}
 use Rattle.gt_script.specs.declared.tasks.RunActionBy.TheVariants.{Await, Do, Tell}
 use Rattle.gt_live.specs.Domains.{AllowRelation}

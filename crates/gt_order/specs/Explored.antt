@@ -5,8 +5,8 @@ use Rattle.gt_order.specs.RunNames.{IsAmong, ThreadJob, Served, WritesAll}
 use Rattle.gt_order.specs.RunNames.{ListOutcome}
 use Rattle.gt_core.specs.declared.trace.Answer.TheVariants as answers
 use Rattle.gt_script.specs.RunContents.{RunContents}
-use Rattle.gt_host.specs.Rights.{may_by}
-use Rattle.gt_host.specs.declared.rights.ScriptPolicy.{ScriptPolicy as ScriptRights}
+use Rattle.gt_script_runs.specs.Rights.{may_by}
+use Rattle.gt_script_runs.specs.declared.rights.ScriptPolicy.{ScriptPolicy as ScriptRights}
 use Rattle.gt_run.specs.Printing.{texts_in}
 use Rattle.gt_run.specs.Runs.{AreOf}
 use Rattle.gt_run.specs.Serving.{gate_line}

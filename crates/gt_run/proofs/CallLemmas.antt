@@ -11,9 +11,9 @@ use Rattle.gt_audit.specs.declared.record.Record.{Record}
 use Rattle.gt_calls.specs.declared.request.Request.{Request}
 use Rattle.gt_calls.specs.declared.request.Request.TheVariants as requests
 use Rattle.gt_core.specs.declared.trace.Answer.{Answer}
-use Rattle.gt_host.specs.Printing.{answer_line}
-use Rattle.gt_host.specs.Runs.{handle_given, label_given, with_name}
-use Rattle.gt_host.specs.declared.labels.Labels.{Labels}
+use Rattle.gt_script_runs.specs.Printing.{answer_line}
+use Rattle.gt_script_runs.specs.Runs.{handle_given, label_given, with_name}
+use Rattle.gt_script_runs.specs.declared.labels.Labels.{Labels}
 use Rattle.gt_script_lines.specs.declared.calls.ScriptCall.{ScriptCall}
 use Rattle.gt_live.specs.Domains.{AllowRelation}
 use Rattle.gt_live.specs.declared.domain.Domain.{Domain}

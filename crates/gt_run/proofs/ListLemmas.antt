@@ -4,13 +4,13 @@ use Rattle.std.proofs.Common.{get_or, Option, None, Some, Result, Ok, Err, IfOk,
 use Rattle.std.proofs.Common.{add-one, inl, inr}
 use Rattle.std.specs.Prelude.{IsOk, MatchBool, is_some, nat_lt}
 use Rattle.std.specs.Option.{option_map}
-use Rattle.gt_host.specs.Naming.{AreNamed}
+use Rattle.gt_script_runs.specs.Naming.{AreNamed}
 use Rattle.std.proofs.Math.Seq.{take-suc}
 use Rattle.std.proofs.lemmas.List.{append-nil}
 use Rattle.std.proofs.lemmas.Option.{slice_get_read}
 use Rattle.gt_audit.specs.Telling.{Telling, nothing_told, silent}
 use Rattle.gt_types.specs.declared.DomId.{DomId}
-use Rattle.gt_host.specs.declared.labels.Labels.{Labels}
+use Rattle.gt_script_runs.specs.declared.labels.Labels.{Labels}
 use Rattle.gt_script_lines.specs.declared.calls.ScriptCall.{ScriptCall}
 use Rattle.gt_live.specs.Domains.{AllowRelation}
 use Rattle.gt_live.specs.Flags.{FlagStepped}

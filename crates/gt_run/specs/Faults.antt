@@ -1,7 +1,7 @@
 -- The faults of a run.
 use Rattle.std.specs.Prelude.{ℕ, List, codes}
-use Rattle.gt_host.specs.Faults.{play_fault_text}
-use Rattle.gt_host.specs.declared.fault.PlayFault.TheVariants.{Memory, Write}
+use Rattle.gt_script_runs.specs.Faults.{play_fault_text}
+use Rattle.gt_script_runs.specs.declared.fault.PlayFault.TheVariants.{Memory, Write}
 use Rattle.gt_run.specs.declared.fault.RunFault.{RunFault}
 use Rattle.gt_run.specs.declared.fault.RunFault.TheVariants as faults
 

@@ -11,11 +11,11 @@ pub use Rattle.gt_calls.specs.declared.request.Request.{Request}
 pub use Rattle.gt_core.specs.declared.trace.Answer.{Answer}
 pub use Rattle.gt_frames.specs.Receipts.{Copying, Reading, Writing}
 pub use Rattle.gt_handles.specs.declared.handles.Handle.{Handle}
-pub use Rattle.gt_host.specs.Auditing.{hypercall_of_request, encoded_record}
-pub use Rattle.gt_host.specs.Naming.{AreNamed}
-pub use Rattle.gt_host.specs.Printing.{answer_line, call_text}
-pub use Rattle.gt_host.specs.Runs.{SaysRequest, Named, handle_given, label_given, with_name}
-pub use Rattle.gt_host.specs.declared.labels.Labels.{Labels}
+pub use Rattle.gt_script_runs.specs.Auditing.{hypercall_of_request, encoded_record}
+pub use Rattle.gt_script_runs.specs.Naming.{AreNamed}
+pub use Rattle.gt_script_runs.specs.Printing.{answer_line, call_text}
+pub use Rattle.gt_script_runs.specs.Runs.{SaysRequest, Named, handle_given, label_given, with_name}
+pub use Rattle.gt_script_runs.specs.declared.labels.Labels.{Labels}
 pub use Rattle.gt_script_lines.specs.declared.calls.ScriptCall.{ScriptCall}
 pub use Rattle.gt_live.specs.Accesses.{IsCopiedBy, IsReadBy, IsWrittenBy}
 pub use Rattle.gt_live.specs.Domains.{Accesses, AllowRelation, Answered, BelongsTo, HasLeft, KeepsPinned, MapAnswered}

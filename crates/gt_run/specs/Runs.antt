@@ -11,9 +11,9 @@ use Rattle.gt_script.specs.RunContents.{RunContents}
 use Rattle.gt_script.specs.Script.{Wrong, in_script, in_policy}
 use Rattle.gt_script.specs.Lists.{RunTask}
 use Rattle.gt_script.specs.Stuck.{AreNumbered}
-use Rattle.gt_host.specs.Rights.{may_by, may_in}
-use Rattle.gt_host.specs.declared.fault.PlayFault.TheVariants.{Memory, Read, Write, Script, Policy}
-use Rattle.gt_host.specs.declared.rights.ScriptPolicy.{ScriptPolicy as ScriptRights}
+use Rattle.gt_script_runs.specs.Rights.{may_by, may_in}
+use Rattle.gt_script_runs.specs.declared.fault.PlayFault.TheVariants.{Memory, Read, Write, Script, Policy}
+use Rattle.gt_script_runs.specs.declared.rights.ScriptPolicy.{ScriptPolicy as ScriptRights}
 use Rattle.gt_shared_table.specs.Words.{frames_kept}
 use Rattle.gt_live.specs.Domains.{AllowRelation}
 use Rattle.gt_live.specs.declared.monitor.Monitor.{Monitor}

@@ -1,5 +1,5 @@
 //! Faults of a run.
-use gt_host::PlayFault;
+use gt_script_runs::PlayFault;
 use gt_text::WriteFault;
 use gt_types::Memory;
 use std::alloc::{AllocError, AllocFailed};

@@ -8,8 +8,9 @@
 //! and the exit statuses are only tested.
 #![tactic(auto)]
 
-use gt_host::{PlayFault, play};
+use gt_host::play;
 use gt_policy_list::{ListingFault, policy};
+use gt_script_runs::PlayFault;
 use std::fmt;
 use std::fs::File;
 use std::io::{self, ErrorKind, Read};

@@ -1,5 +1,5 @@
 use Rattle.std.proofs.Common.{◌≡◌, ◌++◌, take}
-use Rattle.gt_host.specs.Auditing.{record_lines}
+use Rattle.gt_script_runs.specs.Auditing.{record_lines}
 use Rattle.gt_host.proofs.audit.push_records.Given as goal
 
 abbrev pub invariant-records : goal.invariant-records

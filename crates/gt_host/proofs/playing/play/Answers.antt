@@ -1,7 +1,7 @@
 use Rattle.std.proofs.Common.{ℕ, List}
 use Rattle.gt_script.specs.Script.{TellsScript}
 use Rattle.gt_text.specs.Laws.{of_input}
-use Rattle.gt_host.specs.Playing.{Played}
+use Rattle.gt_script_runs.specs.Playing.{Played}
 use Rattle.gt_host.proofs.PlayedLemmas.{played_unread}
 use Rattle.gt_host.proofs.playing.play.Goals as goal
 

@@ -1,6 +1,6 @@
 use Rattle.std.proofs.Common.{◌≡◌, ◌++◌, take}
 use Rattle.gt_host.specs.OpenCalls.{call_in}
-use Rattle.gt_host.specs.Runs.{open_lines}
+use Rattle.gt_script_runs.specs.Runs.{open_lines}
 use Rattle.gt_host.proofs.playing.push_open_lines.Given as goal
 
 abbrev pub invariant-domains : goal.invariant-domains

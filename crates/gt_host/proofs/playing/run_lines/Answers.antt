@@ -1,7 +1,7 @@
 use Rattle.std.proofs.Common.{◌≡◌, ◌<◌, ◌∙◌, length, refl, arith}
 use Rattle.gt_script.specs.Contents.{contents_told}
-use Rattle.gt_host.specs.Rights.{may_by}
-use Rattle.gt_host.proofs.RunLemmas.{same_setting}
+use Rattle.gt_script_runs.specs.Rights.{may_by}
+use Rattle.gt_script_runs.proofs.StartLemmas.{same_setting}
 use Rattle.gt_text.specs.Laws.{keeps_same}
 use Rattle.gt_text.specs.Laws.{OnErr-all}
 use Rattle.gt_host.proofs.PlayLemmas.{few_wait, not_begun, begins_end, begins_step, ends, goes_on, has_begun, ready}

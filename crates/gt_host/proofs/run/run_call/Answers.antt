@@ -4,7 +4,8 @@ use Rattle.gt_calls.specs.declared.call.TheConstants.{MAX_STEPS}
 use Rattle.gt_core.specs.History.{Setting}
 use Rattle.gt_core.specs.Acting.{setting_of}
 use Rattle.gt_host.proofs.OpenLemmas.{begins_open, unanswered}
-use Rattle.gt_host.proofs.RunLemmas.{call_busy, call_done, call_ticked, same_setting}
+use Rattle.gt_host.proofs.RunLemmas.{call_busy, call_done, call_ticked}
+use Rattle.gt_script_runs.proofs.StartLemmas.{same_setting}
 use Rattle.gt_host.proofs.run.run_call.Goals as goal
 
 pub returns-in-Done-clause-calls : goal.returns-in-Done-clause-calls

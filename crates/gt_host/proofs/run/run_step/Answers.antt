@@ -1,7 +1,7 @@
 use Rattle.std.proofs.Common.{subst, sym, OnOk}
 use Rattle.gt_core.specs.Acting.{setting_of}
 use Rattle.gt_script.specs.declared.actions.ScriptAction.{ScriptAction}
-use Rattle.gt_host.specs.Runs.{RunsLine}
+use Rattle.gt_script_runs.specs.Runs.{RunsLine}
 use Rattle.gt_host.specs.Ticking.{Leads}
 use Rattle.gt_host.proofs.LineLemmas.{shows}
 use Rattle.gt_host.proofs.run.run_step.Goals as goal

@@ -1,5 +1,6 @@
 use Rattle.std.proofs.Common.{◌≡◌, ◌<◌, refl, ◌∙◌, arith}
-use Rattle.gt_host.proofs.RunLemmas.{same_setting, no_tick, tick_more, tick_last, tick_none}
+use Rattle.gt_host.proofs.RunLemmas.{no_tick, tick_more, tick_last, tick_none}
+use Rattle.gt_script_runs.proofs.StartLemmas.{same_setting}
 use Rattle.gt_host.proofs.run.tick_up_to.Goals as goal
 
 pub ticks-init : goal.ticks-init

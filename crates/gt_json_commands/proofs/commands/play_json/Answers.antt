@@ -1,7 +1,7 @@
 use Rattle.std.proofs.Common.{List, ℕ}
 use Rattle.gt_script.specs.Script.{TellsScript}
-use Rattle.gt_host.specs.Playing.{Played}
-use Rattle.gt_host.specs.declared.fault.PlayFault.TheVariants as plays
+use Rattle.gt_script_runs.specs.Playing.{Played}
+use Rattle.gt_script_runs.specs.declared.fault.PlayFault.TheVariants as plays
 use Rattle.gt_json.specs.declared.places.PrintedText.TheVariants.{Run}
 use Rattle.gt_json_commands.proofs.JsonLemmas.{passed}
 use Rattle.gt_json_commands.proofs.commands.play_json.Goals as goal

@@ -1,7 +1,7 @@
 use Rattle.std.proofs.Common.{List, ℕ}
 use Rattle.std.specs.Prelude.{is_some}
 use Rattle.gt_script.specs.RunScripts.{RunTells}
-use Rattle.gt_host.specs.declared.fault.PlayFault.TheVariants as plays
+use Rattle.gt_script_runs.specs.declared.fault.PlayFault.TheVariants as plays
 use Rattle.gt_run.specs.declared.fault.RunFault.TheVariants as runs
 use Rattle.gt_run.specs.Runs.{Ran}
 use Rattle.gt_json.specs.declared.places.PrintedText.TheVariants.{Run}

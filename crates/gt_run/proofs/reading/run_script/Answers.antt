@@ -3,7 +3,7 @@ use Rattle.std.proofs.lemmas.Result.{err_from_is_err_and}
 use Rattle.gt_script.specs.Contents.{KeptContents, first_gen, contents_told, type_names}
 use Rattle.gt_script.specs.RunContents.{run_told}
 use Rattle.gt_script.specs.Stuck.{AreNumbered}
-use Rattle.gt_host.specs.Rights.{may_in}
+use Rattle.gt_script_runs.specs.Rights.{may_in}
 use Rattle.gt_run.proofs.RanLemmas.{wrote_nothing, wrote_script}
 use Rattle.gt_run.proofs.reading.run_script.Goals as goal
 

@@ -3,7 +3,7 @@ use Rattle.std.proofs.lemmas.Option.{get_or_from_slice_get}
 use Rattle.std.proofs.lemmas.Result.{IfOk-weaker}
 use Rattle.std.specs.Vec.{with_item}
 use Rattle.gt_core.specs.declared.trace.Answer.{Answer}
-use Rattle.gt_host.specs.Printing.{answer_line}
+use Rattle.gt_script_runs.specs.Printing.{answer_line}
 use Rattle.gt_explore_moves.specs.Calls.{KnowsTable, ShowsCalls}
 use Rattle.gt_explore_moves.specs.Ends.{tasks_at}
 use Rattle.gt_explore_moves.specs.Starting.{BeginsAsRun, PrintsLine, opened_actor, passed_actor}

@@ -1,7 +1,7 @@
 use Rattle.std.proofs.Common.{ℕ, ◌∙◌, ap, refl, subst, sym}
 use Rattle.gt_script.specs.Contents.{KeptContents, contents_told, type_names}
 use Rattle.gt_script.specs.RunContents.{run_told}
-use Rattle.gt_host.specs.Playing.{StartsFor}
+use Rattle.gt_script_runs.specs.Playing.{StartsFor}
 use Rattle.gt_explore_replay.specs.Walking.{HaveOwnIds}
 use Rattle.gt_script.specs.Stuck.{AreNumbered}
 use Rattle.gt_explore_replay.proofs.Following.{begins_abreast}

@@ -1,0 +1,3 @@
+pub mod AlikeLemmas
+pub mod LabelLemmas
+pub mod StartLemmas

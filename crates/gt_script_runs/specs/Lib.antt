@@ -1,0 +1,10 @@
+pub mod Auditing
+pub mod Faults
+pub mod Labels
+pub mod Naming
+pub mod Playing
+pub mod Prelude
+pub mod Printing
+pub mod Rights
+pub mod Runs
+pub mod Showing
