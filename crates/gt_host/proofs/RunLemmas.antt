@@ -1,14 +1,11 @@
-use Rattle.std.proofs.Common.{◌≡◌, ◌≢◌, ◌⊎◌, inl, inr, ◌<◌, ◌≤◌, ℕ, ◌+◌, Bool, List, [], ◌∷◌, ◌++◌, length, replicate}
+use Rattle.std.proofs.Common.{◌≡◌, ◌≢◌, ◌⊎◌, inl, inr, ◌<◌, ◌≤◌, ℕ, ◌+◌, List, [], ◌∷◌, ◌++◌, length, replicate}
 use Rattle.std.proofs.Common.{Option, None, Some, refl, ap, sym, subst, ◌∙◌, arith, length-append}
 use Rattle.std.proofs.lemmas.Grind.{replicate_next}
 use Rattle.gt_types.specs.declared.DomId.{DomId}
-use Rattle.gt_types.specs.declared.TypeId.{TypeId}
-use Rattle.gt_types.specs.declared.perms.Perms.{Perms}
-use Rattle.gt_types.specs.declared.config.Config.{Config}
 use Rattle.gt_core.specs.History.{History, Setting}
 use Rattle.gt_core.specs.Legal.{MayDo, grown, LegalAfter, history_after}
 use Rattle.gt_core.specs.Standing.{CoreStands}
-use Rattle.gt_core.specs.Acting.{setting_of, begun_element, ticked_element}
+use Rattle.gt_core.specs.Acting.{begun_element, ticked_element}
 use Rattle.gt_core.specs.States.{CoreState}
 use Rattle.gt_calls.specs.declared.request.Request.{Request}
 use Rattle.gt_core.specs.declared.trace.Answer.{Answer}
