@@ -35,7 +35,7 @@ WALKS = [
             ("ScriptLine", "gt_script_lines::lines::read_line"),
             ("ScriptAction", "gt_script::actions::play_action_in"),
             ("Script", "gt_script::script::Script::with_step"),
-            ("Request", "gt_host::run::request_of"),
+            ("Request", "gt_script_runs::requests::request_of"),
             ("OpenRequest", "gt_calls::asking::judge_request"),
             ("CallStart", "gt_calls::call::Call::begin"),
             ("Action", "gt_calls::call::Call::next"),
@@ -59,7 +59,7 @@ WALKS = [
             ("Script", "gt_script::script::Script::with_order"),
             ("RunAction", "gt_script::tasks::deed_of"),
             ("RunTask", "gt_script::tasks::task_of"),
-            ("Request", "gt_host::run::request_of"),
+            ("Request", "gt_script_runs::requests::request_of"),
             ("Leg", "gt_calls::copying::end_leg"),
         ],
         [
