@@ -12,6 +12,7 @@
 
 mod exploring;
 mod fault;
+mod numbers;
 mod parts;
 mod sharing;
 mod spaces;
