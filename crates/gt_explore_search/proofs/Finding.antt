@@ -99,10 +99,10 @@ pub among_noted : {W : Type 0} (ways : Ways W) (s : AnswerLists) (v : OpenNode) 
 among_noted ways s v e w p q notes (list, end, has, prints) = (list, end_more v e w list notes.ends end, has, prints)
 
 -- a list that there is was noted
-pub visit_noted : {P : Type 0} (ways : Ways (Vec ℕ)) (ex : Explorer P) (v : OpenNode) (e : ReachedList) (w : OpenNode) → Notes v e w → HasListAt ex.suffixes e.list → VisitHolds ways ex v → VisitHolds ways ex w
+pub visit_noted : {P : Type 0} (ways : Ways (List ℕ)) (ex : Explorer P) (v : OpenNode) (e : ReachedList) (w : OpenNode) → Notes v e w → HasListAt ex.suffixes e.list → VisitHolds ways ex v → VisitHolds ways ex w
 visit_noted ways ex v e w notes has holds = record {
   world = holds.world;
-  there = ap (λ (n : ℕ). slice_get ex.states.met.keys n) notes.state ∙ holds.there;
+  there = ap (λ (n : ℕ). slice_get ex.states.met n) notes.state ∙ holds.there;
   turns = subst (λ (t : Vec Turn). HasEnoughTurns ways holds.world t.items) (sym notes.turns) holds.turns;
   tried = λ at turn lt there p m turns q shows next goes.
       among_noted ways ex.suffixes v e w p q notes
@@ -130,7 +130,7 @@ visit_noted ways ex v e w notes has holds = record {
 among_same : {W : Type 0} (ways : Ways W) (s : AnswerLists) (ends : List ReachedList) (p r q : ways.Point) → PrintsSame ways q r → IsAmongEnds ways s ends p r → IsAmongEnds ways s ends p q
 among_same ways s ends p r q same (list, end, has, prints) = (list, end, has, λ at. sym (same at) ∙ prints at)
 
-all_found : {P : Type 0} (ways : Ways (Vec ℕ)) (ex : Explorer P) (v : OpenNode) (holds : VisitHolds ways ex v) → length v.turns.items ≤ v.next
+all_found : {P : Type 0} (ways : Ways (List ℕ)) (ex : Explorer P) (v : OpenNode) (holds : VisitHolds ways ex v) → length v.turns.items ≤ v.next
     → (p : ways.Point) (turns : List Turn) (q : ways.Point) → ways.shows holds.world p → GoesTo ways p turns q → IsAmongEnds ways ex.suffixes v.ends.items p q
 all_found ways ex v holds all p [] q shows goes = subst (λ (l : ways.Point). IsAmongEnds ways ex.suffixes v.ends.items p l) goes.0 (holds.over p shows goes.1)
 all_found ways ex v holds all p (turn ∷ turns) q shows goes =
@@ -163,12 +163,12 @@ lists_alike s one other same lists at e there =
 
 grew_done : {P : Type 0} (old new : Explorer P) (n : Node) → new.states ≡ old.states → new.suffixes ≡ old.suffixes → new.nodes.items ≡ old.nodes.items ++ n ∷ [] → Grew old new
 grew_done old new n states suffixes nodes = record {
-  worlds = no_more old.states.met.keys new.states.met.keys (ap (λ s. s.met.keys) states);
+  worlds = no_more old.states.met new.states.met (ap (λ s. s.met) states);
   nodes = (n ∷ [], nodes);
   suffixes = subst (λ (s : AnswerLists). GrowsInto old.suffixes s) (sym suffixes) (grows_same old.suffixes);
 }
 
-pub holds_done : {P : Type 0} (ways : Ways (Vec ℕ)) (old new : Explorer P) (v : OpenNode) (made : Node) → made.state ≡ v.state → map (λ (i : ReachedList). i.list) made.ends.value.items ≡ map (λ (i : ReachedList). i.list) v.ends.items → SearchHolds ways old → VisitHolds ways old v → length v.turns.items ≤ v.next → new.states ≡ old.states
+pub holds_done : {P : Type 0} (ways : Ways (List ℕ)) (old new : Explorer P) (v : OpenNode) (made : Node) → made.state ≡ v.state → map (λ (i : ReachedList). i.list) made.ends.value.items ≡ map (λ (i : ReachedList). i.list) v.ends.items → SearchHolds ways old → VisitHolds ways old v → length v.turns.items ≤ v.next → new.states ≡ old.states
     → new.suffixes ≡ old.suffixes → new.nodes.items ≡ old.nodes.items ++ made ∷ []
     → ((state i : ℕ) → slice_get new.done.items state ≡ Some (Some i) → (slice_get old.done.items state ≡ Some (Some i)) ⊎ ((state ≡ v.state) × (i ≡ length old.nodes.items)))
     → SearchHolds ways new × Grew old new
@@ -188,7 +188,7 @@ holds_done ways old new v made of_state alike holds visit all states suffixes no
     own : NodeHolds ways old made
     own = record {
       world = visit.world;
-      there = ap (λ (n : ℕ). slice_get old.states.met.keys n) of_state ∙ visit.there;
+      there = ap (λ (n : ℕ). slice_get old.states.met n) of_state ∙ visit.there;
       finds = λ p turns q shows goes. among_alike ways old.suffixes v.ends.items made.ends.value.items p q alike (all_found ways old v visit all p turns q shows goes);
       lists = lists_alike old.suffixes v.ends.items made.ends.value.items alike visit.lists;
     }

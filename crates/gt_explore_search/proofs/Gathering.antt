@@ -20,7 +20,7 @@ use Rattle.gt_explore_search.proofs.Growing.{get_grown, no_more, grew_same, grew
 use Rattle.gt_explore_search.proofs.Finding.{end_more, visit_noted}
 
 -- the ways on to the first of the lists that the other state leads to are gathered
-pub record IsGathering {P : Type 0} (ways : Ways (Vec ℕ)) (old : Explorer P) (v : OpenNode) (turn : Turn) (line : Option AnswerLine) (done : Node) (ex : Explorer P) (w : OpenNode) (i : ℕ) : Type 0 where
+pub record IsGathering {P : Type 0} (ways : Ways (List ℕ)) (old : Explorer P) (v : OpenNode) (turn : Turn) (line : Option AnswerLine) (done : Node) (ex : Explorer P) (w : OpenNode) (i : ℕ) : Type 0 where
   pub holds : SearchHolds ways ex
   pub grew : Grew old ex
   pub visit : VisitHolds ways ex w
@@ -30,7 +30,7 @@ pub record IsGathering {P : Type 0} (ways : Ways (Vec ℕ)) (old : Explorer P) (
   pub found : (at : ℕ) (e : ReachedList) → at < i → slice_get done.ends.value.items at ≡ Some e
       → (list : ℕ) × HasEnd w.ends.items list × HasListAt ex.suffixes list × IsLonger ex.suffixes line e.list list
 
-pub gathers_first : {P : Type 0} (ways : Ways (Vec ℕ)) (old : Explorer P) (v : OpenNode) (turn : Turn) (line : Option AnswerLine) (done : Node) → SearchHolds ways old → VisitHolds ways old v → IsGathering ways old v turn line done old v 0
+pub gathers_first : {P : Type 0} (ways : Ways (List ℕ)) (old : Explorer P) (v : OpenNode) (turn : Turn) (line : Option AnswerLine) (done : Node) → SearchHolds ways old → VisitHolds ways old v → IsGathering ways old v turn line done old v 0
 gathers_first ways old v turn line done holds visit = record {
   holds = holds;
   grew = grew_same old;
@@ -42,17 +42,17 @@ gathers_first ways old v turn line done holds visit = record {
 }
 
 -- what the turn leads to, when the search has come on
-leads_on : {P : Type 0} (ways : Ways (Vec ℕ)) (old : Explorer P) (v : OpenNode) (turn : Turn) (node : ℕ) (line : Option AnswerLine) (done : Node) (ex : Explorer P) → SearchHolds ways old → VisitHolds ways old v
+leads_on : {P : Type 0} (ways : Ways (List ℕ)) (old : Explorer P) (v : OpenNode) (turn : Turn) (node : ℕ) (line : Option AnswerLine) (done : Node) (ex : Explorer P) → SearchHolds ways old → VisitHolds ways old v
     → TurnLeads ways old v turn node line → slice_get old.nodes.items node ≡ Some done → Grew old ex → HasItsLine old.suffixes line
-    → (w u : Vec ℕ) → slice_get ex.states.met.keys v.state ≡ Some w → slice_get ex.states.met.keys done.state ≡ Some u
+    → (w u : List ℕ) → slice_get ex.states.met v.state ≡ Some w → slice_get ex.states.met done.state ≡ Some u
     → (p m : ways.Point) → ways.shows w p → ways.next p turn m
     → ways.shows u m × PrintsTo ways (line_by ex.suffixes line) p m
 leads_on ways old v turn node line done ex holds visit leads is grew has w u here there p m shows next =
     let one : leads.done ≡ done = same_Some leads.done done (sym leads.there ∙ is) in
     let it = holds.nodes node done is in
-    let same : visit.world ≡ w = same_Some visit.world w (sym (get_grown old.states.met.keys ex.states.met.keys v.state visit.world grew.worlds visit.there) ∙ here) in
-    let other : it.world ≡ u = same_Some it.world u (sym (get_grown old.states.met.keys ex.states.met.keys done.state it.world grew.worlds it.there) ∙ there) in
-    let led = leads.leads visit.world it.world visit.there (ap (λ (n : Node). slice_get old.states.met.keys n.state) one ∙ it.there) p m
+    let same : visit.world ≡ w = same_Some visit.world w (sym (get_grown old.states.met ex.states.met v.state visit.world grew.worlds visit.there) ∙ here) in
+    let other : it.world ≡ u = same_Some it.world u (sym (get_grown old.states.met ex.states.met done.state it.world grew.worlds it.there) ∙ there) in
+    let led = leads.leads visit.world it.world visit.there (ap (λ (n : Node). slice_get old.states.met n.state) one ∙ it.there) p m
     (subst (λ i. ways.shows i p) (sym same) shows) next in (
       subst (λ i. ways.shows i m) other led.0,
       λ at. led.1 at ∙ ap (λ (i : List ℕ). ways.printed p at ++ i) (sym (line_kept old.suffixes ex.suffixes line at grew.suffixes has)),
@@ -81,7 +81,7 @@ abbrev noted_of : ℕ → ReachedList
 noted_of list = record { list = list }
 
 -- the next list was gathered
-pub gathers_more : {P : Type 0} (ways : Ways (Vec ℕ)) (old : Explorer P) (v : OpenNode) (turn : Turn) (node : ℕ) (line : Option AnswerLine) (done : Node) (ex : Explorer P) (w : OpenNode) (i : ℕ) (e : ReachedList)
+pub gathers_more : {P : Type 0} (ways : Ways (List ℕ)) (old : Explorer P) (v : OpenNode) (turn : Turn) (node : ℕ) (line : Option AnswerLine) (done : Node) (ex : Explorer P) (w : OpenNode) (i : ℕ) (e : ReachedList)
     (t : AnswerLists) (list : ℕ) (u : OpenNode)
     → slice_get old.nodes.items node ≡ Some done → HasItsLine ex.suffixes line → IsGathering ways old v turn line done ex w i → slice_get done.ends.value.items i ≡ Some e → GrowsInto ex.suffixes t → (HasListAt ex.suffixes e.list → HasListAt t list)
     → (AreWhole ex.suffixes → HasListAt ex.suffixes e.list → IsLonger t line e.list list)
@@ -99,7 +99,7 @@ gathers_more ways old v turn node line done ex w i e t list u is line_on gathers
   where
     on : Grew ex (with_suffixes ex t)
     on = record {
-      worlds = no_more ex.states.met.keys _ refl;
+      worlds = no_more ex.states.met _ refl;
       nodes = no_more ex.nodes.items _ refl;
       suffixes = grows;
     }
@@ -149,7 +149,7 @@ gathers_more ways old v turn node line done ex w i e t list u is line_on gathers
             )
 
 -- all were gathered
-pub gathers_all : {P : Type 0} (ways : Ways (Vec ℕ)) (old : Explorer P) (v : OpenNode) (turn : Turn) (node : ℕ) (line : Option AnswerLine) (done : Node) (ex : Explorer P) (w : OpenNode) (i : ℕ)
+pub gathers_all : {P : Type 0} (ways : Ways (List ℕ)) (old : Explorer P) (v : OpenNode) (turn : Turn) (node : ℕ) (line : Option AnswerLine) (done : Node) (ex : Explorer P) (w : OpenNode) (i : ℕ)
     → SearchHolds ways old → VisitHolds ways old v → TurnLeads ways old v turn node line → slice_get old.nodes.items node ≡ Some done → HasItsLine old.suffixes line
     → length done.ends.value.items ≤ i → IsGathering ways old v turn line done ex w i → Gathered ways old v turn ex w
 gathers_all ways old v turn node line done ex w i first visit leads is line_is all gathers = record {
@@ -167,7 +167,7 @@ gathers_all ways old v turn node line done ex w i first visit leads is line_is a
     found : AllByTurn ways ex.suffixes gathers.visit.world w.ends.items turn
     found = λ p m turns q shows next goes.
         let led = leads_on ways old v turn node line done ex first visit leads is gathers.grew line_is gathers.visit.world it.world
-        (ap (λ (n : ℕ). slice_get ex.states.met.keys n) (sym gathers.state) ∙ gathers.visit.there) it.there p m shows next in
+        (ap (λ (n : ℕ). slice_get ex.states.met n) (sym gathers.state) ∙ gathers.visit.there) it.there p m shows next in
         let (old_list, (at, e, there, same), has, prints) = it.finds m turns q led.0 goes in
         let within = slice_get_within done.ends.value.items at e there in
         let (list, end, also, longer) = gathers.found at e (omega (arith, within, all)) there in (

@@ -47,31 +47,31 @@ lists_grown s t ends grows lists = λ at e there. list_grown s t e.list grows (l
 
 pub grew_same : {P : Type 0} (ex : Explorer P) → Grew ex ex
 grew_same ex = record {
-  worlds = no_more ex.states.met.keys _ refl;
+  worlds = no_more ex.states.met _ refl;
   nodes = no_more ex.nodes.items _ refl;
   suffixes = grows_same ex.suffixes;
 }
 
 pub grew_on : {P : Type 0} (a b d : Explorer P) → Grew a b → Grew b d → Grew a d
 grew_on a b d first second = record {
-  worlds = both_more a.states.met.keys b.states.met.keys d.states.met.keys first.worlds second.worlds;
+  worlds = both_more a.states.met b.states.met d.states.met first.worlds second.worlds;
   nodes = both_more a.nodes.items b.nodes.items d.nodes.items first.nodes second.nodes;
   suffixes = grows_on a.suffixes b.suffixes d.suffixes first.suffixes second.suffixes;
 }
 
-pub node_on : {P : Type 0} (ways : Ways (Vec ℕ)) (old new : Explorer P) (n : Node) → AreWhole old.suffixes → Grew old new → NodeHolds ways old n → NodeHolds ways new n
+pub node_on : {P : Type 0} (ways : Ways (List ℕ)) (old new : Explorer P) (n : Node) → AreWhole old.suffixes → Grew old new → NodeHolds ways old n → NodeHolds ways new n
 node_on ways old new n whole grew holds = record {
   world = holds.world;
-  there = get_grown old.states.met.keys new.states.met.keys n.state holds.world grew.worlds holds.there;
+  there = get_grown old.states.met new.states.met n.state holds.world grew.worlds holds.there;
   finds = λ p turns q shows goes. among_grown ways old.suffixes new.suffixes n.ends.value.items p q whole grew.suffixes (holds.finds p turns q shows goes);
   lists = lists_grown old.suffixes new.suffixes n.ends.value.items grew.suffixes holds.lists;
 }
 
-leads_grown : {P : Type 0} (ways : Ways (Vec ℕ)) (old new : Explorer P) (w : Vec ℕ) (turn : Turn) (m : MadeTurn) → Grew old new → LeadsOn ways old w turn m → LeadsOn ways new w turn m
+leads_grown : {P : Type 0} (ways : Ways (List ℕ)) (old new : Explorer P) (w : List ℕ) (turn : Turn) (m : MadeTurn) → Grew old new → LeadsOn ways old w turn m → LeadsOn ways new w turn m
 leads_grown ways old new w turn m grew leads = record {
   line = line_grown old.suffixes new.suffixes m.line grew.suffixes leads.line;
   other = leads.other;
-  there = get_grown old.states.met.keys new.states.met.keys m.state leads.other grew.worlds leads.there;
+  there = get_grown old.states.met new.states.met m.state leads.other grew.worlds leads.there;
   leads = λ p q shows next.
       let led = leads.leads p q shows next in (
         led.0,
@@ -79,10 +79,10 @@ leads_grown ways old new w turn m grew leads = record {
       );
 }
 
-pub visit_on : {P : Type 0} (ways : Ways (Vec ℕ)) (old new : Explorer P) (v : OpenNode) → AreWhole old.suffixes → Grew old new → VisitHolds ways old v → VisitHolds ways new v
+pub visit_on : {P : Type 0} (ways : Ways (List ℕ)) (old new : Explorer P) (v : OpenNode) → AreWhole old.suffixes → Grew old new → VisitHolds ways old v → VisitHolds ways new v
 visit_on ways old new v whole grew holds = record {
   world = holds.world;
-  there = get_grown old.states.met.keys new.states.met.keys v.state holds.world grew.worlds holds.there;
+  there = get_grown old.states.met new.states.met v.state holds.world grew.worlds holds.there;
   turns = holds.turns;
   tried = λ at turn lt there p m turns q shows next goes.
       among_grown ways old.suffixes new.suffixes v.ends.items p q whole grew.suffixes (holds.tried at turn lt there p m turns q shows next goes);
@@ -93,7 +93,7 @@ visit_on ways old new v whole grew holds = record {
 }
 
 -- a search that has done no more states
-pub holds_on : {P : Type 0} (ways : Ways (Vec ℕ)) (old new : Explorer P) → Grew old new → new.nodes.items ≡ old.nodes.items
+pub holds_on : {P : Type 0} (ways : Ways (List ℕ)) (old new : Explorer P) → Grew old new → new.nodes.items ≡ old.nodes.items
     → ((state i : ℕ) → slice_get new.done.items state ≡ Some (Some i) → slice_get old.done.items state ≡ Some (Some i)) → SearchHolds ways old → SearchHolds ways new
 holds_on ways old new grew same done holds = record {
   whole = grew.suffixes.whole holds.whole;

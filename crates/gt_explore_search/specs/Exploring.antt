@@ -56,14 +56,14 @@ AllHaveLists s ends = (at : ℕ) (e : ReachedList) → slice_get ends at ≡ Som
 -- searches
 
 -- a state is done: the runs onward from it are found
-pub record NodeHolds {P : Type 0} (ways : Ways (Vec ℕ)) (ex : Explorer P) (n : Node) : Type 0 where
-  pub world : Vec ℕ
-  pub there : slice_get ex.states.met.keys n.state ≡ Some world
+pub record NodeHolds {P : Type 0} (ways : Ways (List ℕ)) (ex : Explorer P) (n : Node) : Type 0 where
+  pub world : List ℕ
+  pub there : slice_get ex.states.met n.state ≡ Some world
   pub finds : AllAreFound ways ex.suffixes world n.ends.value.items
   pub lists : AllHaveLists ex.suffixes n.ends.value.items
 
 -- the invariant of a search
-pub record SearchHolds {P : Type 0} (ways : Ways (Vec ℕ)) (ex : Explorer P) : Type 0 where
+pub record SearchHolds {P : Type 0} (ways : Ways (List ℕ)) (ex : Explorer P) : Type 0 where
   pub whole : AreWhole ex.suffixes
   pub empty : IsEmptyList ex.suffixes 0
   pub nodes : (i : ℕ) (n : Node) → slice_get ex.nodes.items i ≡ Some n → NodeHolds ways ex n
@@ -72,7 +72,7 @@ pub record SearchHolds {P : Type 0} (ways : Ways (Vec ℕ)) (ex : Explorer P) : 
 
 -- a search has advanced: what there was is still there
 pub record Grew {P : Type 0} (old new : Explorer P) : Type 0 where
-  pub worlds : (more : List (Vec ℕ)) × (new.states.met.keys ≡ old.states.met.keys ++ more)
+  pub worlds : (more : List (List ℕ)) × (new.states.met ≡ old.states.met ++ more)
   pub nodes : (more : List Node) × (new.nodes.items ≡ old.nodes.items ++ more)
   pub suffixes : GrowsInto old.suffixes new.suffixes
 
@@ -81,17 +81,17 @@ abbrev pub PartsGrew : {P : Type 0} → Explorer P → Explorer P → Type 0
 PartsGrew old new = Extends old.states.parts.kept.items new.states.parts.kept.items
 
 -- the state led by this turn to the one with the number that was noted, and printed the line that was noted
-pub record LeadsOn {P : Type 0} (ways : Ways (Vec ℕ)) (ex : Explorer P) (w : Vec ℕ) (turn : Turn) (made : MadeTurn) : Type 0 where
+pub record LeadsOn {P : Type 0} (ways : Ways (List ℕ)) (ex : Explorer P) (w : List ℕ) (turn : Turn) (made : MadeTurn) : Type 0 where
   pub line : HasItsLine ex.suffixes made.line
-  pub other : Vec ℕ
-  pub there : slice_get ex.states.met.keys made.state ≡ Some other
+  pub other : List ℕ
+  pub there : slice_get ex.states.met made.state ≡ Some other
   pub leads : (p m : ways.Point) → ways.shows w p → ways.next p turn m
       → ways.shows other m × PrintsTo ways (line_by ex.suffixes made.line) p m
 
 -- a state's moves are being tried: its runs onward by the turns tried so far are found
-pub record VisitHolds {P : Type 0} (ways : Ways (Vec ℕ)) (ex : Explorer P) (v : OpenNode) : Type 0 where
-  pub world : Vec ℕ
-  pub there : slice_get ex.states.met.keys v.state ≡ Some world
+pub record VisitHolds {P : Type 0} (ways : Ways (List ℕ)) (ex : Explorer P) (v : OpenNode) : Type 0 where
+  pub world : List ℕ
+  pub there : slice_get ex.states.met v.state ≡ Some world
   pub turns : HasEnoughTurns ways world v.turns.items
   pub tried : (at : ℕ) (turn : Turn) → at < v.next → slice_get v.turns.items at ≡ Some turn
       → AllByTurn ways ex.suffixes world v.ends.items turn
@@ -102,7 +102,7 @@ pub record VisitHolds {P : Type 0} (ways : Ways (Vec ℕ)) (ex : Explorer P) (v 
   pub numbers : map (λ e. e.list) v.ends.items ≡ v.lists.keys
 
 -- the moves of each of these states are being tried
-abbrev pub EachVisitHolds : {P : Type 0} → Ways (Vec ℕ) → Explorer P → List OpenNode → Type 0
+abbrev pub EachVisitHolds : {P : Type 0} → Ways (List ℕ) → Explorer P → List OpenNode → Type 0
 EachVisitHolds ways ex stack = (i : ℕ) (v : OpenNode) → slice_get stack i ≡ Some v → VisitHolds ways ex v
 
 -- the end was noted, unless it was there
@@ -126,16 +126,16 @@ pub record IsLineOf {P : Type 0} (old : Explorer P) (place : ℕ) (led : TurnRes
   pub printed : (at : ℕ) → line_by new.suffixes made at ≡ only_at place (text_led led) at
 
 -- by this turn, which prints this line, the state leads to that of this node
-pub record TurnLeads {P : Type 0} (ways : Ways (Vec ℕ)) (ex : Explorer P) (v : OpenNode) (turn : Turn) (node : ℕ)
+pub record TurnLeads {P : Type 0} (ways : Ways (List ℕ)) (ex : Explorer P) (v : OpenNode) (turn : Turn) (node : ℕ)
     (line : Option AnswerLine) : Type 0 where
   pub done : Node
   pub there : slice_get ex.nodes.items node ≡ Some done
-  pub leads : (w u : Vec ℕ) → slice_get ex.states.met.keys v.state ≡ Some w
-      → slice_get ex.states.met.keys done.state ≡ Some u → (p m : ways.Point) → ways.shows w p → ways.next p turn m
+  pub leads : (w u : List ℕ) → slice_get ex.states.met v.state ≡ Some w
+      → slice_get ex.states.met done.state ≡ Some u → (p m : ways.Point) → ways.shows w p → ways.next p turn m
       → ways.shows u m × PrintsTo ways (line_by ex.suffixes line) p m
 
 -- the runs onward by this turn were gathered
-pub record Gathered {P : Type 0} (ways : Ways (Vec ℕ)) (old : Explorer P) (v : OpenNode) (turn : Turn) (new : Explorer P)
+pub record Gathered {P : Type 0} (ways : Ways (List ℕ)) (old : Explorer P) (v : OpenNode) (turn : Turn) (new : Explorer P)
     (w : OpenNode) : Type 0 where
   pub holds : SearchHolds ways new
   pub grew : Grew old new
@@ -145,7 +145,7 @@ pub record Gathered {P : Type 0} (ways : Ways (Vec ℕ)) (old : Explorer P) (v :
   pub found : AllByTurn ways new.suffixes visit.world w.ends.items turn
 
 -- a turn was tried, or leads to a state that is new
-pub record Stepped {P : Type 0} (ways : Ways (Vec ℕ)) (old : Explorer P) (v : OpenNode) (other : Option OpenNode) (new : Explorer P)
+pub record Stepped {P : Type 0} (ways : Ways (List ℕ)) (old : Explorer P) (v : OpenNode) (other : Option OpenNode) (new : Explorer P)
     : Type 0 where
   pub holds : SearchHolds ways new
   pub grew : Grew old new
@@ -155,15 +155,15 @@ pub record Stepped {P : Type 0} (ways : Ways (Vec ℕ)) (old : Explorer P) (v : 
 -- the whole search
 
 -- the search begins
-pub record SearchStarts {P : Type 0} (ways : Ways (Vec ℕ)) (ex : Explorer P) : Type 0 where
+pub record SearchStarts {P : Type 0} (ways : Ways (List ℕ)) (ex : Explorer P) : Type 0 where
   pub holds : SearchHolds ways ex
-  pub none : ex.states.met.keys ≡ []
+  pub none : ex.states.met ≡ []
 
 -- the search is over: the first state shows the runs that begin
-pub record SearchFinishes {P : Type 0} (ways : Ways (Vec ℕ)) (ex : Explorer P) : Type 0 where
+pub record SearchFinishes {P : Type 0} (ways : Ways (List ℕ)) (ex : Explorer P) : Type 0 where
   pub holds : SearchHolds ways ex
-  pub first : Vec ℕ
-  pub there : slice_get ex.states.met.keys 0 ≡ Some first
+  pub first : List ℕ
+  pub there : slice_get ex.states.met 0 ≡ Some first
   pub shows : ShowsFirst ways first
 
 -- for each run from its beginning to its end an order with the same text was found

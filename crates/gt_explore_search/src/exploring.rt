@@ -169,7 +169,7 @@ impl<P: Drop> Explorer<P> {
         ensures states { OnOk result (self.new.states ≡ self.old.states) }
         ensures holds { (all : List P) → let ways = by_numbers (S.ways space.now) (S.parts space.now) all in
             SearchHolds ways self.old →
-            IsStateAt (S.ways space.now) (S.parts space.now) all self.old.states.met.keys state world.now →
+            IsStateAt (S.ways space.now) (S.parts space.now) all self.old.states.met state world.now →
             IfOk result (λ v. SearchHolds ways self.new × Grew self.old self.new × VisitHolds ways self.new v) }
     {
         if self.states.len() > self.limit {
@@ -241,11 +241,11 @@ impl<P: Drop> Explorer<P> {
     ) -> Result<Option<OpenNode>, SearchFault>
         ensures grows { OnOk result (PartsGrew self.old self.new) }
         ensures hand { (all : List P) → Extends self.new.states.parts.kept.items all →
-            OnOk result (HandHolds (S.ways space.now) (S.parts space.now) all self.new.states.met.keys hand.new) }
+            OnOk result (HandHolds (S.ways space.now) (S.parts space.now) all self.new.states.met hand.new) }
         ensures steps { (all : List P) → Extends self.new.states.parts.kept.items all →
             let ways = by_numbers (S.ways space.now) (S.parts space.now) all in
             SearchHolds ways self.old → VisitHolds ways self.old visit.old →
-            HandHolds (S.ways space.now) (S.parts space.now) all self.old.states.met.keys hand.old →
+            HandHolds (S.ways space.now) (S.parts space.now) all self.old.states.met hand.old →
             slice_get visit.old.turns.items visit.old.next ≡ Some turn →
             IfOk result (λ deeper. Stepped ways self.old visit.new deeper self.new) }
     {
@@ -365,10 +365,10 @@ impl<P: Drop> Explorer<P> {
         ensures holds { (all : List P) → Extends self.new.states.parts.kept.items all →
             let ways = by_numbers (S.ways space.now) (S.parts space.now) all in
             SearchHolds ways self.old → EachVisitHolds ways self.old stack.old.items →
-            HandHolds (S.ways space.now) (S.parts space.now) all self.old.states.met.keys hand.old →
+            HandHolds (S.ways space.now) (S.parts space.now) all self.old.states.met hand.old →
             OnOk result (SearchHolds ways self.new × Grew self.old self.new
             × EachVisitHolds ways self.new stack.new.items
-            × HandHolds (S.ways space.now) (S.parts space.now) all self.new.states.met.keys hand.new) }
+            × HandHolds (S.ways space.now) (S.parts space.now) all self.new.states.met hand.new) }
     {
         let Some(mut visit) = stack.pop() else {
             return Ok(false);
