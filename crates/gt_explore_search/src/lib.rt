@@ -12,6 +12,7 @@
 
 mod exploring;
 mod fault;
+mod marks;
 mod numbers;
 mod parts;
 mod sharing;
