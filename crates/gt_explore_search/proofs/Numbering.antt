@@ -14,8 +14,8 @@ use Rattle.gt_explore_search.specs.declared.spaces.TurnResult.{TurnResult}
 use Rattle.gt_explore_search.specs.declared.states.StateIndex.{StateIndex}
 use Rattle.gt_explore_search.specs.declared.states.WholeState.{WholeState}
 use Rattle.gt_explore_search.specs.declared.spaces.TurnResult.TheVariants as leds
-use Rattle.gt_explore_search.proofs.Finding.{at_last}
-use Rattle.gt_explore_search.proofs.Growing.{get_grown}
+use Rattle.gt_explore_search.specs.Numbers.{IsKeptAs}
+use Rattle.gt_explore_search.proofs.Keeping.{at_last, get_grown}
 
 -- lists that grow
 
@@ -106,12 +106,12 @@ kept-last parts old new w at q n last is (p, here, same) = (
 -- states
 
 -- the state with this number is made of copies of its parts
-pub state-at : {W P : Type 0} (ways : Ways W) (parts : Splitting W P) (old all : List P) (states : List (Vec ℕ)) (n : ℕ) (k : Vec ℕ) (made : List P) (v : W) → slice_get states n ≡ Some k → Extends old all
-    → Pairwise (IsCopyOf parts old) k.items made → ((w : W) → Pairwise parts.same (parts.of w) made → IsShownSo ways w v) → IsStateAt ways parts all states n v
+pub state-at : {W P : Type 0} (ways : Ways W) (parts : Splitting W P) (old all : List P) (states : List (List ℕ)) (n : ℕ) (k : List ℕ) (made : List P) (v : W) → slice_get states n ≡ Some k → Extends old all
+    → Pairwise (IsCopyOf parts old) k made → ((w : W) → Pairwise parts.same (parts.of w) made → IsShownSo ways w v) → IsStateAt ways parts all states n v
 state-at ways parts old all states n k made v at more copies joins = (
   k,
   at,
-  λ p shows. joins shows.0 (copied parts old all (parts.of shows.0) k.items made more shows.1 copies) p shows.2,
+  λ p shows. joins shows.0 (copied parts old all (parts.of shows.0) k made more shows.1 copies) p shows.2,
 )
 
 -- parts with the same number are the same
@@ -130,60 +130,44 @@ all-same parts all (p ∷ ps) qs [] a b = absurd a
 all-same parts all (p ∷ ps) [] (n ∷ ns) a b = absurd b
 
 -- a state shows all that its numbers show
-pub joined-alike : {W P : Type 0} (ways : Ways W) (parts : Splitting W P) (all : List P) (k : Vec ℕ) (v : W) → ((w u : W) → Pairwise parts.same (parts.of w) (parts.of u) → IsShownSo ways w u) → HasNumbers parts all v k.items → IsJoined ways parts all k v
-joined-alike ways parts all k v alike has = λ p shows. alike shows.0 v (all-same parts all (parts.of shows.0) (parts.of v) k.items shows.1 has) p shows.2
+pub joined-alike : {W P : Type 0} (ways : Ways W) (parts : Splitting W P) (all : List P) (k : List ℕ) (v : W) → ((w u : W) → Pairwise parts.same (parts.of w) (parts.of u) → IsShownSo ways w u) → HasNumbers parts all v k → IsJoined ways parts all k v
+joined-alike ways parts all k v alike has = λ p shows. alike shows.0 v (all-same parts all (parts.of shows.0) (parts.of v) k shows.1 has) p shows.2
 
 -- the state at hand, when more states were met
-pub hand-grown : {W P : Type 0} (ways : Ways W) (parts : Splitting W P) (all : List P) (old new : List (Vec ℕ)) (hand : Option (WholeState W)) → (more : List (Vec ℕ)) × (new ≡ old ++ more) → HandHolds ways parts all old hand → HandHolds ways parts all new hand
+pub hand-grown : {W P : Type 0} (ways : Ways W) (parts : Splitting W P) (all : List P) (old new : List (List ℕ)) (hand : Option (WholeState W)) → (more : List (List ℕ)) × (new ≡ old ++ more) → HandHolds ways parts all old hand → HandHolds ways parts all new hand
 hand-grown ways parts all old new None grew holds = tt
 hand-grown ways parts all old new (Some whole) grew (k, there, joined) = (k, get_grown old new whole.number k grew there, joined)
 
 -- the state at hand has this number
-pub hand-here : {W P : Type 0} (ways : Ways W) (parts : Splitting W P) (all : List P) (states : List (Vec ℕ)) (hand : Option (WholeState W)) (whole : WholeState W) (number : ℕ) → hand ≡ Some whole → whole.number ≡ number → HandHolds ways parts all states hand → IsStateAt ways parts all states number whole.state
+pub hand-here : {W P : Type 0} (ways : Ways W) (parts : Splitting W P) (all : List P) (states : List (List ℕ)) (hand : Option (WholeState W)) (whole : WholeState W) (number : ℕ) → hand ≡ Some whole → whole.number ≡ number → HandHolds ways parts all states hand → IsStateAt ways parts all states number whole.state
 hand-here ways parts all states hand whole number is same holds = subst (λ (n : ℕ). IsStateAt ways parts all states n whole.state) same (subst (HandHolds ways parts all states) is holds)
 
 -- none is at hand
-pub hand-none : {W P : Type 0} (ways : Ways W) (parts : Splitting W P) (all : List P) (states : List (Vec ℕ)) (hand : Option (WholeState W)) → hand ≡ None → HandHolds ways parts all states hand
+pub hand-none : {W P : Type 0} (ways : Ways W) (parts : Splitting W P) (all : List P) (states : List (List ℕ)) (hand : Option (WholeState W)) → hand ≡ None → HandHolds ways parts all states hand
 hand-none ways parts all states hand none = subst (HandHolds ways parts all states) (sym none) tt
 
-last-place : {X : Type 0} (test : X → Bool) (xs : List X) → list_any test xs ≡ false → position_or_len test xs ≡ length xs
-last-place test [] none = refl
-last-place test (x ∷ xs) none = by (test x) refl none (last-place test xs)
-  where
-    by : (b : Bool) → test x ≡ b → (b || list_any test xs) ≡ false → (list_any test xs ≡ false → position_or_len test xs ≡ length xs) → cond (not (test x)) (1 + position_or_len test xs) 0 ≡ suc (length xs)
-    by true e no_one rest = absurd (cc)
-    by false e no_one rest = let next : 1 + length xs ≡ suc (length xs) = omega arith in
-        ap (λ (b : Bool). cond (not b) (1 + position_or_len test xs) 0) e ∙ ap (λ (n : ℕ). 1 + n) (rest no_one) ∙ next
-
--- numbers that are inserted
-pub is-numbered : {W P : Type 0} (ways : Ways W) (parts : Splitting W P) (all : List P) (eq : Vec ℕ → Vec ℕ → Bool) (old new : List (Vec ℕ)) (k : Vec ℕ) (n : ℕ) → ((x y : Vec ℕ) → eq x y ≡ true → x.items ≡ y.items)
-    → new ≡ (if list_any (eq k) old then old else old ++ k ∷ []) → n ≡ position_or_len (eq k) old → (s : Vec ℕ) × (slice_get new n ≡ Some s) × (eq k s ≡ true) → IsNumbered (by_numbers ways parts all) old k n new
-is-numbered {W} {P} ways parts all eq old new k n items keys index (s, there, same) = by (list_any (eq k) old) refl keys
-  where
-    shows-same : (p : ways.Point) → (w : W) × HasNumbers parts all w k.items × ways.shows w p → (w : W) × HasNumbers parts all w s.items × ways.shows w p
-    shows-same p (w, has, shows) = (w, subst (HasNumbers parts all w) (items k s same) has, shows)
-
-    by : (b : Bool) → list_any (eq k) old ≡ b → new ≡ (if b then old else old ++ k ∷ []) → IsNumbered (by_numbers ways parts all) old k n new
-    by true e is = inl (is, (s, ap (λ l. slice_get l n) (sym is) ∙ there, shows-same))
-    by false e is = inr (index ∙ last-place (eq k) old e, is)
+-- numbers that are kept
+pub is-numbered : {W P : Type 0} (ways : Ways W) (parts : Splitting W P) (all : List P) (old : List (List ℕ)) (k : List ℕ) (n : ℕ) (new : List (List ℕ)) → IsKeptAs old k n new → IsNumbered (by_numbers ways parts all) old k n new
+is-numbered ways parts all old k n new (inl (same, there)) = inl (same, (k, there, λ p shows. shows))
+is-numbered ways parts all old k n new (inr next) = inr next
 
 -- the space of numbers
 
 module _ {W P : Type 0} (ways : Ways W) (parts : Splitting W P) (all : List P) where
-  pub enough : (k : Vec ℕ) (w : W) (turns : List Turn) → IsJoined ways parts all k w → HasEnoughTurns ways w turns → HasEnoughTurns (by_numbers ways parts all) k turns
+  pub enough : (k : List ℕ) (w : W) (turns : List Turn) → IsJoined ways parts all k w → HasEnoughTurns ways w turns → HasEnoughTurns (by_numbers ways parts all) k turns
   enough k w turns joined each p turn m more q shows next goes = each p turn m more q (joined p shows) next goes
 
-  pub may-end : (k : Vec ℕ) (w : W) → IsJoined ways parts all k w → MayEnd (by_numbers ways parts all) k → MayEnd ways w
+  pub may-end : (k : List ℕ) (w : W) → IsJoined ways parts all k w → MayEnd (by_numbers ways parts all) k → MayEnd ways w
   may-end k w joined (p, shows, over) = (p, joined p shows, over)
 
-  pub moves : (k l : Vec ℕ) (w v : W) (turn : Turn) (led : TurnResult) → IsJoined ways parts all k w → MovesTo ways w turn led v → HasNumbers parts all v l.items → MovesTo (by_numbers ways parts all) k turn led l
+  pub moves : (k l : List ℕ) (w v : W) (turn : Turn) (led : TurnResult) → IsJoined ways parts all k w → MovesTo ways w turn led v → HasNumbers parts all v l → MovesTo (by_numbers ways parts all) k turn led l
   moves k l w v turn led joined led_so has p q shows next = let moved = led_so p q (joined p shows) next in (moved.0, (v, has, moved.1))
 
   -- a move that leads nowhere
-  pub moves-nowhere : (k : Vec ℕ) (w v : W) (turn : Turn) (led : TurnResult) (l : Vec ℕ) → IsJoined ways parts all k w → MovesTo ways w turn led v → led ≡ leds.Nowhere → MovesTo (by_numbers ways parts all) k turn led l
+  pub moves-nowhere : (k : List ℕ) (w v : W) (turn : Turn) (led : TurnResult) (l : List ℕ) → IsJoined ways parts all k w → MovesTo ways w turn led v → led ≡ leds.Nowhere → MovesTo (by_numbers ways parts all) k turn led l
   moves-nowhere k w v turn led l joined led_so nowhere p q shows next = absurd (subst (λ (r : TurnResult). LedFits ways r turn.place p q) nowhere (led_so p q (joined p shows) next).0)
 
-  pub first : (k : Vec ℕ) (w : W) → ShowsFirst ways w → HasNumbers parts all w k.items → ShowsFirst (by_numbers ways parts all) k
+  pub first : (k : List ℕ) (w : W) → ShowsFirst ways w → HasNumbers parts all w k → ShowsFirst (by_numbers ways parts all) k
   first k w shows has p begins = (w, has, shows p begins)
 
 -- results

@@ -1,11 +1,10 @@
 -- The knowledge of a search about the states that it has met.
-use Rattle.std.specs.Prelude.{◌≡◌, ◌⊎◌, ◌++◌, ◌<◌, ℕ, List, [], ◌∷◌, map, length, Option, Some, slice_get, IfSome}
+use Rattle.std.specs.Prelude.{◌≡◌, ◌⊎◌, ◌++◌, ◌<◌, ℕ, List, [], ◌∷◌, length, Option, Some, slice_get, IfSome}
 use Rattle.std.specs.Global.{Vec}
 use Rattle.gt_explore_search.specs.declared.spaces.Turn.{Turn}
 use Rattle.gt_explore_search.specs.Lists.{HasListAt, AreWhole, GrowsInto, IsEmptyList, HasItsLine, line_by, rest_by}
 use Rattle.gt_explore_search.specs.Parts.{Extends}
 use Rattle.gt_explore_search.specs.Ways.{Ways, GoesTo, HasEnoughTurns, IsShownSo, PrintsTo, ShowsFirst, only_at, text_at, text_led}
-use Rattle.gt_explore_search.specs.declared.exploring.ReachedList.{ReachedList}
 use Rattle.gt_explore_search.specs.declared.exploring.Explorer.{Explorer}
 use Rattle.gt_explore_search.specs.declared.exploring.SearchResult.{SearchResult}
 use Rattle.gt_explore_search.specs.declared.exploring.Node.{Node}
@@ -30,40 +29,42 @@ IsNumbered ways old w n new =
 -- ends
 
 -- there is an end with this list
-abbrev pub HasEnd : List ReachedList → ℕ → Type 0
-HasEnd ends list = (at : ℕ) × (e : ReachedList) × (slice_get ends at ≡ Some e) × (e.list ≡ list)
+abbrev pub HasEnd : List ℕ → ℕ → Type 0
+HasEnd ends list = (at : ℕ) × (slice_get ends at ≡ Some list)
 
 -- the list of one of these ends is what is printed from here to there
-abbrev pub IsAmongEnds : {W : Type 0} → (ways : Ways W) → AnswerLists → List ReachedList → ways.Point → ways.Point → Type 0
+abbrev pub IsAmongEnds : {W : Type 0} → (ways : Ways W) → AnswerLists → List ℕ → ways.Point → ways.Point → Type 0
 IsAmongEnds ways s ends p q = (list : ℕ) × HasEnd ends list × HasListAt s list × PrintsTo ways (rest_by s list) p q
 
 -- each run onward from what this state shows is among these ends
-abbrev pub AllAreFound : {W : Type 0} → Ways W → AnswerLists → W → List ReachedList → Type 0
+abbrev pub AllAreFound : {W : Type 0} → Ways W → AnswerLists → W → List ℕ → Type 0
 AllAreFound ways s w ends =
     (p : ways.Point) (turns : List Turn) (q : ways.Point) → ways.shows w p → GoesTo ways p turns q
     → IsAmongEnds ways s ends p q
 
 -- each run onward by this turn is
-abbrev pub AllByTurn : {W : Type 0} → Ways W → AnswerLists → W → List ReachedList → Turn → Type 0
+abbrev pub AllByTurn : {W : Type 0} → Ways W → AnswerLists → W → List ℕ → Turn → Type 0
 AllByTurn ways s w ends turn =
     (p m : ways.Point) (turns : List Turn) (q : ways.Point) → ways.shows w p → ways.next p turn m
     → GoesTo ways m turns q → IsAmongEnds ways s ends p q
 
 -- each of the ends names an existing list
-abbrev pub AllHaveLists : AnswerLists → List ReachedList → Type 0
-AllHaveLists s ends = (at : ℕ) (e : ReachedList) → slice_get ends at ≡ Some e → HasListAt s e.list
+abbrev pub AllHaveLists : AnswerLists → List ℕ → Type 0
+AllHaveLists s ends = (at list : ℕ) → slice_get ends at ≡ Some list → HasListAt s list
 
 -- searches
 
 -- a state is done: the runs onward from it are found
-pub record NodeHolds {P : Type 0} (ways : Ways (Vec ℕ)) (ex : Explorer P) (n : Node) : Type 0 where
-  pub world : Vec ℕ
-  pub there : slice_get ex.states.met.keys n.state ≡ Some world
-  pub finds : AllAreFound ways ex.suffixes world n.ends.value.items
-  pub lists : AllHaveLists ex.suffixes n.ends.value.items
+pub record NodeHolds {P : Type 0} (ways : Ways (List ℕ)) (ex : Explorer P) (n : Node) : Type 0 where
+  pub world : List ℕ
+  pub there : slice_get ex.states.met n.state ≡ Some world
+  pub ends : List ℕ
+  pub has : slice_get ex.sets n.set ≡ Some ends
+  pub finds : AllAreFound ways ex.suffixes world ends
+  pub lists : AllHaveLists ex.suffixes ends
 
 -- the invariant of a search
-pub record SearchHolds {P : Type 0} (ways : Ways (Vec ℕ)) (ex : Explorer P) : Type 0 where
+pub record SearchHolds {P : Type 0} (ways : Ways (List ℕ)) (ex : Explorer P) : Type 0 where
   pub whole : AreWhole ex.suffixes
   pub empty : IsEmptyList ex.suffixes 0
   pub nodes : (i : ℕ) (n : Node) → slice_get ex.nodes.items i ≡ Some n → NodeHolds ways ex n
@@ -72,26 +73,27 @@ pub record SearchHolds {P : Type 0} (ways : Ways (Vec ℕ)) (ex : Explorer P) : 
 
 -- a search has advanced: what there was is still there
 pub record Grew {P : Type 0} (old new : Explorer P) : Type 0 where
-  pub worlds : (more : List (Vec ℕ)) × (new.states.met.keys ≡ old.states.met.keys ++ more)
+  pub worlds : (more : List (List ℕ)) × (new.states.met ≡ old.states.met ++ more)
   pub nodes : (more : List Node) × (new.nodes.items ≡ old.nodes.items ++ more)
   pub suffixes : GrowsInto old.suffixes new.suffixes
+  pub sets : (more : List (List ℕ)) × (new.sets ≡ old.sets ++ more)
 
 -- there may be more parts now; the earlier ones are unchanged
 abbrev pub PartsGrew : {P : Type 0} → Explorer P → Explorer P → Type 0
 PartsGrew old new = Extends old.states.parts.kept.items new.states.parts.kept.items
 
 -- the state led by this turn to the one with the number that was noted, and printed the line that was noted
-pub record LeadsOn {P : Type 0} (ways : Ways (Vec ℕ)) (ex : Explorer P) (w : Vec ℕ) (turn : Turn) (made : MadeTurn) : Type 0 where
+pub record LeadsOn {P : Type 0} (ways : Ways (List ℕ)) (ex : Explorer P) (w : List ℕ) (turn : Turn) (made : MadeTurn) : Type 0 where
   pub line : HasItsLine ex.suffixes made.line
-  pub other : Vec ℕ
-  pub there : slice_get ex.states.met.keys made.state ≡ Some other
+  pub other : List ℕ
+  pub there : slice_get ex.states.met made.state ≡ Some other
   pub leads : (p m : ways.Point) → ways.shows w p → ways.next p turn m
       → ways.shows other m × PrintsTo ways (line_by ex.suffixes made.line) p m
 
 -- a state's moves are being tried: its runs onward by the turns tried so far are found
-pub record VisitHolds {P : Type 0} (ways : Ways (Vec ℕ)) (ex : Explorer P) (v : OpenNode) : Type 0 where
-  pub world : Vec ℕ
-  pub there : slice_get ex.states.met.keys v.state ≡ Some world
+pub record VisitHolds {P : Type 0} (ways : Ways (List ℕ)) (ex : Explorer P) (v : OpenNode) : Type 0 where
+  pub world : List ℕ
+  pub there : slice_get ex.states.met v.state ≡ Some world
   pub turns : HasEnoughTurns ways world v.turns.items
   pub tried : (at : ℕ) (turn : Turn) → at < v.next → slice_get v.turns.items at ≡ Some turn
       → AllByTurn ways ex.suffixes world v.ends.items turn
@@ -99,21 +101,19 @@ pub record VisitHolds {P : Type 0} (ways : Ways (Vec ℕ)) (ex : Explorer P) (v 
       → LeadsOn ways ex world turn m
   pub over : (p : ways.Point) → ways.shows world p → ways.ends p → IsAmongEnds ways ex.suffixes v.ends.items p p
   pub lists : AllHaveLists ex.suffixes v.ends.items
-  pub numbers : map (λ e. e.list) v.ends.items ≡ v.lists.keys
 
 -- the moves of each of these states are being tried
-abbrev pub EachVisitHolds : {P : Type 0} → Ways (Vec ℕ) → Explorer P → List OpenNode → Type 0
+abbrev pub EachVisitHolds : {P : Type 0} → Ways (List ℕ) → Explorer P → List OpenNode → Type 0
 EachVisitHolds ways ex stack = (i : ℕ) (v : OpenNode) → slice_get stack i ≡ Some v → VisitHolds ways ex v
 
--- the end was noted, unless it was there
-pub record Notes (v : OpenNode) (e : ReachedList) (w : OpenNode) : Type 0 where
+-- the list was noted, unless it was there
+pub record Notes (v : OpenNode) (list : ℕ) (w : OpenNode) : Type 0 where
   pub state : w.state ≡ v.state
   pub turns : w.turns ≡ v.turns
   pub next : w.next ≡ v.next
   pub made : w.made ≡ v.made
-  pub ends : (w.ends.items ≡ v.ends.items) ⊎ (w.ends.items ≡ v.ends.items ++ e ∷ [])
-  pub has : map (λ e. e.list) v.ends.items ≡ v.lists.keys → HasEnd w.ends.items e.list
-  pub numbers : map (λ e. e.list) v.ends.items ≡ v.lists.keys → map (λ e. e.list) w.ends.items ≡ w.lists.keys
+  pub ends : (w.ends.items ≡ v.ends.items) ⊎ (w.ends.items ≡ v.ends.items ++ list ∷ [])
+  pub has : HasEnd w.ends.items list
 
 -- the line is that of the answer that a move of the domain at this position gave
 pub record IsLineOf {P : Type 0} (old : Explorer P) (place : ℕ) (led : TurnResult) (made : Option AnswerLine) (new : Explorer P)
@@ -121,21 +121,22 @@ pub record IsLineOf {P : Type 0} (old : Explorer P) (place : ℕ) (led : TurnRes
   pub states : new.states ≡ old.states
   pub done : new.done ≡ old.done
   pub nodes : new.nodes ≡ old.nodes
+  pub sets : new.sets ≡ old.sets
   pub suffixes : GrowsInto old.suffixes new.suffixes
   pub line : HasItsLine new.suffixes made
   pub printed : (at : ℕ) → line_by new.suffixes made at ≡ only_at place (text_led led) at
 
 -- by this turn, which prints this line, the state leads to that of this node
-pub record TurnLeads {P : Type 0} (ways : Ways (Vec ℕ)) (ex : Explorer P) (v : OpenNode) (turn : Turn) (node : ℕ)
+pub record TurnLeads {P : Type 0} (ways : Ways (List ℕ)) (ex : Explorer P) (v : OpenNode) (turn : Turn) (node : ℕ)
     (line : Option AnswerLine) : Type 0 where
   pub done : Node
   pub there : slice_get ex.nodes.items node ≡ Some done
-  pub leads : (w u : Vec ℕ) → slice_get ex.states.met.keys v.state ≡ Some w
-      → slice_get ex.states.met.keys done.state ≡ Some u → (p m : ways.Point) → ways.shows w p → ways.next p turn m
+  pub leads : (w u : List ℕ) → slice_get ex.states.met v.state ≡ Some w
+      → slice_get ex.states.met done.state ≡ Some u → (p m : ways.Point) → ways.shows w p → ways.next p turn m
       → ways.shows u m × PrintsTo ways (line_by ex.suffixes line) p m
 
 -- the runs onward by this turn were gathered
-pub record Gathered {P : Type 0} (ways : Ways (Vec ℕ)) (old : Explorer P) (v : OpenNode) (turn : Turn) (new : Explorer P)
+pub record Gathered {P : Type 0} (ways : Ways (List ℕ)) (old : Explorer P) (v : OpenNode) (turn : Turn) (new : Explorer P)
     (w : OpenNode) : Type 0 where
   pub holds : SearchHolds ways new
   pub grew : Grew old new
@@ -145,7 +146,7 @@ pub record Gathered {P : Type 0} (ways : Ways (Vec ℕ)) (old : Explorer P) (v :
   pub found : AllByTurn ways new.suffixes visit.world w.ends.items turn
 
 -- a turn was tried, or leads to a state that is new
-pub record Stepped {P : Type 0} (ways : Ways (Vec ℕ)) (old : Explorer P) (v : OpenNode) (other : Option OpenNode) (new : Explorer P)
+pub record Stepped {P : Type 0} (ways : Ways (List ℕ)) (old : Explorer P) (v : OpenNode) (other : Option OpenNode) (new : Explorer P)
     : Type 0 where
   pub holds : SearchHolds ways new
   pub grew : Grew old new
@@ -155,15 +156,15 @@ pub record Stepped {P : Type 0} (ways : Ways (Vec ℕ)) (old : Explorer P) (v : 
 -- the whole search
 
 -- the search begins
-pub record SearchStarts {P : Type 0} (ways : Ways (Vec ℕ)) (ex : Explorer P) : Type 0 where
+pub record SearchStarts {P : Type 0} (ways : Ways (List ℕ)) (ex : Explorer P) : Type 0 where
   pub holds : SearchHolds ways ex
-  pub none : ex.states.met.keys ≡ []
+  pub none : ex.states.met ≡ []
 
 -- the search is over: the first state shows the runs that begin
-pub record SearchFinishes {P : Type 0} (ways : Ways (Vec ℕ)) (ex : Explorer P) : Type 0 where
+pub record SearchFinishes {P : Type 0} (ways : Ways (List ℕ)) (ex : Explorer P) : Type 0 where
   pub holds : SearchHolds ways ex
-  pub first : Vec ℕ
-  pub there : slice_get ex.states.met.keys 0 ≡ Some first
+  pub first : List ℕ
+  pub there : slice_get ex.states.met 0 ≡ Some first
   pub shows : ShowsFirst ways first
 
 -- for each run from its beginning to its end an order with the same text was found

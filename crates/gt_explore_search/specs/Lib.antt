@@ -1,4 +1,5 @@
 pub mod Exploring
 pub mod Lists
+pub mod Numbers
 pub mod Parts
 pub mod Ways

@@ -1,13 +1,10 @@
 -- The text that a list of answers still has to print.
-use Rattle.std.specs.Prelude.{◌≡◌, ◌++◌, ◌<◌, ◌==◌, ℕ, List, [], ◌∷◌, length, Option, Some, None, slice_get}
+use Rattle.std.specs.Prelude.{◌≡◌, ◌++◌, ◌<◌, ◌==◌, ℕ, List, [], ◌∷◌, length, Option, Some, None, slice_index_or}
 use Rattle.std.specs.Prelude.{zero, suc, if◌then◌else◌}
 use Rattle.std.specs.Global.{Vec}
+use Rattle.std.specs.List.{flat_map}
 use Rattle.gt_explore_search.specs.declared.suffixes.AnswerLine.{AnswerLine}
 use Rattle.gt_explore_search.specs.declared.suffixes.AnswerLists.{AnswerLists}
-
--- the lines before this index are of domains at earlier positions
-abbrev pub IsBefore : ℕ → ℕ → List AnswerLine → Type 0
-IsBefore at place list = (k : ℕ) (l : AnswerLine) → k < at → slice_get list k ≡ Some l → l.place < place
 
 -- the items of the vector with this number, none if there is no such one
 abbrev pub items_at : {X : Type 0} → List (Vec X) → ℕ → List X
@@ -15,14 +12,13 @@ items_at [] n = []
 items_at (v ∷ vs) zero = v.items
 items_at (v ∷ vs) (suc n) = items_at vs n
 
--- what the domain at this position prints of the lines of a list
-abbrev pub printed_of : List (Vec ℕ) → List AnswerLine → ℕ → List ℕ
-printed_of lines [] at = []
-printed_of lines (l ∷ ls) at = (if l.place == at then items_at lines l.number else []) ++ printed_of lines ls at
+-- what is printed of the lines with these numbers
+abbrev pub printed_of : List (Vec ℕ) → List ℕ → List ℕ
+printed_of lines tail = flat_map (items_at lines) tail
 
 -- what the domain at this position still prints, by the list of this number
 abbrev pub rest_by : AnswerLists → ℕ → ℕ → List ℕ
-rest_by s n at = printed_of s.lines.keys (items_at s.lists.keys n) at
+rest_by s n at = printed_of s.lines.keys (slice_index_or s.tails (slice_index_or (slice_index_or s.lists n []) at 0) [])
 
 -- what the domain at this position prints by an answer, if there is one
 abbrev pub line_by : AnswerLists → Option AnswerLine → ℕ → List ℕ
@@ -35,31 +31,28 @@ HasLine s n bytes = (n < length s.lines.keys) × (items_at s.lines.keys n ≡ by
 
 -- there is a list with this number
 abbrev pub HasListAt : AnswerLists → ℕ → Type 0
-HasListAt s n = n < length s.lists.keys
+HasListAt s n = n < length s.lists
 
--- each line of a list has an existing number
-abbrev pub HasLines : ℕ → List AnswerLine → Type 0
-HasLines count [] = Unit {0}
-HasLines count (l ∷ ls) = (l.number < count) × HasLines count ls
+-- each of these numbers is below this one
+abbrev pub AllBelow : ℕ → List ℕ → Type 0
+AllBelow count [] = Unit {0}
+AllBelow count (n ∷ ns) = (n < count) × AllBelow count ns
 
--- each list names existing lines
-abbrev pub AllHaveLines : ℕ → List (Vec AnswerLine) → Type 0
-AllHaveLines count [] = Unit {0}
-AllHaveLines count (v ∷ vs) = HasLines count v.items × AllHaveLines count vs
-
--- all lists are whole: each names existing lines
-abbrev pub AreWhole : AnswerLists → Type 0
-AreWhole s = AllHaveLines (length s.lines.keys) s.lists.keys
+-- all lists are whole: each tail names existing lines, and each list names existing tails
+pub record AreWhole (s : AnswerLists) : Type 0 where
+  pub lines : (n : ℕ) → AllBelow (length s.lines.keys) (slice_index_or s.tails n [])
+  pub tails : (n at : ℕ) → slice_index_or (slice_index_or s.lists n []) at 0 < length s.tails
 
 -- the answer, if there is one, has an existing line
 abbrev pub HasItsLine : AnswerLists → Option AnswerLine → Type 0
 HasItsLine s None = Unit {0}
 HasItsLine s (Some l) = l.number < length s.lines.keys
 
--- there may be more lines and lists now; the earlier ones are unchanged
+-- there may be more lines, tails and lists now; the earlier ones are unchanged
 pub record GrowsInto (s t : AnswerLists) : Type 0 where
   pub lines : (more : List (Vec ℕ)) × (t.lines.keys ≡ s.lines.keys ++ more)
-  pub lists : (more : List (Vec AnswerLine)) × (t.lists.keys ≡ s.lists.keys ++ more)
+  pub tails : (more : List (List ℕ)) × (t.tails ≡ s.tails ++ more)
+  pub lists : (more : List (List ℕ)) × (t.lists ≡ s.lists ++ more)
   pub whole : AreWhole s → AreWhole t
 
 -- by the list of this number nothing is printed

@@ -46,7 +46,7 @@ HasNumbers parts all w numbers = Pairwise (HasNumber parts all) (parts.of w) num
 
 -- the runs of a space with the numbers of parts as its states, if all parts are these: such a state shows what is shown
 -- by the states with these parts
-abbrev pub by_numbers : {W P : Type 0} → Ways W → Splitting W P → List P → Ways (Vec ℕ)
+abbrev pub by_numbers : {W P : Type 0} → Ways W → Splitting W P → List P → Ways (List ℕ)
 by_numbers {W} {P} ways parts all = record {
   Point = ways.Point;
   domains = ways.domains;
@@ -54,18 +54,18 @@ by_numbers {W} {P} ways parts all = record {
   next = ways.next;
   ends = ways.ends;
   printed = ways.printed;
-  shows = λ k p. (w : W) × HasNumbers parts all w k.items × ways.shows w p;
+  shows = λ k p. (w : W) × HasNumbers parts all w k × ways.shows w p;
   blank = ways.blank;
 }
 
 -- the state shows all that these numbers show
-abbrev pub IsJoined : {W P : Type 0} → Ways W → Splitting W P → List P → Vec ℕ → W → Type 0
+abbrev pub IsJoined : {W P : Type 0} → Ways W → Splitting W P → List P → List ℕ → W → Type 0
 IsJoined ways parts all k w = (p : ways.Point) → (by_numbers ways parts all).shows k p → ways.shows w p
 
 -- the state shows all that the numbers at this index show
-abbrev pub IsStateAt : {W P : Type 0} → Ways W → Splitting W P → List P → List (Vec ℕ) → ℕ → W → Type 0
-IsStateAt ways parts all states n w = (k : Vec ℕ) × (slice_get states n ≡ Some k) × IsJoined ways parts all k w
+abbrev pub IsStateAt : {W P : Type 0} → Ways W → Splitting W P → List P → List (List ℕ) → ℕ → W → Type 0
+IsStateAt ways parts all states n w = (k : List ℕ) × (slice_get states n ≡ Some k) × IsJoined ways parts all k w
 
 -- the state at hand, if there is one, shows all that the numbers at its index show
-abbrev pub HandHolds : {W P : Type 0} → Ways W → Splitting W P → List P → List (Vec ℕ) → Option (WholeState W) → Type 0
+abbrev pub HandHolds : {W P : Type 0} → Ways W → Splitting W P → List P → List (List ℕ) → Option (WholeState W) → Type 0
 HandHolds ways parts all states hand = IfSome hand (λ w. IsStateAt ways parts all states w.number w.state)

@@ -5,13 +5,13 @@ ghost use Rattle.gt_explore_search.specs.Exploring.{AllTextsFound, SearchStarts}
 ghost use Rattle.gt_explore_search.specs.Parts.{by_numbers};
 
 use crate::fault::SearchFault;
-use crate::sharing::{TriedTurn, same_lists, tried_turn};
+use crate::marks::Marks;
+use crate::numbers::NumberLists;
+use crate::sharing::{TriedTurn, tried_turn};
 use crate::spaces::{TransitionSystem, Turn, TurnResult};
 use crate::states::{StateIndex, WholeState};
 use crate::suffixes::{AnswerLine, AnswerLists};
-use indexmap::IndexSet;
 use std::alloc::{AllocError, Global};
-use std::rc::Rc;
 
 mod orders;
 mod partial;
@@ -32,20 +32,13 @@ pub struct SearchResult {
     pub states: usize,
 }
 
-/// A list of answers that a state leads to, by its number.
+/// A state whose moves have all been tried. `set` is the number of the set of the lists of answers that it leads to. The
+/// turns that were tried are those from the index `tried` on, up to those of the next node.
 #[derive(Clone, Copy)]
-pub struct ReachedList {
-    pub list: u32,
-}
-
-/// A state whose moves have all been tried, and the lists of answers that it leads to. It shares them with a node to
-/// which it leads if they are the same. The turns that were tried are those from the index `tried` on, up to those of
-/// the next node.
-#[derive(Drop)]
 pub struct Node {
     pub state: u32,
     pub tried: u32,
-    pub ends: Rc<Vec<ReachedList>>,
+    pub set: u32,
 }
 
 /// A turn that was made: the number of the state that it led to, and the line that it printed.
@@ -56,7 +49,7 @@ pub struct MadeTurn {
 }
 
 /// A state whose moves are being tried. `made` is the next turn, if it was made. Its ends are to be gathered when the
-/// state that it led to is done.
+/// state that it led to is done. `ends` has the numbers of the lists of answers that the state leads to.
 #[derive(Drop)]
 pub struct OpenNode {
     pub state: usize,
@@ -64,11 +57,11 @@ pub struct OpenNode {
     pub next: usize,
     pub made: Option<MadeTurn>,
     pub tried: Vec<TriedTurn>,
-    pub lists: IndexSet<usize>,
-    pub ends: Vec<ReachedList>,
+    pub ends: Vec<u32>,
 }
 
-/// A search in progress. `done` has the number of the node of each state that is done.
+/// A search in progress. `done` has the number of the node of each state that is done. `sets` has sets of lists of
+/// answers, each as the numbers of its lists.
 #[derive(Drop)]
 pub struct Explorer<P> {
     pub alloc: Global,
@@ -78,6 +71,8 @@ pub struct Explorer<P> {
     pub nodes: Vec<Node>,
     pub tried: Vec<TriedTurn>,
     pub suffixes: AnswerLists,
+    pub sets: NumberLists,
+    pub marks: Marks,
 }
 
 impl OpenNode {
@@ -96,16 +91,14 @@ impl OpenNode {
     }
 
     // Notes that the state leads to this list of answers, if that is new.
-    fn note(&mut self, list: usize) -> Result<(), SearchFault>
-        ensures { OnOk result (Notes self.old (record { list = list }) self.new) }
+    fn note(&mut self, marks: &mut Marks, list: u32) -> Result<(), AllocError>
+        ensures { OnOk result (Notes self.old list self.new) }
     {
-        if list >= 4_294_967_296 {
-            return Err(SearchFault::States);
+        if marks.has(self.ends.as_slice(), list) {
+            return Ok(());
         }
-        let (_, is_new) = self.lists.insert_full(list)?;
-        if is_new {
-            self.ends.push(ReachedList { list: list as u32 })?;
-        }
+        marks.set(list, self.ends.len())?;
+        self.ends.push(list)?;
         Ok(())
     }
 }
@@ -169,7 +162,7 @@ impl<P: Drop> Explorer<P> {
         ensures states { OnOk result (self.new.states ≡ self.old.states) }
         ensures holds { (all : List P) → let ways = by_numbers (S.ways space.now) (S.parts space.now) all in
             SearchHolds ways self.old →
-            IsStateAt (S.ways space.now) (S.parts space.now) all self.old.states.met.keys state world.now →
+            IsStateAt (S.ways space.now) (S.parts space.now) all self.old.states.met state world.now →
             IfOk result (λ v. SearchHolds ways self.new × Grew self.old self.new × VisitHolds ways self.new v) }
     {
         if self.states.len() > self.limit {
@@ -183,24 +176,29 @@ impl<P: Drop> Explorer<P> {
             next: 0,
             made: None,
             tried: Vec::new(alloc),
-            lists: IndexSet::new(alloc),
             ends: Vec::new(alloc),
         };
         if !space.is_finished(world) {
             return Ok(visit);
         }
-        visit.note(0)?;
+        visit.note(&mut self.marks, 0)?;
         Ok(visit)
     }
 
     // Returns the line of the answer that a move of the domain at this position gave.
-    fn line(&mut self, place: usize, led: TurnResult) -> Result<Option<AnswerLine>, AllocError>
+    fn line(&mut self, place: usize, led: TurnResult) -> Result<Option<AnswerLine>, SearchFault>
         ensures { IfOk result (λ line. IsLineOf self.old place led line self.new) }
     {
         match led {
             TurnResult::Answered(line) => {
                 let number = self.suffixes.line(line)?;
-                Ok(Some(AnswerLine { place, number }))
+                if place >= 4_294_967_296 {
+                    return Err(SearchFault::States);
+                }
+                Ok(Some(AnswerLine {
+                    place: place as u32,
+                    number,
+                }))
             }
             TurnResult::On | TurnResult::Nowhere => Ok(None),
         }
@@ -223,10 +221,15 @@ impl<P: Drop> Explorer<P> {
         let Some(done) = node_at(self.nodes.as_slice(), node) else {
             return Ok(());
         };
+        let Some(lists) = self.sets.get(done.set as usize) else {
+            return Ok(());
+        };
         let suffixes = &mut self.suffixes;
-        'ends: for end in done.ends.as_slice() {
-            let list = suffixes.longer(end.list as usize, line)?;
-            visit.note(list)?;
+        let marks = &mut self.marks;
+        marks.set_all(visit.ends.as_slice())?;
+        'ends: for end in lists {
+            let list = suffixes.longer(*end, line)?;
+            visit.note(marks, list)?;
         }
         Ok(())
     }
@@ -241,11 +244,11 @@ impl<P: Drop> Explorer<P> {
     ) -> Result<Option<OpenNode>, SearchFault>
         ensures grows { OnOk result (PartsGrew self.old self.new) }
         ensures hand { (all : List P) → Extends self.new.states.parts.kept.items all →
-            OnOk result (HandHolds (S.ways space.now) (S.parts space.now) all self.new.states.met.keys hand.new) }
+            OnOk result (HandHolds (S.ways space.now) (S.parts space.now) all self.new.states.met hand.new) }
         ensures steps { (all : List P) → Extends self.new.states.parts.kept.items all →
             let ways = by_numbers (S.ways space.now) (S.parts space.now) all in
             SearchHolds ways self.old → VisitHolds ways self.old visit.old →
-            HandHolds (S.ways space.now) (S.parts space.now) all self.old.states.met.keys hand.old →
+            HandHolds (S.ways space.now) (S.parts space.now) all self.old.states.met hand.old →
             slice_get visit.old.turns.items visit.old.next ≡ Some turn →
             IfOk result (λ deeper. Stepped ways self.old visit.new deeper self.new) }
     {
@@ -296,35 +299,6 @@ impl<P: Drop> Explorer<P> {
         Ok(())
     }
 
-    // Returns the ends of this node, if their lists are those of these ends.
-    fn shared(&self, node: usize, ends: &[ReachedList]) -> Option<&Rc<Vec<ReachedList>>>
-        ensures { IfSome result (λ kept. map (λ e. e.list) kept.now.value.items ≡ map (λ e. e.list) ends.now) }
-    {
-        let done = node_at(self.nodes.as_slice(), node)?;
-        if same_lists(ends, done.ends.as_slice()) {
-            Some(&done.ends)
-        } else {
-            None
-        }
-    }
-
-    // Keeps these ends, or shares those of a node to which one of these turns led.
-    fn kept(
-        &self,
-        tried: &[TriedTurn],
-        ends: &[ReachedList],
-    ) -> Result<Rc<Vec<ReachedList>>, AllocError>
-        ensures { IfOk result (λ made. map (λ e. e.list) made.value.items ≡ map (λ e. e.list) ends.now) }
-    {
-        'tried: for turn in tried {
-            if let Some(kept) = self.shared(turn.node as usize, ends) {
-                return Ok(kept.clone()?);
-            }
-        }
-        let own = Vec::from_slice(self.alloc, ends)?;
-        Ok(Rc::new(self.alloc, own)?)
-    }
-
     // Finishes a state whose moves have all been tried.
     fn finish<S: TransitionSystem<Part = P>>(
         &mut self,
@@ -343,12 +317,12 @@ impl<P: Drop> Explorer<P> {
         if state >= 4_294_967_296 || first >= 4_294_967_296 {
             return Err(SearchFault::States);
         }
-        let ends = self.kept(visit.tried.as_slice(), visit.ends.as_slice())?;
+        let set = self.sets.number_of(visit.ends.as_slice())?;
         self.tried.extend_from_slice(visit.tried.as_slice())?;
         self.nodes.push(Node {
             state: state as u32,
             tried: first as u32,
-            ends,
+            set,
         })?;
         set_done(&mut self.done, state, node);
         Ok(())
@@ -365,10 +339,10 @@ impl<P: Drop> Explorer<P> {
         ensures holds { (all : List P) → Extends self.new.states.parts.kept.items all →
             let ways = by_numbers (S.ways space.now) (S.parts space.now) all in
             SearchHolds ways self.old → EachVisitHolds ways self.old stack.old.items →
-            HandHolds (S.ways space.now) (S.parts space.now) all self.old.states.met.keys hand.old →
+            HandHolds (S.ways space.now) (S.parts space.now) all self.old.states.met hand.old →
             OnOk result (SearchHolds ways self.new × Grew self.old self.new
             × EachVisitHolds ways self.new stack.new.items
-            × HandHolds (S.ways space.now) (S.parts space.now) all self.new.states.met.keys hand.new) }
+            × HandHolds (S.ways space.now) (S.parts space.now) all self.new.states.met hand.new) }
     {
         let Some(mut visit) = stack.pop() else {
             return Ok(false);
@@ -437,12 +411,15 @@ impl<P: Drop> Explorer<P> {
         let Some(done) = node_at(self.nodes.as_slice(), first) else {
             return Err(SearchFault::Circle);
         };
+        let Some(lists) = self.sets.get(done.set as usize) else {
+            return Err(SearchFault::Circle);
+        };
         let mut orders = Vec::new(self.alloc);
+        let mut scratch = Vec::new(self.alloc);
         let domains = space.domains();
-        'ends: for end in done.ends.as_slice() {
-            let list = end.list as usize;
-            let turns = self.turns(first, list, orders.len())?;
-            let text = self.suffixes.text(list, domains)?;
+        'ends: for end in lists {
+            let turns = self.turns(first, *end, orders.len(), &mut scratch)?;
+            let text = self.suffixes.text(*end, domains)?;
             orders.push(FoundText { turns, text })?;
         }
         let states = self.states.len();
@@ -455,7 +432,7 @@ fn new_explorer<S: TransitionSystem>(
     alloc: Global,
     space: &S,
     limit: usize,
-) -> Result<Explorer<S::Part>, AllocError>
+) -> Result<Explorer<S::Part>, SearchFault>
     ensures { (all : List S.Part) → IfOk result (SearchStarts (by_numbers (S.ways space.now) (S.parts space.now) all)) }
 {
     Ok(Explorer {
@@ -466,6 +443,8 @@ fn new_explorer<S: TransitionSystem>(
         nodes: Vec::new(alloc),
         tried: Vec::new(alloc),
         suffixes: AnswerLists::new(alloc)?,
+        sets: NumberLists::new(alloc),
+        marks: Marks::new(alloc),
     })
 }
 

@@ -12,6 +12,8 @@
 
 mod exploring;
 mod fault;
+mod marks;
+mod numbers;
 mod parts;
 mod sharing;
 mod spaces;

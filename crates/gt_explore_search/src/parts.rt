@@ -17,7 +17,7 @@ pub struct PartIndex<P> {
 }
 
 // Returns the number at this index, if there is one.
-fn number_at(numbers: Option<&Vec<u32>>, at: usize) -> Option<u32> {
+fn number_at(numbers: Option<&[u32]>, at: usize) -> Option<u32> {
     match numbers {
         Some(numbers) => numbers.get(at).copied(),
         None => None,
@@ -25,7 +25,7 @@ fn number_at(numbers: Option<&Vec<u32>>, at: usize) -> Option<u32> {
 }
 
 // Counts these numbers.
-fn count(numbers: Option<&Vec<u32>>) -> usize {
+fn count(numbers: Option<&[u32]>) -> usize {
     match numbers {
         Some(numbers) => numbers.len(),
         None => 0,
@@ -146,7 +146,7 @@ impl<P: Drop> PartIndex<P> {
         &mut self,
         space: &S,
         state: &S::State,
-        last: Option<&Vec<u32>>,
+        last: Option<&[u32]>,
     ) -> Result<Vec<u32>, SearchFault>
         ensures numbers { IfOk result (λ numbers.
             HasNumbers (S.parts space.now) self.new.kept.items state.now numbers.items) }

@@ -5,9 +5,9 @@ ghost use Rattle.gt_explore_search.specs.Exploring.{IsNumbered};
 ghost use Rattle.gt_explore_search.specs.Parts.{Extends, HandHolds, HasNumbers, IsStateAt, by_numbers};
 
 use crate::fault::SearchFault;
+use crate::numbers::NumberLists;
 use crate::parts::PartIndex;
 use crate::spaces::TransitionSystem;
-use indexmap::IndexSet;
 use std::alloc::Global;
 
 /// A state that was met, as a whole, and its number.
@@ -21,23 +21,23 @@ pub struct WholeState<W> {
 #[derive(Drop)]
 pub struct StateIndex<P> {
     parts: PartIndex<P>,
-    met: IndexSet<Vec<u32>>,
+    met: NumberLists,
 }
 
 impl<P: Drop> StateIndex<P> {
     /// Makes an empty index.
     pub fn new(alloc: Global) -> StateIndex<P>
-        ensures { result.met.keys ≡ [] }
+        ensures { result.met ≡ [] }
     {
         StateIndex {
             parts: PartIndex::new(alloc),
-            met: IndexSet::new(alloc),
+            met: NumberLists::new(alloc),
         }
     }
 
     /// Returns the number of states.
     pub fn len(&self) -> usize
-        ensures { result ≡ length self.now.met.keys }
+        ensures { result ≡ length self.now.met }
     {
         self.met.len()
     }
@@ -52,12 +52,12 @@ impl<P: Drop> StateIndex<P> {
         number: usize,
     ) -> Result<S::State, SearchFault>
         ensures { (all : List P) → Extends self.now.parts.kept.items all →
-            IfOk result (IsStateAt (S.ways space.now) (S.parts space.now) all self.now.met.keys number) }
+            IfOk result (IsStateAt (S.ways space.now) (S.parts space.now) all self.now.met number) }
     {
-        let Some(numbers) = self.met.get_index(number) else {
+        let Some(numbers) = self.met.get(number) else {
             return Err(SearchFault::States);
         };
-        let parts = self.parts.copies(space, numbers.as_slice())?;
+        let parts = self.parts.copies(space, numbers)?;
         Ok(space.join(parts)?)
     }
 
@@ -74,8 +74,8 @@ impl<P: Drop> StateIndex<P> {
     ) -> Result<S::State, SearchFault>
         ensures hand { OnOk result (hand.new ≡ None) }
         ensures state { (all : List P) → Extends self.now.parts.kept.items all →
-            HandHolds (S.ways space.now) (S.parts space.now) all self.now.met.keys hand.old →
-            IfOk result (IsStateAt (S.ways space.now) (S.parts space.now) all self.now.met.keys number) }
+            HandHolds (S.ways space.now) (S.parts space.now) all self.now.met hand.old →
+            IfOk result (IsStateAt (S.ways space.now) (S.parts space.now) all self.now.met number) }
     {
         if let Some(whole) = hand.take() {
             if whole.number == number {
@@ -97,13 +97,13 @@ impl<P: Drop> StateIndex<P> {
         last: usize,
     ) -> Result<usize, SearchFault>
         ensures grows { OnOk result (Extends self.old.parts.kept.items self.new.parts.kept.items) }
-        ensures number { (all : List P) → Extends self.new.parts.kept.items all → IfOk result (λ n. (k : Vec ℕ)
-            × HasNumbers (S.parts space.now) all state.now k.items
-            × IsNumbered (by_numbers (S.ways space.now) (S.parts space.now) all) self.old.met.keys k n self.new.met.keys) }
+        ensures number { (all : List P) → Extends self.new.parts.kept.items all → IfOk result (λ n. (k : List ℕ)
+            × HasNumbers (S.parts space.now) all state.now k
+            × IsNumbered (by_numbers (S.ways space.now) (S.parts space.now) all) self.old.met k n self.new.met) }
     {
-        let near = self.met.get_index(last);
+        let near = self.met.get(last);
         let numbers = self.parts.numbers(space, state, near)?;
-        let (number, _) = self.met.insert_full(numbers)?;
-        Ok(number)
+        let number = self.met.number_of(numbers.as_slice())?;
+        Ok(number as usize)
     }
 }

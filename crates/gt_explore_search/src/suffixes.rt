@@ -1,88 +1,127 @@
 //! The lists of answers that a state can still lead to.
-ghost use Rattle.std.specs.Prelude.{◌≡◌, ◌<◌, ◌≤◌, ℕ, length, slice_get, Some, IfOk};
-ghost use Rattle.std.specs.List.{insert};
-ghost use Rattle.gt_explore_search.specs.Lists.{IsBefore};
+ghost use Rattle.std.specs.Prelude.{◌≡◌, ◌==◌, ◌-◌, ◌++◌, ◌∷◌, ℕ, OnOk, length, replicate, slice_index_or, if◌then◌else◌};
 
+use crate::fault::SearchFault;
+use crate::numbers::NumberLists;
 use indexmap::IndexSet;
 use std::alloc::{AllocError, Global};
 
 /// The line of an answer: the position of its domain, and the number of its bytes.
-#[derive(Clone, Copy, PartialEq, Eq, Hash)]
+#[derive(Clone, Copy, PartialEq, Eq)]
 pub struct AnswerLine {
-    pub place: usize,
-    pub number: usize,
+    pub place: u32,
+    pub number: u32,
 }
 
-/// The lists of answers that were met, each with a number. The empty list has the number 0. A list has the lines of
-/// each domain in their order, those of the first domain first.
+/// The lists of answers that were met, each with a number. The empty list has the number 0. A list has the number of a
+/// tail for each domain, up to the last one that still prints. A tail has the lines that one domain still prints, and
+/// the tail 0 has none.
 #[derive(Drop)]
 pub struct AnswerLists {
     alloc: Global,
     lines: IndexSet<Vec<u8>>,
-    lists: IndexSet<Vec<AnswerLine>>,
+    tails: NumberLists,
+    lists: NumberLists,
+    scratch: Vec<u32>,
 }
 
-// Returns the index for the next line of a domain, before those that it prints later.
-fn place_in(list: &[AnswerLine], place: usize) -> usize
-    ensures within { result ≤ length list.now }
-    ensures before { IsBefore result place list.now }
+// Returns the tail of the domain at this position.
+fn tail_at(list: &[u32], place: usize) -> u32
+    ensures { result ≡ slice_index_or list.now place 0 }
 {
-    let mut at = 0;
-    'list: for line in list {
-        if line.place >= place {
-            return at;
-        }
-        at += 1;
+    list.get(place).copied().unwrap_or(0)
+}
+
+// Makes `out` the tail with this line before the later ones.
+fn put_line(out: &mut Vec<u32>, line: u32, later: &[u32]) -> Result<(), AllocError>
+    ensures { OnOk result (out.new.items ≡ line ∷ later.now) }
+{
+    out.clear();
+    out.push(line)?;
+    out.extend_from_slice(later)?;
+    Ok(())
+}
+
+// Makes a list at least this long, by tails without lines.
+fn lengthen(list: &mut Vec<u32>, len: usize) -> Result<(), AllocError>
+    ensures { OnOk result (list.new.items ≡ list.old.items ++ replicate (len - length list.old.items) 0) }
+{
+    if list.len() < len {
+        list.resize(len, 0)?;
     }
-    at
+    Ok(())
 }
 
-// Returns the list with this line before those that its domain prints later.
-fn with_line(
-    alloc: Global,
-    list: &[AnswerLine],
-    line: AnswerLine,
-) -> Result<Vec<AnswerLine>, AllocError>
-    ensures { IfOk result (λ longer. (at : ℕ) × IsBefore at line.place list.now
-        × (at ≤ length list.now) × (longer.items ≡ insert list.now at line)) }
+// Puts another tail of the domain at this position into a list.
+fn set_tail(list: &mut Vec<u32>, place: u32, tail: u32) -> Result<(), AllocError>
+    ensures { OnOk result ((at : ℕ) → slice_index_or list.new.items at 0
+        ≡ (if place == at then tail else slice_index_or list.old.items at 0)) }
 {
-    let at = place_in(list, line.place);
-    let mut longer = Vec::from_slice(alloc, list)?;
-    longer.insert(at, line)?;
-    Ok(longer)
+    let place = place as usize;
+    lengthen(list, place + 1)?;
+    list[place] = tail;
+    Ok(())
+}
+
+// Makes `out` the list with another tail of the domain at this position.
+fn put_tail(out: &mut Vec<u32>, list: &[u32], place: u32, tail: u32) -> Result<(), AllocError>
+    ensures { OnOk result ((at : ℕ) → slice_index_or out.new.items at 0
+        ≡ (if place == at then tail else slice_index_or list.now at 0)) }
+{
+    out.clear();
+    out.extend_from_slice(list)?;
+    set_tail(out, place, tail)?;
+    Ok(())
+}
+
+// Removes the tails without lines at the end of a list.
+fn trim(list: &mut Vec<u32>) {
+    for _ in 0..list.len() {
+        if list.as_slice().last() != Some(&0) {
+            return;
+        }
+        list.pop();
+    }
 }
 
 impl AnswerLists {
-    ghost use Rattle.std.specs.Prelude.{◌≡◌, ◌++◌, ℕ, Some, IfOk, OnOk};
+    ghost use Rattle.std.specs.Prelude.{◌≡◌, ◌++◌, [], ℕ, IfOk, OnOk, slice_index_or};
     ghost use Rattle.std.specs.List.{flat_map, range_with_len};
     ghost use Rattle.gt_explore_search.specs.Lists.{AreWhole, GrowsInto, HasLine, HasListAt, IsEmptyList, HasItsLine, IsLonger};
-    ghost use Rattle.gt_explore_search.specs.Lists.{line_by, printed_of, rest_by};
+    ghost use Rattle.gt_explore_search.specs.Lists.{items_at, printed_of, rest_by};
 
     /// Makes an index of only the empty list.
-    pub fn new(alloc: Global) -> Result<AnswerLists, AllocError>
+    pub fn new(alloc: Global) -> Result<AnswerLists, SearchFault>
         ensures whole { IfOk result AreWhole }
         ensures empty { IfOk result (λ s. IsEmptyList s 0) }
     {
-        let mut lists = IndexSet::new(alloc);
-        lists.insert(Vec::new(alloc))?;
+        let mut tails = NumberLists::new(alloc);
+        tails.number_of(&[])?;
+        let mut lists = NumberLists::new(alloc);
+        lists.number_of(&[])?;
         Ok(AnswerLists {
             alloc,
             lines: IndexSet::new(alloc),
+            tails,
             lists,
+            scratch: Vec::new(alloc),
         })
     }
 
     /// Returns the number of a line's bytes.
-    pub fn line(&mut self, line: Vec<u8>) -> Result<usize, AllocError>
+    pub fn line(&mut self, line: Vec<u8>) -> Result<u32, SearchFault>
         ensures grows { OnOk result (GrowsInto self.old self.new) }
         ensures line { IfOk result (λ n. HasLine self.new n line.items) }
     {
         let (number, _) = self.lines.insert_full(line)?;
-        Ok(number)
+        if number >= 4_294_967_295 {
+            return Err(SearchFault::States);
+        }
+        Ok(number as u32)
     }
 
     /// Returns the number of this list with the answer in front, if there is one.
-    pub fn longer(&mut self, list: usize, line: Option<AnswerLine>) -> Result<usize, AllocError>
+    pub fn longer(&mut self, list: u32, line: Option<AnswerLine>) -> Result<u32, SearchFault>
         ensures grows { OnOk result (GrowsInto self.old self.new) }
         ensures there { HasListAt self.old list → IfOk result (λ n. HasListAt self.new n) }
         ensures longer { HasItsLine self.old line → AreWhole self.old → HasListAt self.old list →
@@ -91,78 +130,88 @@ impl AnswerLists {
         let Some(line) = line else {
             return Ok(list);
         };
-        if line.number >= self.lines.len() {
+        if line.number as usize >= self.lines.len() {
             return Ok(list);
         }
-        let Some(old) = self.lists.get_index(list) else {
+        let Some(old) = self.lists.get(list as usize) else {
             return Ok(list);
         };
-        let longer = with_line(self.alloc, old.as_slice(), line)?;
-        let (number, _) = self.lists.insert_full(longer)?;
+        let tail = tail_at(old, line.place as usize);
+        let Some(later) = self.tails.get(tail as usize) else {
+            return Ok(list);
+        };
+        put_line(&mut self.scratch, line.number, later)?;
+        let tail = self.tails.number_of(self.scratch.as_slice())?;
+        put_tail(&mut self.scratch, old, line.place, tail)?;
+        let number = self.lists.number_of(self.scratch.as_slice())?;
         Ok(number)
     }
 
-    /// Returns the number of this list without the answer in front, if it has that one there.
+    /// Returns the number of this list without the answer in front, if it has that one there. It overwrites `scratch`.
     pub fn shorter(
         &self,
-        list: usize,
+        list: u32,
         line: Option<AnswerLine>,
-    ) -> Result<Option<usize>, AllocError> {
+        scratch: &mut Vec<u32>,
+    ) -> Result<Option<u32>, AllocError> {
         let Some(line) = line else {
             return Ok(Some(list));
         };
-        let Some(old) = self.lists.get_index(list) else {
+        let Some(old) = self.lists.get(list as usize) else {
             return Ok(None);
         };
-        let at = place_in(old.as_slice(), line.place);
-        if old.get(at) != Some(&line) {
+        let Some(lines) = self.tails.get(tail_at(old, line.place as usize) as usize) else {
+            return Ok(None);
+        };
+        let Some((first, later)) = lines.split_first() else {
+            return Ok(None);
+        };
+        if *first != line.number {
             return Ok(None);
         }
-        let mut rest = Vec::from_slice(self.alloc, old.as_slice())?;
-        rest.remove(at);
-        Ok(self.lists.get_index_of(&rest))
+        let Some(tail) = self.tails.find(later) else {
+            return Ok(None);
+        };
+        put_tail(scratch, old, line.place, tail)?;
+        trim(scratch);
+        Ok(self.lists.find(scratch.as_slice()))
     }
 
-    // Returns what the domain at this position prints of a line.
-    fn printed(&self, line: AnswerLine, place: usize) -> &[u8]
-        ensures { result.now ≡ line_by self.now (Some line) place }
+    // Returns the bytes of the line with this number.
+    fn bytes(&self, line: u32) -> &[u8]
+        ensures { result.now ≡ items_at self.now.lines.keys line }
     {
-        if line.place != place {
-            return &[];
-        }
-        match self.lines.get_index(line.number) {
+        match self.lines.get_index(line as usize) {
             Some(bytes) => bytes.as_slice(),
             None => &[],
         }
     }
 
-    // Appends what the domain at this position prints of these lines.
-    fn push_printed(
-        &self,
-        out: &mut Vec<u8>,
-        list: &[AnswerLine],
-        place: usize,
-    ) -> Result<(), AllocError>
+    // Appends what is printed of the tail with this number.
+    fn push_printed(&self, out: &mut Vec<u8>, tail: u32) -> Result<(), AllocError>
         ensures { OnOk result (out.new.items
-            ≡ out.old.items ++ printed_of self.now.lines.keys list.now place) }
+            ≡ out.old.items ++ printed_of self.now.lines.keys (slice_index_or self.now.tails tail [])) }
     {
-        'list: for line in list {
-            out.extend_from_slice(self.printed(*line, place))?;
+        let Some(lines) = self.tails.get(tail as usize) else {
+            return Ok(());
+        };
+        'lines: for line in lines {
+            out.extend_from_slice(self.bytes(*line))?;
         }
         Ok(())
     }
 
     /// Returns what this number of domains print by the list of this number, the first one's lines first.
-    pub fn text(&self, list: usize, domains: usize) -> Result<Vec<u8>, AllocError>
+    pub fn text(&self, list: u32, domains: usize) -> Result<Vec<u8>, AllocError>
         ensures { HasListAt self.now list → IfOk result (λ text.
             text.items ≡ flat_map (rest_by self.now list) (range_with_len 0 domains)) }
     {
         let mut text = Vec::new(self.alloc);
-        let Some(lines) = self.lists.get_index(list) else {
+        let Some(tails) = self.lists.get(list as usize) else {
             return Ok(text);
         };
         'places: for place in 0..domains {
-            self.push_printed(&mut text, lines.as_slice(), place)?;
+            self.push_printed(&mut text, tail_at(tails, place))?;
         }
         Ok(text)
     }

@@ -2,14 +2,13 @@
 use crate::exploring::Explorer;
 use crate::sharing::TriedTurn;
 use crate::spaces::Turn;
-use crate::suffixes::AnswerLine;
 use std::alloc::AllocError;
 
 // A turn towards a list of answers: the list that is left after it, and its index among those of the next node.
 #[derive(Clone, Copy)]
 struct Onward {
     turn: TriedTurn,
-    list: usize,
+    list: u32,
     at: usize,
 }
 
@@ -30,23 +29,25 @@ impl<P: Drop> Explorer<P> {
     }
 
     // Returns the index of this list among those of a node. It is likely to be this one.
-    fn place_of(&self, node: usize, list: usize, likely: usize) -> Option<usize> {
-        let ends = self.nodes.get(node)?.ends.as_slice();
-        match ends.get(likely) {
-            Some(end) if end.list as usize == list => Some(likely),
-            _ => ends.iter().position(|end| end.list as usize == list),
+    fn place_of(&self, node: usize, list: u32, likely: usize) -> Option<usize> {
+        let lists = self.sets.get(self.nodes.get(node)?.set as usize)?;
+        match lists.get(likely) {
+            Some(one) if *one == list => Some(likely),
+            _ => lists.iter().position(|one| *one == list),
         }
     }
 
     // Returns the first turn from a node to this list of answers, and the list that is left after that turn, with its
-    // index. `at` is the likely index of the list among those of the node.
-    fn onward(&self, node: usize, list: usize, at: usize) -> Result<Option<Onward>, AllocError> {
+    // index. `at` is the likely index of the list among those of the node. It overwrites `scratch`.
+    fn onward(
+        &self,
+        node: usize,
+        list: u32,
+        at: usize,
+        scratch: &mut Vec<u32>,
+    ) -> Result<Option<Onward>, AllocError> {
         for turn in self.tried_at(node) {
-            let line = turn.line.map(|number| AnswerLine {
-                place: turn.place as usize,
-                number: number as usize,
-            });
-            if let Some(list) = self.suffixes.shorter(list, line)? {
+            if let Some(list) = self.suffixes.shorter(list, turn.line(), scratch)? {
                 if let Some(at) = self.place_of(turn.node as usize, list, at) {
                     let turn = *turn;
                     return Ok(Some(Onward { turn, list, at }));
@@ -56,21 +57,23 @@ impl<P: Drop> Explorer<P> {
         Ok(None)
     }
 
-    // Returns the turns that lead from a node to this list of answers, whose likely index is `at`.
+    // Returns the turns that lead from a node to this list of answers, whose likely index is `at`. It overwrites
+    // `scratch`.
     pub(super) fn turns(
         &self,
         node: usize,
-        list: usize,
+        list: u32,
         at: usize,
+        scratch: &mut Vec<u32>,
     ) -> Result<Vec<Turn>, AllocError> {
         let mut turns = Vec::new(self.alloc);
-        let mut next = self.onward(node, list, at)?;
+        let mut next = self.onward(node, list, at, scratch)?;
         for _ in 0..self.nodes.len() {
             let Some(onward) = next else {
                 return Ok(turns);
             };
             turns.push(onward.turn.turn())?;
-            next = self.onward(onward.turn.node as usize, onward.list, onward.at)?;
+            next = self.onward(onward.turn.node as usize, onward.list, onward.at, scratch)?;
         }
         Ok(turns)
     }

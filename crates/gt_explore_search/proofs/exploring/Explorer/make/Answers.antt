@@ -6,7 +6,7 @@ use Rattle.gt_explore_search.proofs.exploring.Explorer.make.Goals as goal
 
 pub returns-then-leads_nowhere-clause-hand : goal.returns-then-leads_nowhere-clause-hand
 returns-then-leads_nowhere-clause-hand g c = λ all more.
-    hand-none (g.S.TransitionSystem.ways c.args.space.now) (g.S.TransitionSystem.parts c.args.space.now) all c.args.self.now.states.met.keys c.take.new.hand c.in_ok-world.ensures.hand
+    hand-none (g.S.TransitionSystem.ways c.args.space.now) (g.S.TransitionSystem.parts c.args.space.now) all c.args.self.now.states.met c.take.new.hand c.in_ok-world.ensures.hand
 
 pub returns-then-leads_nowhere-clause-steps : goal.returns-then-leads_nowhere-clause-steps
 returns-then-leads_nowhere-clause-steps g c = λ all more holds visit hand at.
@@ -24,10 +24,10 @@ pub returns-then-state-met-clause-hand : goal.returns-then-state-met-clause-hand
 returns-then-state-met-clause-hand g c = λ all more.
     let grown = subst (λ s. Extends s.parts.kept.items all) c.in_ok-deeper.ensures.states more in
     let numbered = c.in_ok-state.ensures.number all grown in
-    let last : c.in_ok-state.state ≡ length c.line.new.self.states.met.keys = omega (arith, c.if-state-met.true, c.len-met.ensures) in
-    subst (λ s. IsStateAt (g.S.TransitionSystem.ways c.args.space.now) (g.S.TransitionSystem.parts c.args.space.now) all s.met.keys c.in_ok-state.state c.advance.new.state) (sym c.in_ok-deeper.ensures.states) (
+    let last : c.in_ok-state.state ≡ length c.line.new.self.states.met = omega (arith, c.if-state-met.true, c.len-met.ensures) in
+    subst (λ s. IsStateAt (g.S.TransitionSystem.ways c.args.space.now) (g.S.TransitionSystem.parts c.args.space.now) all s.met c.in_ok-state.state c.advance.new.state) (sym c.in_ok-deeper.ensures.states) (
       numbered.0,
-      new_there (by_numbers (g.S.TransitionSystem.ways c.args.space.now) (g.S.TransitionSystem.parts c.args.space.now) all) c.line.new.self.states.met.keys numbered.0 c.in_ok-state.state c.number.new.self.met.keys numbered.2 last,
+      new_there (by_numbers (g.S.TransitionSystem.ways c.args.space.now) (g.S.TransitionSystem.parts c.args.space.now) all) c.line.new.self.states.met numbered.0 c.in_ok-state.state c.number.new.self.met numbered.2 last,
       joined-alike (g.S.TransitionSystem.ways c.args.space.now) (g.S.TransitionSystem.parts c.args.space.now) all numbered.0 c.advance.new.state c.alike.ensures numbered.1,
     )
 
@@ -38,7 +38,7 @@ returns-then-state-met-clause-steps g c = λ all more holds visit hand at.
     (grown-between c.args.self.now.states c.line.new.self.states c.number.new.self c.number.new.self c.in_ok-line.ensures.states c.in_ok-state.ensures.grows refl) grown in
     let here = c.in_ok-world.ensures.state all first hand in
     let numbered = c.in_ok-state.ensures.number all grown in
-    let last : c.in_ok-state.state ≡ length c.line.new.self.states.met.keys = omega (arith, c.if-state-met.true, c.len-met.ensures) in
+    let last : c.in_ok-state.state ≡ length c.line.new.self.states.met = omega (arith, c.if-state-met.true, c.len-met.ensures) in
     let step = made_on (by_numbers (g.S.TransitionSystem.ways c.args.space.now) (g.S.TransitionSystem.parts c.args.space.now) all) c.args.self.now c.line.new.self c.number.new.self c.args.visit.now c.args.turn here.0 numbered.0 c.in_ok-led.led c.in_ok-line.line
     c.in_ok-state.state holds visit at here.1
     (moves (g.S.TransitionSystem.ways c.args.space.now) (g.S.TransitionSystem.parts c.args.space.now) all here.0 numbered.0 c.in_ok-world.world c.advance.new.state c.args.turn c.in_ok-led.led here.2 c.in_ok-led.ensures numbered.1)
@@ -46,7 +46,7 @@ returns-then-state-met-clause-steps g c = λ all more holds visit hand at.
     made_new (by_numbers (g.S.TransitionSystem.ways c.args.space.now) (g.S.TransitionSystem.parts c.args.space.now) all) c.args.self.now (with_states c.line.new.self c.number.new.self) c.visit.new.self (record c.args.visit.now { made = Some (made_of c.in_ok-state.state c.in_ok-line.line) }) c.in_ok-deeper.deeper holds step
     (c.in_ok-deeper.ensures.holds all step.holds (
       numbered.0,
-      new_there (by_numbers (g.S.TransitionSystem.ways c.args.space.now) (g.S.TransitionSystem.parts c.args.space.now) all) c.line.new.self.states.met.keys numbered.0 c.in_ok-state.state c.number.new.self.met.keys numbered.2 last,
+      new_there (by_numbers (g.S.TransitionSystem.ways c.args.space.now) (g.S.TransitionSystem.parts c.args.space.now) all) c.line.new.self.states.met numbered.0 c.in_ok-state.state c.number.new.self.met numbered.2 last,
       joined-alike (g.S.TransitionSystem.ways c.args.space.now) (g.S.TransitionSystem.parts c.args.space.now) all numbered.0 c.advance.new.state c.alike.ensures numbered.1,
     ))
 
@@ -54,7 +54,7 @@ pub returns-clause-grows : goal.returns-clause-grows
 returns-clause-grows g c = grown-between c.args.self.now.states c.line.new.self.states c.number.new.self c.number.new.self c.in_ok-line.ensures.states c.in_ok-state.ensures.grows refl
 
 pub returns-clause-hand : goal.returns-clause-hand
-returns-clause-hand g c = λ all more. hand-none (g.S.TransitionSystem.ways c.args.space.now) (g.S.TransitionSystem.parts c.args.space.now) all c.number.new.self.met.keys c.take.new.hand c.in_ok-world.ensures.hand
+returns-clause-hand g c = λ all more. hand-none (g.S.TransitionSystem.ways c.args.space.now) (g.S.TransitionSystem.parts c.args.space.now) all c.number.new.self.met c.take.new.hand c.in_ok-world.ensures.hand
 
 pub returns-clause-steps : goal.returns-clause-steps
 returns-clause-steps g c = λ all more holds visit hand at.

@@ -8,7 +8,7 @@ returns g c = λ all more starts. if_ok _ c.walk.result c.walk.ensures.grows (λ
     let grown = run-grows c.number.new.self c.visit.new.self.states c.walk.new.self.states all c.in_ok-first.ensures.states grows more in
     let numbered = c.in_ok-state.ensures.number all grown in
     let s = starts_on (by_numbers (g.S.TransitionSystem.ways c.args.space.now) (g.S.TransitionSystem.parts c.args.space.now) all) c.args.self.now c.number.new.self numbered.0 c.in_ok-state.state starts numbered.2 in
-    let there = new_there (by_numbers (g.S.TransitionSystem.ways c.args.space.now) (g.S.TransitionSystem.parts c.args.space.now) all) c.args.self.now.states.met.keys numbered.0 c.in_ok-state.state c.number.new.self.met.keys numbered.2
+    let there = new_there (by_numbers (g.S.TransitionSystem.ways c.args.space.now) (g.S.TransitionSystem.parts c.args.space.now) all) c.args.self.now.states.met numbered.0 c.in_ok-state.state c.number.new.self.met numbered.2
     (started-at (by_numbers (g.S.TransitionSystem.ways c.args.space.now) (g.S.TransitionSystem.parts c.args.space.now) all) c.args.self.now c.number.new.self numbered.0 c.in_ok-state.state starts numbered.2) in
     let v = c.in_ok-first.ensures.holds all s.0 (numbered.0, there, joined-alike (g.S.TransitionSystem.ways c.args.space.now) (g.S.TransitionSystem.parts c.args.space.now) all numbered.0 c.in_ok-world.world c.alike.ensures numbered.1) in
     on_ok c.walk.result (finishes_on (by_numbers (g.S.TransitionSystem.ways c.args.space.now) (g.S.TransitionSystem.parts c.args.space.now) all) (with_states c.args.self.now c.number.new.self) c.visit.new.self c.walk.new.self numbered.0 s.1

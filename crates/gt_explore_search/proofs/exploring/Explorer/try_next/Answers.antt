@@ -10,7 +10,7 @@ pub returns-in_default-turn-clause-holds : goal.returns-in_default-turn-clause-h
 returns-in_default-turn-clause-holds g c = λ all more holds each hand.
     let p = each_pop (by_numbers (g.S.TransitionSystem.ways c.args.space.now) (g.S.TransitionSystem.parts c.args.space.now) all) c.args.self.now c.args.stack.now.items c.pop.new.self.items c.in-Some.visit c.in-Some.ensures.items each in
     let f = c.in_ok-finish.ensures.holds all holds p.1 (first_of (search rules, grind (arith, rules))) in
-    (f.0, f.1, each_on (by_numbers (g.S.TransitionSystem.ways c.args.space.now) (g.S.TransitionSystem.parts c.args.space.now) all) c.args.self.now c.finish.new.self c.pop.new.self.items holds.whole f.1 p.0, hand-grown (g.S.TransitionSystem.ways c.args.space.now) (g.S.TransitionSystem.parts c.args.space.now) all c.args.self.now.states.met.keys c.finish.new.self.states.met.keys c.args.hand.now f.1.worlds hand)
+    (f.0, f.1, each_on (by_numbers (g.S.TransitionSystem.ways c.args.space.now) (g.S.TransitionSystem.parts c.args.space.now) all) c.args.self.now c.finish.new.self c.pop.new.self.items holds.whole f.1 p.0, hand-grown (g.S.TransitionSystem.ways c.args.space.now) (g.S.TransitionSystem.parts c.args.space.now) all c.args.self.now.states.met c.finish.new.self.states.met c.args.hand.now f.1.worlds hand)
 
 pub returns-in-Some-made-clause-holds : goal.returns-in-Some-made-clause-holds
 returns-in-Some-made-clause-holds g c = λ all more holds each hand.
@@ -20,7 +20,7 @@ returns-in-Some-made-clause-holds g c = λ all more holds each hand.
       s.grew,
       each_push (by_numbers (g.S.TransitionSystem.ways c.args.space.now) (g.S.TransitionSystem.parts c.args.space.now) all) c.back.new.self c.pop.new.self.items c.push.new.self.items c.back.new.visit c.in_ok-push.ensures.items
           (each_on (by_numbers (g.S.TransitionSystem.ways c.args.space.now) (g.S.TransitionSystem.parts c.args.space.now) all) c.args.self.now c.back.new.self c.pop.new.self.items holds.whole s.grew p.0) s.visit,
-      hand-grown (g.S.TransitionSystem.ways c.args.space.now) (g.S.TransitionSystem.parts c.args.space.now) all c.args.self.now.states.met.keys c.back.new.self.states.met.keys c.args.hand.now s.grew.worlds hand,
+      hand-grown (g.S.TransitionSystem.ways c.args.space.now) (g.S.TransitionSystem.parts c.args.space.now) all c.args.self.now.states.met c.back.new.self.states.met c.args.hand.now s.grew.worlds hand,
     )
 
 pub returns-in_ok-push-3-clause-holds : goal.returns-in_ok-push-3-clause-holds

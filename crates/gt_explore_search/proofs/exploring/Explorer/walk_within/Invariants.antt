@@ -11,5 +11,5 @@ invariant-tries g l = record {
       → VisitHolds (by_numbers (g.S.TransitionSystem.ways l.space) (g.S.TransitionSystem.parts l.space) all) l.fn.self l.fn.first
       → SearchHolds (by_numbers (g.S.TransitionSystem.ways l.space) (g.S.TransitionSystem.parts l.space) all) l.self × Grew l.fn.self l.self
       × EachVisitHolds (by_numbers (g.S.TransitionSystem.ways l.space) (g.S.TransitionSystem.parts l.space) all) l.self l.stack.items
-      × HandHolds (g.S.TransitionSystem.ways l.space) (g.S.TransitionSystem.parts l.space) all l.self.states.met.keys l.hand;
+      × HandHolds (g.S.TransitionSystem.ways l.space) (g.S.TransitionSystem.parts l.space) all l.self.states.met l.hand;
 }

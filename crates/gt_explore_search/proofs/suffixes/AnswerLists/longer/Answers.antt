@@ -1,35 +1,39 @@
-use Rattle.std.proofs.Common.{rules, arith, refl, ap, sym, ◌∙◌, ◌≡◌, ◌<◌, ◌≤◌, List, Some, slice_get, subst, length}
-use Rattle.std.specs.List.{insert}
-use Rattle.std.specs.Option.{option_copied}
-use Rattle.gt_explore_search.specs.Lists.{IsBefore, HasItsLine, IsLonger}
-use Rattle.gt_explore_search.proofs.Listing.{list_added, is_longer, same_items}
-use Rattle.gt_explore_search.specs.declared.suffixes.AnswerLine.{AnswerLine}
+use Rattle.std.proofs.Common.{refl, ap, sym, ◌∙◌, ◌≡◌, ◌<◌, ◌∷◌, ℕ, List, Some, slice_get, subst, length, arith, get_or, Bor}
+use Rattle.std.specs.Option.{option_map}
+use Rattle.gt_explore_search.specs.Lists.{HasItsLine, IsLonger}
+use Rattle.gt_explore_search.specs.Numbers.{IsKeptAs}
+use Rattle.gt_explore_search.proofs.Keeping.{kept_within}
+use Rattle.gt_explore_search.proofs.Listing.{list_added, is_longer}
 use Rattle.gt_explore_search.proofs.suffixes.AnswerLists.longer.Goals as goal
 
 pub returns-clause-grows : goal.returns-clause-grows
 returns-clause-grows c =
-    let there : slice_get c.args.self.now.lists.keys c.args.list ≡ Some c.in-Some-get_index.old.now = sym c.get_index.ensures.key ∙ ap option_copied c.in-Some-get_index.is in
-    let number : c.in-Some.line.number < length c.args.self.now.lines.keys = omega (arith, c.if-line-len.false, c.len.ensures) in
-    let b = c.in_ok-longer.ensures in
-    let items : c.in_ok-longer.longer.items ≡ insert c.in-Some-get_index.old.now.items b.0 c.in-Some.line = b.3 ∙ ap (λ (l : List AnswerLine). insert l b.0 c.in-Some.line) c.as_slice.ensures.value in
-    list_added c.args.self.now (record c.args.self.now { lists = c.insert_full.new.self }) _ c.in-Some-get_index.old.now c.in_ok-longer.longer c.args.list b.0 c.in-Some.line refl
-    c.in_ok-number.ensures.keys there number items
+    let old : slice_get c.args.self.now.lists c.args.list ≡ Some c.in-Some-get.old.now = sym c.get.ensures ∙ ap (option_map (λ (l : Bor (List ℕ)). l.now)) c.in-Some-get.is in
+    let later : slice_get c.args.self.now.tails (get_or c.in-Some-get.old.now c.in-Some.line.place 0) ≡ Some c.in-Some-get-2.later.now =
+    ap (λ (n : ℕ). slice_get c.args.self.now.tails n) (sym c.tail_at-tail.ensures) ∙ sym c.get-2.ensures ∙ ap (option_map (λ (l : Bor (List ℕ)). l.now)) c.in-Some-get-2.is in
+    let number : c.in-Some.line.number < length c.args.self.now.lines.keys = omega arith in
+    let tail : IsKeptAs c.args.self.now.tails (c.in-Some.line.number ∷ c.in-Some-get-2.later.now) c.in_ok-tail.tail c.number_of.new.self =
+    subst (λ (l : List ℕ). IsKeptAs c.args.self.now.tails l c.in_ok-tail.tail c.number_of.new.self) (c.as_slice.ensures.value ∙ c.in_ok-put_line.ensures) c.in_ok-tail.ensures in
+    let list : IsKeptAs c.args.self.now.lists c.put_tail.new.out.items c.in_ok-number.number c.number_of-2.new.self =
+    subst (λ (l : List ℕ). IsKeptAs c.args.self.now.lists l c.in_ok-number.number c.number_of-2.new.self) c.as_slice-2.ensures.value c.in_ok-number.ensures in
+    list_added c.args.self.now _ c.in-Some-get.old.now c.in-Some-get-2.later.now c.put_tail.new.out.items c.args.list c.in-Some.line.place c.in-Some.line.number c.in_ok-tail.tail c.in_ok-number.number
+    refl old number later tail c.in_ok-put_tail.ensures list
 
-pub returns-then-line-len-clause-longer : goal.returns-then-line-len-clause-longer
-returns-then-line-len-clause-longer c = λ line whole has.
-    let number : c.in-Some.line.number < length c.args.self.now.lines.keys = subst (HasItsLine c.args.self.now) c.in-Some.is line in
-    absurd (omega (arith, number, c.if-line-len.true, c.len.ensures))
+pub returns-clause-there : goal.returns-clause-there
+returns-clause-there c = λ has. kept_within c.args.self.now.lists _ c.in_ok-number.number c.number_of-2.new.self c.in_ok-number.ensures
 
 pub returns-clause-longer : goal.returns-clause-longer
 returns-clause-longer c = λ line whole has.
-    let there : slice_get c.args.self.now.lists.keys c.args.list ≡ Some c.in-Some-get_index.old.now = sym c.get_index.ensures.key ∙ ap option_copied c.in-Some-get_index.is in
-    let number : c.in-Some.line.number < length c.args.self.now.lines.keys = omega (arith, c.if-line-len.false, c.len.ensures) in
-    let b = c.in_ok-longer.ensures in
-    let items : c.in_ok-longer.longer.items ≡ insert c.in-Some-get_index.old.now.items b.0 c.in-Some.line = b.3 ∙ ap (λ (l : List AnswerLine). insert l b.0 c.in-Some.line) c.as_slice.ensures.value in
-    let grows = list_added c.args.self.now (record c.args.self.now { lists = c.insert_full.new.self }) _ c.in-Some-get_index.old.now c.in_ok-longer.longer c.args.list b.0 c.in-Some.line refl
-    c.in_ok-number.ensures.keys there number items in
-    let s = c.in_ok-number.ensures.stored in
-    subst (λ l. IsLonger (record c.args.self.now { lists = c.insert_full.new.self }) l c.args.list c.in_ok-number.number) (sym c.in-Some.is)
-    (is_longer c.args.self.now (record c.args.self.now { lists = c.insert_full.new.self }) c.in-Some-get_index.old.now s.0 c.in_ok-longer.longer.items c.args.list c.in_ok-number.number b.0 c.in-Some.line
-    whole grows refl there items (subst (λ (l : List AnswerLine). b.0 ≤ length l) c.as_slice.ensures.value b.2) (subst (λ (l : List AnswerLine). IsBefore b.0 c.in-Some.line.place l) c.as_slice.ensures.value b.1)
-    s.1 (same_items _ (λ x y e. search rules) c.in_ok-longer.longer.items s.0.items s.2))
+    let old : slice_get c.args.self.now.lists c.args.list ≡ Some c.in-Some-get.old.now = sym c.get.ensures ∙ ap (option_map (λ (l : Bor (List ℕ)). l.now)) c.in-Some-get.is in
+    let later : slice_get c.args.self.now.tails (get_or c.in-Some-get.old.now c.in-Some.line.place 0) ≡ Some c.in-Some-get-2.later.now =
+    ap (λ (n : ℕ). slice_get c.args.self.now.tails n) (sym c.tail_at-tail.ensures) ∙ sym c.get-2.ensures ∙ ap (option_map (λ (l : Bor (List ℕ)). l.now)) c.in-Some-get-2.is in
+    let number : c.in-Some.line.number < length c.args.self.now.lines.keys = omega arith in
+    let tail : IsKeptAs c.args.self.now.tails (c.in-Some.line.number ∷ c.in-Some-get-2.later.now) c.in_ok-tail.tail c.number_of.new.self =
+    subst (λ (l : List ℕ). IsKeptAs c.args.self.now.tails l c.in_ok-tail.tail c.number_of.new.self) (c.as_slice.ensures.value ∙ c.in_ok-put_line.ensures) c.in_ok-tail.ensures in
+    let list : IsKeptAs c.args.self.now.lists c.put_tail.new.out.items c.in_ok-number.number c.number_of-2.new.self =
+    subst (λ (l : List ℕ). IsKeptAs c.args.self.now.lists l c.in_ok-number.number c.number_of-2.new.self) c.as_slice-2.ensures.value c.in_ok-number.ensures in
+    let grows = list_added c.args.self.now (record c.args.self.now { tails = c.number_of.new.self; lists = c.number_of-2.new.self; scratch = c.put_tail.new.out }) c.in-Some-get.old.now c.in-Some-get-2.later.now c.put_tail.new.out.items c.args.list c.in-Some.line.place c.in-Some.line.number c.in_ok-tail.tail c.in_ok-number.number
+    refl old number later tail c.in_ok-put_tail.ensures list in
+    subst (λ l. IsLonger (record c.args.self.now { tails = c.number_of.new.self; lists = c.number_of-2.new.self; scratch = c.put_tail.new.out }) l c.args.list c.in_ok-number.number) (sym c.in-Some.is)
+    (is_longer c.args.self.now (record c.args.self.now { tails = c.number_of.new.self; lists = c.number_of-2.new.self; scratch = c.put_tail.new.out }) c.in-Some-get.old.now c.in-Some-get-2.later.now c.put_tail.new.out.items c.args.list c.in-Some.line.place c.in-Some.line.number c.in_ok-tail.tail c.in_ok-number.number
+    grows old later tail c.in_ok-put_tail.ensures list)
