@@ -8,7 +8,7 @@ ghost use Rattle.gt_frames.specs.Writers.{KnowsWriters};
 
 use crate::frame_bytes::Contents;
 use crate::journal::Journal;
-use crate::receipts::CopiedEnd;
+use crate::receipts::{CopiedEnd, CopiedRange};
 use crate::writers::Writers;
 use crate::{Copied, Filled, FrameBytes, Read, Writ, Written};
 use gt_types::{DomId, FRAME_SIZE, Memory, Range};
@@ -275,12 +275,12 @@ impl Frame {
             to_off,
             bytes,
         )?;
-        Ok(Copied {
+        Ok(Copied::of(&CopiedRange {
             source: from.end(range.off),
             dest: to.end(to_off),
             len: range.len,
             writer: writ.writer,
-        })
+        }))
     }
 
     /// Copies a range of this frame, to offset `to_off`. The ranges may overlap: the bytes written are those that
@@ -302,12 +302,12 @@ impl Frame {
             range,
             to_off,
         )?;
-        Ok(Copied {
+        Ok(Copied::of(&CopiedRange {
             source: self.end(range.off),
             dest: self.end(to_off),
             len: range.len,
             writer: writ.writer,
-        })
+        }))
     }
 
     fn end(&self, off: u16) -> CopiedEnd

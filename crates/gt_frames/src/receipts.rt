@@ -106,13 +106,20 @@ pub(crate) struct CopiedEnd {
     pub(crate) off: u16,
 }
 
-/// The receipt of a copy: the frame and offset of each end, the number of bytes, and the writer.
-#[derive(Drop)]
-pub struct Copied {
+/// The ends of a copy, the number of bytes, and the writer.
+#[derive(Clone, Copy, Debug)]
+pub(crate) struct CopiedRange {
     pub(crate) source: CopiedEnd,
     pub(crate) dest: CopiedEnd,
     pub(crate) len: u16,
     pub(crate) writer: DomId,
+}
+
+/// The receipt of a copy: the frame and offset of each end, the number of bytes, and the writer. Only contracts read
+/// them, so it takes no memory.
+#[derive(Drop)]
+pub struct Copied {
+    pub(crate) copied: Snapshot<CopiedRange>,
 }
 
 impl Model for Copied {
@@ -121,9 +128,42 @@ impl Model for Copied {
     ghost Value = { Copying };
 
     ghost view = { λ r. record {
-      source = record { owner = r.source.owner; number = r.source.number; off = r.source.off };
-      dest = record { owner = r.dest.owner; number = r.dest.number; off = r.dest.off };
-      len = r.len;
-      writer = r.writer;
+      source = record {
+        owner = r.copied.value.source.owner;
+        number = r.copied.value.source.number;
+        off = r.copied.value.source.off;
+      };
+      dest = record {
+        owner = r.copied.value.dest.owner;
+        number = r.copied.value.dest.number;
+        off = r.copied.value.dest.off;
+      };
+      len = r.copied.value.len;
+      writer = r.copied.value.writer;
     } };
+}
+
+impl Copied {
+    /// Makes the receipt of this copy.
+    #[inline(always)]
+    pub(crate) fn of(copied: &CopiedRange) -> Copied
+        ensures { result ≡ record {
+          source = record {
+            owner = copied.now.source.owner;
+            number = copied.now.source.number;
+            off = copied.now.source.off;
+          };
+          dest = record {
+            owner = copied.now.dest.owner;
+            number = copied.now.dest.number;
+            off = copied.now.dest.off;
+          };
+          len = copied.now.len;
+          writer = copied.now.writer;
+        } }
+    {
+        Copied {
+            copied: Snapshot::of(copied),
+        }
+    }
 }

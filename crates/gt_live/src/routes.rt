@@ -46,6 +46,7 @@ struct BeyondVia {
 
 // Continues from the pin of a Via to the entry that it leads to: checks the pair that it asks for, and walks the second
 // leg. Releases the pin of the Via if either refuses.
+#[inline(always)]
 fn go_through<P: Allows>(
     words: &Words,
     known: &CallerState<'_, P>,
@@ -125,7 +126,7 @@ fn reach_source<P: Allows>(
 }
 
 // Walks to the destination of a copy, after its source, and writes the route to it, whose pins were taken.
-#[inline(never)]
+#[inline(always)]
 fn reach_dest<P: Allows>(
     words: &Words,
     known: &CallerState<'_, P>,
