@@ -1,9 +1,8 @@
 //! Findings as text, in the layout of compilers, and as JSON.
 ghost use Rattle.std.specs.Prelude.{◌≡◌, ◌++◌, codes, OnOk};
-ghost use Rattle.std.specs.Fmt.{decimal};
 ghost use Rattle.std.specs.List.{flat_map};
 ghost use Rattle.gt_json.specs.Strings.{quoted};
-ghost use Rattle.gt_policy_check.specs.Report.{heading_text, object_text, severity_text};
+ghost use Rattle.gt_policy_check.specs.Report.{heading_text, object_text, position_text, said_text, severity_text};
 
 use crate::findings::{Finding, FindingKind};
 use crate::places::{bytes_of, line_span};
@@ -30,9 +29,9 @@ impl FindingKind {
 }
 
 // Appends the line and the column of a finding.
+#[tactic(auto, unfolding(crate::specs::Report::position_text))]
 fn push_position(out: &mut Vec<u8>, finding: &Finding, between: &str) -> Result<(), AllocError>
-    ensures { OnOk result (out.new.items ≡ out.old.items
-        ++ decimal finding.now.line ++ between.now ++ decimal finding.now.column) }
+    ensures { OnOk result (out.new.items ≡ out.old.items ++ position_text between.now finding.now) }
 {
     push_number(out, finding.line)?;
     push_text(out, between)?;
@@ -40,9 +39,9 @@ fn push_position(out: &mut Vec<u8>, finding: &Finding, between: &str) -> Result<
 }
 
 // Appends the severity and the message.
+#[tactic(auto, unfolding(crate::specs::Report::said_text))]
 fn push_said(out: &mut Vec<u8>, finding: &Finding) -> Result<(), AllocError>
-    ensures { OnOk result (out.new.items ≡ out.old.items
-        ++ severity_text finding.now.kind ++ codes ": " ++ finding.now.message.items ++ codes "\n") }
+    ensures { OnOk result (out.new.items ≡ out.old.items ++ said_text finding.now) }
 {
     push_both(out, finding.kind.severity(), ": ")?;
     out.extend_from_slice(finding.message.as_slice())?;
@@ -50,6 +49,7 @@ fn push_said(out: &mut Vec<u8>, finding: &Finding) -> Result<(), AllocError>
 }
 
 // Appends `FILE:LINE:COLUMN: SEVERITY: MESSAGE`.
+#[tactic(auto, unfolding(crate::specs::Report::heading_text))]
 fn push_heading(out: &mut Vec<u8>, file: &str, finding: &Finding) -> Result<(), AllocError>
     ensures { OnOk result (out.new.items ≡ out.old.items ++ heading_text file.now finding.now) }
 {
@@ -109,7 +109,7 @@ fn push_blanks(out: &mut Vec<u8>, line: &str, column: u32) -> Result<(), AllocEr
 }
 
 /// The form in which findings are printed.
-#[derive(Clone, Copy, Debug, PartialEq, Eq)]
+#[derive(Clone, Copy)]
 pub enum ReportForm {
     /// As compilers print them.
     Text,
@@ -173,6 +173,7 @@ fn push_members(out: &mut Vec<u8>, finding: &Finding) -> Result<(), AllocError>
 }
 
 // Appends a finding as one line of JSON.
+#[tactic(auto, unfolding(crate::specs::Report::object_text))]
 fn push_object(out: &mut Vec<u8>, file: &str, finding: &Finding) -> Result<(), AllocError>
     ensures { OnOk result (out.new.items ≡ out.old.items ++ object_text file.now finding.now) }
 {
