@@ -76,19 +76,27 @@ fn column_after(bytes: &[u8], tokens: &LineTokens, before: &[LinedStatement], li
     column_of_word(bytes, tokens, b"allow".as_slice(), allows_on(before, line))
 }
 
-// Makes the note at a repeated statement, which is on this line and comes after these.
-fn repeat_note(
+// Adds the note at a repeated statement, which is on this line and comes after these.
+fn push_repeat_note(
     alloc: Global,
+    found: &mut Vec<Finding>,
     bytes: &[u8],
     line: u32,
     before: &[LinedStatement],
-) -> Result<FindingNote, AllocError> {
+) -> Result<(), AllocError>
+    ensures { OnOk result (Quiet found.old.items found.new.items) }
+{
     let tokens = line_tokens(alloc, bytes, line)?;
-    Ok(FindingNote {
-        line,
-        column: column_after(bytes, &tokens, before, line),
-        message: message_of(alloc, "this statement allows it first")?,
-    })
+    let column = column_after(bytes, &tokens, before, line);
+    let message = message_of(alloc, "this statement allows it first")?;
+    push_note(
+        found,
+        FindingNote {
+            line,
+            column,
+            message,
+        },
+    )
 }
 
 // Adds the finding that the statement on `line` repeats the one on `first`, which comes after these.
@@ -113,8 +121,7 @@ fn push_repeated(
             message,
         },
     )?;
-    let note = repeat_note(alloc, place.bytes, first, before)?;
-    push_note(found, note)
+    push_repeat_note(alloc, found, place.bytes, first, before)
 }
 
 // Warns of a statement that repeats an earlier one.

@@ -97,8 +97,9 @@ pub(crate) fn push_all_shown(out: &mut Vec<u8>, line: &str) -> Result<(), AllocE
     Ok(())
 }
 
-// Appends blanks as wide as the characters of a line before a column.
+// Appends a line end, and blanks as wide as the characters of a line before a column.
 fn push_blanks(out: &mut Vec<u8>, line: &str, column: u32) -> Result<(), AllocError> {
+    push_text(out, "\n")?;
     for (place, letter) in line.char_indices() {
         if place + 1 >= column as usize {
             break;
@@ -141,7 +142,6 @@ fn push_excerpt(
         return Ok(());
     }
     push_all_shown(out, line)?;
-    push_text(out, "\n")?;
     push_blanks(out, line, finding.column)?;
     push_text(out, caret(finding.kind, form))
 }
@@ -162,14 +162,15 @@ pub fn push_report(
     Ok(())
 }
 
-// Appends the severity and the message as members of a JSON object.
+// Appends the severity and the message as the last members of a JSON object.
 fn push_members(out: &mut Vec<u8>, finding: &Finding) -> Result<(), AllocError>
-    ensures { OnOk result (out.new.items ≡ out.old.items ++ codes ",\"severity\":\""
-        ++ severity_text finding.now.kind ++ codes "\",\"message\":" ++ quoted finding.now.message.items) }
+    ensures { OnOk result (out.new.items ≡ out.old.items ++ codes ",\"severity\":\"" ++ severity_text finding.now.kind
+        ++ codes "\",\"message\":" ++ quoted finding.now.message.items ++ codes "}\n") }
 {
     push_both(out, ",\"severity\":\"", finding.kind.severity())?;
     push_text(out, "\",\"message\":")?;
-    push_quoted(out, finding.message.as_slice())
+    push_quoted(out, finding.message.as_slice())?;
+    push_text(out, "}\n")
 }
 
 // Appends a finding as one line of JSON.
@@ -181,8 +182,7 @@ fn push_object(out: &mut Vec<u8>, file: &str, finding: &Finding) -> Result<(), A
     push_quoted(out, file.as_bytes())?;
     push_text(out, ",\"line\":")?;
     push_position(out, finding, ",\"column\":")?;
-    push_members(out, finding)?;
-    push_text(out, "}\n")
+    push_members(out, finding)
 }
 
 /// Appends the findings as JSON Lines: for each an object with `file`, `line`, `column`, `severity` and `message`.
