@@ -1,12 +1,10 @@
 -- Which statements allow nothing.
 use Rattle.std.proofs.Common.{◌≡◌, ℕ, Bool, true, false, ◌&&◌, not, List, [], ◌∷◌, ◌++◌, map, None, refl, sym, ap, ap₂}
-use Rattle.std.proofs.Common.{◌∙◌, ◌<◌, Option, IfSome, length, position}
-use Rattle.std.proofs.lemmas.List.Quantifiers.{position-Some}
+use Rattle.std.proofs.Common.{◌∙◌}
 use Rattle.std.specs.Prelude.{if◌then◌else◌, filter, is_some, Some, Err}
 use Rattle.std.specs.List.{flat_map, list_any}
 use Rattle.gt_types.specs.Names.{every_permission, permission_name}
 use Rattle.gt_types.specs.declared.perms.Perms.{Perms}
-use Rattle.gt_policy.proofs.CleanLemmas.{is_some_position}
 use Rattle.gt_policy.specs.Granting.{statement_grants}
 use Rattle.gt_policy.specs.Shown.{fault_shown}
 use Rattle.gt_policy.specs.Whole.{Says}
@@ -215,16 +213,3 @@ is_shown line (kinds.Twice name) other = refl
 is_shown line (kinds.Permission name) other = refl
 is_shown line (kinds.Outside word) other = refl
 is_shown line kinds.Limit other = refl
-
--- ---- the first place that passes
-
-pub some_place : {X : Type 0} (p : X → Bool) (xs : List X) → is_some (position p xs) ≡ list_any p xs
-some_place p xs = is_some_position p xs
-
-place_within : {X : Type 0} (p : X → Bool) (xs : List X) (d : X) (place : Option ℕ) → position p xs ≡ place → IfSome place (λ i. i < length xs)
-place_within p xs d None e = tt
-place_within p xs d (Some i) e = (position-Some p xs i d e).0
-
-pub position_within : {X : Type 0} (p : X → Bool) (xs : List X) → IfSome (position p xs) (λ i. i < length xs)
-position_within p [] = tt
-position_within p (x ∷ xs) = place_within p (x ∷ xs) x (position p (x ∷ xs)) refl

@@ -105,8 +105,11 @@ exceeds_with members x y = list_any (λ p. exceeds_some (permission_name p) memb
 abbrev pub no_more_with : List Member → Statement → Statement → Bool
 no_more_with members x y = not (exceeds_with members x y)
 
+abbrev pub some_no_more_with : List Member → List LinedStatement → Statement → Bool
+some_no_more_with members before x = list_any (λ y. no_more_with members x y.statement) before
+
 abbrev pub repeats_with : List Member → List LinedStatement → Statement → Bool
-repeats_with members before x = grants_with members x && list_any (λ y. no_more_with members x y.statement) before
+repeats_with members before x = grants_with members x && some_no_more_with members before x
 
 abbrev pub repeat_line : List Member → List LinedStatement → LinedStatement → List ℕ
 repeat_line members before x = if repeats_with members before x.statement then x.line ∷ [] else []

@@ -23,13 +23,20 @@ severity_text NeverMatters = codes "warning"
 severity_text NeverMapped = codes "warning"
 severity_text Note = codes "note"
 
+-- the line and the column, with a text between them
+unfoldable pub position_text : List ℕ → Finding → List ℕ
+position_text between x = decimal x.line ++ between ++ decimal x.column
+
+-- `SEVERITY: MESSAGE`
+unfoldable pub said_text : Finding → List ℕ
+said_text x = severity_text x.kind ++ codes ": " ++ x.message.items ++ codes "\n"
+
 -- `FILE:LINE:COLUMN: SEVERITY: MESSAGE`
-abbrev pub heading_text : List ℕ → Finding → List ℕ
-heading_text file x = file ++ codes ":" ++ decimal x.line ++ codes ":" ++ decimal x.column ++ codes ": "
-    ++ severity_text x.kind ++ codes ": " ++ x.message.items ++ codes "\n"
+unfoldable pub heading_text : List ℕ → Finding → List ℕ
+heading_text file x = file ++ codes ":" ++ position_text (codes ":") x ++ codes ": " ++ said_text x
 
 -- a finding as an object on one line (JSON Lines)
-abbrev pub object_text : List ℕ → Finding → List ℕ
-object_text file x = codes "{\"file\":" ++ quoted file ++ codes ",\"line\":" ++ decimal x.line
-    ++ codes ",\"column\":" ++ decimal x.column ++ codes ",\"severity\":\"" ++ severity_text x.kind
+unfoldable pub object_text : List ℕ → Finding → List ℕ
+object_text file x = codes "{\"file\":" ++ quoted file ++ codes ",\"line\":"
+    ++ position_text (codes ",\"column\":") x ++ codes ",\"severity\":\"" ++ severity_text x.kind
     ++ codes "\",\"message\":" ++ quoted x.message.items ++ codes "}\n"

@@ -38,7 +38,7 @@ abbrev pub items_text : List SetElement → List ℕ
 items_text items = flat_map (λ i. codes " " ++ item_text i) items
 
 -- a set, with a space before it (SELinux policy language)
-abbrev pub set_text : List SetElement → List ℕ
+unfoldable pub set_text : List SetElement → List ℕ
 set_text items = if is_plain items then items_text items else codes " {" ++ items_text items ++ codes " }"
 
 -- words, each with a text before it
@@ -46,7 +46,7 @@ abbrev pub words_text : List ℕ → List (List ℕ) → List ℕ
 words_text before words = flat_map (λ w. before ++ w) words
 
 -- a word, or several in braces (SELinux policy language)
-abbrev pub list_text : List (List ℕ) → List ℕ
+unfoldable pub list_text : List (List ℕ) → List ℕ
 list_text words = if length words == 1 then words_text (codes "") words
     else codes "{" ++ words_text (codes " ") words ++ codes " }"
 
@@ -56,7 +56,7 @@ perms_text Every = codes " *"
 perms_text (Named words) = codes " " ++ list_text words
 
 -- an allow statement on one line (SELinux policy language)
-abbrev pub allow_text : Allowance → List ℕ
+unfoldable pub allow_text : Allowance → List ℕ
 allow_text a = codes "allow" ++ set_text a.source ++ set_text a.target ++ codes ":" ++ list_text a.classes
     ++ perms_text a.perms ++ codes ";"
 
@@ -83,7 +83,7 @@ way_text m items = if list_any (λ i. names_type m.name i) items then []
     else by_text (find (λ i. puts_in m.names i) items)
 
 -- a type that the set holds, and through which attribute
-abbrev pub held_text : List SetElement → Member → List ℕ
+unfoldable pub held_text : List SetElement → Member → List ℕ
 held_text items m = if elements_hold m.names items then codes " " ++ m.name ++ way_text m items else []
 
 -- those of the types that the set holds
@@ -95,12 +95,12 @@ abbrev pub self_text : List SetElement → List ℕ
 self_text items = if list_any is_self items then codes " self" else []
 
 -- the sources and targets that the sets of a statement hold
-abbrev pub note_text : List Member → List Member → Allowance → List ℕ
+unfoldable pub note_text : List Member → List Member → Allowance → List ℕ
 note_text sources targets a = codes "  #" ++ all_held_text a.source sources ++ codes " ->"
     ++ all_held_text a.target targets ++ self_text a.target ++ codes "\n"
 
 -- `FILE:LINE: `
-abbrev pub place_text : List ℕ → ℕ → List ℕ
+unfoldable pub place_text : List ℕ → ℕ → List ℕ
 place_text file line = file ++ codes ":" ++ decimal line ++ codes ": "
 
 -- the line of an allow statement

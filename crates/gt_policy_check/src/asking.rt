@@ -112,18 +112,20 @@ fn is_listed(answer: WhyAnswer, statement: &Statement, asked: &Asked) -> bool
     }
 }
 
-// Appends the lines of the listed statements.
+// Appends a text, and the lines of the listed statements.
 fn push_listed(
     out: &mut Vec<u8>,
+    title: &str,
     answer: WhyAnswer,
     file: &str,
     statements: &[LinedStatement],
     asked: &Asked,
 ) -> Result<(), AllocError>
-    ensures { OnOk result (out.new.items ≡ out.old.items ++ entries_if
+    ensures { OnOk result (out.new.items ≡ out.old.items ++ title.now ++ entries_if
         (is_listed_under answer (option_map (λ p. p.now) asked.now.perm) asked.now.sources.now asked.now.targets.now)
         file.now asked.now.sources.now asked.now.targets.now statements.now) }
 {
+    push_text(out, title)?;
     'statements: for stated in statements {
         if is_listed(answer, &stated.statement, asked) {
             push_entry(out, file, stated, asked.sources, asked.targets)?;
@@ -143,14 +145,8 @@ fn push_lines(
         file.now (option_map (λ p. p.now) asked.now.perm) asked.now.sources.now asked.now.targets.now statements.now) }
 {
     match answer {
-        WhyAnswer::Allowed => {
-            push_text(out, "allowed\n")?;
-            push_listed(out, answer, file, statements, asked)
-        }
-        WhyAnswer::Denied => {
-            push_text(out, "denied\n")?;
-            push_listed(out, answer, file, statements, asked)
-        }
+        WhyAnswer::Allowed => push_listed(out, "allowed\n", answer, file, statements, asked),
+        WhyAnswer::Denied => push_listed(out, "denied\n", answer, file, statements, asked),
         _ => Ok(()),
     }
 }

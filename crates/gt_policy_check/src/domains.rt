@@ -11,26 +11,28 @@ use crate::useless::allows_something;
 use gt_policy::{LinedStatement, Statement, TextPiece};
 use std::alloc::{AllocError, Global};
 
-/// A policy that is checked: its text, statements and types, and for a script the types of its domains.
+/// A policy that is checked: its text, statements and types, and those types that a domain may have.
 #[derive(Clone, Copy)]
 pub(crate) struct Judged<'p, 'a> {
     pub bytes: &'p [u8],
     pub statements: &'p [LinedStatement<'a>],
     pub members: &'p [Member<'a>],
-    pub worn: Option<&'p [Member<'a>]>,
+    pub worn: &'p [Member<'a>],
 }
 
-/// Returns the types of the policy with these names.
+/// Returns the types that domains of these types have: all types of the policy if there is no script.
 pub(crate) fn worn_members<'a>(
     alloc: Global,
     statements: &[LinedStatement<'a>],
-    names: &[&str],
+    worn: Option<&[&str]>,
 ) -> Result<Vec<Member<'a>>, AllocError> {
+    let Some(names) = worn else {
+        return members_of(alloc, statements, None);
+    };
     let mut members = Vec::new(alloc);
     for name in names {
-        for member in members_of(alloc, statements, Some(*name))? {
-            members.push(member)?;
-        }
+        let mut named = members_of(alloc, statements, Some(*name))?;
+        members.append(&mut named)?;
     }
     Ok(members)
 }
@@ -63,14 +65,6 @@ fn is_named(policy: &Judged, name: &TextPiece) -> bool {
     }
 }
 
-// Returns whether there is a script, and none of its domains has this type.
-fn has_no_domain(policy: &Judged, name: &TextPiece) -> bool {
-    match policy.worn {
-        Some(worn) => member_named(worn, name).is_none(),
-        None => false,
-    }
-}
-
 /// Warns of a type that no allow statement names, or that no domain has.
 pub(crate) fn warn_type(
     alloc: Global,
@@ -86,21 +80,16 @@ pub(crate) fn warn_type(
         let message = said_of(alloc, word, " is not named by any allow statement")?;
         return push_of_word(found, FindingKind::NeverNamed, place, word, message);
     }
-    if has_no_domain(policy, name) {
+    if member_named(policy.worn, name).is_none() {
         let message = said_of(alloc, word, " is not the type of any domain in this script")?;
         return push_of_word(found, FindingKind::NoDomain, place, word, message);
     }
     Ok(())
 }
 
-// Returns whether there is a script, and the statement allows something, but nothing to its domains.
+// Returns whether the statement allows something, but nothing to the types that a domain may have.
 fn never_matters(statement: &Statement, policy: &Judged) -> bool {
-    match policy.worn {
-        Some(worn) => {
-            allows_something(statement, policy.members) && !allows_something(statement, worn)
-        }
-        None => false,
-    }
+    allows_something(statement, policy.members) && !allows_something(statement, policy.worn)
 }
 
 /// Warns of a statement that allows nothing to the domains of the script.

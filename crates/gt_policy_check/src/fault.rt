@@ -1,5 +1,5 @@
 //! Explains the fault of a text: its position, and what was expected there.
-ghost use Rattle.std.specs.Prelude.{◌≡◌, map, IfOk};
+ghost use Rattle.std.specs.Prelude.{◌≡◌, ◌++◌, map, IfOk, OnOk};
 ghost use Rattle.gt_types.specs.Names.{every_permission, permission_name};
 
 use crate::declared::{Declared, declared_in};
@@ -169,14 +169,23 @@ pub(crate) fn is_near_permission(alloc: Global, word: &str) -> Result<bool, Allo
     Ok(meant.is_some())
 }
 
+// Adds the names of the permissions.
+fn push_permission_names(names: &mut Vec<&'static str>) -> Result<(), AllocError>
+    ensures { OnOk result (map (λ n. n.now) names.new.items
+        ≡ map (λ n. n.now) names.old.items ++ map permission_name every_permission) }
+{
+    'perms: for perm in Perms::EVERY {
+        names.push(perm.name())?;
+    }
+    Ok(())
+}
+
 /// Returns the names of the seven permissions of class `grant`.
 pub fn permission_names(alloc: Global) -> Result<Vec<&'static str>, AllocError>
     ensures { IfOk result (λ names. map (λ n. n.now) names.items ≡ map permission_name every_permission) }
 {
-    let mut names = Vec::new(alloc);
-    'perms: for perm in Perms::EVERY {
-        names.push(perm.name())?;
-    }
+    let mut names: Vec<&'static str> = Vec::new(alloc);
+    push_permission_names(&mut names)?;
     Ok(names)
 }
 
@@ -371,14 +380,23 @@ fn explain_unknown(
     }
 }
 
-// Adds the line of the first declaration, and a note there.
+// Appends the line of the first declaration.
+fn push_first(message: &mut Vec<u8>, line: u32) -> Result<(), AllocError> {
+    push_text(message, ", and first on line ")?;
+    push_number(message, line)
+}
+
+// Adds the line of the first declaration of a name, and a note there.
 fn tell_first(
     alloc: Global,
     explained: &mut Explained,
-    first: &Declared,
+    declared: &[Declared],
+    name: &str,
 ) -> Result<(), AllocError> {
-    push_text(&mut explained.message, ", and first on line ")?;
-    push_number(&mut explained.message, first.line)?;
+    let Some(first) = declaration(declared, name) else {
+        return Ok(());
+    };
+    push_first(&mut explained.message, first.line)?;
     note_here(alloc, explained, first, " is first declared here")
 }
 
@@ -393,10 +411,7 @@ fn explain_twice(
     explained.column = misfit_column(alloc, text.as_bytes(), line)?;
     push_said(&mut explained.message, name, " is declared twice")?;
     let declared = declared_in(alloc, text)?;
-    match declaration(declared.as_slice(), name) {
-        Some(first) => tell_first(alloc, explained, first),
-        None => Ok(()),
-    }
+    tell_first(alloc, explained, declared.as_slice(), name)
 }
 
 // Explains a word that is not a permission, by the nearest permission.

@@ -158,13 +158,8 @@ fn gives_any(allowed: &Allowance, sources: &[Member], targets: &[Member], perm: 
     false
 }
 
-/// Returns whether a statement grants the permission to some of the sources on some of the targets.
-pub(crate) fn gives_some<'a>(
-    statement: &Statement,
-    sources: &[Member<'a>],
-    targets: &[Member<'a>],
-    perm: &str,
-) -> bool
+// Returns whether a statement grants the permission to some of the sources on some of the targets.
+fn gives_some(statement: &Statement, sources: &[Member], targets: &[Member], perm: &str) -> bool
     ensures { result ≡ gives_some perm.now sources.now targets.now statement.now }
 {
     match statement {
@@ -173,23 +168,28 @@ pub(crate) fn gives_some<'a>(
     }
 }
 
-// Returns whether a statement grants some permission to some of the sources on some of the targets.
-fn gives_any_permission<'a>(
+/// Returns whether a statement grants some permission to some of the sources on some of the targets.
+pub(crate) fn gives_any_permission<'a>(
     statement: &Statement,
     sources: &[Member<'a>],
     targets: &[Member<'a>],
 ) -> bool
     ensures { result ≡ gives_of None sources.now targets.now statement.now }
 {
-    Perms::EVERY.iter().any(|perm| gives_some(statement, sources, targets, perm.name()))
+    'perms: for perm in Perms::EVERY {
+        if gives_some(statement, sources, targets, perm.name()) {
+            return true;
+        }
+    }
+    false
 }
 
 /// Returns whether a statement grants the permission, or any permission if it is `None`, to some of the sources on some
 /// of the targets.
-pub(crate) fn gives_of<'a>(
+pub(crate) fn gives_of(
     statement: &Statement,
-    sources: &[Member<'a>],
-    targets: &[Member<'a>],
+    sources: &[Member],
+    targets: &[Member],
     perm: Option<&str>,
 ) -> bool
     ensures { result ≡ gives_of (option_map (λ p. p.now) perm.entry) sources.now targets.now statement.now }
@@ -222,13 +222,8 @@ fn near_any(allowed: &Allowance, sources: &[Member], targets: &[Member], perm: &
     false
 }
 
-/// Returns whether a statement is a near miss: it has a target, and the permission or a source.
-pub(crate) fn near_some(
-    statement: &Statement,
-    sources: &[Member],
-    targets: &[Member],
-    perm: &str,
-) -> bool
+// Returns whether a statement is a near miss: it has a target, and the permission or a source.
+fn near_some(statement: &Statement, sources: &[Member], targets: &[Member], perm: &str) -> bool
     ensures { result ≡ near_some perm.now sources.now targets.now statement.now }
 {
     match statement {
@@ -238,23 +233,22 @@ pub(crate) fn near_some(
 }
 
 // Returns whether a statement is a near miss for some permission.
-fn near_any_permission<'a>(
-    statement: &Statement,
-    sources: &[Member<'a>],
-    targets: &[Member<'a>],
-) -> bool
+fn near_any_permission(statement: &Statement, sources: &[Member], targets: &[Member]) -> bool
     ensures { result ≡ near_of None sources.now targets.now statement.now }
 {
-    Perms::EVERY
-        .iter()
-        .any(|perm| near_some(statement, sources, targets, perm.name()))
+    'perms: for perm in Perms::EVERY {
+        if near_some(statement, sources, targets, perm.name()) {
+            return true;
+        }
+    }
+    false
 }
 
 /// Returns whether a statement is a near miss for the permission, or for any permission if it is `None`.
-pub(crate) fn near_of<'a>(
+pub(crate) fn near_of(
     statement: &Statement,
-    sources: &[Member<'a>],
-    targets: &[Member<'a>],
+    sources: &[Member],
+    targets: &[Member],
     perm: Option<&str>,
 ) -> bool
     ensures { result ≡ near_of (option_map (λ p. p.now) perm.entry) sources.now targets.now statement.now }
@@ -311,10 +305,10 @@ fn exceeds_any(allowed: &Allowance, other: &Statement, members: &[Member], perm:
 }
 
 /// Returns whether a statement grants the permission to some type on some type on which `other` does not.
-pub(crate) fn exceeds_some<'a>(
+pub(crate) fn exceeds_some(
     statement: &Statement,
     other: &Statement,
-    members: &[Member<'a>],
+    members: &[Member],
     perm: &str,
 ) -> bool
     ensures { result ≡ exceeds_some perm.now members.now statement.now other.now }

@@ -16,14 +16,11 @@ use gt_policy::{LinedStatement, Statement};
 use gt_text::{push_number, push_text};
 use std::alloc::{AllocError, Global};
 
-// Counts the allow statements at the end of these that begin on this line.
+// Counts the allow statements that begin on this line.
 fn allows_on(statements: &[LinedStatement], line: u32) -> usize {
     let mut count: usize = 0;
-    for stated in statements.iter().rev() {
-        if stated.line != line {
-            break;
-        }
-        if let Statement::Allow(_) = stated.statement {
+    for stated in statements {
+        if stated.line == line && matches!(stated.statement, Statement::Allow(_)) {
             count = count.saturating_add(1);
         }
     }
@@ -79,19 +76,27 @@ fn column_after(bytes: &[u8], tokens: &LineTokens, before: &[LinedStatement], li
     column_of_word(bytes, tokens, b"allow".as_slice(), allows_on(before, line))
 }
 
-// Makes the note at a repeated statement, which is on this line and comes after these.
-fn repeat_note(
+// Adds the note at a repeated statement, which is on this line and comes after these.
+fn push_repeat_note(
     alloc: Global,
+    found: &mut Vec<Finding>,
     bytes: &[u8],
     line: u32,
     before: &[LinedStatement],
-) -> Result<FindingNote, AllocError> {
+) -> Result<(), AllocError>
+    ensures { OnOk result (Quiet found.old.items found.new.items) }
+{
     let tokens = line_tokens(alloc, bytes, line)?;
-    Ok(FindingNote {
-        line,
-        column: column_after(bytes, &tokens, before, line),
-        message: message_of(alloc, "this statement allows it first")?,
-    })
+    let column = column_after(bytes, &tokens, before, line);
+    let message = message_of(alloc, "this statement allows it first")?;
+    push_note(
+        found,
+        FindingNote {
+            line,
+            column,
+            message,
+        },
+    )
 }
 
 // Adds the finding that the statement on `line` repeats the one on `first`, which comes after these.
@@ -116,8 +121,7 @@ fn push_repeated(
             message,
         },
     )?;
-    let note = repeat_note(alloc, place.bytes, first, before)?;
-    push_note(found, note)
+    push_repeat_note(alloc, found, place.bytes, first, before)
 }
 
 // Warns of a statement that repeats an earlier one.
@@ -214,48 +218,6 @@ fn warn_all(alloc: Global, policy: &Judged) -> Result<Vec<Finding>, AllocError>
     Ok(found)
 }
 
-// Does the same with the types of the policy, and those of a script's domains.
-fn warn_with(
-    alloc: Global,
-    bytes: &[u8],
-    statements: &[LinedStatement],
-    members: &[Member],
-    worn: Option<&[Member]>,
-) -> Result<Vec<Finding>, AllocError>
-    ensures no_error { IfOk result (λ v. error_lines v.items ≡ []) }
-    ensures nothing { IfOk result (λ v. nothing_lines v.items
-        ≡ flat_map (λ x. useless_line members.now x) statements.now) }
-    ensures repeated { IfOk result (λ v. repeat_lines v.items ≡ repeated_with members.now [] statements.now) }
-{
-    let policy = Judged {
-        bytes,
-        statements,
-        members,
-        worn,
-    };
-    warn_all(alloc, &policy)
-}
-
-// Does the same with the names of the types of a script's domains.
-fn warn_members(
-    alloc: Global,
-    bytes: &[u8],
-    statements: &[LinedStatement],
-    members: &[Member],
-    worn: Option<&[&str]>,
-) -> Result<Vec<Finding>, AllocError>
-    ensures no_error { IfOk result (λ v. error_lines v.items ≡ []) }
-    ensures nothing { IfOk result (λ v. nothing_lines v.items
-        ≡ flat_map (λ x. useless_line members.now x) statements.now) }
-    ensures repeated { IfOk result (λ v. repeat_lines v.items ≡ repeated_with members.now [] statements.now) }
-{
-    let Some(names) = worn else {
-        return warn_with(alloc, bytes, statements, members, None);
-    };
-    let live = worn_members(alloc, statements, names)?;
-    warn_with(alloc, bytes, statements, members, Some(live.as_slice()))
-}
-
 /// Warns of what is useless in statements. `worn` has the names of the types of a script's domains.
 pub(crate) fn warnings(
     alloc: Global,
@@ -269,6 +231,13 @@ pub(crate) fn warnings(
     ensures repeated { IfOk result (λ v. repeat_lines v.items ≡ lines_repeated statements.now [] statements.now) }
 {
     let members = members_of(alloc, statements, None)?;
-    let found = warn_members(alloc, bytes, statements, members.as_slice(), worn)?;
+    let worn = worn_members(alloc, statements, worn)?;
+    let policy = Judged {
+        bytes,
+        statements,
+        members: members.as_slice(),
+        worn: worn.as_slice(),
+    };
+    let found = warn_all(alloc, &policy)?;
     Ok(found)
 }

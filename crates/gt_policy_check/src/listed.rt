@@ -11,13 +11,27 @@ use gt_types::Perms;
 use std::alloc::{AllocError, Global};
 
 // The other classes of Xen's FLASK policy. Their rules are about other calls than those of grant tables.
-const FLASK_CLASSES: [&str; 12] = [
+static FLASK_CLASSES: [&str; 12] = [
     "xen", "xen2", "domain", "domain2", "hvm", "mmu", "resource", "shadow", "event", "security",
     "version", "argo",
 ];
 
 fn is_flask_class(class: &str) -> bool {
-    FLASK_CLASSES.iter().any(|name| *name == class)
+    for name in FLASK_CLASSES.iter() {
+        if *name == class {
+            return true;
+        }
+    }
+    false
+}
+
+fn has_flask_class(classes: &[TextPiece]) -> bool {
+    for class in classes {
+        if is_flask_class(class.as_str()) {
+            return true;
+        }
+    }
+    false
 }
 
 // Makes the message about an unknown class.
@@ -130,11 +144,11 @@ pub(crate) fn warn_words(
     if !has_grant(classes) {
         return Ok(());
     }
-    let has_flask_class = classes.iter().any(|class| is_flask_class(class.as_str()));
     match &allowed.perms {
         Permissions::Every => Ok(()),
         Permissions::Named(words) => {
-            warn_perms(alloc, found, place, words.as_slice(), has_flask_class)
+            let is_mixed = has_flask_class(classes);
+            warn_perms(alloc, found, place, words.as_slice(), is_mixed)
         }
     }
 }

@@ -59,20 +59,19 @@ fn push_given<'a>(
     Ok(())
 }
 
-// Collects the names that denote a type.
-fn names_of<'a>(
-    alloc: Global,
+// Adds the names that denote a type.
+fn push_names<'a>(
+    names: &mut Items<TextPiece<'a>>,
     statements: &[LinedStatement<'a>],
     name: &TextPiece<'a>,
-) -> Result<Items<TextPiece<'a>>, AllocError>
-    ensures { IfOk result (λ names. names ≡ names_in_lines statements.now name.now) }
+) -> Result<(), AllocError>
+    ensures { OnOk result (names.new ≡ names.old ++ names_in_lines statements.now name.now) }
 {
-    let mut names = Items::new(alloc);
     names.push(name.again())?;
     'statements: for statement in statements {
-        push_given(&mut names, &statement.statement, name)?;
+        push_given(names, &statement.statement, name)?;
     }
-    Ok(names)
+    Ok(())
 }
 
 // Returns whether a type with these names is asked for: by one of them, or as any type.
@@ -97,7 +96,8 @@ fn push_member<'a>(
         ++ members_in statements.now (option_map (λ a. a.now) asked.entry) statement.now) }
 {
     if let Statement::DeclareType(name, _) = statement {
-        let names = names_of(alloc, statements, name)?;
+        let mut names = Items::new(alloc);
+        push_names(&mut names, statements, name)?;
         if is_asked(asked, names.as_slice()) {
             members.push(Member {
                 name: name.again(),

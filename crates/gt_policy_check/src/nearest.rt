@@ -6,19 +6,20 @@ use strsim::osa_distance;
 /// The maximum distance of a misspelt name from the one that is meant, in letters.
 const MOST_SLIPS: usize = 2;
 
-// Counts the letters by which two names differ. Returns None if they are equal or differ too much.
-fn slips(alloc: Global, word: &str, name: &str) -> Result<Option<usize>, AllocError> {
+// Counts the letters by which two names differ. Returns a greater number than `MOST_SLIPS` if they are equal or differ
+// too much.
+fn slips(alloc: Global, word: &str, name: &str) -> Result<usize, AllocError> {
     if word.len() > name.len().saturating_add(MOST_SLIPS) {
-        return Ok(None);
+        return Ok(usize::MAX);
     }
     if name.len() > word.len().saturating_add(MOST_SLIPS) {
-        return Ok(None);
+        return Ok(usize::MAX);
     }
     let distance = osa_distance(alloc, word, name)?;
-    if distance == 0 || distance > MOST_SLIPS || distance >= word.len() {
-        return Ok(None);
+    if distance == 0 || distance >= word.len() {
+        return Ok(usize::MAX);
     }
-    Ok(Some(distance))
+    Ok(distance)
 }
 
 /// Returns the first of the nearest names, among those that differ by one letter or two.
@@ -27,21 +28,14 @@ pub(crate) fn nearest<'a>(
     word: &str,
     names: &[&'a str],
 ) -> Result<Option<&'a str>, AllocError> {
-    let mut best: Option<(usize, &'a str)> = None;
+    let mut best: Option<&'a str> = None;
+    let mut least = MOST_SLIPS + 1;
     for name in names {
-        let Some(distance) = slips(alloc, word, name)? else {
-            continue;
-        };
-        let is_nearer = match best {
-            Some((least, _)) => distance < least,
-            None => true,
-        };
-        if is_nearer {
-            best = Some((distance, name));
+        let distance = slips(alloc, word, name)?;
+        if distance < least {
+            best = Some(*name);
+            least = distance;
         }
     }
-    match best {
-        Some((_, name)) => Ok(Some(name)),
-        None => Ok(None),
-    }
+    Ok(best)
 }

@@ -18,11 +18,6 @@ pub fn read_policy<'a>(
     ensures fault { IfErr result (λ e. (f : TokenFault) → fault_shown e ≡ Some f → Says text.entry.now (Err f)) }
     ensures memory { IfErr result (λ e. fault_shown e ≡ None → e ≡ out_of_memory) }
 {
-    if let Err(fault) = Policy::parse(alloc, text) {
-        return Err(fault);
-    }
-    match statements_of(alloc, text) {
-        Ok(statements) => Ok(statements),
-        Err(fault) => Err(fault),
-    }
+    Policy::parse(alloc, text)?;
+    statements_of(alloc, text)
 }

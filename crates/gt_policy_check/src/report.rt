@@ -1,9 +1,8 @@
 //! Findings as text, in the layout of compilers, and as JSON.
 ghost use Rattle.std.specs.Prelude.{◌≡◌, ◌++◌, codes, OnOk};
-ghost use Rattle.std.specs.Fmt.{decimal};
 ghost use Rattle.std.specs.List.{flat_map};
 ghost use Rattle.gt_json.specs.Strings.{quoted};
-ghost use Rattle.gt_policy_check.specs.Report.{heading_text, object_text, severity_text};
+ghost use Rattle.gt_policy_check.specs.Report.{heading_text, object_text, position_text, said_text, severity_text};
 
 use crate::findings::{Finding, FindingKind};
 use crate::places::{bytes_of, line_span};
@@ -30,9 +29,9 @@ impl FindingKind {
 }
 
 // Appends the line and the column of a finding.
+#[tactic(auto, unfolding(crate::specs::Report::position_text))]
 fn push_position(out: &mut Vec<u8>, finding: &Finding, between: &str) -> Result<(), AllocError>
-    ensures { OnOk result (out.new.items ≡ out.old.items
-        ++ decimal finding.now.line ++ between.now ++ decimal finding.now.column) }
+    ensures { OnOk result (out.new.items ≡ out.old.items ++ position_text between.now finding.now) }
 {
     push_number(out, finding.line)?;
     push_text(out, between)?;
@@ -40,9 +39,9 @@ fn push_position(out: &mut Vec<u8>, finding: &Finding, between: &str) -> Result<
 }
 
 // Appends the severity and the message.
+#[tactic(auto, unfolding(crate::specs::Report::said_text))]
 fn push_said(out: &mut Vec<u8>, finding: &Finding) -> Result<(), AllocError>
-    ensures { OnOk result (out.new.items ≡ out.old.items
-        ++ severity_text finding.now.kind ++ codes ": " ++ finding.now.message.items ++ codes "\n") }
+    ensures { OnOk result (out.new.items ≡ out.old.items ++ said_text finding.now) }
 {
     push_both(out, finding.kind.severity(), ": ")?;
     out.extend_from_slice(finding.message.as_slice())?;
@@ -50,6 +49,7 @@ fn push_said(out: &mut Vec<u8>, finding: &Finding) -> Result<(), AllocError>
 }
 
 // Appends `FILE:LINE:COLUMN: SEVERITY: MESSAGE`.
+#[tactic(auto, unfolding(crate::specs::Report::heading_text))]
 fn push_heading(out: &mut Vec<u8>, file: &str, finding: &Finding) -> Result<(), AllocError>
     ensures { OnOk result (out.new.items ≡ out.old.items ++ heading_text file.now finding.now) }
 {
@@ -97,8 +97,9 @@ pub(crate) fn push_all_shown(out: &mut Vec<u8>, line: &str) -> Result<(), AllocE
     Ok(())
 }
 
-// Appends blanks as wide as the characters of a line before a column.
+// Appends a line end, and blanks as wide as the characters of a line before a column.
 fn push_blanks(out: &mut Vec<u8>, line: &str, column: u32) -> Result<(), AllocError> {
+    push_text(out, "\n")?;
     for (place, letter) in line.char_indices() {
         if place + 1 >= column as usize {
             break;
@@ -109,7 +110,7 @@ fn push_blanks(out: &mut Vec<u8>, line: &str, column: u32) -> Result<(), AllocEr
 }
 
 /// The form in which findings are printed.
-#[derive(Clone, Copy, Debug, PartialEq, Eq)]
+#[derive(Clone, Copy)]
 pub enum ReportForm {
     /// As compilers print them.
     Text,
@@ -141,7 +142,6 @@ fn push_excerpt(
         return Ok(());
     }
     push_all_shown(out, line)?;
-    push_text(out, "\n")?;
     push_blanks(out, line, finding.column)?;
     push_text(out, caret(finding.kind, form))
 }
@@ -162,17 +162,19 @@ pub fn push_report(
     Ok(())
 }
 
-// Appends the severity and the message as members of a JSON object.
+// Appends the severity and the message as the last members of a JSON object.
 fn push_members(out: &mut Vec<u8>, finding: &Finding) -> Result<(), AllocError>
-    ensures { OnOk result (out.new.items ≡ out.old.items ++ codes ",\"severity\":\""
-        ++ severity_text finding.now.kind ++ codes "\",\"message\":" ++ quoted finding.now.message.items) }
+    ensures { OnOk result (out.new.items ≡ out.old.items ++ codes ",\"severity\":\"" ++ severity_text finding.now.kind
+        ++ codes "\",\"message\":" ++ quoted finding.now.message.items ++ codes "}\n") }
 {
     push_both(out, ",\"severity\":\"", finding.kind.severity())?;
     push_text(out, "\",\"message\":")?;
-    push_quoted(out, finding.message.as_slice())
+    push_quoted(out, finding.message.as_slice())?;
+    push_text(out, "}\n")
 }
 
 // Appends a finding as one line of JSON.
+#[tactic(auto, unfolding(crate::specs::Report::object_text))]
 fn push_object(out: &mut Vec<u8>, file: &str, finding: &Finding) -> Result<(), AllocError>
     ensures { OnOk result (out.new.items ≡ out.old.items ++ object_text file.now finding.now) }
 {
@@ -180,8 +182,7 @@ fn push_object(out: &mut Vec<u8>, file: &str, finding: &Finding) -> Result<(), A
     push_quoted(out, file.as_bytes())?;
     push_text(out, ",\"line\":")?;
     push_position(out, finding, ",\"column\":")?;
-    push_members(out, finding)?;
-    push_text(out, "}\n")
+    push_members(out, finding)
 }
 
 /// Appends the findings as JSON Lines: for each an object with `file`, `line`, `column`, `severity` and `message`.

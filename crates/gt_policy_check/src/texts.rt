@@ -54,6 +54,7 @@ fn push_items(out: &mut Vec<u8>, items: &[SetElement]) -> Result<(), AllocError>
 }
 
 // Appends a set, with a space before it.
+#[tactic(auto, unfolding(crate::specs::Texts::set_text))]
 fn push_set(out: &mut Vec<u8>, items: &[SetElement]) -> Result<(), AllocError>
     ensures { OnOk result (out.new.items ≡ out.old.items ++ set_text items.now) }
 {
@@ -76,6 +77,7 @@ fn push_words(out: &mut Vec<u8>, words: &[TextPiece], before: &str) -> Result<()
 }
 
 // Appends classes or permissions.
+#[tactic(auto, unfolding(crate::specs::Texts::list_text))]
 fn push_list(out: &mut Vec<u8>, words: &[TextPiece]) -> Result<(), AllocError>
     ensures { OnOk result (out.new.items ≡ out.old.items ++ list_text words.now) }
 {
@@ -110,6 +112,7 @@ fn push_sets(out: &mut Vec<u8>, allowed: &Allowance) -> Result<(), AllocError>
 }
 
 // Appends an allow statement on one line.
+#[tactic(auto, unfolding(crate::specs::Texts::allow_text))]
 fn push_allow(out: &mut Vec<u8>, allowed: &Allowance) -> Result<(), AllocError>
     ensures { OnOk result (out.new.items ≡ out.old.items ++ allow_text allowed.now) }
 {
@@ -187,6 +190,7 @@ fn push_way(out: &mut Vec<u8>, member: &Member, items: &[SetElement]) -> Result<
 }
 
 // Appends a type if the set holds it, and the attribute through which it does.
+#[tactic(auto, unfolding(crate::specs::Texts::held_text))]
 fn push_held(out: &mut Vec<u8>, member: &Member, items: &[SetElement]) -> Result<(), AllocError>
     ensures { OnOk result (out.new.items ≡ out.old.items ++ held_text items.now member.now) }
 {
@@ -197,31 +201,35 @@ fn push_held(out: &mut Vec<u8>, member: &Member, items: &[SetElement]) -> Result
     push_way(out, member, items)
 }
 
+// Appends a text, and those of the types that the set holds.
 fn push_all_held(
     out: &mut Vec<u8>,
+    before: &str,
     members: &[Member],
     items: &[SetElement],
 ) -> Result<(), AllocError>
-    ensures { OnOk result (out.new.items ≡ out.old.items ++ all_held_text items.now members.now) }
+    ensures { OnOk result (out.new.items ≡ out.old.items ++ before.now ++ all_held_text items.now members.now) }
 {
+    push_text(out, before)?;
     'members: for member in members {
         push_held(out, member, items)?;
     }
     Ok(())
 }
 
-// Appends `self` if the target set contains it.
+// Appends `self` if the target set contains it, and the line end.
 fn push_self(out: &mut Vec<u8>, items: &[SetElement]) -> Result<(), AllocError>
-    ensures { OnOk result (out.new.items ≡ out.old.items ++ self_text items.now) }
+    ensures { OnOk result (out.new.items ≡ out.old.items ++ self_text items.now ++ codes "\n") }
 {
     if says_self(items) {
-        push_text(out, " self")
+        push_text(out, " self\n")
     } else {
-        Ok(())
+        push_text(out, "\n")
     }
 }
 
 // Appends the sources and targets that the sets of a statement hold.
+#[tactic(auto, unfolding(crate::specs::Texts::note_text))]
 fn push_note(
     out: &mut Vec<u8>,
     allowed: &Allowance,
@@ -230,15 +238,13 @@ fn push_note(
 ) -> Result<(), AllocError>
     ensures { OnOk result (out.new.items ≡ out.old.items ++ note_text sources.now targets.now allowed.now) }
 {
-    push_text(out, "  #")?;
-    push_all_held(out, sources, allowed.source.as_slice())?;
-    push_text(out, " ->")?;
-    push_all_held(out, targets, allowed.target.as_slice())?;
-    push_self(out, allowed.target.as_slice())?;
-    push_text(out, "\n")
+    push_all_held(out, "  #", sources, allowed.source.as_slice())?;
+    push_all_held(out, " ->", targets, allowed.target.as_slice())?;
+    push_self(out, allowed.target.as_slice())
 }
 
 // Appends a file and a line, in the layout of compilers.
+#[tactic(auto, unfolding(crate::specs::Texts::place_text))]
 fn push_place(out: &mut Vec<u8>, file: &str, line: u32) -> Result<(), AllocError>
     ensures { OnOk result (out.new.items ≡ out.old.items ++ place_text file.now line) }
 {

@@ -1,12 +1,10 @@
 //! Statements that allow nothing, or only what an earlier one allows.
 ghost use Rattle.std.specs.Prelude.{◌≡◌, ◌<◌, length, is_some, IfSome};
-ghost use Rattle.std.specs.List.{position};
-ghost use Rattle.gt_types.specs.Names.{every_permission, permission_name};
 ghost use Rattle.gt_policy_check.specs.Check.{exceeds_with, grants_with, is_useless_with, no_more_with, repeats_with};
-ghost use Rattle.gt_policy_check.specs.Granting.{exceeds_some, gives_some};
+ghost use Rattle.gt_policy_check.specs.Check.{some_no_more_with};
 ghost use Rattle.gt_policy_check.specs.Useless.{holds_some, lists_some, IsReason, IsUselessFor};
 
-use crate::granting::{exceeds_some, gives_some, has_grant, holds, lists};
+use crate::granting::{exceeds_some, gives_any_permission, has_grant, holds, lists};
 use crate::members::Member;
 use gt_policy::{Allowance, LinedStatement, SetElement, Statement};
 use gt_types::Perms;
@@ -15,7 +13,7 @@ use gt_types::Perms;
 pub(crate) fn allows_something(statement: &Statement, members: &[Member]) -> bool
     ensures { result ≡ grants_with members.now statement.now }
 {
-    Perms::EVERY.iter().any(|perm| gives_some(statement, members, members, perm.name()))
+    gives_any_permission(statement, members, members)
 }
 
 /// Returns whether a statement of class `grant` allows nothing.
@@ -31,7 +29,7 @@ pub(crate) fn is_useless(statement: &Statement, members: &[Member]) -> bool
 }
 
 /// Why an allow statement of class `grant` allows nothing.
-#[derive(Clone, Copy, PartialEq, Eq)]
+#[derive(Clone, Copy)]
 pub(crate) enum UselessReason {
     /// It lists no permission of class `grant`.
     NoPermission,
@@ -44,18 +42,24 @@ pub(crate) enum UselessReason {
 fn lists_some(allowed: &Allowance) -> bool
     ensures { result ≡ lists_some allowed.now }
 {
-    Perms::EVERY
-        .iter()
-        .any(|perm| lists(&allowed.perms, perm.name()))
+    'perms: for perm in Perms::EVERY {
+        if lists(&allowed.perms, perm.name()) {
+            return true;
+        }
+    }
+    false
 }
 
 // Returns whether a set holds some of these types.
 fn holds_some(members: &[Member], items: &[SetElement]) -> bool
     ensures { result ≡ holds_some members.now items.now }
 {
-    members
-        .iter()
-        .any(|member| holds(member.names.as_slice(), items))
+    'members: for member in members {
+        if holds(member.names.as_slice(), items) {
+            return true;
+        }
+    }
+    false
 }
 
 // Returns why an allow statement allows nothing.
@@ -85,7 +89,12 @@ pub(crate) fn reason_of(statement: &Statement, members: &[Member]) -> UselessRea
 fn exceeds(statement: &Statement, other: &Statement, members: &[Member]) -> bool
     ensures { result ≡ exceeds_with members.now statement.now other.now }
 {
-    Perms::EVERY.iter().any(|perm| exceeds_some(statement, other, members, perm.name()))
+    'perms: for perm in Perms::EVERY {
+        if exceeds_some(statement, other, members, perm.name()) {
+            return true;
+        }
+    }
+    false
 }
 
 // Returns whether a statement grants nothing that another does not.
@@ -96,21 +105,24 @@ fn grants_no_more(statement: &Statement, other: &Statement, members: &[Member]) 
 }
 
 // Finds the first of these statements that grants all that this one does, and returns its index.
-#[tactic(auto, using(crate::proofs::CheckLemmas::position_within))]
 fn first_giving(
     statement: &Statement,
     before: &[LinedStatement],
     members: &[Member],
 ) -> Option<usize>
-    ensures is { result ≡ position (λ y. no_more_with members.now statement.now y.statement) before.now }
+    ensures is { is_some result ≡ some_no_more_with members.now before.now statement.now }
     ensures within { IfSome result (λ i. i < length before.now) }
 {
-    before.iter().position(|earlier| grants_no_more(statement, &earlier.statement, members))
+    'statements: for (i, earlier) in before.iter().enumerate() {
+        if grants_no_more(statement, &earlier.statement, members) {
+            return Some(i);
+        }
+    }
+    None
 }
 
 /// Returns the index of the first earlier statement that grants all that this one does; None for a statement that
 /// grants nothing.
-#[tactic(auto, using(crate::proofs::CheckLemmas::some_place))]
 pub(crate) fn repeated(
     statement: &Statement,
     before: &[LinedStatement],
