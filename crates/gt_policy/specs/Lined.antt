@@ -1,5 +1,5 @@
 -- The statements of a text, each with the line on which it begins.
-use Rattle.std.specs.Prelude.{◌≡◌, ℕ, List, [], ◌∷◌, map, Result, Ok, Err}
+use Rattle.std.specs.Prelude.{ℕ, List, [], ◌∷◌, map, Result, Ok, Err}
 use Rattle.gt_types.specs.Memory.{UnlessMemory}
 use Rattle.gt_policy.specs.declared.fault.ReadError.{ReadError}
 use Rattle.gt_policy.specs.declared.fault.TokenFault.{TokenFault}

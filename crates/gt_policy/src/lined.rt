@@ -20,8 +20,8 @@ pub struct LinedStatement<'a> {
     pub statement: Statement<'a>,
 }
 
-// Parses the statements that are left, each with its line.
-fn lined<'a>(
+/// Parses the statements that are left, each with its line.
+pub(crate) fn lined<'a>(
     alloc: Global,
     parser: &mut Parser<'a>,
     seen: &mut SymbolTable<'a>,

@@ -1,20 +1,18 @@
 -- Flags numbered as they first appear.
-use Rattle.std.proofs.Common.{◌≡◌, ℕ, ◌+◌, ◌<◌, ◌≤◌, ◌||◌, not, Bool, true, false, List, [], ◌∷◌, ◌++◌, length, take}
-use Rattle.std.proofs.Common.{Option, Some, None, refl, sym, ap, ◌∙◌, subst, arith, All, cond, ltb, get_or, add-one}
+use Rattle.std.proofs.Common.{◌≡◌, ℕ, ◌+◌, ◌<◌, ◌||◌, not, Bool, true, false, List, [], ◌∷◌, ◌++◌, length}
+use Rattle.std.proofs.Common.{Option, Some, None, refl, sym, ap, ◌∙◌, subst, arith, All, cond}
 use Rattle.std.proofs.Common.{Bor}
-use Rattle.std.specs.Option.{option_to_list, unwrap_or}
-use Rattle.std.specs.List.{filter_map, fold, list_any, position, position_or_len, cons_option}
+use Rattle.std.specs.List.{filter_map, fold, list_any, position_or_len, cons_option}
 use Rattle.std.specs.Str.{bytes_eq}
-use Rattle.std.proofs.Math.Seq.{take-suc}
-use Rattle.std.proofs.lemmas.Bool.Decides.{nat_tests}
+use Rattle.std.proofs.lemmas.List.{map-append}
 use Rattle.std.proofs.lemmas.List.Elements.{All-nil, All-cons, All-map, All-tail, filter_map-append}
 use Rattle.std.proofs.lemmas.List.Folds.{list_any-append}
-use Rattle.std.proofs.lemmas.List.Sums.{fold-append, prefix_len-le-length}
+use Rattle.std.proofs.lemmas.List.Sums.{fold-append}
 use Rattle.gt_types.specs.declared.DomId.{DomId}
-use Rattle.gt_script.specs.Flags.{names_in, with_flag, flag_in, flag_names_of, flag_number}
+use Rattle.gt_script.specs.Flags.{names_in, with_flag, with_flag_of, flag_in, flag_names_of, flag_number}
 use Rattle.gt_script.specs.Stuck.{IsBelow, AreNumbered}
 use Rattle.gt_script.specs.Tasks.{deed_of, task_of, tasks_for}
-use Rattle.gt_script.specs.Lists.{NamedRunTask, NamedRunAction, RunTask}
+use Rattle.gt_script.specs.Lists.{NamedRunTask, NamedRunAction, RunAction, RunTask}
 use Rattle.gt_script.specs.declared.tasks.RunActionBy.TheVariants as runs
 use Rattle.gt_script.proofs.TypeLemmas.{same_bytes}
 
@@ -41,42 +39,23 @@ position-names : (keys : List (Bor (List ℕ))) (name : List ℕ) → position_o
 position-names [] name = refl
 position-names (k ∷ ks) name = ap (λ (n : ℕ). cond (not (bytes_eq name k.now)) (1 + n) 0) (position-names ks name)
 
-found-or-end : (n l : ℕ) → n ≤ l → unwrap_or (cond (ltb n l) (Some n) None) l ≡ n
-found-or-end n l le = grind (arith, nat_tests)
-
--- the number of a name in the set
-pub number-names : (keys : List (Bor (List ℕ))) (name : List ℕ) (o : Option ℕ) (n r : ℕ) → o ≡ position (λ k. bytes_eq name k.now) keys → n ≡ length keys → r ≡ unwrap_or o n → r ≡ flag_number (names_in keys) name
+-- the number of a name in the set, which is that of a name that is added
+pub number-names : (keys : List (Bor (List ℕ))) (name : List ℕ) (n : ℕ) → n ≡ position_or_len (λ k. bytes_eq name k.now) keys → n ≡ flag_number (names_in keys) name
 unfolding flag_number
-number-names keys name o n r found many is =
-    is ∙ ap (λ (q : Option ℕ). unwrap_or q n) found ∙ ap (λ (k : ℕ). unwrap_or (position (λ k. bytes_eq name k.now) keys) k) many
-    ∙ found-or-end (position_or_len (λ (k : Bor (List ℕ)). bytes_eq name k.now) keys) (length keys) (prefix_len-le-length _ keys)
-    ∙ position-names keys name
+number-names keys name n is = is ∙ position-names keys name
 
 -- the names after one line more
 
-named-one : (names : List (List ℕ)) (o : Option (List ℕ)) → fold with_flag names (cons_option o []) ≡ fold with_flag names (option_to_list o)
-named-one names None = refl
-named-one names (Some name) = refl
+named-one : (names : List (List ℕ)) (line : NamedRunAction) → fold with_flag names (cons_option (flag_in line) []) ≡ with_flag_of names line
+named-one names (runs.Do call) = refl
+named-one names (runs.Tell flag) = refl
+named-one names (runs.Await flag) = refl
 
-flags-more : (orders : List NamedRunTask) (i : ℕ) (x : NamedRunTask) → i < length orders
-    → flag_names_of (take (i + 1) orders) ≡ fold with_flag (flag_names_of (take i orders)) (option_to_list (flag_in (get_or orders i x).deed))
-flags-more orders i x within =
-    let front : take (i + 1) orders ≡ take i orders ++ get_or orders i x ∷ [] = rw add-one (take-suc orders i x within) in
-    ap flag_names_of front
-    ∙ ap (fold with_flag []) (filter_map-append (λ (o : NamedRunTask). flag_in o.deed) (take i orders) (get_or orders i x ∷ []))
-    ∙ fold-append with_flag [] (filter_map (λ (o : NamedRunTask). flag_in o.deed) (take i orders)) (cons_option (flag_in (get_or orders i x).deed) [])
-    ∙ named-one (flag_names_of (take i orders)) (flag_in (get_or orders i x).deed)
-
-pub flags-named : (orders : List NamedRunTask) (i : ℕ) (x : NamedRunTask) (names new : List (List ℕ)) (name : List ℕ) → i < length orders → names ≡ flag_names_of (take i orders) → flag_in (get_or orders i x).deed ≡ Some name
-    → new ≡ with_flag names name → new ≡ flag_names_of (take (i + 1) orders)
-flags-named orders i x names new name within so_far here e =
-    e ∙ ap (λ (l : List (List ℕ)). with_flag l name) so_far
-    ∙ ap (λ (o : Option (List ℕ)). fold with_flag (flag_names_of (take i orders)) (option_to_list o)) (sym here) ∙ sym (flags-more orders i x within)
-
-pub flags-unnamed : (orders : List NamedRunTask) (i : ℕ) (x : NamedRunTask) (names : List (List ℕ)) → i < length orders → names ≡ flag_names_of (take i orders) → flag_in (get_or orders i x).deed ≡ None
-    → names ≡ flag_names_of (take (i + 1) orders)
-flags-unnamed orders i x names within so_far here =
-    so_far ∙ ap (λ (o : Option (List ℕ)). fold with_flag (flag_names_of (take i orders)) (option_to_list o)) (sym here) ∙ sym (flags-more orders i x within)
+flags-more : (orders : List NamedRunTask) (o : NamedRunTask) → flag_names_of (orders ++ o ∷ []) ≡ with_flag_of (flag_names_of orders) o.deed
+flags-more orders o =
+    ap (fold with_flag []) (filter_map-append (λ (x : NamedRunTask). flag_in x.deed) orders (o ∷ []))
+    ∙ fold-append with_flag [] (filter_map (λ (x : NamedRunTask). flag_in x.deed) orders) (cons_option (flag_in o.deed) [])
+    ∙ named-one (flag_names_of orders) o.deed
 
 -- each flag that is named has a number
 
@@ -148,6 +127,93 @@ lines-below names (o ∷ orders) h =
     All-cons (λ (o : NamedRunTask). IsBelow (length names) (deed_of names o.deed)) o orders
     (line-below names o.deed (first-named names (flag_in o.deed) _ h))
     (lines-below names orders (rest-named names (flag_in o.deed) _ h))
+
+-- a name keeps its number when others are added
+
+position-kept-by : (p : List ℕ → Bool) (x : List ℕ) (xs ys : List (List ℕ)) (b : Bool) → p x ≡ b → (list_any p xs ≡ true → position_or_len p (xs ++ ys) ≡ position_or_len p xs) → list_any p (x ∷ xs) ≡ true → position_or_len p ((x ∷ xs) ++ ys) ≡ position_or_len p (x ∷ xs)
+position-kept-by p x xs ys true e later h = rw e refl
+position-kept-by p x xs ys false e later h =
+    let rest : list_any p xs ≡ true = sym (rw e refl) ∙ h in
+    rw e (ap (λ (n : ℕ). 1 + n) (later rest))
+
+position-kept : (p : List ℕ → Bool) (xs ys : List (List ℕ)) → list_any p xs ≡ true → position_or_len p (xs ++ ys) ≡ position_or_len p xs
+position-kept p [] ys h = absurd cc
+position-kept p (x ∷ xs) ys h = position-kept-by p x xs ys (p x) refl (position-kept p xs ys) h
+
+position-end-by : (p : List ℕ → Bool) (y : List ℕ) (ys : List (List ℕ)) (x : List ℕ) (b : Bool) → p y ≡ b → (list_any p ys ≡ false → position_or_len p (ys ++ x ∷ []) ≡ position_or_len p ys) → list_any p (y ∷ ys) ≡ false → position_or_len p ((y ∷ ys) ++ x ∷ []) ≡ position_or_len p (y ∷ ys)
+position-end-by p y ys x true e later h = rw e refl
+position-end-by p y ys x false e later h =
+    let rest : list_any p ys ≡ false = sym (rw e refl) ∙ h in
+    rw e (ap (λ (n : ℕ). 1 + n) (later rest))
+
+position-end : (p : List ℕ → Bool) (xs : List (List ℕ)) (x : List ℕ) → p x ≡ true → list_any p xs ≡ false → position_or_len p (xs ++ x ∷ []) ≡ position_or_len p xs
+position-end p [] x e h = rw e refl
+position-end p (y ∷ ys) x e h = position-end-by p y ys x (p y) refl (position-end p ys x e) h
+
+number-new-by : (names : List (List ℕ)) (name : List ℕ) (b : Bool) → list_any (bytes_eq name) names ≡ b → position_or_len (bytes_eq name) (cond b names (names ++ name ∷ [])) ≡ position_or_len (bytes_eq name) names
+number-new-by names name true e = refl
+number-new-by names name false e = position-end (bytes_eq name) names name (same_bytes name) e
+
+number-new : (names : List (List ℕ)) (name : List ℕ) → flag_number (with_flag names name) name ≡ flag_number names name
+unfolding with_flag flag_number
+number-new names name = number-new-by names name (list_any (bytes_eq name) names) refl
+
+number-kept-by : (names : List (List ℕ)) (other name : List ℕ) (b : Bool) → Has names name → position_or_len (bytes_eq name) (cond b names (names ++ other ∷ [])) ≡ position_or_len (bytes_eq name) names
+number-kept-by names other name true h = refl
+number-kept-by names other name false h = position-kept (bytes_eq name) names (other ∷ []) h
+
+number-kept : (names : List (List ℕ)) (other name : List ℕ) → Has names name → flag_number (with_flag names other) name ≡ flag_number names name
+unfolding with_flag flag_number
+number-kept names other name h = number-kept-by names other name (list_any (bytes_eq other) names) h
+
+-- the two actions that name a flag, by the number of the flag
+
+abbrev pub told : ℕ → RunAction
+told n = runs.Tell n
+
+abbrev pub awaited : ℕ → RunAction
+awaited n = runs.Await n
+
+flag-new : (names new : List (List ℕ)) (flag bytes : List ℕ) (n : ℕ) → bytes ≡ flag → new ≡ with_flag names bytes → n ≡ flag_number names bytes → n ≡ flag_number new flag
+flag-new names new flag bytes n same named number =
+    number ∙ sym (number-new names bytes) ∙ ap (λ (l : List (List ℕ)). flag_number l bytes) (sym named) ∙ ap (λ (w : List ℕ). flag_number new w) same
+
+-- the action of a line, by the number that its flag had before it was added
+pub tell-new : (names new : List (List ℕ)) (deed : NamedRunAction) (flag bytes : List ℕ) (n : ℕ) → deed ≡ runs.Tell flag → bytes ≡ flag → new ≡ with_flag names bytes → n ≡ flag_number names bytes → told n ≡ deed_of new deed
+unfolding deed_of
+tell-new names new deed flag bytes n is same named number = rw is (ap told (flag-new names new flag bytes n same named number))
+
+pub await-new : (names new : List (List ℕ)) (deed : NamedRunAction) (flag bytes : List ℕ) (n : ℕ) → deed ≡ runs.Await flag → bytes ≡ flag → new ≡ with_flag names bytes → n ≡ flag_number names bytes → awaited n ≡ deed_of new deed
+unfolding deed_of
+await-new names new deed flag bytes n is same named number = rw is (ap awaited (flag-new names new flag bytes n same named number))
+
+deed-kept : (names : List (List ℕ)) (other : List ℕ) (line : NamedRunAction) → ((name : List ℕ) → flag_in line ≡ Some name → Has names name) → deed_of (with_flag names other) line ≡ deed_of names line
+unfolding deed_of
+deed-kept names other (runs.Do call) h = refl
+deed-kept names other (runs.Tell flag) h = ap told (number-kept names other flag (h flag refl))
+deed-kept names other (runs.Await flag) h = ap awaited (number-kept names other flag (h flag refl))
+
+tasks-kept : (names : List (List ℕ)) (other : List ℕ) (orders : List NamedRunTask) → All (Has names) (filter_map (λ o. flag_in o.deed) orders) → tasks_for (with_flag names other) orders ≡ tasks_for names orders
+tasks-kept names other [] h = refl
+tasks-kept names other (o ∷ orders) h =
+    ap (λ (d : RunAction). let t : RunTask = record { line = o.line; dom = o.dom; deed = d } in t ∷ tasks_for (with_flag names other) orders) (deed-kept names other o.deed (first-named names (flag_in o.deed) _ h))
+    ∙ ap (λ (ts : List RunTask). task_of names o ∷ ts) (tasks-kept names other orders (rest-named names (flag_in o.deed) _ h))
+
+tasks-kept-of : (names : List (List ℕ)) (line : NamedRunAction) (orders : List NamedRunTask) → All (Has names) (filter_map (λ o. flag_in o.deed) orders) → tasks_for (with_flag_of names line) orders ≡ tasks_for names orders
+tasks-kept-of names (runs.Do call) orders h = refl
+tasks-kept-of names (runs.Tell flag) orders h = tasks-kept names flag orders h
+tasks-kept-of names (runs.Await flag) orders h = tasks-kept names flag orders h
+
+-- the names and tasks after one line more
+pub one-more : (orders : List NamedRunTask) (o : NamedRunTask) (names new : List (List ℕ)) (tasks made : List RunTask) → names ≡ flag_names_of orders → tasks ≡ tasks_for names orders → new ≡ with_flag_of names o.deed
+    → made ≡ tasks ++ task_of new o ∷ [] → (new ≡ flag_names_of (orders ++ o ∷ [])) × (made ≡ tasks_for new (orders ++ o ∷ []))
+one-more orders o names new tasks made so_far were named is =
+    let have : All (Has names) (filter_map (λ x. flag_in x.deed) orders) =
+    subst (λ (l : List (List ℕ)). All (Has l) (filter_map (λ x. flag_in x.deed) orders)) (sym so_far) (has-all (filter_map (λ (x : NamedRunTask). flag_in x.deed) orders) []) in
+    let kept : tasks_for new orders ≡ tasks_for names orders = ap (λ (l : List (List ℕ)). tasks_for l orders) named ∙ tasks-kept-of names o.deed orders have in (
+      named ∙ ap (λ (l : List (List ℕ)). with_flag_of l o.deed) so_far ∙ sym (flags-more orders o),
+      is ∙ ap (λ (ts : List RunTask). ts ++ task_of new o ∷ []) (were ∙ sym kept) ∙ sym (map-append (task_of new) orders (o ∷ [])),
+    )
 
 -- the tasks of a script name no flag past the last
 pub tasks-numbered : (orders : List NamedRunTask) → AreNumbered (length (flag_names_of orders)) (tasks_for (flag_names_of orders) orders)

@@ -1,6 +1,6 @@
 -- How domains go on in turn, while flags are told.
-use Rattle.std.proofs.Common.{◌≡◌, ◌⊎◌, ◌↔◌, length-take, inl, inr, IsTrue, ℕ, ◌+◌, ◌-◌, ◌<◌, ◌≤◌, ◌||◌, not, Bool}
-use Rattle.std.proofs.Common.{true, false, List, [], length, take, Option, Some, None, refl, sym, ap, ◌∙◌, subst, arith}
+use Rattle.std.proofs.Common.{◌≡◌, ◌⊎◌, ◌↔◌, length-take, inl, inr, IsTrue, ℕ, ◌+◌, ◌<◌, ◌≤◌, ◌||◌, not, Bool}
+use Rattle.std.proofs.Common.{true, false, List, length, take, Option, Some, None, refl, sym, ap, ◌∙◌, subst, arith}
 use Rattle.std.proofs.Common.{All, get_or, set, replicate, add-one, ◌==◌}
 use Rattle.std.specs.List.{slice_get}
 use Rattle.std.proofs.lemmas.Grind.{get_or_default_zero}

@@ -20,6 +20,12 @@ flag_in (runs.Do call) = None
 flag_in (runs.Tell flag) = Some flag
 flag_in (runs.Await flag) = Some flag
 
+-- the names with the flag of this line
+abbrev pub with_flag_of : List (List ℕ) → NamedRunAction → List (List ℕ)
+with_flag_of names (runs.Do call) = names
+with_flag_of names (runs.Tell flag) = with_flag names flag
+with_flag_of names (runs.Await flag) = with_flag names flag
+
 -- the names of the flags of these lines, each once, in the order in which they first appear
 abbrev pub flag_names_of : List NamedRunTask → List (List ℕ)
 flag_names_of orders = fold with_flag [] (filter_map (λ o. flag_in o.deed) orders)

@@ -9,16 +9,23 @@ use Rattle.gt_script.specs.declared.faults.ScriptFault as text
 use Rattle.gt_script.specs.declared.faults.ScriptError.{ScriptError}
 use Rattle.gt_script.specs.declared.faults.ScriptError.TheVariants as errors
 use Rattle.gt_script.specs.declared.script.Script.{Script}
-use Rattle.gt_script.specs.declared.script.AddError.{AddError}
-use Rattle.gt_script.specs.declared.script.AddError.TheVariants.{Memory, Fault}
+use Rattle.gt_script.specs.declared.faults.AddError.{AddError}
+use Rattle.gt_script.specs.declared.faults.AddError.TheVariants.{Memory, Fault}
 
--- a script with one more line is this one, or has this fault, unless an allocation failed
-abbrev pub AddsLine : Result Script AddError → Result Contents ScriptFaultKind → Type 0
-AddsLine (Ok script) added = added ≡ Ok (contents_told script)
-AddsLine (Err Memory) added = Unit {0}
-AddsLine (Err (Fault kind)) added = added ≡ Err kind
+-- one more line makes this script, or has this fault, unless an allocation failed
+abbrev pub AddsLine : Result (Unit {0}) AddError → Contents → Result Contents ScriptFaultKind → Type 0
+AddsLine (Ok done) script added = added ≡ Ok script
+AddsLine (Err Memory) script added = Unit {0}
+AddsLine (Err (Fault kind)) script added = added ≡ Err kind
 
--- lines give this script, or have this fault, unless an allocation failed; a fault of a policy is not one of lines
+-- lines make this script, or have this fault, unless an allocation failed; a fault of a policy is not one of lines
+abbrev pub AddsLines : Result (Unit {0}) ScriptError → Contents → Result Contents text.ScriptFault → Type 0
+AddsLines (Ok done) script said = said ≡ Ok script
+AddsLines (Err errors.Memory) script said = Unit {0}
+AddsLines (Err (errors.Fault fault)) script said = said ≡ Err fault
+AddsLines (Err (errors.Policy fault)) script said = ⊥
+
+-- the same for a script that the lines give
 abbrev pub SaysScript : Result Script ScriptError → Result Contents text.ScriptFault → Type 0
 SaysScript (Ok script) said = said ≡ Ok (contents_told script)
 SaysScript (Err errors.Memory) said = Unit {0}

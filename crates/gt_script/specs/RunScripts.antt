@@ -2,6 +2,7 @@
 use Rattle.std.specs.Prelude.{◌≡◌, ◌⊎◌, ◌≤◌, ℕ, ◌==◌, List, filter, length, Some, Result, Ok, Err}
 use Rattle.gt_types.specs.Config.{AreFaultless}
 use Rattle.gt_types.specs.declared.DomId.{DomId}
+use Rattle.gt_types.specs.declared.config.DomainConfig.{DomainConfig}
 use Rattle.gt_types.specs.declared.limits.TheConstants.{LAST_GENERATION}
 use Rattle.gt_policy.specs.declared.fault.TokenFault as policy
 use Rattle.gt_script.specs.Blocks.{block_fault_shown}
@@ -29,6 +30,16 @@ list_of tasks dom = filter (λ t. t.dom.0 == dom.0) tasks
 -- the script for `run` of contents that were read for `run`; flags are numbered as they first appear
 abbrev pub run_of : Contents → RunContents
 run_of c = record { head = without_orders c; tasks = tasks_of c; flags = length (flag_names_of c.orders) }
+
+-- each domain comes to the end of its list
+abbrev pub ComeToEnd : List RunTask → List DomainConfig → Type 0
+ComeToEnd tasks domains = AllEnd (IsTold tasks) tasks domains
+
+-- the line at which the first domain waits that does not come to the end of its list, unless an allocation failed
+abbrev pub IsStuckError : List RunTask → List DomainConfig → ScriptError → Type 0
+IsStuckError tasks domains errors.Memory = Unit {0}
+IsStuckError tasks domains (errors.Fault f) = IsStuckAt (IsTold tasks) tasks domains f.line × (f.kind ≡ Stuck)
+IsStuckError tasks domains (errors.Policy e) = ⊥
 
 -- What contents that were read for `run` mean: their script, if each domain comes to the end of its
 -- list, and else a fault at the line where the first one that does not waits for ever.

@@ -11,6 +11,8 @@ use Rattle.gt_script.specs.Blocks.{opening, closing, Means, IsFaultyBlock}
 use Rattle.gt_script.specs.Types.{with_type_name}
 use Rattle.gt_script.specs.Contents.{Contents, empty, with_policy}
 use Rattle.gt_script.specs.declared.actions.ScriptAction.TheVariants as actions
+use Rattle.gt_script.specs.declared.faults.AddError.{AddError}
+use Rattle.gt_script.specs.declared.faults.AddError.TheVariants as adds
 use Rattle.gt_script_lines.specs.declared.body.BodyLine.TheVariants as bodies
 use Rattle.gt_script.specs.declared.tasks.RunActionBy.TheVariants as runs
 use Rattle.gt_script_lines.specs.declared.lines.ScriptLine.TheVariants as line
@@ -69,10 +71,13 @@ abbrev pub with_type_names : Contents → List (List ℕ) × TypeId → Contents
 with_type_names c named = (record c { types = named.0 }, named.1)
 
 -- A name has this number as a domain's type, and is added to the names of the
--- script if it is new; none if it is not a type.
-abbrev pub GivesTypeNumber : Contents → Contents → List ℕ → Option TypeId → Type 0
-GivesTypeNumber old new name number =
-    option_map (λ id. (new, id)) number ≡ option_map (with_type_names old) (type_named_in old.policy old.types name)
+-- script if it is new; `config` if it is not a type.
+abbrev pub GivesTypeNumber : Contents → Contents → List ℕ → Result TypeId AddError → Type 0
+GivesTypeNumber old new name (Ok id) =
+    option_map (with_type_names old) (type_named_in old.policy old.types name) ≡ Some (new, id)
+GivesTypeNumber old new name (Err adds.Memory) = Unit {0}
+GivesTypeNumber old new name (Err (adds.Fault kind)) =
+    (type_named_in old.policy old.types name ≡ None) × (kind ≡ Config)
 
 -- the script with one more domain, which has no fault after those before it
 unfoldable pub with_domain : Contents → DomainLine → Result Contents ScriptFaultKind

@@ -19,6 +19,10 @@ task_of flags o = record { line = o.line; dom = o.dom; deed = deed_of flags o.de
 abbrev pub tasks_for : List (List ℕ) → List NamedRunTask → List RunTask
 tasks_for flags orders = map (task_of flags) orders
 
+-- the same, with flags numbered as they first appear in these lines
+abbrev pub tasks_numbered : List NamedRunTask → List RunTask
+tasks_numbered orders = tasks_for (flag_names_of orders) orders
+
 -- the tasks of a script
 abbrev pub tasks_of : Contents → List RunTask
-tasks_of c = tasks_for (flag_names_of c.orders) c.orders
+tasks_of c = tasks_numbered c.orders

@@ -1,6 +1,6 @@
 //! The faults of a script.
 use gt_policy::PolicyFault;
-use std::alloc::AllocError;
+use std::alloc::{AllocError, AllocFailed};
 use std::error::Error;
 use std::fmt;
 
@@ -62,6 +62,50 @@ impl ScriptError {
         match kind {
             gt_policy::PolicyFaultKind::Memory => ScriptError::Memory,
             kind => ScriptError::Policy(BlockFault { line, kind }),
+        }
+    }
+}
+
+/// Why a line was not added.
+#[derive(Clone, Copy)]
+pub enum AddError {
+    Memory,
+    Fault(ScriptFaultKind),
+}
+
+impl From<AllocError> for AddError {
+    ghost use Rattle.std.specs.Prelude.{◌≡◌};
+    ghost use Rattle.gt_script.specs.declared.faults.AddError.TheVariants.{Memory};
+
+    ghost from_gives = { λ _ e. e ≡ Memory };
+
+    fn from(_e: AllocError) -> AddError {
+        AddError::Memory
+    }
+}
+
+impl<T: Drop> From<AllocFailed<T>> for AddError {
+    ghost use Rattle.std.specs.Prelude.{◌≡◌};
+    ghost use Rattle.gt_script.specs.declared.faults.AddError.TheVariants.{Memory};
+
+    ghost from_gives = { λ _ e. e ≡ Memory };
+
+    fn from(_e: AllocFailed<T>) -> AddError {
+        AddError::Memory
+    }
+}
+
+impl AddError {
+    ghost use Rattle.std.specs.Prelude.{◌≡◌};
+    ghost use Rattle.gt_script.specs.Outcomes.{on_line};
+
+    /// Returns the error of a parse: the fault with its line.
+    pub fn on_line(self, line: usize) -> ScriptError
+        ensures { result ≡ on_line line self }
+    {
+        match self {
+            AddError::Memory => ScriptError::Memory,
+            AddError::Fault(kind) => ScriptError::Fault(ScriptFault { line, kind }),
         }
     }
 }

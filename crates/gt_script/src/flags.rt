@@ -1,10 +1,6 @@
 //! The flags of a script for `run`, numbered as they first appear.
-ghost use Rattle.std.specs.Prelude.{◌≡◌, length, IfOk};
-ghost use Rattle.std.specs.Option.{option_map};
-ghost use Rattle.gt_script.specs.Flags.{flag_in as flag_in_line, flag_names_of as flags_in, flag_number};
+ghost use Rattle.std.specs.Prelude.{◌≡◌, length};
 
-use crate::tasks::{NamedRunTask, RunActionBy};
-use gt_script_lines::Text;
 use indexmap::IndexSet;
 use std::alloc::{AllocError, Global};
 use std::marker::Model;
@@ -26,9 +22,10 @@ impl<'a> Model for FlagNames<'a> {
 
 impl<'a> FlagNames<'a> {
     ghost use Rattle.std.specs.Prelude.{[], OnOk, IfOk};
-    ghost use Rattle.gt_script.specs.Flags.{with_flag};
+    ghost use Rattle.gt_script.specs.Flags.{with_flag, flag_number};
 
-    fn new(alloc: Global) -> FlagNames<'a>
+    /// Makes an empty list of names.
+    pub fn new(alloc: Global) -> FlagNames<'a>
         ensures { result ≡ [] }
     {
         FlagNames {
@@ -43,41 +40,12 @@ impl<'a> FlagNames<'a> {
         self.names.len()
     }
 
-    // Adds a flag with the next number, if it is new.
-    #[tactic(auto, unfolding(crate::specs::Flags::with_flag))]
-    fn add(&mut self, name: &'a [u8]) -> Result<(), AllocError>
-        ensures { OnOk result (self.new ≡ with_flag self.old name.entry.now) }
+    /// Returns the number of a flag. A new flag gets the next number.
+    pub fn number(&mut self, name: &'a [u8]) -> Result<usize, AllocError>
+        ensures names { OnOk result (self.new ≡ with_flag self.old name.entry.now) }
+        ensures number { IfOk result (λ n. n ≡ flag_number self.old name.entry.now) }
     {
-        self.names.insert(name)?;
-        Ok(())
+        let (number, _) = self.names.insert_full(name)?;
+        Ok(number)
     }
-
-    /// Returns the number of a flag. A flag that is not among these gets the next number.
-    pub fn number(&self, name: &'a [u8]) -> usize
-        ensures { result ≡ flag_number self.now name.entry.now }
-    {
-        self.names.get_index_of(name).unwrap_or(self.names.len())
-    }
-}
-
-fn flag_in<'a>(deed: &RunActionBy<'a, Text<'a>>) -> Option<&'a [u8]>
-    ensures { option_map (λ name. name.now) result ≡ flag_in_line deed.now }
-{
-    match deed {
-        RunActionBy::Do(_) => None,
-        RunActionBy::Tell(flag) | RunActionBy::Await(flag) => Some(flag.as_bytes()),
-    }
-}
-
-/// Collects the flags of the lines.
-pub fn flags_of<'a>(alloc: Global, orders: &[NamedRunTask<'a>]) -> Result<FlagNames<'a>, AllocError>
-    ensures { IfOk result (λ flags. flags ≡ flags_in orders.now) }
-{
-    let mut flags = FlagNames::new(alloc);
-    'orders: for order in orders {
-        if let Some(name) = flag_in(&order.deed) {
-            flags.add(name)?;
-        }
-    }
-    Ok(flags)
 }

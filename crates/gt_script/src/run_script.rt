@@ -1,19 +1,21 @@
 //! A script for `run`: its head, and the tasks of its domains.
-ghost use Rattle.std.specs.Prelude.{◌≡◌, ◌+◌, ℕ, List, All, IsTrue, take, map, filter, IfOk};
+ghost use Rattle.std.specs.Prelude.{◌≡◌, ◌+◌, ℕ, List, All, IsTrue, take, map, filter, length, IfOk, IfErr};
 ghost use Rattle.gt_types.specs.Config.{is_taken};
 ghost use Rattle.gt_types.specs.declared.limits.TheConstants.{LONGEST_TEXT};
 ghost use Rattle.gt_script.specs.Contents.{contents_told};
 ghost use Rattle.gt_script.specs.RunScripts.{CanConfigure, RunSays, RunTells, RunAnswers, list_of as list_in};
+ghost use Rattle.gt_script.specs.RunScripts.{ComeToEnd, IsStuckError};
+ghost use Rattle.gt_script.specs.Flags.{flag_names_of};
+ghost use Rattle.gt_script.specs.Tasks.{tasks_numbered};
 ghost use Rattle.gt_script.specs.Stuck.{AreNumbered};
 
 use crate::command::ScriptCommand;
 use crate::faults::{ScriptError, ScriptFault, ScriptFaultKind};
-use crate::flags::flags_of;
 use crate::parsing::parse_for;
 use crate::script::Script;
 use crate::stuck::stuck_line;
-use crate::tasks::{RunTask, tasks_for};
-use gt_types::DomId;
+use crate::tasks::{NamedRunTask, RunTask, tasks_for};
+use gt_types::{DomId, DomainConfig};
 use std::alloc::{AllocError, Global};
 use std::marker::Model;
 
@@ -73,25 +75,42 @@ impl<'a> RunScript<'a> {
     }
 }
 
+// Numbers the flags of tasks, and checks that each domain comes to the end of its list.
+fn tasks_to_end<'a>(
+    alloc: Global,
+    orders: Vec<NamedRunTask<'a>>,
+    domains: &[DomainConfig],
+) -> Result<(Vec<RunTask<'a>>, usize), ScriptError>
+    requires { All (λ o. IsTrue (is_taken domains.now o.dom)) orders.items }
+    ensures tasks { IfOk result (λ made. made.0.items ≡ tasks_numbered orders.entry.items) }
+    ensures flags { IfOk result (λ made. made.1 ≡ length (flag_names_of orders.entry.items)) }
+    ensures end { IfOk result (λ _. ComeToEnd (tasks_numbered orders.entry.items) domains.now) }
+    ensures stuck { IfErr result (λ e. IsStuckError (tasks_numbered orders.entry.items) domains.now e) }
+{
+    let (tasks, flags) = tasks_for(alloc, orders)?;
+    match stuck_line(alloc, tasks.as_slice(), domains, flags)? {
+        None => Ok((tasks, flags)),
+        Some(line) => Err(ScriptError::Fault(ScriptFault {
+            line,
+            kind: ScriptFaultKind::Stuck,
+        })),
+    }
+}
+
 // Makes the script for `run` of a script that was parsed for `run`.
-fn of_script<'a>(alloc: Global, script: Script<'a>) -> Result<RunScript<'a>, ScriptError>
+fn of_script<'a>(alloc: Global, mut script: Script<'a>) -> Result<RunScript<'a>, ScriptError>
     requires { All (λ o. IsTrue (is_taken (contents_told script).domains o.dom)) (contents_told script).orders }
     ensures { RunAnswers result (RunSays (contents_told script.entry)) }
 {
-    let (head, orders) = script.into_parts(alloc);
-    let flags = flags_of(alloc, orders.as_slice())?;
-    let count = flags.len();
-    let tasks = tasks_for(alloc, &flags, orders)?;
-    let stuck = stuck_line(alloc, tasks.as_slice(), head.domains(), count)?;
-    if let Some(line) = stuck {
-        let kind = ScriptFaultKind::Stuck;
-        return Err(ScriptError::Fault(ScriptFault { line, kind }));
+    let orders = script.take_orders(alloc);
+    match tasks_to_end(alloc, orders, script.domains()) {
+        Ok((tasks, flags)) => Ok(RunScript {
+            head: script,
+            tasks,
+            flags,
+        }),
+        Err(error) => Err(error),
     }
-    Ok(RunScript {
-        head,
-        tasks,
-        flags: count,
-    })
 }
 
 /// Parses a script for `run`, or returns the first fault. The faults are those of `parse`, but here a line that is only

@@ -6,7 +6,7 @@ ghost use Rattle.gt_script.specs.Contents.{contents_told};
 
 use crate::actions::{ScriptAction, play_action_in, run_action_in};
 use crate::command::ScriptCommand;
-use crate::faults::{ScriptError, ScriptFault, ScriptFaultKind};
+use crate::faults::{AddError, ScriptError, ScriptFault, ScriptFaultKind};
 use crate::tasks::NamedRunTask;
 use crate::types::TypeNames;
 use gt_policy::Policy;
@@ -19,7 +19,7 @@ use std::marker::Model;
 use std::mem;
 
 /// A line of the body for `play`, with its number and its domain.
-#[derive(Debug, Drop)]
+#[derive(Drop)]
 pub struct ScriptStep<'a> {
     pub line: usize,
     pub dom: DomId,
@@ -54,38 +54,6 @@ impl<'a> Model for Script<'a> {
       steps = s.steps.items;
       orders = s.orders.items;
     } };
-}
-
-/// Why a line was not added.
-#[derive(Clone, Copy, Debug, PartialEq, Eq)]
-enum AddError {
-    Memory,
-    Fault(ScriptFaultKind),
-}
-
-impl From<AllocError> for AddError {
-    ghost use Rattle.std.specs.Prelude.{◌≡◌};
-    ghost use Rattle.gt_script.specs.declared.script.AddError.TheVariants.{Memory};
-
-    ghost from_gives = { λ _ e. e ≡ Memory };
-
-    fn from(_e: AllocError) -> AddError {
-        AddError::Memory
-    }
-}
-
-impl AddError {
-    ghost use Rattle.std.specs.Prelude.{◌≡◌};
-    ghost use Rattle.gt_script.specs.Outcomes.{on_line};
-
-    fn on_line(self, line: usize) -> ScriptError
-        ensures { result ≡ on_line line self }
-    {
-        match self {
-            AddError::Memory => ScriptError::Memory,
-            AddError::Fault(kind) => ScriptError::Fault(ScriptFault { line, kind }),
-        }
-    }
 }
 
 fn is_domain(domains: &[DomainConfig], id: DomId) -> bool
@@ -153,10 +121,10 @@ impl<'a> Script<'a> {
     ghost use Rattle.gt_script.specs.Contents.{contents_told, empty, with_policy, without_orders, type_names};
     ghost use Rattle.gt_script.specs.Contents.{first_gen};
     ghost use Rattle.gt_script.specs.Script.{with_triple, GivesTypeNumber, with_domain, with_domain_line, with_order};
-    ghost use Rattle.gt_script.specs.Script.{with_body_line, with_script_line, with_words, with_lines};
+    ghost use Rattle.gt_script.specs.Script.{with_body_line, with_script_line, with_words};
     ghost use Rattle.gt_script.specs.Script.{completed, whole};
     ghost use Rattle.gt_script.specs.Script.{has_no_rights, has_body, is_misplaced};
-    ghost use Rattle.gt_script.specs.Outcomes.{AddsLine, SaysScript};
+    ghost use Rattle.gt_script.specs.Outcomes.{AddsLine, AddsLines, SaysScript};
 
     pub(crate) fn new(alloc: Global, command: ScriptCommand) -> Script<'a>
         ensures { contents_told result ≡ empty command }
@@ -222,12 +190,11 @@ impl<'a> Script<'a> {
     }
 
     // Takes the lines of the body for `run` out of the script.
-    pub(crate) fn into_parts(mut self, alloc: Global) -> (Script<'a>, Vec<NamedRunTask<'a>>)
-        ensures head { contents_told result.0 ≡ without_orders (contents_told self.entry) }
-        ensures orders { result.1.items ≡ (contents_told self.entry).orders }
+    pub(crate) fn take_orders(&mut self, alloc: Global) -> Vec<NamedRunTask<'a>>
+        ensures head { contents_told self.new ≡ without_orders (contents_told self.old) }
+        ensures orders { result.items ≡ (contents_told self.old).orders }
     {
-        let orders = mem::replace(&mut self.orders, Vec::new(alloc));
-        (self, orders)
+        mem::replace(&mut self.orders, Vec::new(alloc))
     }
 
     /// Returns the steps of the body, in order.
@@ -238,99 +205,82 @@ impl<'a> Script<'a> {
     }
 
     #[tactic(auto, unfolding(crate::specs::Script::with_triple))]
-    fn with_triple(mut self, triple: TripleLine<'a>) -> Result<Script<'a>, AddError>
-        ensures { AddsLine result (with_triple (contents_told self.entry) triple.entry) }
+    fn add_triple(&mut self, triple: &TripleLine<'a>) -> Result<(), AddError>
+        ensures { AddsLine result (contents_told self.new) (with_triple (contents_told self.old) triple.now) }
     {
-        let Some(source) = self.types.number(triple.source.as_bytes())? else {
-            return Err(AddError::Fault(ScriptFaultKind::Config));
-        };
-        let Some(target) = self.types.number(triple.target.as_bytes())? else {
-            return Err(AddError::Fault(ScriptFaultKind::Config));
-        };
+        let source = self.types.number(triple.source.as_bytes())?;
+        let target = self.types.number(triple.target.as_bytes())?;
         let perm = triple.perm;
-        self.triples
-            .push(Triple {
-                source,
-                target,
-                perm,
-            })
-            .map_err(AllocError::from)?;
-        Ok(self)
+        self.triples.push(Triple {
+            source,
+            target,
+            perm,
+        })?;
+        Ok(())
     }
 
     // Returns the number of a domain's type, which a policy has to declare. Without a policy any name is a type.
-    fn type_number(&mut self, name: &'a [u8]) -> Result<Option<TypeId>, AllocError>
-        ensures { IfOk result (GivesTypeNumber (contents_told self.old) (contents_told self.new) name.entry.now) }
+    fn type_number(&mut self, name: &'a [u8]) -> Result<TypeId, AddError>
+        ensures { GivesTypeNumber (contents_told self.old) (contents_told self.new) name.entry.now result }
     {
         match &self.policy {
-            Some(policy) => Ok(policy.type_spelled(name)),
+            Some(policy) => policy
+                .type_spelled(name)
+                .ok_or(AddError::Fault(ScriptFaultKind::Config)),
             None => self.types.number(name),
         }
     }
 
     #[tactic(auto, unfolding(crate::specs::Script::with_domain))]
-    fn with_domain(mut self, line: DomainLine<'a>) -> Result<Script<'a>, AddError>
-        ensures { AddsLine result (with_domain (contents_told self.entry) line.entry) }
+    fn add_domain(&mut self, line: &DomainLine<'a>) -> Result<(), AddError>
+        ensures { AddsLine result (contents_told self.new) (with_domain (contents_told self.old) line.now) }
     {
-        let Some(label) = self.type_number(line.type_name.as_bytes())? else {
-            return Err(AddError::Fault(ScriptFaultKind::Config));
-        };
-        let Some(domain) = domain_written(&line, label) else {
+        let label = self.type_number(line.type_name.as_bytes())?;
+        let Some(domain) = domain_written(line, label) else {
             return Err(AddError::Fault(ScriptFaultKind::Config));
         };
         if domain.fault(&self.domains).is_some() {
             return Err(AddError::Fault(ScriptFaultKind::Config));
         }
-        self.domains.push(domain).map_err(AllocError::from)?;
-        Ok(self)
+        self.domains.push(domain)?;
+        Ok(())
     }
 
     #[tactic(auto, unfolding(crate::specs::Script::with_domain_line))]
-    fn with_step(
-        mut self,
-        line: usize,
-        dom: DomId,
-        asks: BodyLine<'a>,
-    ) -> Result<Script<'a>, AddError>
-        ensures { AddsLine result (with_domain_line (contents_told self.entry) line dom asks.entry) }
+    fn add_step(&mut self, line: usize, dom: DomId, asks: BodyLine<'a>) -> Result<(), AddError>
+        ensures { AddsLine result (contents_told self.new)
+            (with_domain_line (contents_told self.old) line dom asks.entry) }
     {
         let Some(action) = play_action_in(asks) else {
             return Err(AddError::Fault(ScriptFaultKind::Mode));
         };
-        self.steps
-            .push(ScriptStep { line, dom, action })
-            .map_err(AllocError::from)?;
-        Ok(self)
+        self.steps.push(ScriptStep { line, dom, action })?;
+        Ok(())
     }
 
     #[tactic(auto, unfolding(crate::specs::Script::with_order))]
-    fn with_order(
-        mut self,
-        line: usize,
-        dom: DomId,
-        asks: BodyLine<'a>,
-    ) -> Result<Script<'a>, AddError>
-        ensures { AddsLine result (with_order (contents_told self.entry) line dom asks.entry) }
+    fn add_order(&mut self, line: usize, dom: DomId, asks: BodyLine<'a>) -> Result<(), AddError>
+        ensures { AddsLine result (contents_told self.new)
+            (with_order (contents_told self.old) line dom asks.entry) }
     {
         let Some(deed) = run_action_in(asks) else {
             return Err(AddError::Fault(ScriptFaultKind::Mode));
         };
-        self.orders
-            .push(NamedRunTask { line, dom, deed })
-            .map_err(AllocError::from)?;
-        Ok(self)
+        self.orders.push(NamedRunTask { line, dom, deed })?;
+        Ok(())
     }
 
     #[tactic(auto, unfolding(crate::specs::Script::with_body_line))]
-    fn with_body(self, line: usize, id: Number, asks: BodyLine<'a>) -> Result<Script<'a>, AddError>
-        ensures { AddsLine result (with_body_line (contents_told self.entry) line id asks.entry) }
+    fn add_body(&mut self, line: usize, id: Number, asks: BodyLine<'a>) -> Result<(), AddError>
+        ensures { AddsLine result (contents_told self.new)
+            (with_body_line (contents_told self.old) line id asks.entry) }
     {
         let Some(dom) = configured(&self.domains, id) else {
             return Err(AddError::Fault(ScriptFaultKind::Config));
         };
         match self.command {
-            ScriptCommand::Play => self.with_step(line, dom, asks),
-            ScriptCommand::Run => self.with_order(line, dom, asks),
+            ScriptCommand::Play => self.add_step(line, dom, asks),
+            ScriptCommand::Run => self.add_order(line, dom, asks),
         }
     }
 
@@ -365,90 +315,86 @@ impl<'a> Script<'a> {
     }
 
     #[tactic(auto, unfolding(crate::specs::Script::with_script_line))]
-    fn with_line(mut self, number: usize, line: ScriptLine<'a>) -> Result<Script<'a>, AddError>
-        ensures { AddsLine result (with_script_line (contents_told self.entry) number line.entry) }
+    fn add_line(&mut self, number: usize, line: ScriptLine<'a>) -> Result<(), AddError>
+        ensures { AddsLine result (contents_told self.new)
+            (with_script_line (contents_told self.old) number line.entry) }
     {
         if self.is_misplaced(&line) {
             return Err(AddError::Fault(ScriptFaultKind::Syntax));
         }
         match line {
-            ScriptLine::Triple(triple) => self.with_triple(triple),
+            ScriptLine::Triple(triple) => self.add_triple(&triple),
             ScriptLine::Wear(first) => {
                 self.wear = Some(first);
-                Ok(self)
+                Ok(())
             }
-            ScriptLine::Domain(domain) => self.with_domain(domain),
-            ScriptLine::Body { id, asks } => self.with_body(number, id, asks),
+            ScriptLine::Domain(domain) => self.add_domain(&domain),
+            ScriptLine::Body { id, asks } => self.add_body(number, id, asks),
         }
     }
 
     #[tactic(auto, unfolding(crate::specs::Script::with_words))]
-    fn with_words(self, number: usize, words: &[&'a [u8]]) -> Result<Script<'a>, AddError>
-        ensures { AddsLine result (with_words (contents_told self.entry) number (map (λ w. w.now) words.now)) }
+    fn add_words(&mut self, number: usize, words: &[&'a [u8]]) -> Result<(), AddError>
+        ensures { AddsLine result (contents_told self.new)
+            (with_words (contents_told self.old) number (map (λ w. w.now) words.now)) }
     {
         if words.is_empty() {
-            return Ok(self);
+            return Ok(());
         }
         match read_line(words) {
-            Some(line) => self.with_line(number, line),
+            Some(line) => self.add_line(number, line),
             None => Err(AddError::Fault(ScriptFaultKind::Syntax)),
         }
     }
 
-    fn with_text_line(
-        self,
-        alloc: Global,
-        number: usize,
-        line: &'a str,
-    ) -> Result<Script<'a>, AddError>
-        ensures { AddsLine result (with_words (contents_told self.entry) number (words_in line.entry.now)) }
+    fn add_text_line(&mut self, alloc: Global, number: usize, line: &'a str) -> Result<(), AddError>
+        ensures { AddsLine result (contents_told self.new)
+            (with_words (contents_told self.old) number (words_in line.entry.now)) }
     {
         let words = line_words(alloc, line)?;
-        self.with_words(number, words.as_slice())
-    }
-
-    // Adds lines, which follow this number of lines.
-    pub(crate) fn with_lines(
-        self,
-        alloc: Global,
-        before: usize,
-        lines: &[&'a str],
-    ) -> Result<Script<'a>, ScriptError>
-        requires { before + length lines.now < 2 ^ 64 - 1 }
-        ensures { SaysScript result (with_lines (contents_told self.entry) (before + 1)
-            (map (λ line. line.now) lines.now)) }
-    {
-        let mut script = self;
-        for (i, line) in lines.iter().enumerate() {
-            let number = before + i + 1;
-            match script.with_text_line(alloc, number, line) {
-                Ok(more) => script = more,
-                Err(e) => return Err(e.on_line(number)),
-            }
-        }
-        Ok(script)
+        self.add_words(number, words.as_slice())
     }
 
     // Checks at the end of the script that there is a policy or a triple, and then that there is a domain.
     #[tactic(auto, unfolding(crate::specs::Script::completed))]
-    pub(crate) fn completed(self, count: usize) -> Result<Script<'a>, ScriptError>
+    fn check_complete(&self, count: usize) -> Result<(), ScriptError>
         requires { count < 2 ^ 64 - 1 }
-        ensures { SaysScript result (completed count (contents_told self.entry)) }
+        ensures { AddsLines result (contents_told self.now) (completed count (contents_told self.now)) }
     {
         let kind = if self.has_no_rights() {
             ScriptFaultKind::Syntax
         } else if self.domains.is_empty() {
             ScriptFaultKind::Config
         } else {
-            return Ok(self);
+            return Ok(());
         };
         let line = count + 1;
         Err(ScriptError::Fault(ScriptFault { line, kind }))
     }
 
+    fn add_rest(
+        &mut self,
+        alloc: Global,
+        before: usize,
+        count: usize,
+        lines: &[&'a str],
+    ) -> Result<(), ScriptError>
+        requires { (before + length lines.now ≤ count) × (count < 2 ^ 64 - 1) }
+        ensures { AddsLines result (contents_told self.new) (whole count (contents_told self.old) (before + 1)
+            (map (λ line. line.now) lines.now)) }
+    {
+        for (i, line) in lines.iter().enumerate() {
+            let number = before + i + 1;
+            if let Err(e) = self.add_text_line(alloc, number, line) {
+                return Err(e.on_line(number));
+            }
+        }
+        self.check_complete(count)
+    }
+
     // Adds the lines after `before` others, up to the end of a script of `count` lines.
     pub(crate) fn with_rest(
-        self,
+        mut self,
         alloc: Global,
         before: usize,
         count: usize,
@@ -458,6 +404,9 @@ impl<'a> Script<'a> {
         ensures { SaysScript result (whole count (contents_told self.entry) (before + 1)
             (map (λ line. line.now) lines.now)) }
     {
-        self.with_lines(alloc, before, lines)?.completed(count)
+        match self.add_rest(alloc, before, count, lines) {
+            Ok(()) => Ok(self),
+            Err(error) => Err(error),
+        }
     }
 }

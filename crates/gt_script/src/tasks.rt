@@ -1,6 +1,7 @@
 //! The tasks of the domains of a script for `run`.
-ghost use Rattle.std.specs.Prelude.{◌≡◌, IfOk, map};
-ghost use Rattle.gt_script.specs.Tasks.{deed_of, task_of, tasks_for};
+ghost use Rattle.std.specs.Prelude.{◌≡◌, [], ◌∷◌, ◌++◌, length, IfOk, OnOk};
+ghost use Rattle.gt_script.specs.Flags.{flag_names_of, with_flag_of};
+ghost use Rattle.gt_script.specs.Tasks.{deed_of, task_of, tasks_numbered};
 
 use crate::flags::FlagNames;
 use gt_script_lines::{ScriptCall, Text};
@@ -8,7 +9,7 @@ use gt_types::DomId;
 use std::alloc::{AllocError, Global};
 
 /// The action of a task; `F` names the flags.
-#[derive(Debug, Drop)]
+#[derive(Drop)]
 pub enum RunActionBy<'a, F> {
     /// `do ID CALL`: makes the call from its beginning to its answer.
     Do(ScriptCall<'a>),
@@ -19,7 +20,7 @@ pub enum RunActionBy<'a, F> {
 }
 
 /// A line of the body, with its number and its domain.
-#[derive(Debug, Drop)]
+#[derive(Drop)]
 pub struct RunTaskBy<'a, F> {
     pub line: usize,
     pub dom: DomId,
@@ -35,36 +36,50 @@ pub type RunAction<'a> = RunActionBy<'a, usize>;
 /// A task, its flag by number. The list of a domain is its tasks, in order.
 pub type RunTask<'a> = RunTaskBy<'a, usize>;
 
+// Replaces the name of a flag by its number.
 #[tactic(auto, unfolding(crate::specs::Tasks::deed_of))]
-fn deed_of<'a>(flags: &FlagNames<'a>, deed: RunActionBy<'a, Text<'a>>) -> RunAction<'a>
-    ensures { result ≡ deed_of flags.now deed.entry }
+fn deed_of<'a>(
+    flags: &mut FlagNames<'a>,
+    deed: RunActionBy<'a, Text<'a>>,
+) -> Result<RunAction<'a>, AllocError>
+    ensures flags { OnOk result (flags.new ≡ with_flag_of flags.old deed.entry) }
+    ensures deed { IfOk result (λ d. d ≡ deed_of flags.new deed.entry) }
 {
     match deed {
-        RunActionBy::Do(call) => RunAction::Do(call),
-        RunActionBy::Tell(flag) => RunAction::Tell(flags.number(flag.as_bytes())),
-        RunActionBy::Await(flag) => RunAction::Await(flags.number(flag.as_bytes())),
+        RunActionBy::Do(call) => Ok(RunAction::Do(call)),
+        RunActionBy::Tell(flag) => Ok(RunAction::Tell(flags.number(flag.as_bytes())?)),
+        RunActionBy::Await(flag) => Ok(RunAction::Await(flags.number(flag.as_bytes())?)),
     }
 }
 
-fn task_of<'a>(flags: &FlagNames<'a>, order: NamedRunTask<'a>) -> RunTask<'a>
-    ensures { result ≡ task_of flags.now order.entry }
+fn push_task<'a>(
+    tasks: &mut Vec<RunTask<'a>>,
+    flags: &mut FlagNames<'a>,
+    order: NamedRunTask<'a>,
+) -> Result<(), AllocError>
+    ensures flags { OnOk result (flags.new ≡ with_flag_of flags.old order.entry.deed) }
+    ensures tasks { OnOk result (tasks.new.items ≡ tasks.old.items ++ task_of flags.new order.entry ∷ []) }
 {
     let RunTaskBy { line, dom, deed } = order;
-    let deed = deed_of(flags, deed);
-    RunTask { line, dom, deed }
+    let deed = deed_of(flags, deed)?;
+    tasks
+        .push(RunTask { line, dom, deed })
+        .map_err(AllocError::from)
 }
 
-/// Replaces the names of flags by their numbers.
+/// Replaces the names of flags by their numbers, in the order in which they first appear. Returns the tasks, and the
+/// number of flags.
 pub fn tasks_for<'a>(
     alloc: Global,
-    flags: &FlagNames<'a>,
     orders: Vec<NamedRunTask<'a>>,
-) -> Result<Vec<RunTask<'a>>, AllocError>
-    ensures { IfOk result (λ tasks. tasks.items ≡ tasks_for flags.now orders.entry.items) }
+) -> Result<(Vec<RunTask<'a>>, usize), AllocError>
+    ensures tasks { IfOk result (λ made. made.0.items ≡ tasks_numbered orders.entry.items) }
+    ensures flags { IfOk result (λ made. made.1 ≡ length (flag_names_of orders.entry.items)) }
 {
+    let mut flags = FlagNames::new(alloc);
     let mut tasks = Vec::new(alloc);
     'orders: for order in orders {
-        tasks.push(task_of(flags, order)).map_err(AllocError::from)?;
+        push_task(&mut tasks, &mut flags, order)?;
     }
-    Ok(tasks)
+    Ok((tasks, flags.len()))
 }

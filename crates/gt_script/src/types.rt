@@ -2,9 +2,10 @@
 ghost use Rattle.std.specs.Prelude.{◌≡◌, position};
 ghost use Rattle.std.specs.Str.{bytes_eq};
 
+use crate::faults::{AddError, ScriptFaultKind};
 use gt_script_lines::Text;
 use gt_types::TypeId;
-use std::alloc::{AllocError, Global};
+use std::alloc::Global;
 use std::marker::Model;
 
 /// The maximum number of types of a run.
@@ -33,7 +34,7 @@ fn position_of(names: &[Text], name: &[u8]) -> Option<usize>
 }
 
 impl<'a> TypeNames<'a> {
-    ghost use Rattle.std.specs.Prelude.{[], IfOk};
+    ghost use Rattle.std.specs.Prelude.{[]};
     ghost use Rattle.gt_script.specs.Types.{GivesNumber};
 
     /// Makes an empty list of names.
@@ -52,19 +53,19 @@ impl<'a> TypeNames<'a> {
         self.names.as_slice()
     }
 
-    /// Returns the number of a type, which is added if it is new; None if it would be the 257th.
+    /// Returns the number of a type, which is added if it is new; the fault `config` if it would be the 257th.
     #[tactic(auto, unfolding(crate::specs::Types::with_type_name))]
-    pub fn number(&mut self, name: &'a [u8]) -> Result<Option<TypeId>, AllocError>
-        ensures { IfOk result (GivesNumber self.old self.new name.entry.now) }
+    pub fn number(&mut self, name: &'a [u8]) -> Result<TypeId, AddError>
+        ensures { GivesNumber self.old self.new name.entry.now result }
     {
         if let Some(at) = position_of(&self.names, name) {
-            return Ok(Some(TypeId(at as u16)));
+            return Ok(TypeId(at as u16));
         }
         let count = self.names.len();
         if count >= MOST_TYPES {
-            return Ok(None);
+            return Err(AddError::Fault(ScriptFaultKind::Config));
         }
         self.names.push(Text::new(name))?;
-        Ok(Some(TypeId(count as u16)))
+        Ok(TypeId(count as u16))
     }
 }

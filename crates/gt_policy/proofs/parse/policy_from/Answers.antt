@@ -2,6 +2,7 @@ use Rattle.std.proofs.Common.{◌∙◌, string_bytes}
 use Rattle.std.proofs.lemmas.Result.{err_from_is_err_and}
 use Rattle.gt_policy.proofs.WholeLemmas.{shows_unknown, shows_clean}
 use Rattle.gt_policy.proofs.BoundLemmas.{grants_within}
+use Rattle.gt_policy.specs.Lined.{statements_in}
 use Rattle.gt_policy.proofs.parse.policy_from.Goals as goal
 
 pub returns-in_err-draft : goal.returns-in_err-draft
@@ -11,7 +12,7 @@ returns-in_err-draft c =
 
 pub new-requires-clause-within : goal.new-requires-clause-within
 new-requires-clause-within c =
-    grants_within (λ s. string_bytes s) c.in_ok-names.field-0.items c.args.seen.now c.args.statements.now c.in_ok-draft.draft c.in_ok-rules.rules.items (c.in_ok-names.ensures ∙ c.types.ensures.value) c.in_ok-draft.ensures
+    grants_within (λ s. string_bytes s) c.in_ok-names.field-0.items c.args.seen.now (statements_in c.args.statements.now) c.in_ok-draft.draft c.in_ok-rules.rules.items (c.in_ok-names.ensures ∙ c.types.ensures.value) c.in_ok-draft.ensures
     c.in_ok-rules.ensures
 
 pub returns : goal.returns

@@ -3,8 +3,8 @@ use Rattle.std.specs.Prelude.{not}
 use Rattle.gt_policy.specs.Grammar.{classes_in_braces, after}
 use Rattle.gt_policy.proofs.statements.Parser.classes_in_braces.Given as goal
 
-abbrev pub invariant-loop-classes : goal.invariant-loop-classes
-invariant-loop-classes l = (after l.classes (classes_in_braces (not (length l.classes == 0)) l.self) ≡ classes_in_braces false l.initial.self) × (length l.self ≤ length l.fn.self)
+abbrev pub invariant-classes : goal.invariant-classes
+invariant-classes l = (after l.classes (classes_in_braces (not (length l.classes == 0)) l.self) ≡ classes_in_braces false l.initial.self) × (length l.self ≤ length l.fn.self)
 
-abbrev pub decreases-loop-classes : goal.decreases-loop-classes
-decreases-loop-classes l = length l.self
+abbrev pub decreases-classes : goal.decreases-classes
+decreases-classes l = length l.self
