@@ -10,7 +10,7 @@
 //! lead to.
 //!
 //! It uses `gt_explore_search` (the search), `gt_calls` (the steps of calls), `gt_explore_state` (words and bytes),
-//! `gt_host` (what lines ask and print), `gt_script` and `gt_explore_replay` (orders and turns).
+//! `gt_script_runs` (what lines ask and print), `gt_script` and `gt_explore_replay` (orders and turns).
 #![tactic(auto)]
 
 mod actor;

@@ -9,9 +9,9 @@
 //! error is the first fault of the script. After a failed write or allocation, a prefix of such a text has gone out.
 //! The audit, if it is on, appends the records of what the run did, and changes no other line.
 //!
-//! It uses `gt_script` and `gt_script_lines` (scripts), `gt_core` (calls), `gt_policy`, `gt_allow` and `gt_types` (what
-//! the policy or the triples allow), `gt_entry` (entries), `gt_audit` (records and their lines), `gt_text` (texts,
-//! reads and writes) and `hex`. Its definitions also name the requests of `gt_calls` and the handles of `gt_handles`.
+//! It uses `gt_script_runs` (what lines ask and print), `gt_script` and `gt_script_lines` (scripts), `gt_core` (calls),
+//! `gt_entry` (entries), `gt_audit` (records and their lines), `gt_text` (texts, reads and writes) and `hex`. Its
+//! definitions also name the requests of `gt_calls` and the handles of `gt_handles`.
 #![tactic(auto)]
 
 mod audit;

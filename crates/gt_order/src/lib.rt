@@ -11,8 +11,8 @@
 //! ([`every_run_is_printed`], [`every_run_is_explored`]), of each text without such lines ([`printed_texts_are_given`]),
 //! and of each text that `explore` lists ([`given_texts_are_printed`]).
 //!
-//! It uses `gt_run`, `gt_explore_replay`, `gt_host`, `gt_script`, `gt_script_lines`, `gt_live`, `gt_audit`, `gt_core`,
-//! `gt_words`, `gt_shared_table`, `gt_word_history`, `gt_calls`, `gt_frames`, `gt_handles`, `gt_entry`, `gt_text`,
+//! It uses `gt_run`, `gt_explore_replay`, `gt_script_runs`, `gt_script`, `gt_script_lines`, `gt_live`, `gt_audit`,
+//! `gt_core`, `gt_words`, `gt_shared_table`, `gt_word_history`, `gt_calls`, `gt_frames`, `gt_handles`, `gt_entry`, `gt_text`,
 //! `gt_types` and the kit's `atomic_table` and `hex`.
 #![tactic(auto)]
 

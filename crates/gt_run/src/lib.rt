@@ -5,8 +5,8 @@
 //! in its own order, those of the first domain first, and the audit lines after all of them.
 //!
 //! [`run`] promises that each line printed is the answer of its own call, whatever the schedule, and that none is lost,
-//! doubled or out of order. It depends on the promises of `gt_live` for the calls, of `gt_host` for what a line asks
-//! and prints, and of the standard library for threads. That a thread makes progress is not proved.
+//! doubled or out of order. It depends on the promises of `gt_live` for the calls, of `gt_script_runs` for what a
+//! line asks and prints, and of the standard library for threads. That a thread makes progress is not proved.
 #![tactic(auto)]
 
 mod fault;
