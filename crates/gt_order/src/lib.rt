@@ -12,8 +12,8 @@
 //! and of each text that `explore` lists ([`given_texts_are_printed`]).
 //!
 //! It uses `gt_run`, `gt_explore_replay`, `gt_script_runs`, `gt_script`, `gt_script_lines`, `gt_live`, `gt_audit`,
-//! `gt_core`, `gt_words`, `gt_shared_table`, `gt_word_history`, `gt_calls`, `gt_frames`, `gt_handles`, `gt_entry`, `gt_text`,
-//! `gt_types` and the kit's `atomic_table` and `hex`.
+//! `gt_core`, `gt_words`, `gt_shared_table`, `gt_word_history`, `gt_calls`, `gt_frames`, `gt_handles`, `gt_entry`,
+//! `gt_text`, `gt_types` and the kit's `atomic_table` and `hex`.
 #![tactic(auto)]
 
 mod laws;
