@@ -35,6 +35,13 @@ pub shows_all : (limit : ℕ) (Objects : Showing) (f : Found) (objects text : Li
     → ShowsObjects limit Objects f text w
 shows_all limit Objects f objects text v w shown same told = subst (λ (u : Verdict). ShowsObjects limit Objects f text u) (sym same) (record { objects = objects; shown = shown; ended = told })
 
+-- the same of an output that was made
+pub ended_so : (limit : ℕ) (Objects : Showing) (f : Found) (r : Result ExploreOutput TextsFault) (first objects text : List ℕ) (v : Verdict) → first ≡ [] → text ≡ first ++ objects → Objects f v objects
+    → IfOk r (λ made. (made.verdict ≡ v) × (made.text.items ≡ text ++ summary f limit v)) → IfOk r (λ made. ShowsObjects limit Objects f made.text.items made.verdict)
+ended_so limit Objects f (Err fault) first objects text v none told shown is = tt
+ended_so limit Objects f (Ok made) first objects text v none told shown is =
+    shows_all limit Objects f objects made.text.items v made.verdict shown is.0 (is.1 ∙ ap (λ (l : List ℕ). l ++ summary f limit v) (told ∙ ap (λ (l : List ℕ). l ++ objects) none))
+
 -- two texts one after the other
 pub two_joined : {E : Type 0} (r : Result (Unit {0}) E) (out a b first second : List ℕ) → first ≡ out ++ a → OnOk r (second ≡ first ++ b) → OnOk r (second ≡ out ++ (a ++ b))
 two_joined (Err fault) out a b first second f s = tt

@@ -16,7 +16,7 @@ abbrev pub found_told : FoundTexts → Found
 found_told f = record { texts = texts_of_orders f.texts.items; states = f.states; whole = f.whole; depth = f.depth }
 
 -- the number of a text, and how many there are
-abbrev pub heading : Bool → ℕ → ℕ → List ℕ
+unfoldable pub heading : Bool → ℕ → ℕ → List ℕ
 heading whole count number =
     codes "text " ++ decimal number ++ (if whole then codes " of " else codes " of at least ") ++ decimal count
 
@@ -32,7 +32,7 @@ texts_listed whole count before (text ∷ texts) (wants ∷ wanted) =
     text_shown wants whole count (before + 1) text ++ texts_listed whole count (before + 1) texts wanted
 
 -- the number of states, and that there may be more texts
-abbrev pub states_told : Found → List ℕ
+unfoldable pub states_told : Found → List ℕ
 states_told f =
     codes "states " ++ decimal f.states
     ++ (if f.whole then [] else codes ", depth " ++ decimal f.depth ++ codes ": not all texts; raise --states")
@@ -46,16 +46,16 @@ abbrev pub texts_told : Found → List Bool → List ℕ
 texts_told f wanted = texts_listed f.whole (length f.texts) 0 f.texts wanted ++ states_line f
 
 -- a byte of a comment, which goes on after the end of a line
-abbrev pub comment_byte : ℕ → List ℕ
+unfoldable pub comment_byte : ℕ → List ℕ
 comment_byte b = if b == 10 then codes "\n# " else b ∷ []
 
 -- a text without its last line end, as a comment of a script
-abbrev pub commented : List ℕ → List ℕ
+unfoldable pub commented : List ℕ → List ℕ
 commented text = codes "# " ++ flat_map comment_byte text ++ codes "\n"
 
 -- what the comment over a script says that shows that a claim does not hold: the text that it gives, and the number of
 -- states
-abbrev pub counterexample_lines : Found → ℕ → List ℕ → List ℕ
+unfoldable pub counterexample_lines : Found → ℕ → List ℕ → List ℕ
 counterexample_lines f number text =
     codes "does not hold: " ++ heading f.whole (length f.texts) number ++ codes "\n" ++ text ++ states_told f
 

@@ -16,7 +16,7 @@ ghost use Rattle.gt_explore_answers.specs.Exploring.{GivesWitness, GivesWitnesse
 ghost use Rattle.gt_explore_answers.specs.Exploring.{TellsBy, TellsClaimBy, TellsVerdict, TellsWitnesses};
 ghost use Rattle.gt_explore_answers.specs.Exploring.{verdict_of_all};
 ghost use Rattle.gt_explore_answers.specs.Telling.{found_told, texts_told};
-ghost use Rattle.gt_explore_answers.specs.Witness.{IsWitness, SaysUnplayable, ShowsAfter};
+ghost use Rattle.gt_explore_answers.specs.Witness.{SaysUnplayable, ShowsAfter};
 
 use crate::asking::ExploreRequest;
 use crate::checked::gives_answers;
@@ -27,7 +27,7 @@ use crate::telling::{
     push_counterexample, push_found_texts, push_place, push_unplayable, push_verdict,
     push_witness_comment,
 };
-use crate::tracing::{diagram_of, trace_of};
+use crate::tracing::{diagram_of, numbered, trace_of};
 use crate::witness::witness_of;
 use gt_explore_faults::TextsFault;
 use gt_explore_search::FoundText;
@@ -127,8 +127,7 @@ pub fn script_of(
     ensures { IfOk result (λ text.
         ShowsAfter (contents_told script.now.head) [] text.items order.now.text.items) }
 {
-    let comment = Vec::new(alloc);
-    script_after(alloc, source, script, order, comment.as_slice())
+    script_after(alloc, source, script, order, &[])
 }
 
 // Returns the order at this index.
@@ -238,8 +237,7 @@ fn claim_made(
 fn all_texts(alloc: Global, found: &FoundTexts) -> Result<ExploreOutput, TextsFault>
     ensures { IfOk result (λ made. GivesTexts (found_told found.now) made.text.items made.verdict) }
 {
-    let none: Vec<Condition> = Vec::new(alloc);
-    let met = satisfied(alloc, none.as_slice(), found.texts.as_slice())?;
+    let met = satisfied(alloc, &[], found.texts.as_slice())?;
     let text = texts_told(alloc, found, met.as_slice())?;
     let verdict = verdict_of_all(found.whole);
     Ok(ExploreOutput { text, verdict })
@@ -274,29 +272,7 @@ fn number_of(alloc: Global, found: &FoundTexts, given: &[u8]) -> Result<ExploreO
     Ok(ExploreOutput { text, verdict })
 }
 
-// Returns a script for `play` that gives the text of this number among those that were found, or the line in its
-// place.
-fn script_numbered(
-    alloc: Global,
-    source: &[u8],
-    script: &RunScript,
-    found: &FoundTexts,
-    number: usize,
-) -> Result<Vec<u8>, TextsFault>
-    requires { CanConfigure (contents_told script.now.head) }
-    ensures { IfOk result (λ text.
-        IsWitness (contents_told script.now.head) (texts_of_orders found.now.texts.items) number text.items) }
-{
-    let Some(at) = number.checked_sub(1) else {
-        return Err(TextsFault::Witness);
-    };
-    let Some(order) = found.texts.get(at) else {
-        return Err(TextsFault::Witness);
-    };
-    script_of(alloc, source, script, order)
-}
-
-// Returns a script for `play` that gives the text of this number.
+// Returns a script for `play` that gives the text of this number, or the line in its place.
 fn witness(
     alloc: Global,
     source: &[u8],
@@ -308,7 +284,8 @@ fn witness(
     ensures { IfOk result (λ made. GivesWitness (run_told script.now) number (found_told found.now) made.text.items
         made.verdict) }
 {
-    let text = script_numbered(alloc, source, script, found, number)?;
+    let order = numbered(found, number)?;
+    let text = script_of(alloc, source, script, order)?;
     let verdict = verdict_of_all(found.whole);
     Ok(ExploreOutput { text, verdict })
 }

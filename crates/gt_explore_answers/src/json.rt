@@ -13,7 +13,7 @@ use gt_explore_faults::TextsFault;
 use gt_explore_search::FoundText;
 use gt_explore_verdict::{Claim, Condition, Verdict, judge};
 use gt_script::RunScript;
-use std::alloc::{AllocError, Global};
+use std::alloc::Global;
 
 /// The texts that were found for a script, and what their objects need.
 #[derive(Drop)]
@@ -30,7 +30,7 @@ fn ended(
     found: &FoundTexts,
     limit: usize,
     verdict: Verdict,
-) -> Result<ExploreOutput, AllocError>
+) -> Result<ExploreOutput, TextsFault>
     ensures { IfOk result (λ made. (made.verdict ≡ verdict)
         × (made.text.items ≡ text.items ++ summary (found_told found.now) limit verdict)) }
 {
@@ -66,12 +66,10 @@ impl ObjectWriter<'_, '_> {
     {
         let text = order.text.as_slice();
         if !scripts {
-            push_text_object(self.alloc, out, self.found, number, text)?;
-            return Ok(());
+            return push_text_object(self.alloc, out, self.found, number, text);
         }
         let script = script_of(self.alloc, self.source, self.script, order)?;
-        push_witness_object(self.alloc, out, self.found, number, text, script.as_slice())?;
-        Ok(())
+        push_witness_object(self.alloc, out, self.found, number, text, script.as_slice())
     }
 
     // Appends the object of a text, if it is wanted.
@@ -168,11 +166,10 @@ impl ObjectWriter<'_, '_> {
         ensures { IfOk result (λ made. ShowsObjects limit (ShowsAll (run_told self.now.script.now) scripts)
             (found_told self.now.found.now) made.text.items made.verdict) }
     {
-        let none: Vec<Condition> = Vec::new(self.alloc);
-        let met = satisfied(self.alloc, none.as_slice(), self.found.texts.as_slice())?;
+        let met = satisfied(self.alloc, &[], self.found.texts.as_slice())?;
         let mut text = Vec::new(self.alloc);
         self.push_texts(&mut text, scripts, met.as_slice())?;
-        Ok(ended(text, self.found, limit, verdict_of_all(self.found.whole))?)
+        ended(text, self.found, limit, verdict_of_all(self.found.whole))
     }
 
     // Decides a claim on these conditions.
@@ -192,7 +189,7 @@ impl ObjectWriter<'_, '_> {
         let judgement = judge(claim, met.as_slice(), self.found.whole);
         let mut text = Vec::new(self.alloc);
         self.push_claimed(&mut text, claim, met.as_slice(), judgement.shown_by)?;
-        Ok(ended(text, self.found, limit, judgement.verdict)?)
+        ended(text, self.found, limit, judgement.verdict)
     }
 
     // Shows this text, if it was found.
@@ -205,7 +202,7 @@ impl ObjectWriter<'_, '_> {
         let place = place_of(self.found.texts.as_slice(), given);
         let mut text = Vec::new(self.alloc);
         self.push_text(&mut text, false, place)?;
-        Ok(ended(text, self.found, limit, verdict_on(place, self.found.whole))?)
+        ended(text, self.found, limit, verdict_on(place, self.found.whole))
     }
 
     // Shows the text of this number, with a script for `play`.
@@ -222,7 +219,7 @@ impl ObjectWriter<'_, '_> {
         }
         let mut text = Vec::new(self.alloc);
         self.push_text(&mut text, true, Some(at))?;
-        Ok(ended(text, self.found, limit, verdict_of_all(self.found.whole))?)
+        ended(text, self.found, limit, verdict_of_all(self.found.whole))
     }
 
     // Shows the text of this number, and the moves that lead to it.
@@ -232,7 +229,7 @@ impl ObjectWriter<'_, '_> {
             (found_told self.now.found.now) made.text.items made.verdict) }
     {
         let text = trace_objects(self.alloc, self.script, self.found, number)?;
-        Ok(ended(text, self.found, limit, verdict_of_all(self.found.whole))?)
+        ended(text, self.found, limit, verdict_of_all(self.found.whole))
     }
 
     /// Answers a request as JSON. A claim is one on these conditions. A sequence diagram is no JSON, and is returned as

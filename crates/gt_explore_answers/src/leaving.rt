@@ -13,14 +13,24 @@ use std::alloc::Global;
 fn is_forbidden(rights: &ScriptPolicy, domains: &[DomainConfig], source: TypeId) -> bool
     ensures { result ≡ is_forbidden (may_by rights.now) domains.now source }
 {
-    domains.iter().any(|domain| !rights.allows(source, domain.label, Perms::UNMAP))
+    'domains: for domain in domains {
+        if !rights.allows(source, domain.label, Perms::UNMAP) {
+            return true;
+        }
+    }
+    false
 }
 
 // Returns whether the policy does not let this domain unmap the entries of one of these.
 fn forbids(rights: &ScriptPolicy, domains: &[DomainConfig], dom: DomId) -> bool
     ensures { result ≡ may_not_unmap (may_by rights.now) domains.now dom }
 {
-    domains.iter().any(|domain| domain.id.0 == dom.0 && is_forbidden(rights, domains, domain.label))
+    'domains: for domain in domains {
+        if domain.id.0 == dom.0 && is_forbidden(rights, domains, domain.label) {
+            return true;
+        }
+    }
+    false
 }
 
 /// Returns whether the policy of a script does not let this domain unmap the entries of some domain.

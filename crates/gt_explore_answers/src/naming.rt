@@ -1,7 +1,7 @@
 //! The labels of a witness. They are those of its script, except where a domain still has the mapping that a label
 //! names when the label is given to another: the other is then named after its line too, so that each mapping can be
 //! unmapped at the end of a list.
-use gt_explore_replay::Walker;
+use gt_handles::Handle;
 use gt_script_lines::ScriptCall;
 use gt_text::{push_number, push_text};
 use std::alloc::{AllocError, Global};
@@ -16,29 +16,53 @@ struct MappingName {
 
 // The name that a label of a domain has in a witness, since a map with it was answered or begun.
 #[derive(Drop)]
-struct LabelName<'a> {
+struct LabelName {
     place: usize,
-    label: &'a [u8],
+    label: Vec<u8>,
     name: Vec<u8>,
 }
 
 /// The labels of a witness so far. A domain is known by its position in the script.
 #[derive(Drop)]
-pub struct WitnessNames<'a> {
+pub struct WitnessNames {
     alloc: Global,
     mappings: Vec<MappingName>,
-    labels: Vec<LabelName<'a>>,
-    begun: Vec<LabelName<'a>>,
+    labels: Vec<LabelName>,
+    begun: Vec<LabelName>,
 }
 
 // Returns the name of a label of this domain.
-fn name_among<'n>(names: &'n [LabelName<'_>], place: usize, label: &[u8]) -> Option<&'n [u8]> {
+fn name_among<'n>(names: &'n [LabelName], place: usize, label: &[u8]) -> Option<&'n [u8]> {
     for name in names.iter().rev() {
-        if name.place == place && name.label == label {
+        if name.place == place && name.label.as_slice() == label {
             return Some(name.name.as_slice());
         }
     }
     None
+}
+
+// Returns the label with which this domain began its last map.
+fn last_begun(begun: &[LabelName], place: usize) -> Option<&LabelName> {
+    for name in begun.iter().rev() {
+        if name.place == place {
+            return Some(name);
+        }
+    }
+    None
+}
+
+// Adds a label of this domain, with its name.
+fn push_label(
+    alloc: Global,
+    labels: &mut Vec<LabelName>,
+    place: usize,
+    label: &[u8],
+    name: &[u8],
+) -> Result<(), AllocError> {
+    let label = Vec::from_slice(alloc, label)?;
+    let name = Vec::from_slice(alloc, name)?;
+    labels.push(LabelName { place, label, name })?;
+    Ok(())
 }
 
 /// Returns the label of a call, if it has one.
@@ -52,9 +76,9 @@ pub fn label_of<'a>(call: &ScriptCall<'a>) -> Option<&'a [u8]> {
     }
 }
 
-impl<'a> WitnessNames<'a> {
+impl WitnessNames {
     /// Makes the labels of a witness that has no calls yet.
-    pub fn new(alloc: Global) -> WitnessNames<'a> {
+    pub fn new(alloc: Global) -> WitnessNames {
         WitnessNames {
             alloc,
             mappings: Vec::new(alloc),
@@ -63,10 +87,10 @@ impl<'a> WitnessNames<'a> {
         }
     }
 
-    // Returns whether the domain has a mapping of this name.
-    fn is_taken(&self, place: usize, walker: &Walker, name: &[u8]) -> bool {
-        for held in walker.held() {
-            if self.mapping(place, held.serial) == Some(name) {
+    // Returns whether the domain, which has these mappings, has one of this name.
+    fn is_taken(&self, place: usize, held: &[Handle], name: &[u8]) -> bool {
+        for handle in held {
+            if self.mapping(place, handle.serial) == Some(name) {
                 return true;
             }
         }
@@ -84,63 +108,85 @@ impl<'a> WitnessNames<'a> {
     }
 
     /// Returns the name of the mapping of a domain at this index of those that it has.
-    pub fn held(&self, place: usize, walker: &Walker, index: usize) -> Option<&[u8]> {
-        let handle = walker.held().get(index)?;
+    pub fn held(&self, place: usize, held: &[Handle], index: usize) -> Option<&[u8]> {
+        let handle = held.get(index)?;
         self.mapping(place, handle.serial)
     }
 
-    /// Returns the name of the label of a call that begins at this line.
+    // Makes a name for a mapping with this label: the label, and the line too if it is the name of another.
+    fn free_name(
+        &self,
+        place: usize,
+        held: &[Handle],
+        line: usize,
+        label: &[u8],
+    ) -> Result<Vec<u8>, AllocError> {
+        let mut name = Vec::from_slice(self.alloc, label)?;
+        if self.is_taken(place, held, label) {
+            push_text(&mut name, "_")?;
+            push_number(&mut name, line)?;
+        }
+        Ok(name)
+    }
+
+    // Returns the name of the label of a map that begins at this line.
+    fn begin_map(
+        &mut self,
+        place: usize,
+        held: &[Handle],
+        line: usize,
+        label: &[u8],
+    ) -> Result<Vec<u8>, AllocError> {
+        let name = self.free_name(place, held, line, label)?;
+        push_label(self.alloc, &mut self.begun, place, label, name.as_slice())?;
+        Ok(name)
+    }
+
+    // Returns the name of the label of another call.
+    fn name_of(&self, place: usize, label: &[u8]) -> Result<Vec<u8>, AllocError> {
+        let name = name_among(self.labels.as_slice(), place, label);
+        Vec::from_slice(self.alloc, name.unwrap_or(label))
+    }
+
+    /// Returns the name of the label of a call that begins at this line. The domain has these mappings.
     pub fn begin(
         &mut self,
         place: usize,
-        walker: &Walker,
+        held: &[Handle],
         line: usize,
-        call: &ScriptCall<'a>,
+        call: &ScriptCall<'_>,
     ) -> Result<Option<Vec<u8>>, AllocError> {
         let Some(label) = label_of(call) else {
             return Ok(None);
         };
-        let mut name = Vec::new(self.alloc);
-        if !matches!(call, ScriptCall::Map { .. }) {
-            name.extend_from_slice(name_among(self.labels.as_slice(), place, label).unwrap_or(
-                label,
-            ))?;
-            return Ok(Some(name));
-        }
-        name.extend_from_slice(label)?;
-        if self.is_taken(place, walker, label) {
-            push_text(&mut name, "_")?;
-            push_number(&mut name, line)?;
-        }
-        let begun = Vec::from_slice(self.alloc, name.as_slice())?;
-        self.begun.push(LabelName {
-            place,
-            label,
-            name: begun,
-        })?;
+        let name = if matches!(call, ScriptCall::Map { .. }) {
+            self.begin_map(place, held, line, label)?
+        } else {
+            self.name_of(place, label)?
+        };
         Ok(Some(name))
     }
 
     /// Names the mapping that a domain has got, if it has more than this number.
-    pub fn note(&mut self, place: usize, walker: &Walker, before: usize) -> Result<(), AllocError> {
-        let Some(handle) = walker.held().get(before) else {
+    pub fn note(&mut self, place: usize, held: &[Handle], before: usize) -> Result<(), AllocError> {
+        let Some(handle) = held.get(before) else {
             return Ok(());
         };
-        let serial = handle.serial;
-        for begun in self.begun.as_slice().iter().rev() {
-            if begun.place == place {
-                let name = Vec::from_slice(self.alloc, begun.name.as_slice())?;
-                self.mappings.push(MappingName {
-                    place,
-                    serial,
-                    name,
-                })?;
-                let name = Vec::from_slice(self.alloc, begun.name.as_slice())?;
-                let label = begun.label;
-                self.labels.push(LabelName { place, label, name })?;
-                return Ok(());
-            }
-        }
-        Ok(())
+        let Some(begun) = last_begun(self.begun.as_slice(), place) else {
+            return Ok(());
+        };
+        let name = Vec::from_slice(self.alloc, begun.name.as_slice())?;
+        self.mappings.push(MappingName {
+            place,
+            serial: handle.serial,
+            name,
+        })?;
+        push_label(
+            self.alloc,
+            &mut self.labels,
+            place,
+            begun.label.as_slice(),
+            begun.name.as_slice(),
+        )
     }
 }

@@ -7,6 +7,7 @@ ghost use Rattle.gt_explore_answers.specs.Telling.{found_told};
 ghost use Rattle.gt_json.specs.Strings.{quoted};
 
 use crate::found::FoundTexts;
+use gt_explore_faults::TextsFault;
 use gt_explore_verdict::Verdict;
 use gt_json::push_quoted;
 use gt_text::{push_number, push_text};
@@ -99,11 +100,12 @@ pub fn push_text_object(
     found: &FoundTexts,
     number: usize,
     text: &[u8],
-) -> Result<(), AllocError>
+) -> Result<(), TextsFault>
     ensures { OnOk result (out.new.items ≡ out.old.items ++ text_object (found_told found.now) number text.now) }
 {
     push_object_start(alloc, out, found, number, text)?;
-    push_text(out, "}\n")
+    push_text(out, "}\n")?;
+    Ok(())
 }
 
 /// Appends the object of a text, with a script for `play`.
@@ -114,13 +116,14 @@ pub fn push_witness_object(
     number: usize,
     text: &[u8],
     script: &[u8],
-) -> Result<(), AllocError>
+) -> Result<(), TextsFault>
     ensures { OnOk result (out.new.items
         ≡ out.old.items ++ witness_object (found_told found.now) number text.now script.now) }
 {
     push_object_start(alloc, out, found, number, text)?;
     push_witness_member(out, script)?;
-    push_text(out, "}\n")
+    push_text(out, "}\n")?;
+    Ok(())
 }
 
 fn verdict_name(verdict: Verdict) -> &'static str

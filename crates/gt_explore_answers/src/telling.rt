@@ -23,6 +23,7 @@ fn of_count(whole: bool) -> &'static str
 }
 
 /// Appends the number of a text, and how many there are.
+#[tactic(auto, unfolding(crate::specs::Telling::heading))]
 pub fn push_heading(
     out: &mut Vec<u8>,
     whole: bool,
@@ -97,6 +98,7 @@ fn push_limit(out: &mut Vec<u8>, found: &FoundTexts) -> Result<(), AllocError>
 }
 
 // Appends the number of states, and that there may be more texts.
+#[tactic(auto, unfolding(crate::specs::Telling::states_told))]
 fn push_states(out: &mut Vec<u8>, found: &FoundTexts) -> Result<(), AllocError>
     ensures { OnOk result (out.new.items ≡ out.old.items ++ states_told (found_told found.now)) }
 {
@@ -168,6 +170,7 @@ pub fn push_place(
 }
 
 // Appends a byte of a comment.
+#[tactic(auto, unfolding(crate::specs::Telling::comment_byte))]
 fn push_comment_byte(out: &mut Vec<u8>, byte: u8) -> Result<(), AllocError>
     ensures { OnOk result (out.new.items ≡ out.old.items ++ comment_byte byte) }
 {
@@ -180,6 +183,7 @@ fn push_comment_byte(out: &mut Vec<u8>, byte: u8) -> Result<(), AllocError>
 }
 
 // Appends a text without its last line end as a comment of a script.
+#[tactic(auto, unfolding(crate::specs::Telling::commented))]
 fn push_commented(out: &mut Vec<u8>, text: &[u8]) -> Result<(), AllocError>
     ensures { OnOk result (out.new.items ≡ out.old.items ++ commented text.now) }
 {
@@ -191,6 +195,7 @@ fn push_commented(out: &mut Vec<u8>, text: &[u8]) -> Result<(), AllocError>
 }
 
 // Returns the lines of the comment over a script that shows that a claim does not hold.
+#[tactic(auto, unfolding(crate::specs::Telling::counterexample_lines))]
 fn counterexample_lines(
     alloc: Global,
     found: &FoundTexts,

@@ -20,8 +20,11 @@ use gt_script::RunScript;
 use gt_text::push_text;
 use std::alloc::{AllocError, Global};
 
-// Returns the order of the text of this number.
-fn numbered<'f>(found: &'f FoundTexts, number: usize) -> Result<&'f FoundText, TextsFault>
+/// Returns the order of the text of this number.
+pub(crate) fn numbered<'f>(
+    found: &'f FoundTexts,
+    number: usize,
+) -> Result<&'f FoundText, TextsFault>
     ensures { IfOk result (λ o.
         IsTextNumbered (texts_of_orders found.entry.now.texts.items) number o.now.text.items) }
 {

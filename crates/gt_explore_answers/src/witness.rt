@@ -6,6 +6,7 @@ use crate::naming::WitnessNames;
 use gt_explore_faults::TextsFault;
 use gt_explore_replay::{Replay, Walker};
 use gt_explore_search::Turn;
+use gt_handles::Handle;
 use gt_script::{RunAction, RunScript, RunTask};
 use gt_script_lines::{line_words, text_lines};
 use gt_script_runs::ScriptPolicy;
@@ -24,14 +25,33 @@ fn body_of(tasks: &[RunTask]) -> usize {
     }
 }
 
-// Returns the lines before the body.
-fn head_of(alloc: Global, lines: &[&str], body: usize) -> Result<Vec<u8>, AllocError> {
-    let mut out = Vec::new(alloc);
+fn push_line(out: &mut Vec<u8>, line: &str) -> Result<(), AllocError> {
+    push_text(out, line)?;
+    push_text(out, "\n")
+}
+
+// Appends the lines before the body.
+fn push_head(out: &mut Vec<u8>, lines: &[&str], body: usize) -> Result<(), AllocError> {
     for line in lines.iter().take(body.saturating_sub(1)) {
-        push_text(&mut out, line)?;
-        push_text(&mut out, "\n")?;
+        push_line(out, line)?;
     }
-    Ok(out)
+    Ok(())
+}
+
+// Appends a word after a blank.
+fn push_word(out: &mut Vec<u8>, word: &[u8]) -> Result<(), AllocError> {
+    push_text(out, " ")?;
+    out.extend_from_slice(word)
+}
+
+// Appends the words of a call as a line that only begins it, with this name for its label.
+fn push_words(out: &mut Vec<u8>, words: &[&[u8]], name: Option<&[u8]>) -> Result<(), AllocError> {
+    push_text(out, "begin")?;
+    for (at, word) in words.iter().enumerate().skip(1) {
+        let shown = if at == LABEL { name } else { None };
+        push_word(out, shown.unwrap_or(word))?;
+    }
+    push_text(out, "\n")
 }
 
 // Appends the line of a call, as a line that only begins it, with this name for its label.
@@ -46,13 +66,7 @@ fn push_begin(
         return Ok(());
     };
     let words = line_words(alloc, line)?;
-    push_text(out, "begin")?;
-    for (at, word) in words.as_slice().iter().enumerate().skip(1) {
-        out.push(b' ')?;
-        let shown = if at == LABEL { name } else { None };
-        out.extend_from_slice(shown.unwrap_or(word))?;
-    }
-    push_text(out, "\n")
+    push_words(out, words.as_slice(), name)
 }
 
 // Appends the line that begins to unmap a mapping of this name at the end of a list.
@@ -89,42 +103,15 @@ fn type_of(domains: &[DomainConfig], dom: DomId) -> Option<TypeId> {
     None
 }
 
-// A script for `play` under way.
-#[derive(Drop)]
-struct WitnessScript<'d, 't, 'a> {
-    alloc: Global,
-    out: Vec<u8>,
-    lines: Vec<&'t str>,
-    domains: &'d [DomainConfig],
-    rights: ScriptPolicy,
-    names: WitnessNames<'a>,
-    // For each domain, whether the release that it has open has no line.
-    skips: Vec<bool>,
-    // The first domain that releases a mapping without a line.
-    keeps: Option<DomId>,
+// What the lines of a witness are made from: those of its script, its domains, and what the policy lets these do.
+#[derive(Clone, Copy)]
+struct WitnessSource<'w> {
+    lines: &'w [&'w str],
+    domains: &'w [DomainConfig],
+    rights: &'w ScriptPolicy,
 }
 
-impl<'d, 't, 'a> WitnessScript<'d, 't, 'a> {
-    // Begins a script with the lines before the body of this one.
-    fn new(alloc: Global, source: &'t str, script: &'d RunScript<'a>) -> Result<Self, TextsFault> {
-        let head = script.head();
-        let domains = head.domains();
-        let lines = text_lines(alloc, source)?;
-        let out = head_of(alloc, lines.as_slice(), body_of(script.tasks()))?;
-        let rights = ScriptPolicy::of(alloc, head)?;
-        let skips = vec![in alloc; false; domains.len()]?;
-        Ok(WitnessScript {
-            alloc,
-            out,
-            lines,
-            domains,
-            rights,
-            names: WitnessNames::new(alloc),
-            skips,
-            keeps: None,
-        })
-    }
-
+impl WitnessSource<'_> {
     // Returns whether the policy lets a domain unmap an entry of this owner.
     fn may_unmap(&self, dom: DomId, owner: DomId) -> bool {
         let Some(source) = type_of(self.domains, dom) else {
@@ -146,85 +133,161 @@ impl<'d, 't, 'a> WitnessScript<'d, 't, 'a> {
             None => false,
         }
     }
+}
 
-    // Appends the line by which a domain at the end of its list begins to unmap a mapping, or a comment if it may not.
-    fn push_end(&mut self, run: &Replay, walker: &Walker, turn: Turn) -> Result<(), AllocError> {
-        let is_left = !self.may_give_back(run, walker, turn.choice);
-        if let Some(skips) = self.skips.get_mut(turn.place) {
-            *skips = is_left;
-        }
-        let Some(name) = self.names.held(turn.place, walker, turn.choice) else {
-            return Ok(());
-        };
-        if is_left {
-            if self.keeps.is_none() {
-                self.keeps = Some(walker.dom());
-            }
-            push_left(&mut self.out, walker.dom(), name)
-        } else {
-            push_give_back(&mut self.out, walker.dom(), name)
-        }
+// A script for `play` under way.
+#[derive(Drop)]
+struct WitnessScript {
+    alloc: Global,
+    out: Vec<u8>,
+    names: WitnessNames,
+    // For each domain, whether the release that it has open has no line.
+    skips: Vec<bool>,
+    // The first domain that releases a mapping without a line.
+    keeps: Option<DomId>,
+}
+
+impl WitnessScript {
+    ghost use Rattle.gt_script.specs.Contents.{contents_told};
+    ghost use Rattle.gt_script.specs.RunScripts.{CanConfigure};
+
+    // Begins a script for this number of domains.
+    fn new(alloc: Global, domains: usize) -> Result<WitnessScript, AllocError> {
+        let skips = vec![in alloc; false; domains]?;
+        Ok(WitnessScript {
+            alloc,
+            out: Vec::new(alloc),
+            names: WitnessNames::new(alloc),
+            skips,
+            keeps: None,
+        })
     }
 
-    // Appends the line of a step of what a domain has open, unless that has no lines.
-    fn push_step(&mut self, walker: &Walker, place: usize) -> Result<(), AllocError> {
+    // Appends the line by which a domain with these mappings, which is at the end of its list, begins to unmap one of
+    // them, or a comment if it may not.
+    fn push_end(
+        &mut self,
+        dom: DomId,
+        held: &[Handle],
+        turn: Turn,
+        may_unmap: bool,
+    ) -> Result<(), AllocError> {
+        if let Some(skips) = self.skips.get_mut(turn.place) {
+            *skips = !may_unmap;
+        }
+        let Some(name) = self.names.held(turn.place, held, turn.choice) else {
+            return Ok(());
+        };
+        if may_unmap {
+            return push_give_back(&mut self.out, dom, name);
+        }
+        if self.keeps.is_none() {
+            self.keeps = Some(dom);
+        }
+        push_left(&mut self.out, dom, name)
+    }
+
+    // Appends the line of a step of what a domain has open, a call or a release, unless that has no lines.
+    fn push_step(&mut self, dom: DomId, place: usize, is_call: bool) -> Result<(), AllocError> {
         let is_skipped = match self.skips.get(place) {
             Some(skips) => *skips,
             None => false,
         };
-        if walker.call().is_none() && is_skipped {
+        if is_skipped && !is_call {
             return Ok(());
         }
-        push_tick(&mut self.out, walker.dom())
+        push_tick(&mut self.out, dom)
     }
 
-    // Appends the line that makes this turn of a domain.
-    fn push_move(
+    // Appends the line of a task of a domain with these mappings, if it is a call.
+    fn push_task(
         &mut self,
-        run: &Replay<'_, 'a>,
-        walker: &Walker<'_, 'a>,
-        turn: Turn,
+        lines: &[&str],
+        place: usize,
+        held: &[Handle],
+        task: &RunTask,
     ) -> Result<(), AllocError> {
-        if walker.is_calling() {
-            return self.push_step(walker, turn.place);
-        }
-        let Some(task) = walker.task() else {
-            return self.push_end(run, walker, turn);
-        };
         match &task.deed {
             RunAction::Do(call) => {
-                let name = self.names.begin(turn.place, walker, task.line, call)?;
-                push_begin(
-                    self.alloc,
-                    &mut self.out,
-                    self.lines.as_slice(),
-                    task.line,
-                    shown(&name),
-                )
+                let name = self.names.begin(place, held, task.line, call)?;
+                push_begin(self.alloc, &mut self.out, lines, task.line, shown(&name))
             }
             RunAction::Tell(_) | RunAction::Await(_) => Ok(()),
         }
     }
 
+    // Appends the line that makes this turn of a domain.
+    fn push_move(
+        &mut self,
+        from: &WitnessSource,
+        run: &Replay,
+        walker: &Walker,
+        turn: Turn,
+    ) -> Result<(), AllocError> {
+        if walker.is_calling() {
+            return self.push_step(walker.dom(), turn.place, walker.call().is_some());
+        }
+        match walker.task() {
+            Some(task) => self.push_task(from.lines, turn.place, walker.held(), task),
+            None => {
+                let may_unmap = from.may_give_back(run, walker, turn.choice);
+                self.push_end(walker.dom(), walker.held(), turn, may_unmap)
+            }
+        }
+    }
+
+    // Appends the line that makes this turn.
+    fn push_turn(
+        &mut self,
+        from: &WitnessSource,
+        run: &Replay,
+        turn: Turn,
+    ) -> Result<(), AllocError> {
+        match run.walkers().get(turn.place) {
+            Some(walker) => self.push_move(from, run, walker, turn),
+            None => Ok(()),
+        }
+    }
+
     // Makes a turn, after its line, and names the mapping that the domain gets.
-    fn make_turn(&mut self, run: &mut Replay<'_, 'a>, turn: Turn) -> Result<(), TextsFault> {
-        if let Some(walker) = run.walkers().get(turn.place) {
-            self.push_move(run, walker, turn)?;
-        }
-        let before = held_at(run, turn.place);
+    fn make_turn(
+        &mut self,
+        from: &WitnessSource,
+        run: &mut Replay,
+        turn: Turn,
+    ) -> Result<(), TextsFault> {
+        self.push_turn(from, run, turn)?;
+        let before = held_at(run, turn.place).len();
         let _ = run.advance(turn)?;
-        if let Some(walker) = run.walkers().get(turn.place) {
-            self.names.note(turn.place, walker, before)?;
-        }
+        self.names
+            .note(turn.place, held_at(run, turn.place), before)?;
         Ok(())
     }
 
     // Makes these turns.
-    fn make_turns(&mut self, run: &mut Replay<'_, 'a>, turns: &[Turn]) -> Result<(), TextsFault> {
+    fn make_turns(
+        &mut self,
+        from: &WitnessSource,
+        run: &mut Replay,
+        turns: &[Turn],
+    ) -> Result<(), TextsFault> {
         for turn in turns {
-            self.make_turn(run, *turn)?;
+            self.make_turn(from, run, *turn)?;
         }
         Ok(())
+    }
+
+    // Makes these turns of the script.
+    fn replay(
+        &mut self,
+        from: &WitnessSource,
+        script: &RunScript,
+        turns: &[Turn],
+    ) -> Result<(), TextsFault>
+        requires { CanConfigure (contents_told script.now.head) }
+    {
+        let mut run = Replay::new(self.alloc, script)?;
+        self.make_turns(from, &mut run, turns)
     }
 }
 
@@ -236,11 +299,11 @@ fn shown(name: &Option<Vec<u8>>) -> Option<&[u8]> {
     }
 }
 
-// Returns the number of mappings of the domain at this position.
-fn held_at(run: &Replay, place: usize) -> usize {
+// Returns the handles of the mappings of the domain at this position.
+fn held_at<'r>(run: &'r Replay, place: usize) -> &'r [Handle] {
     match run.walkers().get(place) {
-        Some(walker) => walker.held().len(),
-        None => usize::MAX,
+        Some(walker) => walker.held(),
+        None => &[],
     }
 }
 
@@ -252,24 +315,44 @@ pub struct PlayScript {
     pub keeps: Option<DomId>,
 }
 
+// Makes the lines before the body, and those of these turns.
+fn witness_from(
+    alloc: Global,
+    from: &WitnessSource,
+    script: &RunScript,
+    turns: &[Turn],
+) -> Result<PlayScript, TextsFault>
+    requires { CanConfigure (contents_told script.now.head) }
+{
+    let mut witness = WitnessScript::new(alloc, from.domains.len())?;
+    push_head(&mut witness.out, from.lines, body_of(script.tasks()))?;
+    witness.replay(from, script, turns)?;
+    Ok(PlayScript {
+        lines: witness.out,
+        keeps: witness.keeps,
+    })
+}
+
 /// Returns the lines of a script for `play` whose domains make the moves of these turns of the script in `source`. A
 /// domain that has mappings at the end of its list unmaps them by lines of their own, if the policy lets it.
 ///
 /// # Errors
 /// `Memory` if an allocation fails.
-pub fn witness_of<'s, 'a>(
+pub fn witness_of(
     alloc: Global,
     source: &str,
-    script: &'s RunScript<'a>,
+    script: &RunScript,
     turns: &[Turn],
 ) -> Result<PlayScript, TextsFault>
     requires { CanConfigure (contents_told script.now.head) }
 {
-    let mut run = Replay::new(alloc, script)?;
-    let mut witness = WitnessScript::new(alloc, source, script)?;
-    witness.make_turns(&mut run, turns)?;
-    Ok(PlayScript {
-        lines: witness.out,
-        keeps: witness.keeps,
-    })
+    let head = script.head();
+    let lines = text_lines(alloc, source)?;
+    let rights = ScriptPolicy::of(alloc, head)?;
+    let from = WitnessSource {
+        lines: lines.as_slice(),
+        domains: head.domains(),
+        rights: &rights,
+    };
+    witness_from(alloc, &from, script, turns)
 }

@@ -1,6 +1,6 @@
 -- The names that stand for a type, and what statements grant.
 use Rattle.std.proofs.Common.{◌≡◌, ℕ, Bool, true, false, ◌&&◌, ◌||◌, not, ◌==◌, List, [], ◌∷◌, ◌++◌, length, map}
-use Rattle.std.proofs.Common.{Option, Some, None, refl, sym, ap, ◌∙◌, arith}
+use Rattle.std.proofs.Common.{Option, Some, None, Result, Ok, Err, IfOk, refl, sym, ap, ◌∙◌, arith}
 use Rattle.std.proofs.lemmas.Bool.Decides.{nat_tests}
 use Rattle.std.specs.Prelude.{if◌then◌else◌, filter, codes}
 use Rattle.std.specs.List.{flat_map, list_any}
@@ -24,6 +24,7 @@ use Rattle.gt_policy.specs.declared.statements.Statement.TheVariants.{Allow}
 use Rattle.gt_policy_check.specs.declared.members.Member.{Member}
 use Rattle.gt_policy_check.specs.declared.asking.WhyAnswer.{WhyAnswer}
 use Rattle.gt_policy_check.specs.declared.asking.WhyAnswer.TheVariants.{Allowed, Denied, NoSource, NoTarget, NoPermission}
+use Rattle.gt_policy_check.specs.declared.asking.Explanation.{Explanation}
 use Rattle.gt_policy_check.specs.declared.asking.WhyQuestion.{WhyQuestion}
 use Rattle.gt_policy_check.specs.Granting.{puts_in, takes_out, elements_hold, reaches_by, gives_source, gives_by, gives_some}
 use Rattle.gt_policy_check.specs.Granting.{gives_of, near_of}
@@ -31,7 +32,7 @@ use Rattle.gt_policy_check.specs.Members.{names_given, names_in_lines, membershi
 use Rattle.gt_policy_check.specs.Texts.{report_entry_text}
 use Rattle.gt_policy_check.specs.Why.{types_asked, source_asked, target_asked, perm_asked, grants_asked, is_near, entry_if, entries_if}
 use Rattle.gt_policy_check.specs.Why.{grants_of, grants_word, is_meant, is_unknown}
-use Rattle.gt_policy_check.specs.Why.{entries_of, answer_by, why_answer, lines_with, lines_of}
+use Rattle.gt_policy_check.specs.Why.{entries_of, answer_by, why_answer, lines_with, lines_of, IsExplained}
 
 -- bytes are compared either way round
 swap : (v w : List ℕ) → bytes_eq v w ≡ bytes_eq w v
@@ -209,3 +210,15 @@ all_lines Denied file xs q =
 all_lines NoSource file xs q = refl
 all_lines NoTarget file xs q = refl
 all_lines NoPermission file xs q = refl
+
+-- what is answered by the members answers the question
+pub explained_so : {E : Type 0} (file : List ℕ) (xs : List LinedStatement) (q : WhyQuestion) (sources targets : List Member) (r : Result Explanation E)
+    → sources ≡ members_of xs (source_asked q) → targets ≡ members_of xs (target_asked q)
+    → IfOk r (λ e. e.answer ≡ answer_by (perm_asked q) sources targets xs) → IfOk r (λ e. e.lines.items ≡ lines_with e.answer file (perm_asked q) sources targets xs)
+    → IfOk r (λ e. IsExplained file q xs e)
+explained_so file xs q sources targets (Err fault) s t answer lines = tt
+explained_so file xs q sources targets (Ok e) s t answer lines = (
+  answer ∙ ap (λ (m : List Member). answer_by (perm_asked q) m targets xs) s ∙ ap (λ (m : List Member). answer_by (perm_asked q) (members_of xs (source_asked q)) m xs) t ∙ answers xs q,
+  lines ∙ ap (λ (m : List Member). lines_with e.answer file (perm_asked q) m targets xs) s
+      ∙ ap (λ (m : List Member). lines_with e.answer file (perm_asked q) (members_of xs (source_asked q)) m xs) t ∙ all_lines e.answer file xs q,
+)

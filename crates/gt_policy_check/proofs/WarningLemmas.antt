@@ -1,12 +1,20 @@
 -- What the types of a policy give is what its statements say.
-use Rattle.std.proofs.Common.{◌≡◌, ℕ, List, [], None, map, ap, ◌∙◌}
-use Rattle.std.specs.Prelude.{filter}
+use Rattle.std.proofs.Common.{◌≡◌, ℕ, List, [], ◌∷◌, true, None, Some, Result, Ok, Err, IfOk, Vec, Global, map, ap, ◌∙◌}
+use Rattle.std.specs.Prelude.{filter, is_some}
 use Rattle.std.specs.List.{flat_map}
+use Rattle.gt_policy.specs.Allowing.{Meaning}
+use Rattle.gt_policy.specs.Lined.{IsLined}
+use Rattle.gt_policy.specs.Shown.{fault_shown}
+use Rattle.gt_policy.specs.Whole.{Says}
+use Rattle.gt_policy.specs.declared.fault.TokenFault.{TokenFault}
 use Rattle.gt_policy.specs.declared.lined.LinedStatement.{LinedStatement}
+use Rattle.gt_policy.specs.declared.parse.PolicyFaultKind.{PolicyFaultKind}
 use Rattle.gt_policy_check.specs.declared.members.Member.{Member}
-use Rattle.gt_policy_check.specs.Check.{allows_nothing, lines_repeated, repeated_with, useless_line}
+use Rattle.gt_policy_check.specs.declared.findings.Finding.{Finding}
+use Rattle.gt_policy_check.specs.Check.{allows_nothing, error_lines, lines_repeated, nothing_lines, repeat_lines, repeated_with, useless_line}
+use Rattle.gt_policy_check.specs.Check.{Judges, sound}
 use Rattle.gt_policy_check.specs.Members.{members_of}
-use Rattle.gt_policy_check.proofs.CheckLemmas.{repeated_same, useless_lines}
+use Rattle.gt_policy_check.proofs.CheckLemmas.{judged_faulty, repeated_same, useless_lines}
 
 pub nothing_of : (xs : List LinedStatement) (ms : List Member) (found : List ℕ) → ms ≡ members_of xs None → found ≡ flat_map (λ x. useless_line ms x) xs
     → found ≡ map (λ x. x.line) (filter (λ x. allows_nothing xs x.statement) xs)
@@ -14,3 +22,29 @@ nothing_of xs ms found s e = e ∙ ap (λ (m : List Member). flat_map (λ x. use
 
 pub repeated_of : (xs : List LinedStatement) (ms : List Member) (found : List ℕ) → ms ≡ members_of xs None → found ≡ repeated_with ms [] xs → found ≡ lines_repeated xs [] xs
 repeated_of xs ms found s e = e ∙ ap (λ (m : List Member). repeated_with m [] xs) s ∙ repeated_same xs [] xs
+
+-- the same of findings that were made
+pub nothing_so : {E : Type 0} (xs : List LinedStatement) (ms : List Member) (r : Result (Vec Finding Global) E) → ms ≡ members_of xs None
+    → IfOk r (λ v. nothing_lines v.items ≡ flat_map (λ x. useless_line ms x) xs)
+    → IfOk r (λ v. nothing_lines v.items ≡ map (λ x. x.line) (filter (λ x. allows_nothing xs x.statement) xs))
+nothing_so xs ms (Err fault) s is = tt
+nothing_so xs ms (Ok v) s is = nothing_of xs ms (nothing_lines v.items) s is
+
+pub repeated_so : {E : Type 0} (xs : List LinedStatement) (ms : List Member) (r : Result (Vec Finding Global) E) → ms ≡ members_of xs None
+    → IfOk r (λ v. repeat_lines v.items ≡ repeated_with ms [] xs) → IfOk r (λ v. repeat_lines v.items ≡ lines_repeated xs [] xs)
+repeated_so xs ms (Err fault) s is = tt
+repeated_so xs ms (Ok v) s is = repeated_of xs ms (repeat_lines v.items) s is
+
+-- the findings of a policy are those of its text
+pub judged_sound : {E : Type 0} (text : List ℕ) (m : Meaning) (xs ys : List LinedStatement) (r : Result (Vec Finding Global) E) → ys ≡ xs → Says text (Ok m) → IsLined text xs
+    → IfOk r (λ v. error_lines v.items ≡ []) → IfOk r (λ v. nothing_lines v.items ≡ map (λ x. x.line) (filter (λ x. allows_nothing ys x.statement) ys))
+    → IfOk r (λ v. repeat_lines v.items ≡ lines_repeated ys [] ys) → IfOk r (λ v. Judges text v.items)
+judged_sound text m xs ys (Err fault) same says lined none nothing repeated = tt
+judged_sound text m xs ys (Ok v) same says lined none nothing repeated = sound m xs v.items says lined none (rw same at nothing) (rw same at repeated)
+
+-- the finding of a text that is not a policy
+pub judged_fault : {E : Type 0} (line : ℕ) (kind : PolicyFaultKind) (text : List ℕ) (r : Result (Vec Finding Global) E)
+    → ((f : TokenFault) → fault_shown (record { line = line; kind = kind }) ≡ Some f → Says text (Err f))
+    → IfOk r (λ _. is_some (fault_shown (record { line = line; kind = kind })) ≡ true) → IfOk r (λ v. error_lines v.items ≡ line ∷ []) → IfOk r (λ v. Judges text v.items)
+judged_fault line kind text (Err fault) says shown lines = tt
+judged_fault line kind text (Ok v) says shown lines = judged_faulty line kind text v.items says shown lines

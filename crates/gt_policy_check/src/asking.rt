@@ -185,8 +185,7 @@ fn explained(
         targets: targets.as_slice(),
         perm: question.perm,
     };
-    let explanation = answered(alloc, file, statements, &asked)?;
-    Ok(explanation)
+    answered(alloc, file, statements, &asked)
 }
 
 /// Answers whether the policy of a text allows what is asked, with a line for each allow statement that grants it:

@@ -9,7 +9,7 @@ use crate::judging::warnings;
 use crate::reading::read_policy;
 use gt_policy::{PolicyFault, PolicyFaultKind};
 use gt_types::Memory;
-use std::alloc::{AllocError, Global};
+use std::alloc::Global;
 
 /// The kind of a finding.
 #[derive(Clone, Copy, PartialEq, Eq)]
@@ -48,7 +48,7 @@ pub struct Finding {
 }
 
 // Makes the findings for the first fault of a text: an error on this line, and its note.
-fn fault_found(alloc: Global, line: u32, explained: Explained) -> Result<Vec<Finding>, AllocError>
+fn fault_found(alloc: Global, line: u32, explained: Explained) -> Result<Vec<Finding>, Memory>
     ensures { IfOk result (λ v. error_lines v.items ≡ line ∷ []) }
 {
     let Explained {
@@ -83,8 +83,7 @@ fn errors(alloc: Global, text: &str, fault: &PolicyFault) -> Result<Vec<Finding>
         note: None,
     };
     explain(alloc, &mut explained, text, fault)?;
-    let found = fault_found(alloc, fault.line, explained)?;
-    Ok(found)
+    fault_found(alloc, fault.line, explained)
 }
 
 // Returns the findings of a text. `worn` has the types of the domains of a script.
@@ -92,14 +91,8 @@ fn judge(alloc: Global, text: &str, worn: Option<&[&str]>) -> Result<Vec<Finding
     ensures { IfOk result (λ v. Judges text.now v.items) }
 {
     match read_policy(alloc, text) {
-        Ok(statements) => {
-            let found = warnings(alloc, text.as_bytes(), statements.as_slice(), worn)?;
-            Ok(found)
-        }
-        Err(fault) => {
-            let found = errors(alloc, text, &fault)?;
-            Ok(found)
-        }
+        Ok(statements) => warnings(alloc, text.as_bytes(), statements.as_slice(), worn),
+        Err(fault) => errors(alloc, text, &fault),
     }
 }
 

@@ -14,6 +14,7 @@ use crate::places::{LineTokens, column_of_word, line_tokens};
 use crate::useless::{UselessReason, is_useless, reason_of, repeated};
 use gt_policy::{LinedStatement, Statement};
 use gt_text::{push_number, push_text};
+use gt_types::Memory;
 use std::alloc::{AllocError, Global};
 
 // Counts the allow statements that begin on this line.
@@ -203,7 +204,7 @@ fn warn(
 }
 
 // Warns of what is useless in the statements of a policy.
-fn warn_all(alloc: Global, policy: &Judged) -> Result<Vec<Finding>, AllocError>
+fn warn_all(alloc: Global, policy: &Judged) -> Result<Vec<Finding>, Memory>
     ensures no_error { IfOk result (λ v. error_lines v.items ≡ []) }
     ensures nothing { IfOk result (λ v. nothing_lines v.items
         ≡ flat_map (λ x. useless_line policy.now.members.now x) policy.now.statements.now) }
@@ -224,7 +225,7 @@ pub(crate) fn warnings(
     bytes: &[u8],
     statements: &[LinedStatement],
     worn: Option<&[&str]>,
-) -> Result<Vec<Finding>, AllocError>
+) -> Result<Vec<Finding>, Memory>
     ensures no_error { IfOk result (λ v. error_lines v.items ≡ []) }
     ensures nothing { IfOk result (λ v. nothing_lines v.items
         ≡ map (λ x. x.line) (filter (λ x. allows_nothing statements.now x.statement) statements.now)) }
@@ -238,6 +239,5 @@ pub(crate) fn warnings(
         members: members.as_slice(),
         worn: worn.as_slice(),
     };
-    let found = warn_all(alloc, &policy)?;
-    Ok(found)
+    warn_all(alloc, &policy)
 }

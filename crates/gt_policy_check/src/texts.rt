@@ -1,7 +1,6 @@
 //! Allow statements as text.
 ghost use Rattle.std.specs.Prelude.{◌≡◌, ◌++◌, codes, find, OnOk};
 ghost use Rattle.std.specs.List.{list_any};
-ghost use Rattle.std.specs.Option.{option_map};
 ghost use Rattle.gt_policy_check.specs.Texts.{is_plain, item_text, items_text, set_text, words_text, list_text, perms_text};
 ghost use Rattle.gt_policy_check.specs.Texts.{allow_text, names_type, way_text, held_text, all_held_text, self_text};
 ghost use Rattle.gt_policy_check.specs.Texts.{note_text, place_text, report_entry_text, by_text, item_by_text};
@@ -158,13 +157,6 @@ fn push_by(out: &mut Vec<u8>, item: &SetElement) -> Result<(), AllocError>
     }
 }
 
-// Finds the first item that puts a type with these names in.
-fn first_way<'s, 'a>(names: &[TextPiece], items: &'s [SetElement<'a>]) -> Option<&'s SetElement<'a>>
-    ensures { option_map (λ i. i.now) result ≡ find (λ i. puts_in names.now i) items.entry.now }
-{
-    items.iter().find(|item| puts_in(names, item))
-}
-
 // Appends the attribute of the first item that puts a type with these names in.
 fn push_attribute(
     out: &mut Vec<u8>,
@@ -173,10 +165,12 @@ fn push_attribute(
 ) -> Result<(), AllocError>
     ensures { OnOk result (out.new.items ≡ out.old.items ++ by_text (find (λ i. puts_in names.now i) items.now)) }
 {
-    match first_way(names, items) {
-        Some(item) => push_by(out, item),
-        None => Ok(()),
+    'items: for item in items {
+        if puts_in(names, item) {
+            return push_by(out, item);
+        }
     }
+    Ok(())
 }
 
 // Appends the attribute through which a set holds a type, unless the set names the type.

@@ -6,5 +6,5 @@ use Rattle.gt_explore_answers.proofs.answering.all_texts.Goals as goal
 pub returns : goal.returns
 returns c =
     let f = found_told c.args.found.now in
-    let met : c.in_ok-met.met.items ≡ satisfied [] f = rw (c.as_slice-2.ensures.value, c.as_slice.ensures.value, c.new-none.ensures.items) at c.in_ok-met.ensures in
-    (c.in_ok-text.ensures ∙ ap (λ (m : List Bool). texts_told f m) (c.as_slice-3.ensures.value ∙ met), c.verdict_of_all-verdict.ensures)
+    let met : c.in_ok-met.met.items ≡ satisfied [] f = rw c.as_slice.ensures.value at c.in_ok-met.ensures in
+    (c.in_ok-text.ensures ∙ ap (λ (m : List Bool). texts_told f m) (c.as_slice-2.ensures.value ∙ met), c.verdict_of_all-verdict.ensures)

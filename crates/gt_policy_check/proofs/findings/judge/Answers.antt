@@ -1,13 +1,11 @@
-use Rattle.gt_policy_check.specs.Check.{sound}
-use Rattle.gt_policy_check.proofs.CheckLemmas.{judged_faulty}
+use Rattle.gt_policy_check.proofs.WarningLemmas.{judged_fault, judged_sound}
 use Rattle.gt_policy_check.proofs.findings.judge.Goals as goal
 
-pub returns-in_ok-found-in-Ok : goal.returns-in_ok-found-in-Ok
-returns-in_ok-found-in-Ok c =
-    let told = rw c.as_slice.ensures at c.in_ok-found-in-Ok.ensures.nothing in
-    let repeated = rw c.as_slice.ensures at c.in_ok-found-in-Ok.ensures.repeated in
-    sound c.in-Ok.ensures.ok.0 c.in-Ok.statements c.in_ok-found-in-Ok.found.items c.in-Ok.ensures.ok.1 c.in-Ok.ensures.ok.2 c.in_ok-found-in-Ok.ensures.no_error told repeated
+pub returns-in-Ok : goal.returns-in-Ok
+returns-in-Ok c =
+    judged_sound c.args.text.now c.in-Ok.ensures.ok.0 c.in-Ok.statements c.as_slice.result.now c.warnings.result c.as_slice.ensures c.in-Ok.ensures.ok.1 c.in-Ok.ensures.ok.2
+    c.warnings.ensures.no_error c.warnings.ensures.nothing c.warnings.ensures.repeated
 
-pub returns-in_ok-found-in-Err : goal.returns-in_ok-found-in-Err
-returns-in_ok-found-in-Err c =
-    judged_faulty c.in-Err.fault.line c.in-Err.fault.kind c.args.text.now c.in_ok-found-in-Err.found.items c.in-Err.ensures.fault c.in_ok-found-in-Err.ensures.shown c.in_ok-found-in-Err.ensures.line
+pub returns-in-Err : goal.returns-in-Err
+returns-in-Err c =
+    judged_fault c.in-Err.fault.line c.in-Err.fault.kind c.args.text.now c.errors.result c.in-Err.ensures.fault c.errors.ensures.shown c.errors.ensures.line

@@ -1,4 +1,4 @@
-use Rattle.std.proofs.Common.{◌≡◌, ◌∙◌, ◌++◌, ℕ, Bool, List, Option, ap, map, subst, sym}
+use Rattle.std.proofs.Common.{◌≡◌, ◌∙◌, ℕ, Bool, List, Option, ap, map, subst, sym}
 use Rattle.gt_script.specs.RunContents.{run_told}
 use Rattle.gt_script.specs.Contents.{contents_told}
 use Rattle.gt_explore_replay.specs.Orders.{MayGive}
@@ -9,9 +9,8 @@ use Rattle.gt_explore_verdict.specs.declared.judging.Judgement.{Judgement}
 use Rattle.gt_explore_verdict.specs.declared.judging.Verdict.{Verdict}
 use Rattle.gt_explore_answers.specs.AsObjects.{ShowsClaim, ShowsClaimedBy}
 use Rattle.gt_explore_answers.specs.Exploring.{satisfied}
-use Rattle.gt_explore_answers.specs.Objects.{summary}
 use Rattle.gt_explore_answers.specs.Telling.{found_told}
-use Rattle.gt_explore_answers.proofs.Shown.{shows_all}
+use Rattle.gt_explore_answers.proofs.Shown.{ended_so}
 use Rattle.gt_explore_answers.proofs.json.ObjectWriter.decided.Goals as goal
 
 pub returns : goal.returns
@@ -26,10 +25,9 @@ returns c =
     c.judge-judgement.ensures ∙ ap (λ (m : List Bool). judged c.args.claim m f.whole) (c.as_slice-2.ensures.value ∙ met) in
     let verdict = ap (λ (k : Judgement). k.verdict) j in
     let shown = c.in_ok-push_claimed.ensures in
-    shows_all c.args.limit (ShowsClaim run c.args.claim cs) f shown.0 c.in_ok-ended.field-0.text.items c.judge-judgement.result.verdict c.in_ok-ended.field-0.verdict (
+    ended_so c.args.limit (ShowsClaim run c.args.claim cs) f c.ended.result _ shown.0 _ c.judge-judgement.result.verdict c.new-text.ensures.items shown.1 (
       verdict,
       subst (λ (v : Verdict). Means (MayGive run) c.args.claim cs v) (sym verdict) (judged_means (MayGive run) c.args.claim cs f.texts f.whole are.possible are.whole),
       subst (λ (s : Option ℕ). ShowsClaimedBy head c.args.claim (satisfied cs f) f s shown.0) (ap (λ (k : Judgement). k.shown_by) j)
           (subst (λ (m : List Bool). ShowsClaimedBy head c.args.claim m f c.judge-judgement.result.shown_by shown.0) (c.as_slice-3.ensures.value ∙ met) shown.2),
-    ) c.in_ok-ended.ensures.0
-    (c.in_ok-ended.ensures.1 ∙ ap (λ (l : List ℕ). l ++ summary f c.args.limit c.judge-judgement.result.verdict) (shown.1 ∙ ap (λ (l : List ℕ). l ++ shown.0) c.new-text.ensures.items))
+    ) c.ended.ensures

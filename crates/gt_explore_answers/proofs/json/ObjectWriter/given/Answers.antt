@@ -1,4 +1,4 @@
-use Rattle.std.proofs.Common.{◌≡◌, ◌∙◌, ◌++◌, ℕ, List, Option, ap, false, subst, sym}
+use Rattle.std.proofs.Common.{◌≡◌, ◌∙◌, ℕ, Option, ap, false, subst, sym}
 use Rattle.std.specs.Prelude.{is_some}
 use Rattle.std.specs.Str.{bytes_eq}
 use Rattle.gt_script.specs.Contents.{contents_told}
@@ -9,10 +9,10 @@ use Rattle.gt_explore_verdict.specs.declared.judging.Claim.TheVariants.{Find}
 use Rattle.gt_explore_verdict.specs.declared.judging.Verdict.{Verdict}
 use Rattle.gt_explore_answers.specs.AsObjects.{ShowsGiven}
 use Rattle.gt_explore_answers.specs.Exploring.{MeansGiven, place_of}
-use Rattle.gt_explore_answers.specs.Objects.{ShowsText, summary}
+use Rattle.gt_explore_answers.specs.Objects.{ShowsText}
 use Rattle.gt_explore_answers.specs.Telling.{found_told}
 use Rattle.gt_explore_answers.proofs.Answered.{means_given, position_map}
-use Rattle.gt_explore_answers.proofs.Shown.{shows_all}
+use Rattle.gt_explore_answers.proofs.Shown.{ended_so}
 use Rattle.gt_explore_answers.proofs.json.ObjectWriter.given.Goals as goal
 
 pub returns : goal.returns
@@ -24,9 +24,8 @@ returns c =
     let verdict : c.verdict_on.result ≡ verdict_at Find (is_some (place_of c.args.given.now f.texts)) f.whole =
     c.verdict_on.ensures ∙ ap (λ (o : Option ℕ). verdict_at Find (is_some o) f.whole) place in
     let shown = c.in_ok-push_text.ensures in
-    shows_all c.args.limit (ShowsGiven run c.args.given.now) f shown.0 c.in_ok-ended.field-0.text.items c.verdict_on.result c.in_ok-ended.field-0.verdict (
+    ended_so c.args.limit (ShowsGiven run c.args.given.now) f c.ended.result _ shown.0 _ c.verdict_on.result c.new-text.ensures.items shown.1 (
       verdict,
       subst (λ (v : Verdict). MeansGiven run c.args.given.now v) (sym verdict) (means_given run f c.args.given.now c.requires.texts),
       subst (λ (o : Option ℕ). ShowsText (contents_told c.args.self.now.script.now.head) f false o shown.0) place shown.2,
-    ) c.in_ok-ended.ensures.0
-    (c.in_ok-ended.ensures.1 ∙ ap (λ (l : List ℕ). l ++ summary f c.args.limit c.verdict_on.result) (shown.1 ∙ ap (λ (l : List ℕ). l ++ shown.0) c.new-text.ensures.items))
+    ) c.ended.ensures
