@@ -1,5 +1,5 @@
 -- Statements with sets of types.
-use Rattle.std.proofs.Common.{◌≡◌, ◌≢◌, ℕ, ◌+◌, ◌<◌, ◌==◌, ◌||◌, ◌&&◌, Bool, true, false, List, length, take, set}
+use Rattle.std.proofs.Common.{◌≡◌, ◌≢◌, ℕ, ◌+◌, ◌<◌, ◌==◌, ◌||◌, ◌&&◌, Bool, true, false, List, [], ◌∷◌, ◌++◌, length, take, set}
 use Rattle.std.proofs.Common.{get_or, replicate, refl, sym, ap, ◌∙◌, arith, rules, cond, nat_lt, ◌≤◌, ◌-◌}
 use Rattle.std.specs.Prelude.{not}
 use Rattle.std.specs.List.{list_any}
@@ -8,7 +8,7 @@ use Rattle.std.proofs.lemmas.Bool.Decides.{nat_tests}
 use Rattle.std.proofs.lemmas.List.{get_or-set_same, get_or-set_other, get_or-replicate, length-replicate, get_or_past}
 use Rattle.std.proofs.lemmas.List.{take_all}
 use Rattle.std.proofs.lemmas.Nat.Bits.{bit_at-zero}
-use Rattle.std.proofs.lemmas.List.Folds.{list_any_more}
+use Rattle.std.proofs.lemmas.List.Folds.{list_any_more, list_any-append}
 use Rattle.gt_policy.specs.declared.types.TypeSet.{TypeSet}
 use Rattle.gt_policy.specs.declared.resolve.TypeAttribute.{TypeAttribute}
 use Rattle.gt_policy.specs.declared.resolve.DraftRule.{DraftRule}
@@ -16,8 +16,9 @@ use Rattle.gt_types.specs.declared.perms.Perms.{Perms}
 use Rattle.std.proofs.Math.Path.{fun_ext}
 use Rattle.gt_policy.specs.TypeSets.{has_bit, holds}
 use Rattle.gt_policy.specs.Members.{no_types}
-use Rattle.gt_policy.specs.Allowing.{was_given, is_granted_by}
-use Rattle.gt_policy.proofs.BoolLemmas.{or_no}
+use Rattle.gt_policy.specs.declared.rules.AllowRule.{AllowRule}
+use Rattle.gt_policy.specs.Allowing.{was_given, is_granted_by, grants, some_grants}
+use Rattle.gt_policy.proofs.BoolLemmas.{or_no, or_false}
 
 -- nothing is in the set with no type
 no_types-none : (n : ℕ) → holds no_types n ≡ false
@@ -62,6 +63,16 @@ gives_none k s none a n = go (nat_lt a k) refl
 -- one more item, statement or name that makes an answer true
 pub or_more : {X : Type 0} (p : X → Bool) (xs : List X) (i : ℕ) (d : X) (b c e : Bool) → i < length xs → e ≡ (b || c) → b ≡ list_any p (take i xs) → c ≡ p (get_or xs i d) → e ≡ list_any p (take (i + 1) xs)
 or_more p xs i d b c e within now so_far here = now ∙ ap (λ x. x || c) so_far ∙ ap (λ x. list_any p (take i xs) || x) here ∙ sym (list_any_more p xs i d within)
+
+-- one more rule
+pub rule_more : (made pushed : List AllowRule) (rule : AllowRule) (drafts : List DraftRule) (d : DraftRule) (i : ℕ) (ask : DraftRule → Bool) (s t : ℕ) (perm : Perms) → i < length drafts → pushed ≡ made ++ rule ∷ []
+    → grants rule s t perm ≡ ask (get_or drafts i d) → some_grants made s t perm ≡ list_any ask (take i drafts) → some_grants pushed s t perm ≡ list_any ask (take (i + 1) drafts)
+rule_more made pushed rule drafts d i ask s t perm within push here so_far =
+    ap (λ (rs : List AllowRule). some_grants rs s t perm) push
+    ∙ list_any-append (λ r. grants r s t perm) made (rule ∷ [])
+    ∙ ap (λ (b : Bool). b || list_any (λ r. grants r s t perm) (rule ∷ [])) so_far
+    ∙ ap (λ (b : Bool). list_any ask (take i drafts) || b) (sym (or_false (grants rule s t perm)) ∙ here)
+    ∙ sym (list_any_more ask drafts i d within)
 
 -- all items were seen
 pub set_end : {X : Type 0} (p q : X → Bool) (xs : List X) (i : ℕ) (b : Bool) → length xs ≤ i → b ≡ list_any q (take i xs) → (list_any p (take i xs) && not b) ≡ (list_any p xs && not (list_any q xs))
