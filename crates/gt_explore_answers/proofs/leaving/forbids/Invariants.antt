@@ -3,7 +3,7 @@ use Rattle.std.specs.List.{list_any}
 use Rattle.std.specs.Prelude.{◌&&◌, ◌==◌}
 use Rattle.gt_explore_answers.specs.Witness.{is_forbidden}
 use Rattle.gt_types.specs.declared.config.DomainConfig.{DomainConfig}
-use Rattle.gt_host.specs.Rights.{may_by}
+use Rattle.gt_script_runs.specs.Rights.{may_by}
 use Rattle.gt_explore_answers.proofs.leaving.forbids.Given as goal
 
 abbrev pub invariant-domains : goal.invariant-domains
