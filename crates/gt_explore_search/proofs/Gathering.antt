@@ -3,7 +3,6 @@ use Rattle.std.proofs.Common.{◌≡◌, ◌⊎◌, ◌<◌, ◌≤◌, ℕ, zer
 use Rattle.std.proofs.Common.{arith, inl, inr}
 use Rattle.std.proofs.Common.{Option, Some, slice_get, append_assoc}
 use Rattle.std.proofs.lemmas.Option.{same_Some, slice_get_within}
-use Rattle.std.specs.Global.{Vec}
 use Rattle.gt_explore_search.specs.Lists.{HasListAt, AreWhole, GrowsInto, HasItsLine, IsLonger, line_by, rest_by}
 use Rattle.gt_explore_search.specs.Ways.{Ways, PrintsTo}
 use Rattle.gt_explore_search.specs.Exploring.{AllHaveLists, HasEnd, AllByTurn, NodeHolds, SearchHolds, Grew, VisitHolds, Notes, TurnLeads}

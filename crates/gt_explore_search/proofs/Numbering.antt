@@ -1,10 +1,8 @@
 -- States as lists of numbers of their parts.
 use Rattle.std.proofs.Common.{◌≡◌, ◌<◌, ◌≤◌, ◌+◌, ℕ, zero, suc, Option, None, List, [], ◌∷◌, ◌++◌, length, take, get_or, ap, sym, ◌∙◌, refl}
-use Rattle.std.proofs.Common.{arith, subst, inl, inr, Result, Ok, Err, OnOk, IfOk, Bool, true, false, Some, slice_get, not, if◌then◌else◌, ◌||◌, cond, append_assoc}
+use Rattle.std.proofs.Common.{arith, subst, inl, inr, Result, Ok, Err, OnOk, IfOk, Some, slice_get, append_assoc}
 use Rattle.std.proofs.lemmas.List.{append-nil, take_more}
 use Rattle.std.proofs.lemmas.Option.{same_Some, slice_get_within}
-use Rattle.std.specs.Global.{Vec}
-use Rattle.std.specs.List.{list_any, position_or_len}
 use Rattle.gt_explore_search.specs.declared.spaces.Turn.{Turn}
 use Rattle.gt_explore_search.specs.Exploring.{IsNumbered}
 use Rattle.gt_explore_search.specs.Parts.{Extends, HandHolds, HasNumber, HasNumberAt, HasNumbers, HasPart, IsCopyOf, IsJoined, IsStateAt}

@@ -1,5 +1,5 @@
 -- The states whose moves are being tried.
-use Rattle.std.proofs.Common.{◌≡◌, ◌⊎◌, ◌<◌, ◌≤◌, ℕ, zero, suc, ◌+◌, List, [], ◌∷◌, ◌++◌, length, map, ap, sym, ◌∙◌}
+use Rattle.std.proofs.Common.{◌≡◌, ◌⊎◌, ◌<◌, ◌≤◌, ℕ, zero, suc, ◌+◌, List, [], ◌∷◌, ◌++◌, length, ap, sym, ◌∙◌}
 use Rattle.std.proofs.Common.{refl, subst, arith, inl, inr}
 use Rattle.std.proofs.Common.{Result, Ok, Err, OnOk, length-append, Option, Some, None, slice_get, Bool, true, false}
 use Rattle.std.proofs.Common.{◌==◌, if◌then◌else◌}

@@ -1,6 +1,5 @@
 -- The knowledge of a search about the states that it has met.
 use Rattle.std.specs.Prelude.{◌≡◌, ◌⊎◌, ◌++◌, ◌<◌, ℕ, List, [], ◌∷◌, length, Option, Some, slice_get, IfSome}
-use Rattle.std.specs.Global.{Vec}
 use Rattle.gt_explore_search.specs.declared.spaces.Turn.{Turn}
 use Rattle.gt_explore_search.specs.Lists.{HasListAt, AreWhole, GrowsInto, IsEmptyList, HasItsLine, line_by, rest_by}
 use Rattle.gt_explore_search.specs.Parts.{Extends}

@@ -1,6 +1,5 @@
 -- States as lists of numbers of their parts.
 use Rattle.std.specs.Prelude.{◌≡◌, ◌++◌, ℕ, List, [], ◌∷◌, Option, Some, slice_get, IfSome}
-use Rattle.std.specs.Global.{Vec}
 use Rattle.gt_explore_search.specs.Ways.{Ways}
 use Rattle.gt_explore_search.specs.declared.states.WholeState.{WholeState}
 

@@ -16,6 +16,8 @@ pub struct NumberLists {
     ends: Vec<u32>,
     // For each list one more than its number, in a slot that its hash leads to. A free slot has a 0.
     slots: Vec<u32>,
+    // The number of the list that was looked for last.
+    last: u32,
 }
 
 impl Model for NumberLists {
@@ -36,6 +38,21 @@ fn hash_of(list: &[u32]) -> usize {
         hash = (hash.rotate_left(5) ^ *number as usize).wrapping_mul(0x517c_c1b7_2722_0a95);
     }
     hash ^ (hash >> 32)
+}
+
+// Returns whether both lists are the same.
+fn same_list(one: &[u32], other: &[u32]) -> bool
+    ensures { IsTrue result → one.now ≡ other.now }
+{
+    if one.len() != other.len() {
+        return false;
+    }
+    'items: for at in 0..one.len() {
+        if one[at] != other[at] {
+            return false;
+        }
+    }
+    true
 }
 
 // Puts this entry into the first free slot that the hash leads to.
@@ -100,6 +117,7 @@ impl NumberLists {
             items: Vec::new(alloc),
             ends: Vec::new(alloc),
             slots: Vec::new(alloc),
+            last: 0,
         }
     }
 
@@ -126,7 +144,7 @@ impl NumberLists {
         ensures { IsTrue result → slice_get self.now number ≡ Some list.now }
     {
         match self.get(number as usize) {
-            Some(kept) => kept == list,
+            Some(kept) => same_list(kept, list),
             None => false,
         }
     }
@@ -153,6 +171,21 @@ impl NumberLists {
         ensures { IfSome result (λ n. slice_get self.now n ≡ Some list.now) }
     {
         self.find_hashed(list, hash_of(list))
+    }
+
+    // Returns the number of this list, if it is the list that was looked for last or the one after it.
+    fn find_near(&self, list: &[u32]) -> Option<u32>
+        ensures { IfSome result (λ n. slice_get self.now n ≡ Some list.now) }
+    {
+        let last = self.last;
+        let next = last.saturating_add(1);
+        if self.is_list(last, list) {
+            Some(last)
+        } else if self.is_list(next, list) {
+            Some(next)
+        } else {
+            None
+        }
     }
 
     // Makes the table larger if three of four slots are taken.
@@ -186,6 +219,7 @@ impl NumberLists {
         self.items.extend_from_slice(list)?;
         self.ends.push(end as u32)?;
         file(self.slots.as_mut_slice(), hash, number as u32 + 1);
+        self.last = number as u32;
         Ok(number as u32)
     }
 
@@ -196,8 +230,13 @@ impl NumberLists {
     pub fn number_of(&mut self, list: &[u32]) -> Result<u32, SearchFault>
         ensures { IfOk result (λ n. IsKeptAs self.old list.now n self.new) }
     {
+        if let Some(number) = self.find_near(list) {
+            self.last = number;
+            return Ok(number);
+        }
         let hash = hash_of(list);
         if let Some(number) = self.find_hashed(list, hash) {
+            self.last = number;
             return Ok(number);
         }
         self.make_room()?;

@@ -213,6 +213,7 @@ impl AnswerLists {
         'places: for place in 0..domains {
             self.push_printed(&mut text, tail_at(tails, place))?;
         }
+        text.shrink_to_fit();
         Ok(text)
     }
 }

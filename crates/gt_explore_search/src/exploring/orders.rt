@@ -70,6 +70,7 @@ impl<P: Drop> Explorer<P> {
         let mut next = self.onward(node, list, at, scratch)?;
         for _ in 0..self.nodes.len() {
             let Some(onward) = next else {
+                turns.shrink_to_fit();
                 return Ok(turns);
             };
             turns.push(onward.turn.turn())?;

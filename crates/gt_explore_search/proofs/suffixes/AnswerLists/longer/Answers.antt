@@ -1,6 +1,6 @@
 use Rattle.std.proofs.Common.{refl, ap, sym, ◌∙◌, ◌≡◌, ◌<◌, ◌∷◌, ℕ, List, Some, slice_get, subst, length, arith, get_or, Bor}
 use Rattle.std.specs.Option.{option_map}
-use Rattle.gt_explore_search.specs.Lists.{HasItsLine, IsLonger}
+use Rattle.gt_explore_search.specs.Lists.{IsLonger}
 use Rattle.gt_explore_search.specs.Numbers.{IsKeptAs}
 use Rattle.gt_explore_search.proofs.Keeping.{kept_within}
 use Rattle.gt_explore_search.proofs.Listing.{list_added, is_longer}

@@ -1,4 +1,4 @@
-use Rattle.std.proofs.Common.{refl, ap, sym, ◌∙◌, ◌++◌, ◌≤◌, ◌≡◌, List, [], ℕ, None, slice_get, length, arith, get_or, Bor}
+use Rattle.std.proofs.Common.{ap, sym, ◌∙◌, ◌++◌, ◌≤◌, ◌≡◌, List, ℕ, None, slice_get, length, arith, Bor}
 use Rattle.std.proofs.lemmas.List.{append-nil, take_all}
 use Rattle.std.specs.Option.{option_map}
 use Rattle.gt_explore_search.specs.Lists.{printed_of}

@@ -17,7 +17,8 @@ returns c = λ has.
     let upto : c.places.place ≤ c.args.domains = c.places.auto.place-end in
     let over : c.args.domains ≤ c.places.place = c.places-test.false in
     let same : c.places.place ≡ c.args.domains = omega (arith, upto, over) in
-    c.places.invariant
+    c.shrink_to_fit.ensures.items
+    ∙ c.places.invariant
     ∙ ap (λ (n : ℕ). flat_map (said_by c.args.self.now c.in-Some.tails.now) (range_with_len 0 n)) same
     ∙ ap (λ (l : List ℕ). flat_map (said_by c.args.self.now l) (range_with_len 0 c.args.domains))
     (sym (tail_stored c.args.self.now.lists c.args.list c.in-Some.tails.now (sym c.get.ensures ∙ ap (option_map (λ (l : Bor (List ℕ)). l.now)) c.in-Some.is)))

@@ -1,4 +1,4 @@
-use Rattle.std.proofs.Common.{◌≡◌, []}
+use Rattle.std.proofs.Common.{◌≡◌}
 use Rattle.std.specs.List.{flat_map, range_with_len}
 use Rattle.gt_explore_search.proofs.Listing.{said_by}
 use Rattle.gt_explore_search.proofs.suffixes.AnswerLists.text.Given as goal
