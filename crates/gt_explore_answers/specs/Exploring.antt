@@ -7,6 +7,7 @@ use Rattle.gt_script.specs.Lists.{RunAction}
 use Rattle.gt_script.specs.RunContents.{RunContents}
 use Rattle.gt_script.specs.declared.tasks.RunActionBy.TheVariants.{Do, Tell, Await}
 use Rattle.gt_explore_replay.specs.Orders.{MayGive}
+use Rattle.gt_explore_trace.specs.declared.facts.TraceForm.{TraceForm}
 use Rattle.gt_explore_verdict.specs.Expressions.{Answers, Asked, conditions_in, of_all, of_domain, of_line}
 use Rattle.gt_explore_verdict.specs.Judging.{Means, judged, verdict_at}
 use Rattle.gt_explore_verdict.specs.Satisfying.{satisfies}
@@ -17,7 +18,7 @@ use Rattle.gt_explore_verdict.specs.declared.judging.Verdict.{Verdict}
 use Rattle.gt_explore_verdict.specs.declared.judging.Verdict.TheVariants.{Holds, Fails, Undecided}
 use Rattle.gt_explore_answers.specs.Texts.{AreDifferentTexts, IsTextAmong}
 use Rattle.gt_explore_answers.specs.Telling.{Found, counterexample_comment, heading, states_line, texts_told, witness_comment}
-use Rattle.gt_explore_answers.specs.Tracing.{IsDiagram, IsTrace}
+use Rattle.gt_explore_answers.specs.Tracing.{IsDiagram, IsTrace, ShowsMoves}
 use Rattle.gt_explore_answers.specs.Witness.{IsWitness, ShowsAfter}
 use Rattle.gt_explore_answers.specs.declared.asking.ExploreRequest.{ExploreRequest}
 use Rattle.gt_explore_answers.specs.declared.asking.ExploreRequest.TheVariants as requests
@@ -138,11 +139,15 @@ GivesWitness c number f text verdict = IsWitness c.head f.texts number text × (
 abbrev pub GivesWitnesses : RunContents → Found → List ℕ → Verdict → Type 0
 GivesWitnesses c f text verdict = TellsWitnesses c f 0 f.texts text × (verdict ≡ verdict_of_all f.whole)
 
--- the moves of an order that gives the text of a number
+-- the moves of an order that gives the text of a number, by the form
+abbrev pub GivesMoves : RunContents → TraceForm → ℕ → Found → List ℕ → Verdict → Type 0
+GivesMoves c form number f text verdict = ShowsMoves c f number form text × (verdict ≡ verdict_of_all f.whole)
+
+-- a line for each of these moves
 abbrev pub GivesTrace : RunContents → ℕ → Found → List ℕ → Verdict → Type 0
 GivesTrace c number f text verdict = IsTrace c f number text × (verdict ≡ verdict_of_all f.whole)
 
--- the moves of such an order as a sequence diagram
+-- the moves as a sequence diagram
 abbrev pub GivesDiagram : RunContents → ℕ → Found → List ℕ → Verdict → Type 0
 GivesDiagram c number f text verdict = IsDiagram c f number text × (verdict ≡ verdict_of_all f.whole)
 

@@ -11,7 +11,7 @@ ghost use Rattle.gt_explore_answers.specs.Texts.{texts_of_orders};
 ghost use Rattle.gt_explore_verdict.specs.Judging.{verdict_at};
 ghost use Rattle.gt_explore_verdict.specs.declared.judging.Claim.TheVariants.{Find};
 ghost use Rattle.gt_explore_verdict.specs.declared.judging.Verdict.{Verdict};
-ghost use Rattle.gt_explore_answers.specs.Exploring.{AreTextsOf, DecidesClaim, GivesDiagram, GivesTexts, GivesTrace};
+ghost use Rattle.gt_explore_answers.specs.Exploring.{AreTextsOf, DecidesClaim, GivesMoves, GivesTexts};
 ghost use Rattle.gt_explore_answers.specs.Exploring.{GivesWitness, GivesWitnesses, NumbersText};
 ghost use Rattle.gt_explore_answers.specs.Exploring.{TellsBy, TellsClaimBy, TellsVerdict, TellsWitnesses};
 ghost use Rattle.gt_explore_answers.specs.Exploring.{verdict_of_all};
@@ -27,10 +27,11 @@ use crate::telling::{
     push_counterexample, push_found_texts, push_place, push_unplayable, push_verdict,
     push_witness_comment,
 };
-use crate::tracing::{diagram_of, numbered, trace_of};
+use crate::tracing::{moves_shown, numbered};
 use crate::witness::witness_of;
 use gt_explore_faults::TextsFault;
 use gt_explore_search::FoundText;
+use gt_explore_trace::TraceForm;
 use gt_explore_verdict::{Claim, Condition, Judgement, Verdict, judge, verdict_at};
 use gt_script::RunScript;
 use gt_text::text_of;
@@ -330,37 +331,22 @@ fn witnesses(
     Ok(ExploreOutput { text, verdict })
 }
 
-// Returns the moves that lead to the text of this number.
-fn trace(
-    alloc: Global,
-    script: &RunScript,
-    found: &FoundTexts,
-    number: usize,
-) -> Result<ExploreOutput, TextsFault>
-    requires { CanConfigure (contents_told script.now.head) }
-    ensures { IfOk result (λ made. GivesTrace (run_told script.now) number (found_told found.now) made.text.items
-        made.verdict) }
-{
-    let text = trace_of(alloc, script, found, number)?;
-    let verdict = verdict_of_all(found.whole);
-    Ok(ExploreOutput { text, verdict })
-}
-
-/// Returns the moves that lead to the text of this number as a sequence diagram.
+/// Returns the moves that lead to the text of this number, in this form.
 ///
 /// # Errors
 /// `Witness` if no text has this number, `Astray` if the order of the text does not lead to it, and `Memory`.
-pub fn diagram(
+pub fn moves_told(
     alloc: Global,
+    form: TraceForm,
     script: &RunScript,
     found: &FoundTexts,
     number: usize,
 ) -> Result<ExploreOutput, TextsFault>
     requires { CanConfigure (contents_told script.now.head) }
-    ensures { IfOk result (λ made. GivesDiagram (run_told script.now) number (found_told found.now) made.text.items
+    ensures { IfOk result (λ made. GivesMoves (run_told script.now) form number (found_told found.now) made.text.items
         made.verdict) }
 {
-    let text = diagram_of(alloc, script, found, number)?;
+    let text = moves_shown(alloc, form, script, found, number)?;
     let verdict = verdict_of_all(found.whole);
     Ok(ExploreOutput { text, verdict })
 }
@@ -390,7 +376,11 @@ pub fn answer_in_text(
         ExploreRequest::Has(text) => number_of(alloc, found, text),
         ExploreRequest::Witness(number) => witness(alloc, source, script, found, number),
         ExploreRequest::Witnesses => witnesses(alloc, source, script, found),
-        ExploreRequest::Trace(number) => trace(alloc, script, found, number),
-        ExploreRequest::Diagram(number) => diagram(alloc, script, found, number),
+        ExploreRequest::Trace(number) => {
+            moves_told(alloc, TraceForm::Text, script, found, number)
+        }
+        ExploreRequest::Diagram(number) => {
+            moves_told(alloc, TraceForm::Mermaid, script, found, number)
+        }
     }
 }

@@ -3,14 +3,17 @@ ghost use Rattle.std.specs.Prelude.{◌≡◌, ◌++◌, IfOk};
 ghost use Rattle.gt_explore_answers.specs.Objects.{summary};
 ghost use Rattle.gt_explore_answers.specs.Telling.{found_told};
 
-use crate::answering::{ExploreOutput, diagram, place_of, script_of, verdict_of_all, verdict_on};
+use crate::answering::{
+    ExploreOutput, moves_told, place_of, script_of, verdict_of_all, verdict_on,
+};
 use crate::asking::ExploreRequest;
 use crate::conditions::satisfied;
 use crate::found::FoundTexts;
 use crate::objects::{push_summary, push_text_object, push_witness_object};
-use crate::tracing::trace_objects;
+use crate::tracing::moves_shown;
 use gt_explore_faults::TextsFault;
 use gt_explore_search::FoundText;
+use gt_explore_trace::TraceForm;
 use gt_explore_verdict::{Claim, Condition, Verdict, judge};
 use gt_script::RunScript;
 use std::alloc::Global;
@@ -66,10 +69,12 @@ impl ObjectWriter<'_, '_> {
     {
         let text = order.text.as_slice();
         if !scripts {
-            return push_text_object(self.alloc, out, self.found, number, text);
+            push_text_object(self.alloc, out, self.found, number, text)?;
+            return Ok(());
         }
         let script = script_of(self.alloc, self.source, self.script, order)?;
-        push_witness_object(self.alloc, out, self.found, number, text, script.as_slice())
+        push_witness_object(self.alloc, out, self.found, number, text, script.as_slice())?;
+        Ok(())
     }
 
     // Appends the object of a text, if it is wanted.
@@ -228,7 +233,7 @@ impl ObjectWriter<'_, '_> {
         ensures { IfOk result (λ made. ShowsObjects limit (ShowsTrace (run_told self.now.script.now) number)
             (found_told self.now.found.now) made.text.items made.verdict) }
     {
-        let text = trace_objects(self.alloc, self.script, self.found, number)?;
+        let text = moves_shown(self.alloc, TraceForm::Json, self.script, self.found, number)?;
         ended(text, self.found, limit, verdict_of_all(self.found.whole))
     }
 
@@ -256,7 +261,13 @@ impl ObjectWriter<'_, '_> {
             ExploreRequest::Witnesses => self.all(limit, true),
             ExploreRequest::Trace(number) => self.traced(limit, number),
             ExploreRequest::Diagram(number) => {
-                diagram(self.alloc, self.script, self.found, number)
+                moves_told(
+                    self.alloc,
+                    TraceForm::Mermaid,
+                    self.script,
+                    self.found,
+                    number,
+                )
             }
         }
     }

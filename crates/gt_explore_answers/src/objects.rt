@@ -1,5 +1,5 @@
 //! The output as JSON: an object for each text that is shown, and one with the verdict at the end.
-ghost use Rattle.std.specs.Prelude.{◌≡◌, ◌++◌, IfOk, OnOk, map, true};
+ghost use Rattle.std.specs.Prelude.{◌≡◌, ◌++◌, IfOk, OnOk, codes, map, true};
 ghost use Rattle.gt_explore_answers.specs.Objects.{bool_name, comma, depth_member, is_nonempty, items_from, lines_member};
 ghost use Rattle.gt_explore_answers.specs.Objects.{object_start, search_members, summary, text_lines, text_object, verdict_name};
 ghost use Rattle.gt_explore_answers.specs.Objects.{witness_member, witness_object};
@@ -7,10 +7,10 @@ ghost use Rattle.gt_explore_answers.specs.Telling.{found_told};
 ghost use Rattle.gt_json.specs.Strings.{quoted};
 
 use crate::found::FoundTexts;
-use gt_explore_faults::TextsFault;
+use crate::telling::push_count;
 use gt_explore_verdict::Verdict;
 use gt_json::push_quoted;
-use gt_text::{push_number, push_text};
+use gt_text::push_text;
 use std::alloc::{AllocError, Global};
 
 // Returns whether a line is not empty.
@@ -44,16 +44,18 @@ fn push_item(out: &mut Vec<u8>, is_first: bool, line: &[u8]) -> Result<(), Alloc
     push_quoted(out, line)
 }
 
-// Appends lines as the items of an array.
-fn push_items(out: &mut Vec<u8>, lines: &[&[u8]]) -> Result<(), AllocError>
-    ensures { OnOk result (out.new.items ≡ out.old.items ++ items_from true (map (λ l. l.now) lines.now)) }
+// Appends lines as an array.
+fn push_array(out: &mut Vec<u8>, lines: &[&[u8]]) -> Result<(), AllocError>
+    ensures { OnOk result (out.new.items
+        ≡ out.old.items ++ codes ",\"lines\":[" ++ items_from true (map (λ l. l.now) lines.now) ++ codes "]") }
 {
+    push_text(out, ",\"lines\":[")?;
     let mut is_first = true;
     'lines: for line in lines {
         push_item(out, is_first, *line)?;
         is_first = false;
     }
-    Ok(())
+    push_text(out, "]")
 }
 
 // Appends the lines of a text.
@@ -62,9 +64,7 @@ fn push_lines_member(alloc: Global, out: &mut Vec<u8>, text: &[u8]) -> Result<()
     ensures { OnOk result (out.new.items ≡ out.old.items ++ lines_member text.now) }
 {
     let lines = text_lines(alloc, text)?;
-    push_text(out, ",\"lines\":[")?;
-    push_items(out, lines.as_slice())?;
-    push_text(out, "]")
+    push_array(out, lines.as_slice())
 }
 
 // Appends the number of a text, how many there are, and its lines.
@@ -78,10 +78,8 @@ fn push_object_start(
 ) -> Result<(), AllocError>
     ensures { OnOk result (out.new.items ≡ out.old.items ++ object_start (found_told found.now) number text.now) }
 {
-    push_text(out, "{\"text\":")?;
-    push_number(out, number)?;
-    push_text(out, ",\"of\":")?;
-    push_number(out, found.texts.len())?;
+    push_count(out, "{\"text\":", number)?;
+    push_count(out, ",\"of\":", found.texts.len())?;
     push_lines_member(alloc, out, text)
 }
 
@@ -100,12 +98,11 @@ pub fn push_text_object(
     found: &FoundTexts,
     number: usize,
     text: &[u8],
-) -> Result<(), TextsFault>
+) -> Result<(), AllocError>
     ensures { OnOk result (out.new.items ≡ out.old.items ++ text_object (found_told found.now) number text.now) }
 {
     push_object_start(alloc, out, found, number, text)?;
-    push_text(out, "}\n")?;
-    Ok(())
+    push_text(out, "}\n")
 }
 
 /// Appends the object of a text, with a script for `play`.
@@ -116,14 +113,13 @@ pub fn push_witness_object(
     number: usize,
     text: &[u8],
     script: &[u8],
-) -> Result<(), TextsFault>
+) -> Result<(), AllocError>
     ensures { OnOk result (out.new.items
         ≡ out.old.items ++ witness_object (found_told found.now) number text.now script.now) }
 {
     push_object_start(alloc, out, found, number, text)?;
     push_witness_member(out, script)?;
-    push_text(out, "}\n")?;
-    Ok(())
+    push_text(out, "}\n")
 }
 
 fn verdict_name(verdict: Verdict) -> &'static str
@@ -151,10 +147,8 @@ fn push_search_members(
 ) -> Result<(), AllocError>
     ensures { OnOk result (out.new.items ≡ out.old.items ++ search_members (found_told found.now) limit) }
 {
-    push_text(out, "{\"states\":")?;
-    push_number(out, found.states)?;
-    push_text(out, ",\"limit\":")?;
-    push_number(out, limit)?;
+    push_count(out, "{\"states\":", found.states)?;
+    push_count(out, ",\"limit\":", limit)?;
     push_text(out, ",\"whole\":")?;
     push_text(out, bool_name(found.whole))
 }
@@ -166,8 +160,7 @@ fn push_depth_member(out: &mut Vec<u8>, found: &FoundTexts) -> Result<(), AllocE
     if found.whole {
         return Ok(());
     }
-    push_text(out, ",\"depth\":")?;
-    push_number(out, found.depth)
+    push_count(out, ",\"depth\":", found.depth)
 }
 
 /// Appends the last object: the numbers of the search, and the verdict.

@@ -1,5 +1,5 @@
 //! The output of `explore`: texts under their numbers, verdicts, and the comments over scripts.
-ghost use Rattle.std.specs.Prelude.{◌≡◌, ◌++◌, ◌<◌, [], codes, decimal, if◌then◌else◌, length, IfOk, IfSome, OnOk};
+ghost use Rattle.std.specs.Prelude.{◌≡◌, ◌++◌, ◌<◌, [], codes, decimal, if◌then◌else◌, length, IfSome, OnOk};
 ghost use Rattle.std.specs.List.{flat_map};
 ghost use Rattle.gt_explore_answers.specs.Exploring.{number_told, verdict_line};
 ghost use Rattle.gt_explore_answers.specs.Telling.{comment_byte, commented, counterexample_comment, counterexample_lines};
@@ -7,6 +7,7 @@ ghost use Rattle.gt_explore_answers.specs.Telling.{found_told, heading};
 ghost use Rattle.gt_explore_answers.specs.Telling.{states_line, states_told, text_shown, texts_listed, texts_told};
 ghost use Rattle.gt_explore_answers.specs.Telling.{unplayable_line, witness_comment};
 ghost use Rattle.gt_explore_answers.specs.Texts.{texts_of_orders};
+ghost use Rattle.gt_explore_answers.specs.Tracing.{heading_line};
 
 use crate::found::FoundTexts;
 use gt_explore_search::FoundText;
@@ -14,6 +15,14 @@ use gt_explore_verdict::Verdict;
 use gt_text::{push_number, push_text};
 use gt_types::DomId;
 use std::alloc::{AllocError, Global};
+
+/// Appends a text and a number.
+pub fn push_count(out: &mut Vec<u8>, before: &str, count: usize) -> Result<(), AllocError>
+    ensures { OnOk result (out.new.items ≡ out.old.items ++ before.now ++ decimal count) }
+{
+    push_text(out, before)?;
+    push_number(out, count)
+}
 
 // Returns the words between the number of a text and that of all texts.
 fn of_count(whole: bool) -> &'static str
@@ -32,10 +41,20 @@ pub fn push_heading(
 ) -> Result<(), AllocError>
     ensures { OnOk result (out.new.items ≡ out.old.items ++ heading whole count number) }
 {
-    push_text(out, "text ")?;
-    push_number(out, number)?;
-    push_text(out, of_count(whole))?;
-    push_number(out, count)
+    push_count(out, "text ", number)?;
+    push_count(out, of_count(whole), count)
+}
+
+/// Appends the number of a text as a line.
+pub fn push_heading_line(
+    out: &mut Vec<u8>,
+    found: &FoundTexts,
+    number: usize,
+) -> Result<(), AllocError>
+    ensures { OnOk result (out.new.items ≡ out.old.items ++ heading_line (found_told found.now) number) }
+{
+    push_heading(out, found.whole, found.texts.len(), number)?;
+    push_text(out, "\n")
 }
 
 // Appends a text under its number, if it is wanted.
@@ -92,8 +111,7 @@ fn push_limit(out: &mut Vec<u8>, found: &FoundTexts) -> Result<(), AllocError>
     if found.whole {
         return Ok(());
     }
-    push_text(out, ", depth ")?;
-    push_number(out, found.depth)?;
+    push_count(out, ", depth ", found.depth)?;
     push_text(out, ": not all texts; raise --states")
 }
 
@@ -102,8 +120,7 @@ fn push_limit(out: &mut Vec<u8>, found: &FoundTexts) -> Result<(), AllocError>
 fn push_states(out: &mut Vec<u8>, found: &FoundTexts) -> Result<(), AllocError>
     ensures { OnOk result (out.new.items ≡ out.old.items ++ states_told (found_told found.now)) }
 {
-    push_text(out, "states ")?;
-    push_number(out, found.states)?;
+    push_count(out, "states ", found.states)?;
     push_limit(out, found)
 }
 
@@ -161,10 +178,8 @@ pub fn push_place(
     requires { IfSome place (λ at. at < length found.now.texts.items) }
     ensures { OnOk result (out.new.items ≡ out.old.items ++ number_told (found_told found.now) place) }
 {
-    let count = found.texts.len();
     if let Some(at) = place {
-        push_heading(out, found.whole, count, at + 1)?;
-        push_text(out, "\n")?;
+        push_heading_line(out, found, at + 1)?;
     }
     push_states_line(out, found)
 }
@@ -194,24 +209,21 @@ fn push_commented(out: &mut Vec<u8>, text: &[u8]) -> Result<(), AllocError>
     push_text(out, "\n")
 }
 
-// Returns the lines of the comment over a script that shows that a claim does not hold.
+// Appends what the comment over a script says that shows that a claim does not hold.
 #[tactic(auto, unfolding(crate::specs::Telling::counterexample_lines))]
-fn counterexample_lines(
-    alloc: Global,
+fn push_counterexample_lines(
+    out: &mut Vec<u8>,
     found: &FoundTexts,
     number: usize,
     text: &[u8],
-) -> Result<Vec<u8>, AllocError>
-    ensures { IfOk result (λ lines. lines.items
-        ≡ counterexample_lines (found_told found.now) number text.now) }
+) -> Result<(), AllocError>
+    ensures { OnOk result (out.new.items
+        ≡ out.old.items ++ counterexample_lines (found_told found.now) number text.now) }
 {
-    let mut lines = Vec::new(alloc);
-    push_text(&mut lines, "does not hold: ")?;
-    push_heading(&mut lines, found.whole, found.texts.len(), number)?;
-    push_text(&mut lines, "\n")?;
-    lines.extend_from_slice(text)?;
-    push_states(&mut lines, found)?;
-    Ok(lines)
+    push_text(out, "does not hold: ")?;
+    push_heading_line(out, found, number)?;
+    out.extend_from_slice(text)?;
+    push_states(out, found)
 }
 
 /// Appends the comment over a script that shows that a claim does not hold.
@@ -225,7 +237,8 @@ pub fn push_counterexample(
     ensures { OnOk result (out.new.items
         ≡ out.old.items ++ counterexample_comment (found_told found.now) number text.now) }
 {
-    let lines = counterexample_lines(alloc, found, number, text)?;
+    let mut lines = Vec::new(alloc);
+    push_counterexample_lines(&mut lines, found, number, text)?;
     push_commented(out, lines.as_slice())
 }
 

@@ -6,13 +6,13 @@ ghost use Rattle.gt_script.specs.RunScripts.{CanConfigure};
 ghost use Rattle.gt_explore_trace.specs.Moves.{GivesText};
 ghost use Rattle.gt_explore_answers.specs.Texts.{texts_of_orders};
 ghost use Rattle.gt_explore_answers.specs.Telling.{found_told, states_line};
-ghost use Rattle.gt_explore_answers.specs.Tracing.{IsDiagram, IsTrace, TracesText, diagram_shown, heading_line, title_text};
+ghost use Rattle.gt_explore_answers.specs.Tracing.{ShowsMoves, diagram_shown, moves_shown, objects_shown, title_text};
 ghost use Rattle.gt_explore_answers.specs.Tracing.{trace_shown};
 ghost use Rattle.gt_explore_answers.specs.Witness.{IsTextNumbered};
 
 use crate::found::FoundTexts;
 use crate::objects::push_text_object;
-use crate::telling::{push_heading, push_states_line};
+use crate::telling::{push_heading_line, push_states_line};
 use gt_explore_faults::TextsFault;
 use gt_explore_search::FoundText;
 use gt_explore_trace::{TraceForm, TracedMove, push_participants, push_trace, traced};
@@ -55,30 +55,21 @@ fn moves_of(
     Ok(made.moves)
 }
 
-// Appends the number of a text as a line.
-fn push_heading_line(out: &mut Vec<u8>, found: &FoundTexts, number: usize) -> Result<(), AllocError>
-    ensures { OnOk result (out.new.items ≡ out.old.items ++ heading_line (found_told found.now) number) }
-{
-    push_heading(out, found.whole, found.texts.len(), number)?;
-    push_text(out, "\n")
-}
-
-// Returns a line for each move.
-fn trace_shown(
+// Appends a line for each move.
+fn push_trace_shown(
     alloc: Global,
+    out: &mut Vec<u8>,
     script: &RunScript,
     found: &FoundTexts,
     number: usize,
     moves: &[TracedMove],
-) -> Result<Vec<u8>, AllocError>
-    ensures { IfOk result (λ text. text.items
-        ≡ trace_shown (run_told script.now) (found_told found.now) number moves.now) }
+) -> Result<(), AllocError>
+    ensures { OnOk result (out.new.items
+        ≡ out.old.items ++ trace_shown (run_told script.now) (found_told found.now) number moves.now) }
 {
-    let mut text = Vec::new(alloc);
-    push_heading_line(&mut text, found, number)?;
-    push_trace(alloc, &mut text, script, TraceForm::Text, moves)?;
-    push_states_line(&mut text, found)?;
-    Ok(text)
+    push_heading_line(out, found, number)?;
+    push_trace(alloc, out, script, TraceForm::Text, moves)?;
+    push_states_line(out, found)
 }
 
 // Appends the title of a sequence diagram.
@@ -97,78 +88,90 @@ fn push_last_comment(out: &mut Vec<u8>, found: &FoundTexts) -> Result<(), AllocE
     push_states_line(out, found)
 }
 
-// Returns a sequence diagram of the moves.
-fn diagram_shown(
+// Appends a sequence diagram of the moves.
+fn push_diagram_shown(
     alloc: Global,
+    out: &mut Vec<u8>,
     script: &RunScript,
     found: &FoundTexts,
     number: usize,
     moves: &[TracedMove],
-) -> Result<Vec<u8>, AllocError>
-    ensures { IfOk result (λ text. text.items
-        ≡ diagram_shown (run_told script.now) (found_told found.now) number moves.now) }
+) -> Result<(), AllocError>
+    ensures { OnOk result (out.new.items
+        ≡ out.old.items ++ diagram_shown (run_told script.now) (found_told found.now) number moves.now) }
 {
-    let mut text = Vec::new(alloc);
-    push_title(&mut text, found, number)?;
-    push_participants(&mut text, script.head().domains())?;
-    push_trace(alloc, &mut text, script, TraceForm::Mermaid, moves)?;
-    push_last_comment(&mut text, found)?;
-    Ok(text)
+    push_title(out, found, number)?;
+    push_participants(out, script.head().domains())?;
+    push_trace(alloc, out, script, TraceForm::Mermaid, moves)?;
+    push_last_comment(out, found)
 }
 
-/// Returns the moves that lead to the text of this number among those that were found, a line each.
+// Appends the object of a text, and one for each of the moves that lead to it.
+fn push_objects_shown(
+    alloc: Global,
+    out: &mut Vec<u8>,
+    script: &RunScript,
+    found: &FoundTexts,
+    number: usize,
+    text: &[u8],
+    moves: &[TracedMove],
+) -> Result<(), AllocError>
+    ensures { OnOk result (out.new.items
+        ≡ out.old.items ++ objects_shown (run_told script.now) (found_told found.now) number text.now moves.now) }
+{
+    push_text_object(alloc, out, found, number, text)?;
+    push_trace(alloc, out, script, TraceForm::Json, moves)
+}
+
+// Appends the moves that lead to a text, in this form.
+fn push_moves(
+    alloc: Global,
+    out: &mut Vec<u8>,
+    form: TraceForm,
+    script: &RunScript,
+    found: &FoundTexts,
+    number: usize,
+    text: &[u8],
+    moves: &[TracedMove],
+) -> Result<(), AllocError>
+    ensures { OnOk result (out.new.items
+        ≡ out.old.items ++ moves_shown (run_told script.now) (found_told found.now) number form text.now moves.now) }
+{
+    match form {
+        TraceForm::Text => push_trace_shown(alloc, out, script, found, number, moves),
+        TraceForm::Mermaid => push_diagram_shown(alloc, out, script, found, number, moves),
+        TraceForm::Json => push_objects_shown(alloc, out, script, found, number, text, moves),
+    }
+}
+
+/// Returns the moves that lead to the text of this number among those that were found: a line each, as a sequence
+/// diagram of mermaid, or the object of the text and one for each move.
 ///
 /// # Errors
 /// `Witness` if no text has this number, `Astray` if the order of the text does not lead to it, and `Memory`.
-pub fn trace_of(
+pub fn moves_shown(
     alloc: Global,
+    form: TraceForm,
     script: &RunScript,
     found: &FoundTexts,
     number: usize,
 ) -> Result<Vec<u8>, TextsFault>
     requires { CanConfigure (contents_told script.now.head) }
-    ensures { IfOk result (λ text. IsTrace (run_told script.now) (found_told found.now) number text.items) }
+    ensures { IfOk result (λ text. ShowsMoves (run_told script.now) (found_told found.now) number form text.items) }
 {
     let order = numbered(found, number)?;
     let moves = moves_of(alloc, script, order)?;
-    Ok(trace_shown(alloc, script, found, number, moves.as_slice())?)
-}
-
-/// Returns the same moves as a sequence diagram of mermaid.
-///
-/// # Errors
-/// As those of `trace_of`.
-pub fn diagram_of(
-    alloc: Global,
-    script: &RunScript,
-    found: &FoundTexts,
-    number: usize,
-) -> Result<Vec<u8>, TextsFault>
-    requires { CanConfigure (contents_told script.now.head) }
-    ensures { IfOk result (λ text. IsDiagram (run_told script.now) (found_told found.now) number text.items) }
-{
-    let order = numbered(found, number)?;
-    let moves = moves_of(alloc, script, order)?;
-    Ok(diagram_shown(alloc, script, found, number, moves.as_slice())?)
-}
-
-/// Returns the object of the text of this number, and one for each of the moves that lead to it.
-///
-/// # Errors
-/// As those of `trace_of`.
-pub fn trace_objects(
-    alloc: Global,
-    script: &RunScript,
-    found: &FoundTexts,
-    number: usize,
-) -> Result<Vec<u8>, TextsFault>
-    requires { CanConfigure (contents_told script.now.head) }
-    ensures { IfOk result (λ text. TracesText (run_told script.now) (found_told found.now) number text.items) }
-{
-    let order = numbered(found, number)?;
-    let moves = moves_of(alloc, script, order)?;
-    let mut text = Vec::new(alloc);
-    push_text_object(alloc, &mut text, found, number, order.text.as_slice())?;
-    push_trace(alloc, &mut text, script, TraceForm::Json, moves.as_slice())?;
-    Ok(text)
+    let text = order.text.as_slice();
+    let mut out = Vec::new(alloc);
+    push_moves(
+        alloc,
+        &mut out,
+        form,
+        script,
+        found,
+        number,
+        text,
+        moves.as_slice(),
+    )?;
+    Ok(out)
 }

@@ -6,7 +6,7 @@ use crate::adding::{Place, push_of_word, push_quiet};
 use crate::fault::{message_of, said_of};
 use crate::findings::{Finding, FindingKind};
 use crate::granting::names_type;
-use crate::members::{Member, is_same, members_of};
+use crate::members::{Member, is_same, members_of, push_members};
 use crate::useless::allows_something;
 use gt_policy::{LinedStatement, Statement, TextPiece};
 use std::alloc::{AllocError, Global};
@@ -31,8 +31,7 @@ pub(crate) fn worn_members<'a>(
     };
     let mut members = Vec::new(alloc);
     for name in names {
-        let mut named = members_of(alloc, statements, Some(*name))?;
-        members.append(&mut named)?;
+        push_members(alloc, &mut members, statements, Some(*name))?;
     }
     Ok(members)
 }

@@ -108,6 +108,23 @@ fn push_member<'a>(
     Ok(())
 }
 
+/// Adds the declared types with this name, their own or that of an attribute, in the order of their declarations; all
+/// for None.
+pub(crate) fn push_members<'a>(
+    alloc: Global,
+    members: &mut Vec<Member<'a>>,
+    statements: &[LinedStatement<'a>],
+    asked: Option<&str>,
+) -> Result<(), AllocError>
+    ensures { OnOk result (members.new.items
+        ≡ members.old.items ++ members_of statements.now (option_map (λ a. a.now) asked.entry)) }
+{
+    'statements: for statement in statements {
+        push_member(alloc, members, statements, &statement.statement, asked)?;
+    }
+    Ok(())
+}
+
 /// Returns the declared types with this name, their own or that of an attribute, in the order of their declarations;
 /// all for None.
 pub fn members_of<'a>(
@@ -118,8 +135,6 @@ pub fn members_of<'a>(
     ensures { IfOk result (λ v. v.items ≡ members_of statements.now (option_map (λ a. a.now) asked.entry)) }
 {
     let mut members = Vec::new(alloc);
-    'statements: for statement in statements {
-        push_member(alloc, &mut members, statements, &statement.statement, asked)?;
-    }
+    push_members(alloc, &mut members, statements, asked)?;
     Ok(members)
 }

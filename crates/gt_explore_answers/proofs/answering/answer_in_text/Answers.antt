@@ -21,7 +21,7 @@ pub returns-in-Witnesses : goal.returns-in-Witnesses
 returns-in-Witnesses c = made_so (run_told c.args.script.now) (map told c.args.conditions.now) (found_told c.args.found.now) c.args.request _ c.witnesses.result c.in-Witnesses.is c.witnesses.ensures
 
 pub returns-in-Trace : goal.returns-in-Trace
-returns-in-Trace c = made_so (run_told c.args.script.now) (map told c.args.conditions.now) (found_told c.args.found.now) c.args.request _ c.trace.result c.in-Trace.is c.trace.ensures
+returns-in-Trace c = made_so (run_told c.args.script.now) (map told c.args.conditions.now) (found_told c.args.found.now) c.args.request _ c.moves_told.result c.in-Trace.is c.moves_told.ensures
 
 pub returns-in-Diagram : goal.returns-in-Diagram
-returns-in-Diagram c = made_so (run_told c.args.script.now) (map told c.args.conditions.now) (found_told c.args.found.now) c.args.request _ c.diagram.result c.in-Diagram.is c.diagram.ensures
+returns-in-Diagram c = made_so (run_told c.args.script.now) (map told c.args.conditions.now) (found_told c.args.found.now) c.args.request _ c.moves_told-in-Diagram.result c.in-Diagram.is c.moves_told-in-Diagram.ensures

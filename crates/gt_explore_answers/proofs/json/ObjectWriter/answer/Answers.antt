@@ -22,3 +22,6 @@ returns-in-Witnesses c = shown_so (run_told c.args.self.now.script.now) c.args.l
 
 pub returns-in-Trace : goal.returns-in-Trace
 returns-in-Trace c = shown_so (run_told c.args.self.now.script.now) c.args.limit (map told c.args.conditions.now) (found_told c.args.self.now.found.now) c.args.request _ c.traced.result c.in-Trace.is c.traced.ensures
+
+pub returns-in-Diagram : goal.returns-in-Diagram
+returns-in-Diagram c = shown_so (run_told c.args.self.now.script.now) c.args.limit (map told c.args.conditions.now) (found_told c.args.self.now.found.now) c.args.request _ c.moves_told.result c.in-Diagram.is c.moves_told.ensures
