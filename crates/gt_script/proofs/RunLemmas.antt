@@ -1,14 +1,18 @@
 -- What a script for `run` says.
 use Rattle.std.proofs.Common.{◌≡◌, inl, inr, ℕ, List, length, Result, Ok, Err, refl, sym, ap, ◌∙◌}
-use Rattle.std.proofs.Common.{subst, All, IsTrue, IfOk}
+use Rattle.std.proofs.Common.{subst, All, IsTrue, IfOk, ◌+◌, ◌<◌, ◌==◌, ◌++◌, ◌∷◌, [], Bool, true, false, Bor, map, take, get_or, add-one}
+use Rattle.std.proofs.Math.Seq.{take-suc}
+use Rattle.std.proofs.lemmas.List.{append-nil, map-append}
+use Rattle.std.proofs.lemmas.List.Elements.{filter-append}
 use Rattle.gt_types.specs.Config.{is_taken}
+use Rattle.gt_types.specs.declared.DomId.{DomId}
 use Rattle.gt_types.specs.declared.config.DomainConfig.{DomainConfig}
 use Rattle.gt_script.specs.Contents.{Contents, contents_told, without_orders}
 use Rattle.gt_script.specs.Flags.{flag_names_of}
 use Rattle.gt_script.specs.Laws.{IsScriptFor}
 use Rattle.gt_script.specs.Outcomes.{AnswersScript}
 use Rattle.gt_script.specs.RunContents.{RunContents}
-use Rattle.gt_script.specs.RunScripts.{CanConfigure, ComeToEnd, RunSays, RunTells, RunAnswers}
+use Rattle.gt_script.specs.RunScripts.{CanConfigure, ComeToEnd, list_of, RunSays, RunTells, RunAnswers}
 use Rattle.gt_script.specs.Script.{Wrong, TellsFor}
 use Rattle.gt_script.specs.Stuck.{AreNumbered}
 use Rattle.gt_script.specs.Tasks.{tasks_numbered, tasks_of}
@@ -81,3 +85,25 @@ ordered lines c (inr s) = s.parts.ordered
 pub flags-numbered : (c : Contents) (r : Result RunScript ScriptError) → RunAnswers r (RunSays c) → IfOk r (λ s. AreNumbered s.flags s.tasks)
 flags-numbered c (Ok s) h = numbered c.orders s.flags s.tasks (ap (λ (k : RunContents). k.flags) h.1) (ap (λ (k : RunContents). k.tasks) h.1)
 flags-numbered c (Err e) h = tt
+
+-- the list of a domain after one task more
+
+list-more : (tasks : List RunTask) (dom : DomId) (i : ℕ) (x : RunTask) → i < length tasks → x ≡ get_or tasks i x → list_of (take (i + 1) tasks) dom ≡ list_of (take i tasks) dom ++ list_of (x ∷ []) dom
+list-more tasks dom i x within here =
+    let front : take (i + 1) tasks ≡ take i tasks ++ get_or tasks i x ∷ [] = rw add-one (take-suc tasks i x within) in
+    ap (λ (ts : List RunTask). list_of ts dom) (front ∙ ap (λ (t : RunTask). take i tasks ++ t ∷ []) (sym here))
+    ∙ filter-append (λ (t : RunTask). t.dom.0 == dom.0) (take i tasks) (x ∷ [])
+
+pub list-own : (tasks : List RunTask) (dom : DomId) (i : ℕ) (x : RunTask) (refs new : List (Bor RunTask)) (ref : Bor RunTask) (b : Bool) → i < length tasks → x ≡ get_or tasks i x → b ≡ (x.dom.0 == dom.0) → b ≡ true
+    → map (λ t. t.now) refs ≡ list_of (take i tasks) dom → new ≡ refs ++ ref ∷ [] → ref.now ≡ x → map (λ t. t.now) new ≡ list_of (take (i + 1) tasks) dom
+list-own tasks dom i x refs new ref b within here asked holds so_far push same =
+    let own : list_of (x ∷ []) dom ≡ x ∷ [] = rw (sym asked ∙ holds) refl in
+    ap (map (λ (t : Bor RunTask). t.now)) push ∙ map-append (λ (t : Bor RunTask). t.now) refs (ref ∷ [])
+    ∙ ap (λ (ts : List RunTask). ts ++ ref.now ∷ []) so_far ∙ ap (λ (t : RunTask). list_of (take i tasks) dom ++ t ∷ []) same
+    ∙ ap (λ (ts : List RunTask). list_of (take i tasks) dom ++ ts) (sym own) ∙ sym (list-more tasks dom i x within here)
+
+pub list-other : (tasks : List RunTask) (dom : DomId) (i : ℕ) (x : RunTask) (refs : List (Bor RunTask)) (b : Bool) → i < length tasks → x ≡ get_or tasks i x → b ≡ (x.dom.0 == dom.0) → b ≡ false
+    → map (λ t. t.now) refs ≡ list_of (take i tasks) dom → map (λ t. t.now) refs ≡ list_of (take (i + 1) tasks) dom
+list-other tasks dom i x refs b within here asked fails so_far =
+    let none : list_of (x ∷ []) dom ≡ [] = rw (sym asked ∙ fails) refl in
+    so_far ∙ sym (append-nil (list_of (take i tasks) dom)) ∙ ap (λ (ts : List RunTask). list_of (take i tasks) dom ++ ts) (sym none) ∙ sym (list-more tasks dom i x within here)
