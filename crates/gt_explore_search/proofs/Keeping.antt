@@ -3,7 +3,7 @@ use Rattle.std.proofs.Common.{◌≡◌, ◌⊎◌, ◌<◌, ◌≤◌, ◌+◌,
 use Rattle.std.proofs.Common.{arith, subst, inl, inr, Some, None, slice_get, append_assoc, length-append, length-drop}
 use Rattle.std.proofs.lemmas.List.{append-nil, drop_at, drop-append-le, take_all, take-append-le}
 use Rattle.std.proofs.lemmas.Option.{none-some, same_Some, slice_get_within}
-use Rattle.gt_explore_search.specs.Numbers.{AreCut, IsKeptAs, lists_cut}
+use Rattle.gt_explore_search.specs.Numbers.{AllBelow, AreCut, IsKeptAs, lists_cut}
 
 -- lists that grow
 
@@ -27,6 +27,15 @@ both_more xs ys zs (a, first) (b, second) = (a ++ b, second ∙ ap (λ l. l ++ b
 
 pub within_more : {X : Type 0} (xs ys : List X) (n : ℕ) → (more : List X) × (ys ≡ xs ++ more) → n < length xs → n < length ys
 within_more xs ys n (more, is) lt = let len : length ys ≡ length xs + length more = ap length is ∙ length-append xs more in omega (arith, lt, len)
+
+pub length_grown : {X : Type 0} (xs ys : List X) → (more : List X) × (ys ≡ xs ++ more) → length xs ≤ length ys
+length_grown xs ys (more, is) = let len : length ys ≡ length xs + length more = ap length is ∙ length-append xs more in omega (arith, len)
+
+-- numbers below a number
+
+pub below_more : (a b : ℕ) (ns : List ℕ) → a ≤ b → AllBelow a ns → AllBelow b ns
+below_more a b [] le has = tt
+below_more a b (n ∷ ns) le has = let first = has.0 in (omega (arith, first), below_more a b ns le has.1)
 
 -- lists with ends
 

@@ -4,5 +4,6 @@ pub mod Growing
 pub mod Keeping
 pub mod Listing
 pub mod Numbering
+pub mod Packing
 pub mod Trying
 pub mod Partial

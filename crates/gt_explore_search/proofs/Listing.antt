@@ -1,6 +1,6 @@
 -- What lists of answers say stays when lines and lists are added.
-use Rattle.std.proofs.Common.{◌≡◌, ◌⊎◌, ◌<◌, ◌≤◌, ◌==◌, ℕ, zero, suc, Bool, true, false, List, [], ◌∷◌, ◌++◌, length, ap}
-use Rattle.std.proofs.Common.{sym, ◌∙◌, refl, subst, arith, inl, inr, append_assoc, length-append}
+use Rattle.std.proofs.Common.{◌≡◌, ◌⊎◌, ◌<◌, ◌==◌, ℕ, zero, suc, Bool, true, false, List, [], ◌∷◌, ◌++◌, length, ap}
+use Rattle.std.proofs.Common.{sym, ◌∙◌, refl, subst, arith, inl, inr, append_assoc}
 use Rattle.std.proofs.Common.{Option, None, Some, slice_get, ◌&&◌, if◌then◌else◌}
 use borrow.Author.Tests.{eqb-true}
 use Rattle.std.proofs.Common.{◌+◌, nat_eq}
@@ -10,12 +10,12 @@ use Rattle.std.specs.Global.{Vec}
 use Rattle.std.specs.List.{flat_map, range_with_len}
 use Rattle.std.proofs.Common.{get_or, take}
 use lib.Pointwise.{pointwise}
-use Rattle.gt_explore_search.specs.Lists.{AllBelow, items_at, printed_of, rest_by, line_by, HasLine, HasListAt}
+use Rattle.gt_explore_search.specs.Lists.{items_at, printed_of, rest_by, line_by, HasLine, HasListAt}
 use Rattle.gt_explore_search.specs.Lists.{AreWhole, HasItsLine, GrowsInto, IsLonger}
-use Rattle.gt_explore_search.specs.Numbers.{IsKeptAs}
+use Rattle.gt_explore_search.specs.Numbers.{AllBelow, IsKeptAs}
 use Rattle.gt_explore_search.specs.declared.suffixes.AnswerLine.{AnswerLine}
 use Rattle.gt_explore_search.specs.declared.suffixes.AnswerLists.{AnswerLists}
-use Rattle.gt_explore_search.proofs.Keeping.{both_more, get_grown, kept_either, kept_more, kept_there, kept_within, no_more, within_more}
+use Rattle.gt_explore_search.proofs.Keeping.{below_more, both_more, get_grown, kept_either, kept_more, kept_there, kept_within, length_grown, no_more, within_more}
 
 -- lists of which each element is that of the other
 pub same_items : {X : Type 0} (E : X → X → Bool) → ((x y : X) → E x y ≡ true → x ≡ y) → (xs ys : List X) → pointwise E xs ys ≡ true → xs ≡ ys
@@ -51,14 +51,6 @@ pub items_none : {X : Type 0} (vs : List (Vec X)) (n : ℕ) → slice_get vs n �
 items_none [] n is = refl
 items_none (v ∷ vs) zero is = absurd (none-some v (sym is))
 items_none (v ∷ vs) (suc n) is = items_none vs n is
-
--- more lines
-below_more : (a b : ℕ) (ns : List ℕ) → a ≤ b → AllBelow a ns → AllBelow b ns
-below_more a b [] le has = tt
-below_more a b (n ∷ ns) le has = let first = has.0 in (omega (arith, first), below_more a b ns le has.1)
-
-length_grown : {X : Type 0} (xs ys : List X) → (more : List X) × (ys ≡ xs ++ more) → length xs ≤ length ys
-length_grown xs ys (more, is) = let len : length ys ≡ length xs + length more = ap length is ∙ length-append xs more in omega (arith, len)
 
 -- what is printed, when there are more lines
 printed_kept : (lines more : List (Vec ℕ)) (tail : List ℕ) → AllBelow (length lines) tail → printed_of (lines ++ more) tail ≡ printed_of lines tail

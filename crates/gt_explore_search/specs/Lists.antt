@@ -3,6 +3,7 @@ use Rattle.std.specs.Prelude.{◌≡◌, ◌++◌, ◌<◌, ◌==◌, ℕ, List,
 use Rattle.std.specs.Prelude.{zero, suc, if◌then◌else◌}
 use Rattle.std.specs.Global.{Vec}
 use Rattle.std.specs.List.{flat_map}
+use Rattle.gt_explore_search.specs.Numbers.{AllBelow}
 use Rattle.gt_explore_search.specs.declared.suffixes.AnswerLine.{AnswerLine}
 use Rattle.gt_explore_search.specs.declared.suffixes.AnswerLists.{AnswerLists}
 
@@ -32,11 +33,6 @@ HasLine s n bytes = (n < length s.lines.keys) × (items_at s.lines.keys n ≡ by
 -- there is a list with this number
 abbrev pub HasListAt : AnswerLists → ℕ → Type 0
 HasListAt s n = n < length s.lists
-
--- each of these numbers is below this one
-abbrev pub AllBelow : ℕ → List ℕ → Type 0
-AllBelow count [] = Unit {0}
-AllBelow count (n ∷ ns) = (n < count) × AllBelow count ns
 
 -- all lists are whole: each tail names existing lines, and each list names existing tails
 pub record AreWhole (s : AnswerLists) : Type 0 where

@@ -14,6 +14,7 @@ mod exploring;
 mod fault;
 mod marks;
 mod numbers;
+mod packed;
 mod parts;
 mod sharing;
 mod spaces;

@@ -1,5 +1,5 @@
 //! Lists of numbers, each kept once.
-ghost use Rattle.std.specs.Prelude.{◌≡◌, ◌≤◌, ◌-◌, ◌++◌, [], ◌∷◌, IfOk, IfSome, IsTrue, drop, length, slice_get};
+ghost use Rattle.std.specs.Prelude.{◌≡◌, ◌≤◌, ◌-◌, ◌++◌, [], ◌∷◌, IfOk, IfSome, IsTrue, OnErr, drop, length, slice_get};
 ghost use Rattle.std.specs.Prelude.{slice_index_or, take, Some};
 ghost use Rattle.std.specs.Option.{option_map};
 ghost use Rattle.gt_explore_search.specs.Numbers.{IsKeptAs};
@@ -208,7 +208,8 @@ impl NumberLists {
 
     // Appends a list with this hash, under the next number.
     fn push(&mut self, list: &[u32], hash: usize) -> Result<u32, SearchFault>
-        ensures { IfOk result (λ n. (n ≡ length self.old) × (self.new ≡ self.old ++ list.now ∷ [])) }
+        ensures pushed { IfOk result (λ n. (n ≡ length self.old) × (self.new ≡ self.old ++ list.now ∷ [])) }
+        ensures err { OnErr result (self.new ≡ self.old) }
     {
         let number = self.ends.len();
         let end = self.items.len().saturating_add(list.len());
@@ -217,7 +218,7 @@ impl NumberLists {
         }
         self.ends.reserve(1)?;
         self.items.extend_from_slice(list)?;
-        self.ends.push(end as u32)?;
+        self.ends.push_reserved(end as u32);
         file(self.slots.as_mut_slice(), hash, number as u32 + 1);
         self.last = number as u32;
         Ok(number as u32)
@@ -228,7 +229,8 @@ impl NumberLists {
     /// # Errors
     /// `Memory`, or `States` if there are too many lists for numbers of 32 bits.
     pub fn number_of(&mut self, list: &[u32]) -> Result<u32, SearchFault>
-        ensures { IfOk result (λ n. IsKeptAs self.old list.now n self.new) }
+        ensures kept { IfOk result (λ n. IsKeptAs self.old list.now n self.new) }
+        ensures err { OnErr result (self.new ≡ self.old) }
     {
         if let Some(number) = self.find_near(list) {
             self.last = number;

@@ -16,22 +16,6 @@ pub struct PartIndex<P> {
     kept: Vec<P>,
 }
 
-// Returns the number at this index, if there is one.
-fn number_at(numbers: Option<&[u32]>, at: usize) -> Option<u32> {
-    match numbers {
-        Some(numbers) => numbers.get(at).copied(),
-        None => None,
-    }
-}
-
-// Counts these numbers.
-fn count(numbers: Option<&[u32]>) -> usize {
-    match numbers {
-        Some(numbers) => numbers.len(),
-        None => 0,
-    }
-}
-
 impl<P: Drop> PartIndex<P> {
     /// Makes an empty index.
     pub fn new(alloc: Global) -> PartIndex<P> {
@@ -146,18 +130,18 @@ impl<P: Drop> PartIndex<P> {
         &mut self,
         space: &S,
         state: &S::State,
-        last: Option<&[u32]>,
+        last: &[u32],
     ) -> Result<Vec<u32>, SearchFault>
         ensures numbers { IfOk result (λ numbers.
             HasNumbers (S.parts space.now) self.new.kept.items state.now numbers.items) }
         ensures grows { OnOk result (Extends self.old.kept.items self.new.kept.items) }
     {
-        let mut numbers = Vec::with_capacity(self.alloc, count(last))?;
+        let mut numbers = Vec::with_capacity(self.alloc, last.len())?;
         'parts: for at in 0..usize::MAX {
             if space.is_past(state, at) {
                 return Ok(numbers);
             }
-            let near = number_at(last, at);
+            let near = last.get(at).copied();
             numbers.push(self.number_near(space, state, at, near)?)?;
         }
         Err(SearchFault::States)

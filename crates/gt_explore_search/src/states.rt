@@ -5,7 +5,7 @@ ghost use Rattle.gt_explore_search.specs.Exploring.{IsNumbered};
 ghost use Rattle.gt_explore_search.specs.Parts.{Extends, HandHolds, HasNumbers, IsStateAt, by_numbers};
 
 use crate::fault::SearchFault;
-use crate::numbers::NumberLists;
+use crate::packed::PackedLists;
 use crate::parts::PartIndex;
 use crate::spaces::TransitionSystem;
 use std::alloc::Global;
@@ -20,8 +20,11 @@ pub struct WholeState<W> {
 /// The states that were met, each with a number. A state is kept as the numbers of its parts.
 #[derive(Drop)]
 pub struct StateIndex<P> {
+    alloc: Global,
     parts: PartIndex<P>,
-    met: NumberLists,
+    met: PackedLists,
+    // The numbers of a state from which a turn led to another.
+    near: Vec<u32>,
 }
 
 impl<P: Drop> StateIndex<P> {
@@ -30,8 +33,10 @@ impl<P: Drop> StateIndex<P> {
         ensures { result.met ≡ [] }
     {
         StateIndex {
+            alloc,
             parts: PartIndex::new(alloc),
-            met: NumberLists::new(alloc),
+            met: PackedLists::new(alloc),
+            near: Vec::new(alloc),
         }
     }
 
@@ -54,11 +59,13 @@ impl<P: Drop> StateIndex<P> {
         ensures { (all : List P) → Extends self.now.parts.kept.items all →
             IfOk result (IsStateAt (S.ways space.now) (S.parts space.now) all self.now.met number) }
     {
-        let Some(numbers) = self.met.get(number) else {
-            return Err(SearchFault::States);
-        };
-        let parts = self.parts.copies(space, numbers)?;
-        Ok(space.join(parts)?)
+        let mut numbers = Vec::new(self.alloc);
+        let is_met = self.met.read(number, &mut numbers)?;
+        if is_met {
+            let parts = self.parts.copies(space, numbers.as_slice())?;
+            return Ok(space.join(parts)?);
+        }
+        Err(SearchFault::States)
     }
 
     /// Returns the state with this number, which is the one at hand or joined from copies of its parts. Then none is at
@@ -101,8 +108,8 @@ impl<P: Drop> StateIndex<P> {
             × HasNumbers (S.parts space.now) all state.now k
             × IsNumbered (by_numbers (S.ways space.now) (S.parts space.now) all) self.old.met k n self.new.met) }
     {
-        let near = self.met.get(last);
-        let numbers = self.parts.numbers(space, state, near)?;
+        self.met.read(last, &mut self.near)?;
+        let numbers = self.parts.numbers(space, state, self.near.as_slice())?;
         let number = self.met.number_of(numbers.as_slice())?;
         Ok(number as usize)
     }

@@ -13,14 +13,14 @@ returns-clause-grows c =
     ap (λ (n : ℕ). slice_get c.args.self.now.tails n) (sym c.tail_at-tail.ensures) ∙ sym c.get-2.ensures ∙ ap (option_map (λ (l : Bor (List ℕ)). l.now)) c.in-Some-get-2.is in
     let number : c.in-Some.line.number < length c.args.self.now.lines.keys = omega arith in
     let tail : IsKeptAs c.args.self.now.tails (c.in-Some.line.number ∷ c.in-Some-get-2.later.now) c.in_ok-tail.tail c.number_of.new.self =
-    subst (λ (l : List ℕ). IsKeptAs c.args.self.now.tails l c.in_ok-tail.tail c.number_of.new.self) (c.as_slice.ensures.value ∙ c.in_ok-put_line.ensures) c.in_ok-tail.ensures in
+    subst (λ (l : List ℕ). IsKeptAs c.args.self.now.tails l c.in_ok-tail.tail c.number_of.new.self) (c.as_slice.ensures.value ∙ c.in_ok-put_line.ensures) c.in_ok-tail.ensures.kept in
     let list : IsKeptAs c.args.self.now.lists c.put_tail.new.out.items c.in_ok-number.number c.number_of-2.new.self =
-    subst (λ (l : List ℕ). IsKeptAs c.args.self.now.lists l c.in_ok-number.number c.number_of-2.new.self) c.as_slice-2.ensures.value c.in_ok-number.ensures in
+    subst (λ (l : List ℕ). IsKeptAs c.args.self.now.lists l c.in_ok-number.number c.number_of-2.new.self) c.as_slice-2.ensures.value c.in_ok-number.ensures.kept in
     list_added c.args.self.now _ c.in-Some-get.old.now c.in-Some-get-2.later.now c.put_tail.new.out.items c.args.list c.in-Some.line.place c.in-Some.line.number c.in_ok-tail.tail c.in_ok-number.number
     refl old number later tail c.in_ok-put_tail.ensures list
 
 pub returns-clause-there : goal.returns-clause-there
-returns-clause-there c = λ has. kept_within c.args.self.now.lists _ c.in_ok-number.number c.number_of-2.new.self c.in_ok-number.ensures
+returns-clause-there c = λ has. kept_within c.args.self.now.lists _ c.in_ok-number.number c.number_of-2.new.self c.in_ok-number.ensures.kept
 
 pub returns-clause-longer : goal.returns-clause-longer
 returns-clause-longer c = λ line whole has.
@@ -29,9 +29,9 @@ returns-clause-longer c = λ line whole has.
     ap (λ (n : ℕ). slice_get c.args.self.now.tails n) (sym c.tail_at-tail.ensures) ∙ sym c.get-2.ensures ∙ ap (option_map (λ (l : Bor (List ℕ)). l.now)) c.in-Some-get-2.is in
     let number : c.in-Some.line.number < length c.args.self.now.lines.keys = omega arith in
     let tail : IsKeptAs c.args.self.now.tails (c.in-Some.line.number ∷ c.in-Some-get-2.later.now) c.in_ok-tail.tail c.number_of.new.self =
-    subst (λ (l : List ℕ). IsKeptAs c.args.self.now.tails l c.in_ok-tail.tail c.number_of.new.self) (c.as_slice.ensures.value ∙ c.in_ok-put_line.ensures) c.in_ok-tail.ensures in
+    subst (λ (l : List ℕ). IsKeptAs c.args.self.now.tails l c.in_ok-tail.tail c.number_of.new.self) (c.as_slice.ensures.value ∙ c.in_ok-put_line.ensures) c.in_ok-tail.ensures.kept in
     let list : IsKeptAs c.args.self.now.lists c.put_tail.new.out.items c.in_ok-number.number c.number_of-2.new.self =
-    subst (λ (l : List ℕ). IsKeptAs c.args.self.now.lists l c.in_ok-number.number c.number_of-2.new.self) c.as_slice-2.ensures.value c.in_ok-number.ensures in
+    subst (λ (l : List ℕ). IsKeptAs c.args.self.now.lists l c.in_ok-number.number c.number_of-2.new.self) c.as_slice-2.ensures.value c.in_ok-number.ensures.kept in
     let grows = list_added c.args.self.now (record c.args.self.now { tails = c.number_of.new.self; lists = c.number_of-2.new.self; scratch = c.put_tail.new.out }) c.in-Some-get.old.now c.in-Some-get-2.later.now c.put_tail.new.out.items c.args.list c.in-Some.line.place c.in-Some.line.number c.in_ok-tail.tail c.in_ok-number.number
     refl old number later tail c.in_ok-put_tail.ensures list in
     subst (λ l. IsLonger (record c.args.self.now { tails = c.number_of.new.self; lists = c.number_of-2.new.self; scratch = c.put_tail.new.out }) l c.args.list c.in_ok-number.number) (sym c.in-Some.is)
