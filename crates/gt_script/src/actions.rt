@@ -7,7 +7,7 @@ use gt_script_lines::{BodyLine, ScriptCall, Text};
 use gt_types::GrantRef;
 
 /// What a line of the body is for `play`.
-#[derive(Drop)]
+#[derive(Debug, Drop)]
 pub enum ScriptAction<'a> {
     /// `do ID CALL`: makes the call from its beginning to its answer.
     Do(ScriptCall<'a>),

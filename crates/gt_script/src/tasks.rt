@@ -9,7 +9,7 @@ use gt_types::DomId;
 use std::alloc::{AllocError, Global};
 
 /// The action of a task; `F` names the flags.
-#[derive(Drop)]
+#[derive(Debug, Drop)]
 pub enum RunActionBy<'a, F> {
     /// `do ID CALL`: makes the call from its beginning to its answer.
     Do(ScriptCall<'a>),
