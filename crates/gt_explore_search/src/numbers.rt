@@ -244,4 +244,18 @@ impl NumberLists {
         self.make_room()?;
         self.push(list, hash)
     }
+
+    /// Returns the number of a list, which is likely to be this one. It is the next one if the list is new.
+    ///
+    /// # Errors
+    /// `Memory`, or `States` if there are too many lists for numbers of 32 bits.
+    pub fn number_near(&mut self, list: &[u32], likely: u32) -> Result<u32, SearchFault>
+        ensures kept { IfOk result (λ n. IsKeptAs self.old list.now n self.new) }
+        ensures err { OnErr result (self.new ≡ self.old) }
+    {
+        if self.is_list(likely, list) {
+            return Ok(likely);
+        }
+        self.number_of(list)
+    }
 }

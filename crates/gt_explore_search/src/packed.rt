@@ -38,8 +38,13 @@ fn first_piece(list: &[u32]) -> (&[u32], &[u32])
     list.split_at(list.len().min(PIECE))
 }
 
-// Makes `out` the numbers of the pieces of a list.
-fn pack(pieces: &mut NumberLists, list: &[u32], out: &mut Vec<u32>) -> Result<(), SearchFault>
+// Makes `out` the numbers of the pieces of a list. They are likely to be those of `near`, each as the one at its index.
+fn pack(
+    pieces: &mut NumberLists,
+    list: &[u32],
+    near: &[u32],
+    out: &mut Vec<u32>,
+) -> Result<(), SearchFault>
     ensures grows { Extends pieces.old pieces.new }
     ensures below { OnOk result (AllBelow (length pieces.new) out.new.items) }
     ensures packs { OnOk result (unpacked pieces.new out.new.items ≡ list.now) }
@@ -51,7 +56,8 @@ fn pack(pieces: &mut NumberLists, list: &[u32], out: &mut Vec<u32>) -> Result<()
             return Ok(());
         }
         let (piece, later) = first_piece(rest);
-        out.push(pieces.number_of(piece)?)?;
+        let likely = near.get(out.len()).copied().unwrap_or(0);
+        out.push(pieces.number_near(piece, likely)?)?;
         rest = later;
     }
     Err(SearchFault::States)
@@ -111,14 +117,16 @@ impl PackedLists {
         Ok(true)
     }
 
-    /// Returns the number of a list, which is the next one if the list is new.
+    /// Returns the number of a list, which is the next one if the list is new. It is likely to have pieces of the list with
+    /// the number `like`.
     ///
     /// # Errors
     /// `Memory`, or `States` if there are too many lists or pieces for numbers of 32 bits.
-    pub fn number_of(&mut self, list: &[u32]) -> Result<u32, SearchFault>
+    pub fn number_of(&mut self, list: &[u32], like: usize) -> Result<u32, SearchFault>
         ensures { IfOk result (λ n. IsKeptAs self.old list.now n self.new) }
     {
-        pack(&mut self.pieces, list, &mut self.scratch)?;
+        let near = self.lists.get(like).unwrap_or(&[]);
+        pack(&mut self.pieces, list, near, &mut self.scratch)?;
         let number = self.lists.number_of(self.scratch.as_slice())?;
         Ok(number)
     }

@@ -110,7 +110,7 @@ impl<P: Drop> StateIndex<P> {
     {
         self.met.read(last, &mut self.near)?;
         let numbers = self.parts.numbers(space, state, self.near.as_slice())?;
-        let number = self.met.number_of(numbers.as_slice())?;
+        let number = self.met.number_of(numbers.as_slice(), last)?;
         Ok(number as usize)
     }
 }
