@@ -10,9 +10,11 @@
 # whole calls in a run of 64 domains.
 #
 # A second table has the loads of bytes: thousands of loads, stores and copies a second, beside a program in C with a
-# mutex for each frame (`live_bytes.c`), without a journal and with one, and the ratio to each. A forwarded copy goes by
-# a transitive entry at each end. What C loses by its journal is what a journal costs there. Below the table are the
-# instructions of a round on one thread, and the most memory that a million stores or copies were seen to have.
+# mutex for each frame (`live_bytes.c`), without a journal and with one. Copies are not recorded (`off`), or recorded
+# and the records taken every 128 rounds (`taken`); loads and stores are never recorded. The last columns are the ratios
+# of both to C, and of `off` to C with its journal. A forwarded copy goes by a transitive entry at each end. What C loses
+# by its journal is what a journal costs there. Below the table are the instructions of a round on one thread, and the
+# most memory that a million stores or copies were seen to have.
 # `bench/live.sh [RUNS] calls` or `bytes` prints the one table alone.
 #
 # `bench/live.sh [RUNS] [TABLE]` makes so many runs of each program by turns (11), and takes from their time that of
@@ -40,7 +42,7 @@ done
 "${CC:-clang}" -O2 -pthread -DJOURNAL -o "$work/journal" "$top/bench/live_bytes.c"
 
 programs=(bench_live-on bench_live-ahead bench_live-taken bench_live-off bench_words counted spread)
-movers=(bench_live plain journal)
+movers=(bench_live-off bench_live-taken plain journal)
 
 # How often each thread of a program does what it does, in a run that is long enough to be timed. The journal of the C
 # program keeps what is written, so there is no memory for long runs of stores and copies.
@@ -48,8 +50,8 @@ rounds_of() {
   case "$1 $2" in
     *" load-"* | *" fresh-"* | plain*) echo 500000 ;;
     *" grants" | *" withdrawals") echo 200000 ;; # generations end them soon after a million
-    "bench_live "*-64) echo 200000 ;;
-    "bench_live "*-4096) echo 100000 ;;
+    "bench_live-"*" "*-64) echo 200000 ;;
+    "bench_live-"*" "*-4096) echo 100000 ;;
     *" "*-64) echo 100000 ;;
     *" "*-4096) echo 10000 ;;
     bench_live-on* | bench_live-ahead* | bench_live-taken*) echo 200000 ;; # 400,000 records, for which `bench_live` makes room ahead
@@ -106,9 +108,9 @@ compare() {
 # One line of the table of bytes.
 compare_bytes() {
   least_times "$1" "$2" "${movers[@]}" | awk -v load="$1" -v threads="$2" '{
-    for (i = 1; i <= 3; i++) speed[i] = 1000000 * threads / $i
-    printf "%-12s %7d %9.0f %9.0f %9.0f %8.2f %9.2f\n", load, threads, speed[1], speed[2], speed[3],
-      speed[1] / speed[2], speed[1] / speed[3]
+    for (i = 1; i <= 4; i++) speed[i] = 1000000 * threads / $i
+    printf "%-12s %7d %9.0f %9.0f %9.0f %9.0f %7.2f %7.2f %9.2f\n", load, threads, speed[1], speed[2], speed[3],
+      speed[4], speed[1] / speed[3], speed[2] / speed[3], speed[1] / speed[4]
   }'
 }
 
@@ -161,7 +163,7 @@ if [ "$table" != bytes ]; then
 fi
 if [ "$table" != calls ]; then
   if [ "$runs" -gt 0 ]; then
-    printf '%-12s %7s %9s %9s %9s %8s %9s\n' load threads calls C 'C,journal' /C /journal
+    printf '%-12s %7s %9s %9s %9s %9s %7s %7s %9s\n' load threads off taken C 'C,journal' off/C taken/C /journal
     for load in "${moves[@]}"; do
       for threads in 1 4; do
         compare_bytes "$load" "$threads"

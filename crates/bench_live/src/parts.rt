@@ -210,12 +210,13 @@ fn move_often<R: Wait, D: Calls>(
 }
 
 // Does the same with a buffer of the thread's own, so that no two threads share a cache line. Loads and stores go
-// through a mapping.
+// through a mapping. If the records are taken, they are taken after each part of the accesses.
 fn move_bytes<R: Wait, D: Calls>(
     rt: &R,
     alloc: Global,
     domain: &mut D,
     accesses: Accesses,
+    audit: Audit,
     rounds: u32,
 ) -> u32 {
     let Accesses { moves, gref, len } = accesses;
@@ -227,7 +228,23 @@ fn move_bytes<R: Wait, D: Calls>(
         return 0;
     }
     let copy = copy_of(accesses);
-    move_often(rt, domain, moves, &copy, buffer.as_mut_slice(), rounds)
+    let takes = matches!(audit, Audit::Taken);
+    let at_once = if takes { BEFORE_TAKEN } else { rounds };
+    let mut taken = Trail::new(alloc);
+    let (mut left, mut done) = (rounds, 0u32);
+    'parts: for _ in 0..rounds {
+        let part = left.min(at_once);
+        if part == 0 {
+            break;
+        }
+        left -= part;
+        let buffer = buffer.as_mut_slice();
+        done = done.saturating_add(move_often(rt, domain, moves, &copy, buffer, part));
+        if takes {
+            taken = domain.take_records(taken);
+        }
+    }
+    done
 }
 
 /// Does the part of a worker for this number of rounds. Returns how many were done.
@@ -250,6 +267,6 @@ pub(crate) fn work<R: Wait, D: Calls + Drop>(
         Part::Maps(gref) => map_and_unmap(domain, gref, READ_ONLY, false, rounds),
         Part::Grants(spread) => revoke_and_grant(domain, spread, rounds),
         Part::Withdraws(spread) => withdraw_and_grant(domain, spread, rounds),
-        Part::Moves(accesses) => move_bytes(rt, alloc, domain, accesses, rounds),
+        Part::Moves(accesses) => move_bytes(rt, alloc, domain, accesses, audit, rounds),
     }
 }

@@ -93,7 +93,9 @@ fn range_of(bytes: &[u8], range: Range) -> &[u8]
     &bytes[start..start + usize::from(range.len)]
 }
 
-// Copies a range of the contents within them. The ranges may overlap, so the bytes are first copied out.
+// Copies a range of the contents within them. The ranges may overlap, so the bytes are first copied out. It is not
+// inlined, since its caller would then have room for them too.
+#[inline(never)]
 fn store_own(
     writers: &mut Writers,
     journal: &mut Journal,
@@ -255,6 +257,7 @@ impl Frame {
     /// # Errors
     ///
     /// `Memory`, if an allocation fails. The frame is then unchanged.
+    #[inline(always)]
     pub fn copy_between(
         from: &Frame,
         to: &mut Frame,

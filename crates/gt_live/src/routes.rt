@@ -81,6 +81,7 @@ fn go_through<P: Allows>(
 
 // Walks to the source of a copy, and writes the route whose pins were taken. Like the functions below it writes through
 // a reference: returning a route by value costs more than the steps.
+#[inline(always)]
 fn reach_source<P: Allows>(
     words: &Words,
     known: &CallerState<'_, P>,
@@ -126,7 +127,7 @@ fn reach_source<P: Allows>(
 }
 
 // Walks to the destination of a copy, after its source, and writes the route to it, whose pins were taken.
-#[inline(always)]
+#[inline(never)]
 fn reach_dest<P: Allows>(
     words: &Words,
     known: &CallerState<'_, P>,
@@ -204,6 +205,7 @@ fn walk_to_dest<P: Allows>(
 }
 
 // Walks a copy to its access, or to its refusal. After a refusal its pins are released.
+#[inline(always)]
 fn walk<P: Allows>(
     words: &Words,
     known: &CallerState<'_, P>,
@@ -232,6 +234,7 @@ fn walk<P: Allows>(
 
 // Drives a copy to its access, or to its end if it is refused before. Requires that the copy is not decided at its
 // beginning. Writes the pins that it holds at its access. Its steps are written out, like those of a map.
+#[inline(always)]
 pub(crate) fn drive_copy<P: Allows>(
     words: &Words,
     known: &CallerState<'_, P>,
@@ -271,6 +274,7 @@ fn give_back_route(words: &Words, seat: &mut Seat, route: &AccessPath)
 }
 
 // Releases the pins that a copy held at its access, the last one first.
+#[inline(always)]
 pub(crate) fn give_back(words: &Words, seat: &mut Seat, pins: &CallPins)
     requires seat { IsSeatOf words.now seat.old }
     requires taken { (base : View) × HasTaken words.now.layout (last_first pins.now) base seat.old.view }

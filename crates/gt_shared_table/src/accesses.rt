@@ -68,6 +68,7 @@ fn free_written<J: OfAccess>(
 }
 
 // Frees a frame that was copied to. Only the proof uses the arguments after `slot`.
+#[inline(always)]
 fn free_copied<J: OfAccess>(
     cells: &Cells,
     seat: &mut CellSeat,
@@ -90,6 +91,7 @@ fn free_copied<J: OfAccess>(
 }
 
 // Frees a frame that is unchanged. No view gains a step.
+#[inline(always)]
 fn return_as_taken<J: OfAccess>(cells: &Cells, seat: &mut CellSeat, slot: FrameSlot, last: bool)
     requires fits { (seat.old.table_id ≡ cells.now.table_id)
         × IsSlotOf (places_of cells.now.key) cells.now.table_id slot }
@@ -182,6 +184,7 @@ pub(crate) fn write_out<'a>(
 
 // Copies a range to a frame that is out, and frees that frame. The source is out too, and is still held after. If
 // allocation fails, the destination returns to its slot unchanged.
+#[inline(always)]
 fn copy_out(
     cells: &Cells,
     seat: &mut CellSeat,
@@ -234,6 +237,7 @@ fn copy_out(
 }
 
 // Takes two frames, the one with the lower slot first, and moves the source out of its slot.
+#[inline(always)]
 fn lock_both<R: Wait>(
     rt: &R,
     cells: &Cells,
@@ -263,6 +267,7 @@ fn lock_both<R: Wait>(
 }
 
 // Returns the source of a copy to its slot, unchanged.
+#[inline(always)]
 fn return_source(cells: &Cells, seat: &mut CellSeat, slot: FrameSlot, frame: Frame)
     requires mine { (seat.old.table_id ≡ cells.now.table_id)
         × IsSlotOf (places_of cells.now.key) cells.now.table_id slot }
@@ -278,6 +283,7 @@ fn return_source(cells: &Cells, seat: &mut CellSeat, slot: FrameSlot, frame: Fra
 // seat has one of them. It is one step of the history, made when the destination is freed and while the source is still
 // held.
 // After `Memory`, both frames are unchanged and no step was made.
+#[inline(always)]
 pub(crate) fn copy<R: Wait>(
     rt: &R,
     cells: &Cells,

@@ -89,6 +89,7 @@ impl SharedTable {
     ///
     /// # Errors
     /// `Memory`. Both frames are unchanged, and no step was made.
+    #[inline(always)]
     pub fn copy_frames<R: Wait>(
         &self,
         rt: &R,

@@ -39,6 +39,7 @@ fn await_word<J: OfSlot>(cells: &Cells, seat: &mut CellSeat, slot: FrameSlot) ->
 }
 
 // Frees a lock word. By this step the access to its frame takes place.
+#[inline(always)]
 pub(crate) fn free_lock<J: OfAccess>(cells: &Cells, seat: &mut CellSeat, slot: FrameSlot)
     requires fits { (seat.old.table_id ≡ cells.now.table_id) × (slot.lock < cells.now.table_id.words) }
     requires allowed { Allows (HoldsAll (places_of cells.now.key)) cells.now.table_id.slots seat.old.id seat.old.me
@@ -52,6 +53,7 @@ pub(crate) fn free_lock<J: OfAccess>(cells: &Cells, seat: &mut CellSeat, slot: F
 }
 
 // Frees the lock word of a frame that returns unchanged.
+#[inline(always)]
 pub(crate) fn return_lock<J: OfAccess>(cells: &Cells, seat: &mut CellSeat, slot: FrameSlot)
     requires fits { (seat.old.table_id ≡ cells.now.table_id) × (slot.lock < cells.now.table_id.words) }
     requires allowed { Allows (HoldsAll (places_of cells.now.key)) cells.now.table_id.slots seat.old.id seat.old.me
@@ -88,9 +90,9 @@ fn take_awaited(cells: &Cells, seat: &mut CellSeat, slot: FrameSlot) -> bool
 }
 
 // Takes the frame of a slot that another seat has, or had just now. Waits until that frees it. A seat that waited takes
-// the frame with the mark that others may wait too, so the next wakes when it frees the frame.
-#[cold]
-#[inline(never)]
+// the frame with the mark that others may wait too, so the next wakes when it frees the frame. It is inlined: a call
+// would have its slot in memory, and each lock of a free frame would write it there.
+#[inline(always)]
 fn lock_awaited<R: Wait>(rt: &R, cells: &Cells, seat: &mut CellSeat, slot: FrameSlot)
     requires mine { seat.old.table_id ≡ cells.now.table_id }
     requires slot { IsSlotOf (places_of cells.now.key) cells.now.table_id slot }

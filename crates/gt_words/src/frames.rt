@@ -128,6 +128,7 @@ impl Words {
     ///
     /// # Errors
     /// [`AccessFault`]. No step was made.
+    #[inline(always)]
     pub fn copy_frames<R: Wait>(
         &self,
         rt: &R,

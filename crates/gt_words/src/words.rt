@@ -322,6 +322,7 @@ impl Words {
     }
 
     /// Releases a pin of the seat, by one subtraction.
+    #[inline(always)]
     pub fn unpin(&self, seat: &mut Seat, pin: Pin)
         requires seat { IsSeatOf self.now seat.old }
         requires entry { IsEntryOf self.now pin.dom pin.gref }

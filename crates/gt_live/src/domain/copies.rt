@@ -36,6 +36,7 @@ use std::sync::Wait;
 
 // Copies between the positions that the routes of the access reach.
 #[tactic(auto, using(crate::proofs::Making::accessed_same, crate::proofs::Making::viewed_same))]
+#[inline(always)]
 fn copy_through<R: Wait, P: Allows>(
     rt: &R,
     monitor: &Monitor<P>,
@@ -124,6 +125,7 @@ fn copy_hypercall(copy: CopyArgs) -> Hypercall
 
 impl Domain {
     // Returns the result of a copy, if it is decided at its beginning.
+    #[inline(always)]
     fn judge_copy<P: Allows>(&self, monitor: &Monitor<P>, copy: &CopyArgs) -> Option<CallResult>
         ensures { result ≡ copy_begun (known_on P.may monitor.now self.now) self.now.seat.dom copy.now }
     {
@@ -132,6 +134,7 @@ impl Domain {
 
     // Drives a copy to its access, or to its end if it is refused before. Requires that it is not decided at its
     // beginning.
+    #[inline(always)]
     fn drive_copy<P: Allows>(
         &mut self,
         monitor: &Monitor<P>,
@@ -151,6 +154,7 @@ impl Domain {
     }
 
     // Releases the pins that a copy held at its access.
+    #[inline(always)]
     fn give_back<P: Allows>(&mut self, monitor: &Monitor<P>, pins: &CallPins)
         requires seat { IsSeatOf monitor.now.words self.old.seat }
         requires taken { (base : View)
