@@ -32,8 +32,8 @@ pub struct SearchResult {
     pub states: usize,
 }
 
-/// A state whose moves have all been tried. `set` is the number of the set of the lists of answers that it leads to. The
-/// turns that were tried are those from the index `tried` on, up to those of the next node.
+/// A state whose moves have all been tried. `set` is the number of the set of the lists of answers that it leads to.
+/// The turns that were tried are those from the index `tried` on, up to those of the next node.
 #[derive(Clone, Copy)]
 pub struct Node {
     pub state: u32,

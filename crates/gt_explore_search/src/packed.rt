@@ -117,8 +117,8 @@ impl PackedLists {
         Ok(true)
     }
 
-    /// Returns the number of a list, which is the next one if the list is new. It is likely to have pieces of the list with
-    /// the number `like`.
+    /// Returns the number of a list, which is the next one if the list is new. It is likely to have pieces of the list
+    /// with the number `like`.
     ///
     /// # Errors
     /// `Memory`, or `States` if there are too many lists or pieces for numbers of 32 bits.

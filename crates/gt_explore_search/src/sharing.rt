@@ -6,7 +6,8 @@ use crate::suffixes::AnswerLine;
 // The number of no line.
 const NO_LINE: u32 = u32::MAX;
 
-/// A turn that was tried. It led to the node with this number, and printed the line with this number, if it printed one.
+/// A turn that was tried. It led to the node with this number, and printed the line with this number, if it printed
+/// one.
 #[derive(Clone, Copy)]
 pub struct TriedTurn {
     place: u16,

@@ -1,5 +1,6 @@
 //! The lists of answers that a state can still lead to.
-ghost use Rattle.std.specs.Prelude.{◌≡◌, ◌==◌, ◌-◌, ◌++◌, ◌∷◌, ℕ, OnOk, length, replicate, slice_index_or, if◌then◌else◌};
+ghost use Rattle.std.specs.Prelude.{◌≡◌, ◌==◌, ◌-◌, ◌++◌, ◌∷◌, ℕ, OnOk, length, replicate, slice_index_or};
+ghost use Rattle.std.specs.Prelude.{if◌then◌else◌};
 
 use crate::fault::SearchFault;
 use crate::numbers::NumberLists;
