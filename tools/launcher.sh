@@ -40,6 +40,7 @@ case "$1" in
     shift
     case "$STUB" in slow_try) sleep 6 ;; esac
     if [ "$crate" = cases_program ]; then
+      for file in "${data[@]}"; do [ -f "${file#*=}" ] || { echo "no file: $file"; exit 2; }; done
       if [ "$STUB" = other ]; then echo "other"; else cat "$STORED"; fi
       exit 0
     fi
