@@ -13,8 +13,8 @@
 //! owner's to another, through a transitive entry at each end.
 //!
 //! The calls are recorded. With a fourth word `off` they are not, with `ahead` each domain reserves space for its
-//! records before its first call, and with `taken` each mapper's records are taken while it runs. A fifth word is the
-//! number of domains of a load of calls, from 6 to 64 (6).
+//! records before its first call, and with `taken` the records of each mapper, and of each thread that moves bytes, are
+//! taken while it runs. A fifth word is the number of domains of a load of calls, from 6 to 64 (6).
 //!
 //! It promises nothing beyond the calls that it makes, and uses `gt_live` and `test_monitor`. The script
 //! `bench/live.sh` runs and times it next to the bare words and a program in C.

@@ -12,7 +12,7 @@ use test_monitor::{Calls, READ_ONLY, WRITABLE};
 /// The entry of the first mapper.
 const FIRST: u32 = 64;
 
-/// The number of rounds after which a mapper's records are taken.
+/// The number of rounds after which records are taken.
 const BEFORE_TAKEN: u32 = 128;
 
 /// This number of entries, starting at the first, with this distance.
