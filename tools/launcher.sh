@@ -54,6 +54,7 @@ case "$1" in
   ci)
     echo ci >>"$WORK/builds"
     echo "rt: gt_types proved"
+    echo "$RT_JOBS" >"$WORK/jobs"
     find . -name must-fail -o -name wrong-bodies -o -name out >"$WORK/beyond"
     sed 's/[: ].*//' crates.txt >"$WORK/copied"
     ls crates >"$WORK/folders"
@@ -210,6 +211,8 @@ cmp -s "$work/below" "$work/copied" || wrong 'a copy of other crates'
 grep -q '^gt_types$' "$work/below" && grep -q '^gthost$' "$work/below" || wrong 'a copy without its first or its last crate'
 [ ! -s "$work/beyond" ] || wrong 'a copy of what a build does not read'
 [ ! -e "$out/copy" ] || wrong 'a copy is left'
+jobs="$(cat "$work/jobs")"
+[ "$jobs" -ge 1 ] && [ "$jobs" -le "$(nproc)" ] || wrong "$jobs crates at once"
 
 # Builds that do not end well.
 anew; STUB=fails; try 'an open goal' 1 build; has 'an open goal' err 'a goal is open'; has 'an open goal' err 'not built; log: '
