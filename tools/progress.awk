@@ -1,7 +1,6 @@
 # How far a build is: `12 of 36 crates, about 20 min more`. What each crate costs is read from the table of docs/GATE.md.
-# The estimate is the time of the crates that are left, on this number of lanes and at least that of the longest chain
-# of them (less a sixth in several lanes, where its last crates have several jobs), times how much slower than that
-# this build was so far. Crates under way do not count, so an early estimate would be far too high: ten minutes more are
+# The estimate is the time of the crates that are left, on this number of lanes (a fifth more in several, which wait for
+# each other) and at least that of the longest chain of them, times how much slower than that this build was so far. Crates under way do not count, so an early estimate would be far too high: ten minutes more are
 # taken to have gone as estimated.
 #
 # usage: awk -v name=gthost -v lanes=4 -v seconds=600 -v changed='CRATE ..' -v then='CRATE=STAMP ..' \
@@ -40,11 +39,12 @@ function chain(crate, done,    parts, n, i, longest, below) {
 }
 
 # The seconds that all crates take that are not done.
-function left(done,    crate, sum, longest) {
+function left(done,    crate, sum, longest, split_up) {
   split("", chains)
   for (crate in is_below) if (!(crate in done)) sum += cost[crate]
-  longest = chain(name, done) * (lanes > 1 ? 0.84 : 1)
-  return sum / lanes > longest ? sum / lanes : longest
+  longest = chain(name, done)
+  split_up = sum / lanes * (lanes > 1 ? 1.2 : 1)
+  return split_up > longest ? split_up : longest
 }
 
 FILENAME ~ /crates.txt$/ && /^[a-z]/ {
