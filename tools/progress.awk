@@ -1,7 +1,8 @@
 # How far a build is: `12 of 36 crates, about 20 min more`. What each crate costs is read from the table of docs/GATE.md.
 # The estimate is the time of the crates that are left, on this number of lanes (a fifth more in several, which wait for
-# each other) and at least that of the longest chain of them, times how much slower than that this build was so far. Crates under way do not count, so an early estimate would be far too high: ten minutes more are
-# taken to have gone as estimated.
+# each other) and at least that of the longest chain of them, times how much slower than that this build was so far.
+# Crates under way do not count, so an early estimate would be far too high: ten minutes more are taken to have gone as
+# estimated.
 #
 # usage: awk -v name=gthost -v lanes=4 -v seconds=600 -v changed='CRATE ..' -v then='CRATE=STAMP ..' \
 #            -v now='CRATE=STAMP ..' -f tools/progress.awk crates.txt docs/GATE.md
