@@ -3,8 +3,8 @@
 //! [`TextsFault`] is what the search and the answers return, [`ExploreFault`] what the command `explore` ends with. Each
 //! prints as one line; the lines are in `specs/`. Faults of what lies below become a `TextsFault` by `?`.
 //!
-//! It uses the faults of `gt_explore_search` (the search), `gt_explore_verdict` (expressions), `gt_script_runs` (a play) and
-//! `gt_types` (memory). It is a crate of its own so that commands that print a fault do not wait for what explores.
+//! It uses the faults of `gt_explore_search` (the search), `gt_explore_verdict` (expressions), `gt_script_runs` (a play)
+//! and `gt_types` (memory). It is a separate crate so that commands that print a fault do not wait for what explores.
 #![tactic(auto)]
 
 mod fault;

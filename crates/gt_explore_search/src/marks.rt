@@ -4,7 +4,7 @@ ghost use Rattle.gt_explore_search.specs.Exploring.{HasEnd};
 
 use std::alloc::{AllocError, Global};
 
-/// The index at which each number may stand in a list. Whether it does is seen in the list.
+/// For each number, an index in a list at which to look for it. Only the list shows whether the number is there.
 #[derive(Drop)]
 pub struct Marks {
     places: Vec<u32>,
@@ -38,7 +38,7 @@ impl Marks {
         }
     }
 
-    /// Marks that a number stands at this index.
+    /// Marks the index of a number.
     ///
     /// # Errors
     /// An allocation failed.

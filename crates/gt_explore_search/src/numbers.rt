@@ -8,7 +8,7 @@ use crate::fault::SearchFault;
 use std::alloc::{AllocError, Global};
 use std::marker::Model;
 
-/// Lists of numbers, each with a number of its own. They lie one after the other.
+/// Lists of numbers, each kept once under a number. All items are in one vector, a list after the other.
 #[derive(Drop)]
 pub struct NumberLists {
     items: Vec<u32>,

@@ -11,7 +11,7 @@ use std::marker::Model;
 // How many numbers a piece has. The last piece of a list may have fewer.
 const PIECE: usize = 6;
 
-/// Lists of numbers, each with a number of its own. A list is kept as the numbers of its pieces, since most lists share
+/// Lists of numbers, each kept once under a number. A list is kept as the numbers of its pieces, since most lists share
 /// their pieces with others.
 #[derive(Drop)]
 pub struct PackedLists {

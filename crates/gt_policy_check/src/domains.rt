@@ -20,7 +20,7 @@ pub(crate) struct Judged<'p, 'a> {
     pub worn: &'p [Member<'a>],
 }
 
-/// Returns the types that domains of these types have: all types of the policy if there is no script.
+/// Returns the types of a script's domains, by these names. Returns all types of the policy if no names are given.
 pub(crate) fn worn_members<'a>(
     alloc: Global,
     statements: &[LinedStatement<'a>],

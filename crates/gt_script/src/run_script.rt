@@ -75,7 +75,7 @@ impl<'a> RunScript<'a> {
     }
 }
 
-// Numbers the flags of tasks, and checks that each domain comes to the end of its list.
+// Numbers the flags of tasks, and checks that each domain can reach the end of its list.
 fn tasks_to_end<'a>(
     alloc: Global,
     orders: Vec<NamedRunTask<'a>>,
