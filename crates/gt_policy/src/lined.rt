@@ -7,7 +7,8 @@ ghost use Rattle.gt_policy.specs.declared.fault.TokenFault.{TokenFault};
 
 use crate::fault::ReadError;
 use crate::parse::{PolicyFault, PolicyFaultKind, fault_of};
-use crate::statements::{Parser, Statement};
+use crate::parser::Parser;
+use crate::statements::Statement;
 use crate::symbols::SymbolTable;
 use gt_policy_text::Items;
 use gt_types::LONGEST_TEXT;

@@ -2,7 +2,7 @@ use Rattle.std.proofs.Common.{sym, ◌∙◌, arith}
 use Rattle.std.proofs.lemmas.Result.{err_from_is_err_and}
 use Rattle.gt_policy_text.specs.declared.lexer.Token.TheVariants.{Comma}
 use Rattle.gt_policy.proofs.GrammarLemmas.{fills_err, front_is, attributes-comma, one_more, no_more}
-use Rattle.gt_policy.proofs.statements.Parser.attributes_behind.Goals as goal
+use Rattle.gt_policy.proofs.parser.Parser.attributes_behind.Goals as goal
 
 pub returns-in_err-attribute_name-in-Comma : goal.returns-in_err-attribute_name-in-Comma
 returns-in_err-attribute_name-in-Comma c =

@@ -3,7 +3,7 @@ use Rattle.std.proofs.lemmas.Result.{err_from_is_err_and}
 use Rattle.std.proofs.Common.{false, [], ◌∷◌, ◌++◌, subst}
 use Rattle.gt_policy.specs.Grammar.{Fills}
 use Rattle.gt_policy.proofs.GrammarLemmas.{fills_err, attributes-must, one_more, no_more, after_none}
-use Rattle.gt_policy.proofs.statements.Parser.attributes.Goals as goal
+use Rattle.gt_policy.proofs.parser.Parser.attributes.Goals as goal
 
 pub returns-in_err-attribute_name : goal.returns-in_err-attribute_name
 returns-in_err-attribute_name c =

@@ -3,7 +3,7 @@ use Rattle.std.specs.Prelude.{not}
 use Rattle.std.proofs.lemmas.Result.{err_from_is_err_and}
 use Rattle.gt_policy_text.specs.declared.lexer.Token.TheVariants.{Minus}
 use Rattle.gt_policy.proofs.GrammarLemmas.{fills_err, front_is, minus_more, minus_fault, nonempty_push}
-use Rattle.gt_policy.proofs.statements.Parser.set_in_braces.Goals as goal
+use Rattle.gt_policy.proofs.parser.Parser.set_in_braces.Goals as goal
 
 pub returns-in_err-type_name-in-Minus : goal.returns-in_err-type_name-in-Minus
 returns-in_err-type_name-in-Minus c =
