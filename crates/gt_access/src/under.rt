@@ -103,6 +103,7 @@ pub fn read_under<R: Wait, P: Allows>(
 /// # Errors
 /// [`AccessFault`]. No step was made.
 #[tactic(auto, using(crate::proofs::Covering::covers_by))]
+#[inline(always)]
 pub fn write_under<'a, R: Wait, P: Allows>(
     rt: &R,
     run: &AccessContext<'_, P>,

@@ -221,6 +221,7 @@ impl Frame {
     /// # Errors
     ///
     /// `Memory`, if an allocation fails. The frame is then unchanged.
+    #[inline(always)]
     pub fn write<'a>(
         &mut self,
         writ: &Writ,

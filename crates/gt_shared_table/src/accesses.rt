@@ -36,6 +36,7 @@ pub struct FrameCopy<'w> {
 }
 
 // Frees a frame that was read. Only the proof uses the arguments after `slot`.
+#[inline(always)]
 fn free_read<J: OfAccess>(cells: &Cells, seat: &mut CellSeat, slot: FrameSlot, off: u16, out: &[u8])
     requires fits { (seat.old.table_id ≡ cells.now.table_id)
         × IsSlotOf (places_of cells.now.key) cells.now.table_id slot }
@@ -50,6 +51,7 @@ fn free_read<J: OfAccess>(cells: &Cells, seat: &mut CellSeat, slot: FrameSlot, o
 }
 
 // Frees a frame that was written. Only the proof uses `write`.
+#[inline(always)]
 fn free_written<J: OfAccess>(
     cells: &Cells,
     seat: &mut CellSeat,
@@ -120,6 +122,7 @@ fn take_out(cells: &Cells, seat: &mut CellSeat, slot: FrameSlot, last: bool) -> 
 }
 
 // Reads a frame that is out into all of `out`, and frees it.
+#[inline(always)]
 pub(crate) fn read_out(
     cells: &Cells,
     seat: &mut CellSeat,
@@ -146,6 +149,7 @@ pub(crate) fn read_out(
 }
 
 // Writes to a frame that is out, and frees it. If allocation fails, the frame returns to its slot unchanged.
+#[inline(always)]
 pub(crate) fn write_out<'a>(
     cells: &Cells,
     seat: &mut CellSeat,

@@ -29,6 +29,7 @@ impl SharedTable {
 
     /// Reads a frame, starting at `off`, into all of `out`. Waits while another seat has the frame. The bytes are those
     /// that the steps before this one make.
+    #[inline(always)]
     pub fn read_frame<R: Wait>(
         &self,
         rt: &R,
@@ -56,6 +57,7 @@ impl SharedTable {
     ///
     /// # Errors
     /// `Memory`. The frame is unchanged, and no step was made.
+    #[inline(always)]
     pub fn write_frame<'a, R: Wait>(
         &self,
         rt: &R,

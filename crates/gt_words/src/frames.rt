@@ -65,6 +65,7 @@ impl Words {
 
     /// Reads a frame, starting at `off`, into all of `out`. Waits while another seat has the frame. The bytes are those
     /// that the steps before this one make. Returns `None`, with `out` unchanged, if the table has no such frame.
+    #[inline(always)]
     pub fn read_frame<R: Wait>(
         &self,
         rt: &R,
@@ -92,6 +93,7 @@ impl Words {
     ///
     /// # Errors
     /// [`AccessFault`]. No step was made.
+    #[inline(always)]
     pub fn write_frame<'a, R: Wait>(
         &self,
         rt: &R,
