@@ -36,7 +36,7 @@ impl<P: Allows> Model for Core<P> {
 }
 
 /// The result of `begin`.
-#[derive(Debug, Drop)]
+#[derive(Drop)]
 pub enum Begun {
     /// The call is open. `tick` makes its steps.
     Open,
@@ -49,7 +49,7 @@ pub enum Begun {
 }
 
 /// The result of `tick`.
-#[derive(Debug, Drop)]
+#[derive(Drop)]
 pub enum Ticked {
     /// The step was made, and saw this. The call is still open.
     Step(Step, Observation),

@@ -11,7 +11,7 @@ use gt_entry::decode;
 use std::alloc::{AllocError, Global};
 
 /// What a dump looks like.
-#[derive(Clone, Copy, Debug, PartialEq, Eq)]
+#[derive(Clone, Copy)]
 pub enum DumpLook {
     /// A table, as far as can be seen.
     Table,

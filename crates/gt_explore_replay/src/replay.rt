@@ -20,7 +20,7 @@ use gt_types::{DomainConfig, Memory};
 use std::alloc::{AllocError, Global};
 
 /// A move of a domain.
-#[derive(Debug, Drop)]
+#[derive(Drop)]
 pub enum Moved {
     /// It raised a flag.
     Raised,

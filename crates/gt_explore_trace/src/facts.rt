@@ -8,7 +8,7 @@ use itoa::Integer;
 use std::alloc::{AllocError, Global};
 
 /// The form of a trace: lines of text, a JSON object a line, or a sequence diagram of mermaid.
-#[derive(Clone, Copy, Debug, PartialEq, Eq)]
+#[derive(Clone, Copy)]
 pub enum TraceForm {
     Text,
     Json,

@@ -12,7 +12,7 @@ use gt_types::{DomId, Memory};
 use std::alloc::Global;
 
 /// A move, and the domain that made it.
-#[derive(Debug, Drop)]
+#[derive(Drop)]
 pub struct TracedMove {
     pub dom: DomId,
     pub moved: Moved,

@@ -11,7 +11,7 @@ use std::alloc::{AllocError, Global};
 
 /// The answers that a condition speaks of: all answers, the answer to the line of this number, or those of the domain
 /// of this number. A number is the text of its digits.
-#[derive(Clone, Copy, Debug, PartialEq, Eq)]
+#[derive(Clone, Copy)]
 pub enum Place<'e> {
     Anywhere,
     Line(&'e [u8]),
@@ -20,7 +20,7 @@ pub enum Place<'e> {
 
 /// A condition on a text. Anywhere: some answer has this word. Of a line or a domain: one of its answers begins with
 /// these words, `first` and then `more`.
-#[derive(Debug, PartialEq, Eq, Drop)]
+#[derive(Drop)]
 pub struct Condition<'e> {
     pub place: Place<'e>,
     pub first: &'e [u8],

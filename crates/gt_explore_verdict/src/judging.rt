@@ -4,7 +4,7 @@ ghost use Rattle.gt_explore_verdict.specs.Judging.{judged, shows, verdict_at};
 ghost use Rattle.std.specs.List.{position};
 
 /// A claim about the texts of a script: that some text satisfies the conditions, that none does, or that each does.
-#[derive(Clone, Copy, Debug, PartialEq, Eq)]
+#[derive(Clone, Copy, PartialEq, Eq)]
 pub enum Claim {
     Find,
     Never,
@@ -24,7 +24,7 @@ pub enum Verdict {
 
 /// A verdict, and the index of the first text that shows it: of one that satisfies the conditions for `Find` and
 /// `Never`, of one that does not for `Always`. `None` if only all texts together decide.
-#[derive(Clone, Copy, Debug, PartialEq, Eq)]
+#[derive(Clone, Copy)]
 pub struct Judgement {
     pub verdict: Verdict,
     pub shown_by: Option<usize>,

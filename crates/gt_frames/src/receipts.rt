@@ -99,7 +99,7 @@ impl<'a> Model for Written<'a> {
 }
 
 /// One end of a copy.
-#[derive(Clone, Copy, Debug)]
+#[derive(Clone, Copy)]
 pub(crate) struct CopiedEnd {
     pub(crate) owner: DomId,
     pub(crate) number: u64,
@@ -107,7 +107,7 @@ pub(crate) struct CopiedEnd {
 }
 
 /// The ends of a copy, the number of bytes, and the writer.
-#[derive(Clone, Copy, Debug)]
+#[derive(Clone, Copy)]
 pub(crate) struct CopiedRange {
     pub(crate) source: CopiedEnd,
     pub(crate) dest: CopiedEnd,

@@ -8,7 +8,7 @@ use gt_entry::Entry;
 use gt_types::{Dir, DomId, Range, Use};
 
 /// The right by which a domain writes to a frame.
-#[derive(Clone, Copy, Debug, PartialEq, Eq)]
+#[derive(Clone, Copy)]
 pub enum WriteBasis {
     /// The writer owns the frame.
     Owned,
@@ -25,7 +25,7 @@ pub enum WriteBasis {
 
 /// The writer, and the right by which it writes. A writ is a plain value that any caller can make. The writing
 /// calls require that it covers the range written.
-#[derive(Clone, Copy, Debug, PartialEq, Eq)]
+#[derive(Clone, Copy)]
 pub struct Writ {
     pub writer: DomId,
     pub basis: WriteBasis,

@@ -6,7 +6,7 @@ ghost use Rattle.gt_json.specs.Places.{is_mark};
 use crate::words::{is_rule, is_word};
 
 /// The text that is printed: that of `play` and `run`, of `policy`, or of `entries`.
-#[derive(Clone, Copy, Debug, PartialEq, Eq)]
+#[derive(Clone, Copy)]
 pub enum PrintedText {
     Run,
     Policy,
@@ -14,7 +14,7 @@ pub enum PrintedText {
 }
 
 /// The meaning of the next word of a line.
-#[derive(Clone, Copy, Debug, PartialEq, Eq)]
+#[derive(Clone, Copy)]
 pub enum WordPlace {
     /// The line of a script, or `audit` or `lost`.
     Line,

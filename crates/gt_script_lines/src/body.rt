@@ -8,7 +8,7 @@ use crate::texts::Text;
 use gt_types::GrantRef;
 
 /// A line of the body, after its domain. A flag has the form of a label.
-#[derive(Debug, Drop)]
+#[derive(Drop)]
 pub enum BodyLine<'a> {
     /// `do ID CALL`: makes the call from its beginning to its answer.
     Do(ScriptCall<'a>),

@@ -9,7 +9,7 @@ use crate::texts::Text;
 use gt_types::Perms;
 
 /// `triple SOURCE TARGET PERMISSION`: the source type has the permission on the target type.
-#[derive(Debug, Drop)]
+#[derive(Drop)]
 pub struct TripleLine<'a> {
     pub source: Text<'a>,
     pub target: Text<'a>,
@@ -17,7 +17,7 @@ pub struct TripleLine<'a> {
 }
 
 /// `domain ID USER:ROLE:TYPE FRAMES TABLEFRAMES VERSION`, with numbers of any size.
-#[derive(Debug, Drop)]
+#[derive(Drop)]
 pub struct DomainLine<'a> {
     pub id: Number,
     pub type_name: Text<'a>,
@@ -27,7 +27,7 @@ pub struct DomainLine<'a> {
 }
 
 /// A line of a script.
-#[derive(Debug, Drop)]
+#[derive(Drop)]
 pub enum ScriptLine<'a> {
     Triple(TripleLine<'a>),
     /// `wear N`: the first generation of all entries.

@@ -3,7 +3,7 @@ ghost use Rattle.std.specs.Prelude.{◌≡◌, ℕ, ◌<◌, ◌+◌, ◌*◌};
 ghost use Rattle.gt_script_lines.specs.Numbers.{number_of, decimal_number, number_below, below as value_below};
 
 /// A decimal number of any size: exact if it is below 2^64, or only known to be at least that.
-#[derive(Clone, Copy, Debug, PartialEq, Eq)]
+#[derive(Clone, Copy)]
 pub enum Number {
     Small(u64),
     Huge,

@@ -97,7 +97,7 @@ impl Model for Words {
 }
 
 /// A pin that a seat holds: its entry, the control word before the pin was added, and its kind.
-#[derive(Clone, Copy, Debug, PartialEq, Eq)]
+#[derive(Clone, Copy)]
 pub struct Pin {
     pub dom: DomId,
     pub gref: GrantRef,

@@ -59,9 +59,9 @@ fn group_goes(
     let (perms, pairs, rows) = group;
     let rights = rights(alloc, perms, pairs)?;
     let known = known(config, &rights, own, mappings);
-    for (caller, request, actions, parts) in rows.iter() {
+    for (at, (caller, request, actions, parts)) in rows.iter().enumerate() {
         let told = told(alloc, &known, *caller, *request, parts)?;
-        assert_eq!(rt; told, (true, *actions), "{request:?}");
+        assert_eq!(rt; told, (true, *actions), "row {at} of its group");
     }
     Ok(())
 }
