@@ -1,20 +1,16 @@
 -- From what was done with a text to what was asked for.
-use Rattle.std.proofs.Common.{◌≡◌, ℕ, Bool, List, Option, None, Some, Result, Ok, Err, IfSome, sym, subst, inl, inr, true}
+use Rattle.std.proofs.Common.{◌≡◌, ℕ, Bool, List, Option, None, Some, Result, Ok, IfSome, sym, subst, inl, inr, true}
 use Rattle.std.proofs.Common.{false}
-use Rattle.gt_text.specs.Laws.{keeps_same, of_any_input}
 use Rattle.gt_text.specs.Streams.{OfInput}
 use Rattle.gt_policy_check.specs.declared.asking.WhyQuestion.{WhyQuestion}
 use Rattle.gt_entries.specs.declared.asked.DumpOptions.{DumpOptions}
 use Rattle.gt_commands.specs.declared.invocation.Format.{Format}
-use Rattle.gt_run.specs.declared.fault.RunFault.{RunFault}
-use Rattle.gt_file_commands.specs.Formats.{RanAs}
 use Rattle.gt_file_commands.specs.Laws.{worked}
 use Rattle.gt_file_commands.specs.Working.{AnswersDump, AnswersEntries, AnswersQuestion, Answers, Checks, ChecksAll, ChecksAs}
 use Rattle.gt_file_commands.specs.Working.{ChecksFiles, ChecksNever, Does, Doing, Ending, Explains, IsAsked, IsQuestion}
-use Rattle.gt_file_commands.specs.Working.{OrNothing, Performs, RunsDomains, Works, answer_of, kind_checked, outcome_of}
+use Rattle.gt_file_commands.specs.Working.{OrNothing, Performs, Works, answer_of, kind_checked, outcome_of}
 use Rattle.gt_file_commands.specs.declared.checking.CheckKind.{CheckKind}
 use Rattle.gt_file_commands.specs.declared.commands.Work.{Work}
-use Rattle.gt_file_commands.specs.declared.failure.Failure.TheVariants as failures
 use Rattle.gt_file_commands.specs.declared.outcome.Outcome.{Outcome}
 use Rattle.gt_file_commands.specs.declared.outcome.Outcome.TheVariants.{Unknown}
 
@@ -33,15 +29,6 @@ pub answered_input : {F : Type 0} (known : Option (List ℕ)) (Wrote : List ℕ 
     → OfInput known (λ input. Answers (Wrote input) outcome)
 answered_input None Wrote answer outcome is (input, few, wrote) = (input, few, subst (λ (o : Outcome). Answers (Wrote input) o) (sym is) (answered_one (Wrote input) answer wrote))
 answered_input (Some all) Wrote answer outcome is wrote = subst (λ (o : Outcome). Answers (Wrote all) o) (sym is) (answered_one (Wrote all) answer wrote)
-
--- a run with a log or without, as was asked for
-pub ran_as_asked : (format : Format) (logged audited : Bool) (known old new : Option (List ℕ)) (r : Result (Unit {0}) RunFault) → audited ≡ logged → OfInput known (λ input. RanAs format logged input old new r)
-    → OfInput known (λ input. RanAs format audited input old new r)
-ran_as_asked format logged audited known old new r is ran = subst (λ (b : Bool). OfInput known (λ input. RanAs format b input old new r)) (sym is) ran
-
--- no memory was there before the text was read
-pub unread_run : (format : Format) (audited : Bool) (known old : Option (List ℕ)) → OfInput known (λ input. RunsDomains format audited input old old (Err failures.Memory))
-unread_run format audited known old = of_any_input known (λ (input : List ℕ). RunsDomains format audited input old old (Err failures.Memory)) (λ (input : List ℕ). keeps_same old)
 
 -- the files of these names were checked
 pub files_named : (P : Doing) (file : List ℕ → Option (List ℕ)) (given names : List (Option (List ℕ))) (old new : Option (List ℕ)) (outcome : Outcome) → given ≡ names → ChecksFiles P file given old new outcome → ChecksFiles P file names old new outcome

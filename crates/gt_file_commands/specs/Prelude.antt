@@ -16,7 +16,6 @@ pub use Rattle.gt_file_commands.specs.declared.outcome.Outcome.{Outcome}
 pub use Rattle.gt_file_commands.specs.declared.outcome.Outcome.TheVariants.{No, Unknown, Yes}
 pub use Rattle.gt_script_runs.specs.Faults.{play_fault_text}
 pub use Rattle.gt_policy_list.specs.Faults.{listing_fault_text}
-pub use Rattle.gt_run.specs.Faults.{run_fault_text}
 pub use Rattle.gt_script_lines.specs.Words.{words}
 pub use Rattle.gt_text.specs.Streams.{AppendsBeginning}
 pub use Rattle.gt_text.specs.Texts.{read_word}

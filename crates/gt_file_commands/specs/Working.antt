@@ -2,10 +2,10 @@
 use Rattle.std.specs.Prelude.{◌≡◌, ◌⊎◌, ℕ, ◌++◌, Bool, true, false, List, [], ◌∷◌, Option, Some, None, Result, Ok, Err}
 use Rattle.std.specs.Prelude.{IfSome, codes}
 use Rattle.std.specs.Borrow.{Bor}
-use Rattle.gt_file_commands.specs.Formats.{CheckedAs, ListedAs, PlayedAs, RanAs, ToldAs}
+use Rattle.gt_file_commands.specs.Formats.{CheckedAs, ListedAs, PlayedAs, ToldAs}
 use Rattle.gt_file_commands.specs.Prelude.{Keeps, option_map, Appends, AppendsBeginning, Format, DumpOptions}
 use Rattle.gt_file_commands.specs.Prelude.{WhyQuestion, perm_asked, source_asked, target_asked, Explained, CheckedNever}
-use Rattle.gt_file_commands.specs.Prelude.{type_of, words, play_fault_text, run_fault_text, explore_fault_text, listing_fault_text}
+use Rattle.gt_file_commands.specs.Prelude.{type_of, words, play_fault_text, explore_fault_text, listing_fault_text}
 use Rattle.gt_file_commands.specs.Prelude.{why_fault_text, breach_fault_text, dump_fault_text, read_word}
 use Rattle.gt_file_commands.specs.Prelude.{CheckKind, Failure, Outcome, Work, No, Unknown, Yes}
 use Rattle.gt_file_commands.specs.declared.checking.CheckKind.TheVariants as checks
@@ -15,7 +15,7 @@ use Rattle.gt_file_commands.specs.declared.failure.Failure.TheVariants as failur
 -- the line for a failure
 abbrev pub failure_text : Failure → List ℕ
 failure_text (failures.Play fault) = codes "gthost: " ++ play_fault_text fault
-failure_text (failures.Run fault) = codes "gthost: " ++ run_fault_text fault
+failure_text failures.Thread = codes "gthost: thread"
 failure_text (failures.Explore fault) = codes "gthost: " ++ explore_fault_text fault
 failure_text (failures.List fault) = codes "gthost: " ++ listing_fault_text fault
 failure_text (failures.Why fault) = codes "gthost: " ++ why_fault_text fault
@@ -54,14 +54,6 @@ Plays format audited input old new (Ok Yes) = PlayedAs format audited input old 
 Plays format audited input old new (Ok other) = ⊥
 Plays format audited input old new (Err (failures.Play fault)) = PlayedAs format audited input old new (Err fault)
 Plays format audited input old new (Err failure) = ⊥
-
--- if an allocation failed before the text was read, nothing was written
-abbrev pub RunsDomains : Format → Bool → Doing
-RunsDomains format audited input old new (Ok Yes) = RanAs format audited input old new (Ok tt)
-RunsDomains format audited input old new (Ok other) = ⊥
-RunsDomains format audited input old new (Err (failures.Run fault)) = RanAs format audited input old new (Err fault)
-RunsDomains format audited input old new (Err failures.Memory) = Keeps old new
-RunsDomains format audited input old new (Err failure) = ⊥
 
 -- what was written for an answer of yes or no
 abbrev pub Answers : {F : Type 0} → (Result Bool F → Type 0) → Outcome → Type 0

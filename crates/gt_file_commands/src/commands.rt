@@ -1,28 +1,22 @@
 //! The execution of each command, with the text that it names.
-ghost use Rattle.std.specs.Prelude.{◌≡◌, IfSome, is_some};
+ghost use Rattle.std.specs.Prelude.{◌≡◌, IfSome};
 ghost use Rattle.gt_text.specs.Streams.{OfInput};
-ghost use Rattle.gt_file_commands.specs.Working.{failed_work, known_input, Does, Performs, RunsDomains, Works};
-ghost use Rattle.gt_file_commands.specs.declared.outcome.Outcome.TheVariants.{No};
+ghost use Rattle.gt_file_commands.specs.Working.{failed_work, known_input, Does, Performs, Works};
 
 use crate::checking::{CheckKind, perform_check};
-use crate::explained::{entries_explained, list_with_reasons, why_explained};
+use crate::explained::{entries_explained, list_with_reasons, play_with_reasons, why_explained};
 use crate::failure::Failure;
-use crate::formats::{ReportSettings, RunSettings};
+use crate::formats::ReportSettings;
 use crate::outcome::Outcome;
-use crate::reporting::{finish, report};
+use crate::reporting::finish;
 use crate::style::Style;
 use crate::texts::{TextSource, read_fault};
-use crate::told::{play_with_reasons, run_with_reasons};
-use gt_audit::SharedLog;
 use gt_command_reasons::Reasons;
-use gt_commands::{Format, ScriptOptions};
+use gt_commands::Format;
 use gt_entries::DumpOptions;
 use gt_policy_check::WhyQuestion;
-use gt_run::FlagGate;
 use std::alloc::Global;
 use std::io::{Read, Write};
-use std::sync::Wait;
-use std::thread::Threads;
 
 /// A command on a text.
 #[derive(Clone, Copy)]
@@ -137,70 +131,6 @@ fn perform_on<R, T: TextSource, W: Write, E>(
     }
 }
 
-// Returns the log, if calls are to be recorded.
-fn log_for<'l>(audit: bool, log: &'l SharedLog) -> Option<&'l SharedLog>
-    ensures { is_some result ≡ audit }
-{
-    if audit { Some(log) } else { None }
-}
-
-// Runs the script of a reader, its domains in threads.
-#[tactic(auto, using(crate::proofs::Worked::unread_run))]
-fn run_script<R: Threads + Wait + Sync, T, E, I: Read, W: Write>(
-    context: &Context<R, T, E>,
-    format: Format,
-    audit: bool,
-    reader: &mut I,
-    out: &mut W,
-    reasons: &mut Reasons,
-) -> Result<Outcome, Failure>
-    ensures { OfInput (I.remaining reader.old) (λ input.
-        RunsDomains format audit input (W.contents out.old) (W.contents out.new) result) }
-{
-    let Ok(gate) = FlagGate::new(context.rt, context.alloc) else {
-        return Err(Failure::Memory);
-    };
-    let Ok(log) = SharedLog::new(context.alloc) else {
-        return Err(Failure::Memory);
-    };
-    let settings = RunSettings {
-        rt: context.rt,
-        alloc: context.alloc,
-        format,
-        log: log_for(audit, &log),
-        gate: &gate,
-    };
-    match run_with_reasons(&settings, reader, out, reasons) {
-        Ok(()) => Ok(Outcome::Yes),
-        Err(fault) => Err(Failure::Run(fault)),
-    }
-}
-
-// Runs the script of the named file, or of the standard input.
-fn run_on<R: Threads + Wait + Sync, T: TextSource, W: Write, E>(
-    context: &Context<R, T, E>,
-    format: Format,
-    audit: bool,
-    name: Option<&str>,
-    out: &mut W,
-    reasons: &mut Reasons,
-) -> Result<Outcome, Failure>
-    ensures { IfSome (known_input (T.file context.now.texts.now) (T.input context.now.texts.now) name.entry)
-        (λ input. Does (RunsDomains format audit) input (W.contents out.old) (W.contents out.new) result) }
-{
-    let Some(name) = name else {
-        let mut input = context.texts.input();
-        return run_script(context, format, audit, &mut input, out, reasons);
-    };
-    match context.texts.open(name) {
-        Ok(mut file) => run_script(context, format, audit, &mut file, out, reasons),
-        Err(error) => {
-            reasons.add_unread(&error);
-            Err(Failure::File(read_fault(&error)))
-        }
-    }
-}
-
 /// Executes this with the text of the named file, or of the standard input, and returns the outcome.
 pub(crate) fn work_asked<R, T: TextSource, W: Write, E: Eprint>(
     context: &Context<R, T, E>,
@@ -216,26 +146,4 @@ pub(crate) fn work_asked<R, T: TextSource, W: Write, E: Eprint>(
     let failed = work.failed();
     let ending = perform_on(context, work, file, out, reasons);
     finish(context, ending, failed, reasons)
-}
-
-/// Runs the script of the named file, or of the standard input, its domains in threads, and returns the outcome.
-pub fn run_asked<R: Threads + Wait + Sync, T: TextSource, W: Write, E: Eprint>(
-    context: &Context<R, T, E>,
-    options: ScriptOptions,
-    out: &mut W,
-    reasons: &mut Reasons,
-) -> Outcome
-    ensures { Works (RunsDomains options.entry.format options.entry.audit) No
-        (known_input (T.file context.now.texts.now) (T.input context.now.texts.now) options.entry.file)
-        (W.contents out.old) (W.contents out.new) result }
-{
-    let ending = run_on(
-        context,
-        options.format,
-        options.audit,
-        options.file,
-        out,
-        reasons,
-    );
-    report(context.err, ending, Outcome::No)
 }

@@ -2,17 +2,39 @@
 ghost use Rattle.gt_text.specs.Streams.{OfInput};
 ghost use Rattle.gt_checks.specs.Breaking.{CheckedNever};
 ghost use Rattle.gt_checks.specs.Explaining.{Explained};
-ghost use Rattle.gt_file_commands.specs.Formats.{CheckedAs, ListedAs, ToldAs};
+ghost use Rattle.gt_file_commands.specs.Formats.{CheckedAs, ListedAs, PlayedAs, ToldAs};
 
-use crate::formats::{ReportSettings, check_as, entries_as, list_as};
+use crate::formats::{ReportSettings, check_as, entries_as, list_as, play_as};
 use gt_checks::{BreachFault, NeverText, WhyFault, check_never, why};
 use gt_command_reasons::{CopyingReader, Reasons};
 use gt_commands::Format;
 use gt_entries::{DumpFault, DumpOptions};
 use gt_policy_check::WhyQuestion;
 use gt_policy_list::ListingFault;
+use gt_script_runs::PlayFault;
 use std::alloc::Global;
 use std::io::{Read, Write};
+
+/// Plays the script of a reader, and adds the reasons, if they are asked for.
+pub fn play_with_reasons<R: Read, W: Write>(
+    alloc: Global,
+    format: Format,
+    audit: bool,
+    reader: &mut R,
+    out: &mut W,
+    reasons: &mut Reasons,
+) -> Result<(), PlayFault>
+    ensures { OfInput (R.remaining reader.old) (λ input.
+        PlayedAs format audit input (W.contents out.old) (W.contents out.new) result) }
+{
+    if !reasons.are_asked() {
+        return play_as(alloc, format, audit, reader, out);
+    }
+    let mut input = CopyingReader::new(alloc, reader);
+    let ending = play_as(alloc, format, audit, &mut input, out);
+    reasons.add_play(&input.kept, &ending);
+    ending
+}
 
 /// Lists what the policy of a reader allows, and adds the reason of a fault, if it is asked for.
 pub fn list_with_reasons<R: Read, W: Write>(

@@ -3,7 +3,6 @@ use gt_checks::{BreachFault, WhyFault};
 use gt_entries::DumpFault;
 use gt_explore_faults::ExploreFault;
 use gt_policy_list::ListingFault;
-use gt_run::RunFault;
 use gt_script_runs::PlayFault;
 use gt_text::{ReadFault, WriteFault};
 use std::fmt;
@@ -11,10 +10,10 @@ use std::fmt;
 /// The failure that ended a command. It prints as one line, without a line end.
 #[derive(Drop)]
 pub enum Failure {
-    /// A script was not played to its end.
+    /// A script was not played or run to its end.
     Play(PlayFault),
-    /// The domains of a script were not run to their end.
-    Run(RunFault),
+    /// A thread of a run could not be started. Nothing was written.
+    Thread,
     /// The texts of a script were not found, or not all written.
     Explore(ExploreFault),
     /// A policy was not listed or checked to its end.
@@ -42,7 +41,7 @@ impl fmt::Display for Failure {
     fn fmt<W: fmt::Write>(&self, f: &mut fmt::Formatter<W>) -> fmt::Result {
         match self {
             Failure::Play(fault) => write!(f, "gthost: {fault}"),
-            Failure::Run(fault) => write!(f, "gthost: {fault}"),
+            Failure::Thread => f.write_str("gthost: thread"),
             Failure::Explore(fault) => write!(f, "gthost: {fault}"),
             Failure::List(fault) => write!(f, "gthost: {fault}"),
             Failure::Why(fault) => write!(f, "gthost: {fault}"),

@@ -1,23 +1,17 @@
 //! Commands in the two formats of their output.
-ghost use Rattle.std.specs.Prelude.{is_some};
 ghost use Rattle.gt_text.specs.Streams.{OfInput};
-ghost use Rattle.gt_file_commands.specs.Formats.{CheckedAs, ListedAs, PlayedAs, RanAs, ToldAs};
+ghost use Rattle.gt_file_commands.specs.Formats.{CheckedAs, ListedAs, PlayedAs, ToldAs};
 
-use gt_audit::SharedLog;
 use gt_checks::{check, check_script};
 use gt_commands::Format;
 use gt_entries::{DumpFault, DumpOptions, entries};
 use gt_host::play;
-use gt_json_commands::{entries_json, play_json, policy_json, run_json};
-use gt_order::run;
+use gt_json_commands::{entries_json, play_json, policy_json};
 use gt_policy_check::ReportForm;
 use gt_policy_list::{ListingFault, policy};
-use gt_run::{Gate, RunFault};
 use gt_script_runs::PlayFault;
 use std::alloc::Global;
 use std::io::{Read, Write};
-use std::sync::Wait;
-use std::thread::Threads;
 
 /// Plays the script of a reader.
 pub(crate) fn play_as<R: Read, W: Write>(
@@ -33,45 +27,6 @@ pub(crate) fn play_as<R: Read, W: Write>(
     match format {
         Format::Text => play(alloc, reader, out, audit),
         Format::Json => play_json(alloc, reader, out, audit),
-    }
-}
-
-/// The settings of a run: its threads, with a log or without, its gate, and the format of its output.
-#[derive(Drop)]
-pub struct RunSettings<'r, R, G> {
-    pub rt: &'r R,
-    pub alloc: Global,
-    pub format: Format,
-    pub log: Option<&'r SharedLog>,
-    pub gate: &'r G,
-}
-
-/// Runs the script of a reader, its domains in threads.
-pub(crate) fn run_as<R: Threads + Wait + Sync, I: Read, W: Write, G: Gate + Sync>(
-    settings: &RunSettings<R, G>,
-    reader: &mut I,
-    out: &mut W,
-) -> Result<(), RunFault>
-    ensures { OfInput (I.remaining reader.old) (λ input.
-        RanAs settings.now.format (is_some settings.now.log) input (W.contents out.old) (W.contents out.new) result) }
-{
-    match settings.format {
-        Format::Text => run(
-            settings.rt,
-            settings.alloc,
-            reader,
-            out,
-            settings.log,
-            settings.gate,
-        ),
-        Format::Json => run_json(
-            settings.rt,
-            settings.alloc,
-            reader,
-            out,
-            settings.log,
-            settings.gate,
-        ),
     }
 }
 

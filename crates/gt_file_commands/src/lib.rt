@@ -1,13 +1,13 @@
-//! The commands of gthost on named texts, except `explore`: the output and the outcome.
+//! The commands of gthost on named texts, except `run` and `explore`: the output and the outcome.
 //!
-//! [`play`], [`run_asked`], [`list`], [`answer`] and [`show_entries`] work on the text of the named file, or of the
-//! standard input. [`check_files`] and [`check_never_files`] check several, and [`answer_each`] answers the questions
-//! of the standard input. Each returns an [`Outcome`]: yes, no, or no answer. A failure goes to the standard error in
-//! one line ([`finish`]): that of the [`Failure`], or its reason (`gt_command_reasons`).
+//! [`play`], [`list`], [`answer`] and [`show_entries`] work on the text of the named file, or of the standard input.
+//! [`check_files`] and [`check_never_files`] check several, and [`answer_each`] answers the questions of the standard
+//! input. [`tell_rules`] lists the rules. Each returns an [`Outcome`]: yes, no, or no answer. A failure goes to the
+//! standard error in one line ([`finish`]): that of the [`Failure`], or its reason (`gt_command_reasons`).
 //!
 //! Texts come from a trait, [`TextSource`], and go to any writer. So the contracts specify, for texts and a writer with
-//! known bytes, the output and the outcome (specs/Working.antt). `gt_program` has the command line and
-//! `explore`, whose failures and outcomes are of the same types.
+//! known bytes, the output and the outcome (specs/Working.antt). `run` is in `gt_run_command`, and `explore` and the
+//! command line in `gt_program`: their failures and outcomes are of the same types.
 #![tactic(auto)]
 
 mod asking;
@@ -21,17 +21,18 @@ mod outcome;
 mod questions;
 mod reading;
 mod reporting;
+mod rules;
 mod style;
 mod texts;
-mod told;
 
 pub use asking::{answer, list, play, show_entries};
 pub use checking::{check_files, check_never_files};
-pub use commands::{Context, run_asked};
+pub use commands::Context;
 pub use failure::Failure;
 pub use given::read_given;
 pub use outcome::{Outcome, outcome_of};
 pub use questions::answer_each;
 pub use reporting::{finish, report};
+pub use rules::tell_rules;
 pub use style::Style;
 pub use texts::{TextSource, read_fault};

@@ -1,5 +1,5 @@
 -- From the text that a command wrote to memory to its JSON.
-use Rattle.std.proofs.Common.{◌≡◌, ◌⊎◌, ℕ, ◌≤◌, List, [], Option, None, Some, Result, Ok, Err, length, inl, inr, subst}
+use Rattle.std.proofs.Common.{◌≡◌, ℕ, List, [], Option, None, Some, Result, Ok, Err, inl, inr, subst}
 use Rattle.std.proofs.Common.{sym}
 use Rattle.gt_text.specs.Streams.{OfInput}
 use Rattle.gt_json.specs.declared.places.PrintedText.{PrintedText}

@@ -2,11 +2,10 @@
 use Rattle.std.specs.Prelude.{◌≡◌, ◌⊎◌, ℕ, Bool, List, [], Option, Some, Result, Ok, Err}
 use Rattle.gt_json_commands.specs.Prelude.{Appends, Keeps, AppendsBeginning, json_text, PrintedText, Run, Policy, Entries}
 use Rattle.gt_json_commands.specs.Prelude.{TellsScript}
-use Rattle.gt_json_commands.specs.Prelude.{RunTells, PlayFault, Played, RunFault, Ran, ListingFault, Listed, DumpOptions, DumpFault}
+use Rattle.gt_json_commands.specs.Prelude.{PlayFault, Played, ListingFault, Listed, DumpOptions, DumpFault}
 use Rattle.gt_json_commands.specs.Prelude.{Told}
 use Rattle.gt_text.specs.Streams.{OfInput}
 use Rattle.gt_script_runs.specs.declared.fault.PlayFault.TheVariants as plays
-use Rattle.gt_run.specs.declared.fault.RunFault.TheVariants as runs
 use Rattle.gt_policy_list.specs.declared.fault.ListingFault.TheVariants as listings
 use Rattle.gt_entries.specs.declared.fault.DumpFault.TheVariants as dumps
 
@@ -49,11 +48,6 @@ Passes printed memory write text (Err why) old new (Err fault) = ((fault ≡ mem
 -- what `play_json` writes for an input
 abbrev pub PlayedAsJson : List ℕ → Bool → Promise PlayFault
 PlayedAsJson input audit = AsJson Run plays.Memory plays.Write (Played (TellsScript input) audit)
-
--- what `run_json` writes for an input, with a log or without
-abbrev pub RanAsJson : List ℕ → Bool → Promise RunFault
-RanAsJson input logged =
-    AsJson Run (runs.Play plays.Memory) (runs.Play plays.Write) (Ran logged (RunTells input))
 
 -- what `policy_json` writes for an input
 abbrev pub ListedAsJson : List ℕ → Promise ListingFault

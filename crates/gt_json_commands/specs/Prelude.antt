@@ -9,9 +9,6 @@ pub use Rattle.gt_json.specs.declared.places.PrintedText.{PrintedText}
 pub use Rattle.gt_json.specs.declared.places.PrintedText.TheVariants.{Entries, Policy, Run}
 pub use Rattle.gt_policy_list.specs.Writing.{Listed}
 pub use Rattle.gt_policy_list.specs.declared.fault.ListingFault.{ListingFault}
-pub use Rattle.gt_run.specs.Runs.{Ran}
-pub use Rattle.gt_run.specs.declared.fault.RunFault.{RunFault}
-pub use Rattle.gt_script.specs.RunScripts.{RunTells}
 pub use Rattle.gt_script.specs.Script.{TellsScript}
 pub use Rattle.gt_text.specs.Streams.{AppendsBeginning}
 pub use Rattle.std.specs.Io.KnownBytes.{Appends, Keeps}

@@ -39,9 +39,10 @@ use Rattle.gt_explore_answers.specs.declared.asking.ExploreOptions.{ExploreOptio
 use Rattle.std.specs.Str.Lines.{lines}
 use Rattle.gt_file_commands.specs.Laws.{no_memory, nothing_done}
 use Rattle.gt_file_commands.specs.Working.{AnswersDump, AnswersLines, AnswersQuestion, ChecksAll, ChecksAs, ChecksFiles}
-use Rattle.gt_file_commands.specs.Working.{ChecksNever, Does, Doing, Ending, Lists, Plays, RunsDomains, Works, known_text}
+use Rattle.gt_file_commands.specs.Working.{ChecksNever, Does, Doing, Ending, Lists, Plays, Works, known_text}
 use Rattle.gt_file_commands.specs.declared.outcome.Outcome.{Outcome}
 use Rattle.gt_file_commands.specs.declared.outcome.Outcome.TheVariants.{No, Unknown, Yes}
+use Rattle.gt_run_command.specs.Runs.{RunsDomains}
 use Rattle.gt_program.specs.Obeying.{AnswersVerdict, FitsKind, IsGiven, IsHelped, IsSearched, Obeys, Searches, Seeks}
 use Rattle.gt_program.specs.Obeying.{SeeksText, explore_format, failed_command, failed_mode, failed_word, first_word}
 use Rattle.gt_program.specs.Obeying.{verdict_outcome}

@@ -3,14 +3,14 @@ ghost use Rattle.gt_commands.specs.Commands.{asked_by_plan};
 ghost use Rattle.gt_program.specs.Obeying.{Obeys};
 
 use crate::exploring::{explore, find_text};
-use crate::rules::tell_rules;
 use gt_command_reasons::Reasons;
 use gt_commands::Invocation;
 use gt_file_commands::{
     Context, Outcome, TextSource, answer, answer_each, check_files, check_never_files, list, play,
-    run_asked, show_entries,
+    show_entries, tell_rules,
 };
 use gt_policy_check::WhyQuestion;
+use gt_run_command::run_asked;
 use std::io::Write;
 use std::sync::Wait;
 use std::thread::Threads;

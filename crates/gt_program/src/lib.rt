@@ -15,7 +15,6 @@
 mod exploring;
 mod following;
 mod obeying;
-mod rules;
 mod system;
 
 pub use gt_file_commands::{Context, Outcome, Style, TextSource};

@@ -1,4 +1,4 @@
-use Rattle.std.proofs.Common.{List, ◌+◌, drop, map}
+use Rattle.std.proofs.Common.{◌+◌, drop, map}
 use Rattle.std.proofs.lemmas.List.{at_drop_all, at_drop_more}
 use Rattle.gt_file_commands.proofs.QuestionLemmas.{goes_last, goes_next}
 use Rattle.gt_file_commands.proofs.questions.answer_lines.Goals as goal

@@ -1,5 +1,5 @@
-use Rattle.gt_file_commands.proofs.RelayLemmas.{relayed}
-use Rattle.gt_file_commands.proofs.told.run_with_reasons.Goals as goal
+use Rattle.gt_run_command.proofs.RelayLemmas.{relayed}
+use Rattle.gt_run_command.proofs.reasons.run_with_reasons.Goals as goal
 
 pub returns : goal.returns
 returns g c =

@@ -1,9 +1,9 @@
 use Rattle.std.proofs.Common.{ℕ, List}
 use Rattle.std.specs.Prelude.{is_some}
 use Rattle.gt_commands.specs.declared.invocation.Format.{Format}
-use Rattle.gt_file_commands.specs.Formats.{RanAs}
+use Rattle.gt_run_command.specs.Runs.{RanAs}
 use Rattle.gt_file_commands.proofs.FormatLemmas.{in_format}
-use Rattle.gt_file_commands.proofs.formats.run_as.Goals as goal
+use Rattle.gt_run_command.proofs.formats.run_as.Goals as goal
 
 pub returns-in-Text : goal.returns-in-Text
 returns-in-Text g c = in_format (λ (f : Format) (input : List ℕ). RanAs f (is_some c.args.settings.now.log) input) _ _ _ _ _ _ c.in-Text.is c.run.ensures.text

@@ -6,7 +6,7 @@ use Rattle.gt_run.specs.declared.fault.RunFault.TheVariants as runs
 use Rattle.gt_run.specs.Runs.{Ran}
 use Rattle.gt_json.specs.declared.places.PrintedText.TheVariants.{Run}
 use Rattle.gt_json_commands.proofs.JsonLemmas.{passed}
-use Rattle.gt_json_commands.proofs.commands.run_json.Goals as goal
+use Rattle.gt_run_command.proofs.json.run_json.Goals as goal
 
 pub returns-clause-text : goal.returns-clause-text
 returns-clause-text g c =

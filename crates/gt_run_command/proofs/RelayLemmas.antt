@@ -21,7 +21,7 @@ use Rattle.gt_script.specs.RunScripts.{RunTells}
 use Rattle.gt_script.specs.Script.{Wrong}
 use Rattle.gt_text.specs.Streams.{AppendsBeginning, OfInput}
 use Rattle.gt_order.specs.Running.{AppendsText, WroteIfOk}
-use Rattle.gt_file_commands.specs.Formats.{RanAs, Relays, fault_in_memory}
+use Rattle.gt_run_command.specs.Runs.{RanAs, Relays, fault_in_memory}
 
 -- where all stays nothing went out, which is a beginning of any text
 kept_nothing : (old new : Option (List ℕ)) → Keeps old new → Appends old new []

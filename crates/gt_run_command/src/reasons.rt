@@ -1,39 +1,16 @@
-//! Plays and runs of scripts, with their reasons.
+//! Runs of scripts, with their reasons.
 ghost use Rattle.std.specs.Prelude.{is_some};
 ghost use Rattle.gt_text.specs.Streams.{OfInput};
-ghost use Rattle.gt_file_commands.specs.Formats.{PlayedAs, RanAs, Relays};
+ghost use Rattle.gt_run_command.specs.Runs.{RanAs, Relays};
 
-use crate::formats::{RunSettings, play_as, run_as};
+use crate::formats::{RunSettings, run_as};
 use gt_command_reasons::{CopyingReader, KeptInput, Reasons};
-use gt_commands::Format;
 use gt_run::{Gate, RunFault};
 use gt_script_runs::PlayFault;
 use gt_text::{every_writer_keeps_what_it_has, finish};
-use std::alloc::Global;
 use std::io::{Read, Write};
 use std::sync::Wait;
 use std::thread::Threads;
-
-/// Plays the script of a reader, and adds the reasons, if they are asked for.
-pub fn play_with_reasons<R: Read, W: Write>(
-    alloc: Global,
-    format: Format,
-    audit: bool,
-    reader: &mut R,
-    out: &mut W,
-    reasons: &mut Reasons,
-) -> Result<(), PlayFault>
-    ensures { OfInput (R.remaining reader.old) (λ input.
-        PlayedAs format audit input (W.contents out.old) (W.contents out.new) result) }
-{
-    if !reasons.are_asked() {
-        return play_as(alloc, format, audit, reader, out);
-    }
-    let mut input = CopyingReader::new(alloc, reader);
-    let ending = play_as(alloc, format, audit, &mut input, out);
-    reasons.add_play(&input.kept, &ending);
-    ending
-}
 
 // Writes the text that a run with this result wrote to memory. A write to memory fails only if an allocation does.
 fn relay<W: Write>(text: &[u8], ending: Result<(), RunFault>, out: &mut W) -> Result<(), RunFault>
@@ -61,7 +38,7 @@ fn add_run(reasons: &mut Reasons, input: &KeptInput, text: &[u8], ending: &Resul
 
 /// Runs the script of a reader, its domains in threads, and adds the reasons, if they are asked for. In that case the
 /// text is kept in memory and written at the end, since a second run may print another.
-pub fn run_with_reasons<R: Threads + Wait + Sync, I: Read, W: Write, G: Gate + Sync>(
+pub(crate) fn run_with_reasons<R: Threads + Wait + Sync, I: Read, W: Write, G: Gate + Sync>(
     settings: &RunSettings<R, G>,
     reader: &mut I,
     out: &mut W,

@@ -1,7 +1,9 @@
 //! The rules by which calls are refused, a line each.
 ghost use Rattle.std.specs.Prelude.{◌≡◌, ◌⊎◌};
 
-use gt_file_commands::{Failure, Outcome, report};
+use crate::failure::Failure;
+use crate::outcome::Outcome;
+use crate::reporting::report;
 use gt_text::WriteFault;
 use gt_types::{Rule, Status};
 use std::alloc::{AllocError, Global};
@@ -206,7 +208,7 @@ fn report_unnamed<E: Eprint>(err: &E, name: &str) {
 
 /// Writes the line of the rule of this name, or of each rule if there is no name, in lines of at most the width, if one
 /// is given. Returns the outcome: yes, or unknown if they could not be written or no rule has that name.
-pub(crate) fn tell_rules<W: Write, E: Eprint>(
+pub fn tell_rules<W: Write, E: Eprint>(
     alloc: Global,
     out: &mut W,
     err: &E,
