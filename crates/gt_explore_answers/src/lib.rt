@@ -11,17 +11,13 @@
 
 mod answering;
 mod asking;
-mod checked;
 mod conditions;
 mod formats;
 mod found;
 mod json;
-mod leaving;
-mod naming;
 mod objects;
 mod telling;
 mod tracing;
-mod witness;
 
 pub use answering::ExploreOutput;
 pub use asking::{ExploreFormat, ExploreOptions, ExploreRequest};

@@ -9,8 +9,9 @@
 //! specs/Spaces.antt). Nothing is claimed of the turns: replay them on the core (`gt_explore_replay`) to see what they
 //! lead to.
 //!
-//! It uses `gt_explore_search` (the search), `gt_calls` (the steps of calls), `gt_explore_state` (words and bytes),
-//! `gt_script_runs` (what lines ask and print), `gt_script` and `gt_explore_replay` (orders and turns).
+//! It uses `gt_explore_search` (the search), `gt_calls` (the steps of calls), `gt_explore_same` (their equality),
+//! `gt_explore_state` (words and bytes), `gt_script_runs` (what lines ask and print), `gt_script` and
+//! `gt_explore_replay` (orders and turns).
 #![tactic(auto)]
 
 mod actor;
@@ -22,7 +23,6 @@ mod partial;
 mod parts;
 mod phases;
 mod same;
-mod same_steps;
 mod scene;
 mod searching;
 mod space;
