@@ -1,4 +1,5 @@
-//! A program that plays worked scripts and lists worked policies, and prints the output of each under its name.
+//! A program that plays and parses worked scripts and lists worked policies, and prints the output of each under its
+//! name.
 //!
 //! The words of the command line are the names. The script `x` is `data/x.gt`, as the program `gthost` plays it. Those
 //! after the word `--audit` are printed with their records. `args` names them all, and `stdout` has the expected
@@ -10,15 +11,22 @@
 //! `x` is `data/x.te`, as `gthost` lists it. After `--beginnings` each prefix of a script is played, from no byte to
 //! the whole. Its output is printed after its count of bytes if it differs from that of one byte less. After
 //! `--policy-beginnings` the prefixes of a policy are listed. After `--refusing`, `--refusing-audit` and
-//! `--policy-refusing` each allocation fails in turn, and a line states whether all failures were reported. A script or
-//! policy is added by its file, its name in `args` and its lines in `stdout`; that costs no proof.
+//! `--policy-refusing` each allocation fails in turn, and a line states whether all failures were reported.
+//!
+//! The scripts after `--parsed` are parsed for `play`, and printed as they are read, or their first fault. Those after
+//! `--parsed-run` are parsed for `run`, and those after `--cut` are cut off after each count of bytes. A file with a line
+//! `====` has a text above it, and below it lines that are tried instead of its `@`, one after the other: each is printed
+//! after its result. A script, a policy or a tried line is added by its file, its name in `args` and its lines in
+//! `stdout`; that costs no proof.
 //!
 //! If an allocation of the program itself fails, it ends with status 1, and its output is a prefix of `stdout`.
 #![tactic(auto)]
 
+mod parsed;
 mod refusing;
 mod task;
 
+use parsed::{ParsedForm, cut_said, run_said};
 use refusing::refused_said;
 use std::alloc::Global;
 use std::sync::Wait;
@@ -33,12 +41,15 @@ enum Way {
     Failing,
     Beginnings,
     Refusing,
+    Parsed,
+    ParsedForRun,
+    Cut,
 }
 
 // A text is a script or a policy, done with or without its records.
 type Mode = (Task, bool, Way);
 
-const MODES: [(&str, Mode); 9] = [
+const MODES: [(&str, Mode); 12] = [
     ("--audit", (Task::Play, true, Way::Once)),
     ("--failing", (Task::Play, false, Way::Failing)),
     ("--failing-audit", (Task::Play, true, Way::Failing)),
@@ -48,6 +59,9 @@ const MODES: [(&str, Mode); 9] = [
     ("--refusing", (Task::Play, false, Way::Refusing)),
     ("--refusing-audit", (Task::Play, true, Way::Refusing)),
     ("--policy-refusing", (Task::List, false, Way::Refusing)),
+    ("--parsed", (Task::Play, false, Way::Parsed)),
+    ("--parsed-run", (Task::Play, false, Way::ParsedForRun)),
+    ("--cut", (Task::Play, false, Way::Cut)),
 ];
 
 // The scripts and policies, of which the next ones are treated so.
@@ -86,6 +100,9 @@ impl Cases for HostCases {
             Way::Failing => failing_said(rt, &task, alloc, text, audit),
             Way::Beginnings => beginnings_said(rt, &task, alloc, text),
             Way::Refusing => refused_said(rt, task, alloc, text, audit),
+            Way::Parsed => tried_said(rt, &ParsedForm, alloc, text, false),
+            Way::ParsedForRun => Ok(run_said(alloc, text)?.into_bytes()),
+            Way::Cut => Ok(cut_said(alloc, text)?.into_bytes()),
         }
     }
 }

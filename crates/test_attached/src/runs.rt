@@ -211,63 +211,149 @@ fn runs_of_few_and_many_domains_begin_and_end(rt: HostRuntime) -> Result<(), All
     Ok(())
 }
 
+// The owner of the page, the guest that maps it, and the last mapping.
+#[derive(Drop)]
+struct Pair {
+    owner: AttachedDomain<AllowTable>,
+    mapper: AttachedDomain<AllowTable>,
+    mapped: Option<Handle>,
+}
+
+// What one of the two does, and the expected result.
+#[derive(Clone, Copy)]
+enum Act {
+    /// The owner grants its page.
+    Grants,
+    /// The mapper maps the page, if it may.
+    Maps(bool),
+    /// The mapper unmaps it.
+    Unmaps,
+    /// The page's entry is of this kind, with this number of pins for writing.
+    Is(EntryKind, u16),
+    /// The owner is made ready for its successor, with this number of entries in use.
+    OwnerResets(u64),
+    /// The same for the mapper.
+    MapperResets(u64),
+    /// The page's entry follows bytes with these flags and this frame.
+    Follows(u8, u8, Result<Followed, Rule>),
+}
+
+// Maps the page. Returns whether it did.
+fn maps_page(pair: &mut Pair) -> bool {
+    let mapped = maps(&mut pair.mapper, 1);
+    if mapped.is_some() {
+        pair.mapped = mapped;
+    }
+    mapped.is_some()
+}
+
+// Returns whether this has the expected result.
+fn goes(pair: &mut Pair, act: Act) -> bool {
+    match act {
+        Act::Grants => grants(&mut pair.owner, 2),
+        Act::Maps(may) => maps_page(pair) == may,
+        Act::Unmaps => match pair.mapped {
+            Some(handle) => unmaps(&mut pair.mapper, handle),
+            None => false,
+        },
+        Act::Is(kind, writes) => status(&mut pair.owner) == Some((kind, writes)),
+        Act::OwnerResets(in_use) => resets(&mut pair.owner) == Some(in_use),
+        Act::MapperResets(in_use) => resets(&mut pair.mapper) == Some(in_use),
+        Act::Follows(flags, frame, wanted) => {
+            follows(&mut pair.owner, flags, frame) == Some(wanted)
+        }
+    }
+}
+
+// Returns the index of the first act that has another result.
+fn first_wrong(pair: &mut Pair, acts: &[Act]) -> Option<usize> {
+    for (at, act) in acts.iter().enumerate() {
+        if !goes(pair, *act) {
+            return Some(at);
+        }
+    }
+    None
+}
+
+fn begin_pair(alloc: Global, first_gen: u32) -> Result<Pair, AllocError> {
+    let settings = settings(alloc, 2, 1)?;
+    let Ok(mut guests) = begin(alloc, settings.as_slice(), first_gen, POLICY) else {
+        return Err(AllocError);
+    };
+    let (Some(mapper), Some(owner)) = (guests.pop(), guests.pop()) else {
+        return Err(AllocError);
+    };
+    Ok(Pair {
+        owner,
+        mapper,
+        mapped: None,
+    })
+}
+
+// Returns the index of the first act that has another result, and how many entries of each are in use when they leave.
+fn told(
+    alloc: Global,
+    first_gen: u32,
+    acts: &[Act],
+) -> Result<(Option<usize>, [Option<u64>; 2]), AllocError> {
+    let mut pair = begin_pair(alloc, first_gen)?;
+    let wrong = first_wrong(&mut pair, acts);
+    let Pair {
+        owner,
+        mapper,
+        mapped: _,
+    } = pair;
+    Ok((wrong, [leaves(owner), leaves(mapper)]))
+}
+
+// A place is made ready for the next guest while its page is mapped.
+static READY: [Act; 11] = [
+    Act::Grants,
+    Act::Maps(true),
+    Act::Is(EntryKind::Page, 1),
+    Act::OwnerResets(1),
+    Act::Is(EntryKind::Invalid, 1),
+    Act::Maps(false),
+    Act::Unmaps,
+    Act::Is(EntryKind::Invalid, 0),
+    Act::Grants,
+    Act::Maps(true),
+    Act::MapperResets(0),
+];
+
 #[test]
 fn a_place_is_made_ready_for_the_next_guest(rt: HostRuntime) -> Result<(), AllocError> {
-    let settings = settings(rt.alloc(), 2, 1)?;
-    let Ok(mut guests) = begin(rt.alloc(), settings.as_slice(), 3, POLICY) else {
-        return Err(AllocError);
-    };
-    let (Some(mut mapper), Some(mut owner)) = (guests.pop(), guests.pop()) else {
-        return Err(AllocError);
-    };
-    assert!(rt; grants(&mut owner, 2));
-    let Some(handle) = maps(&mut mapper, 1) else {
-        return Err(AllocError);
-    };
-    assert_eq!(rt; status(&mut owner), Some((EntryKind::Page, 1)));
-    assert_eq!(rt; resets(&mut owner), Some(1));
-    assert_eq!(rt; status(&mut owner), Some((EntryKind::Invalid, 1)));
-    assert!(rt; maps(&mut mapper, 1).is_none());
-    assert!(rt; unmaps(&mut mapper, handle));
-    assert_eq!(rt; status(&mut owner), Some((EntryKind::Invalid, 0)));
-    assert!(rt; grants(&mut owner, 2));
-    assert!(rt; maps(&mut mapper, 1).is_some());
-    assert_eq!(rt; resets(&mut mapper), Some(0));
-    assert_eq!(rt; (leaves(owner), leaves(mapper)), (Some(0), Some(0)));
+    let told = told(rt.alloc(), 3, &READY)?;
+    assert_eq!(rt; told, (None, [Some(0), Some(0)]));
     Ok(())
 }
 
+// An entry follows the bytes of its guest. After the map the VMM has marked the entry as in use.
+static FOLLOWING: [Act; 18] = [
+    Act::Follows(0, 4, Ok(Followed::Same)),
+    Act::Follows(1, 4, Ok(Followed::Granted)),
+    Act::Maps(true),
+    Act::Follows(25, 4, Ok(Followed::Same)),
+    Act::Follows(29, 4, Err(Rule::N19)),
+    Act::Is(EntryKind::Page, 1),
+    Act::Follows(1, 5, Err(Rule::N19)),
+    Act::Is(EntryKind::Invalid, 1),
+    Act::Unmaps,
+    Act::Follows(1, 5, Ok(Followed::Granted)),
+    Act::Follows(5, 5, Ok(Followed::Demoted)),
+    Act::Maps(false),
+    Act::Follows(1, 5, Ok(Followed::Promoted)),
+    Act::Follows(1, 6, Ok(Followed::Granted)),
+    Act::Follows(0, 6, Ok(Followed::Withdrawn)),
+    Act::Follows(1, 6, Ok(Followed::Granted)),
+    Act::Follows(2, 6, Err(Rule::N25)),
+    Act::Is(EntryKind::Invalid, 0),
+];
+
 #[test]
 fn an_entry_follows_the_bytes_of_its_guest(rt: HostRuntime) -> Result<(), AllocError> {
-    let settings = settings(rt.alloc(), 2, 1)?;
-    let Ok(mut guests) = begin(rt.alloc(), settings.as_slice(), 0, POLICY) else {
-        return Err(AllocError);
-    };
-    let (Some(mut mapper), Some(mut owner)) = (guests.pop(), guests.pop()) else {
-        return Err(AllocError);
-    };
-    assert_eq!(rt; follows(&mut owner, 0, 4), Some(Ok(Followed::Same)));
-    assert_eq!(rt; follows(&mut owner, 1, 4), Some(Ok(Followed::Granted)));
-    let Some(handle) = maps(&mut mapper, 1) else {
-        return Err(AllocError);
-    };
-    // the VMM has marked the entry as in use
-    assert_eq!(rt; follows(&mut owner, 25, 4), Some(Ok(Followed::Same)));
-    assert_eq!(rt; follows(&mut owner, 29, 4), Some(Err(Rule::N19)));
-    assert_eq!(rt; status(&mut owner), Some((EntryKind::Page, 1)));
-    assert_eq!(rt; follows(&mut owner, 1, 5), Some(Err(Rule::N19)));
-    assert_eq!(rt; status(&mut owner), Some((EntryKind::Invalid, 1)));
-    assert!(rt; unmaps(&mut mapper, handle));
-    assert_eq!(rt; follows(&mut owner, 1, 5), Some(Ok(Followed::Granted)));
-    assert_eq!(rt; follows(&mut owner, 5, 5), Some(Ok(Followed::Demoted)));
-    assert!(rt; maps(&mut mapper, 1).is_none());
-    assert_eq!(rt; follows(&mut owner, 1, 5), Some(Ok(Followed::Promoted)));
-    assert_eq!(rt; follows(&mut owner, 1, 6), Some(Ok(Followed::Granted)));
-    assert_eq!(rt; follows(&mut owner, 0, 6), Some(Ok(Followed::Withdrawn)));
-    assert_eq!(rt; follows(&mut owner, 1, 6), Some(Ok(Followed::Granted)));
-    assert_eq!(rt; follows(&mut owner, 2, 6), Some(Err(Rule::N25)));
-    assert_eq!(rt; status(&mut owner), Some((EntryKind::Invalid, 0)));
-    assert_eq!(rt; (leaves(owner), leaves(mapper)), (Some(0), Some(0)));
+    let told = told(rt.alloc(), 0, &FOLLOWING)?;
+    assert_eq!(rt; told, (None, [Some(0), Some(0)]));
     Ok(())
 }
 

@@ -250,16 +250,21 @@ static ALL_REFUSED: [Refused; 3] = [
     ),
 ];
 
-fn goes_refused(rt: &impl Abort, alloc: Global, row: &Refused) -> Result<(), StartFault> {
-    let (pairs, first, (round, from, to), last, pins) = row;
-    let mut core = started(rt, alloc, pairs)?;
-    goes(rt, &mut core, first)?;
+// Makes the calls of a run, and compares their answers and the pins that are left.
+fn goes_all(rt: &impl Abort, core: &mut Core<Triples>, row: &Refused) -> Result<(), StartFault> {
+    let (_, first, (round, from, to), last, pins) = row;
+    goes(rt, core, first)?;
     for number in *from..=*to {
-        go_round(rt, &mut core, *round, number)?;
+        go_round(rt, core, *round, number)?;
     }
-    goes(rt, &mut core, last)?;
-    assert_eq!(rt; reads(&core), Some(*pins));
+    goes(rt, core, last)?;
+    assert_eq!(rt; reads(core), Some(*pins));
     Ok(())
+}
+
+fn goes_refused(rt: &impl Abort, alloc: Global, row: &Refused) -> Result<(), StartFault> {
+    let mut core = started(rt, alloc, row.0)?;
+    goes_all(rt, &mut core, row)
 }
 
 #[test]

@@ -246,12 +246,26 @@ pub fn goes(
     Ok(())
 }
 
-// Plays each run on its own core.
+// Plays both parts of a run.
+fn goes_twice(
+    rt: &impl Abort,
+    core: &mut Core<Triples>,
+    alloc: Global,
+    run: &Run,
+) -> Result<(), Fail> {
+    goes(rt, core, alloc, run.2)?;
+    goes(rt, core, alloc, run.3)
+}
+
+// Plays a run on its own core.
+fn run_goes(rt: &impl Abort, alloc: Global, run: &Run) -> Result<(), Fail> {
+    let mut core = start(alloc, run.0, run.1)?;
+    goes_twice(rt, &mut core, alloc, run)
+}
+
 fn all_go(rt: &impl Abort, alloc: Global, runs: &[Run]) -> Result<(), Fail> {
-    for (version, pairs, first, then) in runs {
-        let mut core = start(alloc, *version, pairs)?;
-        goes(rt, &mut core, alloc, first)?;
-        goes(rt, &mut core, alloc, then)?;
+    for run in runs {
+        run_goes(rt, alloc, run)?;
     }
     Ok(())
 }

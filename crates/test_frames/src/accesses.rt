@@ -136,21 +136,54 @@ fn said<R: Wait>(
     text(alloc, done, first_bytes(rt, run, seat, to.0))
 }
 
-#[test]
-fn own_frames_are_written_copied_and_read(rt: HostRuntime) -> Result<(), Fail> {
-    let alloc = rt.alloc();
-    let config = config(alloc)?;
-    let (words, mut seat) = start(&rt, alloc, &config)?;
-    let roster = Roster::new(alloc, config)?;
+// Writes the first bytes and makes the copies. Returns the first copy after which something else is said.
+fn first_wrong<R: Wait>(
+    rt: &R,
+    alloc: Global,
+    run: &AccessContext<'_, Everything>,
+    seat: &mut Seat,
+) -> Result<Option<(u64, u16)>, Fail>
+    requires { IsSeatOf run.now.words.now seat.old }
+{
+    if !wrote(rt, run, seat, 0) {
+        return Ok(Some((0, 0)));
+    }
+    'copies: for (from, to, wanted) in COPIES.iter() {
+        if said(rt, alloc, run, seat, *from, *to)?.as_str() != *wanted {
+            return Ok(Some(*from));
+        }
+    }
+    Ok(None)
+}
+
+// The same with the words of two domains.
+fn first_wrong_in<R: Wait>(
+    rt: &R,
+    alloc: Global,
+    words: &Words,
+    seat: &mut Seat,
+    roster: &Roster,
+) -> Result<Option<(u64, u16)>, Fail>
+    requires { IsSeatOf words.now seat.old }
+{
     let run = AccessContext {
-        words: &words,
-        config: &roster,
+        words,
+        config: roster,
         rights: &Everything,
     };
-    assert!(rt; wrote(&rt, &run, &mut seat, 0));
-    'copies: for (from, to, wanted) in COPIES.iter() {
-        let said = said(&rt, alloc, &run, &mut seat, *from, *to)?;
-        assert_eq!(rt; said.as_str(), *wanted);
-    }
+    first_wrong(rt, alloc, &run, seat)
+}
+
+// The same for a run of two domains.
+fn first_wrong_access<R: Wait + Abort>(rt: &R, alloc: Global) -> Result<Option<(u64, u16)>, Fail> {
+    let roster = Roster::new(alloc, config(alloc)?)?;
+    let (words, mut seat) = start(rt, alloc, roster.config())?;
+    first_wrong_in(rt, alloc, &words, &mut seat, &roster)
+}
+
+#[test]
+fn own_frames_are_written_copied_and_read(rt: HostRuntime) -> Result<(), Fail> {
+    let wrong = first_wrong_access(&rt, rt.alloc())?;
+    assert_eq!(rt; wrong, None);
     Ok(())
 }

@@ -181,6 +181,23 @@ fn make<R: Wait + Abort, D: Calls + Drop>(
     Ok(())
 }
 
+// Plays the stages of a row, and lets the domains that are left do their parts. Returns the number of domains at its
+// start.
+fn play_stages<R: Threads + Wait + Abort + Sync, D: Calls + Send + Drop>(
+    rt: &R,
+    alloc: Global,
+    mut domains: Vec<D>,
+    row: &Row<'_>,
+) -> Result<usize, StartFault> {
+    let count = domains.len();
+    'stages: for stage in row.stages.iter() {
+        make(rt, alloc, &mut domains, *stage)?;
+    }
+    let fair = work_at_once(rt, alloc, domains, row.parts, row.behind)?;
+    assert!(rt; fair, "{}", row.name);
+    Ok(count)
+}
+
 /// Plays a row. Returns the number of domains at its start.
 pub fn play_row<R: Threads + Wait + Abort + Sync>(
     rt: &R,
@@ -189,12 +206,6 @@ pub fn play_row<R: Threads + Wait + Abort + Sync>(
 ) -> Result<usize, StartFault> {
     let rights = rights(alloc)?;
     let (monitor, domains) = start(alloc, rights, row.count, row.version, row.first_gen)?;
-    let mut domains = all_running(alloc, &monitor, domains)?;
-    let count = domains.len();
-    'stages: for stage in row.stages.iter() {
-        make(rt, alloc, &mut domains, *stage)?;
-    }
-    let fair = work_at_once(rt, alloc, domains, row.parts, row.behind)?;
-    assert!(rt; fair, "{}", row.name);
-    Ok(count)
+    let domains = all_running(alloc, &monitor, domains)?;
+    play_stages(rt, alloc, domains, row)
 }

@@ -1,8 +1,12 @@
-//! Tests of `gt_script` (the parser of scripts), over its public items.
+//! Tests of scripts, over the public items of `gt_script` (their parser) and `gt_host` (`play`, from a reader to a
+//! writer).
 //!
-//! They test what no contract specifies of texts at the limits, which are too long for a file. Worked scripts with
-//! their parsed form, whole and cut off, are in `cases_script`. Scripts with a fault are there and in `cases_host`.
+//! They test what no contract specifies, with texts that are too long for a file and are made here by repetition: texts
+//! at the limits, and as many pins as there can be. Worked scripts are in `cases_host`: with their parsed form, whole and
+//! cut off, and played, also with their audit and over readers, writers and allocators that fail.
 #![tactic(auto)]
 
 #[cfg(test)]
 mod limits;
+#[cfg(test)]
+mod playing;

@@ -5,10 +5,30 @@ use gt_script::{
 };
 use gt_types::{Allows, DomId, DomainConfig, Perms, Triple, TypeId};
 use std::alloc::{AllocError, Global};
+use std::sync::Wait;
+use std::thread::Threads;
+use test_cases::{Job, Limits};
 
-/// Returns the parsed form of a text for `play`, or its fault: the names of its types, its triples, its domains, its
-/// first generation, its policy and its steps, one per line.
-pub fn play_said(alloc: Global, text: &[u8]) -> Result<String, AllocError> {
+/// The parsed form of a script for `play`, which has no records.
+#[derive(Clone, Copy)]
+pub struct ParsedForm;
+
+impl Job for ParsedForm {
+    fn said<R: Threads + Wait + Sync>(
+        &self,
+        _rt: &R,
+        alloc: Global,
+        text: &[u8],
+        _audit: bool,
+        _limits: Limits,
+    ) -> anyhow::Result<Vec<u8>> {
+        Ok(play_said(alloc, text)?.into_bytes())
+    }
+}
+
+// Returns the parsed form of a text for `play`, or its fault: the names of its types, its triples, its domains, its
+// first generation, its policy and its steps, one per line.
+fn play_said(alloc: Global, text: &[u8]) -> Result<String, AllocError> {
     match parse(alloc, text) {
         Ok(script) => script_said(alloc, &script),
         Err(error) => format!(in alloc; "{error}\n"),
