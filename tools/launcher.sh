@@ -18,7 +18,7 @@ mkdir -p "$checkout/crates/gthost/src" "$checkout"/crates/{gthost_play,cases_pro
   "$checkout"/crates/gt_types/{must-fail,wrong-bodies} \
   "$checkout/tools" "$checkout/docs" "$work/bin" "$work/other"
 cp -r "$top/gthost" "$top/HANDLES" "$top/crates.txt" "$top/gthost.1" "$top/contrib" "$top/examples" "$checkout/"
-cp "$top"/tools/*.awk "$checkout/tools/"
+cp "$top"/tools/*.awk "$top/tools/lanes.sh" "$checkout/tools/"
 cp "$top/docs/GATE.md" "$checkout/docs/"
 cp -r "$top"/crates/cases_program/{args,stdin,stdout,data} "$checkout/crates/cases_program/"
 cp "$top/crates/gthost/src/main.rt" "$checkout/crates/gthost/src/"
