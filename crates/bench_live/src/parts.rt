@@ -174,21 +174,49 @@ fn copy_of(accesses: Accesses) -> CopyArgs {
     }
 }
 
-// Makes one access, and returns whether it was done. A load reads over the buffer, or into fresh memory, and a store
-// writes the buffer's bytes.
-fn move_once<R: Wait, D: Calls>(
-    rt: &R,
-    domain: &mut D,
-    moves: Moves,
-    copy: &CopyArgs,
-    buffer: &mut [u8],
-) -> bool {
-    match moves {
-        Moves::Loads => domain.load_into(rt, 0, buffer).is_ok(),
-        Moves::Fresh => domain.load(rt, 0, copy.len).is_ok(),
-        Moves::Stores => domain.store(rt, 0, buffer).is_ok(),
-        Moves::Copies | Moves::Forwards => domain.copy(rt, copy).is_ok(),
+// Loads over the buffer this number of times. Returns how many loads were done. Each kind of access has a loop of its
+// own, so that no loop has registers for the others.
+fn load_often<R: Wait, D: Calls>(rt: &R, domain: &mut D, buffer: &mut [u8], rounds: u32) -> u32 {
+    let mut done = 0u32;
+    'rounds: for _ in 0..rounds {
+        if domain.load_into(rt, 0, buffer).is_ok() {
+            done = done.saturating_add(1);
+        }
     }
+    done
+}
+
+// The same into fresh memory.
+fn load_fresh_often<R: Wait, D: Calls>(rt: &R, domain: &mut D, len: u16, rounds: u32) -> u32 {
+    let mut done = 0u32;
+    'rounds: for _ in 0..rounds {
+        if domain.load(rt, 0, len).is_ok() {
+            done = done.saturating_add(1);
+        }
+    }
+    done
+}
+
+// Stores the buffer's bytes this number of times. Returns how many stores were done.
+fn store_often<R: Wait, D: Calls>(rt: &R, domain: &mut D, buffer: &[u8], rounds: u32) -> u32 {
+    let mut done = 0u32;
+    'rounds: for _ in 0..rounds {
+        if domain.store(rt, 0, buffer).is_ok() {
+            done = done.saturating_add(1);
+        }
+    }
+    done
+}
+
+// Copies this number of times. Returns how many copies were done.
+fn copy_often<R: Wait, D: Calls>(rt: &R, domain: &mut D, copy: &CopyArgs, rounds: u32) -> u32 {
+    let mut done = 0u32;
+    'rounds: for _ in 0..rounds {
+        if domain.copy(rt, copy).is_ok() {
+            done = done.saturating_add(1);
+        }
+    }
+    done
 }
 
 // Makes this number of accesses. Returns how many were done.
@@ -200,13 +228,12 @@ fn move_often<R: Wait, D: Calls>(
     buffer: &mut [u8],
     rounds: u32,
 ) -> u32 {
-    let mut done = 0u32;
-    'rounds: for _ in 0..rounds {
-        if move_once(rt, domain, moves, copy, buffer) {
-            done = done.saturating_add(1);
-        }
+    match moves {
+        Moves::Loads => load_often(rt, domain, buffer, rounds),
+        Moves::Fresh => load_fresh_often(rt, domain, copy.len, rounds),
+        Moves::Stores => store_often(rt, domain, buffer, rounds),
+        Moves::Copies | Moves::Forwards => copy_often(rt, domain, copy, rounds),
     }
-    done
 }
 
 // Does the same with a buffer of the thread's own, so that no two threads share a cache line. Loads and stores go
