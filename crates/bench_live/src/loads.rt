@@ -22,6 +22,8 @@ pub(crate) enum Load {
     Grants,
     /// The same with an owner who withdraws each entry, and grants it once it has no pin.
     Withdrawals,
+    /// The same with an owner who demotes and promotes each.
+    Turns,
     /// Each moves this number of bytes at a time.
     Bytes(Moves, u16),
 }
@@ -118,6 +120,7 @@ fn owners_part(load: Load, spread: Spread) -> Option<Part> {
     match load {
         Load::Grants => Some(Part::Grants(spread)),
         Load::Withdrawals => Some(Part::Withdraws(spread)),
+        Load::Turns => Some(Part::Turns(spread)),
         _ => None,
     }
 }
@@ -146,7 +149,7 @@ fn workers<D: Calls + Drop>(
     }
     let mut owner = domains.remove(0);
     let mut middle = domains.remove(0);
-    let owns = matches!(load, Load::Grants | Load::Withdrawals);
+    let owns = matches!(load, Load::Grants | Load::Withdrawals | Load::Turns);
     let count = threads.saturating_sub(u32::from(owns));
     let spread = Spread {
         count: count.max(1),

@@ -1,10 +1,11 @@
 //! Loads of whole calls on a running monitor, in threads, that are timed from outside.
 //!
 //! `bench_live LOAD THREADS ROUNDS` runs a load and prints the number of rounds of its threads, never a time. A round
-//! is a map and an unmap that were both answered Ok, or a revocation or withdrawal and a grant. LOAD is `apart` or
-//! `adjacent` (each thread maps its own entry, with entries between them or adjacent), `grants` (the first thread is
-//! the owner, who by turns revokes and grants the entries that the others map) or `withdrawals` (the owner withdraws
-//! each and grants it once it has no pin). The policy is a compiled table.
+//! is a map and an unmap that were both answered Ok, a revocation or withdrawal and a grant, or a demotion and a
+//! promotion. LOAD is `apart` or `adjacent` (each thread maps its own entry, with entries between them or adjacent),
+//! `grants` (the first thread is the owner, who by turns revokes and grants the entries that the others map),
+//! `withdrawals` (the owner withdraws each and grants it once it has no pin) or `turns` (the owner demotes and promotes
+//! each). The policy is a compiled table.
 //!
 //! The loads of bytes are `load-64`, `load-4096`, `store-64`, `store-4096`, `copy-64` and `copy-4096`: each thread has
 //! its own page, which the owner granted to it, and a round is one access of 64 or 4,096 bytes, through its mapping or
@@ -33,11 +34,12 @@ use std::alloc::Global;
 use std::sync::Wait;
 use std::thread::Threads;
 
-static LOADS: [(&str, Load); 14] = [
+static LOADS: [(&str, Load); 15] = [
     ("apart", Load::Apart),
     ("adjacent", Load::Adjacent),
     ("grants", Load::Grants),
     ("withdrawals", Load::Withdrawals),
+    ("turns", Load::Turns),
     ("load-64", Load::Bytes(Moves::Loads, 64)),
     ("load-4096", Load::Bytes(Moves::Loads, 4096)),
     ("fresh-64", Load::Bytes(Moves::Fresh, 64)),

@@ -62,6 +62,7 @@ pub(crate) enum Part {
     Maps(u32),
     Grants(Spread),
     Withdraws(Spread),
+    Turns(Spread),
     Moves(Accesses),
 }
 
@@ -111,6 +112,18 @@ fn withdraw_and_grant<D: Calls>(owner: &mut D, spread: Spread, rounds: u32) -> u
         } else if owner.grant(gref, &page(dom, 5)).is_ok() {
             withdrawn = false;
             done += 1;
+        }
+    }
+    done
+}
+
+// Demotes and promotes the entries by turns, this number of times. Returns how often both were done.
+fn demote_and_promote<D: Calls>(owner: &mut D, spread: Spread, rounds: u32) -> u32 {
+    let mut done = 0u32;
+    'rounds: for round in 0..rounds {
+        let (gref, _) = spread.at(u64::from(round));
+        if owner.demote(gref).is_ok() && owner.promote(gref).is_ok() {
+            done = done.saturating_add(1);
         }
     }
     done
@@ -294,6 +307,7 @@ pub(crate) fn work<R: Wait, D: Calls + Drop>(
         Part::Maps(gref) => map_and_unmap(domain, gref, READ_ONLY, false, rounds),
         Part::Grants(spread) => revoke_and_grant(domain, spread, rounds),
         Part::Withdraws(spread) => withdraw_and_grant(domain, spread, rounds),
+        Part::Turns(spread) => demote_and_promote(domain, spread, rounds),
         Part::Moves(accesses) => move_bytes(rt, alloc, domain, accesses, audit, rounds),
     }
 }
