@@ -55,21 +55,28 @@ fn moves_of(
     Ok(made.moves)
 }
 
+// A text of a script, with its number among those that were found.
+#[derive(Clone, Copy)]
+struct ShownText<'s, 'a> {
+    script: &'s RunScript<'a>,
+    found: &'s FoundTexts,
+    number: usize,
+    text: &'s [u8],
+}
+
 // Appends a line for each move.
 fn push_trace_shown(
     alloc: Global,
     out: &mut Vec<u8>,
-    script: &RunScript,
-    found: &FoundTexts,
-    number: usize,
+    shown: ShownText,
     moves: &[TracedMove],
 ) -> Result<(), AllocError>
-    ensures { OnOk result (out.new.items
-        ≡ out.old.items ++ trace_shown (run_told script.now) (found_told found.now) number moves.now) }
+    ensures { OnOk result (out.new.items ≡ out.old.items ++ trace_shown (run_told shown.entry.script.now)
+        (found_told shown.entry.found.now) shown.entry.number moves.now) }
 {
-    push_heading_line(out, found, number)?;
-    push_trace(alloc, out, script, TraceForm::Text, moves)?;
-    push_states_line(out, found)
+    push_heading_line(out, shown.found, shown.number)?;
+    push_trace(alloc, out, shown.script, TraceForm::Text, moves)?;
+    push_states_line(out, shown.found)
 }
 
 // Appends the title of a sequence diagram.
@@ -92,35 +99,30 @@ fn push_last_comment(out: &mut Vec<u8>, found: &FoundTexts) -> Result<(), AllocE
 fn push_diagram_shown(
     alloc: Global,
     out: &mut Vec<u8>,
-    script: &RunScript,
-    found: &FoundTexts,
-    number: usize,
+    shown: ShownText,
     moves: &[TracedMove],
 ) -> Result<(), AllocError>
-    ensures { OnOk result (out.new.items
-        ≡ out.old.items ++ diagram_shown (run_told script.now) (found_told found.now) number moves.now) }
+    ensures { OnOk result (out.new.items ≡ out.old.items ++ diagram_shown (run_told shown.entry.script.now)
+        (found_told shown.entry.found.now) shown.entry.number moves.now) }
 {
-    push_title(out, found, number)?;
-    push_participants(out, script.head().domains())?;
-    push_trace(alloc, out, script, TraceForm::Mermaid, moves)?;
-    push_last_comment(out, found)
+    push_title(out, shown.found, shown.number)?;
+    push_participants(out, shown.script.head().domains())?;
+    push_trace(alloc, out, shown.script, TraceForm::Mermaid, moves)?;
+    push_last_comment(out, shown.found)
 }
 
 // Appends the object of a text, and one for each of the moves that lead to it.
 fn push_objects_shown(
     alloc: Global,
     out: &mut Vec<u8>,
-    script: &RunScript,
-    found: &FoundTexts,
-    number: usize,
-    text: &[u8],
+    shown: ShownText,
     moves: &[TracedMove],
 ) -> Result<(), AllocError>
-    ensures { OnOk result (out.new.items
-        ≡ out.old.items ++ objects_shown (run_told script.now) (found_told found.now) number text.now moves.now) }
+    ensures { OnOk result (out.new.items ≡ out.old.items ++ objects_shown (run_told shown.entry.script.now)
+        (found_told shown.entry.found.now) shown.entry.number shown.entry.text.now moves.now) }
 {
-    push_text_object(alloc, out, found, number, text)?;
-    push_trace(alloc, out, script, TraceForm::Json, moves)
+    push_text_object(alloc, out, shown.found, shown.number, shown.text)?;
+    push_trace(alloc, out, shown.script, TraceForm::Json, moves)
 }
 
 // Appends the moves that lead to a text, in this form.
@@ -128,19 +130,16 @@ fn push_moves(
     alloc: Global,
     out: &mut Vec<u8>,
     form: TraceForm,
-    script: &RunScript,
-    found: &FoundTexts,
-    number: usize,
-    text: &[u8],
+    shown: ShownText,
     moves: &[TracedMove],
 ) -> Result<(), AllocError>
-    ensures { OnOk result (out.new.items
-        ≡ out.old.items ++ moves_shown (run_told script.now) (found_told found.now) number form text.now moves.now) }
+    ensures { OnOk result (out.new.items ≡ out.old.items ++ moves_shown (run_told shown.entry.script.now)
+        (found_told shown.entry.found.now) shown.entry.number form shown.entry.text.now moves.now) }
 {
     match form {
-        TraceForm::Text => push_trace_shown(alloc, out, script, found, number, moves),
-        TraceForm::Mermaid => push_diagram_shown(alloc, out, script, found, number, moves),
-        TraceForm::Json => push_objects_shown(alloc, out, script, found, number, text, moves),
+        TraceForm::Text => push_trace_shown(alloc, out, shown, moves),
+        TraceForm::Mermaid => push_diagram_shown(alloc, out, shown, moves),
+        TraceForm::Json => push_objects_shown(alloc, out, shown, moves),
     }
 }
 
@@ -162,16 +161,13 @@ pub fn moves_shown(
     let order = numbered(found, number)?;
     let moves = moves_of(alloc, script, order)?;
     let text = order.text.as_slice();
-    let mut out = Vec::new(alloc);
-    push_moves(
-        alloc,
-        &mut out,
-        form,
+    let shown = ShownText {
         script,
         found,
         number,
         text,
-        moves.as_slice(),
-    )?;
+    };
+    let mut out = Vec::new(alloc);
+    push_moves(alloc, &mut out, form, shown, moves.as_slice())?;
     Ok(out)
 }
