@@ -3,8 +3,8 @@
 //! [`same_call`], [`same_step`] and [`same_held`] return true only for equal values: that is proved. They may return false
 //! for equal ones; a search then keeps a state twice.
 //!
-//! They are functions, and no derived `PartialEq`, since few crates compare calls, and each derive is proved again by
-//! whoever reads the crate of the type. They compare the types of `gt_calls`, and use `gt_types`.
+//! They are functions rather than a derived `PartialEq`: only the search compares calls, and each crate above `gt_calls`
+//! would read the derive. They compare the types of `gt_calls`, and use `gt_types`.
 #![tactic(auto)]
 
 mod calls;

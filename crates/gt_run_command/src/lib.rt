@@ -7,7 +7,7 @@
 //! It is proved that the output is that of a run which is one of the legal orders of the script (`RanInOrder` of
 //! `gt_order`), or the JSON of one (`RanAs` in specs/Runs.antt).
 //!
-//! The other commands on texts are in `gt_file_commands`, which knows no threads: so its proof waits for no monitor. Its
+//! The other commands on texts are in `gt_file_commands`, whose proof needs neither threads nor the monitor. Its
 //! [`Context`], failures and outcomes are used here. `gt_order` has the run, `gt_json` the JSON, `gt_command_reasons` the
 //! reasons.
 #![tactic(auto)]

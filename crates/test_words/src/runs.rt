@@ -49,13 +49,13 @@ fn runs_see_the_worked_words(rt: HostRuntime) -> Result<(), Fail> {
     Ok(())
 }
 
-// Returns what a seat keeps of its own header: the version and the number of frames.
+// Returns the version and the number of frames in the header of a seat's domain, as the seat keeps it.
 fn kept(seat: &Seat) -> (u8, u8) {
     let header = seat.header();
     (header.version, header.frames)
 }
 
-// Starts a run. Returns the headers of both domains as both seats see them, and what each seat keeps of its own.
+// Starts a run. Returns the headers of both domains as both seats see them, and those that the seats keep.
 fn headers_seen(alloc: Global) -> Result<([u64; 8], (u8, u8), (u8, u8)), StartFault> {
     let (words, mut owner, mut other) = start(alloc)?;
     let seen = headers(&words, &mut owner, &mut other);
