@@ -32,7 +32,7 @@ use std::alloc::Global;
 use std::sync::Wait;
 use std::thread::Threads;
 use task::Task;
-use test_cases::{Cases, beginnings_said, failing_said, say_all, tried_said};
+use test_cases::{Cases, beginnings_said, failing_said, mode_of, say_all, tried_said};
 
 // The treatment of a text.
 #[derive(Clone, Copy)]
@@ -72,13 +72,13 @@ struct HostCases {
 
 impl Cases for HostCases {
     fn takes(&mut self, word: &str) -> bool {
-        for (named, mode) in MODES.iter() {
-            if *named == word {
-                self.mode = *mode;
-                return true;
+        match mode_of(&MODES, word) {
+            Some(mode) => {
+                self.mode = mode;
+                true
             }
+            None => false,
         }
-        false
     }
 
     fn ending(&self) -> &'static str {

@@ -33,7 +33,7 @@ use running::RunJob;
 use std::alloc::Global;
 use std::sync::Wait;
 use std::thread::Threads;
-use test_cases::{Cases, Job, UNLIMITED, beginnings_said, failing_said, say_all};
+use test_cases::{Cases, Job, UNLIMITED, beginnings_said, failing_said, mode_of, say_all};
 
 // The treatment of the scripts that follow.
 #[derive(Clone, Copy)]
@@ -101,13 +101,13 @@ struct RunCases {
 
 impl Cases for RunCases {
     fn takes(&mut self, word: &str) -> bool {
-        for (named, mode) in MODES.iter() {
-            if *named == word {
-                self.mode = *mode;
-                return true;
+        match mode_of(&MODES, word) {
+            Some(mode) => {
+                self.mode = mode;
+                true
             }
+            None => false,
         }
-        false
     }
 
     fn ending(&self) -> &'static str {

@@ -12,4 +12,4 @@ mod names;
 
 pub use failing::failing_said;
 pub use jobs::{Job, Limits, UNLIMITED, beginnings_said, tried_said};
-pub use names::{Cases, say_all};
+pub use names::{Cases, mode_of, say_all};

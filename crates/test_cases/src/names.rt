@@ -7,6 +7,16 @@ use std::rt::Runtime;
 use std::sync::Wait;
 use std::thread::Threads;
 
+/// Returns the mode that a word selects, if it is the word of one.
+pub fn mode_of<M: Copy>(modes: &[(&str, M)], word: &str) -> Option<M> {
+    for (named, mode) in modes.iter() {
+        if *named == word {
+            return Some(*mode);
+        }
+    }
+    None
+}
+
 /// What a program does with the words of its command line.
 pub trait Cases {
     /// Takes a word that selects how the texts after it are tried. Returns whether it is such a word.
