@@ -8,7 +8,9 @@ ghost use Rattle.gt_audit.specs.Lines.{hypercall_text};
 ghost use Rattle.gt_audit.specs.Lines.{asked_text, reply_text, line_text, lost_text};
 
 use crate::record::{Hypercall, Record, Reply};
-use gt_text::{push_denial, push_frames, push_number, push_size, push_text, push_version};
+use gt_text::{
+    push_denial, push_frames, push_next_number, push_number, push_size, push_text, push_version,
+};
 use gt_types::{DOMID_SELF, DomId, End, GrantRef, Memory};
 use std::alloc::{AllocError, Global};
 use std::convert::AsSlice;
@@ -20,11 +22,12 @@ fn resolved(caller: DomId, dom: DomId) -> DomId
     if dom.0 == DOMID_SELF { caller } else { dom }
 }
 
-fn push_domain(out: &mut Vec<u8>, caller: DomId, dom: DomId) -> Result<(), AllocError>
-    ensures text { OnOk result (out.new.items ≡ out.old.items ++ domain_text caller dom) }
+// Appends a blank and the domain that a call names.
+fn push_next_domain(out: &mut Vec<u8>, caller: DomId, dom: DomId) -> Result<(), AllocError>
+    ensures text { OnOk result (out.new.items ≡ out.old.items ++ codes " " ++ domain_text caller dom) }
     ensures stays { OnOk result (StaysText out.old.items out.new.items) }
 {
-    push_number(out, resolved(caller, dom).0)
+    push_next_number(out, resolved(caller, dom).0)
 }
 
 // Appends the word of a call, and the domain that it names.
@@ -38,8 +41,7 @@ fn push_with_domain(
     ensures stays { OnOk result (StaysText out.old.items out.new.items) }
 {
     push_text(out, word)?;
-    push_text(out, " ")?;
-    push_domain(out, caller, dom)
+    push_next_domain(out, caller, dom)
 }
 
 // Appends the word of a call, and a number.
@@ -48,8 +50,7 @@ fn push_with_number(out: &mut Vec<u8>, word: &str, number: u32) -> Result<(), Al
     ensures stays { OnOk result (StaysText out.old.items out.new.items) }
 {
     push_text(out, word)?;
-    push_text(out, " ")?;
-    push_number(out, number)
+    push_next_number(out, number)
 }
 
 // Appends an entry, after a blank.
@@ -62,16 +63,15 @@ fn push_entry(
     ensures text { OnOk result (out.new.items ≡ out.old.items ++ reference_text caller dom gref) }
     ensures stays { OnOk result (StaysText out.old.items out.new.items) }
 {
-    push_text(out, " ")?;
-    push_domain(out, caller, dom)?;
-    push_text(out, " ")?;
-    push_number(out, gref.0)
+    push_next_domain(out, caller, dom)?;
+    push_next_number(out, gref.0)
 }
 
+// Returns the word for what names an end, after a blank.
 fn kind(is_reference: bool) -> &'static str
-    ensures { result.now ≡ copy_kind_text is_reference }
+    ensures { result.now ≡ codes " " ++ copy_kind_text is_reference }
 {
-    if is_reference { "gref" } else { "frame" }
+    if is_reference { " gref" } else { " frame" }
 }
 
 // Appends an end of a copy, after a blank.
@@ -84,14 +84,10 @@ fn push_end(
     ensures text { OnOk result (out.new.items ≡ out.old.items ++ end_text caller is_reference end) }
     ensures stays { OnOk result (StaysText out.old.items out.new.items) }
 {
-    push_text(out, " ")?;
     push_text(out, kind(is_reference))?;
-    push_text(out, " ")?;
-    push_domain(out, caller, end.domid)?;
-    push_text(out, " ")?;
-    push_number(out, end.ptr)?;
-    push_text(out, " ")?;
-    push_number(out, end.offset)
+    push_next_domain(out, caller, end.domid)?;
+    push_next_number(out, end.ptr)?;
+    push_next_number(out, end.offset)
 }
 
 fn push_copy(
@@ -108,10 +104,8 @@ fn push_copy(
     push_text(out, "copy")?;
     push_end(out, caller, flags & 1 == 1, source)?;
     push_end(out, caller, flags & 2 == 2, dest)?;
-    push_text(out, " ")?;
-    push_number(out, len)?;
-    push_text(out, " ")?;
-    push_number(out, flags)
+    push_next_number(out, len)?;
+    push_next_number(out, flags)
 }
 
 fn push_hypercall(out: &mut Vec<u8>, caller: DomId, call: Hypercall) -> Result<(), AllocError>
@@ -122,8 +116,7 @@ fn push_hypercall(out: &mut Vec<u8>, caller: DomId, call: Hypercall) -> Result<(
         Hypercall::Map { dom, gref, flags } => {
             push_text(out, "map")?;
             push_entry(out, caller, dom, gref)?;
-            push_text(out, " ")?;
-            push_number(out, flags)
+            push_next_number(out, flags)
         }
         Hypercall::Unmap { subject: None } => push_text(out, "unmap - -"),
         Hypercall::Unmap {

@@ -3,7 +3,7 @@ ghost use Rattle.std.specs.Prelude.{◌≡◌, ◌++◌, OnOk};
 ghost use Rattle.gt_text.specs.Printing.{type_text, facts_text, denial_text};
 ghost use Rattle.gt_text.specs.Texts.{StaysText, AreTexts};
 
-use crate::numbers::push_number;
+use crate::numbers::{push_next_number, push_number};
 use crate::text::push_text;
 use gt_types::{Denial, Facts, TypeId};
 use std::alloc::AllocError;
@@ -84,7 +84,6 @@ pub fn push_denial<N: AsSlice<u8>>(
 {
     push_text(out, "N")?;
     push_number(out, denial.rule.number())?;
-    push_text(out, " ")?;
-    push_number(out, denial.status.number())?;
+    push_next_number(out, denial.status.number())?;
     push_facts(out, names, denial.facts)
 }

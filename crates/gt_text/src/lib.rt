@@ -25,7 +25,7 @@ pub use denials::{push_denial, push_facts, push_type};
 pub use entries::push_entry;
 pub use fault::{ReadFault, WriteFault};
 pub use laws::{every_text_goes_on, every_writer_keeps_what_it_has, the_read_limit};
-pub use numbers::{push_number, push_part};
+pub use numbers::{push_next_number, push_number, push_part};
 pub use streams::{CHUNK, READ_LIMIT, finish, read_text, send, write_text};
 pub use text::{push_text, text_of};
 pub use values::{push_frames, push_size, push_version};

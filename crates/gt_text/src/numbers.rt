@@ -1,4 +1,4 @@
-//! Numbers, and the parts ` NAME=NUMBER` of a line.
+//! Numbers, and the parts ` NUMBER` and ` NAME=NUMBER` of a line.
 ghost use Rattle.std.specs.Prelude.{◌≡◌, ◌++◌, OnOk, codes};
 ghost use Rattle.gt_text.specs.Texts.{StaysText};
 
@@ -13,6 +13,15 @@ pub fn push_number<I: Integer>(out: &mut Vec<u8>, number: I) -> Result<(), Alloc
 {
     let mut buffer = Buffer::new();
     push_text(out, buffer.format(number))
+}
+
+/// Appends ` NUMBER`. After an Err, the blank may have been appended.
+pub fn push_next_number<I: Integer>(out: &mut Vec<u8>, value: I) -> Result<(), AllocError>
+    ensures text { OnOk result (out.new.items ≡ out.old.items ++ codes " " ++ I.text value) }
+    ensures stays { OnOk result (StaysText out.old.items out.new.items) }
+{
+    push_text(out, " ")?;
+    push_number(out, value)
 }
 
 /// Appends ` NAME=NUMBER`. After an Err, part of it may have been appended.
