@@ -1,13 +1,26 @@
-//! Tests of `gt_words` over its public items.
+//! Tests of the words and the frames of a run: `gt_words`, the plain frames of `gt_frames`, and the routes of a domain
+//! to frames (`gt_access`), over their public items.
 //!
-//! They test what no contract specifies: that the words of a run are made if memory is ample, and the worked words of
-//! grants, pins, changes and headers. Threads that grant and pin at the same time leave the words that one of them by
-//! itself would leave. The caller that they drive meets each condition by what the calls before it ensured.
+//! They test what no contract specifies. By its contract a call could always answer `None`, `false` or `Memory`; the
+//! tests show that it does its work if memory is ample. They compare the worked words of grants, pins, changes and
+//! headers, and, by tables of copies, the bytes that a reader of a frame finds. Threads that grant and pin at the same
+//! time leave the words that one of them by itself would leave, and two threads copy between the same two frames.
+//!
+//! The callers that they drive meet each condition by what the calls before it ensured. The tests of a single frame are
+//! in `test_base`.
 #![tactic(auto)]
 
+#[cfg(test)]
+mod accesses;
 #[cfg(test)]
 mod calls;
 #[cfg(test)]
 mod cases;
 #[cfg(test)]
+mod frames;
+#[cfg(test)]
+mod places;
+#[cfg(test)]
 mod runs;
+#[cfg(test)]
+mod table;
