@@ -3,7 +3,7 @@ ghost use Rattle.std.specs.Prelude.{◌≡◌, [], IfOk, IfErr, OnErr, IsOk};
 ghost use Rattle.gt_types.specs.Config.{IsWithinLimits};
 ghost use Rattle.gt_core.specs.Legal.{Legal};
 ghost use Rattle.gt_core.specs.Standing.{DoesEvent, setting_in};
-ghost use Rattle.gt_core.specs.Acting.{IsStartFaultOf, setting_of};
+ghost use Rattle.gt_core.specs.Acting.{IsStartFaultOf, begun_element, setting_of, ticked_element};
 
 use crate::kept::Machine;
 use crate::trace::{Answer, Element, Event, Item, ItemEvent, Trace};
@@ -62,7 +62,7 @@ pub enum Ticked {
 }
 
 /// What an entry shows: the entry, its generation, and the number of its live read and write pins.
-#[derive(Clone, Copy, Debug, PartialEq, Eq)]
+#[derive(Clone, Copy)]
 pub struct EntryView {
     pub entry: Entry,
     pub generation: u32,
@@ -140,6 +140,47 @@ impl<P: Allows> Core<P> {
     }
 }
 
+// Returns the element of a trace for the result of `begin`.
+fn begun_element<'a>(actor: DomId, request: Request<'a>, begun: Begun) -> Element<'a>
+    ensures { result ≡ begun_element actor request.entry begun }
+{
+    let happened = ItemEvent::Began(request);
+    match begun {
+        Begun::Open => Element::Item(Item {
+            actor,
+            happened,
+            answer: None,
+        }),
+        Begun::Done(answer) => Element::Item(Item {
+            actor,
+            happened,
+            answer: Some(answer),
+        }),
+        Begun::Busy => Element::Busy,
+        Begun::NoDomain => Element::NoDomain,
+    }
+}
+
+// Returns the element of a trace for the result of `tick`.
+fn ticked_element<'a>(actor: DomId, ticked: Ticked) -> Element<'a>
+    ensures { result ≡ ticked_element actor ticked }
+{
+    match ticked {
+        Ticked::Step(step, seen) => Element::Item(Item {
+            actor,
+            happened: ItemEvent::Stepped(step, seen),
+            answer: None,
+        }),
+        Ticked::Done(step, seen, answer) => Element::Item(Item {
+            actor,
+            happened: ItemEvent::Stepped(step, seen),
+            answer: Some(answer),
+        }),
+        Ticked::Idle => Element::Idle,
+        Ticked::NoDomain => Element::NoDomain,
+    }
+}
+
 fn one_event<'a, P: Allows>(core: &mut Core<P>, event: Event<'a>) -> Result<Element<'a>, Memory>
     ensures stands { IfOk result (λ x. DoesEvent (setting_in P.may core.old) core.old.state
         event.entry x core.new.state) }
@@ -147,34 +188,14 @@ fn one_event<'a, P: Allows>(core: &mut Core<P>, event: Event<'a>) -> Result<Elem
     ensures rights { core.new.rights ≡ core.old.rights }
 {
     match event {
-        Event::Begin(actor, request) => Ok(match core.begin(actor, request)? {
-            Begun::Open => Element::Item(Item {
-                actor,
-                happened: ItemEvent::Began(request),
-                answer: None,
-            }),
-            Begun::Done(answer) => Element::Item(Item {
-                actor,
-                happened: ItemEvent::Began(request),
-                answer: Some(answer),
-            }),
-            Begun::Busy => Element::Busy,
-            Begun::NoDomain => Element::NoDomain,
-        }),
-        Event::Tick(actor) => Ok(match core.tick(actor)? {
-            Ticked::Step(step, seen) => Element::Item(Item {
-                actor,
-                happened: ItemEvent::Stepped(step, seen),
-                answer: None,
-            }),
-            Ticked::Done(step, seen, answer) => Element::Item(Item {
-                actor,
-                happened: ItemEvent::Stepped(step, seen),
-                answer: Some(answer),
-            }),
-            Ticked::Idle => Element::Idle,
-            Ticked::NoDomain => Element::NoDomain,
-        }),
+        Event::Begin(actor, request) => {
+            let begun = core.begin(actor, request)?;
+            Ok(begun_element(actor, request, begun))
+        }
+        Event::Tick(actor) => {
+            let ticked = core.tick(actor)?;
+            Ok(ticked_element(actor, ticked))
+        }
     }
 }
 

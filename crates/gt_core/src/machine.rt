@@ -159,24 +159,24 @@ impl<P: Allows> Machine<P> {
 
     // Makes the step of the domain's open call: writes the bytes that it writes, and changes words and mappings.
     // Returns what the step saw.
-    fn perform(&mut self, at: usize, dom: DomId, open: OpenCall) -> Result<Observation, Memory>
+    fn perform(&mut self, at: usize, dom: DomId, last: OpenCall) -> Result<Observation, Memory>
         requires there { at < length self.old.domains.items }
         requires admitted { (d : State) → slice_get self.old.domains.items at ≡ Some d →
-            IsAdmitted self.old.frames d open.call open.step }
-        ensures sees { IfOk result (λ seen. seen ≡ sees self.old.domains.items dom open.step) }
+            IsAdmitted self.old.frames d last.call last.step }
+        ensures sees { IfOk result (λ seen. seen ≡ sees self.old.domains.items dom last.step) }
         ensures applied { IfOk result (λ seen.
-            self.new.domains.items ≡ applied dom open.step seen self.old.domains.items) }
+            self.new.domains.items ≡ applied dom last.step seen self.old.domains.items) }
         ensures accessed { OnOk result ((d : State) → slice_get self.old.domains.items at ≡ Some d →
-            AccessedBy d open.call open.step self.old.frames self.new.frames) }
+            AccessedBy d last.call last.step self.old.frames self.new.frames) }
         ensures config { self.new.config ≡ self.old.config }
         ensures rights { self.new.rights ≡ self.old.rights }
-        ensures memory { OnErr result (IsWriting open.step) }
+        ensures memory { OnErr result (IsWriting last.step) }
         ensures domains { OnErr result (self.new.domains.items ≡ self.old.domains.items) }
         ensures frames { OnErr result (self.new.frames ≡ self.old.frames) }
     {
-        write_bytes(&mut self.frames, &self.domains[at], open)?;
-        let seen = see(&self.config, &self.domains, dom, open.step);
-        apply(&self.config, &mut self.domains, dom, open.step, seen);
+        write_bytes(&mut self.frames, &self.domains[at], last)?;
+        let seen = see(&self.config, &self.domains, dom, last.step);
+        apply(&self.config, &mut self.domains, dom, last.step, seen);
         Ok(seen)
     }
 

@@ -116,7 +116,8 @@ fn same_denial(one: Denial, other: Denial) -> bool
     one.rule == other.rule && one.status == other.status && same_facts(one.facts, other.facts)
 }
 
-fn same_verdict(one: CallResult, other: CallResult) -> bool
+/// Returns true only if both ends of a call are the same.
+pub fn same_verdict(one: CallResult, other: CallResult) -> bool
     ensures { IsTrue result → other ≡ one }
 {
     match (one, other) {

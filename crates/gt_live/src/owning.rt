@@ -228,19 +228,9 @@ pub(crate) fn drive_change<P: Allows>(
     ensures leaves { Leaves (knows P.may known.now) words.now.layout caller (asks_change idle.gref change)
         seat.old.view seat.new.view (change_effect idle.gref change result) }
 {
-    let gref = idle.gref;
     match change {
         EntryChange::Publish(entry) => drive_grant(words, known, seat, caller, idle, entry),
         EntryChange::Revoke => drive_revoke(words, known, seat, caller, idle),
-        EntryChange::Withdraw => drive_turns(
-            words,
-            known,
-            seat,
-            caller,
-            gref,
-            EntryChange::Withdraw,
-        ),
-        EntryChange::Demote => drive_turns(words, known, seat, caller, gref, EntryChange::Demote),
-        EntryChange::Promote => drive_turns(words, known, seat, caller, gref, EntryChange::Promote),
+        _ => drive_turns(words, known, seat, caller, idle.gref, change),
     }
 }

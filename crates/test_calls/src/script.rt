@@ -4,6 +4,7 @@ use gt_calls::{
     OwnerEntry, PinHolder, Request, Step,
 };
 use gt_entry::{Entry, Header};
+use gt_explore_same::{same_step, same_verdict};
 use gt_roster::Roster;
 use gt_types::{
     Config, Denial, DomId, DomainConfig, Facts, GrantRef, Memory, Perms, Rule, StartFault, Triple,
@@ -274,6 +275,15 @@ pub fn known<'a>(
     }
 }
 
+// Returns true only if both actions are the same.
+fn is_same(one: Action, other: Action) -> bool {
+    match (one, other) {
+        (Action::Step(step), Action::Step(s)) => same_step(step, s),
+        (Action::Done(verdict), Action::Done(v)) => same_verdict(verdict, v),
+        _ => false,
+    }
+}
+
 /// Returns whether the caller's request follows the script.
 pub fn goes(
     known: &CallerState<'_, Triples>,
@@ -284,12 +294,12 @@ pub fn goes(
     let mut call = match Call::begin(caller, request, known) {
         CallStart::Open(call) => call,
         CallStart::Done(verdict) => {
-            return script.lines.len() == 1 && script.lines[0].1 == Action::Done(verdict);
+            return script.lines.len() == 1 && is_same(script.lines[0].1, Action::Done(verdict));
         }
     };
     for line in &script.lines {
         let (seen, action) = *line;
-        if call.next(known, seen) != action {
+        if !is_same(call.next(known, seen), action) {
             return false;
         }
     }

@@ -331,8 +331,9 @@ fn steps_said(alloc: Global, core: &mut Core<Triples>, dom: DomId) -> Result<Str
     Ok(out)
 }
 
-// Returns a step, most of them by a letter, with the numbers of its domain and entry or frame. A look at a header is H,
-// at a control word C, at a body word B; a pin is P, an unpin U, the access of a copy A, and a store of a header S.
+// Returns a step by a letter, with the numbers of its domain and entry or frame. A look at a header is H, at a control
+// word C, at a body word B; a pin is P, an unpin U, the access of a copy A, a store of a header S, a store of a body word
+// W, and an exchange by the owner E. No row has another access.
 fn step_said(alloc: Global, step: Step) -> Result<String, AllocError> {
     match step {
         Step::LookHeader { dom } => format!(in alloc; "H {}", dom.0),
@@ -352,7 +353,15 @@ fn step_said(alloc: Global, step: Step) -> Result<String, AllocError> {
             format!(in alloc; "A {from} to {to} len {len}")
         }
         Step::StoreHeader { version, frames } => format!(in alloc; "S {version} {frames}"),
-        _ => format!(in alloc; "{step:?}"),
+        Step::StoreBody { gref, half, word } => {
+            format!(in alloc; "W {} {half:?} {word}", gref.0)
+        }
+        Step::Exchange {
+            gref,
+            looked,
+            change,
+        } => format!(in alloc; "E {} {looked} {change:?}", gref.0),
+        Step::Read { .. } | Step::Write { .. } => format!(in alloc; "an access"),
     }
 }
 

@@ -4,7 +4,7 @@ ghost use Rattle.gt_entry.specs.declared.entry.Entry.TheVariants.{Invalid};
 ghost use Rattle.gt_calls.specs.Rules.{entry_in};
 ghost use Rattle.gt_live.specs.Closing.{is_in_use};
 
-use super::{Domain, change_row, done};
+use super::{Domain, done};
 use crate::monitor::Monitor;
 use gt_calls::OwnerEntry;
 use gt_entry::{Control, Entry, EntryChange, EntryKind};
@@ -63,13 +63,7 @@ impl Domain {
         if let Some(verdict) = self.judge_own(monitor, own, gref, EntryChange::Withdraw) {
             return done(verdict);
         }
-        match self.drive_change(monitor, gref, own.idle_word(), EntryChange::Withdraw) {
-            Ok(()) => {
-                change_row(&mut self.own, gref, EntryChange::Withdraw);
-                Ok(())
-            }
-            Err(denial) => Err(denial),
-        }
+        self.change_own(monitor, own, gref, EntryChange::Withdraw)
     }
 
     // Withdraws one of the domain's entries if it is valid, and asks again if its tries were missed.

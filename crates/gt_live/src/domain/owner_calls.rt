@@ -44,7 +44,7 @@ impl Domain {
     // Drives an owner's change to its end. Requires that the change is not decided at its beginning. `looked` is the
     // owner's word of the entry with no pins.
     #[inline(always)]
-    pub(crate) fn drive_change<P: Allows>(
+    fn drive_change<P: Allows>(
         &mut self,
         monitor: &Monitor<P>,
         gref: GrantRef,
@@ -72,7 +72,7 @@ impl Domain {
     // Makes a change of the entry with this row, and keeps it in the row. Requires that it is not decided at its
     // beginning.
     #[inline(always)]
-    fn change_own<P: Allows>(
+    pub(super) fn change_own<P: Allows>(
         &mut self,
         monitor: &Monitor<P>,
         own: OwnerEntry,

@@ -87,16 +87,14 @@ pub const STEPS_ON_HEADERS: [Row; 10] = [
 pub const STEPS_OF_GRANTS: [Row; 3] = [
     (
         Steps(OWNER, GRANT_PART),
-        "StoreBody { gref: GrantRef(0), half: First, word: 5 } -; \
-         StoreBody { gref: GrantRef(0), half: Second, word: 3276900 } -; \
-         Exchange { gref: GrantRef(0), looked: 0, \
-         change: Publish(Sub { dom: DomId(2), ro: false, frame: 5, off: 100, len: 50 }) } taken; ok",
+        "W 0 First 5 -; \
+         W 0 Second 3276900 -; \
+         E 0 0 Publish(Sub { dom: DomId(2), ro: false, frame: 5, off: 100, len: 50 }) taken; ok",
     ),
     (
         Steps(OWNER, GRANT_VIA),
-        "StoreBody { gref: GrantRef(1), half: First, word: 458755 } -; \
-         Exchange { gref: GrantRef(1), looked: 0, \
-         change: Publish(Via { dom: DomId(2), ro: false, dom2: DomId(3), gref: GrantRef(7) }) } taken; ok",
+        "W 1 First 458755 -; \
+         E 1 0 Publish(Via { dom: DomId(2), ro: false, dom2: DomId(3), gref: GrantRef(7) }) taken; ok",
     ),
     (
         Steps(
@@ -106,9 +104,8 @@ pub const STEPS_OF_GRANTS: [Row; 3] = [
                 bytes: &[1, 1, 2, 0, 100, 0, 50, 0, 5, 0, 0, 0, 0, 0, 0, 0],
             },
         ),
-        "StoreBody { gref: GrantRef(2), half: First, word: 5 } -; \
-         StoreBody { gref: GrantRef(2), half: Second, word: 3276900 } -; \
-         Exchange { gref: GrantRef(2), looked: 0, \
-         change: Publish(Sub { dom: DomId(2), ro: false, frame: 5, off: 100, len: 50 }) } taken; ok",
+        "W 2 First 5 -; \
+         W 2 Second 3276900 -; \
+         E 2 0 Publish(Sub { dom: DomId(2), ro: false, frame: 5, off: 100, len: 50 }) taken; ok",
     ),
 ];

@@ -24,6 +24,15 @@ returns-then-stops-clause-called g c =
     look.new.seat.view c.turns.invariant.going look.ensures.made
     (sym c.stops.ensures ∙ c.if-stops.true) c.entry_refusal.ensures).0
 
+pub returns-then-stops-clause-leaves : goal.returns-then-stops-clause-leaves
+returns-then-stops-clause-leaves g c =
+    let known = knows g.P.Allows.may c.args.known.now in let law = c.every_call_goes_on_by_its_phase.ensures known in
+    let k = c.args.words.now.layout in let v = c.args.seat.now.view in let a = c.args in let r = c.requires in
+    let look = c.look_at_control-word in let word = look.result in let more = c.turns.more in
+    (turn-stopped known law k v a.caller a.gref r.knows a.change more word c.entry_refusal.result c.turns.seat.view
+    look.new.seat.view c.turns.invariant.going look.ensures.made
+    (sym c.stops.ensures ∙ c.if-stops.true) c.entry_refusal.ensures).1
+
 pub try_change-requires-clause-can : goal.try_change-requires-clause-can
 try_change-requires-clause-can g c =
     let known = knows g.P.Allows.may c.args.known.now in let law = c.every_call_goes_on_by_its_phase.ensures known in

@@ -1,13 +1,8 @@
-use Rattle.std.proofs.Common.{◌≡◌, ◌∙◌, ap, refl, subst, sym, List}
+use Rattle.std.proofs.Common.{◌≡◌, ◌∙◌, refl, subst, sym}
 use Rattle.std.specs.Prelude.{Result, OnOk}
-use Rattle.std.specs.Vec.{with_items}
-use Rattle.std.proofs.lemmas.List.{with_items_is}
 use Rattle.gt_types.specs.declared.denial.Denial.{Denial}
 use Rattle.gt_entry.specs.declared.change.EntryChange.TheVariants.{Withdraw}
-use Rattle.gt_handles.specs.Handles.{HandleMap}
 use Rattle.gt_calls.specs.Path.{path}
-use Rattle.gt_calls.specs.declared.held.HeldPin.{HeldPin}
-use Rattle.gt_calls.specs.declared.known.OwnerEntry.{OwnerEntry}
 use Rattle.gt_calls.specs.declared.request.OpenRequest.TheVariants as asks
 use Rattle.gt_calls.specs.declared.request.Request.TheVariants as requests
 use Rattle.gt_live.specs.Domains.{knowledge, verdict_of}
@@ -15,9 +10,7 @@ use Rattle.gt_live.specs.Rows.{row_changed}
 use Rattle.gt_live.specs.Walks.{Called}
 use Rattle.gt_live.proofs.AnsweredAtOnce.{answered-once}
 use Rattle.gt_live.proofs.Closing.{after-refusal, called-goes, once-refused, quiet-self}
-use Rattle.gt_live.proofs.DomainKept.{changed, looked}
-use Rattle.gt_live.proofs.Making.{still_seat}
-use Rattle.gt_live.proofs.AtOnce.{begun-called, idle-by}
+use Rattle.gt_live.proofs.AtOnce.{begun-called}
 use Rattle.gt_live.proofs.domain.Domain.withdraw_row.Goals as goal
 
 pub returns-in-Some : goal.returns-in-Some
@@ -36,66 +29,13 @@ returns-in-Some g c =
       same = after-refusal c.done.result _ refl;
     }
 
-pub returns-in-Ok-clause-mine : goal.returns-in-Ok-clause-mine
-returns-in-Ok-clause-mine g c =
-    let m = c.args.monitor.now in let d = c.args.self.now in let may = g.P.Allows.may m.rights in
-    let f = c.drive_change.new.self in let kept = c.drive_change.ensures.kept in
-    let q = c.args.gref.0 in
-    let own = with_items_is f.own c.change_row.new.own (c.change_row.auto.own ∙ c.deref_mut.ensures.len)
-    ∙ c.change_row.ensures
-    ∙ ap (λ (os : List OwnerEntry). row_changed os q Withdraw) (c.deref_mut.ensures.value ∙ ap (λ v. v.items) kept.own) in
-    changed m.words m.config may d (record f { own = with_items f.own c.change_row.new.own }) (asks.Withdraw c.args.gref) q Withdraw
-    c.requires.mine kept.seat (ap (λ (z : HandleMap HeldPin). z.slots) kept.mappings) own c.in-Ok.ensures.leaves
-
-pub returns-in-Ok-clause-quiet : goal.returns-in-Ok-clause-quiet
-returns-in-Ok-clause-quiet g c =
-    let kept = c.drive_change.ensures.kept in let left = c.in-Ok.ensures.leaves in
+pub returns : goal.returns
+returns g c =
+    let e = c.change_own.ensures in
     record {
-      seat = kept.seat;
-      pinned = (
-        record {
-          slots = ap (λ (z : HandleMap HeldPin). z.slots) kept.mappings;
-          given = ap (λ (z : HandleMap HeldPin). z.given) kept.mappings;
-        },
-        λ t r. left.changes.pins t r ∙ left.same.pins t r,
-      );
-      trail = kept.trail;
-      goes_on = called-goes c.drive_change.ensures.called;
+      mine = e.stays.0;
+      quiet = record { seat = e.stays.1; pinned = e.kept; trail = e.silent; goes_on = called-goes e.called };
+      answered = e.called;
+      gone = e.row;
+      same = e.same;
     }
-
-pub returns-in-Ok-clause-gone : goal.returns-in-Ok-clause-gone
-returns-in-Ok-clause-gone g c =
-    let f = c.drive_change.new.self in let kept = c.drive_change.ensures.kept in let q = c.args.gref.0 in
-    with_items_is f.own c.change_row.new.own (c.change_row.auto.own ∙ c.deref_mut.ensures.len) ∙ c.change_row.ensures
-    ∙ ap (λ (os : List OwnerEntry). row_changed os q Withdraw) (c.deref_mut.ensures.value ∙ ap (λ v. v.items) kept.own)
-
-pub returns-in-Err-clause-mine : goal.returns-in-Err-clause-mine
-returns-in-Err-clause-mine g c =
-    let m = c.args.monitor.now in let d = c.args.self.now in let may = g.P.Allows.may m.rights in
-    let f = c.drive_change.new.self in let kept = c.drive_change.ensures.kept in
-    looked m.words m.config may d f c.requires.mine (still_seat m.words d.seat f.seat c.requires.mine.seat kept.seat)
-    kept.seat.dom (ap (λ v. v.items) kept.own) (ap (λ (z : HandleMap HeldPin). z.slots) kept.mappings) c.in-Err.ensures.leaves
-
-pub returns-in-Err-clause-quiet : goal.returns-in-Err-clause-quiet
-returns-in-Err-clause-quiet g c =
-    let kept = c.drive_change.ensures.kept in
-    record {
-      seat = kept.seat;
-      pinned = (
-        record {
-          slots = ap (λ (z : HandleMap HeldPin). z.slots) kept.mappings;
-          given = ap (λ (z : HandleMap HeldPin). z.given) kept.mappings;
-        },
-        c.in-Err.ensures.leaves.pins,
-      );
-      trail = kept.trail;
-      goes_on = called-goes c.drive_change.ensures.called;
-    }
-
-pub returns-in-Err-clause-same : goal.returns-in-Err-clause-same
-returns-in-Err-clause-same g c = ap (λ v. v.items) c.drive_change.ensures.kept.own
-
-pub drive_change-requires-clause-looked : goal.drive_change-requires-clause-looked
-drive_change-requires-clause-looked g c =
-    let m = c.args.monitor.now in let k = knowledge m.config (g.P.Allows.may m.rights) c.args.self.now in
-    idle-by k c.args.gref c.own_entry-own.result c.idle_word.result c.own_entry-own.ensures c.idle_word.ensures

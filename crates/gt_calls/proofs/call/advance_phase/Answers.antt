@@ -1,0 +1,26 @@
+use Rattle.gt_calls.proofs.Words.{◌≡◌, refl, ◌∙◌, DomId, CallResult, CopyArgs, PinPurpose, AccessPath, CallerKnowledge}
+use Rattle.gt_calls.proofs.Words.{Leg, LegPhase, Phase, Walking, Accessing, Asking, Last, Ending, Observation, Step, CallPins}
+use Rattle.gt_calls.proofs.Words.{knows, phase_after}
+use Rattle.gt_calls.specs.Machine.{change_after}
+use Rattle.gt_calls.specs.declared.call.HeaderQuery.{HeaderQuery}
+use Rattle.gt_calls.proofs.call.advance_phase.Goals as goal
+
+-- the phases that are left are those of a change
+of-change : (k : CallerKnowledge) (caller : DomId) (phase : Phase) (seen : Observation)
+    → ((aim : PinPurpose) (l : Leg) (at : LegPhase) → phase ≡ Walking aim l at → ⊥)
+    → ((c : CopyArgs) (source dest : AccessPath) → phase ≡ Accessing c source dest → ⊥)
+    → ((dom : DomId) (question : HeaderQuery) → phase ≡ Asking dom question → ⊥)
+    → ((step : Step) (verdict : CallResult) → phase ≡ Last step verdict → ⊥)
+    → ((pins : CallPins) (verdict : CallResult) → phase ≡ Ending pins verdict → ⊥)
+    → change_after k caller phase seen ≡ phase_after k caller phase seen
+of-change k caller (Walking aim l at) seen w a q s e = absurd (w aim l at refl)
+of-change k caller (Accessing c source dest) seen w a q s e = absurd (a c source dest refl)
+of-change k caller (Asking dom question) seen w a q s e = absurd (q dom question refl)
+of-change k caller (Last step verdict) seen w a q s e = absurd (s step verdict refl)
+of-change k caller (Ending pins verdict) seen w a q s e = absurd (e pins verdict refl)
+of-change k caller phase seen w a q s e = refl
+
+pub returns-in_default : goal.returns-in_default
+returns-in_default g c =
+    c.advance_change.ensures
+    ∙ of-change (knows g.P.Allows.may c.args.known.now) c.args.caller c.args.phase.now c.args.seen c.in_default.not-Walking c.in_default.not-Accessing c.in_default.not-Asking c.in_default.not-Last c.in_default.not-Ending
