@@ -17,11 +17,7 @@ fn mix_entries(digest: &mut Digest, first_gen: u32, table: &SparseTable) {
         let first = table.body(gref, BodyWord::First);
         let second = table.body(gref, BodyWord::Second);
         if word != untouched || first != 0 || second != 0 {
-            digest.mix(1);
-            digest.mix(at as u64);
-            digest.mix(word);
-            digest.mix(first);
-            digest.mix(second);
+            digest.mix_all(&[1, at as u64, word, first, second]);
         }
     }
     digest.mix(0)
@@ -29,8 +25,7 @@ fn mix_entries(digest: &mut Digest, first_gen: u32, table: &SparseTable) {
 
 fn mix_table(digest: &mut Digest, first_gen: u32, table: &SparseTable) {
     let header = table.header;
-    digest.mix(u64::from(header.version));
-    digest.mix(u64::from(header.frames));
+    digest.mix_all(&[u64::from(header.version), u64::from(header.frames)]);
     mix_entries(digest, first_gen, table)
 }
 
@@ -91,8 +86,7 @@ fn mix_actor(digest: &mut Digest, actor: &Actor) {
 }
 
 fn mix_page(digest: &mut Digest, page: &SparsePage) {
-    digest.mix(u64::from(page.owner.0));
-    digest.mix(page.frame);
+    digest.mix_all(&[u64::from(page.owner.0), page.frame]);
     mix_bytes(digest, page.bytes.as_slice());
 }
 

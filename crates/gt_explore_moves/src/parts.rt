@@ -18,19 +18,26 @@ pub enum StatePart<'a> {
 }
 
 impl<'a> StatePart<'a> {
-    ghost use Rattle.std.specs.Prelude.{IfOk};
-    ghost use Rattle.gt_explore_moves.specs.Parts.{SamePart};
+    ghost use Rattle.std.specs.Prelude.{◌≡◌, IfOk};
+    ghost use Rattle.gt_explore_moves.specs.Parts.{SamePart, part_shown};
+
+    // Borrows the part.
+    fn borrowed(&self) -> PartInState<'_, 'a>
+        ensures { part_shown result ≡ self.now }
+    {
+        match self {
+            StatePart::Flag(is_raised) => PartInState::Flag(*is_raised),
+            StatePart::Domain(actor) => PartInState::Domain(actor),
+            StatePart::Table(table) => PartInState::Table(table),
+            StatePart::Page(page) => PartInState::Page(page),
+        }
+    }
 
     /// Copies the part.
     pub fn copy(&self, alloc: Global) -> Result<StatePart<'a>, AllocError>
         ensures { IfOk result (SamePart self.now) }
     {
-        match self {
-            StatePart::Flag(is_raised) => Ok(StatePart::Flag(*is_raised)),
-            StatePart::Domain(actor) => Ok(StatePart::Domain(actor.copy(alloc)?)),
-            StatePart::Table(table) => Ok(StatePart::Table(table.copy(alloc)?)),
-            StatePart::Page(page) => Ok(StatePart::Page(page.copy(alloc)?)),
-        }
+        self.borrowed().copy(alloc)
     }
 }
 

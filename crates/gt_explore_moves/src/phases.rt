@@ -20,16 +20,25 @@ impl Digest {
     pub fn mix(&mut self, number: u64) {
         self.value = (self.value ^ number).wrapping_mul(0x0000_0100_0000_01b3);
     }
+
+    /// Mixes numbers into it, one after the other.
+    pub fn mix_all(&mut self, numbers: &[u64]) {
+        for number in numbers {
+            self.mix(*number);
+        }
+    }
 }
 
 /// Mixes in a pin: its entry and direction, the bodies of that entry, and the word from which it was taken.
 pub fn mix_held(digest: &mut Digest, held: &HeldPin) {
     let writes = matches!(held.dir, Dir::Write);
-    digest.mix(u64::from(held.dom.0) * 2 + u64::from(writes));
-    digest.mix(u64::from(held.gref.0));
-    digest.mix(held.entry.first_body());
-    digest.mix(held.entry.second_body());
-    digest.mix(held.word)
+    digest.mix_all(&[
+        u64::from(held.dom.0) * 2 + u64::from(writes),
+        u64::from(held.gref.0),
+        held.entry.first_body(),
+        held.entry.second_body(),
+        held.word,
+    ])
 }
 
 fn mix_via(digest: &mut Digest, via: Option<&HeldPin>) {
@@ -67,34 +76,26 @@ fn mix_try(digest: &mut Digest, number: u8, more: u8) {
     digest.mix(u64::from(number) * 256 + u64::from(more))
 }
 
+// Mixes in a phase of this number, with this number of tries left, and what was seen before it.
+fn mix_later_try(digest: &mut Digest, number: u8, more: u8, seen: &[u64]) {
+    mix_try(digest, number, more);
+    digest.mix_all(seen)
+}
+
 fn mix_leg_phase(digest: &mut Digest, at: &LegPhase) {
     match at {
         LegPhase::Header => digest.mix(0),
         LegPhase::Look { more } => mix_try(digest, 1, *more),
-        LegPhase::Body { more, word } => {
-            mix_try(digest, 2, *more);
-            digest.mix(*word)
-        }
-        LegPhase::Second { more, word, body } => {
-            mix_try(digest, 3, *more);
-            digest.mix(*word);
-            digest.mix(*body)
-        }
+        LegPhase::Body { more, word } => mix_later_try(digest, 2, *more, &[*word]),
+        LegPhase::Second { more, word, body } => mix_later_try(digest, 3, *more, &[*word, *body]),
         LegPhase::Pinning {
             more,
             word,
             body,
             second,
-        } => {
-            mix_try(digest, 4, *more);
-            digest.mix(*word);
-            digest.mix(*body);
-            digest.mix(*second)
-        }
+        } => mix_later_try(digest, 4, *more, &[*word, *body, *second]),
         LegPhase::Relook { more, word, rule } => {
-            mix_try(digest, 5, *more);
-            digest.mix(*word);
-            digest.mix(u64::from(rule.number()))
+            mix_later_try(digest, 5, *more, &[*word, u64::from(rule.number())])
         }
     }
 }
@@ -115,17 +116,18 @@ fn mix_aim(digest: &mut Digest, aim: &PinPurpose) {
 }
 
 fn mix_leg(digest: &mut Digest, leg: &Leg) {
-    digest.mix(u64::from(leg.grantee.0));
-    digest.mix(u64::from(leg.dom.0));
-    digest.mix(u64::from(leg.gref.0))
+    digest.mix_all(&[
+        u64::from(leg.grantee.0),
+        u64::from(leg.dom.0),
+        u64::from(leg.gref.0),
+    ])
 }
 
 // Mixes in the types that a refusal by the policy is about.
 fn mix_types(digest: &mut Digest, facts: Facts) {
     match facts {
         Facts::Policy { source, target, .. } => {
-            digest.mix(u64::from(source.0) + 1);
-            digest.mix(u64::from(target.0))
+            digest.mix_all(&[u64::from(source.0) + 1, u64::from(target.0)])
         }
         _ => digest.mix(0),
     }

@@ -333,9 +333,12 @@ pub fn is_store(task: &RunTask<'_>) -> bool
 pub fn any_mapping_meets(uses: MappingUse, next: NextMove, mappings: &[LabelledMapping<'_>]) -> bool
     ensures { result ≡ list_any (λ (m : LabelledMapping). meets_mapping uses next m.held) mappings.now }
 {
-    mappings
-        .iter()
-        .any(|mapping| meets_mapping(uses, next, mapping.held))
+    'mappings: for mapping in mappings {
+        if meets_mapping(uses, next, mapping.held) {
+            return true;
+        }
+    }
+    false
 }
 
 // Returns whether an entry leads to another one.
@@ -370,5 +373,10 @@ fn grants_via(task: &RunTask<'_>) -> bool
 pub fn any_grants_via(tasks: &[RunTask<'_>]) -> bool
     ensures { result ≡ list_any grants_via tasks.now }
 {
-    tasks.iter().any(|task| grants_via(task))
+    'tasks: for task in tasks {
+        if grants_via(task) {
+            return true;
+        }
+    }
+    false
 }

@@ -170,10 +170,6 @@ module _ {W P : Type 0} (ways : Ways W) (parts : Splitting W P) (all : List P) w
 
 -- results
 
-pub if_ok : {A E P : Type 0} (Q : Type 0) (r : Result A E) → OnOk r P → (P → OnOk r Q) → OnOk r Q
-if_ok Q (Ok x) holds so = so holds
-if_ok Q (Err e) holds so = holds
-
 pub if_ok_so : {A E P : Type 0} (Q : A → Type 0) (r : Result A E) → OnOk r P → (P → IfOk r Q) → IfOk r Q
 if_ok_so Q (Ok x) holds so = so holds
 if_ok_so Q (Err e) holds so = holds

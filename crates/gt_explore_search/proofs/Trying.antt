@@ -323,10 +323,6 @@ visits_end ways old done marks v w world more there turns none unmade ends notes
 pub not_both : (b : Bool) → b ≡ true → b ≡ false → ⊥
 not_both b is isnt = let same : true ≡ false = sym is ∙ isnt in absurd (cc)
 
-pub on_ok : {A E P Q : Type 0} (r : Result A E) → (P → Q) → OnOk r P → OnOk r Q
-on_ok (Ok x) so holds = so holds
-on_ok (Err e) so holds = holds
-
 pub each_first : {P : Type 0} (ways : Ways (List ℕ)) (ex : Explorer P) (stack new : List OpenNode) (v : OpenNode) → stack ≡ [] → new ≡ stack ++ v ∷ [] → VisitHolds ways ex v → EachVisitHolds ways ex new
 each_first ways ex stack new v none is holds = each_push ways ex stack new v is (λ i w there. absurd (none_there stack i w none there)) holds
 

@@ -65,7 +65,6 @@ pub struct OpenNode {
 #[derive(Drop)]
 pub struct Explorer<P> {
     pub alloc: Global,
-    pub limit: usize,
     pub states: StateIndex<P>,
     pub done: Vec<Option<u32>>,
     pub nodes: Vec<Node>,
@@ -165,9 +164,6 @@ impl<P: Drop> Explorer<P> {
             IsStateAt (S.ways space.now) (S.parts space.now) all self.old.states.met state world.now →
             IfOk result (λ v. SearchHolds ways self.new × Grew self.old self.new × VisitHolds ways self.new v) }
     {
-        if self.states.len() > self.limit {
-            return Err(SearchFault::States);
-        }
         let alloc = self.alloc;
         self.done.push(None)?;
         let mut visit = OpenNode {
@@ -364,40 +360,20 @@ impl<P: Drop> Explorer<P> {
         Ok(true)
     }
 
-    // Visits all states that can be reached from this one.
-    fn walk<S: TransitionSystem<Part = P>>(
+    // Visits all states of the space, which are no more than the limit.
+    fn run<S: TransitionSystem<Part = P>>(
         &mut self,
         space: &S,
-        first: OpenNode,
+        limit: usize,
     ) -> Result<(), SearchFault>
-        ensures grows { OnOk result (PartsGrew self.old self.new) }
-        ensures holds { (all : List P) → Extends self.new.states.parts.kept.items all →
-            let ways = by_numbers (S.ways space.now) (S.parts space.now) all in
-            SearchHolds ways self.old → VisitHolds ways self.old first →
-            OnOk result (SearchHolds ways self.new × Grew self.old self.new) }
-    {
-        let mut hand = None;
-        let mut stack = Vec::new(self.alloc);
-        stack.push(first)?;
-        'tries: for _ in 0..u64::MAX {
-            if !self.try_next(space, &mut hand, &mut stack)? {
-                return Ok(());
-            }
-        }
-        Err(SearchFault::States)
-    }
-
-    // Visits all states of the space.
-    fn run<S: TransitionSystem<Part = P>>(&mut self, space: &S) -> Result<(), SearchFault>
         ensures { (all : List P) → Extends self.new.states.parts.kept.items all →
             let ways = by_numbers (S.ways space.now) (S.parts space.now) all in
             SearchStarts ways self.old → OnOk result (SearchFinishes ways self.new) }
     {
-        let world = space.start()?;
-        let state = self.states.number(space, &world, 0)?;
-        space.alike();
-        let first = self.visit(space, state, &world)?;
-        self.walk(space, first)
+        match self.run_within(space, limit)? {
+            Some(_) => Err(SearchFault::States),
+            None => Ok(()),
+        }
     }
 
     // Returns an order for each list of answers that the first state leads to.
@@ -431,13 +407,11 @@ impl<P: Drop> Explorer<P> {
 fn new_explorer<S: TransitionSystem>(
     alloc: Global,
     space: &S,
-    limit: usize,
 ) -> Result<Explorer<S::Part>, SearchFault>
     ensures { (all : List S.Part) → IfOk result (SearchStarts (by_numbers (S.ways space.now) (S.parts space.now) all)) }
 {
     Ok(Explorer {
         alloc,
-        limit,
         states: StateIndex::new(alloc),
         done: Vec::new(alloc),
         nodes: Vec::new(alloc),
@@ -459,7 +433,7 @@ pub fn search<S: TransitionSystem>(
 ) -> Result<SearchResult, SearchFault>
     ensures { IfOk result (AllTextsFound (S.ways space.now)) }
 {
-    let mut explorer = new_explorer(alloc, space, limit)?;
-    explorer.run(space)?;
+    let mut explorer = new_explorer(alloc, space)?;
+    explorer.run(space, limit)?;
     explorer.found(space)
 }

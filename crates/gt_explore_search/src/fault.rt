@@ -3,7 +3,7 @@ use gt_types::Memory;
 use std::alloc::{AllocError, AllocFailed};
 
 /// The reason that a search did not finish.
-#[derive(Clone, Copy, Debug, PartialEq, Eq)]
+#[derive(Clone, Copy)]
 pub enum SearchFault {
     /// An allocation failed.
     Memory,

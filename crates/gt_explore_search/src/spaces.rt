@@ -8,7 +8,7 @@ use std::alloc::AllocError;
 
 /// A turn: the next move of the domain at this position among the domains. Where it has several moves, `choice` is the
 /// index of this one. At the end of its list a script's domain releases the mapping at that index.
-#[derive(Clone, Copy, Debug, PartialEq, Eq)]
+#[derive(Clone, Copy)]
 pub struct Turn {
     pub place: usize,
     pub choice: usize,

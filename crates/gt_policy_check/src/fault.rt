@@ -16,7 +16,7 @@ use std::alloc::{AllocError, Global};
 
 /// Tokens that may continue a statement, with what each is called. A permission represents any name, since it fits
 /// wherever a name fits.
-const CANDIDATES: &[(&str, &str)] = &[
+static CANDIDATES: [(&str, &str); 10] = [
     ("allow", "a statement"),
     (";", "\";\""),
     (",", "\",\""),
@@ -116,7 +116,7 @@ fn push_expected(out: &mut Vec<u8>, shown: &str) -> Result<(), AllocError> {
 
 // Appends what may follow `front`.
 fn push_all_expected(alloc: Global, out: &mut Vec<u8>, front: &[u8]) -> Result<(), AllocError> {
-    for (token, shown) in CANDIDATES {
+    for (token, shown) in CANDIDATES.iter() {
         if fits(alloc, front, token)? {
             push_expected(out, shown)?;
         }

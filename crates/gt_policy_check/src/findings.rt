@@ -12,7 +12,7 @@ use gt_types::Memory;
 use std::alloc::Global;
 
 /// The kind of a finding.
-#[derive(Clone, Copy, PartialEq, Eq)]
+#[derive(Clone, Copy)]
 pub enum FindingKind {
     /// The first fault of the text, which is not a policy; or a statement that breaks a neverallow statement.
     Fault,

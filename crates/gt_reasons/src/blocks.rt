@@ -23,11 +23,11 @@ pub fn has_policy(alloc: Global, lines: &[&str]) -> Result<bool, AllocError> {
 /// Returns the text of the policy block, with an empty line for each line of the script before it, so that its lines
 /// have their numbers in the script. None if there is no block.
 pub fn block_text(alloc: Global, lines: &[&str]) -> Result<Option<String>, AllocError> {
-    let mut text = String::new(alloc);
-    let mut is_open = false;
     if !has_policy(alloc, lines)? {
         return Ok(None);
     }
+    let mut text = String::new(alloc);
+    let mut is_open = false;
     for line in lines {
         let words = line_words(alloc, line)?;
         if is_open {

@@ -2,7 +2,7 @@
 use gt_script_lines::is_word;
 
 /// The forms of the lines, as in docs/FORMATS_SCRIPTS.md. A word in capitals is a part; any other is literal.
-pub const FORMS: [&str; 30] = [
+pub static FORMS: [&str; 30] = [
     "triple TYPE TYPE PERMISSION",
     "wear GENERATION",
     "domain ID LABEL FRAMES TABLEFRAMES VERSION",
@@ -42,7 +42,7 @@ struct FormPart {
     expected: &'static str,
 }
 
-const PARTS: [FormPart; 20] = [
+static PARTS: [FormPart; 20] = [
     FormPart {
         name: "TYPE",
         example: "t",
@@ -145,22 +145,28 @@ const PARTS: [FormPart; 20] = [
     },
 ];
 
-/// Returns a word that fits this word of a form.
-pub fn example_of<'f>(word: &'f [u8]) -> &'f [u8] {
-    for part in &PARTS {
+// Returns the part that this word of a form names; None for a literal word.
+fn part_of(word: &[u8]) -> Option<&'static FormPart> {
+    for part in PARTS.iter() {
         if is_word(word, part.name) {
-            return part.example.as_bytes();
+            return Some(part);
         }
     }
-    word
+    None
+}
+
+/// Returns a word that fits this word of a form.
+pub fn example_of<'f>(word: &'f [u8]) -> &'f [u8] {
+    match part_of(word) {
+        Some(part) => part.example.as_bytes(),
+        None => word,
+    }
 }
 
 /// Returns what is expected at this word of a form; None for a literal word.
 pub fn expected_at(word: &[u8]) -> Option<&'static str> {
-    for part in &PARTS {
-        if is_word(word, part.name) {
-            return Some(part.expected);
-        }
+    match part_of(word) {
+        Some(part) => Some(part.expected),
+        None => None,
     }
-    None
 }

@@ -55,24 +55,32 @@ fn domain_of(line: &DomainLine) -> DomainConfig {
 }
 
 // A line `domain`: its number, the column of its ID, and its domain.
-#[derive(Drop)]
+#[derive(Clone, Copy)]
 struct Configured {
     number: usize,
     column: usize,
     domain: DomainConfig,
 }
 
+// Reads a line `domain`. Returns None for another line.
+fn domain_in(alloc: Global, number: usize, line: &str) -> Result<Option<Configured>, AllocError> {
+    let words = line_words(alloc, line)?;
+    match read_line(words.as_slice()) {
+        Some(ScriptLine::Domain(domain)) => Ok(Some(Configured {
+            number,
+            column: column_of(line.as_bytes(), 1),
+            domain: domain_of(&domain),
+        })),
+        _ => Ok(None),
+    }
+}
+
 // Finds the lines `domain` among these.
 fn configured_in(alloc: Global, lines: &[&str]) -> Result<Vec<Configured>, AllocError> {
     let mut found = Vec::new(alloc);
     for (i, line) in lines.iter().enumerate() {
-        let words = line_words(alloc, line)?;
-        if let Some(ScriptLine::Domain(domain)) = read_line(words.as_slice()) {
-            found.push(Configured {
-                number: i.saturating_add(1),
-                column: column_of(line.as_bytes(), 1),
-                domain: domain_of(&domain),
-            })?;
+        if let Some(domain) = domain_in(alloc, i.saturating_add(1), line)? {
+            found.push(domain)?;
         }
     }
     Ok(found)
@@ -92,16 +100,16 @@ fn first_of(
     lines: &[Configured],
     id: DomId,
 ) -> Result<Option<ReasonNote>, AllocError> {
-    let Some(first) = lines.iter().find(|line| line.domain.id == id) else {
-        return Ok(None);
-    };
-    let mut message = Vec::new(alloc);
-    push_text(&mut message, "the earlier domain is here")?;
-    Ok(Some(ReasonNote {
-        line: first.number,
-        column: first.column,
-        message,
-    }))
+    for line in lines {
+        if line.domain.id == id {
+            return Ok(Some(ReasonNote {
+                line: line.number,
+                column: line.column,
+                message: Vec::from_slice(alloc, b"the earlier domain is here".as_slice())?,
+            }));
+        }
+    }
+    Ok(None)
 }
 
 // Appends the text of a limit, and returns the index of the word of a line `domain` that exceeds it.
@@ -148,6 +156,22 @@ pub(crate) fn push_undeclared(
     push_hint(alloc, out, name, types.as_slice())
 }
 
+// Appends that a name is not a type that a policy block declares, and which type may be meant.
+fn push_undeclared_in(
+    alloc: Global,
+    out: &mut Vec<u8>,
+    block: &str,
+    name: &[u8],
+) -> Result<(), AllocError> {
+    let Ok(name) = text_of(name) else {
+        return push_text(out, UNDECLARED);
+    };
+    match statements_of(alloc, block) {
+        Ok(statements) => push_undeclared(alloc, out, statements.as_slice(), name),
+        Err(_) => push_text(out, UNDECLARED),
+    }
+}
+
 // Appends why a domain's type is refused, after the lines before it.
 fn push_no_type(
     alloc: Global,
@@ -156,13 +180,33 @@ fn push_no_type(
     name: &[u8],
 ) -> Result<(), AllocError> {
     push_word(out, name)?;
-    let Some(block) = block_text(alloc, before)? else {
-        return push_text(out, MANY_TYPES);
-    };
-    match (statements_of(alloc, block.as_str()), text_of(name)) {
-        (Ok(statements), Ok(name)) => push_undeclared(alloc, out, statements.as_slice(), name),
-        _ => push_text(out, UNDECLARED),
+    match block_text(alloc, before)? {
+        Some(block) => push_undeclared_in(alloc, out, block.as_str(), name),
+        None => push_text(out, MANY_TYPES),
     }
+}
+
+// Returns the fault of a domain after these.
+fn fault_among(
+    alloc: Global,
+    configured: &[Configured],
+    domain: &DomainLine,
+) -> Result<Option<ConfigFault>, AllocError> {
+    let domains = domains_of(alloc, configured)?;
+    Ok(domain_of(domain).fault(domains.as_slice()))
+}
+
+// Explains a fault of a domain, with a note at the earlier domain that has its number. Returns the index of the word.
+fn explain_fault(
+    alloc: Global,
+    reason: &mut Reason,
+    configured: &[Configured],
+    fault: ConfigFault,
+) -> Result<usize, AllocError> {
+    if let ConfigFault::Repeated(id) = fault {
+        reason.note = first_of(alloc, configured, id)?;
+    }
+    push_limit(&mut reason.message, fault)
 }
 
 // Explains why a line `domain` is refused, after the lines before it: a limit, or else its type.
@@ -172,28 +216,22 @@ fn domain_reason(
     line: &str,
     domain: &DomainLine,
 ) -> Result<Reason, AllocError> {
-    let mut message = Vec::new(alloc);
-    let config = domain_of(domain);
+    let mut reason = Reason::at(1, Vec::new(alloc));
     let configured = configured_in(alloc, before)?;
-    let domains = domains_of(alloc, configured.as_slice())?;
-    let mut note = None;
-    let word = match config.fault(domains.as_slice()) {
-        Some(fault) => {
-            if let ConfigFault::Repeated(id) = fault {
-                note = first_of(alloc, configured.as_slice(), id)?;
-            }
-            push_limit(&mut message, fault)?
-        }
+    let word = match fault_among(alloc, configured.as_slice(), domain)? {
+        Some(fault) => explain_fault(alloc, &mut reason, configured.as_slice(), fault)?,
         None => {
-            push_no_type(alloc, &mut message, before, domain.type_name.as_bytes())?;
+            push_no_type(
+                alloc,
+                &mut reason.message,
+                before,
+                domain.type_name.as_bytes(),
+            )?;
             2
         }
     };
-    Ok(Reason {
-        column: column_of(line.as_bytes(), word),
-        message,
-        note,
-    })
+    reason.column = column_of(line.as_bytes(), word);
+    Ok(reason)
 }
 
 // Appends the numbers of the domains of a script.
@@ -208,39 +246,56 @@ fn push_numbers(alloc: Global, out: &mut Vec<u8>, lines: &[&str]) -> Result<(), 
     Ok(())
 }
 
+// Explains a word of a line: the word in quotes, and a text.
+fn word_reason(
+    alloc: Global,
+    line: &str,
+    number: usize,
+    word: &[u8],
+    text: &str,
+) -> Result<Reason, AllocError> {
+    let mut message = Vec::new(alloc);
+    push_word(&mut message, word)?;
+    push_text(&mut message, text)?;
+    Ok(Reason::at(column_of(line.as_bytes(), number), message))
+}
+
+// Explains that this second word of a line is not a domain of the script.
+fn no_domain_reason(
+    alloc: Global,
+    before: &[&str],
+    line: &str,
+    word: &[u8],
+) -> Result<Reason, AllocError> {
+    let mut message = Vec::new(alloc);
+    push_word(&mut message, word)?;
+    push_numbers(alloc, &mut message, before)?;
+    Ok(Reason::at(column_of(line.as_bytes(), 1), message))
+}
+
 /// Returns the reason for the fault `config` of a line of a script, after the lines before it.
 pub fn config_reason(alloc: Global, before: &[&str], line: &str) -> Result<Reason, AllocError> {
     let words = line_words(alloc, line)?;
-    let read = read_line(words.as_slice());
-    if let Some(ScriptLine::Domain(domain)) = &read {
-        return domain_reason(alloc, before, line, domain);
-    }
-    let mut message = Vec::new(alloc);
     let word = words.get(1).copied().unwrap_or(&[]);
-    push_word(&mut message, word)?;
-    match read {
-        Some(ScriptLine::Triple(_)) => push_text(&mut message, MANY_TYPES)?,
-        _ => push_numbers(alloc, &mut message, before)?,
+    match read_line(words.as_slice()) {
+        Some(ScriptLine::Domain(domain)) => domain_reason(alloc, before, line, &domain),
+        Some(ScriptLine::Triple(_)) => word_reason(alloc, line, 1, word, MANY_TYPES),
+        _ => no_domain_reason(alloc, before, line, word),
     }
-    Ok(Reason::at(column_of(line.as_bytes(), 1), message))
 }
 
 /// Returns the reason for the fault `mode` of a line of a script.
 pub fn mode_reason(alloc: Global, line: &str) -> Result<Reason, AllocError> {
     let words = line_words(alloc, line)?;
-    let mut message = Vec::new(alloc);
-    push_word(&mut message, words.first().copied().unwrap_or(&[]))?;
-    push_text(
-        &mut message,
-        match read_line(words.as_slice()) {
-            Some(
-                ScriptLine::Body {
-                    asks: BodyLine::Tell(_) | BodyLine::Await(_),
-                    ..
-                },
-            ) => " is a line for gthost run",
-            _ => " is a line for gthost play",
-        },
-    )?;
-    Ok(Reason::at(column_of(line.as_bytes(), 0), message))
+    let text = match read_line(words.as_slice()) {
+        Some(
+            ScriptLine::Body {
+                asks: BodyLine::Tell(_) | BodyLine::Await(_),
+                ..
+            },
+        ) => " is a line for gthost run",
+        _ => " is a line for gthost play",
+    };
+    let word = words.first().copied().unwrap_or(&[]);
+    word_reason(alloc, line, 0, word, text)
 }

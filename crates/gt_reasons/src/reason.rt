@@ -1,4 +1,5 @@
 //! A reason, with its column and note.
+use std::alloc::{AllocError, Global};
 
 /// A note on a reason, at another line.
 #[derive(Drop)]
@@ -24,5 +25,10 @@ impl Reason {
             message,
             note: None,
         }
+    }
+
+    /// Makes a reason that is about a whole line.
+    pub(crate) fn of_line(alloc: Global, text: &str) -> Result<Reason, AllocError> {
+        Ok(Reason::at(1, Vec::from_slice(alloc, text.as_bytes())?))
     }
 }

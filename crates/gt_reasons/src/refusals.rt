@@ -1,9 +1,9 @@
 //! The near misses for calls that the policy refused.
 use crate::blocks::block_text;
-use crate::texts::push_word;
+use crate::texts::{is_listed, push_word};
 use gt_policy::PolicyFaultKind;
 use gt_policy_check::{WhyQuestion, why};
-use gt_script_lines::{ScriptLine, line_words, read_line, text_lines};
+use gt_script_lines::{ScriptLine, TripleLine, line_words, read_line, text_lines};
 use gt_text::{push_number, push_text, text_of};
 use std::alloc::{AllocError, Global};
 
@@ -59,81 +59,96 @@ fn push_statements(
     out: &mut Vec<u8>,
     file: &str,
     block: &str,
-    refusal: RefusedCall<'_>,
+    refusal: &RefusedCall,
 ) -> Result<bool, AllocError> {
     let question = WhyQuestion {
         source: Some(refusal.source),
         target: Some(refusal.target),
         perm: Some(refusal.perm),
     };
-    let explanation = match why(alloc, file, block, &question) {
-        Ok(explanation) => explanation,
-        Err(fault) => {
-            return match fault.kind {
-                PolicyFaultKind::Memory => Err(AllocError),
-                _ => Ok(false),
-            };
-        }
-    };
-    let Some(near) = explanation.lines.as_slice().strip_prefix(b"denied\n") else {
+    match why(alloc, file, block, &question) {
+        Ok(explanation) => push_near_lines(out, explanation.lines.as_slice()),
+        Err(fault) => match fault.kind {
+            PolicyFaultKind::Memory => Err(AllocError),
+            _ => Ok(false),
+        },
+    }
+}
+
+// Appends the lines of a denied question. Returns whether there is one.
+fn push_near_lines(out: &mut Vec<u8>, lines: &[u8]) -> Result<bool, AllocError> {
+    let Some(near) = lines.strip_prefix(b"denied\n") else {
         return Ok(false);
     };
     out.extend_from_slice(near)?;
     Ok(!near.is_empty())
 }
 
-// Appends a triple with its line, if it is a near miss: it has the target, and the permission or the source.
-fn push_triple(
-    alloc: Global,
+// Returns whether a triple is a near miss: it has the target, and the permission or the source.
+fn is_near_triple(triple: &TripleLine, refusal: &RefusedCall) -> bool {
+    let has_target = triple.target.as_bytes() == refusal.target.as_bytes();
+    let has_source = triple.source.as_bytes() == refusal.source.as_bytes();
+    has_target && (has_source || triple.perm.name() == refusal.perm)
+}
+
+// Returns whether a line is a triple that is a near miss.
+fn is_near(alloc: Global, line: &str, refusal: &RefusedCall) -> Result<bool, AllocError> {
+    let words = line_words(alloc, line)?;
+    match read_line(words.as_slice()) {
+        Some(ScriptLine::Triple(triple)) => Ok(is_near_triple(&triple, refusal)),
+        _ => Ok(false),
+    }
+}
+
+// Appends a line with its number.
+fn push_numbered(
     out: &mut Vec<u8>,
     file: &str,
     number: usize,
     line: &str,
-    refusal: RefusedCall<'_>,
-) -> Result<bool, AllocError> {
-    let words = line_words(alloc, line)?;
-    let Some(ScriptLine::Triple(triple)) = read_line(words.as_slice()) else {
-        return Ok(false);
-    };
-    let has_target = triple.target.as_bytes() == refusal.target.as_bytes();
-    let has_source = triple.source.as_bytes() == refusal.source.as_bytes();
-    if !has_target || !(has_source || triple.perm.name() == refusal.perm) {
-        return Ok(false);
-    }
+) -> Result<(), AllocError> {
     push_text(out, file)?;
     push_text(out, ":")?;
     push_number(out, number)?;
     push_text(out, ": ")?;
     push_text(out, line.trim())?;
-    push_text(out, "\n")?;
-    Ok(true)
+    push_text(out, "\n")
 }
 
+// Appends the triples that are near misses, each with its line. Returns whether there is one.
 fn push_triples(
     alloc: Global,
     out: &mut Vec<u8>,
     file: &str,
     lines: &[&str],
-    refusal: RefusedCall<'_>,
+    refusal: &RefusedCall,
 ) -> Result<bool, AllocError> {
     let mut is_any = false;
     for (i, line) in lines.iter().enumerate() {
-        is_any |= push_triple(alloc, out, file, i.saturating_add(1), line, refusal)?;
+        if is_near(alloc, line, refusal)? {
+            push_numbered(out, file, i.saturating_add(1), line)?;
+            is_any = true;
+        }
     }
     Ok(is_any)
 }
 
-// Appends the first line about a refusal.
-fn push_refusal(out: &mut Vec<u8>, file: &str, refusal: RefusedCall<'_>) -> Result<(), AllocError> {
-    push_text(out, file)?;
-    push_text(out, ":")?;
-    push_text(out, refusal.line)?;
-    push_text(out, ": N5: no rule gives ")?;
+// Appends who was refused what.
+fn push_denied(out: &mut Vec<u8>, refusal: &RefusedCall) -> Result<(), AllocError> {
     push_text(out, refusal.perm)?;
     push_text(out, " to ")?;
     push_word(out, refusal.source.as_bytes())?;
     push_text(out, " on ")?;
-    push_word(out, refusal.target.as_bytes())?;
+    push_word(out, refusal.target.as_bytes())
+}
+
+// Appends the first line about a refusal.
+fn push_refusal(out: &mut Vec<u8>, file: &str, refusal: &RefusedCall) -> Result<(), AllocError> {
+    push_text(out, file)?;
+    push_text(out, ":")?;
+    push_text(out, refusal.line)?;
+    push_text(out, ": N5: no rule gives ")?;
+    push_denied(out, refusal)?;
     push_text(out, "; near:\n")
 }
 
@@ -144,7 +159,7 @@ fn push_near(
     file: &str,
     lines: &[&str],
     block: Option<&str>,
-    refusal: RefusedCall<'_>,
+    refusal: &RefusedCall,
 ) -> Result<(), AllocError> {
     push_refusal(out, file, refusal)?;
     let is_any = match block {
@@ -155,6 +170,36 @@ fn push_near(
         return Ok(());
     }
     push_text(out, "none\n")
+}
+
+// Returns the refusal in a line, if it has one.
+fn refusal_in<'t>(line: &'t str) -> Option<RefusedCall<'t>> {
+    match refusal_of(line) {
+        Some(refusal) => Some(refusal),
+        None => refusal_of_object(line),
+    }
+}
+
+// Appends the rules that are near misses for the refusals in a printed text, once for each.
+fn push_all_near(
+    alloc: Global,
+    out: &mut Vec<u8>,
+    file: &str,
+    lines: &[&str],
+    block: Option<&str>,
+    printed: &str,
+) -> Result<(), AllocError> {
+    let mut told: Vec<&[u8]> = Vec::new(alloc);
+    for line in text_lines(alloc, printed)?.as_slice() {
+        if let Some(refusal) = refusal_in(line) {
+            let facts = refusal.facts.as_bytes();
+            if !is_listed(told.as_slice(), facts) {
+                told.push(facts)?;
+                push_near(alloc, out, file, lines, block, &refusal)?;
+            }
+        }
+    }
+    Ok(())
 }
 
 /// Appends, for each call that the policy refused, the rules of the script that are near misses: statements of its
@@ -172,15 +217,9 @@ pub fn push_refusals(
     };
     let lines = text_lines(alloc, script)?;
     let block = block_text(alloc, lines.as_slice())?;
-    let block = block.as_ref().map(|text| text.as_str());
-    let mut told: Vec<&str> = Vec::new(alloc);
-    for line in text_lines(alloc, printed)?.as_slice() {
-        if let Some(refusal) = refusal_of(line).or_else(|| refusal_of_object(line)) {
-            if !told.iter().any(|facts| *facts == refusal.facts) {
-                told.push(refusal.facts)?;
-                push_near(alloc, out, file, lines.as_slice(), block, refusal)?;
-            }
-        }
-    }
-    Ok(())
+    let block = match &block {
+        Some(text) => Some(text.as_str()),
+        None => None,
+    };
+    push_all_near(alloc, out, file, lines.as_slice(), block, printed)
 }

@@ -16,13 +16,6 @@ use gt_text::{push_number, push_text, text_of};
 use gt_types::LONGEST_TEXT;
 use std::alloc::{AllocError, Global};
 
-// Makes a reason that is about a whole line.
-fn reason_of(alloc: Global, text: &str) -> Result<Reason, AllocError> {
-    let mut message = Vec::new(alloc);
-    push_text(&mut message, text)?;
-    Ok(Reason::at(1, message))
-}
-
 // Appends the limit of a text.
 fn push_limit(out: &mut Vec<u8>, what: &str) -> Result<(), AllocError> {
     push_text(out, what)?;
@@ -31,39 +24,44 @@ fn push_limit(out: &mut Vec<u8>, what: &str) -> Result<(), AllocError> {
     push_text(out, " bytes")
 }
 
-fn limit_reason(alloc: Global) -> Result<Reason, AllocError> {
+fn limit_reason(alloc: Global, what: &str) -> Result<Reason, AllocError> {
     let mut message = Vec::new(alloc);
-    push_limit(&mut message, "a script")?;
+    push_limit(&mut message, what)?;
     Ok(Reason::at(1, message))
+}
+
+// Returns the column after these bytes, counted from 1.
+fn column_after(front: &[u8]) -> usize {
+    let mut column: usize = 1;
+    for byte in front {
+        column = if *byte == b'\n' {
+            1
+        } else {
+            column.saturating_add(1)
+        };
+    }
+    column
 }
 
 // Explains bytes that are not UTF-8, with the column of the first bad byte.
 fn utf8_reason(alloc: Global, input: &[u8]) -> Result<Reason, AllocError> {
-    let mut reason = reason_of(alloc, "invalid UTF-8")?;
+    let mut reason = Reason::of_line(alloc, "invalid UTF-8")?;
     if let Err(error) = str::from_utf8(input) {
-        let front = &input[..error.valid_up_to()];
-        let before = front
-            .iter()
-            .rev()
-            .take_while(|byte| **byte != b'\n')
-            .count();
-        reason.column = before.saturating_add(1);
+        reason.column = column_after(&input[..error.valid_up_to()]);
     }
     Ok(reason)
 }
 
 // Explains a fault at the end of a script.
 fn end_reason(alloc: Global, lines: &[&str], kind: ScriptFaultKind) -> Result<Reason, AllocError> {
-    if kind == ScriptFaultKind::Config {
-        return reason_of(alloc, "the script has no line domain");
-    }
-    if has_policy(alloc, lines)? {
-        return reason_of(alloc, "the policy block is not closed by a line end");
-    }
-    reason_of(
-        alloc,
-        "the script has neither a policy block nor a line triple",
-    )
+    let text = if kind == ScriptFaultKind::Config {
+        "the script has no line domain"
+    } else if has_policy(alloc, lines)? {
+        "the policy block is not closed by a line end"
+    } else {
+        "the script has neither a policy block nor a line triple"
+    };
+    Reason::of_line(alloc, text)
 }
 
 // Explains a fault of a line.
@@ -74,7 +72,7 @@ fn line_reason(alloc: Global, lines: &[&str], fault: &ScriptFault) -> Result<Rea
     }
     let line = lines[place];
     match fault.kind {
-        ScriptFaultKind::Limit | ScriptFaultKind::Utf8 => limit_reason(alloc),
+        ScriptFaultKind::Limit | ScriptFaultKind::Utf8 => limit_reason(alloc, "a script"),
         ScriptFaultKind::Syntax => syntax_reason(alloc, line),
         ScriptFaultKind::Config => config_reason(alloc, &lines[..place], line),
         ScriptFaultKind::Mode => mode_reason(alloc, line),
@@ -89,7 +87,7 @@ pub fn script_reason(
     fault: &ScriptFault,
 ) -> Result<Reason, AllocError> {
     match (fault.kind, text_of(input)) {
-        (ScriptFaultKind::Limit, _) => limit_reason(alloc),
+        (ScriptFaultKind::Limit, _) => limit_reason(alloc, "a script"),
         (_, Err(_)) => utf8_reason(alloc, input),
         (_, Ok(text)) => {
             let lines = text_lines(alloc, text)?;
@@ -129,20 +127,20 @@ pub fn push_script_reason(
 
 // Returns the note of an error, if this finding is a note.
 fn note_found(alloc: Global, finding: Option<&Finding>) -> Result<Option<ReasonNote>, AllocError> {
-    let Some(note) = finding.filter(|one| one.kind == FindingKind::Note) else {
-        return Ok(None);
-    };
-    Ok(Some(ReasonNote {
-        line: note.line as usize,
-        column: note.column as usize,
-        message: Vec::from_slice(alloc, note.message.as_slice())?,
-    }))
+    match finding {
+        Some(note) if matches!(note.kind, FindingKind::Note) => Ok(Some(ReasonNote {
+            line: note.line as usize,
+            column: note.column as usize,
+            message: Vec::from_slice(alloc, note.message.as_slice())?,
+        })),
+        _ => Ok(None),
+    }
 }
 
 // Makes the reason of the findings in a policy block: its error, and the note after it.
 fn reason_found(alloc: Global, found: &[Finding]) -> Result<Reason, AllocError> {
     let [error, others @ ..] = found else {
-        return reason_of(alloc, "the policy block has a fault");
+        return Reason::of_line(alloc, "the policy block has a fault");
     };
     Ok(Reason {
         column: error.column as usize,
@@ -151,19 +149,24 @@ fn reason_found(alloc: Global, found: &[Finding]) -> Result<Reason, AllocError> 
     })
 }
 
+// Returns the reason for the fault of a text that is not a policy.
+fn text_reason(alloc: Global, text: &str) -> Result<Reason, AllocError> {
+    match check(alloc, text) {
+        Ok(found) => reason_found(alloc, found.as_slice()),
+        Err(_) => Err(AllocError),
+    }
+}
+
 /// Returns the reason for the fault of a script's policy block.
 pub fn block_reason(alloc: Global, input: &[u8]) -> Result<Reason, AllocError> {
     let Ok(text) = text_of(input) else {
         return utf8_reason(alloc, input);
     };
     let lines = text_lines(alloc, text)?;
-    let Some(block) = block_text(alloc, lines.as_slice())? else {
-        return reason_of(alloc, "the script has no policy block");
-    };
-    let Ok(found) = check(alloc, block.as_str()) else {
-        return Err(AllocError);
-    };
-    reason_found(alloc, found.as_slice())
+    match block_text(alloc, lines.as_slice())? {
+        Some(block) => text_reason(alloc, block.as_str()),
+        None => Reason::of_line(alloc, "the script has no policy block"),
+    }
 }
 
 /// Appends the reason for a fault of a script's policy block: a line `FILE:LINE:COLUMN: REASON`, at the line of the
@@ -184,17 +187,12 @@ pub fn push_block_reason(
 /// Returns the reason for the fault of a policy text.
 pub fn policy_reason(alloc: Global, input: &[u8]) -> Result<Reason, AllocError> {
     if input.len() > LONGEST_TEXT {
-        let mut message = Vec::new(alloc);
-        push_limit(&mut message, "a policy")?;
-        return Ok(Reason::at(1, message));
+        return limit_reason(alloc, "a policy");
     }
-    let Ok(text) = text_of(input) else {
-        return utf8_reason(alloc, input);
-    };
-    let Ok(found) = check(alloc, text) else {
-        return Err(AllocError);
-    };
-    reason_found(alloc, found.as_slice())
+    match text_of(input) {
+        Ok(text) => text_reason(alloc, text),
+        Err(_) => utf8_reason(alloc, input),
+    }
 }
 
 /// Appends the reason for a fault of a policy text: a line `FILE:LINE:COLUMN: REASON`, at the line of the fault. After

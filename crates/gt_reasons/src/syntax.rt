@@ -6,7 +6,7 @@ use crate::columns::column_of;
 use crate::forms::{FORMS, example_of, expected_at};
 use crate::misfit::fitting;
 use crate::reason::Reason;
-use crate::texts::push_word;
+use crate::texts::{is_listed, push_word};
 use gt_policy_check::{permission_names, push_hint};
 use gt_script_lines::{ScriptLine, is_word, line_words, read_line};
 use gt_text::{push_text, text_of};
@@ -21,16 +21,27 @@ fn examples<'f>(alloc: Global, form: &[&'f [u8]]) -> Result<Vec<&'f [u8]>, Alloc
     Ok(words)
 }
 
+// Returns how many of the first words of a line fit the example of a form.
+fn fitting_form<'w>(
+    alloc: Global,
+    words: &[&'w [u8]],
+    form: &[&'w [u8]],
+) -> Result<usize, AllocError>
+    ensures { IfOk result (IsMisfit (map (λ w. w.now) words.now)) }
+{
+    let example = examples(alloc, form)?;
+    fitting(alloc, words, example.as_slice())
+}
+
 /// Returns the maximum number of first words of a line that fit a form. It is the index of the word that does not fit,
 /// or the number of words if one is missing.
 pub fn first_misfit(alloc: Global, words: &[&[u8]]) -> Result<usize, AllocError>
     ensures { IfOk result (IsMisfit (map (λ w. w.now) words.now)) }
 {
     let mut most = 0;
-    'forms: for form in FORMS {
-        let form = line_words(alloc, form)?;
-        let example = examples(alloc, form.as_slice())?;
-        let count = fitting(alloc, words, example.as_slice())?;
+    'forms: for form in FORMS.iter() {
+        let form = line_words(alloc, *form)?;
+        let count = fitting_form(alloc, words, form.as_slice())?;
         if count > most {
             most = count;
         }
@@ -46,10 +57,9 @@ fn push_expected(
     number: usize,
 ) -> Result<Vec<&'static [u8]>, AllocError> {
     let mut told: Vec<&'static [u8]> = Vec::new(alloc);
-    for form in FORMS {
-        let form = line_words(alloc, form)?;
-        let example = examples(alloc, form.as_slice())?;
-        if fitting(alloc, words, example.as_slice())? == number {
+    for form in FORMS.iter() {
+        let form = line_words(alloc, *form)?;
+        if fitting_form(alloc, words, form.as_slice())? == number {
             push_next(out, &mut told, form.get(number).copied())?;
         }
     }
@@ -88,7 +98,7 @@ fn push_next<'f>(
     word: Option<&'f [u8]>,
 ) -> Result<(), AllocError> {
     let next = word.unwrap_or(NOTHING_MORE.as_bytes());
-    if told.iter().any(|other| *other == next) {
+    if is_listed(told.as_slice(), next) {
         return Ok(());
     }
     push_text(out, if told.is_empty() { "expected " } else { " or " })?;
@@ -100,18 +110,39 @@ fn push_next<'f>(
     }
 }
 
+// Appends what is expected in place of this word, and which word it may be meant as.
+fn push_unfit(
+    alloc: Global,
+    out: &mut Vec<u8>,
+    words: &[&[u8]],
+    number: usize,
+    word: &[u8],
+) -> Result<(), AllocError> {
+    push_word(out, word)?;
+    push_text(out, ": ")?;
+    let expected = push_expected(alloc, out, words, number)?;
+    push_meant(alloc, out, word, expected.as_slice())
+}
+
+// Appends what is expected after the last word.
+fn push_incomplete(
+    alloc: Global,
+    out: &mut Vec<u8>,
+    words: &[&[u8]],
+    number: usize,
+) -> Result<(), AllocError> {
+    push_text(out, "the line is incomplete: ")?;
+    let _ = push_expected(alloc, out, words, number)?;
+    Ok(())
+}
+
 // Explains words that are not a line of a script.
 fn misfit_reason(alloc: Global, line: &str, words: &[&[u8]]) -> Result<Reason, AllocError> {
     let number = first_misfit(alloc, words)?;
     let mut message = Vec::new(alloc);
     match words.get(number) {
-        Some(word) => push_word(&mut message, word)?,
-        None => push_text(&mut message, "the line is incomplete")?,
-    }
-    push_text(&mut message, ": ")?;
-    let expected = push_expected(alloc, &mut message, words, number)?;
-    if let Some(word) = words.get(number) {
-        push_meant(alloc, &mut message, word, expected.as_slice())?;
+        Some(word) => push_unfit(alloc, &mut message, words, number, word)?,
+        None => push_incomplete(alloc, &mut message, words, number)?,
     }
     Ok(Reason::at(column_of(line.as_bytes(), number), message))
 }
@@ -129,26 +160,25 @@ fn place_of(line: &ScriptLine) -> &'static str {
     }
 }
 
-fn place_reason(alloc: Global, text: &str) -> Result<Reason, AllocError> {
-    let mut message = Vec::new(alloc);
-    push_text(&mut message, text)?;
-    Ok(Reason::at(1, message))
+// Returns whether a line begins or ends a policy block.
+fn is_of_block(words: &[&[u8]]) -> bool {
+    match words.first() {
+        Some(word) => is_word(word, "policy") || is_word(word, "end"),
+        None => false,
+    }
 }
 
 /// Returns the reason for the fault `syntax` of a line: a word does not fit, or the line is out of its place.
 pub fn syntax_reason(alloc: Global, line: &str) -> Result<Reason, AllocError> {
     let words = line_words(alloc, line)?;
-    if words
-        .first()
-        .is_some_and(|word| is_word(word, "policy") || is_word(word, "end"))
-    {
-        return place_reason(
+    if is_of_block(words.as_slice()) {
+        return Reason::of_line(
             alloc,
             "the policy block must come first, from a line policy to a line end",
         );
     }
     match read_line(words.as_slice()) {
-        Some(read) => place_reason(alloc, place_of(&read)),
+        Some(read) => Reason::of_line(alloc, place_of(&read)),
         None => misfit_reason(alloc, line, words.as_slice()),
     }
 }

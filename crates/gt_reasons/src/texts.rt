@@ -22,6 +22,16 @@ pub fn push_heading(
     push_text(out, ": ")
 }
 
+/// Returns whether these bytes are in a list.
+pub fn is_listed(list: &[&[u8]], bytes: &[u8]) -> bool {
+    for one in list {
+        if *one == bytes {
+            return true;
+        }
+    }
+    false
+}
+
 // The bytes of U+FFFD, which replaces a control character.
 const NOT_SHOWN: [u8; 3] = [0xEF, 0xBF, 0xBD];
 

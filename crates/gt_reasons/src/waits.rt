@@ -16,20 +16,30 @@ struct TellLine<'t> {
     flag: &'t [u8],
 }
 
+// Reads a line by which a domain raises a flag. Returns None for another line.
+fn teller<'t>(
+    alloc: Global,
+    number: usize,
+    line: &'t str,
+) -> Result<Option<TellLine<'t>>, AllocError> {
+    let words = line_words(alloc, line)?;
+    match words.as_slice() {
+        [tell, domain, flag] if is_word(tell, "tell") => Ok(Some(TellLine {
+            number,
+            column: column_of(line.as_bytes(), 2),
+            domain,
+            flag,
+        })),
+        _ => Ok(None),
+    }
+}
+
 // Finds the lines by which domains raise flags.
 fn tellers<'t>(alloc: Global, lines: &[&'t str]) -> Result<Vec<TellLine<'t>>, AllocError> {
     let mut found = Vec::new(alloc);
     for (i, line) in lines.iter().enumerate() {
-        let words = line_words(alloc, line)?;
-        if let [tell, domain, flag] = words.as_slice() {
-            if is_word(tell, "tell") {
-                found.push(TellLine {
-                    number: i.saturating_add(1),
-                    column: column_of(line.as_bytes(), 2),
-                    domain,
-                    flag,
-                })?;
-            }
+        if let Some(teller) = teller(alloc, i.saturating_add(1), *line)? {
+            found.push(teller)?;
         }
     }
     Ok(found)
@@ -73,10 +83,12 @@ fn push_tellers(
 ) -> Result<Option<ReasonNote>, AllocError> {
     let tellers = tellers(alloc, lines)?;
     let mut note = None;
-    for teller in tellers.iter().filter(|one| one.flag == flag) {
-        push_teller(out, teller)?;
-        if note.is_none() {
-            note = Some(told_here(alloc, teller)?);
+    for teller in tellers.as_slice() {
+        if teller.flag == flag {
+            push_teller(out, teller)?;
+            if note.is_none() {
+                note = Some(told_here(alloc, teller)?);
+            }
         }
     }
     if note.is_none() {
@@ -97,16 +109,21 @@ fn told_here(alloc: Global, teller: &TellLine) -> Result<ReasonNote, AllocError>
     })
 }
 
+// Appends which flag a domain waits for.
+fn push_waiting(out: &mut Vec<u8>, domain: &[u8], flag: &[u8]) -> Result<(), AllocError> {
+    push_text(out, "domain ")?;
+    out.extend_from_slice(domain)?;
+    push_text(out, " waits for the flag ")?;
+    push_word(out, flag)
+}
+
 /// Returns the reason why the domain of a line `await` waits for ever: the flag, and the lines that would raise it.
 pub fn stuck_reason(alloc: Global, lines: &[&str], line: &str) -> Result<Reason, AllocError> {
     let words = line_words(alloc, line)?;
     let domain = words.get(1).copied().unwrap_or(&[]);
     let flag = words.get(2).copied().unwrap_or(&[]);
     let mut message = Vec::new(alloc);
-    push_text(&mut message, "domain ")?;
-    message.extend_from_slice(domain)?;
-    push_text(&mut message, " waits for the flag ")?;
-    push_word(&mut message, flag)?;
+    push_waiting(&mut message, domain, flag)?;
     let note = push_tellers(alloc, &mut message, lines, flag)?;
     Ok(Reason {
         column: column_of(line.as_bytes(), 2),

@@ -210,11 +210,7 @@ impl<'s, 'a> SearchContext<'s, 'a> {
         for (place, actor) in world.actors.as_slice().iter().enumerate() {
             if size > 1 && self.can_move(told, place, actor) {
                 let inside = self.set_from(world, place)?;
-                let count = inside
-                    .as_slice()
-                    .iter()
-                    .filter(|is_inside| **is_inside)
-                    .count();
+                let count = size_of(inside.as_slice());
                 if count < size {
                     smallest = inside;
                     size = count;
@@ -223,6 +219,17 @@ impl<'s, 'a> SearchContext<'s, 'a> {
         }
         Ok(smallest)
     }
+}
+
+// Counts the domains of a set.
+fn size_of(inside: &[bool]) -> usize {
+    let mut count: usize = 0;
+    for is_inside in inside {
+        if *is_inside {
+            count = count.saturating_add(1);
+        }
+    }
+    count
 }
 
 // Puts the domain at this position into a set.

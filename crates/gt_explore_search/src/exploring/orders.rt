@@ -31,10 +31,15 @@ impl<P: Drop> Explorer<P> {
     // Returns the index of this list among those of a node. It is likely to be this one.
     fn place_of(&self, node: usize, list: u32, likely: usize) -> Option<usize> {
         let lists = self.sets.get(self.nodes.get(node)?.set as usize)?;
-        match lists.get(likely) {
-            Some(one) if *one == list => Some(likely),
-            _ => lists.iter().position(|one| *one == list),
+        if lists.get(likely) == Some(&list) {
+            return Some(likely);
         }
+        for (at, one) in lists.iter().enumerate() {
+            if *one == list {
+                return Some(at);
+            }
+        }
+        None
     }
 
     // Returns the first turn from a node to this list of answers, and the list that is left after that turn, with its

@@ -2,10 +2,9 @@
 ghost use Rattle.std.specs.Prelude.{IfOk, IsTrue};
 ghost use Rattle.gt_explore_search.specs.Exploring.{AllTextsFound, SearchStarts};
 
-use crate::exploring::{Explorer, MadeTurn, OpenNode, SearchResult, leads_nowhere, new_explorer};
+use crate::exploring::{Explorer, OpenNode, SearchResult, new_explorer};
 use crate::fault::SearchFault;
-use crate::sharing::tried_turn;
-use crate::spaces::{TransitionSystem, Turn};
+use crate::spaces::TransitionSystem;
 use std::alloc::Global;
 
 /// What a search found: orders, and whether these are all. If not, the search met more states than the limit, and
@@ -52,7 +51,7 @@ impl<P: Drop> Explorer<P> {
 
     // Visits the states of the space, if there are no more than the limit. Otherwise returns the states whose moves are
     // being tried.
-    fn run_within<S: TransitionSystem<Part = P>>(
+    pub(super) fn run_within<S: TransitionSystem<Part = P>>(
         &mut self,
         space: &S,
         limit: usize,
@@ -68,23 +67,6 @@ impl<P: Drop> Explorer<P> {
         self.walk_within(space, first, limit)
     }
 
-    // Makes the next turn of a state. Returns none if it leads nowhere.
-    fn made_anew<S: TransitionSystem<Part = P>>(
-        &mut self,
-        space: &S,
-        visit: &OpenNode,
-        turn: Turn,
-    ) -> Result<Option<MadeTurn>, SearchFault> {
-        let mut world = self.states.state(space, visit.state)?;
-        let led = space.advance(&mut world, turn)?;
-        if leads_nowhere(&led) {
-            return Ok(None);
-        }
-        let line = self.line(turn.place, led)?;
-        let state = self.states.number(space, &world, visit.state)?;
-        Ok(Some(MadeTurn { state, line }))
-    }
-
     // Gathers the ends of the turn that is being tried, if it leads to a state that is done.
     fn gather_turn<S: TransitionSystem<Part = P>>(
         &mut self,
@@ -94,19 +76,15 @@ impl<P: Drop> Explorer<P> {
         let Some(turn) = visit.turn() else {
             return Ok(());
         };
-        let made = match visit.made {
-            Some(made) => Some(made),
-            None => self.made_anew(space, visit, turn)?,
-        };
-        let Some(made) = made else {
-            return Ok(());
-        };
-        let Some(node) = self.node_of(made.state) else {
-            return Ok(());
-        };
-        self.gather(space, visit, node, made.line)?;
-        visit.tried.push(tried_turn(turn, node, made.line)?)?;
-        Ok(())
+        if visit.made.is_none() {
+            self.make(space, &mut None, visit, turn)?;
+        }
+        match visit.made {
+            Some(made) if self.node_of(made.state).is_some() => {
+                self.back(space, visit, turn, made)
+            }
+            _ => Ok(()),
+        }
     }
 
     // Finishes these states with the ends found so far, the last one first.
@@ -146,6 +124,29 @@ impl<P: Drop> Explorer<P> {
             depth,
         })
     }
+
+    // Visits the states of the space, at most `limit` of them, and returns what was found.
+    fn found_within<S: TransitionSystem<Part = P>>(
+        &mut self,
+        space: &S,
+        limit: usize,
+    ) -> Result<PartialResult, SearchFault>
+        ensures { (all : List P) → Extends self.new.states.parts.kept.items all →
+            SearchStarts (by_numbers (S.ways space.now) (S.parts space.now) all) self.old →
+            IfOk result (λ partial. IsTrue partial.whole → AllTextsFound (S.ways space.now) partial.found) }
+    {
+        match self.run_within(space, limit)? {
+            Some(stack) => self.found_until(space, stack, limit),
+            None => {
+                let found = self.found(space)?;
+                Ok(PartialResult {
+                    found,
+                    whole: true,
+                    depth: 0,
+                })
+            }
+        }
+    }
 }
 
 /// Visits the states of a space, at most `limit` of them, and returns an order for each list of answers found. If there
@@ -160,16 +161,6 @@ pub fn search_within<S: TransitionSystem>(
 ) -> Result<PartialResult, SearchFault>
     ensures { IfOk result (λ partial. IsTrue partial.whole → AllTextsFound (S.ways space.now) partial.found) }
 {
-    let mut explorer = new_explorer(alloc, space, limit.saturating_add(1))?;
-    match explorer.run_within(space, limit)? {
-        Some(stack) => explorer.found_until(space, stack, limit),
-        None => {
-            let found = explorer.found(space)?;
-            Ok(PartialResult {
-                found,
-                whole: true,
-                depth: 0,
-            })
-        }
-    }
+    let mut explorer = new_explorer(alloc, space)?;
+    explorer.found_within(space, limit)
 }
