@@ -1,5 +1,5 @@
 #!/usr/bin/env bash
-# Times the loads of `bench_live`, whole calls on a running monitor, beside the bare words (`bench_words`) and beside a
+# Times the loads of `bench_live`, whole calls on a running monitor, beside the bare words (`bench words`) and beside a
 # program in C that keeps its entries as Xen keeps them, under a lock for the table and one for each entry: the
 # table's lock with its readers in one word, or spread over a word for each thread. Whole calls are recorded (`on`),
 # recorded into room that was made before the first call (`ahead`), recorded while the records are taken every 128
@@ -20,28 +20,25 @@
 # `bench/live.sh [RUNS] [TABLE]` makes so many runs of each program by turns (11), and takes from their time that of
 # no rounds. `PRIORITY='chrt -f 1' bench/live.sh` runs the programs before other work, but not those of as many threads
 # as there are processors: C's locks spin. `bench/live.sh 0` counts instructions alone. PROGRAM=DIR takes the built
-# programs bench_live and bench_words from DIR; for `bytes` PROGRAM may be bench_live itself.
+# programs bench_live and bench from DIR; for `bytes` PROGRAM may be bench_live itself.
 set -euo pipefail
 
 # shellcheck source=bench/common.sh
 source "$(dirname "${BASH_SOURCE[0]}")/common.sh"
 runs="${1:-11}"
 table="${2:-both}"
-[ "$table" = bytes ] || several_programs bench_live and bench_words
+[ "$table" = bytes ] || several_programs bench_live and bench
 work="$(mktemp -d)"
 trap 'rm -rf "$work"' EXIT
 
-measured=(bench_live)
-[ "$table" = bytes ] || measured+=(bench_words)
-for program in "${measured[@]}"; do
-  cp "$(built "$program" apart 1 0)" "$work/$program"
-done
+cp "$(built bench_live apart 1 0)" "$work/bench_live"
+[ "$table" = bytes ] || cp "$(built bench words apart 1 0)" "$work/bench"
 "${CC:-clang}" -O2 -pthread -o "$work/counted" "$top/bench/live_tables.c"
 "${CC:-clang}" -O2 -pthread -DSPREAD -o "$work/spread" "$top/bench/live_tables.c"
 "${CC:-clang}" -O2 -pthread -o "$work/plain" "$top/bench/live_bytes.c"
 "${CC:-clang}" -O2 -pthread -DJOURNAL -o "$work/journal" "$top/bench/live_bytes.c"
 
-programs=(bench_live-on bench_live-ahead bench_live-taken bench_live-off bench_words counted spread)
+programs=(bench_live-on bench_live-ahead bench_live-taken bench_live-off bench counted spread)
 movers=(bench_live-off bench_live-taken plain journal)
 
 # How often each thread of a program does what it does, in a run that is long enough to be timed. The journal of the C
@@ -66,11 +63,16 @@ audit_of() {
   esac
 }
 
+# The word that says what a program measures, where it needs one.
+subject_of() {
+  [ "$1" != bench ] || echo words
+}
+
 # The nanoseconds of one run.
 nanoseconds() {
   local from to
   from="$(date +%s%N)"
-  first "$3" "$work/${1%-*}" "$2" "$3" "$4" $(audit_of "$1") >"$work/$1.out"
+  first "$3" "$work/${1%-*}" $(subject_of "$1") "$2" "$3" "$4" $(audit_of "$1") >"$work/$1.out"
   to="$(date +%s%N)"
   echo "$((to - from))"
 }
@@ -136,7 +138,7 @@ instructions() {
 
 counted() {
   valgrind --tool=cachegrind --cache-sim=no --cachegrind-out-file="$work/cachegrind" --log-file="$work/log" \
-    "$work/${1%-*}" "$2" 1 "$3" $(audit_of "$1") "${@:4}" >/dev/null
+    "$work/${1%-*}" $(subject_of "$1") "$2" 1 "$3" $(audit_of "$1") "${@:4}" >/dev/null
   sed -n 's/.*I *refs: *//p' "$work/log" | tr -d ,
 }
 

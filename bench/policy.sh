@@ -1,7 +1,7 @@
 #!/usr/bin/env bash
 # Times large policy texts over 256 types, each the quickest of five runs.
 #
-# First by the program bench_policy, in milliseconds: the text is parsed, its table compiled, and all
+# First by the program bench, in milliseconds: the text is parsed, its table compiled, and all
 # triples are asked of the table; the time of making the text is taken off. Then what one question
 # costs in nanoseconds: by the table, over all 458,752 triples, and by the walk of the statements, over
 # the 1,792 triples of a type on itself. Then `gthost policy` as it is built, on the same texts from a
@@ -10,14 +10,14 @@
 # 65,536 statements fit into a text where they are as short as `allow a b:c *;`, which grants
 # nothing; of class `grant` 53,500 do.
 #
-# PROGRAM=DIR takes the built programs gthost and bench_policy from DIR.
+# PROGRAM=DIR takes the built programs gthost and bench from DIR.
 set -euo pipefail
 
 # shellcheck source=bench/common.sh
 source "$(dirname "${BASH_SOURCE[0]}")/common.sh"
-several_programs gthost and bench_policy
+several_programs gthost and bench
 program="$(built gthost)"
-parts="$(built bench_policy make grant 0)"
+parts="$(built bench policy make grant 0)"
 work="$(mktemp -d)"
 trap 'rm -rf "$work"' EXIT
 
@@ -26,7 +26,7 @@ quickest() {
   local best=0 start took
   for _ in 1 2 3 4 5; do
     start=$(date +%s%N)
-    "${priority[@]}" "$parts" "$@" > /dev/null
+    "${priority[@]}" "$parts" policy "$@" > /dev/null
     took=$(($(date +%s%N) - start))
     if [ "$best" -eq 0 ] || [ "$took" -lt "$best" ]; then best=$took; fi
   done

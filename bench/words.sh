@@ -1,13 +1,13 @@
 #!/usr/bin/env bash
-# Times the loads of `bench_words` beside two programs in C: one that makes the same steps on the same words by hand, and
+# Times the loads of `bench words` beside two programs in C: one that makes the same steps on the same words by hand, and
 # one with a ticket lock for each entry. Prints millions of operations a second (a map, an unmap, a grant, a revocation
-# or a withdrawal is one) and the ratios of `bench_words` to the two. Below the table are the instructions of a round on
+# or a withdrawal is one) and the ratios of `bench words` to the two. Below the table are the instructions of a round on
 # one thread, as valgrind counts them, in a run of 6 domains and in one of 64.
 #
 # `bench/words.sh [RUNS]` makes so many runs of each program by turns (21), and takes from their time that of no
 # rounds; `bench/words.sh 0` counts instructions only. If the machine has other work, `PRIORITY='chrt -f 1'
 # bench/words.sh` runs the programs before it, but not those of as many threads as there are processors: the locks spin.
-# PROGRAM=FILE takes the built program bench_words.
+# PROGRAM=FILE takes the built program bench.
 set -euo pipefail
 
 # shellcheck source=bench/common.sh
@@ -16,16 +16,21 @@ runs="${1:-21}"
 work="$(mktemp -d)"
 trap 'rm -rf "$work"' EXIT
 
-cp "$(built bench_words apart 1 0)" "$work/proved"
+cp "$(built bench words apart 1 0)" "$work/proved"
 for program in atomics locks; do
   "${CC:-clang}" -O2 -pthread -o "$work/$program" "$top/bench/words_$program.c"
 done
+
+# The word that says what the proved program measures. Those in C have none.
+subject_of() {
+  [ "$1" != proved ] || echo words
+}
 
 # The nanoseconds of one run.
 nanoseconds() {
   local from to
   from="$(date +%s%N)"
-  first "$3" "$work/$1" "$2" "$3" "$4" >"$work/$1.out"
+  first "$3" "$work/$1" $(subject_of "$1") "$2" "$3" "$4" >"$work/$1.out"
   to="$(date +%s%N)"
   echo "$((to - from))"
 }
@@ -68,7 +73,7 @@ instructions() {
 
 counted() {
   valgrind --tool=cachegrind --cache-sim=no --cachegrind-out-file="$work/cachegrind" --log-file="$work/log" \
-    "$work/$1" "$2" 1 "${@:3}" >/dev/null
+    "$work/$1" $(subject_of "$1") "$2" 1 "${@:3}" >/dev/null
   sed -n 's/.*I *refs: *//p' "$work/log" | tr -d ,
 }
 

@@ -1,8 +1,8 @@
-// The loads of `bench_words` for a program in C that keeps the entries in its own way: it defines the calls that are
+// The loads of `bench words` for a program in C that keeps the entries in its own way: it defines the calls that are
 // declared here, and this file the loads over them, the threads and `main`. `PROGRAM LOAD THREADS ROUNDS` prints the
-// load, the threads and the rounds that they have done in all, as `bench_words` does.
+// load, the threads and the rounds that they have done in all, as `bench words` does.
 //
-// A round makes the tests that one of `bench_words` makes. To map: the domain named is found, its table has the entry, the
+// A round makes the tests that one of `bench words` makes. To map: the domain named is found, its table has the entry, the
 // entry is a page, it is granted to the domain that maps, and it has room for a pin; the frame is read. To unmap: the
 // domain is found, and the pin goes. To revoke and grant: the owner's own row of the entry, and its place in the table.
 // To withdraw and grant: the same, with as many tries to grant as it takes until no pin is left.

@@ -1,9 +1,9 @@
 #!/usr/bin/env python3
-"""The JSON of the texts of crates/cases_json, made and read by another program than gthost.
+"""The JSON of the texts of crates/cases_host, made and read by another program than gthost.
 
-    tools/json_lines.py check            compares crates/cases_json/stdout with this program's JSON, reads each of its
-                                   lines as JSON, and makes the line of the text of it again
-    tools/json_lines.py expected         prints what that file has to be
+    tools/json_lines.py check            compares the end of crates/cases_host/stdout with this program's JSON, reads
+                                   each of its lines as JSON, and makes the line of the text of it again
+    tools/json_lines.py expected         prints what the end of that file has to be, from `== run` on
     tools/json_lines.py program GTHOST   runs GTHOST on the examples, on the dumps of crates/cases_program and on dumps of
                                    drawn bytes, with --format json and without, and compares
 
@@ -19,7 +19,7 @@ import sys
 import tempfile
 
 TOP = os.path.dirname(os.path.dirname(os.path.abspath(__file__)))
-CASES = os.path.join(TOP, "crates", "cases_json")
+CASES = os.path.join(TOP, "crates", "cases_host")
 CALLS = {
     "map": ["owner", "ref", "flags"],
     "unmap": ["owner", "ref"],
@@ -170,9 +170,9 @@ ODD = [
 def expected():
     out = []
     for name in ("run", "policy", "entries"):
-        out.append("== " + name + ".txt")
+        out.append("== " + name)
         out.extend(object_of(members(name, line)) for line in lines_of(name + ".txt") if line)
-    out.append("== odd.txt")
+    out.append("== odd")
     out.extend(object_of(pairs) for pairs in ODD)
     out.append("each write that fails is told")
     return "\n".join(out) + "\n"
@@ -194,11 +194,12 @@ def compare(kind, text, objects):
 
 def check():
     with open(os.path.join(CASES, "stdout"), encoding="utf-8") as file:
-        stored = file.read()
+        _, mark, end = file.read().partition("== run\n")
+    stored = mark + end
     wrong = 0 if stored == expected() else 1
     if wrong:
         print("the stored text is another than this program makes")
-    sections = re.split(r"== (\w+)\.txt\n", stored)[1:]
+    sections = re.split(r"== (\w+)\n", stored)[1:]
     for kind, body in zip(sections[::2], sections[1::2]):
         objects = [line for line in body.split("\n") if line.startswith("{")]
         if kind == "odd":

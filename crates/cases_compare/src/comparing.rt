@@ -206,27 +206,20 @@ fn lines_compared<'a, R: Wait, D: Calls + Drop>(
 }
 
 // Compares a script on both, and then the text of its play.
-fn script_told<'a, R: Wait, D: Calls + Drop>(
+fn tell_script<'a, R: Wait, D: Calls + Drop>(
     both: &mut Both<D>,
     rt: &R,
     scarce: &mut Scarce,
+    told: &mut Told<'a>,
     script: &Script<'a>,
     text: &str,
-) -> Result<Told<'a>, Stop> {
+) -> Result<(), Stop> {
     let names = script.type_names(both.alloc)?;
-    let mut told = Told::nothing(both.alloc);
-    lines_compared(
-        both,
-        rt,
-        scarce,
-        &mut told,
-        script.steps(),
-        names.as_slice(),
-    )?;
+    lines_compared(both, rt, scarce, told, script.steps(), names.as_slice())?;
     if told.difference.is_none() {
         told.difference = text_difference(both, text, told.lines.as_slice(), names.as_slice())?;
     }
-    Ok(told)
+    Ok(())
 }
 
 // Compares a script on both, and tells which calls failed.
@@ -238,17 +231,14 @@ fn script_compared<R: Wait, D: Calls + Drop>(
     is_refusing: bool,
 ) -> Result<Compared, Stop> {
     let mut scarce = Scarce::new(both.alloc, is_refusing)?;
-    let Told {
-        calls,
-        done,
-        difference,
-        ..
-    } = script_told(both, rt, &mut scarce, script, text)?;
+    let mut told = Told::nothing(both.alloc);
+    tell_script(both, rt, &mut scarce, &mut told, script, text)?;
+    let refused = scarce.said(both.alloc)?;
     Ok(Compared {
-        calls,
-        done,
-        refused: scarce.said(both.alloc)?,
-        difference,
+        calls: told.calls,
+        done: told.done,
+        refused,
+        difference: told.difference,
     })
 }
 

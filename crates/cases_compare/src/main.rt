@@ -16,16 +16,23 @@
 //! Ok, or the first difference. After the word `--refusing` each allocation of each call fails in turn, on the monitor
 //! and on the core, and lines report which calls of each script failed and where. A script is added by its lines in a
 //! file, and costs no proof. `bench/compare.sh` makes others.
+//!
+//! At the word `--starts` cores and monitors start with more and more memory, and a line for each start states whether
+//! all results were right (`starts.rt`).
 #![tactic(auto)]
 
 mod asking;
 mod comparing;
 mod scarce;
+mod starting;
+mod starts;
 mod stops;
+mod sweeping;
 mod texts;
 
 use anyhow::bail;
 use comparing::{Compared, compare};
+use starts::starts_said;
 use std::alloc::{AllocError, Global};
 use std::fs;
 use std::rt::Runtime;
@@ -116,15 +123,24 @@ fn say<R: Runtime + AllocGlobal + Wait>(
     Ok(())
 }
 
+// Prints the results of starts.
+fn say_starts<R: Runtime>(rt: &R, alloc: Global) -> anyhow::Result<()> {
+    match starts_said(alloc) {
+        Ok(said) => print!(rt; "{said}")?,
+        Err(stop) => bail!("--starts: {}", stop.text()),
+    }
+    Ok(())
+}
+
 fn main(rt: HostRuntime) -> anyhow::Result<()> {
     let alloc = rt.alloc();
     let words: Vec<String> = std::env::args(&rt)?.collect(alloc)?;
     let mut is_refusing = false;
     for word in words.iter().skip(1) {
-        if word.as_str() == "--refusing" {
-            is_refusing = true;
-        } else {
-            say(&rt, alloc, word.as_str(), is_refusing)?;
+        match word.as_str() {
+            "--refusing" => is_refusing = true,
+            "--starts" => say_starts(&rt, alloc)?,
+            name => say(&rt, alloc, name, is_refusing)?,
         }
     }
     Ok(())

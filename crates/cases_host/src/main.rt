@@ -1,5 +1,5 @@
-//! A program that plays and parses worked scripts and lists worked policies, and prints the output of each under its
-//! name.
+//! A program that plays and parses worked scripts, lists worked policies and writes texts as JSON Lines, and prints the
+//! output of each under its name.
 //!
 //! The words of the command line are the names. The script `x` is `data/x.gt`, as the program `gthost` plays it. Those
 //! after the word `--audit` are printed with their records. `args` names them all, and `stdout` has the expected
@@ -19,13 +19,22 @@
 //! after its result. A script, a policy or a tried line is added by its file, its name in `args` and its lines in
 //! `stdout`; that costs no proof.
 //!
+//! After `--json` come texts that `play` and `run` print, after `--json-policy` those of `policy`, and after
+//! `--json-entries` those of `entries`: `x` is `data/x.txt`, which is printed as JSON Lines. After `--json-failing` each
+//! write fails after each count of bytes, and a line states whether all failures were reported. The expected JSON was
+//! written by `tools/json_lines.py`, which makes it of the texts independently, checks it by another reader, and makes
+//! the text of it again.
+//!
 //! If an allocation of the program itself fails, it ends with status 1, and its output is a prefix of `stdout`.
 #![tactic(auto)]
 
+mod json;
 mod parsed;
 mod refusing;
 mod task;
 
+use gt_json::PrintedText;
+use json::{json_failing_said, json_said};
 use parsed::{ParsedForm, cut_said, run_said};
 use refusing::refused_said;
 use std::alloc::Global;
@@ -44,12 +53,14 @@ enum Way {
     Parsed,
     ParsedForRun,
     Cut,
+    Json(PrintedText),
+    JsonFailing,
 }
 
-// A text is a script or a policy, done with or without its records.
+// A script or a policy is done with or without its records.
 type Mode = (Task, bool, Way);
 
-const MODES: [(&str, Mode); 12] = [
+static MODES: [(&str, Mode); 16] = [
     ("--audit", (Task::Play, true, Way::Once)),
     ("--failing", (Task::Play, false, Way::Failing)),
     ("--failing-audit", (Task::Play, true, Way::Failing)),
@@ -62,9 +73,19 @@ const MODES: [(&str, Mode); 12] = [
     ("--parsed", (Task::Play, false, Way::Parsed)),
     ("--parsed-run", (Task::Play, false, Way::ParsedForRun)),
     ("--cut", (Task::Play, false, Way::Cut)),
+    ("--json", (Task::Play, false, Way::Json(PrintedText::Run))),
+    (
+        "--json-policy",
+        (Task::List, false, Way::Json(PrintedText::Policy)),
+    ),
+    (
+        "--json-entries",
+        (Task::Play, false, Way::Json(PrintedText::Entries)),
+    ),
+    ("--json-failing", (Task::Play, false, Way::JsonFailing)),
 ];
 
-// The scripts and policies, of which the next ones are treated so.
+// The texts, of which the next ones are treated so.
 #[derive(Drop)]
 struct HostCases {
     mode: Mode,
@@ -82,9 +103,10 @@ impl Cases for HostCases {
     }
 
     fn ending(&self) -> &'static str {
-        match self.mode.0 {
-            Task::Play => "gt",
-            Task::List => "te",
+        match self.mode {
+            (_, _, Way::Json(_) | Way::JsonFailing) => "txt",
+            (Task::Play, ..) => "gt",
+            (Task::List, ..) => "te",
         }
     }
 
@@ -103,6 +125,8 @@ impl Cases for HostCases {
             Way::Parsed => tried_said(rt, &ParsedForm, alloc, text, false),
             Way::ParsedForRun => Ok(run_said(alloc, text)?.into_bytes()),
             Way::Cut => Ok(cut_said(alloc, text)?.into_bytes()),
+            Way::Json(printed) => json_said(alloc, printed, text),
+            Way::JsonFailing => json_failing_said(alloc, text),
         }
     }
 }

@@ -3,7 +3,7 @@ use gt_policy::Policy;
 use gt_script::{
     RunScript, Script, ScriptAction, ScriptCall, ScriptStep, Text, hex_bytes, parse, parse_run,
 };
-use gt_types::{Allows, DomId, DomainConfig, Perms, Triple, TypeId};
+use gt_types::{Allows, DomId, Perms, TypeId};
 use std::alloc::{AllocError, Global};
 use std::sync::Wait;
 use std::thread::Threads;
@@ -37,73 +37,57 @@ fn play_said(alloc: Global, text: &[u8]) -> Result<String, AllocError> {
 
 fn script_said(alloc: Global, script: &Script<'_>) -> Result<String, AllocError> {
     let types = script.type_names(alloc)?;
-    let names = names_said(alloc, types.as_slice())?;
-    let triples = triples_said(alloc, script.triples())?;
-    let domains = domains_said(alloc, script.domains())?;
-    let first = script.first_gen();
-    let policy = policy_said(alloc, script.policy())?;
-    let steps = steps_said(alloc, script.steps())?;
-    format!(in alloc; "{names}{triples}{domains}first generation {first}\n{policy}{steps}")
+    let mut out = String::new(alloc);
+    push_names(&mut out, types.as_slice())?;
+    push_settings(&mut out, script)?;
+    for step in script.steps() {
+        push_step(&mut out, alloc, step)?;
+    }
+    Ok(out)
 }
 
-fn names_said(alloc: Global, names: &[Text<'_>]) -> Result<String, AllocError> {
-    let mut out = String::new(alloc);
+fn push_names(out: &mut String, names: &[Text<'_>]) -> Result<(), AllocError> {
     for name in names {
         for byte in name.as_bytes() {
             out.push(char::from(*byte))?;
         }
         out.push('\n')?;
     }
-    Ok(out)
+    Ok(())
 }
 
-fn triples_said(alloc: Global, triples: &[Triple]) -> Result<String, AllocError> {
-    let mut out = String::new(alloc);
-    for triple in triples {
-        out.push_str(format!(in alloc; "{triple:?}\n")?.as_str())?;
+// Appends the triples, the domains, the first generation and the policy.
+fn push_settings(out: &mut String, script: &Script<'_>) -> Result<(), AllocError> {
+    for triple in script.triples() {
+        writeln!(out, "{triple:?}")?;
     }
-    Ok(out)
-}
-
-fn domains_said(alloc: Global, domains: &[DomainConfig]) -> Result<String, AllocError> {
-    let mut out = String::new(alloc);
-    for domain in domains {
-        out.push_str(format!(in alloc; "{domain:?}\n")?.as_str())?;
+    for domain in script.domains() {
+        writeln!(out, "{domain:?}")?;
     }
-    Ok(out)
+    writeln!(out, "first generation {}", script.first_gen())?;
+    match script.policy() {
+        Some(policy) => push_policy(out, policy),
+        None => Ok(()),
+    }
 }
 
-// Returns whether the policy lets type 1 read type 0, set up itself, and set up type 0, or nothing if there is none.
-fn policy_said(alloc: Global, policy: Option<&Policy>) -> Result<String, AllocError> {
-    let Some(policy) = policy else {
-        return Ok(String::new(alloc));
-    };
+// Appends whether the policy lets type 1 read type 0, set up itself, and set up type 0.
+fn push_policy(out: &mut String, policy: &Policy) -> Result<(), AllocError> {
     let read = policy.allows(TypeId(1), TypeId(0), Perms::MAP_READ);
     let itself = policy.allows(TypeId(1), TypeId(1), Perms::SETUP);
     let other = policy.allows(TypeId(1), TypeId(0), Perms::SETUP);
-    format!(in alloc; "policy {read} {itself} {other}\n")
+    writeln!(out, "policy {read} {itself} {other}")
 }
 
-// Returns the steps: the number of the line, the domain, its call, and the bytes of its hexadecimal text.
-fn steps_said(alloc: Global, steps: &[ScriptStep<'_>]) -> Result<String, AllocError> {
-    let mut out = String::new(alloc);
-    for step in steps {
-        let action = &step.action;
-        let bytes = call_bytes(alloc, action)?;
-        let said = format!(in alloc; "{} {} {action:?}{bytes}\n", step.line, step.dom.0)?;
-        out.push_str(said.as_str())?;
+// Appends the line of a step: the number of the line, the domain, its call, and the bytes of its hexadecimal text.
+fn push_step(out: &mut String, alloc: Global, step: &ScriptStep<'_>) -> Result<(), AllocError> {
+    let action = &step.action;
+    write!(out, "{} {} {action:?}", step.line, step.dom.0)?;
+    if let Some(hex) = hex_in(action) {
+        let bytes = hex_bytes(alloc, hex)?;
+        write!(out, " = {bytes:?}")?;
     }
-    Ok(out)
-}
-
-fn call_bytes(alloc: Global, action: &ScriptAction<'_>) -> Result<String, AllocError> {
-    match hex_in(action) {
-        Some(hex) => {
-            let bytes = hex_bytes(alloc, hex)?;
-            format!(in alloc; " = {bytes:?}")
-        }
-        None => Ok(String::new(alloc)),
-    }
+    out.push('\n')
 }
 
 // Returns the hexadecimal text of a call that has one.
@@ -133,11 +117,10 @@ fn lists_said(alloc: Global, script: &RunScript<'_>) -> Result<String, AllocErro
     for id in 1..3 {
         for task in script.list_of(alloc, DomId(id))? {
             let deed = &task.deed;
-            let said = format!(in alloc; "{} {} {deed:?}\n", task.line, task.dom.0)?;
-            out.push_str(said.as_str())?;
+            writeln!(out, "{} {} {deed:?}", task.line, task.dom.0)?;
         }
     }
-    out.push_str(format!(in alloc; "{} flags\n", script.flags())?.as_str())?;
+    writeln!(out, "{} flags", script.flags())?;
     Ok(out)
 }
 

@@ -1,5 +1,0 @@
-use Rattle.gt_words.specs.Conditions.{IsSeatOf}
-use Rattle.bench_frames.proofs.copy_locked.Given as goal
-
-abbrev pub invariant-copies : goal.invariant-copies
-invariant-copies g l = IsSeatOf l.words l.seat

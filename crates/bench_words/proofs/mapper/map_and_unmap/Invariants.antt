@@ -1,9 +1,0 @@
-use Rattle.gt_words.specs.Conditions.{IsSeatOf}
-use Rattle.bench_words.specs.Mapping.{MayMap}
-use Rattle.bench_words.proofs.mapper.map_and_unmap.Given as goal
-
-abbrev pub invariant-loop : goal.invariant-loop
-invariant-loop l = record {
-  seat : IsSeatOf l.words l.seat;
-  may : MayMap l.words l.target l.seat.view;
-}
