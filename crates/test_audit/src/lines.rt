@@ -1,6 +1,10 @@
 //! The lines of worked calls.
 use gt_audit::{Hypercall, Record, Reply, line, push_lost};
-use gt_types::{DOMID_SELF, Denial, DomId, End, Facts, Field, GrantRef, Perms, Rule, Size, TypeId};
+use gt_types::{
+    DOMID_SELF, Denial, DomId, End, Facts, Field, GrantRef, Memory, Perms, Rule, Size, TypeId,
+};
+use std::alloc::{AllocError, Global};
+use std::process::Abort;
 use std::test::Fail;
 
 // The answer of a call.
@@ -20,7 +24,7 @@ const OWN: End = End {
 };
 
 // The domain, its call, the answer, and the line. In refusals by the policy type 1 is the source and type 0 the target.
-const CALLS: [(u16, Hypercall, Said, &str); 17] = [
+static CALLS: [(u16, Hypercall, Said, &str); 17] = [
     (
         2,
         Hypercall::Map {
@@ -197,8 +201,36 @@ const CALLS: [(u16, Hypercall, Said, &str); 17] = [
     ),
 ];
 
-fn names(rt: &HostRuntime) -> Result<Vec<String>, Fail> {
-    let alloc = rt.alloc();
+// Returns the line of this call.
+fn line_of(
+    alloc: Global,
+    names: &[String],
+    dom: u16,
+    call: Hypercall,
+    said: Said,
+) -> Result<String, Memory> {
+    let reply = match said {
+        Said::With(reply) => reply,
+        Said::Refused(rule, facts) => Reply::Denied(Denial::new(rule, facts)),
+    };
+    let record = Record {
+        dom: DomId(dom),
+        call,
+        reply,
+    };
+    line(alloc, &record, names)
+}
+
+// Compares the lines of all calls.
+fn lines_are(rt: &impl Abort, alloc: Global, names: &[String]) -> Result<(), Memory> {
+    for (dom, call, said, wanted) in CALLS.iter() {
+        let text = line_of(alloc, names, *dom, *call, *said)?;
+        assert_eq!(rt; text.as_str(), *wanted);
+    }
+    Ok(())
+}
+
+fn names(alloc: Global) -> Result<Vec<String>, AllocError> {
     let mut names = Vec::new(alloc);
     for name in ["a_t", "b_t"] {
         names.push(String::from_str(alloc, name)?)?;
@@ -208,20 +240,16 @@ fn names(rt: &HostRuntime) -> Result<Vec<String>, Fail> {
 
 #[test]
 fn lines_of_calls(rt: HostRuntime) -> Result<(), Fail> {
-    let names = names(&rt)?;
-    for (dom, call, said, text) in CALLS {
-        let reply = match said {
-            Said::With(reply) => reply,
-            Said::Refused(rule, facts) => Reply::Denied(Denial::new(rule, facts)),
-        };
-        let record = Record {
-            dom: DomId(dom),
-            call,
-            reply,
-        };
-        assert_eq!(rt; line(rt.alloc(), &record, names.as_slice())?.as_str(), text);
-    }
+    let names = names(rt.alloc())?;
+    lines_are(&rt, rt.alloc(), names.as_slice())?;
     Ok(())
+}
+
+// Returns the line of this number of lost records.
+fn lost_line(alloc: Global, lost: u64) -> Result<Vec<u8>, AllocError> {
+    let mut out = Vec::new(alloc);
+    push_lost(&mut out, lost)?;
+    Ok(out)
 }
 
 #[test]
@@ -231,8 +259,7 @@ fn lost_records(rt: HostRuntime) -> Result<(), Fail> {
         (7, "lost 7\n"),
         (u64::MAX, "lost 18446744073709551615\n"),
     ] {
-        let mut out = Vec::new(rt.alloc());
-        push_lost(&mut out, lost)?;
+        let out = lost_line(rt.alloc(), lost)?;
         assert_eq!(rt; out.as_slice(), text.as_bytes());
     }
     Ok(())

@@ -1,4 +1,5 @@
 //! Entries, their words and their bytes.
+use crate::compare::same;
 use gt_entry::{
     Control, Entry, Header, decode, decode_v1, decode_v2, encode_v1, encode_v2, status_word,
 };
@@ -41,7 +42,11 @@ static WORDS: [(Entry, u32, u16, u16, u64); 5] = [
 fn packs_the_words_of_entries(rt: HostRuntime) {
     for (entry, generation, reads, writes, word) in WORDS.iter() {
         let control = Control::of_entry(*entry, *generation, *reads, *writes);
-        assert_eq!(rt; (control.pack(), Control::unpack(*word)), (*word, control));
+        same(
+            &rt,
+            &(control.pack(), Control::unpack(*word)),
+            &(*word, control),
+        );
     }
 }
 
@@ -68,7 +73,7 @@ fn counts_pins(rt: HostRuntime) {
             None => None,
         };
         let told = (status_word(&control), control.pinned(*dir), control.idle());
-        assert_eq!(rt; told, (*status, pinned, pins((0, 0))));
+        same(&rt, &told, &(*status, pinned, pins((0, 0))));
     }
 }
 
@@ -85,7 +90,7 @@ fn spells_every_kind(rt: HostRuntime) {
         let control = Control::of_entry(*entry, 1, 0, 0);
         let spelled = Entry::spelled(control, *first, *second);
         let told = (entry.first_body(), entry.second_body(), spelled);
-        assert_eq!(rt; told, (*first, *second, *entry));
+        same(&rt, &told, &(*first, *second, *entry));
     }
 }
 
@@ -98,7 +103,7 @@ fn packs_headers(rt: HostRuntime) {
     ] {
         let header = Header { version, frames };
         let told = (header.pack(), Header::unpack(word), header.entries());
-        assert_eq!(rt; told, (word, header, entries));
+        same(&rt, &told, &(word, header, entries));
     }
 }
 
@@ -135,7 +140,7 @@ fn permits_inside_a_sub_page(rt: HostRuntime) {
     for (entry, dom, dir, purpose, wanted) in PERMITTED.iter() {
         for (range, wanted) in RANGES.iter().zip(wanted.iter()) {
             let told = entry.permits(DomId(*dom), *dir, *purpose, *range);
-            assert_eq!(rt; told, *wanted);
+            same(&rt, &told, wanted);
         }
     }
 }
@@ -156,7 +161,7 @@ static OF_VERSION_1: [([u8; 8], Result<Entry, Field>); 9] = [
 #[test]
 fn reads_version_1(rt: HostRuntime) {
     for (bytes, read) in OF_VERSION_1.iter() {
-        assert_eq!(rt; (decode_v1(bytes), decode(1, bytes)), (*read, *read));
+        same(&rt, &(decode_v1(bytes), decode(1, bytes)), &(*read, *read));
     }
 }
 
@@ -190,7 +195,7 @@ static OF_VERSION_2: [([u8; 16], Result<Entry, Field>); 8] = [
 #[test]
 fn reads_version_2(rt: HostRuntime) {
     for (bytes, read) in OF_VERSION_2.iter() {
-        assert_eq!(rt; (decode_v2(bytes), decode(2, bytes)), (*read, *read));
+        same(&rt, &(decode_v2(bytes), decode(2, bytes)), &(*read, *read));
     }
 }
 
@@ -207,7 +212,7 @@ static OTHER_LENGTHS: [(u8, &[u8]); 6] = [
 #[test]
 fn refuses_other_lengths(rt: HostRuntime) {
     for (version, bytes) in OTHER_LENGTHS.iter() {
-        assert_eq!(rt; decode(*version, bytes), Err(Field::Length));
+        same(&rt, &decode(*version, bytes), &Err(Field::Length));
     }
 }
 
@@ -235,7 +240,7 @@ static WRITTEN: [(Entry, Option<[u8; 8]>, Option<[u8; 16]>); 5] = [
 fn writes_what_it_reads(rt: HostRuntime) {
     for (entry, bytes_v1, bytes_v2) in WRITTEN.iter() {
         let told = (encode_v1(entry), encode_v2(entry));
-        assert_eq!(rt; told, (*bytes_v1, *bytes_v2));
+        same(&rt, &told, &(*bytes_v1, *bytes_v2));
     }
 }
 
@@ -277,20 +282,25 @@ fn counts_the_flags_that_are_refused(rt: HostRuntime) {
         (Field::SubPage, 256, 256),
         (Field::Reserved, 254, 762),
     ] {
-        let told = (refused(1, field), refused(2, field));
-        assert_eq!(rt; told, (of_version_1, of_version_2), "{field:?}");
+        let told = (field, refused(1, field), refused(2, field));
+        same(&rt, &told, &(field, of_version_1, of_version_2));
     }
+}
+
+fn takes(version: u32, flags: u16) -> bool {
+    of_flags(version, flags).is_ok()
 }
 
 // Two flags are accepted in version 1, and six in version 2.
 #[test]
 fn takes_two_flags_and_six(rt: HostRuntime) {
     for flags in 0..=u16::MAX {
-        let told = (of_flags(1, flags).is_ok(), of_flags(2, flags).is_ok());
+        let told = (flags, takes(1, flags), takes(2, flags));
         let wanted = (
+            flags,
             matches!(flags, 1 | 5),
             matches!(flags, 1 | 3 | 5 | 7 | 257 | 261),
         );
-        assert_eq!(rt; told, wanted, "at {flags}");
+        same(&rt, &told, &wanted);
     }
 }

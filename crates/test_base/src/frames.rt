@@ -1,10 +1,10 @@
 //! Frames: what is written can be read, and a call whose allocation failed can be made again.
+use crate::compare::{bytes_are, same};
 use gt_entry::Entry;
 use gt_frames::{Copied, Frame, Read, Writ, WriteBasis, WriteRecord, Written};
 use gt_types::{DomId, GrantRef, Memory, Range};
 use std::alloc::Global;
 use std::process::Abort;
-use std::test::Fail;
 
 const OWNER: DomId = DomId(1);
 
@@ -61,32 +61,46 @@ fn bytes(frame: &Frame, off: u16, room: Vec<u8>) -> Vec<u8> {
     frame.read(off, room).into_bytes()
 }
 
-#[test]
-fn bytes_written_are_read(rt: HostRuntime) -> Result<(), Fail> {
-    let alloc = rt.alloc();
+// Writes three bytes by a grant. Returns this number of bytes, starting at an offset.
+fn written(alloc: Global, off: u16, count: usize) -> Result<Vec<u8>, Memory> {
+    let room = vec![in alloc; 7u8; count]?;
     let mut frame = Frame::new(alloc, OWNER, 5)?;
     let _ = frame.write(&BY_A_PAGE, 10, &[0xc0, 0xff, 0xee])?;
-    for (off, wanted) in [(9, [0, 0xc0, 0xff, 0xee, 0].as_slice()), (4096, &[])] {
-        let read = bytes(&frame, off, vec![in alloc; 7u8; wanted.len()]?);
-        assert_eq!(rt; read.as_slice(), wanted);
-    }
+    Ok(bytes(&frame, off, room))
+}
+
+// Compares the bytes that are read at an offset.
+fn reads_back(rt: &impl Abort, alloc: Global, off: u16, wanted: &[u8]) -> Result<(), Memory> {
+    let read = written(alloc, off, wanted.len())?;
+    bytes_are(rt, read.as_slice(), wanted);
     Ok(())
 }
 
 #[test]
-fn a_frame_is_copied_to_another(rt: HostRuntime) -> Result<(), Fail> {
-    let alloc = rt.alloc();
+fn bytes_written_are_read(rt: HostRuntime) {
+    for (off, wanted) in [(9, [0, 0xc0, 0xff, 0xee, 0].as_slice()), (4096, &[])] {
+        same(&rt, &reads_back(&rt, rt.alloc(), off, wanted), &Ok(()));
+    }
+}
+
+// Copies a frame to another. Returns that one's last bytes, its owner and its number.
+fn copied(alloc: Global) -> Result<([u8; 3], DomId, u64), Memory> {
     let mut source = Frame::new(alloc, OWNER, 5)?;
     let mut dest = Frame::new(alloc, STRANGER, 3)?;
     let _ = source.write(&BY_OWNER, 4094, &[0xab, 0xcd])?;
     let _ = Frame::copy_between(&source, &mut dest, &BY_A_VIA, WHOLE, 0)?;
-    let (owner, number) = (dest.owner(), dest.number());
-    let read = bytes(&dest, 4093, vec![in alloc; 7u8; 3]?);
-    assert_eq!(rt;
-        (read.as_slice(), owner, number),
-        ([0, 0xab, 0xcd].as_slice(), STRANGER, 3)
+    let mut last = [7; 3];
+    let _ = dest.read_into(4093, &mut last);
+    Ok((last, dest.owner(), dest.number()))
+}
+
+#[test]
+fn a_frame_is_copied_to_another(rt: HostRuntime) {
+    same(
+        &rt,
+        &copied(rt.alloc()),
+        &Ok(([0, 0xab, 0xcd], STRANGER, 3)),
     );
-    Ok(())
 }
 
 // An action on two frames of one owner.
@@ -125,6 +139,38 @@ static DONE: [(Doing, [u8; 6], [u8; 6]); 4] = [
     (Doing::TwoBack, [2, 3, 4, 0, 4, 0], [0, 1, 1, 2, 3, 0]),
 ];
 
+// Returns the first bytes of a frame.
+fn beginning(frame: &Frame) -> [u8; 6] {
+    let mut first = [7; 6];
+    let _ = frame.read_into(0, &mut first);
+    first
+}
+
+// Takes an action, and again if an allocation failed, which must leave the frames unchanged. Returns the first bytes of
+// both after it.
+fn done_at_last(
+    rt: &impl Abort,
+    frame: &mut Frame,
+    other: &mut Frame,
+    doing: Doing,
+) -> Result<([u8; 6], [u8; 6]), Memory> {
+    let before = (beginning(frame), beginning(other));
+    if done(rt, frame, other, doing).is_err() {
+        same(rt, &(beginning(frame), beginning(other)), &before);
+        done(rt, frame, other, doing)?;
+    }
+    Ok((beginning(frame), beginning(other)))
+}
+
+// Takes all actions.
+fn all_done(rt: &impl Abort, frame: &mut Frame, other: &mut Frame) -> Result<(), Memory> {
+    for (doing, behind, others) in DONE.iter() {
+        let told = done_at_last(rt, frame, other, *doing)?;
+        same(rt, &told, &(*behind, *others));
+    }
+    Ok(())
+}
+
 // Makes a frame of the owner. Tries again if the allocation failed.
 fn frame(alloc: Global, number: u64) -> Result<Frame, Memory> {
     match Frame::new(alloc, OWNER, number) {
@@ -133,35 +179,14 @@ fn frame(alloc: Global, number: u64) -> Result<Frame, Memory> {
     }
 }
 
-fn room(alloc: Global) -> Result<Vec<u8>, Memory> {
-    match vec![in alloc; 7u8; 6] {
-        Ok(room) => Ok(room),
-        Err(_) => Ok(vec![in alloc; 7u8; 6]?),
-    }
+fn both_frames_go(rt: &impl Abort, alloc: Global) -> Result<(), Memory> {
+    let (mut one, mut other) = (frame(alloc, 0)?, frame(alloc, 1)?);
+    all_done(rt, &mut one, &mut other)
 }
 
 // With tools/refused.sh, which makes each allocation fail in turn: a call that fails leaves the frames unchanged, and
 // does its work when it is made again.
 #[test]
-fn a_refused_call_can_be_made_again(rt: HostRuntime) -> Result<(), Fail> {
-    let alloc = rt.alloc();
-    let (mut first, mut second) = (room(alloc)?, room(alloc)?);
-    let (mut one, mut other) = (frame(alloc, 0)?, frame(alloc, 1)?);
-    let mut before = ([0; 6], [0; 6]);
-    for (doing, behind, others) in DONE.iter() {
-        let is_refused = done(&rt, &mut one, &mut other, *doing).is_err();
-        if is_refused {
-            first = bytes(&one, 0, first);
-            second = bytes(&other, 0, second);
-            let told = (first.as_slice(), second.as_slice());
-            assert_eq!(rt; told, (before.0.as_slice(), before.1.as_slice()));
-            done(&rt, &mut one, &mut other, *doing)?;
-        }
-        first = bytes(&one, 0, first);
-        second = bytes(&other, 0, second);
-        let told = (first.as_slice(), second.as_slice());
-        assert_eq!(rt; told, (behind.as_slice(), others.as_slice()));
-        before = (*behind, *others);
-    }
-    Ok(())
+fn a_refused_call_can_be_made_again(rt: HostRuntime) {
+    same(&rt, &both_frames_go(&rt, rt.alloc()), &Ok(()));
 }

@@ -1,9 +1,11 @@
 //! Configurations, rights, and the numbers and names of `grant_table.h` and the policy.
+use crate::compare::{same, text_is};
 use gt_types::{
     Allows, Config, ConfigFault, Denial, DomId, DomainConfig, Facts, Field, Perms, Rule, Triple,
     Triples, TypeId,
 };
-use std::test::Fail;
+use std::alloc::{AllocError, Global};
+use std::process::Abort;
 
 // Domain 1 with the type and the sizes of the first worked script.
 const ONE: DomainConfig = DomainConfig {
@@ -109,33 +111,48 @@ static CONFIGS: [(&[DomainConfig], u32, Result<(), ConfigFault>); 11] = [
     ),
 ];
 
-#[test]
-fn names_the_fault_of_a_configuration(rt: HostRuntime) -> Result<(), Fail> {
-    for (domains, first_gen, told) in CONFIGS.iter() {
-        let config = Config {
-            domains: domains.to_vec(rt.alloc())?,
-            first_gen: *first_gen,
-        };
-        assert_eq!(rt; config.check(), *told);
-    }
-    Ok(())
+// Returns the fault of a configuration of these domains.
+fn checked(
+    alloc: Global,
+    domains: &[DomainConfig],
+    first_gen: u32,
+) -> Result<Result<(), ConfigFault>, AllocError> {
+    let config = Config {
+        domains: domains.to_vec(alloc)?,
+        first_gen,
+    };
+    Ok(config.check())
 }
 
 #[test]
-fn takes_as_many_domains_as_the_limit(rt: HostRuntime) -> Result<(), Fail> {
+fn names_the_fault_of_a_configuration(rt: HostRuntime) {
+    for (domains, first_gen, told) in CONFIGS.iter() {
+        same(&rt, &checked(rt.alloc(), domains, *first_gen), &Ok(*told));
+    }
+}
+
+// Returns the fault of a configuration of this number of domains.
+fn many_checked(
+    alloc: Global,
+    count: u16,
+    first_gen: u32,
+) -> Result<Result<(), ConfigFault>, AllocError> {
+    let mut domains = Vec::new(alloc);
+    for at in 0..count {
+        let id = DomId(at % 64 + 1);
+        domains.push(DomainConfig { id, ..ONE })?;
+    }
+    Ok(Config { domains, first_gen }.check())
+}
+
+#[test]
+fn takes_as_many_domains_as_the_limit(rt: HostRuntime) {
     for (count, first_gen, told) in [
         (64, 0, Ok(())),
         (65, 1_048_576, Err(ConfigFault::TooMany(DomId(1)))),
     ] {
-        let mut domains = Vec::new(rt.alloc());
-        for at in 0..count {
-            let id = DomId(at % 64 + 1);
-            domains.push(DomainConfig { id, ..ONE })?;
-        }
-        let config = Config { domains, first_gen };
-        assert_eq!(rt; config.check(), told);
+        same(&rt, &many_checked(rt.alloc(), count, first_gen), &Ok(told));
     }
-    Ok(())
 }
 
 // A rule has its name, its status with the number of the header, and no facts.
@@ -156,19 +173,22 @@ static RULES: [(Rule, &str); 14] = [
     (Rule::N26, "N26 GeneralError -1 None"),
 ];
 
+// Returns the text of a denial by this rule.
+fn denied(alloc: Global, rule: Rule) -> Result<String, AllocError> {
+    let Denial {
+        rule,
+        status,
+        facts,
+    } = Denial::new(rule, Facts::None);
+    let number = status.number();
+    format!(in alloc; "{rule} {status:?} {number} {facts:?}")
+}
+
 #[test]
-fn gives_the_numbers_of_the_header(rt: HostRuntime) -> Result<(), Fail> {
+fn gives_the_numbers_of_the_header(rt: HostRuntime) {
     for (rule, wanted) in RULES.iter() {
-        let Denial {
-            rule,
-            status,
-            facts,
-        } = Denial::new(*rule, Facts::None);
-        let number = status.number();
-        let text = format!(in rt.alloc(); "{rule} {status:?} {number} {facts:?}")?;
-        assert_eq!(rt; text.as_str(), *wanted);
+        text_is(&rt, denied(rt.alloc(), *rule), wanted);
     }
-    Ok(())
 }
 
 static FIELDS: [(Field, &str); 9] = [
@@ -184,11 +204,10 @@ static FIELDS: [(Field, &str); 9] = [
 ];
 
 #[test]
-fn prints_fields(rt: HostRuntime) -> Result<(), Fail> {
+fn prints_fields(rt: HostRuntime) {
     for (field, name) in FIELDS.iter() {
-        assert_eq!(rt; field.to_string(rt.alloc())?.as_str(), *name);
+        text_is(&rt, field.to_string(rt.alloc()), name);
     }
-    Ok(())
 }
 
 static PERMISSIONS: [(&str, Option<Perms>); 9] = [
@@ -211,7 +230,7 @@ fn permissions_have_the_names_of_the_class(rt: HostRuntime) {
             Some(perm) => perm.name(),
             None => *word,
         };
-        assert_eq!(rt; (perm, name), (*wanted, *word));
+        same(&rt, &(perm, name), &(*wanted, *word));
     }
 }
 
@@ -238,13 +257,18 @@ static ASKED: [(TypeId, TypeId, Perms, bool); 5] = [
     (B, B, Perms::MAP_READ, false),
 ];
 
-#[test]
-fn allows_what_is_listed(rt: HostRuntime) -> Result<(), Fail> {
+// Compares the answers of a list of rights.
+fn answers_are(rt: &impl Abort, alloc: Global) -> Result<(), AllocError> {
     let rights = Triples {
-        allowed: vec![in rt.alloc(); READ, UNMAP]?,
+        allowed: vec![in alloc; READ, UNMAP]?,
     };
     for (source, target, perm, wanted) in ASKED.iter() {
-        assert_eq!(rt; rights.allows(*source, *target, *perm), *wanted);
+        same(rt, &rights.allows(*source, *target, *perm), wanted);
     }
     Ok(())
+}
+
+#[test]
+fn allows_what_is_listed(rt: HostRuntime) {
+    same(&rt, &answers_are(&rt, rt.alloc()), &Ok(()));
 }

@@ -141,9 +141,8 @@ pub fn rights(alloc: Global) -> Result<Triples, Memory> {
     Ok(Triples { allowed })
 }
 
-/// Starts a core of the three domains. In addition, bytes may be copied from the first domain of each pair to the
-/// second.
-pub fn start(
+// Starts a core of the three domains.
+fn start_once(
     alloc: Global,
     version: u32,
     pairs: &[(DomId, DomId)],
@@ -157,6 +156,19 @@ pub fn start(
         })?;
     }
     Core::new(alloc, three_domains(alloc, version)?, rights)
+}
+
+/// Starts a core of the three domains. In addition, bytes may be copied from the first domain of each pair to the
+/// second. Tries again if an allocation failed.
+pub fn start(
+    alloc: Global,
+    version: u32,
+    pairs: &[(DomId, DomId)],
+) -> Result<Core<Triples>, StartFault> {
+    match start_once(alloc, version, pairs) {
+        Err(StartFault::Memory) => start_once(alloc, version, pairs),
+        started => started,
+    }
 }
 
 /// An action on a core.
@@ -179,28 +191,51 @@ pub enum Doing<'a> {
 /// An action, and its expected result.
 pub type Row = (Doing<'static>, &'static str);
 
-/// Begins a call. A caller that takes the result apart costs less proof without the contract of `Core::begin`.
-pub fn begin(core: &mut Core<Triples>, dom: DomId, request: Request<'_>) -> Result<Begun, Memory> {
+// Begins a call. A caller that takes the result apart costs less proof without the contract of `Core::begin`.
+fn begin_once(core: &mut Core<Triples>, dom: DomId, request: Request<'_>) -> Result<Begun, Memory> {
     core.begin(dom, request)
 }
 
-/// Makes the next step of the domain's call.
-pub fn tick(core: &mut Core<Triples>, dom: DomId) -> Result<Ticked, Memory> {
+// Makes the next step of the domain's call.
+fn tick_once(core: &mut Core<Triples>, dom: DomId) -> Result<Ticked, Memory> {
     core.tick(dom)
 }
 
-/// Returns a view of an owner's entry.
-pub fn show(core: &Core<Triples>, gref: u32) -> Option<EntryView> {
+// Returns a view of an owner's entry.
+fn show(core: &Core<Triples>, gref: u32) -> Option<EntryView> {
     core.show(OWNER, GrantRef(gref))
+}
+
+// Returns whether the owner's first entry is as before, and the domain has no call open.
+fn is_as_before(core: &mut Core<Triples>, dom: DomId, before: Option<EntryView>) -> bool {
+    show(core, 0) == before && matches!(tick_once(core, dom), Ok(Ticked::Idle))
+}
+
+// Begins a call, and again if an allocation failed, unless that changed the core.
+fn begin(core: &mut Core<Triples>, dom: DomId, request: Request<'_>) -> Result<Begun, Memory> {
+    let before = show(core, 0);
+    match begin_once(core, dom, request) {
+        Err(Memory) if is_as_before(core, dom, before) => begin_once(core, dom, request),
+        begun => begun,
+    }
+}
+
+// Makes the next step of the domain's call, and again if an allocation failed, unless that changed the core.
+fn tick(core: &mut Core<Triples>, dom: DomId) -> Result<Ticked, Memory> {
+    let before = show(core, 0);
+    match tick_once(core, dom) {
+        Err(Memory) if show(core, 0) == before => tick_once(core, dom),
+        ticked => ticked,
+    }
 }
 
 fn word_said(alloc: Global, word: u64) -> Result<String, AllocError> {
     format!(in alloc; " {word:x}")
 }
 
-/// Returns an answer as a text: `ok` with its values, or the rule that refused and what decided it: the word seen, in
+// Returns an answer as a text: `ok` with its values, or the rule that refused and what decided it: the word seen, in
 /// hexadecimal digits, the field, or the two types and the permission.
-pub fn answer_said(alloc: Global, answer: &Answer) -> Result<String, AllocError> {
+fn answer_said(alloc: Global, answer: &Answer) -> Result<String, AllocError> {
     match answer {
         Answer::Done => String::from_str(alloc, "ok"),
         Answer::Mapped(Handle { serial, key }) => format!(in alloc; "ok {serial}.{key}"),
@@ -228,7 +263,7 @@ fn denial_said(alloc: Global, denial: &Denial) -> Result<String, AllocError> {
     }
 }
 
-/// Returns what a step saw: a word in hexadecimal digits, `taken` or `missed` with the word found; `-` for nothing.
+// Returns what a step saw: a word in hexadecimal digits, `taken` or `missed` with the word found; `-` for nothing.
 fn seen_said(alloc: Global, seen: Observation) -> Result<String, AllocError> {
     match seen {
         Observation::Nothing => String::from_str(alloc, " -"),
@@ -253,34 +288,53 @@ fn shown_said(alloc: Global, shown: Option<EntryView>) -> Result<String, AllocEr
     format!(in alloc; "{entry:?} gen={generation} reads={reads} writes={writes} status={status:x}")
 }
 
-// Returns the answer of the open call, if it ends within this number of ticks.
-fn ended(core: &mut Core<Triples>, dom: DomId, ticks: u32) -> Result<Option<Answer>, Memory> {
-    for _ in 0..ticks {
-        if let Ticked::Done(_, _, answer) = tick(core, dom)? {
-            return Ok(Some(answer));
-        }
+// Returns the view of an entry as a text. Tries again if an allocation failed.
+fn view_said(alloc: Global, shown: Option<EntryView>) -> Result<String, AllocError> {
+    match shown_said(alloc, shown) {
+        Err(_) => shown_said(alloc, shown),
+        text => text,
     }
-    Ok(None)
 }
 
-// Returns the result of a call that was begun.
-fn call_said(
-    alloc: Global,
+// Makes this number of ticks of the open call, or fewer if it ends.
+fn ticked(core: &mut Core<Triples>, dom: DomId, ticks: u32) -> Result<Begun, Memory> {
+    for _ in 0..ticks {
+        if let Ticked::Done(_, _, answer) = tick(core, dom)? {
+            return Ok(Begun::Done(answer));
+        }
+    }
+    Ok(Begun::Open)
+}
+
+// Begins a call, and makes this number of ticks or fewer.
+fn called(
     core: &mut Core<Triples>,
     dom: DomId,
-    begun: Begun,
+    request: Request<'_>,
     ticks: u32,
-) -> Result<String, Memory> {
-    let text = match begun {
-        Begun::Done(answer) => answer_said(alloc, &answer)?,
-        Begun::Busy => String::from_str(alloc, "busy")?,
-        Begun::NoDomain => String::from_str(alloc, "no domain")?,
-        Begun::Open => match ended(core, dom, ticks)? {
-            Some(answer) => answer_said(alloc, &answer)?,
-            None => String::from_str(alloc, "open")?,
-        },
-    };
-    Ok(text)
+) -> Result<Begun, Memory> {
+    match begin(core, dom, request)? {
+        Begun::Open => ticked(core, dom, ticks),
+        begun => Ok(begun),
+    }
+}
+
+// Returns how far a call has come: its answer, or that it is still open.
+fn begun_said(alloc: Global, begun: &Begun) -> Result<String, AllocError> {
+    match begun {
+        Begun::Done(answer) => answer_said(alloc, answer),
+        Begun::Busy => String::from_str(alloc, "busy"),
+        Begun::NoDomain => String::from_str(alloc, "no domain"),
+        Begun::Open => String::from_str(alloc, "open"),
+    }
+}
+
+// Returns the same. Tries again if an allocation failed.
+fn call_said(alloc: Global, begun: &Begun) -> Result<String, Memory> {
+    match begun_said(alloc, begun) {
+        Err(_) => Ok(begun_said(alloc, begun)?),
+        Ok(text) => Ok(text),
+    }
 }
 
 // Appends a step with what it saw.
@@ -372,18 +426,6 @@ fn place_said(alloc: Global, place: Spot) -> Result<String, AllocError> {
     )
 }
 
-// Begins a call, and makes this number of ticks or fewer. Returns its answer, or that it is still open.
-fn begun_said(
-    alloc: Global,
-    core: &mut Core<Triples>,
-    dom: DomId,
-    request: Request<'_>,
-    ticks: u32,
-) -> Result<String, Memory> {
-    let begun = begin(core, dom, request)?;
-    call_said(alloc, core, dom, begun, ticks)
-}
-
 // Begins a call. Returns all its steps with what each saw, and its answer.
 fn call_steps_said(
     alloc: Global,
@@ -393,24 +435,56 @@ fn call_steps_said(
 ) -> Result<String, Memory> {
     match begin(core, dom, request)? {
         Begun::Open => steps_said(alloc, core, dom),
-        begun => call_said(alloc, core, dom, begun, 0),
+        begun => call_said(alloc, &begun),
     }
 }
 
-// Returns whether a whole call is answered with the handle of this number.
-fn gives_handle(
+// Makes a call this number of times. Returns how often it was answered with the next handle before it was not.
+fn handles_given(
+    core: &mut Core<Triples>,
+    dom: DomId,
+    request: Request<'_>,
+    times: u32,
+) -> Result<u32, Memory> {
+    for number in 0..times {
+        let begun = called(core, dom, request, MOST_STEPS)?;
+        if !is_handle(&begun, number) {
+            return Ok(number);
+        }
+    }
+    Ok(times)
+}
+
+// Returns whether a call was answered with the handle of this number.
+fn is_handle(begun: &Begun, number: u32) -> bool {
+    let wanted = Handle {
+        serial: u64::from(number),
+        key: number as usize,
+    };
+    matches!(begun, Begun::Done(Answer::Mapped(handle)) if *handle == wanted)
+}
+
+fn done_said(
     alloc: Global,
     core: &mut Core<Triples>,
     dom: DomId,
     request: Request<'_>,
-    number: u32,
-) -> Result<bool, Memory> {
-    let text = begun_said(alloc, core, dom, request, MOST_STEPS)?;
-    let wanted = format!(in alloc; "ok {number}.{number}")?;
-    Ok(text.as_str() == wanted.as_str())
+    ticks: u32,
+) -> Result<String, Memory> {
+    let begun = called(core, dom, request, ticks)?;
+    call_said(alloc, &begun)
 }
 
-// Makes a call this number of times. Returns how often it was answered with the next handle before it was not.
+fn ticks_said(
+    alloc: Global,
+    core: &mut Core<Triples>,
+    dom: DomId,
+    ticks: u32,
+) -> Result<String, Memory> {
+    let begun = ticked(core, dom, ticks)?;
+    call_said(alloc, &begun)
+}
+
 fn often_said(
     alloc: Global,
     core: &mut Core<Triples>,
@@ -418,25 +492,20 @@ fn often_said(
     request: Request<'_>,
     times: u32,
 ) -> Result<String, Memory> {
-    let mut count = 0u32;
-    for number in 0..times {
-        if !gives_handle(alloc, core, dom, request, number)? {
-            break;
-        }
-        count = count.saturating_add(1);
-    }
+    let count = handles_given(core, dom, request, times)?;
     Ok(format!(in alloc; "{count} handles, 0.0 and on")?)
 }
 
-/// Takes the action, and returns its result as a text.
+/// Takes the action, and returns its result as a text. A beginning, a tick and a view whose allocation fails are tried
+/// again.
 pub fn said(alloc: Global, core: &mut Core<Triples>, doing: Doing<'_>) -> Result<String, Memory> {
     match doing {
-        Doing::Do(dom, request) => begun_said(alloc, core, dom, request, MOST_STEPS),
+        Doing::Do(dom, request) => done_said(alloc, core, dom, request, MOST_STEPS),
         Doing::Steps(dom, request) => call_steps_said(alloc, core, dom, request),
         Doing::Often(dom, request, times) => often_said(alloc, core, dom, request, times),
-        Doing::Begin(dom, request) => begun_said(alloc, core, dom, request, 0),
-        Doing::Tick(dom, ticks) => call_said(alloc, core, dom, Begun::Open, ticks),
-        Doing::Show(gref) => Ok(shown_said(alloc, show(core, gref))?),
+        Doing::Begin(dom, request) => done_said(alloc, core, dom, request, 0),
+        Doing::Tick(dom, ticks) => ticks_said(alloc, core, dom, ticks),
+        Doing::Show(gref) => Ok(view_said(alloc, show(core, gref))?),
     }
 }
 

@@ -1,278 +1,192 @@
 //! Runs in which an allocation fails. tools/refused.sh makes each fail in turn: a tick or a beginning that is asked
 //! again is answered as without a failure.
-use crate::doing::{
-    OWNER, PEER, begin, load, peek, poke, rights, show, start, store, three_domains, tick,
-};
-use crate::runs::{FIRST_HANDLE, GRANT, MAP_RO, MAP_RW, REVOKE};
-use gt_core::{
-    Answer, Begun, CopyArgs, Core, Element, End, Event, Handle, Item, Request, Ticked, play,
-};
-use gt_types::{DomId, Memory, Rule, StartFault, Triples};
-use std::alloc::Global;
-use std::process::Abort;
+use crate::doing::Doing::{self, Do, Show};
+use crate::doing::{OWNER, PEER, Row, load, peek, poke, store};
+use crate::pins::played;
+use crate::runs::{FIRST_HANDLE, GRANT, GRANTED, MAP_RO, MAP_RW, MAPPED_RW, REVOKE, Run, all_go};
+use gt_core::{CopyArgs, End, Event, Handle, Request};
+use gt_types::StartFault;
 use std::test::Fail;
 use test_rows::{copy, end};
 
-// Starts a core of three domains in which bytes may be copied between these pairs. Tries again if an allocation failed.
-fn started(
-    rt: &impl Abort,
-    alloc: Global,
-    pairs: &[(DomId, DomId)],
-) -> Result<Core<Triples>, StartFault> {
-    match start(alloc, 1, pairs) {
-        Ok(core) => Ok(core),
-        Err(fault) => {
-            assert_eq!(rt; fault, StartFault::Memory);
-            start(alloc, 1, pairs)
-        }
-    }
-}
-
-// Makes the next tick, and again if an allocation failed, which must leave the core unchanged.
-fn ticked(rt: &impl Abort, core: &mut Core<Triples>, dom: DomId) -> Result<Ticked, Memory> {
-    let before = show(core, 0);
-    match tick(core, dom) {
-        Ok(ticked) => Ok(ticked),
-        Err(Memory) => {
-            assert!(rt; show(core, 0) == before);
-            tick(core, dom)
-        }
-    }
-}
-
-// Returns the answer of the open call, if it has one.
-fn ended(rt: &impl Abort, core: &mut Core<Triples>, dom: DomId) -> Result<Option<Answer>, Memory> {
-    for _ in 0..71 {
-        if let Ticked::Done(_, _, answer) = ticked(rt, core, dom)? {
-            return Ok(Some(answer));
-        }
-    }
-    Ok(None)
-}
-
-// Begins a call, and again if an allocation failed, which must leave the core unchanged.
-fn begun(
-    rt: &impl Abort,
-    core: &mut Core<Triples>,
-    dom: DomId,
-    request: Request<'_>,
-) -> Result<Begun, Memory> {
-    let before = show(core, 0);
-    match begin(core, dom, request) {
-        Ok(begun) => Ok(begun),
-        Err(Memory) => {
-            assert!(rt; show(core, 0) == before && matches!(tick(core, dom)?, Ticked::Idle));
-            begin(core, dom, request)
-        }
-    }
-}
-
-// Returns the answer of a whole call in which one allocation may fail, which must leave the core unchanged, or None if
-// the call is still open.
-fn ask(
-    rt: &impl Abort,
-    core: &mut Core<Triples>,
-    dom: DomId,
-    request: Request<'_>,
-) -> Result<Option<Answer>, Memory> {
-    match begun(rt, core, dom, request)? {
-        Begun::Done(answer) => Ok(Some(answer)),
-        _ => ended(rt, core, dom),
-    }
-}
-
-// The expected answer of a call.
-#[derive(Clone, Copy)]
-enum Told<'a> {
-    Done,
-    Mapped(Handle),
-    Bytes(&'a [u8]),
-    Refused(Rule),
-}
-
-fn is_told(answer: &Answer, told: Told<'_>) -> bool {
-    match told {
-        Told::Done => matches!(answer, Answer::Done),
-        Told::Mapped(handle) => matches!(answer, Answer::Mapped(given) if *given == handle),
-        Told::Bytes(bytes) => matches!(answer, Answer::Bytes(b) if b.bytes.as_slice() == bytes),
-        Told::Refused(rule) => matches!(answer, Answer::Denied(denial) if denial.rule == rule),
-    }
-}
-
-// Makes a whole call, and compares its answer.
-fn goes_once(
-    rt: &impl Abort,
-    core: &mut Core<Triples>,
-    dom: DomId,
-    request: Request<'_>,
-    told: Told<'_>,
-) -> Result<(), Memory> {
-    let answer = ask(rt, core, dom, request)?;
-    assert!(rt; matches!(&answer, Some(answer) if is_told(answer, told)));
-    Ok(())
-}
-
-// Makes whole calls, and compares the answer of each.
-fn goes(rt: &impl Abort, core: &mut Core<Triples>, calls: &[Call]) -> Result<(), Memory> {
-    for (dom, request, told) in calls {
-        goes_once(rt, core, *dom, *request, *told)?;
-    }
-    Ok(())
-}
-
-// Counts the read pins of the owner's entry 0.
-fn reads(core: &Core<Triples>) -> Option<u16> {
-    match show(core, 0) {
-        Some(shown) => Some(shown.reads),
-        None => None,
-    }
-}
-
-/// A call of a domain, and the expected answer.
-type Call = (DomId, Request<'static>, Told<'static>);
-
-const GRANTED: [Call; 1] = [(OWNER, GRANT, Told::Done)];
-
-const LAST_CALLS: [Call; 2] = [
-    (
-        PEER,
-        MAP_RW,
-        Told::Mapped(Handle {
-            serial: 20,
-            key: 20,
-        }),
-    ),
-    (OWNER, REVOKE, Told::Refused(Rule::N19)),
-];
-
-const MAPPED: [Call; 2] = [
-    (OWNER, GRANT, Told::Done),
-    (PEER, MAP_RW, Told::Mapped(FIRST_HANDLE)),
-];
-
-const LAST_LOAD: [Call; 1] = [(
-    PEER,
-    load!(FIRST_HANDLE, 0, 9),
-    Told::Bytes(&[8, 1, 2, 3, 4, 5, 6, 7, 8]),
-)];
-
-const LAST_PEEK: [Call; 1] = [(
-    PEER,
-    peek!(3, 0, 10),
-    Told::Bytes(&[0, 1, 2, 3, 4, 5, 6, 7, 8, 0]),
-)];
-
-// The calls of a round.
-#[derive(Clone, Copy)]
-enum Round {
-    /// The peer maps the page, and loads its last bytes through the mapping.
-    Map,
-    /// The peer stores a byte, and the owner overwrites the first one and reads it.
-    Access,
-    /// The owner overwrites the first byte, and the peer copies it to a frame that the peer owns.
-    Copy,
-}
-
-const PEEK: Request = peek!(5, 0, 1);
-
-fn poke(bytes: &[u8]) -> Request<'_> {
-    poke!(5, 0, bytes)
-}
-
-// Returns a copy of one byte of the owner's page to this offset of one of the peer's own frames.
-fn copy(offset: u16) -> Request<'static> {
-    Request::Copy(copy!(end!(0, OWNER, 0), end!(3, PEER, offset), 1, 1))
-}
-
-fn map_and_load(rt: &impl Abort, core: &mut Core<Triples>, number: u8) -> Result<(), Memory> {
-    let handle = Handle {
-        serial: u64::from(number),
-        key: usize::from(number),
-    };
-    goes_once(rt, core, PEER, MAP_RO, Told::Mapped(handle))?;
-    goes_once(
-        rt,
-        core,
-        PEER,
-        load!(handle, 4_094, 2),
-        Told::Bytes(&[0, 0]),
-    )
-}
-
-// Makes the calls of a round. The byte that they move is its number.
-fn go_round(
-    rt: &impl Abort,
-    core: &mut Core<Triples>,
-    round: Round,
-    number: u8,
-) -> Result<(), Memory> {
-    let offset = u16::from(number);
-    let bytes = [number];
-    match round {
-        Round::Map => map_and_load(rt, core, number),
-        Round::Access => {
-            goes_once(
-                rt,
-                core,
+// The peer loads the last bytes of the page by the handle of this number.
+macro_rules! load_by {
+    ($number:literal) => {
+        (
+            Do(
                 PEER,
-                store!(FIRST_HANDLE, offset, &bytes),
-                Told::Done,
-            )?;
-            goes_once(rt, core, OWNER, poke(&bytes), Told::Done)?;
-            goes_once(rt, core, OWNER, PEEK, Told::Bytes(&bytes))
-        }
-        Round::Copy => {
-            goes_once(rt, core, OWNER, poke(&bytes), Told::Done)?;
-            goes_once(rt, core, PEER, copy(offset), Told::Done)
-        }
-    }
+                load!(
+                    Handle {
+                        serial: $number,
+                        key: $number,
+                    },
+                    4_094,
+                    2
+                ),
+            ),
+            "ok [0, 0]",
+        )
+    };
 }
 
-// A run: the pairs of domains that may be copied from and to, the first calls, the rounds with the first and the last
-// number, the last calls, and the read pins that are left of the owner's entry 0.
-type Refused = (
-    &'static [(DomId, DomId)],
-    &'static [Call],
-    (Round, u8, u8),
-    &'static [Call],
-    u16,
-);
+// The peer stores this byte at this offset.
+macro_rules! stored {
+    ($byte:literal) => {
+        (Do(PEER, store!(FIRST_HANDLE, $byte, &[$byte])), "ok")
+    };
+}
 
-static ALL_REFUSED: [Refused; 3] = [
-    (&[], &GRANTED, (Round::Map, 0, 19), &LAST_CALLS, 20),
-    (&[], &MAPPED, (Round::Access, 1, 8), &LAST_LOAD, 0),
+// The owner overwrites the first byte of the page.
+macro_rules! poked {
+    ($byte:literal) => {
+        (Do(OWNER, poke!(5, 0, &[$byte])), "ok")
+    };
+}
+
+// The peer copies that byte to this offset of a frame that the peer owns.
+macro_rules! copied {
+    ($offset:literal) => {
+        (
+            Do(
+                PEER,
+                Request::Copy(copy!(end!(0, OWNER, 0), end!(3, PEER, $offset), 1, 1)),
+            ),
+            "ok",
+        )
+    };
+}
+
+const MAP: Doing = Do(PEER, MAP_RO);
+
+// The peer maps the page twenty times, and loads its last bytes by each mapping.
+const MAPS: [Row; 43] = [
+    (MAP, "ok 0.0"),
+    load_by!(0),
+    (MAP, "ok 1.1"),
+    load_by!(1),
+    (MAP, "ok 2.2"),
+    load_by!(2),
+    (MAP, "ok 3.3"),
+    load_by!(3),
+    (MAP, "ok 4.4"),
+    load_by!(4),
+    (MAP, "ok 5.5"),
+    load_by!(5),
+    (MAP, "ok 6.6"),
+    load_by!(6),
+    (MAP, "ok 7.7"),
+    load_by!(7),
+    (MAP, "ok 8.8"),
+    load_by!(8),
+    (MAP, "ok 9.9"),
+    load_by!(9),
+    (MAP, "ok 10.10"),
+    load_by!(10),
+    (MAP, "ok 11.11"),
+    load_by!(11),
+    (MAP, "ok 12.12"),
+    load_by!(12),
+    (MAP, "ok 13.13"),
+    load_by!(13),
+    (MAP, "ok 14.14"),
+    load_by!(14),
+    (MAP, "ok 15.15"),
+    load_by!(15),
+    (MAP, "ok 16.16"),
+    load_by!(16),
+    (MAP, "ok 17.17"),
+    load_by!(17),
+    (MAP, "ok 18.18"),
+    load_by!(18),
+    (MAP, "ok 19.19"),
+    load_by!(19),
+    (Do(PEER, MAP_RW), "ok 20.20"),
+    (Do(OWNER, REVOKE), "N19 100020010141"),
     (
-        &[(OWNER, PEER)],
-        &GRANTED,
-        (Round::Copy, 1, 8),
-        &LAST_PEEK,
-        0,
+        Show(0),
+        "Page { dom: DomId(2), ro: false, frame: 5 } gen=1 reads=20 writes=1 status=18",
     ),
 ];
 
-// Makes the calls of a run, and compares their answers and the pins that are left.
-fn goes_all(rt: &impl Abort, core: &mut Core<Triples>, row: &Refused) -> Result<(), StartFault> {
-    let (_, first, (round, from, to), last, pins) = row;
-    goes(rt, core, first)?;
-    for number in *from..=*to {
-        go_round(rt, core, *round, number)?;
-    }
-    goes(rt, core, last)?;
-    assert_eq!(rt; reads(core), Some(*pins));
-    Ok(())
-}
+const PEEK: Doing = Do(OWNER, peek!(5, 0, 1));
 
-fn goes_refused(rt: &impl Abort, alloc: Global, row: &Refused) -> Result<(), StartFault> {
-    let mut core = started(rt, alloc, row.0)?;
-    goes_all(rt, &mut core, row)
+// The peer stores a byte, and the owner overwrites the first one and reads it.
+const ACCESSES: [Row; 26] = [
+    stored!(1),
+    poked!(1),
+    (PEEK, "ok [1]"),
+    stored!(2),
+    poked!(2),
+    (PEEK, "ok [2]"),
+    stored!(3),
+    poked!(3),
+    (PEEK, "ok [3]"),
+    stored!(4),
+    poked!(4),
+    (PEEK, "ok [4]"),
+    stored!(5),
+    poked!(5),
+    (PEEK, "ok [5]"),
+    stored!(6),
+    poked!(6),
+    (PEEK, "ok [6]"),
+    stored!(7),
+    poked!(7),
+    (PEEK, "ok [7]"),
+    stored!(8),
+    poked!(8),
+    (PEEK, "ok [8]"),
+    (
+        Do(PEER, load!(FIRST_HANDLE, 0, 9)),
+        "ok [8, 1, 2, 3, 4, 5, 6, 7, 8]",
+    ),
+    (
+        Show(0),
+        "Page { dom: DomId(2), ro: false, frame: 5 } gen=1 reads=0 writes=1 status=18",
+    ),
+];
+
+// The owner overwrites the first byte, and the peer copies it.
+const COPIES: [Row; 18] = [
+    poked!(1),
+    copied!(1),
+    poked!(2),
+    copied!(2),
+    poked!(3),
+    copied!(3),
+    poked!(4),
+    copied!(4),
+    poked!(5),
+    copied!(5),
+    poked!(6),
+    copied!(6),
+    poked!(7),
+    copied!(7),
+    poked!(8),
+    copied!(8),
+    (
+        Do(PEER, peek!(3, 0, 10)),
+        "ok [0, 1, 2, 3, 4, 5, 6, 7, 8, 0]",
+    ),
+    (
+        Show(0),
+        "Page { dom: DomId(2), ro: false, frame: 5 } gen=1 reads=0 writes=0 status=0",
+    ),
+];
+
+static ALL_REFUSED: [Run; 3] = [
+    (1, &[], &GRANTED, &MAPS),
+    (1, &[], &MAPPED_RW, &ACCESSES),
+    (1, &[(OWNER, PEER)], &GRANTED, &COPIES),
+];
+
+fn all_refused() -> &'static [Run] {
+    &ALL_REFUSED
 }
 
 #[test]
-fn calls_with_memory_refused(rt: HostRuntime) -> Result<(), Fail> {
-    for row in ALL_REFUSED.iter() {
-        goes_refused(&rt, rt.alloc(), row)?;
-    }
-    Ok(())
+fn calls_with_memory_refused(rt: HostRuntime) {
+    all_go(&rt, rt.alloc(), all_refused());
 }
 
 static EVENTS: [Event; 8] = [
@@ -286,35 +200,15 @@ static EVENTS: [Event; 8] = [
     Event::Tick(PEER),
 ];
 
-// Returns whether the element ends its call with Ok.
-fn ends_ok(element: Option<&Element>) -> bool {
-    match element {
-        Some(
-            Element::Item(
-                Item {
-                    answer: Some(answer),
-                    ..
-                },
-            ),
-        ) => matches!(answer, Answer::Done | Answer::Mapped(_)),
-        _ => false,
-    }
-}
-
-// Plays the events once.
-fn played_once(alloc: Global) -> Result<Vec<Element<'static>>, StartFault> {
-    play(alloc, three_domains(alloc, 1)?, rights(alloc)?, &EVENTS)
-}
+const TRACE: &str = "1 begins\n1 -\n1 taken ok\n\
+2 begins\n2 5\n2 100020000001\n2 5\n2 taken ok 0.0\n";
 
 #[test]
 fn play_with_memory_refused(rt: HostRuntime) -> Result<(), Fail> {
-    let trace = match played_once(rt.alloc()) {
-        Ok(trace) => trace,
-        Err(fault) => {
-            assert_eq!(rt; fault, StartFault::Memory);
-            played_once(rt.alloc())?
-        }
+    let text = match played(rt.alloc(), &EVENTS) {
+        Err(StartFault::Memory) => played(rt.alloc(), &EVENTS)?,
+        played => played?,
     };
-    assert!(rt; trace.len() == 8 && ends_ok(trace.get(2)) && ends_ok(trace.get(7)));
+    assert_eq!(rt; text.as_str(), TRACE);
     Ok(())
 }

@@ -28,8 +28,8 @@ pub const BEHIND_ALL_READ_PINS: [Row; 5] = [
     (Do(OWNER, DEMOTE), "N19 10002001fff1"),
 ];
 
-// Returns the trace of these events on a core of the three domains.
-fn played(alloc: Global, events: &[Event<'_>]) -> Result<String, StartFault> {
+/// Returns the trace of these events on a core of the three domains.
+pub fn played(alloc: Global, events: &[Event<'_>]) -> Result<String, StartFault> {
     let trace = play(alloc, three_domains(alloc, 1)?, rights(alloc)?, events)?;
     match trace_said(alloc, &trace) {
         Ok(text) => Ok(text),
@@ -81,16 +81,28 @@ const MISSED: &str = "1 begins\n1 -\n1 taken ok\n\
 1 begins\n1 -\n1 taken ok\n\
 2 missed 200020000001\n2 200020000001\n2 6\n2 taken ok 0.0\n";
 
+static MISSING: [Event; 16] = [
+    Event::Begin(OWNER, GRANT),
+    Event::Tick(OWNER),
+    Event::Tick(OWNER),
+    Event::Begin(PEER, MAP_RO),
+    Event::Tick(PEER),
+    Event::Tick(PEER),
+    Event::Tick(PEER),
+    Event::Begin(OWNER, REVOKE),
+    Event::Tick(OWNER),
+    Event::Begin(OWNER, GRANT_ANOTHER),
+    Event::Tick(OWNER),
+    Event::Tick(OWNER),
+    Event::Tick(PEER),
+    Event::Tick(PEER),
+    Event::Tick(PEER),
+    Event::Tick(PEER),
+];
+
 #[test]
 fn trace_of_a_missed_try(rt: HostRuntime) -> Result<(), Fail> {
-    let alloc = rt.alloc();
-    let mut events = Vec::new(alloc);
-    add_call(&mut events, OWNER, GRANT, 2)?;
-    add_call(&mut events, PEER, MAP_RO, 3)?;
-    add_call(&mut events, OWNER, REVOKE, 1)?;
-    add_call(&mut events, OWNER, GRANT_ANOTHER, 2)?;
-    add_ticks(&mut events, PEER, 4)?;
-    let text = played(alloc, events.as_slice())?;
+    let text = played(rt.alloc(), &MISSING)?;
     assert_eq!(rt; text.as_str(), MISSED);
     Ok(())
 }

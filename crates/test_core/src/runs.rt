@@ -12,15 +12,14 @@ use self::tables::{
     NOT_MAPPED, SIZES, STEPS_OF_GRANTS, STEPS_ON_HEADERS, SUB_PAGE_BEHIND_AN_OLDER_HEADER,
     VERSION_IN_A_MAP,
 };
-use crate::doing::Doing::{self, Begin, Do, Show, Tick};
+use crate::doing::Doing::{Begin, Do, Show, Tick};
 use crate::doing::{OTHER, OWNER, PEER, READ_ONLY, Row, WRITABLE, grant, load, map, said, start};
 use crate::pins::{ALL_READ_PINS, BEHIND_ALL_READ_PINS};
 use gt_core::{Core, Handle, Request};
 use gt_entry::Entry;
-use gt_types::{DomId, GrantRef, Triples};
+use gt_types::{DomId, GrantRef, Memory, StartFault, Triples};
 use std::alloc::Global;
 use std::process::Abort;
-use std::test::Fail;
 use test_rows::page;
 
 /// A run: the version of the tables, the pairs of domains that may be copied from and to, the first actions, and the
@@ -80,7 +79,7 @@ pub const GRANTED_RO: [Row; 1] = [(Do(OWNER, GRANT_RO), "ok")];
 
 const MAPPED_RO: [Row; 2] = [(Do(OWNER, GRANT), "ok"), (Do(PEER, MAP_RO), "ok 0.0")];
 
-const MAPPED_RW: [Row; 2] = [(Do(OWNER, GRANT), "ok"), (Do(PEER, MAP_RW), "ok 0.0")];
+pub const MAPPED_RW: [Row; 2] = [(Do(OWNER, GRANT), "ok"), (Do(PEER, MAP_RW), "ok 0.0")];
 
 // Three tries of a map are missed, each because of a demotion or promotion after its look.
 const THREE_MISSED_TRIES: [Row; 9] = [
@@ -207,8 +206,9 @@ const RELEASED_WITHOUT_A_RIGHT: [Row; 8] = [
     (Do(PEER, REVOKE), "ok"),
 ];
 
-// Each run with the version of the tables. No bytes may be copied from one domain to another.
-static RUNS: [Run; 21] = [
+// Each run with the version of the tables. No bytes may be copied from one domain to another. A long table costs more
+// than two short ones.
+static RUNS: [Run; 11] = [
     (1, &[], &[], &RELEASED_WITHOUT_A_RIGHT),
     (1, &[], &MAPPED_RW, &REVOKE_BEFORE_THE_UNPIN),
     (1, &[], &GRANTED, &ANOTHER_GRANT_BEFORE_THE_PIN),
@@ -219,26 +219,32 @@ static RUNS: [Run; 21] = [
     (1, &[], &[], &PAST_THE_LAST),
     (1, &[], &MAPPED_RO, &DEMOTED_UNDER_A_PIN),
     (1, &[], &MAPPED_RO, &TAKEN_HANDLE),
+    (1, &[], &ALL_READ_PINS, &BEHIND_ALL_READ_PINS),
+];
+
+static ACCESSES: [Run; 4] = [
     (1, &[], &MAPPED_RW, &SHARED_PAGE),
     (1, &[], &MAPPED_RO, &ORDER_OF_ACCESSES),
     (1, &[], &MAPPED_RW, &STORE_BY_A_TAKEN_HANDLE),
     (1, &[], &MAPPED_RW, &STORE_WITH_ITS_STEP),
+];
+
+static TABLES: [Run; 6] = [
     (1, &[], &[], &VERSION_IN_A_MAP),
     (2, &[], &[], &SIZES),
     (2, &[], &[], &NOT_MAPPED),
     (1, &[], &[], &SUB_PAGE_BEHIND_AN_OLDER_HEADER),
     (1, &[], &[], &STEPS_ON_HEADERS),
     (2, &[], &[], &STEPS_OF_GRANTS),
-    (1, &[], &ALL_READ_PINS, &BEHIND_ALL_READ_PINS),
 ];
 
-/// Plays a run, and compares the result of each action.
-pub fn goes(
+// Plays a part of a run, and compares the result of each action.
+fn goes(
     rt: &impl Abort,
     core: &mut Core<Triples>,
     alloc: Global,
-    rows: &[(Doing<'_>, &str)],
-) -> Result<(), Fail> {
+    rows: &[Row],
+) -> Result<(), Memory> {
     for (doing, wanted) in rows {
         let text = said(alloc, core, *doing)?;
         assert_eq!(rt; text.as_str(), *wanted);
@@ -252,30 +258,58 @@ fn goes_twice(
     core: &mut Core<Triples>,
     alloc: Global,
     run: &Run,
-) -> Result<(), Fail> {
+) -> Result<(), Memory> {
     goes(rt, core, alloc, run.2)?;
     goes(rt, core, alloc, run.3)
 }
 
 // Plays a run on its own core.
-fn run_goes(rt: &impl Abort, alloc: Global, run: &Run) -> Result<(), Fail> {
+fn run_goes(rt: &impl Abort, alloc: Global, run: &Run) -> Result<(), StartFault> {
     let mut core = start(alloc, run.0, run.1)?;
-    goes_twice(rt, &mut core, alloc, run)
-}
-
-fn all_go(rt: &impl Abort, alloc: Global, runs: &[Run]) -> Result<(), Fail> {
-    for run in runs {
-        run_goes(rt, alloc, run)?;
-    }
+    goes_twice(rt, &mut core, alloc, run)?;
     Ok(())
 }
 
-#[test]
-fn runs_go_as_they_must(rt: HostRuntime) -> Result<(), Fail> {
-    all_go(&rt, rt.alloc(), &RUNS)
+/// Plays each run on its own core.
+pub fn all_go(rt: &impl Abort, alloc: Global, runs: &[Run]) {
+    for run in runs {
+        assert_eq!(rt; run_goes(rt, alloc, run), Ok(()));
+    }
+}
+
+// Returns the table. A function that names a table lists it in each of its states, so that no other one does.
+fn all_runs() -> &'static [Run] {
+    &RUNS
 }
 
 #[test]
-fn copies_go_as_they_must(rt: HostRuntime) -> Result<(), Fail> {
-    all_go(&rt, rt.alloc(), &COPIES)
+fn runs_go_as_they_must(rt: HostRuntime) {
+    all_go(&rt, rt.alloc(), all_runs());
+}
+
+fn all_accesses() -> &'static [Run] {
+    &ACCESSES
+}
+
+#[test]
+fn accesses_go_as_they_must(rt: HostRuntime) {
+    all_go(&rt, rt.alloc(), all_accesses());
+}
+
+fn all_tables() -> &'static [Run] {
+    &TABLES
+}
+
+#[test]
+fn tables_go_as_they_must(rt: HostRuntime) {
+    all_go(&rt, rt.alloc(), all_tables());
+}
+
+fn all_copies() -> &'static [Run] {
+    &COPIES
+}
+
+#[test]
+fn copies_go_as_they_must(rt: HostRuntime) {
+    all_go(&rt, rt.alloc(), all_copies());
 }
