@@ -62,7 +62,7 @@ pub enum Ticked {
 }
 
 /// What an entry shows: the entry, its generation, and the number of its live read and write pins.
-#[derive(Clone, Copy)]
+#[derive(Clone, Copy, PartialEq, Eq)]
 pub struct EntryView {
     pub entry: Entry,
     pub generation: u32,
