@@ -1,27 +1,34 @@
 //! Names and numbers of types, what a source may do, and every prefix of a text.
+use crate::compare::{same, text_is};
 use crate::texts::{GUESTS, declarations};
 use bitflags::Flags;
 use gt_policy::{Policy, PolicyFaultKind};
 use gt_types::{Allows, Perms, TypeId};
 use std::alloc::{AllocError, Global};
 use std::process::Abort;
-use std::test::Fail;
 
-// A prefix is a policy if a statement has just ended, and otherwise has one fault.
-#[test]
-fn ends_each_beginning_of_a_text(rt: HostRuntime) -> Result<(), Fail> {
-    let alloc = rt.alloc();
+// Returns whether a text is a policy, if a statement has just ended, and otherwise has one fault.
+fn is_ended(alloc: Global, text: &str, is_end: bool) -> bool {
+    match Policy::parse(alloc, text) {
+        Ok(_) => is_end,
+        Err(fault) => !is_end && !matches!(&fault.kind, PolicyFaultKind::Memory),
+    }
+}
+
+// Compares this for each beginning of a text.
+fn beginnings_are(rt: &impl Abort, alloc: Global) -> Result<(), AllocError> {
     let mut text = String::new(alloc);
     for c in GUESTS.chars() {
         text.push(c)?;
-        let is_end = c == ';' || c == '\n';
-        let is_told = match Policy::parse(alloc, text.as_str()) {
-            Ok(_) => is_end,
-            Err(fault) => !is_end && !matches!(&fault.kind, PolicyFaultKind::Memory),
-        };
-        assert!(rt; is_told, "{text}");
+        let is_told = is_ended(alloc, text.as_str(), c == ';' || c == '\n');
+        same(rt, &(text.len(), is_told), &(text.len(), true));
     }
     Ok(())
+}
+
+#[test]
+fn ends_each_beginning_of_a_text(rt: HostRuntime) {
+    same(&rt, &beginnings_are(&rt, rt.alloc()), &Ok(()));
 }
 
 // Returns how many types a policy has, the names of some of them, and the numbers of some names.
@@ -46,30 +53,39 @@ const NAMES_OF_GUESTS: &str =
 const NAMES_OF_MANY: &str =
     "256 Some(\"n0\") Some(\"n1\") Some(\"n2\") Some(\"n255\") None None None None None";
 
-// Compares them with a text.
-fn names_are(rt: &impl Abort, alloc: Global, text: &str, wanted: &str) -> Result<(), Fail> {
-    let policy = Policy::parse(alloc, text)?;
-    let said = names_said(alloc, &policy)?;
-    assert_eq!(rt; said.as_str(), wanted);
-    Ok(())
+// Returns them for the policy of a text, if it is one.
+fn names_of(alloc: Global, text: &str) -> Result<String, AllocError> {
+    match Policy::parse(alloc, text) {
+        Ok(policy) => names_said(alloc, &policy),
+        Err(fault) => fault.to_string(alloc),
+    }
 }
 
-#[test]
-fn tells_types_by_number_and_name(rt: HostRuntime) -> Result<(), Fail> {
-    let alloc = rt.alloc();
+fn names_of_many(alloc: Global) -> Result<String, AllocError> {
     let many = declarations(alloc, "type", 256)?;
-    names_are(&rt, alloc, GUESTS, NAMES_OF_GUESTS)?;
-    names_are(&rt, alloc, many.as_str(), NAMES_OF_MANY)
+    names_of(alloc, many.as_str())
 }
 
 #[test]
-fn lists_types_by_name(rt: HostRuntime) -> Result<(), Fail> {
-    let alloc = rt.alloc();
-    let text = "type b;type a-b;type a0;type a;type B;type a.b;";
-    let ids = Policy::parse(alloc, text)?.by_name(alloc)?;
+fn tells_types_by_number_and_name(rt: HostRuntime) {
+    text_is(&rt, names_of(rt.alloc(), GUESTS), NAMES_OF_GUESTS);
+    text_is(&rt, names_of_many(rt.alloc()), NAMES_OF_MANY);
+}
+
+// Returns whether the types of a policy, by their names, have these numbers.
+fn are_by_name(alloc: Global, text: &str, wanted: &[TypeId]) -> Result<bool, AllocError> {
+    match Policy::parse(alloc, text) {
+        Ok(policy) => Ok(policy.by_name(alloc)?.as_slice() == wanted),
+        Err(_) => Ok(false),
+    }
+}
+
+const UNORDERED: &str = "type b;type a-b;type a0;type a;type B;type a.b;";
+
+#[test]
+fn lists_types_by_name(rt: HostRuntime) {
     let wanted = [4, 3, 1, 5, 2, 0].map(TypeId);
-    assert_eq!(rt; ids.as_slice(), wanted.as_slice());
-    Ok(())
+    same(&rt, &are_by_name(rt.alloc(), UNORDERED, &wanted), &Ok(true));
 }
 
 const COPY_AND_QUERY: &str = "attribute domain;\n\
@@ -83,32 +99,58 @@ fn rights_on(policy: &Policy, source: u16, target: u16) -> Perms {
     policy.row(TypeId(source)).on(TypeId(target))
 }
 
-#[test]
-fn says_what_a_source_may_do(rt: HostRuntime) -> Result<(), Fail> {
-    let policy = Policy::parse(rt.alloc(), COPY_AND_QUERY)?;
+// Returns the rights of each source on each target, and of types that do not exist.
+fn rights_of(policy: &Policy) -> [Perms; 6] {
+    [
+        rights_on(policy, 0, 0),
+        rights_on(policy, 0, 1),
+        rights_on(policy, 1, 0),
+        rights_on(policy, 1, 1),
+        rights_on(policy, 1, 2),
+        rights_on(policy, 300, 0),
+    ]
+}
+
+// The number of types of a policy, the rights, and the answers to three questions.
+type Answers = (u16, [Perms; 6], [bool; 3]);
+
+fn answers(policy: &Policy) -> Answers {
+    let answers = [
+        policy.allows(TypeId(1), TypeId(0), Perms::MAP_READ),
+        policy.allows(TypeId(0), TypeId(0), Perms::QUERY),
+        policy.allows(TypeId(0), TypeId(1), Perms::QUERY),
+    ];
+    (policy.count(), rights_of(policy), answers)
+}
+
+// Returns them for the policy, or whether its fault is `Memory`.
+fn copy_and_query(alloc: Global) -> Result<Answers, bool> {
+    match Policy::parse(alloc, COPY_AND_QUERY) {
+        Ok(policy) => Ok(answers(&policy)),
+        Err(fault) => Err(matches!(&fault.kind, PolicyFaultKind::Memory)),
+    }
+}
+
+fn wanted() -> Result<Answers, bool> {
     let both = Perms::MAP_READ | Perms::COPY;
-    assert_eq!(rt; rights_on(&policy, 0, 0), Perms::QUERY);
-    assert_eq!(rt; rights_on(&policy, 0, 1), Perms::empty());
-    assert_eq!(rt; rights_on(&policy, 1, 0), both);
-    assert_eq!(rt; rights_on(&policy, 1, 1), both);
-    assert_eq!(rt; rights_on(&policy, 1, 2), Perms::empty());
-    assert_eq!(rt; rights_on(&policy, 300, 0), Perms::empty());
-    Ok(())
+    let none = Perms::empty();
+    let rights = [Perms::QUERY, none, both, both, none, none];
+    Ok((2, rights, [true, true, false]))
+}
+
+#[test]
+fn says_what_a_source_may_do(rt: HostRuntime) {
+    same(&rt, &copy_and_query(rt.alloc()), &wanted());
 }
 
 // With tools/refused.sh, which makes each allocation fail in turn: the answer is the same, or the fault is `Memory`.
 #[test]
 fn memory(rt: HostRuntime) {
-    match Policy::parse(rt.alloc(), COPY_AND_QUERY) {
-        Ok(policy) => {
-            let told = (
-                policy.count(),
-                policy.allows(TypeId(1), TypeId(0), Perms::MAP_READ),
-                policy.allows(TypeId(0), TypeId(0), Perms::QUERY),
-                policy.allows(TypeId(0), TypeId(1), Perms::QUERY),
-            );
-            assert_eq!(rt; told, (2, true, true, false));
-        }
-        Err(fault) => assert!(rt; matches!(&fault.kind, PolicyFaultKind::Memory)),
-    }
+    let told = copy_and_query(rt.alloc());
+    let wanted = if told == Err(true) {
+        Err(true)
+    } else {
+        wanted()
+    };
+    same(&rt, &told, &wanted);
 }

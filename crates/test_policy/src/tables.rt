@@ -1,11 +1,11 @@
 //! The compiled table compared with the walk of the statements: both answer every question alike.
+use crate::compare::same;
 use crate::texts::{GUESTS, TAKEN_OUT};
 use bitflags::Flags;
 use gt_allow::AllowTable;
 use gt_policy::Policy;
 use gt_types::{Allows, Perms, Triple, Triples, TypeId};
 use std::alloc::{AllocError, Global};
-use std::test::Fail;
 
 const ONE_STATEMENT: &str = "type a_t; type b_t; allow b_t a_t:grant map_read;\n";
 
@@ -65,17 +65,24 @@ static POLICIES: [(&str, u32); 8] = [
     ("", 0),
 ];
 
+// Returns these counts for the policy of a text, with one undeclared type, if it is a policy.
+fn compared_in(alloc: Global, text: &str) -> Option<(u32, u32)> {
+    let Ok(policy) = Policy::parse(alloc, text) else {
+        return None;
+    };
+    let Ok(table) = AllowTable::compile(alloc, &policy) else {
+        return None;
+    };
+    Some(compared(&policy, &table, policy.count().wrapping_add(1)))
+}
+
 // Compares them on every triple of the types, and of one undeclared type.
 #[test]
-fn a_table_answers_as_the_walk(rt: HostRuntime) -> Result<(), Fail> {
-    let alloc = rt.alloc();
+fn a_table_answers_as_the_walk(rt: HostRuntime) {
     for (text, triples) in POLICIES.iter() {
-        let policy = Policy::parse(alloc, text)?;
-        let table = AllowTable::compile(alloc, &policy)?;
-        let told = compared(&policy, &table, policy.count().wrapping_add(1));
-        assert_eq!(rt; told, (*triples, 0), "{text}");
+        let told = compared_in(rt.alloc(), text);
+        same(&rt, &(*text, told), &(*text, Some((*triples, 0))));
     }
-    Ok(())
 }
 
 // Returns the answers of the walk, of the table, and of a list that has this question, to the question for these
@@ -102,25 +109,30 @@ fn answers_for(
     ])
 }
 
+// Returns these answers for one permission, for none, for two and for all.
+fn several_answered(alloc: Global) -> Option<[Result<[bool; 3], AllocError>; 4]> {
+    let Ok(policy) = Policy::parse(alloc, "type a_t; allow a_t a_t:grant *;") else {
+        return None;
+    };
+    let Ok(table) = AllowTable::compile(alloc, &policy) else {
+        return None;
+    };
+    let several = Perms::MAP_READ | Perms::MAP_WRITE;
+    Some([
+        answers_for(alloc, &policy, &table, Perms::COPY),
+        answers_for(alloc, &policy, &table, Perms::empty()),
+        answers_for(alloc, &policy, &table, several),
+        answers_for(alloc, &policy, &table, Perms::all()),
+    ])
+}
+
 // A question for several permissions, or for none, is answered no in all three forms.
 #[test]
-fn several_permissions_are_none(rt: HostRuntime) -> Result<(), Fail> {
-    let alloc = rt.alloc();
-    let policy = Policy::parse(alloc, "type a_t; allow a_t a_t:grant *;")?;
-    let table = AllowTable::compile(alloc, &policy)?;
-    let several = Perms::MAP_READ | Perms::MAP_WRITE;
-    assert_eq!(rt;
-        answers_for(alloc, &policy, &table, Perms::COPY)?,
-        [true; 3]
+fn several_permissions_are_none(rt: HostRuntime) {
+    let none = Ok([false; 3]);
+    same(
+        &rt,
+        &several_answered(rt.alloc()),
+        &Some([Ok([true; 3]), none, none, none]),
     );
-    assert_eq!(rt;
-        answers_for(alloc, &policy, &table, Perms::empty())?,
-        [false; 3]
-    );
-    assert_eq!(rt; answers_for(alloc, &policy, &table, several)?, [false; 3]);
-    assert_eq!(rt;
-        answers_for(alloc, &policy, &table, Perms::all())?,
-        [false; 3]
-    );
-    Ok(())
 }
