@@ -117,7 +117,7 @@ fn same_denial(one: Denial, other: Denial) -> bool
 }
 
 /// Returns true only if both ends of a call are the same.
-pub fn same_verdict(one: CallResult, other: CallResult) -> bool
+pub fn same_result(one: CallResult, other: CallResult) -> bool
     ensures { IsTrue result → other ≡ one }
 {
     match (one, other) {
@@ -316,14 +316,14 @@ fn same_other_phase(one: Phase, other: Phase) -> bool
                 step: s,
                 verdict: v,
             },
-        ) => same_step(step, s) && same_verdict(verdict, v),
+        ) => same_step(step, s) && same_result(verdict, v),
         (
             Phase::Ending { pins, verdict },
             Phase::Ending {
                 pins: p,
                 verdict: v,
             },
-        ) => same_pins(pins, p) && same_verdict(verdict, v),
+        ) => same_pins(pins, p) && same_result(verdict, v),
         _ => false,
     }
 }

@@ -4,7 +4,7 @@ use gt_calls::{
     OwnerEntry, PinHolder, Request, Step,
 };
 use gt_entry::{Entry, Header};
-use gt_explore_same::{same_step, same_verdict};
+use gt_explore_same::{same_result, same_step};
 use gt_roster::Roster;
 use gt_types::{
     Config, Denial, DomId, DomainConfig, Facts, GrantRef, Memory, Perms, Rule, StartFault, Triple,
@@ -279,7 +279,7 @@ pub fn known<'a>(
 fn is_same(one: Action, other: Action) -> bool {
     match (one, other) {
         (Action::Step(step), Action::Step(s)) => same_step(step, s),
-        (Action::Done(verdict), Action::Done(v)) => same_verdict(verdict, v),
+        (Action::Done(verdict), Action::Done(v)) => same_result(verdict, v),
         _ => false,
     }
 }
