@@ -234,7 +234,7 @@ fn word_said(alloc: Global, word: u64) -> Result<String, AllocError> {
 }
 
 // Returns an answer as a text: `ok` with its values, or the rule that refused and what decided it: the word seen, in
-/// hexadecimal digits, the field, or the two types and the permission.
+// hexadecimal digits, the field, or the two types and the permission.
 fn answer_said(alloc: Global, answer: &Answer) -> Result<String, AllocError> {
     match answer {
         Answer::Done => String::from_str(alloc, "ok"),
