@@ -1,6 +1,8 @@
 use Rattle.gt_calls.proofs.Words.{◌≡◌, refl, ◌∙◌, DomId, CallResult, CopyArgs, PinPurpose, AccessPath, CallerKnowledge}
 use Rattle.gt_calls.proofs.Words.{Leg, LegPhase, Phase, Walking, Accessing, Asking, Last, Ending, Observation, Step, CallPins}
-use Rattle.gt_calls.proofs.Words.{knows, phase_after}
+use Rattle.gt_calls.proofs.Words.{LegRefused, after_leg, ap, knows, leg_after, phase_after, pins_so_far, sym}
+use Rattle.gt_calls.specs.Prelude.{Denial}
+use Rattle.gt_calls.specs.declared.action.CallResult.TheVariants.{Refused}
 use Rattle.gt_calls.specs.Machine.{change_after}
 use Rattle.gt_calls.specs.declared.call.HeaderQuery.{HeaderQuery}
 use Rattle.gt_calls.proofs.call.advance_phase.Goals as goal
@@ -24,3 +26,19 @@ pub returns-in_default : goal.returns-in_default
 returns-in_default g c =
     c.advance_change.ensures
     ∙ of-change (knows g.P.Allows.may c.args.known.now) c.args.caller c.args.phase.now c.args.seen c.in_default.not-Walking c.in_default.not-Accessing c.in_default.not-Asking c.in_default.not-Last c.in_default.not-Ending
+
+-- a leg that is refused is followed by the release of the pins so far
+of-refused : (k : CallerKnowledge) (caller : DomId) (aim : PinPurpose) (l : Leg) (at : LegPhase) (seen : Observation)
+    (denial : Denial) (pins : CallPins) (phase after : Phase)
+    → phase ≡ Walking aim l at → leg_after l at seen ≡ LegRefused denial → pins ≡ pins_so_far aim
+    → after ≡ Ending pins (Refused denial) → after ≡ phase_after k caller phase seen
+of-refused k caller aim l at seen denial pins phase after w r p e =
+    e ∙ ap (λ (x : CallPins). Ending x (Refused denial)) p ∙ ap (after_leg k caller aim l) (sym r)
+    ∙ ap (λ (x : Phase). phase_after k caller x seen) (sym w)
+
+pub returns-in-Refused : goal.returns-in-Refused
+returns-in-Refused g c =
+    let w = c.in-Walking in
+    of-refused (knows g.P.Allows.may c.args.known.now) c.args.caller w.aim w.leg w.at c.args.seen c.in-Refused.denial
+    c.pins_so_far.result c.args.phase.now c.ending.result w.is (sym c.leg_next.ensures ∙ c.in-Refused.is)
+    c.pins_so_far.ensures c.ending.ensures
