@@ -53,7 +53,7 @@ pub enum AttachedOutcome {
     NoMemory,
     /// The domain is not in a copy that could end.
     NoCopy,
-    /// There is no such mapping or record.
+    /// There is no such mapping, record or entry.
     Absent,
     /// A pointer is null. The call was not made.
     NullPointer,
@@ -110,7 +110,7 @@ pub const NO_MEMORY: u32 = 258;
 /// The `rule` of the end of a copy if the domain is not in one.
 pub const NO_COPY: u32 = 259;
 
-/// The `rule` of a question about a mapping or a record that does not exist.
+/// The `rule` of a question about a mapping, a record or an entry that does not exist.
 pub const ABSENT: u32 = 260;
 
 /// The `rule` of a call that was not made, since a pointer is null.
