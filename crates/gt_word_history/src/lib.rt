@@ -8,7 +8,8 @@
 //! step with what each requires and promises (`specs/Moves.antt`), and the proofs that the rule holds at the start, at
 //! each step, and when seats are dealt and taken in. Views and steps do not exist at run time.
 //!
-//! It uses the words of `gt_entry`, `atomic_table` (the states of a table), and `gt_frames` for the accesses in a view.
+//! It uses the words of `gt_entry`, `atomic_table` (the states of a table), `gt_frames` for the accesses in a view, and
+//! `gt_types`.
 #![tactic(auto)]
 
 mod encoding;
