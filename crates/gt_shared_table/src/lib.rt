@@ -10,7 +10,8 @@
 //! an access that gets no memory, and a pass of a flag that is not raised, add none. Views and steps cost nothing at
 //! run time. Only `SharedTable::new` allocates for itself, and only accesses may wait.
 //!
-//! It uses `atomic_table`, `gt_word_history` (views, steps and the rule of the words) and `gt_frames`.
+//! It uses `atomic_table`, `gt_word_history` (views, steps and the rule of the words), `gt_frames`, `gt_entry` (the
+//! words) and `gt_types`.
 #![tactic(auto)]
 
 mod accesses;
