@@ -12,7 +12,8 @@
 //! domains have one order. Views and steps cost nothing at run time.
 //!
 //! It uses `gt_shared_table` (the table and its single steps), `gt_word_history` (views and steps), `gt_frames`
-//! (receipts and writs), `gt_entry` (the words) and `gt_roster` (domains by their numbers).
+//! (receipts and writs), `gt_entry` (the words), `gt_roster` (domains by their numbers) and `gt_types`. Its definitions
+//! also name the states of `atomic_table`.
 #![tactic(auto)]
 
 mod at_position;
