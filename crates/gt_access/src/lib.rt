@@ -9,7 +9,7 @@
 //! receipt and its step name the same frame, range and bytes. Only accesses may wait.
 //!
 //! It uses `gt_words` (seats, views and frames), `gt_frames` (receipts and writs), `gt_calls` (routes), `gt_roster`
-//! (the configuration), `gt_entry` and `gt_types`.
+//! (the configuration) and `gt_types`. Its definitions also name `gt_entry` and `gt_word_history`.
 #![tactic(auto)]
 
 mod under;
