@@ -16,7 +16,8 @@ pub struct MappingName {
     pub run: u32,
 }
 
-/// What a domain leaves behind: the number of its records that were lost, and the number of its entries still in use.
+/// What remains of a domain that has left its run or was reset: the number of its records that were lost, and the
+/// number of its entries still in use.
 #[derive(Clone, Copy)]
 pub struct Departure {
     pub lost: u64,
@@ -53,11 +54,11 @@ pub enum AttachedOutcome {
     NoMemory,
     /// The domain is not in a copy that could end.
     NoCopy,
-    /// There is no such mapping or record.
+    /// There is no such mapping, record or entry.
     Absent,
     /// A pointer is null. The call was not made.
     NullPointer,
-    /// Ok: the domain has left its run, and this remains.
+    /// Ok: the domain has left its run or was reset, and this remains.
     Left(Departure),
     /// Ok: its records were taken.
     Taken(TakenCounts),
@@ -75,8 +76,8 @@ pub struct EncodedAnswer {
     /// The status of `grant_table.h` (`GNTST_*`): 0 or negative.
     pub status: i32,
     /// The kind of the other fields: 0 none, 1 a handle, 2 a number of frames, 3 a version, 4 a size, 5 what the policy
-    /// denies, 6 a field of an entry's bytes, 7 a header's word, 8 an entry's word, 9 what a domain leaves, 10 taken
-    /// records, 11 what was done to an entry that followed its guest's bytes.
+    /// denies, 6 a field of an entry's bytes, 7 a header's word, 8 an entry's word, 9 what remains of a domain that
+    /// left or was reset, 10 taken records, 11 what was done to an entry that followed its guest's bytes.
     pub kind: u32,
     /// The domain of the header or entry whose word this carries, or the domain that has the mapping.
     pub dom: u32,
@@ -90,11 +91,12 @@ pub struct EncodedAnswer {
     pub detail: u32,
     /// The word of the deciding look or exchange.
     pub word: u64,
-    /// The serial of a handle, a number of frames, a version, the number of records that a departed domain lost, the
-    /// number of records taken, or the number of what was done to an entry that followed its guest's bytes.
+    /// The serial of a handle, a number of frames, a version, the number of records that a domain had lost when it left
+    /// or was reset, the number of records taken, or the number of what was done to an entry that followed its guest's
+    /// bytes.
     pub value: u64,
-    /// The key of a handle, the maximum number of frames of a table, the number of entries of a departed domain that
-    /// are in use, or the number of records lost before those taken.
+    /// The key of a handle, the maximum number of frames of a table, the number of entries still in use of a domain
+    /// that left or was reset, or the number of records lost before those taken.
     pub more: u64,
 }
 
@@ -110,7 +112,7 @@ pub const NO_MEMORY: u32 = 258;
 /// The `rule` of the end of a copy if the domain is not in one.
 pub const NO_COPY: u32 = 259;
 
-/// The `rule` of a question about a mapping or a record that does not exist.
+/// The `rule` of a question about a mapping, a record or an entry that does not exist.
 pub const ABSENT: u32 = 260;
 
 /// The `rule` of a call that was not made, since a pointer is null.

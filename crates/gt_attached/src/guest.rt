@@ -393,7 +393,7 @@ impl<P: Allows + Drop> AttachedDomain<P> {
     }
 
     /// Leaves the run: releases each of the domain's mappings, and withdraws each of its valid entries. Returns the
-    /// number of records that were lost, and the number of the domain's entries that others still use.
+    /// number of records that were lost, and the number of the domain's entries still in use.
     pub fn finish(self) -> Departure
         requires idle { self.copying ≡ None }
         ensures leaves { Leaves P.may self.monitor self.domain result }

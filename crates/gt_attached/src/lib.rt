@@ -8,7 +8,8 @@
 //! pins from one to the other. An [`EncodedAnswer`] has all that the call returned, since it decodes to the same
 //! result. None of these calls waits.
 //!
-//! It uses `gt_live`, `gt_calls` (handles), `gt_entry` (entries), `gt_audit` (records) and `gt_types`.
+//! It uses `gt_live`, `gt_calls` (handles), `gt_entry` (entries), `gt_audit` (records), `gt_types` and `bitflags`. Its
+//! contracts also name definitions of `gt_handles`, `gt_roster` and `gt_words`.
 #![tactic(auto)]
 
 mod answer;

@@ -11,7 +11,7 @@ use gt_types::{Allows, Config, StartFault};
 use std::alloc::{AllocError, Global};
 use std::sync::Arc;
 
-// Lets domains leave that have made no call.
+// Finishes domains that have made no call.
 fn finish_all<P: Allows + Drop>(monitor: &Monitor<P>, domains: Vec<Domain>)
     requires { All (λ d. BelongsTo P.may monitor.now d) domains.items }
 {
@@ -59,7 +59,8 @@ fn all_guests<P: Allows + Drop>(
 /// frames from 1 on.
 ///
 /// # Errors
-/// The first fault of the configuration, or `Memory`. Any number of frames from 1 on is in range. No domain is left.
+/// The first fault of the configuration, or `Memory` if allocation fails, which may be before the check. No domain is
+/// left.
 pub fn start<P: Allows + Drop>(
     alloc: Global,
     config: Config,

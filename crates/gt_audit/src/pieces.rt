@@ -260,8 +260,8 @@ impl Pieces {
         self.at = 0;
     }
 
-    /// Makes room for this many more records, and writes it once. If an allocation fails, all memory taken for the
-    /// room is released. For more than [`MOST_RESERVED`] it fails without any allocation.
+    /// Makes room for this many more records, and writes it once. If an allocation fails, the pieces taken for the
+    /// room are released. For more than [`MOST_RESERVED`] it fails without any allocation.
     pub(crate) fn reserve(&mut self, records: usize) -> Result<(), AllocError>
         ensures records { self.new.records ≡ self.old.records }
         ensures grows { self.old.room ≤ self.new.room }

@@ -77,7 +77,7 @@ impl Trail {
     /// # Errors
     ///
     /// `Memory` if an allocation fails. Also for more than [`MOST_RESERVED`] records, without any allocation. The
-    /// trail is then unchanged, and all memory taken for the room is released.
+    /// trail is then unchanged, and the memory taken for records is released.
     pub fn reserve(&mut self, records: usize) -> Result<(), Memory>
         ensures bound { OnOk result (records ≤ MOST_RESERVED) }
         ensures refused { OnErr result (self.new ≡ self.old) }
@@ -116,7 +116,7 @@ impl Trail {
         self.len == 0
     }
 
-    /// Returns the record at this index, from 0.
+    /// Returns the record at this index, from 0, or None if there is none.
     pub fn get(&self, index: usize) -> Option<Record>
         ensures { result ≡ slice_get self.now.records index }
     {
@@ -154,8 +154,8 @@ impl Trail {
         self.lost = 0;
     }
 
-    /// Swaps in `next`, which is empty, and returns the records so far. The bound stays. An owner who takes turns
-    /// with two trails, clearing the one returned, does not allocate.
+    /// Swaps in `next`, which is empty, and returns the records so far. The bound stays. A caller that alternates two
+    /// trails, and clears the one returned, uses their room again.
     pub fn take(&mut self, next: Trail) -> Trail
         requires empty { HasNone next }
         ensures parts { ArePartsOf self.old result self.new }

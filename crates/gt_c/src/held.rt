@@ -31,6 +31,7 @@ impl Model for RawBox {
 }
 
 impl RawBox {
+    /// Makes the null pointer.
     pub fn none(alloc: Global) -> RawBox
         ensures { result.value ≡ None }
     {
@@ -40,6 +41,7 @@ impl RawBox {
         }
     }
 
+    /// Makes the pointer of a box that was taken apart, and owns what it points to.
     pub fn of_parts(parts: BoxParts<CDomain, Global>) -> RawBox
         ensures { result.value ≡ Some parts.value }
     {
@@ -50,6 +52,7 @@ impl RawBox {
         }
     }
 
+    /// Returns the parts of the box. The pointer must not be null.
     pub fn into_parts(self) -> BoxParts<CDomain, Global>
         requires { IsSome self.value }
         ensures { Some result.value ≡ self.value }

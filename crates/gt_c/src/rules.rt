@@ -92,8 +92,8 @@ fn padded(text: &[u8]) -> [u8; 240]
     all
 }
 
-/// Returns what the rule of an answer means, as `gthost rules` prints it: its name, its status, why it refuses, and
-/// what the caller may do.
+/// Returns what the `rule` of an answer means. For 1 to 26 it is the line that `gthost rules` prints: the rule's name,
+/// its status, why it refuses, and what the caller may do. For a number from 256 on it is why the call was not made.
 #[unsafe(no_mangle)]
 pub extern "C" fn gthost_rule_text(rule: u32) -> RuleText
     ensures len { result.len ≡ length (rule_bytes rule) }

@@ -114,7 +114,7 @@ pub fn judge_bytes(
     }
 }
 
-// Returns what a call keeps of a request that grants by no bytes.
+// Returns what a call keeps of its request. `judge_request` opens a grant by bytes itself, so it never comes here.
 #[tactic(auto, unfolding(crate::specs::Asking::plainly_asked))]
 fn plainly_asked(request: Request<'_>) -> OpenRequest
     ensures { result ≡ plainly_asked request.entry }

@@ -109,7 +109,7 @@ fn held_at<P: Allows>(known: &CallerState<'_, P>, handle: Handle) -> Option<Held
     known.mappings.get(handle).copied()
 }
 
-// Writes the phase of a call through a mapping: its one step, or the refusal if there is no mapping.
+// Writes the phase of an unmap or a release: its one step, or the refusal if there is no mapping.
 fn begin_unmap(mapping: Option<HeldPin>, handle: Handle, phase: &mut Phase)
     ensures { phase.new ≡ unmap_phase handle mapping }
 {

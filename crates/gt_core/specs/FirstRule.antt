@@ -101,7 +101,7 @@ is_miss (Exchange gref looked change, Missed w) more = true
 is_miss (LookControl dom gref, Word w) more = is_in_body more && is_other w (looked_at more)
 is_miss _ more = false
 
--- the number of missed tries, since the header of the leg
+-- the number of missed tries: of the leg since its header, or of a call without a leg since its beginning
 unfoldable pub misses : StepsSoFar → ℕ
 misses [] = 0
 misses ((LookHeader dom, v) ∷ more) = 0

@@ -1,4 +1,4 @@
--- Every legal history can continue: how a run may begin, and what each of its domains may do next.
+-- Every history that a core represents can continue: how a run may begin, and what each of its domains may do next.
 use Rattle.std.specs.Prelude.{◌≡◌, ◌≢◌, ◌+◌, Bool, [], ◌∷◌, Option, Some, None, slice_range}
 use Rattle.gt_core.specs.Prelude.{IsWithinLimits, domain_of, DomId, TypeId, Config, Perms, HandleMap, Handle, FitsAsked}
 use Rattle.gt_core.specs.Prelude.{SpellsItsEntry, asked, begun_of, path, Action, Makes, Ends, Step, ReadBytes, WriteBytes}

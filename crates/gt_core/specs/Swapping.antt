@@ -82,7 +82,8 @@ pub record AreApart (s : Setting) (h : History) (i j : Item) : Type 0 where
   pub second : SameSight s (i ∷ h) h j.actor j.happened
   pub frames : (t f : ℕ) → (patches_of h i t f ≡ []) ⊎ (patches_of h j t f ≡ [])
 
--- two items that are right one after the other, and apart, are right in the other order too, and it looks the same
+-- two items that are right one after the other, and apart, are right in the other order too, and the histories with
+-- them look the same
 abbrev pub ApartChangePlaces : Type 0
 ApartChangePlaces =
     (s : Setting) (h : History) (i j : Item) → AreApart s h i j → IsRight s h i → IsRight s (i ∷ h) j

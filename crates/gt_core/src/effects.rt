@@ -57,7 +57,8 @@ fn store_header(config: &Roster, domains: &mut [DomainState], dom: DomId, versio
     }
 }
 
-/// Applies a step of the domain that saw this to the words, and to the actor's mappings if it drops one.
+/// Applies a step of `actor`, which saw `seen`, to the states of the domains. A step that releases the pin of a mapping
+/// drops that mapping.
 pub fn apply(
     config: &Roster,
     domains: &mut [DomainState],

@@ -161,7 +161,7 @@ impl DomainState {
         self.room = None;
     }
 
-    /// Closes a load, and returns the room for its bytes.
+    /// Closes a load or a peek, and returns the room for its bytes.
     pub fn close_load(&mut self, alloc: Global) -> Vec<u8>
         ensures closed { self.new ≡ with_underway None self.old }
         ensures room { IsLoading (asked_in self.old.underway) (vec_len result) }

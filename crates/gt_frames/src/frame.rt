@@ -26,8 +26,7 @@ struct FrameParts {
     journal: Journal,
 }
 
-/// A frame of 4,096 bytes, with all writes made to it. All of it is in one block of the heap, so moving a frame moves
-/// one word.
+/// A frame of 4,096 bytes, with all writes made to it. Its parts are in a box, so moving a frame moves one word.
 #[derive(Drop)]
 pub struct Frame {
     parts: Box<FrameParts>,

@@ -98,7 +98,8 @@ impl Frames {
     ghost use Rattle.gt_frames.specs.Sets.{frame_at, place_in, has_frame, has_range, admits, all_zeros};
     ghost use Rattle.gt_frames.specs.Sets.{AreKept, WritesTo};
 
-    /// Returns the frames of all domains, in their order, each of zeros. The bytes of each are allocated once.
+    /// Returns the frames of all domains, in their order, each of zeros. The bytes of a frame are allocated here, and
+    /// never move.
     ///
     /// # Errors
     ///

@@ -6,11 +6,10 @@
 //! owner's permits it to write that range; or a transitive entry forwards it, and an entry of the owner's permits
 //! the middle domain.
 //!
-//! [`Frame::read`], [`Frame::write`], [`Frame::copy_between`] and [`Frame::copy_within`] do exactly what their
-//! receipts [`Read`], [`Written`] and [`Copied`] state, overlap included. Only these calls make receipts, and no
-//! receipt can be cloned. If an allocation fails, nothing changes. Reads do not allocate. A caller that writes
-//! passes a writ that covers the range. [`Frames`] are all frames of a run, for one thread: a write or a copy
-//! changes the frame named and no other.
+//! The reads, writes and copies of a [`Frame`] do exactly what their receipts [`Read`], [`Filled`], [`Written`] and
+//! [`Copied`] state, overlap included. No other access makes a receipt, and no receipt can be cloned. If an allocation
+//! fails, nothing changes. Reads do not allocate. A caller that writes passes a writ that covers the range. [`Frames`]
+//! are all frames of a run, for one thread: a write or a copy changes the frame named and no other.
 //!
 //! It uses `gt_types` (names), `gt_entry` (entries, and what they permit) and `bytes` (a lemma on lists).
 #![tactic(auto)]

@@ -107,7 +107,8 @@ impl Writ {
         is_domain(self.writer, other.writer) && is_ground(&self.basis, &other.basis)
     }
 
-    /// Returns true if the writ is for this range of this frame of the owner's.
+    /// Returns true if the writ gives the right to write this range of the owner's frame `number`. It does not check
+    /// that the range ends inside the frame.
     pub fn covers(&self, owner: DomId, number: u64, range: Range) -> bool
         ensures { result ≡ covers self.now owner number range.off range.len }
     {

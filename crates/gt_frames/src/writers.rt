@@ -25,10 +25,10 @@ const EMPTY: Stretch = Stretch {
     number: 0,
 };
 
-/// The writ by which each byte of a frame was last written. Does not allocate before the first write.
+/// The writ by which each byte of a frame was last written. It does not allocate before the first write.
 ///
-/// A writ is kept while a byte has it; later its slot is reused. There are at most 128 slots, or twice as many as
-/// there are writs in use, if that is more.
+/// A writ is kept while a byte has it; later its slot is reused. There are at most 128 slots, or twice as many as writs
+/// were ever in use at once, if that is more.
 #[derive(Drop)]
 pub(crate) struct Writers {
     alloc: Global,

@@ -14,7 +14,7 @@ use Rattle.gt_host.specs.declared.kept.PlayState.{PlayState}
 use Rattle.gt_host.specs.OpenCalls.{told_in}
 use Rattle.gt_script_runs.specs.Auditing.{hypercall_of_request, open_told, records_of}
 
--- the record of the domain's request, after the items for which the core stands
+-- the hypercall in the record of the domain's request, after each history that the core represents
 abbrev pub IsAbout : Setting → CoreState → DomId → Request → Option Hypercall → Type 0
 IsAbout s domains dom request told =
     (h : History) → CoreStands s h domains → told ≡ hypercall_of_request (subject_at s h dom) (asked request)

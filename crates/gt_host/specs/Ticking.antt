@@ -17,7 +17,7 @@ use Rattle.gt_host.specs.OpenCalls.{call_in}
 use Rattle.gt_host.specs.Recording.{IsAudited}
 use Rattle.gt_script_runs.specs.Runs.{Progress, EndsAsCall, TicksComeTo, KnowsOpen, call_events, history_of}
 
--- the events did what they may after the history, and the core stands for the result
+-- the events did what they may after the history, and the core represents the result
 pub record HasHappened (s : Setting) (h : History) (events : List Event) (trace : List Element)
     (core : CoreState) : Type 0 where
   pub legal : LegalAfter s h events trace
@@ -41,7 +41,7 @@ pub record TicksTo (s : Setting) (h : History) (dom : DomId) (most : ℕ) (core 
   pub comes : TicksComeTo most trace answer
   pub happens : HasHappened s h (replicate ticks (Tick dom)) trace core
 
--- the core stands for some history, and the domain is one of the run
+-- the core represents a history, and the domain is one of the run
 pub record IsReadyToCall (s : Setting) (dom : DomId) (core : CoreState) : Type 0 where
   pub history : History
   pub stands : CoreStands s history core

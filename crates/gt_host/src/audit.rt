@@ -17,8 +17,8 @@ pub struct AuditRecords {
     records: Vec<Record>,
 }
 
-// Returns the record of a call that the domain is about to make; None if such calls are not audited. An unmap is
-// recorded by the entry that is mapped now: when it has its answer, its handle may name none.
+// Returns the hypercall for the record of a call that the domain is about to make; None if such calls are not audited.
+// An unmap is recorded by the entry that is mapped now: when it has its answer, its handle may name none.
 fn hypercall_of_request<P: Allows>(
     core: &Core<P>,
     dom: DomId,
@@ -91,8 +91,8 @@ impl AuditRecords {
         }
     }
 
-    /// Returns the record of a call that the domain is about to make; None if such calls are not audited, or the audit
-    /// is off.
+    /// Returns the hypercall for the record of a call that the domain is about to make; None if such calls are not
+    /// audited, or the audit is off.
     pub fn about<P: Allows>(
         &self,
         core: &Core<P>,

@@ -10,8 +10,8 @@
 //! The audit, if it is on, appends the records of what the run did, and changes no other line.
 //!
 //! It uses `gt_script_runs` (what lines ask and print), `gt_script` and `gt_script_lines` (scripts), `gt_core` (calls),
-//! `gt_entry` (entries), `gt_audit` (records and their lines), `gt_text` (texts, reads and writes) and `hex`. Its
-//! definitions also name the requests of `gt_calls` and the handles of `gt_handles`.
+//! `gt_calls` (the bound on the steps of a call), `gt_entry` (entries), `gt_audit` (records and their lines), `gt_text`
+//! (texts, reads and writes), `gt_types` and `hex`. Its proofs also name the handles of `gt_handles`.
 #![tactic(auto)]
 
 mod audit;

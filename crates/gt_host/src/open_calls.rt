@@ -5,7 +5,7 @@ use gt_types::DomId;
 use std::alloc::{AllocError, Global};
 use std::collections::BTreeMap;
 
-/// An open call: the step of the script that began it, and its record.
+/// An open call: the step of the script that began it, and the hypercall that its record will have, if it is audited.
 #[derive(Clone, Copy)]
 pub struct Opened<'b, 'a> {
     pub step: &'b ScriptStep<'a>,
@@ -41,7 +41,7 @@ impl<'b, 'a> OpenCalls<'b, 'a> {
         self.begun.get(&dom.0).copied()
     }
 
-    /// Adds the open call of the domain, with its record.
+    /// Adds the open call of the domain, with the hypercall of its record.
     pub fn begin(
         &mut self,
         dom: DomId,

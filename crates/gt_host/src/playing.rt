@@ -113,7 +113,7 @@ fn play_bytes<W: Write>(
 }
 
 /// Reads a script, runs its lines on a core, one after the other, and writes a line for each answer, for what a line
-/// shows, and at the end for each open call.
+/// shows, for each call that can't begin and each tick without an open call, and at the end for each open call.
 ///
 /// At most 1,048,577 bytes are read. For a script with a fault nothing is written. After a failed write or allocation,
 /// a prefix of the text was written, or nothing.

@@ -47,7 +47,7 @@ pub record Accessed (k : Layout) (way : Continuation) (access : Step) (does : Vi
 abbrev pub IsUnmade : View → View → Type 0
 IsUnmade v w = w ≡ v
 
--- the refusal of an access that was not made: allocation failed, or the frame was missing or had another name
+-- the refusal of an access that was not made: allocation failed, or the table does not keep the frame
 abbrev pub IsOfAccess : Denial → Type 0
 IsOfAccess denial = (denial ≡ denial_of N26 NoFacts) ⊎ (denial ≡ denial_of N16 NoFacts)
 

@@ -1,4 +1,4 @@
--- What the last step of a call did if more than look, and the result of the call.
+-- What the last step of a call did besides looking, and the result of the call.
 use Rattle.std.specs.Prelude.{◌≡◌, ℕ}
 use Rattle.gt_types.specs.declared.DomId.{DomId}
 use Rattle.gt_types.specs.declared.GrantRef.{GrantRef}

@@ -86,8 +86,8 @@ pub record GaveUp (k : Layout) (dom : DomId) (gref : GrantRef) (word : ℕ) (ste
   pub missed : MissedTries (position_in k.ids dom) gref.0 (first ∷ second ∷ third ∷ word ∷ []) tries
   pub given_back : AreUnpins back
 
--- a call of a domain that is refused by N18 made exactly four tries at the end, each of which was missed, and carries the word that
--- the fourth found
+-- a call of a domain that is refused by N18 made exactly four tries at the end, each of which was missed, and carries
+-- the word that the fourth found
 abbrev pub FourTriesWereMissed : Type 0
 FourTriesWereMissed =
     (k : Layout) (c : CallerKnowledge) (caller : DomId) (request : Request) (denial : Denial) (v w : View)

@@ -157,7 +157,7 @@ pub(crate) fn refusal_of(verdict: CallResult) -> Denial
     }
 }
 
-// Returns what a record keeps of Ok without a value, or of a refusal.
+// Returns the reply for the record of a call whose Ok has no value.
 fn outcome_reply<T>(answer: &Result<T, Denial>) -> Reply
     ensures reply { result ≡ reply_of (outcome_of answer.now) }
     ensures tells { told_by result ≡ outcome_of answer.now }
@@ -168,7 +168,7 @@ fn outcome_reply<T>(answer: &Result<T, Denial>) -> Reply
     }
 }
 
-// Returns what a record keeps of a version, or of a refusal.
+// Returns the reply for the record of a query of a version.
 fn version_reply(answer: &Result<u32, Denial>) -> Reply
     ensures reply { result ≡ reply_of (verdict_of_version answer.now) }
     ensures tells { told_by result ≡ verdict_of_version answer.now }

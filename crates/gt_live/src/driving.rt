@@ -18,7 +18,7 @@ use gt_handles::Handle;
 use gt_types::{Allows, Denial, DomId, GrantRef, Rule};
 use gt_words::{Pin, Seat, Words};
 
-/// What the last step of a call did, if more than look.
+/// What the last step of a call did besides looking.
 #[derive(Clone, Copy)]
 pub enum Effect {
     Nothing,
@@ -44,7 +44,7 @@ pub(crate) fn pin_of(held: HeldPin) -> Pin
     }
 }
 
-// These functions look at a word, one each.
+// Each of these two functions looks at one word.
 #[inline(always)]
 pub(crate) fn look_at_header(words: &Words, seat: &mut Seat, dom: DomId) -> u64
     requires seat { IsSeatOf words.now seat.old }
@@ -66,7 +66,7 @@ pub(crate) fn look_at_control(words: &Words, seat: &mut Seat, dom: DomId, gref: 
     words.load_control(seat, dom, gref)
 }
 
-// These functions make the steps of a leg, whose domain has the position `at`, one each.
+// Each of these functions makes one step of a leg. `at` is the position of the leg's domain.
 #[inline(always)]
 fn leg_header(words: &Words, seat: &mut Seat, leg: &Leg, at: usize) -> u64
     requires seat { IsSeatOf words.now seat.old }
@@ -155,7 +155,7 @@ pub(crate) fn walk_leg(words: &Words, seat: &mut Seat, leg: &Leg) -> Result<Held
 }
 
 // Walks a leg whose domain has the position `at`. Most calls of a run are maps and copies, so the steps are written out
-// here instead of asked of a machine.
+// here, and not taken from `Call::next`.
 #[inline(always)]
 fn walk_leg_at(words: &Words, seat: &mut Seat, leg: &Leg, at: usize) -> Result<HeldPin, Denial>
     requires seat { IsSeatOf words.now seat.old }
@@ -211,8 +211,8 @@ pub(crate) struct PlacedLeg {
     pub at: usize,
 }
 
-// Drives a map to its end, by this leg, and returns the pin that it took, or its refusal. Requires that it is not decided
-// at its beginning.
+// Drives a map to its end, by this leg, and returns the pin that it took, or its refusal. Requires that the map is not
+// decided at its beginning.
 #[inline(always)]
 pub(crate) fn drive_map<P: Allows>(
     words: &Words,

@@ -10,7 +10,7 @@
 //! exactly what its path accesses (`specs/Accesses.antt`).
 //!
 //! It uses `gt_calls`, `gt_words`, `gt_access`, `gt_frames`, `gt_handles`, `gt_audit`, `gt_entry`, `gt_roster` and
-//! `gt_types`.
+//! `gt_types`. Its contracts also name definitions of `gt_shared_table` and `gt_word_history`.
 #![tactic(auto)]
 
 mod domain;

@@ -36,7 +36,7 @@ fn give_pin_back(words: &Words, seat: &mut Seat, held: &HeldPin)
     words.unpin(seat, pin_of(*held));
 }
 
-// Where a Via leads: the pair that it asks for, and the entry.
+// Where a Via leads: the two domains between which the policy has to allow the copy, and the entry.
 #[derive(Clone, Copy)]
 struct BeyondVia {
     pair: (DomId, DomId),
@@ -44,7 +44,7 @@ struct BeyondVia {
     gref: GrantRef,
 }
 
-// Continues from the pin of a Via to the entry that it leads to: checks the pair that it asks for, and walks the second
+// Continues from the pin of a Via to the entry that it leads to: checks the rules after that pin, and walks the second
 // leg. Releases the pin of the Via if either refuses.
 #[inline(always)]
 fn go_through<P: Allows>(

@@ -26,7 +26,8 @@ pub record StaysOf {P : Type 0} (may : P → AllowRelation) (m : Monitor P) (d e
   pub afterwards : BelongsTo may m e
   pub seat : IsSameSeat d.seat e.seat
 
--- calls other than map, unmap and release whose result is their path's, so those with an access only if they are refused
+-- calls other than map, unmap and release whose result is that of their path; so a call with an access is one of them
+-- only if it is refused
 abbrev pub PlainCallsAreMade : {P : Type 0} → (P → AllowRelation) → Monitor P → Type 0
 PlainCallsAreMade may m =
     (d e : Domain) (request : Request) (verdict : CallResult) → StaysOf may m d e

@@ -71,7 +71,7 @@ IsCallWalk k given way v (x ∷ xs) =
     MakesTurn k given (way (all_shown xs)) (shown_by x) (view_after xs v) (view_after (x ∷ xs) v)
     × IsCallWalk k given way v xs
 
--- the call took its seat's view from d to e by these steps of its path, of which one is its access, and is Ok after them
+-- the call took its seat's view from d to e by these steps of its path, and is Ok after them; one of them is its access
 pub record TookTurns (b : Board) (c : Config) (may : AllowRelation) (request : Request) (steps : List Moment)
     (d e : Domain) : Type 0 where
   pub other : IsOfMapping (asked request) → ⊥

@@ -36,7 +36,8 @@ OutcomeGivesAnswer m Starved answer = (denial : Denial) × (answer ≡ answers.D
 OutcomeGivesAnswer m (Read bytes) answer = answer ≡ answers.Bytes bytes
 OutcomeGivesAnswer m Wrote answer = answer ≡ answers.Done
 
--- a copy that reached its access and could not make it: the call of the run is its probe, and the line prints the refusal
+-- a copy that reached its access and could not make it: the call of the run is its probe, and the line prints the
+-- refusal
 pub record IsLostCopy {P : Type 0} (monitor : Monitor P) (m : CallMade) (request : Request) (answer : Answer) : Type 0 where
   pub args : CopyArgs
   pub copy : request ≡ requests.Copy args

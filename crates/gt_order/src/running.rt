@@ -13,8 +13,8 @@ use std::sync::Wait;
 use std::thread::Threads;
 
 /// Runs the script that the reader has, as [`gt_run::run`] does. What is appended at Ok is a text that a run of the
-/// script may print, unless a copy is answered N26. It is one that `explore` lists, if it has neither a line with N26
-/// nor the line of a gate. With a log the audit lines and the number of lost records follow it.
+/// script may print. It is one that `explore` lists, if it has neither a line with N26 nor the line of a gate. With a
+/// log the audit lines and the number of lost records follow it.
 ///
 /// # Errors
 /// Those of [`gt_run::run`]. At a fault of the script, and if a thread could not be started, nothing was written. After

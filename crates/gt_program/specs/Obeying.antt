@@ -118,7 +118,7 @@ IsGiven text requests.Witnesses = ⊥
 IsGiven text (requests.Trace number) = ⊥
 IsGiven text (requests.Diagram number) = ⊥
 
--- a text is sought among those of a script, up to so many states
+-- a text is sought among those of a script, up to this number of states
 abbrev pub SeeksText : List ℕ → Format → ℕ → Doing
 SeeksText text format states input old new r =
     (asked : Searched) × IsGiven text asked.request × (asked.format ≡ explore_format format) × (asked.states ≡ states)

@@ -105,13 +105,14 @@ fn plain_words(alloc: Global, words: &[String]) -> Result<Vec<String>, AllocErro
     Ok(all)
 }
 
-/// Does what the words of a command line, the program's name first, ask for, and returns the outcome. Texts, rules, help
-/// and version go to `out`, rules in lines of the width of the style, if it has one. A fault goes to the standard error
-/// of the context, in one line. Of `play`, `run` and `policy` it is followed by its reasons if they are asked for.
+/// Does what the words of a command line, the program's name first, ask for, and returns the outcome. Texts, rules,
+/// help and version go to `out`, rules in lines of the width of the style, if it has one. A fault goes to the standard
+/// error of the context, in one line. Of `play`, `run` and `policy` it is followed by its reasons if they are asked
+/// for.
 ///
-/// The outcome is yes for success, no for a fault of `play`, `run` and `policy`, for a policy with an error, for a denied
-/// question and for a word that no text has, and unknown for a fault of another command and if the words ask for nothing
-/// that the program does.
+/// The outcome is yes for success, no for a fault of `play`, `run` and `policy`, for a policy with an error, for a
+/// denied question and for a word that no text has, and unknown for a fault of another command and if the words ask for
+/// nothing that the program does.
 #[tactic(auto, using(crate::proofs::Obeyed::obeyed_plain, crate::proofs::Obeyed::without_memory))]
 pub fn obey<R: Threads + Wait + Sync, T: TextSource, W: Write, E: Eprint>(
     context: &Context<R, T, E>,

@@ -64,7 +64,7 @@ fn style_of<R: Runtime + AllocGlobal>(rt: &R, is_terminal: bool) -> Style {
     }
 }
 
-/// Does what the words of the program's command line ask for, and returns the outcome. `is_terminal` says whether the
+/// Does what the words of the program's command line ask for, and returns the outcome. `is_terminal` is true if the
 /// standard output is a terminal.
 pub fn run<R: Runtime + AllocGlobal + Threads + Wait + Sync>(rt: &R, is_terminal: bool) -> Outcome {
     let texts = System { rt };

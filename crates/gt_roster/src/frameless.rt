@@ -13,8 +13,8 @@ fn one_frame(domain: DomainConfig) -> DomainConfig
     DomainConfig { frames, ..domain }
 }
 
-/// Copies a configuration, with at most one frame a domain. It is within the limits exactly if a monitor that keeps no
-/// frames can run with the configuration.
+/// Copies a configuration, with at most one frame a domain. The copy is within the limits exactly if a monitor that
+/// keeps no frames can run with the configuration.
 ///
 /// # Errors
 /// `AllocError`.

@@ -7,8 +7,8 @@
 //! it. [`Roster::domain`] returns that domain. A contract sees a [`Roster`] as its configuration. Only the functions
 //! that make a value allocate.
 //!
-//! A monitor that keeps no frames has a configuration without a largest number of frames (`IsRunnable`). It is checked
-//! in the form that [`with_one_frame`] returns.
+//! A monitor that keeps no frames has no limit on the number of a domain's frames (`IsRunnable`). Its configuration is
+//! checked in the form that [`with_one_frame`] returns.
 //!
 //! It uses `gt_types`.
 #![tactic(auto)]

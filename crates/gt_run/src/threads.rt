@@ -377,7 +377,8 @@ pub fn run_each<'a, R: Threads + Wait + Sync, P: Allows + Sync, G: Gate + Sync, 
 }
 
 /// Runs the parts over a new monitor with this configuration, these rights and this number of flags, each domain in its
-/// own thread, and writes what they print: the lines of each domain, in the order of the parts, and then their audit lines.
+/// own thread, and writes what they print: the lines of each domain, in the order of the parts, and then their audit
+/// lines.
 ///
 /// # Errors
 /// A thread that could not be started, and then no list ran and nothing was written; or an allocation or a write that

@@ -33,8 +33,8 @@ pub fn play_action_in<'a>(asks: BodyLine<'a>) -> Option<ScriptAction<'a>>
     }
 }
 
-/// Returns what a line of the body is for `run`: a whole call, or a flag that is raised or awaited; None if it is one for
-/// `play`.
+/// Returns what a line of the body is for `run`: a whole call, or a flag that is raised or awaited; None if it is one
+/// for `play`.
 #[tactic(auto, unfolding(crate::specs::Script::run_action_in))]
 pub fn run_action_in<'a>(asks: BodyLine<'a>) -> Option<RunActionBy<'a, Text<'a>>>
     ensures { result ≡ run_action_in asks.entry }

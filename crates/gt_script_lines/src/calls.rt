@@ -81,10 +81,11 @@ pub enum ScriptCall<'a> {
         off: u16,
         hex: Text<'a>,
     },
-    /// `copy END END LEN`: copies `len` bytes from the first end, the source, to the second. An end is
+    /// `copy END END LEN`: copies LEN bytes from the first end, the source, to the second. An end is
     /// `gref DOM REF OFF`, what an entry of the domain grants, or `frame DOM FRAME OFF`, a frame of the domain.
     Copy(CopyArgs),
-    /// `version V`: sets the version of the caller's table, to any number of 32 bits.
+    /// `version V`: asks for this version of the caller's table. V is any number of 32 bits; the call refuses all but 1
+    /// and 2.
     SetVersion {
         version: u32,
     },
@@ -320,7 +321,6 @@ fn read_copy<'a>(args: &[&'a [u8]]) -> Option<ScriptCall<'a>>
     }
 }
 
-// Reads a reference, if it is the only word.
 /// Reads a reference, if it is the only word.
 #[tactic(auto, unfolding(crate::specs::Calls::only_reference))]
 pub fn only_reference(args: &[&[u8]]) -> Option<GrantRef>

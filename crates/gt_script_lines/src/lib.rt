@@ -1,8 +1,8 @@
 //! The lines of a script, one by one.
 //!
 //! `text_lines` splits a text into its lines, and `line_words` a line into its words. `read_line` returns what the
-//! words mean: a triple, a first generation, a domain, or a line of the body. Names, labels and hexadecimal texts borrow
-//! the bytes of the script, so reading a line allocates only the list of its words.
+//! words mean: a triple, a first generation, a domain, or a line of the body. Names, labels and hexadecimal texts
+//! borrow the bytes of the script, so reading a line allocates only the list of its words.
 //!
 //! The meaning of the words is defined in `specs/` by patterns on them, and it is proved that each function returns
 //! exactly that. `gt_script` checks whether a line may be where it is. The crate uses `gt_types` and `gt_entry` (the

@@ -4,7 +4,7 @@ use gt_text::ReadFault;
 use std::error::Error;
 use std::fmt;
 
-/// The error of a run. It prints as one line, without a line feed.
+/// The error of a play. It prints as one line, without a line feed.
 #[derive(Debug, Drop)]
 pub enum PlayFault {
     /// The first fault of the script, with its line. Nothing was written.

@@ -8,7 +8,8 @@
 //! contracts of these three are about them. [`PlayFault`] is the fault that ends a play.
 //!
 //! It uses `gt_script` and `gt_script_lines` (scripts), `gt_core` (calls), `gt_allow` (what a policy allows), `gt_text`
-//! (texts), `gt_types` and `hex`. Its definitions also name `gt_audit`, `gt_calls`, `gt_entry` and `gt_handles`.
+//! (texts), `gt_types` and `hex`. Its definitions also name `gt_audit`, `gt_calls`, `gt_entry`, `gt_handles` and
+//! `gt_policy`.
 #![tactic(auto)]
 
 mod answers;

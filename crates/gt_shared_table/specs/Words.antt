@@ -14,7 +14,7 @@ use Rattle.gt_shared_table.specs.declared.rule.FrameHolder.{FrameHolder}
 use Rattle.gt_shared_table.specs.declared.table.FrameIndex.{FrameIndex}
 use Rattle.gt_shared_table.specs.Rule.{Cell, FrameAt, Places, flag_place}
 
--- the step as one of a table of words alone
+-- the step as one of a table that has only words
 abbrev pub on_words : TableStep Cell → TableStep (Unit {0})
 on_words st = record { slots = st.slots; word = st.word; first = st.first; second = st.second; said = none }
 

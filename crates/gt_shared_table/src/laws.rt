@@ -17,7 +17,7 @@ pub fn every_frame_is_kept()
     ensures back { FramesComeBack }
 {}
 
-/// A law: the steps that a table with words, frames and flags allows.
+/// A law: the rule of the table allows each kind of step: on words, on the locks of frames, and on flags.
 pub fn every_step_is_allowed()
     ensures words { WordsAreStepped }
     ensures locks { FramesAreLocked }

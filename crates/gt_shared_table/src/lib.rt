@@ -5,12 +5,13 @@
 //! is out. The table and its seats are private here, so a crate above steps only by the calls of [`SharedTable`].
 //!
 //! Seven calls step on words: three loads, two stores, an exchange and a subtraction. Three access frames, each under
-//! its lock, which is a word of the table: [`read_frame`](SharedTable::read_frame), `write_frame` and `copy_frames`. Two
-//! step on a flag: `raise_flag` and `pass_flag`.
-//! Each call gives the seat's view exactly one more step. Views and steps cost nothing at run time. Only
-//! `SharedTable::new` allocates for itself, and only accesses may wait.
+//! its lock, which is a word of the table: [`read_frame`](SharedTable::read_frame), `write_frame` and `copy_frames`.
+//! Two step on a flag: `raise_flag` and `pass_flag`. Each of these calls adds exactly one step to the seat's view, but
+//! an access that gets no memory, and a pass of a flag that is not raised, add none. Views and steps cost nothing at
+//! run time. Only `SharedTable::new` allocates for itself, and only accesses may wait.
 //!
-//! It uses `atomic_table`, `gt_word_history` (views, steps and the rule of the words) and `gt_frames`.
+//! It uses `atomic_table`, `gt_word_history` (views, steps and the rule of the words), `gt_frames`, `gt_entry` (the
+//! words) and `gt_types`.
 #![tactic(auto)]
 
 mod accesses;

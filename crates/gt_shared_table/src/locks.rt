@@ -11,9 +11,9 @@ use crate::rule::{CellSeat, Cells, FrameSlot, FreesBy, LocksSlot, OfAccess, OfSl
 use std::marker::Brand;
 use std::sync::Wait;
 
-// The number of a lock word whose frame a seat has, and for which no seat waits.
+// The value of a lock word if a seat has its frame, and no other seat waits for it.
 const TAKEN: u64 = 1;
-// The number of a lock word whose frame a seat has, and for which another may wait.
+// The value of a lock word if a seat has its frame, and another may wait for it.
 const AWAITED: u64 = 2;
 
 // Exchanges a lock word, once. Only the proof uses `slot`, except for its lock.

@@ -13,7 +13,8 @@ pub struct EncodedFault {
     /// 0 none; 1 memory; 2 the handles; 3 to 9 the policy; 10 to 17 the configuration; 18 a null pointer; 19 a label;
     /// 20 the name of a type.
     pub kind: u32,
-    /// The line of the policy with the fault, starting at 1; 0 if the fault is elsewhere.
+    /// The line of the policy with the fault, starting at 1; 0 if the policy is not UTF-8, or if the fault is
+    /// elsewhere.
     pub line: u32,
     /// The domain with the fault, else 0.
     pub dom: u32,

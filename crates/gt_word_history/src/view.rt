@@ -38,8 +38,8 @@ pub enum EntryStep {
     },
     /// A store of a body word by the owner.
     StoredBody(BodyWord, u64),
-    /// An exchange of the control word by the owner, with the word expected, the word stored and the record that it
-    /// encodes.
+    /// A taken exchange of the control word by the owner, with the word expected, the word stored and the record that
+    /// it encodes.
     Changed {
         change: EntryChange,
         expected: u64,
@@ -116,7 +116,7 @@ pub struct View {
     pub past: LinkedList<(u64, SeatStep)>,
 }
 
-/// The view of a seat, and the views of the seats that it took in. `gone` means that the seat was taken in itself.
+/// The view of a seat, and the views of the seats that it took in. `gone` is true if another seat took this one in.
 pub struct Outlook {
     pub own: View,
     pub taken: LinkedList<View>,

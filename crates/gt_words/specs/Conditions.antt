@@ -131,8 +131,7 @@ pub record CanWithdraw (r word : ℕ) (v : View) : Type 0 where
   pub word_is : IsWordOf (last_of r v) word
   pub some : (last_of r v).entry ≢ Invalid
 
--- the word is one of the owner's last record, which is an entry with this
--- readonly, and not worn (after grant_table.h)
+-- the word is one of the owner's last record, which is an entry with this readonly, and not worn (after grant_table.h)
 pub record CanTurn (ro : Bool) (r word : ℕ) (v : View) : Type 0 where
   pub word_is : IsWordOf (last_of r v) word
   pub some : (last_of r v).entry ≢ Invalid

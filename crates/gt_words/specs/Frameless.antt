@@ -1,4 +1,4 @@
--- A configuration for a table of words alone.
+-- A configuration for a table without frames.
 use Rattle.std.specs.Prelude.{◌≡◌, map}
 use Rattle.gt_types.specs.declared.config.Config.{Config}
 use Rattle.gt_types.specs.declared.config.DomainConfig.{DomainConfig}

@@ -13,7 +13,7 @@ use gt_types::{Dir, DomId, GrantRef};
 use gt_word_history::EntryAt;
 
 impl Words {
-    /// Loads the header word of a domain at its position `at`.
+    /// Loads the header word of the domain `dom`, whose position is `at`.
     #[inline(always)]
     pub fn load_header_at(&self, seat: &mut Seat, dom: DomId, at: usize) -> u64
         requires seat { IsSeatOf self.now seat.old }
@@ -26,7 +26,7 @@ impl Words {
         calls::load_header(&self.words, &mut seat.place, at)
     }
 
-    /// Loads the control word of an entry of a domain at its position `at`.
+    /// Loads the control word of an entry of `dom`, whose position is `at`.
     #[inline(always)]
     pub fn load_control_at(&self, seat: &mut Seat, dom: DomId, gref: GrantRef, at: usize) -> u64
         requires seat { IsSeatOf self.now seat.old }
@@ -45,7 +45,7 @@ impl Words {
         calls::load_control(&self.words, &mut seat.place, entry)
     }
 
-    /// Loads a body word of an entry of a domain at its position `at`.
+    /// Loads a body word of an entry of `dom`, whose position is `at`.
     #[inline(always)]
     pub fn load_body_at(
         &self,
@@ -70,7 +70,7 @@ impl Words {
         calls::load_body(&self.words, &mut seat.place, entry, half)
     }
 
-    /// Takes a pin like `pin`, of an entry of a domain at its position `at`.
+    /// Takes a pin as [`pin`](Words::pin) does, on an entry of `dom`, whose position is `at`.
     ///
     /// # Errors
     /// The word found, if it is not `looked`. No pin was taken.
@@ -103,7 +103,7 @@ impl Words {
         calls::pin(&self.words, &mut seat.place, entry, looked, dir)
     }
 
-    /// Releases a pin like `unpin`, of an entry of a domain at its position `at`.
+    /// Releases a pin as [`unpin`](Words::unpin) does. `at` is the position of the domain `pin.dom`.
     #[inline(always)]
     pub fn unpin_at(&self, seat: &mut Seat, pin: Pin, at: usize)
         requires seat { IsSeatOf self.now seat.old }

@@ -28,8 +28,8 @@ pub enum AccessFault {
 }
 
 impl Words {
-    // Finds the position of the owner of a frame. The seat's own is known, so the domain looked up last stays that of the
-    // entries that the seat steps on.
+    // Finds the position of the owner of a frame. The seat's own is known, so the domain looked up last stays that of
+    // the entries that the seat steps on.
     #[inline(always)]
     fn owner_position(&self, seat: &mut Seat, owner: DomId) -> usize
         requires { IsSeatOf self.now seat.old }

@@ -1,18 +1,19 @@
 //! The words of all grant entries, shared by the domains of a run without a lock, and the frames of the run.
 //!
-//! Each entry has a control word and two body words, and each domain a header word. Each call on them is one atomic step
-//! on one of them. Between any two steps the words, and what the seats know, show a state of the core: who was granted
-//! what, with each pin counted. So if a revocation returns Ok, no domain had a pin of its entry at that moment.
+//! Each entry has a control word and two body words, and each domain a header word. Each call on them is one atomic
+//! step on one of them. Between any two steps the words, and what the seats know, show a state of the core: who was
+//! granted what, with each pin counted. So if a revocation returns Ok, no domain had a pin of its entry at that moment.
 //!
-//! Each access to a frame is one step too, under the lock of the frame: [`read_frame`](Words::read_frame), `write_frame`
-//! and `copy_frames`. Only these calls may wait. Raising a flag and passing it is a step too. Of the calls on words only
-//! those that start a run allocate.
+//! Each access to a frame is one step too, under the lock of the frame: [`read_frame`](Words::read_frame),
+//! `write_frame` and `copy_frames`. Only these calls may wait. Raising a flag and passing it is a step too. Of the
+//! calls on words only those that start a run allocate.
 //!
 //! The contract of each call names the state in which its step was made, and what the step changed. All steps of all
 //! domains have one order. Views and steps cost nothing at run time.
 //!
 //! It uses `gt_shared_table` (the table and its single steps), `gt_word_history` (views and steps), `gt_frames`
-//! (receipts and writs), `gt_entry` (the words) and `gt_roster` (domains by their numbers).
+//! (receipts and writs), `gt_entry` (the words), `gt_roster` (domains by their numbers) and `gt_types`. Its definitions
+//! also name the states of `atomic_table`.
 #![tactic(auto)]
 
 mod at_position;

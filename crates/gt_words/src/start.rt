@@ -77,8 +77,8 @@ fn without_frames(alloc: Global, config: &Config) -> Result<Config, Memory>
     })
 }
 
-/// Makes the words and the seats of a configuration within the limits, with the frames of another one that is the same
-/// but for their numbers.
+/// Makes the words and the seats of `config`, which is within the limits, with the frames of `framed`. The two are the
+/// same except for the numbers of frames.
 pub(crate) fn make_words(
     alloc: Global,
     config: &Config,
@@ -101,7 +101,7 @@ pub(crate) fn make_words(
     Ok((Words { words, ids }, seats))
 }
 
-/// The same without frames.
+/// Makes the words and the seats of a configuration within the limits, without frames.
 pub(crate) fn make_without_frames(
     alloc: Global,
     config: &Config,

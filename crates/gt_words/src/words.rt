@@ -118,8 +118,8 @@ fn position_of(ids: &Positions, dom: DomId) -> usize
 }
 
 impl Words {
-    /// Makes the words of a run, its frames, and a seat for each domain, in order. All entries are invalid, at the first
-    /// generation, and all frames are zeros.
+    /// Makes the words of a run, its frames, and a seat for each domain, in order. All entries are invalid, at the
+    /// first generation, and all frames are zeros.
     ///
     /// # Errors
     /// The first fault of the configuration, or `Memory` if it has none and allocation fails.
@@ -214,7 +214,7 @@ impl Words {
         self.load_header_at(seat, dom, at)
     }
 
-    /// Stores the owner's header.
+    /// Stores the header word of the seat's domain.
     pub fn store_header(&self, seat: &mut Seat, header: Header)
         requires seat { IsSeatOf self.now seat.old }
         requires header { IsKeptHeader header }

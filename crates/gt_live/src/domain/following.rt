@@ -29,7 +29,7 @@ pub enum Followed {
     Promoted,
     /// The entry was valid, and is now Invalid.
     Withdrawn,
-    /// The entry is now the one that the bytes encode. Another valid entry was withdrawn before.
+    /// The entry is now the one that the bytes encode. If it was another valid one, that was withdrawn first.
     Granted,
 }
 
@@ -59,7 +59,7 @@ fn unmarked_byte(byte: u8) -> u8
     byte / ABOVE_WRITING * ABOVE_WRITING + byte % READING
 }
 
-// Returns the bytes of an entry of version 1 without these bits.
+// Returns the bytes of an entry of version 1 without the bits that only the hypervisor sets.
 fn unmarked_v1(bytes: &[u8; 8]) -> [u8; 8]
     ensures { result ≡ unmarked bytes.now }
 {
@@ -68,7 +68,7 @@ fn unmarked_v1(bytes: &[u8; 8]) -> [u8; 8]
     unmarked
 }
 
-// Returns the bytes of an entry of version 2 without these bits.
+// Returns the bytes of an entry of version 2 without the bits that only the hypervisor sets.
 fn unmarked_v2(bytes: &[u8; 16]) -> [u8; 16]
     ensures { result ≡ unmarked bytes.now }
 {
@@ -77,7 +77,8 @@ fn unmarked_v2(bytes: &[u8; 16]) -> [u8; 16]
     unmarked
 }
 
-// Reads the entry that the bytes encode without these bits, in a table of this version.
+// Reads the entry that the bytes encode in a table of this version. The bits that only the hypervisor sets count as
+// clear.
 fn decode_unmarked(version: u8, bytes: &[u8]) -> Result<Entry, Field>
     ensures ok { IfOk result (Spells version (unmarked bytes.now)) }
     ensures field { MatchResult result (λ _. first_refused version (unmarked bytes.now) ≡ None)
@@ -225,12 +226,14 @@ impl Domain {
     ///
     /// | The entry | The bytes mean | Calls |
     /// |---|---|---|
-    /// | any | the same entry, or Invalid and the guest has ended access | none |
-    /// | valid | the guest has ended access | `withdraw` |
+    /// | valid | the same entry | none |
     /// | valid | the same but read-only, or the same but writable | `demote`, or `promote` |
-    /// | Invalid | an entry | `grant` |
     /// | valid | another entry | `withdraw`, then `grant` |
+    /// | valid | the guest has ended access | `withdraw` |
     /// | valid | no entry of this table | `withdraw`, then N25 |
+    /// | Invalid | an entry | `grant` |
+    /// | Invalid | the guest has ended access | none |
+    /// | Invalid | no entry of this table | none, then N25 |
     ///
     /// If it is Ok, the entry is what the bytes mean. Like these calls it makes no record, allocates nothing and does
     /// not wait.

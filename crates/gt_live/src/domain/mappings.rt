@@ -12,8 +12,8 @@ use gt_audit::{Hypercall, Record, Reply, Trail};
 use gt_calls::{CallResult, Handle, HeldPin, Leg, judge_map, judge_release, judge_unmap, map_leg};
 use gt_types::{Allows, Denial, DomId, Facts, GrantRef, Rule, TypeId};
 
-// Returns the position of a domain in the run, or the number of domains if the run does not have it. A map looks its
-// owner up by the rules too, so that this look costs nothing.
+// Returns the position of a domain in the run, or the number of domains if the run does not have it. A map has looked
+// its owner up for the rules just before, so this look costs nothing.
 #[inline(always)]
 fn position_of<P: Allows>(monitor: &Monitor<P>, dom: DomId) -> usize
     ensures { result ≡ position_at monitor.now.words dom }
@@ -24,8 +24,8 @@ fn position_of<P: Allows>(monitor: &Monitor<P>, dom: DomId) -> usize
     }
 }
 
-// Records a map that was Ok. The record of a refused one is made elsewhere, so that a map that is Ok makes neither it nor
-// room for it.
+// Records a map that was Ok. The record of a refused map is made elsewhere, so a map that is Ok makes no room for that
+// record.
 #[inline(always)]
 fn tell_map(trail: &mut Trail, caller: DomId, dom: DomId, gref: GrantRef, flags: u32)
     ensures { Tells trail.old (record { dom = caller; call = Hypercall.Map dom gref flags; reply = Reply.Done })
@@ -63,7 +63,7 @@ fn tell_unmap(trail: &mut Trail, caller: DomId, subject: Option<(DomId, GrantRef
     tell_done(trail, caller, Hypercall::Unmap { subject });
 }
 
-// Records a refused unmap, in its place: as a call it would cost each unmap room for the refusal.
+// Records a refused unmap. It is inlined, since a call of it would make each unmap keep room for the refusal.
 #[inline(always)]
 fn tell_unmap_refusal(
     trail: &mut Trail,
@@ -137,8 +137,8 @@ impl Domain {
         drive_map(&monitor.words, &known, &mut self.seat, caller, map, placed)
     }
 
-    // Maps an entry, without a record. Its leg is built before room is made, since an allocation would make it look the
-    // owner up again.
+    // Maps an entry, without a record. Its leg is built before room is made: after an allocation the owner would have
+    // to be looked up again.
     #[inline(always)]
     fn make_mapping<P: Allows>(
         &mut self,
@@ -245,8 +245,8 @@ impl Domain {
         }
     }
 
-    // Returns the result of an unmap, if it is decided at its beginning. The owner of a mapping is of the run, so its label
-    // is there.
+    // Returns the result of an unmap, if it is decided at its beginning. The owner of a mapping is of the run, so its
+    // label is there.
     #[inline(always)]
     fn judge_unmap<P: Allows>(&self, monitor: &Monitor<P>, handle: Handle) -> Option<CallResult>
         requires mine { BelongsTo P.may monitor.now self.now }
