@@ -7,8 +7,8 @@ use lib.ListN.{get_or-append}
 use Rattle.std.specs.List.{count_by}
 use Rattle.std.specs.Prelude.{slice_get, slice_index_or, HoldsAt, Result, Ok, Err, OnOk, OnErr, is_some}
 use Rattle.std.proofs.lemmas.Bool.{cases_eq}
-use Rattle.gt_types.specs.declared.DomId.{DomId}
 use Rattle.gt_types.specs.declared.GrantRef.{GrantRef}
+use Rattle.gt_types.specs.declared.denial.Denial.{Denial}
 use Rattle.gt_entry.specs.declared.change.EntryChange.TheVariants.{Withdraw}
 use Rattle.gt_entry.specs.declared.entry.Entry.{Entry}
 use Rattle.gt_entry.specs.declared.entry.Entry.TheVariants.{Invalid, Page, Sub, Via}
@@ -27,8 +27,8 @@ use Rattle.gt_calls.specs.declared.action.CallResult.TheVariants.{Granted, Given
 use Rattle.gt_calls.specs.declared.held.HeldPin.{HeldPin}
 use Rattle.gt_calls.specs.declared.known.OwnerEntry.{OwnerEntry}
 use Rattle.gt_calls.specs.declared.request.OpenRequest.TheVariants as asks
-use Rattle.gt_live.specs.Closing.{AreMissed, ClosesRow, GoesOn, IsMissed, IsShut, StaysQuiet, is_in_use, is_used}
-use Rattle.gt_live.specs.Closing.{most_withdrawals}
+use Rattle.gt_live.specs.Closing.{AreRefused, AsksWithdrawal, ClosesRow, ClosesRows, GoesOn, IsCounted, StaysQuiet}
+use Rattle.gt_live.specs.Closing.{is_in_use, is_used}
 use Rattle.gt_live.specs.Domains.{AllowRelation, IsUnsettled, done_by}
 use Rattle.gt_live.specs.Ending.{IsAtOnce}
 use Rattle.gt_live.specs.Mappings.{KeepsMappings}
@@ -70,37 +70,11 @@ quiet-then d e f a b =
       goes_on = goes-then d.seat.view e.seat.view f.seat.view a.goes_on b.goes_on;
     }
 
--- a missed withdrawal is one of a longer time too
-pub missed-within : {P : Type 0} (may : P → AllowRelation) (m : Monitor P) (r : ℕ) (u v w x : View) → GoesOn u v → GoesOn w x
-    → IsMissed may m r v w → IsMissed may m r u x
-missed-within may m r u v w x a b h =
-    record {
-      before = h.before;
-      after = h.after;
-      denial = h.denial;
-      refused = h.refused;
-      since = goes-then u v h.before.seat.view a h.since;
-      until = goes-then h.after.seat.view w x h.until b;
-    }
-
--- missed withdrawals are those of a longer time too
-pub all-missed-within : {P : Type 0} (may : P → AllowRelation) (m : Monitor P) (r n : ℕ) (u v w x : View) → GoesOn u v
-    → GoesOn w x → AreMissed may m r n v w → AreMissed may m r n u x
-all-missed-within may m r zero u v w x a b on = goes-then u v x a (goes-then v w x on b)
-all-missed-within may m r (suc n) u v w x a b (y, before, last) =
-    (y, all-missed-within may m r n u v y y a (goes-self y) before, missed-within may m r y y w x (goes-self y) b last)
-
--- one withdrawal more was missed
-pub one-more-missed : {P : Type 0} (may : P → AllowRelation) (m : Monitor P) (r n : ℕ) (u v w : View) → AreMissed may m r n u v
-    → IsMissed may m r v w → AreMissed may m r (n + 1) u w
-one-more-missed may m r n u v w before last =
-    subst (λ (k : ℕ). AreMissed may m r k u w) (sym (add-one n)) (v, before, last)
-
-pub shut-within : {P : Type 0} (may : P → AllowRelation) (m : Monitor P) (c d : Domain) (r : ℕ) (e f : Domain) → GoesOn c.seat.view d.seat.view
-    → GoesOn e.seat.view f.seat.view → entry_in f.own.items r ≡ entry_in e.own.items r → IsShut may m d r e → IsShut may m c r f
-shut-within may m c d r e f a b same (inl none) = inl (same ∙ none)
-shut-within may m c d r e f a b same (inr missed) =
-    inr (all-missed-within may m r most_withdrawals c.seat.view d.seat.view e.seat.view f.seat.view a b missed)
+-- one withdrawal more was refused
+pub one-more-refused : {P : Type 0} (may : P → AllowRelation) (m : Monitor P) (d c e : Domain) (gref : GrantRef) (n : ℕ) (denial : Denial)
+    → AreRefused may m d gref n c → AsksWithdrawal may m c gref (Err denial) e → AreRefused may m d gref (n + 1) e
+one-more-refused may m d c e gref n denial before last =
+    subst (λ (k : ℕ). AreRefused may m d gref k e) (sym (add-one n)) (c, denial, before, last)
 
 -- a row that was withdrawn is Invalid
 pub row-shut : (own new : List OwnerEntry) (r : ℕ) → r < length own → new ≡ row_changed own r Withdraw → entry_in new r ≡ Invalid
@@ -121,6 +95,11 @@ once-refused gref (Refused denial) P is = tt
 once-refused gref Granted P is = absurd is
 once-refused gref (Given value) P is = absurd is
 once-refused gref (Mapped p) P is = absurd is
+
+-- what follows from a fact of a refusal
+pub on-err : {X E : Type 0} (r : Result X E) (P Q : Type 0) → (P → Q) → OnErr r P → OnErr r Q
+on-err (Ok x) P Q f p = tt
+on-err (Err e) P Q f p = f p
 
 -- a fact that is there is there after any refusal
 pub after-refusal : {X E : Type 0} (r : Result X E) (P : Type 0) → P → OnErr r P
@@ -157,38 +136,19 @@ empty-still old new kept none =
       none = λ h. ap (λ (xs : List (Option (HandleSlot HeldPin))). under h.serial (slice_index_or xs h.key None)) kept.slots ∙ none.none h;
     }
 
--- a row closed before is closed after a row beside it was
-pub closes-later : {P : Type 0} (may : P → AllowRelation) (m : Monitor P) (d e f : Domain) (r word : ℕ) → GoesOn e.seat.view f.seat.view
-    → slice_get f.own.items r ≡ slice_get e.own.items r → ClosesRow may m d r word e → ClosesRow may m d r word f
-closes-later may m d e f r word on same c =
-    let entry : entry_in f.own.items r ≡ entry_in e.own.items r = ap row_entry same in
-    record {
-      shut = shut-within may m d d r e f (goes-self d.seat.view) on entry c.shut;
-      found = record {
-        before = c.found.before;
-        after = c.found.after;
-        look = c.found.look;
-        since = c.found.since;
-        until = goes-then c.found.after e.seat.view f.seat.view c.found.until on;
-      };
-      counted = elim c.counted [ inl none ↦ inl (entry ∙ none) | inr used ↦ inr used ];
-    }
-
--- a row closed after a time is closed in a longer one
-pub closes-sooner : {P : Type 0} (may : P → AllowRelation) (m : Monitor P) (c d e : Domain) (r word : ℕ) → GoesOn c.seat.view d.seat.view
-    → c.seat.dom ≡ d.seat.dom → ClosesRow may m d r word e → ClosesRow may m c r word e
-closes-sooner may m c d e r word on dom x =
-    record {
-      shut = shut-within may m c d r e e on (goes-self e.seat.view) refl x.shut;
-      found = record {
-        before = x.found.before;
-        after = x.found.after;
-        look = subst (λ (q : DomId). Made m.words.layout (LookControl q (record { 0 = r })) (Word word) x.found.before x.found.after) (sym dom) x.found.look;
-        since = goes-then c.seat.view d.seat.view x.found.before on x.found.since;
-        until = x.found.until;
-      };
-      counted = x.counted;
-    }
+-- the entries that were closed so far, and the next one
+pub rows-end : {P : Type 0} (may : P → AllowRelation) (m : Monitor P) (d e f : Domain) (r : ℕ) (words : List ℕ) (word : ℕ)
+    → ClosesRows may m d r words e → ClosesRow may m e (record { 0 = r + length words }) word f
+    → ClosesRows may m d r (words ++ word ∷ []) f
+rows-end may m d e f r [] word same last = (
+  f,
+  subst (λ (x : Domain). ClosesRow may m x (record { 0 = r }) word f) same
+      (subst (λ (n : ℕ). ClosesRow may m e (record { 0 = n }) word f) (add-zero r) last),
+  refl,
+)
+rows-end may m d e f r (x ∷ xs) word (c, first, rest) last =
+    let further : r + suc (length xs) ≡ suc r + length xs = omega arith in
+    (c, first, rows-end may m c e f (suc r) xs word rest (subst (λ (n : ℕ). ClosesRow may m e (record { 0 = n }) word f) further last))
 
 -- one more word at the end
 last-word : (xs : List ℕ) (x d : ℕ) → get_or (xs ++ x ∷ []) (length xs) d ≡ x
@@ -207,24 +167,22 @@ pub count-no : (p : ℕ → Bool) (xs : List ℕ) (x n : ℕ) → n ≡ count_by
 count-no p xs x n e is =
     e ∙ sym (count-more p xs x ∙ ap (λ (b : Bool). count_by p xs + cond b 1 0) is ∙ add-zero (count_by p xs))
 
--- the rows that were closed so far, and one more
-pub rows-more : {P : Type 0} (may : P → AllowRelation) (m : Monitor P) (d e f : Domain) (words : List ℕ) (at word : ℕ) → length words ≡ at
-    → StaysQuiet d e → StaysQuiet e f
+-- the entries that were counted so far, and the next one
+pub counted-more : (e f : Domain) (words : List ℕ) (at word : ℕ) → length words ≡ at
     → ((q : ℕ) → (at ≡ q → ⊥) → slice_get f.own.items q ≡ slice_get e.own.items q)
-    → ((r : ℕ) → r < at → HoldsAt (λ w. ClosesRow may m d r w e) words r) → ClosesRow may m e at word f
-    → (r : ℕ) → r < at + 1 → HoldsAt (λ w. ClosesRow may m d r w f) (words ++ word ∷ []) r
-rows-more may m d e f words at word len first then others rows new r lt default =
+    → ((r : ℕ) → r < at → HoldsAt (IsCounted e r) words r) → IsCounted f at word
+    → (r : ℕ) → r < at + 1 → HoldsAt (IsCounted f r) (words ++ word ∷ []) r
+counted-more e f words at word len others rows new r lt default =
     elim (cases_eq r at) [
       | inl same ↦
           let here : get_or (words ++ word ∷ []) r default ≡ word =
           ap (λ (n : ℕ). get_or (words ++ word ∷ []) n default) (same ∙ sym len) ∙ last-word words word default in
-          subst (λ (w : ℕ). ClosesRow may m d r w f) (sym here)
-          (subst (λ (n : ℕ). ClosesRow may m d n word f) (sym same)
-          (closes-sooner may m d e f at word first.goes_on (sym first.seat.dom) new))
+          subst (λ (w : ℕ). IsCounted f r w) (sym here) (subst (λ (n : ℕ). IsCounted f n word) (sym same) new)
       | inr ne ↦
           let low : r < at = omega (arith, lt, ne) in
           let here : get_or (words ++ word ∷ []) r default ≡ get_or words r default =
           get_or-append words (word ∷ []) default r (omega (arith, low, len)) in
-          subst (λ (w : ℕ). ClosesRow may m d r w f) (sym here)
-          (closes-later may m d e f r (get_or words r default) then.goes_on (others r (λ e. ne (sym e))) (rows r low default))
+          let entry : entry_in f.own.items r ≡ entry_in e.own.items r = ap row_entry (others r (λ e. ne (sym e))) in
+          subst (λ (w : ℕ). IsCounted f r w) (sym here)
+          (elim (rows r low default) [ inl none ↦ inl (entry ∙ none) | inr used ↦ inr used ])
     ]

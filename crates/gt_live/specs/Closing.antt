@@ -1,13 +1,14 @@
 -- How a domain closes its table, and what a look at one of its entries finds.
-use Rattle.std.specs.Prelude.{◌≡◌, ◌⊎◌, ◌<◌, ◌≤◌, ℕ, zero, suc, Bool, true, nat_lt, not, ◌||◌, List, length, count_by, HoldsAt, Option, Some, None}
+use Rattle.std.specs.Prelude.{◌≡◌, ◌⊎◌, ◌<◌, ◌≤◌, ℕ, zero, suc, Bool, true, nat_lt, not, ◌||◌, List, [], ◌∷◌, length, count_by}
+use Rattle.std.specs.Prelude.{HoldsAt, Option, Some, None, Result, Ok, Err, slice_get}
 use Rattle.gt_entry.specs.declared.control.Control.{Control}
 use Rattle.gt_entry.specs.declared.control.EntryKind.TheVariants.{Invalid as NoKind}
 use Rattle.gt_calls.specs.Rules.{size_of}
 use Rattle.gt_handles.specs.Handles.{IsEmpty}
-use Rattle.gt_calls.specs.declared.request.Request.TheVariants as requests
 use Rattle.gt_live.specs.Prelude.{Denial, Domain, GrantRef, Handle, Invalid, IsSameSeat, Layout, LookControl, Moment, Monitor}
-use Rattle.gt_live.specs.Prelude.{Refused, TABLE_ENTRIES, View, Word, control_of, entry_in, is_kind, own_table}
-use Rattle.gt_live.specs.Domains.{AllowRelation, Answered, IsUnsettled, KeepsPinned, Released}
+use Rattle.gt_live.specs.Prelude.{TABLE_ENTRIES, View, Withdraw, Word, control_of, entry_in, is_kind, own_table}
+use Rattle.gt_live.specs.Domains.{AllowRelation, BelongsTo, IsUnsettled, KeepsPinned, Released, StaysIn}
+use Rattle.gt_live.specs.Following.{Calls, entry_of}
 use Rattle.gt_live.specs.Walks.{Made, view_after}
 
 -- the view w is the view v with some more steps
@@ -33,57 +34,72 @@ is_used c = not (is_kind c.kind NoKind) || has_pins c
 abbrev pub is_in_use : ℕ → Bool
 is_in_use word = is_used (control_of word)
 
--- between two views, a look of the domain at one of its entries found this word
-pub record FindsOwn (k : Layout) (d : Domain) (r word : ℕ) (v w : View) : Type 0 where
-  pub before : View
-  pub after : View
-  pub look : Made k (LookControl d.seat.dom (record { 0 = r })) (Word word) before after
-  pub since : GoesOn v before
-  pub until : GoesOn after w
+-- a withdrawal of one of the domain's entries was asked for and had this result, and nothing else was done
+abbrev pub AsksWithdrawal : {P : Type 0} → (P → AllowRelation) → Monitor P → Domain → GrantRef
+    → Result (Unit {0}) Denial → Domain → Type 0
+AsksWithdrawal may m d gref result e = StaysIn may m d e × Calls may m d gref Withdraw result e
 
--- between two views, a withdrawal of an entry was refused
-pub record IsMissed {P : Type 0} (may : P → AllowRelation) (m : Monitor P) (r : ℕ) (v w : View) : Type 0 where
-  pub before : Domain
-  pub after : Domain
-  pub denial : Denial
-  pub refused : Answered may m before (requests.Withdraw (record { 0 = r })) (Refused denial) after
-  pub since : GoesOn v before.seat.view
-  pub until : GoesOn after.seat.view w
+-- this many withdrawals of an entry were asked for, one after another, and each was refused
+abbrev pub AreRefused : {P : Type 0} → (P → AllowRelation) → Monitor P → Domain → GrantRef → ℕ → Domain → Type 0
+AreRefused may m d gref zero e = e ≡ d
+AreRefused may m d gref (suc n) e =
+    (c : Domain) × (denial : Denial) × AreRefused may m d gref n c × AsksWithdrawal may m c gref (Err denial) e
 
--- between two views, this many withdrawals of an entry were refused, one after another
-abbrev pub AreMissed : {P : Type 0} → (P → AllowRelation) → Monitor P → ℕ → ℕ → View → View → Type 0
-AreMissed may m r zero v w = GoesOn v w
-AreMissed may m r (suc n) v w = (u : View) × AreMissed may m r n v u × IsMissed may m r u w
-
--- the number of times that the withdrawal of an entry is asked, with up to four tries each
+-- the number of times that the withdrawal of an entry is asked for, with up to four tries each
 abbrev pub most_withdrawals : ℕ
 most_withdrawals = 16
 
--- an entry is shut: it is Invalid, or all withdrawals that were asked were refused
-abbrev pub IsShut : {P : Type 0} → (P → AllowRelation) → Monitor P → Domain → ℕ → Domain → Type 0
-IsShut may m d r e =
-    (entry_in e.own.items r ≡ Invalid) ⊎ AreMissed may m r most_withdrawals d.seat.view e.seat.view
+-- an entry was withdrawn, after fewer withdrawals of it than the most were refused
+pub record IsWithdrawn {P : Type 0} (may : P → AllowRelation) (m : Monitor P) (d : Domain) (gref : GrantRef)
+    (e : Domain) : Type 0 where
+  pub refusals : ℕ
+  pub few : refusals < most_withdrawals
+  pub before : Domain
+  pub refused : AreRefused may m d gref refusals before
+  pub granted : AsksWithdrawal may m before gref (Ok tt) e
 
--- an entry was closed, and a look then found this word: the entry is shut, and if it is still valid the word shows it
-pub record ClosesRow {P : Type 0} (may : P → AllowRelation) (m : Monitor P) (d : Domain) (r word : ℕ) (e : Domain)
-    : Type 0 where
-  pub shut : IsShut may m d r e
-  pub found : FindsOwn m.words.layout d r word d.seat.view e.seat.view
-  pub counted : (entry_in e.own.items r ≡ Invalid) ⊎ (is_in_use word ≡ true)
+-- an entry was shut: it was Invalid and nothing was done, or it was withdrawn, or the most withdrawals were refused
+abbrev pub ShutsRow : {P : Type 0} → (P → AllowRelation) → Monitor P → Domain → GrantRef → Domain → Type 0
+ShutsRow may m d gref e =
+    ((entry_of d gref ≡ Invalid) × (e ≡ d))
+    ⊎ (IsWithdrawn may m d gref e ⊎ AreRefused may m d gref most_withdrawals e)
 
--- each entry of the domain was closed, and left of them are still in use: by the words that a look at each found after
--- it was closed, they have pins or could not be withdrawn
+-- an entry was closed: it was shut, a look at it then found this word, and nothing else was done; the other entries are
+-- as they were
+pub record ClosesRow {P : Type 0} (may : P → AllowRelation) (m : Monitor P) (d : Domain) (gref : GrantRef) (word : ℕ)
+    (e : Domain) : Type 0 where
+  pub between : Domain
+  pub shut : ShutsRow may m d gref between
+  pub look : Made m.words.layout (LookControl d.seat.dom gref) (Word word) between.seat.view e.seat.view
+  pub kept : IsUnsettled between e
+  pub others : (q : ℕ) → (gref.0 ≡ q → ⊥) → slice_get e.own.items q ≡ slice_get d.own.items q
+
+-- the entries from this one on were closed, one after another, and looks at them found these words; nothing else was done
+abbrev pub ClosesRows : {P : Type 0} → (P → AllowRelation) → Monitor P → Domain → ℕ → List ℕ → Domain → Type 0
+ClosesRows may m d r [] e = e ≡ d
+ClosesRows may m d r (word ∷ words) e =
+    (c : Domain) × ClosesRow may m d (record { 0 = r }) word c × ClosesRows may m c (suc r) words e
+
+-- the domain's entry is Invalid, or this word shows it as in use
+abbrev pub IsCounted : Domain → ℕ → ℕ → Type 0
+IsCounted e r word = (entry_in e.own.items r ≡ Invalid) ⊎ (is_in_use word ≡ true)
+
+-- each entry of the domain was closed, and nothing else was done; left of the entries are still in use: by the words
+-- that were found, they have pins or could not be withdrawn
 pub record Closes {P : Type 0} (may : P → AllowRelation) (m : Monitor P) (d : Domain) (left : ℕ) (e : Domain)
     : Type 0 where
   pub words : List ℕ
   pub all : length words ≡ TABLE_ENTRIES
   pub left_is : left ≡ count_by is_in_use words
-  pub rows : (r : ℕ) → r < TABLE_ENTRIES → HoldsAt (λ word. ClosesRow may m d r word e) words r
+  pub rows : ClosesRows may m d 0 words e
+  pub counted : (r : ℕ) → r < TABLE_ENTRIES → HoldsAt (IsCounted e r) words r
 
--- the domain released each of its mappings, and then each of its entries was closed, of which left are still in use
+-- the domain released each of its mappings, and then each of its entries was closed, of which left are still in use;
+-- nothing else was done
 pub record Resets {P : Type 0} (may : P → AllowRelation) (m : Monitor P) (d : Domain) (left : ℕ) (e : Domain)
     : Type 0 where
   pub between : Domain
+  pub mine : BelongsTo may m between
   pub seat : IsSameSeat d.seat between.seat
   pub handles : List Handle
   pub released : Released m.words.layout handles d.mappings d.seat.view between.mappings between.seat.view

@@ -52,8 +52,9 @@ abbrev pub IsDoneFor : {P : Type 0} → Monitor P → CallMade → Request → A
 IsDoneFor monitor m request answer =
     ((m.request ≡ request) × OutcomeGivesAnswer monitor m.outcome answer) ⊎ IsLostCopy monitor m request answer
 
--- the call m of a run is the one that a line of the job's list made, with its outcome: the domain was asked what the
--- line encodes, with the handles that its labels named then, and the answer is the one that the line prints
+-- the call m of a run was made for a call of the script, with this outcome: the domain was asked what the script's call
+-- encodes, with the handles of some labels, and the answer is the one that the line prints; `MayPrint` has that call and
+-- labels are those of the line
 pub record IsCallOf {P : Type 0} (may : P → AllowRelation) (duty : ThreadJob P) (m : CallMade) (o : ListOutcome)
     : Type 0 where
   pub call : ScriptCall
@@ -75,8 +76,8 @@ IsFlagStepOf action flag m = ⊥
 abbrev pub IsOfFlagLine : {P : Type 0} → ThreadJob P → FlagMade → Type 0
 IsOfFlagLine duty x = (task : RunTask) × IsAmong task duty.part.tasks.now × IsFlagStepOf task.deed x.flag x.step
 
--- these deeds, the last one first, are those of the lines of the job's list: calls with these outcomes, in order, and
--- steps on flags
+-- these deeds, the last one first, are a call for each of these outcomes, in order, and steps on flags of the lines of the
+-- job's list
 abbrev pub AreDeedsOf : {P : Type 0} → (P → AllowRelation) → ThreadJob P → List Deed → List ListOutcome → Type 0
 AreDeedsOf may duty [] outcomes = outcomes ≡ []
 AreDeedsOf may duty (Call m ∷ ms) outcomes =

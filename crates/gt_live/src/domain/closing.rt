@@ -33,11 +33,11 @@ fn is_shut(own: &[OwnerEntry], gref: GrantRef) -> bool
 
 impl Domain {
     ghost use Rattle.std.specs.Prelude.{◌≡◌, ℕ, ◌<◌, OnOk, OnErr, slice_get};
-    ghost use Rattle.gt_calls.specs.declared.request.Request.TheVariants as Request;
     ghost use Rattle.gt_entry.specs.declared.change.EntryChange.TheVariants.{Withdraw};
     ghost use Rattle.gt_types.specs.declared.limits.TheConstants.{TABLE_ENTRIES};
-    ghost use Rattle.gt_live.specs.Domains.{Answered, BelongsTo, StaysIn, verdict_of};
-    ghost use Rattle.gt_live.specs.Closing.{Closes, ClosesRow, IsShut, LooksAtOwn, Resets, StaysQuiet};
+    ghost use Rattle.gt_live.specs.Domains.{BelongsTo, StaysIn};
+    ghost use Rattle.gt_live.specs.Closing.{AsksWithdrawal, Closes, ClosesRow, IsCounted, LooksAtOwn, Resets};
+    ghost use Rattle.gt_live.specs.Closing.{ShutsRow, StaysQuiet};
     ghost use Rattle.gt_live.specs.Rows.{row_changed};
     ghost use Rattle.gt_live.specs.Domains.{IsUnsettled};
     ghost use Rattle.gt_live.specs.Walks.{Made};
@@ -53,9 +53,10 @@ impl Domain {
         gref: GrantRef,
     ) -> Result<(), Denial>
         requires mine { BelongsTo P.may monitor.now self.old }
+        requires entry { gref.0 < TABLE_ENTRIES }
         ensures mine { BelongsTo P.may monitor.now self.new }
         ensures quiet { StaysQuiet self.old self.new }
-        ensures answered { Answered P.may monitor.now self.old (Request.Withdraw gref) (verdict_of result) self.new }
+        ensures asked { AsksWithdrawal P.may monitor.now self.old gref result self.new }
         ensures gone { OnOk result (self.new.own.items ≡ row_changed self.old.own.items gref.0 Withdraw) }
         ensures same { OnErr result (self.new.own.items ≡ self.old.own.items) }
     {
@@ -72,7 +73,7 @@ impl Domain {
         requires entry { gref.0 < TABLE_ENTRIES }
         ensures mine { BelongsTo P.may monitor.now self.new }
         ensures quiet { StaysQuiet self.old self.new }
-        ensures shut { IsShut P.may monitor.now self.old gref.0 self.new }
+        ensures shut { ShutsRow P.may monitor.now self.old gref self.new }
         ensures others { (q : ℕ) → (gref.0 ≡ q → ⊥)
             → slice_get self.new.own.items q ≡ slice_get self.old.own.items q }
     {
@@ -108,9 +109,8 @@ impl Domain {
         requires entry { gref.0 < TABLE_ENTRIES }
         ensures mine { BelongsTo P.may monitor.now self.new }
         ensures quiet { StaysQuiet self.old self.new }
-        ensures closed { ClosesRow P.may monitor.now self.old gref.0 result self.new }
-        ensures others { (q : ℕ) → (gref.0 ≡ q → ⊥)
-            → slice_get self.new.own.items q ≡ slice_get self.old.own.items q }
+        ensures closed { ClosesRow P.may monitor.now self.old gref result self.new }
+        ensures counted { IsCounted self.new gref.0 result }
     {
         self.withdraw_often(monitor, gref);
         self.look(monitor, gref)

@@ -1,8 +1,8 @@
-use Rattle.std.proofs.Common.{◌≡◌, ◌+◌, ◌≤◌, ◌∙◌, arith, refl, sym, [], ◌∷◌, ◌++◌, length-append}
+use Rattle.std.proofs.Common.{◌≡◌, ◌+◌, ◌≤◌, ◌∙◌, arith, refl, subst, sym, zero-add, ℕ, length, [], ◌∷◌, ◌++◌, length-append}
 use Rattle.std.specs.List.{count_by}
 use Rattle.gt_types.specs.declared.limits.TheConstants.{TABLE_ENTRIES}
-use Rattle.gt_live.specs.Closing.{is_in_use}
-use Rattle.gt_live.proofs.Closing.{count-no, count-yes, quiet-self, quiet-then, rows-more}
+use Rattle.gt_live.specs.Closing.{ClosesRow, is_in_use}
+use Rattle.gt_live.proofs.Closing.{count-no, count-yes, counted-more, quiet-self, quiet-then, rows-end}
 use Rattle.gt_live.proofs.domain.Domain.close.Goals as goal
 use Rattle.gt_live.proofs.domain.Domain.close.Goals.{then-is_in_use, else-is_in_use}
 
@@ -15,7 +15,8 @@ entries-init g c =
       all = refl;
       left_is = refl;
       few = omega arith;
-      rows = λ r lt. absurd (omega (arith, lt));
+      rows = refl;
+      counted = λ r lt. absurd (omega (arith, lt));
     }
 
 pub entries-preserved : goal.entries-preserved
@@ -41,7 +42,9 @@ entries-preserved g c =
       all = omega (arith, all, length-append inv.words (word ∷ []));
       left_is = counted.0;
       few = counted.1;
-      rows = rows-more g.P.Allows.may m d e f inv.words c.entries.at word inv.all inv.quiet row.quiet row.others inv.rows row.closed;
+      rows = rows-end g.P.Allows.may m d e f 0 inv.words word inv.rows
+          (subst (λ (n : ℕ). ClosesRow g.P.Allows.may m e (record { 0 = n }) word f) (sym (zero-add (length inv.words) ∙ inv.all)) row.closed);
+      counted = counted-more e f inv.words c.entries.at word inv.all row.closed.others inv.counted row.counted;
     }
 
 pub returns-clause-closes : goal.returns-clause-closes
@@ -53,5 +56,6 @@ returns-clause-closes g c =
       words = inv.words;
       all = inv.all ∙ end;
       left_is = inv.left_is;
-      rows = λ r lt. inv.rows r (omega (arith, lt, end));
+      rows = inv.rows;
+      counted = λ r lt. inv.counted r (omega (arith, lt, end));
     }

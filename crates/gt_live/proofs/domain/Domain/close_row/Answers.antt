@@ -8,7 +8,7 @@ use Rattle.gt_calls.specs.declared.known.OwnerEntry.{OwnerEntry}
 use Rattle.gt_calls.specs.declared.action.Observation.TheVariants.{Word}
 use Rattle.gt_calls.specs.declared.action.Step.TheVariants.{LookControl}
 use Rattle.gt_live.specs.Walks.{Made}
-use Rattle.gt_live.proofs.Closing.{goes-self, quiet-then, shut-within, valid-used}
+use Rattle.gt_live.proofs.Closing.{quiet-then, valid-used}
 use Rattle.gt_live.proofs.domain.Domain.close_row.Goals as goal
 
 pub returns : goal.returns
@@ -17,22 +17,17 @@ returns g c =
     let d = c.args.self.now in let e = c.withdraw_often.new.self in let f = c.look.new.self in
     let a = c.withdraw_often.ensures in let b = c.look.ensures in let r = c.args.gref.0 in
     let own : f.own.items ≡ e.own.items = ap (λ v. v.items) b.kept.own in
-    let same : entry_in f.own.items r ≡ entry_in e.own.items r = ap (λ (os : List OwnerEntry). entry_in os r) own in
     let row = b.mine.rows r c.requires.entry in
     record {
       mine = b.mine;
       quiet = quiet-then d e f a.quiet b.quiet;
       closed = record {
-        shut = shut-within g.P.Allows.may m d d r e f (goes-self d.seat.view) b.quiet.goes_on same a.shut;
-        found = record {
-          before = e.seat.view;
-          after = f.seat.view;
-          look = subst (λ (q : DomId). Made m.words.layout (LookControl q c.args.gref) (Word c.look.result) e.seat.view f.seat.view) a.quiet.seat.dom b.made;
-          since = a.quiet.goes_on;
-          until = goes-self f.seat.view;
-        };
-        counted = valid-used (entry_in f.own.items r) (own_generation m.config.first_gen f.own.items r) c.look.result
-            (subst (λ (x : EntryRecord). IsWordOf x c.look.result) row b.own);
+        between = e;
+        shut = a.shut;
+        look = subst (λ (q : DomId). Made m.words.layout (LookControl q c.args.gref) (Word c.look.result) e.seat.view f.seat.view) a.quiet.seat.dom b.made;
+        kept = b.kept;
+        others = λ q ne. ap (λ (os : List OwnerEntry). slice_get os q) own ∙ a.others q ne;
       };
-      others = λ q ne. ap (λ (os : List OwnerEntry). slice_get os q) own ∙ a.others q ne;
+      counted = valid-used (entry_in f.own.items r) (own_generation m.config.first_gen f.own.items r) c.look.result
+          (subst (λ (x : EntryRecord). IsWordOf x c.look.result) row b.own);
     }

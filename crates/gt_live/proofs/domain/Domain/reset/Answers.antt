@@ -6,6 +6,7 @@ returns-clause-resets g c =
     let r = c.release_all.ensures in let d = c.release_all.new.self in let e = c.close.new.self in
     record {
       between = d;
+      mine = r.mine;
       seat = r.seat;
       handles = r.released.0;
       released = r.released.1;
