@@ -146,12 +146,12 @@ pub struct CheckedFiles<'a> {
     pub more: MoreFiles<'a>,
 }
 
-/// How `entries` reads a dump, and what it prints of it.
+/// The options of `entries`: how a dump is read, and what is printed of it.
 #[derive(Clone, Copy, PartialEq, Eq)]
 pub struct EntriesOptions {
     /// The version of the table, 1 or 2.
     pub version: u8,
-    /// The dump is hexadecimal text.
+    /// Whether the dump is hexadecimal text.
     pub hex: bool,
     /// Print entries of zeros too.
     pub all: bool,
