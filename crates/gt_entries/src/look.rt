@@ -17,7 +17,7 @@ pub enum DumpLook {
     Table,
     /// Hexadecimal text, though the dump was read as bytes.
     Hexadecimal,
-    /// No table: some entries are not zero, and each of them is refused.
+    /// Not a table of this version: some entries are not zero, and each of them is refused.
     NoTable,
 }
 
