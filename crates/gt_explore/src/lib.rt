@@ -7,6 +7,9 @@
 //!
 //! The texts returned or written are exactly those that the script may give (`MayGive` of `gt_explore_replay`): each of
 //! them once. That a text is possible depends on the core, and that none is missing on the search.
+//!
+//! It uses the crates named here, `gt_explore_search` and `gt_explore_verdict` (orders and verdicts), `gt_script`,
+//! `gt_script_runs` and `gt_text` (reads and writes).
 #![tactic(auto)]
 
 mod exploring;
