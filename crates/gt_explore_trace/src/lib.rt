@@ -1,7 +1,14 @@
 //! The moves of one order of a script's run, and the lines that show them: what `explore --trace` prints.
 //!
-//! [`traced`] makes the moves of an order again on the core (`gt_explore_replay`), and keeps them. [`push_trace`] writes
-//! a line for each, as text, as JSON, or as a message of a sequence diagram. The definitions are in `specs/`.
+//! [`traced`] makes the moves of an order again on the core (`gt_explore_replay`), and keeps them. [`push_trace`]
+//! writes a line for each, as text, as JSON, or as a message of a sequence diagram, whose participants
+//! [`push_participants`] writes.
+//!
+//! It promises that the moves are those of an order of the script that gives the text (`GivesText`), and that the lines
+//! are those of these moves (`trace_told`). The definitions are in `specs/`.
+//!
+//! It uses `gt_explore_replay` and `gt_explore_search` (moves and turns), `gt_script`, `gt_script_runs` (answers),
+//! `gt_calls` and `gt_core` (steps), `gt_json` and `gt_text`.
 #![tactic(auto)]
 
 mod answers;
