@@ -172,7 +172,8 @@ fn check_all<'a, R, T: TextSource, W: Write, E: Eprint>(
     worse(one, others)
 }
 
-/// Checks policies, or scripts.
+/// Checks the named files one after the other, the first of them or the standard input: as scripts if `script` is true,
+/// and otherwise as policies. Returns the worst outcome: no if a text has an error, and unknown after a failure.
 pub fn check_files<'a, R, T: TextSource, W: Write, E: Eprint>(
     context: &Context<R, T, E>,
     script: bool,
@@ -212,7 +213,8 @@ fn check_never_bytes<'a, R, T: TextSource, W: Write, E: Eprint>(
     }
 }
 
-/// Checks policies against the `neverallow` statements of the named file.
+/// Checks policies, as `check_files` does, against the `neverallow` statements of the file `never`. Returns the worst
+/// outcome: no if a statement is broken, and unknown after a failure. If that file can't be read, nothing is checked.
 pub fn check_never_files<'a, R, T: TextSource, W: Write, E: Eprint>(
     context: &Context<R, T, E>,
     never: &'a str,
