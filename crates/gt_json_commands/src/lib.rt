@@ -1,7 +1,7 @@
 //! The commands of gthost with their texts as JSON Lines.
 //!
-//! `play_json`, `policy_json` and `entries_json` are `play`, `policy` and `entries`, with the same arguments and the same
-//! errors. The command writes its text to memory, and when it has come to its end the JSON of that text goes out.
+//! `play_json`, `policy_json` and `entries_json` are `play`, `policy` and `entries`, with the same arguments and the
+//! same errors. The command writes its text to memory, and when it has come to its end the JSON of that text goes out.
 //! `run_json` of `gt_run_command` is `run`.
 //!
 //! It is proved that what goes out is the JSON of a text that the command itself writes to an empty writer, and that it
