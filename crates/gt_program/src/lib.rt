@@ -10,6 +10,9 @@
 //! Texts come from a trait, [`TextSource`], and go to any writer. So the contracts specify, for texts and a writer with
 //! known bytes, what is written for which words and with which status. That an error comes only if there is one is
 //! tested.
+//!
+//! It uses `gt_commands` (plans), `gt_file_commands`, `gt_run_command` and `gt_explore` (the commands),
+//! `gt_command_reasons`, `clap` (its errors), and the crates below these.
 #![tactic(auto)]
 
 mod exploring;
