@@ -7,6 +7,9 @@
 //! [`run`] promises that each line printed is the answer of its own call, whatever the schedule, and that none is lost,
 //! doubled or out of order. It depends on the promises of `gt_live` for the calls, of `gt_script_runs` for what a
 //! line asks and prints, and of the standard library for threads. That a thread makes progress is not proved.
+//!
+//! It uses `gt_live` (the monitor and its domains), `gt_script` and `gt_script_lines` (scripts), `gt_script_runs` (what
+//! lines ask and print), `gt_audit` (records), `gt_text` (reads and writes), and the crates below these.
 #![tactic(auto)]
 
 mod fault;
