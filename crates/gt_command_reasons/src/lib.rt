@@ -7,6 +7,10 @@
 //! A reason that can't be allocated is left out. No contract specifies what a reason is, since none depends on it:
 //! tests compare the lines. The words for scripts and policies are those of `gt_reasons`. Faults come from the crates
 //! of the commands, but not from `gt_run`, so that this crate is proved beside it.
+//!
+//! It uses `gt_reasons`, `gt_commands` (the commands), `gt_host` (a second play), `gt_entries` (the look of a dump),
+//! `gt_policy_check` (questions), `gt_checks`, `gt_explore_faults`, `gt_policy`, `gt_policy_list` and `gt_script_runs`
+//! (faults), and `gt_text`.
 #![tactic(auto)]
 
 mod copying;
