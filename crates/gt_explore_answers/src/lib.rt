@@ -10,7 +10,7 @@
 //!
 //! It uses `gt_explore_verdict` (conditions and verdicts), `gt_explore_witness` (scripts for `play`),
 //! `gt_explore_trace` (moves), `gt_explore_search` (orders), `gt_explore_faults`, `gt_script`, `gt_json`, `gt_text` and
-//! `gt_types`.
+//! `gt_types`. Its definitions also name `gt_explore_replay` and `gt_script_runs`.
 #![tactic(auto)]
 
 mod answering;
