@@ -9,7 +9,7 @@
 //! specs/Witness.antt). Nothing is promised of how a script is made: `gt_explore_answers` returns only those that pass.
 //!
 //! It uses `gt_host` (`play`), `gt_explore_replay` and `gt_explore_search` (turns), `gt_explore_faults`, `gt_script`
-//! and the crates below these.
+//! and `gt_script_lines` (scripts), `gt_script_runs` (what a script allows), `gt_handles`, `gt_text` and `gt_types`.
 #![tactic(auto)]
 
 mod checked;
