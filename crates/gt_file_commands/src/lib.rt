@@ -10,7 +10,9 @@
 //! command line in `gt_program`: their failures and outcomes are of the same types.
 //!
 //! It uses `gt_commands` (plans), `gt_host`, `gt_policy_list`, `gt_checks` and `gt_entries` (the commands),
-//! `gt_json_commands` (the same as JSON), `gt_command_reasons`, and the crates below these.
+//! `gt_json_commands` (the same as JSON), `gt_command_reasons`, `gt_policy_check` (questions and findings),
+//! `gt_script_runs` and `gt_explore_faults` (faults), `gt_script_lines` (words), `gt_text` and `gt_types`. Its
+//! definitions also name `gt_script`.
 #![tactic(auto)]
 
 mod asking;
