@@ -8,7 +8,8 @@
 //! is whole if the call returns Ok. So each promise about such a text is one about its JSON. At a fault of the command
 //! nothing goes out.
 //!
-//! It uses `gt_json` (the JSON of a text), the commands' crates and `gt_text`.
+//! It uses `gt_json` (the JSON of a text), `gt_host` (`play`), `gt_policy_list` (`policy`), `gt_entries` (`entries`),
+//! `gt_script_runs` (the faults of a play) and `gt_text`. Its definitions also name `gt_script`.
 #![tactic(auto)]
 
 mod commands;
