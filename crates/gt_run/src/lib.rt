@@ -9,7 +9,9 @@
 //! line asks and prints, and of the standard library for threads. That a thread makes progress is not proved.
 //!
 //! It uses `gt_live` (the monitor and its domains), `gt_script` and `gt_script_lines` (scripts), `gt_script_runs` (what
-//! lines ask and print), `gt_audit` (records), `gt_text` (reads and writes), and the crates below these.
+//! lines ask and print), `gt_audit` (records), `gt_core` (answers), `gt_entry`, `gt_frames`, `gt_words`, `gt_text`
+//! (reads and writes) and `gt_types`. Its definitions also name `gt_calls`, `gt_handles`, `gt_policy`,
+//! `gt_shared_table` and `gt_word_history`.
 #![tactic(auto)]
 
 mod fault;
