@@ -64,7 +64,7 @@ pub enum Format {
     Json,
 }
 
-/// What `explore` is asked for.
+/// A request to `explore`.
 #[derive(Clone, Copy, PartialEq, Eq)]
 pub enum Exploration<'a> {
     /// All texts.
@@ -77,7 +77,7 @@ pub enum Exploration<'a> {
     Witnesses,
     /// The moves that lead to the text of this number.
     Trace(usize),
-    /// The same as a sequence diagram.
+    /// These moves as a sequence diagram.
     Diagram(usize),
 }
 
