@@ -10,7 +10,7 @@ use crate::live::cleared;
 use gt_entry::decode;
 use std::alloc::{AllocError, Global};
 
-/// What a dump looks like.
+/// The look of a dump, by which a command hints at a missing or wrong option.
 #[derive(Clone, Copy)]
 pub enum DumpLook {
     /// A table, as far as can be seen.
