@@ -1,7 +1,7 @@
 //! What `explore` is asked for, and the format of its output.
 use gt_explore_verdict::Claim;
 
-/// What `explore` is asked for.
+/// A request to `explore`.
 #[derive(Clone, Copy)]
 pub enum ExploreRequest<'w> {
     /// Print the texts.
