@@ -34,7 +34,7 @@ pub enum Touch {
     Raises(usize),
 }
 
-/// What the tasks that a domain has not finished do through its mappings and through transitive entries.
+/// The uses of mappings and of transitive entries by the tasks that a domain has not finished.
 #[derive(Clone, Copy)]
 pub struct MappingUse {
     pub loads: bool,
@@ -43,7 +43,7 @@ pub struct MappingUse {
     pub vias: bool,
 }
 
-/// What a domain does next.
+/// The next action of a domain.
 #[derive(Clone, Copy)]
 pub enum NextMove {
     /// It makes a step of its open call.
