@@ -96,7 +96,7 @@ fn push_participant(out: &mut Vec<u8>, domain: &DomainConfig) -> Result<(), Allo
     push_one(out, "T", "table", domain.id)
 }
 
-/// Appends each domain and its table as participants of a diagram.
+/// Appends each domain and its table as participants of a diagram. After an Err, part of them may have been appended.
 pub fn push_participants(out: &mut Vec<u8>, domains: &[DomainConfig]) -> Result<(), AllocError>
     ensures { OnOk result (out.new.items ≡ out.old.items ++ participants_text domains.now) }
 {
