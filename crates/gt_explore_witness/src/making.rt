@@ -103,7 +103,7 @@ fn type_of(domains: &[DomainConfig], dom: DomId) -> Option<TypeId> {
     None
 }
 
-// What the lines of a witness are made from: those of its script, its domains, and what the policy lets these do.
+// The sources of the lines of a witness: the lines of its script, its domains, and what the policy lets these do.
 #[derive(Clone, Copy)]
 struct WitnessSource<'w> {
     lines: &'w [&'w str],
