@@ -141,7 +141,8 @@ fn push_meant(out: &mut Vec<u8>, meant: Option<&str>) -> Result<(), AllocError> 
     push_text(out, "?")
 }
 
-/// Appends `; did you mean "NAME"?` with the name that a misspelt word may be meant as, if there is one.
+/// Appends `; did you mean "NAME"?` with the name that a misspelt word may be meant as, if there is one. After an Err,
+/// part of it may have been appended.
 pub fn push_hint(
     alloc: Global,
     out: &mut Vec<u8>,
