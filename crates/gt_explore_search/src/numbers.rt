@@ -12,7 +12,7 @@ use std::marker::Model;
 #[derive(Drop)]
 pub struct NumberLists {
     items: Vec<u32>,
-    // Where each list ends. The next one begins there.
+    // The end of each list, where the next one begins.
     ends: Vec<u32>,
     // For each list one more than its number, in a slot that its hash leads to. A free slot has a 0.
     slots: Vec<u32>,
