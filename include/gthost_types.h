@@ -64,7 +64,7 @@ enum gthost_fault_kind {
 
 struct gthost_fault {
     uint32_t kind; /* enum gthost_fault_kind; GTHOST_FAULT_NONE if the run started */
-    uint32_t line; /* of the policy, starting at 1; 0 if the fault is elsewhere */
+    uint32_t line; /* of the policy, starting at 1; 0 if the fault is elsewhere, or the policy is not UTF-8 */
     uint32_t dom;  /* the domain with the fault, else 0 */
 };
 
@@ -125,7 +125,7 @@ enum gthost_kind {
     GTHOST_FIELD = 6,   /* refused: the field `detail` of the entry's bytes (enum gthost_field) */
     GTHOST_HEADER = 7,  /* refused: the header `word` of the domain `dom` */
     GTHOST_ENTRY = 8,   /* refused: the control `word` of the entry `gref` of the domain `dom` */
-    GTHOST_LEFT = 9,    /* Ok: the domain left; `value` records were lost, `more` entries are still in use */
+    GTHOST_LEFT = 9,    /* Ok: the domain left or was reset; `value` records were lost, `more` entries are in use */
     GTHOST_TAKEN = 10,  /* Ok: `value` records were taken; `more` were lost before */
     GTHOST_FOLLOWED = 11 /* Ok: the entry is what its guest has written; `value` was done (enum gthost_followed) */
 };

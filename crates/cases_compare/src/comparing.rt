@@ -222,7 +222,7 @@ fn tell_script<'a, R: Wait, D: Calls + Drop>(
     Ok(())
 }
 
-// Compares a script on both, and tells which calls failed.
+// Compares a script on both, and adds which calls failed.
 fn script_compared<R: Wait, D: Calls + Drop>(
     both: &mut Both<D>,
     rt: &R,

@@ -14,16 +14,16 @@
 //! `--policy-refusing` each allocation fails in turn, and a line states whether all failures were reported.
 //!
 //! The scripts after `--parsed` are parsed for `play`, and printed as they are read, or their first fault. Those after
-//! `--parsed-run` are parsed for `run`, and those after `--cut` are cut off after each count of bytes. A file with a line
-//! `====` has a text above it, and below it lines that are tried instead of its `@`, one after the other: each is printed
-//! after its result. A script, a policy or a tried line is added by its file, its name in `args` and its lines in
-//! `stdout`; that costs no proof.
+//! `--parsed-run` are parsed for `run`, and those after `--cut` are cut off after each count of bytes. A file with a
+//! line `====` has a text above it, and below it lines that are tried instead of its `@`, one after the other: each is
+//! printed after its result. A script, a policy or a tried line is added by its file, its name in `args` and its lines
+//! in `stdout`; that costs no proof.
 //!
 //! After `--json` come texts that `play` and `run` print, after `--json-policy` those of `policy`, and after
-//! `--json-entries` those of `entries`: `x` is `data/x.txt`, which is printed as JSON Lines. After `--json-failing` each
-//! write fails after each count of bytes, and a line states whether all failures were reported. The expected JSON was
-//! written by `tools/json_lines.py`, which makes it of the texts independently, checks it by another reader, and makes
-//! the text of it again.
+//! `--json-entries` those of `entries`: `x` is `data/x.txt`, which is printed as JSON Lines. After `--json-failing`
+//! each write fails after each count of bytes, and a line states whether all failures were reported. The expected JSON
+//! was written by `tools/json_lines.py`, which makes it of the texts independently, checks it by another reader, and
+//! makes the text of it again.
 //!
 //! If an allocation of the program itself fails, it ends with status 1, and its output is a prefix of `stdout`.
 #![tactic(auto)]
@@ -85,7 +85,7 @@ static MODES: [(&str, Mode); 16] = [
     ("--json-failing", (Task::Play, false, Way::JsonFailing)),
 ];
 
-// The texts, of which the next ones are treated so.
+// The words of `args`, with the mode for the texts that come next.
 #[derive(Drop)]
 struct HostCases {
     mode: Mode,

@@ -93,7 +93,7 @@ static MODES: [(&str, Mode); 14] = [
     ),
 ];
 
-// The scripts, of which the next ones are treated so.
+// The words of `args`, with the mode for the scripts that come next.
 #[derive(Drop)]
 struct RunCases {
     mode: Mode,

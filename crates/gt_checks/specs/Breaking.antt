@@ -25,8 +25,8 @@ WritesBreaches found old new (Err (Policy (listing.Utf8 line))) = ⊥
 WritesBreaches found old new (Err (Policy (listing.Policy shown))) = ⊥
 WritesBreaches found old new (Err (Statements shown)) = ⊥
 
--- What was written for a policy text, by the result: at Ok its breaches, and the result is whether there are none; after
--- a failed write a prefix; otherwise nothing.
+-- What was written for a policy text, by the result: at Ok its breaches, and the result is whether there are none;
+-- after a failed write a prefix; otherwise nothing.
 abbrev pub CheckedNeverText : List ℕ → List ℕ → Option (List ℕ) → Option (List ℕ) → Result Bool BreachFault → Type 0
 CheckedNeverText given text old new (Ok clean) =
     (found : List Breach) × (report : List ℕ) × AreBreaches text given found × (clean ≡ (length found == 0))

@@ -45,9 +45,11 @@ fn check_bytes<W: Write>(
 }
 
 /// Checks a policy, and writes the findings in the layout of compilers, or as one JSON object per line. The lines begin
-/// with the name `file`. Returns whether the text is a policy. At most 1,048,577 bytes are read. An Err gives why the
-/// text was not checked (it is too long or not UTF-8, or a read or an allocation failed), and then nothing was written;
-/// or a write failed, and a prefix of the findings was written.
+/// with the name `file`. Returns whether the text is a policy. At most 1,048,577 bytes are read.
+///
+/// # Errors
+/// The text is too long or not UTF-8, or a read or an allocation failed: then nothing was written. After a failed
+/// write, a prefix of the findings was written.
 pub fn check<R: Read, W: Write>(
     alloc: Global,
     file: &str,

@@ -61,10 +61,13 @@ fn explain_bytes<W: Write>(
     }
 }
 
-/// Answers a question about a policy, and writes the lines of the statements that grant what is asked, or of the near
-/// misses. The lines begin with the name `file`. Returns whether it is allowed. At most 1,048,577 bytes are read. If
-/// the text is not a policy, or a name of the question is unknown, nothing is written. After a failed write, a prefix
-/// of the lines was written.
+/// Answers a question about a policy. Writes a line `allowed` or `denied`, and the lines of the statements that grant
+/// what is asked, or of the near misses. These begin with the name `file`. Returns whether it is allowed. At most
+/// 1,048,577 bytes are read.
+///
+/// # Errors
+/// The text is not a policy, a name of the question is unknown, or a read or an allocation failed: then nothing was
+/// written. After a failed write, a prefix of the lines was written.
 pub fn why<R: Read, W: Write>(
     alloc: Global,
     file: &str,

@@ -46,8 +46,11 @@ fn check_script_bytes<W: Write>(
 
 /// Checks a script and its policy block, and writes the findings in the layout of compilers, or as one JSON object per
 /// line. The lines begin with the name `file`. Returns whether the text is a script, for `play` or for `run`. At most
-/// 1,048,577 bytes are read. A text that is too long or not UTF-8 has a finding. After a failed read or allocation
-/// nothing was written, after a failed write a prefix.
+/// 1,048,577 bytes are read. A text that is too long or not UTF-8 has a finding.
+///
+/// # Errors
+/// A read or an allocation failed: then nothing was written. After a failed write, a prefix of the findings was
+/// written.
 pub fn check_script<R: Read, W: Write>(
     alloc: Global,
     file: &str,

@@ -24,7 +24,7 @@ pub struct Reasons<'a> {
     alloc: Global,
     // The name with which their lines begin, if they are asked for.
     file: Option<&'a str>,
-    // The reason of a fault is printed as the line of the fault, and not after it.
+    // Whether the reason of a fault is printed as the line of the fault, and not after it.
     is_line: bool,
     text: Vec<u8>,
 }
@@ -397,7 +397,8 @@ impl<'a> Reasons<'a> {
         self.add(said);
     }
 
-    /// Prints the reason of a fault as its line, if that is how it is printed, and returns whether it was.
+    /// Prints the reason of a fault as the line of the fault, if the command has its reasons there and there is one.
+    /// Returns whether it printed one. Then none is left.
     pub fn tell_line<E: Eprint>(&mut self, err: &E) -> bool {
         if !self.is_line || self.text.is_empty() {
             return false;
@@ -411,7 +412,7 @@ impl<'a> Reasons<'a> {
         true
     }
 
-    /// Prints them.
+    /// Prints the reasons. A failed write or allocation is not reported.
     pub fn tell<E: Eprint>(&self, err: &E) {
         if self.text.is_empty() {
             return;

@@ -209,7 +209,7 @@ sought_of (Some claim) (Some scripts) trace = None
 sought_of (Some claim) None (Some trace) = None
 sought_of None (Some scripts) (Some trace) = None
 
--- the same of values, each of which has to be one that its option takes
+-- the same by the values of the options; nothing if an option does not take its value
 abbrev pub one_sought : Option (Option Sought) → Option (Option Sought) → Option (Option Sought)
     → Option (Option Sought)
 one_sought None witness trace = None
@@ -240,7 +240,7 @@ formed forms.Text sought = Some (sought, Plain)
 formed forms.Json sought = Some (sought, Json)
 formed forms.Mermaid sought = diagram_of sought
 
--- the same of values, each of which has to be one that its option takes
+-- the same by the values of the options; nothing if an option does not take its value
 abbrev pub formed_of : Option (Option Sought) → Option ExploreForm → Option (Option Sought × Format)
 formed_of None form = None
 formed_of (Some sought) None = None

@@ -16,7 +16,7 @@ abbrev pub help_first : Text → List Text → List Text
 help_first program [] = program ∷ (codes "--help" ∷ [])
 help_first program (command ∷ rest) = program ∷ (command ∷ (codes "--help" ∷ rest))
 
--- a flag for reasons that comes before the command goes behind its name, and one before `help` is dropped
+-- a flag for reasons before the command comes after its name instead, and one before `help` is dropped
 abbrev pub flag_behind : Text → Text → List Text → List Text
 flag_behind program word [] = program ∷ (word ∷ [])
 flag_behind program word (next ∷ rest) =

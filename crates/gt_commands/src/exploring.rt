@@ -27,7 +27,8 @@ fn explore_for<'a>(
     }
 }
 
-/// Plans what is asked for about the texts from values, each of which has to be one that its option takes.
+/// Plans what is asked for about the texts, by the values of the options. Returns None if an option does not take its
+/// value, or if what is asked for does not go with a given text.
 pub(crate) fn explore_with<'a>(
     sought: Option<(Option<Exploration<'a>>, Format)>,
     given: Option<&'a str>,
@@ -52,7 +53,7 @@ pub(crate) fn explore_with<'a>(
     }
 }
 
-/// Returns what is asked for in the form of a value, if both were read and go together.
+/// Returns what is asked for in this form, if the options take both values and they go together.
 pub(crate) fn formed_of<'a>(
     sought: Option<Option<Exploration<'a>>>,
     form: Option<ExploreForm>,
@@ -66,8 +67,8 @@ pub(crate) fn formed_of<'a>(
     }
 }
 
-/// Returns what is asked for about the texts, if each of these values was read and there is at most one of them. The
-/// outer result is None if not.
+/// Returns what is asked for about the texts. The outer result is None if an option does not take its value, or if more
+/// than one of them is given.
 pub(crate) fn one_sought<'a>(
     claim: Option<Option<Exploration<'a>>>,
     witness: Option<Option<Exploration<'a>>>,

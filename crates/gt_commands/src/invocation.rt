@@ -64,7 +64,7 @@ pub enum Format {
     Json,
 }
 
-/// What `explore` is asked for.
+/// A request to `explore`.
 #[derive(Clone, Copy, PartialEq, Eq)]
 pub enum Exploration<'a> {
     /// All texts.
@@ -77,7 +77,7 @@ pub enum Exploration<'a> {
     Witnesses,
     /// The moves that lead to the text of this number.
     Trace(usize),
-    /// The same as a sequence diagram.
+    /// These moves as a sequence diagram.
     Diagram(usize),
 }
 
@@ -146,12 +146,12 @@ pub struct CheckedFiles<'a> {
     pub more: MoreFiles<'a>,
 }
 
-/// How `entries` reads a dump, and what it prints of it.
+/// The options of `entries`: how a dump is read, and what is printed of it.
 #[derive(Clone, Copy, PartialEq, Eq)]
 pub struct EntriesOptions {
     /// The version of the table, 1 or 2.
     pub version: u8,
-    /// The dump is hexadecimal text.
+    /// Whether the dump is hexadecimal text.
     pub hex: bool,
     /// Print entries of zeros too.
     pub all: bool,

@@ -57,8 +57,8 @@ fn help_first(alloc: Global, program: &str, words: &[String]) -> Result<Vec<Stri
 }
 
 /// Returns the words of a command line, the program's name first, with the command before its flags: a flag `-v` or
-/// `--verbose` before the command goes behind its name, and `help` before a command is its flag `--help`. A flag before
-/// `help` is dropped.
+/// `--verbose` before the command comes after its name instead, and `help` before a command becomes its flag `--help`.
+/// A flag before `help` is dropped.
 pub fn command_first(alloc: Global, words: &[String]) -> Result<Vec<String>, AllocError>
     ensures { IfOk result (λ all. map string_bytes all.items ≡ command_first (map string_bytes words.now)) }
 {

@@ -35,7 +35,7 @@ fn named_among(modes: &[Mode], name: &str) -> Option<Mode>
     None
 }
 
-/// Returns the command of this name.
+/// Returns the command of this name, if there is one.
 pub fn mode_of(name: &str) -> Option<Mode>
     ensures { result ≡ mode_of name.now }
 {

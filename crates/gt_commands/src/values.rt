@@ -7,7 +7,7 @@ ghost use Rattle.gt_commands.specs.Commands.{claim_of, sought_of, sought_told, t
 use crate::invocation::{Exploration, Format};
 use gt_explore_verdict::Claim;
 
-/// Returns the format of this name, or text if none is given.
+/// Returns the format of this name, or text if no name is given. None for any other name.
 pub(crate) fn format_of(value: Option<&str>) -> Option<Format>
     ensures { result ≡ format_of (option_map (λ v. v.now) value.entry) }
 {
@@ -28,7 +28,7 @@ pub(crate) enum ExploreForm {
     Mermaid,
 }
 
-/// Returns the form of this name, or text if none is given.
+/// Returns the form of this name, or text if no name is given. None for any other name.
 pub(crate) fn form_of(value: Option<&str>) -> Option<ExploreForm>
     ensures { result ≡ form_of (option_map (λ v. v.now) value.entry) }
 {
@@ -41,7 +41,7 @@ pub(crate) fn form_of(value: Option<&str>) -> Option<ExploreForm>
     }
 }
 
-// Returns a trace as a diagram, with its format. Nothing else is one.
+// Returns a trace as a diagram, with its format. None for anything else: only a trace can be a diagram.
 fn diagram_of<'a>(sought: Option<Exploration<'a>>) -> Option<(Option<Exploration<'a>>, Format)>
     ensures { option_map (λ p. (option_map sought_told p.0, p.1)) result
         ≡ diagram_of (option_map sought_told sought.entry) }
@@ -79,7 +79,7 @@ pub(crate) fn type_of<'a>(value: Option<&'a str>) -> Option<&'a str>
     value.filter(|name| *name != "-")
 }
 
-/// Returns the version of a table.
+/// Returns the version of a table, 1 or 2. None for any other value, or without one.
 pub(crate) fn version_of(value: Option<&str>) -> Option<u8>
     ensures { result ≡ version_of (option_map (λ v. v.now) value.entry) }
 {
@@ -90,7 +90,7 @@ pub(crate) fn version_of(value: Option<&str>) -> Option<u8>
     }
 }
 
-// Returns the number of a domain.
+// Returns the number of a domain, if the word is a number below 65,536.
 fn domain_of(word: &str) -> Option<u16>
     ensures { result ≡ domain_number word.now }
 {
@@ -110,7 +110,7 @@ pub(crate) fn script_of(value: Option<&str>) -> Option<Option<u16>>
     }
 }
 
-// Returns a number of 64 bits.
+// Returns the number, if the word is one of 64 bits.
 fn number_of(word: &str) -> Option<usize>
     ensures { result ≡ number_up_to 18446744073709551615 word.now }
 {
@@ -120,8 +120,8 @@ fn number_of(word: &str) -> Option<usize>
     }
 }
 
-/// Returns what `--witness` asks for, if it is given. The outer result is None if the value is neither `all` nor a number
-/// of 64 bits.
+/// Returns what `--witness` asks for, if it is given. The outer result is None if the value is neither `all` nor a
+/// number of 64 bits.
 pub(crate) fn witness_of<'a>(value: Option<&'a str>) -> Option<Option<Exploration<'a>>>
     ensures { option_map (option_map sought_told) result ≡ witness_of (option_map (λ v. v.now) value.entry) }
 {
@@ -161,7 +161,7 @@ pub(crate) fn sought_of<'a>(
     }
 }
 
-/// Returns the maximum number of states: 100,000 if none is given.
+/// Returns the maximum number of states, 100,000 if no value is given. None if the value is not a number of 64 bits.
 pub(crate) fn states_of(value: Option<&str>) -> Option<usize>
     ensures { result ≡ states_of (option_map (λ v. v.now) value.entry) }
 {

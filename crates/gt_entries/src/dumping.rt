@@ -56,8 +56,8 @@ fn push_dump(
     Ok(())
 }
 
-/// Writes the text of a dump of at most 65,536 bytes, 16 frames. After a failed write, a prefix of it has gone out;
-/// after another Err, nothing.
+/// Writes the text of a dump of at most 65,536 bytes, 16 frames, as [`entries`] does. After a failed write, a prefix of
+/// it has gone out; after another Err, nothing.
 pub fn write_dump<W: Write>(
     alloc: Global,
     asked: DumpOptions,
@@ -92,7 +92,8 @@ fn write_input<W: Write>(
 }
 
 /// Reads a dump and writes the lines of its entries, by their references: an entry as a script's `show` prints it, or
-/// `refused FIELD`, each with the live bits of its bytes; or lines of a script that grants the entries.
+/// `refused FIELD`, each with the live bits of its bytes; or lines of a script that grants the entries. A whole entry
+/// of zeros has a line only if all are asked for.
 ///
 /// A dump has at most 65,536 bytes, 16 frames. At most 1,048,577 bytes are read. After a failed write, a prefix of the
 /// text has gone out; after another Err, nothing.

@@ -19,7 +19,8 @@ fn digits_of(alloc: Global, input: &[u8]) -> Result<Vec<u8>, AllocError>
 }
 
 /// Returns the bytes of a dump: the input itself, or if `hex` is true, the bytes that it encodes, two digits for each.
-/// An Err is Syntax for other text, Limit for more than 1,048,576 bytes of input, or Memory.
+/// # Errors
+/// `Syntax` for text that is not hexadecimal, `Limit` for more than 1,048,576 bytes of input, or `Memory`.
 pub fn bytes_of(alloc: Global, hex: bool, input: Vec<u8>) -> Result<Vec<u8>, DumpFault>
     ensures says { IfOk result (λ bytes. SaysDump hex input.items bytes.items) }
     ensures few { IfOk result (λ _. length input.items ≤ LONGEST_TEXT) }

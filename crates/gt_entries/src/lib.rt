@@ -1,12 +1,13 @@
 //! `entries`: prints the entries of a dump of grant-table frames.
 //!
 //! `entries` reads the frames of a table, as they are in memory or as hexadecimal text, and writes a line for each
-//! entry by its reference: the entry, or the field that is refused. A live host sets two bits of an entry, reading and
-//! writing (`GTF_reading` and `GTF_writing` of `grant_table.h`). They are cleared first and printed after the entry, so
-//! a dump of a running guest is read too. The lines can also be those of a script that grants the same.
+//! entry by its reference: the entry, or the field that is refused. An entry of zeros has a line only if that is asked
+//! for. A live host sets two bits of an entry, reading and writing (`GTF_reading` and `GTF_writing` of
+//! `grant_table.h`). They are cleared first and printed after the entry, so a dump of a running guest is read too. The
+//! lines can also be those of a script that grants the same.
 //!
 //! It is proved that each line is what the decoders of `gt_entry` return for the bytes with the two bits cleared, for
-//! each entry once, in order, and that nothing else goes out (`Dumped`).
+//! each entry that is not left out once, in order, and that nothing else goes out (`Dumped`).
 //!
 //! It uses `gt_entry`, `gt_types`, `gt_text` (texts, reads and writes) and `hex`.
 #![tactic(auto)]

@@ -10,14 +10,14 @@ use crate::live::cleared;
 use gt_entry::decode;
 use std::alloc::{AllocError, Global};
 
-/// What a dump looks like.
+/// The look of a dump, by which a command hints at a missing or wrong option.
 #[derive(Clone, Copy)]
 pub enum DumpLook {
     /// A table, as far as can be seen.
     Table,
     /// Hexadecimal text, though the dump was read as bytes.
     Hexadecimal,
-    /// No table: some entries are not zero, and each of them is refused.
+    /// Not a table of this version: some entries are not zero, and each of them is refused.
     NoTable,
 }
 

@@ -21,7 +21,7 @@ AreAscending [] = Unit {0}
 AreAscending (text ∷ []) = Unit {0}
 AreAscending (text ∷ next ∷ texts) = (compared text next ≡ Less) × AreAscending (next ∷ texts)
 
--- the last of these texts, compared with another; none is before each text
+-- the last of these texts, compared with another; if there is none, the result is `Less`
 abbrev pub last_compared : List (List ℕ) → List ℕ → Ordering
 last_compared [] text = Less
 last_compared (last ∷ []) text = compared last text

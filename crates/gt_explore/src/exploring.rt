@@ -72,16 +72,18 @@ fn explore_bytes<W: Write>(
     }
 }
 
-/// Answers a request on the texts that the script of a reader may give. Texts are printed under lines `text K of M`, in
-/// the order of their bytes, with a line `states S` at the end. A script for `play` that is printed was played before,
-/// and each domain had the answers that it has in its text.
+/// Answers a request on the texts that the script of a reader may give. In the format `Text`, texts are printed under
+/// lines `text K of M`, in the order of their bytes, with a line `states S` at the end. In `Json`, each is an object. A
+/// script for `play` that is printed was played before, and each domain had the answers that it has in its text.
 ///
-/// The verdict on a request other than a claim is `Holds` if the search met all states, and otherwise `Undecided`. If
-/// it did not, the texts found until then are printed, and the last line has the words `not all texts`.
+/// The verdict on a claim and on a given text is what is known of it. On another request it is `Holds` if the search
+/// met all states, and otherwise `Undecided`. If the search did not meet all, the answer is by the texts found until
+/// then, and a list of texts ends with a line that has the words `not all texts`.
 ///
 /// # Errors
-/// The script's first fault; a fault of the expression; that no script for `play` gives the wanted text; an allocation
-/// that failed; or a read or a write that failed. Only after a failed write was anything written: a prefix of the text.
+/// The script's first fault; a fault of the expression; that no text has the wanted number; that an order or a script
+/// for `play` does not give its text; an allocation that failed; or a read or a write that failed. Only after a failed
+/// write was anything written: a prefix of the text.
 pub fn explore<R: Read, W: Write>(
     alloc: Global,
     asked: &ExploreOptions,

@@ -21,7 +21,7 @@ use gt_script::RunScript;
 use std::alloc::{AllocError, Global};
 use std::cmp::Ordering;
 
-// Compares the last of these texts with a text; before the first text there is nothing.
+// Compares the last of these texts with a text. If there is none, the result is `Less`.
 fn last_compared(texts: &[FoundText], text: &[u8]) -> Ordering
     ensures { result ≡ last_compared (texts_of_orders texts.now) text.now }
 {
@@ -31,7 +31,8 @@ fn last_compared(texts: &[FoundText], text: &[u8]) -> Ordering
     }
 }
 
-// Adds an order whose text comes after all others, unless its text is the last.
+// Adds an order whose text comes after all others, unless its text is the last. Fails with `Astray` if its text comes
+// before the last.
 fn add(texts: &mut Vec<FoundText>, order: FoundText) -> Result<(), TextsFault>
     ensures { OnOk result (AddsOrder texts.old.items order texts.new.items) }
 {
@@ -87,12 +88,13 @@ fn distinct(
     Ok(texts)
 }
 
-/// Returns texts that a script may give, if the search meets at most `limit` states all of them, and otherwise those
-/// that it found until then. All of them presumes that the script's flags are numbered, as those of each parsed script
-/// are.
+/// Returns texts that a script may give: all of them if the search meets at most `limit` states, and otherwise those
+/// that it found until then. That these are all presumes that the script's flags are numbered, as those of each parsed
+/// script are.
 ///
 /// # Errors
-/// `Astray` if the search found an order that the core does not follow to its text, and `Memory`.
+/// `Astray` if the search found an order that the core does not follow to its text, or a run that returned to a state;
+/// `States` if the search has too many states to number; and `Memory`.
 pub fn texts_within(
     alloc: Global,
     script: &RunScript,
@@ -120,7 +122,7 @@ pub fn texts_within(
     })
 }
 
-/// Returns what [`texts_within`] does. A caller's goals are smaller by its one clause.
+/// Returns what [`texts_within`] does. It has one clause, so the proof goals of a caller are smaller.
 pub(crate) fn texts_found(
     alloc: Global,
     script: &RunScript,
@@ -138,8 +140,8 @@ pub(crate) fn texts_found(
 /// script's flags are numbered, as those of each parsed script are.
 ///
 /// # Errors
-/// `States` beyond the limit, `Astray` if the search found an order that the core does not follow to its text, and
-/// `Memory`.
+/// `States` beyond the limit, `Astray` if the search found an order that the core does not follow to its text, or a run
+/// that returned to a state, and `Memory`.
 pub fn texts_of(alloc: Global, script: &RunScript, limit: usize) -> Result<FoundTexts, TextsFault>
     requires { CanConfigure (contents_told script.now.head) }
     ensures possible { IfOk result (λ all. All (MayGive (run_told script.now)) (texts_of_orders all.texts.items)) }

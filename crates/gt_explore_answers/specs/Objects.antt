@@ -35,7 +35,7 @@ unfoldable pub object_start : Found → ℕ → List ℕ → List ℕ
 object_start f number text =
     codes "{\"text\":" ++ decimal number ++ codes ",\"of\":" ++ decimal (length f.texts) ++ lines_member text
 
--- the same with a script for `play`
+-- a script for `play`, as a member of an object
 abbrev pub witness_member : List ℕ → List ℕ
 witness_member script = codes ",\"witness\":" ++ quoted script
 

@@ -53,8 +53,8 @@ comment_byte b = if b == 10 then codes "\n# " else b ∷ []
 unfoldable pub commented : List ℕ → List ℕ
 commented text = codes "# " ++ flat_map comment_byte text ++ codes "\n"
 
--- what the comment over a script says that shows that a claim does not hold: the text that it gives, and the number of
--- states
+-- the lines of the comment over a script that shows that a claim does not hold: the text that it gives, and the number
+-- of states
 unfoldable pub counterexample_lines : Found → ℕ → List ℕ → List ℕ
 counterexample_lines f number text =
     codes "does not hold: " ++ heading f.whole (length f.texts) number ++ codes "\n" ++ text ++ states_told f

@@ -6,14 +6,14 @@ use Rattle.gt_script_runs.specs.Rights.{may_in}
 use Rattle.gt_explore_witness.specs.Witness.{GivesAnswers, may_not_unmap}
 use Rattle.gt_explore_answers.specs.Telling.{unplayable_line}
 
--- the lines say that no script for `play` was found, which has no line for a domain that leaves with a mapping that it
--- may not unmap
+-- the line in place of a script for `play` that was not found: the policy does not let its domain unmap the entries of
+-- some domain, and `play` has no line for a domain that leaves with such a mapping
 abbrev pub SaysUnplayable : Contents → List ℕ → Type 0
 SaysUnplayable c lines =
     (dom : DomId) × (may_not_unmap (may_in c) c.domains dom ≡ true) × (lines ≡ unplayable_line dom.0)
 
--- the output is this comment and more lines: a script for `play` that gives the answers of the text; or, if a domain may
--- not unmap what it may have mapped, maybe a line that says that no script was found
+-- the output is this comment and more lines: a script for `play` that gives the answers of the text; or the line in its
+-- place, if the policy does not let some domain unmap all entries
 abbrev pub ShowsAfter : Contents → List ℕ → List ℕ → List ℕ → Type 0
 ShowsAfter c comment out text =
     (lines : List ℕ) × (out ≡ comment ++ lines) × (GivesAnswers c.domains out text ⊎ SaysUnplayable c lines)

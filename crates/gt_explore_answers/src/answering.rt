@@ -36,14 +36,14 @@ use gt_text::text_of;
 use gt_types::DomId;
 use std::alloc::Global;
 
-/// The output, and the verdict.
+/// The output of a request, and the verdict.
 #[derive(Drop)]
 pub struct ExploreOutput {
     pub text: Vec<u8>,
     pub verdict: Verdict,
 }
 
-/// Returns the verdict on all texts, if there is nothing to decide.
+/// Returns the verdict on a request that decides nothing: `Holds` if all texts were found, and otherwise `Undecided`.
 pub fn verdict_of_all(whole: bool) -> Verdict
     ensures { result ≡ verdict_of_all whole }
 {
@@ -83,8 +83,8 @@ fn without_script(
     Ok(text)
 }
 
-// Returns this comment, and a script for `play` that gives the text of an order: it was played, and gave it. Where a
-// domain leaves with a mapping that it may not unmap, a line takes the place of a script that does not give the text.
+// Returns this comment, and a script for `play` that gives the text of an order: it was played, and gave it. If the
+// script does not give the text, and a domain leaves with a mapping that it may not unmap, a line takes its place.
 fn script_after(
     alloc: Global,
     source: &[u8],
@@ -115,7 +115,8 @@ fn script_after(
 /// Returns a script for `play` that gives the text of an order, or the line in its place.
 ///
 /// # Errors
-/// `Astray` if the script does not give the text and no domain leaves with a mapping that it may not unmap, and `Memory`.
+/// `Astray` if the script does not give the text and no domain leaves with a mapping that it may not unmap, and
+/// `Memory`.
 pub fn script_of(
     alloc: Global,
     source: &[u8],
@@ -242,7 +243,7 @@ fn all_texts(alloc: Global, found: &FoundTexts) -> Result<ExploreOutput, TextsFa
     Ok(ExploreOutput { text, verdict })
 }
 
-/// Returns the index of a text among those of these orders.
+/// Returns the index of a text among those of these orders, if it is one of them.
 pub fn place_of(orders: &[FoundText], text: &[u8]) -> Option<usize>
     ensures place { result ≡ position (λ o. bytes_eq o.text.items text.now) orders.now }
     ensures within { IfSome result (λ at. at < length orders.now) }
@@ -352,7 +353,8 @@ pub fn moves_told(
 /// Answers a request about a script by the texts that were found. A claim is one on these conditions.
 ///
 /// # Errors
-/// That no text has the number of the witness or of the trace, that an order does not give its text, and `Memory`.
+/// `Witness` if no text has the number of the witness or of the trace, `Astray` if an order or a witness does not give
+/// its text, and `Memory`.
 pub fn answer_in_text(
     alloc: Global,
     request: ExploreRequest<'_>,

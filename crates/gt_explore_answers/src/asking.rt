@@ -1,7 +1,7 @@
 //! What `explore` is asked for, and the format of its output.
 use gt_explore_verdict::Claim;
 
-/// What `explore` is asked for.
+/// A request to `explore`.
 #[derive(Clone, Copy)]
 pub enum ExploreRequest<'w> {
     /// Print the texts.
@@ -26,8 +26,8 @@ pub enum ExploreRequest<'w> {
 pub enum ExploreFormat {
     /// Lines of text, and scripts for `play`.
     Text,
-    /// A JSON object a line: one for each text that is shown, and one at the end. A sequence diagram is the same in both
-    /// formats.
+    /// A JSON object a line: one for each text that is shown, and one at the end. A sequence diagram is the same in
+    /// both formats.
     Json,
 }
 

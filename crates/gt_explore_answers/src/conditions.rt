@@ -62,7 +62,7 @@ fn has_domain(alloc: Global, domains: &[DomainConfig], number: &[u8]) -> Result<
     Ok(false)
 }
 
-// Returns whether the script has what a condition speaks of.
+// Returns whether the script has the line or the domain that a condition is about.
 fn has_place(alloc: Global, script: &RunScript, place: Place<'_>) -> Result<bool, AllocError>
     ensures { IfOk result (λ b. b ≡ is_askable (run_told script.now) (place_told place.entry)) }
 {
@@ -73,7 +73,7 @@ fn has_place(alloc: Global, script: &RunScript, place: Place<'_>) -> Result<bool
     }
 }
 
-// Returns the fault of a condition that speaks of what the script does not have.
+// Returns the fault of a condition about a line or a domain that the script does not have.
 fn place_fault(place: Place<'_>) -> ConditionFault {
     match place {
         Place::Anywhere | Place::Line(_) => ConditionFault::NoCall,
@@ -81,7 +81,7 @@ fn place_fault(place: Place<'_>) -> ConditionFault {
     }
 }
 
-// Checks that the script has what each of these conditions speaks of.
+// Checks that the script has the line or the domain that each of these conditions is about.
 fn check_places(
     alloc: Global,
     script: &RunScript,
@@ -119,6 +119,9 @@ pub fn conditions_for<'e>(
 }
 
 /// Reads the conditions of a request. Only a claim has any.
+///
+/// # Errors
+/// Those of `conditions_for`.
 pub fn conditions_asked<'e>(
     alloc: Global,
     script: &RunScript,

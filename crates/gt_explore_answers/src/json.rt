@@ -237,11 +237,11 @@ impl ObjectWriter<'_, '_> {
         ended(text, self.found, limit, verdict_of_all(self.found.whole))
     }
 
-    /// Answers a request as JSON. A claim is one on these conditions. A sequence diagram is no JSON, and is returned as
-    /// it is.
+    /// Answers a request as JSON. A claim is one on these conditions. A sequence diagram is not JSON, and is returned
+    /// as it is.
     ///
     /// # Errors
-    /// As those of `answer_in_text`.
+    /// Those of `answer_in_text`.
     pub fn answer(
         &self,
         request: ExploreRequest<'_>,

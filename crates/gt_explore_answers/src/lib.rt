@@ -1,12 +1,16 @@
 //! What `explore` prints of the texts found for a script: the answer to each request, as text and as JSON.
 //!
-//! [`conditions_asked`] reads the conditions of a request. [`answer_request`] returns the whole output and the verdict: the
-//! texts under their numbers, the verdict on a claim, the number of a text, scripts for `play` that give texts, or the
-//! moves that lead to one. It is given the texts; `gt_explore` finds them.
+//! [`conditions_asked`] reads the conditions of a request. [`answer_request`] returns the whole output and the verdict:
+//! the texts under their numbers, the verdict on a claim, the number of a text, scripts for `play` that give texts, or
+//! the moves that lead to one. It is given the texts; `gt_explore` finds them.
 //!
 //! A script for `play` that is returned gives the answers of its text: it is played before, and the answers are
 //! compared. Moves are made again on the core. So no promise depends on how a script or an order was made. The
 //! definitions are in `specs/`.
+//!
+//! It uses `gt_explore_verdict` (conditions and verdicts), `gt_explore_witness` (scripts for `play`),
+//! `gt_explore_trace` (moves), `gt_explore_search` (orders), `gt_explore_faults`, `gt_script`, `gt_json`, `gt_text` and
+//! `gt_types`. Its definitions also name `gt_explore_replay` and `gt_script_runs`.
 #![tactic(auto)]
 
 mod answering;

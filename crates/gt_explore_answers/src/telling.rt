@@ -124,7 +124,7 @@ fn push_states(out: &mut Vec<u8>, found: &FoundTexts) -> Result<(), AllocError>
     push_limit(out, found)
 }
 
-/// Appends the last line.
+/// Appends the last line of the output: the number of states, and whether there may be more texts.
 pub fn push_states_line(out: &mut Vec<u8>, found: &FoundTexts) -> Result<(), AllocError>
     ensures { OnOk result (out.new.items ≡ out.old.items ++ states_line (found_told found.now)) }
 {
@@ -209,7 +209,7 @@ fn push_commented(out: &mut Vec<u8>, text: &[u8]) -> Result<(), AllocError>
     push_text(out, "\n")
 }
 
-// Appends what the comment over a script says that shows that a claim does not hold.
+// Appends the lines of the comment over a script that shows that a claim does not hold.
 #[tactic(auto, unfolding(crate::specs::Telling::counterexample_lines))]
 fn push_counterexample_lines(
     out: &mut Vec<u8>,

@@ -12,7 +12,7 @@ use std::fmt;
 pub enum TextsFault {
     /// An allocation failed.
     Memory,
-    /// There are more states than the limit.
+    /// There are more states than the limit, or more than the search can number.
     States,
     /// The search found an order that the core does not follow to its text, a run that returned to a state, or a
     /// witness that does not give its text.

@@ -86,7 +86,7 @@ part_shown (shown.Domain a) = Domain a.now
 part_shown (shown.Table t) = Table t.now
 part_shown (shown.Page p) = Page p.now
 
--- what is the same as a part that is the same is so too
+-- `SamePart` is transitive
 pub same_part_on : (p q r : StatePart) → SamePart p q → SamePart q r → SamePart p r
 same_part_on (Flag a) (Flag b) (Flag c) f g = g ∙ f
 same_part_on (Domain a) (Domain b) (Domain c) f g = same_actor_on a b c f g
@@ -98,7 +98,7 @@ same_part_on (Table a) (Table b) r f g = absurd g
 same_part_on (Page a) (Page b) r f g = absurd g
 same_part_on p q r f g = absurd f
 
--- a part is the same as each that is the same as it
+-- `SamePart` is symmetric
 pub same_part_back : (p q : StatePart) → SamePart p q → SamePart q p
 same_part_back (Flag a) (Flag b) f = sym f
 same_part_back (Domain a) (Domain b) f =

@@ -63,7 +63,7 @@ writes_at (WriteBytes dom frame off len) t f = (dom.0 == t) && (frame == f)
 writes_at (CopyBytes from to len) t f = (to.frame.owner.0 == t) && (to.frame.number == f)
 writes_at step t f = false
 
--- the step of domain d does not go well with this touch of another domain: both are of the same, and one changes it
+-- the step of domain d conflicts with this touch of another domain: both are of the same part, and one changes it
 abbrev pub step_meets : DomId → Step → Touch → Bool
 step_meets d z (Entry dom gref) = is_on d z dom.0 gref.0
 step_meets d z (LooksHeader dom) = stores_header d z dom.0
@@ -72,7 +72,8 @@ step_meets d z (Reads dom frame) = writes_at z dom.0 frame
 step_meets d z (Writes dom frame) = reads_at z dom.0 frame || writes_at z dom.0 frame
 step_meets d z (Raises flag) = false
 
--- what a domain does next, and a touch of another domain
+-- what a domain does next meets a touch of another domain: it conflicts with the touch, or awaits the flag that is
+-- raised
 abbrev pub meets : NextMove → Touch → Bool
 meets (Makes d z) touch = step_meets d z touch
 meets (Awaits flag) (Raises raised) = raised == flag
@@ -126,11 +127,11 @@ is_store t = by t.deed
 abbrev pub use_of : Bool → List RunTask → MappingUse
 use_of vias ts = record { loads = list_any is_load ts; stores = list_any is_store ts; vias = vias }
 
--- the next move meets a frame that is used so, whichever it is
+-- the next move conflicts with these uses of a mapping, if both are of the same frame
 abbrev pub meets_bytes : MappingUse → NextMove → Bool
 meets_bytes uses next = (uses.loads && next_writes next) || (uses.stores && next_accesses next)
 
--- it meets the entry on which a mapping has its pin, or the frame of the mapping if that is used so
+-- it meets the entry on which a mapping has its pin, or conflicts with these uses of the mapping's frame
 abbrev pub meets_mapping : MappingUse → NextMove → HeldPin → Bool
 meets_mapping uses next p =
     meets next (Entry p.dom p.gref)
@@ -159,7 +160,7 @@ meets_dest next d c =
     else meets next (Writes d c.dest.ptr)
 
 -- it meets something that the call of domain d may touch, or may touch through the mapping that it makes; what is done
--- through other mappings is told by these
+-- through other mappings is counted with those
 abbrev pub meets_call : MappingUse → NextMove → DomId → ScriptCall → Bool
 meets_call uses next d (calls.Grant gref entry) = meets next (Entry d gref)
 meets_call uses next d (calls.GrantBytes gref hex) = meets next (Entry d gref)

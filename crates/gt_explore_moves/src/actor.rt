@@ -26,7 +26,7 @@ pub struct ActorCall {
 pub struct Actor<'a> {
     /// The number of tasks of its list that it has begun.
     pub next: usize,
-    /// Oldest first.
+    /// Its mappings, oldest first.
     pub mappings: Vec<LabelledMapping<'a>>,
     pub open: Option<ActorCall>,
 }
@@ -122,7 +122,7 @@ impl<'a> Actor<'a> {
         Ok(())
     }
 
-    /// Removes the mapping with this handle, whose serial is the index of the mapping.
+    /// Removes the mapping of this holder: the serial of its handle is the index of the mapping. A leg has no mapping.
     pub fn forget(&mut self, holder: PinHolder)
         ensures mappings { self.new.mappings.items ≡ given_back holder self.old.mappings.items }
         ensures rest { self.new ≡ record self.old { mappings = self.new.mappings } }

@@ -14,7 +14,8 @@ pub enum CallOpening {
     Done(CallResult),
 }
 
-/// Starts a call by what is known, or by anything from which it begins the same.
+/// Starts a call by what its domain knows. The result holds for any other knowledge by which the call begins alike
+/// (`BeginsAlike`).
 pub fn open_call<P: Allows>(
     known: &CallerState<'_, P>,
     dom: DomId,

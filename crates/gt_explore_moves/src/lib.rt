@@ -1,17 +1,18 @@
 //! A search for the texts that a script's domains can print, in all orders of their moves.
 //!
-//! [`search`] visits each state that a run of a script can reach once, and returns an order with its text for each list
-//! of answers that it meets. A state is small: the entries that were touched, the bytes that were written, the
-//! mappings, the open calls and the positions of the domains in their lists. The states are a space of
-//! `gt_explore_search`, which does the search.
+//! [`search`] visits states that runs of a script can reach, each once, and enough of them to meet each text. It
+//! returns an order with its text for each list of answers that it meets. A state is small: the entries that were
+//! touched, the bytes that were written, the mappings, the open calls and the positions of the domains in their lists.
+//! The states are a space of `gt_explore_search`, which does the search.
 //!
 //! It promises that each text that an order of the script gives is that of one of the orders returned (`FindsAll` in
 //! specs/Spaces.antt). Nothing is claimed of the turns: replay them on the core (`gt_explore_replay`) to see what they
 //! lead to.
 //!
 //! It uses `gt_explore_search` (the search), `gt_calls` (the steps of calls), `gt_explore_same` (their equality),
-//! `gt_explore_state` (words and bytes), `gt_script_runs` (what lines ask and print), `gt_script` and
-//! `gt_explore_replay` (orders and turns).
+//! `gt_explore_state` (words and bytes), `gt_script_runs` (what lines ask and print), `gt_script` and `gt_script_lines`
+//! (scripts), `gt_core` (answers), `gt_entry`, `gt_roster` and `gt_types`. Its definitions also name
+//! `gt_explore_replay` (orders and turns) and `gt_handles`, and its proofs `hex`.
 #![tactic(auto)]
 
 mod actor;

@@ -138,8 +138,8 @@ impl<'s, 'a> SearchContext<'s, 'a> {
         open_call(&self.known(table, mappings), dom, request)
     }
 
-    // Continues a call after a step with this observation. From there on a call doesn't look at the mappings of its
-    // domain.
+    // Continues a call after a step with this observation. After its first step a call doesn't look at the mappings of
+    // its domain.
     fn next(&self, table: &SparseTable, last: ActorCall, seen: Observation) -> (Call, Action)
         ensures caller { result.0.caller ≡ last.call.caller }
         ensures request { result.0.request ≡ last.call.request }
@@ -222,7 +222,8 @@ impl<'s, 'a> SearchContext<'s, 'a> {
         }
     }
 
-    // Starts the release of a domain's mapping at this index, if there is one. It asks no policy, so it is never refused.
+    // Starts the release of a domain's mapping at this index, if there is one. It asks no policy, so it is never
+    // refused.
     fn releasing(
         &self,
         actor: &Actor<'a>,
@@ -437,7 +438,11 @@ impl<'s, 'a> SearchContext<'s, 'a> {
         self.settle(world, at, open, seen)
     }
 
-    /// Makes the move of a domain.
+    /// Makes a turn: the next move of a domain. Returns `Nowhere` if the domain has no such move; the state must not be
+    /// used after that, nor after an error.
+    ///
+    /// # Errors
+    /// `Memory` if an allocation fails.
     pub fn advance(
         &self,
         world: &mut SearchState<'a>,

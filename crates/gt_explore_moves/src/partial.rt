@@ -16,7 +16,8 @@ use std::alloc::Global;
 /// all.
 ///
 /// # Errors
-/// `Memory` if an allocation fails; `Circle` if a run returns to a state.
+/// `Memory` if an allocation fails; `Circle` if a run returns to a state; `States` if a number is too large for its
+/// field.
 pub fn search_within<'s, 'a>(
     alloc: Global,
     script: &'s RunScript<'a>,

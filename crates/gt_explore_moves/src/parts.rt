@@ -90,7 +90,7 @@ impl<'a> SearchState<'a> {
         }
     }
 
-    // Returns the part at this index, tables first.
+    // Returns the table or page at this index, tables first.
     fn table_at(&self, at: usize) -> Option<PartInState<'_, 'a>>
         ensures { option_map part_shown result ≡ slice_get (tables_and_pages self.now) at }
     {
@@ -102,7 +102,7 @@ impl<'a> SearchState<'a> {
         }
     }
 
-    // Returns the part at this index, domains first.
+    // Returns the domain, table or page at this index, in this order.
     fn actor_at(&self, at: usize) -> Option<PartInState<'_, 'a>>
         ensures { option_map part_shown result ≡ slice_get (all_but_flags self.now) at }
     {
@@ -114,7 +114,7 @@ impl<'a> SearchState<'a> {
         }
     }
 
-    /// Returns the part at this index.
+    /// Returns the part at this index: the flags come first, then the domains, the tables and the pages.
     pub fn part_at(&self, at: usize) -> Option<PartInState<'_, 'a>>
         ensures { option_map part_shown result ≡ slice_get (parts_of self.now) at }
     {

@@ -2,7 +2,8 @@
 use gt_calls::{AccessPath, CallPins, CallResult, HeldPin, Leg, LegPhase, Phase, PinPurpose};
 use gt_types::{Dir, Facts};
 
-/// A digest of the numbers that were mixed into it (FNV-1a), so that different parts rarely share one.
+/// A digest of the numbers that were mixed into it, so that different parts rarely share one. It is FNV-1a, with a
+/// number of 64 bits in place of each byte.
 #[derive(Drop)]
 pub struct Digest {
     pub value: u64,

@@ -29,7 +29,7 @@ pub struct SearchContext<'s, 'a> {
     pub lists: Vec<Vec<&'s RunTask<'a>>>,
     /// The number of flags.
     pub flags: usize,
-    /// A task may grant a transitive entry.
+    /// Whether a task may grant a transitive entry.
     pub vias: bool,
 }
 
@@ -105,6 +105,9 @@ impl<'s, 'a> SearchContext<'s, 'a> {
     ghost use Rattle.gt_explore_moves.specs.Scenes.{IsSceneOf, SceneShows};
 
     /// Makes the context for the states of a script.
+    ///
+    /// # Errors
+    /// `Memory` if an allocation fails.
     pub fn new(
         alloc: Global,
         script: &'s RunScript<'a>,
@@ -142,7 +145,7 @@ impl<'s, 'a> SearchContext<'s, 'a> {
         })
     }
 
-    /// Returns the task at this index of a domain's list.
+    /// Returns the task at the index `place` of the list of the domain at the position `at`, if there is one.
     pub fn task(&self, at: usize, place: usize) -> Option<&'s RunTask<'a>>
         ensures { option_map (λ t. t.now) result ≡ slice_get (tasks_at self.now at) place }
     {

@@ -15,7 +15,8 @@ use std::alloc::Global;
 /// list of turns that led to it.
 ///
 /// # Errors
-/// `Memory` if an allocation fails; `States` beyond the limit; `Circle` if a run returns to a state.
+/// `Memory` if an allocation fails; `States` beyond the limit, or if a number is too large for its field; `Circle` if a
+/// run returns to a state.
 pub fn search<'s, 'a>(
     alloc: Global,
     script: &'s RunScript<'a>,

@@ -34,23 +34,24 @@ pub enum Touch {
     Raises(usize),
 }
 
-/// What the tasks that a domain has not finished do through its mappings and through transitive entries.
+/// The uses of mappings and of transitive entries by the tasks that a domain has not finished.
 #[derive(Clone, Copy)]
 pub struct MappingUse {
     pub loads: bool,
     pub stores: bool,
-    /// A copy may go through a transitive entry.
+    /// Whether a copy may go through a transitive entry.
     pub vias: bool,
 }
 
-/// What a domain does next.
+/// The next action of a domain.
 #[derive(Clone, Copy)]
 pub enum NextMove {
     /// It makes a step of its open call.
     Makes(DomId, Step),
     /// It waits for a flag that is not raised yet.
     Awaits(usize),
-    /// It does something that other domains neither see nor change, or nothing.
+    /// It makes a move that conflicts with none of another domain: it begins a call, or raises or passes a flag. Or it
+    /// has no move.
     Free,
 }
 
@@ -139,8 +140,8 @@ fn writes_frames(step: Step, owner: DomId) -> bool
     }
 }
 
-// Returns whether a step of the first domain does not go well with a touch of another one: both are of the same part,
-// and one changes it.
+// Returns whether a step of the first domain conflicts with a touch of another domain: both are of the same part, and
+// one of them changes it.
 fn step_meets(dom: DomId, step: Step, touch: Touch) -> bool
     ensures { result ≡ step_meets dom step touch }
 {
@@ -156,7 +157,8 @@ fn step_meets(dom: DomId, step: Step, touch: Touch) -> bool
     }
 }
 
-/// Returns whether a next move does not go well with this touch of another domain.
+/// Returns whether a next move meets this touch of another domain: it conflicts with the touch, or awaits the flag that
+/// is raised.
 pub fn meets(next: NextMove, touch: Touch) -> bool
     ensures { result ≡ meets next touch }
 {
@@ -222,15 +224,15 @@ fn meets_leg(next: NextMove, owner: DomId, gref: GrantRef) -> bool
     meets(next, Touch::LooksHeader(owner)) || meets(next, Touch::Entry(owner, gref))
 }
 
-// Returns whether a next move meets a frame that is used so, whichever it is.
+// Returns whether a next move conflicts with these uses of a mapping, if both are of the same frame.
 fn meets_bytes(uses: MappingUse, next: NextMove) -> bool
     ensures { result ≡ meets_bytes uses next }
 {
     uses.loads && next_writes(next) || uses.stores && next_accesses(next)
 }
 
-// Returns whether a next move meets the entry on which a mapping of another domain has its pin, or the frame of the
-// mapping if that is used so.
+// Returns whether a next move meets the entry on which a mapping of another domain has its pin, or conflicts with these
+// uses of the mapping's frame.
 fn meets_mapping(uses: MappingUse, next: NextMove, held: HeldPin) -> bool
     ensures { result ≡ meets_mapping uses next held }
 {
@@ -260,7 +262,7 @@ fn meets_source(next: NextMove, dom: DomId, copy: CopyArgs) -> bool
     }
 }
 
-// Returns the same for the destination.
+// Returns whether a next move meets the destination of a copy of this other domain, in the same way.
 fn meets_dest(next: NextMove, dom: DomId, copy: CopyArgs) -> bool
     ensures { result ≡ meets_dest next dom copy }
 {

@@ -1,5 +1,5 @@
--- The turns of an order: whose move is next, and which mapping a domain releases at the end of its list. By its turns the
--- domains of an order move from the first lines of their lists to the ends.
+-- The turns of an order: whose move is next, and which mapping a domain releases at the end of its list. By its turns
+-- the domains of an order move from the first lines of their lists to the ends.
 use Rattle.std.specs.Prelude.{◌≡◌, ◌++◌, ℕ, suc, List, [], ◌∷◌, map, take, drop, Option, Some, None, slice_get}
 use Rattle.std.specs.Prelude.{slice_set}
 use Rattle.std.specs.List.{flat_map}
@@ -69,7 +69,7 @@ abbrev pub RestLeads : List (List ℕ) → Course → List RunTask → ℕ → H
 RestLeads types k [] choice x j = GivesAt k choice x j
 RestLeads types k (t ∷ ts) choice x j = (choice ≡ 0) × ActionLeads types k t.line ts t.deed x j
 
--- by this happening a domain moves that has this open
+-- by this happening a domain with this open moves
 abbrev pub OpenLeads : List (List ℕ) → Course → Opened → ℕ → Happening → Course → Type 0
 OpenLeads types k resting choice x j = RestLeads types k k.tasks choice x j
 OpenLeads types k (calling line call lost) choice x j =

@@ -74,7 +74,7 @@ given_up (Unmap handle) = Some handle
 given_up (Release handle) = Some handle
 given_up request = None
 
--- all but the handle with this serial
+-- all handles except the one with the serial of this one
 abbrev pub handles_without : Handle → List Handle → List Handle
 handles_without handle held = filter (λ h. not (h.serial == handle.serial)) held
 

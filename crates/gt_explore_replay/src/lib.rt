@@ -8,7 +8,9 @@
 //! Each text that `text_of` returns is one that the script may give. `specs/Orders.antt` defines what that is, by
 //! gt_core's `Legal`, the script's lists and its flags, without turns and without a search.
 //!
-//! It uses `gt_script` (scripts), `gt_core` (calls), `gt_script_runs` (what lines ask and print) and `gt_types`.
+//! It uses `gt_script` and `gt_script_lines` (scripts), `gt_core` (calls), `gt_script_runs` (what lines ask and print),
+//! `gt_explore_search` (turns) and `gt_types`. Its definitions also name `gt_calls` and `gt_handles`, and its proofs
+//! `gt_entry`, `byteorder` and `hex`.
 #![tactic(auto)]
 
 mod laws;

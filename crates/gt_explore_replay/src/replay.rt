@@ -139,8 +139,9 @@ impl<'s, 'a> Replay<'s, 'a> {
         self.told.as_slice()
     }
 
-    /// Makes the next move of a domain. Returns the move, or None if the domain has none: it is at its end, or
-    /// awaits a flag that is not raised. The replay cannot be used after None, or after an error.
+    /// Makes the next move of a domain. Returns the move, or None if there is none: the domain is at its end or awaits
+    /// a flag that is not raised, or the turn names no domain or no mapping. The replay cannot be used after None, or
+    /// after an error.
     ///
     /// # Errors
     /// `Memory` if an allocation fails.
@@ -184,6 +185,9 @@ impl<'s, 'a> Replay<'s, 'a> {
 
     /// Returns the text of the run, with the lines of the first domain's answers first, or None if some domain is not
     /// at its end.
+    ///
+    /// # Errors
+    /// An allocation failed.
     pub fn text(&self) -> Result<Option<Vec<u8>>, AllocError>
         ensures order { (c : RunContents) (hs : List Happening) → HasWalked c hs self.now →
             IfOk result (λ t. IfSome t (λ text. IsOrderOf c hs text.items)) }

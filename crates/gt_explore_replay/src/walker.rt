@@ -51,7 +51,7 @@ fn given_up(request: Request<'_>) -> Option<Handle>
     }
 }
 
-// Returns all but the handle with this serial.
+// Returns all handles except the one with the serial of `handle`.
 fn without(alloc: Global, held: &[Handle], handle: Handle) -> Result<Vec<Handle>, AllocError>
     ensures { IfOk result (λ left. left.items ≡ handles_without handle held.now) }
 {
@@ -278,7 +278,7 @@ impl<'s, 'a> Walker<'s, 'a> {
         }
     }
 
-    // Applies the answer of its open task.
+    // Applies the answer of its open task. Returns whether it had one.
     fn close(&mut self, alloc: Global, types: &[Text], answer: &Answer) -> Result<bool, AllocError>
         ensures closes { IfOk result (λ b. IsTrue b → ClosesCall types.now answer.now self.old self.new) }
         ensures open { self.old.doing ≢ doing.Nothing → IfOk result IsTrue }

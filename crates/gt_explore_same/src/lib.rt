@@ -3,8 +3,9 @@
 //! [`same_call`], [`same_step`], [`same_held`] and [`same_result`] return true only for equal values: that is proved.
 //! They may return false for equal ones; a search then keeps a state twice.
 //!
-//! They are functions rather than a derived `PartialEq`: only the search and `test_calls` compare these values, and each
-//! crate above `gt_calls` would read the derive. They compare the types of `gt_calls`, and use `gt_types`.
+//! They are functions rather than a derived `PartialEq`: only the search and `test_calls` compare these values, and
+//! each crate above `gt_calls` would read the derive. They compare the types of `gt_calls`. The crate also uses those
+//! of `gt_entry`, `gt_handles` and `gt_types`.
 #![tactic(auto)]
 
 mod calls;

@@ -41,7 +41,7 @@ AllAreFound ways s w ends =
     (p : ways.Point) (turns : List Turn) (q : ways.Point) → ways.shows w p → GoesTo ways p turns q
     → IsAmongEnds ways s ends p q
 
--- each run onward by this turn is
+-- each run onward by this turn is among these ends
 abbrev pub AllByTurn : {W : Type 0} → Ways W → AnswerLists → W → List ℕ → Turn → Type 0
 AllByTurn ways s w ends turn =
     (p m : ways.Point) (turns : List Turn) (q : ways.Point) → ways.shows w p → ways.next p turn m

@@ -22,7 +22,7 @@ abbrev pub AllBelow : ℕ → List ℕ → Type 0
 AllBelow count [] = Unit {0}
 AllBelow count (n ∷ ns) = (n < count) × AllBelow count ns
 
--- each number of each of these lists is
+-- each number of each of these lists is below this one
 abbrev pub EachBelow : ℕ → List (List ℕ) → Type 0
 EachBelow count [] = Unit {0}
 EachBelow count (l ∷ ls) = AllBelow count l × EachBelow count ls

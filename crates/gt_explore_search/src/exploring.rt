@@ -48,8 +48,9 @@ pub struct MadeTurn {
     pub line: Option<AnswerLine>,
 }
 
-/// A state whose moves are being tried. `made` is the next turn, if it was made. Its ends are to be gathered when the
-/// state that it led to is done. `ends` has the numbers of the lists of answers that the state leads to.
+/// A state whose moves are being tried. `next` is the index of the turn to try. `made` is that turn, if it was made:
+/// its ends are gathered when the state that it led to is done. `ends` has the numbers of the lists of answers that the
+/// state leads to.
 #[derive(Drop)]
 pub struct OpenNode {
     pub state: usize,
@@ -360,7 +361,7 @@ impl<P: Drop> Explorer<P> {
         Ok(true)
     }
 
-    // Visits all states of the space, which are no more than the limit.
+    // Visits all states of the space. Fails with `States` if there are more than the limit.
     fn run<S: TransitionSystem<Part = P>>(
         &mut self,
         space: &S,
@@ -425,7 +426,8 @@ fn new_explorer<S: TransitionSystem>(
 /// Visits the states of a space, at most `limit` of them, and returns an order for each list of answers found.
 ///
 /// # Errors
-/// `States` beyond the limit, `Circle` if a run returns to a state, `Memory`, or a fault of the space.
+/// `States` beyond the limit, or if a number is too large for its field; `Circle` if a run returns to a state;
+/// `Memory`; or a fault of the space.
 pub fn search<S: TransitionSystem>(
     alloc: Global,
     space: &S,

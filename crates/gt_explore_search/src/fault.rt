@@ -7,7 +7,7 @@ use std::alloc::{AllocError, AllocFailed};
 pub enum SearchFault {
     /// An allocation failed.
     Memory,
-    /// There are more states than the limit.
+    /// There are more states than the limit, a number is too large for its field, or no state or part has it.
     States,
     /// A run returned to a state.
     Circle,

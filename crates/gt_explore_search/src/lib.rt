@@ -7,7 +7,7 @@
 //! proved for every space that keeps the promises of `TransitionSystem`. That each text found is a run's is not proved
 //! here: replay its turns.
 //!
-//! It knows no script: `gt_explore_moves` gives it the runs of one.
+//! It uses `gt_types` (memory) and `indexmap`. It knows no script: `gt_explore_moves` gives it the runs of one.
 #![tactic(auto)]
 
 mod exploring;

@@ -18,7 +18,7 @@ fn number_at(list: &[u32], at: usize) -> Option<u32>
 }
 
 impl Marks {
-    /// Makes no marks.
+    /// Makes an empty set of marks.
     pub fn new(alloc: Global) -> Marks {
         Marks {
             places: Vec::new(alloc),

@@ -12,11 +12,11 @@ use std::marker::Model;
 #[derive(Drop)]
 pub struct NumberLists {
     items: Vec<u32>,
-    // Where each list ends. The next one begins there.
+    // The end of each list, where the next one begins.
     ends: Vec<u32>,
     // For each list one more than its number, in a slot that its hash leads to. A free slot has a 0.
     slots: Vec<u32>,
-    // The number of the list that was looked for last.
+    // The number that `number_of` returned last.
     last: u32,
 }
 
@@ -128,7 +128,7 @@ impl NumberLists {
         self.ends.len()
     }
 
-    /// Returns the list with this number.
+    /// Returns the list with this number, if there is one.
     pub fn get(&self, number: usize) -> Option<&[u32]>
         ensures { option_map (λ l. l.now) result ≡ slice_get self.now number }
     {
@@ -173,7 +173,7 @@ impl NumberLists {
         self.find_hashed(list, hash_of(list))
     }
 
-    // Returns the number of this list, if it is the list that was looked for last or the one after it.
+    // Returns the number of this list, if it is the list with the number `last` or the one after it.
     fn find_near(&self, list: &[u32]) -> Option<u32>
         ensures { IfSome result (λ n. slice_get self.now n ≡ Some list.now) }
     {
@@ -227,7 +227,8 @@ impl NumberLists {
     /// Returns the number of a list, which is the next one if the list is new.
     ///
     /// # Errors
-    /// `Memory`, or `States` if there are too many lists for numbers of 32 bits.
+    /// `Memory`, or `States` if the lists, or their items in all, are too many for numbers of 32 bits. The lists are
+    /// then unchanged.
     pub fn number_of(&mut self, list: &[u32]) -> Result<u32, SearchFault>
         ensures kept { IfOk result (λ n. IsKeptAs self.old list.now n self.new) }
         ensures err { OnErr result (self.new ≡ self.old) }
@@ -245,10 +246,11 @@ impl NumberLists {
         self.push(list, hash)
     }
 
-    /// Returns the number of a list, which is likely to be this one. It is the next one if the list is new.
+    /// Returns the number of a list, which is the next one if the list is new. The number `likely` is tried first.
     ///
     /// # Errors
-    /// `Memory`, or `States` if there are too many lists for numbers of 32 bits.
+    /// `Memory`, or `States` if the lists, or their items in all, are too many for numbers of 32 bits. The lists are
+    /// then unchanged.
     pub fn number_near(&mut self, list: &[u32], likely: u32) -> Result<u32, SearchFault>
         ensures kept { IfOk result (λ n. IsKeptAs self.old list.now n self.new) }
         ensures err { OnErr result (self.new ≡ self.old) }

@@ -8,7 +8,7 @@ use crate::numbers::NumberLists;
 use std::alloc::{AllocError, Global};
 use std::marker::Model;
 
-// How many numbers a piece has. The last piece of a list may have fewer.
+// The length of a piece in numbers. The last piece of a list may be shorter.
 const PIECE: usize = 6;
 
 /// Lists of numbers, each kept once under a number. A list is kept as the numbers of its pieces, since most lists share
@@ -121,7 +121,7 @@ impl PackedLists {
     /// with the number `like`.
     ///
     /// # Errors
-    /// `Memory`, or `States` if there are too many lists or pieces for numbers of 32 bits.
+    /// `Memory`, or `States` if the lists or pieces, or their items in all, are too many for numbers of 32 bits.
     pub fn number_of(&mut self, list: &[u32], like: usize) -> Result<u32, SearchFault>
         ensures { IfOk result (λ n. IsKeptAs self.old list.now n self.new) }
     {

@@ -121,11 +121,11 @@ impl<P: Drop> PartIndex<P> {
         self.number(space, state, at)
     }
 
-    /// Returns the numbers of the parts of a state. The parts with the numbers `last` are likely to be the same, each as
-    /// the part at its index.
+    /// Returns the numbers of the parts of a state. Each is first compared with the part that `last` names at its
+    /// index.
     ///
     /// # Errors
-    /// `Memory`, or `States` if there are too many parts for numbers of 32 bits.
+    /// `Memory`, `States` if there are too many parts for numbers of 32 bits, or a fault of the space.
     pub fn numbers<S: TransitionSystem<Part = P>>(
         &mut self,
         space: &S,

@@ -3,7 +3,7 @@ use crate::fault::SearchFault;
 use crate::spaces::Turn;
 use crate::suffixes::AnswerLine;
 
-// The number of no line.
+// The number in a turn that printed no line.
 const NO_LINE: u32 = u32::MAX;
 
 /// A turn that was tried. It led to the node with this number, and printed the line with this number, if it printed

@@ -6,7 +6,7 @@ ghost use Rattle.gt_explore_search.specs.Ways.{Ways, HasEnoughTurns, IsShownSo, 
 use crate::fault::SearchFault;
 use std::alloc::AllocError;
 
-/// A turn: the next move of the domain at this position among the domains. Where it has several moves, `choice` is the
+/// A turn: the next move of the domain at this position among the domains. If it has several moves, `choice` is the
 /// index of this one. At the end of its list a script's domain releases the mapping at that index.
 #[derive(Clone, Copy)]
 pub struct Turn {

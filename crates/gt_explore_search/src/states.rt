@@ -96,7 +96,7 @@ impl<P: Drop> StateIndex<P> {
     /// those of the state with the number `last`, from which a turn may have led to it.
     ///
     /// # Errors
-    /// `Memory`, or `States` if there are too many parts.
+    /// `Memory`, `States` if there are too many parts or states for numbers of 32 bits, or a fault of the space.
     pub fn number<S: TransitionSystem<Part = P>>(
         &mut self,
         space: &S,

@@ -109,7 +109,10 @@ impl AnswerLists {
         })
     }
 
-    /// Returns the number of a line's bytes.
+    /// Returns the number of a line's bytes, which is the next one if they are new.
+    ///
+    /// # Errors
+    /// `Memory`, or `States` if there are too many lines for numbers of 32 bits.
     pub fn line(&mut self, line: Vec<u8>) -> Result<u32, SearchFault>
         ensures grows { OnOk result (GrowsInto self.old self.new) }
         ensures line { IfOk result (λ n. HasLine self.new n line.items) }
@@ -121,7 +124,10 @@ impl AnswerLists {
         Ok(number as u32)
     }
 
-    /// Returns the number of this list with the answer in front, if there is one.
+    /// Returns the number of this list with the answer in front, or its own number if there is no answer.
+    ///
+    /// # Errors
+    /// `Memory`, or `States` if there are too many lists for numbers of 32 bits.
     pub fn longer(&mut self, list: u32, line: Option<AnswerLine>) -> Result<u32, SearchFault>
         ensures grows { OnOk result (GrowsInto self.old self.new) }
         ensures there { HasListAt self.old list → IfOk result (λ n. HasListAt self.new n) }
@@ -202,7 +208,11 @@ impl AnswerLists {
         Ok(())
     }
 
-    /// Returns what this number of domains print by the list of this number, the first one's lines first.
+    /// Returns what this number of domains print by the list of this number, the first one's lines first. It is empty
+    /// if no list has the number.
+    ///
+    /// # Errors
+    /// An allocation failed.
     pub fn text(&self, list: u32, domains: usize) -> Result<Vec<u8>, AllocError>
         ensures { HasListAt self.now list → IfOk result (λ text.
             text.items ≡ flat_map (rest_by self.now list) (range_with_len 0 domains)) }

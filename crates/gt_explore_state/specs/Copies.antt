@@ -11,7 +11,7 @@ pub record IsTableOf (d : DomainConfig) (t : SparseTable) : Type 0 where
   pub own : t.own.items ≡ []
   pub counts : t.counts.items ≡ []
 
--- those of these domains, in their order
+-- the tables are those of these domains at the start, in their order
 abbrev pub AreTablesOf : List DomainConfig → List SparseTable → Type 0
 AreTablesOf [] [] = Unit {0}
 AreTablesOf (d ∷ ds) (t ∷ ts) = IsTableOf d t × AreTablesOf ds ts

@@ -44,7 +44,7 @@ pub record HeaderStored (version frames : ℕ) (old new : SparseTable) : Type 0 
   pub own : new.own.items ≡ old.own.items
   pub counts : new.counts.items ≡ old.counts.items
 
--- the table at this position, if there is one, becomes so; all others stay
+-- the table at this position, if there is one, changes in this way; all others stay
 pub record OneBecomes (place : Option ℕ) (Becomes : SparseTable → SparseTable → Type 0) (old new : List SparseTable) : Type 0 where
   pub many : length new ≡ length old
   pub each : (k : ℕ) (x : SparseTable) → slice_get new k ≡ Some x

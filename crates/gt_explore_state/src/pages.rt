@@ -115,7 +115,7 @@ fn place_of(
     Ok(at)
 }
 
-// Overwrites these bytes, starting at `off`, where there is room.
+// Writes these bytes over the kept ones, starting at `off`. The kept ones reach at least to the end of these.
 fn cover(held: &mut Vec<u8>, off: u16, bytes: &[u8])
     requires { off + length bytes.now ≤ vec_len held.old }
     ensures { held.new.items ≡ overlay held.old.items off bytes.now }
@@ -124,7 +124,7 @@ fn cover(held: &mut Vec<u8>, off: u16, bytes: &[u8])
     held[start..start + bytes.len()].copy_from_slice(bytes);
 }
 
-// Overwrites these bytes, starting at `off`, and lengthens them if need be.
+// Writes these bytes over the kept ones, starting at `off`, and lengthens those first if need be.
 fn lay(held: &mut Vec<u8>, off: u16, bytes: &[u8]) -> Result<(), AllocError>
     ensures { off ≤ FRAME_SIZE → OnOk result (padded held.new.items ≡ overlay (padded held.old.items) off bytes.now) }
 {
@@ -133,7 +133,7 @@ fn lay(held: &mut Vec<u8>, off: u16, bytes: &[u8]) -> Result<(), AllocError>
     Ok(())
 }
 
-/// Writes the bytes to a frame, starting at `off`.
+/// Writes the bytes to a frame, starting at `off`. After an error the pages must not be used.
 pub fn write(
     alloc: Global,
     pages: &mut Vec<SparsePage>,

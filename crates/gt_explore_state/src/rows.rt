@@ -9,7 +9,7 @@ use gt_entry::Control;
 use gt_types::GrantRef;
 use std::alloc::AllocError;
 
-/// Returns the counts of an entry.
+/// Returns the counts of an entry: its pins, and its body words. Beyond the rows all are zero.
 pub fn counts_at(counts: &[PinCounts], gref: GrantRef) -> PinCounts
     ensures { result ≡ counts_in counts.now gref.0 }
 {

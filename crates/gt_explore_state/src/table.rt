@@ -95,7 +95,7 @@ impl SparseTable {
         change_own(&mut self.own, first_gen, gref, change)
     }
 
-    /// Stores the header. Its word has room for versions below 4 and 255 frames.
+    /// Stores the header. Its word has room for versions below 4 and for up to 255 frames.
     pub fn store_header(&mut self, version: u32, frames: u32)
         ensures { HeaderStored version frames self.old self.new }
     {

@@ -8,7 +8,7 @@ use Rattle.gt_calls.specs.declared.action.Step.TheVariants as steps
 use Rattle.gt_explore_replay.specs.declared.replay.Moved.{Moved}
 use Rattle.gt_explore_replay.specs.declared.replay.Moved.TheVariants.{Began, Passed, Raised, Stepped}
 
--- the domain whose table or frames a step of this domain touches; of a copy, those that it writes
+-- the domain whose table or frame a step of this domain touches; for a copy, the one whose frame it writes
 abbrev pub owner_of : DomId → Step → DomId
 owner_of dom (steps.LookHeader owner) = owner
 owner_of dom (steps.LookControl owner gref) = owner

@@ -10,7 +10,7 @@ use gt_text::{push_number, push_text};
 use gt_types::{DomId, DomainConfig};
 use std::alloc::AllocError;
 
-// Returns the domain whose table or frames a step of this domain touches; of a copy, those that it writes.
+// Returns the domain whose table or frame a step of this domain touches; for a copy, the one whose frame it writes.
 fn owner_of(dom: DomId, step: Step) -> DomId
     ensures { result ≡ owner_of dom step }
 {
@@ -66,7 +66,7 @@ fn push_name(out: &mut Vec<u8>, letter: &str, dom: DomId) -> Result<(), AllocErr
     push_number(out, dom.0)
 }
 
-// Appends what a participant is of a domain.
+// Appends the kind of a participant, and the number of its domain.
 #[tactic(auto, unfolding(crate::specs::Diagram::participant_kind))]
 fn push_kind(out: &mut Vec<u8>, kind: &str, dom: DomId) -> Result<(), AllocError>
     ensures { OnOk result (out.new.items ≡ out.old.items ++ participant_kind kind.now dom) }
@@ -78,7 +78,7 @@ fn push_kind(out: &mut Vec<u8>, kind: &str, dom: DomId) -> Result<(), AllocError
     push_text(out, "\n")
 }
 
-// Appends the participant of this letter and this domain, and what it is.
+// Appends the participant of this letter and this domain, with its kind.
 #[tactic(auto, unfolding(crate::specs::Diagram::one_participant))]
 fn push_one(out: &mut Vec<u8>, letter: &str, kind: &str, dom: DomId) -> Result<(), AllocError>
     ensures { OnOk result (out.new.items ≡ out.old.items ++ one_participant letter.now kind.now dom) }
@@ -96,7 +96,7 @@ fn push_participant(out: &mut Vec<u8>, domain: &DomainConfig) -> Result<(), Allo
     push_one(out, "T", "table", domain.id)
 }
 
-/// Appends each domain and its table as participants of a diagram.
+/// Appends each domain and its table as participants of a diagram. After an Err, part of them may have been appended.
 pub fn push_participants(out: &mut Vec<u8>, domains: &[DomainConfig]) -> Result<(), AllocError>
     ensures { OnOk result (out.new.items ≡ out.old.items ++ participants_text domains.now) }
 {

@@ -89,7 +89,7 @@ pub fn push_value_part(
     push_text(out, quote(form))
 }
 
-/// Appends a shared word under its name.
+/// Appends a shared word under its name, with 16 hexadecimal digits.
 pub fn push_word_part(
     alloc: Global,
     out: &mut Vec<u8>,

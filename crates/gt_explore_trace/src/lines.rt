@@ -20,7 +20,7 @@ use gt_text::{push_number, push_text};
 use gt_types::DomId;
 use std::alloc::{AllocError, Global};
 
-// Appends the number of a line of the script, if there is one.
+// Appends the number of a line of the script, or `-` if there is none.
 fn push_line_word(out: &mut Vec<u8>, task: Option<&RunTask>) -> Result<(), AllocError>
     ensures { OnOk result (out.new.items ≡ out.old.items ++ line_word (option_map (λ u. u.now) task.entry)) }
 {
@@ -30,7 +30,7 @@ fn push_line_word(out: &mut Vec<u8>, task: Option<&RunTask>) -> Result<(), Alloc
     }
 }
 
-// Appends the same as a value of JSON.
+// Appends the number of a line of the script as a value of JSON, or `null` if there is none.
 fn push_line_value(out: &mut Vec<u8>, task: Option<&RunTask>) -> Result<(), AllocError>
     ensures { OnOk result (out.new.items ≡ out.old.items ++ line_value (option_map (λ u. u.now) task.entry)) }
 {
@@ -87,7 +87,7 @@ fn push_step_words(
     push_move_words(alloc, out, form, task, traced)
 }
 
-// Appends the same as members of a JSON object.
+// Appends a move of this number, and its line of the script, as members of a JSON object that stays open.
 #[tactic(auto, unfolding(crate::specs::Lines::step_members))]
 fn push_step_members(
     alloc: Global,
@@ -213,7 +213,10 @@ impl LinePrinter<'_> {
     }
 }
 
-/// Appends a line for each move of an order of the script.
+/// Appends a line for each move of an order of the script. In a sequence diagram each answer has a line too.
+///
+/// # Errors
+/// An allocation failed. Part of the lines may have been appended.
 pub fn push_trace(
     alloc: Global,
     out: &mut Vec<u8>,

@@ -11,7 +11,7 @@ use gt_text::push_text;
 use gt_types::{Dir, DomId, GrantRef};
 use std::alloc::{AllocError, Global};
 
-// Appends an entry.
+// Appends an entry: its owner and its reference.
 fn push_entry(
     out: &mut Vec<u8>,
     form: TraceForm,
@@ -59,7 +59,7 @@ fn change_name(change: EntryChange) -> &'static str
     }
 }
 
-// Appends bytes of a frame.
+// Appends a range of a frame: the owner, the frame, the offset and the length.
 #[tactic(auto, unfolding(crate::specs::Steps::range_part))]
 fn push_range(
     out: &mut Vec<u8>,
@@ -77,7 +77,7 @@ fn push_range(
     push_number_part(out, form, "len", len)
 }
 
-// Appends the first byte that a copy reads.
+// Appends where a copy starts to read: the owner, the frame and the offset.
 #[tactic(auto, unfolding(crate::specs::Steps::from_part))]
 fn push_from(out: &mut Vec<u8>, form: TraceForm, at: Spot) -> Result<(), AllocError>
     ensures { OnOk result (out.new.items ≡ out.old.items ++ from_part form at) }
@@ -87,7 +87,7 @@ fn push_from(out: &mut Vec<u8>, form: TraceForm, at: Spot) -> Result<(), AllocEr
     push_number_part(out, form, "from_off", at.off)
 }
 
-// Appends the first byte that a copy writes.
+// Appends where a copy starts to write: the owner, the frame and the offset.
 #[tactic(auto, unfolding(crate::specs::Steps::to_part))]
 fn push_to(out: &mut Vec<u8>, form: TraceForm, at: Spot) -> Result<(), AllocError>
     ensures { OnOk result (out.new.items ≡ out.old.items ++ to_part form at) }
@@ -250,7 +250,7 @@ pub fn push_step(
     }
 }
 
-// Returns that an exchange was taken.
+// Returns the fact that an exchange was taken.
 fn taken_part(form: TraceForm) -> &'static str
     ensures { result.now ≡ taken_part form }
 {

@@ -13,7 +13,7 @@ use Rattle.gt_explore_verdict.specs.declared.fault.ConditionFault.TheVariants as
 use Rattle.gt_explore_verdict.specs.declared.fault.ExpressionFault.{ExpressionFault}
 use Rattle.gt_explore_verdict.specs.declared.fault.ExpressionFault.TheVariants.{Memory, Term}
 
--- the answers that a condition speaks of: all answers, the answer to a line, or those of a domain, by their numbers
+-- the answers that a condition is about: all answers, the answer to a line, or those of a domain, by their numbers
 pub data Answers : Type 0 where
   of_all : Answers
   of_line : List ℕ → Answers
@@ -64,7 +64,7 @@ placed word = placed_by (numbered 61 word) (numbered 58 word) word
 abbrev pub is_answer_word : List ℕ → Bool
 is_answer_word word = bytes_eq word (codes "ok") || is_rule word
 
--- what is wrong with the words of a condition: there are so many, and this is the first
+-- what is wrong with the words of a condition, by their number and the first of them
 abbrev pub fault_at : Answers → List ℕ → ℕ → Option ConditionFault
 fault_at of_all first count = if count == 1 then None else Some faults.Words
 fault_at (of_line number) first count = if is_answer_word first then None else Some faults.Answer

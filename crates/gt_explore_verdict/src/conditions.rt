@@ -9,8 +9,8 @@ use crate::fault::{ConditionFault, ExpressionFault};
 use crate::rules::{is_number, is_rule, is_wrong_rule};
 use std::alloc::{AllocError, Global};
 
-/// The answers that a condition speaks of: all answers, the answer to the line of this number, or those of the domain
-/// of this number. A number is the text of its digits.
+/// The answers that a condition is about: all answers, the answer to the line of this number, or those of the domain of
+/// this number. A number is the text of its digits.
 #[derive(Clone, Copy)]
 pub enum Place<'e> {
     Anywhere,
@@ -27,7 +27,7 @@ pub struct Condition<'e> {
     pub more: Vec<&'e [u8]>,
 }
 
-// Splits a word at the first of these marks.
+// Splits a word at the first mark of this kind.
 #[tactic(auto, unfolding(crate::specs::Expressions::at_mark))]
 fn at_mark<'e>(mark: u8, word: &'e [u8]) -> Option<(&'e [u8], &'e [u8])>
     ensures { option_map (λ parts. (parts.0.now, parts.1.now)) result ≡ at_mark mark word.entry.now }
@@ -40,7 +40,7 @@ fn at_mark<'e>(mark: u8, word: &'e [u8]) -> Option<(&'e [u8], &'e [u8])>
     None
 }
 
-// Splits a word at the first of these marks, if a number is before it.
+// Splits a word at the first mark of this kind, if a number is before it.
 fn numbered<'e>(mark: u8, word: &'e [u8]) -> Option<(&'e [u8], &'e [u8])>
     ensures { option_map (λ parts. (parts.0.now, parts.1.now)) result ≡ numbered mark word.entry.now }
 {

@@ -23,7 +23,7 @@ pub enum Verdict {
 }
 
 /// A verdict, and the index of the first text that shows it: of one that satisfies the conditions for `Find` and
-/// `Never`, of one that does not for `Always`. `None` if only all texts together decide.
+/// `Never`, of one that does not for `Always`. `None` if only all texts together decide, or nothing does.
 #[derive(Clone, Copy)]
 pub struct Judgement {
     pub verdict: Verdict,

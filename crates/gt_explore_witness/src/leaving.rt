@@ -33,7 +33,7 @@ fn forbids(rights: &ScriptPolicy, domains: &[DomainConfig], dom: DomId) -> bool
     false
 }
 
-/// Returns whether the policy of a script does not let this domain unmap the entries of some domain.
+/// Returns whether there is a domain whose entries the policy of a script does not let this domain unmap.
 ///
 /// # Errors
 /// `Memory` if an allocation fails.

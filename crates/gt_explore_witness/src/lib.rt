@@ -2,13 +2,14 @@
 //!
 //! [`witness_of`] makes such a script from the turns that lead to the text: a line for each step of a call, and names
 //! for the mappings that a label doesn't tell apart. [`gives_answers`] plays a script, and compares its answers with
-//! those of a text, domain by domain. [`may_not_unmap`] tells why there may be none: `play` has no line by which a domain
-//! leaves, and the policy may not let it unmap.
+//! those of a text, domain by domain. [`may_not_unmap`] returns whether there may be none: `play` has no line by which
+//! a domain leaves, and the policy may not let it unmap.
 //!
 //! It is proved that a script that passes [`gives_answers`] gives the answers of the text (`GivesAnswers` in
 //! specs/Witness.antt). Nothing is promised of how a script is made: `gt_explore_answers` returns only those that pass.
 //!
-//! It uses `gt_host` (`play`), `gt_explore_replay` (turns) and `gt_script` with the crates below it.
+//! It uses `gt_host` (`play`), `gt_explore_replay` and `gt_explore_search` (turns), `gt_explore_faults`, `gt_script`
+//! and `gt_script_lines` (scripts), `gt_script_runs` (what a script allows), `gt_handles`, `gt_text` and `gt_types`.
 #![tactic(auto)]
 
 mod checked;

@@ -103,7 +103,7 @@ fn type_of(domains: &[DomainConfig], dom: DomId) -> Option<TypeId> {
     None
 }
 
-// What the lines of a witness are made from: those of its script, its domains, and what the policy lets these do.
+// The sources of the lines of a witness: the lines of its script, its domains, and what the policy lets these do.
 #[derive(Clone, Copy)]
 struct WitnessSource<'w> {
     lines: &'w [&'w str],
@@ -334,7 +334,7 @@ fn witness_from(
 }
 
 /// Returns the lines of a script for `play` whose domains make the moves of these turns of the script in `source`. A
-/// domain that has mappings at the end of its list unmaps them by lines of their own, if the policy lets it.
+/// domain that has mappings at the end of its list unmaps them by further lines, if the policy lets it.
 ///
 /// # Errors
 /// `Memory` if an allocation fails.

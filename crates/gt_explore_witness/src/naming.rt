@@ -1,6 +1,6 @@
-//! The labels of a witness. They are those of its script, except where a domain still has the mapping that a label
-//! names when the label is given to another: the other is then named after its line too, so that each mapping can be
-//! unmapped at the end of a list.
+//! The labels of a witness. They are those of its script. But if a domain still has the mapping that a label names when
+//! the label is given to another mapping, the other is named after its line too. So each mapping can be unmapped at the
+//! end of a list.
 use gt_handles::Handle;
 use gt_script_lines::ScriptCall;
 use gt_text::{push_number, push_text};

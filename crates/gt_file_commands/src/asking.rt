@@ -14,7 +14,7 @@ use gt_policy_check::WhyQuestion;
 use gt_types::DomId;
 use std::io::Write;
 
-/// Plays the script of the named file, or of the standard input, and returns the outcome.
+/// Plays the script of the named file, or of the standard input, and returns the outcome: yes, or no after a failure.
 pub fn play<R, T: TextSource, W: Write, E: Eprint>(
     context: &Context<R, T, E>,
     options: ScriptOptions,
@@ -32,7 +32,8 @@ pub fn play<R, T: TextSource, W: Write, E: Eprint>(
     work_asked(context, work, options.file, out, reasons)
 }
 
-/// Lists what the policy of the named file, or of the standard input, allows, and returns the outcome.
+/// Lists what the policy of the named file, or of the standard input, allows, and returns the outcome: yes, or no after
+/// a failure.
 pub fn list<R, T: TextSource, W: Write, E: Eprint>(
     context: &Context<R, T, E>,
     format: Format,
@@ -47,7 +48,8 @@ pub fn list<R, T: TextSource, W: Write, E: Eprint>(
     work_asked(context, Work::List { format }, file, out, reasons)
 }
 
-/// Answers a question about the policy of the named file, or of the standard input, and returns the outcome.
+/// Answers a question about the policy of the named file, or of the standard input, and returns the outcome: the
+/// answer, or unknown after a failure.
 pub fn answer<'a, R, T: TextSource, W: Write, E: Eprint>(
     context: &Context<R, T, E>,
     question: WhyQuestion<'a>,
@@ -79,7 +81,8 @@ fn domain(number: Option<u16>) -> Option<DomId>
     }
 }
 
-/// Prints the entries of the dump in the named file, or in the standard input, and returns the outcome.
+/// Prints the entries of the dump in the named file, or in the standard input, and returns the outcome: yes, or unknown
+/// after a failure.
 pub fn show_entries<R, T: TextSource, W: Write, E: Eprint>(
     context: &Context<R, T, E>,
     dump: EntriesOptions,

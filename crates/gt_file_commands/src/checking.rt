@@ -23,7 +23,7 @@ use gt_policy_list::policy_text;
 use std::alloc::Global;
 use std::io::{Read, Write};
 
-/// What a text is checked as, or against.
+/// The kind of a check of a text.
 #[derive(Clone, Copy)]
 pub(crate) enum CheckKind<'w> {
     /// A policy.
@@ -172,7 +172,8 @@ fn check_all<'a, R, T: TextSource, W: Write, E: Eprint>(
     worse(one, others)
 }
 
-/// Checks policies, or scripts.
+/// Checks the first file, or the standard input if none is named, and then the others: as scripts if `script` is true,
+/// and otherwise as policies. Returns the worst outcome: no if a text has an error, and unknown after a failure.
 pub fn check_files<'a, R, T: TextSource, W: Write, E: Eprint>(
     context: &Context<R, T, E>,
     script: bool,
@@ -212,7 +213,8 @@ fn check_never_bytes<'a, R, T: TextSource, W: Write, E: Eprint>(
     }
 }
 
-/// Checks policies against the `neverallow` statements of the named file.
+/// Checks policies, as `check_files` does, against the `neverallow` statements of the file `never`. Returns the worst
+/// outcome: no if a statement is broken, and unknown after a failure. If that file can't be read, nothing is checked.
 pub fn check_never_files<'a, R, T: TextSource, W: Write, E: Eprint>(
     context: &Context<R, T, E>,
     never: &'a str,

@@ -30,7 +30,8 @@ pub(crate) enum Work<'w> {
     List {
         format: Format,
     },
-    /// Report what is wrong or useless in the policy, or in the script, or which statements break `neverallow` statements.
+    /// Report what is wrong or useless in the policy, or in the script, or which statements break `neverallow`
+    /// statements.
     Check {
         kind: CheckKind<'w>,
         report: ReportSettings<'w>,

@@ -118,7 +118,8 @@ pub fn why_explained<R: Read, W: Write>(
     ending
 }
 
-/// Prints the entries of the dump of a reader, and adds the reason of a fault, or that it looks like no table.
+/// Prints the entries of the dump of a reader, and adds the reason of a fault, or what the dump looks like if not like
+/// a table.
 pub fn entries_explained<R: Read, W: Write>(
     alloc: Global,
     format: Format,

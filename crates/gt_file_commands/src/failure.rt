@@ -16,7 +16,8 @@ pub enum Failure {
     Thread,
     /// The texts of a script were not found, or not all written.
     Explore(ExploreFault),
-    /// A policy was not listed or checked to its end.
+    /// A policy was not listed, or a policy or a script not checked, to its end; a further text is not UTF-8; or the
+    /// line before an answer was not written.
     List(ListingFault),
     /// A question was not answered.
     Why(WhyFault),
@@ -24,11 +25,12 @@ pub enum Failure {
     Breach(BreachFault),
     /// A dump was not written to its end.
     Dump(DumpFault),
-    /// The file can't be opened. Nothing was written.
+    /// A file can't be opened, a further text can't be read or is too long, or a line is not a question. Nothing was
+    /// written for it.
     File(ReadFault),
-    /// The help was not written completely.
+    /// The help, the version or the rules were not written completely.
     Help(WriteFault),
-    /// An allocation failed before there was anything to do.
+    /// An allocation failed outside of the other failures.
     Memory,
 }
 

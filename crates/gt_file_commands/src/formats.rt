@@ -63,7 +63,7 @@ pub(crate) fn entries_as<R: Read, W: Write>(
     }
 }
 
-/// How the findings of a text are reported: the name with which their lines begin, and their form.
+/// The settings of a report of findings: the name with which its lines begin, and its form.
 #[derive(Clone, Copy)]
 pub struct ReportSettings<'w> {
     pub file: &'w str,

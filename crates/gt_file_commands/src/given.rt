@@ -26,7 +26,7 @@ fn read_named<R, T: TextSource, E>(
     }
 }
 
-/// Reads the whole text of the named file. A failure is reported, and nothing is returned.
+/// Reads the whole text of the named file. A failure is reported, and the result is None.
 pub fn read_given<'a, R, T: TextSource, E: Eprint>(
     context: &Context<R, T, E>,
     name: &'a str,

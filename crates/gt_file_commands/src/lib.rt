@@ -8,6 +8,11 @@
 //! Texts come from a trait, [`TextSource`], and go to any writer. So the contracts specify, for texts and a writer with
 //! known bytes, the output and the outcome (specs/Working.antt). `run` is in `gt_run_command`, and `explore` and the
 //! command line in `gt_program`: their failures and outcomes are of the same types.
+//!
+//! It uses `gt_commands` (plans), `gt_host`, `gt_policy_list`, `gt_checks` and `gt_entries` (the commands),
+//! `gt_json_commands` (the same as JSON), `gt_command_reasons`, `gt_policy_check` (questions and findings),
+//! `gt_script_runs` and `gt_explore_faults` (faults), `gt_script_lines` (words), `gt_text` and `gt_types`. Its
+//! definitions also name `gt_script`.
 #![tactic(auto)]
 
 mod asking;

@@ -31,7 +31,7 @@ struct ReadWords<'t> {
     perm: &'t [u8],
 }
 
-// The same as text.
+// The three words of a question, as text.
 #[derive(Clone, Copy)]
 struct AskedWords<'t> {
     source: &'t str,
@@ -282,7 +282,7 @@ fn answer_bytes<'a, R, T: TextSource, W: Write, E: Eprint>(
 
 /// Answers each question of the standard input about the policy of the file, and returns the worst outcome. Blank lines
 /// and comments are skipped. Each answer comes after a line `# SOURCE TARGET PERMISSION`. A line that is not a question
-/// is reported with its number.
+/// is reported with its number, and its outcome is unknown.
 pub fn answer_each<'a, R, T: TextSource, W: Write, E: Eprint>(
     context: &Context<R, T, E>,
     file: &'a str,

@@ -27,7 +27,7 @@ fn read_up_to_limit<R: Read>(alloc: Global, reader: &mut R) -> Result<Vec<u8>, R
     }
 }
 
-/// Reads a whole text, of at most 1,048,576 bytes, and adds the reason of a fault.
+/// Reads a whole text, of at most 1,048,576 bytes, and adds the reason of a fault. A longer text has the fault `Read`.
 pub fn read_whole<R: Read>(
     alloc: Global,
     reader: &mut R,

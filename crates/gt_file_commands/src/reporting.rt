@@ -19,8 +19,8 @@ pub fn report<E: Eprint>(err: &E, ending: Result<Outcome, Failure>, failed: Outc
     outcome
 }
 
-/// Reports the failure of a command, if it failed, by its reason if the reason is printed as the line of the fault. It
-/// returns the outcome: `failed` after a failure.
+/// Reports the failure of a command, if it failed: by its reason, if the command has its reasons as the lines of
+/// faults, and otherwise by its line. Returns the outcome: `failed` after a failure.
 pub fn finish<R, T, E: Eprint>(
     context: &Context<R, T, E>,
     ending: Result<Outcome, Failure>,
@@ -35,7 +35,7 @@ pub fn finish<R, T, E: Eprint>(
     report(context.err, ending, failed)
 }
 
-/// Reports a failure that leaves a question without an answer.
+/// Reports a failure that leaves a question without an answer. The outcome is unknown.
 pub(crate) fn fail<R, T, E: Eprint>(
     context: &Context<R, T, E>,
     failure: Failure,

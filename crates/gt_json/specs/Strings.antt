@@ -18,9 +18,9 @@ escaped b = if (b == 34) || (b == 92) then 92 ∷ b ∷ []
 unfoldable pub quoted : List ℕ → List ℕ
 quoted text = codes "\"" ++ flat_map escaped text ++ codes "\""
 
--- What is between the quotes of a string encodes a text: a byte from 32 up stands for itself, unless it is a quote or
--- a backslash; a backslash before a quote or a backslash stands for that one, and a backslash before `u00` and two
--- hexadecimal digits for the byte of that number (RFC 8259, section 7)
+-- What is between the quotes of a string encodes a text: a byte from 32 up encodes itself, unless it is a quote or a
+-- backslash; a backslash before a quote or a backslash encodes that one, and a backslash before `u00` and two
+-- hexadecimal digits encodes the byte of that number (RFC 8259, section 7)
 pub data SpellsString : List ℕ → List ℕ → Type 0 where
   ends : SpellsString [] []
   itself : (b : ℕ) (xs text : List ℕ) → 32 ≤ b → b ≢ 34 → b ≢ 92 → SpellsString xs text

@@ -79,7 +79,8 @@ fn write_lines<W: Write>(
 
 /// Writes a text that a command printed as JSON Lines: an object for each line, with a member for each word.
 ///
-/// An Err gives whether an allocation or a write failed; a prefix of the JSON may have gone out then.
+/// # Errors
+/// An allocation or a write failed. A prefix of the JSON may have gone out.
 pub fn write_json<W: Write>(
     alloc: Global,
     printed: PrintedText,

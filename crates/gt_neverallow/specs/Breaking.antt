@@ -43,8 +43,8 @@ chooses_self (Of items) = list_any is_self items
 chooses_self (But items) = false
 
 -- A neverallow statement forbids exactly what an allow statement of the same form would grant: a permission of class
--- `grant` that it lists, to each source that it chooses, on each target that it chooses, and on the source itself if the
--- target contains `self`. (SELinux policy language: neverallow)
+-- `grant` that it lists, to each source that it chooses, on each target that it chooses, and on the source itself if
+-- the target contains `self`. (SELinux policy language: neverallow)
 abbrev pub forbids : List Statement → List ℕ → List ℕ → List ℕ → Neverallow → Bool
 forbids ss s t w n =
     ((has_grant n.classes && lists_word n.perms w) && is_chosen ss n.source s)
@@ -101,7 +101,7 @@ IsNeverFault policy never (Statements e) =
     (m : Meaning) × (xs : List LinedStatement) × Says policy (Ok m) × IsLined policy xs
     × ((f : TokenFault) → fault_shown e ≡ Some f → NeverSays xs never (Err f))
 
--- ---- by types with the names that stand for them
+-- ---- by types with the names that denote them
 
 abbrev pub chosen_by : TypeChoice → List (List ℕ) → Bool
 chosen_by Every names = true

@@ -1,5 +1,5 @@
--- What a text of neverallow statements is for a policy: statements that name only what the policy declares, or its first
--- fault.
+-- What a text of neverallow statements is for a policy: statements that name only what the policy declares, or its
+-- first fault.
 use Rattle.std.specs.Prelude.{ℕ, ◌<◌, ◌≤◌, Bool, false, not, List, [], ◌∷◌, ◌++◌, length, Option, Some, None}
 use Rattle.std.specs.Prelude.{Result, Ok, Err, find}
 use Rattle.std.specs.List.{flat_map, list_any}
@@ -57,8 +57,8 @@ abbrev pub named_with : List Neverallow → Option Mention → Result (List Neve
 named_with ns None = Ok ns
 named_with ns (Some m) = Err (at m.line (Unknown m.name))
 
--- What a text says for a policy of these statements: neverallow statements, or its first fault. An undeclared name is a
--- fault only of a text without another fault. (SELinux policy language; faults and the limit own)
+-- The meaning of a text for a policy of these statements: neverallow statements, or its first fault. An undeclared name
+-- is a fault only of a text without another fault. (SELinux policy language; faults and the limit own)
 pub data NeverSays (xs : List LinedStatement) : List ℕ → Result (List Neverallow) TokenFault → Type 0 where
   too_long : (text : List ℕ) → LONGEST_TEXT < length text → NeverSays xs text (Err (at 1 Limit))
   read : (text : List ℕ) (ns : List Neverallow) → length text ≤ LONGEST_TEXT → Follows [] (lexemes_of text) (Ok ns)

@@ -7,7 +7,7 @@ ghost use Rattle.gt_neverallow.specs.Reading.{fault_in, kind_told};
 use gt_policy::{PolicyFault, PolicyFaultKind, TextPiece};
 use std::alloc::{AllocError, Global};
 
-/// Why the statements of a policy were not compared with the `neverallow` statements.
+/// The reason that a policy was not compared with `neverallow` statements.
 #[derive(Debug, Drop)]
 pub enum NeverFault {
     /// The first fault of the policy; its kind is `Memory` if an allocation failed.

@@ -1,9 +1,9 @@
 //! The `neverallow` statements of the SELinux policy language, and the allow statements of a policy that break them.
 //!
-//! A `neverallow` statement grants nothing: it says what no allow statement of the policy may grant. [`breaches`] reads
-//! a policy and a text of such statements, and returns each pair of an allow statement and a `neverallow` statement
-//! that forbids something that the first one grants. [`push_breaches`] prints them, in the layout of compilers or as
-//! JSON.
+//! A `neverallow` statement grants nothing: it lists what no allow statement of the policy may grant. [`breaches`]
+//! reads a policy and a text of such statements, and returns each pair of an allow statement and a `neverallow`
+//! statement that forbids something that the first one grants. [`push_breaches`] prints them, in the layout of
+//! compilers or as JSON.
 //!
 //! It is proved that the pairs are exactly those for which some source, target and permission are granted by the one
 //! and forbidden by the other, and that the example of a pair is such a source, permission and target. The pairs have

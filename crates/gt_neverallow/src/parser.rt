@@ -31,7 +31,7 @@ fn misfit<'a>(token: Token<'a>) -> TokenKind<'a>
     }
 }
 
-// Returns the same where a type or a class is expected.
+// Returns the kind of fault for a token where a type or a class is expected.
 #[tactic(auto, unfolding(gt_policy::specs::Grammar::misfit_name))]
 fn misfit_name<'a>(token: Token<'a>) -> TokenKind<'a>
     ensures { kind_told result ≡ misfit_name false token.entry }
@@ -42,7 +42,7 @@ fn misfit_name<'a>(token: Token<'a>) -> TokenKind<'a>
     }
 }
 
-// Returns the same where a statement is expected.
+// Returns the kind of fault for a token where a statement is expected.
 #[tactic(auto, unfolding(crate::specs::Reading::misfit_statement))]
 fn misfit_statement<'a>(token: Token<'a>) -> TokenKind<'a>
     ensures { kind_told result ≡ misfit_statement token.entry }

@@ -4,7 +4,7 @@ use gt_policy_check::{Finding, FindingKind, ReportForm, column_on, push_json, pu
 use gt_text::push_text;
 use std::alloc::{AllocError, Global};
 
-/// The two texts, with the names with which lines begin.
+/// A policy and a text of `neverallow` statements, each after the name with which lines about it begin.
 #[derive(Clone, Copy)]
 pub struct BrokenTexts<'t> {
     pub file: &'t str,

@@ -1,4 +1,4 @@
--- What a statement grants to which types, by the names that stand for them.
+-- What a statement grants to which types, by the names that denote them.
 use Rattle.std.specs.Prelude.{ℕ, Bool, false, ◌&&◌, ◌||◌, not, List, Option, Some, None}
 use Rattle.std.specs.List.{list_any}
 use Rattle.std.specs.Str.{bytes_eq}

@@ -1,4 +1,4 @@
--- Types, with the names that stand for them.
+-- Types, with the names that denote them.
 use Rattle.std.specs.Prelude.{ℕ, Bool, true, List, [], ◌∷◌, map, Option, Some, None, if◌then◌else◌}
 use Rattle.std.specs.List.{flat_map, list_any}
 use Rattle.std.specs.Str.{bytes_eq}
@@ -15,12 +15,11 @@ names_given t (DeclareAttribute w) = []
 names_given t (GiveAttributes m ms) = if bytes_eq m.name t then map (λ n. n.name) ms else []
 names_given t (Allow a) = []
 
--- the names that stand for a type: its own, and those of the attributes that statements give it (SELinux policy
--- language)
+-- the names that denote a type: its own, and those of the attributes that statements give it (SELinux policy language)
 abbrev pub names_in_lines : List LinedStatement → List ℕ → List (List ℕ)
 names_in_lines xs t = t ∷ flat_map (λ x. names_given t x.statement) xs
 
--- a type with the names that stand for it
+-- a type with the names that denote it
 abbrev pub membership_of : List LinedStatement → List ℕ → Member
 membership_of xs t = record { name = t; names = names_in_lines xs t }
 

@@ -28,6 +28,7 @@ pub(crate) fn push_quiet(found: &mut Vec<Finding>, finding: Finding) -> Result<(
     Ok(())
 }
 
+/// Adds a note on the finding before it.
 pub(crate) fn push_note(found: &mut Vec<Finding>, note: FindingNote) -> Result<(), AllocError>
     ensures { OnOk result (Quiet found.old.items found.new.items) }
 {

@@ -46,8 +46,8 @@ pub enum WhyAnswer {
     NoPermission,
 }
 
-/// An answer, with its lines: those of the statements that grant the permission, or for a denied question those of the
-/// near misses. For the other answers there are no lines.
+/// An answer, with its lines: first `allowed` or `denied`, and then those of the statements that grant the permission,
+/// or for a denied question those of the near misses. For the other answers there are no lines.
 #[derive(Drop)]
 pub struct Explanation {
     pub answer: WhyAnswer,
@@ -188,11 +188,11 @@ fn explained(
     answered(alloc, file, statements, &asked)
 }
 
-/// Answers whether the policy of a text allows what is asked, with a line for each allow statement that grants it:
-/// `FILE:LINE: STATEMENT  # SOURCES -> TARGETS`. The sources and targets are the types asked for that the sets of the
-/// statement hold, each with the attribute through which the set holds it. For a denied question, the lines are those
-/// of the near misses: they have the target, and the permission or the source. A question about any permission is
-/// allowed if the policy allows one of the seven.
+/// Answers whether the policy of a text allows what is asked. The first line is `allowed` or `denied`. Then comes a
+/// line for each allow statement that grants it: `FILE:LINE: STATEMENT  # SOURCES -> TARGETS`. The sources and targets
+/// are the types asked for that the sets of the statement hold, each with the attribute through which the set holds it.
+/// For a denied question, the lines are those of the near misses: they have the target, and the permission or the
+/// source. A question about any permission is allowed if the policy allows one of the seven.
 ///
 /// The error is the first fault of a text that is not a policy. If an allocation fails, it is
 /// [`PolicyFaultKind::Memory`] with line 0.

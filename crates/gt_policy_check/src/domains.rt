@@ -56,7 +56,8 @@ fn names_member(statements: &[LinedStatement], member: &Member) -> bool {
     false
 }
 
-// Does the same for the type of a name. Returns true for a name that is not a type.
+// Returns whether some allow statement has the type with this name in a set. Returns true if the name is not that of a
+// type.
 fn is_named(policy: &Judged, name: &TextPiece) -> bool {
     match member_named(policy.members, name) {
         Some(member) => names_member(policy.statements, member),

@@ -141,7 +141,8 @@ fn push_meant(out: &mut Vec<u8>, meant: Option<&str>) -> Result<(), AllocError> 
     push_text(out, "?")
 }
 
-/// Appends the name that a misspelt word may be meant as, if there is one.
+/// Appends `; did you mean "NAME"?` with the name that a misspelt word may be meant as, if there is one. After an Err,
+/// part of it may have been appended.
 pub fn push_hint(
     alloc: Global,
     out: &mut Vec<u8>,
@@ -195,7 +196,7 @@ fn push_said(out: &mut Vec<u8>, word: &str, said: &str) -> Result<(), AllocError
     push_text(out, said)
 }
 
-/// Makes a message of a word in quotes and a text.
+/// Makes a message of a word in quotes and a text. U+FFFD replaces control characters of the word, except tabs.
 pub fn said_of(alloc: Global, word: &str, said: &str) -> Result<Vec<u8>, AllocError> {
     let mut out = Vec::new(alloc);
     push_said(&mut out, word, said)?;

@@ -14,7 +14,8 @@ use std::alloc::Global;
 /// The kind of a finding.
 #[derive(Clone, Copy)]
 pub enum FindingKind {
-    /// The first fault of the text, which is not a policy; or a statement that breaks a neverallow statement.
+    /// The first fault of a text that is not a policy, or not a script; or a statement that breaks a neverallow
+    /// statement.
     Fault,
     /// A class that Xen's FLASK policy does not have.
     OtherClass,
@@ -30,7 +31,7 @@ pub enum FindingKind {
     NeverNamed,
     /// A type that no domain of the script has.
     NoDomain,
-    /// A statement that grants nothing to the domains of the script.
+    /// A statement or a triple that grants nothing to the domains of the script.
     NeverMatters,
     /// A label of a script that no earlier map has.
     NeverMapped,
@@ -105,8 +106,8 @@ pub fn check(alloc: Global, text: &str) -> Result<Vec<Finding>, Memory>
     judge(alloc, text, None)
 }
 
-/// Checks the policy block of a script whose domains have these types. It also warns of types that no domain has, and
-/// of statements that allow nothing to the domains.
+/// Checks the policy block of a script whose domains have these types, as `check` does. It also warns of types that no
+/// domain has, and of statements that allow nothing to the domains.
 pub fn check_worn(alloc: Global, text: &str, worn: &[&str]) -> Result<Vec<Finding>, Memory>
     ensures { IfOk result (λ v. Judges text.now v.items) }
 {

@@ -32,7 +32,7 @@ pub fn has_grant(classes: &[TextPiece]) -> bool
     is_among(classes, "grant".as_bytes())
 }
 
-/// Returns whether the word is among the permissions.
+/// Returns whether the word is among the permissions. `*` has every word.
 pub fn lists(perms: &Permissions, word: &str) -> bool
     ensures { result ≡ lists_word perms.now word.now }
 {

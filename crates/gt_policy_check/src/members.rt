@@ -1,4 +1,4 @@
-//! Types, with the names that stand for them.
+//! Types, with the names that denote them.
 ghost use Rattle.std.specs.Prelude.{◌≡◌, ◌++◌, map, IfOk, OnOk};
 ghost use Rattle.std.specs.Option.{option_map};
 ghost use Rattle.std.specs.Str.{bytes_eq};

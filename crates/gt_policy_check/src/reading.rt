@@ -9,7 +9,8 @@ ghost use Rattle.gt_policy.specs.declared.fault.TokenFault.{TokenFault};
 use gt_policy::{Items, LinedStatement, Policy, PolicyFault, statements_of};
 use std::alloc::Global;
 
-/// Returns the statements of a policy text, each with its line, or the first fault of a text that is not a policy.
+/// Returns the statements of a policy text, each with its line, or the first fault of a text that is not a policy. If
+/// an allocation fails, the fault is `Memory` with line 0.
 pub fn read_policy<'a>(
     alloc: Global,
     text: &'a str,

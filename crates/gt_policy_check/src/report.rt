@@ -146,8 +146,8 @@ fn push_excerpt(
     push_text(out, caret(finding.kind, form))
 }
 
-/// Appends the findings of a text in the layout of compilers: each with its line, and a caret below its column, which is
-/// coloured in the form `Colored`. After an Err, part of them may have been appended.
+/// Appends the findings of a text in the layout of compilers: each with its line, and a caret below its column, which
+/// is coloured in the form `Colored`. After an Err, part of them may have been appended.
 pub fn push_report(
     out: &mut Vec<u8>,
     file: &str,

@@ -28,7 +28,7 @@ pub(crate) fn is_useless(statement: &Statement, members: &[Member]) -> bool
     }
 }
 
-/// Why an allow statement of class `grant` allows nothing.
+/// The reason that an allow statement of class `grant` allows nothing.
 #[derive(Clone, Copy)]
 pub(crate) enum UselessReason {
     /// It lists no permission of class `grant`.

@@ -10,6 +10,11 @@
 //! Texts come from a trait, [`TextSource`], and go to any writer. So the contracts specify, for texts and a writer with
 //! known bytes, what is written for which words and with which status. That an error comes only if there is one is
 //! tested.
+//!
+//! It uses `gt_commands` (plans) and `clap` (their errors), `gt_file_commands`, `gt_run_command` and `gt_explore` (the
+//! commands), `gt_explore_answers`, `gt_explore_faults` and `gt_explore_verdict` (requests, faults and verdicts of
+//! `explore`), `gt_policy_check` (questions), `gt_command_reasons` and `gt_text`. Its definitions also name
+//! `gt_script`.
 #![tactic(auto)]
 
 mod exploring;

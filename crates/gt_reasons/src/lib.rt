@@ -2,8 +2,8 @@
 //!
 //! A fault line has a line number and a word. `push_script_reason` prints what is wrong in that line: the word that
 //! does not fit and what fits there, the limit that a domain exceeds, the flag that no domain raises in time.
-//! `push_block_reason` does so for a policy block, and `push_refusals` prints the rules that are near misses for a call
-//! that the policy refused.
+//! `push_block_reason` does so for a policy block, and `push_refusals` prints the statements or triples that are near
+//! misses for a call that the policy refused.
 //!
 //! It is proved that the words before the printed one fit an example of a line, and that the printed one does not fit
 //! the same example. The texts of the reasons are tested.

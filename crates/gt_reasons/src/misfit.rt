@@ -1,4 +1,4 @@
-//! How far the words of a line fit a form.
+//! The number of words of a line that fit a form.
 ghost use Rattle.std.specs.Prelude.{◌≡◌, ◌≤◌, IfOk, length, map};
 ghost use Rattle.gt_reasons.specs.Fitting.{fits, IsFitting};
 

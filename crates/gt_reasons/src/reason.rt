@@ -9,7 +9,8 @@ pub struct ReasonNote {
     pub message: Vec<u8>,
 }
 
-/// The reason for a fault of a line: the column, the message, and perhaps a note.
+/// The reason for a fault of a line: the column, the message, and perhaps a note. Lines and columns are counted from 1,
+/// columns in bytes.
 #[derive(Drop)]
 pub struct Reason {
     pub column: usize,

@@ -152,7 +152,7 @@ fn push_refusal(out: &mut Vec<u8>, file: &str, refusal: &RefusedCall) -> Result<
     push_text(out, "; near:\n")
 }
 
-// Appends the rules that are near misses for a refusal.
+// Appends the statements or triples that are near misses for a refusal.
 fn push_near(
     alloc: Global,
     out: &mut Vec<u8>,
@@ -180,7 +180,7 @@ fn refusal_in<'t>(line: &'t str) -> Option<RefusedCall<'t>> {
     }
 }
 
-// Appends the rules that are near misses for the refusals in a printed text, once for each.
+// Appends the near misses for the refusals in a printed text. Refusals with the same facts have them once.
 fn push_all_near(
     alloc: Global,
     out: &mut Vec<u8>,
@@ -202,9 +202,10 @@ fn push_all_near(
     Ok(())
 }
 
-/// Appends, for each call that the policy refused, the rules of the script that are near misses: statements of its
-/// policy block, or triples, each with its line. Repeated refusals are printed once. `printed` is the text that `play`
-/// or `run` printed for the script, or its JSON Lines. After an Err, part of the lines may have been appended.
+/// Appends, for each call that the policy refused, the near misses in the script: statements of its policy block, or
+/// triples, each with its line. Refusals with the same types and permission are printed once. Appends nothing if the
+/// script or the printed text is not UTF-8. `printed` is the text that `play` or `run` printed for the script, or its
+/// JSON Lines. After an Err, part of the lines may have been appended.
 pub fn push_refusals(
     alloc: Global,
     out: &mut Vec<u8>,

@@ -210,8 +210,8 @@ pub fn push_policy_reason(
     push_reason(out, file, fault.line as usize, &reason)
 }
 
-/// Appends where bytes are not UTF-8: a line `FILE:LINE:COLUMN: REASON`, at this line. After an Err, part of it may have
-/// been appended.
+/// Appends where bytes are not UTF-8: a line `FILE:LINE:COLUMN: REASON`, at this line. After an Err, part of it may
+/// have been appended.
 pub fn push_utf8_reason(
     alloc: Global,
     out: &mut Vec<u8>,

@@ -7,6 +7,11 @@
 //! [`run`] promises that each line printed is the answer of its own call, whatever the schedule, and that none is lost,
 //! doubled or out of order. It depends on the promises of `gt_live` for the calls, of `gt_script_runs` for what a
 //! line asks and prints, and of the standard library for threads. That a thread makes progress is not proved.
+//!
+//! It uses `gt_live` (the monitor and its domains), `gt_script` and `gt_script_lines` (scripts), `gt_script_runs` (what
+//! lines ask and print), `gt_audit` (records), `gt_core` (answers), `gt_entry`, `gt_frames`, `gt_words`, `gt_text`
+//! (reads and writes) and `gt_types`. Its definitions also name `gt_calls`, `gt_handles`, `gt_policy`,
+//! `gt_shared_table` and `gt_word_history`.
 #![tactic(auto)]
 
 mod fault;

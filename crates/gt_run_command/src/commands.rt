@@ -91,7 +91,8 @@ fn run_on<R: Threads + Wait + Sync, T: TextSource, W: Write, E>(
     }
 }
 
-/// Runs the script of the named file, or of the standard input, its domains in threads, and returns the outcome.
+/// Runs the script of the named file, or of the standard input, with its domains in threads. Returns the outcome: yes,
+/// or no after a failure.
 pub fn run_asked<R: Threads + Wait + Sync, T: TextSource, W: Write, E: Eprint>(
     context: &Context<R, T, E>,
     options: ScriptOptions,

@@ -24,7 +24,7 @@ pub(crate) fn is_error(kind: FindingKind) -> bool
     }
 }
 
-/// Converts a line or column to a number of a finding.
+/// Converts a line or column to a number of a finding. One that needs more than 32 bits becomes 1.
 pub(crate) fn column_number(column: usize) -> u32 {
     match u32::try_from(column) {
         Ok(column) => column,

@@ -386,8 +386,8 @@ fn steps_said(alloc: Global, core: &mut Core<Triples>, dom: DomId) -> Result<Str
 }
 
 // Returns a step by a letter, with the numbers of its domain and entry or frame. A look at a header is H, at a control
-// word C, at a body word B; a pin is P, an unpin U, the access of a copy A, a store of a header S, a store of a body word
-// W, and an exchange by the owner E. No row has another access, which would be an empty text.
+// word C, at a body word B; a pin is P, an unpin U, the access of a copy A, a store of a header S, a store of a body
+// word W, and an exchange by the owner E. No row has another access, which would be an empty text.
 fn step_said(alloc: Global, step: Step) -> Result<String, AllocError> {
     match step {
         Step::LookHeader { dom } => format!(in alloc; "H {}", dom.0),

@@ -22,8 +22,8 @@ pub(crate) enum Case {
     /// The other looks at the page. The owner revokes it and grants another one, and then the other tries to pin the
     /// first. Seen are the word looked at, the invalid word after the revocation, and the word that the pin found.
     Anew,
-    /// The owner tries to revoke the page while it has a read pin, and while it has a write pin. Then come the word with
-    /// none, and a revocation.
+    /// The owner tries to revoke the page while it has a read pin, and while it has a write pin. Then come the word
+    /// with none, and a revocation.
     Pinned,
     /// The owner withdraws the page under a write pin, and grants another before and after the pin is released. Seen
     /// are the word of the withdrawn page, both answers, and the word of the new page.

@@ -174,7 +174,8 @@ impl<'s, 'a> SearchContext<'s, 'a> {
         false
     }
 
-    // Returns whether the moves of a set need no alternative.
+    // Returns whether the moves of a set need no alternative: some domain of it is not at its end, and none outside can
+    // disturb one inside.
     pub(super) fn goes_alone(&self, world: &SearchState<'a>, inside: &[bool]) -> bool
         ensures undisturbed { IsTrue result → AreUndisturbed self.now world.now inside.now }
         ensures some { IsTrue result → SomeGoesOn self.now world.now inside.now }

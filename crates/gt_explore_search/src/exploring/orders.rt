@@ -28,7 +28,7 @@ impl<P: Drop> Explorer<P> {
             .unwrap_or(&[])
     }
 
-    // Returns the index of this list among those of a node. It is likely to be this one.
+    // Returns the index of this list among those of a node. The index `likely` is tried first.
     fn place_of(&self, node: usize, list: u32, likely: usize) -> Option<usize> {
         let lists = self.sets.get(self.nodes.get(node)?.set as usize)?;
         if lists.get(likely) == Some(&list) {

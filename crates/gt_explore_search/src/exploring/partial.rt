@@ -153,7 +153,8 @@ impl<P: Drop> Explorer<P> {
 /// are more states, it returns the orders found until then, and that they are not all.
 ///
 /// # Errors
-/// `Circle` if a run returns to a state, `Memory`, or a fault of the space.
+/// `Circle` if a run returns to a state, `States` if a number is too large for its field, `Memory`, or a fault of the
+/// space.
 pub fn search_within<S: TransitionSystem>(
     alloc: Global,
     space: &S,
