@@ -36,6 +36,6 @@ pub use laws::{
     every_pin_left_is_counted, every_seat_has_its_position, every_step_is_taken_then,
     every_step_of_a_history_happened, every_word_follows_from_the_views,
     no_pin_is_taken_of_a_past_record, no_pin_outlives_its_record,
-    pins_of_one_generation_have_one_record,
+    pins_of_one_generation_have_one_record, seats_may_be_taken_in, what_was_seen_is_listed,
 };
 pub use words::{Pin, Seat, Words};
