@@ -6,33 +6,38 @@ use Rattle.std.proofs.lemmas.Option.{same_Some}
 use Rattle.gt_attached.specs.declared.answer.EncodedAnswer.{EncodedAnswer}
 use Rattle.gt_c.specs.declared.here.CDomain.{CDomain}
 use Rattle.gt_c.specs.Calling.{CallsGuest, CallsTelling, MayBeCalled}
+use Rattle.gt_c.specs.Prelude.{Seated, Table}
 
--- the call is made on the domain x that the handle lends, which is e afterwards
-pub made : {before between : Option CDomain} {x e : CDomain} (answer : EncodedAnswer) (Q : CDomain → CDomain → Type 0)
-    → MayBeCalled before between → Some x ≡ between → Q x e → CallsGuest before (Some e) answer Q
+-- the call is made on the domain x that the handle lends, whose guest is g afterwards
+pub made : {before between : Option CDomain} {x : CDomain} {g : Seated Table} (answer : EncodedAnswer) (Q : CDomain → CDomain → Type 0)
+    → MayBeCalled before between → Some x ≡ between → Q x (record x { guest = g })
+    → CallsGuest before (Some (record x { guest = g })) answer Q
 made {before = None} answer Q may lent holds = absurd may
-made {before = Some d} {between} {x} {e} answer Q may lent holds =
+made {before = Some d} {between} {x} {g} answer Q may lent holds =
     inr (record {
       was = d;
-      is = e;
+      is = record x { guest = g };
       before_is = refl;
       after_is = refl;
       idle = may.1;
-      holds = subst (λ (y : CDomain). Q y e) (same_Some x d (lent ∙ may.0)) holds;
+      run = ap (λ (y : CDomain). y.run) (same_Some x d (lent ∙ may.0));
+      holds = subst (λ (y : CDomain). Q y (record x { guest = g })) (same_Some x d (lent ∙ may.0)) holds;
     })
 
 -- the same of a call that tells more than its answer
-pub made-telling : {before between : Option CDomain} {x e : CDomain} (answer : EncodedAnswer) (N : Type 0) (Q : CDomain → CDomain → Type 0)
-    → MayBeCalled before between → Some x ≡ between → Q x e → CallsTelling before (Some e) answer N Q
+pub made-telling : {before between : Option CDomain} {x : CDomain} {g : Seated Table} (answer : EncodedAnswer) (N : Type 0)
+    (Q : CDomain → CDomain → Type 0) → MayBeCalled before between → Some x ≡ between → Q x (record x { guest = g })
+    → CallsTelling before (Some (record x { guest = g })) answer N Q
 made-telling {before = None} answer N Q may lent holds = absurd may
-made-telling {before = Some d} {between} {x} {e} answer N Q may lent holds =
+made-telling {before = Some d} {between} {x} {g} answer N Q may lent holds =
     inr (record {
       was = d;
-      is = e;
+      is = record x { guest = g };
       before_is = refl;
       after_is = refl;
       idle = may.1;
-      holds = subst (λ (y : CDomain). Q y e) (same_Some x d (lent ∙ may.0)) holds;
+      run = ap (λ (y : CDomain). y.run) (same_Some x d (lent ∙ may.0));
+      holds = subst (λ (y : CDomain). Q y (record x { guest = g })) (same_Some x d (lent ∙ may.0)) holds;
     })
 
 pub idle-there : (before : Option CDomain) {between : Option CDomain} {x : CDomain} → MayBeCalled before between → Some x ≡ between

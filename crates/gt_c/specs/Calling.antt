@@ -22,14 +22,19 @@ abbrev pub MayBeCalled : Option CDomain → Option CDomain → Type 0
 MayBeCalled None after = ⊥
 MayBeCalled (Some d) after = (after ≡ Some d) × (d.guest.copying ≡ None)
 
--- a call was made on the handle's domain, which was in no copy: the handle still has it, and this holds of it before
--- and after
+-- the handle is still one of the same run
+abbrev pub KeepsRun : CDomain → CDomain → Type 0
+KeepsRun d e = e.run ≡ d.run
+
+-- a call was made on the handle's domain, which was in no copy: the handle still has it, in the same run, and this holds
+-- of it before and after
 pub record MadeOn (before after : Option CDomain) (Holds : CDomain → CDomain → Type 0) : Type 0 where
   pub was : CDomain
   pub is : CDomain
   pub before_is : before ≡ Some was
   pub after_is : after ≡ Some is
   pub idle : was.guest.copying ≡ None
+  pub run : KeepsRun was is
   pub holds : Holds was is
 
 -- no call was made, or this one was
@@ -171,7 +176,7 @@ pub record MakesReady (s t : Seated Table) (answer : EncodedAnswer) : Type 0 whe
 abbrev pub ResetsGuest : EncodedAnswer → Option CDomain → Option CDomain → Type 0
 ResetsGuest answer None after = (after ≡ None) × (answer ≡ encoded outcomes.NoDomain)
 ResetsGuest answer (Some d) None = ⊥
-ResetsGuest answer (Some d) (Some e) = (e.run ≡ d.run) × MakesReady d.guest e.guest answer
+ResetsGuest answer (Some d) (Some e) = KeepsRun d e × MakesReady d.guest e.guest answer
 
 -- the records of a domain were dropped, the answer encodes their number and the number lost before, and nothing else
 -- changed

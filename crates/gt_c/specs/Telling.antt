@@ -6,6 +6,7 @@ use Rattle.gt_c.specs.Prelude.{CopyPlaces, CopyEnd, may, Control, EntryKind, Ent
 use Rattle.gt_entry.specs.declared.control.EntryKind.TheVariants.{Invalid, Page, Sub, Via}
 use Rattle.gt_c.specs.Prelude.{EncodedRecord, CopySettings, PlaceReport, PlacesReport, MappedFrame, CDomain}
 use Rattle.gt_attached.specs.declared.answer.AttachedOutcome.TheVariants as outcomes
+use Rattle.gt_c.specs.Calling.{KeepsRun}
 
 -- an end of a copy as C passes it
 abbrev pub end_asked : CopyEnd → End
@@ -50,7 +51,7 @@ CopyEnds answer None after = (after ≡ None) × (answer ≡ encoded outcomes.No
 CopyEnds answer (Some d) None = ⊥
 CopyEnds answer (Some d) (Some e) =
     ((d.guest.copying ≡ None) × (e ≡ d) × (answer ≡ encoded outcomes.NoCopy))
-    ⊎ (EndsAccess d.guest e.guest × (answer ≡ encoded outcomes.Done))
+    ⊎ (KeepsRun d e × EndsAccess d.guest e.guest × (answer ≡ encoded outcomes.Done))
 
 -- 1 for a mapping that writes, 0 for one that reads
 abbrev pub writes : Dir → ℕ
