@@ -1,12 +1,12 @@
 #!/usr/bin/env bash
-# Times the loads of `bench_live`, maps and unmaps on a running monitor, from C threads through the library
-# (bench/c/speed.c), beside `bench_live` itself. Prints millions of operations a second (a map or an unmap is one), how
+# Times the loads of `bench live`, maps and unmaps on a running monitor, from C threads through the library
+# (bench/c/speed.c), beside `bench live` itself. Prints millions of operations a second (a map or an unmap is one), how
 # many times longer a round takes from C, and below the table the instructions of a round on one thread, as valgrind
 # counts them, also of a grant and a revocation by an owner.
 #
 # `bench/c_speed.sh [RUNS]` makes so many runs of each by turns (11), and takes from their time that of no rounds;
 # `PRIORITY='chrt -f 1' bench/c_speed.sh` runs them before other work; `bench/c_speed.sh 0` counts instructions only.
-# LIBRARY=DIR takes the library from DIR, where `./gthost library` left it, and PROGRAM=FILE the built program bench_live.
+# LIBRARY=DIR takes the library from DIR, where `./gthost library` left it, and PROGRAM=FILE the built program bench.
 # PRIORITY is left out where there are as many threads as processors.
 set -euo pipefail
 # shellcheck source=bench/common.sh
@@ -22,7 +22,12 @@ if [ -z "$library" ]; then
   ./tools/library.sh "$library" >"$work/log" 2>&1 || { cat "$work/log"; exit 1; }
 fi
 "${CC:-clang}" -std=c11 -O2 -pthread -I"$library" bench/c/speed.c "$library/libgthost.a" -o "$work/c"
-cp "$(built bench_live apart 1 0)" "$work/rattle"
+cp "$(built bench live apart 1 0)" "$work/rattle"
+
+# The word that says what the program in Rattle measures. That in C has none.
+subject_of() {
+  [ "$1" != rattle ] || echo live
+}
 
 # There is room for 400,000 records ahead.
 rounds_of() {
@@ -32,7 +37,7 @@ rounds_of() {
 nanoseconds() {
   local from to
   from="$(date +%s%N)"
-  first "$3" "$work/$1" "$2" "$3" "$4" "$5" >/dev/null
+  first "$3" "$work/$1" $(subject_of "$1") "$2" "$3" "$4" "$5" >/dev/null
   to="$(date +%s%N)"
   echo "$((to - from))"
 }
@@ -58,7 +63,7 @@ compare() {
 # counted PROGRAM LOAD ROUNDS AUDIT
 counted() {
   valgrind --tool=cachegrind --cache-sim=no --cachegrind-out-file="$work/cachegrind" --log-file="$work/log" \
-    "$work/$1" "$2" 1 "$3" "$4" >/dev/null
+    "$work/$1" $(subject_of "$1") "$2" 1 "$3" "$4" >/dev/null
   sed -n 's/.*I *refs: *//p' "$work/log" | tr -d ,
 }
 

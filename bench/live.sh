@@ -1,5 +1,5 @@
 #!/usr/bin/env bash
-# Times the loads of `bench_live`, whole calls on a running monitor, beside the bare words (`bench words`) and beside a
+# Times the loads of `bench live`, whole calls on a running monitor, beside the bare words (`bench words`) and beside a
 # program in C that keeps its entries as Xen keeps them, under a lock for the table and one for each entry: the
 # table's lock with its readers in one word, or spread over a word for each thread. Whole calls are recorded (`on`),
 # recorded into room that was made before the first call (`ahead`), recorded while the records are taken every 128
@@ -19,27 +19,26 @@
 #
 # `bench/live.sh [RUNS] [TABLE]` makes so many runs of each program by turns (11), and takes from their time that of
 # no rounds. `PRIORITY='chrt -f 1' bench/live.sh` runs the programs before other work, but not those of as many threads
-# as there are processors: C's locks spin. `bench/live.sh 0` counts instructions alone. PROGRAM=DIR takes the built
-# programs bench_live and bench from DIR; for `bytes` PROGRAM may be bench_live itself.
+# as there are processors: C's locks spin. `bench/live.sh 0` counts instructions alone. PROGRAM=FILE takes the built
+# program bench.
 set -euo pipefail
 
 # shellcheck source=bench/common.sh
 source "$(dirname "${BASH_SOURCE[0]}")/common.sh"
 runs="${1:-11}"
 table="${2:-both}"
-[ "$table" = bytes ] || several_programs bench_live and bench
 work="$(mktemp -d)"
 trap 'rm -rf "$work"' EXIT
 
-cp "$(built bench_live apart 1 0)" "$work/bench_live"
-[ "$table" = bytes ] || cp "$(built bench words apart 1 0)" "$work/bench"
+cp "$(built bench live apart 1 0)" "$work/live"
+ln "$work/live" "$work/words"
 "${CC:-clang}" -O2 -pthread -o "$work/counted" "$top/bench/live_tables.c"
 "${CC:-clang}" -O2 -pthread -DSPREAD -o "$work/spread" "$top/bench/live_tables.c"
 "${CC:-clang}" -O2 -pthread -o "$work/plain" "$top/bench/live_bytes.c"
 "${CC:-clang}" -O2 -pthread -DJOURNAL -o "$work/journal" "$top/bench/live_bytes.c"
 
-programs=(bench_live-on bench_live-ahead bench_live-taken bench_live-off bench counted spread)
-movers=(bench_live-off bench_live-taken plain journal)
+programs=(live-on live-ahead live-taken live-off words counted spread)
+movers=(live-off live-taken plain journal)
 
 # How often each thread of a program does what it does, in a run that is long enough to be timed. The journal of the C
 # program keeps what is written, so there is no memory for long runs of stores and copies.
@@ -47,11 +46,11 @@ rounds_of() {
   case "$1 $2" in
     *" load-"* | *" fresh-"* | plain*) echo 500000 ;;
     *" grants" | *" withdrawals") echo 200000 ;; # generations end them soon after a million
-    "bench_live-"*" "*-64) echo 200000 ;;
-    "bench_live-"*" "*-4096) echo 100000 ;;
+    "live-"*" "*-64) echo 200000 ;;
+    "live-"*" "*-4096) echo 100000 ;;
     *" "*-64) echo 100000 ;;
     *" "*-4096) echo 10000 ;;
-    bench_live-on* | bench_live-ahead* | bench_live-taken*) echo 200000 ;; # 400,000 records, for which `bench_live` makes room ahead
+    live-on* | live-ahead* | live-taken*) echo 200000 ;; # 400,000 records, for which `bench live` makes room ahead
     *) echo 3000000 ;;
   esac
 }
@@ -63,9 +62,11 @@ audit_of() {
   esac
 }
 
-# The word that says what a program measures, where it needs one.
+# The word that says what the program in Rattle measures. Those in C have none.
 subject_of() {
-  [ "$1" != bench ] || echo words
+  case "$1" in
+    live-* | words) echo "${1%-*}" ;;
+  esac
 }
 
 # The nanoseconds of one run.
@@ -158,7 +159,7 @@ if [ "$table" != bytes ]; then
     for program in "${programs[@]}"; do
       echo "$load, $program: $(instructions "$program" "$load") instructions a round"
     done
-    for program in bench_live-on bench_live-ahead bench_live-off; do
+    for program in live-on live-ahead live-off; do
       echo "$load, $program, 64 domains: $(instructions "$program" "$load" 64) instructions a round"
     done
   done
@@ -176,6 +177,6 @@ if [ "$table" != calls ]; then
     echo "$load: $(for program in "${movers[@]}"; do echo "$program $(instructions "$program" "$load")"; done | paste -sd' ') instructions a round"
   done
   for load in store-64 copy-64; do
-    echo "$load: $(resident "$work/bench_live" "$load" 1 1000000 off) KB resident after a million"
+    echo "$load: $(resident "$work/live" live "$load" 1 1000000 off) KB resident after a million"
   done
 fi

@@ -1,8 +1,8 @@
-// The loads of bytes of `bench_live` in C: frames of 4,096 bytes under a mutex each, mappings under handles, and
+// The loads of bytes of `bench live` in C: frames of 4,096 bytes under a mutex each, mappings under handles, and
 // entries as in live_tables.c, whose table has a reader-writer lock and each entry a ticket lock. -DJOURNAL keeps,
 // for each write, a record of its writer, its entry, its place and its bytes, as the frames of `gt_frames` do.
 //
-// `PROGRAM LOAD THREADS ROUNDS` prints the load, the threads and the rounds done in all, as `bench_live` does. LOAD
+// `PROGRAM LOAD THREADS ROUNDS` prints the load, the threads and the rounds done in all, as `bench live` does. LOAD
 // is `load-64`, `load-4096`, `fresh-64`, `fresh-4096`, `store-64`, `store-4096`, `copy-64`, `copy-4096`, `forward-64` or `forward-4096`. Each
 // thread has a page of its own that the owner granted to it. A load reads into a buffer of the thread's, or (`fresh`)
 // answers fresh memory with the bytes read; a copy takes a pin and gives it back. A forwarded copy goes from one page of the owner's to another, by way of a transitive

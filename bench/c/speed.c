@@ -1,5 +1,5 @@
 /*
- * speed LOAD THREADS ROUNDS AUDIT: the loads of `bench_live`, through the library. LOAD is apart, adjacent or grants,
+ * speed LOAD THREADS ROUNDS AUDIT: the loads of `bench live`, through the library. LOAD is apart, adjacent or grants,
  * AUDIT is on, ahead or off. Each thread maps an entry of the owner's and unmaps it, ROUNDS times. Under grants the
  * owner grants an entry and revokes it, in one thread. Prints how many rounds were done.
  */

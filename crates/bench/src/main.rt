@@ -1,16 +1,19 @@
 //! Benchmarks: work of which scripts take the time from outside.
 //!
-//! `bench policy WORK CLASS COUNT` parses, compiles and asks a large policy (`policy.rt` lists WORK), `bench frames WORK
-//! COUNT` accesses frames and releases map handles (`frames.rt`), and `bench words LOAD THREADS ROUNDS [DOMAINS]` runs a
-//! load on the words of grant entries, in threads (`words.rt`). Each prints what it did, never a time. Several, which
+//! `bench policy WORK CLASS COUNT` parses, compiles and asks a large policy (`policy.rt` lists WORK), and `bench frames
+//! WORK COUNT` accesses frames and releases map handles (`frames.rt`). `bench words LOAD THREADS ROUNDS [DOMAINS]` runs
+//! a load on the words of grant entries (`words.rt`), and `bench live LOAD THREADS ROUNDS [AUDIT [DOMAINS]]` one of
+//! whole calls on a running monitor (`live.rt`), both in threads. Each prints what it did, never a time. Several, which
 //! the word `then` separates, are done one after the other.
 //!
-//! It promises nothing beyond the calls that it makes. The scripts `bench/policy.sh`, `bench/frames.sh` and
-//! `bench/words.sh` run and time it.
+//! It promises nothing beyond the calls that it makes. The scripts `bench/policy.sh`, `bench/frames.sh`,
+//! `bench/words.sh`, `bench/live.sh` and `bench/c_speed.sh` run and time it.
 #![tactic(auto)]
 
+mod extent;
 mod frames;
 mod line;
+mod live;
 mod policy;
 mod stops;
 mod words;
@@ -33,6 +36,7 @@ fn measure<R: Threads + Wait + Sync>(
         "policy" => policy::measure(alloc, words, said),
         "frames" => frames::measure(rt, alloc, words, said),
         "words" => words::measure(rt, alloc, words, said),
+        "live" => live::measure(rt, alloc, words, said),
         _ => Err(Stop::Words),
     }
 }

@@ -13,11 +13,13 @@ pub(crate) enum Stop {
     Number,
     /// A load does not have this number of threads, or its run this number of domains.
     Extent,
+    /// A word names no recording of calls.
+    Audit,
     /// The policy can't be parsed.
     Policy,
     /// The run does not start.
     NotStarted,
-    /// The shared entry can't be granted.
+    /// An entry can't be granted.
     NotGranted,
 }
 
@@ -27,13 +29,14 @@ impl Stop {
         match self {
             Stop::Memory => "memory",
             Stop::Words => {
-                "wanted: policy WORK CLASS COUNT, frames WORK COUNT or words LOAD THREADS ROUNDS [DOMAINS]"
+                "wanted: policy WORK CLASS COUNT, frames WORK COUNT, words LOAD THREADS ROUNDS [DOMAINS], live LOAD THREADS ROUNDS .."
             }
             Stop::Number => "a word is not a number",
             Stop::Extent => "threads: 1 to 4, domains: 6 to 64",
+            Stop::Audit => "AUDIT is on, ahead, taken or off",
             Stop::Policy => "the policy can't be parsed",
             Stop::NotStarted => "the run does not start",
-            Stop::NotGranted => "the shared entry can't be granted",
+            Stop::NotGranted => "an entry can't be granted",
         }
     }
 }

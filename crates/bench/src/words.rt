@@ -10,9 +10,10 @@ mod loads;
 mod mapper;
 mod owner;
 
-use crate::line::{number_at, word_at};
+use crate::extent::extent_of;
+use crate::line::word_at;
 use crate::stops::Stop;
-use loads::{FEWEST, Load, MOST, Plan, run};
+use loads::{Load, Plan, run};
 use std::alloc::Global;
 use std::thread::Threads;
 
@@ -27,23 +28,6 @@ fn load_of(name: &str) -> Result<Load, Stop> {
     }
 }
 
-// Returns the plan in the words, and the number of domains.
-fn plan_of(words: &[String]) -> Result<(Plan, u16), Stop> {
-    let load = load_of(word_at(words, 1, ""))?;
-    let threads = number_at(words, 2, "")?;
-    let rounds = number_at(words, 3, "")?;
-    let domains = number_at(words, 4, "6")?;
-    if threads == 0 || threads > MOST || domains < FEWEST || domains > 64 {
-        return Err(Stop::Extent);
-    }
-    let plan = Plan {
-        load,
-        threads: threads as usize,
-        rounds,
-    };
-    Ok((plan, domains as u16))
-}
-
 /// Runs the load that the words name, and appends a line with the number of its rounds.
 pub(crate) fn measure<R: Threads + Sync>(
     rt: &R,
@@ -51,8 +35,14 @@ pub(crate) fn measure<R: Threads + Sync>(
     words: &[String],
     said: &mut String,
 ) -> Result<(), Stop> {
-    let (plan, domains) = plan_of(words)?;
-    let done = run(rt, alloc, plan, domains)?;
-    let (load, threads) = (word_at(words, 1, ""), plan.threads);
+    let load = load_of(word_at(words, 1, ""))?;
+    let extent = extent_of(words, 4)?;
+    let plan = Plan {
+        load,
+        threads: extent.threads as usize,
+        rounds: extent.rounds,
+    };
+    let done = run(rt, alloc, plan, extent.domains)?;
+    let (load, threads) = (word_at(words, 1, ""), extent.threads);
     Ok(writeln!(said, "{load} {threads} {done}")?)
 }

@@ -5,14 +5,13 @@ ghost use Rattle.gt_word_history.specs.Views.{last_of};
 ghost use Rattle.gt_words.specs.Conditions.{HasDomain, IsSameSeat, IsSeatOf};
 ghost use Rattle.bench.specs.Mapping.{CanMap, IsUnusedFrom};
 
+use crate::extent::{MIDDLE, OWNER, run_domains};
 use crate::stops::Stop;
 use crate::words::mapper::{Mapper, Target, map_and_unmap, through_via};
 use crate::words::owner::{Row, page, publish, revoke_and_grant, withdraw_and_grant};
 use gt_entry::Entry;
 use gt_roster::Positions;
-use gt_types::{
-    Config, DomId, DomainConfig, GrantRef, MAX_TABLE_FRAMES, StartFault, TABLE_ENTRIES, TypeId,
-};
+use gt_types::{Config, DomId, GrantRef, StartFault, TABLE_ENTRIES};
 use gt_words::{Seat, Words};
 use std::alloc::{AllocError, Global};
 use std::thread::{self, Threads, join};
@@ -31,18 +30,6 @@ pub enum Load {
     /// The same with an owner who withdraws the entry, and grants it once it has no pin.
     Withdrawals,
 }
-
-/// The maximum number of threads of a load.
-pub(crate) const MOST: u32 = 4;
-
-/// The minimum number of domains of a run: the owner, the middle and one for each thread.
-pub(crate) const FEWEST: u32 = 6;
-
-/// The domain that grants.
-const OWNER: DomId = DomId(1);
-
-/// The domain that forwards its grant.
-const MIDDLE: DomId = DomId(2);
 
 /// The entry that the threads of a load share, and the first of those that they have for themselves.
 const SHARED: GrantRef = GrantRef(64);
@@ -73,33 +60,6 @@ const UNUSED: Row = Row {
     entry: Entry::Invalid,
     generation: 0,
 };
-
-fn domain(id: u16) -> DomainConfig
-    ensures { result.id ≡ record { 0 = id } }
-{
-    DomainConfig {
-        id: DomId(id),
-        label: TypeId(0),
-        frames: 8,
-        table_frames: MAX_TABLE_FRAMES,
-        version: 1,
-    }
-}
-
-// Returns this number of domains, numbered from 1: the owner, the middle, those of the threads, and others that do
-// nothing.
-fn run_domains(alloc: Global, count: u16) -> Result<Config, AllocError>
-    ensures { IfOk result (λ c. c.first_gen ≡ 0) }
-{
-    let mut domains = Vec::new(alloc);
-    'domains: for before in 0..count {
-        domains.push(domain(before + 1))?;
-    }
-    Ok(Config {
-        domains,
-        first_gen: 0,
-    })
-}
 
 // Returns whether a domain with this number is among these.
 fn is_placed(positions: &Positions, dom: DomId) -> bool
@@ -143,7 +103,7 @@ fn checked_domains(alloc: Global, count: u16) -> Result<Config, Stop>
     ensures middle { IfOk result (λ c. HasDomain (layout_of c) MIDDLE) }
     ensures first { IfOk result (λ c. c.first_gen ≡ 0) }
 {
-    let config = run_domains(alloc, count)?;
+    let config = run_domains(alloc, count, 1)?;
     if !has_domain(alloc, &config, OWNER)? || !has_domain(alloc, &config, MIDDLE)? {
         return Err(Stop::NotStarted);
     }

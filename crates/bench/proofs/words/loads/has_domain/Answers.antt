@@ -1,4 +1,4 @@
-use Rattle.std.proofs.Common.{◌<◌, ◌≡◌, ◌∙◌, ℕ, List, length, sym, subst}
+use Rattle.std.proofs.Common.{◌<◌, List, length, subst}
 use Rattle.gt_types.specs.declared.DomId.{DomId}
 use Rattle.gt_word_history.specs.Rule.{position_in}
 use Rattle.bench.proofs.words.loads.has_domain.Goals as goal

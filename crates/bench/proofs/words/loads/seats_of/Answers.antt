@@ -6,7 +6,7 @@ use Rattle.gt_types.specs.declared.config.DomainConfig.{DomainConfig}
 use Rattle.gt_word_history.specs.Rule.{Layout, id_at, layout_of, position_in}
 use Rattle.gt_words.specs.Conditions.{HasDomain}
 use Rattle.gt_words.specs.Laws.{domain_at}
-use Rattle.bench.specs.declared.words.loads.TheConstants.{MIDDLE, OWNER}
+use Rattle.bench.specs.declared.extent.TheConstants.{MIDDLE, OWNER}
 use Rattle.bench.proofs.words.loads.seats_of.Goals as goal
 
 -- a run that has both domains has two at least

@@ -1,6 +1,6 @@
 //! The parts of the threads.
-use crate::audit::{Audit, record_calls};
-use crate::loads::{FIRST_MAPPER, MIDDLE, MOST, OWNER};
+use crate::extent::{MIDDLE, MOST, OWNER};
+use crate::live::audit::{Audit, record_calls};
 use gt_audit::Trail;
 use gt_calls::{CopyArgs, End};
 use gt_entry::Entry;
@@ -11,6 +11,9 @@ use test_monitor::{Calls, READ_ONLY, WRITABLE};
 
 /// The entry of the first mapper.
 const FIRST: u32 = 64;
+
+/// The first of the domains that map; the others follow it.
+const FIRST_MAPPER: u16 = 3;
 
 /// The number of rounds after which records are taken.
 const BEFORE_TAKEN: u32 = 128;

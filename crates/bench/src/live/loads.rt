@@ -1,11 +1,12 @@
 //! The loads, and their run.
-use crate::audit::Extent;
-use crate::parts::{Accesses, Moves, Part, Spread, Worker, page, work};
+use crate::extent::{Extent, FEWEST, MIDDLE, MOST, OWNER, run_domains};
+use crate::live::audit::Audit;
+use crate::live::parts::{Accesses, Moves, Part, Spread, Worker, page, work};
 use crate::stops::Stop;
 use gt_allow::AllowTable;
 use gt_entry::Entry;
 use gt_policy::Policy;
-use gt_types::{Config, DomId, DomainConfig, GrantRef, MAX_TABLE_FRAMES, TypeId};
+use gt_types::{DomId, GrantRef};
 use std::alloc::{AllocError, Global};
 use std::sync::Wait;
 use std::thread::{self, Threads};
@@ -28,20 +29,13 @@ pub(crate) enum Load {
     Bytes(Moves, u16),
 }
 
-/// The maximum number of threads of a load.
-pub(crate) const MOST: u32 = 4;
-
-/// The minimum number of domains of a run: the owner, the middle and one for each thread.
-pub(crate) const FEWEST: u32 = 6;
-
-/// The domain that grants.
-pub(crate) const OWNER: DomId = DomId(1);
-
-/// The domain whose transitive entries lead to the owner's pages.
-pub(crate) const MIDDLE: DomId = DomId(2);
-
-/// The first of the domains that map; the others follow it.
-pub(crate) const FIRST_MAPPER: u16 = 3;
+/// The load of a run, the recording of its calls, and its size.
+#[derive(Clone, Copy)]
+pub(crate) struct Plan {
+    pub load: Load,
+    pub audit: Audit,
+    pub extent: Extent,
+}
 
 /// The distance between the entries of threads.
 const APART: u32 = 64;
@@ -51,29 +45,6 @@ const ADJACENT: u32 = 1;
 
 /// Each type may map the pages of each and unmap them, and copy.
 const POLICY: &str = "type a_t; allow a_t a_t:grant { map_read map_write unmap copy };";
-
-fn domain(id: u16, version: u32) -> DomainConfig {
-    DomainConfig {
-        id: DomId(id),
-        label: TypeId(0),
-        frames: 8,
-        table_frames: MAX_TABLE_FRAMES,
-        version,
-    }
-}
-
-// Returns this number of domains, numbered from 1, with tables of this version: the owner, the middle, those of the
-// threads, and others that do nothing.
-fn run_domains(alloc: Global, count: u16, version: u32) -> Result<Config, AllocError> {
-    let mut domains = Vec::new(alloc);
-    'domains: for before in 0..count {
-        domains.push(domain(before + 1, version))?;
-    }
-    Ok(Config {
-        domains,
-        first_gen: 0,
-    })
-}
 
 // Grants a page of the owner's to the middle domain, which forwards this domain to it.
 fn grant_way<D: Calls>(owner: &mut D, middle: &mut D, number: u32, dom: DomId) -> bool {
@@ -144,8 +115,8 @@ fn workers<D: Calls + Drop>(
     load: Load,
     threads: u32,
 ) -> Result<Vec<Worker<D>>, Stop> {
-    if domains.len() < 6 {
-        return Err(Stop::FewDomains);
+    if domains.len() < FEWEST as usize {
+        return Err(Stop::Extent);
     }
     let mut owner = domains.remove(0);
     let mut middle = domains.remove(0);
@@ -181,9 +152,10 @@ fn run_workers<D: Calls + Send + Drop, R: Threads + Wait + Sync>(
     rt: &R,
     alloc: Global,
     workers: Vec<Worker<D>>,
-    extent: Extent,
+    plan: Plan,
 ) -> Result<u64, AllocError> {
-    let Extent { rounds, audit, .. } = extent;
+    let Plan { audit, extent, .. } = plan;
+    let rounds = extent.rounds;
     let done = thread::map_vec(
         rt,
         workers,
@@ -212,28 +184,26 @@ fn run_on<D: Calls + Send + Drop, R: Threads + Wait + Sync>(
     rt: &R,
     alloc: Global,
     domains: Vec<D>,
-    load: Load,
-    extent: Extent,
+    plan: Plan,
 ) -> Result<u64, Stop> {
-    let workers = workers(alloc, domains, load, extent.threads)?;
-    Ok(run_workers(rt, alloc, workers, extent)?)
+    let workers = workers(alloc, domains, plan.load, plan.extent.threads)?;
+    Ok(run_workers(rt, alloc, workers, plan)?)
 }
 
 /// Runs a load. Returns the number of rounds of all threads.
 pub(crate) fn run<R: Threads + Wait + Sync>(
     rt: &R,
     alloc: Global,
-    load: Load,
-    extent: Extent,
+    plan: Plan,
 ) -> Result<u64, Stop> {
-    let version = if matches!(load, Load::Bytes(..)) {
+    let version = if matches!(plan.load, Load::Bytes(..)) {
         2
     } else {
         1
     };
     let rights = rights(alloc)?;
-    let config = run_domains(alloc, extent.domains, version)?;
+    let config = run_domains(alloc, plan.extent.domains, version)?;
     let (monitor, domains) = start_run(alloc, config, rights)?;
     let domains = all_running(alloc, &monitor, domains)?;
-    run_on(rt, alloc, domains, load, extent)
+    run_on(rt, alloc, domains, plan)
 }

@@ -1,4 +1,4 @@
-//! The recording of calls, and the size of a load.
+//! The recording of calls.
 use test_monitor::Calls;
 
 /// The recording of the calls of a domain.
@@ -27,14 +27,4 @@ pub(crate) fn record_calls<D: Calls>(domain: &mut D, audit: Audit) -> bool {
             true
         }
     }
-}
-
-/// The size of a load: the number of threads, the rounds of each, the recording of its calls, and the number of domains
-/// of the run.
-#[derive(Clone, Copy)]
-pub struct Extent {
-    pub threads: u32,
-    pub rounds: u32,
-    pub audit: Audit,
-    pub domains: u16,
 }
