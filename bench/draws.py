@@ -14,8 +14,7 @@ Draws COUNT texts (1,000) of this KIND by a seed (1):
   policies  policies whose allow statements are evaluated here: `policy` lists these triples, `why` answers by them, and
             `check --never` has an error for each pair of an allow and a neverallow statement that have one in common
 
-Prints what was counted. The status is 1 if something
-differs; the text is then left as draws-KIND-SEED-NUMBER.
+Prints what was counted. The status is 1 if something differs; the text is then left as draws-KIND-SEED-NUMBER.
 """
 
 import collections

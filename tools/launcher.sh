@@ -46,9 +46,10 @@ case "$1" in
     fi
     echo "tried $crate $*"
     for file in "${data[@]}"; do echo "with $file"; done
-    if [ "$STUB" = reads ]; then cat; fi
+    if [ "$STUB" = reads ] && [ ! -t 0 ]; then cat; fi
     echo "gthost: line 4: config" >&2
     echo "run=ended status=1 runners=1 races=unchecked proved=no" >&2
+    case "$STUB" in slow_end) sleep 6 ;; esac
     exit 1
     ;;
   ci)
@@ -89,6 +90,16 @@ try() {
   local name="$1" wanted="$2" status=0
   shift 2
   "${as[@]}" timeout 60 "$checkout/gthost" "$@" >"$work/out" 2>"$work/err" </dev/null || status=$?
+  tried=$((tried + 1))
+  [ "$status" -eq "$wanted" ] || wrong "$name: status $status, and not $wanted"
+}
+
+# The same for words whose standard input is a terminal, on which a line is typed.
+typed() {
+  local name="$1" wanted="$2" status=0
+  shift 2
+  printf 'do 1 revoke 0\n\004' | timeout 60 script -qec \
+    "$(printf '%q ' "$checkout/gthost" "$@") >$work/out 2>$work/err" /dev/null >/dev/null || status=$?
   tried=$((tried + 1))
   [ "$status" -eq "$wanted" ] || wrong "$name: status $status, and not $wanted"
 }
@@ -146,6 +157,7 @@ while read -r _ words; do
   fi
 done < <(grep '^gthost' "$top/crates/cases_program/args")
 popd >/dev/null
+try 'two similar commands' 2 paly; has 'two similar commands' err "tip: some similar subcommands exist: 'policy', 'play'$"
 try 'a missing file of statements' 2 check --never="$work/missing" "$script"; has 'a missing file of statements' err ': no such file$'
 try 'a folder to check' 2 check "$work"; has 'a folder to check' err ': is a directory$'; lines 'a folder to check' 1
 try 'a folder as FILE' 1 play -v "$work"; has 'a folder as FILE' err 'Is a directory \(os error 21\)'; lines 'a folder as FILE' 2
@@ -175,10 +187,33 @@ try 'another command' 1 check some.gt; has 'another command' out '^tried gthost 
 mkdir below; cd below
 try 'a file above' 1 why - - copy ../some.gt; has 'a file above' out "^tried gthost why - - copy $work/other/below/../some.gt$"
 cd ..; STUB=reads
-try 'a pipe' 1 play <(cat some.gt); has 'a pipe' out '^tried gthost_play play$'; has 'a pipe' out '^do 1 revoke 0$'
+try 'a pipe' 1 play <(cat some.gt); has 'a pipe' out '^tried gthost_play play$'; has 'a pipe' out '^do 1 revoke 0$'; lines 'a pipe' 2
+try 'an empty input' 1 play; has 'an empty input' out '^tried gthost_play play$'; lines 'an empty input' 2
+if command -v script >/dev/null; then
+  typed 'a typed script' 1 play; lines 'a typed script' 3; has 'a typed script' out '^do 1 revoke 0$'
+  [ "$(sed -n '1s/^gthost: reading the script from standard input, .*/first/p; 2s/.*this run is compiled.*/then/p' "$work/err")" = $'first\nthen' ] ||
+    wrong 'a typed script: another order'
+  typed 'a script for run' 1 run -v; has 'a script for run' err '^gthost: reading the script from'; has 'a script for run' out '^do 1 revoke 0$'
+  typed 'a script to check' 1 check --script; has 'a script to check' err '^gthost: reading the script from'
+  typed 'a typed policy' 1 check -v; has 'a typed policy' err '^gthost: reading the policy from'
+  typed 'a typed dump' 1 entries --version 1; has 'a typed dump' err '^gthost: reading the dump from'
+  typed 'typed questions' 1 why some.gt; has 'typed questions' err '^gthost: reading the questions from'; has 'typed questions' out '^do 1 revoke 0$'
+  typed 'a file on a terminal' 1 play some.gt; lines 'a file on a terminal' 2
+  typed 'a question with a file' 1 why - - copy some.gt; lines 'a question with a file' 2
+  typed 'the terminal as a file' 1 play /dev/stdin; has 'the terminal as a file' out '^do 1 revoke 0$'
+fi
 STUB=slow_try
 try 'a run that takes long' 1 play some.gt; has 'a run that takes long' err '^gthost: compiling, 5 s$'; lines 'a run that takes long' 3
-STUB=good
+STUB=slow_end; tried=$((tried + 1))
+"$checkout/gthost" play some.gt >"$work/out" 2>&1 </dev/null || true
+: >"$work/err"; has 'a run that ends late' out '^gthost: compiling, 5 s$'
+[ "$(sed -n '/^tried /,$p' "$work/out")" = "$(printf '%s\n' 'tried gthost_play play some.gt' "with some.gt=$script" 'gthost: line 4: config')" ] ||
+  wrong 'a run that ends late: another order'
+STUB=good; tried=$((tried + 2)); status=0
+"$checkout/gthost" play some.gt >/dev/full 2>"$work/err" </dev/null || status=$?
+has 'a full device' err '^gthost: write$'; [ "$status" -eq 1 ] || wrong "a full device: status $status"
+status=0; "$checkout/gthost" check some.gt >&- 2>"$work/err" </dev/null || status=$?
+has 'a closed output' err '^gthost: write$'; [ "$status" -eq 2 ] || wrong "a closed output: status $status"
 try 'the tour' 0 tour; has 'the tour' out "^$(wc -l <"$top/crates/cases_program/args") command lines, all as recorded$"; lines 'the tour' 1
 STUB=other; try 'another tour' 1 tour; has 'another tour' err 'not all as recorded'
 STUB=good

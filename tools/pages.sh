@@ -52,7 +52,7 @@ scripts() {
   cat <<'END' | roff
 A script is a text of statements, one on a line; # begins a comment. First comes the policy: lines
 `triple SOURCE TARGET PERMISSION`, or a block from `policy` to `end` with types, attributes and allow statements.
-Then come the domains, each with its security context, its frames, the frames of its grant table and the table's
+Then come the domains, each with its label, its frames, the frames of its grant table and the table's
 version: `domain ID USER:ROLE:TYPE FRAMES TABLEFRAMES VERSION`. Then come the calls, `do ID CALL`, in their order.
 A script for run has lines `tell` and `await` too, by which domains wait for each other, and one for play `begin`,
 `tick` and `show`, which make the steps of a call one by one.

@@ -5,8 +5,9 @@
 # usage: awk [-v width=COLUMNS] -f tools/words.awk -- crates/cases_program/stdout WORD..
 #
 # Exit status 0: a command. Its name, `file` or `input`, the place of its FILE among the words, the FILE, and its options
-# follow, a line each, then `=PLACE` for each further FILE, and `+PLACE` for the file of --never or --has, or `+PLACE@N` if
-# its name comes after N letters of that word. 3: a text for the standard output. 4: a text for the standard error; the program's exit status is then 2.
+# follow, a line each, with `questions` if `why` reads these. Then come `=PLACE` for each further FILE, and `+PLACE` for the
+# file of --never or --has, or `+PLACE@N` if its name comes after N letters of that word. 3: a text for the standard
+# output. 4: a text for the standard error; the program's exit status is then 2.
 
 # Reads the text of each command line that is stored.
 function read_stored(file,    line, key) {
@@ -214,6 +215,7 @@ function walk_top(words, n,    i, word, marked, name, j, similar, count, order, 
     }
     if (marked && (word in is_command))
       refuse("unexpected argument '" word "' found\n\n  tip: subcommand '" word "' exists; to use it, remove the '--' before it", plain)
+    # The nearest comes last, as the parser has it.
     for (j = 1; j <= command_count; j++) {
       score = jaro(word, commands[j])
       if (score <= 0.7) continue
@@ -385,6 +387,7 @@ BEGIN {
   print place["FILE"]
   print given["FILE"]
   for (i = 1; i <= option_count; i++) if (options[i] in given) print options[i]
+  if (words[at] == "why" && !("PERMISSION" in given)) print "questions"
   for (i = 2; i <= 8; i++) if (("FILE " i) in given) print "=" place["FILE " i]
   if (words[at] == "check" && ("never" in given)) print "+" place["never"]
   if (words[at] == "explore" && ("has" in given)) print "+" place["has"]
