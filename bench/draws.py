@@ -3,8 +3,9 @@
 
 Draws COUNT texts (1,000) of this KIND by a seed (1):
 
-  orders    scripts whose domains make their calls in turn, with the numbers that a hostile guest would pass: each domain
-            has in `run`, where flags lead threads from call to call, the answers and the audit that it has in `play`
+  orders    scripts whose domains make their calls in turn, with the numbers that a hostile guest would pass: each
+            domain has in `run`, where flags lead threads from call to call, the answers and the audit that it has in
+            `play`
   races     short scripts whose domains make their calls in any order: what `run` prints is found by `explore --has`;
             `--find`, `--never` and `--always` decide as its texts do, which are judged here; a witness, played, gives
             its text

@@ -4,11 +4,12 @@ types through which its call and its answer pass.
 
 A function runs for the line if it is called more often than in the same script without the line. The program is built
 without optimization, by the kit's own compiler, in a copy of the repository, so that each function is there under its
-name; instances of a generic function count once, closures and drops not at all. Callgrind counts the calls. A change of type is a function of the way
-whose result has another type than the value that it takes: WALKS lists them, and each must run for the line and name
-its type.
+name; instances of a generic function count once, closures and drops not at all. Callgrind counts the calls. A change of
+type is a function of the way that returns another type than the value that it takes, or that puts it into a list or a
+value of another type (`&mut`). WALKS lists them, and each must run for the line and name its type.
 
 usage: tools/walks.py [PROGRAM]    PROGRAM: built so before (`rt run --backend rattle --opt-level 0 -- --help`)
+       tools/walks.py --names      without a build: only whether each function is there and names its type
 """
 import functools, glob, os, re, subprocess, sys, tempfile
 
@@ -34,7 +35,7 @@ WALKS = [
             ("BodyLine", "gt_script_lines::body::read_body_line"),
             ("ScriptLine", "gt_script_lines::lines::read_line"),
             ("ScriptAction", "gt_script::actions::play_action_in"),
-            ("Script", "gt_script::script::Script::with_step"),
+            ("Script", "gt_script::script::Script::add_step"),
             ("Request", "gt_script_runs::requests::request_of"),
             ("OpenRequest", "gt_calls::asking::judge_request"),
             ("CallStart", "gt_calls::call::Call::begin"),
@@ -56,9 +57,9 @@ WALKS = [
             ("BodyLine", "gt_script_lines::body::read_body_line"),
             ("ScriptLine", "gt_script_lines::lines::read_line"),
             ("RunActionBy", "gt_script::actions::run_action_in"),
-            ("Script", "gt_script::script::Script::with_order"),
+            ("Script", "gt_script::script::Script::add_order"),
             ("RunAction", "gt_script::tasks::deed_of"),
-            ("RunTask", "gt_script::tasks::task_of"),
+            ("RunTask", "gt_script::tasks::push_task"),
             ("Request", "gt_script_runs::requests::request_of"),
             ("Leg", "gt_calls::copying::end_leg"),
         ],
@@ -109,7 +110,8 @@ def sources():
 
 
 def file_of(function, modules):
-    """Returns the file of a function: that of its module, or the one in its crate that has it in an `impl` of its type."""
+    """Returns the file of a function: that of its module, or the one in its crate that has it in an `impl` of its
+    type."""
     *path, name = function.split("::")
     while path and "::".join(path) not in modules:
         path.pop()
@@ -128,11 +130,14 @@ def text_of(file):
         return it.read()
 
 
-def result_of(function, modules):
-    """Returns the result type of a function, as its source has it."""
-    name, text = function.rpartition("::")[2], text_of(file_of(function, modules))
-    head = re.search(rf"\bfn {name}\b.*?(?=\n\s*(?:ensures|requires|\{{))", text, re.S)
-    return head[0].rpartition("->")[2] if head and "->" in head[0] else ""
+def made_by(function, modules):
+    """Returns the types that a function returns, or that it puts a value into, as its source has them."""
+    *_, kind, name = function.split("::")
+    head = re.search(rf"\bfn {name}\b.*?(?=\n\s*(?:ensures|requires|\{{))", text_of(file_of(function, modules)), re.S)
+    if not head:
+        return ""
+    takes, _, result = head[0].rpartition("->")
+    return " ".join([result, *re.findall(r"&mut [^,)]+", takes)]).replace("&mut self", kind)
 
 
 def walk(program, line, command, head, modules):
@@ -146,17 +151,23 @@ def walk(program, line, command, head, modules):
 def main(words):
     modules = sources()
     wrong = 0
+    is_measured = words != ["--names"]
     with tempfile.TemporaryDirectory() as room:
-        program = words[0] if words else built(room)
+        program = (words[0] if words else built(room)) if is_measured else None
         for line, command, head, there, back in WALKS:
-            ran = walk(program, line, command, head, modules)
+            ran = walk(program, line, command, head, modules) if is_measured else None
             for kind, function in [*there, *back]:
-                if function not in ran or not re.search(rf"\b{kind}\b", result_of(function, modules)):
-                    print(f"walks: {function} does not run for `{line}`, or does not return {kind}", file=sys.stderr)
-                    wrong = 1
-            files = {file_of(it, modules) for it in ran}
-            crates = {it.partition("::")[0] for it in ran}
-            print(f"| `{line}`, `{command}` | {len(ran)} | {len(files)} | {len(crates)} | {len(there)} | {len(back)} |")
+                names_it = re.search(rf"\b{kind}\b", made_by(function, modules))
+                if names_it and (not is_measured or function in ran):
+                    continue
+                fault = f"does not run for `{line}`" if names_it else f"is not there, or does not name {kind}"
+                print(f"walks: {function} {fault}", file=sys.stderr)
+                wrong = 1
+            if is_measured:
+                files = {file_of(it, modules) for it in ran}
+                crates = {it.partition("::")[0] for it in ran}
+                counts = [len(it) for it in (ran, files, crates, there, back)]
+                print(f"| `{line}`, `{command}` | {' | '.join(map(str, counts))} |")
     return wrong
 
 

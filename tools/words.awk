@@ -4,10 +4,10 @@
 #
 # usage: awk [-v width=COLUMNS] -f tools/words.awk -- crates/cases_program/stdout WORD..
 #
-# Exit status 0: a command. Its name, `file` or `input`, the place of its FILE among the words, the FILE, and its options
-# follow, a line each, with `questions` if `why` reads these. Then come `=PLACE` for each further FILE, and `+PLACE` for the
-# file of --never or --has, or `+PLACE@N` if its name comes after N letters of that word. 3: a text for the standard
-# output. 4: a text for the standard error; the program's exit status is then 2.
+# Exit status 0: a command. Its name, `file` or `input`, the place of its FILE among the words, the FILE, and its
+# options follow, a line each, with `questions` if `why` reads these. Then come `=PLACE` for each further FILE, and
+# `+PLACE` for the file of --never or --has, or `+PLACE@N` if its name comes after N letters of that word. 3: a text for
+# the standard output. 4: a text for the standard error; the program's exit status is then 2.
 
 # Reads the text of each command line that is stored.
 function read_stored(file,    line, key) {
