@@ -133,19 +133,19 @@ module _ {P : Type 0} (may : P → AllowRelation) (m : Monitor P) where
       made : List Deed
       deeds_are : AreDeeds m.words m.config (may m.rights) first made
       now : domain_after first made ≡ p.domain
-      lines : AreDeedsOf may duty made p.outcomes
+      lines : AreDeedsOf may duty made p
       mine : BelongsTo may m p.domain
       held : List Handle
       keeps : Keeps p.domain.mappings held
       follows : IsFollowed → Follows (HasStarved final) Stopped m.config (may m.rights) duty.part.types.now duty.part.dom p.named held done made (answer_lines duty.part.types.now duty.part.dom p.outcomes)
 
     -- one more call of the list, which is this one of the run
-    call-comes : (task : RunTask) (call : ScriptCall) (done : List RunTask) (p q : ListProgress) (x : MakesCall may duty task.line call p q) (come : Come done p) (request : Request) (outcome : CallOutcome) (steps : List Moment)
+    call-comes : (task : RunTask) → IsAmong task duty.part.tasks.now → (call : ScriptCall) → task.deed ≡ Do call → (done : List RunTask) (p q : ListProgress) (x : MakesCall may duty task.line call p q) (come : Come done p) (request : Request) (outcome : CallOutcome) (steps : List Moment)
         → WasMade may m request outcome steps p.domain q.domain → IsDoneFor m (record { request = request; outcome = outcome; steps = steps; old = p.domain; new = q.domain }) x.request x.answer
         → (IsFollowed → Follows (HasStarved final) Stopped m.config (may m.rights) duty.part.types.now duty.part.dom (with_name p.named duty.part.dom (label_given call) (handle_given x.answer)) (held_after come.held (given_up x.request) x.answer) (done ++ task ∷ [])
         (Call (record { request = request; outcome = outcome; steps = steps; old = p.domain; new = q.domain }) ∷ come.made) (answer_lines duty.part.types.now duty.part.dom p.outcomes ++ answer_line duty.part.types.now task.line duty.part.dom x.answer))
         → Come (done ++ task ∷ []) q
-    call-comes task call done p q x come request outcome steps made for follows =
+    call-comes task is-in call deed done p q x come request outcome steps made for follows =
         let asks : Asks may m p.domain x.request x.answer q.domain = subst (λ (y : Monitor P). Asks may y p.domain x.request x.answer q.domain) over x.asks in
         let m' : CallMade = record { request = request; outcome = outcome; steps = steps; old = p.domain; new = q.domain } in
         let o : ListOutcome = record { line = task.line; answer = x.answer; told = x.told; lost = x.lost } in
@@ -158,7 +158,7 @@ module _ {P : Type 0} (may : P → AllowRelation) (m : Monitor P) where
           made = Call m' ∷ come.made;
           deeds_are = (made, subst (λ (y : Domain). IsAtRest y p.domain) (sym come.now) (record { seat = refl; own = refl; mappings = refl }), come.deeds_are);
           now = refl;
-          lines = (p.outcomes, o, x.outcomes, record { call = call; before = p; afterwards = q; made = x; old = refl; new = refl; answer = refl; done_for = subst (λ (y : Monitor P). IsDoneFor y m' x.request x.answer) (sym over) for }, come.lines);
+          lines = (p, record { task = task; listed = is-in; call = call; deed = deed; made = x; old = refl; new = refl; done_for = subst (λ (y : Monitor P). IsDoneFor y m' x.request x.answer) (sym over) for }, come.lines);
           mine = asks.2.0;
           held = later;
           keeps = answered-keeps may m p.domain q.domain come.held come.keeps x.request x.answer asks.1;
@@ -167,9 +167,9 @@ module _ {P : Type 0} (may : P → AllowRelation) (m : Monitor P) where
               (subst (λ (named : List Named). Follows (HasStarved final) Stopped m.config (may m.rights) types dom named later (done ++ task ∷ []) (Call m' ∷ come.made) (answer_lines types dom p.outcomes ++ answer_line types task.line dom x.answer)) (sym x.named) (follows followed));
         }
 
-    one-call : (task : RunTask) (call : ScriptCall) (done : List RunTask) (p q : ListProgress) → task.deed ≡ Do call
+    one-call : (task : RunTask) → IsAmong task duty.part.tasks.now → (call : ScriptCall) (done : List RunTask) (p q : ListProgress) → task.deed ≡ Do call
         → (x : MakesCall may duty task.line call p q) → (x.answer ≡ no_memory → HasStarved final) → Come done p → Come (done ++ task ∷ []) q
-    one-call task call done p q deed x starves come = by (is-made may m p.domain q.domain (record { before = come.mine; afterwards = asks.2.0; seat = asks.2.1 }) x.request x.answer (said-fits call p.named duty.part.dom x.request x.fits x.says) asks.1)
+    one-call task is-in call done p q deed x starves come = by (is-made may m p.domain q.domain (record { before = come.mine; afterwards = asks.2.0; seat = asks.2.1 }) x.request x.answer (said-fits call p.named duty.part.dom x.request x.fits x.says) asks.1)
       where
         asks : Asks may m p.domain x.request x.answer q.domain
         asks = subst (λ (y : Monitor P). Asks may y p.domain x.request x.answer q.domain) over x.asks
@@ -190,12 +190,12 @@ module _ {P : Type 0} (may : P → AllowRelation) (m : Monitor P) where
 
         by : IsMade may m x.request x.answer p.domain q.domain ⊎ IsLostAs may m x.request x.answer p.domain q.domain → Come (done ++ task ∷ []) q
         by (inl z) =
-            call-comes task call done p q x come x.request z.0 z.1 z.3 (inl (refl, z.2))
+            call-comes task is-in call deed done p q x come x.request z.0 z.1 z.3 (inl (refl, z.2))
             (λ followed. follows-more (HasStarved final) Stopped m.config (may m.rights) types dom m followed.1 p.named come.held done come.made (answer_lines types dom p.outcomes) task call (record { request = x.request; outcome = z.0; steps = z.1; old = p.domain; new = q.domain }) x.answer
             (come.follows followed) deed x.says z.2 z.4 starves)
         by (inr (args, copy, denial, refused, lost, (steps, made))) =
             let m' : CallMade = record { request = requests.Probe args; outcome = Told Granted; steps = steps; old = p.domain; new = q.domain } in
-            call-comes task call done p q x come (requests.Probe args) (Told Granted) steps made
+            call-comes task is-in call deed done p q x come (requests.Probe args) (Told Granted) steps made
             (inr (record { args = args; copy = copy; probe = refl; outcome = refl; denial = denial; refused = refused; lost = lost }))
             (λ followed.
             let none : x.answer ≡ no_memory = lost-memory m followed.1 x.answer denial refused lost in
@@ -217,7 +217,7 @@ module _ {P : Type 0} (may : P → AllowRelation) (m : Monitor P) where
           made = OnFlag x ∷ come.made;
           deeds_are = (made.0, subst (λ (y : Domain). IsAtRest y p.domain) (sym come.now) (record { seat = refl; own = refl; mappings = refl }), come.deeds_are);
           now = refl;
-          lines = ((task, is-in, asks), subst (AreDeedsOf may duty come.made) outcomes come.lines);
+          lines = ((task, is-in, asks), (p, same, come.lines));
           mine = made.1.0;
           held = come.held;
           keeps = subst (λ (y : HandleMap HeldPin). Keeps y come.held) (sym made.0.kept.mappings) come.keeps;
@@ -253,7 +253,7 @@ module _ {P : Type 0} (may : P → AllowRelation) (m : Monitor P) where
     one-deed task is-in own (Do call) is done p q does all come =
         let o : ListOutcome = record { line = task.line; answer = does.answer; told = does.told; lost = does.lost } in
         let there = all o (subst (IsAmong o) (sym does.outcomes) (in-last o p.outcomes)) in
-        one-call task call done p q is does (λ none. (o, there, none)) come
+        one-call task is-in call done p q is does (λ none. (o, there, none)) come
     one-deed task is-in own (Tell flag) is done p q does all come = raising task is-in flag is done p q does.0 does.1 come
     one-deed task is-in own (Await flag) is done p q does all come =
         one-flag task is-in flag Passed (subst (λ (a : RunAction). IsFlagStepOf a flag Passed) (sym is) refl) done p q does.0 does.1 (λ types dom named held Next more text f. subst (λ (a : RunAction). DeedHappens types dom named held task.line a Next (passed dom flag ∷ more) text) (sym is) (more, refl, f)) come
@@ -333,15 +333,12 @@ module _ {P : Type 0} (may : P → AllowRelation) (m : Monitor P) where
           made = [];
           deeds_are = tt;
           now = refl;
-          lines = refl;
+          lines = (refl, refl);
           mine = fresh.domain;
           held = [];
           keeps = keeps-new l.served.domain.mappings fresh.mappings;
           follows = λ followed. follows-none (HasStarved s.outcomes) (IsStopped s) m.config (may m.rights) s.duty.part.types.now s.duty.part.dom;
         })
-
-    lines : AreDeedsOf may s.duty come.made s.outcomes
-    lines = subst (AreDeedsOf may s.duty come.made) l.served.came come.lines
 
     -- the calls and the releases behind them follow the list
     followed : (us : List Deed) → AreDeeds m.words m.config (may m.rights) l.served.left.domain us → AreReleases us → ((h : Handle) → value_of (domain_after l.served.left.domain us).mappings h ≡ None) → DidFollow s (us ++ come.made)
@@ -395,7 +392,7 @@ module _ {P : Type 0} (may : P → AllowRelation) (m : Monitor P) where
       made = come.made;
       deeds_are = come.deeds_are;
       view = ap (λ (d : Domain). d.seat.view) come.now ∙ sym e;
-      of_list = record { leaving = []; listed = come.made; all = refl; releases = tt; lines = lines };
+      of_list = record { leaving = []; listed = come.made; all = refl; releases = tt; left = l.served.left; lines = come.lines; outcomes = l.served.came };
       follows = λ gone. absurd gone;
     }
     finished v (inr g) = let u = leaving m.words m.config (may m.rights) l.served.left.domain g.0 come.mine g.1 in record {
@@ -404,7 +401,7 @@ module _ {P : Type 0} (may : P → AllowRelation) (m : Monitor P) where
       made = u.0 ++ come.made;
       deeds_are = deeds-on l.served.domain l.served.left.domain come.made come.now u.0 come.deeds_are u.1;
       view = ap (λ (d : Domain). d.seat.view) (after-on l.served.domain l.served.left.domain come.made come.now u.0) ∙ (u.3 ∙ sym g.2);
-      of_list = record { leaving = u.0; listed = come.made; all = refl; releases = u.2; lines = lines };
+      of_list = record { leaving = u.0; listed = come.made; all = refl; releases = u.2; left = l.served.left; lines = come.lines; outcomes = l.served.came };
       follows = λ gone. followed u.0 u.1 u.2 u.4;
     }
 

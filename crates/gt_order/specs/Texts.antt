@@ -6,7 +6,7 @@ use Rattle.gt_order.specs.Prelude.{IsWithinLimits, N26, NoFacts, denial_of}
 use Rattle.gt_order.specs.RunNames.{IsAmong}
 use Rattle.gt_order.specs.RunNames.{View, answer_of, Answer, AllowRelation, HasLeft}
 use Rattle.gt_order.specs.RunNames.{Domain, Departed, Monitor, AreReleases, IsLegalOrder, CallMade}
-use Rattle.gt_order.specs.RunNames.{Await, Call, Deed, FlagMade, FlagStep, OnFlag, Passed, Raised, RunAction}
+use Rattle.gt_order.specs.RunNames.{Await, Call, Deed, Do, FlagMade, FlagStep, OnFlag, Passed, Raised, RunAction}
 use Rattle.gt_order.specs.RunNames.{RunOrder, Tell}
 use Rattle.gt_order.specs.RunNames.{CallOutcome, SeatRun, Told, Kept, Starved, Read, Wrote, ScriptCall}
 use Rattle.gt_order.specs.RunNames.{RunTask, ThreadJob, Served, WasServed, WritesAll, MakesCall}
@@ -52,19 +52,18 @@ abbrev pub IsDoneFor : {P : Type 0} → Monitor P → CallMade → Request → A
 IsDoneFor monitor m request answer =
     ((m.request ≡ request) × OutcomeGivesAnswer monitor m.outcome answer) ⊎ IsLostCopy monitor m request answer
 
--- the call m of a run was made for a call of the script, with this outcome: the domain was asked what the script's call
--- encodes, with the handles of some labels, and the answer is the one that the line prints; `MayPrint` has that call and
--- labels are those of the line
-pub record IsCallOf {P : Type 0} (may : P → AllowRelation) (duty : ThreadJob P) (m : CallMade) (o : ListOutcome)
+-- the call m of a run is that of a line of the job's list, and leads from p to q: the domain was asked what the line
+-- encodes, with the handles that its labels named then, and the answer is the one that the line prints
+pub record IsCallOf {P : Type 0} (may : P → AllowRelation) (duty : ThreadJob P) (m : CallMade) (p q : ListProgress)
     : Type 0 where
+  pub task : RunTask
+  pub listed : IsAmong task duty.part.tasks.now
   pub call : ScriptCall
-  pub before : ListProgress
-  pub afterwards : ListProgress
-  pub made : MakesCall may duty o.line call before afterwards
-  pub old : m.old ≡ before.domain
-  pub new : m.new ≡ afterwards.domain
-  pub answer : o.answer ≡ made.answer
-  pub done_for : IsDoneFor duty.monitor.now m made.request o.answer
+  pub deed : task.deed ≡ Do call
+  pub made : MakesCall may duty task.line call p q
+  pub old : m.old ≡ p.domain
+  pub new : m.new ≡ q.domain
+  pub done_for : IsDoneFor duty.monitor.now m made.request made.answer
 
 -- the action raises the flag, or awaits it, by this step
 abbrev pub IsFlagStepOf : RunAction → ℕ → FlagStep → Type 0
@@ -76,14 +75,13 @@ IsFlagStepOf action flag m = ⊥
 abbrev pub IsOfFlagLine : {P : Type 0} → ThreadJob P → FlagMade → Type 0
 IsOfFlagLine duty x = (task : RunTask) × IsAmong task duty.part.tasks.now × IsFlagStepOf task.deed x.flag x.step
 
--- these deeds, the last one first, are a call for each of these outcomes, in order, and steps on flags of the lines of the
--- job's list
-abbrev pub AreDeedsOf : {P : Type 0} → (P → AllowRelation) → ThreadJob P → List Deed → List ListOutcome → Type 0
-AreDeedsOf may duty [] outcomes = outcomes ≡ []
-AreDeedsOf may duty (Call m ∷ ms) outcomes =
-    (before : List ListOutcome) × (o : ListOutcome) × (outcomes ≡ before ++ o ∷ []) × IsCallOf may duty m o
-    × AreDeedsOf may duty ms before
-AreDeedsOf may duty (OnFlag x ∷ ms) outcomes = IsOfFlagLine duty x × AreDeedsOf may duty ms outcomes
+-- these deeds, the last one first, are those of lines of the job's list, and lead to q: calls with their outcomes, and
+-- steps on flags
+abbrev pub AreDeedsOf : {P : Type 0} → (P → AllowRelation) → ThreadJob P → List Deed → ListProgress → Type 0
+AreDeedsOf may duty [] q = (q.named ≡ []) × (q.outcomes ≡ [])
+AreDeedsOf may duty (Call m ∷ ms) q = (p : ListProgress) × IsCallOf may duty m p q × AreDeedsOf may duty ms p
+AreDeedsOf may duty (OnFlag x ∷ ms) q =
+    IsOfFlagLine duty x × ((p : ListProgress) × (q ≡ record p { domain = q.domain }) × AreDeedsOf may duty ms p)
 
 -- the list of the domain at the position i was served
 pub record HasList {P : Type 0} (may : P → AllowRelation) (m : Monitor P) (i : ℕ) (s : Served P) : Type 0 where
@@ -102,7 +100,9 @@ pub record AreDeedsOfList {P : Type 0} (may : P → AllowRelation) (s : Served P
   pub listed : List Deed
   pub all : made ≡ leaving ++ listed
   pub releases : AreReleases leaving
-  pub lines : AreDeedsOf may s.duty listed s.outcomes
+  pub left : ListProgress
+  pub lines : AreDeedsOf may s.duty listed left
+  pub outcomes : left.outcomes ≡ s.outcomes
 
 -- the text of the lists is that of a legal order: one order is legal for the run, has the steps of the history in their
 -- order, and has for each domain the deeds of its list, with the answers that its lines print
