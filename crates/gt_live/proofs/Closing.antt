@@ -1,7 +1,7 @@
 -- A domain that closes its table.
 use Rattle.std.proofs.Common.{◌≡◌, ℕ, ◌+◌, ◌<◌, ◌∙◌, Bool, true, false, refl, sym, ap, subst, List, [], ◌∷◌, ◌++◌}
 use Rattle.std.proofs.Common.{length, get_or, Option, None, inl, inr, ◌⊎◌, arith, cond, add-zero, zero-add}
-use Rattle.std.proofs.Common.{zero, suc, add-one}
+use Rattle.std.proofs.Common.{suc, add-one}
 use Rattle.std.proofs.lemmas.List.Sums.{sum_by-append}
 use lib.ListN.{get_or-append}
 use Rattle.std.specs.List.{count_by}

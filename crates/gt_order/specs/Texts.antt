@@ -10,7 +10,7 @@ use Rattle.gt_order.specs.RunNames.{Await, Call, Deed, Do, FlagMade, FlagStep, O
 use Rattle.gt_order.specs.RunNames.{RunOrder, Tell}
 use Rattle.gt_order.specs.RunNames.{CallOutcome, SeatRun, Told, Kept, Starved, Read, Wrote, ScriptCall}
 use Rattle.gt_order.specs.RunNames.{RunTask, ThreadJob, Served, WasServed, WritesAll, MakesCall}
-use Rattle.gt_order.specs.RunNames.{ListOutcome, ListProgress}
+use Rattle.gt_order.specs.RunNames.{ListProgress}
 use Rattle.gt_core.specs.declared.trace.Answer.TheVariants as answers
 use Rattle.gt_shared_table.specs.Words.{frames_kept}
 use Rattle.gt_types.specs.declared.denial.Rule.TheVariants.{N16}

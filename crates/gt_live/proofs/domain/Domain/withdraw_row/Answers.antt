@@ -1,5 +1,5 @@
 use Rattle.std.proofs.Common.{◌≡◌, ◌<◌, ◌∙◌, ap, arith, refl, subst, sym, length, List}
-use Rattle.std.specs.Prelude.{Result, OnErr, OnOk}
+use Rattle.std.specs.Prelude.{Result, OnOk}
 use Rattle.gt_types.specs.declared.denial.Denial.{Denial}
 use Rattle.gt_entry.specs.Changes.{changed_entry}
 use Rattle.gt_entry.specs.declared.change.EntryChange.TheVariants.{Withdraw}
