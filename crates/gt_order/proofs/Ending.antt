@@ -59,7 +59,7 @@ use Rattle.gt_core.specs.declared.trace.Answer.{Answer}
 use Rattle.gt_core.specs.declared.trace.Answer.TheVariants.{Mapped}
 use Rattle.gt_core.specs.declared.trace.ItemEvent.TheVariants.{Stepped}
 use Rattle.gt_core.specs.declared.trace.Item.{Item}
-use Rattle.gt_live.specs.Domains.{AllowRelation, IsDomainOf, knowledge}
+use Rattle.gt_live.specs.Domains.{AllowRelation, IsDomainOf, IsUnsettled, knowledge}
 use Rattle.gt_live.specs.Flags.{FlagStepped}
 use Rattle.gt_live.specs.Ending.{IsMap}
 use Rattle.gt_live.specs.Mappings.{AddsMapping as KeepsOneMore, KeepsMappings}
@@ -78,8 +78,8 @@ use Rattle.gt_order.specs.Agreeing.{Agree, dom_at}
 use Rattle.gt_order.specs.Ordering.{RunOrder, item_of, item_of_beginning, items_by_outcome, items_of_call, items_of_steps}
 use Rattle.gt_order.specs.Ordering.{of_core, order_of_deeds, step_in, way_of}
 use Rattle.gt_order.specs.Ordering.Occurrence.{OfCore}
-use Rattle.gt_order.specs.Runs.{CallMade, Deed, FlagMade, IsAtRest, IsCall, LeavesMappings, domain_after}
-use Rattle.gt_order.specs.Runs.Deed.{Call, OnFlag}
+use Rattle.gt_order.specs.Runs.{CallMade, Deed, FlagMade, IsAtRest, IsCall, IsLook, LeavesMappings, LookMade, domain_after}
+use Rattle.gt_order.specs.Runs.Deed.{Call, Look, OnFlag}
 
 -- what answers a call at its beginning
 
@@ -350,16 +350,24 @@ module _ (b : Board) (c : Config) (may : AllowRelation) (limits : IsWithinLimits
         call = closed g item (answer_of verdict) refl refl;
       }
 
-  -- a step on a flag leaves all that the domain knows, and is no item
+  -- a step of its seat that leaves all that the domain knows, and is no item
+  after-quiet : (g : Items) (ms : List Deed) (D E : Domain) → IsUnsettled D E → own_header E.seat.view ≡ own_header D.seat.view → IsAtRest (domain_after first ms) D → SeatNow c may g d first (Resting ms)
+      → MappingsAgree E.mappings (mappings_at g d.0) (maps_answered_at g d.0) × (known_at s g d ≡ knowledge c may E)
+  after-quiet g ms D E kept header rest seat =
+      let maps : E.mappings ≡ (domain_after first ms).mappings = kept.mappings ∙ rest.mappings in
+      let knows : knowledge c may E ≡ knowledge c may D =
+      λ j. knowledge_of c.domains.items c.first_gen may (kept.own j).items (header_of (header j)) (kept.mappings j) in (
+        subst (λ (z : HandleMap HeldPin). MappingsAgree z (mappings_at g d.0) (maps_answered_at g d.0)) (sym maps) seat.maps,
+        seat.known ∙ sym (knows ∙ known-alike (domain_after first ms) D rest),
+      )
+
+  -- on a flag
   pub after-flag : (g : Items) (ms : List Deed) (x : FlagMade) → FlagStepped k x.flag x.step x.old x.new → IsAtRest (domain_after first ms) x.old → SeatNow c may g d first (Resting ms) → SeatNow c may g d first (Resting (OnFlag x ∷ ms))
-  after-flag g ms x stepped rest seat =
-      let maps : x.new.mappings ≡ (domain_after first ms).mappings = stepped.kept.mappings ∙ rest.mappings in
-      let knows : knowledge c may x.new ≡ knowledge c may x.old =
-      λ j. knowledge_of c.domains.items c.first_gen may (stepped.kept.own j).items (header_of (stepped.step.keeps.header j)) (stepped.kept.mappings j) in record {
-        maps = subst (λ (z : HandleMap HeldPin). MappingsAgree z (mappings_at g d.0) (maps_answered_at g d.0)) (sym maps) seat.maps;
-        known = seat.known ∙ sym (knows ∙ known-alike (domain_after first ms) x.old rest);
-        call = seat.call;
-      }
+  after-flag g ms x stepped rest seat = let y = after-quiet g ms x.old x.new stepped.kept stepped.step.keeps.header rest seat in record { maps = y.0; known = y.1; call = seat.call }
+
+  -- a look
+  pub after-look : (g : Items) (ms : List Deed) (x : LookMade) → IsLook k x → IsAtRest (domain_after first ms) x.old → SeatNow c may g d first (Resting ms) → SeatNow c may g d first (Resting (Look x ∷ ms))
+  after-look g ms x look rest seat = let y = after-quiet g ms x.old x.new look.kept look.found.0.keeps.header rest seat in record { maps = y.0; known = y.1; call = seat.call }
 
   -- an access
 

@@ -1,9 +1,10 @@
--- A step on a flag leaves words, bytes and records, and a flag that the history raised is raised in the order.
-use Rattle.std.proofs.Common.{ℕ, [], ◌∷◌, inl, inr, refl, sym, ap, ◌∙◌, subst}
+-- A step on a flag and a look leave words, bytes and records, and a flag that the history raised is raised in the order.
+use Rattle.std.proofs.Common.{◌≡◌, ℕ, [], ◌∷◌, inl, inr, refl, sym, ap, ◌∙◌, subst}
 use Rattle.gt_word_history.specs.Flags.{IsRaised, Raises}
-use Rattle.gt_word_history.specs.History.{Layout, StepHistory, half_index}
+use Rattle.gt_word_history.specs.History.{Layout, StepHistory, half_index, left_by}
 use Rattle.gt_word_history.specs.Rule.{header_place, place}
 use Rattle.gt_word_history.specs.declared.view.EntryRecord.{EntryRecord}
+use Rattle.gt_word_history.specs.declared.view.EntryStep.TheVariants.{Looked}
 use Rattle.gt_word_history.specs.declared.view.FlagStep.{FlagStep}
 use Rattle.gt_word_history.specs.declared.view.FlagStep.TheVariants.{Passed, Raised}
 use Rattle.gt_word_history.specs.declared.view.SeatStep.{SeatStep}
@@ -15,19 +16,25 @@ use Rattle.gt_calls.specs.declared.action.Step.TheVariants.{Write as WriteBytes}
 use Rattle.gt_core.specs.History.{History as Items, Setting}
 use Rattle.gt_core.specs.declared.trace.ItemEvent.{ItemEvent}
 use Rattle.gt_core.specs.declared.trace.ItemEvent.TheVariants.{Began, Stepped}
-use Rattle.gt_order.proofs.Places.{record-kept, word-kept}
+use Rattle.gt_order.proofs.Places.{ChangesNothing, record-kept, word-kept}
 use Rattle.gt_order.specs.Agreeing.{Agree, IsThe}
 use Rattle.gt_order.specs.Ordering.{AreStepsOf, IsRaisedIn, RunOrder, ThenSteps}
-use Rattle.gt_order.specs.Ordering.Occurrence.{OfCore, OfFlag}
+use Rattle.gt_order.specs.Ordering.Occurrence.{OfCore, OfFlag, OfLook}
+
+agree-kept : (s : Setting) (k : Layout) (g : Items) (h : StepHistory) (i : ℕ) (x : SeatStep) → ((n : ℕ) → left_by x n ≡ n) → ChangesNothing x → Agree s k g h → Agree s k g ((i, x) ∷ h)
+agree-kept s k g h i x leaves same agree = record {
+  words = λ t r l lt. agree.words t r l lt ∙ sym (word-kept k i x h (place t r 0) leaves);
+  bodies = λ t r half l lt. agree.bodies t r half l lt ∙ sym (word-kept k i x h (place t r (half_index half)) leaves);
+  headers = λ t l. agree.headers t l ∙ sym (word-kept k i x h (header_place t) leaves);
+  entries = λ t r l lt. agree.entries t r l lt ∙ ap (λ (z : EntryRecord). z.entry) (sym (record-kept k i x h t r same));
+  generations = λ t r l lt. agree.generations t r l lt ∙ ap (λ (z : EntryRecord). z.generation) (sym (record-kept k i x h t r same));
+}
 
 pub agree-on-flag : (s : Setting) (k : Layout) (g : Items) (h : StepHistory) (i flag : ℕ) (m : FlagStep) → Agree s k g h → Agree s k g ((i, Flag flag m) ∷ h)
-agree-on-flag s k g h i flag m agree = let x : SeatStep = Flag flag m in record {
-  words = λ t r l lt. agree.words t r l lt ∙ sym (word-kept k i x h (place t r 0) (λ n. refl));
-  bodies = λ t r half l lt. agree.bodies t r half l lt ∙ sym (word-kept k i x h (place t r (half_index half)) (λ n. refl));
-  headers = λ t l. agree.headers t l ∙ sym (word-kept k i x h (header_place t) (λ n. refl));
-  entries = λ t r l lt. agree.entries t r l lt ∙ ap (λ (z : EntryRecord). z.entry) (sym (record-kept k i x h t r tt));
-  generations = λ t r l lt. agree.generations t r l lt ∙ ap (λ (z : EntryRecord). z.generation) (sym (record-kept k i x h t r tt));
-}
+agree-on-flag s k g h i flag m agree = agree-kept s k g h i (Flag flag m) (λ n. refl) tt agree
+
+pub agree-on-look : (s : Setting) (k : Layout) (g : Items) (h : StepHistory) (i t r n : ℕ) → Agree s k g h → Agree s k g ((i, Entry t r (Looked n)) ∷ h)
+agree-on-look s k g h i t r n agree = agree-kept s k g h i (Entry t r (Looked n)) (λ m. refl) tt agree
 
 -- a step of a call is none on a flag
 not-flag : (k : Layout) (i : ℕ) (step : Step) (flag : ℕ) (m : FlagStep) → IsThe k i step (Flag flag m) → ⊥
@@ -64,3 +71,6 @@ raised-in k (OfFlag d f Raised ∷ o) (p ∷ h) flag steps (inl here) = inl (sub
 raised-in k (OfFlag d f Raised ∷ o) (p ∷ h) flag steps (inr before) = inr (raised-in k o h flag steps.2 before)
 raised-in k (OfFlag d f Passed ∷ o) (p ∷ h) flag steps (inl here) = absurd (subst (Raises flag) steps.1 here)
 raised-in k (OfFlag d f Passed ∷ o) (p ∷ h) flag steps (inr before) = raised-in k o h flag steps.2 before
+raised-in k (OfLook d gref word ∷ o) [] flag steps raised = absurd steps
+raised-in k (OfLook d gref word ∷ o) (p ∷ h) flag steps (inl here) = absurd (raises-none k p.0 (LookControl d gref) p.1 flag steps.1 here)
+raised-in k (OfLook d gref word ∷ o) (p ∷ h) flag steps (inr before) = raised-in k o h flag steps.3 before

@@ -27,7 +27,7 @@ use Rattle.gt_live.specs.Mappings.{KeepsMappings}
 use Rattle.gt_live.specs.declared.domain.Domain.{Domain}
 use Rattle.gt_live.specs.declared.monitor.Monitor.{Monitor}
 use Rattle.gt_run.specs.Asking.{AnswersCall, HasBytes, IsReadAnswer, frames_answer, plain_answer, size_answer, version_answer}
-use Rattle.gt_order.proofs.Happenings.{call-happens, happening_of, happenings, happenings-both}
+use Rattle.gt_order.proofs.Happenings.{call-happens, happenings, happenings-both, on_flag}
 use Rattle.gt_order.proofs.Held.{Keeps, keeps-less, keeps-more, keeps-same}
 use Rattle.gt_order.proofs.Answering.{IsStarvedOnly}
 use Rattle.gt_order.proofs.Served.{Serves}
@@ -39,9 +39,9 @@ use Rattle.gt_types.specs.declared.denial.Facts.TheVariants.{None as NoFacts}
 use Rattle.gt_types.specs.declared.denial.Rule.TheVariants.{N26}
 use Rattle.gt_order.specs.Leaving.{AreReleases}
 use Rattle.gt_order.specs.Ordering.{RunOrder, items_by_outcome, items_of_call, of_core, order_of_deeds, way_of}
-use Rattle.gt_order.specs.Ordering.Occurrence.{OfFlag}
+use Rattle.gt_order.specs.Ordering.Occurrence.{OfFlag, OfLook}
 use Rattle.gt_order.specs.Runs.{AreDeeds, CallMade, CallOutcome, Deed, FlagMade, IsAnswered, domain_after}
-use Rattle.gt_order.specs.Runs.Deed.{Call, OnFlag}
+use Rattle.gt_order.specs.Runs.Deed.{Call, Look, OnFlag}
 use Rattle.gt_order.specs.Runs.CallOutcome.{Told, Kept, Starved, Read, Wrote}
 
 -- the handles after an answer
@@ -254,10 +254,10 @@ module _ (Lost Stopped : Type 0) (c : Config) (may : AllowRelation) (types : Lis
 
   -- a line that raises or awaits a flag
   pub follows-flag : (named : List Named) (held : List Handle) (done : List RunTask) (made : List Deed) (printed : List ℕ) (task : RunTask) (x : FlagMade) → Follows named held done made printed
-      → ((Next : List Named → List Handle → List Happening → List ℕ → Type 0) (more : List Happening) (text : List ℕ) → Next named held more text → DeedHappens types dom named held task.line task.deed Next (happening_of (OfFlag dom x.flag x.step) ∷ more) text)
+      → ((Next : List Named → List Handle → List Happening → List ℕ → Type 0) (more : List Happening) (text : List ℕ) → Next named held more text → DeedHappens types dom named held task.line task.deed Next (on_flag dom x.flag x.step ∷ more) text)
       → Follows named held (done ++ task ∷ []) (OnFlag x ∷ made) printed
   follows-flag named held done made printed task x before happens rest more text f =
-      let mine = happening_of (OfFlag dom x.flag x.step) in
+      let mine = on_flag dom x.flag x.step in
       subst (λ (ts : List RunTask). Serves Lost Stopped types dom [] [] ts ((happenings (order_of_deeds c may dom made) ++ mine ∷ []) ++ more) (printed ++ text)) (sym (append_assoc done (task ∷ []) rest))
       (subst (λ (hs : List Happening). Serves Lost Stopped types dom [] [] (done ++ task ∷ rest) hs (printed ++ text)) (sym (append_assoc (happenings (order_of_deeds c may dom made)) (mine ∷ []) more))
       (before (task ∷ rest) (mine ∷ more) text (inl (happens (λ names holds hs left. Serves Lost Stopped types dom names holds rest hs left) more text f))))
@@ -273,6 +273,7 @@ module _ (c : Config) (may : AllowRelation) (types : List (List ℕ)) (dom : Dom
   pub gives-back : (b : Board) (d : Domain) (us : List Deed) (held : List Handle) → AreDeeds b c may d us → AreReleases us → Keeps d.mappings held → GivesBack held us (domain_after d us)
   gives-back b d [] held calls releases k = record { order = []; held' = held; keeps = k; back = λ last more g. g }
   gives-back b d (OnFlag x ∷ us) held calls releases k = absurd releases
+  gives-back b d (Look x ∷ us) held calls releases k = absurd releases
   gives-back b d (Call u ∷ us) held calls releases k =
       let was = gives-back b d us held calls.2 releases.1 k in
       let old : Keeps u.old.mappings was.held' = subst (λ (x : HandleMap HeldPin). Keeps x was.held') (sym calls.1.mappings) was.keeps in
@@ -305,3 +306,4 @@ module _ (c : Config) (may : AllowRelation) (types : List (List ℕ)) (dom : Dom
       let mine = of_core (items_by_outcome dom (way_of c may u) u.request u.outcome u.steps) in
       ap (λ l. mine ++ l) (deeds-both us ms) ∙ sym (append_assoc mine (order_of_deeds c may dom us) (order_of_deeds c may dom ms))
   deeds-both (OnFlag x ∷ us) ms = ap (λ l. OfFlag dom x.flag x.step ∷ l) (deeds-both us ms)
+  deeds-both (Look x ∷ us) ms = ap (λ l. OfLook dom x.gref x.word ∷ l) (deeds-both us ms)

@@ -24,21 +24,27 @@ use Rattle.gt_explore_replay.specs.Orders.{CallHappens, FlagsAreRaised, Happenin
 use Rattle.gt_explore_replay.specs.Orders.{own_happenings, passed, raised, ticks_of, trace_in}
 use Rattle.gt_live.specs.Domains.{AllowRelation}
 use Rattle.gt_word_history.specs.History.{Moment}
+use Rattle.gt_word_history.specs.declared.view.FlagStep.{FlagStep}
 use Rattle.gt_word_history.specs.declared.view.FlagStep.TheVariants.{Passed, Raised}
-use Rattle.gt_order.specs.Ordering.{AreOnRaisedFlags, IsRaisedIn, Occurrence, RunOrder, actor_in, event_in, events_of}
+use Rattle.gt_order.specs.Ordering.{AreOnRaisedFlags, IsRaisedIn, RunOrder, event_in, events_of}
 use Rattle.gt_order.specs.Ordering.{item_of, item_of_beginning, items_in, items_of_call, items_of_steps, of_core, own_in}
 use Rattle.gt_order.specs.Ordering.{trace_of}
-use Rattle.gt_order.specs.Ordering.Occurrence.{OfCore, OfFlag}
+use Rattle.gt_order.specs.Ordering.Occurrence.{OfCore, OfFlag, OfLook}
 
-abbrev pub happening_of : Occurrence → Happening
-happening_of (OfCore i) = did (event_in i.actor i.happened) (Did i)
-happening_of (OfFlag d flag Raised) = raised d flag
-happening_of (OfFlag d flag Passed) = passed d flag
+-- an item, as an event and an element of the trace
+abbrev pub did_item : Item → Happening
+did_item i = did (event_in i.actor i.happened) (Did i)
 
--- what happened in this order, the first first
+abbrev pub on_flag : DomId → ℕ → FlagStep → Happening
+on_flag d flag Raised = raised d flag
+on_flag d flag Passed = passed d flag
+
+-- what happened in this order, the first first; no order of a script has a look that belongs to no call
 abbrev pub happenings : RunOrder → List Happening
 happenings [] = []
-happenings (x ∷ o) = happenings o ++ happening_of x ∷ []
+happenings (OfCore i ∷ o) = happenings o ++ did_item i ∷ []
+happenings (OfFlag d flag m ∷ o) = happenings o ++ on_flag d flag m ∷ []
+happenings (OfLook d gref word ∷ o) = happenings o
 
 events-both : (xs ys : List Happening) → events_in (xs ++ ys) ≡ events_in xs ++ events_in ys
 events-both [] ys = refl
@@ -57,12 +63,14 @@ events-are [] = refl
 events-are (OfCore i ∷ o) = events-both (happenings o) (did (event_in i.actor i.happened) (Did i) ∷ []) ∙ ap (λ l. l ++ event_in i.actor i.happened ∷ []) (events-are o)
 events-are (OfFlag d flag Raised ∷ o) = events-both (happenings o) (raised d flag ∷ []) ∙ (append-nil (events_in (happenings o)) ∙ events-are o)
 events-are (OfFlag d flag Passed ∷ o) = events-both (happenings o) (passed d flag ∷ []) ∙ (append-nil (events_in (happenings o)) ∙ events-are o)
+events-are (OfLook d gref word ∷ o) = events-are o
 
 pub trace-is : (o : RunOrder) → trace_in (happenings o) ≡ trace_of (items_in o)
 trace-is [] = refl
 trace-is (OfCore i ∷ o) = trace-both (happenings o) (did (event_in i.actor i.happened) (Did i) ∷ []) ∙ ap (λ l. l ++ Did i ∷ []) (trace-is o)
 trace-is (OfFlag d flag Raised ∷ o) = trace-both (happenings o) (raised d flag ∷ []) ∙ (append-nil (trace_in (happenings o)) ∙ trace-is o)
 trace-is (OfFlag d flag Passed ∷ o) = trace-both (happenings o) (passed d flag ∷ []) ∙ (append-nil (trace_in (happenings o)) ∙ trace-is o)
+trace-is (OfLook d gref word ∷ o) = trace-is o
 
 -- those of one domain
 
@@ -74,29 +82,39 @@ own-both : (d : DomId) (xs ys : List Happening) → own_happenings d (xs ++ ys) 
 own-both d [] ys = refl
 own-both d (x ∷ xs) ys = both-if ((doer x).0 == d.0) x (own_happenings d xs) (own_happenings d ys) (own_happenings d (xs ++ ys)) (own-both d xs ys)
 
-doer-is : (x : Occurrence) → doer (happening_of x) ≡ actor_in x
-doer-is (OfCore i) = by i.happened
+item-doer : (i : Item) → doer (did_item i) ≡ i.actor
+item-doer i = by i.happened
   where
     by : (e : ItemEvent) → actor_of (event_in i.actor e) ≡ i.actor
     by (Began request) = refl
     by (Stepped step seen) = refl
-doer-is (OfFlag d flag Raised) = refl
-doer-is (OfFlag d flag Passed) = refl
+
+flag-doer : (d : DomId) (flag : ℕ) (m : FlagStep) → doer (on_flag d flag m) ≡ d
+flag-doer d flag Raised = refl
+flag-doer d flag Passed = refl
+
+own-last : (d a : DomId) (hs : List Happening) (y : Happening) (own longer : RunOrder) → doer y ≡ a → happenings longer ≡ happenings own ++ y ∷ [] → own_happenings d hs ≡ happenings own → own_happenings d (hs ++ y ∷ []) ≡ happenings (cond (a.0 == d.0) longer own)
+own-last d a hs y own longer does more rest = own-both d hs (y ∷ []) ∙ (ap (λ (z : DomId). own_happenings d hs ++ cond (z.0 == d.0) (y ∷ []) []) does ∙ by (a.0 == d.0))
+  where
+    by : (b : Bool) → own_happenings d hs ++ cond b (y ∷ []) [] ≡ happenings (cond b longer own)
+    by true = ap (λ l. l ++ y ∷ []) rest ∙ sym more
+    by false = append-nil (own_happenings d hs) ∙ rest
 
 pub own-are : (d : DomId) (o : RunOrder) → own_happenings d (happenings o) ≡ happenings (own_in d o)
 own-are d [] = refl
-own-are d (x ∷ o) =
-    own-both d (happenings o) (happening_of x ∷ []) ∙ (ap (λ (a : DomId). own_happenings d (happenings o) ++ cond (a.0 == d.0) (happening_of x ∷ []) []) (doer-is x) ∙ by (own-are d o) ((actor_in x).0 == d.0))
+own-are d (OfCore i ∷ o) = own-last d i.actor (happenings o) (did_item i) (own_in d o) (OfCore i ∷ own_in d o) (item-doer i) refl (own-are d o)
+own-are d (OfFlag a flag m ∷ o) = own-last d a (happenings o) (on_flag a flag m) (own_in d o) (OfFlag a flag m ∷ own_in d o) (flag-doer a flag m) refl (own-are d o)
+own-are d (OfLook a gref word ∷ o) = by (own-are d o) (a.0 == d.0)
   where
-    by : own_happenings d (happenings o) ≡ happenings (own_in d o) → (b : Bool) → own_happenings d (happenings o) ++ cond b (happening_of x ∷ []) [] ≡ happenings (cond b (x ∷ own_in d o) (own_in d o))
-    by rest true = ap (λ l. l ++ happening_of x ∷ []) rest
-    by rest false = append-nil (own_happenings d (happenings o)) ∙ rest
+    by : own_happenings d (happenings o) ≡ happenings (own_in d o) → (b : Bool) → own_happenings d (happenings o) ≡ happenings (cond b (OfLook a gref word ∷ own_in d o) (own_in d o))
+    by rest true = rest
+    by rest false = rest
 
 pub happenings-both : (xs ys : RunOrder) → happenings (xs ++ ys) ≡ happenings ys ++ happenings xs
 happenings-both [] ys = sym (append-nil (happenings ys))
-happenings-both (x ∷ xs) ys =
-    ap (λ l. l ++ happening_of x ∷ []) (happenings-both xs ys)
-    ∙ append_assoc (happenings ys) (happenings xs) (happening_of x ∷ [])
+happenings-both (OfCore i ∷ xs) ys = ap (λ l. l ++ did_item i ∷ []) (happenings-both xs ys) ∙ append_assoc (happenings ys) (happenings xs) (did_item i ∷ [])
+happenings-both (OfFlag d flag m ∷ xs) ys = ap (λ l. l ++ on_flag d flag m ∷ []) (happenings-both xs ys) ∙ append_assoc (happenings ys) (happenings xs) (on_flag d flag m ∷ [])
+happenings-both (OfLook d gref word ∷ xs) ys = happenings-both xs ys
 
 -- a call
 
@@ -155,6 +173,7 @@ are-of-run c may [] flags = tt
 are-of-run c may (OfCore i ∷ o) flags = of-run-both (setting_of c may) (happenings o) (did (event_in i.actor i.happened) (Did i) ∷ []) (are-of-run c may o flags) (tt, tt)
 are-of-run c may (OfFlag d flag Raised ∷ o) flags = of-run-both (setting_of c may) (happenings o) (raised d flag ∷ []) (are-of-run c may o flags.2) (flags.0, tt)
 are-of-run c may (OfFlag d flag Passed ∷ o) flags = of-run-both (setting_of c may) (happenings o) (passed d flag ∷ []) (are-of-run c may o flags.2) (flags.0, tt)
+are-of-run c may (OfLook d gref word ∷ o) flags = are-of-run c may o flags
 
 all-known : (s : Setting) (h : Items) (hs : List Happening) → AreOfRun s hs → LegalAfter s h (events_in hs) (trace_in hs) → All (λ x. domain_of s.domains (doer x) ≢ None) hs
 all-known s h [] are legal = All-nil (λ (x : Happening). domain_of s.domains (doer x) ≢ None)
@@ -201,27 +220,35 @@ later xs y flag r = (r.0, r.1, (let l = r.2 in let m = longer xs y in omega (ari
 -- a flag that a domain raised in an order is raised before its end
 raised-at : (o : RunOrder) (flag : ℕ) → IsRaisedIn flag o → IsRaisedBefore (length (happenings o)) flag (happenings o)
 raised-at [] flag is = absurd is
-raised-at (OfCore i ∷ o) flag is = later (happenings o) (happening_of (OfCore i)) flag (raised-at o flag is)
+raised-at (OfCore i ∷ o) flag is = later (happenings o) (did_item i) flag (raised-at o flag is)
 raised-at (OfFlag d f Raised ∷ o) flag (inl here) = (length (happenings o), d, longer (happenings o) (raised d f), at-end (happenings o) (raised d f) ∙ ap (λ (n : ℕ). Some (raised d n)) here)
 raised-at (OfFlag d f Raised ∷ o) flag (inr before) = later (happenings o) (raised d f) flag (raised-at o flag before)
 raised-at (OfFlag d f Passed ∷ o) flag is = later (happenings o) (passed d f) flag (raised-at o flag is)
+raised-at (OfLook d gref word ∷ o) flag is = raised-at o flag is
+
+item-passes : (i : Item) (d : DomId) (flag : ℕ) → did_item i ≡ passed d flag → ⊥
+item-passes i d flag e = cc
+
+raised-passes : (a d : DomId) (f flag : ℕ) → raised a f ≡ passed d flag → ⊥
+raised-passes a d f flag e = cc
+
+same-flag : (a d : DomId) (f flag : ℕ) → passed a f ≡ passed d flag → f ≡ flag
+same-flag a d f flag e = cc
+
+-- if one thing more happens, and passes a flag only if a domain raised it before
+one-last : (o : RunOrder) (y : Happening) → FlagsAreRaised (happenings o) → ((d : DomId) (flag : ℕ) → y ≡ passed d flag → IsRaisedIn flag o) → FlagsAreRaised (happenings o ++ y ∷ [])
+one-last o y raised-so passes at d flag e =
+    ⊎_elim (λ (p : (at < length (happenings o)) × (slice_get (happenings o) at ≡ Some (passed d flag))). let r = raised-so at d flag p.1 in
+    (r.0, r.1, r.2, still-there (happenings o) (y ∷ []) (raised r.1 flag) r.0 r.3))
+    (λ (p : (at ≡ length (happenings o)) × (y ≡ passed d flag)). let r = raised-at o flag (passes d flag p.1) in
+    (r.0, r.1, (let l = r.2 in let m = p.0 in omega (arith, l, m)), still-there (happenings o) (y ∷ []) (raised r.1 flag) r.0 r.3))
+    (last-or-before (happenings o) y (passed d flag) at e)
 
 module _ (c : Config) where
-  without-last : (x : Occurrence) (o : RunOrder) → AreOnRaisedFlags c (x ∷ o) → AreOnRaisedFlags c o
-  without-last (OfCore i) o flags = flags
-  without-last (OfFlag d flag m) o flags = flags.2
-
-  passed-is : (x : Occurrence) (o : RunOrder) (d : DomId) (flag : ℕ) → happening_of x ≡ passed d flag → AreOnRaisedFlags c (x ∷ o) → IsRaisedIn flag o
-  passed-is (OfCore i) o d flag e flags = absurd (cc)
-  passed-is (OfFlag a f Raised) o d flag e flags = absurd (cc)
-  passed-is (OfFlag a f Passed) o d flag e flags = let same : f ≡ flag = cc in subst (λ (n : ℕ). IsRaisedIn n o) same flags.1
-
   -- a flag is passed only after a domain raised it
   pub order-raised : (o : RunOrder) → AreOnRaisedFlags c o → FlagsAreRaised (happenings o)
   order-raised [] flags at d flag e = cc
-  order-raised (x ∷ o) flags at d flag e =
-      ⊎_elim (λ (p : (at < length (happenings o)) × (slice_get (happenings o) at ≡ Some (passed d flag))). let r = order-raised o (without-last x o flags) at d flag p.1 in
-      (r.0, r.1, r.2, still-there (happenings o) (happening_of x ∷ []) (raised r.1 flag) r.0 r.3))
-      (λ (p : (at ≡ length (happenings o)) × (happening_of x ≡ passed d flag)). let r = raised-at o flag (passed-is x o d flag p.1 flags) in
-      (r.0, r.1, (let l = r.2 in let m = p.0 in omega (arith, l, m)), still-there (happenings o) (happening_of x ∷ []) (raised r.1 flag) r.0 r.3))
-      (last-or-before (happenings o) (happening_of x) (passed d flag) at e)
+  order-raised (OfCore i ∷ o) flags = one-last o (did_item i) (order-raised o flags) (λ d flag e. absurd (item-passes i d flag e))
+  order-raised (OfFlag a f Raised ∷ o) flags = one-last o (raised a f) (order-raised o flags.2) (λ d flag e. absurd (raised-passes a d f flag e))
+  order-raised (OfFlag a f Passed ∷ o) flags = one-last o (passed a f) (order-raised o flags.2) (λ d flag e. subst (λ (n : ℕ). IsRaisedIn n o) (same-flag a d f flag e) flags.1)
+  order-raised (OfLook d gref word ∷ o) flags = order-raised o flags

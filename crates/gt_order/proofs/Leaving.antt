@@ -32,18 +32,18 @@ release-way k dom h m found =
     (λ j. after_beginning (refused_when (is_none (found j)) N6) (by_mapping (found j) (λ q. Unpin q (ByMapping h))))
 
 -- the domain after these mappings were given up
-abbrev with_rest : Domain → View → HandleMap HeldPin → Domain
+abbrev pub with_rest : Domain → View → HandleMap HeldPin → Domain
 with_rest d w rest = record d { seat = record d.seat { view = w }; mappings = rest }
 
 module _ (b : Board) (c : Config) (may : AllowRelation) (d : Domain) (mine : IsDomainOf b c may d) where
-  record ReleasedSo (w : View) (rest : HandleMap HeldPin) : Type 0 where
-    deeds : List Deed
-    made : AreDeeds b c may d deeds
-    releases : AreReleases deeds
-    now : domain_after d deeds ≡ with_rest d w rest
-    of-run : IsDomainOf b c may (with_rest d w rest)
+  pub record ReleasedSo (w : View) (rest : HandleMap HeldPin) : Type 0 where
+    pub deeds : List Deed
+    pub made : AreDeeds b c may d deeds
+    pub releases : AreReleases deeds
+    pub now : domain_after d deeds ≡ with_rest d w rest
+    pub of-run : IsDomainOf b c may (with_rest d w rest)
 
-  releases-each : (hs : List Handle) (rest : HandleMap HeldPin) (w : View) → Released b.layout hs d.mappings d.seat.view rest w → ReleasedSo w rest
+  pub releases-each : (hs : List Handle) (rest : HandleMap HeldPin) (w : View) → Released b.layout hs d.mappings d.seat.view rest w → ReleasedSo w rest
   releases-each [] rest w r =
       let same : d ≡ with_rest d w rest = λ j. with_rest d (sym r.1 j) (sym r.0 j) in record {
         deeds = [];

@@ -4,7 +4,9 @@ pub mod AgreementKept
 pub mod Answering
 pub mod Bytes
 pub mod Called
+pub mod Closing
 pub mod Counting
+pub mod Deeds
 pub mod DomainsAtRest
 pub mod Ending
 pub mod Ends

@@ -33,7 +33,8 @@ use Rattle.gt_live.specs.declared.domain.Domain.{Domain}
 use Rattle.gt_live.specs.declared.monitor.Monitor.{Monitor}
 use Rattle.gt_order.proofs.Following.{Follows, answered-keeps, deeds-both, follows-flag, follows-lost, follows-more, follows-none}
 use Rattle.gt_order.proofs.Following.{gives-back, lost-memory}
-use Rattle.gt_order.proofs.Happenings.{happening_of, happenings, happenings-both}
+use Rattle.gt_order.proofs.Deeds.{at-rest, deeds-on}
+use Rattle.gt_order.proofs.Happenings.{happenings, happenings-both, on_flag}
 use Rattle.gt_order.proofs.Held.{Keeps, keeps-new, keeps-none}
 use Rattle.gt_order.proofs.Leaving.{leaving}
 use Rattle.gt_order.proofs.Order.{runs-have-legal-orders}
@@ -43,10 +44,9 @@ use Rattle.gt_order.specs.Explored.{IsStarved}
 use Rattle.gt_order.specs.Printed.{Leaves, no_memory}
 use Rattle.gt_order.specs.Leaving.{AreReleases}
 use Rattle.gt_order.specs.Ordering.{AreOnRaisedFlags, IsLegalOrder, RunOrder, events_of, items_in, order_of_deeds, own_in, trace_of}
-use Rattle.gt_order.specs.Ordering.Occurrence.{OfFlag}
 use Rattle.gt_order.specs.Runs.{AreDeeds, CallMade, Deed, FlagMade, IsAtRest, IsMonitorRun, IsSeatRun}
 use Rattle.gt_order.specs.Runs.{SeatRun, domain_after}
-use Rattle.gt_order.specs.Runs.Deed.{Call, OnFlag}
+use Rattle.gt_order.specs.Runs.Deed.{Call, Look, OnFlag}
 use Rattle.gt_script_lines.specs.declared.calls.ScriptCall.{ScriptCall}
 use Rattle.gt_script_runs.specs.Printing.{answer_line}
 use Rattle.gt_script_runs.specs.Runs.{Named}
@@ -206,7 +206,7 @@ module _ {P : Type 0} (may : P → AllowRelation) (m : Monitor P) where
     -- a line that made a step on a flag
     one-flag : (task : RunTask) → IsAmong task duty.part.tasks.now → (flag : ℕ) (step : FlagStep) → IsFlagStepOf task.deed flag step → (done : List RunTask) (p q : ListProgress) → q ≡ record p { domain = q.domain } → MakesFlagStep may duty.monitor.now flag step p.domain q.domain
         → ((types : List (List ℕ)) (dom : DomId) (named : List Named) (held : List Handle) (Next : List Named → List Handle → List Happening → List ℕ → Type 0) (more : List Happening) (text : List ℕ) → Next named held more text
-        → DeedHappens types dom named held task.line task.deed Next (happening_of (OfFlag dom flag step) ∷ more) text)
+        → DeedHappens types dom named held task.line task.deed Next (on_flag dom flag step ∷ more) text)
         → Come done p → Come (done ++ task ∷ []) q
     one-flag task is-in flag step asks done p q same makes happens come =
         let made : MakesFlagStep may m flag step p.domain q.domain = subst (λ (y : Monitor P). MakesFlagStep may y flag step p.domain q.domain) over makes in
@@ -285,11 +285,7 @@ module _ {P : Type 0} (may : P → AllowRelation) (m : Monitor P) where
     after-on [] = now
     after-on (Call u ∷ us) = refl
     after-on (OnFlag x ∷ us) = refl
-
-    deeds-on : (us : List Deed) → AreDeeds m.words m.config (may m.rights) first ms → AreDeeds m.words m.config (may m.rights) d us → AreDeeds m.words m.config (may m.rights) first (us ++ ms)
-    deeds-on [] made x = made
-    deeds-on (Call u ∷ us) made x = (x.0, subst (λ (y : Domain). IsAtRest y u.old) (sym (after-on us)) x.1, deeds-on us made x.2)
-    deeds-on (OnFlag f ∷ us) made x = (x.0, subst (λ (y : Domain). IsAtRest y f.old) (sym (after-on us)) x.1, deeds-on us made x.2)
+    after-on (Look x ∷ us) = refl
 
   -- the domain left after its list
   abbrev IsGone : (d : Domain) (v : View) → IsViewOf m.words m.config (may m.rights) d v → Type 0
@@ -399,7 +395,7 @@ module _ {P : Type 0} (may : P → AllowRelation) (m : Monitor P) where
       first = l.served.domain;
       starts = starts;
       made = u.0 ++ come.made;
-      deeds_are = deeds-on l.served.domain l.served.left.domain come.made come.now u.0 come.deeds_are u.1;
+      deeds_are = deeds-on l.served.domain l.served.left.domain come.made (at-rest l.served.left.domain (domain_after l.served.domain come.made) come.now) m.words m.config (may m.rights) u.0 come.deeds_are u.1;
       view = ap (λ (d : Domain). d.seat.view) (after-on l.served.domain l.served.left.domain come.made come.now u.0) ∙ (u.3 ∙ sym g.2);
       of_list = record { leaving = u.0; listed = come.made; all = refl; releases = u.2; left = l.served.left; lines = come.lines; outcomes = l.served.came };
       follows = λ gone. followed u.0 u.1 u.2 u.4;
@@ -460,6 +456,7 @@ stays-at : (b : Board) (c : Config) (may : AllowRelation) (i : ℕ) (first : Dom
 stays-at b c may i first [] at calls = at
 stays-at b c may i first (Call u ∷ us) at calls = calls.0.seat.position ∙ (ap (λ (z : SeatOf). z.view.position) calls.1.seat ∙ stays-at b c may i first us at calls.2)
 stays-at b c may i first (OnFlag x ∷ us) at calls = calls.0.kept.seat.position ∙ (ap (λ (z : SeatOf). z.view.position) calls.1.seat ∙ stays-at b c may i first us at calls.2)
+stays-at b c may i first (Look x ∷ us) at calls = calls.0.kept.seat.position ∙ (ap (λ (z : SeatOf). z.view.position) calls.1.seat ∙ stays-at b c may i first us at calls.2)
 
 -- what a run wrote is the text of a legal order
 module _ {P : Type 0} (may : P → AllowRelation) (m : Monitor P) (x : Served P) (xs : List (Served P)) (on : All (λ (d : ThreadJob P). d.monitor.now ≡ m) (duties_in (x ∷ xs)))

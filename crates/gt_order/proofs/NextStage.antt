@@ -1,4 +1,4 @@
--- The next stage of a domain: a call begins, makes a step or ends, or the domain makes a step on a flag.
+-- The next stage of a domain: a call begins, makes a step or ends, or the domain makes a step on a flag or a look.
 use Rattle.std.proofs.Common.{◌≡◌, ◌≢◌, ℕ, ◌<◌, Bool, cond, ◌==◌, List, [], ◌∷◌, ◌++◌}
 use Rattle.std.proofs.Common.{length, Option, Some, None, sym, refl, ap, ◌∙◌, subst, ◌⊎◌, inl, inr, eq-eqb}
 use Rattle.std.proofs.Common.{ne_eqb}
@@ -11,14 +11,15 @@ use Rattle.gt_types.specs.declared.DomId.{DomId}
 use Rattle.gt_types.specs.declared.config.Config.{Config}
 use Rattle.gt_types.specs.declared.config.DomainConfig.{DomainConfig}
 use Rattle.gt_words.specs.Conditions.{Board, HasDomain, SeatOf}
-use Rattle.gt_word_history.specs.History.{StepHistory, Layout, Moment, part_of}
+use Rattle.gt_word_history.specs.History.{StepHistory, Layout, Moment, part_of, word_after}
 use Rattle.gt_words.specs.Laws.{domain_of_run, seat_at}
-use Rattle.gt_word_history.specs.Rule.{layout_of, position_in}
+use Rattle.gt_word_history.specs.Rule.{layout_of, place, position_in}
 use Rattle.gt_word_history.specs.Steps.{StoodWith}
 use Rattle.gt_word_history.specs.declared.view.FrameStep.TheVariants as frames
 use Rattle.gt_word_history.specs.declared.view.FlagStep.{FlagStep}
 use Rattle.gt_word_history.specs.declared.view.FlagStep.TheVariants.{Passed, Raised}
-use Rattle.gt_word_history.specs.declared.view.SeatStep.TheVariants.{Flag, Frame}
+use Rattle.gt_word_history.specs.declared.view.EntryStep.TheVariants.{Looked}
+use Rattle.gt_word_history.specs.declared.view.SeatStep.TheVariants.{Entry, Flag, Frame}
 use Rattle.gt_word_history.specs.declared.view.SeatStep.{SeatStep}
 use Rattle.gt_word_history.specs.declared.view.View.{View}
 use Rattle.gt_calls.specs.Asking.{SpellsItsEntry, asked, begun_of, bytes_given_by}
@@ -30,8 +31,10 @@ use Rattle.gt_calls.specs.declared.action.CallResult.{CallResult}
 use Rattle.gt_calls.specs.declared.action.CallResult.TheVariants.{Granted, Given, Mapped as KeptPin, Refused}
 use Rattle.gt_calls.specs.declared.request.Request.{Request}
 use Rattle.gt_calls.specs.declared.action.Observation.{Observation}
+use Rattle.gt_calls.specs.declared.action.Observation.TheVariants.{Word}
 use Rattle.gt_calls.specs.declared.action.Step.{Step}
-use Rattle.gt_calls.specs.declared.action.Step.TheVariants.{Copy as CopyBytes, Read as ReadBytes, Write as WriteBytes}
+use Rattle.gt_calls.specs.declared.action.Step.TheVariants.{Copy as CopyBytes, LookControl, Read as ReadBytes}
+use Rattle.gt_calls.specs.declared.action.Step.TheVariants.{Write as WriteBytes}
 use Rattle.gt_core.proofs.GoingOn.{calls-can-begin}
 use Rattle.gt_live.specs.Mappings.{KeepsMappings}
 use Rattle.gt_core.proofs.Steps.Observers.{stepped}
@@ -53,14 +56,14 @@ use Rattle.gt_order.proofs.Accesses.{AccessedAs, accessed-as, read-as, read-byte
 use Rattle.gt_order.proofs.Bytes.{said}
 use Rattle.gt_order.proofs.Called.{leaves}
 use Rattle.gt_order.proofs.Ending.{RefusesOnly, answered-at-once, answers, asked-refuses, begins, core-adds, ends-kept}
-use Rattle.gt_order.proofs.Ending.{ends-accessed, after-flag, ends-told, going-on, going-on-accessed, grows-last, grows-on}
+use Rattle.gt_order.proofs.Ending.{ends-accessed, after-flag, after-look, ends-told, going-on, going-on-accessed, grows-last, grows-on}
 use Rattle.gt_order.proofs.Ending.{keeps-at-once, known-alike}
 use Rattle.gt_order.proofs.Ending.{no-pin-at-once, starves}
 use Rattle.gt_order.proofs.NextAccess.{accesses-so}
 use Rattle.gt_order.proofs.NextItem.{goes-so, on-way, unanswered}
 use Rattle.gt_order.proofs.Making.{made-as, one-moment}
 use Rattle.gt_order.proofs.DomainsAtRest.{can-be-answered, keeps-agreement}
-use Rattle.gt_order.proofs.FlagSteps.{agree-on-flag, raised-in}
+use Rattle.gt_order.proofs.FlagSteps.{agree-on-flag, agree-on-look, raised-in}
 use Rattle.gt_order.proofs.Stages.{IsGoing, Ordered, SeatNow, Stage, one-more, order_now, own-more}
 use Rattle.gt_order.proofs.Stages.Stage.{Going, Resting}
 use Rattle.gt_order.proofs.Stepping.{bounded-quiet, bounded-step}
@@ -68,10 +71,10 @@ use Rattle.gt_order.specs.Agreeing.{IsThe, WritesAgree, dom_at}
 use Rattle.gt_order.specs.Ordering.{AreStepsOf, IsNewest, Occurrence, RunOrder, WasRaised}
 use Rattle.gt_order.specs.Ordering.{item_of_beginning, items_by_outcome, items_of_call, of_core, order_of_deeds}
 use Rattle.gt_order.specs.Ordering.{way_of}
-use Rattle.gt_order.specs.Ordering.Occurrence.{OfCore, OfFlag}
+use Rattle.gt_order.specs.Ordering.Occurrence.{OfCore, OfFlag, OfLook}
 use Rattle.gt_order.specs.Runs.{AreDeeds, CallMade, CallOutcome, Deed, FlagMade, IsAnswered, IsAtRest, IsCall, IsCallWalk}
-use Rattle.gt_order.specs.Runs.{KeepsNoPin, LeavesMappings, MakesAccess, MakesTurn, TookSteps, domain_after}
-use Rattle.gt_order.specs.Runs.Deed.{Call, OnFlag}
+use Rattle.gt_order.specs.Runs.{KeepsNoPin, LeavesMappings, LookMade, MakesAccess, MakesTurn, TookSteps, domain_after}
+use Rattle.gt_order.specs.Runs.Deed.{Call, Look, OnFlag}
 use Rattle.gt_order.specs.Runs.CallOutcome.{Told, Kept, Starved, Read, Wrote}
 
 -- a stage in the place of another
@@ -187,6 +190,16 @@ module _ (b : Board) (c : Config) (may : AllowRelation) (limits : IsWithinLimits
   placed i l (OnFlag x ∷ ms) calls =
       let p = placed i l ms calls.2 in let kept = calls.0.kept.seat in
       (kept.position ∙ (ap (λ (z : SeatOf). z.view.position) calls.1.seat ∙ p.0), kept.first ∙ (ap (λ (z : SeatOf). z.view.first) calls.1.seat ∙ p.1))
+  placed i l (Look x ∷ ms) calls =
+      let p = placed i l ms calls.2 in let kept = calls.0.kept.seat in
+      (kept.position ∙ (ap (λ (z : SeatOf). z.view.position) calls.1.seat ∙ p.0), kept.first ∙ (ap (λ (z : SeatOf). z.view.first) calls.1.seat ∙ p.1))
+
+  -- and is that of the domain there
+  same-dom : (i : ℕ) → i < k.domains → (ms : List Deed) → AreDeeds b c may (firsts i) ms → (domain_after (firsts i) ms).seat.dom ≡ dom_at k i
+  same-dom i l [] calls = let n = new i l in sym (ap (dom_at k) (sym n.seat.position) ∙ n.domain.seat.named)
+  same-dom i l (Call m ∷ ms) calls = calls.0.seat.dom ∙ (ap (λ (z : SeatOf). z.dom) calls.1.seat ∙ same-dom i l ms calls.2)
+  same-dom i l (OnFlag x ∷ ms) calls = calls.0.kept.seat.dom ∙ (ap (λ (z : SeatOf). z.dom) calls.1.seat ∙ same-dom i l ms calls.2)
+  same-dom i l (Look x ∷ ms) calls = calls.0.kept.seat.dom ∙ (ap (λ (z : SeatOf). z.dom) calls.1.seat ∙ same-dom i l ms calls.2)
 
   pub named : (i : ℕ) → i < k.domains → domain_of c.domains.items (dom_at k i) ≢ None
   named i l =
@@ -282,6 +295,7 @@ module _ (b : Board) (c : Config) (may : AllowRelation) (limits : IsWithinLimits
         steps = o.steps;
         writes = o.writes;
         flags = o.flags;
+        looks = o.looks;
         bounded = o.bounded;
         own = λ j lj. o.own j lj ∙ elim (cases_eq i j) [
           | inl f ↦ subst (λ (z : ℕ). order_now c may (dom_at k z) (put i (Resting ms) stages z) ≡ order_now c may (dom_at k z) (stages z)) f
@@ -473,10 +487,45 @@ module _ (b : Board) (c : Config) (may : AllowRelation) (limits : IsWithinLimits
         steps = (refl, refl, o.steps);
         writes = λ t f lt. o.writes t f lt;
         flags = (named i l, was-raised h o.order x.flag x.step o.steps says, o.flags);
+        looks = o.looks;
         bounded = o.bounded;
         own = own-more b c may limits is o.order (put i (Resting ms) stages) stages i y l refl same (grows-by c may d i y stages (Resting ms) (Resting (OnFlag x ∷ ms)) e refl) o.own;
         each = λ j lj. elim (cases_eq i j) [
           | inl f ↦ subst (λ (z : ℕ). SeatNow c may o.g (dom_at k z) (firsts z) (stages z)) f (subst (SeatNow c may o.g d (firsts i)) (sym e) (after-flag b c may limits is i l (firsts i) (named i l) o.g ms x deeds.0 deeds.1 seat))
+          | inr n ↦ subst (SeatNow c may o.g (dom_at k j) (firsts j)) (sym (same j n)) (o.each j lj)
+        ];
+      }
+
+  -- a look
+
+  -- the step of a look
+  abbrev pub step_of_look : LookMade → SeatStep
+  step_of_look x = Entry (position_in k.ids x.old.seat.dom) x.gref.0 (Looked x.word)
+
+  pub step-on-look : (h : StepHistory) (i : ℕ) (l : i < k.domains) (ms : List Deed) (x : LookMade) (stages : ℕ → Stage) → stages i ≡ Resting (Look x ∷ ms) → AreDeeds b c may (firsts i) (Look x ∷ ms) → word_after k h (place (position_in k.ids x.old.seat.dom) x.gref.0 0) ≡ x.word
+      → Ordered b c may h firsts (put i (Resting ms) stages) → Ordered b c may ((i, step_of_look x) ∷ h) firsts stages
+  step-on-look h i l ms x stages e deeds there o =
+      let d = dom_at k i in let y : Occurrence = OfLook d x.gref x.word in let n = new i l in
+      let same : (j : ℕ) → i ≢ j → stages j ≡ put i (Resting ms) stages j = λ j n. sym (put-else i (Resting ms) stages j n) in
+      let dom : x.old.seat.dom ≡ d = ap (λ (z : SeatOf). z.dom) deeds.1.seat ∙ same-dom i l ms deeds.2 in
+      let first-dom : (firsts i).seat.dom ≡ d = same-dom i l [] tt in
+      let at : i ≡ position_in k.ids x.old.seat.dom = sym n.seat.position ∙ (seat_at c b (firsts i).seat limits.distinct is n.domain.seat ∙ ap (position_in k.ids) (first-dom ∙ sym dom)) in
+      let word = o.agree.words i x.gref.0 l deeds.0.entry ∙ (ap (λ (t : ℕ). word_after k h (place t x.gref.0 0)) at ∙ there) in
+      let seat = subst (SeatNow c may o.g d (firsts i)) (put-here i (Resting ms) stages) (o.each i l) in record {
+        g = o.g;
+        order = y ∷ o.order;
+        items = o.items;
+        reached = o.reached;
+        agree = agree-on-look s k o.g h i (position_in k.ids x.old.seat.dom) x.gref.0 x.word o.agree;
+        legal = o.legal;
+        steps = (refl, (ap (position_in k.ids) dom, refl), refl, o.steps);
+        writes = λ t f lt. o.writes t f lt;
+        flags = o.flags;
+        looks = (ap (λ (g : Items). seen_by s g d (LookControl d x.gref)) o.items ∙ ap (λ (w : ℕ). Word w) word, o.looks);
+        bounded = o.bounded;
+        own = own-more b c may limits is o.order (put i (Resting ms) stages) stages i y l refl same (grows-by c may d i y stages (Resting ms) (Resting (Look x ∷ ms)) e refl) o.own;
+        each = λ j lj. elim (cases_eq i j) [
+          | inl f ↦ subst (λ (z : ℕ). SeatNow c may o.g (dom_at k z) (firsts z) (stages z)) f (subst (SeatNow c may o.g d (firsts i)) (sym e) (after-look b c may limits is i l (firsts i) (named i l) o.g ms x deeds.0 deeds.1 seat))
           | inr n ↦ subst (SeatNow c may o.g (dom_at k j) (firsts j)) (sym (same j n)) (o.each j lj)
         ];
       }

@@ -40,11 +40,12 @@ use Rattle.gt_order.specs.Ordering.{IsLegalOrder, RunOrder, events_of}
 use Rattle.gt_order.specs.Ordering.{trace_of}
 use Rattle.gt_order.specs.Ordering.{way_of}
 use Rattle.gt_order.specs.Runs.{AreDeeds, CallMade, CallOutcome, Deed, FlagMade, IsAnswered, IsAtRest, IsCall, IsCallWalk}
-use Rattle.gt_order.specs.Runs.{TookSteps, domain_after}
-use Rattle.gt_order.specs.Runs.Deed.{Call, OnFlag}
+use Rattle.gt_order.specs.Runs.{LookMade, TookSteps, domain_after}
+use Rattle.gt_order.specs.Runs.Deed.{Call, Look, OnFlag}
 use Rattle.gt_order.specs.Runs.CallOutcome.{Told, Kept, Starved, Read, Wrote}
 use Rattle.gt_order.proofs.NextStage.{begin-call, end-call, go-on, head-same, named, no-head, placed, put, put-else, put-here}
-use Rattle.gt_order.proofs.NextStage.{LastIs, LastNext, quiet-call, same-view, step-on-flag, stood-of, tail-same}
+use Rattle.gt_order.proofs.NextStage.{LastIs, LastNext, quiet-call, same-view, step-on-flag, step-on-look, step_of_look}
+use Rattle.gt_order.proofs.NextStage.{stood-of, tail-same}
 
 module _ (b : Board) (c : Config) (may : AllowRelation) (limits : IsWithinLimits c) (is : b.layout ≡ layout_of c) (firsts : ℕ → Domain) (new : (i : ℕ) → i < b.layout.domains → IsNewDomain b c may i (firsts i)) where
   abbrev k : Layout
@@ -90,12 +91,14 @@ module _ (b : Board) (c : Config) (may : AllowRelation) (limits : IsWithinLimits
   strip : (h : StepHistory) (i : ℕ) (l : i < k.domains) (orig : ℕ → Stage)
       → ((ms : List Deed) (m : CallMade) (xs : List Moment) (x : Moment) (stages : ℕ → Stage) → stages i ≡ Resting (Call m ∷ ms) → m.steps ≡ x ∷ xs → FitAll h stages → Ordered b c may h firsts stages)
       → ((ms : List Deed) (x : FlagMade) (stages : ℕ → Stage) → stages i ≡ Resting (OnFlag x ∷ ms) → FitAll h stages → Ordered b c may h firsts stages)
+      → ((ms : List Deed) (x : LookMade) (stages : ℕ → Stage) → stages i ≡ Resting (Look x ∷ ms) → FitAll h stages → Ordered b c may h firsts stages)
       → ((stages : ℕ → Stage) → stages i ≡ Resting [] → ((j : ℕ) → i ≢ j → stages j ≡ orig j) → FitAll h stages → Ordered b c may h firsts stages)
       → (ms : List Deed) (stages : ℕ → Stage) → stages i ≡ Resting ms → ((j : ℕ) → i ≢ j → stages j ≡ orig j) → FitAll h stages → Ordered b c may h firsts stages
-  strip h i l orig on-step on-flag on-empty [] stages e same fits = on-empty stages e same fits
-  strip h i l orig on-step on-flag on-empty (OnFlag x ∷ ms) stages e same fits = on-flag ms x stages e fits
-  strip h i l orig on-step on-flag on-empty (Call m ∷ ms) stages e same fits =
-      by m.steps refl (λ more. strip h i l orig on-step on-flag on-empty ms (put i (Resting ms) stages) (put-here i (Resting ms) stages) (λ j n. put-else i (Resting ms) stages j n ∙ same j n) more)
+  strip h i l orig on-step on-flag on-look on-empty [] stages e same fits = on-empty stages e same fits
+  strip h i l orig on-step on-flag on-look on-empty (OnFlag x ∷ ms) stages e same fits = on-flag ms x stages e fits
+  strip h i l orig on-step on-flag on-look on-empty (Look x ∷ ms) stages e same fits = on-look ms x stages e fits
+  strip h i l orig on-step on-flag on-look on-empty (Call m ∷ ms) stages e same fits =
+      by m.steps refl (λ more. strip h i l orig on-step on-flag on-look on-empty ms (put i (Resting ms) stages) (put-here i (Resting ms) stages) (λ j n. put-else i (Resting ms) stages j n ∙ same j n) more)
     where
       fit : Fits b c may h i (firsts i) (Resting (Call m ∷ ms))
       fit = subst (Fits b c may h i (firsts i)) e (fits i l)
@@ -137,17 +140,22 @@ module _ (b : Board) (c : Config) (may : AllowRelation) (limits : IsWithinLimits
           let fit = subst (Fits b c may [] n (firsts n)) e (f n l) in
           absurd (no-head _ _ (ap (λ (q : View). q.steps) (sym fit.is.0.step.view) ∙ fit.steps))
 
+      no-looks : (ms : List Deed) (x : LookMade) (st : ℕ → Stage) → st n ≡ Resting (Look x ∷ ms) → FitAll [] st → Ordered b c may [] firsts st
+      no-looks ms x st e f =
+          let fit = subst (Fits b c may [] n (firsts n)) e (f n l) in
+          absurd (no-head _ _ (ap (λ (q : View). q.steps) (sym fit.is.0.found.0.steps.adds.view) ∙ fit.steps))
+
       on : ((st : ℕ → Stage) → ((j : ℕ) → n ≤ j → j < k.domains → st j ≡ Resting []) → FitAll [] st → Ordered b c may [] firsts st)
           → (st : ℕ → Stage) → st n ≡ Resting [] → ((j : ℕ) → n ≢ j → st j ≡ stages j) → FitAll [] st → Ordered b c may [] firsts st
       on rec st e same f = rec st (λ j a lj. elim (cases_eq n j) [ inl z ↦ subst (λ (q : ℕ). st q ≡ Resting []) z e | inr z ↦ same j z ∙ rest j (omega arith) lj ]) f
 
       by : ((st : ℕ → Stage) → ((j : ℕ) → n ≤ j → j < k.domains → st j ≡ Resting []) → FitAll [] st → Ordered b c may [] firsts st) → (st : Stage) → stages n ≡ st → Ordered b c may [] firsts stages
-      by rec (Resting ms) e = strip [] n l stages no-steps no-flags (on rec) ms stages e (λ j z. refl) fits
+      by rec (Resting ms) e = strip [] n l stages no-steps no-flags no-looks (on rec) ms stages e (λ j z. refl) fits
       by rec (Going ms m []) e =
           let fit = subst (Fits b c may [] n (firsts n)) e (fits n l) in
           let seat : (domain_after (firsts n) ms).seat.view ≡ m.old.seat.view = sym (ap (λ (q : SeatOf). q.view) fit.is.rests.seat) in
           begin-call b c may limits is firsts new [] n l m ms stages e fit.is
-          (strip [] n l stages no-steps no-flags (on rec) ms (put n (Resting ms) stages) (put-here n (Resting ms) stages) (λ j z. put-else n (Resting ms) stages j z)
+          (strip [] n l stages no-steps no-flags no-looks (on rec) ms (put n (Resting ms) stages) (put-here n (Resting ms) stages) (λ j z. put-else n (Resting ms) stages j z)
           (refit [] [] stages n (Resting ms) fits (λ j z. (refl, refl)) (record { is = fit.is.deeds; steps = ap (λ (q : View). q.steps) seat ∙ fit.steps; past = ap (λ (q : View). q.past) seat ∙ fit.past })))
       by rec (Going ms m (x ∷ xs)) e = absurd (no-head x.1 _ (subst (Fits b c may [] n (firsts n)) e (fits n l)).steps)
 
@@ -230,6 +238,20 @@ module _ (b : Board) (c : Config) (may : AllowRelation) (limits : IsWithinLimits
           let o = rec (put i (Resting ms) st) (refit h (p ∷ h) st i (Resting ms) f others (record { is = fit.is.2; steps = ap (λ (q : View). q.steps) seat ∙ before; past = ap (λ (q : View). q.past) seat ∙ past })) in
           to-here moment st same.0 same.1 (step-on-flag b c may limits is firsts new made.past i l ms x st e fit.is made.access.says (subst (λ (q : StepHistory). Ordered b c may q firsts (put i (Resting ms) st)) (sym same.0) o))
 
+      look-step : (i < k.domains) → ((st : ℕ → Stage) → FitAll h st → Ordered b c may h firsts st) → (ms : List Deed) (x : LookMade) (st : ℕ → Stage) → st i ≡ Resting (Look x ∷ ms) → FitAll (p ∷ h) st → Ordered b c may (p ∷ h) firsts st
+      look-step l rec ms x st e f =
+          let fit = subst (Fits b c may (p ∷ h) i (firsts i)) e (f i l) in
+          let found = fit.is.0.found.0.steps in let v = x.old.seat.view in
+          let at-v : v.position ≡ i = ap (λ (z : SeatOf). z.view.position) fit.is.1.seat ∙ (placed b c may limits is firsts new i l ms fit.is.2).0 in
+          let moment : Moment = (found.past, step_of_look b c may limits is firsts new x) in
+          let same = at-moment h moment i p v at-v refl (ap (λ (q : View). q.past) (sym found.adds.view) ∙ fit.past) in
+          let before : v.steps ≡ part_of i h = tail-same _ _ _ _ (ap (λ (q : View). q.steps) (sym found.adds.view) ∙ (fit.steps ∙ top)) in
+          let stood = found.step.stood in
+          let past : v.past ≡ up_to i h = (stood.1.led_here.parts v.position v stood.2).1 ∙ (λ j. up_to (at-v j) (same.0 j)) in
+          let seat : (domain_after (firsts i) ms).seat.view ≡ v = sym (ap (λ (q : SeatOf). q.view) fit.is.1.seat) in
+          let o = rec (put i (Resting ms) st) (refit h (p ∷ h) st i (Resting ms) f others (record { is = fit.is.2; steps = ap (λ (q : View). q.steps) seat ∙ before; past = ap (λ (q : View). q.past) seat ∙ past })) in
+          to-here moment st same.0 same.1 (step-on-look b c may limits is firsts new found.past i l ms x st e fit.is found.step.found_is (subst (λ (q : StepHistory). Ordered b c may q firsts (put i (Resting ms) st)) (sym same.0) o))
+
       on : (i < k.domains) → (orig : ℕ → Stage) → (st : ℕ → Stage) → st i ≡ Resting [] → ((j : ℕ) → i ≢ j → st j ≡ orig j) → FitAll (p ∷ h) st → Ordered b c may (p ∷ h) firsts st
       on l orig st e same f = let fit = subst (Fits b c may (p ∷ h) i (firsts i)) e (f i l) in
           absurd (no-head p.1 (part_of i h) (sym top ∙ (sym fit.steps ∙ (new i l).seat.steps)))
@@ -239,12 +261,12 @@ module _ (b : Board) (c : Config) (may : AllowRelation) (limits : IsWithinLimits
       at rec (inl l) = by (stages i) refl
         where
           by : (st : Stage) → stages i ≡ st → Ordered b c may (p ∷ h) firsts stages
-          by (Resting ms) e = strip (p ∷ h) i l stages (module-step l rec) (flag-step l rec) (on l stages) ms stages e (λ j z. refl) fits
+          by (Resting ms) e = strip (p ∷ h) i l stages (module-step l rec) (flag-step l rec) (look-step l rec) (on l stages) ms stages e (λ j z. refl) fits
           by (Going ms m []) e =
               let fit = subst (Fits b c may (p ∷ h) i (firsts i)) e (fits i l) in
               let seat : (domain_after (firsts i) ms).seat.view ≡ m.old.seat.view = sym (ap (λ (q : SeatOf). q.view) fit.is.rests.seat) in
               begin-call b c may limits is firsts new (p ∷ h) i l m ms stages e fit.is
-              (strip (p ∷ h) i l stages (module-step l rec) (flag-step l rec) (on l stages) ms (put i (Resting ms) stages) (put-here i (Resting ms) stages) (λ j z. put-else i (Resting ms) stages j z)
+              (strip (p ∷ h) i l stages (module-step l rec) (flag-step l rec) (look-step l rec) (on l stages) ms (put i (Resting ms) stages) (put-here i (Resting ms) stages) (λ j z. put-else i (Resting ms) stages j z)
               (refit (p ∷ h) (p ∷ h) stages i (Resting ms) fits (λ j z. (refl, refl)) (record { is = fit.is.deeds; steps = ap (λ (q : View). q.steps) seat ∙ fit.steps; past = ap (λ (q : View). q.past) seat ∙ fit.past })))
           by (Going ms m (x ∷ xs)) e =
               let fit = subst (Fits b c may (p ∷ h) i (firsts i)) e (fits i l) in
@@ -284,6 +306,7 @@ runs-have-legal-orders b c may s seats run = by ordered
         steps = o.steps;
         writes = subst (λ (g : Items). WritesAgree k g run.shown.history) (sym o.items) o.writes;
         flags = o.flags;
+        looks = o.looks;
         deeds = o.own;
       },
     )

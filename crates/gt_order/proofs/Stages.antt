@@ -34,7 +34,8 @@ use Rattle.gt_live.specs.declared.domain.Domain.{Domain}
 use Rattle.gt_order.proofs.Places.{test-apart}
 use Rattle.gt_order.proofs.Stepping.{AreBounded}
 use Rattle.gt_order.specs.Agreeing.{Agree, WritesAgree, dom_at}
-use Rattle.gt_order.specs.Ordering.{AreOnRaisedFlags, AreStepsOf, Occurrence, RunOrder, actor_in, event_in, events_of}
+use Rattle.gt_order.specs.Ordering.{AreOnRaisedFlags, AreStepsOf, AreTrueLooks, Occurrence, RunOrder, actor_in, event_in}
+use Rattle.gt_order.specs.Ordering.{events_of}
 use Rattle.gt_order.specs.Ordering.{item_of_beginning, items_in, items_of_steps, of_core, order_of_deeds, own_in, trace_of}
 use Rattle.gt_order.specs.Ordering.{way_of}
 use Rattle.gt_order.specs.Ordering.Occurrence.{OfCore}
@@ -100,6 +101,7 @@ pub record Ordered (b : Board) (c : Config) (may : AllowRelation) (h : StepHisto
   pub steps : AreStepsOf b.layout order h
   pub writes : WritesAgree b.layout g h
   pub flags : AreOnRaisedFlags c order
+  pub looks : AreTrueLooks (setting_of c may) order
   pub bounded : AreBounded b.layout g
   pub own : (i : ℕ) → i < b.layout.domains → own_in (dom_at b.layout i) order ≡ order_now c may (dom_at b.layout i) (stages i)
   pub each : (i : ℕ) → i < b.layout.domains → SeatNow c may g (dom_at b.layout i) (firsts i) (stages i)
@@ -174,6 +176,7 @@ module _ (b : Board) (c : Config) (may : AllowRelation) (limits : IsWithinLimits
     steps = steps;
     writes = writes;
     flags = o.flags;
+    looks = o.looks;
     bounded = bounded;
     own = own-more o.order old new i (OfCore item) inside own same grows o.own;
     each = λ j l. elim (cases_eq i j) [

@@ -135,6 +135,7 @@ module _ (b : Board) (c : Config) (may : AllowRelation) (limits : IsWithinLimits
     steps = refl;
     writes = none-written;
     flags = tt;
+    looks = tt;
     bounded = none-bounded;
     own = λ i l. ap (order_now c may (dom_at k i)) (sym (rest i l));
     each = λ i l. subst (SeatNow c may [] (dom_at k i) (firsts i)) (sym (rest i l)) (first-seat i l);

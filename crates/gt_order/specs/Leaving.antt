@@ -11,7 +11,7 @@ use Rattle.gt_live.specs.declared.domain.Domain.{Domain}
 use Rattle.gt_live.specs.declared.domain.Departed.{Departed}
 use Rattle.gt_order.specs.Runs.{AreDeeds, Deed, domain_after}
 use Rattle.gt_order.specs.Runs.CallOutcome.{Told}
-use Rattle.gt_order.specs.Runs.Deed.{Call, OnFlag}
+use Rattle.gt_order.specs.Runs.Deed.{Call, Look, OnFlag}
 
 -- each of these deeds is a release that is Ok
 abbrev pub AreReleases : List Deed → Type 0
@@ -19,6 +19,7 @@ AreReleases [] = Unit {0}
 AreReleases (Call m ∷ ms) =
     ((handle : Handle) × (m.request ≡ requests.Release handle) × (m.outcome ≡ Told Granted)) × AreReleases ms
 AreReleases (OnFlag x ∷ ms) = ⊥
+AreReleases (Look x ∷ ms) = ⊥
 
 -- leaving is exactly this: the steps are those of releases, one after another, each Ok, until no mapping is left. So a
 -- run continues beyond a domain that leaves

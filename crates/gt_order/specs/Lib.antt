@@ -1,6 +1,7 @@
 pub mod Runs
 pub mod Calling
 pub mod Leaving
+pub mod Closing
 pub mod Explored
 pub mod Printed
 pub mod Agreeing

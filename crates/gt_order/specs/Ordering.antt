@@ -1,7 +1,7 @@
 -- The order of a run: the steps of its history in their order, with the beginnings of its calls between them.
 use Rattle.std.specs.Prelude.{◌≡◌, ◌≢◌, ◌⊎◌, ℕ, ◌<◌, ◌==◌, if◌then◌else◌, List, [], ◌∷◌, ◌++◌, map, Option, Some, None}
 use Rattle.gt_order.specs.Prelude.{DomId, Config, StepHistory, Layout, Moment, Continuation, path_of, Action, Makes}
-use Rattle.gt_order.specs.Prelude.{Observation}
+use Rattle.gt_order.specs.Prelude.{GrantRef, LookControl, Observation, Setting, Word, seen_by}
 use Rattle.gt_order.specs.Prelude.{Step, LookHeader, Request, CanBeReached, Items, Legal}
 use Rattle.gt_order.specs.Prelude.{answer_of}
 use Rattle.gt_order.specs.Prelude.{setting_of, Answer, AnswerDone, BytesAnswer, MappedAnswer, Element, Did, Event, Begin, Tick}
@@ -9,7 +9,7 @@ use Rattle.gt_order.specs.Prelude.{ItemEvent, Began, Stepped, Item, AllowRelatio
 use Rattle.gt_order.specs.Prelude.{Flag, FlagStep, Passed, Raised, domain_of, seen_in_step}
 use Rattle.gt_order.specs.Agreeing.{IsThe, WritesAgree, dom_at}
 use Rattle.gt_order.specs.Runs.{CallMade, CallOutcome, Deed, SeatRun}
-use Rattle.gt_order.specs.Runs.Deed.{Call, OnFlag}
+use Rattle.gt_order.specs.Runs.Deed.{Call, Look, OnFlag}
 use Rattle.gt_order.specs.Runs.CallOutcome.{Told, Kept, Starved, Read, Wrote}
 
 -- the step is the newest one of the history, by its seat's domain, and it saw what that step shows
@@ -23,10 +23,12 @@ abbrev pub IsNewestOnFlag : Layout → DomId → ℕ → FlagStep → (StepHisto
 IsNewestOnFlag k d flag m rest [] = ⊥
 IsNewestOnFlag k d flag m rest (p ∷ h) = (d ≡ dom_at k p.0) × (p.1 ≡ Flag flag m) × rest h
 
--- what happens in a run: an item of the core, or a step of a domain on a flag
+-- what happens in a run: an item of the core, a step of a domain on a flag, or a look of a domain at the control word of
+-- one of its entries that belongs to no call, with the word that it found
 pub data Occurrence : Type 0 where
   OfCore : Item → Occurrence
   OfFlag : DomId → ℕ → FlagStep → Occurrence
+  OfLook : DomId → GrantRef → ℕ → Occurrence
 
 -- what happens in a run, in its order, the last first
 abbrev pub RunOrder : Type 0
@@ -37,6 +39,7 @@ abbrev pub items_in : RunOrder → Items
 items_in [] = []
 items_in (OfCore i ∷ o) = i ∷ items_in o
 items_in (OfFlag d flag m ∷ o) = items_in o
+items_in (OfLook d gref word ∷ o) = items_in o
 
 -- the steps in an order are those of the history, one by one in the same order, each by its seat's domain, and each
 -- step of the core saw what the history's step shows
@@ -48,6 +51,7 @@ abbrev pub AreStepsOf : Layout → RunOrder → StepHistory → Type 0
 AreStepsOf k [] h = h ≡ []
 AreStepsOf k (OfCore i ∷ o) h = ThenSteps k i.actor i.happened (AreStepsOf k o) h
 AreStepsOf k (OfFlag d flag m ∷ o) h = IsNewestOnFlag k d flag m (AreStepsOf k o) h
+AreStepsOf k (OfLook d gref word ∷ o) h = IsNewest k d (LookControl d gref) (Word word) (AreStepsOf k o) h
 
 -- a domain raised this flag in the order
 abbrev pub IsRaisedIn : ℕ → RunOrder → Type 0
@@ -55,6 +59,7 @@ IsRaisedIn flag [] = ⊥
 IsRaisedIn flag (OfCore i ∷ o) = IsRaisedIn flag o
 IsRaisedIn flag (OfFlag d f Raised ∷ o) = (f ≡ flag) ⊎ IsRaisedIn flag o
 IsRaisedIn flag (OfFlag d f Passed ∷ o) = IsRaisedIn flag o
+IsRaisedIn flag (OfLook d gref word ∷ o) = IsRaisedIn flag o
 
 -- a flag that is passed after this order was raised in it
 abbrev pub WasRaised : ℕ → FlagStep → RunOrder → Type 0
@@ -67,6 +72,15 @@ AreOnRaisedFlags c [] = Unit {0}
 AreOnRaisedFlags c (OfCore i ∷ o) = AreOnRaisedFlags c o
 AreOnRaisedFlags c (OfFlag d flag m ∷ o) =
     (domain_of c.domains.items d ≢ None) × WasRaised flag m o × AreOnRaisedFlags c o
+AreOnRaisedFlags c (OfLook d gref word ∷ o) = AreOnRaisedFlags c o
+
+-- each look found the control word that the items before it make
+abbrev pub AreTrueLooks : Setting → RunOrder → Type 0
+AreTrueLooks s [] = Unit {0}
+AreTrueLooks s (OfCore i ∷ o) = AreTrueLooks s o
+AreTrueLooks s (OfFlag d flag m ∷ o) = AreTrueLooks s o
+AreTrueLooks s (OfLook d gref word ∷ o) =
+    (seen_by s (items_in o) d (LookControl d gref) ≡ Word word) × AreTrueLooks s o
 
 -- the step that comes next; on the path of a call there is one if the call made one
 abbrev pub step_in : Option Action → Step
@@ -113,21 +127,24 @@ items_by_outcome d way request outcome steps = items_of_call d way request (answ
 abbrev pub way_of : Config → AllowRelation → CallMade → Continuation
 way_of c may m = path_of (knowledge c may m.old) m.old.seat.dom m.request
 
--- these items, with no step on a flag between them
+-- these items, with nothing else between them
 abbrev pub of_core : List Item → RunOrder
 of_core items = map (λ i. OfCore i) items
 
--- what the deeds of the domain d are in an order, the last one first: the items of its calls, and its steps on flags
+-- what the deeds of the domain d are in an order, the last one first: the items of its calls, its steps on flags and its
+-- looks
 abbrev pub order_of_deeds : Config → AllowRelation → DomId → List Deed → RunOrder
 order_of_deeds c may d [] = []
 order_of_deeds c may d (Call m ∷ ms) =
     of_core (items_by_outcome d (way_of c may m) m.request m.outcome m.steps) ++ order_of_deeds c may d ms
 order_of_deeds c may d (OnFlag x ∷ ms) = OfFlag d x.flag x.step ∷ order_of_deeds c may d ms
+order_of_deeds c may d (Look x ∷ ms) = OfLook d x.gref x.word ∷ order_of_deeds c may d ms
 
 -- the domain of what happens
 abbrev pub actor_in : Occurrence → DomId
 actor_in (OfCore i) = i.actor
 actor_in (OfFlag d flag m) = d
+actor_in (OfLook d gref word) = d
 
 -- what one domain does in an order
 abbrev pub own_in : DomId → RunOrder → RunOrder
@@ -149,8 +166,8 @@ trace_of [] = []
 trace_of (i ∷ g) = trace_of g ++ Did i ∷ []
 
 -- a legal order of the run's deeds: a core represents its items, their trace is legal for their events, its steps are
--- those of the history in their order and wrote the same bytes, each flag is raised before it is passed, and what each
--- domain does are its deeds
+-- those of the history in their order and wrote the same bytes, each flag is raised before it is passed, each look found
+-- the word that was there, and what each domain does are its deeds
 pub record IsLegalOrder (c : Config) (may : AllowRelation) (k : Layout) (h : StepHistory) (seats : ℕ → SeatRun)
     (o : RunOrder) : Type 0 where
   pub reached : CanBeReached (setting_of c may) (items_in o)
@@ -158,4 +175,5 @@ pub record IsLegalOrder (c : Config) (may : AllowRelation) (k : Layout) (h : Ste
   pub steps : AreStepsOf k o h
   pub writes : WritesAgree k (items_in o) h
   pub flags : AreOnRaisedFlags c o
+  pub looks : AreTrueLooks (setting_of c may) o
   pub deeds : (i : ℕ) → i < k.domains → own_in (dom_at k i) o ≡ order_of_deeds c may (dom_at k i) (seats i).deeds

@@ -5,7 +5,7 @@ pub use Rattle.gt_calls.specs.Path.{Continuation, path, path_of}
 pub use Rattle.gt_calls.specs.declared.action.Action.{Action}
 pub use Rattle.gt_calls.specs.declared.action.Action.TheVariants.{Done, Step as Makes}
 pub use Rattle.gt_calls.specs.declared.action.Observation.{Observation}
-pub use Rattle.gt_calls.specs.declared.action.Observation.TheVariants.{Nothing}
+pub use Rattle.gt_calls.specs.declared.action.Observation.TheVariants.{Nothing, Word}
 pub use Rattle.gt_calls.specs.declared.action.Step.{Step}
 pub use Rattle.gt_calls.specs.declared.action.Step.TheVariants.{Exchange, LookBody, LookControl, LookHeader}
 pub use Rattle.gt_calls.specs.declared.action.Step.TheVariants.{Pin as PinStep, StoreBody, StoreHeader, Unpin}
@@ -40,7 +40,7 @@ pub use Rattle.gt_handles.specs.Handles.{HandleMap}
 pub use Rattle.gt_handles.specs.declared.handles.Handle.{Handle}
 pub use Rattle.gt_live.specs.Accesses.{Accessed, IsCopiedBy, IsReadBy, IsUnmade, IsWrittenBy}
 pub use Rattle.gt_live.specs.Domains.{Accesses, AllowRelation, Answered, IsDomainOf, BelongsTo, KeepsPinned}
-pub use Rattle.gt_live.specs.Domains.{MapAnswered}
+pub use Rattle.gt_live.specs.Domains.{IsUnsettled, MapAnswered}
 pub use Rattle.gt_live.specs.Domains.{knowledge, known_on, verdict_of}
 pub use Rattle.gt_live.specs.Ending.{IsMap, IsOfMapping}
 pub use Rattle.gt_live.specs.Flags.{FlagStepped}

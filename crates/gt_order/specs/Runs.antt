@@ -7,7 +7,8 @@ use Rattle.gt_order.specs.Prelude.{HeldPin, OpenRequest, Request, AllowRelation,
 use Rattle.gt_order.specs.Prelude.{KeepsMappings, Removes, IsNewDomain, Called, Domain}
 use Rattle.gt_order.specs.Prelude.{AccessesFrame, Action, Bytes, CopiesFrames, CopyBytes, DomId, Frame, Layout, Made}
 use Rattle.gt_order.specs.Prelude.{Observation, ReadBytes, Writ, all_shown, bytes_given_by, position_in, shown_by}
-use Rattle.gt_order.specs.Prelude.{FlagStep, FlagStepped, IsOfMapping, view_after}
+use Rattle.gt_order.specs.Prelude.{FlagStep, FlagStepped, IsOfMapping, IsUnsettled, LookControl, TABLE_ENTRIES, Word}
+use Rattle.gt_order.specs.Prelude.{view_after}
 use Rattle.std.specs.Prelude.{◌⊎◌}
 use Rattle.gt_word_history.specs.declared.view.FrameStep.TheVariants as frames
 use Rattle.gt_calls.specs.declared.request.OpenRequest.TheVariants as asks
@@ -136,10 +137,25 @@ pub record FlagMade : Type 0 where
   pub old : Domain
   pub new : Domain
 
--- what a domain does: a call, or a step on a flag
+-- a finished look of a domain at one of its entries that belongs to no call (`status`, and the last step of each entry
+-- in `close`): the entry, its control word, and the domain before and after the look
+pub record LookMade : Type 0 where
+  pub gref : GrantRef
+  pub word : ℕ
+  pub old : Domain
+  pub new : Domain
+
+-- the look was made, and nothing else was done
+pub record IsLook (k : Layout) (x : LookMade) : Type 0 where
+  pub entry : x.gref.0 < TABLE_ENTRIES
+  pub found : Made k (LookControl x.old.seat.dom x.gref) (Word x.word) x.old.seat.view x.new.seat.view
+  pub kept : IsUnsettled x.old x.new
+
+-- what a domain does: a call, a step on a flag, or a look
 pub data Deed : Type 0 where
   Call : CallMade → Deed
   OnFlag : FlagMade → Deed
+  Look : LookMade → Deed
 
 -- between two deeds the domain changed only its records
 pub record IsAtRest (d e : Domain) : Type 0 where
@@ -157,6 +173,7 @@ abbrev pub domain_after : Domain → List Deed → Domain
 domain_after first [] = first
 domain_after first (Call m ∷ ms) = m.new
 domain_after first (OnFlag x ∷ ms) = x.new
+domain_after first (Look x ∷ ms) = x.new
 
 -- these deeds were done one after another, the last one first
 abbrev pub AreDeeds : Board → Config → AllowRelation → Domain → List Deed → Type 0
@@ -166,6 +183,8 @@ AreDeeds b c may first (Call m ∷ ms) =
 AreDeeds b c may first (OnFlag x ∷ ms) =
     FlagStepped b.layout x.flag x.step x.old x.new × IsAtRest (domain_after first ms) x.old
     × AreDeeds b c may first ms
+AreDeeds b c may first (Look x ∷ ms) =
+    IsLook b.layout x × IsAtRest (domain_after first ms) x.old × AreDeeds b c may first ms
 
 -- the domain at the position i started as a new domain and did these deeds; its view in this state is the one after
 -- them

@@ -6,8 +6,8 @@ use Rattle.gt_order.specs.Prelude.{IsWithinLimits, N26, NoFacts, denial_of}
 use Rattle.gt_order.specs.RunNames.{IsAmong}
 use Rattle.gt_order.specs.RunNames.{View, answer_of, Answer, AllowRelation, HasLeft}
 use Rattle.gt_order.specs.RunNames.{Domain, Departed, Monitor, AreReleases, IsLegalOrder, CallMade}
-use Rattle.gt_order.specs.RunNames.{Await, Call, Deed, Do, FlagMade, FlagStep, OnFlag, Passed, Raised, RunAction}
-use Rattle.gt_order.specs.RunNames.{RunOrder, Tell}
+use Rattle.gt_order.specs.RunNames.{Await, Call, Deed, Do, FlagMade, FlagStep, Look, OnFlag, Passed, Raised}
+use Rattle.gt_order.specs.RunNames.{RunAction, RunOrder, Tell}
 use Rattle.gt_order.specs.RunNames.{CallOutcome, SeatRun, Told, Kept, Starved, Read, Wrote, ScriptCall}
 use Rattle.gt_order.specs.RunNames.{RunTask, ThreadJob, Served, WasServed, WritesAll, MakesCall}
 use Rattle.gt_order.specs.RunNames.{ListProgress}
@@ -82,6 +82,7 @@ AreDeedsOf may duty [] q = (q.named ≡ []) × (q.outcomes ≡ [])
 AreDeedsOf may duty (Call m ∷ ms) q = (p : ListProgress) × IsCallOf may duty m p q × AreDeedsOf may duty ms p
 AreDeedsOf may duty (OnFlag x ∷ ms) q =
     IsOfFlagLine duty x × ((p : ListProgress) × (q ≡ record p { domain = q.domain }) × AreDeedsOf may duty ms p)
+AreDeedsOf may duty (Look x ∷ ms) q = ⊥
 
 -- the list of the domain at the position i was served
 pub record HasList {P : Type 0} (may : P → AllowRelation) (m : Monitor P) (i : ℕ) (s : Served P) : Type 0 where

@@ -2,6 +2,7 @@
 ghost use Rattle.gt_order.specs.Calling.{CopiesAreMade, LostAccessesAreMade, LostCopiesAreMade, MapsAreMade};
 ghost use Rattle.gt_order.specs.Calling.{PlainCallsAreMade};
 ghost use Rattle.gt_order.specs.Calling.{ReadsAreMade, ReleasesAreMade, UnmapsAreMade, WritesAreMade};
+ghost use Rattle.gt_order.specs.Closing.{ClosingIsWithdrawing, ResettingIsReleasing, StatusIsLooking};
 ghost use Rattle.gt_order.specs.Explored.{RunsAreExplored};
 ghost use Rattle.gt_order.specs.Printed.{GivenTextsArePrinted, PrintedTextsAreGiven, RunsArePrinted};
 ghost use Rattle.gt_order.specs.Printed.{UnloggedRunsPrint};
@@ -39,7 +40,8 @@ pub fn calls_of_domains_are_made<P: Allows>(monitor: &Monitor<P>)
 {}
 
 /// A law: each run of the monitor whose calls are all finished is one legal interleaving of the core's events, in which
-/// each call has the answer that its domain gave, bytes and all, and a flag is raised before it is passed.
+/// each call has the answer that its domain gave, bytes and all. A flag is raised before it is passed, and a look at an
+/// entry that belongs to no call finds the control word that is there in the core.
 pub fn every_run_has_a_legal_order()
     ensures { RunsHaveLegalOrders }
 {}
@@ -47,6 +49,14 @@ pub fn every_run_has_a_legal_order()
 /// A law: leaving is a release of each mapping, each Ok. So a run continues beyond a domain that leaves.
 pub fn leaving_is_releasing()
     ensures { LeavingIsReleasing }
+{}
+
+/// A law: a run may have the calls `close`, `reset` and `status`. `close` makes withdrawals and looks, `reset` releases
+/// each mapping before, and `status` makes one look, or nothing.
+pub fn closing_is_withdrawing<P: Allows>(monitor: &Monitor<P>)
+    ensures closes { ClosingIsWithdrawing P.may monitor.now }
+    ensures resets { ResettingIsReleasing P.may monitor.now }
+    ensures looks { StatusIsLooking P.may monitor.now }
 {}
 
 /// A law: the lists of a run print the answers of one legal interleaving of their calls, bytes and all.

@@ -1,9 +1,9 @@
 //! Each run of the monitor is one legal interleaving of the core's events.
 //!
-//! A run is the one order of all steps of all seats (`gt_words`), with the calls and the steps on flags that each
-//! domain made, as their contracts describe them (`gt_live`). For each run whose calls are finished, there is an order
-//! of the core's items, which is legal (`gt_core`), and of steps on flags between them. Its steps are those of the run
-//! in their order, accesses to bytes too, and each call has the answer that its domain gave
+//! A run is the one order of all steps of all seats (`gt_words`), with the calls, the steps on flags and the looks that
+//! each domain made, as their contracts describe them (`gt_live`). For each run whose calls are finished, there is an
+//! order of the core's items, which is legal (`gt_core`), with the steps on flags and the looks between them. Its steps
+//! are those of the run in their order, accesses to bytes too, and each call has the answer that its domain gave
 //! ([`every_run_has_a_legal_order`]). Each law is a function that does nothing, whose contract is the law.
 //!
 //! [`run`] runs a script. By its contract, what it appended is a text that a run of the script may print. `explore`
@@ -20,9 +20,9 @@ mod laws;
 mod running;
 
 pub use laws::{
-    calls_of_domains_are_made, core_sees_the_words, every_run_has_a_legal_order,
-    every_run_is_explored, every_run_is_printed, every_run_writes_a_legal_order,
-    every_text_is_of_a_legal_order, every_unlogged_run_is_printed, given_texts_are_printed,
-    leaving_is_releasing, printed_texts_are_given, steps_keep_agreement,
+    calls_of_domains_are_made, closing_is_withdrawing, core_sees_the_words,
+    every_run_has_a_legal_order, every_run_is_explored, every_run_is_printed,
+    every_run_writes_a_legal_order, every_text_is_of_a_legal_order, every_unlogged_run_is_printed,
+    given_texts_are_printed, leaving_is_releasing, printed_texts_are_given, steps_keep_agreement,
 };
 pub use running::run;

@@ -1,0 +1,182 @@
+-- A domain that closes its table makes withdrawals and looks, and one that is reset releases its mappings before.
+use Rattle.std.proofs.Common.{◌≡◌, ◌⊎◌, inl, inr, ℕ, zero, suc, ◌+◌, ◌<◌, ◌≤◌, List, [], ◌∷◌, ◌++◌, length, Option, Some, None}
+use Rattle.std.proofs.Common.{Result, Ok, Err, sym, refl, ap, ◌∙◌, subst, arith}
+use Rattle.std.proofs.lemmas.Bool.{cases_lt}
+use Rattle.std.specs.Prelude.{slice_get}
+use Rattle.gt_types.specs.declared.DomId.{DomId}
+use Rattle.gt_types.specs.declared.GrantRef.{GrantRef}
+use Rattle.gt_types.specs.declared.config.Config.{Config}
+use Rattle.gt_types.specs.declared.denial.Denial.{Denial}
+use Rattle.gt_types.specs.declared.limits.TheConstants.{LAST_VERSION, TABLE_ENTRIES}
+use Rattle.gt_entry.specs.Words.{header_of, header_word, size_of}
+use Rattle.gt_entry.specs.declared.control.Control.{Control}
+use Rattle.gt_entry.specs.declared.entry.Entry.{Entry}
+use Rattle.gt_entry.specs.declared.header.Header.{Header}
+use Rattle.gt_words.specs.Conditions.{Board, SeatOf}
+use Rattle.gt_word_history.specs.History.{StepHistory, Layout}
+use Rattle.gt_word_history.specs.Rule.{header_place}
+use Rattle.gt_word_history.specs.Steps.{StoodWith}
+use Rattle.gt_word_history.specs.Views.{last_of, own_header, own_table}
+use Rattle.gt_word_history.specs.declared.view.EntryRecord.{EntryRecord}
+use Rattle.gt_word_history.specs.declared.view.View.{View}
+use Rattle.gt_calls.specs.Rules.{entry_in, own_generation, row_entry, row_generation}
+use Rattle.gt_calls.specs.declared.action.CallResult.TheVariants.{Granted, Refused}
+use Rattle.gt_calls.specs.declared.action.Observation.TheVariants.{Word}
+use Rattle.gt_calls.specs.declared.action.Step.TheVariants.{LookControl}
+use Rattle.gt_calls.specs.declared.known.OwnerEntry.{OwnerEntry}
+use Rattle.gt_calls.specs.declared.request.Request.TheVariants as requests
+use Rattle.gt_core.proofs.Steps.See.{table-fits}
+use Rattle.gt_live.proofs.DomainKept.{looked}
+use Rattle.gt_live.proofs.Making.{look-same, still_seat}
+use Rattle.gt_live.proofs.RowsKept.{row-there}
+use Rattle.gt_live.specs.Closing.{AreRefused, AsksWithdrawal, Closes, ClosesRow, ClosesRows, ShutsRow, most_withdrawals}
+use Rattle.gt_live.specs.Domains.{AllowRelation, BelongsTo, IsDomainOf, IsUnsettled, verdict_of}
+use Rattle.gt_live.specs.Walks.{Made}
+use Rattle.gt_live.specs.declared.domain.Domain.{Domain}
+use Rattle.gt_live.specs.declared.monitor.Monitor.{Monitor}
+use Rattle.gt_order.proofs.Called.{plain-made}
+use Rattle.gt_order.proofs.Deeds.{at-rest, deeds-on, rest-on}
+use Rattle.gt_order.proofs.Leaving.{releases-each, with_rest}
+use Rattle.gt_order.proofs.Making.{header-is}
+use Rattle.gt_order.proofs.Places.{as-many}
+use Rattle.gt_order.specs.Closing.{AreClosing, ClosingIsWithdrawing, ResettingIsReleasing, StatusIsLooking}
+use Rattle.gt_order.specs.Runs.{AreDeeds, CallMade, Deed, IsAtRest, KeepsNoPin, LookMade, domain_after}
+use Rattle.gt_order.specs.Runs.Deed.{Call, Look}
+use Rattle.gt_order.specs.Runs.CallOutcome.{Told}
+
+no-pin : (r : Result (Unit {0}) Denial) → KeepsNoPin (verdict_of r)
+no-pin (Ok done) = tt
+no-pin (Err denial) = tt
+
+-- the deeds with which a domain closes its table
+
+module _ {P : Type 0} (may : P → AllowRelation) (m : Monitor P) (start : Domain) where
+  -- the deeds so far, and the domain after them
+  record Came (e : Domain) : Type 0 where
+    deeds : List Deed
+    made : AreDeeds m.words m.config (may m.rights) start deeds
+    closing : AreClosing deeds
+    now : domain_after start deeds ≡ e
+    mine : BelongsTo may m e
+    dom : e.seat.dom ≡ start.seat.dom
+
+  begins : BelongsTo may m start → Came start
+  begins mine = record { deeds = []; made = tt; closing = tt; now = refl; mine = mine; dom = refl }
+
+  asks : (d e : Domain) (gref : GrantRef) (result : Result (Unit {0}) Denial) → Came d → AsksWithdrawal may m d gref result e → Came e
+  asks d e gref result was (stays, calls) =
+      let one = plain-made may m d e (requests.Withdraw gref) (verdict_of result) (record { before = was.mine; afterwards = stays.0; seat = stays.1 }) (λ a. a) (tt, tt) (no-pin result) calls.answers.0 calls.answers.1 in
+      let call : CallMade = record { request = requests.Withdraw gref; outcome = Told (verdict_of result); steps = one.0; old = d; new = e } in record {
+        deeds = Call call ∷ was.deeds;
+        made = (one.1, at-rest d (domain_after start was.deeds) was.now, was.made);
+        closing = ((gref, refl), was.closing);
+        now = refl;
+        mine = stays.0;
+        dom = stays.1.dom ∙ was.dom;
+      }
+
+  refused : (n : ℕ) (d e : Domain) (gref : GrantRef) → Came d → AreRefused may m d gref n e → Came e
+  refused zero d e gref was same = subst Came (sym same) was
+  refused (suc n) d e gref was (c, denial, before, last) = asks c e gref (Err denial) (refused n d c gref was before) last
+
+  shut : (d e : Domain) (gref : GrantRef) → Came d → ShutsRow may m d gref e → Came e
+  shut d e gref was (inl none) = subst Came (sym none.1) was
+  shut d e gref was (inr (inl w)) = asks w.before e gref (Ok tt) (refused w.refusals d w.before gref was w.refused) w.granted
+  shut d e gref was (inr (inr all)) = refused most_withdrawals d e gref was all
+
+  looks : (d e : Domain) (gref : GrantRef) (word : ℕ) → gref.0 < TABLE_ENTRIES → Came d → IsUnsettled d e → Made m.words.layout (LookControl d.seat.dom gref) (Word word) d.seat.view e.seat.view → Came e
+  looks d e gref word inside was kept found =
+      let look : LookMade = record { gref = gref; word = word; old = d; new = e } in record {
+        deeds = Look look ∷ was.deeds;
+        made = (record { entry = inside; found = found; kept = kept }, at-rest d (domain_after start was.deeds) was.now, was.made);
+        closing = was.closing;
+        now = refl;
+        mine = looked m.words m.config (may m.rights) d e was.mine (still_seat m.words d.seat e.seat was.mine.seat kept.seat) kept.seat.dom (λ j. (kept.own j).items) (λ j. (kept.mappings j).slots)
+            (look-same m.words.layout (LookControl d.seat.dom gref) (Word word) d.seat.view e.seat.view found tt);
+        dom = kept.seat.dom ∙ was.dom;
+      }
+
+  row : (d e : Domain) (gref : GrantRef) (word : ℕ) → gref.0 < TABLE_ENTRIES → Came d → ClosesRow may m d gref word e → Came e
+  row d e gref word inside was x =
+      let before = shut d x.between gref was x.shut in
+      looks x.between e gref word inside before x.kept (subst (λ (q : DomId). Made m.words.layout (LookControl q gref) (Word word) x.between.seat.view e.seat.view) (was.dom ∙ sym before.dom) x.look)
+
+  rows : (r : ℕ) (words : List ℕ) → r + length words ≡ TABLE_ENTRIES → (d e : Domain) → Came d → ClosesRows may m d r words e → Came e
+  rows r [] all d e was same = subst Came (sym same) was
+  rows r (word ∷ words) all d e was (c, here, rest) = rows (suc r) words (omega (arith, all)) c e (row d c (record { 0 = r }) word (omega (arith, all)) was here) rest
+
+  closes : (e : Domain) (left : ℕ) → BelongsTo may m start → Closes may m start left e → Came e
+  closes e left mine x = let all = x.all in rows 0 x.words (omega (arith, all)) start e (begins mine) x.rows
+
+-- the rows of a domain are known by what its seat did
+
+same-items : (xs ys : List OwnerEntry) → length xs ≡ length ys → ((r : ℕ) → r < length xs → slice_get xs r ≡ slice_get ys r) → xs ≡ ys
+same-items [] [] e f = refl
+same-items [] (y ∷ ys) e f = absurd (omega (arith, e))
+same-items (x ∷ xs) [] e f = absurd (omega (arith, e))
+same-items (x ∷ xs) (y ∷ ys) e f =
+    let rest = same-items xs ys (omega (arith, e)) (λ r lt. f (suc r) (omega (arith, lt))) in
+    let here : Some x ≡ Some y = f 0 (omega arith) in same x y rest here
+  where
+    same : (a c : OwnerEntry) → xs ≡ ys → Some a ≡ Some c → ◌≡◌ {A = List OwnerEntry} (a ∷ xs) (c ∷ ys)
+    same a c rest here = cc
+
+same-row : (first : ℕ) (xs ys : List OwnerEntry) (r : ℕ) → r < length xs → r < length ys → own_generation first xs r ≡ own_generation first ys r → entry_in xs r ≡ entry_in ys r → slice_get xs r ≡ slice_get ys r
+same-row first xs ys r inside within generation entry =
+    let x = row-there xs r inside in let y = row-there ys r within in
+    let g : x.0.generation ≡ y.0.generation = sym (ap (row_generation first) x.1) ∙ (generation ∙ ap (row_generation first) y.1) in
+    let n : x.0.entry ≡ y.0.entry = sym (ap row_entry x.1) ∙ (entry ∙ ap row_entry y.1) in
+    let same : x.0 ≡ y.0 = λ j. record { entry = n j; generation = g j } in
+    x.1 ∙ (ap (λ (o : OwnerEntry). Some o) same ∙ sym y.1)
+
+same-own : (b : Board) (c : Config) (may : AllowRelation) (d e : Domain) → IsDomainOf b c may d → IsDomainOf b c may e → e.seat.view ≡ d.seat.view → e.own.items ≡ d.own.items
+same-own b c may d e x y view =
+    same-items e.own.items d.own.items (y.all_rows ∙ sym x.all_rows) (λ r lt.
+      let rows = y.all_rows in let all = x.all_rows in
+      let inside : r < TABLE_ENTRIES = omega (arith, lt, rows) in
+      let last = sym (y.rows r inside) ∙ (ap (λ (v : View). last_of r v) view ∙ x.rows r inside) in
+      same-row c.first_gen e.own.items d.own.items r lt (omega (arith, inside, all)) (ap (λ (z : EntryRecord). z.generation) last) (ap (λ (z : EntryRecord). z.entry) last))
+
+-- the table that a domain knows has no more entries than there is room for
+
+known-version : (h : Header) → (h.version ≡ 1) ⊎ (h.version ≡ 2) → h.version ≤ LAST_VERSION
+known-version h (inl e) = omega (arith, e)
+known-version h (inr e) = omega (arith, e)
+
+own-fits : (k : Layout) (h : StepHistory) (v : View) → StoodWith (Unit {0}) k h v → v.position < k.domains → size_of (own_table v) ≤ TABLE_ENTRIES
+own-fits k h v stood inside =
+    let n = stood.1.headers v.position inside in let kept = n.1.1 in
+    let same : own_header v ≡ header_word n.1.0 = sym (header-is k h v stood inside) ∙ (sym (stood.1.led_here.words (header_place v.position) (omega (arith, inside))) ∙ n.1.2) in
+    let fits = table-fits n.1.0 (record { version = known-version n.1.0 kept.version; frames = kept.few }) in
+    subst (λ (x : Header). size_of x ≤ TABLE_ENTRIES) (sym (ap header_of same ∙ fits.1)) fits.0
+
+-- the laws
+
+module _ {P : Type 0} (may : P → AllowRelation) (m : Monitor P) where
+  pub closing-made : ClosingIsWithdrawing may m
+  closing-made d e left mine x =
+      let y = closes may m d e left mine x in
+      (y.deeds, record { made = y.made; now = at-rest e (domain_after d y.deeds) y.now }, y.closing)
+
+  pub resetting-made : ResettingIsReleasing may m
+  resetting-made d e left mine x =
+      let b = m.words in let c = m.config in let rights = may m.rights in let f = x.between in
+      let was = releases-each b c rights d mine x.handles f.mappings f.seat.view x.released in
+      let own : f.own.items ≡ d.own.items = same-own b c rights (with_rest d f.seat.view f.mappings) f was.of-run x.mine refl in
+      let rest : IsAtRest (with_rest d f.seat.view f.mappings) f = record { seat = λ j. record { table = x.seat.table j; dom = x.seat.dom j; view = f.seat.view }; own = λ j. record { items = own j }; mappings = refl } in
+      let now : IsAtRest (domain_after d was.deeds) f = subst (λ (z : Domain). IsAtRest z f) (sym was.now) rest in
+      let y = closes may m f e left x.mine x.closes in (
+        y.deeds,
+        was.deeds,
+        record { made = deeds-on d f was.deeds now b c rights y.deeds was.made y.made; now = rest-on d f was.deeds now y.deeds e (at-rest e (domain_after f y.deeds) y.now) },
+        y.closing,
+        was.releases,
+      )
+
+  pub status-made : StatusIsLooking may m
+  status-made d e gref None mine (past, same) = ([], record { made = tt; now = at-rest e d (sym same) }, refl)
+  status-made d e gref (Some control) mine (low, kept, word, found, is) =
+      let stood = found.0.steps.step.stood in let as = as-many m.config m.words.layout m.same_run in let at = mine.seat.inside in
+      let few = own-fits m.words.layout found.0.steps.past d.seat.view stood (omega (arith, as, at)) in
+      let y = looks may m d d e gref word (omega (arith, low, few)) (begins may m d mine) kept found in
+      (y.deeds, record { made = y.made; now = at-rest e (domain_after d y.deeds) y.now }, (record { gref = gref; word = word; old = d; new = e }, refl, refl, is))

@@ -1,0 +1,52 @@
+-- Closing a table, resetting a domain and looking at an entry are deeds of a run.
+use Rattle.std.specs.Prelude.{◌≡◌, ℕ, List, [], ◌∷◌, ◌++◌, Option, Some, None}
+use Rattle.gt_types.specs.declared.GrantRef.{GrantRef}
+use Rattle.gt_types.specs.declared.config.Config.{Config}
+use Rattle.gt_entry.specs.declared.control.Control.{Control}
+use Rattle.gt_entry.specs.Words.{control_of}
+use Rattle.gt_words.specs.Conditions.{Board}
+use Rattle.gt_calls.specs.declared.request.Request.TheVariants as requests
+use Rattle.gt_live.specs.Closing.{Closes, LooksAtOwn, Resets}
+use Rattle.gt_live.specs.Domains.{AllowRelation, BelongsTo}
+use Rattle.gt_live.specs.declared.domain.Domain.{Domain}
+use Rattle.gt_live.specs.declared.monitor.Monitor.{Monitor}
+use Rattle.gt_order.specs.Leaving.{AreReleases}
+use Rattle.gt_order.specs.Runs.{AreDeeds, Deed, IsAtRest, LookMade, domain_after}
+use Rattle.gt_order.specs.Runs.Deed.{Call, Look, OnFlag}
+
+-- the domain d did these deeds, the last one first, and is then e, between two deeds
+pub record LeadTo {P : Type 0} (may : P → AllowRelation) (m : Monitor P) (d : Domain) (deeds : List Deed) (e : Domain)
+    : Type 0 where
+  pub made : AreDeeds m.words m.config (may m.rights) d deeds
+  pub now : IsAtRest (domain_after d deeds) e
+
+-- each of these deeds is a withdrawal of an entry, or a look at one
+abbrev pub AreClosing : List Deed → Type 0
+AreClosing [] = Unit {0}
+AreClosing (Call m ∷ ms) = ((gref : GrantRef) × (m.request ≡ requests.Withdraw gref)) × AreClosing ms
+AreClosing (OnFlag x ∷ ms) = ⊥
+AreClosing (Look x ∷ ms) = AreClosing ms
+
+-- what `close` does is withdrawals and looks
+abbrev pub ClosingIsWithdrawing : {P : Type 0} → (P → AllowRelation) → Monitor P → Type 0
+ClosingIsWithdrawing may m =
+    (d e : Domain) (left : ℕ) → BelongsTo may m d → Closes may m d left e
+    → (deeds : List Deed) × LeadTo may m d deeds e × AreClosing deeds
+
+-- what `reset` does is releases, each Ok, and then withdrawals and looks
+abbrev pub ResettingIsReleasing : {P : Type 0} → (P → AllowRelation) → Monitor P → Type 0
+ResettingIsReleasing may m =
+    (d e : Domain) (left : ℕ) → BelongsTo may m d → Resets may m d left e
+    → (closing releases : List Deed) × LeadTo may m d (closing ++ releases) e × AreClosing closing × AreReleases releases
+
+-- a look at this entry that found this control; none if there is no control
+abbrev pub IsStatus : GrantRef → Option Control → List Deed → Type 0
+IsStatus gref None deeds = deeds ≡ []
+IsStatus gref (Some control) deeds =
+    (x : LookMade) × (deeds ≡ Look x ∷ []) × (x.gref ≡ gref) × (control ≡ control_of x.word)
+
+-- what `status` does is one look, or nothing
+abbrev pub StatusIsLooking : {P : Type 0} → (P → AllowRelation) → Monitor P → Type 0
+StatusIsLooking may m =
+    (d e : Domain) (gref : GrantRef) (found : Option Control) → BelongsTo may m d
+    → LooksAtOwn m.words.layout d gref found e → (deeds : List Deed) × LeadTo may m d deeds e × IsStatus gref found deeds
