@@ -1,7 +1,6 @@
 -- A domain that closes its table makes withdrawals and looks, and one that is reset releases its mappings before.
-use Rattle.std.proofs.Common.{◌≡◌, ◌⊎◌, inl, inr, ℕ, zero, suc, ◌+◌, ◌<◌, ◌≤◌, List, [], ◌∷◌, ◌++◌, length, Option, Some, None}
+use Rattle.std.proofs.Common.{◌≡◌, ◌⊎◌, inl, inr, ℕ, zero, suc, ◌+◌, ◌<◌, ◌≤◌, List, [], ◌∷◌, length, Some, None}
 use Rattle.std.proofs.Common.{Result, Ok, Err, sym, refl, ap, ◌∙◌, subst, arith}
-use Rattle.std.proofs.lemmas.Bool.{cases_lt}
 use Rattle.std.specs.Prelude.{slice_get}
 use Rattle.gt_types.specs.declared.DomId.{DomId}
 use Rattle.gt_types.specs.declared.GrantRef.{GrantRef}
@@ -9,10 +8,8 @@ use Rattle.gt_types.specs.declared.config.Config.{Config}
 use Rattle.gt_types.specs.declared.denial.Denial.{Denial}
 use Rattle.gt_types.specs.declared.limits.TheConstants.{LAST_VERSION, TABLE_ENTRIES}
 use Rattle.gt_entry.specs.Words.{header_of, header_word, size_of}
-use Rattle.gt_entry.specs.declared.control.Control.{Control}
-use Rattle.gt_entry.specs.declared.entry.Entry.{Entry}
 use Rattle.gt_entry.specs.declared.header.Header.{Header}
-use Rattle.gt_words.specs.Conditions.{Board, SeatOf}
+use Rattle.gt_words.specs.Conditions.{Board}
 use Rattle.gt_word_history.specs.History.{StepHistory, Layout}
 use Rattle.gt_word_history.specs.Rule.{header_place}
 use Rattle.gt_word_history.specs.Steps.{StoodWith}
@@ -20,7 +17,6 @@ use Rattle.gt_word_history.specs.Views.{last_of, own_header, own_table}
 use Rattle.gt_word_history.specs.declared.view.EntryRecord.{EntryRecord}
 use Rattle.gt_word_history.specs.declared.view.View.{View}
 use Rattle.gt_calls.specs.Rules.{entry_in, own_generation, row_entry, row_generation}
-use Rattle.gt_calls.specs.declared.action.CallResult.TheVariants.{Granted, Refused}
 use Rattle.gt_calls.specs.declared.action.Observation.TheVariants.{Word}
 use Rattle.gt_calls.specs.declared.action.Step.TheVariants.{LookControl}
 use Rattle.gt_calls.specs.declared.known.OwnerEntry.{OwnerEntry}
@@ -132,10 +128,10 @@ same-row first xs ys r inside within generation entry =
 same-own : (b : Board) (c : Config) (may : AllowRelation) (d e : Domain) → IsDomainOf b c may d → IsDomainOf b c may e → e.seat.view ≡ d.seat.view → e.own.items ≡ d.own.items
 same-own b c may d e x y view =
     same-items e.own.items d.own.items (y.all_rows ∙ sym x.all_rows) (λ r lt.
-      let rows = y.all_rows in let all = x.all_rows in
-      let inside : r < TABLE_ENTRIES = omega (arith, lt, rows) in
-      let last = sym (y.rows r inside) ∙ (ap (λ (v : View). last_of r v) view ∙ x.rows r inside) in
-      same-row c.first_gen e.own.items d.own.items r lt (omega (arith, inside, all)) (ap (λ (z : EntryRecord). z.generation) last) (ap (λ (z : EntryRecord). z.entry) last))
+    let rows = y.all_rows in let all = x.all_rows in
+    let inside : r < TABLE_ENTRIES = omega (arith, lt, rows) in
+    let last = sym (y.rows r inside) ∙ (ap (λ (v : View). last_of r v) view ∙ x.rows r inside) in
+    same-row c.first_gen e.own.items d.own.items r lt (omega (arith, inside, all)) (ap (λ (z : EntryRecord). z.generation) last) (ap (λ (z : EntryRecord). z.entry) last))
 
 -- the table that a domain knows has no more entries than there is room for
 
@@ -163,7 +159,7 @@ module _ {P : Type 0} (may : P → AllowRelation) (m : Monitor P) where
       let b = m.words in let c = m.config in let rights = may m.rights in let f = x.between in
       let was = releases-each b c rights d mine x.handles f.mappings f.seat.view x.released in
       let own : f.own.items ≡ d.own.items = same-own b c rights (with_rest d f.seat.view f.mappings) f was.of-run x.mine refl in
-      let rest : IsAtRest (with_rest d f.seat.view f.mappings) f = record { seat = λ j. record { table = x.seat.table j; dom = x.seat.dom j; view = f.seat.view }; own = λ j. record { items = own j }; mappings = refl } in
+      let rest : IsAtRest (with_rest d f.seat.view f.mappings) f = record { seat = λ j. record { table = x.seat.table j; dom = x.seat.dom j; view = f.seat.view }; own = own; mappings = refl } in
       let now : IsAtRest (domain_after d was.deeds) f = subst (λ (z : Domain). IsAtRest z f) (sym was.now) rest in
       let y = closes may m f e left x.mine x.closes in (
         y.deeds,
@@ -175,8 +171,11 @@ module _ {P : Type 0} (may : P → AllowRelation) (m : Monitor P) where
 
   pub status-made : StatusIsLooking may m
   status-made d e gref None mine (past, same) = ([], record { made = tt; now = at-rest e d (sym same) }, refl)
-  status-made d e gref (Some control) mine (low, kept, word, found, is) =
-      let stood = found.0.steps.step.stood in let as = as-many m.config m.words.layout m.same_run in let at = mine.seat.inside in
-      let few = own-fits m.words.layout found.0.steps.past d.seat.view stood (omega (arith, as, at)) in
-      let y = looks may m d d e gref word (omega (arith, low, few)) (begins may m d mine) kept found in
-      (y.deeds, record { made = y.made; now = at-rest e (domain_after d y.deeds) y.now }, (record { gref = gref; word = word; old = d; new = e }, refl, refl, is))
+  status-made d e gref (Some control) mine (low, kept, (word, found, is)) =
+      let stood = found.0.steps.step.stood in let all = as-many m.config m.words.layout m.same_run in let at = mine.seat.inside in
+      let few = own-fits m.words.layout found.0.steps.past d.seat.view stood (omega (arith, all, at)) in
+      let x : LookMade = record { gref = gref; word = word; old = d; new = e } in (
+        Look x ∷ [],
+        record { made = (record { entry = omega (arith, low, few); found = found; kept = kept }, at-rest d d refl, tt); now = at-rest e e refl },
+        (x, refl, refl, is),
+      )

@@ -8,7 +8,7 @@ use Rattle.gt_order.specs.Runs.{AreDeeds, Deed, IsAtRest, domain_after}
 use Rattle.gt_order.specs.Runs.Deed.{Call, Look, OnFlag}
 
 pub at-rest : (d e : Domain) → e ≡ d → IsAtRest e d
-at-rest d e is = record { seat = ap (λ (x : Domain). x.seat) (sym is); own = ap (λ (x : Domain). x.own) (sym is); mappings = ap (λ (x : Domain). x.mappings) (sym is) }
+at-rest d e is = record { seat = ap (λ (x : Domain). x.seat) (sym is); own = ap (λ (x : Domain). x.own.items) (sym is); mappings = ap (λ (x : Domain). x.mappings) (sym is) }
 
 module _ (first d : Domain) (ms : List Deed) (now : IsAtRest (domain_after first ms) d) where
   pub rest-on : (us : List Deed) (e : Domain) → IsAtRest (domain_after d us) e → IsAtRest (domain_after first (us ++ ms)) e

@@ -187,7 +187,7 @@ module _ (b : Board) (c : Config) (may : AllowRelation) (limits : IsWithinLimits
 
   -- two states of a domain that differ in its records alone
   pub known-alike : (D E : Domain) → IsAtRest D E → knowledge c may E ≡ knowledge c may D
-  known-alike D E r = λ j. knowledge_of c.domains.items c.first_gen may (r.own j).items (own_table (r.seat j).view) (r.mappings j)
+  known-alike D E r = λ j. knowledge_of c.domains.items c.first_gen may (r.own j) (own_table (r.seat j).view) (r.mappings j)
 
   -- the step goes on
   pub going-on : (g : Items) (ms : List Deed) (m : CallMade) (xs : List Moment) (x : Moment) (v w : View) (call : IsCall b c may m) (seat : SeatNow c may g d first (Going ms m xs))

@@ -244,10 +244,13 @@ one-last o y raised-so passes at d flag e =
     (r.0, r.1, (let l = r.2 in let m = p.0 in omega (arith, l, m)), still-there (happenings o) (y ∷ []) (raised r.1 flag) r.0 r.3))
     (last-or-before (happenings o) y (passed d flag) at e)
 
+none-raised : FlagsAreRaised []
+none-raised at d flag e = cc
+
 module _ (c : Config) where
   -- a flag is passed only after a domain raised it
   pub order-raised : (o : RunOrder) → AreOnRaisedFlags c o → FlagsAreRaised (happenings o)
-  order-raised [] flags at d flag e = cc
+  order-raised [] flags = none-raised
   order-raised (OfCore i ∷ o) flags = one-last o (did_item i) (order-raised o flags) (λ d flag e. absurd (item-passes i d flag e))
   order-raised (OfFlag a f Raised ∷ o) flags = one-last o (raised a f) (order-raised o flags.2) (λ d flag e. absurd (raised-passes a d f flag e))
   order-raised (OfFlag a f Passed ∷ o) flags = one-last o (passed a f) (order-raised o flags.2) (λ d flag e. subst (λ (n : ℕ). IsRaisedIn n o) (same-flag a d f flag e) flags.1)

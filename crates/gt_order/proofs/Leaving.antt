@@ -72,7 +72,7 @@ module _ (b : Board) (c : Config) (may : AllowRelation) (d : Domain) (mine : IsD
         deeds = Call call ∷ was.deeds;
         made = (
           record { before = was.of-run; afterwards = of-run; seat = seat; fits = (tt, tt); answered = (tt, (called, refl), (m, removes)) },
-          record { seat = ap (λ (z : Domain). z.seat) (sym was.now); own = ap (λ (z : Domain). z.own) (sym was.now); mappings = ap (λ (z : Domain). z.mappings) (sym was.now) },
+          record { seat = ap (λ (z : Domain). z.seat) (sym was.now); own = ap (λ (z : Domain). z.own.items) (sym was.now); mappings = ap (λ (z : Domain). z.mappings) (sym was.now) },
           was.made,
         );
         releases = ((h, refl, refl), was.releases);

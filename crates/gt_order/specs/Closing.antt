@@ -1,10 +1,8 @@
 -- Closing a table, resetting a domain and looking at an entry are deeds of a run.
 use Rattle.std.specs.Prelude.{◌≡◌, ℕ, List, [], ◌∷◌, ◌++◌, Option, Some, None}
 use Rattle.gt_types.specs.declared.GrantRef.{GrantRef}
-use Rattle.gt_types.specs.declared.config.Config.{Config}
 use Rattle.gt_entry.specs.declared.control.Control.{Control}
 use Rattle.gt_entry.specs.Words.{control_of}
-use Rattle.gt_words.specs.Conditions.{Board}
 use Rattle.gt_calls.specs.declared.request.Request.TheVariants as requests
 use Rattle.gt_live.specs.Closing.{Closes, LooksAtOwn, Resets}
 use Rattle.gt_live.specs.Domains.{AllowRelation, BelongsTo}
@@ -37,7 +35,8 @@ ClosingIsWithdrawing may m =
 abbrev pub ResettingIsReleasing : {P : Type 0} → (P → AllowRelation) → Monitor P → Type 0
 ResettingIsReleasing may m =
     (d e : Domain) (left : ℕ) → BelongsTo may m d → Resets may m d left e
-    → (closing releases : List Deed) × LeadTo may m d (closing ++ releases) e × AreClosing closing × AreReleases releases
+    → (closing releases : List Deed)
+    × LeadTo may m d (closing ++ releases) e × AreClosing closing × AreReleases releases
 
 -- a look at this entry that found this control; none if there is no control
 abbrev pub IsStatus : GrantRef → Option Control → List Deed → Type 0
@@ -49,4 +48,5 @@ IsStatus gref (Some control) deeds =
 abbrev pub StatusIsLooking : {P : Type 0} → (P → AllowRelation) → Monitor P → Type 0
 StatusIsLooking may m =
     (d e : Domain) (gref : GrantRef) (found : Option Control) → BelongsTo may m d
-    → LooksAtOwn m.words.layout d gref found e → (deeds : List Deed) × LeadTo may m d deeds e × IsStatus gref found deeds
+    → LooksAtOwn m.words.layout d gref found e
+    → (deeds : List Deed) × LeadTo may m d deeds e × IsStatus gref found deeds

@@ -23,8 +23,8 @@ abbrev pub IsNewestOnFlag : Layout → DomId → ℕ → FlagStep → (StepHisto
 IsNewestOnFlag k d flag m rest [] = ⊥
 IsNewestOnFlag k d flag m rest (p ∷ h) = (d ≡ dom_at k p.0) × (p.1 ≡ Flag flag m) × rest h
 
--- what happens in a run: an item of the core, a step of a domain on a flag, or a look of a domain at the control word of
--- one of its entries that belongs to no call, with the word that it found
+-- what happens in a run: an item of the core, a step of a domain on a flag, or a look of a domain at one of its entries
+-- that belongs to no call, with the control word that it found
 pub data Occurrence : Type 0 where
   OfCore : Item → Occurrence
   OfFlag : DomId → ℕ → FlagStep → Occurrence
@@ -131,8 +131,8 @@ way_of c may m = path_of (knowledge c may m.old) m.old.seat.dom m.request
 abbrev pub of_core : List Item → RunOrder
 of_core items = map (λ i. OfCore i) items
 
--- what the deeds of the domain d are in an order, the last one first: the items of its calls, its steps on flags and its
--- looks
+-- what the deeds of the domain d are in an order, the last one first: the items of its calls, its steps on flags, and
+-- its looks
 abbrev pub order_of_deeds : Config → AllowRelation → DomId → List Deed → RunOrder
 order_of_deeds c may d [] = []
 order_of_deeds c may d (Call m ∷ ms) =
@@ -166,8 +166,8 @@ trace_of [] = []
 trace_of (i ∷ g) = trace_of g ++ Did i ∷ []
 
 -- a legal order of the run's deeds: a core represents its items, their trace is legal for their events, its steps are
--- those of the history in their order and wrote the same bytes, each flag is raised before it is passed, each look found
--- the word that was there, and what each domain does are its deeds
+-- those of the history in their order and wrote the same bytes, each flag is raised before it is passed, each look
+-- found the word that was there, and what each domain does are its deeds
 pub record IsLegalOrder (c : Config) (may : AllowRelation) (k : Layout) (h : StepHistory) (seats : ℕ → SeatRun)
     (o : RunOrder) : Type 0 where
   pub reached : CanBeReached (setting_of c may) (items_in o)

@@ -160,7 +160,7 @@ pub data Deed : Type 0 where
 -- between two deeds the domain changed only its records
 pub record IsAtRest (d e : Domain) : Type 0 where
   pub seat : e.seat ≡ d.seat
-  pub own : e.own ≡ d.own
+  pub own : e.own.items ≡ d.own.items
   pub mappings : e.mappings ≡ d.mappings
 
 -- what a domain did: the domain as it came with the monitor, and its deeds, the last one first
