@@ -160,7 +160,7 @@ pub use Rattle.gt_calls.specs.{declared.request.PinHolder.TheVariants.Mapping as
 pub use Rattle.gt_calls.specs.{declared.request.Request.Request, declared.call.CallStart.TheVariants.Open as StartOpen}
 pub use Rattle.gt_calls.specs.{declared.call.CallStart.CallStart}
 pub use Rattle.gt_core.specs.{Accesses.AccessedBy, Accesses.IsAdmitted, Accesses.IsLoadOf, Accesses.IsReadable}
-pub use Rattle.gt_core.specs.{Accesses.IsWritOf, Accesses.IsWriting, Accesses.ground_of}
+pub use Rattle.gt_core.specs.{Accesses.IsWritOf, Accesses.IsWriting, Accesses.basis_of}
 pub use Rattle.gt_core.specs.{Accesses.route_of, Alike.AreAlike, Alike.AsksKnown, Alike.HappensKnown, Alike.IsKnown}
 pub use Rattle.gt_core.specs.{Alike.IsOfKnown, Alike.SameElement, Alike.SameEvent, Alike.SameHistory, Alike.ToldItem}
 pub use Rattle.gt_core.specs.{Alike.bare_event, Alike.bare_handle, Alike.bare_happened, Alike.bare_request}

@@ -21,10 +21,10 @@ use Rattle.gt_frames.specs.Sets.{FrameSet, frame_at, has_range, admits, AreKept,
 use Rattle.gt_core.specs.States.{State}
 
 -- the right of a write by a route: the writer owns the frame, or the entries of the route's pins grant it
-abbrev pub ground_of : AccessPath → WriteBasis
-ground_of Own = Owned
-ground_of (Direct p) = Granted p.entry
-ground_of (Through via p) = Forwarded via.entry via.dom p.entry
+abbrev pub basis_of : AccessPath → WriteBasis
+basis_of Own = Owned
+basis_of (Direct p) = Granted p.entry
+basis_of (Through via p) = Forwarded via.entry via.dom p.entry
 
 -- the route by which a call writes: by the pin of a store's mapping, or by those of a copy's destination; otherwise
 -- to the caller's own frame
@@ -38,7 +38,7 @@ route_of mappings call = by call.request
 
 -- the writ is that of the domain's call: the caller writes, by the route of the call
 abbrev pub IsWritOf : State → Call → Writ → Type 0
-IsWritOf d call w = (w.writer ≡ call.caller) × (w.basis ≡ ground_of (route_of d.mappings call))
+IsWritOf d call w = (w.writer ≡ call.caller) × (w.basis ≡ basis_of (route_of d.mappings call))
 
 -- the step writes bytes
 abbrev pub IsWriting : Step → Type 0

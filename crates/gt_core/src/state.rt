@@ -1,6 +1,6 @@
 //! The state of a domain, as plain lists.
 ghost use Rattle.std.specs.Prelude.{◌≡◌, ◌==◌, ◌%◌, position};
-ghost use Rattle.gt_core.specs.Accesses.{ground_of};
+ghost use Rattle.gt_core.specs.Accesses.{basis_of};
 ghost use Rattle.gt_core.specs.States.{IsPlaced};
 
 use crate::core_state::EntryView;
@@ -71,8 +71,8 @@ fn table_header(version: u32, frames: u32) -> Header
 }
 
 // Returns the right of a write by this route.
-fn ground_of(route: AccessPath) -> WriteBasis
-    ensures { result ≡ ground_of route }
+fn basis_of(route: AccessPath) -> WriteBasis
+    ensures { result ≡ basis_of route }
 {
     match route {
         AccessPath::Own => WriteBasis::Owned,
@@ -205,7 +205,7 @@ impl DomainState {
     {
         Writ {
             writer: call.caller,
-            basis: ground_of(self.route(call)),
+            basis: basis_of(self.route(call)),
         }
     }
 

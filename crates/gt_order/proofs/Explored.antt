@@ -22,7 +22,7 @@ use Rattle.gt_script.specs.RunContents.{RunContents}
 use Rattle.gt_script.specs.RunScripts.{list_of}
 use Rattle.gt_explore_replay.specs.Orders.{AllFollow, FollowsList, Happening, MayGive, doer, events_in, own_happenings, trace_in}
 use Rattle.gt_live.specs.declared.monitor.Monitor.{Monitor}
-use Rattle.gt_run.specs.Printing.{AreDuties, AreServed, Served, ShowOneState, duties_in, texts_in}
+use Rattle.gt_run.specs.Printing.{AreDuties, AreServed, Served, ShowOneState, jobs_in, texts_in}
 use Rattle.gt_run.specs.Runs.{AreOf, IsOver}
 use Rattle.gt_run.specs.declared.lists.DomainPart.{DomainPart}
 use Rattle.gt_run.specs.declared.lists.ThreadJob.{ThreadJob}
@@ -58,50 +58,50 @@ all-among Is [] all x is = absurd is
 all-among Is (y ∷ ys) all x (inl e) = subst Is (sym e) (All-head Is y ys all)
 all-among Is (y ∷ ys) all x (inr is) = all-among Is ys (All-tail Is y ys all) x is
 
-module _ (c : RunContents) (logged : Bool) (x : Served ScriptRights) (xs : List (Served ScriptRights)) (of : AreOf c logged (duties_in (x ∷ xs))) where
+module _ (c : RunContents) (logged : Bool) (x : Served ScriptRights) (xs : List (Served ScriptRights)) (of : AreOf c logged (jobs_in (x ∷ xs))) where
   abbrev m : Monitor ScriptRights
   m = of.monitor
 
   abbrev lists : ℕ → Served ScriptRights
   lists i = get_or (x ∷ xs) i x
 
-  on : All (λ (d : ThreadJob ScriptRights). d.monitor.now ≡ m) (duties_in (x ∷ xs))
-  on = All-weaker (λ (d : ThreadJob ScriptRights). (d.monitor.now ≡ m) × (is_some d.log ≡ logged)) (λ (d : ThreadJob ScriptRights). d.monitor.now ≡ m) (λ d both. both.0) (duties_in (x ∷ xs)) of.duties_are.1
+  on : All (λ (d : ThreadJob ScriptRights). d.monitor.now ≡ m) (jobs_in (x ∷ xs))
+  on = All-weaker (λ (d : ThreadJob ScriptRights). (d.monitor.now ≡ m) × (is_some d.log ≡ logged)) (λ (d : ThreadJob ScriptRights). d.monitor.now ≡ m) (λ d both. both.0) (jobs_in (x ∷ xs)) of.jobs_are.1
 
-  parts-are : map (λ (d : ThreadJob ScriptRights). d.part) (duties_in (x ∷ xs)) ≡ of.parts
-  parts-are = of.duties_are.0
+  parts-are : map (λ (d : ThreadJob ScriptRights). d.part) (jobs_in (x ∷ xs)) ≡ of.parts
+  parts-are = of.jobs_are.0
 
   map-dom : (ds : List (ThreadJob ScriptRights)) → map (λ (p : DomainPart). p.dom) (map (λ (d : ThreadJob ScriptRights). d.part) ds) ≡ map (λ (d : ThreadJob ScriptRights). d.part.dom) ds
   map-dom [] = refl
   map-dom (d ∷ ds) = ap (λ l. d.part.dom ∷ l) (map-dom ds)
 
-  ids : map (λ (d : ThreadJob ScriptRights). d.part.dom) (duties_in (x ∷ xs)) ≡ map (λ (d : DomainConfig). d.id) m.config.domains.items
-  ids = sym (map-dom (duties_in (x ∷ xs))) ∙ (ap (map (λ (p : DomainPart). p.dom)) parts-are ∙ (of.of_script.0 ∙ ap (map (λ (d : DomainConfig). d.id)) (sym of.domains)))
+  ids : map (λ (d : ThreadJob ScriptRights). d.part.dom) (jobs_in (x ∷ xs)) ≡ map (λ (d : DomainConfig). d.id) m.config.domains.items
+  ids = sym (map-dom (jobs_in (x ∷ xs))) ∙ (ap (map (λ (p : DomainPart). p.dom)) parts-are ∙ (of.of_script.0 ∙ ap (map (λ (d : DomainConfig). d.id)) (sym of.domains)))
 
-  many : length (duties_in (x ∷ xs)) ≡ length m.config.domains.items
-  many = sym (length-map (duties_in (x ∷ xs)) (λ (d : ThreadJob ScriptRights). d.part.dom)) ∙ ap length ids ∙ length-map m.config.domains.items (λ (d : DomainConfig). d.id)
+  many : length (jobs_in (x ∷ xs)) ≡ length m.config.domains.items
+  many = sym (length-map (jobs_in (x ∷ xs)) (λ (d : ThreadJob ScriptRights). d.part.dom)) ∙ ap length ids ∙ length-map m.config.domains.items (λ (d : DomainConfig). d.id)
 
   same-many : length (x ∷ xs) ≡ length c.head.domains
-  same-many = sym (length-map (x ∷ xs) (λ (s : Served ScriptRights). s.duty)) ∙ (many ∙ ap length of.domains)
+  same-many = sym (length-map (x ∷ xs) (λ (s : Served ScriptRights). s.job)) ∙ (many ∙ ap length of.domains)
 
   setting-is : setting_of m.config (may_by m.rights) ≡ setting_of_script c.head
   setting-is = λ j. record { domains = of.domains j; first_generation = of.generation j; may = of.rights j }
 
-  over-at : (i : ℕ) → i < length (x ∷ xs) → IsOver c.tasks (type_names c.head) (lists i).duty.part
+  over-at : (i : ℕ) → i < length (x ∷ xs) → IsOver c.tasks (type_names c.head) (lists i).job.part
   over-at i l =
-      let inside : i < length (duties_in (x ∷ xs)) = let e = length-map (x ∷ xs) (λ (s : Served ScriptRights). s.duty) in omega (arith, l, e) in
-      let all : All (IsOver c.tasks (type_names c.head)) (map (λ (d : ThreadJob ScriptRights). d.part) (duties_in (x ∷ xs))) = subst (All (IsOver c.tasks (type_names c.head))) (sym parts-are) of.of_script.1 in
-      let within : i < length (map (λ (d : ThreadJob ScriptRights). d.part) (duties_in (x ∷ xs))) = let e = length-map (duties_in (x ∷ xs)) (λ (d : ThreadJob ScriptRights). d.part) in omega (arith, inside, e) in
-      subst (IsOver c.tasks (type_names c.head)) (get_or-map (λ (d : ThreadJob ScriptRights). d.part) (duties_in (x ∷ xs)) i x.duty x.duty.part inside ∙ ap (λ (d : ThreadJob ScriptRights). d.part) (get_or-map (λ (s : Served ScriptRights). s.duty) (x ∷ xs) i x x.duty l))
-      (All-get_or (IsOver c.tasks (type_names c.head)) (map (λ (d : ThreadJob ScriptRights). d.part) (duties_in (x ∷ xs))) i x.duty.part within all)
+      let inside : i < length (jobs_in (x ∷ xs)) = let e = length-map (x ∷ xs) (λ (s : Served ScriptRights). s.job) in omega (arith, l, e) in
+      let all : All (IsOver c.tasks (type_names c.head)) (map (λ (d : ThreadJob ScriptRights). d.part) (jobs_in (x ∷ xs))) = subst (All (IsOver c.tasks (type_names c.head))) (sym parts-are) of.of_script.1 in
+      let within : i < length (map (λ (d : ThreadJob ScriptRights). d.part) (jobs_in (x ∷ xs))) = let e = length-map (jobs_in (x ∷ xs)) (λ (d : ThreadJob ScriptRights). d.part) in omega (arith, inside, e) in
+      subst (IsOver c.tasks (type_names c.head)) (get_or-map (λ (d : ThreadJob ScriptRights). d.part) (jobs_in (x ∷ xs)) i x.job x.job.part inside ∙ ap (λ (d : ThreadJob ScriptRights). d.part) (get_or-map (λ (s : Served ScriptRights). s.job) (x ∷ xs) i x x.job l))
+      (All-get_or (IsOver c.tasks (type_names c.head)) (map (λ (d : ThreadJob ScriptRights). d.part) (jobs_in (x ∷ xs))) i x.job.part within all)
 
   -- the number of a list's domain
-  dom-at : (i : ℕ) (d : DomainConfig) → i < length (x ∷ xs) → (lists i).duty.part.dom ≡ (get_or c.head.domains i d).id
+  dom-at : (i : ℕ) (d : DomainConfig) → i < length (x ∷ xs) → (lists i).job.part.dom ≡ (get_or c.head.domains i d).id
   dom-at i d l =
-      let inside : i < length (duties_in (x ∷ xs)) = let e = length-map (x ∷ xs) (λ (s : Served ScriptRights). s.duty) in omega (arith, l, e) in
+      let inside : i < length (jobs_in (x ∷ xs)) = let e = length-map (x ∷ xs) (λ (s : Served ScriptRights). s.job) in omega (arith, l, e) in
       let there : i < length c.head.domains = omega (arith, l, same-many) in
-      ap (λ (e : ThreadJob ScriptRights). e.part.dom) (sym (get_or-map (λ (s : Served ScriptRights). s.duty) (x ∷ xs) i x x.duty l))
-      ∙ (sym (get_or-map (λ (e : ThreadJob ScriptRights). e.part.dom) (duties_in (x ∷ xs)) i x.duty d.id inside)
+      ap (λ (e : ThreadJob ScriptRights). e.part.dom) (sym (get_or-map (λ (s : Served ScriptRights). s.job) (x ∷ xs) i x x.job l))
+      ∙ (sym (get_or-map (λ (e : ThreadJob ScriptRights). e.part.dom) (jobs_in (x ∷ xs)) i x.job d.id inside)
       ∙ (ap (λ (ys : List DomId). get_or ys i d.id) (ids ∙ ap (map (λ (e : DomainConfig). e.id)) of.domains) ∙ get_or-map (λ (e : DomainConfig). e.id) c.head.domains i d d.id there))
 
   same-list : (s t : Served ScriptRights) (i : ℕ) → i < length (x ∷ xs) → get_or (x ∷ xs) i s ≡ get_or (x ∷ xs) i t
@@ -136,8 +136,8 @@ module _ (c : RunContents) (logged : Bool) (x : Served ScriptRights) (xs : List 
         let within : i < length m.config.domains.items = let e = ap length of.domains in omega (arith, inside, e) in
         let over = over-at i l in
         let mine = all.follow i within (subst (AreFlagsOf m) (sym over.0) numbered) of.frames in
-        let typed = subst (λ (ts : List (List ℕ)). Serves (HasStarved (lists i).outcomes) (IsStopped (lists i)) ts (lists i).duty.part.dom [] [] (list_of (lists i).duty.part.tasks.now (lists i).duty.part.dom) (happenings (own_in (lists i).duty.part.dom all.order)) (lists i).text) over.1 mine in
-        let tasked = subst (λ (ts : List RunTask). Serves (HasStarved (lists i).outcomes) (IsStopped (lists i)) (type_names c.head) (lists i).duty.part.dom [] [] (list_of ts (lists i).duty.part.dom) (happenings (own_in (lists i).duty.part.dom all.order)) (lists i).text) over.0 typed in
+        let typed = subst (λ (ts : List (List ℕ)). Serves (HasStarved (lists i).outcomes) (IsStopped (lists i)) ts (lists i).job.part.dom [] [] (list_of (lists i).job.part.tasks.now (lists i).job.part.dom) (happenings (own_in (lists i).job.part.dom all.order)) (lists i).text) over.1 mine in
+        let tasked = subst (λ (ts : List RunTask). Serves (HasStarved (lists i).outcomes) (IsStopped (lists i)) (type_names c.head) (lists i).job.part.dom [] [] (list_of ts (lists i).job.part.dom) (happenings (own_in (lists i).job.part.dom all.order)) (lists i).text) over.0 typed in
         let named = subst (λ (n : DomId). Serves (HasStarved (lists i).outcomes) (IsStopped (lists i)) (type_names c.head) n [] [] (list_of c.tasks n) (happenings (own_in n all.order)) (lists i).text) (dom-at i d l) tasked in
         subst (λ (hs : List Happening). Serves (HasStarved (lists i).outcomes) (IsStopped (lists i)) (type_names c.head) (get_or c.head.domains i d).id [] [] (list_of c.tasks (get_or c.head.domains i d).id) hs (lists i).text) (sym (own-are (get_or c.head.domains i d).id all.order)) named
 
@@ -163,14 +163,14 @@ module _ (c : RunContents) (logged : Bool) (x : Served ScriptRights) (xs : List 
             (list_of c.tasks (get_or c.head.domains i d).id) [] [] _ (lists i).text (serves-at i d inside))
 
 -- a run of a script has a domain
-none-run : (c : RunContents) (logged : Bool) (duties : List (ThreadJob ScriptRights)) (of : AreOf c logged duties) → [] ≡ duties → ⊥
-none-run c logged duties of same = none (ap (map (λ (d : ThreadJob ScriptRights). d.part)) same ∙ of.duties_are.0)
+none-run : (c : RunContents) (logged : Bool) (jobs : List (ThreadJob ScriptRights)) (of : AreOf c logged jobs) → [] ≡ jobs → ⊥
+none-run c logged jobs of same = none (ap (map (λ (d : ThreadJob ScriptRights). d.part)) same ∙ of.jobs_are.0)
   where
     none : [] ≡ of.parts → ⊥
     none e = let some = of.limits.some in let l = ap length (ap (map (λ (p : DomainPart). p.dom)) e ∙ of.of_script.0) in let k = length-map c.head.domains (λ (d : DomainConfig). d.id) in let j = ap length of.domains in omega (arith, some, l, k, j)
 
-abbrev pub of-lists : (c : RunContents) (logged : Bool) (duties : List (ThreadJob ScriptRights)) (served : List (Served ScriptRights)) → duties_in served ≡ duties → AreOf c logged duties → AreOf c logged (duties_in served)
-of-lists c logged duties served same of = record {
+abbrev pub of-lists : (c : RunContents) (logged : Bool) (jobs : List (ThreadJob ScriptRights)) (served : List (Served ScriptRights)) → jobs_in served ≡ jobs → AreOf c logged jobs → AreOf c logged (jobs_in served)
+of-lists c logged jobs served same of = record {
   parts = of.parts;
   of_script = of.of_script;
   monitor = of.monitor;
@@ -180,19 +180,19 @@ of-lists c logged duties served same of = record {
   rights = of.rights;
   flags = of.flags;
   frames = of.frames;
-  duties_are = subst (AreDuties of.monitor logged of.parts) (sym same) of.duties_are;
+  jobs_are = subst (AreDuties of.monitor logged of.parts) (sym same) of.jobs_are;
 }
 
 pub runs-explored : RunsAreExplored
-runs-explored c logged duties old new of wrote passes whole = by wrote.0 wrote.1 wrote.2 wrote.3 passes whole
+runs-explored c logged jobs old new of wrote passes whole = by wrote.0 wrote.1 wrote.2 wrote.3 passes whole
   where
-    by : (all : List (Served ScriptRights)) → duties_in all ≡ duties → AreServed may_by all → ShowOneState all → All EndsAtNoGate all → All HasNoneLost all → MayGive c (texts_in all)
-    by [] same are one passes whole = absurd (none-run c logged duties of same)
-    by (x ∷ xs) same are one passes whole = explored c logged x xs (of-lists c logged duties (x ∷ xs) same of) are one passes whole
+    by : (all : List (Served ScriptRights)) → jobs_in all ≡ jobs → AreServed may_by all → ShowOneState all → All EndsAtNoGate all → All HasNoneLost all → MayGive c (texts_in all)
+    by [] same are one passes whole = absurd (none-run c logged jobs of same)
+    by (x ∷ xs) same are one passes whole = explored c logged x xs (of-lists c logged jobs (x ∷ xs) same of) are one passes whole
 
 pub runs-printed : RunsArePrinted
-runs-printed c logged duties old new of wrote = by wrote.0 wrote.1 wrote.2 wrote.3
+runs-printed c logged jobs old new of wrote = by wrote.0 wrote.1 wrote.2 wrote.3
   where
-    by : (all : List (Served ScriptRights)) → duties_in all ≡ duties → AreServed may_by all → ShowOneState all → MayPrint c (texts_in all)
-    by [] same are one = absurd (none-run c logged duties of same)
-    by (x ∷ xs) same are one = printed c logged x xs (of-lists c logged duties (x ∷ xs) same of) are one
+    by : (all : List (Served ScriptRights)) → jobs_in all ≡ jobs → AreServed may_by all → ShowOneState all → MayPrint c (texts_in all)
+    by [] same are one = absurd (none-run c logged jobs of same)
+    by (x ∷ xs) same are one = printed c logged x xs (of-lists c logged jobs (x ∷ xs) same of) are one

@@ -56,7 +56,7 @@ use Rattle.gt_script.specs.Lists.{RunAction, RunTask}
 use Rattle.gt_script.specs.Stuck.{IsBelow}
 use Rattle.gt_script.specs.declared.tasks.RunActionBy.TheVariants.{Await, Do, Tell}
 use Rattle.gt_run.specs.Asking.{Asks, MakesFlagStep, RaisesFlag}
-use Rattle.gt_run.specs.Printing.{AreServed, HasViewIn, Served, ShowOneState, WasServed, duties_in}
+use Rattle.gt_run.specs.Printing.{AreServed, HasViewIn, Served, ShowOneState, WasServed, jobs_in}
 use Rattle.gt_run.specs.Serving.{DoesDeed, DoesWhere, EndsList, ListLeadsTo, MakesCall, ListOutcome, ListProgress}
 use Rattle.gt_run.specs.Serving.{answer_lines, gate_line, list_start}
 use Rattle.gt_run.specs.declared.lists.ThreadJob.{ThreadJob}
@@ -96,14 +96,14 @@ HasStarved outcomes = (o : ListOutcome) × IsAmong o outcomes × IsStarved o
 
 -- the list was stopped by its gate
 abbrev pub IsStopped : {P : Type 0} → Served P → Type 0
-IsStopped s = (before : List ℕ) × (line : ℕ) × (s.text ≡ before ++ gate_line line s.duty.part.dom)
+IsStopped s = (before : List ℕ) × (line : ℕ) × (s.text ≡ before ++ gate_line line s.job.part.dom)
 
 not-below : (i n : ℕ) → nat_lt i n ≡ false → i < n → ⊥
 not-below i n e l = grind (arith, nat_tests)
 
 module _ {P : Type 0} (may : P → AllowRelation) (m : Monitor P) where
   -- a list, as far as it has come
-  module _ (duty : ThreadJob P) (over : duty.monitor.now ≡ m) (final : List ListOutcome) (first : Domain) (Stopped : Type 0) where
+  module _ (job : ThreadJob P) (over : job.monitor.now ≡ m) (final : List ListOutcome) (first : Domain) (Stopped : Type 0) where
     -- the outcomes so far stay among those at the end
     abbrev AreFinal : ListProgress → Type 0
     AreFinal p = (o : ListOutcome) → IsAmong o p.outcomes → IsAmong o final
@@ -111,45 +111,45 @@ module _ {P : Type 0} (may : P → AllowRelation) (m : Monitor P) where
     same-outcomes : (p q : ListProgress) → q ≡ record p { domain = q.domain } → AreFinal q → AreFinal p
     same-outcomes p q same all = λ o is. all o (subst (IsAmong o) (ap (λ (r : ListProgress). r.outcomes) (sym same)) is)
 
-    deed-grows : (line : ℕ) (deed : RunAction) (p q : ListProgress) → DoesDeed may duty line deed p q → AreFinal q → AreFinal p
+    deed-grows : (line : ℕ) (deed : RunAction) (p q : ListProgress) → DoesDeed may job line deed p q → AreFinal q → AreFinal p
     unfolding DoesDeed
     deed-grows line (Do call) p q does all = λ o is. all o (subst (IsAmong o) (sym does.outcomes) (in-left o p.outcomes _ is))
     deed-grows line (Tell flag) p q does all = same-outcomes p q does.0 all
     deed-grows line (Await flag) p q does all = same-outcomes p q does.0 all
 
-    line-grows : (task : RunTask) (b : Bool) (p q : ListProgress) → DoesWhere b may duty task p q → AreFinal q → AreFinal p
+    line-grows : (task : RunTask) (b : Bool) (p q : ListProgress) → DoesWhere b may job task p q → AreFinal q → AreFinal p
     line-grows task true p q does all = deed-grows task.line task.deed p q does all
     line-grows task false p q does all = subst AreFinal does all
 
-    grows : (tasks : List RunTask) (p q : ListProgress) → ListLeadsTo may duty p tasks q → AreFinal q → AreFinal p
+    grows : (tasks : List RunTask) (p q : ListProgress) → ListLeadsTo may job p tasks q → AreFinal q → AreFinal p
     grows [] p q leads all = subst AreFinal leads all
-    grows (task ∷ tasks) p q leads all = line-grows task (task.dom.0 == duty.part.dom.0) p leads.0 leads.1 (grows tasks leads.0 q leads.2 all)
+    grows (task ∷ tasks) p q leads all = line-grows task (task.dom.0 == job.part.dom.0) p leads.0 leads.1 (grows tasks leads.0 q leads.2 all)
 
     -- the flags of the list are the run's, and its table has all frames
     abbrev IsFollowed : Type 0
-    IsFollowed = AreFlagsOf m duty.part.tasks.now × HasAllFrames m
+    IsFollowed = AreFlagsOf m job.part.tasks.now × HasAllFrames m
 
     record Come (done : List RunTask) (p : ListProgress) : Type 0 where
       made : List Deed
       deeds_are : AreDeeds m.words m.config (may m.rights) first made
       now : domain_after first made ≡ p.domain
-      lines : AreDeedsOf may duty made p
+      lines : AreDeedsOf may job made p
       mine : BelongsTo may m p.domain
       held : List Handle
       keeps : Keeps p.domain.mappings held
-      follows : IsFollowed → Follows (HasStarved final) Stopped m.config (may m.rights) duty.part.types.now duty.part.dom p.named held done made (answer_lines duty.part.types.now duty.part.dom p.outcomes)
+      follows : IsFollowed → Follows (HasStarved final) Stopped m.config (may m.rights) job.part.types.now job.part.dom p.named held done made (answer_lines job.part.types.now job.part.dom p.outcomes)
 
     -- one more call of the list, which is this one of the run
-    call-comes : (task : RunTask) → IsAmong task duty.part.tasks.now → (call : ScriptCall) → task.deed ≡ Do call → (done : List RunTask) (p q : ListProgress) (x : MakesCall may duty task.line call p q) (come : Come done p) (request : Request) (outcome : CallOutcome) (steps : List Moment)
+    call-comes : (task : RunTask) → IsAmong task job.part.tasks.now → (call : ScriptCall) → task.deed ≡ Do call → (done : List RunTask) (p q : ListProgress) (x : MakesCall may job task.line call p q) (come : Come done p) (request : Request) (outcome : CallOutcome) (steps : List Moment)
         → WasMade may m request outcome steps p.domain q.domain → IsDoneFor m (record { request = request; outcome = outcome; steps = steps; old = p.domain; new = q.domain }) x.request x.answer
-        → (IsFollowed → Follows (HasStarved final) Stopped m.config (may m.rights) duty.part.types.now duty.part.dom (with_name p.named duty.part.dom (label_given call) (handle_given x.answer)) (held_after come.held (given_up x.request) x.answer) (done ++ task ∷ [])
-        (Call (record { request = request; outcome = outcome; steps = steps; old = p.domain; new = q.domain }) ∷ come.made) (answer_lines duty.part.types.now duty.part.dom p.outcomes ++ answer_line duty.part.types.now task.line duty.part.dom x.answer))
+        → (IsFollowed → Follows (HasStarved final) Stopped m.config (may m.rights) job.part.types.now job.part.dom (with_name p.named job.part.dom (label_given call) (handle_given x.answer)) (held_after come.held (given_up x.request) x.answer) (done ++ task ∷ [])
+        (Call (record { request = request; outcome = outcome; steps = steps; old = p.domain; new = q.domain }) ∷ come.made) (answer_lines job.part.types.now job.part.dom p.outcomes ++ answer_line job.part.types.now task.line job.part.dom x.answer))
         → Come (done ++ task ∷ []) q
     call-comes task is-in call deed done p q x come request outcome steps made for follows =
         let asks : Asks may m p.domain x.request x.answer q.domain = subst (λ (y : Monitor P). Asks may y p.domain x.request x.answer q.domain) over x.asks in
         let m' : CallMade = record { request = request; outcome = outcome; steps = steps; old = p.domain; new = q.domain } in
         let o : ListOutcome = record { line = task.line; answer = x.answer; told = x.told; lost = x.lost } in
-        let types = duty.part.types.now in let dom = duty.part.dom in
+        let types = job.part.types.now in let dom = job.part.dom in
         let printed : answer_lines types dom q.outcomes ≡ answer_lines types dom p.outcomes ++ answer_line types task.line dom x.answer =
         ap (answer_lines types dom) x.outcomes ∙ (flat_map-append (λ (y : ListOutcome). answer_line types y.line dom y.answer) p.outcomes (o ∷ [])
         ∙ ap (λ (l : List ℕ). answer_lines types dom p.outcomes ++ l) (append-nil (answer_line types task.line dom x.answer))) in
@@ -167,18 +167,18 @@ module _ {P : Type 0} (may : P → AllowRelation) (m : Monitor P) where
               (subst (λ (named : List Named). Follows (HasStarved final) Stopped m.config (may m.rights) types dom named later (done ++ task ∷ []) (Call m' ∷ come.made) (answer_lines types dom p.outcomes ++ answer_line types task.line dom x.answer)) (sym x.named) (follows followed));
         }
 
-    one-call : (task : RunTask) → IsAmong task duty.part.tasks.now → (call : ScriptCall) (done : List RunTask) (p q : ListProgress) → task.deed ≡ Do call
-        → (x : MakesCall may duty task.line call p q) → (x.answer ≡ no_memory → HasStarved final) → Come done p → Come (done ++ task ∷ []) q
-    one-call task is-in call done p q deed x starves come = by (is-made may m p.domain q.domain (record { before = come.mine; afterwards = asks.2.0; seat = asks.2.1 }) x.request x.answer (said-fits call p.named duty.part.dom x.request x.fits x.says) asks.1)
+    one-call : (task : RunTask) → IsAmong task job.part.tasks.now → (call : ScriptCall) (done : List RunTask) (p q : ListProgress) → task.deed ≡ Do call
+        → (x : MakesCall may job task.line call p q) → (x.answer ≡ no_memory → HasStarved final) → Come done p → Come (done ++ task ∷ []) q
+    one-call task is-in call done p q deed x starves come = by (is-made may m p.domain q.domain (record { before = come.mine; afterwards = asks.2.0; seat = asks.2.1 }) x.request x.answer (said-fits call p.named job.part.dom x.request x.fits x.says) asks.1)
       where
         asks : Asks may m p.domain x.request x.answer q.domain
         asks = subst (λ (y : Monitor P). Asks may y p.domain x.request x.answer q.domain) over x.asks
 
         types : List (List ℕ)
-        types = duty.part.types.now
+        types = job.part.types.now
 
         dom : DomId
-        dom = duty.part.dom
+        dom = job.part.dom
 
         -- the handles and the line of an answer without memory
         without : (answer : Answer) (request : Request) (args : CopyArgs) (m' : CallMade) → answer ≡ no_memory → request ≡ requests.Copy args
@@ -204,14 +204,14 @@ module _ {P : Type 0} (may : P → AllowRelation) (m : Monitor P) where
             (come.follows followed) deed (subst (SaysRequest p.named dom call) copy x.says) refl refl (starves none)))
 
     -- a line that made a step on a flag
-    one-flag : (task : RunTask) → IsAmong task duty.part.tasks.now → (flag : ℕ) (step : FlagStep) → IsFlagStepOf task.deed flag step → (done : List RunTask) (p q : ListProgress) → q ≡ record p { domain = q.domain } → MakesFlagStep may duty.monitor.now flag step p.domain q.domain
+    one-flag : (task : RunTask) → IsAmong task job.part.tasks.now → (flag : ℕ) (step : FlagStep) → IsFlagStepOf task.deed flag step → (done : List RunTask) (p q : ListProgress) → q ≡ record p { domain = q.domain } → MakesFlagStep may job.monitor.now flag step p.domain q.domain
         → ((types : List (List ℕ)) (dom : DomId) (named : List Named) (held : List Handle) (Next : List Named → List Handle → List Happening → List ℕ → Type 0) (more : List Happening) (text : List ℕ) → Next named held more text
         → DeedHappens types dom named held task.line task.deed Next (on_flag dom flag step ∷ more) text)
         → Come done p → Come (done ++ task ∷ []) q
     one-flag task is-in flag step asks done p q same makes happens come =
         let made : MakesFlagStep may m flag step p.domain q.domain = subst (λ (y : Monitor P). MakesFlagStep may y flag step p.domain q.domain) over makes in
         let x : FlagMade = record { flag = flag; step = step; old = p.domain; new = q.domain } in
-        let types = duty.part.types.now in let dom = duty.part.dom in
+        let types = job.part.types.now in let dom = job.part.dom in
         let outcomes : p.outcomes ≡ q.outcomes = ap (λ (r : ListProgress). r.outcomes) (sym same) in
         record {
           made = OnFlag x ∷ come.made;
@@ -241,14 +241,14 @@ module _ {P : Type 0} (may : P → AllowRelation) (m : Monitor P) where
     })
 
     -- a line that raises a flag, if the run has it
-    raising : (task : RunTask) → IsAmong task duty.part.tasks.now → (flag : ℕ) → task.deed ≡ Tell flag → (done : List RunTask) (p q : ListProgress) → q ≡ record p { domain = q.domain } → RaisesFlag may duty.monitor.now flag p.domain q.domain → Come done p → Come (done ++ task ∷ []) q
-    raising task is-in flag is done p q same raises come = by (nat_lt flag duty.monitor.now.words.flags) refl raises
+    raising : (task : RunTask) → IsAmong task job.part.tasks.now → (flag : ℕ) → task.deed ≡ Tell flag → (done : List RunTask) (p q : ListProgress) → q ≡ record p { domain = q.domain } → RaisesFlag may job.monitor.now flag p.domain q.domain → Come done p → Come (done ++ task ∷ []) q
+    raising task is-in flag is done p q same raises come = by (nat_lt flag job.monitor.now.words.flags) refl raises
       where
-        by : (b : Bool) → nat_lt flag duty.monitor.now.words.flags ≡ b → MatchBool b (MakesFlagStep may duty.monitor.now flag Raised p.domain q.domain) (q.domain ≡ p.domain) → Come (done ++ task ∷ []) q
+        by : (b : Bool) → nat_lt flag job.monitor.now.words.flags ≡ b → MatchBool b (MakesFlagStep may job.monitor.now flag Raised p.domain q.domain) (q.domain ≡ p.domain) → Come (done ++ task ∷ []) q
         by true has makes = one-flag task is-in flag Raised (subst (λ (a : RunAction). IsFlagStepOf a flag Raised) (sym is) refl) done p q same makes (λ types dom named held Next more text f. subst (λ (a : RunAction). DeedHappens types dom named held task.line a Next (raised dom flag ∷ more) text) (sym is) (more, refl, f)) come
         by false has still = no-flag task done p q (λ followed. not-below flag m.words.flags (ap (λ (y : Monitor P). nat_lt flag y.words.flags) (sym over) ∙ has) (subst (IsBelow m.words.flags) is (followed.0 task is-in))) same still come
 
-    one-deed : (task : RunTask) → IsAmong task duty.part.tasks.now → (task.dom.0 == duty.part.dom.0) ≡ true → (deed : RunAction) → task.deed ≡ deed → (done : List RunTask) (p q : ListProgress) → DoesDeed may duty task.line deed p q → AreFinal q → Come done p → Come (done ++ task ∷ []) q
+    one-deed : (task : RunTask) → IsAmong task job.part.tasks.now → (task.dom.0 == job.part.dom.0) ≡ true → (deed : RunAction) → task.deed ≡ deed → (done : List RunTask) (p q : ListProgress) → DoesDeed may job task.line deed p q → AreFinal q → Come done p → Come (done ++ task ∷ []) q
     unfolding DoesDeed
     one-deed task is-in own (Do call) is done p q does all come =
         let o : ListOutcome = record { line = task.line; answer = does.answer; told = does.told; lost = does.lost } in
@@ -258,7 +258,7 @@ module _ {P : Type 0} (may : P → AllowRelation) (m : Monitor P) where
     one-deed task is-in own (Await flag) is done p q does all come =
         one-flag task is-in flag Passed (subst (λ (a : RunAction). IsFlagStepOf a flag Passed) (sym is) refl) done p q does.0 does.1 (λ types dom named held Next more text f. subst (λ (a : RunAction). DeedHappens types dom named held task.line a Next (passed dom flag ∷ more) text) (sym is) (more, refl, f)) come
 
-    one-line : (task : RunTask) → IsAmong task duty.part.tasks.now → (b : Bool) → (task.dom.0 == duty.part.dom.0) ≡ b → (done : List RunTask) (p q : ListProgress) → DoesWhere b may duty task p q → AreFinal q → Come done p → Come (done ++ cond b (task ∷ []) []) q
+    one-line : (task : RunTask) → IsAmong task job.part.tasks.now → (b : Bool) → (task.dom.0 == job.part.dom.0) ≡ b → (done : List RunTask) (p q : ListProgress) → DoesWhere b may job task p q → AreFinal q → Come done p → Come (done ++ cond b (task ∷ []) []) q
     one-line task is-in true own done p q does all come = one-deed task is-in own task.deed refl done p q does all come
     one-line task is-in false own done p q does all come = subst (λ (ts : List RunTask). Come ts q) (sym (append-nil done)) (subst (Come done) (sym does) come)
 
@@ -266,12 +266,12 @@ module _ {P : Type 0} (may : P → AllowRelation) (m : Monitor P) where
     then-rest true done task rest = append_assoc done (task ∷ []) rest
     then-rest false done task rest = ap (λ (l : List RunTask). l ++ rest) (append-nil done)
 
-    comes : (tasks : List RunTask) → ((task : RunTask) → IsAmong task tasks → IsAmong task duty.part.tasks.now) → (done : List RunTask) (p q : ListProgress) → ListLeadsTo may duty p tasks q → AreFinal q → Come done p → Come (done ++ list_of tasks duty.part.dom) q
+    comes : (tasks : List RunTask) → ((task : RunTask) → IsAmong task tasks → IsAmong task job.part.tasks.now) → (done : List RunTask) (p q : ListProgress) → ListLeadsTo may job p tasks q → AreFinal q → Come done p → Come (done ++ list_of tasks job.part.dom) q
     comes [] each done p q leads all come = subst (λ (ts : List RunTask). Come ts q) (sym (append-nil done)) (subst (Come done) (sym leads) come)
     comes (task ∷ tasks) each done p q leads all come =
-        subst (λ (ts : List RunTask). Come ts q) (then-rest (task.dom.0 == duty.part.dom.0) done task (list_of tasks duty.part.dom))
-        (comes tasks (λ t is. each t (inr is)) (done ++ cond (task.dom.0 == duty.part.dom.0) (task ∷ []) []) leads.0 q leads.2 all
-        (one-line task (each task (inl refl)) (task.dom.0 == duty.part.dom.0) refl done p leads.0 leads.1 (grows tasks leads.0 q leads.2 all) come))
+        subst (λ (ts : List RunTask). Come ts q) (then-rest (task.dom.0 == job.part.dom.0) done task (list_of tasks job.part.dom))
+        (comes tasks (λ t is. each t (inr is)) (done ++ cond (task.dom.0 == job.part.dom.0) (task ∷ []) []) leads.0 q leads.2 all
+        (one-line task (each task (inl refl)) (task.dom.0 == job.part.dom.0) refl done p leads.0 leads.1 (grows tasks leads.0 q leads.2 all) come))
 
   take-in : {A : Type 0} (n : ℕ) (xs : List A) (x : A) → IsAmong x (take n xs) → IsAmong x xs
   take-in zero xs x is = absurd is
@@ -294,8 +294,8 @@ module _ {P : Type 0} (may : P → AllowRelation) (m : Monitor P) where
 
   -- what these deeds did follows the list
   abbrev DidFollow : Served P → List Deed → Type 0
-  DidFollow s made = AreFlagsOf m s.duty.part.tasks.now → HasAllFrames m
-      → Serves (HasStarved s.outcomes) (IsStopped s) s.duty.part.types.now s.duty.part.dom [] [] (list_of s.duty.part.tasks.now s.duty.part.dom) (happenings (order_of_deeds m.config (may m.rights) s.duty.part.dom made)) s.text
+  DidFollow s made = AreFlagsOf m s.job.part.tasks.now → HasAllFrames m
+      → Serves (HasStarved s.outcomes) (IsStopped s) s.job.part.types.now s.job.part.dom [] [] (list_of s.job.part.tasks.now s.job.part.dom) (happenings (order_of_deeds m.config (may m.rights) s.job.part.dom made)) s.text
 
   -- a list that was served, up to its last view
   record Finished (i : ℕ) (s : Served P) (v : View) (gone : Type 0) : Type 0 where
@@ -323,8 +323,8 @@ module _ {P : Type 0} (may : P → AllowRelation) (m : Monitor P) where
     starts : IsNewDomain m.words m.config (may m.rights) i l.served.domain
     starts = subst (λ (p : ℕ). IsNewDomain m.words m.config (may m.rights) p l.served.domain) (stands-at i l.served.first.position l.served.domain inside fresh (l.served.first.own ∙ l.dom)) fresh
 
-    come : Come s.duty l.monitor s.outcomes l.served.domain (IsStopped s) (list_of (take l.served.number s.duty.part.tasks.now) s.duty.part.dom) l.served.left
-    come = comes s.duty l.monitor s.outcomes l.served.domain (IsStopped s) (take l.served.number s.duty.part.tasks.now) (λ t is. take-in l.served.number s.duty.part.tasks.now t is) [] (list_start l.served.domain) l.served.left l.served.leads (λ o is. subst (IsAmong o) l.served.came is)
+    come : Come s.job l.monitor s.outcomes l.served.domain (IsStopped s) (list_of (take l.served.number s.job.part.tasks.now) s.job.part.dom) l.served.left
+    come = comes s.job l.monitor s.outcomes l.served.domain (IsStopped s) (take l.served.number s.job.part.tasks.now) (λ t is. take-in l.served.number s.job.part.tasks.now t is) [] (list_start l.served.domain) l.served.left l.served.leads (λ o is. subst (IsAmong o) l.served.came is)
         (record {
           made = [];
           deeds_are = tt;
@@ -333,7 +333,7 @@ module _ {P : Type 0} (may : P → AllowRelation) (m : Monitor P) where
           mine = fresh.domain;
           held = [];
           keeps = keeps-new l.served.domain.mappings fresh.mappings;
-          follows = λ followed. follows-none (HasStarved s.outcomes) (IsStopped s) m.config (may m.rights) s.duty.part.types.now s.duty.part.dom;
+          follows = λ followed. follows-none (HasStarved s.outcomes) (IsStopped s) m.config (may m.rights) s.job.part.types.now s.job.part.dom;
         })
 
     -- the calls and the releases behind them follow the list
@@ -341,13 +341,13 @@ module _ {P : Type 0} (may : P → AllowRelation) (m : Monitor P) where
     followed us calls unmaps none numbered all = by l.served.ends
       where
         types : List (List ℕ)
-        types = s.duty.part.types.now
+        types = s.job.part.types.now
 
         dom : DomId
-        dom = s.duty.part.dom
+        dom = s.job.part.dom
 
         tasks : List RunTask
-        tasks = s.duty.part.tasks.now
+        tasks = s.job.part.tasks.now
 
         left : RunOrder
         left = order_of_deeds m.config (may m.rights) dom us
@@ -459,25 +459,25 @@ stays-at b c may i first (OnFlag x ∷ us) at calls = calls.0.kept.seat.position
 stays-at b c may i first (Look x ∷ us) at calls = calls.0.kept.seat.position ∙ (ap (λ (z : SeatOf). z.view.position) calls.1.seat ∙ stays-at b c may i first us at calls.2)
 
 -- what a run wrote is the text of a legal order
-module _ {P : Type 0} (may : P → AllowRelation) (m : Monitor P) (x : Served P) (xs : List (Served P)) (on : All (λ (d : ThreadJob P). d.monitor.now ≡ m) (duties_in (x ∷ xs)))
-    (ids : map (λ (d : ThreadJob P). d.part.dom) (duties_in (x ∷ xs)) ≡ map (λ (d : DomainConfig). d.id) m.config.domains.items) (are : AreServed may (x ∷ xs)) (one : ShowOneState (x ∷ xs)) where
+module _ {P : Type 0} (may : P → AllowRelation) (m : Monitor P) (x : Served P) (xs : List (Served P)) (on : All (λ (d : ThreadJob P). d.monitor.now ≡ m) (jobs_in (x ∷ xs)))
+    (ids : map (λ (d : ThreadJob P). d.part.dom) (jobs_in (x ∷ xs)) ≡ map (λ (d : DomainConfig). d.id) m.config.domains.items) (are : AreServed may (x ∷ xs)) (one : ShowOneState (x ∷ xs)) where
   abbrev lists : ℕ → Served P
   lists i = get_or (x ∷ xs) i x
 
-  many : length (duties_in (x ∷ xs)) ≡ length m.config.domains.items
-  many = sym (length-map (duties_in (x ∷ xs)) (λ (d : ThreadJob P). d.part.dom)) ∙ ap length ids ∙ length-map m.config.domains.items (λ (d : DomainConfig). d.id)
+  many : length (jobs_in (x ∷ xs)) ≡ length m.config.domains.items
+  many = sym (length-map (jobs_in (x ∷ xs)) (λ (d : ThreadJob P). d.part.dom)) ∙ ap length ids ∙ length-map m.config.domains.items (λ (d : DomainConfig). d.id)
 
   within : (i : ℕ) → i < length m.config.domains.items → i < length (x ∷ xs)
-  within i l = let e = length-map (x ∷ xs) (λ (s : Served P). s.duty) in omega (arith, e, many)
+  within i l = let e = length-map (x ∷ xs) (λ (s : Served P). s.job) in omega (arith, e, many)
 
-  duty-at : (i : ℕ) → i < length m.config.domains.items → get_or (duties_in (x ∷ xs)) i x.duty ≡ (lists i).duty
-  duty-at i l = get_or-map (λ (s : Served P). s.duty) (x ∷ xs) i x x.duty (within i l)
+  job-at : (i : ℕ) → i < length m.config.domains.items → get_or (jobs_in (x ∷ xs)) i x.job ≡ (lists i).job
+  job-at i l = get_or-map (λ (s : Served P). s.job) (x ∷ xs) i x x.job (within i l)
 
   list-at : (i : ℕ) → i < length m.config.domains.items → HasList may m i (lists i)
   list-at i l =
-      let inside : i < length (duties_in (x ∷ xs)) = omega (arith, many) in record {
-        monitor = subst (λ (d : ThreadJob P). d.monitor.now ≡ m) (duty-at i l) (All-get_or (λ (d : ThreadJob P). d.monitor.now ≡ m) (duties_in (x ∷ xs)) i x.duty inside on);
-        dom = ap (λ (d : ThreadJob P). d.part.dom) (sym (duty-at i l)) ∙ sym (get_or-map (λ (d : ThreadJob P). d.part.dom) (duties_in (x ∷ xs)) i x.duty (record { 0 = 0 }) inside)
+      let inside : i < length (jobs_in (x ∷ xs)) = omega (arith, many) in record {
+        monitor = subst (λ (d : ThreadJob P). d.monitor.now ≡ m) (job-at i l) (All-get_or (λ (d : ThreadJob P). d.monitor.now ≡ m) (jobs_in (x ∷ xs)) i x.job inside on);
+        dom = ap (λ (d : ThreadJob P). d.part.dom) (sym (job-at i l)) ∙ sym (get_or-map (λ (d : ThreadJob P). d.part.dom) (jobs_in (x ∷ xs)) i x.job (record { 0 = 0 }) inside)
             ∙ ap (λ (ys : List DomId). id_at ys i) (ids ∙ sym (ap (λ (k : Layout). k.ids) m.same_run));
         served = All-get_or (WasServed may) (x ∷ xs) i x (within i l) are;
       }
@@ -494,7 +494,7 @@ module _ {P : Type 0} (may : P → AllowRelation) (m : Monitor P) (x : Served P)
       subst (λ (p : ℕ). get_elem? one.0.views p ≡ some (lists i).departed.seat.view) here (All-get_or (HasViewIn one.0) (x ∷ xs) i x (within i l) one.2)
 
   shows : Shows m.words.layout one.0
-  shows = subst (λ (n : Monitor P). Shows n.words.layout one.0) (All-head (λ (d : ThreadJob P). d.monitor.now ≡ m) x.duty (duties_in xs) on) one.1
+  shows = subst (λ (n : Monitor P). Shows n.words.layout one.0) (All-head (λ (d : ThreadJob P). d.monitor.now ≡ m) x.job (jobs_in xs) on) one.1
 
   one-order : IsWithinLimits m.config → AreOfOneOrder may m (x ∷ xs)
   one-order limits =
@@ -505,8 +505,8 @@ module _ {P : Type 0} (may : P → AllowRelation) (m : Monitor P) (x : Served P)
     pub order : RunOrder
     pub legal : Legal (setting_of m.config (may m.rights)) (events_of (items_in order)) (trace_of (items_in order))
     pub flags : AreOnRaisedFlags m.config order
-    pub follow : (i : ℕ) → i < length m.config.domains.items → AreFlagsOf m (lists i).duty.part.tasks.now → HasAllFrames m
-        → Serves (HasStarved (lists i).outcomes) (IsStopped (lists i)) (lists i).duty.part.types.now (lists i).duty.part.dom [] [] (list_of (lists i).duty.part.tasks.now (lists i).duty.part.dom) (happenings (own_in (lists i).duty.part.dom order)) (lists i).text
+    pub follow : (i : ℕ) → i < length m.config.domains.items → AreFlagsOf m (lists i).job.part.tasks.now → HasAllFrames m
+        → Serves (HasStarved (lists i).outcomes) (IsStopped (lists i)) (lists i).job.part.types.now (lists i).job.part.dom [] [] (list_of (lists i).job.part.tasks.now (lists i).job.part.dom) (happenings (own_in (lists i).job.part.dom order)) (lists i).text
 
   pub follows-all : IsWithinLimits m.config → FollowsAll
   unfolding left-at
@@ -516,19 +516,19 @@ module _ {P : Type 0} (may : P → AllowRelation) (m : Monitor P) (x : Served P)
         legal = o.1.legal;
         flags = o.1.flags;
         follow = λ i l numbered all.
-            let dom : (lists i).duty.part.dom ≡ id_at m.words.layout.ids i = (list-at i l).dom in
+            let dom : (lists i).job.part.dom ≡ id_at m.words.layout.ids i = (list-at i l).dom in
             let seats-at = seats may m lists one.0 (λ i. (lists i).departed.seat.view) (λ i l. (list-at i l, left-at i l, view-at i l)) i in
             let inside : i < m.words.layout.domains = subst (λ (n : ℕ). i < n) (sym (ap (λ (k : Layout). k.domains) m.same_run)) l in
-            let mine : own_in (lists i).duty.part.dom o.0 ≡ order_of_deeds m.config (may m.rights) (lists i).duty.part.dom seats-at.deeds =
+            let mine : own_in (lists i).job.part.dom o.0 ≡ order_of_deeds m.config (may m.rights) (lists i).job.part.dom seats-at.deeds =
             subst (λ (d : DomId). own_in d o.0 ≡ order_of_deeds m.config (may m.rights) d seats-at.deeds) (sym dom) (o.1.deeds i inside) in
-            subst (λ (g : RunOrder). Serves (HasStarved (lists i).outcomes) (IsStopped (lists i)) (lists i).duty.part.types.now (lists i).duty.part.dom [] [] (list_of (lists i).duty.part.tasks.now (lists i).duty.part.dom) (happenings g) (lists i).text) (sym mine)
+            subst (λ (g : RunOrder). Serves (HasStarved (lists i).outcomes) (IsStopped (lists i)) (lists i).job.part.types.now (lists i).job.part.dom [] [] (list_of (lists i).job.part.tasks.now (lists i).job.part.dom) (happenings g) (lists i).text) (sym mine)
             ((o.2 i l).1.1 tt numbered all);
       }
 
 pub runs-legal : {P : Type 0} (may : P → AllowRelation) (m : Monitor P) → RunsWriteALegalOrder may m
-runs-legal {P} may m duties old new limits of wrote = by wrote.0 wrote.1 wrote.2 wrote.3
+runs-legal {P} may m jobs old new limits of wrote = by wrote.0 wrote.1 wrote.2 wrote.3
   where
-    by : (all : List (Served P)) → duties_in all ≡ duties → AreServed may all → ShowOneState all → AreOfOneOrder may m all
+    by : (all : List (Served P)) → jobs_in all ≡ jobs → AreServed may all → ShowOneState all → AreOfOneOrder may m all
     by [] same are one =
         absurd (none (ap length (ap (map (λ (d : ThreadJob P). d.part.dom)) same ∙ of.1)))
       where

@@ -16,7 +16,7 @@ use Rattle.gt_script_runs.specs.declared.rights.ScriptPolicy.{ScriptPolicy as Sc
 use Rattle.gt_script.specs.Lists.{RunAction, RunTask}
 use Rattle.gt_script.specs.declared.tasks.RunActionBy.TheVariants.{Await, Do, Tell}
 use Rattle.gt_live.specs.Domains.{AllowRelation}
-use Rattle.gt_run.specs.Printing.{AreServed, Served, WasServed, all_lost, audits_in, duties_in, run_text, texts_in}
+use Rattle.gt_run.specs.Printing.{AreServed, Served, WasServed, all_lost, audits_in, jobs_in, run_text, texts_in}
 use Rattle.gt_run.specs.Serving.{DoesDeed, DoesWhere, ListLeadsTo, ListOutcome, ListProgress, Records}
 use Rattle.gt_run.specs.Serving.{audit_lines, counted, list_start, lost_in, record_made, records_told}
 use Rattle.gt_run.specs.declared.lists.ThreadJob.{ThreadJob}
@@ -35,33 +35,33 @@ quiet-more os o quiet told lost = (
   sum_by-append (λ (x : ListOutcome). x.lost) os (o ∷ []) ∙ (let before = quiet.1 in omega (arith, before, lost)),
 )
 
-module _ {P : Type 0} (may : P → AllowRelation) (duty : ThreadJob P) (unlogged : is_some duty.log ≡ false) where
-  quiet-deed : (line : ℕ) (deed : RunAction) (p q : ListProgress) → DoesDeed may duty line deed p q → IsQuiet p.outcomes → IsQuiet q.outcomes
+module _ {P : Type 0} (may : P → AllowRelation) (job : ThreadJob P) (unlogged : is_some job.log ≡ false) where
+  quiet-deed : (line : ℕ) (deed : RunAction) (p q : ListProgress) → DoesDeed may job line deed p q → IsQuiet p.outcomes → IsQuiet q.outcomes
   unfolding DoesDeed
   quiet-deed line (Do call) p q does quiet =
-      let r : Records false (record_made duty.part.dom p.domain does.request does.answer) does.told does.lost = subst (λ (b : Bool). Records b (record_made duty.part.dom p.domain does.request does.answer) does.told does.lost) unlogged does.records in
+      let r : Records false (record_made job.part.dom p.domain does.request does.answer) does.told does.lost = subst (λ (b : Bool). Records b (record_made job.part.dom p.domain does.request does.answer) does.told does.lost) unlogged does.records in
       subst IsQuiet (sym does.outcomes) (quiet-more p.outcomes (record { line = line; answer = does.answer; told = does.told; lost = does.lost }) quiet r.0 r.1)
   quiet-deed line (Tell flag) p q does quiet = subst IsQuiet (ap (λ (r : ListProgress). r.outcomes) (sym does.0)) quiet
   quiet-deed line (Await flag) p q does quiet = subst IsQuiet (ap (λ (r : ListProgress). r.outcomes) (sym does.0)) quiet
 
-  quiet-line : (task : RunTask) (b : Bool) (p q : ListProgress) → DoesWhere b may duty task p q → IsQuiet p.outcomes → IsQuiet q.outcomes
+  quiet-line : (task : RunTask) (b : Bool) (p q : ListProgress) → DoesWhere b may job task p q → IsQuiet p.outcomes → IsQuiet q.outcomes
   quiet-line task true p q does quiet = quiet-deed task.line task.deed p q does quiet
   quiet-line task false p q does quiet = subst IsQuiet (ap (λ (r : ListProgress). r.outcomes) (sym does)) quiet
 
-  quiet-list : (tasks : List RunTask) (p q : ListProgress) → ListLeadsTo may duty p tasks q → IsQuiet p.outcomes → IsQuiet q.outcomes
+  quiet-list : (tasks : List RunTask) (p q : ListProgress) → ListLeadsTo may job p tasks q → IsQuiet p.outcomes → IsQuiet q.outcomes
   quiet-list [] p q leads quiet = subst IsQuiet (ap (λ (r : ListProgress). r.outcomes) (sym leads)) quiet
   quiet-list (task ∷ tasks) p q leads quiet = quiet-list tasks leads.0 q leads.2 (quiet-line task _ p leads.0 leads.1 quiet)
 
-served-quiet : (s : Served ScriptRights) → WasServed may_by s → is_some s.duty.log ≡ false → IsQuiet s.outcomes
-served-quiet s was unlogged = subst IsQuiet was.came (quiet-list may_by s.duty unlogged (take was.number s.duty.part.tasks.now) (list_start was.domain) was.left was.leads (refl, refl))
+served-quiet : (s : Served ScriptRights) → WasServed may_by s → is_some s.job.log ≡ false → IsQuiet s.outcomes
+served-quiet s was unlogged = subst IsQuiet was.came (quiet-list may_by s.job unlogged (take was.number s.job.part.tasks.now) (list_start was.domain) was.left was.leads (refl, refl))
 
 -- no audit line, and no lost record
-quiet-run : (all : List (Served ScriptRights)) → AreServed may_by all → All (λ (d : ThreadJob ScriptRights). is_some d.log ≡ false) (duties_in all) → (audits_in all ≡ []) × (all_lost all ≡ 0)
+quiet-run : (all : List (Served ScriptRights)) → AreServed may_by all → All (λ (d : ThreadJob ScriptRights). is_some d.log ≡ false) (jobs_in all) → (audits_in all ≡ []) × (all_lost all ≡ 0)
 quiet-run [] are unlogged = (refl, refl)
 quiet-run (s ∷ all) are unlogged =
-    let mine = served-quiet s (All-head (WasServed may_by) s all are) (All-head (λ (d : ThreadJob ScriptRights). is_some d.log ≡ false) s.duty (duties_in all) unlogged) in
-    let rest = quiet-run all (All-tail (WasServed may_by) s all are) (All-tail (λ (d : ThreadJob ScriptRights). is_some d.log ≡ false) s.duty (duties_in all) unlogged) in
-    let none : audit_lines s.duty.part.types.now s.outcomes ≡ [] = ap (λ (rs : List Record). flat_map (line_text (type_text (λ (name : List ℕ). name) s.duty.part.types.now)) rs) mine.0 in
+    let mine = served-quiet s (All-head (WasServed may_by) s all are) (All-head (λ (d : ThreadJob ScriptRights). is_some d.log ≡ false) s.job (jobs_in all) unlogged) in
+    let rest = quiet-run all (All-tail (WasServed may_by) s all are) (All-tail (λ (d : ThreadJob ScriptRights). is_some d.log ≡ false) s.job (jobs_in all) unlogged) in
+    let none : audit_lines s.job.part.types.now s.outcomes ≡ [] = ap (λ (rs : List Record). flat_map (line_text (type_text (λ (name : List ℕ). name) s.job.part.types.now)) rs) mine.0 in
     (ap (λ (l : List ℕ). l ++ audits_in all) none ∙ rest.0, ap (λ (n : ℕ). fold (λ (a : ℕ) (x : Served ScriptRights). a + lost_in x.outcomes) n all) (let lost = mine.1 in omega (arith, lost)) ∙ rest.1)
 
 run-text : (all : List (Served ScriptRights)) → (audits_in all ≡ []) × (all_lost all ≡ 0) → run_text all ≡ texts_in all
@@ -71,10 +71,10 @@ run-text all quiet = (λ j. texts_in all ++ (quiet.0 j ++ lost_text (counted (qu
 pub unlogged-text : (c : RunContents) (old new : Option (List ℕ)) (wrote : WritesScript c false old new) → Appends old new (texts_in wrote.2.0)
 unlogged-text c old new wrote =
     let all = wrote.2.0 in
-    let same : duties_in all ≡ wrote.0 = wrote.2.1 in
-    let unlogged : All (λ (d : ThreadJob ScriptRights). is_some d.log ≡ false) (duties_in all) =
+    let same : jobs_in all ≡ wrote.0 = wrote.2.1 in
+    let unlogged : All (λ (d : ThreadJob ScriptRights). is_some d.log ≡ false) (jobs_in all) =
     subst (All (λ (d : ThreadJob ScriptRights). is_some d.log ≡ false)) (sym same)
-    (All-weaker (λ (d : ThreadJob ScriptRights). (d.monitor.now ≡ wrote.1.monitor) × (is_some d.log ≡ false)) (λ (d : ThreadJob ScriptRights). is_some d.log ≡ false) (λ d both. both.1) wrote.0 wrote.1.duties_are.1) in
+    (All-weaker (λ (d : ThreadJob ScriptRights). (d.monitor.now ≡ wrote.1.monitor) × (is_some d.log ≡ false)) (λ (d : ThreadJob ScriptRights). is_some d.log ≡ false) (λ d both. both.1) wrote.0 wrote.1.jobs_are.1) in
     subst (Appends old new) (run-text all (quiet-run all wrote.2.2 unlogged)) wrote.2.4
 
 pub unlogged-print : UnloggedRunsPrint

@@ -22,13 +22,13 @@ HasNoneLost s = (o : ListOutcome) → IsAmong o s.outcomes → IsStarved o → �
 
 -- the list was not stopped by its gate: its text does not end with the line of a gate
 abbrev pub EndsAtNoGate : {P : Type 0} → Served P → Type 0
-EndsAtNoGate s = (before : List ℕ) (line : ℕ) → s.text ≡ before ++ gate_line line s.duty.part.dom → ⊥
+EndsAtNoGate s = (before : List ℕ) (line : ℕ) → s.text ≡ before ++ gate_line line s.job.part.dom → ⊥
 
 -- what a run of a script writes is a text that the script may give, so one that `explore` lists, if no list was stopped
 -- by its gate and no answer is N26
 abbrev pub RunsAreExplored : Type 0
 RunsAreExplored =
-    (c : RunContents) (logged : Bool) (duties : List (ThreadJob ScriptRights)) (old new : Option (List ℕ))
-    → (of : AreOf c logged duties) → (wrote : WritesAll may_by duties old new)
+    (c : RunContents) (logged : Bool) (jobs : List (ThreadJob ScriptRights)) (old new : Option (List ℕ))
+    → (of : AreOf c logged jobs) → (wrote : WritesAll may_by jobs old new)
     → All EndsAtNoGate wrote.0 → All HasNoneLost wrote.0
     → MayGive c (texts_in wrote.0)

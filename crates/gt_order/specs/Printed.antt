@@ -92,8 +92,8 @@ MayPrint c text = (hs : List Happening) × IsRunOf c hs text
 -- what a run of a script writes is a text that a run of it may print
 abbrev pub RunsArePrinted : Type 0
 RunsArePrinted =
-    (c : RunContents) (logged : Bool) (duties : List (ThreadJob ScriptRights)) (old new : Option (List ℕ))
-    → (of : AreOf c logged duties) → (wrote : WritesAll may_by duties old new) → MayPrint c (texts_in wrote.0)
+    (c : RunContents) (logged : Bool) (jobs : List (ThreadJob ScriptRights)) (old new : Option (List ℕ))
+    → (of : AreOf c logged jobs) → (wrote : WritesAll may_by jobs old new) → MayPrint c (texts_in wrote.0)
 
 -- without a log, what `run` appends is a text that a run of the script may print
 abbrev pub UnloggedRunsPrint : Type 0

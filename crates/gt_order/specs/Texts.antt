@@ -54,16 +54,16 @@ IsDoneFor monitor m request answer =
 
 -- the call m of a run is that of a line of the job's list, and leads from p to q: the domain was asked what the line
 -- encodes, with the handles that its labels named then, and the answer is the one that the line prints
-pub record IsCallOf {P : Type 0} (may : P → AllowRelation) (duty : ThreadJob P) (m : CallMade) (p q : ListProgress)
+pub record IsCallOf {P : Type 0} (may : P → AllowRelation) (job : ThreadJob P) (m : CallMade) (p q : ListProgress)
     : Type 0 where
   pub task : RunTask
-  pub listed : IsAmong task duty.part.tasks.now
+  pub listed : IsAmong task job.part.tasks.now
   pub call : ScriptCall
   pub deed : task.deed ≡ Do call
-  pub made : MakesCall may duty task.line call p q
+  pub made : MakesCall may job task.line call p q
   pub old : m.old ≡ p.domain
   pub new : m.new ≡ q.domain
-  pub done_for : IsDoneFor duty.monitor.now m made.request made.answer
+  pub done_for : IsDoneFor job.monitor.now m made.request made.answer
 
 -- the action raises the flag, or awaits it, by this step
 abbrev pub IsFlagStepOf : RunAction → ℕ → FlagStep → Type 0
@@ -73,21 +73,21 @@ IsFlagStepOf action flag m = ⊥
 
 -- the step on a flag is that of a line of the job's list
 abbrev pub IsOfFlagLine : {P : Type 0} → ThreadJob P → FlagMade → Type 0
-IsOfFlagLine duty x = (task : RunTask) × IsAmong task duty.part.tasks.now × IsFlagStepOf task.deed x.flag x.step
+IsOfFlagLine job x = (task : RunTask) × IsAmong task job.part.tasks.now × IsFlagStepOf task.deed x.flag x.step
 
 -- these deeds, the last one first, are those of lines of the job's list, and lead to q: calls with their outcomes, and
 -- steps on flags
 abbrev pub AreDeedsOf : {P : Type 0} → (P → AllowRelation) → ThreadJob P → List Deed → ListProgress → Type 0
-AreDeedsOf may duty [] q = (q.named ≡ []) × (q.outcomes ≡ [])
-AreDeedsOf may duty (Call m ∷ ms) q = (p : ListProgress) × IsCallOf may duty m p q × AreDeedsOf may duty ms p
-AreDeedsOf may duty (OnFlag x ∷ ms) q =
-    IsOfFlagLine duty x × ((p : ListProgress) × (q ≡ record p { domain = q.domain }) × AreDeedsOf may duty ms p)
-AreDeedsOf may duty (Look x ∷ ms) q = ⊥
+AreDeedsOf may job [] q = (q.named ≡ []) × (q.outcomes ≡ [])
+AreDeedsOf may job (Call m ∷ ms) q = (p : ListProgress) × IsCallOf may job m p q × AreDeedsOf may job ms p
+AreDeedsOf may job (OnFlag x ∷ ms) q =
+    IsOfFlagLine job x × ((p : ListProgress) × (q ≡ record p { domain = q.domain }) × AreDeedsOf may job ms p)
+AreDeedsOf may job (Look x ∷ ms) q = ⊥
 
 -- the list of the domain at the position i was served
 pub record HasList {P : Type 0} (may : P → AllowRelation) (m : Monitor P) (i : ℕ) (s : Served P) : Type 0 where
-  pub monitor : s.duty.monitor.now ≡ m
-  pub dom : s.duty.part.dom ≡ id_at m.words.layout.ids i
+  pub monitor : s.job.monitor.now ≡ m
+  pub dom : s.job.part.dom ≡ id_at m.words.layout.ids i
   pub served : WasServed may s
 
 -- the view is the domain's at the end of its list, or the domain has left since
@@ -102,7 +102,7 @@ pub record AreDeedsOfList {P : Type 0} (may : P → AllowRelation) (s : Served P
   pub all : made ≡ leaving ++ listed
   pub releases : AreReleases leaving
   pub left : ListProgress
-  pub lines : AreDeedsOf may s.duty listed left
+  pub lines : AreDeedsOf may s.job listed left
   pub outcomes : left.outcomes ≡ s.outcomes
 
 -- the text of the lists is that of a legal order: one order is legal for the run, has the steps of the history in their
@@ -127,8 +127,8 @@ TextsAreOfALegalOrder {P} may m =
 
 -- the jobs are those of the monitor's domains, in their order
 abbrev pub AreOfDomains : {P : Type 0} → Monitor P → List (ThreadJob P) → Type 0
-AreOfDomains m duties =
-    All (λ d. d.monitor.now ≡ m) duties × (map (λ d. d.part.dom) duties ≡ map (λ d. d.id) m.config.domains.items)
+AreOfDomains m jobs =
+    All (λ d. d.monitor.now ≡ m) jobs × (map (λ d. d.part.dom) jobs ≡ map (λ d. d.id) m.config.domains.items)
 
 -- the lists of a run, in the order of their domains, are those of a legal order
 abbrev pub AreOfOneOrder : {P : Type 0} → (P → AllowRelation) → Monitor P → List (Served P) → Type 0
@@ -139,5 +139,5 @@ AreOfOneOrder {P} may m all =
 -- what a run wrote at Ok, by the contract of `run`, is the text of a legal order
 abbrev pub RunsWriteALegalOrder : {P : Type 0} → (P → AllowRelation) → Monitor P → Type 0
 RunsWriteALegalOrder {P} may m =
-    (duties : List (ThreadJob P)) (old new : Option (List ℕ)) → IsWithinLimits m.config → AreOfDomains m duties
-    → (wrote : WritesAll may duties old new) → AreOfOneOrder may m wrote.0
+    (jobs : List (ThreadJob P)) (old new : Option (List ℕ)) → IsWithinLimits m.config → AreOfDomains m jobs
+    → (wrote : WritesAll may jobs old new) → AreOfOneOrder may m wrote.0

@@ -97,12 +97,12 @@ none_next : (old new : List Record) (next : ℕ) → next ≡ length old → new
 none_next old new next n same = slice_get_past new next (omega (arith, n, ap length same))
 
 -- what a call adds to what was pushed, and to what was lost
-record Added (logged : Bool) (made : Option Record) (trail : Telling) (teller : Option TrailLogger) (outcomes : List ListOutcome) : Type 0 where
+record Added (logged : Bool) (made : Option Record) (trail : Telling) (logger : Option TrailLogger) (outcomes : List ListOutcome) : Type 0 where
   told : List Record
   lost : ℕ
   records : Records logged made told lost
-  asked : is_some teller ≡ logged
-  kept : (line : ℕ) (answer : Answer) → TellsOutcomes trail teller (outcomes ++ record { line = line; answer = answer; told = told; lost = lost } ∷ [])
+  asked : is_some logger ≡ logged
+  kept : (line : ℕ) (answer : Answer) → TellsOutcomes trail logger (outcomes ++ record { line = line; answer = answer; told = told; lost = lost } ∷ [])
 
 -- one outcome more, of a record that went so
 pushed_more : (told : List (ℕ × Record)) (more : List (ℕ × Record)) (records : List Record) (os : List ListOutcome) (o : ListOutcome)
@@ -217,16 +217,16 @@ fits_other (said.Grant gref entry) other = absurd (other gref entry refl)
 fits_other call other = tt
 
 -- the call of a line was made, its record was pushed, and its answer is printed
-pub calls : {P : Type 0} (may : P → AllowRelation) (duty : ThreadJob P) (line : ℕ) (call : ScriptCall) (d e : Domain) (before after : Labels) (t u : Option TrailLogger) (answer : Answer) (text : List ℕ)
-    → Makes may duty call d e before after answer → LogsTrail e.trail t u → text ≡ answer_line duty.part.types.now line duty.part.dom answer
-    → Calls may duty line call d e before after t u text
-calls may duty line call d e before after t u answer text makes tells is = λ p kept.
+pub calls : {P : Type 0} (may : P → AllowRelation) (job : ThreadJob P) (line : ℕ) (call : ScriptCall) (d e : Domain) (before after : Labels) (t u : Option TrailLogger) (answer : Answer) (text : List ℕ)
+    → Makes may job call d e before after answer → LogsTrail e.trail t u → text ≡ answer_line job.part.types.now line job.part.dom answer
+    → Calls may job line call d e before after t u text
+calls may job line call d e before after t u answer text makes tells is = λ p kept.
     let made = makes.1 p.named kept.names in
-    let own : AddsRecord (record_made duty.part.dom d made.0 answer) d.trail e.trail =
-    subst (λ (x : DomId). AddsRecord (record_made x d made.0 answer) d.trail e.trail) kept.own (adds_record may duty.monitor.now d made.0 answer e made.2.1) in
-    let added = tells_where (is_logged duty) _ d.trail e.trail t u p.outcomes kept.asked own kept.told tells in
+    let own : AddsRecord (record_made job.part.dom d made.0 answer) d.trail e.trail =
+    subst (λ (x : DomId). AddsRecord (record_made x d made.0 answer) d.trail e.trail) kept.own (adds_record may job.monitor.now d made.0 answer e made.2.1) in
+    let added = tells_where (is_logged job) _ d.trail e.trail t u p.outcomes kept.asked own kept.told tells in
     let o : ListOutcome = record { line = line; answer = answer; told = added.told; lost = added.lost } in (
-      record { domain = e; named = with_name p.named duty.part.dom (label_given call) (handle_given answer); outcomes = p.outcomes ++ o ∷ [] },
+      record { domain = e; named = with_name p.named job.part.dom (label_given call) (handle_given answer); outcomes = p.outcomes ++ o ∷ [] },
       record {
         request = made.0;
         answer = answer;
@@ -234,19 +234,19 @@ calls may duty line call d e before after t u answer text makes tells is = λ p 
         lost = added.lost;
         fits = makes.0;
         says = made.1;
-        asks = subst (λ (x : Domain). Asks may duty.monitor.now x made.0 answer e) (sym kept.domain) made.2;
-        records = subst (λ (x : Domain). Records (is_logged duty) (record_made duty.part.dom x made.0 answer) added.told added.lost) (sym kept.domain) added.records;
+        asks = subst (λ (x : Domain). Asks may job.monitor.now x made.0 answer e) (sym kept.domain) made.2;
+        records = subst (λ (x : Domain). Records (is_logged job) (record_made job.part.dom x made.0 answer) added.told added.lost) (sym kept.domain) added.records;
         named = refl;
         outcomes = refl;
       },
       record { domain = refl; own = made.2.0 ∙ kept.own; names = made.3; asked = added.asked; told = added.kept line answer },
-      lines_behind duty.part.types.now duty.part.dom p.outcomes o ∙ ap (λ (l : List ℕ). answer_lines duty.part.types.now duty.part.dom p.outcomes ++ l) (sym is),
+      lines_behind job.part.types.now job.part.dom p.outcomes o ∙ ap (λ (l : List ℕ). answer_lines job.part.types.now job.part.dom p.outcomes ++ l) (sym is),
     )
 
 -- the same of a call that may have had no memory, and had it
-pub calls_of : {P E : Type 0} (may : P → AllowRelation) (duty : ThreadJob P) (line : ℕ) (call : ScriptCall) (d e : Domain) (before after : Labels) (t u : Option TrailLogger) (r : Result Answer E) (answer : Answer) (none text : List ℕ)
-    → r ≡ Ok answer → IfOk r (Makes may duty call d e before after) → LogsTrail e.trail t u → none ≡ [] → text ≡ none ++ answer_line duty.part.types.now line duty.part.dom answer
-    → Calls may duty line call d e before after t u text
-calls_of may duty line call d e before after t u r answer none text was made tells empty is =
-    calls may duty line call d e before after t u answer text (subst (λ (q : Result Answer _). IfOk q (Makes may duty call d e before after)) was made) tells
-    (is ∙ ap (λ (l : List ℕ). l ++ answer_line duty.part.types.now line duty.part.dom answer) empty)
+pub calls_of : {P E : Type 0} (may : P → AllowRelation) (job : ThreadJob P) (line : ℕ) (call : ScriptCall) (d e : Domain) (before after : Labels) (t u : Option TrailLogger) (r : Result Answer E) (answer : Answer) (none text : List ℕ)
+    → r ≡ Ok answer → IfOk r (Makes may job call d e before after) → LogsTrail e.trail t u → none ≡ [] → text ≡ none ++ answer_line job.part.types.now line job.part.dom answer
+    → Calls may job line call d e before after t u text
+calls_of may job line call d e before after t u r answer none text was made tells empty is =
+    calls may job line call d e before after t u answer text (subst (λ (q : Result Answer _). IfOk q (Makes may job call d e before after)) was made) tells
+    (is ∙ ap (λ (l : List ℕ). l ++ answer_line job.part.types.now line job.part.dom answer) empty)

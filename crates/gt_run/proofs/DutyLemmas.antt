@@ -44,7 +44,7 @@ use Rattle.gt_run.specs.Joining.{AreGathered, AreOfThisRun, AreOnRun, BeginsFirs
 use Rattle.gt_run.specs.Joining.{JoinsWhere, MayTakeIn, ShowTogether, WritesNext, WroteStarted, views_in}
 use Rattle.gt_run.specs.Printing.{AreDuties, BeginsLists, BeginsRunText, CameBy, HasViewIn, LeavesSeat, PrintsOn, Served}
 use Rattle.gt_run.specs.Printing.{ShowOneState, WasServed, WritesLists}
-use Rattle.gt_run.specs.Printing.{all_lost, audits_in, duties_in, promised, texts_in}
+use Rattle.gt_run.specs.Printing.{all_lost, audits_in, jobs_in, promised, texts_in}
 use Rattle.gt_run.specs.Runs.{Wrote, WroteLists}
 use Rattle.gt_run.specs.Serving.{AreReady, IsBegun, IsFirst, IsReady, IsServed, Serves, ServesAll, ServesSome}
 use Rattle.gt_run.specs.Serving.{list_start, audit_lines, counted, lost_in}
@@ -57,19 +57,19 @@ use Rattle.gt_run.specs.declared.telling.TrailLogger.{TrailLogger}
 use Rattle.gt_run.specs.declared.threads.ThreadRefusal.{ThreadRefusal}
 use Rattle.gt_run.specs.declared.threads.ThreadRefusal.TheVariants as refusals
 
--- what comes of a duty
+-- what comes of a job
 
 -- no line was served yet
-pub begun_not : {P : Type 0} (may : P → AllowRelation) (duty : ThreadJob P) (s : Stand P) (text : List ℕ) → text ≡ [] → IsReady may duty.monitor.now duty.part.dom s → IsBegun may duty text
-begun_not may duty s text none ready =
+pub begun_not : {P : Type 0} (may : P → AllowRelation) (job : ThreadJob P) (s : Stand P) (text : List ℕ) → text ≡ [] → IsReady may job.monitor.now job.part.dom s → IsBegun may job text
+begun_not may job s text none ready =
     record { domain = s.domain; first = ready.1; number = 0; left = list_start s.domain; leads = refl; prints = none }
 
-begun : {P : Type 0} (may : P → AllowRelation) (duty : ThreadJob P) (d : Domain) (text : List ℕ) → IsFirst may duty.monitor.now duty.part.dom d → ServesSome may duty d text → IsBegun may duty text
-begun may duty d text first s = record { domain = d; first = first; number = s.number; left = s.left; leads = s.leads; prints = s.prints }
+begun : {P : Type 0} (may : P → AllowRelation) (job : ThreadJob P) (d : Domain) (text : List ℕ) → IsFirst may job.monitor.now job.part.dom d → ServesSome may job d text → IsBegun may job text
+begun may job d text first s = record { domain = d; first = first; number = s.number; left = s.left; leads = s.leads; prints = s.prints }
 
-served : {P : Type 0} (may : P → AllowRelation) (duty : ThreadJob P) (d e : Domain) (text : List ℕ) (t : Option TrailLogger) (l : Departed) → IsFirst may duty.monitor.now duty.part.dom d
-    → HasLeft duty.monitor.now.words.layout e l → (s : ServesAll may duty d text e t) → IsServed may duty s.left.outcomes text l
-served may duty d e text t l first leaves s = record {
+served : {P : Type 0} (may : P → AllowRelation) (job : ThreadJob P) (d e : Domain) (text : List ℕ) (t : Option TrailLogger) (l : Departed) → IsFirst may job.monitor.now job.part.dom d
+    → HasLeft job.monitor.now.words.layout e l → (s : ServesAll may job d text e t) → IsServed may job s.left.outcomes text l
+served may job d e text t l first leaves s = record {
   domain = d;
   first = first;
   number = s.number;
@@ -79,7 +79,7 @@ served may duty d e text t l first leaves s = record {
   last = s.last;
   ends = s.ends;
   prints = s.prints;
-  leaves = subst (λ (x : Domain). HasLeft duty.monitor.now.words.layout x l) (sym s.domain) leaves;
+  leaves = subst (λ (x : Domain). HasLeft job.monitor.now.words.layout x l) (sym s.domain) leaves;
 }
 
 if_ok_as : {V E : Type 0} (r : Result V E) (P Q : V → Type 0) → ((v : V) → P v → Q v) → IfOk r P → IfOk r Q
@@ -87,39 +87,39 @@ if_ok_as (Ok v) P Q f p = f v p
 if_ok_as (Err e) P Q f p = tt
 
 -- a list was served without a log
-pub came_plain : {P : Type 0} (may : P → AllowRelation) (duty : ThreadJob P) (s : Stand P) (e : Domain) (whole : Bool) (t : Option TrailLogger) (o : Output) → IsReady may duty.monitor.now duty.part.dom s
-    → t ≡ None → HasLeft duty.monitor.now.words.layout e o.left → Serves may duty s.domain whole o.text.items e t → IfOk o.audit (λ a. a.items ≡ []) → o.lost ≡ 0 → CameBy whole may duty o
-came_plain may duty s e false t o ready none leaves serves audit lost = begun may duty s.domain o.text.items ready.1 serves
-came_plain may duty s e true (Some t) o ready none leaves serves audit lost = let e : Some t ≡ None = none in cc
-came_plain may duty s e true None o ready none leaves serves audit lost = (
+pub came_plain : {P : Type 0} (may : P → AllowRelation) (job : ThreadJob P) (s : Stand P) (e : Domain) (whole : Bool) (t : Option TrailLogger) (o : Output) → IsReady may job.monitor.now job.part.dom s
+    → t ≡ None → HasLeft job.monitor.now.words.layout e o.left → Serves may job s.domain whole o.text.items e t → IfOk o.audit (λ a. a.items ≡ []) → o.lost ≡ 0 → CameBy whole may job o
+came_plain may job s e false t o ready none leaves serves audit lost = begun may job s.domain o.text.items ready.1 serves
+came_plain may job s e true (Some t) o ready none leaves serves audit lost = let e : Some t ≡ None = none in cc
+came_plain may job s e true None o ready none leaves serves audit lost = (
   serves.left.outcomes,
-  served may duty s.domain e o.text.items None o.left ready.1 leaves serves,
-  if_ok_as o.audit _ _ (λ a is. is ∙ sym (ap (flat_map (line_text (type_text (λ name. name) duty.part.types.now))) serves.told.0)) audit,
+  served may job s.domain e o.text.items None o.left ready.1 leaves serves,
+  if_ok_as o.audit _ _ (λ a is. is ∙ sym (ap (flat_map (line_text (type_text (λ name. name) job.part.types.now))) serves.told.0)) audit,
   lost ∙ sym (ap counted serves.told.1),
 )
 
 -- a list was served with one
-pub came_told : {P : Type 0} (may : P → AllowRelation) (duty : ThreadJob P) (s : Stand P) (e : Domain) (trail : Telling) (whole : Bool) (t : Option TrailLogger) (u : TrailLogger) (o : Output)
-    → IsReady may duty.monitor.now duty.part.dom s → t ≡ Some u → trail ≡ e.trail → HasLeft duty.monitor.now.words.layout e o.left → Serves may duty s.domain whole o.text.items e t
-    → IfOk o.audit (λ a. a.items ≡ flat_map (line_text (type_text (λ name. name) duty.part.types.now)) (map (λ x. x.1) u.told.told))
-    → o.lost ≡ counted (trail.lost + u.told.lost) → CameBy whole may duty o
-came_told may duty s e trail false t u o ready given same leaves serves audit lost = begun may duty s.domain o.text.items ready.1 serves
-came_told may duty s e trail true None u o ready given same leaves serves audit lost = let e : None ≡ Some u = given in cc
-came_told may duty s e trail true (Some t) u o ready given same leaves serves audit lost =
+pub came_told : {P : Type 0} (may : P → AllowRelation) (job : ThreadJob P) (s : Stand P) (e : Domain) (trail : Telling) (whole : Bool) (t : Option TrailLogger) (u : TrailLogger) (o : Output)
+    → IsReady may job.monitor.now job.part.dom s → t ≡ Some u → trail ≡ e.trail → HasLeft job.monitor.now.words.layout e o.left → Serves may job s.domain whole o.text.items e t
+    → IfOk o.audit (λ a. a.items ≡ flat_map (line_text (type_text (λ name. name) job.part.types.now)) (map (λ x. x.1) u.told.told))
+    → o.lost ≡ counted (trail.lost + u.told.lost) → CameBy whole may job o
+came_told may job s e trail false t u o ready given same leaves serves audit lost = begun may job s.domain o.text.items ready.1 serves
+came_told may job s e trail true None u o ready given same leaves serves audit lost = let e : None ≡ Some u = given in cc
+came_told may job s e trail true (Some t) u o ready given same leaves serves audit lost =
     let is : t ≡ u = cc given in (
       serves.left.outcomes,
-      served may duty s.domain e o.text.items (Some t) o.left ready.1 leaves serves,
-      if_ok_as o.audit _ _ (λ a of_u. of_u ∙ ap (λ (x : TrailLogger). flat_map (line_text (type_text (λ name. name) duty.part.types.now)) (map (λ y. y.1) x.told.told)) (sym is)
-          ∙ ap (flat_map (line_text (type_text (λ name. name) duty.part.types.now))) serves.told.1) audit,
+      served may job s.domain e o.text.items (Some t) o.left ready.1 leaves serves,
+      if_ok_as o.audit _ _ (λ a of_u. of_u ∙ ap (λ (x : TrailLogger). flat_map (line_text (type_text (λ name. name) job.part.types.now)) (map (λ y. y.1) x.told.told)) (sym is)
+          ∙ ap (flat_map (line_text (type_text (λ name. name) job.part.types.now))) serves.told.1) audit,
       lost ∙ ap (λ (x : TrailLogger). counted (trail.lost + x.told.lost)) (sym is) ∙ ap (λ (x : Telling). counted (x.lost + t.told.lost)) same ∙ serves.told.2,
     )
 
 -- starting
 
--- one duty more
-pub duties_more : {P : Type 0} (m : Monitor P) (logged : Bool) (parts : List DomainPart) (i : ℕ) (p : DomainPart) (ds : List (ThreadJob P)) (d : ThreadJob P) → i < length parts → p ≡ get_or parts i p → d.part ≡ p
+-- one job more
+pub jobs_more : {P : Type 0} (m : Monitor P) (logged : Bool) (parts : List DomainPart) (i : ℕ) (p : DomainPart) (ds : List (ThreadJob P)) (d : ThreadJob P) → i < length parts → p ≡ get_or parts i p → d.part ≡ p
     → d.monitor.now ≡ m → is_some d.log ≡ logged → AreDuties m logged (take i parts) ds → AreDuties m logged (take (i + 1) parts) (ds ++ d ∷ [])
-duties_more {P} m logged parts i p ds d within is of_part over log (same, all) = (
+jobs_more {P} m logged parts i p ds d within is of_part over log (same, all) = (
   map-append (λ (x : ThreadJob _). x.part) ds (d ∷ []) ∙ ap (λ l. l ++ d.part ∷ []) same ∙ ap (λ (x : DomainPart). take i parts ++ x ∷ []) (of_part ∙ is)
       ∙ sym (rw add-one (take-suc parts i p within)),
   All-append (λ (x : ThreadJob P). (x.monitor.now ≡ m) × (is_some x.log ≡ logged)) ds (d ∷ []) all
@@ -134,13 +134,13 @@ pushed_items (Err x) old more new failed items well same = absurd (false≢true 
 promised_more : {P : Type 0} (hs : List (PromisedHandle Output (ThreadJob P))) (h : PromisedHandle Output (ThreadJob P)) → promised (hs ++ h ∷ []) ≡ promised hs ++ h.promise ∷ []
 promised_more {P} hs h = map-append (λ (x : PromisedHandle Output (ThreadJob P)). x.promise) hs (h ∷ [])
 
--- the thread of one duty more was kept
-pub duties_pushed : {P : Type 0} (m : Monitor P) (parts : List DomainPart) (i : ℕ) (p : DomainPart) (logged : Bool) (hs new : List (PromisedHandle Output (ThreadJob P))) (h : PromisedHandle Output (ThreadJob P)) (d : ThreadJob P)
+-- the thread of one job more was kept
+pub jobs_pushed : {P : Type 0} (m : Monitor P) (parts : List DomainPart) (i : ℕ) (p : DomainPart) (logged : Bool) (hs new : List (PromisedHandle Output (ThreadJob P))) (h : PromisedHandle Output (ThreadJob P)) (d : ThreadJob P)
     → i < length parts → p ≡ get_or parts i p → h.promise ≡ d → d.part ≡ p → d.monitor.now ≡ m → is_some d.log ≡ logged → new ≡ hs ++ h ∷ []
     → AreDuties m logged (take i parts) (promised hs) → AreDuties m logged (take (i + 1) parts) (promised new)
-duties_pushed {P} m parts i p logged hs new h d within is kept part over log items are =
+jobs_pushed {P} m parts i p logged hs new h d within is kept part over log items are =
     let grown : promised new ≡ promised hs ++ d ∷ [] = ap promised items ∙ promised_more hs h ∙ ap (λ (x : ThreadJob P). promised hs ++ x ∷ []) kept in
-    subst (λ (l : List (ThreadJob P)). AreDuties m logged (take (i + 1) parts) l) (sym grown) (duties_more m logged parts i p (promised hs) d within is part over log are)
+    subst (λ (l : List (ThreadJob P)). AreDuties m logged (take (i + 1) parts) l) (sym grown) (jobs_more m logged parts i p (promised hs) d within is part over log are)
 
 -- the next domain is ready for the next part, and the others for the others
 ready_step : {P : Type 0} (may : P → AllowRelation) (m : Monitor P) (stands rest : List (Stand P)) (s : Stand P) (parts : List DomainPart) (i : ℕ) (p : DomainPart) → i < length parts → p ≡ get_or parts i p
@@ -191,7 +191,7 @@ begins_more may ds d old now new (all, rest, text, same, are, on, out) kept = (
   all,
   rest ++ d ∷ [],
   text,
-  sym (append_assoc (duties_in all) rest (d ∷ [])) ∙ ap (λ l. l ++ d ∷ []) same,
+  sym (append_assoc (jobs_in all) rest (d ∷ [])) ∙ ap (λ l. l ++ d ∷ []) same,
   are,
   goes_on may rest d text on,
   begins_kept old now new (texts_in all ++ text) out kept,
@@ -200,16 +200,16 @@ begins_more may ds d old now new (all, rest, text, same, are, on, out) kept = (
 texts_behind : {P : Type 0} (all : List (Served P)) (s : Served P) → texts_in (all ++ s ∷ []) ≡ texts_in all ++ s.text
 texts_behind all s = flat_map-append (λ (x : Served _). x.text) all (s ∷ []) ∙ ap (λ (l : List ℕ). texts_in all ++ l) (append-nil s.text)
 
-audits_behind : {P : Type 0} (all : List (Served P)) (s : Served P) → audits_in (all ++ s ∷ []) ≡ audits_in all ++ audit_lines s.duty.part.types.now s.outcomes
+audits_behind : {P : Type 0} (all : List (Served P)) (s : Served P) → audits_in (all ++ s ∷ []) ≡ audits_in all ++ audit_lines s.job.part.types.now s.outcomes
 audits_behind all s =
-    flat_map-append (λ (x : Served _). audit_lines x.duty.part.types.now x.outcomes) all (s ∷ [])
-    ∙ ap (λ (l : List ℕ). audits_in all ++ l) (append-nil (audit_lines s.duty.part.types.now s.outcomes))
+    flat_map-append (λ (x : Served _). audit_lines x.job.part.types.now x.outcomes) all (s ∷ [])
+    ∙ ap (λ (l : List ℕ). audits_in all ++ l) (append-nil (audit_lines s.job.part.types.now s.outcomes))
 
 all_lost_behind : {P : Type 0} (all : List (Served P)) (s : Served P) → all_lost (all ++ s ∷ []) ≡ all_lost all + lost_in s.outcomes
 all_lost_behind all s = sum_by-append (λ (x : Served _). lost_in x.outcomes) all (s ∷ []) ∙ ap (λ (n : ℕ). all_lost all + n) (omega arith)
 
-duties_behind : {P : Type 0} (all : List (Served P)) (s : Served P) (ds : List (ThreadJob P)) → duties_in all ≡ ds → duties_in (all ++ s ∷ []) ≡ ds ++ s.duty ∷ []
-duties_behind all s ds same = map-append (λ (x : Served _). x.duty) all (s ∷ []) ∙ ap (λ l. l ++ s.duty ∷ []) same
+jobs_behind : {P : Type 0} (all : List (Served P)) (s : Served P) (ds : List (ThreadJob P)) → jobs_in all ≡ ds → jobs_in (all ++ s ∷ []) ≡ ds ++ s.job ∷ []
+jobs_behind all s ds same = map-append (λ (x : Served _). x.job) all (s ∷ []) ∙ ap (λ l. l ++ s.job ∷ []) same
 
 both_ok : {V E : Type 0} (r : Result V E) (P Q : V → Type 0) → IsOk r → IfOk r P → IfOk r Q → (v : V) × P v × Q v
 both_ok (Ok v) P Q ok p q = (v, p, q)
@@ -217,21 +217,21 @@ both_ok (Err e) P Q ok p q = let o : false ≡ true = ok in cc
 
 -- the lists that were served, and one more
 lists_more : {P : Type 0} (may : P → AllowRelation) (all : List (Served P)) (s : Served P) (ds : List (ThreadJob P)) (old now new : Option (List ℕ)) → WritesLists may ds all old now
-    → WasServed may s → Appends now new s.text → WritesLists may (ds ++ s.duty ∷ []) (all ++ s ∷ []) old new
+    → WasServed may s → Appends now new s.text → WritesLists may (ds ++ s.job ∷ []) (all ++ s ∷ []) old new
 lists_more {P} may all s ds old now new (same, are, out) is more = (
-  duties_behind all s ds same,
+  jobs_behind all s ds same,
   All-append (WasServed may) all (s ∷ []) are (All-cons (WasServed may) s [] is (All-nil (WasServed may))),
   subst (λ (l : List ℕ). Appends old new l) (sym (texts_behind all s)) (appends_both old now new (texts_in all) s.text out more),
 )
 
 -- the same, of which a beginning went out
 begins_served : {P : Type 0} (may : P → AllowRelation) (all : List (Served P)) (s : Served P) (ds : List (ThreadJob P)) (old now new : Option (List ℕ)) → WritesLists may ds all old now
-    → WasServed may s → AppendsBeginning now new s.text → BeginsLists may (ds ++ s.duty ∷ []) old new
+    → WasServed may s → AppendsBeginning now new s.text → BeginsLists may (ds ++ s.job ∷ []) old new
 begins_served {P} may all s ds old now new (same, are, out) is more = (
   all ++ s ∷ [],
   [],
   [],
-  append-nil (duties_in (all ++ s ∷ [])) ∙ duties_behind all s ds same,
+  append-nil (jobs_in (all ++ s ∷ [])) ∙ jobs_behind all s ds same,
   All-append (WasServed may) all (s ∷ []) are (All-cons (WasServed may) s [] is (All-nil (WasServed may))),
   refl,
   subst (λ (l : List ℕ). AppendsBeginning old new l) (sym (append-nil (texts_in (all ++ s ∷ [])) ∙ texts_behind all s))
@@ -254,7 +254,7 @@ begins_next may all d text ds old now new (same, are, out) is more = (
 begins_one : {P : Type 0} (may : P → AllowRelation) (all : List (Served P)) (d : ThreadJob P) (whole : Bool) (o : Output) (ds : List (ThreadJob P)) (old now new : Option (List ℕ)) → WritesLists may ds all old now
     → CameBy whole may d o → AppendsBeginning now new o.text.items → BeginsLists may (ds ++ d ∷ []) old new
 begins_one may all d true o ds old now new lists came out =
-    begins_served may all (record { duty = d; outcomes = came.0; text = o.text.items; departed = o.left }) ds old now new lists came.1 out
+    begins_served may all (record { job = d; outcomes = came.0; text = o.text.items; departed = o.left }) ds old now new lists came.1 out
 begins_one may all d false o ds old now new lists came out = begins_next may all d o.text.items ds old now new lists came out
 
 not_ok : {E : Type 0} (e : E) → IsOk {T = Unit {0}} (Err e) → ⊥
@@ -275,7 +275,7 @@ joins_well : {P : Type 0} (Q Q' : List (Served P) → Type 0) (may : P → Allow
     → JoinsWhere Q may ds a0 l0 old now (Ok tt) → Appends now new o.text.items → IfOk o.audit (λ more. a1 ≡ a0 ++ more.items) → IsOk o.audit
     → l1 ≡ counted (l0 + o.lost) → CameBy true may d o → JoinsWhere Q' may (ds ++ d ∷ []) a1 l1 old new (Ok tt)
 joins_well {P} Q Q' may ds d o a0 a1 l0 l1 old now new grows (all, lists, audit, count, q) out more ok lost came =
-    let s : Served P = record { duty = d; outcomes = came.0; text = o.text.items; departed = o.left } in
+    let s : Served P = record { job = d; outcomes = came.0; text = o.text.items; departed = o.left } in
     let both = both_ok o.audit (λ a. a1 ≡ a0 ++ a.items) (λ a. a.items ≡ audit_lines d.part.types.now came.0) ok more came.2 in (
       all ++ s ∷ [],
       lists_more may all s ds old now new lists came.1 out,
@@ -345,10 +345,10 @@ in-state s (u ∷ us) v are (inl is) = subst (λ (x : View). get_elem? s.views x
 in-state s (u ∷ us) v are (inr is) = in-state s us v are.1 is
 
 -- the words and the views that were gathered show one state
-one-state : {P : Type 0} (m : Monitor P) (us : List View) (all : List (Served P)) → StandTogether m.words.layout us → All (λ d. d.monitor.now ≡ m) (duties_in all) → AreGathered us all → ShowOneState all
+one-state : {P : Type 0} (m : Monitor P) (us : List View) (all : List (Served P)) → StandTogether m.words.layout us → All (λ d. d.monitor.now ≡ m) (jobs_in all) → AreGathered us all → ShowOneState all
 one-state m us [] together on are = tt
 one-state {P} m us (x ∷ xs) together on are =
-    let same : x.duty.monitor.now ≡ m = All-head (λ (d : ThreadJob P). d.monitor.now ≡ m) x.duty (duties_in xs) on in (
+    let same : x.job.monitor.now ≡ m = All-head (λ (d : ThreadJob P). d.monitor.now ≡ m) x.job (jobs_in xs) on in (
       together.0,
       subst (λ (n : Monitor P). Shows n.words.layout together.0) (sym same) together.1,
       All-weaker (λ (y : Served P). IsAmong y.departed.seat.view us) (HasViewIn together.0) (λ y. in-state together.0 us y.departed.seat.view together.2) (x ∷ xs) are,
@@ -446,7 +446,7 @@ wrote_all may ds all r0 r d audit lost old now new was given joined out begun la
     let j = subst (λ (q : Result (Unit {0}) RunFault). JoinsWhere ShowOneState may ds audit lost old now q) was joined in
     subst (λ (b : Option ThreadRefusal). WroteStarted may b ds old new r) (sym given) (wrote_end may ds j.0 r audit lost old now new j.1 j.2 j.3 j.4 out begun late)
 
--- what duties wrote of which this is known
+-- what jobs wrote of which this is known
 wrote_of : {P : Type 0} (may : P → AllowRelation) (Are : List (ThreadJob P) → Type 0) (ds : List (ThreadJob P)) (r : Result (Unit {0}) RunFault) (old new : Option (List ℕ)) → Are ds → WroteLists may ds old new r
     → Wrote may Are old new r
 wrote_of may Are ds (Ok done) old new are wrote = (ds, are, wrote)
@@ -457,14 +457,14 @@ wrote_of may Are ds (Err (Play plays.Read)) old new are wrote = absurd wrote
 wrote_of may Are ds (Err (Play (plays.Script fault))) old new are wrote = absurd wrote
 wrote_of may Are ds (Err (Play (plays.Policy fault))) old new are wrote = absurd wrote
 
--- the threads that were started are those of these duties, where all were
+-- the threads that were started are those of these jobs, where all were
 pub wrote_started : {P : Type 0} (may : P → AllowRelation) (Are : List (ThreadJob P) → Type 0) (all : Option ThreadRefusal) (hs : List (ThreadJob P)) (r : Result (Unit {0}) RunFault) (old new : Option (List ℕ))
     → (all ≡ None → Are hs) → WroteStarted may all hs old new r → Wrote may Are old new r
 wrote_started may Are None hs r old new are wrote = wrote_of may Are hs r old new (are refl) wrote
 wrote_started may Are (Some refusals.Memory) hs r old new are wrote = subst (λ (q : Result (Unit {0}) RunFault). Wrote may Are old new q) (sym wrote.0) (inl wrote.1)
 wrote_started may Are (Some refusals.Thread) hs r old new are wrote = subst (λ (q : Result (Unit {0}) RunFault). Wrote may Are old new q) (sym wrote.0) wrote.1
 
--- more is known of the duties
+-- more is known of the jobs
 pub wrote_as : {P : Type 0} (may : P → AllowRelation) (Are Be : List (ThreadJob P) → Type 0) (r : Result (Unit {0}) RunFault) (old new : Option (List ℕ)) → ((ds : List (ThreadJob P)) → Are ds → Be ds)
     → Wrote may Are old new r → Wrote may Be old new r
 wrote_as may Are Be (Ok done) old new f (ds, are, wrote) = (ds, f ds are, wrote)

@@ -29,45 +29,45 @@ use Rattle.gt_run.specs.declared.lists.ThreadJob.{ThreadJob}
 use Rattle.gt_run.specs.declared.telling.TrailLogger.{TrailLogger}
 
 -- one line more leads on
-leads_behind : {P : Type 0} (may : P → AllowRelation) (duty : ThreadJob P) (p : ListProgress) (tasks : List RunTask) (task : RunTask) (q r : ListProgress)
-    → ListLeadsTo may duty p tasks q → DoesWhere (task.dom.0 == duty.part.dom.0) may duty task q r → ListLeadsTo may duty p (tasks ++ task ∷ []) r
-leads_behind may duty p [] task q r leads does =
-    (r, subst (λ (x : ListProgress). DoesWhere (task.dom.0 == duty.part.dom.0) may duty task x r) leads does, refl)
-leads_behind may duty p (first ∷ tasks) task q r leads does = (leads.0, leads.1, leads_behind may duty leads.0 tasks task q r leads.2 does)
+leads_behind : {P : Type 0} (may : P → AllowRelation) (job : ThreadJob P) (p : ListProgress) (tasks : List RunTask) (task : RunTask) (q r : ListProgress)
+    → ListLeadsTo may job p tasks q → DoesWhere (task.dom.0 == job.part.dom.0) may job task q r → ListLeadsTo may job p (tasks ++ task ∷ []) r
+leads_behind may job p [] task q r leads does =
+    (r, subst (λ (x : ListProgress). DoesWhere (task.dom.0 == job.part.dom.0) may job task x r) leads does, refl)
+leads_behind may job p (first ∷ tasks) task q r leads does = (leads.0, leads.1, leads_behind may job leads.0 tasks task q r leads.2 does)
 
 take_more : (list : List RunTask) (i : ℕ) (l : RunTask) → i < length list → l ≡ get_or list i l → take (i + 1) list ≡ take i list ++ l ∷ []
 take_more list i l within is = rw add-one (take-suc list i l within ∙ ap (λ (x : RunTask). take i list ++ x ∷ []) (sym is))
 
-leads_more : {P : Type 0} (may : P → AllowRelation) (duty : ThreadJob P) (p : ListProgress) (list : List RunTask) (i : ℕ) (l : RunTask) (q r : ListProgress) → i < length list → l ≡ get_or list i l
-    → ListLeadsTo may duty p (take i list) q → DoesWhere (l.dom.0 == duty.part.dom.0) may duty l q r → ListLeadsTo may duty p (take (i + 1) list) r
-leads_more may duty p list i l q r within is leads does =
-    subst (λ (ls : List RunTask). ListLeadsTo may duty p ls r) (sym (take_more list i l within is)) (leads_behind may duty p (take i list) l q r leads does)
+leads_more : {P : Type 0} (may : P → AllowRelation) (job : ThreadJob P) (p : ListProgress) (list : List RunTask) (i : ℕ) (l : RunTask) (q r : ListProgress) → i < length list → l ≡ get_or list i l
+    → ListLeadsTo may job p (take i list) q → DoesWhere (l.dom.0 == job.part.dom.0) may job l q r → ListLeadsTo may job p (take (i + 1) list) r
+leads_more may job p list i l q r within is leads does =
+    subst (λ (ls : List RunTask). ListLeadsTo may job p ls r) (sym (take_more list i l within is)) (leads_behind may job p (take i list) l q r leads does)
 
 -- a line after which all is as it was
-quiet_more : {P : Type 0} (may : P → AllowRelation) (duty : ThreadJob P) (d : Domain) (whole : Bool) (i : ℕ) (l : RunTask) (text : List ℕ) (e : Domain) (labels : Labels) (t : Option TrailLogger)
-    → i < length duty.part.tasks.now → l ≡ get_or duty.part.tasks.now i l → ((q : ListProgress) → DoesWhere (l.dom.0 == duty.part.dom.0) may duty l q q)
-    → HasCome may duty d whole i text e labels t → HasCome may duty d whole (i + 1) text e labels t
-quiet_more may duty d true i l text e labels t within is does (q, leads, kept, prints) =
-    (q, leads_more may duty (list_start d) duty.part.tasks.now i l q q within is leads (does q), kept, prints)
-quiet_more may duty d false i l text e labels t within is does come = come
+quiet_more : {P : Type 0} (may : P → AllowRelation) (job : ThreadJob P) (d : Domain) (whole : Bool) (i : ℕ) (l : RunTask) (text : List ℕ) (e : Domain) (labels : Labels) (t : Option TrailLogger)
+    → i < length job.part.tasks.now → l ≡ get_or job.part.tasks.now i l → ((q : ListProgress) → DoesWhere (l.dom.0 == job.part.dom.0) may job l q q)
+    → HasCome may job d whole i text e labels t → HasCome may job d whole (i + 1) text e labels t
+quiet_more may job d true i l text e labels t within is does (q, leads, kept, prints) =
+    (q, leads_more may job (list_start d) job.part.tasks.now i l q q within is leads (does q), kept, prints)
+quiet_more may job d false i l text e labels t within is does come = come
 
 -- what a line of the domain does
-own_does : {P : Type 0} (may : P → AllowRelation) (duty : ThreadJob P) (l : RunTask) (deed : RunAction) (q r : ListProgress) → (l.dom.0 == duty.part.dom.0) ≡ true → l.deed ≡ deed
-    → DoesDeed may duty l.line deed q r → DoesWhere (l.dom.0 == duty.part.dom.0) may duty l q r
-own_does may duty l deed q r own is does =
-    subst (λ (b : Bool). DoesWhere b may duty l q r) (sym own) (subst (λ (x : RunAction). DoesDeed may duty l.line x q r) (sym is) does)
+own_does : {P : Type 0} (may : P → AllowRelation) (job : ThreadJob P) (l : RunTask) (deed : RunAction) (q r : ListProgress) → (l.dom.0 == job.part.dom.0) ≡ true → l.deed ≡ deed
+    → DoesDeed may job l.line deed q r → DoesWhere (l.dom.0 == job.part.dom.0) may job l q r
+own_does may job l deed q r own is does =
+    subst (λ (b : Bool). DoesWhere b may job l q r) (sym own) (subst (λ (x : RunAction). DoesDeed may job l.line x q r) (sym is) does)
 
 -- a line of another domain
-pub other_more : {P : Type 0} (may : P → AllowRelation) (duty : ThreadJob P) (d : Domain) (whole : Bool) (i : ℕ) (l : RunTask) (text : List ℕ) (e : Domain) (labels : Labels) (t : Option TrailLogger)
-    → i < length duty.part.tasks.now → l ≡ get_or duty.part.tasks.now i l → (l.dom.0 == duty.part.dom.0) ≡ false
-    → HasCome may duty d whole i text e labels t → HasCome may duty d whole (i + 1) text e labels t
-other_more may duty d whole i l text e labels t within is other come =
-    quiet_more may duty d whole i l text e labels t within is (λ q. subst (λ (b : Bool). DoesWhere b may duty l q q) (sym other) refl) come
+pub other_more : {P : Type 0} (may : P → AllowRelation) (job : ThreadJob P) (d : Domain) (whole : Bool) (i : ℕ) (l : RunTask) (text : List ℕ) (e : Domain) (labels : Labels) (t : Option TrailLogger)
+    → i < length job.part.tasks.now → l ≡ get_or job.part.tasks.now i l → (l.dom.0 == job.part.dom.0) ≡ false
+    → HasCome may job d whole i text e labels t → HasCome may job d whole (i + 1) text e labels t
+other_more may job d whole i l text e labels t within is other come =
+    quiet_more may job d whole i l text e labels t within is (λ q. subst (λ (b : Bool). DoesWhere b may job l q q) (sym other) refl) come
 
 -- a step on a flag keeps the place in the list
-flag_kept : {P : Type 0} (k : Layout) (duty : ThreadJob P) (flag : ℕ) (m : FlagStep) (q : ListProgress) (d e : Domain) (labels : Labels) (t : Option TrailLogger) → FlagStepped k flag m d e → IsKeptAt duty q d labels t
-    → IsKeptAt duty (record q { domain = e }) e labels t
-flag_kept k duty flag m q d e labels t stepped kept = record {
+flag_kept : {P : Type 0} (k : Layout) (job : ThreadJob P) (flag : ℕ) (m : FlagStep) (q : ListProgress) (d e : Domain) (labels : Labels) (t : Option TrailLogger) → FlagStepped k flag m d e → IsKeptAt job q d labels t
+    → IsKeptAt job (record q { domain = e }) e labels t
+flag_kept k job flag m q d e labels t stepped kept = record {
   domain = refl;
   own = stepped.kept.seat.dom ∙ kept.own;
   names = kept.names;
@@ -75,79 +75,79 @@ flag_kept k duty flag m q d e labels t stepped kept = record {
   told = subst (λ (x : Telling). TellsOutcomes x t q.outcomes) (sym stepped.kept.trail) kept.told;
 }
 
-flag_more : {P : Type 0} (may : P → AllowRelation) (k : Layout) (duty : ThreadJob P) (d : Domain) (i : ℕ) (l : RunTask) (text : List ℕ) (e f : Domain) (labels : Labels) (t : Option TrailLogger) (flag : ℕ) (m : FlagStep)
-    → i < length duty.part.tasks.now → l ≡ get_or duty.part.tasks.now i l → FlagStepped k flag m e f
-    → ((q : ListProgress) → q.domain ≡ e → DoesWhere (l.dom.0 == duty.part.dom.0) may duty l q (record q { domain = f }))
-    → HasCome may duty d true i text e labels t → HasCome may duty d true (i + 1) text f labels t
-flag_more may k duty d i l text e f labels t flag m within is stepped does (q, leads, kept, prints) =
-    (record q { domain = f }, leads_more may duty (list_start d) duty.part.tasks.now i l q (record q { domain = f }) within is leads (does q kept.domain), flag_kept k duty flag m q e f labels t stepped kept, prints)
+flag_more : {P : Type 0} (may : P → AllowRelation) (k : Layout) (job : ThreadJob P) (d : Domain) (i : ℕ) (l : RunTask) (text : List ℕ) (e f : Domain) (labels : Labels) (t : Option TrailLogger) (flag : ℕ) (m : FlagStep)
+    → i < length job.part.tasks.now → l ≡ get_or job.part.tasks.now i l → FlagStepped k flag m e f
+    → ((q : ListProgress) → q.domain ≡ e → DoesWhere (l.dom.0 == job.part.dom.0) may job l q (record q { domain = f }))
+    → HasCome may job d true i text e labels t → HasCome may job d true (i + 1) text f labels t
+flag_more may k job d i l text e f labels t flag m within is stepped does (q, leads, kept, prints) =
+    (record q { domain = f }, leads_more may job (list_start d) job.part.tasks.now i l q (record q { domain = f }) within is leads (does q kept.domain), flag_kept k job flag m q e f labels t stepped kept, prints)
 
 -- a line that tells a flag
-pub tell_more : {P : Type 0} (may : P → AllowRelation) (duty : ThreadJob P) (d : Domain) (whole : Bool) (i : ℕ) (l : RunTask) (text : List ℕ) (e f : Domain) (labels : Labels) (t : Option TrailLogger) (flag : ℕ)
-    → i < length duty.part.tasks.now → l ≡ get_or duty.part.tasks.now i l → (l.dom.0 == duty.part.dom.0) ≡ true → l.deed ≡ Tell flag → RaisesFlag may duty.monitor.now flag e f
-    → HasCome may duty d whole i text e labels t → HasCome may duty d whole (i + 1) text f labels t
+pub tell_more : {P : Type 0} (may : P → AllowRelation) (job : ThreadJob P) (d : Domain) (whole : Bool) (i : ℕ) (l : RunTask) (text : List ℕ) (e f : Domain) (labels : Labels) (t : Option TrailLogger) (flag : ℕ)
+    → i < length job.part.tasks.now → l ≡ get_or job.part.tasks.now i l → (l.dom.0 == job.part.dom.0) ≡ true → l.deed ≡ Tell flag → RaisesFlag may job.monitor.now flag e f
+    → HasCome may job d whole i text e labels t → HasCome may job d whole (i + 1) text f labels t
 unfolding DoesDeed
-tell_more may duty d false i l text e f labels t flag within is own tells raises come = come
-tell_more {P} may duty d true i l text e f labels t flag within is own tells raises come = by (nat_lt flag duty.monitor.now.words.flags) refl raises
+tell_more may job d false i l text e f labels t flag within is own tells raises come = come
+tell_more {P} may job d true i l text e f labels t flag within is own tells raises come = by (nat_lt flag job.monitor.now.words.flags) refl raises
   where
-    by : (b : Bool) → nat_lt flag duty.monitor.now.words.flags ≡ b → MatchBool b (MakesFlagStep may duty.monitor.now flag Raised e f) (f ≡ e) → HasCome may duty d true (i + 1) text f labels t
-    by true has step = flag_more may duty.monitor.now.words.layout duty d i l text e f labels t flag Raised within is step.0
-        (λ q at. own_does may duty l (Tell flag) q (record q { domain = f }) own tells (refl, subst (λ (x : Domain). RaisesFlag may duty.monitor.now flag x f) (sym at) raises)) come
-    by false has same = subst (λ (x : Domain). HasCome may duty d true (i + 1) text x labels t) (sym same)
-        (quiet_more may duty d true i l text e labels t within is (λ q. own_does may duty l (Tell flag) q q own tells (refl, subst (λ (b : Bool). MatchBool b (MakesFlagStep may duty.monitor.now flag Raised q.domain q.domain) (q.domain ≡ q.domain)) (sym has) refl)) come)
+    by : (b : Bool) → nat_lt flag job.monitor.now.words.flags ≡ b → MatchBool b (MakesFlagStep may job.monitor.now flag Raised e f) (f ≡ e) → HasCome may job d true (i + 1) text f labels t
+    by true has step = flag_more may job.monitor.now.words.layout job d i l text e f labels t flag Raised within is step.0
+        (λ q at. own_does may job l (Tell flag) q (record q { domain = f }) own tells (refl, subst (λ (x : Domain). RaisesFlag may job.monitor.now flag x f) (sym at) raises)) come
+    by false has same = subst (λ (x : Domain). HasCome may job d true (i + 1) text x labels t) (sym same)
+        (quiet_more may job d true i l text e labels t within is (λ q. own_does may job l (Tell flag) q q own tells (refl, subst (λ (b : Bool). MatchBool b (MakesFlagStep may job.monitor.now flag Raised q.domain q.domain) (q.domain ≡ q.domain)) (sym has) refl)) come)
 
 -- a line that awaits a flag
-pub await_more : {P : Type 0} (may : P → AllowRelation) (duty : ThreadJob P) (d : Domain) (whole : Bool) (i : ℕ) (l : RunTask) (text : List ℕ) (e f : Domain) (labels : Labels) (t : Option TrailLogger) (flag : ℕ)
-    → i < length duty.part.tasks.now → l ≡ get_or duty.part.tasks.now i l → (l.dom.0 == duty.part.dom.0) ≡ true → l.deed ≡ Await flag → MakesFlagStep may duty.monitor.now flag Passed e f
-    → HasCome may duty d whole i text e labels t → HasCome may duty d whole (i + 1) text f labels t
+pub await_more : {P : Type 0} (may : P → AllowRelation) (job : ThreadJob P) (d : Domain) (whole : Bool) (i : ℕ) (l : RunTask) (text : List ℕ) (e f : Domain) (labels : Labels) (t : Option TrailLogger) (flag : ℕ)
+    → i < length job.part.tasks.now → l ≡ get_or job.part.tasks.now i l → (l.dom.0 == job.part.dom.0) ≡ true → l.deed ≡ Await flag → MakesFlagStep may job.monitor.now flag Passed e f
+    → HasCome may job d whole i text e labels t → HasCome may job d whole (i + 1) text f labels t
 unfolding DoesDeed
-await_more may duty d false i l text e f labels t flag within is own awaits step come = come
-await_more may duty d true i l text e f labels t flag within is own awaits step come = flag_more may duty.monitor.now.words.layout duty d i l text e f labels t flag Passed within is step.0
-    (λ q at. own_does may duty l (Await flag) q (record q { domain = f }) own awaits (refl, subst (λ (x : Domain). MakesFlagStep may duty.monitor.now flag Passed x f) (sym at) step)) come
+await_more may job d false i l text e f labels t flag within is own awaits step come = come
+await_more may job d true i l text e f labels t flag within is own awaits step come = flag_more may job.monitor.now.words.layout job d i l text e f labels t flag Passed within is step.0
+    (λ q at. own_does may job l (Await flag) q (record q { domain = f }) own awaits (refl, subst (λ (x : Domain). MakesFlagStep may job.monitor.now flag Passed x f) (sym at) step)) come
 
 -- a text that breaks off
-breaks_off : {P : Type 0} (may : P → AllowRelation) (duty : ThreadJob P) (d : Domain) (whole : Bool) (i : ℕ) (old new : List ℕ) (e : Domain) (labels : Labels) (t : Option TrailLogger)
-    → HasCome may duty d whole i old e labels t → new ≡ old → ServesSome may duty d new
-breaks_off may duty d true i old new e labels t (q, leads, kept, prints) same = record { left = q; number = i; leads = leads; prints = same ∙ prints }
-breaks_off may duty d false i old new e labels t come same = subst (λ (l : List ℕ). ServesSome may duty d l) (sym same) come
+breaks_off : {P : Type 0} (may : P → AllowRelation) (job : ThreadJob P) (d : Domain) (whole : Bool) (i : ℕ) (old new : List ℕ) (e : Domain) (labels : Labels) (t : Option TrailLogger)
+    → HasCome may job d whole i old e labels t → new ≡ old → ServesSome may job d new
+breaks_off may job d true i old new e labels t (q, leads, kept, prints) same = record { left = q; number = i; leads = leads; prints = same ∙ prints }
+breaks_off may job d false i old new e labels t come same = subst (λ (l : List ℕ). ServesSome may job d l) (sym same) come
 
 -- a line that makes a call
-pub do_more : {P V E : Type 0} (may : P → AllowRelation) (items : V → List ℕ) (duty : ThreadJob P) (d : Domain) (whole r : Bool) (i : ℕ) (l : RunTask) (line : Result V E) (old new : List ℕ) (e f : Domain)
+pub do_more : {P V E : Type 0} (may : P → AllowRelation) (items : V → List ℕ) (job : ThreadJob P) (d : Domain) (whole r : Bool) (i : ℕ) (l : RunTask) (line : Result V E) (old new : List ℕ) (e f : Domain)
     (before after : Labels) (t u : Option TrailLogger) (call : ScriptCall)
-    → i < length duty.part.tasks.now → l ≡ get_or duty.part.tasks.now i l → (l.dom.0 == duty.part.dom.0) ≡ true → l.deed ≡ Do call
-    → IfOk line (λ v. Calls may duty l.line call e f before after t u (items v)) → HasCome may duty d whole i old e before t
-    → (IsTrue r → IsTrue whole × IsOk line × IfOk line (λ v. new ≡ old ++ items v)) → (r ≡ false → new ≡ old) → HasCome may duty d r (i + 1) new f after u
+    → i < length job.part.tasks.now → l ≡ get_or job.part.tasks.now i l → (l.dom.0 == job.part.dom.0) ≡ true → l.deed ≡ Do call
+    → IfOk line (λ v. Calls may job l.line call e f before after t u (items v)) → HasCome may job d whole i old e before t
+    → (IsTrue r → IsTrue whole × IsOk line × IfOk line (λ v. new ≡ old ++ items v)) → (r ≡ false → new ≡ old) → HasCome may job d r (i + 1) new f after u
 unfolding DoesDeed
-do_more may items duty d true true i l (Ok v) old new e f before after t u call within is own does calls (q, leads, kept, prints) more same =
+do_more may items job d true true i l (Ok v) old new e f before after t u call within is own does calls (q, leads, kept, prints) more same =
     let next = calls q kept in (
       next.0,
-      leads_more may duty (list_start d) duty.part.tasks.now i l q next.0 within is leads (own_does may duty l (Do call) q next.0 own does next.1),
+      leads_more may job (list_start d) job.part.tasks.now i l q next.0 within is leads (own_does may job l (Do call) q next.0 own does next.1),
       next.2,
       (more refl).2 ∙ ap (λ (x : List ℕ). x ++ items v) prints ∙ sym next.3,
     )
-do_more may items duty d true true i l (Err x) old new e f before after t u call within is own does calls come more same = let m = more refl in cc
-do_more may items duty d false true i l line old new e f before after t u call within is own does calls come more same = let m = more refl in cc
-do_more may items duty d whole false i l line old new e f before after t u call within is own does calls come more same =
-    breaks_off may duty d whole i old new e before t come (same refl)
+do_more may items job d true true i l (Err x) old new e f before after t u call within is own does calls come more same = let m = more refl in cc
+do_more may items job d false true i l line old new e f before after t u call within is own does calls come more same = let m = more refl in cc
+do_more may items job d whole false i l line old new e f before after t u call within is own does calls come more same =
+    breaks_off may job d whole i old new e before t come (same refl)
 
 -- the gate answers false at a line
-pub gate_stops : {P V E : Type 0} (may : P → AllowRelation) (items : V → List ℕ) (duty : ThreadJob P) (d : Domain) (whole r : Bool) (i : ℕ) (l : RunTask) (line : Result V E) (old new : List ℕ) (e : Domain)
+pub gate_stops : {P V E : Type 0} (may : P → AllowRelation) (items : V → List ℕ) (job : ThreadJob P) (d : Domain) (whole r : Bool) (i : ℕ) (l : RunTask) (line : Result V E) (old new : List ℕ) (e : Domain)
     (labels : Labels) (t : Option TrailLogger) (flag : ℕ)
-    → i < length duty.part.tasks.now → l ≡ get_or duty.part.tasks.now i l → (l.dom.0 == duty.part.dom.0) ≡ true → l.deed ≡ Await flag
-    → IfOk line (λ v. items v ≡ gate_line l.line duty.part.dom) → HasCome may duty d whole i old e labels t
-    → (IsTrue r → IsTrue whole × IsOk line × IfOk line (λ v. new ≡ old ++ items v)) → (r ≡ false → new ≡ old) → Serves may duty d r new e t
+    → i < length job.part.tasks.now → l ≡ get_or job.part.tasks.now i l → (l.dom.0 == job.part.dom.0) ≡ true → l.deed ≡ Await flag
+    → IfOk line (λ v. items v ≡ gate_line l.line job.part.dom) → HasCome may job d whole i old e labels t
+    → (IsTrue r → IsTrue whole × IsOk line × IfOk line (λ v. new ≡ old ++ items v)) → (r ≡ false → new ≡ old) → Serves may job d r new e t
 unfolding IsAwait
-gate_stops may items duty d true true i l (Ok v) old new e labels t flag within is own awaits line_is (q, leads, kept, prints) more same =
+gate_stops may items job d true true i l (Ok v) old new e labels t flag within is own awaits line_is (q, leads, kept, prints) more same =
     record {
       left = q;
       domain = kept.domain;
       number = i;
       leads = leads;
-      last = gate_line l.line duty.part.dom;
+      last = gate_line l.line job.part.dom;
       ends = inr (record {
         at = l;
         own = own;
-        stands = slice_get_read duty.part.tasks.now (length duty.part.tasks.now) i l refl within is;
+        stands = slice_get_read job.part.tasks.now (length job.part.tasks.now) i l refl within is;
         awaits = subst IsAwait (sym awaits) tt;
         last_is = refl;
       });
@@ -155,15 +155,15 @@ gate_stops may items duty d true true i l (Ok v) old new e labels t flag within 
       asked = kept.asked;
       told = kept.told;
     }
-gate_stops may items duty d true true i l (Err x) old new e labels t flag within is own awaits line_is come more same = let m = more refl in cc
-gate_stops may items duty d false true i l line old new e labels t flag within is own awaits line_is come more same = let m = more refl in cc
-gate_stops may items duty d whole false i l line old new e labels t flag within is own awaits line_is come more same =
-    breaks_off may duty d whole i old new e labels t come (same refl)
+gate_stops may items job d true true i l (Err x) old new e labels t flag within is own awaits line_is come more same = let m = more refl in cc
+gate_stops may items job d false true i l line old new e labels t flag within is own awaits line_is come more same = let m = more refl in cc
+gate_stops may items job d whole false i l line old new e labels t flag within is own awaits line_is come more same =
+    breaks_off may job d whole i old new e labels t come (same refl)
 
 -- all lines were served
-pub list_ends : {P : Type 0} (may : P → AllowRelation) (duty : ThreadJob P) (d : Domain) (whole : Bool) (i : ℕ) (text : List ℕ) (e : Domain) (labels : Labels) (t : Option TrailLogger)
-    → i ≡ length duty.part.tasks.now → HasCome may duty d whole i text e labels t → Serves may duty d whole text e t
-list_ends may duty d true i text e labels t all (q, leads, kept, prints) =
+pub list_ends : {P : Type 0} (may : P → AllowRelation) (job : ThreadJob P) (d : Domain) (whole : Bool) (i : ℕ) (text : List ℕ) (e : Domain) (labels : Labels) (t : Option TrailLogger)
+    → i ≡ length job.part.tasks.now → HasCome may job d whole i text e labels t → Serves may job d whole text e t
+list_ends may job d true i text e labels t all (q, leads, kept, prints) =
     record {
       left = q;
       domain = kept.domain;
@@ -171,16 +171,16 @@ list_ends may duty d true i text e labels t all (q, leads, kept, prints) =
       leads = leads;
       last = [];
       ends = inl (all, refl);
-      prints = prints ∙ sym (append-nil (answer_lines duty.part.types.now duty.part.dom q.outcomes));
+      prints = prints ∙ sym (append-nil (answer_lines job.part.types.now job.part.dom q.outcomes));
       asked = kept.asked;
       told = kept.told;
     }
-list_ends may duty d false i text e labels t all come = come
+list_ends may job d false i text e labels t all come = come
 
 -- before the first line
-pub come_none : {P : Type 0} (may : P → AllowRelation) (duty : ThreadJob P) (d : Domain) (text : List ℕ) (labels : Labels) (t : Option TrailLogger) → text ≡ [] → StartsTold duty d t → AreNamed labels []
-    → HasCome may duty d true 0 text d labels t
-come_none may duty d text labels t none starts names =
+pub come_none : {P : Type 0} (may : P → AllowRelation) (job : ThreadJob P) (d : Domain) (text : List ℕ) (labels : Labels) (t : Option TrailLogger) → text ≡ [] → StartsTold job d t → AreNamed labels []
+    → HasCome may job d true 0 text d labels t
+come_none may job d text labels t none starts names =
     (list_start d, refl, record { domain = refl; own = starts.0; names = names; asked = starts.1; told = starts.2 }, none)
 
 told_none : {A : Type 0} (dom : DomId) (log : Option A) (t : Option TrailLogger) (trail : Telling) → trail ≡ silent → t ≡ option_map (λ l. record { told = nothing_told dom; next = 0 }) log
@@ -190,8 +190,8 @@ told_none dom (Some log) t trail fresh is =
     (ap is_some is, subst (λ (x : Option TrailLogger). TellsOutcomes trail x []) (sym is) (sym (ap (λ (x : Telling). length x.records) fresh), refl, ap (λ (x : Telling). counted (x.lost + 0)) fresh))
 
 -- nothing was pushed for a domain that has made no call
-pub starts_told : {P : Type 0} (may : P → AllowRelation) (duty : ThreadJob P) (s : Stand P) (t : Option TrailLogger) → IsReady may duty.monitor.now duty.part.dom s
-    → t ≡ option_map (λ l. record { told = nothing_told duty.part.dom; next = 0 }) duty.log → StartsTold duty s.domain t
-starts_told may duty s t ready is =
-    let told = told_none duty.part.dom duty.log t s.domain.trail ready.1.fresh.trail is in
+pub starts_told : {P : Type 0} (may : P → AllowRelation) (job : ThreadJob P) (s : Stand P) (t : Option TrailLogger) → IsReady may job.monitor.now job.part.dom s
+    → t ≡ option_map (λ l. record { told = nothing_told job.part.dom; next = 0 }) job.log → StartsTold job s.domain t
+starts_told may job s t ready is =
+    let told = told_none job.part.dom job.log t s.domain.trail ready.1.fresh.trail is in
     (ready.1.own, told.0, told.1)

@@ -42,10 +42,10 @@ parts_more domains i d tasks names parts p within is same over (doms, all) = (
   All-append (IsOver tasks names) parts (p ∷ []) all (All-cons (IsOver tasks names) p [] over (All-nil (IsOver tasks names))),
 )
 
--- the duties are those of the script
+-- the jobs are those of the script
 are_of : (c : RunContents) (logged : Bool) (config : Config) (rights : ScriptRights) (flags : ℕ) (parts : List DomainPart) → AreListsOf c parts → config.domains.items ≡ c.head.domains
     → config.first_gen ≡ first_gen c.head → may_by rights ≡ may_in c.head → AreNumbered flags c.tasks → (ds : List (ThreadJob ScriptRights)) → AreUnder config rights flags logged parts ds → AreOf c logged ds
-are_of c logged config rights flags parts are domains generation may numbered ds (m, of_config, within, of_rights, of_flags, of_frames, duties) = record {
+are_of c logged config rights flags parts are domains generation may numbered ds (m, of_config, within, of_rights, of_flags, of_frames, jobs) = record {
   parts = parts;
   of_script = are;
   monitor = m;
@@ -55,7 +55,7 @@ are_of c logged config rights flags parts are domains generation may numbered ds
   rights = ap may_by of_rights ∙ may;
   flags = subst (λ (n : ℕ). AreNumbered n c.tasks) (sym of_flags) numbered;
   frames = of_frames ∙ ap frames_kept (sym of_config);
-  duties_are = duties;
+  jobs_are = jobs;
 }
 
 -- the parts over what the script's head and tasks are kept as, under its rights, wrote

@@ -38,10 +38,10 @@ WritesNext (Ok well) whole text old new (Err fault) = IsLate fault × AppendsBeg
 -- went out, the audit lines are of the same calls, and Q holds of the lists. Or, after a fault, a prefix of the lines.
 abbrev pub JoinsWhere : {P : Type 0} → (List (Served P) → Type 0) → (P → AllowRelation) → List (ThreadJob P) → List ℕ → ℕ
     → Option (List ℕ) → Option (List ℕ) → Result (Unit {0}) RunFault → Type 0
-JoinsWhere {P} Q may duties audit lost old new (Ok done) =
-    (all : List (Served P)) × WritesLists may duties all old new × (audit ≡ audits_in all)
+JoinsWhere {P} Q may jobs audit lost old new (Ok done) =
+    (all : List (Served P)) × WritesLists may jobs all old new × (audit ≡ audits_in all)
     × (lost ≡ counted (all_lost all)) × Q all
-JoinsWhere Q may duties audit lost old new (Err fault) = IsLate fault × BeginsLists may duties old new
+JoinsWhere Q may jobs audit lost old new (Err fault) = IsLate fault × BeginsLists may jobs old new
 
 -- the views that were gathered
 abbrev pub views_in : Option GatheredOf → List View
@@ -81,7 +81,7 @@ BeginsFirst b (part ∷ parts) = position_at b part.dom ≡ 0
 
 -- the jobs are of this monitor, that of the first domain first
 abbrev pub AreOnRun : {P : Type 0} → Monitor P → List (ThreadJob P) → Type 0
-AreOnRun m duties = All (λ d. d.monitor.now ≡ m) duties × BeginsFirst m.words (map (λ d. d.part) duties)
+AreOnRun m jobs = All (λ d. d.monitor.now ≡ m) jobs × BeginsFirst m.words (map (λ d. d.part) jobs)
 
 -- the fault of a run in which some domain has no thread
 abbrev pub run_fault_of : ThreadRefusal → RunFault
@@ -92,5 +92,5 @@ run_fault_of refusals.Memory = run_out_of_memory
 -- fault; otherwise all were started, and it is the result of their lists
 abbrev pub WroteStarted : {P : Type 0} → (P → AllowRelation) → Option ThreadRefusal → List (ThreadJob P) → Option (List ℕ) → Option (List ℕ)
     → Result (Unit {0}) RunFault → Type 0
-WroteStarted may None duties old new r = WroteLists may duties old new r
-WroteStarted may (Some refusal) duties old new r = (r ≡ Err (run_fault_of refusal)) × Keeps old new
+WroteStarted may None jobs old new r = WroteLists may jobs old new r
+WroteStarted may (Some refusal) jobs old new r = (r ≡ Err (run_fault_of refusal)) × Keeps old new

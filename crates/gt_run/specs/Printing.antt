@@ -21,14 +21,14 @@ use Rattle.gt_run.specs.Serving.{IsBegun, IsServed, ListOutcome, audit_lines, co
 
 -- a list that was served, the outcomes of its calls, what it printed, and what its domain left behind
 pub record Served (P : Type 0) : Type 0 where
-  pub duty : ThreadJob P
+  pub job : ThreadJob P
   pub outcomes : List ListOutcome
   pub text : List ℕ
   pub departed : Departed
 
 -- the list was served
 abbrev pub WasServed : {P : Type 0} → (P → AllowRelation) → Served P → Type 0
-WasServed may s = IsServed may s.duty s.outcomes s.text s.departed
+WasServed may s = IsServed may s.job s.outcomes s.text s.departed
 
 -- each of these lists was served
 abbrev pub AreServed : {P : Type 0} → (P → AllowRelation) → List (Served P) → Type 0
@@ -43,11 +43,11 @@ HasViewIn s x = get_elem? s.views x.departed.seat.view.position ≡ some x.depar
 abbrev pub ShowOneState : {P : Type 0} → List (Served P) → Type 0
 ShowOneState [] = Unit {0}
 ShowOneState (x ∷ xs) =
-    (s : State (Unit {0}) View) × Shows x.duty.monitor.now.words.layout s × All (HasViewIn s) (x ∷ xs)
+    (s : State (Unit {0}) View) × Shows x.job.monitor.now.words.layout s × All (HasViewIn s) (x ∷ xs)
 
 -- the jobs of these lists
-abbrev pub duties_in : {P : Type 0} → List (Served P) → List (ThreadJob P)
-duties_in all = map (λ s. s.duty) all
+abbrev pub jobs_in : {P : Type 0} → List (Served P) → List (ThreadJob P)
+jobs_in all = map (λ s. s.job) all
 
 -- what they printed, in their order
 abbrev pub texts_in : {P : Type 0} → List (Served P) → List ℕ
@@ -55,7 +55,7 @@ texts_in all = flat_map (λ s. s.text) all
 
 -- the audit lines of their calls, in their order
 abbrev pub audits_in : {P : Type 0} → List (Served P) → List ℕ
-audits_in all = flat_map (λ s. audit_lines s.duty.part.types.now s.outcomes) all
+audits_in all = flat_map (λ s. audit_lines s.job.part.types.now s.outcomes) all
 
 -- the number of lost records of their calls
 abbrev pub all_lost : {P : Type 0} → List (Served P) → ℕ
@@ -68,33 +68,33 @@ run_text all = texts_in all ++ (audits_in all ++ lost_text (counted (all_lost al
 -- the output of a job whose list printed all or did not: its text, its audit lines and its number of lost records are
 -- those of the outcomes of its calls; or its text is that of some first lines
 abbrev pub CameBy : {P : Type 0} → Bool → (P → AllowRelation) → ThreadJob P → Output → Type 0
-CameBy true may duty o =
-    (outcomes : List ListOutcome) × IsServed may duty outcomes o.text.items o.left
-    × IfOk o.audit (λ audit. audit.items ≡ audit_lines duty.part.types.now outcomes)
+CameBy true may job o =
+    (outcomes : List ListOutcome) × IsServed may job outcomes o.text.items o.left
+    × IfOk o.audit (λ audit. audit.items ≡ audit_lines job.part.types.now outcomes)
     × (o.lost ≡ counted (lost_in outcomes))
-CameBy false may duty o = IsBegun may duty o.text.items
+CameBy false may job o = IsBegun may job o.text.items
 
 -- the job's domain left this seat
 abbrev pub LeavesSeat : {P : Type 0} → ThreadJob P → Departed → Type 0
-LeavesSeat duty l = IsSeatOf duty.monitor.now.words l.seat × (l.seat.dom ≡ duty.part.dom)
+LeavesSeat job l = IsSeatOf job.monitor.now.words l.seat × (l.seat.dom ≡ job.part.dom)
 
 abbrev pub IsOutputOf : {P : Type 0} → (P → AllowRelation) → ThreadJob P → Output → Type 0
-IsOutputOf may duty o = CameBy o.whole may duty o × LeavesSeat duty o.left
+IsOutputOf may job o = CameBy o.whole may job o × LeavesSeat job o.left
 
 -- the jobs of these parts, in their order, all over this monitor, and with a log or without
 abbrev pub AreDuties : {P : Type 0} → Monitor P → Bool → List DomainPart → List (ThreadJob P) → Type 0
-AreDuties m logged parts duties =
-    (map (λ d. d.part) duties ≡ parts) × All (λ d. (d.monitor.now ≡ m) × (is_some d.log ≡ logged)) duties
+AreDuties m logged parts jobs =
+    (map (λ d. d.part) jobs ≡ parts) × All (λ d. (d.monitor.now ≡ m) × (is_some d.log ≡ logged)) jobs
 
 -- the lists of these jobs were served, and what they printed went out
 abbrev pub WritesLists : {P : Type 0} → (P → AllowRelation) → List (ThreadJob P) → List (Served P) → Option (List ℕ)
     → Option (List ℕ) → Type 0
-WritesLists may duties all old new = (duties_in all ≡ duties) × AreServed may all × Appends old new (texts_in all)
+WritesLists may jobs all old new = (jobs_in all ≡ jobs) × AreServed may all × Appends old new (texts_in all)
 
 -- the lists of these jobs were served, their whole text went out, and words and views show one state of all domains
 abbrev pub WritesAll : {P : Type 0} → (P → AllowRelation) → List (ThreadJob P) → Option (List ℕ) → Option (List ℕ) → Type 0
-WritesAll {P} may duties old new =
-    (all : List (Served P)) × (duties_in all ≡ duties) × AreServed may all × ShowOneState all
+WritesAll {P} may jobs old new =
+    (all : List (Served P)) × (jobs_in all ≡ jobs) × AreServed may all × ShowOneState all
     × Appends old new (run_text all)
 
 -- what follows those lists that printed all: nothing, or what some first lines of the next list printed
@@ -105,20 +105,20 @@ PrintsOn may (next ∷ rest) text = (text ≡ []) ⊎ IsBegun may next text
 -- a prefix of what these lists print went out: the first ones were served, and after what they printed comes nothing,
 -- or a prefix of the next one
 abbrev pub BeginsLists : {P : Type 0} → (P → AllowRelation) → List (ThreadJob P) → Option (List ℕ) → Option (List ℕ) → Type 0
-BeginsLists {P} may duties old new =
+BeginsLists {P} may jobs old new =
     (all : List (Served P)) × (rest : List (ThreadJob P)) × (text : List ℕ)
-    × (duties_in all ++ rest ≡ duties) × AreServed may all × PrintsOn may rest text
+    × (jobs_in all ++ rest ≡ jobs) × AreServed may all × PrintsOn may rest text
     × AppendsBeginning old new (texts_in all ++ text)
 
 -- a prefix of the whole text of these lists went out
 abbrev pub BeginsRunText : {P : Type 0} → (P → AllowRelation) → List (ThreadJob P) → Option (List ℕ) → Option (List ℕ)
     → Type 0
-BeginsRunText {P} may duties old new =
-    (all : List (Served P)) × (duties_in all ≡ duties) × AreServed may all × AppendsBeginning old new (run_text all)
+BeginsRunText {P} may jobs old new =
+    (all : List (Served P)) × (jobs_in all ≡ jobs) × AreServed may all × AppendsBeginning old new (run_text all)
 
 -- a prefix of a whole text that these lists may print went out, as far as they were served
 abbrev pub BeginsAll : {P : Type 0} → (P → AllowRelation) → List (ThreadJob P) → Option (List ℕ) → Option (List ℕ) → Type 0
-BeginsAll may duties old new = BeginsLists may duties old new ⊎ BeginsRunText may duties old new
+BeginsAll may jobs old new = BeginsLists may jobs old new ⊎ BeginsRunText may jobs old new
 
 -- the jobs that were promised
 abbrev pub promised : {P : Type 0} → List (PromisedHandle Output (ThreadJob P)) → List (ThreadJob P)

@@ -28,23 +28,23 @@ use Rattle.gt_run.specs.Printing.{AreDuties, BeginsAll, WritesAll}
 -- faults.
 abbrev pub WroteLists : {P : Type 0} → (P → AllowRelation) → List (ThreadJob P) → Option (List ℕ) → Option (List ℕ)
     → Result (Unit {0}) RunFault → Type 0
-WroteLists may duties old new (Ok done) = WritesAll may duties old new
-WroteLists may duties old new (Err Thread) = Keeps old new
-WroteLists may duties old new (Err (Play Memory)) = BeginsAll may duties old new
-WroteLists may duties old new (Err (Play Write)) = BeginsAll may duties old new
-WroteLists may duties old new (Err (Play Read)) = ⊥
-WroteLists may duties old new (Err (Play (Script fault))) = ⊥
-WroteLists may duties old new (Err (Play (Policy fault))) = ⊥
+WroteLists may jobs old new (Ok done) = WritesAll may jobs old new
+WroteLists may jobs old new (Err Thread) = Keeps old new
+WroteLists may jobs old new (Err (Play Memory)) = BeginsAll may jobs old new
+WroteLists may jobs old new (Err (Play Write)) = BeginsAll may jobs old new
+WroteLists may jobs old new (Err (Play Read)) = ⊥
+WroteLists may jobs old new (Err (Play (Script fault))) = ⊥
+WroteLists may jobs old new (Err (Play (Policy fault))) = ⊥
 
 -- such jobs wrote their whole text
 abbrev pub Writes : {P : Type 0} → (P → AllowRelation) → (List (ThreadJob P) → Type 0) → Option (List ℕ) → Option (List ℕ)
     → Type 0
-Writes {P} may Are old new = (duties : List (ThreadJob P)) × Are duties × WritesAll may duties old new
+Writes {P} may Are old new = (jobs : List (ThreadJob P)) × Are jobs × WritesAll may jobs old new
 
 -- such jobs wrote a prefix of their whole text
 abbrev pub BeginsToWrite : {P : Type 0} → (P → AllowRelation) → (List (ThreadJob P) → Type 0) → Option (List ℕ)
     → Option (List ℕ) → Type 0
-BeginsToWrite {P} may Are old new = (duties : List (ThreadJob P)) × Are duties × BeginsAll may duties old new
+BeginsToWrite {P} may Are old new = (jobs : List (ThreadJob P)) × Are jobs × BeginsAll may jobs old new
 
 -- the same of jobs of which this is known; if an allocation fails, it may be that none began, and then nothing was
 -- written
@@ -61,9 +61,9 @@ Wrote may Are old new (Err (Play (Policy fault))) = ⊥
 -- the jobs of these parts, over one monitor of this configuration, which is within the limits, with all its frames,
 -- these rights and this number of flags
 abbrev pub AreUnder : {P : Type 0} → Config → P → ℕ → Bool → List DomainPart → List (ThreadJob P) → Type 0
-AreUnder {P} config rights flags logged parts duties =
+AreUnder {P} config rights flags logged parts jobs =
     (m : Monitor P) × (m.config ≡ config) × IsWithinLimits config × (m.rights ≡ rights) × (m.words.flags ≡ flags)
-    × (m.words.frames ≡ frames_kept config) × AreDuties m logged parts duties
+    × (m.words.frames ≡ frames_kept config) × AreDuties m logged parts jobs
 
 -- the part has these tasks and these names of types
 abbrev pub IsOver : List RunTask → List (List ℕ) → DomainPart → Type 0
@@ -79,7 +79,7 @@ AreListsOf c parts = AreParts c.head.domains c.tasks (type_names c.head) parts
 
 -- the jobs of a script's parts, over one monitor that has the script's domains with all their frames, its first
 -- generation and its flags, is within the limits, and allows what the script allows
-pub record AreOf (c : RunContents) (logged : Bool) (duties : List (ThreadJob ScriptRights)) : Type 0 where
+pub record AreOf (c : RunContents) (logged : Bool) (jobs : List (ThreadJob ScriptRights)) : Type 0 where
   pub parts : List DomainPart
   pub of_script : AreListsOf c parts
   pub monitor : Monitor ScriptRights
@@ -89,7 +89,7 @@ pub record AreOf (c : RunContents) (logged : Bool) (duties : List (ThreadJob Scr
   pub rights : may_by monitor.rights ≡ may_in c.head
   pub flags : AreNumbered monitor.words.flags c.tasks
   pub frames : monitor.words.frames ≡ frames_kept monitor.config
-  pub duties_are : AreDuties monitor logged parts duties
+  pub jobs_are : AreDuties monitor logged parts jobs
 
 -- the script's lists wrote their whole text
 abbrev pub WritesScript : RunContents → Bool → Option (List ℕ) → Option (List ℕ) → Type 0

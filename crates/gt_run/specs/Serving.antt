@@ -43,7 +43,7 @@ record_made dom d request answer = encoded_record dom (hypercall_of_request (sub
 
 -- the calls of the job are recorded
 abbrev pub is_logged : {P : Type 0} → ThreadJob P → Bool
-is_logged duty = is_some duty.log
+is_logged job = is_some job.log
 
 -- the numbers of the entry that a line grants are in the range of their types
 abbrev pub FitsEntry : ScriptCall → Type 0
@@ -52,37 +52,37 @@ FitsEntry call = Unit {0}
 
 -- The call of a line was made. The domain got the request that the line makes, by what its labels named then, and gave
 -- its answer. Its outcome is appended, and a map answered Ok gives its handle to its label.
-pub record MakesCall {P : Type 0} (may : P → AllowRelation) (duty : ThreadJob P) (line : ℕ) (call : ScriptCall)
+pub record MakesCall {P : Type 0} (may : P → AllowRelation) (job : ThreadJob P) (line : ℕ) (call : ScriptCall)
     (p q : ListProgress) : Type 0 where
   pub request : Request
   pub answer : Answer
   pub told : List Record
   pub lost : ℕ
   pub fits : FitsEntry call
-  pub says : SaysRequest p.named duty.part.dom call request
-  pub asks : Asks may duty.monitor.now p.domain request answer q.domain
-  pub records : Records (is_logged duty) (record_made duty.part.dom p.domain request answer) told lost
-  pub named : q.named ≡ with_name p.named duty.part.dom (label_given call) (handle_given answer)
+  pub says : SaysRequest p.named job.part.dom call request
+  pub asks : Asks may job.monitor.now p.domain request answer q.domain
+  pub records : Records (is_logged job) (record_made job.part.dom p.domain request answer) told lost
+  pub named : q.named ≡ with_name p.named job.part.dom (label_given call) (handle_given answer)
   pub outcomes : q.outcomes ≡ p.outcomes ++ record { line = line; answer = answer; told = told; lost = lost } ∷ []
 
 -- the effect of a line's action: a call is made, or a flag is raised or passed by a step of the domain
 unfoldable pub DoesDeed : {P : Type 0} → (P → AllowRelation) → ThreadJob P → ℕ → RunAction → ListProgress → ListProgress → Type 0
-DoesDeed may duty line (Do call) p q = MakesCall may duty line call p q
-DoesDeed may duty line (Tell flag) p q =
-    (q ≡ record p { domain = q.domain }) × RaisesFlag may duty.monitor.now flag p.domain q.domain
-DoesDeed may duty line (Await flag) p q =
-    (q ≡ record p { domain = q.domain }) × MakesFlagStep may duty.monitor.now flag Passed p.domain q.domain
+DoesDeed may job line (Do call) p q = MakesCall may job line call p q
+DoesDeed may job line (Tell flag) p q =
+    (q ≡ record p { domain = q.domain }) × RaisesFlag may job.monitor.now flag p.domain q.domain
+DoesDeed may job line (Await flag) p q =
+    (q ≡ record p { domain = q.domain }) × MakesFlagStep may job.monitor.now flag Passed p.domain q.domain
 
 -- the effect of a line that is the domain's, or is not: another's changes nothing
 abbrev pub DoesWhere : {P : Type 0} → Bool → (P → AllowRelation) → ThreadJob P → RunTask → ListProgress → ListProgress → Type 0
-DoesWhere true may duty task p q = DoesDeed may duty task.line task.deed p q
-DoesWhere false may duty task p q = q ≡ p
+DoesWhere true may job task p q = DoesDeed may job task.line task.deed p q
+DoesWhere false may job task p q = q ≡ p
 
 -- these lines, one after the other, lead from one point of a list to another
 abbrev pub ListLeadsTo : {P : Type 0} → (P → AllowRelation) → ThreadJob P → ListProgress → List RunTask → ListProgress → Type 0
-ListLeadsTo may duty p [] q = q ≡ p
-ListLeadsTo may duty p (task ∷ tasks) q =
-    (r : ListProgress) × DoesWhere (task.dom.0 == duty.part.dom.0) may duty task p r × ListLeadsTo may duty r tasks q
+ListLeadsTo may job p [] q = q ≡ p
+ListLeadsTo may job p (task ∷ tasks) q =
+    (r : ListProgress) × DoesWhere (task.dom.0 == job.part.dom.0) may job task p r × ListLeadsTo may job r tasks q
 
 -- the texts of outcomes
 
@@ -146,28 +146,28 @@ EndsList dom tasks number last = ((number ≡ length tasks) × (last ≡ [])) �
 
 -- The list of the job was served to its end, from a domain that had done nothing. Its calls had these outcomes. It
 -- printed the lines of their answers, and the line of its gate if that ended it. Then the domain left.
-pub record IsServed {P : Type 0} (may : P → AllowRelation) (duty : ThreadJob P) (outcomes : List ListOutcome)
+pub record IsServed {P : Type 0} (may : P → AllowRelation) (job : ThreadJob P) (outcomes : List ListOutcome)
     (text : List ℕ) (departed : Departed) : Type 0 where
   pub domain : Domain
-  pub first : IsFirst may duty.monitor.now duty.part.dom domain
+  pub first : IsFirst may job.monitor.now job.part.dom domain
   pub number : ℕ
   pub left : ListProgress
-  pub leads : ListLeadsTo may duty (list_start domain) (take number duty.part.tasks.now) left
+  pub leads : ListLeadsTo may job (list_start domain) (take number job.part.tasks.now) left
   pub came : left.outcomes ≡ outcomes
   pub last : List ℕ
-  pub ends : EndsList duty.part.dom duty.part.tasks.now number last
-  pub prints : text ≡ answer_lines duty.part.types.now duty.part.dom outcomes ++ last
-  pub leaves : HasLeft duty.monitor.now.words.layout left.domain departed
+  pub ends : EndsList job.part.dom job.part.tasks.now number last
+  pub prints : text ≡ answer_lines job.part.types.now job.part.dom outcomes ++ last
+  pub leaves : HasLeft job.monitor.now.words.layout left.domain departed
 
 -- some first lines of the job's list were served from a domain that had done nothing, and this is what their calls
 -- printed
-pub record IsBegun {P : Type 0} (may : P → AllowRelation) (duty : ThreadJob P) (text : List ℕ) : Type 0 where
+pub record IsBegun {P : Type 0} (may : P → AllowRelation) (job : ThreadJob P) (text : List ℕ) : Type 0 where
   pub domain : Domain
-  pub first : IsFirst may duty.monitor.now duty.part.dom domain
+  pub first : IsFirst may job.monitor.now job.part.dom domain
   pub number : ℕ
   pub left : ListProgress
-  pub leads : ListLeadsTo may duty (list_start domain) (take number duty.part.tasks.now) left
-  pub prints : text ≡ answer_lines duty.part.types.now duty.part.dom left.outcomes
+  pub leads : ListLeadsTo may job (list_start domain) (take number job.part.tasks.now) left
+  pub prints : text ≡ answer_lines job.part.types.now job.part.dom left.outcomes
 
 -- what is kept with a list
 
@@ -180,70 +180,70 @@ TellsOutcomes trail (Some t) outcomes =
     × (counted (trail.lost + t.told.lost) ≡ counted (lost_in outcomes))
 
 -- the domain, its labels and its logger are at this point of the list
-pub record IsKeptAt {P : Type 0} (duty : ThreadJob P) (p : ListProgress) (d : Domain) (labels : Labels)
-    (teller : Option TrailLogger) : Type 0 where
+pub record IsKeptAt {P : Type 0} (job : ThreadJob P) (p : ListProgress) (d : Domain) (labels : Labels)
+    (logger : Option TrailLogger) : Type 0 where
   pub domain : p.domain ≡ d
-  pub own : d.seat.dom ≡ duty.part.dom
+  pub own : d.seat.dom ≡ job.part.dom
   pub names : AreNamed labels p.named
-  pub asked : is_some teller ≡ is_logged duty
-  pub told : TellsOutcomes d.trail teller p.outcomes
+  pub asked : is_some logger ≡ is_logged job
+  pub told : TellsOutcomes d.trail logger p.outcomes
 
 -- from each point with such a state, the call of this line leads to a next one, and prints this
 abbrev pub Calls : {P : Type 0} → (P → AllowRelation) → ThreadJob P → ℕ → ScriptCall → Domain → Domain → Labels → Labels
     → Option TrailLogger → Option TrailLogger → List ℕ → Type 0
-Calls may duty line call d e before after t u text =
-    (p : ListProgress) → IsKeptAt duty p d before t
-    → (q : ListProgress) × MakesCall may duty line call p q × IsKeptAt duty q e after u
-    × (answer_lines duty.part.types.now duty.part.dom q.outcomes
-    ≡ answer_lines duty.part.types.now duty.part.dom p.outcomes ++ text)
+Calls may job line call d e before after t u text =
+    (p : ListProgress) → IsKeptAt job p d before t
+    → (q : ListProgress) × MakesCall may job line call p q × IsKeptAt job q e after u
+    × (answer_lines job.part.types.now job.part.dom q.outcomes
+    ≡ answer_lines job.part.types.now job.part.dom p.outcomes ++ text)
 
 -- the domain made the call of a line: it got the request that the line makes, by what the labels named before, gave
 -- this answer, and afterwards the labels name what they then should
 abbrev pub Makes : {P : Type 0} → (P → AllowRelation) → ThreadJob P → ScriptCall → Domain → Domain → Labels → Labels → Answer
     → Type 0
-Makes may duty call d e before after answer =
+Makes may job call d e before after answer =
     FitsEntry call
     × ((named : List Named) → AreNamed before named
-    → (request : Request) × SaysRequest named duty.part.dom call request × Asks may duty.monitor.now d request answer e
-    × AreNamed after (with_name named duty.part.dom (label_given call) (handle_given answer)))
+    → (request : Request) × SaysRequest named job.part.dom call request × Asks may job.monitor.now d request answer e
+    × AreNamed after (with_name named job.part.dom (label_given call) (handle_given answer)))
 
 -- nothing was pushed for the calls of this domain, which has made none
 abbrev pub StartsTold : {P : Type 0} → ThreadJob P → Domain → Option TrailLogger → Type 0
-StartsTold duty d teller =
-    (d.seat.dom ≡ duty.part.dom) × (is_some teller ≡ is_logged duty) × TellsOutcomes d.trail teller []
+StartsTold job d logger =
+    (d.seat.dom ≡ job.part.dom) × (is_some logger ≡ is_logged job) × TellsOutcomes d.trail logger []
 
 -- a list was served to its end, starting at this domain; the logger and the text are those of its calls
-pub record ServesAll {P : Type 0} (may : P → AllowRelation) (duty : ThreadJob P) (d : Domain) (text : List ℕ) (e : Domain)
-    (teller : Option TrailLogger) : Type 0 where
+pub record ServesAll {P : Type 0} (may : P → AllowRelation) (job : ThreadJob P) (d : Domain) (text : List ℕ) (e : Domain)
+    (logger : Option TrailLogger) : Type 0 where
   pub left : ListProgress
   pub domain : left.domain ≡ e
   pub number : ℕ
-  pub leads : ListLeadsTo may duty (list_start d) (take number duty.part.tasks.now) left
+  pub leads : ListLeadsTo may job (list_start d) (take number job.part.tasks.now) left
   pub last : List ℕ
-  pub ends : EndsList duty.part.dom duty.part.tasks.now number last
-  pub prints : text ≡ answer_lines duty.part.types.now duty.part.dom left.outcomes ++ last
-  pub asked : is_some teller ≡ is_logged duty
-  pub told : TellsOutcomes e.trail teller left.outcomes
+  pub ends : EndsList job.part.dom job.part.tasks.now number last
+  pub prints : text ≡ answer_lines job.part.types.now job.part.dom left.outcomes ++ last
+  pub asked : is_some logger ≡ is_logged job
+  pub told : TellsOutcomes e.trail logger left.outcomes
 
 -- some first lines of it were served, and the text is what their calls printed
-pub record ServesSome {P : Type 0} (may : P → AllowRelation) (duty : ThreadJob P) (d : Domain) (text : List ℕ) : Type 0 where
+pub record ServesSome {P : Type 0} (may : P → AllowRelation) (job : ThreadJob P) (d : Domain) (text : List ℕ) : Type 0 where
   pub left : ListProgress
   pub number : ℕ
-  pub leads : ListLeadsTo may duty (list_start d) (take number duty.part.tasks.now) left
-  pub prints : text ≡ answer_lines duty.part.types.now duty.part.dom left.outcomes
+  pub leads : ListLeadsTo may job (list_start d) (take number job.part.tasks.now) left
+  pub prints : text ≡ answer_lines job.part.types.now job.part.dom left.outcomes
 
 -- a list that printed all, or did not, was served
 abbrev pub Serves : {P : Type 0} → (P → AllowRelation) → ThreadJob P → Domain → Bool → List ℕ → Domain → Option TrailLogger
     → Type 0
-Serves may duty d true text e teller = ServesAll may duty d text e teller
-Serves may duty d false text e teller = ServesSome may duty d text
+Serves may job d true text e logger = ServesAll may job d text e logger
+Serves may job d false text e logger = ServesSome may job d text
 
 -- the result of this number of first lines of a list, if their text is whole or is not: with its labels and its logger,
 -- or only some first ones of them
 abbrev pub HasCome : {P : Type 0} → (P → AllowRelation) → ThreadJob P → Domain → Bool → ℕ → List ℕ → Domain → Labels
     → Option TrailLogger → Type 0
-HasCome may duty d true count text e labels teller =
-    (q : ListProgress) × ListLeadsTo may duty (list_start d) (take count duty.part.tasks.now) q
-    × IsKeptAt duty q e labels teller
-    × (text ≡ answer_lines duty.part.types.now duty.part.dom q.outcomes)
-HasCome may duty d false count text e labels teller = ServesSome may duty d text
+HasCome may job d true count text e labels logger =
+    (q : ListProgress) × ListLeadsTo may job (list_start d) (take count job.part.tasks.now) q
+    × IsKeptAt job q e labels logger
+    × (text ≡ answer_lines job.part.types.now job.part.dom q.outcomes)
+HasCome may job d false count text e labels logger = ServesSome may job d text

@@ -42,5 +42,5 @@ pub struct ThreadJob<'s, 'a, P: Allows> {
 impl<'s, 'a, P: Allows> Promise<Output> for ThreadJob<'s, 'a, P> {
     ghost use Rattle.gt_run.specs.Printing.{IsOutputOf};
 
-    ghost kept_by = { λ duty output. IsOutputOf P.may duty output };
+    ghost kept_by = { λ job output. IsOutputOf P.may job output };
 }

@@ -9,7 +9,7 @@ ghost use Rattle.gt_run.specs.Serving.{gate_line, Calls, FitsEntry, IsReady, Mak
 use crate::gate::Gate;
 use crate::lists::ThreadJob;
 use crate::running::RunningDomain;
-use crate::telling::{TrailLogger, tell_next, teller_for};
+use crate::telling::{TrailLogger, logger_for, tell_next};
 use gt_core::Answer;
 use gt_entry::Entry;
 use gt_live::Departed;
@@ -56,17 +56,17 @@ fn make_call<'a, R: Wait, P: Allows>(
     rt: &R,
     domain: &mut RunningDomain<'_, P>,
     labels: &mut Labels<'a>,
-    duty: &ThreadJob<'_, 'a, P>,
+    job: &ThreadJob<'_, 'a, P>,
     call: &ScriptCall<'a>,
 ) -> Result<Answer, AllocError>
-    requires { domain.old.monitor ≡ duty.now.monitor.now }
+    requires { domain.old.monitor ≡ job.now.monitor.now }
     ensures same { IsSameStand domain.old domain.new }
     ensures made { IfOk result
-        (Makes P.may duty.now call.now domain.old.domain domain.new.domain labels.old labels.new) }
+        (Makes P.may job.now call.now domain.old.domain domain.new.domain labels.old labels.new) }
 {
     granted_fits(call);
-    let bytes = call_bytes(duty.alloc, call)?;
-    let dom = duty.part.dom;
+    let bytes = call_bytes(job.alloc, call)?;
+    let dom = job.part.dom;
     let answer = domain.ask(rt, request_of(labels, dom, bytes.as_slice(), call));
     name_mapping(labels, dom, label_given(call), &answer)?;
     Ok(answer)
@@ -84,24 +84,24 @@ fn call_line<'a, R: Wait, P: Allows>(
     rt: &R,
     domain: &mut RunningDomain<'_, P>,
     labels: &mut Labels<'a>,
-    teller: &mut Option<TrailLogger<'_>>,
-    duty: &ThreadJob<'_, 'a, P>,
+    logger: &mut Option<TrailLogger<'_>>,
+    job: &ThreadJob<'_, 'a, P>,
     at: CallLine<'_, 'a>,
 ) -> Result<Vec<u8>, AllocError>
-    requires { domain.old.monitor ≡ duty.now.monitor.now }
+    requires { domain.old.monitor ≡ job.now.monitor.now }
     ensures same { IsSameStand domain.old domain.new }
-    ensures calls { IfOk result (λ text. Calls P.may duty.now at.entry.line at.entry.call.now
-        domain.old.domain domain.new.domain labels.old labels.new teller.old teller.new text.items) }
+    ensures calls { IfOk result (λ text. Calls P.may job.now at.entry.line at.entry.call.now
+        domain.old.domain domain.new.domain labels.old labels.new logger.old logger.new text.items) }
 {
-    let answer = make_call(rt, domain, labels, duty, at.call);
-    tell_next(rt, teller, domain.trail());
-    let mut text = Vec::new(duty.alloc);
+    let answer = make_call(rt, domain, labels, job, at.call);
+    tell_next(rt, logger, domain.trail());
+    let mut text = Vec::new(job.alloc);
     push_answer_line(
-        duty.alloc,
+        job.alloc,
         &mut text,
-        duty.part.types,
+        job.part.types,
         at.line,
-        duty.part.dom,
+        job.part.dom,
         &answer?,
     )?;
     Ok(text)
@@ -161,28 +161,28 @@ fn has_passed<R: Wait, P: Allows, G: Gate>(
 fn serve<'a, R: Wait, P: Allows, G: Gate>(
     rt: &R,
     domain: &mut RunningDomain<'_, P>,
-    duty: ThreadJob<'_, 'a, P>,
-    teller: &mut Option<TrailLogger<'_>>,
+    job: ThreadJob<'_, 'a, P>,
+    logger: &mut Option<TrailLogger<'_>>,
     gate: &G,
     text: &mut Vec<u8>,
 ) -> bool
-    requires monitor { domain.old.monitor ≡ duty.monitor.now }
-    requires told { StartsTold duty domain.old.domain teller.old }
+    requires monitor { domain.old.monitor ≡ job.monitor.now }
+    requires told { StartsTold job domain.old.domain logger.old }
     requires text { text.old.items ≡ [] }
     ensures same { IsSameStand domain.old domain.new }
-    ensures served { Serves P.may duty.entry domain.old.domain result text.new.items domain.new.domain teller.new }
+    ensures served { Serves P.may job.entry domain.old.domain result text.new.items domain.new.domain logger.new }
 {
-    let alloc = duty.alloc;
+    let alloc = job.alloc;
     let mut labels = Labels::new(alloc);
     let mut whole = true;
-    let dom = duty.part.dom;
-    'tasks: for task in duty.part.tasks {
+    let dom = job.part.dom;
+    'tasks: for task in job.part.tasks {
         if task.dom.0 == dom.0 {
             match &task.deed {
                 RunAction::Do(call) => {
                     let line = task.line;
                     let at = CallLine { line, call };
-                    let printed = call_line(rt, domain, &mut labels, teller, &duty, at);
+                    let printed = call_line(rt, domain, &mut labels, logger, &job, at);
                     whole = has_appended(text, whole, printed);
                 }
                 RunAction::Tell(flag) => {
@@ -205,15 +205,15 @@ fn serve<'a, R: Wait, P: Allows, G: Gate>(
 pub fn work<'a, R: Wait, P: Allows, G: Gate>(
     rt: &R,
     domain: RunningDomain<'_, P>,
-    duty: ThreadJob<'_, 'a, P>,
+    job: ThreadJob<'_, 'a, P>,
     gate: &G,
     start: &OnceLock<bool>,
 ) -> Output
-    requires { IsReady P.may duty.monitor.now duty.part.dom domain }
-    ensures { IsOutputOf P.may duty.entry result }
+    requires { IsReady P.may job.monitor.now job.part.dom domain }
+    ensures { IsOutputOf P.may job.entry result }
 {
     let mut domain = domain;
-    let (alloc, types) = (duty.alloc, duty.part.types);
+    let (alloc, types) = (job.alloc, job.part.types);
     let mut text = Vec::new(alloc);
     if !*start.wait(rt) {
         return Output {
@@ -224,11 +224,11 @@ pub fn work<'a, R: Wait, P: Allows, G: Gate>(
             left: domain.finish(),
         };
     }
-    let mut teller = teller_for(alloc, duty.log, duty.part.dom);
-    let whole = serve(rt, &mut domain, duty, &mut teller, gate, &mut text);
+    let mut logger = logger_for(alloc, job.log, job.part.dom);
+    let whole = serve(rt, &mut domain, job, &mut logger, gate, &mut text);
     let left = domain.finish();
-    let (audit, lost) = match teller {
-        Some(teller) => (teller.audit(alloc, types), teller.lost(&left)),
+    let (audit, lost) = match logger {
+        Some(logger) => (logger.audit(alloc, types), logger.lost(&left)),
         None => (Ok(Vec::new(alloc)), 0),
     };
     Output {

@@ -70,7 +70,7 @@ impl<'l> TrailLogger<'l> {
 }
 
 /// Makes the logger of a domain, if there is a log. Nothing was pushed yet.
-pub fn teller_for<'l>(
+pub fn logger_for<'l>(
     alloc: Global,
     log: Option<&'l SharedLog>,
     dom: DomId,
@@ -84,10 +84,10 @@ pub fn teller_for<'l>(
 }
 
 /// Pushes the next record of a trail, if there is a log.
-pub fn tell_next(rt: &impl Wait, teller: &mut Option<TrailLogger<'_>>, trail: &Trail)
-    ensures { LogsTrail trail.now teller.old teller.new }
+pub fn tell_next(rt: &impl Wait, logger: &mut Option<TrailLogger<'_>>, trail: &Trail)
+    ensures { LogsTrail trail.now logger.old logger.new }
 {
-    if let Some(teller) = teller {
-        teller.tell(rt, trail);
+    if let Some(logger) = logger {
+        logger.tell(rt, trail);
     }
 }

@@ -128,7 +128,7 @@ fn start_each<'s, 'a, E, R: Wait + Sync, P: Allows + Sync, G: Gate + Sync>(
         let Some(domain) = rest.next() else {
             unreachable!()
         };
-        let duty = ThreadJob {
+        let job = ThreadJob {
             alloc,
             part,
             monitor,
@@ -142,9 +142,9 @@ fn start_each<'s, 'a, E, R: Wait + Sync, P: Allows + Sync, G: Gate + Sync>(
                 log,
             },
             move || -> Output
-                requires { IsReady P.may duty.monitor.now duty.part.dom domain }
-                ensures { IsOutputOf P.may duty.entry result }
-            { work(rt, domain, duty, gate, start) },
+                requires { IsReady P.may job.monitor.now job.part.dom domain }
+                ensures { IsOutputOf P.may job.entry result }
+            { work(rt, domain, job, gate, start) },
         ) {
             Ok(handle) => {
                 if let Err(error) = handles.push(handle) {

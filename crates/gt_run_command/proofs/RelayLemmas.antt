@@ -32,9 +32,9 @@ kept_nothing (Some xs) (Some ys) kept = kept ∙ sym (append-nil xs)
 begins_nothing : (old new : Option (List ℕ)) (text : List ℕ) → Keeps old new → AppendsBeginning old new text
 begins_nothing old new text kept = (0, omega arith, kept_nothing old new kept)
 
-begins_all : (duties : List (ThreadJob ScriptRights)) (a b old new : Option (List ℕ)) → Keeps old new → BeginsAll may_by duties a b → BeginsAll may_by duties old new
-begins_all duties a b old new kept (inl (all, rest, text, is, served, prints, begins)) = inl (all, rest, text, is, served, prints, begins_nothing old new (texts_in all ++ text) kept)
-begins_all duties a b old new kept (inr (all, is, served, begins)) = inr (all, is, served, begins_nothing old new (run_text all) kept)
+begins_all : (jobs : List (ThreadJob ScriptRights)) (a b old new : Option (List ℕ)) → Keeps old new → BeginsAll may_by jobs a b → BeginsAll may_by jobs old new
+begins_all jobs a b old new kept (inl (all, rest, text, is, served, prints, begins)) = inl (all, rest, text, is, served, prints, begins_nothing old new (texts_in all ++ text) kept)
+begins_all jobs a b old new kept (inr (all, is, served, begins)) = inr (all, is, served, begins_nothing old new (run_text all) kept)
 
 -- a run that ended with a fault, and of which nothing goes out
 kept_on : (logged : Bool) (Told : Result RunContents Wrong → Type 0) (a b old new : Option (List ℕ)) (why : RunFault) → Keeps old new → Ran logged Told a b (Err why) → Ran logged Told old new (Err why)
@@ -42,7 +42,7 @@ kept_on logged Told a b old new Thread kept (c, told, same) = (c, told, kept)
 kept_on logged Told a b old new (Play (Script fault)) kept (told, same) = (told, kept)
 kept_on logged Told a b old new (Play (Policy fault)) kept (g, shown, told, same) = (g, shown, told, kept)
 kept_on logged Told a b old new (Play Memory) kept ran = inl kept
-kept_on logged Told a b old new (Play Write) kept (c, told, (duties, are, begins)) = (c, told, (duties, are, begins_all duties a b old new kept begins))
+kept_on logged Told a b old new (Play Write) kept (c, told, (jobs, are, begins)) = (c, told, (jobs, are, begins_all jobs a b old new kept begins))
 kept_on logged Told a b old new (Play Read) kept same = kept
 
 -- the fault is want of memory, or the run's
@@ -63,10 +63,10 @@ module _ (old new : Option (List ℕ)) (text : List ℕ) where
   text_fault logged Told fault why ran kept (inr same) = subst (λ (f : RunFault). Ran logged Told old new (Err f)) (sym same) (kept_on logged Told (Some []) (Some text) old new why kept ran)
 
   relayed_text : (logged : Bool) (Told : Result RunContents Wrong → Type 0) (outcome answer : Result (Unit {0}) RunFault) → Ran logged Told (Some []) (Some text) outcome → Relays text outcome old new answer → Ran logged Told old new answer
-  relayed_text logged Told (Ok done) (Ok sent) (c, told, (duties, are, (all, is, served, one, whole))) went =
-      (c, told, (duties, are, (all, is, served, one, subst (λ (l : List ℕ). Appends old new l) whole went)))
-  relayed_text logged Told (Ok done) (Err fault) (c, told, (duties, are, (all, is, served, one, whole))) (wrote, begins) =
-      subst (λ (f : RunFault). Ran logged Told old new (Err f)) (sym wrote) (c, told, (duties, are, inr (all, is, served, subst (λ (l : List ℕ). AppendsBeginning old new l) whole begins)))
+  relayed_text logged Told (Ok done) (Ok sent) (c, told, (jobs, are, (all, is, served, one, whole))) went =
+      (c, told, (jobs, are, (all, is, served, one, subst (λ (l : List ℕ). Appends old new l) whole went)))
+  relayed_text logged Told (Ok done) (Err fault) (c, told, (jobs, are, (all, is, served, one, whole))) (wrote, begins) =
+      subst (λ (f : RunFault). Ran logged Told old new (Err f)) (sym wrote) (c, told, (jobs, are, inr (all, is, served, subst (λ (l : List ℕ). AppendsBeginning old new l) whole begins)))
   relayed_text logged Told (Err why) (Ok sent) ran went = absurd went
   relayed_text logged Told (Err why) (Err fault) ran (is, kept) = text_fault logged Told fault why ran kept (either fault why is)
 

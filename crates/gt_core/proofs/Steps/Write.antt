@@ -15,7 +15,7 @@ use Rattle.gt_core.proofs.Words.{given_in, open_call, Underway, values, known_at
 use Rattle.gt_core.proofs.Words.{DomainsStand, FramesStand, StateStands, OpenAgrees, FitsGiven, begun_element, le-leb}
 use Rattle.gt_core.proofs.Words.{unwrap_or, overlay, replay, zeros, FrameState, patch_of, patches, permits_writing}
 use Rattle.gt_core.proofs.Words.{suffices, all_rightful, pool_number, frames_of_all, is_name, has_frame, admits}
-use Rattle.gt_core.proofs.Words.{WritesTo, journal_in, ground_of, begun_route, route_of, IsWritOf, FrameName}
+use Rattle.gt_core.proofs.Words.{WritesTo, journal_in, basis_of, begun_route, route_of, IsWritOf, FrameName}
 use Rattle.gt_core.proofs.Words.{Writ, WriteRecord, BegunBusy, BegunNoDomain, cond_both}
 use Rattle.gt_core.proofs.{Starting.get-replicate, Steps.Observers.stepped, Phases.call-is, Phases.none-of}
 use Rattle.gt_core.proofs.{Steps.Access.permits-as, Steps.Access.mapping-pin, Steps.Access.same-held}
@@ -50,12 +50,12 @@ map-writes e d frame off len is a = grind arith
 
 -- the entries of a copy's pins permit it to write
 way-covers : (k : CallerKnowledge) (d : DomId) (granted : Bool) (end : End) (len : ℕ) (pair : DomId → DomId × DomId) (route : AccessPath) → IsReached k d granted end Write len pair route
-    → suffices (ground_of route) d (place_of d end route).frame.owner (place_of d end route).frame.number end.offset len ≡ true
+    → suffices (basis_of route) d (place_of d end route).frame.owner (place_of d end route).frame.number end.offset len ≡ true
 way-covers k d granted end len pair route a = grind arith
 
 -- the route of a call, which suffices, is that of its writ
 admitted-by : (fs : FrameSet) (x : State) (call : Call) (name : FrameName) (off len : ℕ) (route : AccessPath) → has_frame fs name ≡ true → off + len ≤ FRAME_SIZE → route_of x.mappings call ≡ route
-    → suffices (ground_of route) call.caller name.owner name.number off len ≡ true → (w : Writ) → IsWritOf x call w → IsTrue (admits fs name w off len)
+    → suffices (basis_of route) call.caller name.owner name.number off len ≡ true → (w : Writ) → IsWritOf x call w → IsTrue (admits fs name w off len)
 admitted-by fs x call name off len route there within is right w of_call = grind arith
 
 -- what the next step of an open call writes is by right
@@ -99,9 +99,9 @@ open-admitted s h xs fs x o c st fr a call here = subst (λ (z : Call). IsAdmitt
   copies from to len none w = let c' = w.copy in let pins = pins_at here.phase in
       let inside = subst (λ (q : OpenRequest). CopyIsJustified s h x.id q from to len) w.of_copy (copy-justified s h x.id c.request pins from to len none here.held w) in
       let t = place_of x.id c'.dest pins.dest in
-      let right : suffices (ground_of pins.dest) x.id t.frame.owner t.frame.number t.off c'.len ≡ true = way-covers k x.id (is_dest_granted c') c'.dest c'.len (dest_pair x.id pins.source) pins.dest w.dest_reached in
-      let right_to : suffices (ground_of pins.dest) x.id to.frame.owner to.frame.number to.off len ≡ true = subst (λ (z : Spot). suffices (ground_of pins.dest) x.id z.frame.owner z.frame.number z.off len ≡ true) (sym w.to_is)
-      (subst (λ (n : ℕ). suffices (ground_of pins.dest) x.id t.frame.owner t.frame.number t.off n ≡ true) (sym w.len_is) right) in
+      let right : suffices (basis_of pins.dest) x.id t.frame.owner t.frame.number t.off c'.len ≡ true = way-covers k x.id (is_dest_granted c') c'.dest c'.len (dest_pair x.id pins.source) pins.dest w.dest_reached in
+      let right_to : suffices (basis_of pins.dest) x.id to.frame.owner to.frame.number to.off len ≡ true = subst (λ (z : Spot). suffices (basis_of pins.dest) x.id z.frame.owner z.frame.number z.off len ≡ true) (sym w.to_is)
+      (subst (λ (n : ℕ). suffices (basis_of pins.dest) x.id t.frame.owner t.frame.number t.off n ≡ true) (sym w.len_is) right) in
       (range-there s h fs from len fr inside.0, admitted-by fs x now to.frame to.off len pins.dest (frame-there s h fs to.frame fr inside.1.0) inside.1.1 (ap (λ (q : OpenRequest). route_of x.mappings (asked_so q)) w.of_copy) right_to)
 
   by : (step : Step) → Rests k x.id c.request (pins_at here.phase) (values c) (Makes step) → IsAdmitted fs x now step

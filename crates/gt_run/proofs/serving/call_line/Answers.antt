@@ -6,6 +6,6 @@ use Rattle.gt_run.proofs.serving.call_line.Goals as goal
 
 pub returns-clause-calls : goal.returns-clause-calls
 returns-clause-calls g c =
-    calls_of g.P.Allows.may c.args.duty.now c.args.at.line c.args.at.call.now _ _ _ _ _ _ _ _ _ _ c.in_ok-answer.was c.make_call-answer.ensures.made
-    (subst (λ (x : Telling). LogsTrail x c.args.teller.now c.tell_next.new.teller) c.trail.ensures c.tell_next.ensures)
+    calls_of g.P.Allows.may c.args.job.now c.args.at.line c.args.at.call.now _ _ _ _ _ _ _ _ _ _ c.in_ok-answer.was c.make_call-answer.ensures.made
+    (subst (λ (x : Telling). LogsTrail x c.args.logger.now c.tell_next.new.logger) c.trail.ensures c.tell_next.ensures)
     c.new-text.ensures.items c.in_ok-push_answer_line.ensures

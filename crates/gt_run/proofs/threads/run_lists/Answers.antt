@@ -20,7 +20,7 @@ run_each-requires g c = (
 
 pub returns-in_ok-domains-in-Ok : goal.returns-in_ok-domains-in-Ok
 returns-in_ok-domains-in-Ok g c =
-    wrote_as g.P.Allows.may _ _ _ _ _ (λ duties are. (_, c.in-Ok.ensures.run.0, c.in-Ok.ensures.ok, c.in-Ok.ensures.run.1, c.in-Ok.ensures.flags, c.in-Ok.ensures.frames, are)) c.run_each.ensures
+    wrote_as g.P.Allows.may _ _ _ _ _ (λ jobs are. (_, c.in-Ok.ensures.run.0, c.in-Ok.ensures.ok, c.in-Ok.ensures.run.1, c.in-Ok.ensures.flags, c.in-Ok.ensures.frames, are)) c.run_each.ensures
 
 pub returns-in_err-domains-in-Ok : goal.returns-in_err-domains-in-Ok
 returns-in_err-domains-in-Ok g c =
