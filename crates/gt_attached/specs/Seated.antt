@@ -5,6 +5,7 @@ use Rattle.gt_audit.specs.Telling.{Telling, Tells}
 use Rattle.gt_calls.specs.declared.action.CallResult.TheVariants.{Refused}
 use Rattle.gt_types.specs.declared.copies.CopyArgs.{CopyArgs}
 use Rattle.gt_calls.specs.declared.request.Request.TheVariants as requests
+use Rattle.gt_words.specs.Conditions.{IsSameSeat}
 use Rattle.gt_live.specs.declared.domain.Domain.{Domain}
 use Rattle.gt_live.specs.declared.domain.copies.PendingCopy.{PendingCopy}
 use Rattle.gt_live.specs.declared.monitor.Monitor.{Monitor}
@@ -27,9 +28,9 @@ abbrev pub StandsBy : {P : Type 0} → (P → AllowRelation) → Monitor P → D
 StandsBy may m d None = BelongsTo may m d
 StandsBy may m d (Some h) = IsHalfway may m h d
 
--- the monitor is the same, and the domain is in no copy
+-- the monitor and the domain's seat are the same, and the domain is in no copy
 abbrev pub StaysIdle : {P : Type 0} → Seated P → Seated P → Type 0
-StaysIdle s t = (t.monitor ≡ s.monitor) × (t.copying ≡ None)
+StaysIdle s t = (t.monitor ≡ s.monitor) × (t.copying ≡ None) × IsSameSeat s.domain.seat t.domain.seat
 
 -- the places of a copy at its access
 abbrev pub places_of : PendingCopy → CopyPlaces

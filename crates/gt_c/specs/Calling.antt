@@ -71,7 +71,7 @@ abbrev pub outcome_followed : Result Followed Denial → AttachedOutcome
 outcome_followed (Ok followed) = outcomes.Followed followed
 outcome_followed (Err denial) = outcomes.Denied denial
 
--- the answer encodes a result with this property; the domain keeps its monitor, and is in no copy
+-- the answer encodes a result with this property; the domain keeps its monitor and its seat, and is in no copy
 pub record SaysAs {R : Type 0} (said : Result R Denial → AttachedOutcome) (Holds : Result R Denial → Type 0) (answer : EncodedAnswer)
     (d e : CDomain) : Type 0 where
   pub result : Result R Denial
