@@ -36,7 +36,7 @@ use Rattle.gt_live.specs.Ending.{WaitsForNobody}
 use Rattle.gt_live.specs.Owning.{ChangesOnce, IsInTurns, asks_change, change_effect}
 use Rattle.gt_live.specs.Walks.{Called, Made}
 use Rattle.gt_live.proofs.Advancing.{makes-next}
-use Rattle.gt_live.proofs.Stepping.{IsIn, PhaseLaw, call_in, further, over, starts}
+use Rattle.gt_live.proofs.Stepping.{IsIn, PhaseLaw, call_in, can-only, further, over, starts}
 
 pub waits-not : (gref : GrantRef) (change : EntryChange) → WaitsForNobody (asks_change gref change)
 waits-not gref (Publish entry) = tt
@@ -135,6 +135,19 @@ module _ (c : CallerKnowledge) (law : PhaseLaw c) (k : Layout) (v : View) (calle
       further c law k v caller (Grant gref entry) (StoringSecond gref entry) (StoreBody gref Second (second_body entry)) Unseen
       (publishing c gref entry) (Exchange gref (idle_word c gref) (Publish entry)) u w knows tt g
       (subst (λ (m : ℕ). Made k (StoreBody gref Second m) Unseen u w) word_is made) refl refl
+
+  -- it can make its stores
+  pub can-store : (entry : Entry) (word : ℕ) → begun c caller (Grant gref entry) ≡ None → CanMake k v (StoreBody gref First word)
+  can-store entry word none =
+      can-only c law k v caller (Grant gref entry) (Storing gref entry) (StoreBody gref First (first_body entry)) knows tt none refl
+      refl
+
+  pub can-store-second : (entry : Entry) (word : ℕ) (u : View)
+      → IsIn c law k v caller (Grant gref entry) (StoringSecond gref entry) (StoreBody gref Second (second_body entry)) u
+      → CanMake k u (StoreBody gref Second word)
+  can-store-second entry word u g =
+      makes-next c k Nothing v u (call_in caller (Grant gref entry) (StoringSecond gref entry))
+      (StoreBody gref Second (second_body entry)) knows tt g
 
   -- it can make its exchange, and ends by it
   pub can-publish : (entry : Entry) (looked : ℕ) (u : View) → looked ≡ idle_word c gref → Publishes entry u

@@ -1,4 +1,4 @@
-use Rattle.std.proofs.Common.{◌≡◌, ℕ, arith, length, replicate, subst}
+use Rattle.std.proofs.Common.{◌≡◌, ℕ, arith, length, refl, replicate, subst}
 use Rattle.std.proofs.lemmas.Grind.{common_steps}
 use Rattle.gt_frames.specs.Bytes.{overlay}
 use Rattle.gt_frames.specs.Frames.{recorded}
@@ -16,3 +16,6 @@ returns-in-Ok-clause-knows c =
     knows_after c.args.writers.now c.show.new.self c.args.journal.now c.add.new.self c.args.writ.now c.in-Ok.number c.args.off c.args.bytes.now
     c.number_of.new.self c.in-Ok.ensures.sound c.in-Ok.ensures.same c.requires.knows c.in-Ok.ensures.has c.in-Ok.ensures.len c.requires.range c.show.ensures.sound
     c.show.ensures.writs laid adds
+
+pub returns-in-Err-clause-contents_kept : goal.returns-in-Err-clause-contents_kept
+returns-in-Err-clause-contents_kept c = refl

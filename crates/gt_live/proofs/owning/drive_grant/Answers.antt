@@ -1,7 +1,22 @@
 use Rattle.gt_calls.specs.Rules.{knows}
 use Rattle.gt_live.proofs.Making.{same_seat-then, still_seat}
-use Rattle.gt_live.proofs.OwnChanges.{can-publish, publishes, stored-other, stored-second, stored-sub}
+use Rattle.gt_live.proofs.OwnChanges.{can-publish, can-store, can-store-second, publishes, stored-other, stored-second, stored-sub}
 use Rattle.gt_live.proofs.owning.drive_grant.Goals as goal
+
+pub store_half-requires-clause-can : goal.store_half-requires-clause-can
+store_half-requires-clause-can g c =
+    let known = knows g.P.Allows.may c.args.known.now in let law = c.every_call_goes_on_by_its_phase.ensures known in
+    let k = c.args.words.now.layout in let v = c.args.seat.now.view in let a = c.args in let r = c.requires in
+    can-store known law k v a.caller a.idle.gref r.knows a.entry c.first_body.result r.unanswered
+
+pub store_half-requires-in-Sub-clause-can : goal.store_half-requires-in-Sub-clause-can
+store_half-requires-in-Sub-clause-can g c =
+    let known = knows g.P.Allows.may c.args.known.now in let law = c.every_call_goes_on_by_its_phase.ensures known in
+    let k = c.args.words.now.layout in let v = c.args.seat.now.view in let a = c.args in let r = c.requires in
+    let u = c.store_half.new.seat.view in let s = c.in-Sub in
+    let half = stored-sub known law k v a.caller a.idle.gref r.knows a.entry s.dom s.ro s.frame s.off s.len c.first_body.result u
+    r.unanswered s.is c.first_body.ensures c.store_half.ensures.made in
+    can-store-second known law k v a.caller a.idle.gref r.knows a.entry c.second_body.result u half
 
 pub change_once-requires-clause-can : goal.change_once-requires-clause-can
 change_once-requires-clause-can g c =
