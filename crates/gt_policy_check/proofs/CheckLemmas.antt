@@ -1,6 +1,6 @@
 -- Which statements allow nothing.
 use Rattle.std.proofs.Common.{◌≡◌, ℕ, Bool, true, false, ◌&&◌, not, List, [], ◌∷◌, ◌++◌, map, None, refl, sym, ap, ap₂}
-use Rattle.std.proofs.Common.{◌∙◌}
+use Rattle.std.proofs.Common.{◌∙◌, ◌+◌, ◌<◌, get_or, length, take}
 use Rattle.std.specs.Prelude.{if◌then◌else◌, filter, is_some, Some, Err}
 use Rattle.std.specs.List.{flat_map, list_any}
 use Rattle.gt_types.specs.Names.{every_permission, permission_name}
@@ -25,7 +25,7 @@ use Rattle.gt_policy_check.specs.Check.{is_useless_with, allows_nothing, useless
 use Rattle.gt_policy_check.specs.Check.{error_lines, nothing_lines, repeat_lines, Quiet, TellsUseless, Judges, faulty}
 use Rattle.gt_policy_check.specs.Check.{grants_something, grants_with, grants_no_more, no_more_with, repeats, repeats_with}
 use Rattle.gt_policy_check.specs.Check.{repeat_line, repeated_with, lines_repeated}
-use Rattle.std.proofs.lemmas.List.{append-nil}
+use Rattle.std.proofs.lemmas.List.{append-nil, append_assoc, flat_map_more, take_more}
 use Rattle.std.proofs.lemmas.List.Concat.{flat_map-append}
 use Rattle.gt_policy_check.specs.Granting.{exceeds_on, exceeds_some, gives_one, gives_some, gives_source, reaches_by}
 use Rattle.gt_policy_check.specs.Members.{membership_of, members_of}
@@ -213,3 +213,9 @@ is_shown line (kinds.Twice name) other = refl
 is_shown line (kinds.Permission name) other = refl
 is_shown line (kinds.Outside word) other = refl
 is_shown line kinds.Limit other = refl
+
+-- the text of one more item is appended
+pub appended-more : {X : Type 0} (f : X → List ℕ) (xs : List X) (i : ℕ) (x : X) (before out : List ℕ) → i < length xs → x ≡ get_or xs i x → out ≡ before ++ flat_map f (take i xs) → out ++ f x ≡ before ++ flat_map f (take (i + 1) xs)
+appended-more f xs i x before out within is so =
+    ap (λ (l : List ℕ). l ++ f x) so ∙ flat_map_more f before (take i xs) x
+    ∙ ap (λ (l : List _). before ++ flat_map f l) (ap (λ (y : _). take i xs ++ y ∷ []) is ∙ sym (take_more xs i x within))

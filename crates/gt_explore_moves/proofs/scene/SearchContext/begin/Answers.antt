@@ -1,5 +1,6 @@
 use Rattle.std.proofs.Common.{◌≡◌, ◌+◌, ◌<◌, ◌^◌, List, refl, sym, ap, ◌∙◌, subst, get_or}
-use Rattle.std.proofs.lemmas.Option.{get_or_from_slice_get}
+use Rattle.std.specs.Prelude.{slice_get}
+use Rattle.std.proofs.lemmas.Option.{get_or_from_slice_get, none-some, slice_get_past}
 use Rattle.std.proofs.lemmas.Result.{IfOk-weaker}
 use Rattle.std.specs.Vec.{with_item}
 use Rattle.gt_core.specs.declared.trace.Answer.{Answer}
@@ -11,6 +12,14 @@ use Rattle.gt_explore_moves.specs.declared.actor.Actor.{Actor}
 use Rattle.gt_explore_state.specs.declared.table.SparseTable.{SparseTable}
 use Rattle.gt_explore_moves.proofs.LineBegins.{line-opens, line-answers, tasks-short}
 use Rattle.gt_explore_moves.proofs.scene.SearchContext.begin.Goals as goal
+
+pub returns-in_default : goal.returns-in_default
+returns-in_default c = λ s h k ts a q t answer there here show table next says right.
+    absurd (none-some a (sym (slice_get_past c.args.world.now.actors.items c.args.at c.in_default.ensures.item.3) ∙ there))
+
+pub returns-in_default-get : goal.returns-in_default-get
+returns-in_default-get c = λ s h k ts a q t answer there here show table next says right. let at = c.args.at in
+    absurd (none-some t (sym (slice_get_past c.deref.result.now at c.in_default-get.ensures.lookup.3) ∙ ap (λ (l : List SparseTable). slice_get l at) c.deref.ensures.value ∙ here))
 
 pub returns-in-Open : goal.returns-in-Open
 returns-in-Open c = λ s h k ts a q t answer there here show table next says right.

@@ -1,5 +1,6 @@
 use Rattle.std.proofs.Common.{◌≡◌, List, refl, sym, ap, ◌∙◌, subst, get_or}
-use Rattle.std.proofs.lemmas.Option.{get_or_from_slice_get}
+use Rattle.std.specs.Prelude.{slice_get}
+use Rattle.std.proofs.lemmas.Option.{get_or_from_slice_get, none-some, slice_get_past}
 use Rattle.std.specs.Vec.{with_item}
 use Rattle.gt_types.specs.declared.config.Config.{Config}
 use Rattle.gt_types.specs.declared.config.DomainConfig.{DomainConfig}
@@ -10,6 +11,19 @@ use Rattle.gt_explore_moves.specs.declared.actor.Actor.{Actor}
 use Rattle.gt_explore_state.specs.declared.table.SparseTable.{SparseTable}
 use Rattle.gt_explore_moves.proofs.LineBegins.{giving-opens, tasks-short}
 use Rattle.gt_explore_moves.proofs.scene.SearchContext.give_back.Goals as goal
+
+pub returns-in_default : goal.returns-in_default
+returns-in_default c = λ s h k a domain handle t answer there here roster dom show table rest held right. let at = c.args.turn.place in
+    let from : c.deref.result.now ≡ c.args.self.now.roster.domains.items = c.deref.ensures.value ∙ ap (λ (r : Config). r.domains.items) c.config.ensures in
+    absurd (none-some domain (sym (slice_get_past c.deref.result.now at c.in_default.ensures.lookup.3) ∙ ap (λ (l : List DomainConfig). slice_get l at) from ∙ roster))
+
+pub returns-in_default-get_mut : goal.returns-in_default-get_mut
+returns-in_default-get_mut c = λ s h k a domain handle t answer there here roster dom show table rest held right.
+    absurd (none-some a (sym (slice_get_past c.args.world.now.actors.items c.args.turn.place c.in_default-get_mut.ensures.item.3) ∙ there))
+
+pub returns-in_default-get : goal.returns-in_default-get
+returns-in_default-get c = λ s h k a domain handle t answer there here roster dom show table rest held right. let at = c.args.turn.place in
+    absurd (none-some t (sym (slice_get_past c.deref-2.result.now at c.in_default-get.ensures.lookup.3) ∙ ap (λ (l : List SparseTable). slice_get l at) c.deref-2.ensures.value ∙ here))
 
 pub returns-in-None : goal.returns-in-None
 returns-in-None c = λ s h k a domain handle t answer there here roster dom show table rest held right.

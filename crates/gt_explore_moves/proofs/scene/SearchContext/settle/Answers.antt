@@ -1,7 +1,8 @@
-use Rattle.std.proofs.Common.{◌≡◌, ◌∷◌, List, Vec, Global, Some, refl, sym, ap, ◌∙◌, subst}
+use Rattle.std.proofs.Common.{◌≡◌, ◌≤◌, ◌∷◌, ℕ, List, Vec, Global, Some, length, refl, sym, ap, ◌∙◌, subst}
 use Rattle.std.specs.Prelude.{slice_get}
-use Rattle.std.proofs.lemmas.Option.{get_or_from_slice_get}
+use Rattle.std.proofs.lemmas.Option.{get_or_from_slice_get, none-some, slice_get_past}
 use Rattle.std.specs.Vec.{with_item}
+use Rattle.gt_types.specs.declared.config.DomainConfig.{DomainConfig}
 use Rattle.gt_calls.specs.declared.action.Action.{Action}
 use Rattle.gt_explore_moves.specs.Continuing.{GoesOnAsRun}
 use Rattle.gt_explore_moves.specs.Ticking.{mappings_after}
@@ -11,6 +12,15 @@ use Rattle.gt_explore_moves.proofs.SameStep.{along, below, rising, same-seen, st
 use Rattle.gt_explore_moves.proofs.MappingFound.{at-found}
 use Rattle.gt_explore_moves.proofs.StepOrEnd.{call-over, get-set, goes-on}
 use Rattle.gt_explore_moves.proofs.scene.SearchContext.settle.Goals as goal
+
+pub returns-in_default : goal.returns-in_default
+returns-in_default c = λ s h before k j a i tick leads actors made. let at = c.args.at in
+    absurd (none-some a (sym (slice_get_past c.args.world.now.actors.items at c.in_default.ensures.item.3) ∙ ap (λ (l : Vec Actor Global). slice_get l.items at) actors ∙ tick.shows.there))
+
+pub returns-in_default-get : goal.returns-in_default-get
+returns-in_default-get c = λ s h before k j a i tick leads actors made. let at = c.args.at in
+    let past : length c.args.world.now.ground.tables.items ≤ at = subst (λ (l : List SparseTable). length l ≤ at) c.deref.ensures.value c.in_default-get.ensures.lookup.3 in
+    absurd (none-some tick.shows.domain (sym (slice_get_past s.domains at (subst (λ (n : ℕ). n ≤ at) made.tables_show.many past)) ∙ ap (λ (l : List DomainConfig). slice_get l at) (sym tick.shows.setting.domains) ∙ tick.shows.placed))
 
 pub returns-in-Step : goal.returns-in-Step
 returns-in-Step c = λ s h before k j a i tick leads actors made.
