@@ -71,16 +71,9 @@ abbrev HasNoKey : Step → Type 0
 HasNoKey (Unpin p (ByMapping handle)) = ⊥
 HasNoKey z = Unit {0}
 
-keyless : (z : Step) → HasNoKey z → bare_step z ≡ z
-keyless (Unpin p (ByMapping handle)) n = absurd n
-keyless z n = refl
-
-from-keyless : (z : Step) → HasNoKey (bare_step z) → HasNoKey z
-from-keyless (Unpin p (ByMapping handle)) n = n
-from-keyless z n = n
-
 no-key : (y z : Step) → HasNoKey z → bare_step z ≡ bare_step y → y ≡ z
-no-key y z n e = let f : z ≡ bare_step y = sym (keyless z n) ∙ e in sym (keyless y (from-keyless y (subst HasNoKey f n))) ∙ sym f
+no-key (Unpin p (ByMapping handle)) z n e = grind arith
+no-key y z n e = grind arith
 
 done-bare : (a : Action) (v : CallResult) → bare_action a ≡ Done v → a ≡ Done v
 done-bare (Makes z) v e = absurd (let f : Makes (bare_step z) ≡ Done v = e in cc)
@@ -275,12 +268,9 @@ module _ (s : Setting) (h g : History) (alike : AreAlike s h g) (reached : CanBe
   no-taken y e gref looked change is taken =
       let made : o.step ≡ Exchange gref looked change = no-key o.step (Exchange gref looked change) tt (ap bare_step (sym is) ∙ same-step) in
       let r = taken-ends (known_at s g x.id) (path (known_at s g x.id) x.id w.request) x.id w.request (values w) b.phase gref looked change b.at.has_shown (b.acts ∙ ap (λ (q : Step). Makes q) made) in
-      not-over y r.0 e (ended r.0 (ap (λ (v : Observation). action_at x.id (phase_after (known_at s g x.id) x.id b.phase v)) (saw ∙ taken) ∙ r.1))
-    where
-      ended : (v : CallResult) → action_at x.id (next_of s g x.id b.phase o.step) ≡ Done v → there ≡ Done v
-      ended v done =
-          let ends = ends-so x.id (next_of s g x.id b.phase o.step) v done in
-          ap (action_at x.id) (ends-settled w.request (next_of s g x.id b.phase o.step) ends.0 v ends.1) ∙ ap (λ (l : List HeldPin). next_to_give l v) ends.2
+      let done = ap (λ (v : Observation). action_at x.id (phase_after (known_at s g x.id) x.id b.phase v)) (saw ∙ taken) ∙ r.1 in
+      let ends = ends-so x.id (next_of s g x.id b.phase o.step) r.0 done in
+      not-over y r.0 e (ap (action_at x.id) (ends-settled w.request _ ends.0 r.0 ends.1) ∙ ap (λ (l : List HeldPin). next_to_give l r.0) ends.2)
 
   same-table : (t : DomId) → table_at s g t ≡ table_at s h t
   same-table t = sym ((bared g).table s t) ∙ ap (λ (l : History). table_at s l t) (sym bares) ∙ (bared h).table s t
