@@ -22,7 +22,7 @@ use Rattle.gt_script.specs.RunContents.{RunContents}
 use Rattle.gt_script.specs.RunScripts.{list_of}
 use Rattle.gt_explore_replay.specs.Orders.{AllFollow, FollowsList, Happening, MayGive, doer, events_in, own_happenings, trace_in}
 use Rattle.gt_live.specs.declared.monitor.Monitor.{Monitor}
-use Rattle.gt_run.specs.Printing.{AreDuties, AreServed, Served, ShowOneState, jobs_in, texts_in}
+use Rattle.gt_run.specs.Printing.{AreJobsOf, AreServed, Served, ShowOneState, jobs_in, texts_in}
 use Rattle.gt_run.specs.Runs.{AreOf, IsOver}
 use Rattle.gt_run.specs.declared.lists.DomainPart.{DomainPart}
 use Rattle.gt_run.specs.declared.lists.ThreadJob.{ThreadJob}
@@ -180,7 +180,7 @@ of-lists c logged jobs served same of = record {
   rights = of.rights;
   flags = of.flags;
   frames = of.frames;
-  jobs_are = subst (AreDuties of.monitor logged of.parts) (sym same) of.jobs_are;
+  jobs_are = subst (AreJobsOf of.monitor logged of.parts) (sym same) of.jobs_are;
 }
 
 pub runs-explored : RunsAreExplored

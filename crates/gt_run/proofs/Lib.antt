@@ -1,4 +1,4 @@
 pub mod CallLemmas
-pub mod DutyLemmas
+pub mod JobLemmas
 pub mod ListLemmas
 pub mod RanLemmas

@@ -30,7 +30,7 @@ use Rattle.gt_run.specs.declared.fault.RunFault.{RunFault}
 use Rattle.gt_run.specs.declared.fault.RunFault.TheVariants.{Play, Thread}
 use Rattle.gt_run.specs.declared.lists.ThreadJob.{ThreadJob}
 use Rattle.gt_run.specs.declared.lists.DomainPart.{DomainPart}
-use Rattle.gt_run.proofs.DutyLemmas.{wrote_as, wrote_none}
+use Rattle.gt_run.proofs.JobLemmas.{wrote_as, wrote_none}
 
 -- the part of one domain more
 pub parts_more : (domains : List DomainConfig) (i : ℕ) (d : DomainConfig) (tasks : List RunTask) (names : List (List ℕ)) (parts : List DomainPart) (p : DomainPart) → i < length domains → d ≡ get_or domains i d

@@ -82,8 +82,8 @@ abbrev pub IsOutputOf : {P : Type 0} → (P → AllowRelation) → ThreadJob P �
 IsOutputOf may job o = CameBy o.whole may job o × LeavesSeat job o.left
 
 -- the jobs of these parts, in their order, all over this monitor, and with a log or without
-abbrev pub AreDuties : {P : Type 0} → Monitor P → Bool → List DomainPart → List (ThreadJob P) → Type 0
-AreDuties m logged parts jobs =
+abbrev pub AreJobsOf : {P : Type 0} → Monitor P → Bool → List DomainPart → List (ThreadJob P) → Type 0
+AreJobsOf m logged parts jobs =
     (map (λ d. d.part) jobs ≡ parts) × All (λ d. (d.monitor.now ≡ m) × (is_some d.log ≡ logged)) jobs
 
 -- the lists of these jobs were served, and what they printed went out

@@ -21,7 +21,7 @@ use Rattle.gt_run.specs.declared.fault.RunFault.{RunFault}
 use Rattle.gt_run.specs.declared.fault.RunFault.TheVariants.{Play, Thread}
 use Rattle.gt_run.specs.declared.lists.ThreadJob.{ThreadJob}
 use Rattle.gt_run.specs.declared.lists.DomainPart.{DomainPart}
-use Rattle.gt_run.specs.Printing.{AreDuties, BeginsAll, WritesAll}
+use Rattle.gt_run.specs.Printing.{AreJobsOf, BeginsAll, WritesAll}
 
 -- The output of these jobs, by the result of the run. At Ok it is the whole text of their lists. If a thread was
 -- refused it is empty. After a failed write or a failed allocation it is a prefix of such a text. There are no other
@@ -63,7 +63,7 @@ Wrote may Are old new (Err (Play (Policy fault))) = ⊥
 abbrev pub AreUnder : {P : Type 0} → Config → P → ℕ → Bool → List DomainPart → List (ThreadJob P) → Type 0
 AreUnder {P} config rights flags logged parts jobs =
     (m : Monitor P) × (m.config ≡ config) × IsWithinLimits config × (m.rights ≡ rights) × (m.words.flags ≡ flags)
-    × (m.words.frames ≡ frames_kept config) × AreDuties m logged parts jobs
+    × (m.words.frames ≡ frames_kept config) × AreJobsOf m logged parts jobs
 
 -- the part has these tasks and these names of types
 abbrev pub IsOver : List RunTask → List (List ℕ) → DomainPart → Type 0
@@ -89,7 +89,7 @@ pub record AreOf (c : RunContents) (logged : Bool) (jobs : List (ThreadJob Scrip
   pub rights : may_by monitor.rights ≡ may_in c.head
   pub flags : AreNumbered monitor.words.flags c.tasks
   pub frames : monitor.words.frames ≡ frames_kept monitor.config
-  pub jobs_are : AreDuties monitor logged parts jobs
+  pub jobs_are : AreJobsOf monitor logged parts jobs
 
 -- the script's lists wrote their whole text
 abbrev pub WritesScript : RunContents → Bool → Option (List ℕ) → Option (List ℕ) → Type 0

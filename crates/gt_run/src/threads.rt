@@ -12,7 +12,7 @@ ghost use Rattle.gt_run.specs.Joining.{AreGathered, AreOfThisRun, AreOnRun, Begi
 ghost use Rattle.gt_run.specs.Joining.{JoinsWhere, MayTakeIn, ShowTogether, WritesNext, WroteStarted};
 ghost use Rattle.gt_run.specs.Joining.{run_fault_of, views_in};
 ghost use Rattle.gt_run.specs.declared.threads.ThreadRefusal.TheVariants as refusals;
-ghost use Rattle.gt_run.specs.Printing.{AreDuties, IsOutputOf, promised};
+ghost use Rattle.gt_run.specs.Printing.{AreJobsOf, IsOutputOf, promised};
 ghost use Rattle.gt_run.specs.Runs.{AreUnder, Wrote};
 ghost use Rattle.gt_run.specs.Serving.{counted, AreReady, IsReady};
 
@@ -118,7 +118,7 @@ fn start_each<'s, 'a, E, R: Wait + Sync, P: Allows + Sync, G: Gate + Sync>(
 ) -> Started<'s, 'a, P>
     requires { AreReady P.may monitor.now domains.items parts.now }
     ensures { (result.refused ≡ None) →
-        AreDuties monitor.now (is_some context.now.log) parts.entry.now (promised result.handles.items) }
+        AreJobsOf monitor.now (is_some context.now.log) parts.entry.now (promised result.handles.items) }
 {
     let (rt, alloc, gate, log) = (context.rt, context.alloc, context.gate, context.log);
     let mut handles = Vec::new(alloc);
@@ -350,7 +350,7 @@ pub fn run_each<'a, R: Threads + Wait + Sync, P: Allows + Sync, G: Gate + Sync, 
 ) -> Result<(), RunFault>
     requires ready { AreReady P.may monitor.now domains.items parts.now }
     requires first { BeginsFirst monitor.now.words parts.now }
-    ensures { Wrote P.may (AreDuties monitor.now (is_some context.now.log) parts.now)
+    ensures { Wrote P.may (AreJobsOf monitor.now (is_some context.now.log) parts.now)
         (W.contents writer.old) (W.contents writer.new) result }
 {
     let start = OnceLock::new();
@@ -363,7 +363,7 @@ pub fn run_each<'a, R: Threads + Wait + Sync, P: Allows + Sync, G: Gate + Sync, 
             requires ready { AreReady P.may monitor.now domains.items parts.now }
             requires first { BeginsFirst monitor.now.words parts.now }
             ensures same { result.writer.ghost_name ≡ writer.entry.ghost_name }
-            ensures text { Wrote P.may (AreDuties monitor.entry.now (is_some context.entry.now.log) parts.entry.now)
+            ensures text { Wrote P.may (AreJobsOf monitor.entry.now (is_some context.entry.now.log) parts.entry.now)
                 (W.contents writer.entry.now) (W.contents result.writer.now) result.outcome }
         {
             let started = start_each(scope, context, monitor, domains, parts, start);

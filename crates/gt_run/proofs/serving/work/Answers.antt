@@ -3,7 +3,7 @@ use Rattle.gt_words.specs.Conditions.{IsSeatOf}
 use Rattle.gt_live.specs.Domains.{HasLeft}
 use Rattle.gt_live.specs.declared.monitor.Monitor.{Monitor}
 use Rattle.gt_run.proofs.ListLemmas.{starts_told}
-use Rattle.gt_run.proofs.DutyLemmas.{begun_not, came_plain, came_told}
+use Rattle.gt_run.proofs.JobLemmas.{begun_not, came_plain, came_told}
 use Rattle.gt_run.proofs.serving.work.Goals as goal
 use Rattle.gt_run.proofs.serving.work.Goals.{in-Some, in-None}
 

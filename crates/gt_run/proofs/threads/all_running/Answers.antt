@@ -2,7 +2,7 @@ use Rattle.std.proofs.Common.{subst, arith, All}
 use Rattle.std.proofs.lemmas.List.Elements.{All-head, All-tail}
 use Rattle.std.specs.Vec.Iter.{into_iter_items}
 use Rattle.gt_live.specs.Domains.{BelongsTo}
-use Rattle.gt_run.proofs.DutyLemmas.{stands_on}
+use Rattle.gt_run.proofs.JobLemmas.{stands_on}
 use Rattle.gt_run.proofs.threads.all_running.Goals as goal
 
 pub new-requires : goal.new-requires

@@ -1,5 +1,5 @@
 use Rattle.std.proofs.Common.{◌≡◌, None, Some, refl}
-use Rattle.gt_run.proofs.DutyLemmas.{joins_next, joins_none, may_take_next, next_handle}
+use Rattle.gt_run.proofs.JobLemmas.{joins_next, joins_none, may_take_next, next_handle}
 use Rattle.gt_run.proofs.threads.join_each.Goals as goal
 
 pub joins-init : goal.joins-init

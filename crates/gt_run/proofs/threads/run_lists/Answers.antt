@@ -1,5 +1,5 @@
 use Rattle.std.proofs.lemmas.Result.{err_from_is_err_and}
-use Rattle.gt_run.proofs.DutyLemmas.{begins_first, ready_all, wrote_as, wrote_none}
+use Rattle.gt_run.proofs.JobLemmas.{begins_first, ready_all, wrote_as, wrote_none}
 use Rattle.gt_run.proofs.threads.run_lists.Goals as goal
 
 pub run_each-requires : goal.run_each-requires

@@ -1,6 +1,6 @@
 use Rattle.std.proofs.Common.{rules, ◌<◌, false, length, refl, sym, ap}
 use Rattle.std.specs.Prelude.{is_err, is_some}
-use Rattle.gt_run.proofs.DutyLemmas.{jobs_pushed, pushed_items, ready_rest}
+use Rattle.gt_run.proofs.JobLemmas.{jobs_pushed, pushed_items, ready_rest}
 use Rattle.gt_run.proofs.threads.start_each.Goals as goal
 
 pub parts-preserved : goal.parts-preserved

@@ -3,7 +3,7 @@ use Rattle.std.specs.Io.KnownBytes.{Appends}
 use Rattle.std.proofs.lemmas.Result.{err_from_is_err_and}
 use Rattle.gt_text.specs.Streams.{AppendsBeginning}
 use Rattle.gt_audit.specs.Lines.{lost_text}
-use Rattle.gt_run.proofs.DutyLemmas.{joined_together, wrote_all, wrote_lines}
+use Rattle.gt_run.proofs.JobLemmas.{joined_together, wrote_all, wrote_lines}
 use Rattle.gt_run.proofs.threads.write_each.Goals as goal
 
 pub returns : goal.returns

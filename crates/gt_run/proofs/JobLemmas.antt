@@ -42,7 +42,7 @@ use Rattle.gt_run.specs.Asking.{Stand}
 use Rattle.gt_run.specs.Faults.{run_out_of_memory}
 use Rattle.gt_run.specs.Joining.{AreGathered, AreOfThisRun, AreOnRun, BeginsFirst, IsLate, IsOfThisRun, IsTakenIn}
 use Rattle.gt_run.specs.Joining.{JoinsWhere, MayTakeIn, ShowTogether, WritesNext, WroteStarted, views_in}
-use Rattle.gt_run.specs.Printing.{AreDuties, BeginsLists, BeginsRunText, CameBy, HasViewIn, LeavesSeat, PrintsOn, Served}
+use Rattle.gt_run.specs.Printing.{AreJobsOf, BeginsLists, BeginsRunText, CameBy, HasViewIn, LeavesSeat, PrintsOn, Served}
 use Rattle.gt_run.specs.Printing.{ShowOneState, WasServed, WritesLists}
 use Rattle.gt_run.specs.Printing.{all_lost, audits_in, jobs_in, promised, texts_in}
 use Rattle.gt_run.specs.Runs.{Wrote, WroteLists}
@@ -118,7 +118,7 @@ came_told may job s e trail true (Some t) u o ready given same leaves serves aud
 
 -- one job more
 pub jobs_more : {P : Type 0} (m : Monitor P) (logged : Bool) (parts : List DomainPart) (i : ℕ) (p : DomainPart) (ds : List (ThreadJob P)) (d : ThreadJob P) → i < length parts → p ≡ get_or parts i p → d.part ≡ p
-    → d.monitor.now ≡ m → is_some d.log ≡ logged → AreDuties m logged (take i parts) ds → AreDuties m logged (take (i + 1) parts) (ds ++ d ∷ [])
+    → d.monitor.now ≡ m → is_some d.log ≡ logged → AreJobsOf m logged (take i parts) ds → AreJobsOf m logged (take (i + 1) parts) (ds ++ d ∷ [])
 jobs_more {P} m logged parts i p ds d within is of_part over log (same, all) = (
   map-append (λ (x : ThreadJob _). x.part) ds (d ∷ []) ∙ ap (λ l. l ++ d.part ∷ []) same ∙ ap (λ (x : DomainPart). take i parts ++ x ∷ []) (of_part ∙ is)
       ∙ sym (rw add-one (take-suc parts i p within)),
@@ -137,10 +137,10 @@ promised_more {P} hs h = map-append (λ (x : PromisedHandle Output (ThreadJob P)
 -- the thread of one job more was kept
 pub jobs_pushed : {P : Type 0} (m : Monitor P) (parts : List DomainPart) (i : ℕ) (p : DomainPart) (logged : Bool) (hs new : List (PromisedHandle Output (ThreadJob P))) (h : PromisedHandle Output (ThreadJob P)) (d : ThreadJob P)
     → i < length parts → p ≡ get_or parts i p → h.promise ≡ d → d.part ≡ p → d.monitor.now ≡ m → is_some d.log ≡ logged → new ≡ hs ++ h ∷ []
-    → AreDuties m logged (take i parts) (promised hs) → AreDuties m logged (take (i + 1) parts) (promised new)
+    → AreJobsOf m logged (take i parts) (promised hs) → AreJobsOf m logged (take (i + 1) parts) (promised new)
 jobs_pushed {P} m parts i p logged hs new h d within is kept part over log items are =
     let grown : promised new ≡ promised hs ++ d ∷ [] = ap promised items ∙ promised_more hs h ∙ ap (λ (x : ThreadJob P). promised hs ++ x ∷ []) kept in
-    subst (λ (l : List (ThreadJob P)). AreDuties m logged (take (i + 1) parts) l) (sym grown) (jobs_more m logged parts i p (promised hs) d within is part over log are)
+    subst (λ (l : List (ThreadJob P)). AreJobsOf m logged (take (i + 1) parts) l) (sym grown) (jobs_more m logged parts i p (promised hs) d within is part over log are)
 
 -- the next domain is ready for the next part, and the others for the others
 ready_step : {P : Type 0} (may : P → AllowRelation) (m : Monitor P) (stands rest : List (Stand P)) (s : Stand P) (parts : List DomainPart) (i : ℕ) (p : DomainPart) → i < length parts → p ≡ get_or parts i p
