@@ -234,8 +234,19 @@ fn texts_reason(
         }
         TextsFault::Astray => format!(in alloc; "a witness went astray, which is a bug of gthost")?,
         TextsFault::Witness => format!(in alloc; "no output has this number")?,
-        TextsFault::Expression(fault) => format!(in alloc; "{fault}")?,
     };
+    push_read_reason(&mut said, file, words.as_bytes())?;
+    Ok(said)
+}
+
+// Returns the reason of a fault of an expression: its line.
+fn expression_reason(
+    alloc: Global,
+    file: &str,
+    fault: &ExploreFault,
+) -> Result<Vec<u8>, AllocError> {
+    let mut said = Vec::new(alloc);
+    let words = format!(in alloc; "{fault}")?;
     push_read_reason(&mut said, file, words.as_bytes())?;
     Ok(said)
 }
@@ -392,6 +403,7 @@ impl<'a> Reasons<'a> {
         };
         let said = match fault {
             ExploreFault::Play(fault) => fault_reason(self.alloc, file, self.is_line, input, fault),
+            ExploreFault::Term { .. } => expression_reason(self.alloc, file, fault),
             ExploreFault::Texts(fault) => texts_reason(self.alloc, file, states, *fault),
         };
         self.add(said);

@@ -13,22 +13,35 @@ use Rattle.gt_text.specs.Laws.{keeps_same, of_any_input}
 use Rattle.gt_text.specs.Streams.{OfInput}
 use Rattle.gt_text.specs.declared.fault.ReadFault.{ReadFault}
 use Rattle.gt_text.specs.declared.fault.ReadFault.TheVariants as reads
+use Rattle.gt_explore_verdict.specs.declared.fault.ExpressionFault.{ExpressionFault}
+use Rattle.gt_explore_verdict.specs.declared.fault.ExpressionFault.TheVariants as expressions
 use Rattle.gt_explore_verdict.specs.declared.judging.Verdict.{Verdict}
+use Rattle.gt_explore_answers.specs.Exploring.{IsFaultAsked}
+use Rattle.gt_explore_faults.specs.Faults.{expression_fault}
 use Rattle.gt_explore.specs.Writing.{Explored, Explores}
 use Rattle.gt_explore_answers.specs.declared.asking.ExploreOptions.{ExploreOptions}
 use Rattle.gt_explore_faults.specs.declared.fault.ExploreFault.{ExploreFault}
-use Rattle.gt_explore_faults.specs.declared.fault.ExploreFault.TheVariants.{Play, Texts}
+use Rattle.gt_explore_faults.specs.declared.fault.ExploreFault.TheVariants.{Play, Term, Texts}
 
 -- a script was explored
 pub explored_script : (asked : ExploreOptions) (Told : Result RunContents Wrong → Type 0) (c : RunContents) (r : Result Verdict ExploreFault) (old new : Option (List ℕ)) → Told (Ok c)
     → Explores c asked old new r → Explored asked Told old new r
 explored_script asked Told c (Ok verdict) old new told wrote = (c, told, wrote)
-explored_script asked Told c (Err (Texts fault)) old new told wrote = wrote
+explored_script asked Told c (Err (Term number fault)) old new told wrote = (c, told, wrote)
+explored_script asked Told c (Err (Texts fault)) old new told wrote = (c, told, wrote)
 explored_script asked Told c (Err (Play plays.Write)) old new told wrote = (c, told, wrote)
 explored_script asked Told c (Err (Play plays.Memory)) old new told wrote = absurd wrote
 explored_script asked Told c (Err (Play plays.Read)) old new told wrote = absurd wrote
 explored_script asked Told c (Err (Play (plays.Script fault))) old new told wrote = absurd wrote
 explored_script asked Told c (Err (Play (plays.Policy fault))) old new told wrote = absurd wrote
+
+-- the expression has a fault, and nothing went out
+fault_asked : (c : RunContents) (asked : ExploreOptions) (error : ExpressionFault) (old : Option (List ℕ)) → IsFaultAsked c asked.request error → Explores c asked old old (Err (expression_fault error))
+fault_asked c asked expressions.Memory old is = keeps_same old
+fault_asked c asked (expressions.Term number fault) old is = (is, keeps_same old)
+
+pub explored_fault : (c : RunContents) (asked : ExploreOptions) (error : ExpressionFault) (fault : ExploreFault) (old : Option (List ℕ)) → IsFaultAsked c asked.request error → fault ≡ expression_fault error → Explores c asked old old (Err fault)
+explored_fault c asked error fault old is same = subst (λ (f : ExploreFault). Explores c asked old old (Err f)) (sym same) (fault_asked c asked error old is)
 
 -- there is no script, and nothing went out
 no_script : (asked : ExploreOptions) (Told : Result RunContents Wrong → Type 0) (error : ScriptError) (old : Option (List ℕ)) → RunAnswers (Err error) Told → Explored asked Told old old (Err (Play (fault_of error)))

@@ -10,11 +10,12 @@ use Rattle.gt_script_runs.specs.declared.fault.PlayFault.TheVariants.{Memory, Re
 use Rattle.gt_explore_verdict.specs.declared.judging.Verdict.{Verdict}
 use Rattle.gt_explore_verdict.specs.Expressions.{Asked}
 use Rattle.gt_explore_answers.specs.Answering.{ShownAs}
-use Rattle.gt_explore_answers.specs.Exploring.{AreAsked, AreTextsOf}
+use Rattle.gt_explore_verdict.specs.declared.fault.ExpressionFault.TheVariants as expressions
+use Rattle.gt_explore_answers.specs.Exploring.{AreAsked, AreTextsOf, IsFaultAsked}
 use Rattle.gt_explore_answers.specs.Telling.{Found}
 use Rattle.gt_explore_answers.specs.declared.asking.ExploreOptions.{ExploreOptions}
 use Rattle.gt_explore_faults.specs.declared.fault.ExploreFault.{ExploreFault}
-use Rattle.gt_explore_faults.specs.declared.fault.ExploreFault.TheVariants.{Play, Texts}
+use Rattle.gt_explore_faults.specs.declared.fault.ExploreFault.TheVariants.{Play, Term, Texts}
 
 -- the output for a script and the verdict: what is shown of texts that it may give
 pub record IsMade (c : RunContents) (asked : ExploreOptions) (text : List ℕ) (verdict : Verdict) : Type 0 where
@@ -27,6 +28,8 @@ pub record IsMade (c : RunContents) (asked : ExploreOptions) (text : List ℕ) (
 -- what was written for a script, by the result
 abbrev pub Explores : RunContents → ExploreOptions → Option (List ℕ) → Option (List ℕ) → Result Verdict ExploreFault → Type 0
 Explores c asked old new (Ok verdict) = (text : List ℕ) × IsMade c asked text verdict × Appends old new text
+Explores c asked old new (Err (Term number fault)) =
+    IsFaultAsked c asked.request (expressions.Term number fault) × Keeps old new
 Explores c asked old new (Err (Texts fault)) = Keeps old new
 Explores c asked old new (Err (Play Write)) =
     (text : List ℕ) × (verdict : Verdict) × IsMade c asked text verdict × AppendsBeginning old new text
@@ -36,11 +39,15 @@ Explores c asked old new (Err (Play (Script fault))) = ⊥
 Explores c asked old new (Err (Play (Policy fault))) = ⊥
 
 -- what was written for bytes that mean this: at Ok a whole text of the script, after a failed write a prefix of one,
--- and otherwise nothing; a fault of the script is its first
+-- and otherwise nothing; a fault of the script is its first; a fault of the expression or of the texts is of a script
+-- without a fault, and the former is the first of the expression
 abbrev pub Explored : ExploreOptions → (Result RunContents Wrong → Type 0) → Option (List ℕ) → Option (List ℕ)
     → Result Verdict ExploreFault → Type 0
 Explored asked Told old new (Ok verdict) = (c : RunContents) × Told (Ok c) × Explores c asked old new (Ok verdict)
-Explored asked Told old new (Err (Texts fault)) = Keeps old new
+Explored asked Told old new (Err (Term number fault)) =
+    (c : RunContents) × Told (Ok c) × Explores c asked old new (Err (Term number fault))
+Explored asked Told old new (Err (Texts fault)) =
+    (c : RunContents) × Told (Ok c) × Explores c asked old new (Err (Texts fault))
 Explored asked Told old new (Err (Play Write)) =
     (c : RunContents) × Told (Ok c) × Explores c asked old new (Err (Play Write))
 Explored asked Told old new (Err (Play Memory)) = Keeps old new

@@ -1,37 +1,40 @@
 //! The command `explore`.
-ghost use Rattle.std.specs.Prelude.{◌≡◌, ℕ, List, IfOk, take};
+ghost use Rattle.std.specs.Prelude.{◌≡◌, ℕ, List, IfOk, map, take};
 ghost use Rattle.gt_script.specs.Contents.{contents_told};
 ghost use Rattle.gt_script.specs.RunContents.{run_told};
 ghost use Rattle.gt_script.specs.RunScripts.{CanConfigure, RunTells};
 ghost use Rattle.gt_text.specs.Streams.{ConsumesAtMost, OfInput};
 ghost use Rattle.gt_text.specs.declared.streams.TheConstants.{READ_LIMIT};
 ghost use Rattle.gt_script.specs.Stuck.{AreNumbered};
+ghost use Rattle.gt_explore_verdict.specs.Expressions.{told};
+ghost use Rattle.gt_explore_answers.specs.Exploring.{AreAsked};
 ghost use Rattle.gt_explore.specs.Writing.{Explored, Explores, IsMade};
 
 use crate::texts::texts_found;
 use gt_explore_answers::{ExploreOptions, ExploreOutput, answer_request, conditions_asked};
 use gt_explore_faults::{ExploreFault, TextsFault};
-use gt_explore_verdict::Verdict;
+use gt_explore_verdict::{Condition, Verdict};
 use gt_script::{RunScript, parse_run};
 use gt_script_runs::PlayFault;
 use gt_text::{read_text, write_text};
 use std::alloc::Global;
 use std::io::{Read, Write};
 
-// Finds the texts of a script, and answers a request by them.
+// Finds the texts of a script, and answers a request by them, which states these conditions.
 fn made_as(
     alloc: Global,
     asked: &ExploreOptions,
     source: &[u8],
     script: &RunScript,
+    conditions: &[Condition<'_>],
 ) -> Result<ExploreOutput, TextsFault>
     requires fits { CanConfigure (contents_told script.now.head) }
     requires numbered { AreNumbered script.now.flags script.now.tasks }
+    requires read { AreAsked (run_told script.now) asked.now.request (map told conditions.now) }
     ensures { IfOk result (λ made. IsMade (run_told script.now) asked.now made.text.items made.verdict) }
 {
-    let conditions = conditions_asked(alloc, script, asked.request)?;
     let found = texts_found(alloc, script, asked.states)?;
-    let made = answer_request(alloc, asked, source, script, &found, conditions.as_slice())?;
+    let made = answer_request(alloc, asked, source, script, &found, conditions)?;
     Ok(made)
 }
 
@@ -47,7 +50,8 @@ fn explore_script<W: Write>(
     requires numbered { AreNumbered script.now.flags script.now.tasks }
     ensures { Explores (run_told script.now) asked.now (W.contents writer.old) (W.contents writer.new) result }
 {
-    match made_as(alloc, asked, source, script) {
+    let conditions = conditions_asked(alloc, script, asked.request)?;
+    match made_as(alloc, asked, source, script, conditions.as_slice()) {
         Err(fault) => Err(ExploreFault::Texts(fault)),
         Ok(made) => match write_text(writer, made.text.as_slice()) {
             Ok(()) => Ok(made.verdict),

@@ -1,7 +1,7 @@
 -- The output of `explore` for a script.
 use Rattle.std.specs.Prelude.{◌≡◌, ◌+◌, ◌++◌, ◌&&◌, ℕ, Bool, true, false, List, [], ◌∷◌, All, length, map, Option, Some}
-use Rattle.std.specs.Prelude.{None, Ok, codes, decimal, if◌then◌else◌, is_some, slice_get}
-use Rattle.std.specs.List.{list_all, list_any, position}
+use Rattle.std.specs.Prelude.{◌⊎◌, None, Ok, Err, codes, decimal, if◌then◌else◌, is_some, slice_get}
+use Rattle.std.specs.List.{list_any, position}
 use Rattle.std.specs.Str.{bytes_eq}
 use Rattle.gt_script.specs.Lists.{RunAction}
 use Rattle.gt_script.specs.RunContents.{RunContents}
@@ -11,6 +11,10 @@ use Rattle.gt_explore_trace.specs.declared.facts.TraceForm.{TraceForm}
 use Rattle.gt_explore_verdict.specs.Expressions.{Answers, Asked, conditions_in, of_all, of_domain, of_line}
 use Rattle.gt_explore_verdict.specs.Judging.{Means, judged, verdict_at}
 use Rattle.gt_explore_verdict.specs.Satisfying.{satisfies}
+use Rattle.gt_explore_verdict.specs.declared.fault.ConditionFault.{ConditionFault}
+use Rattle.gt_explore_verdict.specs.declared.fault.ConditionFault.TheVariants.{NoCall, NoDomain}
+use Rattle.gt_explore_verdict.specs.declared.fault.ExpressionFault.{ExpressionFault}
+use Rattle.gt_explore_verdict.specs.declared.fault.ExpressionFault.TheVariants as expressions
 use Rattle.gt_explore_verdict.specs.declared.judging.Claim.{Claim}
 use Rattle.gt_explore_verdict.specs.declared.judging.Claim.TheVariants.{Find, Never, Always}
 use Rattle.gt_explore_verdict.specs.declared.judging.Judgement.{Judgement}
@@ -41,10 +45,31 @@ is_askable c of_all = true
 is_askable c (of_line number) = list_any (λ t. is_call t.deed && bytes_eq (decimal t.line) number) c.tasks
 is_askable c (of_domain number) = list_any (λ d. bytes_eq (decimal d.id.0) number) c.head.domains
 
+-- the fault of a condition about a line or a domain that the script does not have
+abbrev pub place_fault : Answers → ConditionFault
+place_fault of_all = NoCall
+place_fault (of_line number) = NoCall
+place_fault (of_domain number) = NoDomain
+
+-- the number and the fault of the first such condition, if the first of these has this number
+abbrev pub first_unplaced : RunContents → ℕ → List Asked → Option (ℕ × ConditionFault)
+first_unplaced c number [] = None
+first_unplaced c number (asked ∷ more) =
+    if is_askable c asked.place then first_unplaced c (number + 1) more else Some (number, place_fault asked.place)
+
 -- the conditions of an expression, each of them about lines or domains that the script has
 pub record AreConditions (c : RunContents) (expression : List ℕ) (conditions : List Asked) : Type 0 where
   pub read : conditions_in expression ≡ Ok conditions
-  pub askable : list_all (λ asked. is_askable c asked.place) conditions ≡ true
+  pub placed : first_unplaced c 1 conditions ≡ None
+
+-- the fault of an expression: its first term that is not a condition; if there is none, the first condition about a
+-- line or a domain that the script does not have; or an allocation failed
+abbrev pub IsExpressionFault : RunContents → List ℕ → ExpressionFault → Type 0
+IsExpressionFault c expression expressions.Memory = Unit {0}
+IsExpressionFault c expression (expressions.Term number fault) =
+    (conditions_in expression ≡ Err (number, fault))
+    ⊎ ((conditions : List Asked) × (conditions_in expression ≡ Ok conditions)
+    × (first_unplaced c 1 conditions ≡ Some (number, fault)))
 
 -- which of the texts satisfy the conditions
 abbrev pub satisfied : List Asked → Found → List Bool
@@ -111,6 +136,12 @@ AreAsked c (requests.Witness number) conditions = Unit {0}
 AreAsked c requests.Witnesses conditions = Unit {0}
 AreAsked c (requests.Trace number) conditions = Unit {0}
 AreAsked c (requests.Diagram number) conditions = Unit {0}
+
+-- the fault of the expression of a request; without one, only an allocation fails
+abbrev pub IsFaultAsked : RunContents → ExploreRequest → ExpressionFault → Type 0
+IsFaultAsked c (requests.Decide claim expression) fault = IsExpressionFault c expression.now fault
+IsFaultAsked c request expressions.Memory = Unit {0}
+IsFaultAsked c request (expressions.Term number fault) = ⊥
 
 -- ---- the output and the verdict, for the texts that were found
 

@@ -1,15 +1,15 @@
 //! The conditions of a claim about a script.
-ghost use Rattle.std.specs.Prelude.{◌≡◌, ◌&&◌, true, IfOk, OnOk, decimal, map};
-ghost use Rattle.std.specs.List.{list_all, list_any};
+ghost use Rattle.std.specs.Prelude.{◌≡◌, ◌&&◌, IfErr, IfOk, decimal, map};
+ghost use Rattle.std.specs.List.{list_any};
 ghost use Rattle.std.specs.Str.{bytes_eq};
 ghost use Rattle.gt_script.specs.RunContents.{run_told};
 ghost use Rattle.gt_explore_verdict.specs.Expressions.{place_told, told};
 ghost use Rattle.gt_explore_verdict.specs.Satisfying.{satisfies};
 ghost use Rattle.gt_explore_answers.specs.Texts.{texts_of_orders};
-ghost use Rattle.gt_explore_answers.specs.Exploring.{AreAsked, AreConditions, is_askable, is_call};
+ghost use Rattle.gt_explore_answers.specs.Exploring.{AreAsked, AreConditions, IsExpressionFault, IsFaultAsked};
+ghost use Rattle.gt_explore_answers.specs.Exploring.{first_unplaced, is_askable, is_call, place_fault};
 
 use crate::asking::ExploreRequest;
-use gt_explore_faults::TextsFault;
 use gt_explore_search::FoundText;
 use gt_explore_verdict::{
     Condition, ConditionFault, ExpressionFault, Place, conditions_of, satisfies,
@@ -74,48 +74,52 @@ fn has_place(alloc: Global, script: &RunScript, place: Place<'_>) -> Result<bool
 }
 
 // Returns the fault of a condition about a line or a domain that the script does not have.
-fn place_fault(place: Place<'_>) -> ConditionFault {
+fn place_fault(place: Place<'_>) -> ConditionFault
+    ensures { result ≡ place_fault (place_told place.entry) }
+{
     match place {
         Place::Anywhere | Place::Line(_) => ConditionFault::NoCall,
         Place::Domain(_) => ConditionFault::NoDomain,
     }
 }
 
-// Checks that the script has the line or the domain that each of these conditions is about.
-fn check_places(
+// Returns the number and the fault of the first condition about a line or a domain that the script does not have.
+fn first_unplaced(
     alloc: Global,
     script: &RunScript,
     conditions: &[Condition<'_>],
-) -> Result<(), TextsFault>
-    ensures { OnOk result (list_all (λ asked. is_askable (run_told script.now) asked.place)
-        (map told conditions.now) ≡ true) }
+) -> Result<Option<(usize, ConditionFault)>, AllocError>
+    ensures { IfOk result (λ found. found ≡ first_unplaced (run_told script.now) 1 (map told conditions.now)) }
 {
-    let mut number = 0;
+    let mut number = 1;
     'conditions: for condition in conditions {
-        number += 1;
         if !has_place(alloc, script, condition.place)? {
-            let fault = place_fault(condition.place);
-            return Err(TextsFault::Expression(ExpressionFault::Term { number, fault }));
+            return Ok(Some((number, place_fault(condition.place))));
         }
+        number += 1;
     }
-    Ok(())
+    Ok(None)
 }
 
 /// Reads an expression as conditions on the texts of a script.
 ///
 /// # Errors
-/// `Expression` with the first term that is not a condition, or that names a line or a domain that the script does not
-/// have; and `Memory`.
+/// `Term` with the first term that is not a condition, or that names a line or a domain that the script does not have;
+/// and `Memory`.
 pub fn conditions_for<'e>(
     alloc: Global,
     script: &RunScript,
     expression: &'e str,
-) -> Result<Vec<Condition<'e>>, TextsFault>
-    ensures { IfOk result (λ cs. AreConditions (run_told script.now) expression.entry.now (map told cs.items)) }
+) -> Result<Vec<Condition<'e>>, ExpressionFault>
+    ensures ok { IfOk result (λ cs. AreConditions (run_told script.now) expression.entry.now (map told cs.items)) }
+    ensures fault { IfErr result (IsExpressionFault (run_told script.now) expression.entry.now) }
 {
     let conditions = conditions_of(alloc, expression)?;
-    check_places(alloc, script, conditions.as_slice())?;
-    Ok(conditions)
+    match first_unplaced(alloc, script, conditions.as_slice()) {
+        Ok(None) => Ok(conditions),
+        Ok(Some((number, fault))) => Err(ExpressionFault::Term { number, fault }),
+        Err(_) => Err(ExpressionFault::Memory),
+    }
 }
 
 /// Reads the conditions of a request. Only a claim has any.
@@ -126,8 +130,9 @@ pub fn conditions_asked<'e>(
     alloc: Global,
     script: &RunScript,
     request: ExploreRequest<'e>,
-) -> Result<Vec<Condition<'e>>, TextsFault>
-    ensures { IfOk result (λ cs. AreAsked (run_told script.now) request.entry (map told cs.items)) }
+) -> Result<Vec<Condition<'e>>, ExpressionFault>
+    ensures ok { IfOk result (λ cs. AreAsked (run_told script.now) request.entry (map told cs.items)) }
+    ensures fault { IfErr result (IsFaultAsked (run_told script.now) request.entry) }
 {
     match request {
         ExploreRequest::Decide { expression, .. } => conditions_for(alloc, script, expression),

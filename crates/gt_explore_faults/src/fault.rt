@@ -1,6 +1,6 @@
 //! The types of the faults.
 use gt_explore_search::SearchFault;
-use gt_explore_verdict::ExpressionFault;
+use gt_explore_verdict::{ConditionFault, ExpressionFault};
 use gt_script_runs::PlayFault;
 use gt_types::Memory;
 use std::alloc::{AllocError, AllocFailed};
@@ -19,8 +19,6 @@ pub enum TextsFault {
     Astray,
     /// No text has the number of the witness or of the trace.
     Witness,
-    /// A term of the expression is not a condition, or names a line or a domain that the script does not have.
-    Expression(ExpressionFault),
 }
 
 impl fmt::Display for TextsFault {
@@ -35,7 +33,6 @@ impl fmt::Display for TextsFault {
             TextsFault::States => f.write_str("states"),
             TextsFault::Astray => f.write_str("astray"),
             TextsFault::Witness => f.write_str("no such text"),
-            TextsFault::Expression(fault) => write!(f, "{fault}"),
         }
     }
 }
@@ -51,15 +48,6 @@ impl From<AllocError> for TextsFault {
 impl<T: Drop> From<AllocFailed<T>> for TextsFault {
     fn from(_error: AllocFailed<T>) -> TextsFault {
         TextsFault::Memory
-    }
-}
-
-impl From<ExpressionFault> for TextsFault {
-    fn from(error: ExpressionFault) -> TextsFault {
-        match error {
-            ExpressionFault::Memory => TextsFault::Memory,
-            ExpressionFault::Term { .. } => TextsFault::Expression(error),
-        }
     }
 }
 
@@ -85,6 +73,12 @@ pub enum ExploreFault {
     /// A fault that a play can have too: of the script, of memory, or of a read or a write. Only after a failed write
     /// was anything written: a prefix of the text.
     Play(PlayFault),
+    /// A term of the expression, counted from 1, is not a condition, or names a line or a domain that the script does
+    /// not have. Nothing was written.
+    Term {
+        number: usize,
+        fault: ConditionFault,
+    },
     /// The texts of the script were not found. Nothing was written.
     Texts(TextsFault),
 }
@@ -98,9 +92,24 @@ impl fmt::Display for ExploreFault {
     fn fmt<W: fmt::Write>(&self, f: &mut fmt::Formatter<W>) -> fmt::Result {
         match self {
             ExploreFault::Play(fault) => write!(f, "{fault}"),
+            ExploreFault::Term { number, fault } => write!(f, "term {number}: {fault}"),
             ExploreFault::Texts(fault) => write!(f, "{fault}"),
         }
     }
 }
 
 impl Error for ExploreFault {}
+
+impl From<ExpressionFault> for ExploreFault {
+    ghost use Rattle.std.specs.Prelude.{◌≡◌};
+    ghost use Rattle.gt_explore_faults.specs.Faults.{expression_fault};
+
+    ghost from_gives = { λ error fault. fault ≡ expression_fault error };
+
+    fn from(error: ExpressionFault) -> ExploreFault {
+        match error {
+            ExpressionFault::Memory => ExploreFault::Texts(TextsFault::Memory),
+            ExpressionFault::Term { number, fault } => ExploreFault::Term { number, fault },
+        }
+    }
+}

@@ -1,15 +1,19 @@
 -- A domain whose entries follow the bytes of its guest.
-use Rattle.std.proofs.Common.{◌≡◌, ℕ, ◌<◌, ◌∙◌, Bool, true, false, refl, sym, ap, subst, List, [], ◌∷◌, length}
-use Rattle.std.proofs.Common.{Option, Some, inl, inr}
-use Rattle.std.specs.Prelude.{Result, Ok, Err, OnOk}
+use Rattle.std.proofs.Common.{◌≡◌, ℕ, zero, suc, ◌+◌, ◌^◌, ◌<◌, ◌≤◌, ◌∙◌, Bool, true, false, refl, sym, ap, subst, List, [], ◌∷◌}
+use Rattle.std.proofs.Common.{Option, Some, drop, inl, inr, length, arith}
+use Rattle.std.specs.Prelude.{◌==◌, All, MatchBool, Result, Ok, Err, OnOk, slice_index}
+use Rattle.std.proofs.lemmas.List.{length-drop}
+use Rattle.std.proofs.lemmas.List.Elements.{All-nil, All-cons, All-drop, All-get_or}
 use Rattle.std.proofs.lemmas.Option.{same_Some}
 use Rattle.gt_types.specs.declared.DomId.{DomId}
 use Rattle.gt_types.specs.declared.GrantRef.{GrantRef}
 use Rattle.gt_types.specs.declared.denial.Denial.{Denial}
 use Rattle.gt_types.specs.declared.denial.Rule.{Rule}
 use Rattle.gt_types.specs.declared.denial.Rule.TheVariants.{N9, N10, N20, N21, N22}
+use Rattle.byteorder.specs.Endian.{little_from}
+use Rattle.gt_entry.specs.Bytes.{Spells, SpellsV1, SpellsV2, field}
 use Rattle.gt_entry.specs.Changes.{changed_entry}
-use Rattle.gt_entry.specs.Entries.{is_invalid}
+use Rattle.gt_entry.specs.Entries.{IsEntry, is_invalid}
 use Rattle.gt_entry.specs.declared.change.EntryChange.{EntryChange}
 use Rattle.gt_entry.specs.declared.change.EntryChange.TheVariants.{Publish, Revoke, Withdraw, Demote, Promote}
 use Rattle.gt_entry.specs.declared.entry.Entry.{Entry}
@@ -19,11 +23,14 @@ use Rattle.gt_calls.specs.Rules.{CallerKnowledge, begun, entry_in, first, grante
 use Rattle.gt_calls.specs.declared.action.CallResult.{CallResult}
 use Rattle.gt_calls.specs.declared.action.CallResult.TheVariants.{Refused}
 use Rattle.gt_calls.specs.declared.known.OwnerEntry.{OwnerEntry}
-use Rattle.gt_live.specs.Domains.{AllowRelation, done_by}
-use Rattle.gt_live.specs.Following.{Calls, Does, IsAsMeant, IsDue, LeavesEntry, MakesChange, entry_of, followed_by}
-use Rattle.gt_live.specs.Following.{request_of, result_of}
+use Rattle.gt_words.specs.Conditions.{IsSameSeat, SeatOf}
+use Rattle.gt_word_history.specs.Views.{own_table}
+use Rattle.gt_live.specs.Domains.{AllowRelation, StaysIn, done_by}
+use Rattle.gt_live.specs.Following.{Calls, Does, FitsChange, FollowingMakesCalls, IsAsMeant, IsDue, LeavesEntry, MakesCalls}
+use Rattle.gt_live.specs.Following.{MakesChange, Means, entry_of, followed_by, request_of, result_of}
 use Rattle.gt_live.specs.Owning.{asks_change}
 use Rattle.gt_live.specs.Rows.{row_changed}
+use Rattle.gt_live.specs.Unmarked.{unmarked}
 use Rattle.gt_live.specs.declared.domain.Domain.{Domain}
 use Rattle.gt_live.specs.declared.domain.following.Due.{Due}
 use Rattle.gt_live.specs.declared.domain.following.Due.TheVariants.{Nothing, Change, Replace, Close, Refuse}
@@ -189,3 +196,117 @@ module _ {P : Type 0} (may : P → AllowRelation) (m : Monitor P) where
       subst (λ (r : Result Followed Denial). LeavesEntry (NoEntry field) (entry_of d gref) (entry_of e gref) r) (sym does.0)
       (inl (ap (λ (x : Domain). entry_of x gref) does.1))
   due-leaves _ _ _ _ _ _ is does = absurd is
+
+-- a number in bytes is below the power of their count
+
+number-below : (i n : ℕ) (xs : List ℕ) → All (λ byte. byte < 256) xs → i + n ≤ length xs → little_from i n xs < 256 ^ n
+number-below i zero xs are fits = omega arith
+number-below i (suc n) xs are fits =
+    let here : slice_index xs i < 256 = All-get_or (λ byte. byte < 256) xs i 0 (omega (arith, fits)) are in
+    let rest = number-below (suc i) n xs are (omega (arith, fits)) in
+    omega (arith, here, rest)
+
+field-below : (bytes : List ℕ) (at n : ℕ) → All (λ byte. byte < 256) bytes → at + n ≤ length bytes → field bytes at n < 256 ^ n
+field-below bytes at n are fits =
+    let size = length-drop at bytes in
+    number-below 0 n (drop at bytes) (All-drop (λ byte. byte < 256) at bytes are) (omega (arith, fits, size))
+
+-- the numbers of an entry that bytes encode are in the ranges of their types
+
+spelled-v1 : (bytes : List ℕ) (entry : Entry) → SpellsV1 bytes entry → IsEntry entry
+spelled-v1 bytes Invalid s = absurd s.layout
+spelled-v1 bytes (Page dom ro frame) s =
+    let n = s.size.0 in let are = s.size.1 in let l = s.layout in let dom_is = l.1 in let frame_is = l.2 in
+    let a : field bytes 2 2 < 65536 = field-below bytes 2 2 are (omega (arith, n)) in
+    let b : field bytes 4 4 < 2 ^ 32 = field-below bytes 4 4 are (omega (arith, n)) in
+    (omega (arith, a, dom_is), omega (arith, b, frame_is))
+spelled-v1 bytes (Sub dom ro frame off len) s = absurd s.layout
+spelled-v1 bytes (Via dom ro dom2 gref) s = absurd s.layout
+
+spelled-v2 : (bytes : List ℕ) (entry : Entry) → SpellsV2 bytes entry → IsEntry entry
+spelled-v2 bytes Invalid s = absurd s.layout
+spelled-v2 bytes (Page dom ro frame) s =
+    let n = s.size.0 in let are = s.size.1 in let l = s.layout in let dom_is = l.1 in let frame_is = l.2 in
+    let a : field bytes 2 2 < 65536 = field-below bytes 2 2 are (omega (arith, n)) in
+    let b : field bytes 8 8 < 2 ^ 64 = field-below bytes 8 8 are (omega (arith, n)) in
+    (omega (arith, a, dom_is), omega (arith, b, frame_is))
+spelled-v2 bytes (Sub dom ro frame off len) s =
+    let n = s.size.0 in let are = s.size.1 in let l = s.layout in let dom_is = l.1 in let off_is = l.2 in let len_is = l.3 in let frame_is = l.4 in
+    let a : field bytes 2 2 < 65536 = field-below bytes 2 2 are (omega (arith, n)) in
+    let b : field bytes 8 8 < 2 ^ 64 = field-below bytes 8 8 are (omega (arith, n)) in
+    let c : field bytes 4 2 < 65536 = field-below bytes 4 2 are (omega (arith, n)) in
+    let d : field bytes 6 2 < 65536 = field-below bytes 6 2 are (omega (arith, n)) in
+    (omega (arith, a, dom_is), omega (arith, b, frame_is), omega (arith, c, off_is), omega (arith, d, len_is))
+spelled-v2 bytes (Via dom ro dom2 gref) s =
+    let n = s.size.0 in let are = s.size.1 in let l = s.layout in let dom_is = l.1 in let dom2_is = l.2 in let gref_is = l.3 in
+    let a : field bytes 2 2 < 65536 = field-below bytes 2 2 are (omega (arith, n)) in
+    let b : field bytes 4 2 < 65536 = field-below bytes 4 2 are (omega (arith, n)) in
+    let c : field bytes 8 4 < 2 ^ 32 = field-below bytes 8 4 are (omega (arith, n)) in
+    (omega (arith, a, dom_is), omega (arith, b, dom2_is), omega (arith, c, gref_is))
+
+spelled : (version : ℕ) (bytes : List ℕ) (entry : Entry) → Spells version bytes entry → IsEntry entry
+spelled version bytes entry = by (version == 2)
+  where
+    by : (b : Bool) → MatchBool b (SpellsV2 bytes entry) ((version ≡ 1) × SpellsV1 bytes entry) → IsEntry entry
+    by true s = spelled-v2 bytes entry s
+    by false s = spelled-v1 bytes entry s.1
+
+-- a seat that is the same as one that is the same
+same-since : (s t u : SeatOf) → IsSameSeat s t → IsSameSeat s u → IsSameSeat t u
+same-since s t u a b = record {
+  table = b.table ∙ sym a.table;
+  dom = b.dom ∙ sym a.dom;
+  position = b.position ∙ sym a.position;
+  first = b.first ∙ sym a.first;
+  headers = b.headers ∙ sym a.headers;
+  ids = b.ids ∙ sym a.ids;
+}
+
+-- what was due was done by calls
+
+module _ {P : Type 0} (may : P → AllowRelation) (m : Monitor P) where
+  abbrev IsByCalls : Domain → GrantRef → Domain → Type 0
+  IsByCalls d gref e = (changes : List EntryChange) × (length changes ≤ 2) × All FitsChange changes × MakesCalls may m d gref changes e
+
+  no-call : (d e : Domain) (gref : GrantRef) → e ≡ d → IsByCalls d gref e
+  no-call d e gref same = ([], omega arith, All-nil FitsChange, same)
+
+  one-call : (d e : Domain) (gref : GrantRef) (change : EntryChange) (done : Result (Unit {0}) Denial) → FitsChange change
+      → Calls may m d gref change done e → StaysIn may m d e → IsByCalls d gref e
+  one-call d e gref change done fits calls stays = (change ∷ [], omega arith, All-cons FitsChange change [] fits (All-nil FitsChange), (e, done, calls, stays, refl))
+
+  due-by-calls : (d e : Domain) (gref : GrantRef) (meaning : Meaning) (due : Due) (result : Result Followed Denial)
+      → ((entry : Entry) → meaning ≡ Grants entry → IsEntry entry) → StaysIn may m d e → IsDue (entry_of d gref) meaning due
+      → Does may m d gref due result e → IsByCalls d gref e
+  due-by-calls d e gref meaning Nothing result fits stays is does = no-call d e gref does.1
+  due-by-calls d e gref Ended (Change Withdraw) result fits stays is does = one-call d e gref Withdraw does.done tt does.calls stays
+  due-by-calls d e gref (Grants entry) (Change Demote) result fits stays is does = one-call d e gref Demote does.done tt does.calls stays
+  due-by-calls d e gref (Grants entry) (Change Promote) result fits stays is does = one-call d e gref Promote does.done tt does.calls stays
+  due-by-calls d e gref (Grants entry) (Change (Publish new)) result fits stays is does =
+      one-call d e gref (Publish new) does.done (subst IsEntry (sym is.1) (fits entry refl)) does.calls stays
+  due-by-calls d e gref (Grants entry) (Replace new) result fits stays is (inl then) =
+      let new_fits : IsEntry new = subst IsEntry (sym is.2) (fits entry refl) in
+      let made = then.3 in (
+        Withdraw ∷ Publish new ∷ [],
+        omega arith,
+        All-cons FitsChange Withdraw (Publish new ∷ []) tt (All-cons FitsChange (Publish new) [] new_fits (All-nil FitsChange)),
+        (then.0, Ok tt, then.1, then.2, (e, made.done, made.calls, (stays.0, same-since d.seat then.0.seat e.seat then.2.1 stays.1), refl)),
+      )
+  due-by-calls d e gref (Grants entry) (Replace new) result fits stays is (inr refused) =
+      one-call d e gref Withdraw (Err refused.0) tt refused.1 stays
+  due-by-calls d e gref (NoEntry field) (Close other) result fits stays is (inl then) =
+      let same = then.3.1 in (Withdraw ∷ [], omega arith, All-cons FitsChange Withdraw [] tt (All-nil FitsChange), (then.0, Ok tt, then.1, then.2, same))
+  due-by-calls d e gref (NoEntry field) (Close other) result fits stays is (inr refused) =
+      one-call d e gref Withdraw (Err refused.0) tt refused.1 stays
+  due-by-calls d e gref (NoEntry field) (Refuse other) result fits stays is does = no-call d e gref does.1
+  due-by-calls _ _ _ _ _ _ _ _ is _ = absurd is
+
+  meant-fits : (version : ℕ) (bytes : List ℕ) (meaning : Meaning) (entry : Entry) → Means version bytes meaning → meaning ≡ Grants entry → IsEntry entry
+  meant-fits version bytes meaning entry means is = spelled version (unmarked bytes) entry (subst (Means version bytes) is means)
+
+  pub by-calls : FollowingMakesCalls may m
+  by-calls d e gref bytes result stays (inl refused) = no-call d e gref refused.2
+  by-calls d e gref bytes result stays (inr x) =
+      let follows = x.1 in
+      due-by-calls d e gref follows.meaning follows.due result
+      (λ entry. meant-fits (own_table d.seat.view).version bytes follows.meaning entry follows.means) stays follows.is_due follows.does

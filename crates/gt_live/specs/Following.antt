@@ -1,18 +1,19 @@
 -- How one of a domain's entries follows the bytes that its guest keeps for it in its own memory.
-use Rattle.std.specs.Prelude.{◌≡◌, ◌≢◌, ◌⊎◌, ◌<◌, ◌≤◌, ◌%◌, ℕ, true, false, List, Some, Result, Ok, Err, OnOk, OnErr}
+use Rattle.std.specs.Prelude.{◌≡◌, ◌≢◌, ◌⊎◌, ◌<◌, ◌≤◌, ◌%◌, ℕ, true, false, All, List, [], ◌∷◌, length, Some}
+use Rattle.std.specs.Prelude.{Result, Ok, Err, OnOk, OnErr}
 use Rattle.gt_types.specs.declared.denial.Field.{Field}
 use Rattle.gt_types.specs.declared.denial.Field.TheVariants.{Kind}
 use Rattle.gt_types.specs.declared.denial.Rule.TheVariants.{N9, N25}
 use Rattle.gt_types.specs.declared.denial.Facts.TheVariants.{Field as FieldFacts}
 use Rattle.gt_entry.specs.Bytes.{Spells, first_refused, flags_of}
 use Rattle.gt_entry.specs.Changes.{changed_entry}
-use Rattle.gt_entry.specs.Entries.{is_invalid, is_read_only, with_ro}
+use Rattle.gt_entry.specs.Entries.{IsEntry, is_invalid, is_read_only, with_ro}
 use Rattle.gt_entry.specs.declared.entry.Entry.{Entry}
 use Rattle.gt_calls.specs.Rules.{size_of}
 use Rattle.gt_calls.specs.declared.request.Request.TheVariants as requests
 use Rattle.gt_live.specs.Prelude.{Denial, Domain, EntryChange, GrantRef, Invalid, Monitor, NoFacts, Request, denial_of}
 use Rattle.gt_live.specs.Prelude.{Demote, Promote, Publish, Revoke, Withdraw, entry_in, own_table}
-use Rattle.gt_live.specs.Domains.{AllowRelation, AnswersQuietly, BelongsTo, verdict_of}
+use Rattle.gt_live.specs.Domains.{AllowRelation, AnswersQuietly, StaysIn, verdict_of}
 use Rattle.gt_live.specs.Unmarked.{unmarked, with_marks}
 use Rattle.gt_live.specs.declared.domain.following.Followed.{Followed}
 use Rattle.gt_live.specs.declared.domain.following.Followed.TheVariants.{Same, Demoted, Promoted, Withdrawn, Granted}
@@ -88,7 +89,7 @@ pub record MakesChange {P : Type 0} (may : P → AllowRelation) (m : Monitor P) 
 abbrev pub Withdraws : {P : Type 0} → (P → AllowRelation) → Monitor P → Domain → GrantRef → (Domain → Type 0)
     → Result Followed Denial → Domain → Type 0
 Withdraws may m d gref Then result e =
-    ((mid : Domain) × Calls may m d gref Withdraw (Ok tt) mid × BelongsTo may m mid × Then mid)
+    ((mid : Domain) × Calls may m d gref Withdraw (Ok tt) mid × StaysIn may m d mid × Then mid)
     ⊎ ((denial : Denial) × Calls may m d gref Withdraw (Err denial) e × (result ≡ Err denial))
 
 -- bytes that encode no entry are refused, and nothing else is done
@@ -133,6 +134,26 @@ abbrev pub Follows : {P : Type 0} → (P → AllowRelation) → Monitor P → Do
 Follows may m d gref bytes result e =
     ((size_of (own_table d.seat.view) ≤ gref.0) × (result ≡ Err (denial_of N9 NoFacts)) × (e ≡ d))
     ⊎ ((gref.0 < size_of (own_table d.seat.view)) × FollowsBytes may m d gref bytes result e)
+
+-- the numbers of the entry that a change grants are in the ranges of their types
+abbrev pub FitsChange : EntryChange → Type 0
+FitsChange (Publish entry) = IsEntry entry
+FitsChange change = Unit {0}
+
+-- the domain's calls of these changes of the entry were made, one after another, from d to e
+abbrev pub MakesCalls : {P : Type 0} → (P → AllowRelation) → Monitor P → Domain → GrantRef → List EntryChange → Domain
+    → Type 0
+MakesCalls may m d gref [] e = e ≡ d
+MakesCalls may m d gref (change ∷ changes) e =
+    (mid : Domain) × (done : Result (Unit {0}) Denial) × Calls may m d gref change done mid × StaysIn may m d mid
+    × MakesCalls may m mid gref changes e
+
+-- what `follow` does is at most two of the domain's other calls
+abbrev pub FollowingMakesCalls : {P : Type 0} → (P → AllowRelation) → Monitor P → Type 0
+FollowingMakesCalls may m =
+    (d e : Domain) (gref : GrantRef) (bytes : List ℕ) (result : Result Followed Denial)
+    → StaysIn may m d e → Follows may m d gref bytes result e
+    → (changes : List EntryChange) × (length changes ≤ 2) × All FitsChange changes × MakesCalls may m d gref changes e
 
 -- an entry's bytes mean the same when the hypervisor has marked them as in use
 abbrev pub MarksChangeNoMeaning : Type 0

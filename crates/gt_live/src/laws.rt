@@ -1,7 +1,10 @@
 //! Consequences of the definitions, for readers. A law does nothing; its contract is the theorem.
-ghost use Rattle.gt_live.specs.Following.{MarksChangeNoMeaning};
+ghost use Rattle.gt_live.specs.Following.{FollowingMakesCalls, MarksChangeNoMeaning};
 ghost use Rattle.gt_live.specs.Halves.{TwoHalvesMakeACopy};
 ghost use Rattle.gt_live.specs.Tries.{ChangesMakeFourTries, FourTriesWereMissed, LegsMakeFourTries};
+
+use crate::monitor::Monitor;
+use gt_types::Allows;
 
 /// A law: a leg makes at most four tries for its pin. A missed try leads to the next, and the fourth to N18 with the
 /// word that it found.
@@ -29,4 +32,9 @@ pub fn two_halves_make_a_copy()
 /// A law: the bytes of an entry mean the same when the hypervisor has set `GTF_reading` or `GTF_writing` in them.
 pub fn marks_change_no_meaning()
     ensures { MarksChangeNoMeaning }
+{}
+
+/// A law: what `follow` does to a domain of this monitor is at most two of the domain's other calls.
+pub fn following_makes_calls<P: Allows>(monitor: &Monitor<P>)
+    ensures { FollowingMakesCalls P.may monitor.now }
 {}

@@ -26,6 +26,7 @@ mod start;
 pub use domain::{Departed, Domain, Followed, PendingCopy};
 pub use laws::{
     every_call_that_gives_up_missed_four_tries, every_change_makes_four_tries,
-    every_leg_makes_four_tries, marks_change_no_meaning, two_halves_make_a_copy,
+    every_leg_makes_four_tries, following_makes_calls, marks_change_no_meaning,
+    two_halves_make_a_copy,
 };
 pub use monitor::Monitor;

@@ -40,7 +40,7 @@ use Rattle.gt_order.specs.Runs.{AreDeeds, CallMade, Deed, IsAtRest, KeepsNoPin, 
 use Rattle.gt_order.specs.Runs.Deed.{Call, Look}
 use Rattle.gt_order.specs.Runs.CallOutcome.{Told}
 
-no-pin : (r : Result (Unit {0}) Denial) → KeepsNoPin (verdict_of r)
+pub no-pin : (r : Result (Unit {0}) Denial) → KeepsNoPin (verdict_of r)
 no-pin (Ok done) = tt
 no-pin (Err denial) = tt
 

@@ -13,6 +13,7 @@ pub mod Ends
 pub mod Explored
 pub mod FlagSteps
 pub mod Following
+pub mod Followed
 pub mod Happenings
 pub mod Held
 pub mod KeptFrames

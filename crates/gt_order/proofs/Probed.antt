@@ -9,6 +9,8 @@ use Rattle.gt_types.specs.Copies.{is_dest_granted, is_source_granted}
 use Rattle.gt_types.specs.declared.DomId.{DomId}
 use Rattle.gt_types.specs.declared.Dir.TheVariants.{Read as ForReading, Write as ForWriting}
 use Rattle.gt_types.specs.declared.copies.CopyArgs.{CopyArgs}
+use Rattle.gt_handles.specs.Handles.{HandleMap}
+use Rattle.gt_words.specs.Conditions.{IsSameSeat, SeatOf}
 use Rattle.gt_word_history.specs.Events.{TookPlace}
 use Rattle.gt_word_history.specs.History.{Moment, part_of}
 use Rattle.gt_word_history.specs.Rule.{Layout}
@@ -28,16 +30,19 @@ use Rattle.gt_calls.specs.declared.action.Observation.TheVariants.{Missed, Nothi
 use Rattle.gt_calls.specs.declared.action.Step.{Step}
 use Rattle.gt_calls.specs.declared.action.Step.TheVariants.{Copy as CopyBytes, Read as ReadBytes, Write as WriteBytes}
 use Rattle.gt_calls.specs.declared.held.AccessPath.TheVariants.{Own}
+use Rattle.gt_calls.specs.declared.held.HeldPin.{HeldPin}
 use Rattle.gt_calls.specs.declared.request.Request.TheVariants as requests
 use Rattle.gt_calls.proofs.Probing.{here, on, past, same}
 use Rattle.gt_live.specs.Accesses.{Accessed, IsAccess, IsUnmade, onward}
 use Rattle.gt_live.specs.Domains.{AllowRelation, knowledge}
+use Rattle.gt_live.specs.declared.domain.Domain.{Domain}
 use Rattle.gt_live.specs.Walks.{AreMoments, Called, IsWalk, MakesStep, all_shown, shown_by, view_after}
 use Rattle.gt_live.specs.declared.monitor.Monitor.{Monitor}
+use Rattle.gt_live.proofs.Copied.{whole-copy}
 use Rattle.gt_live.proofs.Walking.{after-position}
 use Rattle.gt_order.proofs.Accessing.{IsOneAccess, alone, one-access, shown-append, view-append}
 use Rattle.gt_order.proofs.KeptFrames.{IsToFrames, copies-so}
-use Rattle.gt_order.specs.Calling.{LostCopiesAreMade}
+use Rattle.gt_order.specs.Calling.{HalvesAreMade, LostCopiesAreMade}
 
 -- a step that was made on the words is no access
 words-only : (k : Layout) (o : Option Action) (seen : Observation) (v w : View) → MakesStep k o seen v w → is_copy_access o ≡ false
@@ -160,3 +165,25 @@ lost-copies may m d e args access stays a kept =
     let called : Called m.words.layout (path_of c d.seat.dom (requests.Probe args)) Granted d.seat.view e.seat.view =
     by-rules c m.words.layout d.seat.dom args d.seat.view e.seat.view access (begun c d.seat.dom (asks.Copy args)) refl a in
     (called.steps, record { before = stays.before; afterwards = stays.afterwards; seat = stays.seat; fits = (tt, tt); answered = (tt, (called, refl), kept.0) })
+
+-- a seat that is the same as one that is the same
+still-same : (s t u : SeatOf) → IsSameSeat s t → IsSameSeat t u → IsSameSeat s u
+still-same s t u a b = record {
+  table = b.table ∙ a.table;
+  dom = b.dom ∙ a.dom;
+  position = b.position ∙ a.position;
+  first = b.first ∙ a.first;
+  headers = b.headers ∙ a.headers;
+  ids = b.ids ∙ a.ids;
+}
+
+pub halves-made : {P : Type 0} (may : P → AllowRelation) (m : Monitor P) → HalvesAreMade may m
+halves-made may m d mid e args h before comes ends afterwards =
+    let c = knowledge m.config (may m.rights) d in let k = m.words.layout in let access = CopyBytes h.from h.to h.len in
+    let whole = whole-copy c k h.call h.from h.to h.len d.seat.view mid.seat.view e.seat.view comes.access ends.gives in
+    let way : Accessed k (path_of c d.seat.dom (requests.Copy args)) access IsUnmade d.seat.view e.seat.view =
+    subst (λ (y : Continuation). Accessed k y access IsUnmade d.seat.view e.seat.view) (sym comes.way) whole.0 in
+    let mappings : e.mappings ≡ d.mappings = ends.mappings ∙ comes.kept.mappings in
+    let seat = still-same d.seat mid.seat e.seat comes.kept.seat ends.seat in
+    lost-copies may m d e args access (record { before = before; afterwards = afterwards; seat = seat }) way
+    (record { slots = ap (λ (x : HandleMap HeldPin). x.slots) mappings; given = ap (λ (x : HandleMap HeldPin). x.given) mappings }, whole.1)

@@ -9,6 +9,8 @@ use Rattle.gt_order.specs.Prelude.{Bytes, Copying, IsCopiedBy, IsReadBy, IsUnmad
 use Rattle.gt_types.specs.declared.copies.CopyArgs.{CopyArgs}
 use Rattle.gt_calls.specs.declared.action.CallResult.TheVariants.{Granted}
 use Rattle.gt_calls.specs.declared.request.Request.TheVariants as requests
+use Rattle.gt_live.specs.Halves.{ComesHalfway, EndsHalfway}
+use Rattle.gt_live.specs.declared.domain.copies.PendingCopy.{PendingCopy}
 use Rattle.gt_order.specs.Runs.{FitsTypes, IsCall, KeepsNoPin, CallOutcome}
 use Rattle.gt_order.specs.Runs.CallOutcome.{Told, Kept, Starved, Read, Wrote}
 
@@ -113,6 +115,13 @@ LostCopiesAreMade may m =
     → Accessed m.words.layout (path_of (known_on may m d) d.seat.dom (requests.Copy args)) access IsUnmade d.seat.view
     e.seat.view
     → KeepsPinned d e → (steps : List Moment) × WasMade may m (requests.Probe args) (Told Granted) steps d e
+
+-- a copy in two halves, whose access its caller makes: it made the steps of its probe, and counts as the probe
+abbrev pub HalvesAreMade : {P : Type 0} → (P → AllowRelation) → Monitor P → Type 0
+HalvesAreMade may m =
+    (d mid e : Domain) (args : CopyArgs) (halfway : PendingCopy) → BelongsTo may m d
+    → ComesHalfway may m d args halfway mid → EndsHalfway m.words.layout halfway mid e → BelongsTo may m e
+    → (steps : List Moment) × WasMade may m (requests.Probe args) (Told Granted) steps d e
 
 -- a load, a peek, a store or a poke that reached its access and could not make it: it made no step, and counts as never
 -- asked

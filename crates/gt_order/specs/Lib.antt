@@ -2,6 +2,7 @@ pub mod Runs
 pub mod Calling
 pub mod Leaving
 pub mod Closing
+pub mod Following
 pub mod Explored
 pub mod Printed
 pub mod Agreeing

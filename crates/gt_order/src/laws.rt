@@ -1,9 +1,11 @@
 //! Consequences of the definitions. Each law is a function that does nothing; its contract is the law.
-ghost use Rattle.gt_order.specs.Calling.{CopiesAreMade, LostAccessesAreMade, LostCopiesAreMade, MapsAreMade};
+ghost use Rattle.gt_order.specs.Calling.{CopiesAreMade, HalvesAreMade, LostAccessesAreMade, LostCopiesAreMade};
+ghost use Rattle.gt_order.specs.Calling.{MapsAreMade};
 ghost use Rattle.gt_order.specs.Calling.{PlainCallsAreMade};
 ghost use Rattle.gt_order.specs.Calling.{ReadsAreMade, ReleasesAreMade, UnmapsAreMade, WritesAreMade};
 ghost use Rattle.gt_order.specs.Closing.{ClosingIsWithdrawing, ResettingIsReleasing, StatusIsLooking};
 ghost use Rattle.gt_order.specs.Explored.{RunsAreExplored};
+ghost use Rattle.gt_order.specs.Following.{FollowingIsCalling};
 ghost use Rattle.gt_order.specs.Printed.{GivenTextsArePrinted, PrintedTextsAreGiven, RunsArePrinted};
 ghost use Rattle.gt_order.specs.Printed.{UnloggedRunsPrint};
 ghost use Rattle.gt_order.specs.Leaving.{LeavingIsReleasing};
@@ -26,7 +28,8 @@ pub fn steps_keep_agreement()
 {}
 
 /// A law: the contracts of a domain's calls make each of them a call of a run, bytes and all. A copy that reached its
-/// access and could not make it is the call of its probe. Nothing beyond the clauses of those contracts is needed.
+/// access and could not make it is the call of its probe, and so is a copy in two halves, whose access its caller makes.
+/// Nothing beyond the clauses of those contracts is needed.
 pub fn calls_of_domains_are_made<P: Allows>(monitor: &Monitor<P>)
     ensures plain { PlainCallsAreMade P.may monitor.now }
     ensures unmaps { UnmapsAreMade P.may monitor.now }
@@ -37,6 +40,7 @@ pub fn calls_of_domains_are_made<P: Allows>(monitor: &Monitor<P>)
     ensures copies { CopiesAreMade P.may monitor.now }
     ensures lost { LostAccessesAreMade P.may monitor.now }
     ensures lost_copies { LostCopiesAreMade P.may monitor.now }
+    ensures halves { HalvesAreMade P.may monitor.now }
 {}
 
 /// A law: each run of the monitor whose calls are all finished is one legal interleaving of the core's events, in which
@@ -57,6 +61,11 @@ pub fn closing_is_withdrawing<P: Allows>(monitor: &Monitor<P>)
     ensures closes { ClosingIsWithdrawing P.may monitor.now }
     ensures resets { ResettingIsReleasing P.may monitor.now }
     ensures looks { StatusIsLooking P.may monitor.now }
+{}
+
+/// A law: a run may have the call `follow`. It makes at most two calls that change the entry.
+pub fn following_is_calling<P: Allows>(monitor: &Monitor<P>)
+    ensures { FollowingIsCalling P.may monitor.now }
 {}
 
 /// A law: the lists of a run print the answers of one legal interleaving of their calls, bytes and all.

@@ -23,6 +23,7 @@ pub use laws::{
     calls_of_domains_are_made, closing_is_withdrawing, core_sees_the_words,
     every_run_has_a_legal_order, every_run_is_explored, every_run_is_printed,
     every_run_writes_a_legal_order, every_text_is_of_a_legal_order, every_unlogged_run_is_printed,
-    given_texts_are_printed, leaving_is_releasing, printed_texts_are_given, steps_keep_agreement,
+    following_is_calling, given_texts_are_printed, leaving_is_releasing, printed_texts_are_given,
+    steps_keep_agreement,
 };
 pub use running::run;

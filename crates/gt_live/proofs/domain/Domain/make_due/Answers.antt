@@ -15,7 +15,7 @@ returns-in-Ok-clause-does g c =
     let calls : Calls may m d gref Withdraw (Ok tt) mid =
     made-done may m d gref Withdraw (Ok f) mid f refl c.in-Ok.ensures.makes in
     subst (λ (x : Due). Does may m d gref x then.result then.new.self) (sym c.in-Replace.is)
-    (inl (mid, calls, c.in-Ok.ensures.stays.0, then.ensures.makes))
+    (inl (mid, calls, c.in-Ok.ensures.stays, then.ensures.makes))
 
 pub returns-in-Ok-make_change-clause-does : goal.returns-in-Ok-make_change-clause-does
 returns-in-Ok-make_change-clause-does g c =
@@ -26,4 +26,4 @@ returns-in-Ok-make_change-clause-does g c =
     let answer : Result Followed Denial = Err c.no_entry.result in
     let refused : RefusesField c.in-Close.field mid answer mid = (cc (c.no_entry.ensures), refl) in
     subst (λ (x : Due). Does may m d gref x answer mid) (sym c.in-Close.is)
-    (inl (mid, calls, c.in-Ok-make_change.ensures.stays.0, refused))
+    (inl (mid, calls, c.in-Ok-make_change.ensures.stays, refused))

@@ -1,0 +1,78 @@
+-- A domain whose entry follows the bytes of its guest makes calls that change the entry.
+use Rattle.std.proofs.Common.{◌≡◌, ℕ, suc, ◌+◌, ◌≤◌, List, [], ◌∷◌, length, Result, Ok, Err, sym, refl, subst, arith}
+use Rattle.std.specs.Prelude.{All}
+use Rattle.std.proofs.lemmas.List.Elements.{All-head, All-tail}
+use Rattle.gt_types.specs.declared.GrantRef.{GrantRef}
+use Rattle.gt_types.specs.declared.denial.Denial.{Denial}
+use Rattle.gt_entry.specs.declared.change.EntryChange.{EntryChange}
+use Rattle.gt_entry.specs.declared.change.EntryChange.TheVariants.{Publish, Revoke, Withdraw, Demote, Promote}
+use Rattle.gt_calls.specs.Asking.{asked}
+use Rattle.gt_live.proofs.Following.{by-calls}
+use Rattle.gt_live.specs.Domains.{AllowRelation, BelongsTo, StaysIn, verdict_of}
+use Rattle.gt_live.specs.Ending.{IsOfMapping}
+use Rattle.gt_live.specs.Following.{Calls, FitsChange, MakesCalls, request_of}
+use Rattle.gt_live.specs.declared.domain.Domain.{Domain}
+use Rattle.gt_live.specs.declared.monitor.Monitor.{Monitor}
+use Rattle.gt_order.proofs.Called.{plain-made}
+use Rattle.gt_order.proofs.Closing.{no-pin}
+use Rattle.gt_order.proofs.Deeds.{at-rest}
+use Rattle.gt_order.specs.Following.{AreChanges, FollowingIsCalling}
+use Rattle.gt_order.specs.Runs.{AreDeeds, CallMade, Deed, FitsTypes, domain_after}
+use Rattle.gt_order.specs.Runs.Deed.{Call}
+use Rattle.gt_order.specs.Runs.CallOutcome.{Told}
+
+no-mapping : (gref : GrantRef) (change : EntryChange) → IsOfMapping (asked (request_of gref change)) → ⊥
+no-mapping gref (Publish entry) is = is
+no-mapping gref Revoke is = is
+no-mapping gref Withdraw is = is
+no-mapping gref Demote is = is
+no-mapping gref Promote is = is
+
+fits-types : (gref : GrantRef) (change : EntryChange) → FitsChange change → FitsTypes (request_of gref change)
+fits-types gref (Publish entry) fits = (fits, tt)
+fits-types gref Revoke fits = (tt, tt)
+fits-types gref Withdraw fits = (tt, tt)
+fits-types gref Demote fits = (tt, tt)
+fits-types gref Promote fits = (tt, tt)
+
+module _ {P : Type 0} (may : P → AllowRelation) (m : Monitor P) (start : Domain) (gref : GrantRef) where
+  -- the calls so far, and the domain after them
+  record Came (e : Domain) : Type 0 where
+    deeds : List Deed
+    made : AreDeeds m.words m.config (may m.rights) start deeds
+    changes : AreChanges gref deeds
+    now : domain_after start deeds ≡ e
+    mine : BelongsTo may m e
+
+  calls : (d e : Domain) (change : EntryChange) (done : Result (Unit {0}) Denial) → FitsChange change → (was : Came d) → Calls may m d gref change done e → StaysIn may m d e
+      → (x : Came e) × (length x.deeds ≡ suc (length was.deeds))
+  calls d e change done fits was calls stays =
+      let request = request_of gref change in
+      let one = plain-made may m d e request (verdict_of done) (record { before = was.mine; afterwards = stays.0; seat = stays.1 }) (no-mapping gref change) (fits-types gref change fits) (no-pin done) calls.answers.0 calls.answers.1 in
+      let call : CallMade = record { request = request; outcome = Told (verdict_of done); steps = one.0; old = d; new = e } in (
+        record {
+          deeds = Call call ∷ was.deeds;
+          made = (one.1, at-rest d (domain_after start was.deeds) was.now, was.made);
+          changes = ((change, refl), was.changes);
+          now = refl;
+          mine = stays.0;
+        },
+        refl,
+      )
+
+  each : (changes : List EntryChange) (d e : Domain) → All FitsChange changes → (was : Came d) → MakesCalls may m d gref changes e
+      → (x : Came e) × (length x.deeds ≡ length changes + length was.deeds)
+  each [] d e fit was same = (subst Came (sym same) was, refl)
+  each (change ∷ changes) d e fit was (mid, done, made, stays, then) =
+      let one = calls d mid change done (All-head FitsChange change changes fit) was made stays in
+      let rest = each changes mid e (All-tail FitsChange change changes fit) one.0 then in
+      let count = rest.1 in let before = one.1 in
+      (rest.0, omega (arith, count, before))
+
+module _ {P : Type 0} (may : P → AllowRelation) (m : Monitor P) where
+  pub following-made : FollowingIsCalling may m
+  following-made d e gref bytes result mine stays follows =
+      let x = by-calls may m d e gref bytes result stays follows in
+      let y = each may m d gref x.0 d e x.2 (record { deeds = []; made = tt; changes = tt; now = refl; mine = mine }) x.3 in
+      let few = x.1 in let count = y.1 in
+      (y.0.deeds, omega (arith, few, count), record { made = y.0.made; now = at-rest e (domain_after d y.0.deeds) y.0.now }, y.0.changes)
