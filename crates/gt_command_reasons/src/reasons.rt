@@ -219,36 +219,34 @@ fn look_said(
     Ok(said)
 }
 
-// Returns the reason for which the texts of a script were not found.
-fn texts_reason(
-    alloc: Global,
-    file: &str,
-    states: usize,
-    fault: TextsFault,
-) -> Result<Vec<u8>, AllocError> {
+// Returns a reason of these words.
+fn words_reason(alloc: Global, file: &str, words: &str) -> Result<Vec<u8>, AllocError> {
     let mut said = Vec::new(alloc);
-    let words = match fault {
-        TextsFault::Memory => return Ok(said),
-        TextsFault::States => {
-            format!(in alloc; "gave up after {states} states; raise the limit with --states")?
-        }
-        TextsFault::Astray => format!(in alloc; "a witness went astray, which is a bug of gthost")?,
-        TextsFault::Witness => format!(in alloc; "no output has this number")?,
-    };
     push_read_reason(&mut said, file, words.as_bytes())?;
     Ok(said)
 }
 
-// Returns the reason of a fault of an expression: its line.
-fn expression_reason(
-    alloc: Global,
-    file: &str,
-    fault: &ExploreFault,
-) -> Result<Vec<u8>, AllocError> {
-    let mut said = Vec::new(alloc);
-    let words = format!(in alloc; "{fault}")?;
-    push_read_reason(&mut said, file, words.as_bytes())?;
-    Ok(said)
+// Returns the reason for which a script without a fault was not explored. There is none for want of memory.
+fn explore_reason(alloc: Global, file: &str, fault: &ExploreFault) -> Result<Vec<u8>, AllocError> {
+    match fault {
+        ExploreFault::Number => words_reason(alloc, file, "no output has this number"),
+        ExploreFault::Texts(TextsFault::States) => {
+            let words = "the search met more states or answers than it can number";
+            words_reason(alloc, file, words)
+        }
+        ExploreFault::Texts(TextsFault::Astray) => {
+            words_reason(
+                alloc,
+                file,
+                "a witness went astray, which is a bug of gthost",
+            )
+        }
+        ExploreFault::Term { .. } => {
+            let words = format!(in alloc; "{fault}")?;
+            words_reason(alloc, file, words.as_str())
+        }
+        ExploreFault::Texts(TextsFault::Memory) | ExploreFault::Play(_) => Ok(Vec::new(alloc)),
+    }
 }
 
 impl<'a> Reasons<'a> {
@@ -396,15 +394,14 @@ impl<'a> Reasons<'a> {
         }
     }
 
-    /// Adds the reason for which the script that was read was not explored, up to a number of states.
-    pub fn add_explore(&mut self, input: &KeptInput, states: usize, fault: &ExploreFault) {
+    /// Adds the reason for which the script that was read was not explored.
+    pub fn add_explore(&mut self, input: &KeptInput, fault: &ExploreFault) {
         let Some(file) = self.file else {
             return;
         };
         let said = match fault {
             ExploreFault::Play(fault) => fault_reason(self.alloc, file, self.is_line, input, fault),
-            ExploreFault::Term { .. } => expression_reason(self.alloc, file, fault),
-            ExploreFault::Texts(fault) => texts_reason(self.alloc, file, states, *fault),
+            _ => explore_reason(self.alloc, file, fault),
         };
         self.add(said);
     }

@@ -21,13 +21,14 @@ use Rattle.gt_explore_faults.specs.Faults.{expression_fault}
 use Rattle.gt_explore.specs.Writing.{Explored, Explores}
 use Rattle.gt_explore_answers.specs.declared.asking.ExploreOptions.{ExploreOptions}
 use Rattle.gt_explore_faults.specs.declared.fault.ExploreFault.{ExploreFault}
-use Rattle.gt_explore_faults.specs.declared.fault.ExploreFault.TheVariants.{Play, Term, Texts}
+use Rattle.gt_explore_faults.specs.declared.fault.ExploreFault.TheVariants.{Play, Term, Number, Texts}
 
 -- a script was explored
 pub explored_script : (asked : ExploreOptions) (Told : Result RunContents Wrong → Type 0) (c : RunContents) (r : Result Verdict ExploreFault) (old new : Option (List ℕ)) → Told (Ok c)
     → Explores c asked old new r → Explored asked Told old new r
 explored_script asked Told c (Ok verdict) old new told wrote = (c, told, wrote)
 explored_script asked Told c (Err (Term number fault)) old new told wrote = (c, told, wrote)
+explored_script asked Told c (Err Number) old new told wrote = (c, told, wrote)
 explored_script asked Told c (Err (Texts fault)) old new told wrote = (c, told, wrote)
 explored_script asked Told c (Err (Play plays.Write)) old new told wrote = (c, told, wrote)
 explored_script asked Told c (Err (Play plays.Memory)) old new told wrote = absurd wrote

@@ -8,10 +8,12 @@ ghost use Rattle.gt_text.specs.declared.streams.TheConstants.{READ_LIMIT};
 ghost use Rattle.gt_script.specs.Stuck.{AreNumbered};
 ghost use Rattle.gt_explore_verdict.specs.Expressions.{told};
 ghost use Rattle.gt_explore_answers.specs.Exploring.{AreAsked};
-ghost use Rattle.gt_explore.specs.Writing.{Explored, Explores, IsMade};
+ghost use Rattle.gt_explore.specs.Writing.{Explored, Explores, IsMadeFor};
 
 use crate::texts::texts_found;
-use gt_explore_answers::{ExploreOptions, ExploreOutput, answer_request, conditions_asked};
+use gt_explore_answers::{
+    ExploreOptions, ExploreOutput, answer_request, conditions_asked, has_its_text,
+};
 use gt_explore_faults::{ExploreFault, TextsFault};
 use gt_explore_verdict::{Condition, Verdict};
 use gt_script::{RunScript, parse_run};
@@ -20,22 +22,26 @@ use gt_text::{read_text, write_text};
 use std::alloc::Global;
 use std::io::{Read, Write};
 
-// Finds the texts of a script, and answers a request by them, which states these conditions.
+// Finds the texts of a script, and answers a request by them, which states these conditions. Returns `None` if no text
+// has the number that the request names.
 fn made_as(
     alloc: Global,
     asked: &ExploreOptions,
     source: &[u8],
     script: &RunScript,
     conditions: &[Condition<'_>],
-) -> Result<ExploreOutput, TextsFault>
+) -> Result<Option<ExploreOutput>, TextsFault>
     requires fits { CanConfigure (contents_told script.now.head) }
     requires numbered { AreNumbered script.now.flags script.now.tasks }
     requires read { AreAsked (run_told script.now) asked.now.request (map told conditions.now) }
-    ensures { IfOk result (λ made. IsMade (run_told script.now) asked.now made.text.items made.verdict) }
+    ensures { IfOk result (IsMadeFor (run_told script.now) asked.now) }
 {
     let found = texts_found(alloc, script, asked.states)?;
+    if !has_its_text(asked.request, &found) {
+        return Ok(None);
+    }
     let made = answer_request(alloc, asked, source, script, &found, conditions)?;
-    Ok(made)
+    Ok(Some(made))
 }
 
 // Explores a script that was parsed.
@@ -53,7 +59,8 @@ fn explore_script<W: Write>(
     let conditions = conditions_asked(alloc, script, asked.request)?;
     match made_as(alloc, asked, source, script, conditions.as_slice()) {
         Err(fault) => Err(ExploreFault::Texts(fault)),
-        Ok(made) => match write_text(writer, made.text.as_slice()) {
+        Ok(None) => Err(ExploreFault::Number),
+        Ok(Some(made)) => match write_text(writer, made.text.as_slice()) {
             Ok(()) => Ok(made.verdict),
             Err(_) => Err(ExploreFault::Play(PlayFault::Write)),
         },
@@ -85,9 +92,9 @@ fn explore_bytes<W: Write>(
 /// then, and a list of texts ends with a line that has the words `not all texts`.
 ///
 /// # Errors
-/// The script's first fault; a fault of the expression; that no text has the wanted number; that an order or a script
-/// for `play` does not give its text; an allocation that failed; or a read or a write that failed. Only after a failed
-/// write was anything written: a prefix of the text.
+/// The script's first fault. If it has none: the first fault of the expression; that no text has the wanted number; or
+/// that an order or a script for `play` does not give its text. Or an allocation, a read or a write failed. Only after
+/// a failed write was anything written: a prefix of the text.
 pub fn explore<R: Read, W: Write>(
     alloc: Global,
     asked: &ExploreOptions,

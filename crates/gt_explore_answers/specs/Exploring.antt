@@ -1,6 +1,6 @@
 -- The output of `explore` for a script.
 use Rattle.std.specs.Prelude.{◌≡◌, ◌+◌, ◌++◌, ◌&&◌, ℕ, Bool, true, false, List, [], ◌∷◌, All, length, map, Option, Some}
-use Rattle.std.specs.Prelude.{◌⊎◌, None, Ok, Err, codes, decimal, if◌then◌else◌, is_some, slice_get}
+use Rattle.std.specs.Prelude.{◌⊎◌, None, Ok, Err, codes, decimal, if◌then◌else◌, is_some, nat_le, nat_lt, slice_get}
 use Rattle.std.specs.List.{list_any, position}
 use Rattle.std.specs.Str.{bytes_eq}
 use Rattle.gt_script.specs.Lists.{RunAction}
@@ -142,6 +142,16 @@ abbrev pub IsFaultAsked : RunContents → ExploreRequest → ExpressionFault →
 IsFaultAsked c (requests.Decide claim expression) fault = IsExpressionFault c expression.now fault
 IsFaultAsked c request expressions.Memory = Unit {0}
 IsFaultAsked c request (expressions.Term number fault) = ⊥
+
+-- one of so many texts has the number that a request names; a request that names none has what it needs
+abbrev pub has_its_text : ExploreRequest → ℕ → Bool
+has_its_text requests.Texts count = true
+has_its_text (requests.Decide claim expression) count = true
+has_its_text (requests.Has given) count = true
+has_its_text (requests.Witness number) count = nat_lt 0 number && nat_le number count
+has_its_text requests.Witnesses count = true
+has_its_text (requests.Trace number) count = nat_lt 0 number && nat_le number count
+has_its_text (requests.Diagram number) count = nat_lt 0 number && nat_le number count
 
 -- ---- the output and the verdict, for the texts that were found
 

@@ -21,8 +21,8 @@ use std::alloc::Global;
 /// conditions.
 ///
 /// # Errors
-/// `Witness` if no text has the number of the witness or of the trace, `Astray` if an order or a witness does not give
-/// its text, and `Memory`.
+/// `Astray` if no text has the number that the request names ([`has_its_text`](crate::has_its_text)), or an order or a
+/// witness does not give its text; and `Memory`.
 pub fn answer_request(
     alloc: Global,
     asked: &ExploreOptions,

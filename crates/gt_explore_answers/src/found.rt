@@ -1,4 +1,8 @@
 //! Texts that were found.
+ghost use Rattle.std.specs.Prelude.{◌≡◌, length};
+ghost use Rattle.gt_explore_answers.specs.Exploring.{has_its_text};
+
+use crate::asking::ExploreRequest;
 use gt_explore_search::FoundText;
 
 /// Texts that a script may give, each with turns that lead to it, in the order of their bytes, and the number of states
@@ -10,4 +14,19 @@ pub struct FoundTexts {
     pub states: usize,
     pub whole: bool,
     pub depth: usize,
+}
+
+/// Returns whether some text has the number that a request names. A request that names none has what it needs.
+pub fn has_its_text(request: ExploreRequest<'_>, found: &FoundTexts) -> bool
+    ensures { result ≡ has_its_text request.entry (length found.now.texts.items) }
+{
+    match request {
+        ExploreRequest::Witness(number)
+        | ExploreRequest::Trace(number)
+        | ExploreRequest::Diagram(number) => number > 0 && number <= found.texts.len(),
+        ExploreRequest::Texts
+        | ExploreRequest::Decide { .. }
+        | ExploreRequest::Has(_)
+        | ExploreRequest::Witnesses => true,
+    }
 }

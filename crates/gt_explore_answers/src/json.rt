@@ -217,10 +217,10 @@ impl ObjectWriter<'_, '_> {
             (found_told self.now.found.now) made.text.items made.verdict) }
     {
         let Some(at) = number.checked_sub(1) else {
-            return Err(TextsFault::Witness);
+            return Err(TextsFault::Astray);
         };
         if at >= self.found.texts.len() {
-            return Err(TextsFault::Witness);
+            return Err(TextsFault::Astray);
         }
         let mut text = Vec::new(self.alloc);
         self.push_text(&mut text, true, Some(at))?;

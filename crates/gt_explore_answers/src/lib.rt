@@ -27,4 +27,4 @@ pub use answering::ExploreOutput;
 pub use asking::{ExploreFormat, ExploreOptions, ExploreRequest};
 pub use conditions::conditions_asked;
 pub use formats::answer_request;
-pub use found::FoundTexts;
+pub use found::{FoundTexts, has_its_text};

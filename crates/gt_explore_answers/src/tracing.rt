@@ -20,7 +20,7 @@ use gt_script::RunScript;
 use gt_text::push_text;
 use std::alloc::{AllocError, Global};
 
-/// Returns the order of the text of this number.
+/// Returns the order of the text of this number. Fails with `Astray` if no text has it.
 pub(crate) fn numbered<'f>(
     found: &'f FoundTexts,
     number: usize,
@@ -29,11 +29,11 @@ pub(crate) fn numbered<'f>(
         IsTextNumbered (texts_of_orders found.entry.now.texts.items) number o.now.text.items) }
 {
     let Some(at) = number.checked_sub(1) else {
-        return Err(TextsFault::Witness);
+        return Err(TextsFault::Astray);
     };
     match found.texts.get(at) {
         Some(order) => Ok(order),
-        None => Err(TextsFault::Witness),
+        None => Err(TextsFault::Astray),
     }
 }
 

@@ -5,19 +5,19 @@ use Rattle.gt_explore_verdict.specs.Faults.{expression_fault_text}
 use Rattle.gt_explore_verdict.specs.declared.fault.ExpressionFault.{ExpressionFault}
 use Rattle.gt_explore_verdict.specs.declared.fault.ExpressionFault.TheVariants as expression
 use Rattle.gt_explore_faults.specs.declared.fault.ExploreFault.{ExploreFault}
-use Rattle.gt_explore_faults.specs.declared.fault.ExploreFault.TheVariants.{Play, Term, Texts}
+use Rattle.gt_explore_faults.specs.declared.fault.ExploreFault.TheVariants.{Play, Term, Number, Texts}
 use Rattle.gt_explore_faults.specs.declared.fault.TextsFault.{TextsFault}
-use Rattle.gt_explore_faults.specs.declared.fault.TextsFault.TheVariants.{Memory, States, Astray, Witness}
+use Rattle.gt_explore_faults.specs.declared.fault.TextsFault.TheVariants.{Memory, States, Astray}
 
 abbrev pub texts_fault_text : TextsFault → List ℕ
 texts_fault_text Memory = codes "memory"
 texts_fault_text States = codes "states"
 texts_fault_text Astray = codes "astray"
-texts_fault_text Witness = codes "no such text"
 
 abbrev pub explore_fault_text : ExploreFault → List ℕ
 explore_fault_text (Play fault) = play_fault_text fault
 explore_fault_text (Term number fault) = expression_fault_text (expression.Term number fault)
+explore_fault_text Number = codes "no such text"
 explore_fault_text (Texts fault) = texts_fault_text fault
 
 -- an expression's fault as that of an exploration: its term, or want of memory

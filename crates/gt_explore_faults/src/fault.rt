@@ -17,8 +17,6 @@ pub enum TextsFault {
     /// The search found an order that the core does not follow to its text, a run that returned to a state, or a
     /// witness that does not give its text.
     Astray,
-    /// No text has the number of the witness or of the trace.
-    Witness,
 }
 
 impl fmt::Display for TextsFault {
@@ -32,7 +30,6 @@ impl fmt::Display for TextsFault {
             TextsFault::Memory => f.write_str("memory"),
             TextsFault::States => f.write_str("states"),
             TextsFault::Astray => f.write_str("astray"),
-            TextsFault::Witness => f.write_str("no such text"),
         }
     }
 }
@@ -79,6 +76,8 @@ pub enum ExploreFault {
         number: usize,
         fault: ConditionFault,
     },
+    /// No text has the number of the witness, the trace or the diagram. Nothing was written.
+    Number,
     /// The texts of the script were not found. Nothing was written.
     Texts(TextsFault),
 }
@@ -93,6 +92,7 @@ impl fmt::Display for ExploreFault {
         match self {
             ExploreFault::Play(fault) => write!(f, "{fault}"),
             ExploreFault::Term { number, fault } => write!(f, "term {number}: {fault}"),
+            ExploreFault::Number => f.write_str("no such text"),
             ExploreFault::Texts(fault) => write!(f, "{fault}"),
         }
     }

@@ -21,3 +21,4 @@ pub mod Questions
 pub mod Unmarked
 pub mod Following
 pub mod Flags
+pub mod Parts

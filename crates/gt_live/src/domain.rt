@@ -13,6 +13,8 @@ ghost use Rattle.gt_live.specs.Domains.{verdict_of_frames, verdict_of_size, verd
 ghost use Rattle.gt_live.specs.Questions.{answer_by};
 ghost use Rattle.gt_calls.specs.declared.call.HeaderQuery.{HeaderQuery};
 ghost use Rattle.gt_audit.specs.Telling.{Tells};
+ghost use Rattle.gt_live.specs.Parts.{config_of, mappings_of, rights_of, seat_left, seat_of};
+ghost use Rattle.gt_live.specs.Parts.{trail_left, trail_of, with_trail, words_of};
 
 mod bytes;
 mod closing;
@@ -61,14 +63,14 @@ impl Departed {
     /// # Errors
     /// `Memory`.
     pub fn records(&self) -> Result<Vec<Record>, Memory>
-        ensures { IfOk result (λ v. v.items ≡ self.now.trail.records) }
+        ensures { IfOk result (λ v. v.items ≡ (trail_left self.now).records) }
     {
         self.trail.records()
     }
 
     /// Returns the number of records that were lost, because allocation failed or the trail was full.
     pub fn lost(&self) -> u64
-        ensures { result ≡ self.now.trail.lost }
+        ensures { result ≡ (trail_left self.now).lost }
     {
         self.trail.lost()
     }
@@ -264,7 +266,7 @@ impl Domain {
 
     /// Lends the records of the domain's calls so far, in order.
     pub fn trail(&self) -> &Trail
-        ensures { result.now ≡ self.now.trail }
+        ensures { result.now ≡ trail_of self.now }
     {
         &self.trail
     }
@@ -272,7 +274,7 @@ impl Domain {
     /// Bounds the trail: a call is recorded only while the trail has fewer than `records` records, and is counted as
     /// lost otherwise. With 0 no call is recorded. Records that are there already stay.
     pub fn keep_at_most(&mut self, records: usize)
-        ensures bound { self.new ≡ record self.old { trail = record self.old.trail { most = records } } }
+        ensures bound { self.new ≡ with_trail self.old (record (trail_of self.old) { most = records }) }
         ensures mine { StaysOfRun self.old self.new }
     {
         self.trail.keep_at_most(records);
@@ -285,9 +287,10 @@ impl Domain {
     pub fn reserve_records(&mut self, records: usize) -> Result<(), Memory>
         ensures bound { OnOk result (records ≤ MOST_RESERVED) }
         ensures refused { OnErr result (self.new ≡ self.old) }
-        ensures room { OnOk result (records ≤ self.new.trail.room) }
-        ensures grows { self.old.trail.room ≤ self.new.trail.room }
-        ensures kept { self.new ≡ record self.old { trail = record self.old.trail { room = self.new.trail.room } } }
+        ensures room { OnOk result (records ≤ (trail_of self.new).room) }
+        ensures grows { (trail_of self.old).room ≤ (trail_of self.new).room }
+        ensures kept { self.new
+            ≡ with_trail self.old (record (trail_of self.old) { room = (trail_of self.new).room }) }
         ensures mine { StaysOfRun self.old self.new }
     {
         self.trail.reserve(records)
@@ -297,9 +300,9 @@ impl Domain {
     /// next time, keeps the audit of a long run in memory that doesn't grow. The bound of the trail stays.
     pub fn take_records(&mut self, next: Trail) -> Trail
         requires empty { HasNone next }
-        ensures parts { ArePartsOf self.old.trail result self.new.trail }
-        ensures taken { result ≡ self.old.trail }
-        ensures goes_on { self.new ≡ record self.old { trail = record next { most = self.old.trail.most } } }
+        ensures parts { ArePartsOf (trail_of self.old) result (trail_of self.new) }
+        ensures taken { result ≡ trail_of self.old }
+        ensures goes_on { self.new ≡ with_trail self.old (record next { most = (trail_of self.old).most }) }
         ensures mine { StaysOfRun self.old self.new }
     {
         self.trail.take(next)
@@ -307,7 +310,7 @@ impl Domain {
 
     /// Lends the domain's seat. An access to a frame is justified by the pins of that seat.
     pub fn seat(&self) -> &Seat
-        ensures { result.now ≡ self.now.seat }
+        ensures { result.now ≡ seat_of self.now }
     {
         &self.seat
     }
@@ -316,10 +319,11 @@ impl Domain {
     /// reaches any range of the mapping's frame.
     pub fn mapping<P: Allows>(&self, monitor: &Monitor<P>, handle: Handle) -> Option<HeldPin>
         requires mine { BelongsTo P.may monitor.now self.now }
-        ensures value { result ≡ value_of self.now.mappings handle }
-        ensures reaches { IfSome result (ReachesItsFrame monitor.now.words.layout self.now.seat) }
+        ensures value { result ≡ value_of (mappings_of self.now) handle }
+        ensures reaches { IfSome result (ReachesItsFrame (words_of monitor.now).layout (seat_of self.now)) }
         ensures may { IfSome result (λ p.
-            MayAccessBy monitor.now.config.domains.items (P.may monitor.now.rights) self.now.seat.dom (Direct p)) }
+            MayAccessBy (config_of monitor.now).domains.items (P.may (rights_of monitor.now)) (seat_of self.now).dom
+            (Direct p)) }
     {
         self.mappings.get(handle).copied()
     }
@@ -327,7 +331,7 @@ impl Domain {
     /// Returns a handle under which the domain has no mapping now. Its serial is that of the next mapping.
     pub fn unused_handle(&self) -> Handle
         ensures value { result ≡ unused_handle self.now }
-        ensures unused { value_of self.now.mappings result ≡ None }
+        ensures unused { value_of (mappings_of self.now) result ≡ None }
     {
         Handle {
             serial: self.mappings.given(),
@@ -398,8 +402,8 @@ impl Domain {
     /// Leaves the run: releases each of the domain's mappings with its pin, also if the policy denies an unmap.
     pub fn finish<P: Allows>(mut self, monitor: &Monitor<P>) -> Departed
         requires mine { BelongsTo P.may monitor.now self }
-        ensures left { HasLeft monitor.now.words.layout self result }
-        ensures seat { IsSeatOf monitor.now.words result.seat }
+        ensures left { HasLeft (words_of monitor.now).layout self result }
+        ensures seat { IsSeatOf (words_of monitor.now) (seat_left result) }
     {
         self.release_all(monitor);
         let Domain {

@@ -2,6 +2,7 @@
 ghost use Rattle.std.specs.Prelude.{◌≡◌, ◌∷◌, []};
 ghost use Rattle.gt_word_history.specs.Joining.{StandTogether, with_view};
 ghost use Rattle.gt_words.specs.Conditions.{IsSeatOf};
+ghost use Rattle.gt_live.specs.Parts.{seat_left, words_of};
 
 use crate::domain::Departed;
 use crate::monitor::Monitor;
@@ -10,9 +11,9 @@ use gt_words::Gathered;
 impl<P> Monitor<P> {
     /// Begins to gather what the domains of the run left behind, with that of the first domain.
     pub fn gather(&self, first: Departed) -> Gathered
-        requires seat { IsSeatOf self.now.words first.seat }
-        requires first { first.seat.view.position ≡ 0 }
-        ensures { (result.table ≡ self.now.words.table) × (result.views ≡ first.seat.view ∷ []) }
+        requires seat { IsSeatOf (words_of self.now) (seat_left first) }
+        requires first { (seat_left first).view.position ≡ 0 }
+        ensures { (result.table ≡ (words_of self.now).table) × (result.views ≡ (seat_left first).view ∷ []) }
     {
         let Departed { seat, .. } = first;
         self.words.gather(seat)
@@ -20,9 +21,9 @@ impl<P> Monitor<P> {
 
     /// Adds what another domain left behind.
     pub fn gather_more(&self, all: &mut Gathered, other: Departed)
-        requires table { all.old.table ≡ self.now.words.table }
-        requires seat { IsSeatOf self.now.words other.seat }
-        ensures { (all.new.table ≡ all.old.table) × (all.new.views ≡ with_view other.seat.view all.old.views) }
+        requires table { all.old.table ≡ (words_of self.now).table }
+        requires seat { IsSeatOf (words_of self.now) (seat_left other) }
+        ensures { (all.new.table ≡ all.old.table) × (all.new.views ≡ with_view (seat_left other).view all.old.views) }
     {
         let Departed { seat, .. } = other;
         self.words.gather_more(all, seat);
@@ -31,9 +32,9 @@ impl<P> Monitor<P> {
     /// Loads one word with all gathered seats. By its contract, words and views show one state, in which each of these
     /// domains has the view with which it left. So the steps of the whole run have one order.
     pub fn tell_of_all(&self, all: &mut Gathered)
-        requires { all.old.table ≡ self.now.words.table }
+        requires { all.old.table ≡ (words_of self.now).table }
         ensures same { all.new.views ≡ all.old.views }
-        ensures together { StandTogether self.now.words.layout all.old.views }
+        ensures together { StandTogether (words_of self.now).layout all.old.views }
     {
         self.words.tell_of_all(all);
     }

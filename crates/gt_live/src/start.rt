@@ -8,6 +8,7 @@ ghost use Rattle.gt_live.specs.Starting.{first_rows, IsNewDomain};
 ghost use Rattle.gt_shared_table.specs.Words.{frames_kept};
 ghost use Rattle.gt_types.specs.declared.places.FrameName.{FrameName};
 ghost use Rattle.gt_words.specs.Frames.{KeepsFrame};
+ghost use Rattle.gt_live.specs.Parts.{config_of, rights_of, words_of};
 
 use crate::domain::Domain;
 use crate::monitor::Monitor;
@@ -114,12 +115,12 @@ impl<P: Allows + Drop> Monitor<P> {
         rights: P,
     ) -> Result<(Monitor<P>, Vec<Domain>), StartFault>
         ensures ok { OnOk result (IsWithinLimits config) }
-        ensures run { IfOk result (λ r. (r.0.config ≡ config) × (r.0.rights ≡ rights)) }
-        ensures frames { IfOk result (λ r. r.0.words.frames ≡ frames_kept config) }
+        ensures run { IfOk result (λ r. (config_of r.0 ≡ config) × (rights_of r.0 ≡ rights)) }
+        ensures frames { IfOk result (λ r. (words_of r.0).frames ≡ frames_kept config) }
         ensures count { IfOk result (λ r. length r.1.items ≡ length config.domains.items) }
         ensures domains { IfOk result (λ r.
             (i : ℕ) → i < length config.domains.items
-            → HoldsAt (λ d. IsNewDomain r.0.words config (P.may rights) i d) r.1.items i) }
+            → HoldsAt (λ d. IsNewDomain (words_of r.0) config (P.may rights) i d) r.1.items i) }
         ensures mine { IfOk result (λ r. All (λ d. BelongsTo P.may r.0 d) r.1.items) }
         ensures err { IfErr result (IsStartFault config) }
     {
@@ -137,13 +138,13 @@ impl<P: Allows + Drop> Monitor<P> {
         flags: u32,
     ) -> Result<(Monitor<P>, Vec<Domain>), StartFault>
         ensures ok { OnOk result (IsWithinLimits config) }
-        ensures run { IfOk result (λ r. (r.0.config ≡ config) × (r.0.rights ≡ rights)) }
-        ensures frames { IfOk result (λ r. r.0.words.frames ≡ frames_kept config) }
-        ensures flags { IfOk result (λ r. r.0.words.flags ≡ flags) }
+        ensures run { IfOk result (λ r. (config_of r.0 ≡ config) × (rights_of r.0 ≡ rights)) }
+        ensures frames { IfOk result (λ r. (words_of r.0).frames ≡ frames_kept config) }
+        ensures flags { IfOk result (λ r. (words_of r.0).flags ≡ flags) }
         ensures count { IfOk result (λ r. length r.1.items ≡ length config.domains.items) }
         ensures domains { IfOk result (λ r.
             (i : ℕ) → i < length config.domains.items
-            → HoldsAt (λ d. IsNewDomain r.0.words config (P.may rights) i d) r.1.items i) }
+            → HoldsAt (λ d. IsNewDomain (words_of r.0) config (P.may rights) i d) r.1.items i) }
         ensures mine { IfOk result (λ r. All (λ d. BelongsTo P.may r.0 d) r.1.items) }
         ensures err { IfErr result (IsStartFault config) }
     {
@@ -179,12 +180,12 @@ impl<P: Allows + Drop> Monitor<P> {
         rights: P,
     ) -> Result<(Monitor<P>, Vec<Domain>), StartFault>
         ensures ok { OnOk result (IsRunnable config) }
-        ensures run { IfOk result (λ r. (r.0.config ≡ config) × (r.0.rights ≡ rights)) }
-        ensures frames { IfOk result (λ r. (name : FrameName) → KeepsFrame r.0.words name → ⊥) }
+        ensures run { IfOk result (λ r. (config_of r.0 ≡ config) × (rights_of r.0 ≡ rights)) }
+        ensures frames { IfOk result (λ r. (name : FrameName) → KeepsFrame (words_of r.0) name → ⊥) }
         ensures count { IfOk result (λ r. length r.1.items ≡ length config.domains.items) }
         ensures domains { IfOk result (λ r.
             (i : ℕ) → i < length config.domains.items
-            → HoldsAt (λ d. IsNewDomain r.0.words config (P.may rights) i d) r.1.items i) }
+            → HoldsAt (λ d. IsNewDomain (words_of r.0) config (P.may rights) i d) r.1.items i) }
         ensures mine { IfOk result (λ r. All (λ d. BelongsTo P.may r.0 d) r.1.items) }
         ensures err { IfErr result (IsFramelessFault config) }
     {

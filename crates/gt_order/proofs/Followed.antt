@@ -1,5 +1,5 @@
 -- A domain whose entry follows the bytes of its guest makes calls that change the entry.
-use Rattle.std.proofs.Common.{◌≡◌, ℕ, suc, ◌+◌, ◌≤◌, List, [], ◌∷◌, length, Result, Ok, Err, sym, refl, subst, arith}
+use Rattle.std.proofs.Common.{◌≡◌, ℕ, suc, ◌+◌, ◌≤◌, List, [], ◌∷◌, length, Result, Ok, Err, sym, refl, ◌∙◌, subst, arith}
 use Rattle.std.specs.Prelude.{All}
 use Rattle.std.proofs.lemmas.List.Elements.{All-head, All-tail}
 use Rattle.gt_types.specs.declared.GrantRef.{GrantRef}
@@ -44,11 +44,11 @@ module _ {P : Type 0} (may : P → AllowRelation) (m : Monitor P) (start : Domai
     now : domain_after start deeds ≡ e
     mine : BelongsTo may m e
 
-  calls : (d e : Domain) (change : EntryChange) (done : Result (Unit {0}) Denial) → FitsChange change → (was : Came d) → Calls may m d gref change done e → StaysIn may m d e
+  one-call : (d e : Domain) (change : EntryChange) (done : Result (Unit {0}) Denial) → FitsChange change → (was : Came d) → Calls may m d gref change done e → StaysIn may m d e
       → (x : Came e) × (length x.deeds ≡ suc (length was.deeds))
-  calls d e change done fits was calls stays =
+  one-call d e change done fits was called stays =
       let request = request_of gref change in
-      let one = plain-made may m d e request (verdict_of done) (record { before = was.mine; afterwards = stays.0; seat = stays.1 }) (no-mapping gref change) (fits-types gref change fits) (no-pin done) calls.answers.0 calls.answers.1 in
+      let one = plain-made may m d e request (verdict_of done) (record { before = was.mine; afterwards = stays.0; seat = stays.1 }) (no-mapping gref change) (fits-types gref change fits) (no-pin done) called.answers.0 called.answers.1 in
       let call : CallMade = record { request = request; outcome = Told (verdict_of done); steps = one.0; old = d; new = e } in (
         record {
           deeds = Call call ∷ was.deeds;
@@ -62,9 +62,16 @@ module _ {P : Type 0} (may : P → AllowRelation) (m : Monitor P) (start : Domai
 
   each : (changes : List EntryChange) (d e : Domain) → All FitsChange changes → (was : Came d) → MakesCalls may m d gref changes e
       → (x : Came e) × (length x.deeds ≡ length changes + length was.deeds)
-  each [] d e fit was same = (subst Came (sym same) was, refl)
+  each [] d e fit was same =
+      let came : Came e = record {
+        deeds = was.deeds;
+        made = was.made;
+        changes = was.changes;
+        now = was.now ∙ sym same;
+        mine = subst (BelongsTo may m) (sym same) was.mine;
+      } in (came, omega arith)
   each (change ∷ changes) d e fit was (mid, done, made, stays, then) =
-      let one = calls d mid change done (All-head FitsChange change changes fit) was made stays in
+      let one = one-call d mid change done (All-head FitsChange change changes fit) was made stays in
       let rest = each changes mid e (All-tail FitsChange change changes fit) one.0 then in
       let count = rest.1 in let before = one.1 in
       (rest.0, omega (arith, count, before))

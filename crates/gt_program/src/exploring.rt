@@ -69,7 +69,7 @@ fn explore_explained<R: Read, W: Write>(
     let mut input = CopyingReader::new(alloc, reader);
     let ending = explore_reader(alloc, asked, &mut input, out);
     if let Err(fault) = &ending {
-        reasons.add_explore(&input.kept, asked.states, fault);
+        reasons.add_explore(&input.kept, fault);
     }
     ending
 }

@@ -9,6 +9,7 @@ ghost use Rattle.gt_live.specs.Accesses.{Fills, IsIfMissing, IsOfAccess, IsReadB
 ghost use Rattle.gt_live.specs.Accesses.{WritesFrame};
 ghost use Rattle.gt_live.specs.Domains.{AccessesQuietly, BelongsTo, StaysIn, not_made};
 ghost use Rattle.gt_live.specs.Driving.{IsSame};
+ghost use Rattle.gt_live.specs.Parts.{seat_of, words_of};
 
 use super::{Domain, refusal_of};
 use crate::monitor::Monitor;
@@ -153,7 +154,7 @@ impl Domain {
         requires mine { BelongsTo P.may monitor.now self.old }
         ensures stays { StaysIn P.may monitor.now self.old self.new }
         ensures answers { AccessesQuietly P.may monitor.now self.old
-            (requests.Load handle off len) (IsReadBy monitor.now.words.layout) result self.new }
+            (requests.Load handle off len) (IsReadBy (words_of monitor.now).layout) result self.new }
     {
         if let Some(verdict) = judge_load(&self.mappings, handle, off, usize::from(len)) {
             return Err(refusal_of(verdict));
@@ -187,7 +188,7 @@ impl Domain {
         requires mine { BelongsTo P.may monitor.now self.old }
         ensures stays { StaysIn P.may monitor.now self.old self.new }
         ensures answers { AccessesQuietly P.may monitor.now self.old
-            (requests.Load handle off (length buffer.old)) (IsReadBy monitor.now.words.layout) result self.new }
+            (requests.Load handle off (length buffer.old)) (IsReadBy (words_of monitor.now).layout) result self.new }
         ensures filled { Fills result buffer.old buffer.new }
     {
         if let Some(verdict) = judge_load(&self.mappings, handle, off, buffer.len()) {
@@ -221,7 +222,7 @@ impl Domain {
         requires mine { BelongsTo P.may monitor.now self.old }
         ensures stays { StaysIn P.may monitor.now self.old self.new }
         ensures answers { AccessesQuietly P.may monitor.now self.old
-            (requests.Peek frame off len) (IsReadBy monitor.now.words.layout) result self.new }
+            (requests.Peek frame off len) (IsReadBy (words_of monitor.now).layout) result self.new }
     {
         let caller = self.seat.dom();
         let config = &monitor.config;
@@ -255,7 +256,7 @@ impl Domain {
         requires mine { BelongsTo P.may monitor.now self.old }
         ensures stays { StaysIn P.may monitor.now self.old self.new }
         ensures answers { AccessesQuietly P.may monitor.now self.old
-            (requests.Peek frame off (length buffer.old)) (IsReadBy monitor.now.words.layout) result self.new }
+            (requests.Peek frame off (length buffer.old)) (IsReadBy (words_of monitor.now).layout) result self.new }
         ensures filled { Fills result buffer.old buffer.new }
     {
         let caller = self.seat.dom();
@@ -290,7 +291,7 @@ impl Domain {
         ensures stays { StaysIn P.may monitor.now self.old self.new }
         ensures answers { AccessesQuietly P.may monitor.now self.old
             (requests.Store handle off bytes.entry)
-            (IsWrittenBy monitor.now.words.layout self.old.seat.dom bytes.entry.now) result self.new }
+            (IsWrittenBy (words_of monitor.now).layout (seat_of self.old).dom bytes.entry.now) result self.new }
     {
         if let Some(verdict) = judge_store(&self.mappings, handle, off, bytes.len()) {
             return Err(refusal_of(verdict));
@@ -324,7 +325,7 @@ impl Domain {
         ensures stays { StaysIn P.may monitor.now self.old self.new }
         ensures answers { AccessesQuietly P.may monitor.now self.old
             (requests.Poke frame off bytes.entry)
-            (IsWrittenBy monitor.now.words.layout self.old.seat.dom bytes.entry.now) result self.new }
+            (IsWrittenBy (words_of monitor.now).layout (seat_of self.old).dom bytes.entry.now) result self.new }
     {
         let caller = self.seat.dom();
         let config = &monitor.config;

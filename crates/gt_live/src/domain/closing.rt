@@ -3,6 +3,7 @@ ghost use Rattle.std.specs.Prelude.{◌≡◌, true};
 ghost use Rattle.gt_entry.specs.declared.entry.Entry.TheVariants.{Invalid};
 ghost use Rattle.gt_calls.specs.Rules.{entry_in};
 ghost use Rattle.gt_live.specs.Closing.{is_in_use};
+ghost use Rattle.gt_live.specs.Parts.{words_of};
 
 use super::{Domain, done};
 use crate::monitor::Monitor;
@@ -153,7 +154,7 @@ impl Domain {
     pub fn status<P: Allows>(&mut self, monitor: &Monitor<P>, gref: GrantRef) -> Option<Control>
         requires mine { BelongsTo P.may monitor.now self.old }
         ensures stays { StaysIn P.may monitor.now self.old self.new }
-        ensures looks { LooksAtOwn monitor.now.words.layout self.old gref result self.new }
+        ensures looks { LooksAtOwn (words_of monitor.now).layout self.old gref result self.new }
     {
         if gref.0 >= self.seat.header().entries() {
             return None;

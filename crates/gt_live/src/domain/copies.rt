@@ -18,6 +18,7 @@ ghost use Rattle.gt_live.specs.Halves.{copy_hypercall};
 ghost use Rattle.gt_live.specs.Copies.{CopyStopsWith, filled, halfway_with};
 ghost use Rattle.gt_live.specs.Halves.{ComesHalfway, EndsHalfway, IsHalfway, done_copy};
 ghost use Rattle.gt_live.specs.Underway.{AreOfRun, GivesBack, HasTaken};
+ghost use Rattle.gt_live.specs.Parts.{copy_of, seat_of, trail_of, words_of};
 
 use super::bytes::{not_made, run_of};
 use super::{Domain, known_with, refusal_of, tell_done, tell_refusal};
@@ -216,11 +217,11 @@ impl Domain {
     ) -> Result<Copied, Denial>
         requires mine { BelongsTo P.may monitor.now self.old }
         ensures mine { BelongsTo P.may monitor.now self.new }
-        ensures seat { IsSameSeat self.old.seat self.new.seat }
+        ensures seat { IsSameSeat (seat_of self.old) (seat_of self.new) }
         ensures answered { Accesses P.may monitor.now self.old
-            (requests.Copy copy.now) (IsCopiedBy monitor.now.words.layout self.old.seat.dom) result self.new }
+            (requests.Copy copy.now) (IsCopiedBy (words_of monitor.now).layout (seat_of self.old).dom) result self.new }
         ensures kept { KeepsPinned self.old self.new }
-        ensures told { Tells self.old.trail (told_copy self.old copy.now result) self.new.trail }
+        ensures told { Tells (trail_of self.old) (told_copy self.old copy.now result) (trail_of self.new) }
     {
         let caller = self.seat.dom();
         match self.make_copy(rt, monitor, copy) {
@@ -278,9 +279,9 @@ impl Domain {
         ensures refused { IfErr result
             (λ denial. Answered P.may monitor.now self.old (requests.Copy copy.now) (Refused denial) self.new) }
         ensures kept { OnErr result (KeepsPinned self.old self.new) }
-        ensures seat { IsSameSeat self.old.seat self.new.seat }
+        ensures seat { IsSameSeat (seat_of self.old) (seat_of self.new) }
         ensures told { IfErr result (λ denial.
-            Tells self.old.trail (told_copy self.old copy.now (Err denial)) self.new.trail) }
+            Tells (trail_of self.old) (told_copy self.old copy.now (Err denial)) (trail_of self.new)) }
     {
         match self.come_halfway(monitor, copy) {
             Ok(halfway) => Ok(halfway),
@@ -311,8 +312,8 @@ impl Domain {
     pub fn copy_end<P: Allows>(&mut self, monitor: &Monitor<P>, halfway: PendingCopy)
         requires halfway { IsHalfway P.may monitor.now halfway self.old }
         ensures mine { BelongsTo P.may monitor.now self.new }
-        ensures ends { EndsHalfway monitor.now.words.layout halfway self.old self.new }
-        ensures told { Tells self.old.trail (done_copy self.old halfway.copy) self.new.trail }
+        ensures ends { EndsHalfway (words_of monitor.now).layout halfway self.old self.new }
+        ensures told { Tells (trail_of self.old) (done_copy self.old (copy_of halfway)) (trail_of self.new) }
     {
         let copy = halfway.copy;
         self.end_halfway(monitor, halfway);

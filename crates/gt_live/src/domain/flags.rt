@@ -3,6 +3,7 @@ ghost use Rattle.std.specs.Prelude.{◌≡◌, ◌<◌, ◌↔◌, IsTrue, Match
 ghost use Rattle.gt_word_history.specs.declared.view.FlagStep.TheVariants.{Passed, Raised};
 ghost use Rattle.gt_live.specs.Domains.{BelongsTo, StaysIn};
 ghost use Rattle.gt_live.specs.Flags.{FlagStepped};
+ghost use Rattle.gt_live.specs.Parts.{words_of};
 
 use super::Domain;
 use crate::monitor::Monitor;
@@ -12,7 +13,7 @@ impl<P> Monitor<P> {
     /// Returns whether the run has the flag.
     #[inline]
     pub fn has_flag(&self, flag: usize) -> bool
-        ensures { IsTrue result ↔ (flag < self.now.words.flags) }
+        ensures { IsTrue result ↔ (flag < (words_of self.now).flags) }
     {
         self.words.has_flag(flag)
     }
@@ -22,9 +23,9 @@ impl Domain {
     /// Raises a flag. This is one step of the history, after all earlier steps of the domain.
     pub fn raise_flag<P: Allows>(&mut self, monitor: &Monitor<P>, flag: usize)
         requires mine { BelongsTo P.may monitor.now self.old }
-        requires inside { flag < monitor.now.words.flags }
+        requires inside { flag < (words_of monitor.now).flags }
         ensures stays { StaysIn P.may monitor.now self.old self.new }
-        ensures raised { FlagStepped monitor.now.words.layout flag Raised self.old self.new }
+        ensures raised { FlagStepped (words_of monitor.now).layout flag Raised self.old self.new }
     {
         monitor.words.raise_flag(&mut self.seat, flag);
     }
@@ -33,9 +34,9 @@ impl Domain {
     /// returns false and makes no step.
     pub fn pass_flag<P: Allows>(&mut self, monitor: &Monitor<P>, flag: usize) -> bool
         requires mine { BelongsTo P.may monitor.now self.old }
-        requires inside { flag < monitor.now.words.flags }
+        requires inside { flag < (words_of monitor.now).flags }
         ensures stays { StaysIn P.may monitor.now self.old self.new }
-        ensures passed { MatchBool result (FlagStepped monitor.now.words.layout flag Passed self.old self.new)
+        ensures passed { MatchBool result (FlagStepped (words_of monitor.now).layout flag Passed self.old self.new)
             (self.new ≡ self.old) }
     {
         monitor.words.pass_flag(&mut self.seat, flag)

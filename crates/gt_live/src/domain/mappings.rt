@@ -4,6 +4,7 @@ ghost use Rattle.gt_words.specs.Conditions.{IsSameSeat, position_at};
 ghost use Rattle.gt_live.specs.Walks.{Called};
 ghost use Rattle.gt_live.specs.Driving.{Leaves};
 ghost use Rattle.gt_audit.specs.Telling.{Tells};
+ghost use Rattle.gt_live.specs.Parts.{mappings_of, seat_of, trail_of};
 
 use super::{Domain, known_with, refusal_of, tell_done};
 use crate::driving::{MapArgs, PlacedLeg, drive_map, pin_of};
@@ -186,11 +187,11 @@ impl Domain {
     ) -> Result<Handle, Denial>
         requires mine { BelongsTo P.may monitor.now self.old }
         ensures mine { BelongsTo P.may monitor.now self.new }
-        ensures seat { IsSameSeat self.old.seat self.new.seat }
+        ensures seat { IsSameSeat (seat_of self.old) (seat_of self.new) }
         ensures answered { MapAnswered P.may monitor.now self.old (Request.Map dom gref flags) result self.new }
-        ensures told { Tells self.old.trail
-            (record { dom = self.old.seat.dom; call = Hypercall.Map dom gref flags; reply = mapping_reply result })
-            self.new.trail }
+        ensures told { Tells (trail_of self.old)
+            (record { dom = (seat_of self.old).dom; call = Hypercall.Map dom gref flags; reply = mapping_reply result })
+            (trail_of self.new) }
     {
         let caller = self.seat.dom();
         match self.make_mapping(monitor, dom, gref, flags) {
@@ -303,11 +304,11 @@ impl Domain {
     pub fn release<P: Allows>(&mut self, monitor: &Monitor<P>, handle: Handle) -> Result<(), Denial>
         requires mine { BelongsTo P.may monitor.now self.old }
         ensures mine { BelongsTo P.may monitor.now self.new }
-        ensures seat { IsSameSeat self.old.seat self.new.seat }
+        ensures seat { IsSameSeat (seat_of self.old) (seat_of self.new) }
         ensures answered { Answered P.may monitor.now self.old (Request.Release handle) (verdict_of result) self.new }
-        ensures removed { OnOk result ((p : HeldPin) × Removes self.old.mappings self.new.mappings handle p) }
+        ensures removed { OnOk result ((p : HeldPin) × Removes (mappings_of self.old) (mappings_of self.new) handle p) }
         ensures refused { OnErr result (KeepsPinned self.old self.new) }
-        ensures silent { self.new.trail ≡ self.old.trail }
+        ensures silent { trail_of self.new ≡ trail_of self.old }
     {
         if let Some(verdict) = judge_release(&self.mappings, handle) {
             return Err(refusal_of(verdict));
@@ -354,12 +355,12 @@ impl Domain {
     pub fn unmap<P: Allows>(&mut self, monitor: &Monitor<P>, handle: Handle) -> Result<(), Denial>
         requires mine { BelongsTo P.may monitor.now self.old }
         ensures mine { BelongsTo P.may monitor.now self.new }
-        ensures seat { IsSameSeat self.old.seat self.new.seat }
+        ensures seat { IsSameSeat (seat_of self.old) (seat_of self.new) }
         ensures answered { Answered P.may monitor.now self.old (Request.Unmap handle) (verdict_of result) self.new }
-        ensures removed { OnOk result ((p : HeldPin) × Removes self.old.mappings self.new.mappings handle p) }
+        ensures removed { OnOk result ((p : HeldPin) × Removes (mappings_of self.old) (mappings_of self.new) handle p) }
         ensures refused { OnErr result (KeepsPinned self.old self.new) }
-        ensures told { Tells self.old.trail
-            (told_of self.old (Hypercall.Unmap (subject_of self.old handle)) (verdict_of result)) self.new.trail }
+        ensures told { Tells (trail_of self.old)
+            (told_of self.old (Hypercall.Unmap (subject_of self.old handle)) (verdict_of result)) (trail_of self.new) }
     {
         // Each arm has its own copy of the call, so a handle with a mapping is looked up only once.
         match self.subject(handle) {
