@@ -13,6 +13,7 @@ use Rattle.gt_live.specs.declared.domain.Departed.{Departed}
 use Rattle.gt_live.specs.Closing.{Resets}
 use Rattle.gt_live.specs.Domains.{AllowRelation, Answered, BelongsTo, HasLeft, KeepsPinned, told_copy}
 use Rattle.gt_live.specs.Halves.{ComesHalfway, EndsHalfway, IsHalfway, done_copy}
+use Rattle.gt_live.specs.Parts.{seat_of, trail_left, trail_of, words_of}
 use Rattle.gt_attached.specs.declared.answer.Departure.{Departure}
 use Rattle.gt_attached.specs.declared.answer.TakenCounts.{TakenCounts}
 use Rattle.gt_attached.specs.declared.guest.CopyPlaces.{CopyPlaces}
@@ -30,7 +31,7 @@ StandsBy may m d (Some h) = IsHalfway may m h d
 
 -- the monitor and the domain's seat are the same, and the domain is in no copy
 abbrev pub StaysIdle : {P : Type 0} → Seated P → Seated P → Type 0
-StaysIdle s t = (t.monitor ≡ s.monitor) × (t.copying ≡ None) × IsSameSeat s.domain.seat t.domain.seat
+StaysIdle s t = (t.monitor ≡ s.monitor) × (t.copying ≡ None) × IsSameSeat (seat_of s.domain) (seat_of t.domain)
 
 -- the places of a copy at its access
 abbrev pub places_of : PendingCopy → CopyPlaces
@@ -45,14 +46,14 @@ BeginsAccess may s copy (Ok places) t =
     × ComesHalfway may s.monitor s.domain copy h t.domain
 BeginsAccess may s copy (Err denial) t =
     StaysIdle s t × Answered may s.monitor s.domain (requests.Copy copy) (Refused denial) t.domain
-    × KeepsPinned s.domain t.domain × Tells s.domain.trail (told_copy s.domain copy (Err denial)) t.domain.trail
+    × KeepsPinned s.domain t.domain × Tells (trail_of s.domain) (told_copy s.domain copy (Err denial)) (trail_of t.domain)
 
 -- the pins of the copy that the domain was in were released, and the copy was recorded as Ok
 abbrev pub EndsAccess : {P : Type 0} → Seated P → Seated P → Type 0
 EndsAccess s t =
     (h : PendingCopy) × (s.copying ≡ Some h) × StaysIdle s t
-    × EndsHalfway s.monitor.words.layout h s.domain t.domain
-    × Tells s.domain.trail (done_copy s.domain h.copy) t.domain.trail
+    × EndsHalfway (words_of s.monitor).layout h s.domain t.domain
+    × Tells (trail_of s.domain) (done_copy s.domain h.copy) (trail_of t.domain)
 
 -- a domain released its mappings, closed its table and left its run, with this many entries still in use and this many
 -- records lost
@@ -60,8 +61,8 @@ pub record Leaves {P : Type 0} (may : P → AllowRelation) (m : Monitor P) (d : 
   pub closed : Domain
   pub resets : Resets may m d remains.in_use closed
   pub left : Departed
-  pub leaves : HasLeft m.words.layout closed left
-  pub lost : remains.lost ≡ left.trail.lost
+  pub leaves : HasLeft (words_of m).layout closed left
+  pub lost : remains.lost ≡ (trail_left left).lost
 
 -- the number of records of a domain, and the number lost
 abbrev pub taken_of : Telling → TakenCounts

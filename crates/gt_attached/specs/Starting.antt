@@ -4,6 +4,7 @@ use Rattle.gt_types.specs.declared.config.Config.{Config}
 use Rattle.gt_types.specs.declared.places.FrameName.{FrameName}
 use Rattle.gt_words.specs.Frames.{KeepsFrame}
 use Rattle.gt_live.specs.Domains.{AllowRelation}
+use Rattle.gt_live.specs.Parts.{config_of, rights_of, words_of}
 use Rattle.gt_live.specs.Starting.{IsNewDomain}
 use Rattle.gt_live.specs.declared.domain.Domain.{Domain}
 use Rattle.gt_live.specs.declared.monitor.Monitor.{Monitor}
@@ -18,11 +19,11 @@ beside m d = record { monitor = m; domain = d; copying = None }
 pub record AreNewGuests {P : Type 0} (may : P → AllowRelation) (c : Config) (rights : P) (guests : List (Seated P))
     : Type 0 where
   pub monitor : Monitor P
-  pub config : monitor.config ≡ c
-  pub rights_are : monitor.rights ≡ rights
-  pub no_frames : (name : FrameName) → KeepsFrame monitor.words name → ⊥
+  pub config : config_of monitor ≡ c
+  pub rights_are : rights_of monitor ≡ rights
+  pub no_frames : (name : FrameName) → KeepsFrame (words_of monitor) name → ⊥
   pub domains : List Domain
   pub guests_are : guests ≡ map (beside monitor) domains
   pub count : length domains ≡ length c.domains.items
   pub new : (i : ℕ) → i < length c.domains.items
-      → HoldsAt (λ d. IsNewDomain monitor.words c (may rights) i d) domains i
+      → HoldsAt (λ d. IsNewDomain (words_of monitor) c (may rights) i d) domains i

@@ -87,6 +87,7 @@ impl<P: Allows + Drop> AttachedDomain<P> {
     ghost use Rattle.gt_live.specs.Domains.{told_of, verdict_of, verdict_of_frames, verdict_of_size};
     ghost use Rattle.gt_live.specs.Domains.{verdict_of_version};
     ghost use Rattle.gt_live.specs.Mappings.{Removes, unused_handle};
+    ghost use Rattle.gt_live.specs.Parts.{mappings_of, seat_of, trail_of, with_trail, words_of};
     ghost use Rattle.gt_types.specs.Denial.{denial_of};
     ghost use Rattle.gt_types.specs.declared.denial.Facts.TheVariants.{None as NoFacts};
     ghost use Rattle.gt_types.specs.declared.denial.Rule.TheVariants.{N6};
@@ -261,13 +262,13 @@ impl<P: Allows + Drop> AttachedDomain<P> {
         ensures stays { StaysIdle self.old self.new }
         ensures answered { MapAnswered P.may self.old.monitor self.old.domain
             (Request.Map dom gref flags) result self.new.domain }
-        ensures told { Tells self.old.domain.trail
+        ensures told { Tells (trail_of self.old.domain)
             (record {
-              dom = self.old.domain.seat.dom;
+              dom = (seat_of self.old.domain).dom;
               call = Hypercall.Map dom gref flags;
               reply = mapping_reply result;
             })
-            self.new.domain.trail }
+            (trail_of self.new.domain) }
     {
         self.domain.map(&self.monitor, dom, gref, flags)
     }
@@ -282,12 +283,12 @@ impl<P: Allows + Drop> AttachedDomain<P> {
         ensures answered { Answered P.may self.old.monitor self.old.domain
             (Request.Unmap handle) (verdict_of result) self.new.domain }
         ensures removed { OnOk result ((p : Mapping)
-            × Removes self.old.domain.mappings self.new.domain.mappings handle p) }
+            × Removes (mappings_of self.old.domain) (mappings_of self.new.domain) handle p) }
         ensures refused { OnErr result (KeepsPinned self.old.domain self.new.domain) }
-        ensures absent { value_of self.old.domain.mappings handle ≡ None → result ≡ Err (denial_of N6 NoFacts) }
-        ensures told { Tells self.old.domain.trail
+        ensures absent { value_of (mappings_of self.old.domain) handle ≡ None → result ≡ Err (denial_of N6 NoFacts) }
+        ensures told { Tells (trail_of self.old.domain)
             (told_of self.old.domain (Hypercall.Unmap (subject_of self.old.domain handle)) (verdict_of result))
-            self.new.domain.trail }
+            (trail_of self.new.domain) }
     {
         self.domain.unmap(&self.monitor, handle)
     }
@@ -295,7 +296,7 @@ impl<P: Allows + Drop> AttachedDomain<P> {
     /// Returns the mapping under a handle, or `None` if the domain has no such mapping.
     pub fn mapping(&self, handle: Handle) -> Option<HeldPin>
         requires idle { self.now.copying ≡ None }
-        ensures { result ≡ value_of self.now.domain.mappings handle }
+        ensures { result ≡ value_of (mappings_of self.now.domain) handle }
     {
         self.domain.mapping(&self.monitor, handle)
     }
@@ -303,7 +304,7 @@ impl<P: Allows + Drop> AttachedDomain<P> {
     /// Returns a handle under which the domain has no mapping now. Its serial is that of the next mapping.
     pub fn unused_handle(&self) -> Handle
         ensures value { result ≡ unused_handle self.now.domain }
-        ensures unused { value_of self.now.domain.mappings result ≡ None }
+        ensures unused { value_of (mappings_of self.now.domain) result ≡ None }
     {
         self.domain.unused_handle()
     }
@@ -314,7 +315,7 @@ impl<P: Allows + Drop> AttachedDomain<P> {
         requires idle { self.old.copying ≡ None }
         ensures stays { StaysIdle self.old self.new }
         ensures bound { self.new.domain
-            ≡ record self.old.domain { trail = record self.old.domain.trail { most = records } } }
+            ≡ with_trail self.old.domain (record (trail_of self.old.domain) { most = records }) }
     {
         self.domain.keep_at_most(records);
     }
@@ -328,25 +329,23 @@ impl<P: Allows + Drop> AttachedDomain<P> {
         ensures stays { StaysIdle self.old self.new }
         ensures bound { OnOk result (records ≤ MOST_RESERVED) }
         ensures refused { OnErr result (self.new.domain ≡ self.old.domain) }
-        ensures room { OnOk result (records ≤ self.new.domain.trail.room) }
-        ensures kept { self.new.domain ≡ record self.old.domain {
-          trail =
-              record self.old.domain.trail { room = self.new.domain.trail.room };
-        } }
+        ensures room { OnOk result (records ≤ (trail_of self.new.domain).room) }
+        ensures kept { self.new.domain ≡ with_trail self.old.domain
+            (record (trail_of self.old.domain) { room = (trail_of self.new.domain).room }) }
     {
         self.domain.reserve_records(records)
     }
 
     /// Returns the record at an index of the trail, starting at 0.
     pub fn record_at(&self, index: usize) -> Option<Record>
-        ensures { result ≡ slice_get self.now.domain.trail.records index }
+        ensures { result ≡ slice_get (trail_of self.now.domain).records index }
     {
         self.domain.trail().get(index)
     }
 
     /// Returns the number of records lost so far.
     pub fn lost(&self) -> u64
-        ensures { result ≡ self.now.domain.trail.lost }
+        ensures { result ≡ (trail_of self.now.domain).lost }
     {
         self.domain.trail().lost()
     }
@@ -412,7 +411,7 @@ impl<P: Allows + Drop> AttachedDomain<P> {
         requires idle { self.old.copying ≡ None }
         ensures stays { StaysIdle self.old self.new }
         ensures resets { Resets P.may self.old.monitor self.old.domain result.in_use self.new.domain }
-        ensures lost { result.lost ≡ self.old.domain.trail.lost }
+        ensures lost { result.lost ≡ (trail_of self.old.domain).lost }
     {
         let in_use = self.domain.reset(&self.monitor) as u64;
         let lost = self.domain.trail().lost();
@@ -424,7 +423,7 @@ impl<P: Allows + Drop> AttachedDomain<P> {
     pub fn status(&mut self, gref: GrantRef) -> Option<Control>
         requires idle { self.old.copying ≡ None }
         ensures stays { StaysIdle self.old self.new }
-        ensures looks { LooksAtOwn self.old.monitor.words.layout self.old.domain gref result self.new.domain }
+        ensures looks { LooksAtOwn (words_of self.old.monitor).layout self.old.domain gref result self.new.domain }
     {
         self.domain.status(&self.monitor, gref)
     }
@@ -433,10 +432,10 @@ impl<P: Allows + Drop> AttachedDomain<P> {
     pub fn take_records(&mut self, alloc: Global) -> TakenCounts
         requires idle { self.old.copying ≡ None }
         ensures stays { StaysIdle self.old self.new }
-        ensures taken { result ≡ taken_of self.old.domain.trail }
-        ensures emptied { HasNone self.new.domain.trail }
-        ensures bound { self.new.domain.trail.most ≡ self.old.domain.trail.most }
-        ensures kept { self.new.domain ≡ record self.old.domain { trail = self.new.domain.trail } }
+        ensures taken { result ≡ taken_of (trail_of self.old.domain) }
+        ensures emptied { HasNone (trail_of self.new.domain) }
+        ensures bound { (trail_of self.new.domain).most ≡ (trail_of self.old.domain).most }
+        ensures kept { self.new.domain ≡ with_trail self.old.domain (trail_of self.new.domain) }
     {
         let mut records = self.domain.take_records(Trail::new(alloc));
         let taken = TakenCounts {
@@ -450,7 +449,7 @@ impl<P: Allows + Drop> AttachedDomain<P> {
 
     /// Returns the domain's number.
     pub fn dom(&self) -> DomId
-        ensures { result ≡ self.now.domain.seat.dom }
+        ensures { result ≡ (seat_of self.now.domain).dom }
     {
         self.domain.seat().dom()
     }

@@ -1,14 +1,13 @@
 -- A probe where its copy would make the access: it releases its pins.
-use Rattle.gt_core.proofs.Words.{◌≡◌, ◌⊎◌, inl, inr, ℕ, refl, List, [], ◌∷◌, Option, Some, None, sym, ap, ◌∙◌, subst, arith}
-use Rattle.gt_core.proofs.Words.{DomId, HeldPin, CallPins, OpenRequest, CopyArgs, Observation, Taken, CallResult, Granted, KeptPin}
-use Rattle.gt_core.proofs.Words.{Step, PinStep, Action, Makes, Done, PinPurpose, Leg, LegPhase, LegNext, Phase, Walking, Accessing}
-use Rattle.gt_core.proofs.Words.{Ending, Pinning, Going, LegRefused, Pinned, CallerKnowledge, last_first, action_at, after_leg}
-use Rattle.gt_core.proofs.Words.{leg_after, leg_step, phase_after, held_in, HoldsAfter, History, Setting, StepsSoFar}
+use Rattle.gt_core.proofs.Words.{◌≡◌, inl, inr, refl, List, [], sym, ap, ◌∙◌, subst, arith}
+use Rattle.gt_core.proofs.Words.{DomId, HeldPin, CallPins, OpenRequest, CopyArgs, Observation, Taken, CallResult, Granted}
+use Rattle.gt_core.proofs.Words.{Step, Makes, Done, PinPurpose, Leg, LegPhase, LegNext, Phase, Walking, Accessing}
+use Rattle.gt_core.proofs.Words.{Ending, Pinning, Pinned, CallerKnowledge, last_first, action_at, after_leg}
+use Rattle.gt_core.proofs.Words.{leg_after, phase_after, held_in, HoldsAfter, History, Setting, StepsSoFar}
 use Rattle.gt_core.proofs.Words.{PhaseStands, IsClean, phase_refusal, Observation}
 use Rattle.gt_calls.specs.Machine.{settled}
 use Rattle.gt_calls.specs.Standing.{IsSettled}
 use Rattle.gt_calls.specs.declared.request.OpenRequest.TheVariants.{Probe}
-use Rattle.gt_calls.proofs.Probing.{settled-held}
 use Rattle.gt_core.proofs.Outcomes.{ends-so}
 
 -- a call that ends

@@ -12,7 +12,7 @@ use Rattle.gt_core.proofs.Words.{refused_as, next_to_give, HasShown, IsQuiet, Is
 use Rattle.gt_core.proofs.Words.{History, Setting, word_at, table_at, known_at, seen_by, StepsSoFar, GivesValue}
 use Rattle.gt_core.proofs.Words.{PhaseStands, EndsAfter, EndsCopy, answer_with, MAX_TABLE_FRAMES, ◌-◌, without_last}
 use Rattle.gt_core.proofs.Words.{Size, Version, cond_both, FirstHalf, SecondHalf, first_body, second_body, CopyBytes}
-use Rattle.gt_core.proofs.Words.{CopyArgs, Copy, LookControl, CallPins, LegStands, legs_at, numbered, pins_at, reverse}
+use Rattle.gt_core.proofs.Words.{CopyArgs, LookControl, CallPins, LegStands, legs_at, numbered, pins_at, reverse}
 use Rattle.gt_core.proofs.Words.{arith, stands}
 use Rattle.gt_core.proofs.{Phases.OfAction, Phases.IsHere, Phases.makes-same, EachStep.walk-comes, Legs.ComesTo}
 use Rattle.gt_core.proofs.{Legs.IsLegOf, Legs.Words, Aims.pair_of, Aims.leg-here, Phases.words-of, Phases.next_of}

@@ -1,7 +1,7 @@
 -- The states whose moves are being tried.
 use Rattle.std.proofs.Common.{◌≡◌, ◌⊎◌, ◌<◌, ◌≤◌, ℕ, zero, suc, ◌+◌, List, [], ◌∷◌, ◌++◌, length, ap, sym, ◌∙◌}
 use Rattle.std.proofs.Common.{refl, subst, arith, inl, inr}
-use Rattle.std.proofs.Common.{Result, Ok, Err, OnOk, length-append, Option, Some, None, slice_get, Bool, true, false}
+use Rattle.std.proofs.Common.{length-append, Option, Some, None, slice_get, Bool, true, false}
 use Rattle.std.proofs.Common.{◌==◌, if◌then◌else◌}
 use Rattle.std.proofs.lemmas.List.{append-nil}
 use Rattle.std.proofs.lemmas.Option.{none-some, same_Some, slice_get_within}

@@ -4,7 +4,6 @@ use Rattle.std.proofs.Common.{◌∙◌, ◌+◌, ◌<◌, get_or, length, take}
 use Rattle.std.specs.Prelude.{if◌then◌else◌, filter, is_some, Some, Err}
 use Rattle.std.specs.List.{flat_map, list_any}
 use Rattle.gt_types.specs.Names.{every_permission, permission_name}
-use Rattle.gt_types.specs.declared.perms.Perms.{Perms}
 use Rattle.gt_policy.specs.Granting.{statement_grants}
 use Rattle.gt_policy.specs.Shown.{fault_shown}
 use Rattle.gt_policy.specs.Whole.{Says}
@@ -15,17 +14,15 @@ use Rattle.gt_policy.specs.Lined.{statements_in}
 use Rattle.gt_policy.specs.Resolving.{has_grant}
 use Rattle.gt_policy.specs.Spelling.{types_in}
 use Rattle.gt_policy.specs.declared.lined.LinedStatement.{LinedStatement}
-use Rattle.gt_policy.specs.declared.statements.Allowance.{Allowance}
 use Rattle.gt_policy.specs.declared.statements.Statement.{Statement}
 use Rattle.gt_policy.specs.declared.statements.Statement.TheVariants.{DeclareType, DeclareAttribute, GiveAttributes}
 use Rattle.gt_policy.specs.declared.statements.Statement.TheVariants.{Allow}
-use Rattle.gt_policy_check.specs.declared.members.Member.{Member}
 use Rattle.gt_policy_check.specs.declared.findings.Finding.{Finding}
 use Rattle.gt_policy_check.specs.Check.{is_useless_with, allows_nothing, useless_line, is_error, is_of_nothing, is_of_repeat}
 use Rattle.gt_policy_check.specs.Check.{error_lines, nothing_lines, repeat_lines, Quiet, TellsUseless, Judges, faulty}
 use Rattle.gt_policy_check.specs.Check.{grants_something, grants_with, grants_no_more, no_more_with, repeats, repeats_with}
-use Rattle.gt_policy_check.specs.Check.{repeat_line, repeated_with, lines_repeated}
-use Rattle.std.proofs.lemmas.List.{append-nil, append_assoc, flat_map_more, take_more}
+use Rattle.gt_policy_check.specs.Check.{repeated_with, lines_repeated}
+use Rattle.std.proofs.lemmas.List.{append-nil, flat_map_more, take_more}
 use Rattle.std.proofs.lemmas.List.Concat.{flat_map-append}
 use Rattle.gt_policy_check.specs.Granting.{exceeds_on, exceeds_some, gives_one, gives_some, gives_source, reaches_by}
 use Rattle.gt_policy_check.specs.Members.{membership_of, members_of}

@@ -6,7 +6,6 @@ use Rattle.std.specs.Prelude.{if◌then◌else◌, filter, codes}
 use Rattle.std.specs.List.{flat_map, list_any}
 use Rattle.std.specs.Str.{bytes_eq}
 use Rattle.std.proofs.lemmas.List.Folds.{list_any-append}
-use Rattle.std.proofs.lemmas.List.Concat.{flat_map-append}
 use Rattle.std.proofs.lemmas.Slice.Eq.{bytes_eq-Decides}
 use Rattle.gt_types.specs.Names.{every_permission, permission_name}
 use Rattle.gt_policy.specs.Granting as text
@@ -32,7 +31,7 @@ use Rattle.gt_policy_check.specs.Members.{names_given, names_in_lines, membershi
 use Rattle.gt_policy_check.specs.Texts.{report_entry_text}
 use Rattle.gt_policy_check.specs.Why.{types_asked, source_asked, target_asked, perm_asked, grants_asked, is_near, entry_if, entries_if}
 use Rattle.gt_policy_check.specs.Why.{grants_of, grants_word, is_meant, is_unknown}
-use Rattle.gt_policy_check.specs.Why.{entries_of, answer_by, why_answer, lines_with, lines_of, IsExplained}
+use Rattle.gt_policy_check.specs.Why.{answer_by, why_answer, lines_with, lines_of, IsExplained}
 
 -- bytes are compared either way round
 swap : (v w : List ℕ) → bytes_eq v w ≡ bytes_eq w v

@@ -1,10 +1,10 @@
 -- How far the words of a line fit.
-use Rattle.std.proofs.Common.{◌≡◌, ◌<◌, ◌≤◌, ℕ, zero, suc, ◌+◌, true, false, List, [], ◌∷◌, ◌++◌, length, map, take}
+use Rattle.std.proofs.Common.{◌≡◌, ℕ, zero, suc, List, [], ◌∷◌, ◌++◌, map, take}
 use Rattle.std.proofs.Common.{drop, refl, ap, ◌∙◌, arith}
 use Rattle.std.specs.Prelude.{is_some}
 use Rattle.std.proofs.lemmas.List.{map-append}
 use Rattle.gt_script_lines.specs.Lines.{line_of}
-use Rattle.gt_reasons.specs.Fitting.{fits, IsFitting, IsMisfit}
+use Rattle.gt_reasons.specs.Fitting.{fits, IsMisfit}
 
 -- of an example without words none fits
 pub none_fits : (words : List (List ℕ)) → IsMisfit words 0

@@ -10,7 +10,7 @@ use Rattle.gt_core.proofs.Words.{is_holder, same_handle, same_dir, gather, mappi
 use Rattle.gt_core.proofs.Words.{one_if_mapped, IsLawfulPin, SlotAgrees, StateStands, DomainsStand, CallAgrees}
 use Rattle.gt_core.proofs.Words.{GivenAgrees}
 use Rattle.gt_core.proofs.Words.{MappingsAgree, numbered, inl, inr, ◌⊎◌, option_or, Denial, last_first, next_to_give}
-use Rattle.gt_core.proofs.Words.{Done, Makes, Step, CallResult, Ending, CallPins, OpenRequest, Copy, CopyArgs, StepsSoFar, EndsCopy}
+use Rattle.gt_core.proofs.Words.{Done, Makes, Step, CallResult, Ending, CallPins, OpenRequest, CopyArgs, StepsSoFar, EndsCopy}
 use Rattle.gt_core.proofs.{Steps.Observers.answered-stays, Steps.Observers.cond-same, Steps.Observers.without-kept}
 use Rattle.gt_core.proofs.{Steps.Observers.IsKeyed, Steps.Observers.mapping-keyed, Steps.Observers.leg-keyed}
 use Rattle.gt_core.proofs.{AgreementKept.KeepsEntries, AgreementKept.same-body, AgreementKept.Becomes}
