@@ -46,7 +46,8 @@ BeginsAccess may s copy (Ok places) t =
     × ComesHalfway may s.monitor s.domain copy h t.domain
 BeginsAccess may s copy (Err denial) t =
     StaysIdle s t × Answered may s.monitor s.domain (requests.Copy copy) (Refused denial) t.domain
-    × KeepsPinned s.domain t.domain × Tells (trail_of s.domain) (told_copy s.domain copy (Err denial)) (trail_of t.domain)
+    × KeepsPinned s.domain t.domain
+    × Tells (trail_of s.domain) (told_copy s.domain copy (Err denial)) (trail_of t.domain)
 
 -- the pins of the copy that the domain was in were released, and the copy was recorded as Ok
 abbrev pub EndsAccess : {P : Type 0} → Seated P → Seated P → Type 0

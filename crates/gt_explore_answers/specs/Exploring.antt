@@ -143,7 +143,7 @@ IsFaultAsked c (requests.Decide claim expression) fault = IsExpressionFault c ex
 IsFaultAsked c request expressions.Memory = Unit {0}
 IsFaultAsked c request (expressions.Term number fault) = ⊥
 
--- one of so many texts has the number that a request names; a request that names none has what it needs
+-- if there are `count` texts, one has the number that a request names; a request that names none has what it needs
 abbrev pub has_its_text : ExploreRequest → ℕ → Bool
 has_its_text requests.Texts count = true
 has_its_text (requests.Decide claim expression) count = true

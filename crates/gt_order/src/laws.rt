@@ -28,7 +28,7 @@ pub fn steps_keep_agreement()
 {}
 
 /// A law: the contracts of a domain's calls make each of them a call of a run, bytes and all. A copy that reached its
-/// access and could not make it is the call of its probe, and so is a copy in two halves, whose access its caller makes.
+/// access and could not make it is the call of its probe. So is a copy in two halves, whose access its caller makes.
 /// Nothing beyond the clauses of those contracts is needed.
 pub fn calls_of_domains_are_made<P: Allows>(monitor: &Monitor<P>)
     ensures plain { PlainCallsAreMade P.may monitor.now }
