@@ -1,13 +1,10 @@
 -- From what was read, found and written to what is advised.
-use Rattle.std.proofs.Common.{◌≡◌, ◌⊎◌, ℕ, ◌<◌, ◌≤◌, List, [], ◌∷◌, length, length-take, take, Option, Some, None}
-use Rattle.std.proofs.Common.{Result, Ok, Err, Bool, true, false, not, refl, sym, ap, subst, ◌∙◌, inl, inr, arith}
-use Rattle.std.specs.List.{flat_map, list_any}
+use Rattle.std.proofs.Common.{◌≡◌, ℕ, ◌<◌, ◌≤◌, List, [], ◌∷◌, length, length-take, take, Option, Some}
+use Rattle.std.proofs.Common.{Result, Ok, Err, Bool, true, false, not, refl, sym, subst, ◌∙◌, inl, inr, arith}
+use Rattle.std.specs.List.{list_any}
 use Rattle.std.specs.Io.KnownBytes.{Appends}
 use Rattle.std.specs.Str.{IsUtf8}
 use Rattle.gt_policy_check.specs.Check.{Judges, faulty, sound, error_lines, is_error}
-use Rattle.gt_policy_check.specs.Why.{IsExplained}
-use Rattle.gt_policy_check.specs.declared.asking.WhyAnswer.{WhyAnswer}
-use Rattle.gt_policy_check.specs.declared.asking.WhyAnswer.TheVariants as answers
 use Rattle.gt_policy_check.specs.declared.asking.Explanation.{Explanation}
 use Rattle.gt_policy_check.specs.declared.asking.WhyQuestion.{WhyQuestion}
 use Rattle.gt_policy_check.specs.declared.findings.Finding.{Finding}
@@ -20,18 +17,15 @@ use Rattle.gt_policy_list.specs.Faults.{listing_fault_of, listing_read_fault}
 use Rattle.gt_policy_list.specs.Reading.{IsNoText}
 use Rattle.gt_policy_list.specs.declared.fault.ListingFault.{ListingFault}
 use Rattle.gt_policy_list.specs.declared.fault.ListingFault.TheVariants as faults
-use Rattle.gt_policy.specs.Allowing.{Meaning}
 use Rattle.gt_policy.specs.Grammar.{at}
-use Rattle.gt_policy.specs.Lined.{IsLined}
 use Rattle.gt_policy.specs.Shown.{fault_shown}
 use Rattle.gt_policy.specs.Whole.{Says, too_long}
 use Rattle.gt_policy.specs.declared.fault.TokenFault.{TokenFault}
 use Rattle.gt_policy.specs.declared.fault.TokenFaultKind.TheVariants.{Limit}
-use Rattle.gt_policy.specs.declared.lined.LinedStatement.{LinedStatement}
 use Rattle.gt_policy.specs.declared.parse.PolicyFaultKind.{PolicyFaultKind}
 use Rattle.gt_policy.specs.declared.parse.PolicyFaultKind.TheVariants as kinds
 use Rattle.gt_text.specs.Laws.{keeps_same, of_any_input, take_whole}
-use Rattle.gt_text.specs.Streams.{AppendsBeginning, OfInput}
+use Rattle.gt_text.specs.Streams.{OfInput}
 use Rattle.gt_text.specs.declared.fault.ReadFault.{ReadFault}
 use Rattle.gt_text.specs.declared.fault.ReadFault.TheVariants as reads
 

@@ -1,5 +1,5 @@
 -- From the breaches that were found and written to what a check against neverallow statements promises.
-use Rattle.std.proofs.Common.{◌≡◌, ◌==◌, ℕ, ◌≤◌, List, length, take, Option, Some, Result, Ok, Err, Bool, refl, sym, ap, subst, ◌∙◌, inr}
+use Rattle.std.proofs.Common.{◌≡◌, ℕ, ◌≤◌, List, length, take, Option, Some, Result, Ok, Err, Bool, refl, sym, subst, inr}
 use Rattle.std.specs.Str.{IsUtf8}
 use Rattle.gt_policy.specs.Shown.{fault_shown}
 use Rattle.gt_policy.specs.Whole.{Says}

@@ -1,5 +1,5 @@
 -- From the dump that an input says to what is written for the input.
-use Rattle.std.proofs.Common.{◌≡◌, ℕ, ◌+◌, ◌<◌, ◌≤◌, List, ◌++◌, length, length-take, take, min, Option, Result, Ok}
+use Rattle.std.proofs.Common.{◌≡◌, ℕ, ◌<◌, ◌≤◌, List, ◌++◌, length, length-take, take, Option, Result, Ok}
 use Rattle.std.proofs.Common.{Err, subst, sym, ◌∙◌, inl, inr, arith, suc}
 use Rattle.gt_text.specs.Laws.{keeps_same, of_any_input, take_whole}
 use Rattle.gt_text.specs.Streams.{OfInput}

@@ -1,6 +1,6 @@
 -- What is written for a dump.
 use Rattle.std.specs.Prelude.{◌≡◌, ◌⊎◌, ◌<◌, ◌≤◌, ℕ, zero, suc, ◌+◌, ◌-◌, ◌*◌, ◌/◌, ◌==◌, ◌&&◌, not, Bool, true, false}
-use Rattle.std.specs.Prelude.{List, [], ◌∷◌, ◌++◌, length, take, drop, filter, codes, decimal, Option, Some, None}
+use Rattle.std.specs.Prelude.{List, [], ◌++◌, length, take, drop, filter, codes, decimal, Option, Some, None}
 use Rattle.std.specs.Prelude.{Result, Ok, Err, MatchBool}
 use Rattle.gt_entries.specs.Prelude.{is_ascii_whitespace, list_all, Appends, Keeps, decode_of, FromHexError, DomId, Field}
 use Rattle.gt_entries.specs.Prelude.{LONGEST_TEXT, Spells, first_refused, entry_size, Entry, AppendsBeginning, DumpOptions}

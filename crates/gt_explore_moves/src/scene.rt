@@ -145,16 +145,16 @@ impl<'s, 'a> SearchContext<'s, 'a> {
         })
     }
 
-    /// Returns the task at the index `place` of the list of the domain at the position `at`, if there is one.
-    pub fn task(&self, at: usize, place: usize) -> Option<&'s RunTask<'a>>
-        ensures { option_map (λ t. t.now) result ≡ slice_get (tasks_at self.now at) place }
+    /// Returns the task at this index of the list of the domain at the position `place`, if there is one.
+    pub fn task(&self, place: usize, index: usize) -> Option<&'s RunTask<'a>>
+        ensures { option_map (λ t. t.now) result ≡ slice_get (tasks_at self.now place) index }
     {
-        if at >= self.lists.len() {
+        if place >= self.lists.len() {
             return None;
         }
-        let list = &self.lists[at];
-        if place < list.len() {
-            Some(list[place])
+        let list = &self.lists[place];
+        if index < list.len() {
+            Some(list[index])
         } else {
             None
         }

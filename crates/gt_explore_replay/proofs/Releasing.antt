@@ -1,5 +1,5 @@
 -- The release of a mapping is answered Ok.
-use Rattle.std.proofs.Common.{◌≡◌, ◌≢◌, ◌++◌, Bool, false, List, [], ◌∷◌, Option, Some, None, refl, ap, sym, ◌∙◌, subst, arith}
+use Rattle.std.proofs.Common.{◌≡◌, ◌≢◌, ◌++◌, false, List, [], ◌∷◌, Option, Some, None, refl, ap, sym, ◌∙◌, subst, arith}
 use Rattle.std.specs.Prelude.{is_none}
 use Rattle.std.proofs.lemmas.Option.{none-some, same_Some}
 use Rattle.gt_types.specs.declared.DomId.{DomId}
@@ -26,7 +26,6 @@ use Rattle.gt_core.specs.History.{History, Setting, Underway, known_at, mapping_
 use Rattle.gt_core.specs.Legal.{AnsweredBy, GivesValue, IsRight, StepsRightIn, gives_back, next_in, refusal_of, verdict_in}
 use Rattle.gt_core.specs.declared.trace.Answer.{Answer}
 use Rattle.gt_core.specs.declared.trace.Answer.TheVariants as answers
-use Rattle.gt_core.specs.declared.trace.Item.{Item}
 use Rattle.gt_core.specs.declared.trace.ItemEvent.{ItemEvent}
 use Rattle.gt_core.specs.declared.trace.ItemEvent.TheVariants.{Began, Stepped}
 use Rattle.gt_explore_replay.specs.Releasing.{OpenReleasesAreOk, RefusedWithoutMapping, ReleasesAreOk}

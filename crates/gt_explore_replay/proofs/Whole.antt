@@ -16,7 +16,6 @@ use Rattle.gt_core.specs.Alike.{AreAlike}
 use Rattle.gt_core.specs.History.{History, Setting}
 use Rattle.gt_core.specs.Legal.{grown, history_after}
 use Rattle.gt_core.specs.Standing.{CoreStands, setting_in}
-use Rattle.gt_core.specs.States.{CoreState}
 use Rattle.gt_core.specs.declared.trace.Element.{Element}
 use Rattle.gt_core.specs.declared.trace.Event.{Event}
 use Rattle.gt_script_lines.specs.declared.calls.ScriptCall.{ScriptCall}

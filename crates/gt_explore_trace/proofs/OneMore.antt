@@ -1,6 +1,6 @@
 -- One move more.
-use Rattle.std.proofs.Common.{◌≡◌, ◌∙◌, ◌++◌, ◌<◌, ◌≤◌, ◌+◌, ℕ, zero, suc, List, [], ◌∷◌, length, get_or, take, drop, refl, ap, ap₂}
-use Rattle.std.proofs.Common.{subst, sym, Option, Some, option_map, append_assoc, arith, OnOk, Result, Ok, Err}
+use Rattle.std.proofs.Common.{◌≡◌, ◌∙◌, ◌++◌, ◌<◌, ◌≤◌, ◌+◌, ℕ, zero, suc, List, [], ◌∷◌, length, get_or, take, drop, ap}
+use Rattle.std.proofs.Common.{sym, Some, option_map, append_assoc, arith, OnOk, Result, Ok, Err}
 use Rattle.std.specs.Prelude.{slice_get}
 use Rattle.std.proofs.lemmas.List.{append-nil, drop_all, drop_more, length-take-le, take_more}
 use Rattle.std.proofs.lemmas.Option.{none-some, same_Some}
@@ -9,7 +9,7 @@ use Rattle.gt_types.specs.declared.config.DomainConfig.{DomainConfig}
 use Rattle.gt_script.specs.Contents.{type_names}
 use Rattle.gt_script.specs.RunContents.{RunContents}
 use Rattle.gt_explore_replay.specs.Orders.{Happening}
-use Rattle.gt_explore_trace.specs.Lines.{move_line, trace_lines, trace_told}
+use Rattle.gt_explore_trace.specs.Lines.{move_line, trace_lines}
 use Rattle.gt_explore_trace.specs.Moves.{AreMovesOf, IsMoveOf}
 use Rattle.gt_explore_trace.specs.Places.{task_of}
 use Rattle.gt_explore_trace.specs.declared.facts.TraceForm.{TraceForm}

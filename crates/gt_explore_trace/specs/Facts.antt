@@ -1,5 +1,5 @@
 -- The facts of a line: a name and a value each, as `NAME=VALUE` or as a member of a JSON object.
-use Rattle.std.specs.Prelude.{ℕ, List, [], ◌++◌, codes, decimal}
+use Rattle.std.specs.Prelude.{ℕ, List, [], ◌++◌, codes}
 use Rattle.std.specs.Int.{to_be_bytes, w64}
 use Rattle.hex.specs.Hex.{encode_lower}
 use Rattle.gt_explore_trace.specs.declared.facts.TraceForm.{TraceForm}

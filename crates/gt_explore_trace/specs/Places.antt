@@ -1,6 +1,6 @@
 -- The lines of a script that moves belong to.
 use Rattle.std.specs.Prelude.{ℕ, ◌-◌, ◌==◌, ◌&&◌, Bool, true, false, List, Option, Some, None, count_by, if◌then◌else◌}
-use Rattle.std.specs.Prelude.{codes, decimal, slice_get}
+use Rattle.std.specs.Prelude.{codes, slice_get}
 use Rattle.gt_types.specs.declared.DomId.{DomId}
 use Rattle.gt_script_lines.specs.declared.calls.ScriptCall.{ScriptCall}
 use Rattle.gt_script_lines.specs.declared.calls.ScriptCall.TheVariants as calls

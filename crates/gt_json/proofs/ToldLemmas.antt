@@ -11,7 +11,7 @@ use Rattle.std.proofs.lemmas.List.Splits.{join_with_byte-slice_split}
 use Rattle.std.proofs.lemmas.Option.{same_Some, none-some}
 use Rattle.std.proofs.lemmas.Slice.Eq.{bytes_eq-Decides}
 use Rattle.gt_json.specs.Words.{at_equals}
-use Rattle.gt_json.specs.Places.{next, name_at, start, is_fact, is_mark}
+use Rattle.gt_json.specs.Places.{next, name_at, is_fact, is_mark}
 use Rattle.gt_json.specs.Lines.{said, all_said, json_words, object_line, json_text}
 use Rattle.gt_json.specs.Strings.{SpellsString, escaped, hex_digit, ends, itself, quote, backslash, number}
 use Rattle.gt_json.specs.declared.places.WordPlace.{WordPlace}

@@ -1,4 +1,4 @@
-use Rattle.std.proofs.Common.{◌<◌, ◌+◌, ℕ, ap, length}
+use Rattle.std.proofs.Common.{◌+◌, ℕ, ap}
 use Rattle.gt_script.specs.RunContents.{run_told}
 use Rattle.gt_explore_trace.proofs.OneMore.{told_more}
 use Rattle.gt_explore_trace.proofs.lines.push_trace.Goals as goal

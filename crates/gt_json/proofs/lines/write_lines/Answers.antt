@@ -1,4 +1,4 @@
-use Rattle.std.proofs.Common.{◌≡◌, ◌<◌, ℕ, List, [], length, refl, arith}
+use Rattle.std.proofs.Common.{◌≡◌, ◌<◌, [], length, refl, arith}
 use Rattle.gt_text.specs.Laws.{OnErr-all}
 use Rattle.gt_json.specs.Lines.{object_line}
 use Rattle.gt_text.proofs.PieceLemmas.{begins_all, begins_pieces, has_begun, sends_all, sends_start, sent_all}
