@@ -226,9 +226,16 @@ fn words_reason(alloc: Global, file: &str, words: &str) -> Result<Vec<u8>, Alloc
     Ok(said)
 }
 
-// Returns the reason for which a script without a fault was not explored. There is none for want of memory.
-fn explore_reason(alloc: Global, file: &str, fault: &ExploreFault) -> Result<Vec<u8>, AllocError> {
+// Returns the reason for which a script was not explored, or nothing if memory ran out.
+fn explore_reason(
+    alloc: Global,
+    file: &str,
+    is_line: bool,
+    input: &KeptInput,
+    fault: &ExploreFault,
+) -> Result<Vec<u8>, AllocError> {
     match fault {
+        ExploreFault::Play(fault) => fault_reason(alloc, file, is_line, input, fault),
         ExploreFault::Number => words_reason(alloc, file, "no output has this number"),
         ExploreFault::Texts(TextsFault::States) => {
             let words = "the search met more states or answers than it can number";
@@ -245,7 +252,7 @@ fn explore_reason(alloc: Global, file: &str, fault: &ExploreFault) -> Result<Vec
             let words = format!(in alloc; "{fault}")?;
             words_reason(alloc, file, words.as_str())
         }
-        ExploreFault::Texts(TextsFault::Memory) | ExploreFault::Play(_) => Ok(Vec::new(alloc)),
+        ExploreFault::Texts(TextsFault::Memory) => Ok(Vec::new(alloc)),
     }
 }
 
@@ -396,14 +403,10 @@ impl<'a> Reasons<'a> {
 
     /// Adds the reason for which the script that was read was not explored.
     pub fn add_explore(&mut self, input: &KeptInput, fault: &ExploreFault) {
-        let Some(file) = self.file else {
-            return;
-        };
-        let said = match fault {
-            ExploreFault::Play(fault) => fault_reason(self.alloc, file, self.is_line, input, fault),
-            _ => explore_reason(self.alloc, file, fault),
-        };
-        self.add(said);
+        if let Some(file) = self.file {
+            let said = explore_reason(self.alloc, file, self.is_line, input, fault);
+            self.add(said);
+        }
     }
 
     /// Prints the reason of a fault as the line of the fault, if the command has its reasons there and there is one.

@@ -251,7 +251,7 @@ spelled version bytes entry = by (version == 2)
     by true s = spelled-v2 bytes entry s
     by false s = spelled-v1 bytes entry s.1
 
--- a seat that is the same as one that is the same
+-- two seats that are both the same as a third
 same-since : (s t u : SeatOf) → IsSameSeat s t → IsSameSeat s u → IsSameSeat t u
 same-since s t u a b = record {
   table = b.table ∙ sym a.table;

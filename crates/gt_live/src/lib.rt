@@ -10,7 +10,8 @@
 //! exactly what its path accesses (`specs/Accesses.antt`).
 //!
 //! It uses `gt_calls`, `gt_words`, `gt_access`, `gt_frames`, `gt_handles`, `gt_audit`, `gt_entry`, `gt_roster` and
-//! `gt_types`. Its contracts also name definitions of `gt_shared_table` and `gt_word_history`.
+//! `gt_types`. Its contracts also name definitions of `gt_shared_table` and `gt_word_history`, and its proofs the kit's
+//! `byteorder`.
 #![tactic(auto)]
 
 mod domain;

@@ -36,7 +36,7 @@ plain-made may m d e request verdict stays other fits plain answered kept = (
 )
 
 -- a call that drops a mapping, or is refused
-no-pin : (result : Result (Unit {0}) Denial) → KeepsNoPin (verdict_of result)
+pub no-pin : (result : Result (Unit {0}) Denial) → KeepsNoPin (verdict_of result)
 no-pin (Ok done) = tt
 no-pin (Err denial) = tt
 

@@ -30,19 +30,15 @@ use Rattle.gt_live.specs.Domains.{AllowRelation, BelongsTo, IsDomainOf, IsUnsett
 use Rattle.gt_live.specs.Walks.{Made}
 use Rattle.gt_live.specs.declared.domain.Domain.{Domain}
 use Rattle.gt_live.specs.declared.monitor.Monitor.{Monitor}
-use Rattle.gt_order.proofs.Called.{plain-made}
+use Rattle.gt_order.proofs.Called.{no-pin, plain-made}
 use Rattle.gt_order.proofs.Deeds.{at-rest, deeds-on, rest-on}
 use Rattle.gt_order.proofs.Leaving.{releases-each, with_rest}
 use Rattle.gt_order.proofs.Making.{header-is}
 use Rattle.gt_order.proofs.Places.{as-many}
 use Rattle.gt_order.specs.Closing.{AreClosing, ClosingIsWithdrawing, ResettingIsReleasing, StatusIsLooking}
-use Rattle.gt_order.specs.Runs.{AreDeeds, CallMade, Deed, IsAtRest, KeepsNoPin, LookMade, domain_after}
+use Rattle.gt_order.specs.Runs.{AreDeeds, CallMade, Deed, IsAtRest, LookMade, domain_after}
 use Rattle.gt_order.specs.Runs.Deed.{Call, Look}
 use Rattle.gt_order.specs.Runs.CallOutcome.{Told}
-
-pub no-pin : (r : Result (Unit {0}) Denial) → KeepsNoPin (verdict_of r)
-no-pin (Ok done) = tt
-no-pin (Err denial) = tt
 
 -- the deeds with which a domain closes its table
 

@@ -13,8 +13,7 @@ use Rattle.gt_live.specs.Ending.{IsOfMapping}
 use Rattle.gt_live.specs.Following.{Calls, FitsChange, MakesCalls, request_of}
 use Rattle.gt_live.specs.declared.domain.Domain.{Domain}
 use Rattle.gt_live.specs.declared.monitor.Monitor.{Monitor}
-use Rattle.gt_order.proofs.Called.{plain-made}
-use Rattle.gt_order.proofs.Closing.{no-pin}
+use Rattle.gt_order.proofs.Called.{no-pin, plain-made}
 use Rattle.gt_order.proofs.Deeds.{at-rest}
 use Rattle.gt_order.specs.Following.{AreChanges, FollowingIsCalling}
 use Rattle.gt_order.specs.Runs.{AreDeeds, CallMade, Deed, FitsTypes, domain_after}

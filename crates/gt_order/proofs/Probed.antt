@@ -10,7 +10,6 @@ use Rattle.gt_types.specs.declared.DomId.{DomId}
 use Rattle.gt_types.specs.declared.Dir.TheVariants.{Read as ForReading, Write as ForWriting}
 use Rattle.gt_types.specs.declared.copies.CopyArgs.{CopyArgs}
 use Rattle.gt_handles.specs.Handles.{HandleMap}
-use Rattle.gt_words.specs.Conditions.{IsSameSeat, SeatOf}
 use Rattle.gt_word_history.specs.Events.{TookPlace}
 use Rattle.gt_word_history.specs.History.{Moment, part_of}
 use Rattle.gt_word_history.specs.Rule.{Layout}
@@ -38,6 +37,7 @@ use Rattle.gt_live.specs.Domains.{AllowRelation, knowledge}
 use Rattle.gt_live.specs.Walks.{AreMoments, Called, IsWalk, MakesStep, all_shown, shown_by, view_after}
 use Rattle.gt_live.specs.declared.monitor.Monitor.{Monitor}
 use Rattle.gt_live.proofs.Copied.{whole-copy}
+use Rattle.gt_live.proofs.Making.{same_seat-then}
 use Rattle.gt_live.proofs.Walking.{after-position}
 use Rattle.gt_order.proofs.Accessing.{IsOneAccess, alone, one-access, shown-append, view-append}
 use Rattle.gt_order.proofs.KeptFrames.{IsToFrames, copies-so}
@@ -165,17 +165,6 @@ lost-copies may m d e args access stays a kept =
     by-rules c m.words.layout d.seat.dom args d.seat.view e.seat.view access (begun c d.seat.dom (asks.Copy args)) refl a in
     (called.steps, record { before = stays.before; afterwards = stays.afterwards; seat = stays.seat; fits = (tt, tt); answered = (tt, (called, refl), kept.0) })
 
--- a seat that is the same as one that is the same
-still-same : (s t u : SeatOf) → IsSameSeat s t → IsSameSeat t u → IsSameSeat s u
-still-same s t u a b = record {
-  table = b.table ∙ a.table;
-  dom = b.dom ∙ a.dom;
-  position = b.position ∙ a.position;
-  first = b.first ∙ a.first;
-  headers = b.headers ∙ a.headers;
-  ids = b.ids ∙ a.ids;
-}
-
 pub halves-made : {P : Type 0} (may : P → AllowRelation) (m : Monitor P) → HalvesAreMade may m
 halves-made may m d mid e args h before comes ends afterwards =
     let c = knowledge m.config (may m.rights) d in let k = m.words.layout in let access = CopyBytes h.from h.to h.len in
@@ -183,6 +172,6 @@ halves-made may m d mid e args h before comes ends afterwards =
     let way : Accessed k (path_of c d.seat.dom (requests.Copy args)) access IsUnmade d.seat.view e.seat.view =
     subst (λ (y : Continuation). Accessed k y access IsUnmade d.seat.view e.seat.view) (sym comes.way) whole.0 in
     let mappings : e.mappings ≡ d.mappings = ends.mappings ∙ comes.kept.mappings in
-    let seat = still-same d.seat mid.seat e.seat comes.kept.seat ends.seat in
+    let seat = same_seat-then d.seat mid.seat e.seat comes.kept.seat ends.seat in
     lost-copies may m d e args access (record { before = before; afterwards = afterwards; seat = seat }) way
     (record { slots = ap (λ (x : HandleMap HeldPin). x.slots) mappings; given = ap (λ (x : HandleMap HeldPin). x.given) mappings }, whole.1)
