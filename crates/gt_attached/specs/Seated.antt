@@ -1,7 +1,7 @@
 -- What a contract sees of an attached domain, and how its copies begin and end.
 use Rattle.std.specs.Prelude.{◌≡◌, length, Option, Some, None, Result, Ok, Err}
 use Rattle.gt_types.specs.declared.denial.Denial.{Denial}
-use Rattle.gt_audit.specs.Telling.{Telling, Tells}
+use Rattle.gt_audit.specs.Trails.{TrailState, AppendsRecord}
 use Rattle.gt_calls.specs.declared.action.CallResult.TheVariants.{Refused}
 use Rattle.gt_types.specs.declared.copies.CopyArgs.{CopyArgs}
 use Rattle.gt_calls.specs.declared.request.Request.TheVariants as requests
@@ -11,7 +11,7 @@ use Rattle.gt_live.specs.declared.domain.copies.PendingCopy.{PendingCopy}
 use Rattle.gt_live.specs.declared.monitor.Monitor.{Monitor}
 use Rattle.gt_live.specs.declared.domain.Departed.{Departed}
 use Rattle.gt_live.specs.Closing.{Resets}
-use Rattle.gt_live.specs.Domains.{AllowRelation, Answered, BelongsTo, HasLeft, KeepsPinned, told_copy}
+use Rattle.gt_live.specs.Domains.{AllowRelation, Answered, BelongsTo, HasLeft, KeepsPinned, record_of_copy}
 use Rattle.gt_live.specs.Halves.{ComesHalfway, EndsHalfway, IsHalfway, done_copy}
 use Rattle.gt_live.specs.Parts.{seat_of, trail_left, trail_of, words_of}
 use Rattle.gt_attached.specs.declared.answer.Departure.{Departure}
@@ -47,14 +47,14 @@ BeginsAccess may s copy (Ok places) t =
 BeginsAccess may s copy (Err denial) t =
     StaysIdle s t × Answered may s.monitor s.domain (requests.Copy copy) (Refused denial) t.domain
     × KeepsPinned s.domain t.domain
-    × Tells (trail_of s.domain) (told_copy s.domain copy (Err denial)) (trail_of t.domain)
+    × AppendsRecord (trail_of s.domain) (record_of_copy s.domain copy (Err denial)) (trail_of t.domain)
 
 -- the pins of the copy that the domain was in were released, and the copy was recorded as Ok
 abbrev pub EndsAccess : {P : Type 0} → Seated P → Seated P → Type 0
 EndsAccess s t =
     (h : PendingCopy) × (s.copying ≡ Some h) × StaysIdle s t
     × EndsHalfway (words_of s.monitor).layout h s.domain t.domain
-    × Tells (trail_of s.domain) (done_copy s.domain h.copy) (trail_of t.domain)
+    × AppendsRecord (trail_of s.domain) (done_copy s.domain h.copy) (trail_of t.domain)
 
 -- a domain released its mappings, closed its table and left its run, with this many entries still in use and this many
 -- records lost
@@ -66,5 +66,5 @@ pub record Leaves {P : Type 0} (may : P → AllowRelation) (m : Monitor P) (d : 
   pub lost : remains.lost ≡ (trail_left left).lost
 
 -- the number of records of a domain, and the number lost
-abbrev pub taken_of : Telling → TakenCounts
+abbrev pub taken_of : TrailState → TakenCounts
 taken_of t = record { records = length t.records; lost = t.lost }

@@ -75,16 +75,16 @@ impl<P: Allows + Drop> Drop for AttachedDomain<P> {
 
 impl<P: Allows + Drop> AttachedDomain<P> {
     ghost use Rattle.std.specs.Prelude.{◌≡◌, ◌≤◌, Err, IsSome, None, OnOk, OnErr, is_some};
-    ghost use Rattle.gt_audit.specs.Telling.{HasNone, Tells};
+    ghost use Rattle.gt_audit.specs.Trails.{HasNone, AppendsRecord};
     ghost use Rattle.gt_audit.specs.declared.pieces.TheConstants.{MOST_RESERVED};
     ghost use Rattle.gt_audit.specs.declared.record.Hypercall.TheVariants as Hypercall;
     ghost use Rattle.gt_calls.specs.declared.held.HeldPin.{HeldPin as Mapping};
     ghost use Rattle.gt_calls.specs.declared.request.Request.TheVariants as Request;
-    ghost use Rattle.gt_live.specs.Domains.{Answered, AnswersQuietly, AnswersTold};
+    ghost use Rattle.gt_live.specs.Domains.{Answered, AnswersQuietly, AnswersRecorded};
     ghost use Rattle.gt_live.specs.Closing.{LooksAtOwn, Resets};
     ghost use Rattle.gt_live.specs.Following.{Follows};
     ghost use Rattle.gt_live.specs.Domains.{KeepsPinned, MapAnswered, mapping_reply, subject_of};
-    ghost use Rattle.gt_live.specs.Domains.{told_of, verdict_of, verdict_of_frames, verdict_of_size};
+    ghost use Rattle.gt_live.specs.Domains.{record_of_result, verdict_of, verdict_of_frames, verdict_of_size};
     ghost use Rattle.gt_live.specs.Domains.{verdict_of_version};
     ghost use Rattle.gt_live.specs.Mappings.{Removes, unused_handle};
     ghost use Rattle.gt_live.specs.Parts.{mappings_of, seat_of, trail_of, with_trail, words_of};
@@ -207,7 +207,7 @@ impl<P: Allows + Drop> AttachedDomain<P> {
     pub fn set_version(&mut self, version: u32) -> Result<(), Denial>
         requires idle { self.old.copying ≡ None }
         ensures stays { StaysIdle self.old self.new }
-        ensures answers { AnswersTold P.may self.old.monitor self.old.domain
+        ensures answers { AnswersRecorded P.may self.old.monitor self.old.domain
             (Request.SetVersion version) (Hypercall.SetVersion version) (verdict_of result) self.new.domain }
     {
         self.domain.set_version(&self.monitor, version)
@@ -220,7 +220,7 @@ impl<P: Allows + Drop> AttachedDomain<P> {
     pub fn setup_table(&mut self, frames: u32) -> Result<u32, Denial>
         requires idle { self.old.copying ≡ None }
         ensures stays { StaysIdle self.old self.new }
-        ensures answers { AnswersTold P.may self.old.monitor self.old.domain
+        ensures answers { AnswersRecorded P.may self.old.monitor self.old.domain
             (Request.SetupTable frames) (Hypercall.SetupTable frames) (verdict_of_frames result) self.new.domain }
     {
         self.domain.setup_table(&self.monitor, frames)
@@ -233,7 +233,7 @@ impl<P: Allows + Drop> AttachedDomain<P> {
     pub fn query_size(&mut self, dom: DomId) -> Result<Size, Denial>
         requires idle { self.old.copying ≡ None }
         ensures stays { StaysIdle self.old self.new }
-        ensures answers { AnswersTold P.may self.old.monitor self.old.domain
+        ensures answers { AnswersRecorded P.may self.old.monitor self.old.domain
             (Request.QuerySize dom) (Hypercall.QuerySize dom) (verdict_of_size result) self.new.domain }
     {
         self.domain.query_size(&self.monitor, dom)
@@ -246,7 +246,7 @@ impl<P: Allows + Drop> AttachedDomain<P> {
     pub fn get_version(&mut self, dom: DomId) -> Result<u32, Denial>
         requires idle { self.old.copying ≡ None }
         ensures stays { StaysIdle self.old self.new }
-        ensures answers { AnswersTold P.may self.old.monitor self.old.domain
+        ensures answers { AnswersRecorded P.may self.old.monitor self.old.domain
             (Request.GetVersion dom) (Hypercall.GetVersion dom) (verdict_of_version result) self.new.domain }
     {
         self.domain.get_version(&self.monitor, dom)
@@ -262,7 +262,7 @@ impl<P: Allows + Drop> AttachedDomain<P> {
         ensures stays { StaysIdle self.old self.new }
         ensures answered { MapAnswered P.may self.old.monitor self.old.domain
             (Request.Map dom gref flags) result self.new.domain }
-        ensures told { Tells (trail_of self.old.domain)
+        ensures recorded { AppendsRecord (trail_of self.old.domain)
             (record {
               dom = (seat_of self.old.domain).dom;
               call = Hypercall.Map dom gref flags;
@@ -286,8 +286,8 @@ impl<P: Allows + Drop> AttachedDomain<P> {
             × Removes (mappings_of self.old.domain) (mappings_of self.new.domain) handle p) }
         ensures refused { OnErr result (KeepsPinned self.old.domain self.new.domain) }
         ensures absent { value_of (mappings_of self.old.domain) handle ≡ None → result ≡ Err (denial_of N6 NoFacts) }
-        ensures told { Tells (trail_of self.old.domain)
-            (told_of self.old.domain (Hypercall.Unmap (subject_of self.old.domain handle)) (verdict_of result))
+        ensures recorded { AppendsRecord (trail_of self.old.domain)
+            (record_of_result self.old.domain (Hypercall.Unmap (subject_of self.old.domain handle)) (verdict_of result))
             (trail_of self.new.domain) }
     {
         self.domain.unmap(&self.monitor, handle)

@@ -69,19 +69,19 @@ fn end_recorded(end: End) -> CopyEnd
 }
 
 // Encodes a record without its call.
-fn without_call(told: &gt_audit::Record) -> EncodedRecord
-    ensures { result ≡ plainly told.now }
+fn without_call(recorded: &gt_audit::Record) -> EncodedRecord
+    ensures { result ≡ plainly recorded.now }
 {
     EncodedRecord {
         call: 0,
-        caller: u32::from(told.dom.0),
+        caller: u32::from(recorded.dom.0),
         dom: 0,
         gref: 0,
         flags: 0,
         len: 0,
         source: NO_END,
         dest: NO_END,
-        reply: EncodedAnswer::of(replied(told.reply)),
+        reply: EncodedAnswer::of(replied(recorded.reply)),
     }
 }
 
@@ -104,11 +104,11 @@ impl EncodedRecord {
     ghost use Rattle.gt_attached.specs.Recording.{record_kept};
 
     /// Encodes a record.
-    pub fn of(told: gt_audit::Record) -> EncodedRecord
-        ensures { result ≡ record_kept told }
+    pub fn of(recorded: gt_audit::Record) -> EncodedRecord
+        ensures { result ≡ record_kept recorded }
     {
-        let bare = without_call(&told);
-        match told.call {
+        let bare = without_call(&recorded);
+        match recorded.call {
             Hypercall::Map { dom, gref, flags } => EncodedRecord {
                 call: 1,
                 dom: u32::from(dom.0),

@@ -2,4 +2,4 @@ pub mod Compact
 pub mod Lines
 pub mod Log
 pub mod Pieces
-pub mod Telling
+pub mod Trails

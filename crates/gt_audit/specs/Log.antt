@@ -12,11 +12,11 @@ IsIn log p = Shows log.entries p.token
 
 -- the record that the token was returned for
 abbrev pub pushed_record : Pushed → Record
-pushed_record p = p.token.value.told
+pushed_record p = p.token.value.recorded
 
 -- the number that the record was pushed under, and the record
 abbrev pub numbered_of : Pushed → ℕ × Record
-numbered_of p = (p.token.value.number, p.token.value.told)
+numbered_of p = (p.token.value.number, p.token.value.recorded)
 
 -- the token belongs to this log, and its record was pushed for this domain
 abbrev pub IsPushedBy : SharedLog → DomId → Pushed → Type 0
@@ -26,4 +26,4 @@ IsPushedBy log d p = IsIn log p × (p.token.value.dom ≡ d)
 pub record IsFor (p : Pushed) (by : DomId) (count : ℕ) (r : Record) : Type 0 where
   pub dom : p.token.value.dom ≡ by
   pub number : p.token.value.number ≡ count
-  pub told : pushed_record p ≡ r
+  pub recorded : pushed_record p ≡ r

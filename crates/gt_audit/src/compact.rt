@@ -378,15 +378,15 @@ impl Compact {
 
     /// Packs a record.
     #[inline(always)]
-    pub(crate) fn of(told: Record) -> Compact
-        ensures { result ≡ told }
+    pub(crate) fn of(recorded: Record) -> Compact
+        ensures { result ≡ recorded }
     {
         let rest = Packed {
-            caller: told.dom.0,
+            caller: recorded.dom.0,
             ..BLANK
         };
         Compact {
-            parts: with_call(told.call, with_reply(told.reply, rest)),
+            parts: with_call(recorded.call, with_reply(recorded.reply, rest)),
         }
     }
 

@@ -14,16 +14,16 @@
 #![tactic(auto)]
 
 mod compact;
+mod domain_log;
 mod lines;
 mod pieces;
 mod record;
 mod shared;
-mod told;
 mod trail;
 
+pub use domain_log::DomainLog;
 pub use lines::{line, push_line, push_lost};
 pub use pieces::MOST_RESERVED;
 pub use record::{Hypercall, Record, Reply};
 pub use shared::{Pushed, SharedLog};
-pub use told::DomainLog;
 pub use trail::Trail;

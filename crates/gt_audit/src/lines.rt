@@ -171,24 +171,24 @@ fn push_asked(out: &mut Vec<u8>, caller: DomId, call: Hypercall) -> Result<(), A
 /// one prints no name. After an Err, `out` may end in a part of the line.
 pub fn push_line<N: AsSlice<u8>>(
     out: &mut Vec<u8>,
-    told: &Record,
+    recorded: &Record,
     names: &[N],
 ) -> Result<(), AllocError>
-    ensures text { OnOk result (out.new.items ≡ out.old.items ++ line_text (type_text N.items names.now) told.now) }
+    ensures text { OnOk result (out.new.items ≡ out.old.items ++ line_text (type_text N.items names.now) recorded.now) }
     ensures stays { OnOk result (AreTexts N.items names.now → StaysText out.old.items out.new.items) }
 {
-    push_asked(out, told.dom, told.call)?;
-    push_reply(out, told.reply, names)?;
+    push_asked(out, recorded.dom, recorded.call)?;
+    push_reply(out, recorded.reply, names)?;
     push_text(out, "\n")
 }
 
 /// Returns the line of a record, with its LF. `names` has the name of each type at the type's index; a type without
 /// one prints no name.
-pub fn line(alloc: Global, told: &Record, names: &[String]) -> Result<String, Memory>
-    ensures { IfOk result (λ text. string_bytes text ≡ line_text (type_text string_bytes names.now) told.now) }
+pub fn line(alloc: Global, recorded: &Record, names: &[String]) -> Result<String, Memory>
+    ensures { IfOk result (λ text. string_bytes text ≡ line_text (type_text string_bytes names.now) recorded.now) }
 {
     let mut out = Vec::new(alloc);
-    push_line(&mut out, told, names)?;
+    push_line(&mut out, recorded, names)?;
     match String::from_utf8(out) {
         Ok(text) => Ok(text),
         Err(_) => unreachable!(),

@@ -74,11 +74,11 @@ impl Piece {
 
     // Inlined, since the kinds of the call and of its answer are known in most callers.
     #[inline(always)]
-    fn push(&mut self, told: Record)
+    fn push(&mut self, recorded: Record)
         requires { length self.old < PIECE }
-        ensures { self.new ≡ self.old ++ told ∷ [] }
+        ensures { self.new ≡ self.old ++ recorded ∷ [] }
     {
-        self.records.push_reserved(Compact::of(told));
+        self.records.push_reserved(Compact::of(recorded));
     }
 
     fn clear(&mut self)
@@ -171,13 +171,13 @@ fn make_room(alloc: Global, pieces: &mut Vec<Piece>, at: usize) -> Result<usize,
 }
 
 #[inline(always)]
-fn put(pieces: &mut Vec<Piece>, at: usize, told: Record)
+fn put(pieces: &mut Vec<Piece>, at: usize, recorded: Record)
     requires { HasRoomAt at pieces.old.items }
     ensures filled { AreFilled at pieces.new.items }
-    ensures records { joined pieces.new.items ≡ joined pieces.old.items ++ told ∷ [] }
+    ensures records { joined pieces.new.items ≡ joined pieces.old.items ++ recorded ∷ [] }
     ensures len { length pieces.new.items ≡ length pieces.old.items }
 {
-    pieces[at].push(told);
+    pieces[at].push(recorded);
 }
 
 fn empty(pieces: &mut Vec<Piece>)
@@ -228,14 +228,14 @@ impl Pieces {
 
     /// Appends a record. No other record moves.
     #[inline(always)]
-    pub(crate) fn push(&mut self, told: Record) -> Result<(), AllocError>
-        ensures kept { OnOk result (self.new.records ≡ self.old.records ++ told ∷ []) }
+    pub(crate) fn push(&mut self, recorded: Record) -> Result<(), AllocError>
+        ensures kept { OnOk result (self.new.records ≡ self.old.records ++ recorded ∷ []) }
         ensures refused { OnErr result (self.new.records ≡ self.old.records) }
         ensures no_room { OnErr result (self.old.room ≡ 0) }
         ensures room { self.old.room ≤ self.new.room + 1 }
     {
         self.at = make_room(self.alloc, &mut self.pieces, self.at)?;
-        put(&mut self.pieces, self.at, told);
+        put(&mut self.pieces, self.at, recorded);
         Ok(())
     }
 

@@ -9,7 +9,7 @@ use std::sync::Wait;
 // A record as the log keeps it.
 #[derive(Drop)]
 struct LogEntry {
-    told: Compact,
+    recorded: Compact,
     number: u64,
     dom: DomId,
 }
@@ -48,15 +48,22 @@ impl SharedLog {
         rt: &impl Wait,
         dom: DomId,
         number: u64,
-        told: Record,
+        recorded: Record,
     ) -> Result<Pushed, Record>
-        ensures token { IfOk result (λ p. IsIn self.now p × IsFor p dom number told) }
-        ensures back { IfErr result (λ r. r ≡ told) }
+        ensures token { IfOk result (λ p. IsIn self.now p × IsFor p dom number recorded) }
+        ensures back { IfErr result (λ r. r ≡ recorded) }
     {
-        let told = Compact::of(told);
-        match self.entries.push_shown(rt, LogEntry { told, number, dom }) {
+        let recorded = Compact::of(recorded);
+        match self.entries.push_shown(
+            rt,
+            LogEntry {
+                recorded,
+                number,
+                dom,
+            },
+        ) {
             Ok(token) => Ok(Pushed { token }),
-            Err(entry) => Err(entry.told.record()),
+            Err(entry) => Err(entry.recorded.record()),
         }
     }
 
@@ -65,7 +72,7 @@ impl SharedLog {
         requires { IsIn self.now pushed.now }
         ensures { result ≡ pushed_record pushed.now }
     {
-        self.entries.value(&pushed.token).told.record()
+        self.entries.value(&pushed.token).recorded.record()
     }
 
     /// Returns the number of records at present.
@@ -83,7 +90,7 @@ impl SharedLog {
             if let Some(token) = self.entries.witness(index) {
                 let entry = self.entries.value(&token);
                 if entry.dom == dom && entry.number == number {
-                    return Some(entry.told.record());
+                    return Some(entry.recorded.record());
                 }
             }
         }

@@ -1,6 +1,6 @@
 //! A domain's own list of records.
 ghost use Rattle.std.specs.Prelude.{◌≡◌};
-ghost use Rattle.gt_audit.specs.Telling.{one_more_lost};
+ghost use Rattle.gt_audit.specs.Trails.{one_more_lost};
 
 use crate::pieces::Pieces;
 use crate::record::Record;
@@ -21,9 +21,9 @@ pub struct Trail {
 
 impl Model for Trail {
     ghost use Rattle.std.specs.Prelude.{◌≡◌, length};
-    ghost use Rattle.gt_audit.specs.Telling.{Telling};
+    ghost use Rattle.gt_audit.specs.Trails.{TrailState};
 
-    ghost Value = { Telling };
+    ghost Value = { TrailState };
 
     ghost view = { λ t. record {
       records = t.pieces.records;
@@ -47,7 +47,7 @@ fn count_lost(lost: &mut u64)
 
 impl Trail {
     ghost use Rattle.std.specs.Prelude.{◌≡◌, ◌==◌, ◌≤◌, OnErr, OnOk, IfOk, length, slice_get};
-    ghost use Rattle.gt_audit.specs.Telling.{silent, ArePartsOf, HasNone, Tells};
+    ghost use Rattle.gt_audit.specs.Trails.{silent, ArePartsOf, HasNone, AppendsRecord};
     ghost use Rattle.gt_audit.specs.declared.pieces.TheConstants.{MOST_RESERVED};
 
     /// Returns a trail with no records and no bound. It does not allocate.
@@ -92,10 +92,10 @@ impl Trail {
     /// Appends a record. If an allocation fails or the trail is at its bound, the records stay unchanged and the
     /// count of lost ones rises by one. The count stops at [`u64::MAX`].
     #[inline(always)]
-    pub fn push(&mut self, told: Record)
-        ensures { Tells self.old told self.new }
+    pub fn push(&mut self, recorded: Record)
+        ensures { AppendsRecord self.old recorded self.new }
     {
-        if self.len >= self.most || self.pieces.push(told).is_err() {
+        if self.len >= self.most || self.pieces.push(recorded).is_err() {
             count_lost(&mut self.lost);
         } else {
             self.len += 1;
@@ -129,8 +129,8 @@ impl Trail {
     {
         let mut records = Vec::new(self.alloc);
         'records: for index in 0..self.len() {
-            if let Some(told) = self.get(index) {
-                records.push(told)?;
+            if let Some(recorded) = self.get(index) {
+                records.push(recorded)?;
             }
         }
         Ok(records)

@@ -5,7 +5,7 @@ use mathlib.Core.Bool.{true≢false}
 use Rattle.std.proofs.lemmas.Option.{same_Some}
 use Rattle.gt_attached.specs.declared.answer.EncodedAnswer.{EncodedAnswer}
 use Rattle.gt_c.specs.declared.here.CDomain.{CDomain}
-use Rattle.gt_c.specs.Calling.{CallsGuest, CallsTelling, MayBeCalled}
+use Rattle.gt_c.specs.Calling.{CallsGuest, CallsReporting, MayBeCalled}
 use Rattle.gt_c.specs.Prelude.{Seated, Table}
 
 -- the call is made on the domain x that the handle lends, whose guest is g afterwards
@@ -27,7 +27,7 @@ made {before = Some d} {between} {x} {g} answer Q may lent holds =
 -- the same of a call that tells more than its answer
 pub made-telling : {before between : Option CDomain} {x : CDomain} {g : Seated Table} (answer : EncodedAnswer) (N : Type 0)
     (Q : CDomain → CDomain → Type 0) → MayBeCalled before between → Some x ≡ between → Q x (record x { guest = g })
-    → CallsTelling before (Some (record x { guest = g })) answer N Q
+    → CallsReporting before (Some (record x { guest = g })) answer N Q
 made-telling {before = None} answer N Q may lent holds = absurd may
 made-telling {before = Some d} {between} {x} {g} answer N Q may lent holds =
     inr (record {

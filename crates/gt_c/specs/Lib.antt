@@ -7,4 +7,4 @@ pub mod Prelude
 pub mod Promises
 pub mod Rules
 pub mod Starting
-pub mod Telling
+pub mod Reports

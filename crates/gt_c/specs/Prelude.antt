@@ -4,7 +4,7 @@ pub use Rattle.gt_start.specs.Beginning.{Begins, IsFaultOf, may}
 pub use Rattle.gt_start.specs.Faults.{no_fault, wrong_handles}
 pub use Rattle.gt_start.specs.declared.faults.EncodedFault.{EncodedFault}
 pub use Rattle.gt_start.specs.declared.settings.DomainSettings.{DomainSettings}
-pub use Rattle.gt_audit.specs.Telling.{HasNone, Tells}
+pub use Rattle.gt_audit.specs.Trails.{HasNone, AppendsRecord}
 pub use Rattle.gt_audit.specs.declared.record.Hypercall.{Hypercall}
 pub use Rattle.gt_audit.specs.declared.record.Record.{Record as Kept}
 pub use Rattle.gt_c.specs.declared.copies.CopySettings.{CopySettings}
@@ -12,8 +12,8 @@ pub use Rattle.gt_c.specs.declared.copies.PlaceReport.{PlaceReport}
 pub use Rattle.gt_c.specs.declared.copies.PlacesReport.{PlacesReport}
 pub use Rattle.gt_c.specs.declared.handle.DomainHandle.{DomainHandle}
 pub use Rattle.gt_c.specs.declared.here.CDomain.{CDomain}
-pub use Rattle.gt_c.specs.declared.telling.EntryStatus.{EntryStatus}
-pub use Rattle.gt_c.specs.declared.telling.MappedFrame.{MappedFrame}
+pub use Rattle.gt_c.specs.declared.reports.EntryStatus.{EntryStatus}
+pub use Rattle.gt_c.specs.declared.reports.MappedFrame.{MappedFrame}
 pub use Rattle.gt_types.specs.declared.places.Spot.{Spot}
 pub use Rattle.gt_calls.specs.declared.action.CallResult.{CallResult}
 pub use Rattle.gt_calls.specs.declared.held.HeldPin.{HeldPin as Mapped}
@@ -26,8 +26,8 @@ pub use Rattle.gt_entry.specs.declared.control.EntryKind.{EntryKind}
 pub use Rattle.gt_handles.specs.Handles.{value_of}
 pub use Rattle.gt_handles.specs.declared.handles.Handle.{Handle as Name}
 pub use Rattle.gt_live.specs.Closing.{LooksAtOwn, Resets}
-pub use Rattle.gt_live.specs.Domains.{Answered, AnswersQuietly, AnswersTold, KeepsPinned, MapAnswered}
-pub use Rattle.gt_live.specs.Domains.{mapping_reply, subject_of, told_of}
+pub use Rattle.gt_live.specs.Domains.{Answered, AnswersQuietly, AnswersRecorded, KeepsPinned, MapAnswered}
+pub use Rattle.gt_live.specs.Domains.{mapping_reply, subject_of, record_of_result}
 pub use Rattle.gt_live.specs.Domains.{verdict_of}
 pub use Rattle.gt_live.specs.Mappings.{Removes}
 pub use Rattle.gt_live.specs.declared.domain.Domain.{Domain}

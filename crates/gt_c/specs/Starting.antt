@@ -5,7 +5,7 @@ use Rattle.gt_c.specs.Prelude.{Begins, DomainSettings, EncodedFault, DomainHandl
 use Rattle.gt_c.specs.Prelude.{no_fault, wrong_handles}
 use Rattle.gt_start.specs.Beginning.{IsNameFault}
 use Rattle.gt_policy.specs.Allowing.{Meaning, type_named}
-use Rattle.gt_policy.specs.Whole.{Says}
+use Rattle.gt_policy.specs.Whole.{ReadsAs}
 use Rattle.gt_c.specs.declared.beginning.TypeReport.{TypeReport}
 
 -- the domain of a handle, if it has one
@@ -45,8 +45,8 @@ StartsWith settings first_gen run policy fault old new =
     ⊎ ((new ≡ old) × IsStartFault settings first_gen policy old fault)
 
 -- the label of a type, if the policy's text declares a type of this name; otherwise 0 and the reason
-abbrev pub TellsType : List ℕ → List ℕ → TypeReport → Type 0
-TellsType policy name told =
-    ((told.fault ≡ no_fault)
-    × ((m : Meaning) × Says policy (Ok m) × (type_named m.types name ≡ Some (record { 0 = told.label }))))
-    ⊎ ((told.label ≡ 0) × IsNameFault policy name told.fault)
+abbrev pub ReportsType : List ℕ → List ℕ → TypeReport → Type 0
+ReportsType policy name report =
+    ((report.fault ≡ no_fault)
+    × ((m : Meaning) × ReadsAs policy (Ok m) × (type_named m.types name ≡ Some (record { 0 = report.label }))))
+    ⊎ ((report.label ≡ 0) × IsNameFault policy name report.fault)

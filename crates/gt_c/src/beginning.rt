@@ -2,7 +2,7 @@
 ghost use Rattle.std.specs.Prelude.{◌≡◌, All, length, map, IfOk, None};
 ghost use Rattle.std.specs.List.{list_any};
 ghost use Rattle.gt_c.specs.Calling.{Finishes, LeavesWith, MakesReady, ResetsGuest, Settles};
-ghost use Rattle.gt_c.specs.Starting.{StartsWith, TellsType, domain_of_handle, here_of, holding};
+ghost use Rattle.gt_c.specs.Starting.{StartsWith, ReportsType, domain_of_handle, here_of, holding};
 
 use crate::handle::DomainHandle;
 use crate::here::CDomain;
@@ -143,7 +143,7 @@ pub struct TypeReport {
 /// Returns the label of the type of this name in a policy's text, or the fault and 0.
 #[unsafe(no_mangle)]
 pub extern "C" fn gthost_type_of_at(alloc: Global, policy: &[u8], name: &[u8]) -> TypeReport
-    ensures { TellsType policy.now name.now result }
+    ensures { ReportsType policy.now name.now result }
 {
     match type_of(alloc, policy, name) {
         Ok(id) => TypeReport {

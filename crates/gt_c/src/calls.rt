@@ -123,10 +123,10 @@ fn is_turned_away(domain: &mut DomainHandle, answer: &mut EncodedAnswer) -> bool
 }
 
 #[inline(always)]
-fn store_mapped(answer: &mut EncodedAnswer, told: Result<Name, Denial>, dom: DomId, run: u32)
-    ensures { answer.new ≡ encoded (outcome_mapped dom run told) }
+fn store_mapped(answer: &mut EncodedAnswer, answered: Result<Name, Denial>, dom: DomId, run: u32)
+    ensures { answer.new ≡ encoded (outcome_mapped dom run answered) }
 {
-    match told {
+    match answered {
         Ok(handle) => {
             *answer = EncodedAnswer::of(AttachedOutcome::Mapped(Named { handle, dom, run }));
         }
@@ -135,10 +135,10 @@ fn store_mapped(answer: &mut EncodedAnswer, told: Result<Name, Denial>, dom: Dom
 }
 
 #[inline(always)]
-fn store_done(answer: &mut EncodedAnswer, told: Result<(), Denial>)
-    ensures { answer.new ≡ encoded (outcome told) }
+fn store_done(answer: &mut EncodedAnswer, answered: Result<(), Denial>)
+    ensures { answer.new ≡ encoded (outcome answered) }
 {
-    match told {
+    match answered {
         Ok(()) => *answer = EncodedAnswer::of(AttachedOutcome::Done),
         Err(denial) => store_refusal(answer, denial),
     }
@@ -380,8 +380,8 @@ pub extern "C" fn gthost_map_at(
     }
     let here = here_mut(&mut domain.held);
     let caller = here.guest.dom();
-    let told = here.guest.map(DomId(dom), GrantRef(gref), flags);
-    store_mapped(answer, told, caller, here.run);
+    let answered = here.guest.map(DomId(dom), GrantRef(gref), flags);
+    store_mapped(answer, answered, caller, here.run);
 }
 
 /// Unmaps a mapping.
@@ -398,8 +398,8 @@ pub extern "C" fn gthost_unmap_at(
     }
     let here = here_mut(&mut domain.held);
     let handle = handle_named(here, *name);
-    let told = here.guest.unmap(handle);
-    store_done(answer, told);
+    let answered = here.guest.unmap(handle);
+    store_done(answer, answered);
 }
 
 /// Gives the caller's table this version, 1 or 2.

@@ -1,8 +1,8 @@
 //! A copy in two halves, for a program that keeps the frames: its beginning and its end.
 ghost use Rattle.std.specs.Prelude.{◌≡◌};
 ghost use Rattle.gt_c.specs.Promises.{BeginsCopy};
-ghost use Rattle.gt_c.specs.Telling.{CopyEnds, copy_asked, end_asked, no_places, outcome_begun, place_report};
-ghost use Rattle.gt_c.specs.Telling.{places_report};
+ghost use Rattle.gt_c.specs.Reports.{CopyEnds, copy_asked, end_asked, no_places, outcome_begun, place_report};
+ghost use Rattle.gt_c.specs.Reports.{places_report};
 
 use crate::calls::turned_away;
 use crate::handle::DomainHandle;
@@ -101,10 +101,10 @@ fn places_report(begun: Result<CopyPlaces, Denial>) -> PlacesReport
     ensures { result ≡ places_report begun }
 {
     match begun {
-        Ok(told) => PlacesReport {
-            from: place_report(told.from),
-            to: place_report(told.to),
-            len: told.len,
+        Ok(begun) => PlacesReport {
+            from: place_report(begun.from),
+            to: place_report(begun.to),
+            len: begun.len,
         },
         Err(_) => no_places(),
     }

@@ -22,8 +22,8 @@ mod held;
 mod here;
 mod lending;
 mod parts;
+mod reports;
 mod rules;
-mod telling;
 
 pub use calls::{EntryBytes, MapHandle};
 pub use handle::DomainHandle;

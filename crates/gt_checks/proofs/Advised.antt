@@ -10,7 +10,7 @@ use Rattle.gt_policy_check.specs.declared.asking.WhyQuestion.{WhyQuestion}
 use Rattle.gt_policy_check.specs.declared.findings.Finding.{Finding}
 use Rattle.gt_checks.specs.Checking.{Checked, CheckedText, IsCleanText}
 use Rattle.gt_checks.specs.Explaining.{AnswersWhy, AskedOf, Explained, WritesLines, answer_for}
-use Rattle.gt_checks.specs.Telling.{TellsFindings}
+use Rattle.gt_checks.specs.Reporting.{WritesFindings}
 use Rattle.gt_checks.specs.declared.fault.WhyFault.{WhyFault}
 use Rattle.gt_checks.specs.declared.fault.WhyFault.TheVariants.{Text, NoSource, NoTarget, NoPermission}
 use Rattle.gt_policy_list.specs.Faults.{listing_fault_of, listing_read_fault}
@@ -19,7 +19,7 @@ use Rattle.gt_policy_list.specs.declared.fault.ListingFault.{ListingFault}
 use Rattle.gt_policy_list.specs.declared.fault.ListingFault.TheVariants as faults
 use Rattle.gt_policy.specs.Grammar.{at}
 use Rattle.gt_policy.specs.Shown.{fault_shown}
-use Rattle.gt_policy.specs.Whole.{Says, too_long}
+use Rattle.gt_policy.specs.Whole.{ReadsAs, too_long}
 use Rattle.gt_policy.specs.declared.fault.TokenFault.{TokenFault}
 use Rattle.gt_policy.specs.declared.fault.TokenFaultKind.TheVariants.{Limit}
 use Rattle.gt_policy.specs.declared.parse.PolicyFaultKind.{PolicyFaultKind}
@@ -54,7 +54,7 @@ clean : (text : List ℕ) (found : List Finding) → Judges text found → IsCle
 clean text found (faulty f _ says line) = rw (some_error found f.line line) (f, says)
 clean text found (sound m xs _ says lined none _ _) = rw (no_error found none) (m, says)
 
-told : (text : List ℕ) (found : List Finding) (old new : Option (List ℕ)) (r : Result Bool ListingFault) → Judges text found → TellsFindings found old new r → CheckedText text old new r
+told : (text : List ℕ) (found : List Finding) (old new : Option (List ℕ)) (r : Result Bool ListingFault) → Judges text found → WritesFindings found old new r → CheckedText text old new r
 told text found old new (Ok answer) judges (is, (report, went)) = (found, report, judges, subst (IsCleanText text) (sym is) (clean text found judges), went)
 told text found old new (Err faults.Write) judges t = t
 told text found old new (Err faults.Memory) judges t = t
@@ -63,8 +63,8 @@ told text found old new (Err (faults.Utf8 line)) judges t = absurd t
 told text found old new (Err (faults.Policy shown)) judges t = absurd t
 
 -- the findings went out
-pub checked_text : (text : List ℕ) (found given : List Finding) (old new : Option (List ℕ)) (r : Result Bool ListingFault) → Judges text found → given ≡ found → TellsFindings given old new r → CheckedText text old new r
-checked_text text found given old new r judges same t = told text found old new r judges (subst (λ (l : List Finding). TellsFindings l old new r) same t)
+pub checked_text : (text : List ℕ) (found given : List Finding) (old new : Option (List ℕ)) (r : Result Bool ListingFault) → Judges text found → given ≡ found → WritesFindings given old new r → CheckedText text old new r
+checked_text text found given old new r judges same t = told text found old new r judges (subst (λ (l : List Finding). WritesFindings l old new r) same t)
 
 take_shorter : (n : ℕ) (xs : List ℕ) → length (take n xs) ≤ length xs
 take_shorter n xs = rw length-take (omega arith)
@@ -125,7 +125,7 @@ asked_lines file text lines q e allowed old new (Err (Text (faults.Utf8 line))) 
 asked_lines file text lines q e allowed old new (Err (Text (faults.Policy shown))) same is w = absurd w
 
 -- the text is not a policy
-refused : (file text : List ℕ) (q : WhyQuestion) (line : ℕ) (kind : PolicyFaultKind) (old : Option (List ℕ)) → ((f : TokenFault) → fault_shown (record { line = line; kind = kind }) ≡ Some f → Says text (Err f))
+refused : (file text : List ℕ) (q : WhyQuestion) (line : ℕ) (kind : PolicyFaultKind) (old : Option (List ℕ)) → ((f : TokenFault) → fault_shown (record { line = line; kind = kind }) ≡ Some f → ReadsAs text (Err f))
     → AskedOf file q text old old (Err (Text (listing_fault_of line kind)))
 refused file text q line kinds.Memory old says = keeps_same old
 refused file text q line kinds.Syntax old says = (_, refl, says _ refl, keeps_same old)
@@ -136,7 +136,7 @@ refused file text q line (kinds.Outside word) old says = (_, refl, says _ refl, 
 refused file text q line kinds.Limit old says = (_, refl, says _ refl, keeps_same old)
 
 pub asked_no : (file text : List ℕ) (q : WhyQuestion) (line : ℕ) (kind : PolicyFaultKind) (fault : ListingFault) (old : Option (List ℕ)) → fault ≡ listing_fault_of line kind
-    → ((f : TokenFault) → fault_shown (record { line = line; kind = kind }) ≡ Some f → Says text (Err f)) → AskedOf file q text old old (Err (Text fault))
+    → ((f : TokenFault) → fault_shown (record { line = line; kind = kind }) ≡ Some f → ReadsAs text (Err f)) → AskedOf file q text old old (Err (Text fault))
 asked_no file text q line kind fault old is says = subst (λ (f : ListingFault). AskedOf file q text old old (Err (Text f))) (sym is) (refused file text q line kind old says)
 
 answered_from : (file bytes : List ℕ) (q : WhyQuestion) (old new : Option (List ℕ)) (r : Result Bool WhyFault) → IsUtf8 bytes → AskedOf file q bytes old new r → Explained file q bytes old new r

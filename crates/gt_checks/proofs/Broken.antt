@@ -2,7 +2,7 @@
 use Rattle.std.proofs.Common.{◌≡◌, ℕ, ◌≤◌, List, length, take, Option, Some, Result, Ok, Err, Bool, refl, sym, subst, inr}
 use Rattle.std.specs.Str.{IsUtf8}
 use Rattle.gt_policy.specs.Shown.{fault_shown}
-use Rattle.gt_policy.specs.Whole.{Says}
+use Rattle.gt_policy.specs.Whole.{ReadsAs}
 use Rattle.gt_policy.specs.declared.fault.TokenFault.{TokenFault}
 use Rattle.gt_policy.specs.declared.parse.PolicyFaultKind.{PolicyFaultKind}
 use Rattle.gt_policy.specs.declared.parse.PolicyFaultKind.TheVariants as kinds
@@ -31,7 +31,7 @@ pub never_text : (text given : List ℕ) (found lent : List Breach) (old new : O
 never_text text given found lent old new r are same w = written text given found old new r are (subst (λ (l : List Breach). WritesBreaches l old new r) same w)
 
 -- the text is not a policy
-refused : (text given : List ℕ) (line : ℕ) (kind : PolicyFaultKind) (old : Option (List ℕ)) → ((f : TokenFault) → fault_shown (record { line = line; kind = kind }) ≡ Some f → Says text (Err f))
+refused : (text given : List ℕ) (line : ℕ) (kind : PolicyFaultKind) (old : Option (List ℕ)) → ((f : TokenFault) → fault_shown (record { line = line; kind = kind }) ≡ Some f → ReadsAs text (Err f))
     → CheckedNeverText given text old old (Err (Policy (listing_fault_of line kind)))
 refused text given line kinds.Memory old says = keeps_same old
 refused text given line kinds.Syntax old says = (_, refl, says _ refl, keeps_same old)
@@ -42,7 +42,7 @@ refused text given line (kinds.Outside word) old says = (_, refl, says _ refl, k
 refused text given line kinds.Limit old says = (_, refl, says _ refl, keeps_same old)
 
 pub never_policy : (text given : List ℕ) (line : ℕ) (kind : PolicyFaultKind) (fault : ListingFault) (old : Option (List ℕ)) → fault ≡ listing_fault_of line kind
-    → ((f : TokenFault) → fault_shown (record { line = line; kind = kind }) ≡ Some f → Says text (Err f)) → CheckedNeverText given text old old (Err (Policy fault))
+    → ((f : TokenFault) → fault_shown (record { line = line; kind = kind }) ≡ Some f → ReadsAs text (Err f)) → CheckedNeverText given text old old (Err (Policy fault))
 never_policy text given line kind fault old is says = subst (λ (f : ListingFault). CheckedNeverText given text old old (Err (Policy f))) (sym is) (refused text given line kind old says)
 
 of_text : (given bytes : List ℕ) (old new : Option (List ℕ)) (r : Result Bool BreachFault) → IsUtf8 bytes → CheckedNeverText given bytes old new r → CheckedNever given bytes old new r

@@ -3,7 +3,7 @@ use Rattle.std.proofs.Common.{◌≡◌, ℕ, List, Option, Result, Ok, Err, Boo
 use Rattle.gt_policy_check.specs.declared.findings.Finding.{Finding}
 use Rattle.gt_checks.proofs.Advised.{errs, no_error, some_error}
 use Rattle.gt_checks.specs.Scripts.{CheckedScript, IsScript}
-use Rattle.gt_checks.specs.Telling.{TellsFindings}
+use Rattle.gt_checks.specs.Reporting.{WritesFindings}
 use Rattle.gt_policy_list.specs.Faults.{listing_read_fault}
 use Rattle.gt_policy_list.specs.declared.fault.ListingFault.{ListingFault}
 use Rattle.gt_policy_list.specs.declared.fault.ListingFault.TheVariants as faults
@@ -19,7 +19,7 @@ is_script bytes found (for_run c _ tells none) = rw (no_error found none) (inr (
 is_script bytes found (faulty play run _ a b (inl one)) = rw (some_error found (line_of_fault play) one) (play, run, a, b)
 is_script bytes found (faulty play run _ a b (inr one)) = rw (some_error found (line_of_fault run) one) (play, run, a, b)
 
-told : (all : List ℕ) (found : List Finding) (old new : Option (List ℕ)) (r : Result Bool ListingFault) → JudgesScript all found → TellsFindings found old new r → CheckedScript all old new r
+told : (all : List ℕ) (found : List Finding) (old new : Option (List ℕ)) (r : Result Bool ListingFault) → JudgesScript all found → WritesFindings found old new r → CheckedScript all old new r
 told all found old new (Ok clean) judges (is, (report, went)) = (found, report, judges, subst (IsScript all) (sym is) (is_script all found judges), went)
 told all found old new (Err faults.Write) judges t = t
 told all found old new (Err faults.Memory) judges t = t
@@ -28,8 +28,8 @@ told all found old new (Err (faults.Utf8 line)) judges t = absurd t
 told all found old new (Err (faults.Policy shown)) judges t = absurd t
 
 -- the findings went out that the judge had
-pub checked_script : (all : List ℕ) (found given : List Finding) (old new : Option (List ℕ)) (r : Result Bool ListingFault) → JudgesScript all found → given ≡ found → TellsFindings given old new r → CheckedScript all old new r
-checked_script all found given old new r judges same t = told all found old new r judges (subst (λ (l : List Finding). TellsFindings l old new r) same t)
+pub checked_script : (all : List ℕ) (found given : List Finding) (old new : Option (List ℕ)) (r : Result Bool ListingFault) → JudgesScript all found → given ≡ found → WritesFindings given old new r → CheckedScript all old new r
+checked_script all found given old new r judges same t = told all found old new r judges (subst (λ (l : List Finding). WritesFindings l old new r) same t)
 
 unread : (all : List ℕ) (old : Option (List ℕ)) (error : ReadFault) → CheckedScript all old old (Err (listing_read_fault error))
 unread all old reads.Memory = keeps_same old

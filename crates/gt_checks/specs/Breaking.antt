@@ -3,7 +3,7 @@ use Rattle.std.specs.Prelude.{◌≡◌, ◌==◌, ℕ, Bool, List, length, Opti
 use Rattle.std.specs.Io.KnownBytes.{Appends, Keeps}
 use Rattle.std.specs.Str.{IsUtf8}
 use Rattle.gt_policy.specs.Shown.{fault_shown}
-use Rattle.gt_policy.specs.Whole.{Says}
+use Rattle.gt_policy.specs.Whole.{ReadsAs}
 use Rattle.gt_policy.specs.declared.fault.TokenFault.{TokenFault}
 use Rattle.gt_policy_list.specs.declared.fault.ListingFault.TheVariants as listing
 use Rattle.gt_neverallow.specs.Breaking.{AreBreaches, IsNeverFault}
@@ -36,7 +36,7 @@ CheckedNeverText given text old new (Err (Policy listing.Memory)) = Keeps old ne
 CheckedNeverText given text old new (Err (Policy listing.Read)) = ⊥
 CheckedNeverText given text old new (Err (Policy (listing.Utf8 line))) = ⊥
 CheckedNeverText given text old new (Err (Policy (listing.Policy shown))) =
-    (f : TokenFault) × (fault_shown shown ≡ Some f) × Says text (Err f) × Keeps old new
+    (f : TokenFault) × (fault_shown shown ≡ Some f) × ReadsAs text (Err f) × Keeps old new
 CheckedNeverText given text old new (Err (Statements shown)) =
     IsNeverFault text given (never.Statements shown) × Keeps old new
 

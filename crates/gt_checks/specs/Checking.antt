@@ -9,14 +9,14 @@ use Rattle.gt_policy_list.specs.declared.fault.ListingFault.{ListingFault}
 use Rattle.gt_policy_list.specs.declared.fault.ListingFault.TheVariants.{Utf8, Policy, Memory, Read, Write}
 use Rattle.gt_policy.specs.Allowing.{Meaning}
 use Rattle.gt_policy.specs.Shown.{fault_shown}
-use Rattle.gt_policy.specs.Whole.{Says}
+use Rattle.gt_policy.specs.Whole.{ReadsAs}
 use Rattle.gt_policy.specs.declared.fault.TokenFault.{TokenFault}
 use Rattle.gt_text.specs.Streams.{AppendsBeginning}
 
 -- the text is a policy; or it is not
 abbrev pub IsCleanText : List ℕ → Bool → Type 0
-IsCleanText text true = (m : Meaning) × Says text (Ok m)
-IsCleanText text false = (f : TokenFault) × Says text (Err f)
+IsCleanText text true = (m : Meaning) × ReadsAs text (Ok m)
+IsCleanText text false = (f : TokenFault) × ReadsAs text (Err f)
 
 -- What was written for a text, by the result: at Ok its findings, and the result is whether it is a policy; after a
 -- failed write a prefix; after a failed allocation nothing.

@@ -14,7 +14,7 @@ use Rattle.gt_policy_list.specs.declared.fault.ListingFault.TheVariants.{Utf8, P
 use Rattle.gt_policy.specs.Allowing.{Meaning}
 use Rattle.gt_policy.specs.Lined.{IsLined}
 use Rattle.gt_policy.specs.Shown.{fault_shown}
-use Rattle.gt_policy.specs.Whole.{Says}
+use Rattle.gt_policy.specs.Whole.{ReadsAs}
 use Rattle.gt_policy.specs.declared.fault.TokenFault.{TokenFault}
 use Rattle.gt_policy.specs.declared.lined.LinedStatement.{LinedStatement}
 use Rattle.gt_text.specs.Streams.{AppendsBeginning}
@@ -22,7 +22,7 @@ use Rattle.gt_text.specs.Streams.{AppendsBeginning}
 -- the text is a policy, and the answer of its statements is this one
 abbrev pub AnswersWhy : List ℕ → List ℕ → WhyQuestion → WhyAnswer → Explanation → Type 0
 AnswersWhy file text q answer e =
-    (m : Meaning) × (xs : List LinedStatement) × Says text (Ok m) × IsLined text xs × IsExplained file q xs e
+    (m : Meaning) × (xs : List LinedStatement) × ReadsAs text (Ok m) × IsLined text xs × IsExplained file q xs e
     × (e.answer ≡ answer)
 
 abbrev pub answer_for : Bool → WhyAnswer
@@ -57,7 +57,7 @@ AskedOf file q text old new (Err (Text Memory)) = Keeps old new
 AskedOf file q text old new (Err (Text Read)) = ⊥
 AskedOf file q text old new (Err (Text (Utf8 line))) = ⊥
 AskedOf file q text old new (Err (Text (Policy shown))) =
-    (f : TokenFault) × (fault_shown shown ≡ Some f) × Says text (Err f) × Keeps old new
+    (f : TokenFault) × (fault_shown shown ≡ Some f) × ReadsAs text (Err f) × Keeps old new
 
 -- the same for bytes; nothing if they are too many or not UTF-8
 abbrev pub Explained : List ℕ → WhyQuestion → List ℕ → Option (List ℕ) → Option (List ℕ) → Result Bool WhyFault → Type 0

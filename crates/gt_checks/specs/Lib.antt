@@ -3,4 +3,4 @@ pub mod Checking
 pub mod Explaining
 pub mod Faults
 pub mod Scripts
-pub mod Telling
+pub mod Reporting

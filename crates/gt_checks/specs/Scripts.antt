@@ -6,15 +6,15 @@ use Rattle.gt_policy_list.specs.declared.fault.ListingFault.{ListingFault}
 use Rattle.gt_policy_list.specs.declared.fault.ListingFault.TheVariants.{Utf8, Policy, Memory, Read, Write}
 use Rattle.gt_script.specs.Contents.{Contents}
 use Rattle.gt_script.specs.RunContents.{RunContents}
-use Rattle.gt_script.specs.RunScripts.{RunTells}
-use Rattle.gt_script.specs.Script.{TellsScript, Wrong}
+use Rattle.gt_script.specs.RunScripts.{ReadsAsRun}
+use Rattle.gt_script.specs.Script.{ReadsAsScript, Wrong}
 use Rattle.gt_script_check.specs.Judging.{JudgesScript}
 use Rattle.gt_text.specs.Streams.{AppendsBeginning}
 
 -- the bytes are a script for `play` or for `run`; or they are neither
 abbrev pub IsScript : List ℕ → Bool → Type 0
-IsScript bytes true = ((c : Contents) × TellsScript bytes (Ok c)) ⊎ ((c : RunContents) × RunTells bytes (Ok c))
-IsScript bytes false = (play : Wrong) × (run : Wrong) × TellsScript bytes (Err play) × RunTells bytes (Err run)
+IsScript bytes true = ((c : Contents) × ReadsAsScript bytes (Ok c)) ⊎ ((c : RunContents) × ReadsAsRun bytes (Ok c))
+IsScript bytes false = (play : Wrong) × (run : Wrong) × ReadsAsScript bytes (Err play) × ReadsAsRun bytes (Err run)
 
 -- What was written for a script, by the result: at Ok its findings, and the result is whether it is one; after a failed
 -- write a prefix; after a failed allocation or read nothing.

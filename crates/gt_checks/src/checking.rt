@@ -4,7 +4,7 @@ ghost use Rattle.gt_types.specs.declared.limits.TheConstants.{LONGEST_TEXT};
 ghost use Rattle.gt_text.specs.Streams.{OfInput};
 ghost use Rattle.gt_checks.specs.Checking.{Checked, CheckedText};
 
-use crate::telling::tell_findings;
+use crate::reporting::write_findings;
 use gt_policy_check::ReportForm;
 use gt_policy_list::{ListingFault, policy_text};
 use gt_text::read_text;
@@ -22,7 +22,7 @@ fn check_text<W: Write>(
     ensures { CheckedText text.now (W.contents writer.old) (W.contents writer.new) result }
 {
     match gt_policy_check::check(alloc, text) {
-        Ok(found) => tell_findings(alloc, file, form, text, found.as_slice(), writer),
+        Ok(found) => write_findings(alloc, file, form, text, found.as_slice(), writer),
         Err(_) => Err(ListingFault::Memory),
     }
 }

@@ -17,8 +17,8 @@ mod breaking;
 mod checking;
 mod explaining;
 mod fault;
+mod reporting;
 mod scripts;
-mod telling;
 
 pub use breaking::{NeverText, check_never};
 pub use checking::check;

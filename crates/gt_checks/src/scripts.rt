@@ -4,7 +4,7 @@ ghost use Rattle.gt_types.specs.declared.limits.TheConstants.{LONGEST_TEXT};
 ghost use Rattle.gt_text.specs.Streams.{OfInput};
 ghost use Rattle.gt_checks.specs.Scripts.{CheckedScript};
 
-use crate::telling::tell_findings;
+use crate::reporting::write_findings;
 use gt_policy_check::ReportForm;
 use gt_policy_list::ListingFault;
 use gt_script_check::judge;
@@ -32,7 +32,7 @@ fn check_script_bytes<W: Write>(
         CheckedScript all (W.contents writer.old) (W.contents writer.new) result }
 {
     match judge(alloc, input) {
-        Ok(found) => tell_findings(
+        Ok(found) => write_findings(
             alloc,
             file,
             form,

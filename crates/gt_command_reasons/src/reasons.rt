@@ -411,7 +411,7 @@ impl<'a> Reasons<'a> {
 
     /// Prints the reason of a fault as the line of the fault, if the command has its reasons there and there is one.
     /// Returns whether it printed one. Then none is left.
-    pub fn tell_line<E: Eprint>(&mut self, err: &E) -> bool {
+    pub fn print_line<E: Eprint>(&mut self, err: &E) -> bool {
         if !self.is_line || self.text.is_empty() {
             return false;
         }
@@ -425,7 +425,7 @@ impl<'a> Reasons<'a> {
     }
 
     /// Prints the reasons. A failed write or allocation is not reported.
-    pub fn tell<E: Eprint>(&self, err: &E) {
+    pub fn print_all<E: Eprint>(&self, err: &E) {
         if self.text.is_empty() {
             return;
         }

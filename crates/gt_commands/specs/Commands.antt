@@ -350,20 +350,20 @@ refusals nothing = UnknownArgument ∷ InvalidSubcommand ∷ MissingSubcommand �
 refusals _ = []
 
 -- what is sought by an exploration
-abbrev pub sought_told : Exploration → Sought
-sought_told explores.Texts = all_texts
-sought_told (explores.Decide claim expression) = a_claim claim expression.now
-sought_told (explores.Witness number) = one_script number
-sought_told explores.Witnesses = all_scripts
-sought_told (explores.Trace number) = one_trace number
-sought_told (explores.Diagram number) = one_diagram number
+abbrev pub sought_by : Exploration → Sought
+sought_by explores.Texts = all_texts
+sought_by (explores.Decide claim expression) = a_claim claim expression.now
+sought_by (explores.Witness number) = one_script number
+sought_by explores.Witnesses = all_scripts
+sought_by (explores.Trace number) = one_trace number
+sought_by (explores.Diagram number) = one_diagram number
 
 -- what a plan asks for
 abbrev pub asked_by_plan : Invocation → Request
 asked_by_plan (plans.Play o) = to_play o.audit o.verbose o.format (option_map (λ f. f.now) o.file)
 asked_by_plan (plans.Run o) = to_run o.audit o.verbose o.format (option_map (λ f. f.now) o.file)
 asked_by_plan (plans.Explore asked o) =
-    to_explore (sought_told asked) o.format o.states (option_map (λ f. f.now) o.file)
+    to_explore (sought_by asked) o.format o.states (option_map (λ f. f.now) o.file)
 asked_by_plan (plans.ExploreHas given o) =
     to_find_text given.now o.format o.states (option_map (λ f. f.now) o.file)
 asked_by_plan (plans.Policy verbose format file) = to_list verbose format (option_map (λ f. f.now) file)

@@ -1,7 +1,7 @@
 //! Plans of `explore`.
 ghost use Rattle.std.specs.Prelude.{◌≡◌};
 ghost use Rattle.std.specs.Option.{option_map};
-ghost use Rattle.gt_commands.specs.Commands.{asked_by_some, explore_for, explore_with, formed_of, one_sought, sought_told};
+ghost use Rattle.gt_commands.specs.Commands.{asked_by_some, explore_for, explore_with, formed_of, one_sought, sought_by};
 
 use crate::invocation::{Exploration, Format, Invocation, SearchOptions};
 use crate::values::{ExploreForm, formed, sought_of};
@@ -12,7 +12,7 @@ fn explore_for<'a>(
     given: Option<&'a str>,
     options: SearchOptions<'a>,
 ) -> Option<Invocation<'a>>
-    ensures { asked_by_some result ≡ explore_for (option_map sought_told sought.entry)
+    ensures { asked_by_some result ≡ explore_for (option_map sought_by sought.entry)
         (option_map (λ v. v.now) given.entry) options.entry.format options.entry.states
         (option_map (λ v. v.now) options.entry.file) }
 {
@@ -36,7 +36,7 @@ pub(crate) fn explore_with<'a>(
     file: Option<&'a str>,
 ) -> Option<Invocation<'a>>
     ensures { asked_by_some result
-        ≡ explore_with (option_map (λ p. (option_map sought_told p.0, p.1)) sought.entry)
+        ≡ explore_with (option_map (λ p. (option_map sought_by p.0, p.1)) sought.entry)
         (option_map (λ v. v.now) given.entry) states (option_map (λ v. v.now) file.entry) }
 {
     match (sought, states) {
@@ -58,8 +58,8 @@ pub(crate) fn formed_of<'a>(
     sought: Option<Option<Exploration<'a>>>,
     form: Option<ExploreForm>,
 ) -> Option<(Option<Exploration<'a>>, Format)>
-    ensures { option_map (λ p. (option_map sought_told p.0, p.1)) result
-        ≡ formed_of (option_map (option_map sought_told) sought.entry) form }
+    ensures { option_map (λ p. (option_map sought_by p.0, p.1)) result
+        ≡ formed_of (option_map (option_map sought_by) sought.entry) form }
 {
     match (sought, form) {
         (Some(sought), Some(form)) => formed(form, sought),
@@ -74,8 +74,8 @@ pub(crate) fn one_sought<'a>(
     witness: Option<Option<Exploration<'a>>>,
     trace: Option<Option<Exploration<'a>>>,
 ) -> Option<Option<Exploration<'a>>>
-    ensures { option_map (option_map sought_told) result ≡ one_sought (option_map (option_map sought_told) claim.entry)
-        (option_map (option_map sought_told) witness.entry) (option_map (option_map sought_told) trace.entry) }
+    ensures { option_map (option_map sought_by) result ≡ one_sought (option_map (option_map sought_by) claim.entry)
+        (option_map (option_map sought_by) witness.entry) (option_map (option_map sought_by) trace.entry) }
 {
     match (claim, witness, trace) {
         (Some(claim), Some(witness), Some(trace)) => sought_of(claim, witness, trace),

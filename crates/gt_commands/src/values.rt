@@ -2,7 +2,7 @@
 ghost use Rattle.std.specs.Prelude.{◌≡◌};
 ghost use Rattle.std.specs.Option.{option_map};
 ghost use Rattle.gt_commands.specs.Commands.{diagram_of, form_of, format_of, formed, domain_number, number_up_to, script_of, states_of, type_of};
-ghost use Rattle.gt_commands.specs.Commands.{claim_of, sought_of, sought_told, trace_of, version_of, witness_of};
+ghost use Rattle.gt_commands.specs.Commands.{claim_of, sought_of, sought_by, trace_of, version_of, witness_of};
 
 use crate::invocation::{Exploration, Format};
 use gt_explore_verdict::Claim;
@@ -43,8 +43,8 @@ pub(crate) fn form_of(value: Option<&str>) -> Option<ExploreForm>
 
 // Returns a trace as a diagram, with its format. None for anything else: only a trace can be a diagram.
 fn diagram_of<'a>(sought: Option<Exploration<'a>>) -> Option<(Option<Exploration<'a>>, Format)>
-    ensures { option_map (λ p. (option_map sought_told p.0, p.1)) result
-        ≡ diagram_of (option_map sought_told sought.entry) }
+    ensures { option_map (λ p. (option_map sought_by p.0, p.1)) result
+        ≡ diagram_of (option_map sought_by sought.entry) }
 {
     match sought {
         Some(Exploration::Trace(number)) => {
@@ -62,8 +62,8 @@ pub(crate) fn formed<'a>(
     form: ExploreForm,
     sought: Option<Exploration<'a>>,
 ) -> Option<(Option<Exploration<'a>>, Format)>
-    ensures { option_map (λ p. (option_map sought_told p.0, p.1)) result
-        ≡ formed form (option_map sought_told sought.entry) }
+    ensures { option_map (λ p. (option_map sought_by p.0, p.1)) result
+        ≡ formed form (option_map sought_by sought.entry) }
 {
     match form {
         ExploreForm::Text => Some((sought, Format::Text)),
@@ -123,7 +123,7 @@ fn number_of(word: &str) -> Option<usize>
 /// Returns what `--witness` asks for, if it is given. The outer result is None if the value is neither `all` nor a
 /// number of 64 bits.
 pub(crate) fn witness_of<'a>(value: Option<&'a str>) -> Option<Option<Exploration<'a>>>
-    ensures { option_map (option_map sought_told) result ≡ witness_of (option_map (λ v. v.now) value.entry) }
+    ensures { option_map (option_map sought_by) result ≡ witness_of (option_map (λ v. v.now) value.entry) }
 {
     match value {
         None => Some(None),
@@ -134,7 +134,7 @@ pub(crate) fn witness_of<'a>(value: Option<&'a str>) -> Option<Option<Exploratio
 
 /// Returns what `--trace` asks for, if it is given. The outer result is None if the value is not a number of 64 bits.
 pub(crate) fn trace_of<'a>(value: Option<&'a str>) -> Option<Option<Exploration<'a>>>
-    ensures { option_map (option_map sought_told) result ≡ trace_of (option_map (λ v. v.now) value.entry) }
+    ensures { option_map (option_map sought_by) result ≡ trace_of (option_map (λ v. v.now) value.entry) }
 {
     match value {
         None => Some(None),
@@ -149,8 +149,8 @@ pub(crate) fn sought_of<'a>(
     witness: Option<Exploration<'a>>,
     trace: Option<Exploration<'a>>,
 ) -> Option<Option<Exploration<'a>>>
-    ensures { option_map (option_map sought_told) result ≡ sought_of (option_map sought_told claim.entry)
-        (option_map sought_told witness.entry) (option_map sought_told trace.entry) }
+    ensures { option_map (option_map sought_by) result ≡ sought_of (option_map sought_by claim.entry)
+        (option_map sought_by witness.entry) (option_map sought_by trace.entry) }
 {
     match (claim, witness, trace) {
         (None, None, None) => Some(None),
@@ -177,7 +177,7 @@ pub(crate) fn claim_of<'a>(
     never: Option<&'a str>,
     always: Option<&'a str>,
 ) -> Option<Option<Exploration<'a>>>
-    ensures { option_map (option_map sought_told) result ≡ claim_of (option_map (λ v. v.now) find.entry)
+    ensures { option_map (option_map sought_by) result ≡ claim_of (option_map (λ v. v.now) find.entry)
         (option_map (λ v. v.now) never.entry) (option_map (λ v. v.now) always.entry) }
 {
     let (claim, expression) = match (find, never, always) {

@@ -9,8 +9,8 @@ use Rattle.gt_core.proofs.Words.{ReadBytes, Action, Makes, CallResult, Answer, E
 use Rattle.gt_core.proofs.Words.{Stepped, Item, Element, Busy, Idle, NoDomain, Did, History, Setting, Underway}
 use Rattle.gt_core.proofs.Words.{open_call, values, known_at, seen_by, exchange_sees, table_at, maps_answered_at}
 use Rattle.gt_core.proofs.Words.{contents_at, mappings_at, mapping_of, MayDo, IsRight, StepsRight, AnsweredBy}
-use Rattle.gt_core.proofs.Words.{refusal_in, verdict_in, bare_handle, bare_request, bare_event, bare_step, told_part}
-use Rattle.gt_core.proofs.Words.{told_item, ToldItem, AsksKnown, IsOfKnown, IsRun, Ends, BeginsRight, grown, told_items}
+use Rattle.gt_core.proofs.Words.{refusal_in, verdict_in, bare_handle, bare_request, bare_event, bare_step, keyless_answer}
+use Rattle.gt_core.proofs.Words.{keyless_item, KeylessItem, AsksKnown, IsOfKnown, IsRun, Ends, BeginsRight, grown, keyless_items}
 use Rattle.gt_core.proofs.Words.{SameHistory, HappensKnown, AreAlike, IsItemOf, SameEvent, SameElement, arith}
 use Rattle.gt_core.{proofs.Pins.word-bare, proofs.Pins.mapping-bare, proofs.Pins.known-bare, proofs.WithoutKeys.bare}
 use Rattle.gt_core.{proofs.WithoutKeys.bared, proofs.WithoutKeys.bare_asked, proofs.WithoutKeys.bare_call}
@@ -95,7 +95,7 @@ answer_told s h d r step None = None
 answer_told s h d r step (Some v) = told_by (refusal_in (Some v)) (value_told s h d r step)
 
 answer-told : (s : Setting) (h : History) (d : DomId) (r : OpenRequest) (step : Option Step) (giving : Bool) (v : Option CallResult) (a : Option Answer) (against : Option Denial)
-    → AnsweredBy s h d r step giving v a against → option_map told_part a ≡ answer_told s h d r step v
+    → AnsweredBy s h d r step giving v a against → option_map keyless_answer a ≡ answer_told s h d r step v
 answer-told s h d r step giving v a against is = grind arith
 
 answer-at : (s : Setting) (h : History) (d : DomId) (r : OpenRequest) (step : Option Step) (v : Option CallResult) → answer_told s (bare h) d (bare_asked r) step v ≡ answer_told s h d r step v
@@ -103,22 +103,22 @@ answer-at s h d r step v = grind (arith, value-at)
 
 -- items
 
-abbrev began_told : Setting → History → DomId → Request → ToldItem
+abbrev began_told : Setting → History → DomId → Request → KeylessItem
 began_told s h d q = record { actor = d; happened = Began (bare_request q); answer = answer_told s h d (asked q) None (begun_of (known_at s h d) d q) }
 
-abbrev step_told : Setting → History → DomId → OpenRequest → List Observation → Step → ToldItem
+abbrev step_told : Setting → History → DomId → OpenRequest → List Observation → Step → KeylessItem
 step_told s h d r vs step = let seen = seen_by s h d step in
     record { actor = d; happened = Stepped step seen; answer = answer_told s h d r (Some step) (verdict_in (option_map bare_action (path (known_at s h d) d r (vs ++ seen ∷ [])))) }
 
 is-began : (s : Setting) (h : History) (d : DomId) (q : Request) (a : Option Answer) → BeginsRight s h (record { actor = d; happened = Began q; answer = a }) q
-    → told_item (record { actor = d; happened = Began q; answer = a }) ≡ began_told s h d q
+    → keyless_item (record { actor = d; happened = Began q; answer = a }) ≡ began_told s h d q
 is-began s h d q a right = grind (arith, answer-told)
 
 verdict-bare : (o : Option Action) → verdict_in (option_map bare_action o) ≡ verdict_in o
 verdict-bare o = grind arith
 
 is-stepped : (s : Setting) (h : History) (d : DomId) (step : Step) (seen : Observation) (a : Option Answer) (c : Underway) → StepsRight s h (record { actor = d; happened = Stepped step seen; answer = a }) step seen c
-    → told_item (record { actor = d; happened = Stepped step seen; answer = a }) ≡ step_told s h d c.request (values c) (bare_step step)
+    → keyless_item (record { actor = d; happened = Stepped step seen; answer = a }) ≡ step_told s h d c.request (values c) (bare_step step)
 is-stepped s h d step seen a c right = grind (arith, answer-told, verdict-bare)
 
 began-at : (s : Setting) (h : History) (d : DomId) (q : Request) → IsRun s h → AsksKnown h d.0 (asked q) → began_told s (bare h) d (bare_request q) ≡ began_told s h d q
@@ -129,32 +129,32 @@ stepped-at s h d r vs step run k = grind (arith, seen-at, path-at, answer-at)
 
 -- elements
 
-abbrev pub element_told : Element → Element ⊎ ToldItem
-element_told (Did i) = inr (told_item i)
+abbrev pub element_told : Element → Element ⊎ KeylessItem
+element_told (Did i) = inr (keyless_item i)
 element_told x = inl x
 
-abbrev stepped_told : Setting → History → DomId → Underway → Option Action → Element ⊎ ToldItem
+abbrev stepped_told : Setting → History → DomId → Underway → Option Action → Element ⊎ KeylessItem
 stepped_told s h d c (Some (Makes step)) = inr (step_told s h d c.request (values c) step)
 stepped_told s h d c o = inl Idle
 
-abbrev tick_told : Setting → History → DomId → Option Underway → Element ⊎ ToldItem
+abbrev tick_told : Setting → History → DomId → Option Underway → Element ⊎ KeylessItem
 tick_told s h d None = inl Idle
 tick_told s h d (Some c) = stepped_told s h d c (option_map bare_action (path (known_at s h d) d c.request (values c)))
 
-abbrev begin_told : Setting → History → DomId → Request → Option Underway → Element ⊎ ToldItem
+abbrev begin_told : Setting → History → DomId → Request → Option Underway → Element ⊎ KeylessItem
 begin_told s h d q None = inr (began_told s h d q)
 begin_told s h d q (Some c) = inl Busy
 
-abbrev within : Option DomainConfig → Element ⊎ ToldItem → Element ⊎ ToldItem
+abbrev within : Option DomainConfig → Element ⊎ KeylessItem → Element ⊎ KeylessItem
 within None x = inl NoDomain
 within (Some config) x = x
 
 -- what the event does
-abbrev pub doing : Setting → History → Event → Element ⊎ ToldItem
+abbrev pub doing : Setting → History → Event → Element ⊎ KeylessItem
 doing s h (Begin d q) = within (domain_of s.domains d) (begin_told s h d q (open_call h d.0))
 doing s h (Tick d) = within (domain_of s.domains d) (tick_told s h d (open_call h d.0))
 
-is-within : (o : Option DomainConfig) (x y : Element ⊎ ToldItem) → o ≢ None → x ≡ y → x ≡ within o y
+is-within : (o : Option DomainConfig) (x y : Element ⊎ KeylessItem) → o ≢ None → x ≡ y → x ≡ within o y
 is-within o x y some e = grind arith
 
 is-busy : (s : Setting) (h : History) (d : DomId) (q : Request) (c : Option Underway) → c ≢ None → inl Busy ≡ begin_told s h d q c
@@ -175,9 +175,9 @@ does s h (Tick d) NoDomain m = ap (λ (o : Option DomainConfig). within o (tick_
 does s h (Begin d q) Busy m = is-within (domain_of s.domains d) (inl Busy) (begin_told s h d q (open_call h d.0)) m.0 (is-busy s h d q (open_call h d.0) m.1)
 does s h (Tick d) Idle m = is-within (domain_of s.domains d) (inl Idle) (tick_told s h d (open_call h d.0)) m.0 (ap (tick_told s h d) (sym m.1))
 does s h (Begin d q) (Did i) m =
-    is-within (domain_of s.domains d) (inr (told_item i)) (begin_told s h d q (open_call h d.0)) m.0 (begin-item s h d q i.actor i.happened i.answer m.1.0 m.1.1 m.2)
+    is-within (domain_of s.domains d) (inr (keyless_item i)) (begin_told s h d q (open_call h d.0)) m.0 (begin-item s h d q i.actor i.happened i.answer m.1.0 m.1.1 m.2)
 does s h (Tick d) (Did i) m =
-    is-within (domain_of s.domains d) (inr (told_item i)) (tick_told s h d (open_call h d.0)) m.0 (tick-item s h d i.actor i.happened i.answer m)
+    is-within (domain_of s.domains d) (inr (keyless_item i)) (tick_told s h d (open_call h d.0)) m.0 (tick-item s h d i.actor i.happened i.answer m)
 does s h e x m = absurd m
 
 begin-at : (s : Setting) (h : History) (d : DomId) (q : Request) (c : Option Underway) → IsRun s h → AsksKnown h d.0 (asked q) → begin_told s (bare h) d (bare_request q) (option_map bare_call c) ≡ begin_told s h d q c
@@ -215,9 +215,9 @@ run-grows : (s : Setting) (h : History) (e : Event) (i : Item) → IsRun s h →
 unfolding IsRun
 run-grows s h e i run k m = let r = done-right s h e i m in (r.1, item-known h e i.actor i.happened i.answer k r.0, run)
 
-same-grows : (i j : Item) (g h : History) → told_item i ≡ told_item j → SameHistory g h → SameHistory (i ∷ g) (j ∷ h)
-unfolding told_items
-same-grows i j g h e same = ap (λ (t : ToldItem). t ∷ told_items g) e ∙ ap (λ (ts : List ToldItem). told_item j ∷ ts) same
+same-grows : (i j : Item) (g h : History) → keyless_item i ≡ keyless_item j → SameHistory g h → SameHistory (i ∷ g) (j ∷ h)
+unfolding keyless_items
+same-grows i j g h e same = ap (λ (t : KeylessItem). t ∷ keyless_items g) e ∙ ap (λ (ts : List KeylessItem). keyless_item j ∷ ts) same
 
 pub alike-grows : (s : Setting) (g h : History) (e f : Event) (one other : Element) → AreAlike s g h → IsOfKnown g e → IsOfKnown h f → MayDo s g e one → MayDo s h f other → SameElement one other
     → AreAlike s (grown g one) (grown h other)

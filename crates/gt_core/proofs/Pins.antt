@@ -5,7 +5,7 @@ use Rattle.gt_core.proofs.Words.{Read, Write, Entry, Handle, PinHolder, ByMappin
 use Rattle.gt_core.proofs.Words.{Unpin, Answer, ItemEvent, Stepped, History, Setting, Pin, live, without, is_holder}
 use Rattle.gt_core.proofs.Words.{same_handle, holder_after, gather, by_leg, mapping_named, pinned_by, unpinned_by}
 use Rattle.gt_core.proofs.Words.{is_pin_on, reads_at, writes_at, mappings_at, mapping_of, entry_at, generation_at}
-use Rattle.gt_core.proofs.Words.{word_at, known_at, shown_at, subject_at, bare_handle, bare_happened, told_part}
+use Rattle.gt_core.proofs.Words.{word_at, known_at, shown_at, subject_at, bare_handle, bare_happened, keyless_answer}
 use Rattle.gt_core.proofs.Words.{IsGiven}
 use Rattle.gt_core.proofs.Words.{IsKnown, IsRun, AreAlike, map, map-append, length-map, All-head, All-tail, All, arith}
 use Rattle.gt_core.proofs.{WithoutKeys.bare-same, WithoutKeys.answer_from, WithoutKeys.bare, WithoutKeys.bared}
@@ -53,11 +53,11 @@ unfolding gather
 legs-bare d [] = refl
 legs-bare d (p ∷ ps) = grind (arith, legs-bare d ps)
 
-holder-bare : (a : Option Answer) (n : ℕ) → holder_after (option_map answer_from (option_map told_part a)) n ≡ bare_holder (holder_after a n)
+holder-bare : (a : Option Answer) (n : ℕ) → holder_after (option_map answer_from (option_map keyless_answer a)) n ≡ bare_holder (holder_after a n)
 holder-bare a n = grind arith
 
 pinned-bare : (d : DomId) (x : ItemEvent) (a : Option Answer) (h : History) (ps : List Pin)
-    → pinned_by d (bare_happened x) (option_map answer_from (option_map told_part a)) (bare h) (bare_pins ps) ≡ bare_pins (pinned_by d x a h ps)
+    → pinned_by d (bare_happened x) (option_map answer_from (option_map keyless_answer a)) (bare h) (bare_pins ps) ≡ bare_pins (pinned_by d x a h ps)
 pinned-bare d (Stepped (PinStep p) Taken) a h ps =
     let l = legs-bare d.0 ps in let b = holder-bare a (length (gather by_leg d.0 ps)) in let e = (bared h).entry p.dom.0 p.gref.0 in cc
 pinned-bare d (Stepped (Unpin p (ByMapping b)) seen) a h ps = refl
@@ -68,7 +68,7 @@ pinned-bare d x a h ps = refl
 pub live-bare : (s : Setting) (h : History) → IsRun s h → live (bare h) ≡ bare_pins (live h)
 unfolding live bare IsRun
 live-bare s [] run = refl
-live-bare s (i ∷ h) run = let a = option_map answer_from (option_map told_part i.answer) in
+live-bare s (i ∷ h) run = let a = option_map answer_from (option_map keyless_answer i.answer) in
     ap (λ (ps : List Pin). unpinned_by i.actor (bare_happened i.happened) ps ++ pinned_by i.actor (bare_happened i.happened) a (bare h) ps) (live-bare s h run.2)
     ∙ ap (λ (ps : List Pin). ps ++ pinned_by i.actor (bare_happened i.happened) a (bare h) (bare_pins (live h)))
     (unpinned-bare s h i.actor i.happened (live h) run.2 (λ p b seen e. unpin-known s h i p b seen e run.0 run.2) (pins-given h))

@@ -16,7 +16,7 @@ use Rattle.gt_core.proofs.Words.{CoreStands, FramesStand, core_of, Settled, IsLa
 use Rattle.gt_core.proofs.Words.{Closed, IsRoomFor, IsMapping, ticked_with, ticked_element, Element, Tick, MayDo}
 use Rattle.gt_core.proofs.Words.{DoesEvent}
 use Rattle.gt_core.proofs.Words.{Did, grown, without, RestsOnRequest, WantsMemoryNow, IsWritingNext, TickTold}
-use Rattle.gt_core.proofs.Words.{IsWriting, cond_both, CallerKnowledge, GivenAgrees, take, drop, asked, told_part}
+use Rattle.gt_core.proofs.Words.{IsWriting, cond_both, CallerKnowledge, GivenAgrees, take, drop, asked, keyless_answer}
 use Rattle.gt_core.proofs.Words.{handle_taken}
 use Rattle.gt_core.proofs.Words.{IsLegalHistory}
 use Rattle.gt_calls.specs.Following.{IsLeftAlike}
@@ -316,11 +316,11 @@ ends-by-pin s h xs x o c new action t = tt
 
 -- What a tick does that returns this step; the frames and states are then those that the call's settling left, which
 -- started from those that its step left.
-pub tick-does : (s : Setting) (fs gs ks : FrameSet) (xs ys : List State) (dom : DomId) (at : ℕ) (x : State) (o : OpenCall) (seen : Observation) (new : Call) (action : Action) (answer : Option Answer) (told_part : TickTold) → told_part ≡ ticked_with o.step seen answer
+pub tick-does : (s : Setting) (fs gs ks : FrameSet) (xs ys : List State) (dom : DomId) (at : ℕ) (x : State) (o : OpenCall) (seen : Observation) (new : Call) (action : Action) (answer : Option Answer) (keyless_answer : TickTold) → keyless_answer ≡ ticked_with o.step seen answer
     → Begins s xs dom at x o seen new action → AccessedBy x o.call o.step fs gs → ((d : State) → slice_get (applied dom o.step seen xs) at ≡ Some d → Settled gs (applied dom o.step seen xs) at d o.step new action answer ys) → ks ≡ gs
-    → DoesEvent s (core_of xs fs) (Tick dom) (ticked_element dom told_part) (core_of ys ks)
+    → DoesEvent s (core_of xs fs) (Tick dom) (ticked_element dom keyless_answer) (core_of ys ks)
 unfolding IsLegalHistory
-tick-does s fs gs ks xs ys dom at x o seen new action answer told_part is b wrote settles same = λ h st.
+tick-does s fs gs ks xs ys dom at x o seen new action answer keyless_answer is b wrote settles same = λ h st.
     let n = begun s h xs dom at x o seen new action st.legal st.domains b in let y = stepped-state dom o.step seen xs at x b.place in
     let z = settled-after gs xs ys at dom x y.0 o.step seen new action answer b.place b.here y.2 (place-at xs dom.0 at x b.place b.here) y.1 (ends-by-pin s h xs x o n.c new action n.ticks) (settles y.0 y.1) in
     let t = action-core s h fs xs z.0 at x o n.c new action answer n.ticks st.frames n.replaced (settled-before fs gs xs z.0 at x x o.call new o.step action answer wrote z.1) in

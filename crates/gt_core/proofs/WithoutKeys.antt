@@ -9,7 +9,7 @@ use Rattle.gt_core.proofs.Words.{raise_after}
 use Rattle.gt_core.proofs.Words.{body_at, or_else, stored_at, table_at, header_or, header_stored, open_call}
 use Rattle.gt_core.proofs.Words.{underway_with, underway_after, maps_answered_at, one_if_mapped, contents_at}
 use Rattle.gt_core.proofs.Words.{patches_by, patches_at, written_by, given_in, values, bare_handle, bare_request}
-use Rattle.gt_core.proofs.Words.{bare_step, bare_happened, told_part, told_item, told_items, ToldItem, SameHistory}
+use Rattle.gt_core.proofs.Words.{bare_step, bare_happened, keyless_answer, keyless_item, keyless_items, KeylessItem, SameHistory}
 use Rattle.gt_core.proofs.Words.{HeldPin}
 use Rattle.gt_core.proofs.Words.{Handle, arith}
 use Rattle.gt_core.specs.declared.trace.Answer.TheVariants.{Done}
@@ -19,22 +19,22 @@ abbrev pub answer_from : Answer ⊎ List ℕ → Answer
 answer_from (inl answer) = answer
 answer_from (inr bytes) = Done
 
-abbrev pub item_from : ToldItem → Item
+abbrev pub item_from : KeylessItem → Item
 item_from t = record { actor = t.actor; happened = t.happened; answer = option_map answer_from t.answer }
 
-unfoldable pub items_from : List ToldItem → History
+unfoldable pub items_from : List KeylessItem → History
 items_from [] = []
 items_from (t ∷ ts) = item_from t ∷ items_from ts
 
 -- the history without keys
 unfoldable pub bare : History → History
 bare [] = []
-bare (i ∷ h) = item_from (told_item i) ∷ bare h
+bare (i ∷ h) = item_from (keyless_item i) ∷ bare h
 
-pub bare-told : (h : History) → bare h ≡ items_from (told_items h)
-unfolding bare items_from told_items
+pub bare-told : (h : History) → bare h ≡ items_from (keyless_items h)
+unfolding bare items_from keyless_items
 bare-told [] = refl
-bare-told (i ∷ h) = ap (λ (l : History). item_from (told_item i) ∷ l) (bare-told h)
+bare-told (i ∷ h) = ap (λ (l : History). item_from (keyless_item i) ∷ l) (bare-told h)
 
 -- histories that are equal except for keys have the same one
 pub bare-same : (g h : History) → SameHistory g h → bare g ≡ bare h
@@ -47,7 +47,7 @@ happened-bare : {A : Type 0} (f : ItemEvent → A) → ((p : HeldPin) (a b : Han
     → (x : ItemEvent) → f (bare_happened x) ≡ f x
 happened-bare f steps begins x = grind arith
 
-pub mapped-bare : (a : Option Answer) → one_if_mapped (option_map answer_from (option_map told_part a)) ≡ one_if_mapped a
+pub mapped-bare : (a : Option Answer) → one_if_mapped (option_map answer_from (option_map keyless_answer a)) ≡ one_if_mapped a
 mapped-bare a = grind arith
 
 -- calls
@@ -85,9 +85,9 @@ with-bare (Stepped step seen) None = refl
 with-bare (Stepped step seen) (Some c) =
     ap (λ (l : List (Step × Observation)). Some (record { request = bare_asked c.request; given = c.given; steps = l })) (steps-more c.steps ((step, seen) ∷ []))
 
-after-bare : (i : Item) (c : Option Underway) → underway_after (item_from (told_item i)) (option_map bare_call c) ≡ option_map bare_call (underway_after i c)
+after-bare : (i : Item) (c : Option Underway) → underway_after (item_from (keyless_item i)) (option_map bare_call c) ≡ option_map bare_call (underway_after i c)
 after-bare i c = by i.answer where
-  by : (a : Option Answer) → underway_after (item_from (told_item (record i { answer = a }))) (option_map bare_call c) ≡ option_map bare_call (underway_after (record i { answer = a }) c)
+  by : (a : Option Answer) → underway_after (item_from (keyless_item (record i { answer = a }))) (option_map bare_call c) ≡ option_map bare_call (underway_after (record i { answer = a }) c)
   by None = with-bare i.happened c
   by (Some answer) = refl
 
@@ -126,8 +126,8 @@ bared (i ∷ h) = let b = bared h in let x = i.happened in let given = given_in 
       ∙ ap (λ (n : ℕ). or_else (cond (i.actor.0 == t) (stored_at x r which) None) n) (b.body t r which);
   table = λ s t. ap (λ (o : Option Header). header_or (cond (i.actor.0 == t.0) o None) (table_at s (bare h) t)) (happened-bare header_stored (λ p a b seen. refl) (λ q r. refl) x) ∙ ap (λ (z : Header). header_or (cond (i.actor.0 == t.0) (header_stored x) None) z) (b.table s t);
   maps = λ d. ap (λ (n : ℕ). cond (i.actor.0 == d) n 0 + maps_answered_at (bare h) d) (mapped-bare i.answer) ∙ ap (λ (n : ℕ). cond (i.actor.0 == d) (one_if_mapped i.answer) 0 + n) (b.maps d);
-  open_calls = λ d. cond-map (option_map bare_call) (i.actor.0 == d) (underway_after (item_from (told_item i)) (open_call (bare h) d)) (open_call (bare h) d) (underway_after i (open_call h d)) (open_call h d)
-      (ap (underway_after (item_from (told_item i))) (b.open_calls d) ∙ after-bare i (open_call h d)) (b.open_calls d);
+  open_calls = λ d. cond-map (option_map bare_call) (i.actor.0 == d) (underway_after (item_from (keyless_item i)) (open_call (bare h) d)) (open_call (bare h) d) (underway_after i (open_call h d)) (open_call h d)
+      (ap (underway_after (item_from (keyless_item i))) (b.open_calls d) ∙ after-bare i (open_call h d)) (b.open_calls d);
   patches = λ t f. ap (λ (w : Option WriteMade). patches_at (bare h) t f ++ patches_by w t f)
       (happened-bare (λ z. written_by z (given_in (open_call (bare h) i.actor.0)) (λ u g. written (patches_at (bare h) u g))) (λ p a b seen. refl) (λ q r. refl) x
       ∙ ap (λ (bytes : List ℕ). written_by x bytes (λ u g. written (patches_at (bare h) u g))) (ap given_in (b.open_calls i.actor.0) ∙ given-in-bare (open_call h i.actor.0))

@@ -162,9 +162,9 @@ pub use Rattle.gt_calls.specs.{declared.call.CallStart.CallStart}
 pub use Rattle.gt_core.specs.{Accesses.AccessedBy, Accesses.IsAdmitted, Accesses.IsLoadOf, Accesses.IsReadable}
 pub use Rattle.gt_core.specs.{Accesses.IsWritOf, Accesses.IsWriting, Accesses.basis_of}
 pub use Rattle.gt_core.specs.{Accesses.route_of, Alike.AreAlike, Alike.AsksKnown, Alike.HappensKnown, Alike.IsKnown}
-pub use Rattle.gt_core.specs.{Alike.IsOfKnown, Alike.SameElement, Alike.SameEvent, Alike.SameHistory, Alike.ToldItem}
+pub use Rattle.gt_core.specs.{Alike.IsOfKnown, Alike.SameElement, Alike.SameEvent, Alike.SameHistory, Alike.KeylessItem}
 pub use Rattle.gt_core.specs.{Alike.bare_event, Alike.bare_handle, Alike.bare_happened, Alike.bare_request}
-pub use Rattle.gt_core.specs.{Alike.bare_step, Alike.told_part, Alike.told_item, Effects.Adds, Effects.applied}
+pub use Rattle.gt_core.specs.{Alike.bare_step, Alike.keyless_answer, Alike.keyless_item, Effects.Adds, Effects.applied}
 pub use Rattle.gt_core.specs.{Effects.own_after, Effects.slot_after, Effects.handle_taken, Effects.with_open_call}
 pub use Rattle.gt_core.specs.{Effects.with_header, Effects.with_mapping, Effects.with_own, Effects.with_slot}
 pub use Rattle.gt_core.specs.{Effects.with_underway, Effects.without_holder, History.History, History.Pin}
@@ -236,5 +236,5 @@ pub use Rattle.gt_core.specs.{declared.trace.ItemEvent.TheVariants.Stepped, decl
 pub use Rattle.gt_core.specs.{declared.underway.OpenCall.OpenCall, declared.core_state.Begun.TheVariants.Busy as BegunBusy}
 pub use Rattle.gt_core.specs.{declared.core_state.Begun.TheVariants.NoDomain as BegunNoDomain}
 pub use Rattle.gt_core.specs.{declared.pin_counts.CountsChange.CountsChange}
-unfoldable pub use Rattle.gt_core.specs.{Alike.IsGiven, Alike.IsRun, Alike.told_items, History.body_at, History.entry_at, History.gather, History.live, History.maps_answered_at, History.open_call, History.patches_at, History.raises_at, History.table_at, History.without, FirstRule.looked_at, FirstRule.misses, FirstRule.stood, Legal.IsLegalHistory}
+unfoldable pub use Rattle.gt_core.specs.{Alike.IsGiven, Alike.IsRun, Alike.keyless_items, History.body_at, History.entry_at, History.gather, History.live, History.maps_answered_at, History.open_call, History.patches_at, History.raises_at, History.table_at, History.without, FirstRule.looked_at, FirstRule.misses, FirstRule.stood, Legal.IsLegalHistory}
 pub use mathlib.Core.Path.{fun_ext}

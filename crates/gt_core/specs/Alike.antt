@@ -43,29 +43,29 @@ bare_happened (Began request) = Began (bare_request request)
 bare_happened (Stepped step seen) = Stepped (bare_step step) seen
 
 -- the value of an answer: its bytes, or the answer itself without a key
-abbrev pub told_part : Answer → Answer ⊎ List ℕ
-told_part (Mapped handle) = inl (Mapped (bare_handle handle))
-told_part (Bytes b) = inr b.bytes.items
-told_part answer = inl answer
+abbrev pub keyless_answer : Answer → Answer ⊎ List ℕ
+keyless_answer (Mapped handle) = inl (Mapped (bare_handle handle))
+keyless_answer (Bytes b) = inr b.bytes.items
+keyless_answer answer = inl answer
 
 -- an item without keys: its domain, its event, and the value of its answer
-pub record ToldItem : Type 0 where
+pub record KeylessItem : Type 0 where
   pub actor : DomId
   pub happened : ItemEvent
   pub answer : Option (Answer ⊎ List ℕ)
 
 -- this item without keys
-abbrev pub told_item : Item → ToldItem
-told_item i = record { actor = i.actor; happened = bare_happened i.happened; answer = option_map told_part i.answer }
+abbrev pub keyless_item : Item → KeylessItem
+keyless_item i = record { actor = i.actor; happened = bare_happened i.happened; answer = option_map keyless_answer i.answer }
 
 -- the items without keys
-unfoldable pub told_items : History → List ToldItem
-told_items [] = []
-told_items (i ∷ before) = told_item i ∷ told_items before
+unfoldable pub keyless_items : History → List KeylessItem
+keyless_items [] = []
+keyless_items (i ∷ before) = keyless_item i ∷ keyless_items before
 
 -- the histories are equal except for keys, item by item
 abbrev pub SameHistory : History → History → Type 0
-SameHistory one other = told_items one ≡ told_items other
+SameHistory one other = keyless_items one ≡ keyless_items other
 
 -- the events are equal except for keys
 abbrev pub SameEvent : Event → Event → Type 0
@@ -73,7 +73,7 @@ SameEvent one other = bare_event one ≡ bare_event other
 
 -- the elements are equal except for keys
 abbrev pub SameElement : Element → Element → Type 0
-SameElement (Did i) (Did j) = told_item i ≡ told_item j
+SameElement (Did i) (Did j) = keyless_item i ≡ keyless_item j
 SameElement one other = one ≡ other
 
 -- handles that were answered

@@ -76,17 +76,17 @@ OpenCallsCanGoOn =
     → let i = step_after s h d step answer in IsRight s h i × CanBeReached s (i ∷ h)
 
 -- the answer of a call that ends with its access: the bytes that the range held, if it is a read
-abbrev pub TellsAccess : History → Step → Answer → Type 0
-TellsAccess h (ReadBytes dom frame off len) answer =
+abbrev pub AnswersAccess : History → Step → Answer → Type 0
+AnswersAccess h (ReadBytes dom frame off len) answer =
     (b : Bytes) × (answer ≡ BytesAnswer b)
     × (b.bytes.items ≡ slice_range (contents_at h dom.0 frame) off (off + len))
-TellsAccess h step answer = answer ≡ AnswerDone
+AnswersAccess h step answer = answer ≡ AnswerDone
 
 -- the answer of a call whose next action is this, after its access: none if it continues, and otherwise that of the
 -- access
 abbrev pub AccessAnsweredSo : History → Step → Action → Option Answer → Type 0
 AccessAnsweredSo h step (Makes next) answer = answer ≡ None
-AccessAnsweredSo h step (Ends Granted) answer = (z : Answer) × (answer ≡ Some z) × TellsAccess h step z
+AccessAnsweredSo h step (Ends Granted) answer = (z : Answer) × (answer ≡ Some z) × AnswersAccess h step z
 AccessAnsweredSo h step (Ends verdict) answer = ⊥
 
 -- each open call whose next step is an access can make it and continue as its path gives: that is right, and a core

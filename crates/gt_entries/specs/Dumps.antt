@@ -39,8 +39,8 @@ is_left_out asked bytes =
     (not asked.all && (length bytes == entry_size asked.version)) && list_all (λ byte. byte == 0) bytes
 
 -- the text of an entry: its line, or nothing if it is left out
-abbrev pub TellsEntry : DumpOptions → ℕ → List ℕ → List ℕ → Type 0
-TellsEntry asked ref bytes text = MatchBool (is_left_out asked bytes) (text ≡ []) (IsEntryLine asked ref bytes text)
+abbrev pub IsEntryText : DumpOptions → ℕ → List ℕ → List ℕ → Type 0
+IsEntryText asked ref bytes text = MatchBool (is_left_out asked bytes) (text ≡ []) (IsEntryLine asked ref bytes text)
 
 -- the bytes of the entry at this reference; fewer if the dump ends in it (grant_table.h)
 abbrev pub entry_bytes_at : ℕ → List ℕ → ℕ → List ℕ
@@ -51,15 +51,15 @@ abbrev pub entry_count : ℕ → List ℕ → ℕ
 entry_count version dump = (length dump + entry_size version - 1) / entry_size version
 
 -- the text of the first entries, one after the other
-abbrev pub TellsEntries : DumpOptions → List ℕ → ℕ → List ℕ → Type 0
-TellsEntries asked dump zero text = text ≡ []
-TellsEntries asked dump (suc ref) text =
-    (before line : List ℕ) × (text ≡ before ++ line) × TellsEntries asked dump ref before
-    × TellsEntry asked ref (entry_bytes_at asked.version dump ref) line
+abbrev pub AreEntryTexts : DumpOptions → List ℕ → ℕ → List ℕ → Type 0
+AreEntryTexts asked dump zero text = text ≡ []
+AreEntryTexts asked dump (suc ref) text =
+    (before line : List ℕ) × (text ≡ before ++ line) × AreEntryTexts asked dump ref before
+    × IsEntryText asked ref (entry_bytes_at asked.version dump ref) line
 
 -- the text of a whole dump
-abbrev pub TellsDump : DumpOptions → List ℕ → List ℕ → Type 0
-TellsDump asked dump text = TellsEntries asked dump (entry_count asked.version dump) text
+abbrev pub IsDumpText : DumpOptions → List ℕ → List ℕ → Type 0
+IsDumpText asked dump text = AreEntryTexts asked dump (entry_count asked.version dump) text
 
 -- the maximum number of bytes of a dump: 16 frames
 abbrev pub most_bytes : ℕ
@@ -69,9 +69,9 @@ most_bytes = 65536
 -- if the dump is too long, or if an allocation failed.
 abbrev pub Dumped : DumpOptions → List ℕ → Option (List ℕ) → Option (List ℕ) → Result (Unit {0}) DumpFault → Type 0
 Dumped asked dump old new (Ok done) =
-    (text : List ℕ) × (length dump ≤ most_bytes) × TellsDump asked dump text × Appends old new text
+    (text : List ℕ) × (length dump ≤ most_bytes) × IsDumpText asked dump text × Appends old new text
 Dumped asked dump old new (Err Write) =
-    (text : List ℕ) × (length dump ≤ most_bytes) × TellsDump asked dump text × AppendsBeginning old new text
+    (text : List ℕ) × (length dump ≤ most_bytes) × IsDumpText asked dump text × AppendsBeginning old new text
 Dumped asked dump old new (Err Limit) = (most_bytes < length dump) × Keeps old new
 Dumped asked dump old new (Err Memory) = Keeps old new
 Dumped asked dump old new (Err Read) = ⊥
@@ -82,9 +82,9 @@ abbrev pub digits_of : List ℕ → List ℕ
 digits_of input = filter (λ byte. not (is_ascii_whitespace byte)) input
 
 -- the dump of an input: the input itself, or the bytes that its hexadecimal text encodes
-abbrev pub SaysDump : Bool → List ℕ → List ℕ → Type 0
-SaysDump false input bytes = bytes ≡ input
-SaysDump true input bytes = decode_of (digits_of input) ≡ Ok bytes
+abbrev pub GivesDump : Bool → List ℕ → List ℕ → Type 0
+GivesDump false input bytes = bytes ≡ input
+GivesDump true input bytes = decode_of (digits_of input) ≡ Ok bytes
 
 -- the input has to be hexadecimal text, and is not
 abbrev pub IsNoHex : Bool → List ℕ → Type 0
@@ -100,14 +100,14 @@ IsNoDump hex input Write = ⊥
 
 -- What was written for an input, by the result: what is written for its dump, and nothing if it
 -- gives none, or can't be read.
-abbrev pub Told : DumpOptions → List ℕ → Option (List ℕ) → Option (List ℕ) → Result (Unit {0}) DumpFault → Type 0
-Told asked input old new (Ok done) =
-    (dump : List ℕ) × SaysDump asked.hex input dump × Dumped asked dump old new (Ok done)
-Told asked input old new (Err Write) =
-    (dump : List ℕ) × SaysDump asked.hex input dump × Dumped asked dump old new (Err Write)
-Told asked input old new (Err Limit) =
-    ((LONGEST_TEXT < length input) ⊎ ((dump : List ℕ) × SaysDump asked.hex input dump × (most_bytes < length dump)))
+abbrev pub WroteDump : DumpOptions → List ℕ → Option (List ℕ) → Option (List ℕ) → Result (Unit {0}) DumpFault → Type 0
+WroteDump asked input old new (Ok done) =
+    (dump : List ℕ) × GivesDump asked.hex input dump × Dumped asked dump old new (Ok done)
+WroteDump asked input old new (Err Write) =
+    (dump : List ℕ) × GivesDump asked.hex input dump × Dumped asked dump old new (Err Write)
+WroteDump asked input old new (Err Limit) =
+    ((LONGEST_TEXT < length input) ⊎ ((dump : List ℕ) × GivesDump asked.hex input dump × (most_bytes < length dump)))
     × Keeps old new
-Told asked input old new (Err Syntax) = IsNoHex asked.hex input × Keeps old new
-Told asked input old new (Err Memory) = Keeps old new
-Told asked input old new (Err Read) = Keeps old new
+WroteDump asked input old new (Err Syntax) = IsNoHex asked.hex input × Keeps old new
+WroteDump asked input old new (Err Memory) = Keeps old new
+WroteDump asked input old new (Err Read) = Keeps old new

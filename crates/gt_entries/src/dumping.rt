@@ -2,7 +2,7 @@
 ghost use Rattle.std.specs.Prelude.{◌≡◌, ◌≤◌, ◌++◌, ◌*◌, ◌+◌, ℕ, List, [], OnOk, length, take};
 ghost use Rattle.gt_text.specs.Streams.{OfInput, ConsumesAtMost};
 ghost use Rattle.gt_text.specs.declared.streams.TheConstants.{READ_LIMIT};
-ghost use Rattle.gt_entries.specs.Dumps.{Dumped, TellsDump, Told, entry_count, entry_bytes_at, most_bytes};
+ghost use Rattle.gt_entries.specs.Dumps.{Dumped, IsDumpText, WroteDump, entry_count, entry_bytes_at, most_bytes};
 
 use crate::asked::DumpOptions;
 use crate::fault::DumpFault;
@@ -47,7 +47,7 @@ fn push_dump(
 ) -> Result<(), AllocError>
     requires few { length dump.now ≤ most_bytes }
     requires empty { out.old.items ≡ [] }
-    ensures { OnOk result (TellsDump asked dump.now out.new.items) }
+    ensures { OnOk result (IsDumpText asked dump.now out.new.items) }
 {
     let count = count_of(asked.version, dump);
     'entries: for gref in 0..count {
@@ -83,7 +83,7 @@ fn write_input<W: Write>(
     writer: &mut W,
 ) -> Result<(), DumpFault>
     ensures { (all : List ℕ) → input.items ≡ take READ_LIMIT all →
-        Told asked all (W.contents writer.old) (W.contents writer.new) result }
+        WroteDump asked all (W.contents writer.old) (W.contents writer.new) result }
 {
     match bytes_of(alloc, asked.hex, input) {
         Ok(dump) => write_dump(alloc, asked, dump.as_slice(), writer),
@@ -104,7 +104,7 @@ pub fn entries<R: Read, W: Write>(
     writer: &mut W,
 ) -> Result<(), DumpFault>
     ensures text { OfInput (R.remaining reader.old) (λ input.
-        Told asked input (W.contents writer.old) (W.contents writer.new) result) }
+        WroteDump asked input (W.contents writer.old) (W.contents writer.new) result) }
     ensures read { ConsumesAtMost READ_LIMIT (R.remaining reader.old) (R.remaining reader.new) }
 {
     match read_text(alloc, reader) {

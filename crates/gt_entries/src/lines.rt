@@ -2,7 +2,7 @@
 ghost use Rattle.std.specs.Prelude.{◌≡◌, ◌==◌, ◌++◌, ℕ, List, OnOk};
 ghost use Rattle.std.specs.List.{list_all};
 ghost use Rattle.gt_entry.specs.Bytes.{entry_size};
-ghost use Rattle.gt_entries.specs.Dumps.{Decodes, TellsEntry, is_left_out, dump_line_text, field_text};
+ghost use Rattle.gt_entries.specs.Dumps.{Decodes, IsEntryText, is_left_out, dump_line_text, field_text};
 ghost use Rattle.gt_entries.specs.Live.{cleared};
 
 use crate::asked::DumpOptions;
@@ -88,7 +88,7 @@ pub fn push_entry_lines(
     gref: usize,
     bytes: &[u8],
 ) -> Result<(), AllocError>
-    ensures { OnOk result ((text : List ℕ) × TellsEntry asked gref bytes.now text
+    ensures { OnOk result ((text : List ℕ) × IsEntryText asked gref bytes.now text
         × (out.new.items ≡ out.old.items ++ text)) }
 {
     if is_left_out(asked, bytes) {

@@ -5,7 +5,7 @@ use Rattle.gt_script_runs.specs.Faults.{fault_of, read_fault}
 use Rattle.gt_script_runs.specs.declared.fault.PlayFault.{PlayFault}
 use Rattle.gt_script_runs.specs.declared.fault.PlayFault.TheVariants as plays
 use Rattle.gt_script.specs.RunContents.{RunContents}
-use Rattle.gt_script.specs.RunScripts.{RunAnswers, RunTells}
+use Rattle.gt_script.specs.RunScripts.{RunAnswers, ReadsAsRun}
 use Rattle.gt_script.specs.Script.{Wrong}
 use Rattle.gt_script.specs.declared.faults.ScriptError.{ScriptError}
 use Rattle.gt_script.specs.declared.faults.ScriptError.TheVariants as errors
@@ -58,6 +58,6 @@ unread : (asked : ExploreOptions) (Told : Result RunContents Wrong → Type 0) (
 unread asked Told old reads.Memory = keeps_same old
 unread asked Told old reads.Read = keeps_same old
 
-pub explored_unread : (asked : ExploreOptions) (known old : Option (List ℕ)) (error : ReadFault) (fault : PlayFault) → fault ≡ read_fault error → OfInput known (λ input. Explored asked (RunTells input) old old (Err (Play fault)))
+pub explored_unread : (asked : ExploreOptions) (known old : Option (List ℕ)) (error : ReadFault) (fault : PlayFault) → fault ≡ read_fault error → OfInput known (λ input. Explored asked (ReadsAsRun input) old old (Err (Play fault)))
 explored_unread asked known old error fault is =
-    of_any_input known (λ (input : List ℕ). Explored asked (RunTells input) old old (Err (Play fault))) (λ (input : List ℕ). subst (λ (f : PlayFault). Explored asked (RunTells input) old old (Err (Play f))) (sym is) (unread asked (RunTells input) old error))
+    of_any_input known (λ (input : List ℕ). Explored asked (ReadsAsRun input) old old (Err (Play fault))) (λ (input : List ℕ). subst (λ (f : PlayFault). Explored asked (ReadsAsRun input) old old (Err (Play f))) (sym is) (unread asked (ReadsAsRun input) old error))

@@ -12,7 +12,7 @@ use Rattle.gt_explore_verdict.specs.Expressions.{Asked}
 use Rattle.gt_explore_answers.specs.Answering.{ShownAs}
 use Rattle.gt_explore_verdict.specs.declared.fault.ExpressionFault.TheVariants as expressions
 use Rattle.gt_explore_answers.specs.Exploring.{AreAsked, AreTextsOf, IsFaultAsked, has_its_text}
-use Rattle.gt_explore_answers.specs.Telling.{Found}
+use Rattle.gt_explore_answers.specs.Outputs.{Found}
 use Rattle.gt_explore_answers.specs.declared.answering.ExploreOutput.{ExploreOutput}
 use Rattle.gt_explore_answers.specs.declared.asking.ExploreOptions.{ExploreOptions}
 use Rattle.gt_explore_faults.specs.declared.fault.ExploreFault.{ExploreFault}

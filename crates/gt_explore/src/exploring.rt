@@ -1,12 +1,12 @@
 //! The command `explore`.
 ghost use Rattle.std.specs.Prelude.{◌≡◌, ℕ, List, IfOk, map, take};
-ghost use Rattle.gt_script.specs.Contents.{contents_told};
-ghost use Rattle.gt_script.specs.RunContents.{run_told};
-ghost use Rattle.gt_script.specs.RunScripts.{CanConfigure, RunTells};
+ghost use Rattle.gt_script.specs.Contents.{contents_of};
+ghost use Rattle.gt_script.specs.RunContents.{run_contents};
+ghost use Rattle.gt_script.specs.RunScripts.{CanConfigure, ReadsAsRun};
 ghost use Rattle.gt_text.specs.Streams.{ConsumesAtMost, OfInput};
 ghost use Rattle.gt_text.specs.declared.streams.TheConstants.{READ_LIMIT};
 ghost use Rattle.gt_script.specs.Stuck.{AreNumbered};
-ghost use Rattle.gt_explore_verdict.specs.Expressions.{told};
+ghost use Rattle.gt_explore_verdict.specs.Expressions.{condition_asked};
 ghost use Rattle.gt_explore_answers.specs.Exploring.{AreAsked};
 ghost use Rattle.gt_explore.specs.Writing.{Explored, Explores, IsMadeFor};
 
@@ -31,10 +31,10 @@ fn made_as(
     script: &RunScript,
     conditions: &[Condition<'_>],
 ) -> Result<Option<ExploreOutput>, TextsFault>
-    requires fits { CanConfigure (contents_told script.now.head) }
+    requires fits { CanConfigure (contents_of script.now.head) }
     requires numbered { AreNumbered script.now.flags script.now.tasks }
-    requires read { AreAsked (run_told script.now) asked.now.request (map told conditions.now) }
-    ensures { IfOk result (IsMadeFor (run_told script.now) asked.now) }
+    requires read { AreAsked (run_contents script.now) asked.now.request (map condition_asked conditions.now) }
+    ensures { IfOk result (IsMadeFor (run_contents script.now) asked.now) }
 {
     let found = texts_found(alloc, script, asked.states)?;
     if !has_its_text(asked.request, &found) {
@@ -52,9 +52,9 @@ fn explore_script<W: Write>(
     script: &RunScript,
     writer: &mut W,
 ) -> Result<Verdict, ExploreFault>
-    requires fits { CanConfigure (contents_told script.now.head) }
+    requires fits { CanConfigure (contents_of script.now.head) }
     requires numbered { AreNumbered script.now.flags script.now.tasks }
-    ensures { Explores (run_told script.now) asked.now (W.contents writer.old) (W.contents writer.new) result }
+    ensures { Explores (run_contents script.now) asked.now (W.contents writer.old) (W.contents writer.new) result }
 {
     let conditions = conditions_asked(alloc, script, asked.request)?;
     match made_as(alloc, asked, source, script, conditions.as_slice()) {
@@ -75,7 +75,7 @@ fn explore_bytes<W: Write>(
     writer: &mut W,
 ) -> Result<Verdict, ExploreFault>
     ensures { (all : List ℕ) → input.now ≡ take READ_LIMIT all →
-        Explored asked.now (RunTells all) (W.contents writer.old) (W.contents writer.new) result }
+        Explored asked.now (ReadsAsRun all) (W.contents writer.old) (W.contents writer.new) result }
 {
     match parse_run(alloc, input) {
         Ok(script) => explore_script(alloc, asked, input, &script, writer),
@@ -102,7 +102,7 @@ pub fn explore<R: Read, W: Write>(
     writer: &mut W,
 ) -> Result<Verdict, ExploreFault>
     ensures text { OfInput (R.remaining reader.old) (λ input.
-        Explored asked.now (RunTells input) (W.contents writer.old) (W.contents writer.new) result) }
+        Explored asked.now (ReadsAsRun input) (W.contents writer.old) (W.contents writer.new) result) }
     ensures read { ConsumesAtMost READ_LIMIT (R.remaining reader.old) (R.remaining reader.new) }
 {
     match read_text(alloc, reader) {

@@ -1,8 +1,8 @@
 //! The texts that a script may give.
 ghost use Rattle.std.specs.Prelude.{◌≡◌, ℕ, List, Some, slice_get, All, IfOk, IsTrue, OnOk};
 ghost use Rattle.std.specs.List.Sorted.{IsPermutation};
-ghost use Rattle.gt_script.specs.Contents.{contents_told};
-ghost use Rattle.gt_script.specs.RunContents.{run_told};
+ghost use Rattle.gt_script.specs.Contents.{contents_of};
+ghost use Rattle.gt_script.specs.RunContents.{run_contents};
 ghost use Rattle.gt_script.specs.RunScripts.{CanConfigure};
 ghost use Rattle.gt_script.specs.Stuck.{AreNumbered};
 ghost use Rattle.gt_explore_replay.specs.Orders.{MayGive};
@@ -10,7 +10,7 @@ ghost use Rattle.gt_explore_search.specs.declared.exploring.FoundText.{FoundText
 ghost use Rattle.gt_explore.specs.Adding.{AddsOrder, AreAscending, last_compared};
 ghost use Rattle.gt_explore_answers.specs.Texts.{AreDifferentTexts, IsTextAmong, texts_of_orders};
 ghost use Rattle.gt_explore_answers.specs.Exploring.{AreTextsOf};
-ghost use Rattle.gt_explore_answers.specs.Telling.{found_told};
+ghost use Rattle.gt_explore_answers.specs.Outputs.{found_from};
 
 use gt_explore_answers::FoundTexts;
 use gt_explore_faults::TextsFault;
@@ -48,9 +48,9 @@ fn add(texts: &mut Vec<FoundText>, order: FoundText) -> Result<(), TextsFault>
 
 // Returns the order, if the core follows it to its text.
 fn replayed(alloc: Global, script: &RunScript, order: FoundText) -> Result<FoundText, TextsFault>
-    requires { CanConfigure (contents_told script.now.head) }
+    requires { CanConfigure (contents_of script.now.head) }
     ensures same { IfOk result (λ o. o ≡ order) }
-    ensures possible { IfOk result (λ o. MayGive (run_told script.now) o.text.items) }
+    ensures possible { IfOk result (λ o. MayGive (run_contents script.now) o.text.items) }
 {
     let Some(text) = text_of(alloc, script, order.turns.as_slice())? else {
         return Err(TextsFault::Astray);
@@ -75,8 +75,8 @@ fn distinct(
     script: &RunScript,
     orders: Vec<FoundText>,
 ) -> Result<Vec<FoundText>, TextsFault>
-    requires { CanConfigure (contents_told script.now.head) }
-    ensures possible { IfOk result (λ texts. All (MayGive (run_told script.now)) (texts_of_orders texts.items)) }
+    requires { CanConfigure (contents_of script.now.head) }
+    ensures possible { IfOk result (λ texts. All (MayGive (run_contents script.now)) (texts_of_orders texts.items)) }
     ensures whole { (at : ℕ) (o : FoundText) → slice_get orders.items at ≡ Some o →
         IfOk result (λ texts. IsTextAmong o.text.items (texts_of_orders texts.items)) }
     ensures ascending { IfOk result (λ texts. AreAscending (texts_of_orders texts.items)) }
@@ -100,10 +100,10 @@ pub fn texts_within(
     script: &RunScript,
     limit: usize,
 ) -> Result<FoundTexts, TextsFault>
-    requires { CanConfigure (contents_told script.now.head) }
-    ensures possible { IfOk result (λ all. All (MayGive (run_told script.now)) (texts_of_orders all.texts.items)) }
+    requires { CanConfigure (contents_of script.now.head) }
+    ensures possible { IfOk result (λ all. All (MayGive (run_contents script.now)) (texts_of_orders all.texts.items)) }
     ensures whole { (text : List ℕ) → AreNumbered script.now.flags script.now.tasks →
-        MayGive (run_told script.now) text →
+        MayGive (run_contents script.now) text →
         IfOk result (λ all. IsTrue all.whole → IsTextAmong text (texts_of_orders all.texts.items)) }
     ensures ascending { IfOk result (λ all. AreAscending (texts_of_orders all.texts.items)) }
     ensures apart { IfOk result (λ all. AreDifferentTexts (texts_of_orders all.texts.items)) }
@@ -128,9 +128,9 @@ pub(crate) fn texts_found(
     script: &RunScript,
     limit: usize,
 ) -> Result<FoundTexts, TextsFault>
-    requires fits { CanConfigure (contents_told script.now.head) }
+    requires fits { CanConfigure (contents_of script.now.head) }
     requires numbered { AreNumbered script.now.flags script.now.tasks }
-    ensures { IfOk result (λ all. AreTextsOf (run_told script.now) (found_told all)) }
+    ensures { IfOk result (λ all. AreTextsOf (run_contents script.now) (found_from all)) }
 {
     let all = texts_within(alloc, script, limit)?;
     Ok(all)
@@ -143,10 +143,10 @@ pub(crate) fn texts_found(
 /// `States` beyond the limit, `Astray` if the search found an order that the core does not follow to its text, or a run
 /// that returned to a state, and `Memory`.
 pub fn texts_of(alloc: Global, script: &RunScript, limit: usize) -> Result<FoundTexts, TextsFault>
-    requires { CanConfigure (contents_told script.now.head) }
-    ensures possible { IfOk result (λ all. All (MayGive (run_told script.now)) (texts_of_orders all.texts.items)) }
+    requires { CanConfigure (contents_of script.now.head) }
+    ensures possible { IfOk result (λ all. All (MayGive (run_contents script.now)) (texts_of_orders all.texts.items)) }
     ensures whole { (text : List ℕ) → AreNumbered script.now.flags script.now.tasks →
-        MayGive (run_told script.now) text → IfOk result (λ all. IsTextAmong text (texts_of_orders all.texts.items)) }
+        MayGive (run_contents script.now) text → IfOk result (λ all. IsTextAmong text (texts_of_orders all.texts.items)) }
     ensures apart { IfOk result (λ all. AreDifferentTexts (texts_of_orders all.texts.items)) }
 {
     let all = texts_within(alloc, script, limit)?;

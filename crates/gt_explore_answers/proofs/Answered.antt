@@ -20,9 +20,9 @@ use Rattle.gt_explore_verdict.specs.declared.judging.Verdict.{Verdict}
 use Rattle.gt_explore_verdict.specs.declared.judging.Claim.TheVariants.{Find}
 use Rattle.gt_script.specs.RunContents.{RunContents}
 use Rattle.gt_explore_answers.specs.Texts.{IsTextAmong, texts_of_orders}
-use Rattle.gt_explore_answers.specs.Exploring.{AreTextsOf, MeansGiven, TellsBy, TellsClaim, TellsClaimBy, TellsVerdict}
-use Rattle.gt_explore_answers.specs.Exploring.{TellsWitnesses, place_of, satisfied}
-use Rattle.gt_explore_answers.specs.Telling.{Found, counterexample_comment, found_told, witness_comment}
+use Rattle.gt_explore_answers.specs.Exploring.{AreTextsOf, MeansGiven, IsOutputBy, IsClaimOutput, IsClaimOutputBy, IsVerdictOutput}
+use Rattle.gt_explore_answers.specs.Exploring.{AreWitnessOutputs, place_of, satisfied}
+use Rattle.gt_explore_answers.specs.Outputs.{Found, counterexample_comment, found_from, witness_comment}
 use Rattle.gt_explore_answers.specs.Witness.{ShowsAfter}
 use Rattle.gt_explore_answers.specs.declared.answering.ExploreOutput.{ExploreOutput}
 use Rattle.gt_explore_answers.specs.declared.asking.ExploreRequest.{ExploreRequest}
@@ -85,10 +85,10 @@ means_given c f given are =
 
 -- one more script is written
 pub witness_more : (c : RunContents) (f : Found) (os : List FoundText) (i number : ℕ) (o : FoundText) (script rest : List ℕ) → i < length os → o ≡ get_or os i o
-    → ShowsAfter c.head [] script o.text.items → TellsWitnesses c f (number + 1) (texts_of_orders (drop (i + 1) os)) rest
-    → TellsWitnesses c f number (texts_of_orders (drop i os)) (witness_comment f (number + 1) ++ (script ++ rest))
+    → ShowsAfter c.head [] script o.text.items → AreWitnessOutputs c f (number + 1) (texts_of_orders (drop (i + 1) os)) rest
+    → AreWitnessOutputs c f number (texts_of_orders (drop i os)) (witness_comment f (number + 1) ++ (script ++ rest))
 witness_more c f os i number o script rest lt is gives told =
-    let P : List FoundText → Type 0 = λ ps. TellsWitnesses c f number (texts_of_orders ps) (witness_comment f (number + 1) ++ (script ++ rest)) in
+    let P : List FoundText → Type 0 = λ ps. AreWitnessOutputs c f number (texts_of_orders ps) (witness_comment f (number + 1) ++ (script ++ rest)) in
     subst P (ap (λ (q : FoundText). q ∷ drop (i + 1) os) is ∙ sym (drop_more os i o lt)) (script, rest, refl, gives, told)
 
 -- lines one after the other
@@ -103,34 +103,34 @@ three_joined (Ok done) out a b c first second third f s t =
     t ∙ ap (λ (l : List ℕ). l ++ c) (s ∙ ap (λ (l : List ℕ). l ++ b) f) ∙ append_assoc (out ++ a) b c ∙ append_assoc out a (b ++ c)
 
 -- no script is left to write
-pub none_left : (c : RunContents) (f : Found) (number i : ℕ) (os : List FoundText) → length os ≤ i → TellsWitnesses c f number (texts_of_orders (drop i os)) []
-none_left c f number i os end = let P : List FoundText → Type 0 = λ ps. TellsWitnesses c f number (texts_of_orders ps) [] in subst P (sym (drop_all i os end)) refl
+pub none_left : (c : RunContents) (f : Found) (number i : ℕ) (os : List FoundText) → length os ≤ i → AreWitnessOutputs c f number (texts_of_orders (drop i os)) []
+none_left c f number i os end = let P : List FoundText → Type 0 = λ ps. AreWitnessOutputs c f number (texts_of_orders ps) [] in subst P (sym (drop_all i os end)) refl
 
 -- a text shows that a claim does not hold
 pub shows_text : (c : RunContents) (f : FoundTexts) (at number : ℕ) (o : FoundText) (comment : List ℕ) (r : Result (Vec ℕ Global) TextsFault) → number ≡ at + 1 → Some o ≡ slice_get f.texts.items at
-    → comment ≡ counterexample_comment (found_told f) number o.text.items → IfOk r (λ text. ShowsAfter c.head comment text.items o.text.items)
-    → IfOk r (λ text. (v : Verdict) → TellsVerdict c (found_told f) v (Some at) text.items)
+    → comment ≡ counterexample_comment (found_from f) number o.text.items → IfOk r (λ text. ShowsAfter c.head comment text.items o.text.items)
+    → IfOk r (λ text. (v : Verdict) → IsVerdictOutput c (found_from f) v (Some at) text.items)
 shows_text c f at number o comment (Err fault) many there is after = tt
 shows_text c f at number o comment (Ok text) many there is after = λ v. (
   o.text.items,
   slice_get-map (λ (p : FoundText). p.text.items) f.texts.items at ∙ ap (option_map (λ (p : FoundText). p.text.items)) (sym there),
-  subst (λ (l : List ℕ). ShowsAfter c.head l text.items o.text.items) (is ∙ ap (λ (n : ℕ). counterexample_comment (found_told f) n o.text.items) many) after,
+  subst (λ (l : List ℕ). ShowsAfter c.head l text.items o.text.items) (is ∙ ap (λ (n : ℕ). counterexample_comment (found_from f) n o.text.items) many) after,
 )
 
 -- the verdict is told by the text that shows it
 pub told_by : (c : RunContents) (f : Found) (v : Verdict) (shown : Option ℕ) (at : ℕ) (r : Result (Vec ℕ Global) TextsFault) → shown ≡ Some at
-    → IfOk r (λ text. (w : Verdict) → TellsVerdict c f w (Some at) text.items) → IfOk r (λ text. TellsVerdict c f v shown text.items)
+    → IfOk r (λ text. (w : Verdict) → IsVerdictOutput c f w (Some at) text.items) → IfOk r (λ text. IsVerdictOutput c f v shown text.items)
 told_by c f v shown at (Err fault) is told = tt
-told_by c f v shown at (Ok text) is told = subst (λ (s : Option ℕ). TellsVerdict c f v s text.items) (sym is) (told v)
+told_by c f v shown at (Ok text) is told = subst (λ (s : Option ℕ). IsVerdictOutput c f v s text.items) (sym is) (told v)
 
 -- the output is that for the judgement on the conditions
 pub tells_by : (c : RunContents) (claim : Claim) (cs : List Asked) (f : Found) (met other : List Bool) (j : Judgement) (text : List ℕ) → met ≡ satisfied cs f → other ≡ satisfied cs f
-    → j ≡ judged claim other f.whole → TellsClaimBy c claim f met j text → TellsClaim c claim cs f text
+    → j ≡ judged claim other f.whole → IsClaimOutputBy c claim f met j text → IsClaimOutput c claim cs f text
 tells_by c claim cs f met other j text is also judges told =
-    subst (λ (k : Judgement). TellsClaimBy c claim f (satisfied cs f) k text) (judges ∙ ap (λ (m : List Bool). judged claim m f.whole) also)
-    (subst (λ (m : List Bool). TellsClaimBy c claim f m j text) is told)
+    subst (λ (k : Judgement). IsClaimOutputBy c claim f (satisfied cs f) k text) (judges ∙ ap (λ (m : List Bool). judged claim m f.whole) also)
+    (subst (λ (m : List Bool). IsClaimOutputBy c claim f m j text) is told)
 
 -- what was made answers the request
 pub made_so : (c : RunContents) (conditions : List Asked) (f : Found) (asked request : ExploreRequest) (r : Result ExploreOutput TextsFault) → asked ≡ request
-    → IfOk r (λ made. TellsBy c request conditions f made.text.items made.verdict) → IfOk r (λ made. TellsBy c asked conditions f made.text.items made.verdict)
-made_so c conditions f asked request r is made = subst (λ (q : ExploreRequest). IfOk r (λ m. TellsBy c q conditions f m.text.items m.verdict)) (sym is) made
+    → IfOk r (λ made. IsOutputBy c request conditions f made.text.items made.verdict) → IfOk r (λ made. IsOutputBy c asked conditions f made.text.items made.verdict)
+made_so c conditions f asked request r is made = subst (λ (q : ExploreRequest). IfOk r (λ m. IsOutputBy c q conditions f m.text.items m.verdict)) (sym is) made

@@ -10,7 +10,7 @@ use Rattle.gt_script.specs.RunContents.{RunContents}
 use Rattle.gt_explore_answers.specs.Texts.{texts_of_orders}
 use Rattle.gt_explore_answers.specs.AsObjects.{Showing, ShowsBy, ShowsObjects}
 use Rattle.gt_explore_answers.specs.Objects.{IsObjectIf, ShowsTexts, summary}
-use Rattle.gt_explore_answers.specs.Telling.{Found}
+use Rattle.gt_explore_answers.specs.Outputs.{Found}
 use Rattle.gt_explore_answers.specs.declared.answering.ExploreOutput.{ExploreOutput}
 use Rattle.gt_explore_answers.specs.declared.asking.ExploreRequest.{ExploreRequest}
 use Rattle.gt_explore_faults.specs.declared.fault.TextsFault.{TextsFault}

@@ -4,13 +4,13 @@ use Rattle.gt_script.specs.RunContents.{RunContents}
 use Rattle.gt_explore_verdict.specs.Expressions.{Asked}
 use Rattle.gt_explore_verdict.specs.declared.judging.Verdict.{Verdict}
 use Rattle.gt_explore_answers.specs.AsObjects.{ShowsBy}
-use Rattle.gt_explore_answers.specs.Exploring.{TellsBy}
-use Rattle.gt_explore_answers.specs.Telling.{Found}
+use Rattle.gt_explore_answers.specs.Exploring.{IsOutputBy}
+use Rattle.gt_explore_answers.specs.Outputs.{Found}
 use Rattle.gt_explore_answers.specs.declared.asking.ExploreFormat.{ExploreFormat}
 use Rattle.gt_explore_answers.specs.declared.asking.ExploreFormat.TheVariants.{Json, Text}
 use Rattle.gt_explore_answers.specs.declared.asking.ExploreRequest.{ExploreRequest}
 
 -- the output and the verdict, by the format and the request
 abbrev pub ShownAs : RunContents → ExploreFormat → ℕ → ExploreRequest → List Asked → Found → List ℕ → Verdict → Type 0
-ShownAs c Text limit request = TellsBy c request
+ShownAs c Text limit request = IsOutputBy c request
 ShownAs c Json limit request = ShowsBy c limit request

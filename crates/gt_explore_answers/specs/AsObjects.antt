@@ -10,7 +10,7 @@ use Rattle.gt_explore_verdict.specs.declared.judging.Claim.TheVariants.{Find, Ne
 use Rattle.gt_explore_verdict.specs.declared.judging.Verdict.{Verdict}
 use Rattle.gt_explore_answers.specs.Exploring.{GivesDiagram, MeansGiven, place_of, satisfied, verdict_of_all}
 use Rattle.gt_explore_answers.specs.Objects.{ShowsText, ShowsTexts, summary}
-use Rattle.gt_explore_answers.specs.Telling.{Found}
+use Rattle.gt_explore_answers.specs.Outputs.{Found}
 use Rattle.gt_explore_answers.specs.Tracing.{TracesText}
 use Rattle.gt_explore_answers.specs.declared.asking.ExploreRequest.{ExploreRequest}
 use Rattle.gt_explore_answers.specs.declared.asking.ExploreRequest.TheVariants as requests

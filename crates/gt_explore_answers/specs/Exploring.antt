@@ -21,7 +21,7 @@ use Rattle.gt_explore_verdict.specs.declared.judging.Judgement.{Judgement}
 use Rattle.gt_explore_verdict.specs.declared.judging.Verdict.{Verdict}
 use Rattle.gt_explore_verdict.specs.declared.judging.Verdict.TheVariants.{Holds, Fails, Undecided}
 use Rattle.gt_explore_answers.specs.Texts.{AreDifferentTexts, IsTextAmong}
-use Rattle.gt_explore_answers.specs.Telling.{Found, counterexample_comment, heading, states_line, texts_told, witness_comment}
+use Rattle.gt_explore_answers.specs.Outputs.{Found, counterexample_comment, heading, states_line, texts_output, witness_comment}
 use Rattle.gt_explore_answers.specs.Tracing.{IsDiagram, IsTrace, ShowsMoves}
 use Rattle.gt_explore_answers.specs.Witness.{IsWitness, ShowsAfter}
 use Rattle.gt_explore_answers.specs.declared.asking.ExploreRequest.{ExploreRequest}
@@ -87,31 +87,31 @@ verdict_line Undecided = codes "not decided\n"
 
 -- the output for a claim that no text satisfies the conditions, or that each does: the verdict, or the first text that
 -- shows that it does not hold, as a comment, and a script for `play` that gives it, if one was found
-abbrev pub TellsVerdict : RunContents → Found → Verdict → Option ℕ → List ℕ → Type 0
-TellsVerdict c f verdict None text = text ≡ verdict_line verdict ++ states_line f
-TellsVerdict c f verdict (Some at) text =
+abbrev pub IsVerdictOutput : RunContents → Found → Verdict → Option ℕ → List ℕ → Type 0
+IsVerdictOutput c f verdict None text = text ≡ verdict_line verdict ++ states_line f
+IsVerdictOutput c f verdict (Some at) text =
     (given : List ℕ) × (slice_get f.texts at ≡ Some given)
     × ShowsAfter c.head (counterexample_comment f (at + 1) given) text given
 
 -- the output for a claim, by whether each text satisfies the conditions, and by the judgement
-abbrev pub TellsClaimBy : RunContents → Claim → Found → List Bool → Judgement → List ℕ → Type 0
-TellsClaimBy c Find f met judgement text = text ≡ texts_told f met
-TellsClaimBy c Never f met judgement text = TellsVerdict c f judgement.verdict judgement.shown_by text
-TellsClaimBy c Always f met judgement text = TellsVerdict c f judgement.verdict judgement.shown_by text
+abbrev pub IsClaimOutputBy : RunContents → Claim → Found → List Bool → Judgement → List ℕ → Type 0
+IsClaimOutputBy c Find f met judgement text = text ≡ texts_output f met
+IsClaimOutputBy c Never f met judgement text = IsVerdictOutput c f judgement.verdict judgement.shown_by text
+IsClaimOutputBy c Always f met judgement text = IsVerdictOutput c f judgement.verdict judgement.shown_by text
 
 -- the output for a claim on these conditions
-abbrev pub TellsClaim : RunContents → Claim → List Asked → Found → List ℕ → Type 0
-TellsClaim c claim conditions f text =
-    TellsClaimBy c claim f (satisfied conditions f) (judged claim (satisfied conditions f) f.whole) text
+abbrev pub IsClaimOutput : RunContents → Claim → List Asked → Found → List ℕ → Type 0
+IsClaimOutput c claim conditions f text =
+    IsClaimOutputBy c claim f (satisfied conditions f) (judged claim (satisfied conditions f) f.whole) text
 
 -- the index of a text among these
 abbrev pub place_of : List ℕ → List (List ℕ) → Option ℕ
 place_of text texts = position (λ other. bytes_eq other text) texts
 
 -- the output for the question whether a text is one of these: its number
-abbrev pub number_told : Found → Option ℕ → List ℕ
-number_told f None = states_line f
-number_told f (Some at) = heading f.whole (length f.texts) (at + 1) ++ codes "\n" ++ states_line f
+abbrev pub number_output : Found → Option ℕ → List ℕ
+number_output f None = states_line f
+number_output f (Some at) = heading f.whole (length f.texts) (at + 1) ++ codes "\n" ++ states_line f
 
 -- what a verdict on a text means: the script may give it, or it may not
 abbrev pub MeansGiven : RunContents → List ℕ → Verdict → Type 0
@@ -121,11 +121,11 @@ MeansGiven c text Undecided = Unit {0}
 
 -- the output of a script for each of these texts, each under the number of its text, the first of them under the
 -- number after this one
-abbrev pub TellsWitnesses : RunContents → Found → ℕ → List (List ℕ) → List ℕ → Type 0
-TellsWitnesses c f before [] out = out ≡ []
-TellsWitnesses c f before (text ∷ texts) out =
+abbrev pub AreWitnessOutputs : RunContents → Found → ℕ → List (List ℕ) → List ℕ → Type 0
+AreWitnessOutputs c f before [] out = out ≡ []
+AreWitnessOutputs c f before (text ∷ texts) out =
     (script : List ℕ) × (rest : List ℕ) × (out ≡ witness_comment f (before + 1) ++ (script ++ rest))
-    × ShowsAfter c.head [] script text × TellsWitnesses c f (before + 1) texts rest
+    × ShowsAfter c.head [] script text × AreWitnessOutputs c f (before + 1) texts rest
 
 -- the conditions that a request states: those of the expression of a claim
 abbrev pub AreAsked : RunContents → ExploreRequest → List Asked → Type 0
@@ -157,20 +157,20 @@ has_its_text (requests.Diagram number) count = nat_lt 0 number && nat_le number 
 
 -- the texts, each under its number
 abbrev pub GivesTexts : Found → List ℕ → Verdict → Type 0
-GivesTexts f text verdict = (text ≡ texts_told f (satisfied [] f)) × (verdict ≡ verdict_of_all f.whole)
+GivesTexts f text verdict = (text ≡ texts_output f (satisfied [] f)) × (verdict ≡ verdict_of_all f.whole)
 
 -- a claim on these conditions is decided
 pub record DecidesClaim (c : RunContents) (claim : Claim) (conditions : List Asked) (f : Found) (text : List ℕ)
     (verdict : Verdict) : Type 0 where
   pub is : verdict ≡ (judged claim (satisfied conditions f) f.whole).verdict
   pub means : Means (MayGive c) claim conditions verdict
-  pub tells : TellsClaim c claim conditions f text
+  pub tells : IsClaimOutput c claim conditions f text
 
 -- the number of a text that the script may give
 pub record NumbersText (c : RunContents) (given : List ℕ) (f : Found) (text : List ℕ) (verdict : Verdict) : Type 0 where
   pub is : verdict ≡ verdict_at Find (is_some (place_of given f.texts)) f.whole
   pub means : MeansGiven c given verdict
-  pub tells : text ≡ number_told f (place_of given f.texts)
+  pub tells : text ≡ number_output f (place_of given f.texts)
 
 -- a script for `play` that gives the answers of the text of a number, if one was found
 abbrev pub GivesWitness : RunContents → ℕ → Found → List ℕ → Verdict → Type 0
@@ -178,7 +178,7 @@ GivesWitness c number f text verdict = IsWitness c.head f.texts number text × (
 
 -- such a script for each text
 abbrev pub GivesWitnesses : RunContents → Found → List ℕ → Verdict → Type 0
-GivesWitnesses c f text verdict = TellsWitnesses c f 0 f.texts text × (verdict ≡ verdict_of_all f.whole)
+GivesWitnesses c f text verdict = AreWitnessOutputs c f 0 f.texts text × (verdict ≡ verdict_of_all f.whole)
 
 -- the moves of an order that gives the text of a number, by the form
 abbrev pub GivesMoves : RunContents → TraceForm → ℕ → Found → List ℕ → Verdict → Type 0
@@ -193,11 +193,11 @@ abbrev pub GivesDiagram : RunContents → ℕ → Found → List ℕ → Verdict
 GivesDiagram c number f text verdict = IsDiagram c f number text × (verdict ≡ verdict_of_all f.whole)
 
 -- the output and the verdict, by the request
-abbrev pub TellsBy : RunContents → ExploreRequest → List Asked → Found → List ℕ → Verdict → Type 0
-TellsBy c requests.Texts conditions = GivesTexts
-TellsBy c (requests.Decide claim expression) conditions = DecidesClaim c claim conditions
-TellsBy c (requests.Has given) conditions = NumbersText c given.now
-TellsBy c (requests.Witness number) conditions = GivesWitness c number
-TellsBy c requests.Witnesses conditions = GivesWitnesses c
-TellsBy c (requests.Trace number) conditions = GivesTrace c number
-TellsBy c (requests.Diagram number) conditions = GivesDiagram c number
+abbrev pub IsOutputBy : RunContents → ExploreRequest → List Asked → Found → List ℕ → Verdict → Type 0
+IsOutputBy c requests.Texts conditions = GivesTexts
+IsOutputBy c (requests.Decide claim expression) conditions = DecidesClaim c claim conditions
+IsOutputBy c (requests.Has given) conditions = NumbersText c given.now
+IsOutputBy c (requests.Witness number) conditions = GivesWitness c number
+IsOutputBy c requests.Witnesses conditions = GivesWitnesses c
+IsOutputBy c (requests.Trace number) conditions = GivesTrace c number
+IsOutputBy c (requests.Diagram number) conditions = GivesDiagram c number

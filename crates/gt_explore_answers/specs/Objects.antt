@@ -6,7 +6,7 @@ use Rattle.gt_json.specs.Strings.{quoted}
 use Rattle.gt_explore_verdict.specs.declared.judging.Verdict.{Verdict}
 use Rattle.gt_explore_verdict.specs.declared.judging.Verdict.TheVariants.{Holds, Fails, Undecided}
 use Rattle.gt_script.specs.Contents.{Contents}
-use Rattle.gt_explore_answers.specs.Telling.{Found}
+use Rattle.gt_explore_answers.specs.Outputs.{Found}
 use Rattle.gt_explore_answers.specs.Witness.{ShowsAfter}
 
 -- a line is not empty

@@ -2,13 +2,13 @@
 use Rattle.std.specs.Prelude.{◌≡◌, ◌++◌, ℕ, List, codes, length}
 use Rattle.gt_script.specs.RunContents.{RunContents}
 use Rattle.gt_explore_trace.specs.Diagram.{participants_text}
-use Rattle.gt_explore_trace.specs.Lines.{trace_told}
+use Rattle.gt_explore_trace.specs.Lines.{trace_output}
 use Rattle.gt_explore_trace.specs.Moves.{GivesText}
 use Rattle.gt_explore_trace.specs.declared.facts.TraceForm.{TraceForm}
 use Rattle.gt_explore_trace.specs.declared.facts.TraceForm.TheVariants.{Json, Mermaid, Text}
 use Rattle.gt_explore_trace.specs.declared.moves.TracedMove.{TracedMove}
 use Rattle.gt_explore_answers.specs.Objects.{text_object}
-use Rattle.gt_explore_answers.specs.Telling.{Found, heading, states_line}
+use Rattle.gt_explore_answers.specs.Outputs.{Found, heading, states_line}
 use Rattle.gt_explore_answers.specs.Witness.{IsTextNumbered}
 
 -- the number of the text
@@ -17,7 +17,7 @@ heading_line f number = heading f.whole (length f.texts) number ++ codes "\n"
 
 -- a line for each move
 abbrev pub trace_shown : RunContents → Found → ℕ → List TracedMove → List ℕ
-trace_shown c f number moves = heading_line f number ++ (trace_told c Text moves ++ states_line f)
+trace_shown c f number moves = heading_line f number ++ (trace_output c Text moves ++ states_line f)
 
 -- the title of a sequence diagram
 abbrev pub title_text : Found → ℕ → List ℕ
@@ -26,12 +26,12 @@ title_text f number = codes "sequenceDiagram\n    title " ++ heading_line f numb
 -- a sequence diagram
 abbrev pub diagram_shown : RunContents → Found → ℕ → List TracedMove → List ℕ
 diagram_shown c f number moves =
-    title_text f number ++ participants_text c.head.domains ++ trace_told c Mermaid moves
+    title_text f number ++ participants_text c.head.domains ++ trace_output c Mermaid moves
     ++ (codes "    %% " ++ states_line f)
 
 -- the object of the text, and one for each move
 abbrev pub objects_shown : RunContents → Found → ℕ → List ℕ → List TracedMove → List ℕ
-objects_shown c f number text moves = text_object f number text ++ trace_told c Json moves
+objects_shown c f number text moves = text_object f number text ++ trace_output c Json moves
 
 -- the moves that lead to a text, by the form
 abbrev pub moves_shown : RunContents → Found → ℕ → TraceForm → List ℕ → List TracedMove → List ℕ
@@ -45,7 +45,7 @@ pub record ShowsMoves (c : RunContents) (f : Found) (number : ℕ) (form : Trace
   pub numbered : IsTextNumbered f.texts number text
   pub moves : List TracedMove
   pub gives : GivesText c moves text
-  pub told : out ≡ moves_shown c f number form text moves
+  pub shown : out ≡ moves_shown c f number form text moves
 
 -- a line for each move
 abbrev pub IsTrace : RunContents → Found → ℕ → List ℕ → Type 0

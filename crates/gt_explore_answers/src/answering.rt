@@ -3,25 +3,25 @@ ghost use Rattle.std.specs.Prelude.{◌≡◌, ◌++◌, ◌<◌, ℕ, List, [],
 ghost use Rattle.std.specs.List.{position};
 ghost use Rattle.std.specs.Option.{option_map};
 ghost use Rattle.std.specs.Str.{bytes_eq};
-ghost use Rattle.gt_script.specs.Contents.{contents_told};
-ghost use Rattle.gt_script.specs.RunContents.{RunContents, run_told};
+ghost use Rattle.gt_script.specs.Contents.{contents_of};
+ghost use Rattle.gt_script.specs.RunContents.{RunContents, run_contents};
 ghost use Rattle.gt_script.specs.RunScripts.{CanConfigure};
-ghost use Rattle.gt_explore_verdict.specs.Expressions.{told};
+ghost use Rattle.gt_explore_verdict.specs.Expressions.{condition_asked};
 ghost use Rattle.gt_explore_answers.specs.Texts.{texts_of_orders};
 ghost use Rattle.gt_explore_verdict.specs.Judging.{verdict_at};
 ghost use Rattle.gt_explore_verdict.specs.declared.judging.Claim.TheVariants.{Find};
 ghost use Rattle.gt_explore_verdict.specs.declared.judging.Verdict.{Verdict};
 ghost use Rattle.gt_explore_answers.specs.Exploring.{AreTextsOf, DecidesClaim, GivesMoves, GivesTexts};
 ghost use Rattle.gt_explore_answers.specs.Exploring.{GivesWitness, GivesWitnesses, NumbersText};
-ghost use Rattle.gt_explore_answers.specs.Exploring.{TellsBy, TellsClaimBy, TellsVerdict, TellsWitnesses};
+ghost use Rattle.gt_explore_answers.specs.Exploring.{IsOutputBy, IsClaimOutputBy, IsVerdictOutput, AreWitnessOutputs};
 ghost use Rattle.gt_explore_answers.specs.Exploring.{verdict_of_all};
-ghost use Rattle.gt_explore_answers.specs.Telling.{found_told, texts_told};
-ghost use Rattle.gt_explore_answers.specs.Witness.{SaysUnplayable, ShowsAfter};
+ghost use Rattle.gt_explore_answers.specs.Outputs.{found_from, texts_output};
+ghost use Rattle.gt_explore_answers.specs.Witness.{IsUnplayableOutput, ShowsAfter};
 
 use crate::asking::ExploreRequest;
 use crate::conditions::satisfied;
 use crate::found::FoundTexts;
-use crate::telling::{
+use crate::outputs::{
     push_counterexample, push_found_texts, push_place, push_unplayable, push_verdict,
     push_witness_comment,
 };
@@ -55,9 +55,9 @@ pub fn verdict_of_all(whole: bool) -> Verdict
 }
 
 // Returns the output for the texts that satisfy these conditions.
-fn texts_told(alloc: Global, found: &FoundTexts, met: &[bool]) -> Result<Vec<u8>, TextsFault>
+fn texts_output(alloc: Global, found: &FoundTexts, met: &[bool]) -> Result<Vec<u8>, TextsFault>
     requires { length met.now ≡ length found.now.texts.items }
-    ensures { IfOk result (λ text. text.items ≡ texts_told (found_told found.now) met.now) }
+    ensures { IfOk result (λ text. text.items ≡ texts_output (found_from found.now) met.now) }
 {
     let mut text = Vec::new(alloc);
     push_found_texts(&mut text, found, met)?;
@@ -73,7 +73,7 @@ fn without_script(
     dom: DomId,
 ) -> Result<Vec<u8>, TextsFault>
     ensures { IfOk result (λ text. (lines : List ℕ) × (text.items ≡ comment.now ++ lines)
-        × SaysUnplayable (contents_told script.now.head) lines) }
+        × IsUnplayableOutput (contents_of script.now.head) lines) }
 {
     if !may_not_unmap(alloc, script.head(), dom)? {
         return Err(TextsFault::Astray);
@@ -92,9 +92,9 @@ fn script_after(
     order: &FoundText,
     comment: &[u8],
 ) -> Result<Vec<u8>, TextsFault>
-    requires { CanConfigure (contents_told script.now.head) }
+    requires { CanConfigure (contents_of script.now.head) }
     ensures { IfOk result (λ text.
-        ShowsAfter (contents_told script.now.head) comment.now text.items order.now.text.items) }
+        ShowsAfter (contents_of script.now.head) comment.now text.items order.now.text.items) }
 {
     let Ok(source) = text_of(source) else {
         return Err(TextsFault::Astray);
@@ -123,9 +123,9 @@ pub fn script_of(
     script: &RunScript,
     order: &FoundText,
 ) -> Result<Vec<u8>, TextsFault>
-    requires { CanConfigure (contents_told script.now.head) }
+    requires { CanConfigure (contents_of script.now.head) }
     ensures { IfOk result (λ text.
-        ShowsAfter (contents_told script.now.head) [] text.items order.now.text.items) }
+        ShowsAfter (contents_of script.now.head) [] text.items order.now.text.items) }
 {
     script_after(alloc, source, script, order, &[])
 }
@@ -146,9 +146,9 @@ fn counterexample(
     found: &FoundTexts,
     at: usize,
 ) -> Result<Vec<u8>, TextsFault>
-    requires { CanConfigure (contents_told script.now.head) }
+    requires { CanConfigure (contents_of script.now.head) }
     ensures { IfOk result (λ text. (verdict : Verdict) →
-        TellsVerdict (run_told script.now) (found_told found.now) verdict (Some at) text.items) }
+        IsVerdictOutput (run_contents script.now) (found_from found.now) verdict (Some at) text.items) }
 {
     let Some(order) = order_at(found.texts.as_slice(), at) else {
         return Err(TextsFault::Astray);
@@ -162,15 +162,15 @@ fn counterexample(
 }
 
 // Returns the output for a verdict, by the index of the text that shows it.
-fn verdict_told(
+fn verdict_output(
     alloc: Global,
     source: &[u8],
     script: &RunScript,
     found: &FoundTexts,
     judgement: Judgement,
 ) -> Result<Vec<u8>, TextsFault>
-    requires { CanConfigure (contents_told script.now.head) }
-    ensures { IfOk result (λ text. TellsVerdict (run_told script.now) (found_told found.now)
+    requires { CanConfigure (contents_of script.now.head) }
+    ensures { IfOk result (λ text. IsVerdictOutput (run_contents script.now) (found_from found.now)
         judgement.verdict judgement.shown_by text.items) }
 {
     match judgement.shown_by {
@@ -191,7 +191,7 @@ struct JudgedClaim {
 }
 
 // Returns the output for a claim, by whether each text satisfies the conditions, and by the judgement.
-fn claim_told(
+fn claim_output(
     alloc: Global,
     source: &[u8],
     script: &RunScript,
@@ -199,15 +199,15 @@ fn claim_told(
     met: &[bool],
     claimed: JudgedClaim,
 ) -> Result<Vec<u8>, TextsFault>
-    requires fits { CanConfigure (contents_told script.now.head) }
+    requires fits { CanConfigure (contents_of script.now.head) }
     requires many { length met.now ≡ length found.now.texts.items }
-    ensures { IfOk result (λ text. TellsClaimBy (run_told script.now) claimed.claim (found_told found.now)
+    ensures { IfOk result (λ text. IsClaimOutputBy (run_contents script.now) claimed.claim (found_from found.now)
         met.now claimed.judgement text.items) }
 {
     match claimed.claim {
-        Claim::Find => texts_told(alloc, found, met),
-        Claim::Never => verdict_told(alloc, source, script, found, claimed.judgement),
-        Claim::Always => verdict_told(alloc, source, script, found, claimed.judgement),
+        Claim::Find => texts_output(alloc, found, met),
+        Claim::Never => verdict_output(alloc, source, script, found, claimed.judgement),
+        Claim::Always => verdict_output(alloc, source, script, found, claimed.judgement),
     }
 }
 
@@ -220,25 +220,25 @@ fn claim_made(
     claim: Claim,
     conditions: &[Condition<'_>],
 ) -> Result<ExploreOutput, TextsFault>
-    requires fits { CanConfigure (contents_told script.now.head) }
-    requires texts { AreTextsOf (run_told script.now) (found_told found.now) }
-    ensures { IfOk result (λ made. DecidesClaim (run_told script.now) claim (map told conditions.now)
-        (found_told found.now) made.text.items made.verdict) }
+    requires fits { CanConfigure (contents_of script.now.head) }
+    requires texts { AreTextsOf (run_contents script.now) (found_from found.now) }
+    ensures { IfOk result (λ made. DecidesClaim (run_contents script.now) claim (map condition_asked conditions.now)
+        (found_from found.now) made.text.items made.verdict) }
 {
     let met = satisfied(alloc, conditions, found.texts.as_slice())?;
     let judgement = judge(claim, met.as_slice(), found.whole);
     let claimed = JudgedClaim { claim, judgement };
-    let text = claim_told(alloc, source, script, found, met.as_slice(), claimed)?;
+    let text = claim_output(alloc, source, script, found, met.as_slice(), claimed)?;
     let verdict = judgement.verdict;
     Ok(ExploreOutput { text, verdict })
 }
 
 // Returns all texts that were found.
 fn all_texts(alloc: Global, found: &FoundTexts) -> Result<ExploreOutput, TextsFault>
-    ensures { IfOk result (λ made. GivesTexts (found_told found.now) made.text.items made.verdict) }
+    ensures { IfOk result (λ made. GivesTexts (found_from found.now) made.text.items made.verdict) }
 {
     let met = satisfied(alloc, &[], found.texts.as_slice())?;
-    let text = texts_told(alloc, found, met.as_slice())?;
+    let text = texts_output(alloc, found, met.as_slice())?;
     let verdict = verdict_of_all(found.whole);
     Ok(ExploreOutput { text, verdict })
 }
@@ -262,8 +262,8 @@ pub fn verdict_on(place: Option<usize>, whole: bool) -> Verdict
 
 // Returns the number of this text, if it was found.
 fn number_of(alloc: Global, found: &FoundTexts, given: &[u8]) -> Result<ExploreOutput, TextsFault>
-    ensures { (c : RunContents) → AreTextsOf c (found_told found.now) →
-        IfOk result (λ made. NumbersText c given.now (found_told found.now) made.text.items made.verdict) }
+    ensures { (c : RunContents) → AreTextsOf c (found_from found.now) →
+        IfOk result (λ made. NumbersText c given.now (found_from found.now) made.text.items made.verdict) }
 {
     let place = place_of(found.texts.as_slice(), given);
     let verdict = verdict_on(place, found.whole);
@@ -280,8 +280,8 @@ fn witness(
     found: &FoundTexts,
     number: usize,
 ) -> Result<ExploreOutput, TextsFault>
-    requires { CanConfigure (contents_told script.now.head) }
-    ensures { IfOk result (λ made. GivesWitness (run_told script.now) number (found_told found.now) made.text.items
+    requires { CanConfigure (contents_of script.now.head) }
+    ensures { IfOk result (λ made. GivesWitness (run_contents script.now) number (found_from found.now) made.text.items
         made.verdict) }
 {
     let order = numbered(found, number)?;
@@ -298,9 +298,9 @@ fn push_witnesses(
     script: &RunScript,
     found: &FoundTexts,
 ) -> Result<(), TextsFault>
-    requires { CanConfigure (contents_told script.now.head) }
+    requires { CanConfigure (contents_of script.now.head) }
     ensures { OnOk result ((more : List ℕ) × (out.new.items ≡ out.old.items ++ more)
-        × TellsWitnesses (run_told script.now) (found_told found.now) 0 (texts_of_orders found.now.texts.items) more) }
+        × AreWitnessOutputs (run_contents script.now) (found_from found.now) 0 (texts_of_orders found.now.texts.items) more) }
 {
     let mut number = 0;
     let orders = found.texts.as_slice();
@@ -320,8 +320,8 @@ fn witnesses(
     script: &RunScript,
     found: &FoundTexts,
 ) -> Result<ExploreOutput, TextsFault>
-    requires { CanConfigure (contents_told script.now.head) }
-    ensures { IfOk result (λ made. GivesWitnesses (run_told script.now) (found_told found.now) made.text.items
+    requires { CanConfigure (contents_of script.now.head) }
+    ensures { IfOk result (λ made. GivesWitnesses (run_contents script.now) (found_from found.now) made.text.items
         made.verdict) }
 {
     let mut text = Vec::new(alloc);
@@ -334,15 +334,15 @@ fn witnesses(
 ///
 /// # Errors
 /// `Witness` if no text has this number, `Astray` if the order of the text does not lead to it, and `Memory`.
-pub fn moves_told(
+pub fn moves_output(
     alloc: Global,
     form: TraceForm,
     script: &RunScript,
     found: &FoundTexts,
     number: usize,
 ) -> Result<ExploreOutput, TextsFault>
-    requires { CanConfigure (contents_told script.now.head) }
-    ensures { IfOk result (λ made. GivesMoves (run_told script.now) form number (found_told found.now) made.text.items
+    requires { CanConfigure (contents_of script.now.head) }
+    ensures { IfOk result (λ made. GivesMoves (run_contents script.now) form number (found_from found.now) made.text.items
         made.verdict) }
 {
     let text = moves_shown(alloc, form, script, found, number)?;
@@ -363,10 +363,10 @@ pub fn answer_in_text(
     found: &FoundTexts,
     conditions: &[Condition<'_>],
 ) -> Result<ExploreOutput, TextsFault>
-    requires fits { CanConfigure (contents_told script.now.head) }
-    requires texts { AreTextsOf (run_told script.now) (found_told found.now) }
-    ensures { IfOk result (λ made. TellsBy (run_told script.now) request.entry (map told conditions.now)
-        (found_told found.now) made.text.items made.verdict) }
+    requires fits { CanConfigure (contents_of script.now.head) }
+    requires texts { AreTextsOf (run_contents script.now) (found_from found.now) }
+    ensures { IfOk result (λ made. IsOutputBy (run_contents script.now) request.entry (map condition_asked conditions.now)
+        (found_from found.now) made.text.items made.verdict) }
 {
     match request {
         ExploreRequest::Texts => all_texts(alloc, found),
@@ -377,10 +377,10 @@ pub fn answer_in_text(
         ExploreRequest::Witness(number) => witness(alloc, source, script, found, number),
         ExploreRequest::Witnesses => witnesses(alloc, source, script, found),
         ExploreRequest::Trace(number) => {
-            moves_told(alloc, TraceForm::Text, script, found, number)
+            moves_output(alloc, TraceForm::Text, script, found, number)
         }
         ExploreRequest::Diagram(number) => {
-            moves_told(alloc, TraceForm::Mermaid, script, found, number)
+            moves_output(alloc, TraceForm::Mermaid, script, found, number)
         }
     }
 }

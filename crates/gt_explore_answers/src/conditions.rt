@@ -2,8 +2,8 @@
 ghost use Rattle.std.specs.Prelude.{◌≡◌, ◌&&◌, IfErr, IfOk, decimal, map};
 ghost use Rattle.std.specs.List.{list_any};
 ghost use Rattle.std.specs.Str.{bytes_eq};
-ghost use Rattle.gt_script.specs.RunContents.{run_told};
-ghost use Rattle.gt_explore_verdict.specs.Expressions.{place_told, told};
+ghost use Rattle.gt_script.specs.RunContents.{run_contents};
+ghost use Rattle.gt_explore_verdict.specs.Expressions.{place_asked, condition_asked};
 ghost use Rattle.gt_explore_verdict.specs.Satisfying.{satisfies};
 ghost use Rattle.gt_explore_answers.specs.Texts.{texts_of_orders};
 ghost use Rattle.gt_explore_answers.specs.Exploring.{AreAsked, AreConditions, IsExpressionFault, IsFaultAsked};
@@ -64,7 +64,7 @@ fn has_domain(alloc: Global, domains: &[DomainConfig], number: &[u8]) -> Result<
 
 // Returns whether the script has the line or the domain that a condition is about.
 fn has_place(alloc: Global, script: &RunScript, place: Place<'_>) -> Result<bool, AllocError>
-    ensures { IfOk result (λ b. b ≡ is_askable (run_told script.now) (place_told place.entry)) }
+    ensures { IfOk result (λ b. b ≡ is_askable (run_contents script.now) (place_asked place.entry)) }
 {
     match place {
         Place::Anywhere => Ok(true),
@@ -75,7 +75,7 @@ fn has_place(alloc: Global, script: &RunScript, place: Place<'_>) -> Result<bool
 
 // Returns the fault of a condition about a line or a domain that the script does not have.
 fn place_fault(place: Place<'_>) -> ConditionFault
-    ensures { result ≡ place_fault (place_told place.entry) }
+    ensures { result ≡ place_fault (place_asked place.entry) }
 {
     match place {
         Place::Anywhere | Place::Line(_) => ConditionFault::NoCall,
@@ -89,7 +89,7 @@ fn first_unplaced(
     script: &RunScript,
     conditions: &[Condition<'_>],
 ) -> Result<Option<(usize, ConditionFault)>, AllocError>
-    ensures { IfOk result (λ found. found ≡ first_unplaced (run_told script.now) 1 (map told conditions.now)) }
+    ensures { IfOk result (λ found. found ≡ first_unplaced (run_contents script.now) 1 (map condition_asked conditions.now)) }
 {
     let mut number = 1;
     'conditions: for condition in conditions {
@@ -111,8 +111,8 @@ pub fn conditions_for<'e>(
     script: &RunScript,
     expression: &'e str,
 ) -> Result<Vec<Condition<'e>>, ExpressionFault>
-    ensures ok { IfOk result (λ cs. AreConditions (run_told script.now) expression.entry.now (map told cs.items)) }
-    ensures fault { IfErr result (IsExpressionFault (run_told script.now) expression.entry.now) }
+    ensures ok { IfOk result (λ cs. AreConditions (run_contents script.now) expression.entry.now (map condition_asked cs.items)) }
+    ensures fault { IfErr result (IsExpressionFault (run_contents script.now) expression.entry.now) }
 {
     let conditions = conditions_of(alloc, expression)?;
     match first_unplaced(alloc, script, conditions.as_slice()) {
@@ -131,8 +131,8 @@ pub fn conditions_asked<'e>(
     script: &RunScript,
     request: ExploreRequest<'e>,
 ) -> Result<Vec<Condition<'e>>, ExpressionFault>
-    ensures ok { IfOk result (λ cs. AreAsked (run_told script.now) request.entry (map told cs.items)) }
-    ensures fault { IfErr result (IsFaultAsked (run_told script.now) request.entry) }
+    ensures ok { IfOk result (λ cs. AreAsked (run_contents script.now) request.entry (map condition_asked cs.items)) }
+    ensures fault { IfErr result (IsFaultAsked (run_contents script.now) request.entry) }
 {
     match request {
         ExploreRequest::Decide { expression, .. } => conditions_for(alloc, script, expression),
@@ -148,7 +148,7 @@ pub fn satisfied(
     conditions: &[Condition<'_>],
     texts: &[FoundText],
 ) -> Result<Vec<bool>, AllocError>
-    ensures { IfOk result (λ met. met.items ≡ map (satisfies (map told conditions.now)) (texts_of_orders texts.now)) }
+    ensures { IfOk result (λ met. met.items ≡ map (satisfies (map condition_asked conditions.now)) (texts_of_orders texts.now)) }
 {
     let mut met = Vec::new(alloc);
     'texts: for order in texts {

@@ -1,12 +1,12 @@
 //! The answer to a request, in the format of its output.
 ghost use Rattle.std.specs.Prelude.{IfOk, map};
-ghost use Rattle.gt_script.specs.Contents.{contents_told};
-ghost use Rattle.gt_script.specs.RunContents.{run_told};
+ghost use Rattle.gt_script.specs.Contents.{contents_of};
+ghost use Rattle.gt_script.specs.RunContents.{run_contents};
 ghost use Rattle.gt_script.specs.RunScripts.{CanConfigure};
-ghost use Rattle.gt_explore_verdict.specs.Expressions.{told};
+ghost use Rattle.gt_explore_verdict.specs.Expressions.{condition_asked};
 ghost use Rattle.gt_explore_answers.specs.Answering.{ShownAs};
 ghost use Rattle.gt_explore_answers.specs.Exploring.{AreTextsOf};
-ghost use Rattle.gt_explore_answers.specs.Telling.{found_told};
+ghost use Rattle.gt_explore_answers.specs.Outputs.{found_from};
 
 use crate::answering::{ExploreOutput, answer_in_text};
 use crate::asking::{ExploreFormat, ExploreOptions};
@@ -31,10 +31,10 @@ pub fn answer_request(
     found: &FoundTexts,
     conditions: &[Condition<'_>],
 ) -> Result<ExploreOutput, TextsFault>
-    requires fits { CanConfigure (contents_told script.now.head) }
-    requires texts { AreTextsOf (run_told script.now) (found_told found.now) }
-    ensures { IfOk result (λ made. ShownAs (run_told script.now) asked.now.format asked.now.states asked.now.request
-        (map told conditions.now) (found_told found.now) made.text.items made.verdict) }
+    requires fits { CanConfigure (contents_of script.now.head) }
+    requires texts { AreTextsOf (run_contents script.now) (found_from found.now) }
+    ensures { IfOk result (λ made. ShownAs (run_contents script.now) asked.now.format asked.now.states asked.now.request
+        (map condition_asked conditions.now) (found_from found.now) made.text.items made.verdict) }
 {
     match asked.format {
         ExploreFormat::Text => answer_in_text(

@@ -1,10 +1,10 @@
 //! The answer to a request about a script as JSON.
 ghost use Rattle.std.specs.Prelude.{◌≡◌, ◌++◌, IfOk};
 ghost use Rattle.gt_explore_answers.specs.Objects.{summary};
-ghost use Rattle.gt_explore_answers.specs.Telling.{found_told};
+ghost use Rattle.gt_explore_answers.specs.Outputs.{found_from};
 
 use crate::answering::{
-    ExploreOutput, moves_told, place_of, script_of, verdict_of_all, verdict_on,
+    ExploreOutput, moves_output, place_of, script_of, verdict_of_all, verdict_on,
 };
 use crate::asking::ExploreRequest;
 use crate::conditions::satisfied;
@@ -35,7 +35,7 @@ fn ended(
     verdict: Verdict,
 ) -> Result<ExploreOutput, TextsFault>
     ensures { IfOk result (λ made. (made.verdict ≡ verdict)
-        × (made.text.items ≡ text.items ++ summary (found_told found.now) limit verdict)) }
+        × (made.text.items ≡ text.items ++ summary (found_from found.now) limit verdict)) }
 {
     push_summary(&mut text, found, limit, verdict)?;
     Ok(ExploreOutput { text, verdict })
@@ -43,16 +43,16 @@ fn ended(
 
 impl ObjectWriter<'_, '_> {
     ghost use Rattle.std.specs.Prelude.{◌≡◌, ◌++◌, ℕ, List, IfOk, OnOk, false, length, map};
-    ghost use Rattle.gt_script.specs.Contents.{contents_told};
-    ghost use Rattle.gt_script.specs.RunContents.{run_told};
+    ghost use Rattle.gt_script.specs.Contents.{contents_of};
+    ghost use Rattle.gt_script.specs.RunContents.{run_contents};
     ghost use Rattle.gt_script.specs.RunScripts.{CanConfigure};
-    ghost use Rattle.gt_explore_verdict.specs.Expressions.{told};
+    ghost use Rattle.gt_explore_verdict.specs.Expressions.{condition_asked};
     ghost use Rattle.gt_explore_answers.specs.AsObjects.{ShowsAll, ShowsBy, ShowsClaim, ShowsClaimedBy, ShowsGiven, ShowsObjects};
     ghost use Rattle.gt_explore_answers.specs.AsObjects.{ShowsTrace, ShowsWitness};
     ghost use Rattle.gt_explore_answers.specs.Exploring.{AreTextsOf};
     ghost use Rattle.gt_explore_answers.specs.Texts.{texts_of_orders};
     ghost use Rattle.gt_explore_answers.specs.Objects.{IsObject, IsObjectIf, ShowsText, ShowsTexts};
-    ghost use Rattle.gt_explore_answers.specs.Telling.{found_told};
+    ghost use Rattle.gt_explore_answers.specs.Outputs.{found_from};
 
     // Appends the object of a text, with a script for `play` if scripts are wanted.
     fn push_object(
@@ -62,9 +62,9 @@ impl ObjectWriter<'_, '_> {
         number: usize,
         order: &FoundText,
     ) -> Result<(), TextsFault>
-        requires { CanConfigure (contents_told self.now.script.now.head) }
+        requires { CanConfigure (contents_of self.now.script.now.head) }
         ensures { OnOk result ((object : List ℕ) × (out.new.items ≡ out.old.items ++ object)
-            × IsObject (contents_told self.now.script.now.head) (found_told self.now.found.now) scripts number
+            × IsObject (contents_of self.now.script.now.head) (found_from self.now.found.now) scripts number
             order.now.text.items object) }
     {
         let text = order.text.as_slice();
@@ -86,9 +86,9 @@ impl ObjectWriter<'_, '_> {
         number: usize,
         order: &FoundText,
     ) -> Result<(), TextsFault>
-        requires { CanConfigure (contents_told self.now.script.now.head) }
+        requires { CanConfigure (contents_of self.now.script.now.head) }
         ensures { OnOk result ((object : List ℕ) × (out.new.items ≡ out.old.items ++ object)
-            × IsObjectIf (contents_told self.now.script.now.head) (found_told self.now.found.now) scripts wanted
+            × IsObjectIf (contents_of self.now.script.now.head) (found_from self.now.found.now) scripts wanted
             number order.now.text.items object) }
     {
         if !wanted {
@@ -104,10 +104,10 @@ impl ObjectWriter<'_, '_> {
         scripts: bool,
         wanted: &[bool],
     ) -> Result<(), TextsFault>
-        requires fits { CanConfigure (contents_told self.now.script.now.head) }
+        requires fits { CanConfigure (contents_of self.now.script.now.head) }
         requires many { length wanted.now ≡ length self.now.found.now.texts.items }
         ensures { OnOk result ((more : List ℕ) × (out.new.items ≡ out.old.items ++ more)
-            × ShowsTexts (contents_told self.now.script.now.head) (found_told self.now.found.now) scripts 0
+            × ShowsTexts (contents_of self.now.script.now.head) (found_from self.now.found.now) scripts 0
             (texts_of_orders self.now.found.now.texts.items) wanted.now more) }
     {
         let mut number = 0;
@@ -127,9 +127,9 @@ impl ObjectWriter<'_, '_> {
         scripts: bool,
         place: Option<usize>,
     ) -> Result<(), TextsFault>
-        requires { CanConfigure (contents_told self.now.script.now.head) }
+        requires { CanConfigure (contents_of self.now.script.now.head) }
         ensures { OnOk result ((more : List ℕ) × (out.new.items ≡ out.old.items ++ more)
-            × ShowsText (contents_told self.now.script.now.head) (found_told self.now.found.now) scripts place more) }
+            × ShowsText (contents_of self.now.script.now.head) (found_from self.now.found.now) scripts place more) }
     {
         let Some(at) = place else {
             return Ok(());
@@ -152,10 +152,10 @@ impl ObjectWriter<'_, '_> {
         met: &[bool],
         shown_by: Option<usize>,
     ) -> Result<(), TextsFault>
-        requires fits { CanConfigure (contents_told self.now.script.now.head) }
+        requires fits { CanConfigure (contents_of self.now.script.now.head) }
         requires many { length met.now ≡ length self.now.found.now.texts.items }
         ensures { OnOk result ((more : List ℕ) × (out.new.items ≡ out.old.items ++ more)
-            × ShowsClaimedBy (contents_told self.now.script.now.head) claim met.now (found_told self.now.found.now)
+            × ShowsClaimedBy (contents_of self.now.script.now.head) claim met.now (found_from self.now.found.now)
             shown_by more) }
     {
         match claim {
@@ -167,9 +167,9 @@ impl ObjectWriter<'_, '_> {
 
     // Shows all texts, with scripts for `play` or without.
     fn all(&self, limit: usize, scripts: bool) -> Result<ExploreOutput, TextsFault>
-        requires { CanConfigure (contents_told self.now.script.now.head) }
-        ensures { IfOk result (λ made. ShowsObjects limit (ShowsAll (run_told self.now.script.now) scripts)
-            (found_told self.now.found.now) made.text.items made.verdict) }
+        requires { CanConfigure (contents_of self.now.script.now.head) }
+        ensures { IfOk result (λ made. ShowsObjects limit (ShowsAll (run_contents self.now.script.now) scripts)
+            (found_from self.now.found.now) made.text.items made.verdict) }
     {
         let met = satisfied(self.alloc, &[], self.found.texts.as_slice())?;
         let mut text = Vec::new(self.alloc);
@@ -184,11 +184,11 @@ impl ObjectWriter<'_, '_> {
         claim: Claim,
         conditions: &[Condition<'_>],
     ) -> Result<ExploreOutput, TextsFault>
-        requires fits { CanConfigure (contents_told self.now.script.now.head) }
-        requires texts { AreTextsOf (run_told self.now.script.now) (found_told self.now.found.now) }
+        requires fits { CanConfigure (contents_of self.now.script.now.head) }
+        requires texts { AreTextsOf (run_contents self.now.script.now) (found_from self.now.found.now) }
         ensures { IfOk result (λ made. ShowsObjects limit
-            (ShowsClaim (run_told self.now.script.now) claim (map told conditions.now))
-            (found_told self.now.found.now) made.text.items made.verdict) }
+            (ShowsClaim (run_contents self.now.script.now) claim (map condition_asked conditions.now))
+            (found_from self.now.found.now) made.text.items made.verdict) }
     {
         let met = satisfied(self.alloc, conditions, self.found.texts.as_slice())?;
         let judgement = judge(claim, met.as_slice(), self.found.whole);
@@ -199,10 +199,10 @@ impl ObjectWriter<'_, '_> {
 
     // Shows this text, if it was found.
     fn given(&self, limit: usize, given: &[u8]) -> Result<ExploreOutput, TextsFault>
-        requires fits { CanConfigure (contents_told self.now.script.now.head) }
-        requires texts { AreTextsOf (run_told self.now.script.now) (found_told self.now.found.now) }
-        ensures { IfOk result (λ made. ShowsObjects limit (ShowsGiven (run_told self.now.script.now) given.now)
-            (found_told self.now.found.now) made.text.items made.verdict) }
+        requires fits { CanConfigure (contents_of self.now.script.now.head) }
+        requires texts { AreTextsOf (run_contents self.now.script.now) (found_from self.now.found.now) }
+        ensures { IfOk result (λ made. ShowsObjects limit (ShowsGiven (run_contents self.now.script.now) given.now)
+            (found_from self.now.found.now) made.text.items made.verdict) }
     {
         let place = place_of(self.found.texts.as_slice(), given);
         let mut text = Vec::new(self.alloc);
@@ -212,9 +212,9 @@ impl ObjectWriter<'_, '_> {
 
     // Shows the text of this number, with a script for `play`.
     fn witness(&self, limit: usize, number: usize) -> Result<ExploreOutput, TextsFault>
-        requires { CanConfigure (contents_told self.now.script.now.head) }
-        ensures { IfOk result (λ made. ShowsObjects limit (ShowsWitness (run_told self.now.script.now) number)
-            (found_told self.now.found.now) made.text.items made.verdict) }
+        requires { CanConfigure (contents_of self.now.script.now.head) }
+        ensures { IfOk result (λ made. ShowsObjects limit (ShowsWitness (run_contents self.now.script.now) number)
+            (found_from self.now.found.now) made.text.items made.verdict) }
     {
         let Some(at) = number.checked_sub(1) else {
             return Err(TextsFault::Astray);
@@ -229,9 +229,9 @@ impl ObjectWriter<'_, '_> {
 
     // Shows the text of this number, and the moves that lead to it.
     fn traced(&self, limit: usize, number: usize) -> Result<ExploreOutput, TextsFault>
-        requires { CanConfigure (contents_told self.now.script.now.head) }
-        ensures { IfOk result (λ made. ShowsObjects limit (ShowsTrace (run_told self.now.script.now) number)
-            (found_told self.now.found.now) made.text.items made.verdict) }
+        requires { CanConfigure (contents_of self.now.script.now.head) }
+        ensures { IfOk result (λ made. ShowsObjects limit (ShowsTrace (run_contents self.now.script.now) number)
+            (found_from self.now.found.now) made.text.items made.verdict) }
     {
         let text = moves_shown(self.alloc, TraceForm::Json, self.script, self.found, number)?;
         ended(text, self.found, limit, verdict_of_all(self.found.whole))
@@ -248,10 +248,10 @@ impl ObjectWriter<'_, '_> {
         limit: usize,
         conditions: &[Condition<'_>],
     ) -> Result<ExploreOutput, TextsFault>
-        requires fits { CanConfigure (contents_told self.now.script.now.head) }
-        requires texts { AreTextsOf (run_told self.now.script.now) (found_told self.now.found.now) }
-        ensures { IfOk result (λ made. ShowsBy (run_told self.now.script.now) limit request.entry
-            (map told conditions.now) (found_told self.now.found.now) made.text.items made.verdict) }
+        requires fits { CanConfigure (contents_of self.now.script.now.head) }
+        requires texts { AreTextsOf (run_contents self.now.script.now) (found_from self.now.found.now) }
+        ensures { IfOk result (λ made. ShowsBy (run_contents self.now.script.now) limit request.entry
+            (map condition_asked conditions.now) (found_from self.now.found.now) made.text.items made.verdict) }
     {
         match request {
             ExploreRequest::Texts => self.all(limit, false),
@@ -261,7 +261,7 @@ impl ObjectWriter<'_, '_> {
             ExploreRequest::Witnesses => self.all(limit, true),
             ExploreRequest::Trace(number) => self.traced(limit, number),
             ExploreRequest::Diagram(number) => {
-                moves_told(
+                moves_output(
                     self.alloc,
                     TraceForm::Mermaid,
                     self.script,

@@ -20,7 +20,7 @@ mod formats;
 mod found;
 mod json;
 mod objects;
-mod telling;
+mod outputs;
 mod tracing;
 
 pub use answering::ExploreOutput;

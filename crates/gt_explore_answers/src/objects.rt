@@ -3,11 +3,11 @@ ghost use Rattle.std.specs.Prelude.{◌≡◌, ◌++◌, IfOk, OnOk, codes, map,
 ghost use Rattle.gt_explore_answers.specs.Objects.{bool_name, comma, depth_member, is_nonempty, items_from, lines_member};
 ghost use Rattle.gt_explore_answers.specs.Objects.{object_start, search_members, summary, text_lines, text_object, verdict_name};
 ghost use Rattle.gt_explore_answers.specs.Objects.{witness_member, witness_object};
-ghost use Rattle.gt_explore_answers.specs.Telling.{found_told};
+ghost use Rattle.gt_explore_answers.specs.Outputs.{found_from};
 ghost use Rattle.gt_json.specs.Strings.{quoted};
 
 use crate::found::FoundTexts;
-use crate::telling::push_count;
+use crate::outputs::push_count;
 use gt_explore_verdict::Verdict;
 use gt_json::push_quoted;
 use gt_text::push_text;
@@ -76,7 +76,7 @@ fn push_object_start(
     number: usize,
     text: &[u8],
 ) -> Result<(), AllocError>
-    ensures { OnOk result (out.new.items ≡ out.old.items ++ object_start (found_told found.now) number text.now) }
+    ensures { OnOk result (out.new.items ≡ out.old.items ++ object_start (found_from found.now) number text.now) }
 {
     push_count(out, "{\"text\":", number)?;
     push_count(out, ",\"of\":", found.texts.len())?;
@@ -99,7 +99,7 @@ pub fn push_text_object(
     number: usize,
     text: &[u8],
 ) -> Result<(), AllocError>
-    ensures { OnOk result (out.new.items ≡ out.old.items ++ text_object (found_told found.now) number text.now) }
+    ensures { OnOk result (out.new.items ≡ out.old.items ++ text_object (found_from found.now) number text.now) }
 {
     push_object_start(alloc, out, found, number, text)?;
     push_text(out, "}\n")
@@ -115,7 +115,7 @@ pub fn push_witness_object(
     script: &[u8],
 ) -> Result<(), AllocError>
     ensures { OnOk result (out.new.items
-        ≡ out.old.items ++ witness_object (found_told found.now) number text.now script.now) }
+        ≡ out.old.items ++ witness_object (found_from found.now) number text.now script.now) }
 {
     push_object_start(alloc, out, found, number, text)?;
     push_witness_member(out, script)?;
@@ -145,7 +145,7 @@ fn push_search_members(
     found: &FoundTexts,
     limit: usize,
 ) -> Result<(), AllocError>
-    ensures { OnOk result (out.new.items ≡ out.old.items ++ search_members (found_told found.now) limit) }
+    ensures { OnOk result (out.new.items ≡ out.old.items ++ search_members (found_from found.now) limit) }
 {
     push_count(out, "{\"states\":", found.states)?;
     push_count(out, ",\"limit\":", limit)?;
@@ -155,7 +155,7 @@ fn push_search_members(
 
 // Appends the number of states on the way to the last one, if the search did not find all texts.
 fn push_depth_member(out: &mut Vec<u8>, found: &FoundTexts) -> Result<(), AllocError>
-    ensures { OnOk result (out.new.items ≡ out.old.items ++ depth_member (found_told found.now)) }
+    ensures { OnOk result (out.new.items ≡ out.old.items ++ depth_member (found_from found.now)) }
 {
     if found.whole {
         return Ok(());
@@ -171,7 +171,7 @@ pub fn push_summary(
     limit: usize,
     verdict: Verdict,
 ) -> Result<(), AllocError>
-    ensures { OnOk result (out.new.items ≡ out.old.items ++ summary (found_told found.now) limit verdict) }
+    ensures { OnOk result (out.new.items ≡ out.old.items ++ summary (found_from found.now) limit verdict) }
 {
     push_search_members(out, found, limit)?;
     push_depth_member(out, found)?;

@@ -1,18 +1,18 @@
 //! The moves that lead to a text.
 ghost use Rattle.std.specs.Prelude.{◌≡◌, ◌++◌, IfOk, OnOk, codes};
-ghost use Rattle.gt_script.specs.Contents.{contents_told};
-ghost use Rattle.gt_script.specs.RunContents.{run_told};
+ghost use Rattle.gt_script.specs.Contents.{contents_of};
+ghost use Rattle.gt_script.specs.RunContents.{run_contents};
 ghost use Rattle.gt_script.specs.RunScripts.{CanConfigure};
 ghost use Rattle.gt_explore_trace.specs.Moves.{GivesText};
 ghost use Rattle.gt_explore_answers.specs.Texts.{texts_of_orders};
-ghost use Rattle.gt_explore_answers.specs.Telling.{found_told, states_line};
+ghost use Rattle.gt_explore_answers.specs.Outputs.{found_from, states_line};
 ghost use Rattle.gt_explore_answers.specs.Tracing.{ShowsMoves, diagram_shown, moves_shown, objects_shown, title_text};
 ghost use Rattle.gt_explore_answers.specs.Tracing.{trace_shown};
 ghost use Rattle.gt_explore_answers.specs.Witness.{IsTextNumbered};
 
 use crate::found::FoundTexts;
 use crate::objects::push_text_object;
-use crate::telling::{push_heading_line, push_states_line};
+use crate::outputs::{push_heading_line, push_states_line};
 use gt_explore_faults::TextsFault;
 use gt_explore_search::FoundText;
 use gt_explore_trace::{TraceForm, TracedMove, push_participants, push_trace, traced};
@@ -43,8 +43,8 @@ fn moves_of(
     script: &RunScript,
     order: &FoundText,
 ) -> Result<Vec<TracedMove>, TextsFault>
-    requires { CanConfigure (contents_told script.now.head) }
-    ensures { IfOk result (λ moves. GivesText (run_told script.now) moves.items order.now.text.items) }
+    requires { CanConfigure (contents_of script.now.head) }
+    ensures { IfOk result (λ moves. GivesText (run_contents script.now) moves.items order.now.text.items) }
 {
     let Some(made) = traced(alloc, script, order.turns.as_slice())? else {
         return Err(TextsFault::Astray);
@@ -71,8 +71,8 @@ fn push_trace_shown(
     shown: ShownText,
     moves: &[TracedMove],
 ) -> Result<(), AllocError>
-    ensures { OnOk result (out.new.items ≡ out.old.items ++ trace_shown (run_told shown.entry.script.now)
-        (found_told shown.entry.found.now) shown.entry.number moves.now) }
+    ensures { OnOk result (out.new.items ≡ out.old.items ++ trace_shown (run_contents shown.entry.script.now)
+        (found_from shown.entry.found.now) shown.entry.number moves.now) }
 {
     push_heading_line(out, shown.found, shown.number)?;
     push_trace(alloc, out, shown.script, TraceForm::Text, moves)?;
@@ -81,7 +81,7 @@ fn push_trace_shown(
 
 // Appends the title of a sequence diagram.
 fn push_title(out: &mut Vec<u8>, found: &FoundTexts, number: usize) -> Result<(), AllocError>
-    ensures { OnOk result (out.new.items ≡ out.old.items ++ title_text (found_told found.now) number) }
+    ensures { OnOk result (out.new.items ≡ out.old.items ++ title_text (found_from found.now) number) }
 {
     push_text(out, "sequenceDiagram\n    title ")?;
     push_heading_line(out, found, number)
@@ -89,7 +89,7 @@ fn push_title(out: &mut Vec<u8>, found: &FoundTexts, number: usize) -> Result<()
 
 // Appends the last line of a sequence diagram.
 fn push_last_comment(out: &mut Vec<u8>, found: &FoundTexts) -> Result<(), AllocError>
-    ensures { OnOk result (out.new.items ≡ out.old.items ++ (codes "    %% " ++ states_line (found_told found.now))) }
+    ensures { OnOk result (out.new.items ≡ out.old.items ++ (codes "    %% " ++ states_line (found_from found.now))) }
 {
     push_text(out, "    %% ")?;
     push_states_line(out, found)
@@ -102,8 +102,8 @@ fn push_diagram_shown(
     shown: ShownText,
     moves: &[TracedMove],
 ) -> Result<(), AllocError>
-    ensures { OnOk result (out.new.items ≡ out.old.items ++ diagram_shown (run_told shown.entry.script.now)
-        (found_told shown.entry.found.now) shown.entry.number moves.now) }
+    ensures { OnOk result (out.new.items ≡ out.old.items ++ diagram_shown (run_contents shown.entry.script.now)
+        (found_from shown.entry.found.now) shown.entry.number moves.now) }
 {
     push_title(out, shown.found, shown.number)?;
     push_participants(out, shown.script.head().domains())?;
@@ -118,8 +118,8 @@ fn push_objects_shown(
     shown: ShownText,
     moves: &[TracedMove],
 ) -> Result<(), AllocError>
-    ensures { OnOk result (out.new.items ≡ out.old.items ++ objects_shown (run_told shown.entry.script.now)
-        (found_told shown.entry.found.now) shown.entry.number shown.entry.text.now moves.now) }
+    ensures { OnOk result (out.new.items ≡ out.old.items ++ objects_shown (run_contents shown.entry.script.now)
+        (found_from shown.entry.found.now) shown.entry.number shown.entry.text.now moves.now) }
 {
     push_text_object(alloc, out, shown.found, shown.number, shown.text)?;
     push_trace(alloc, out, shown.script, TraceForm::Json, moves)
@@ -133,8 +133,8 @@ fn push_moves(
     shown: ShownText,
     moves: &[TracedMove],
 ) -> Result<(), AllocError>
-    ensures { OnOk result (out.new.items ≡ out.old.items ++ moves_shown (run_told shown.entry.script.now)
-        (found_told shown.entry.found.now) shown.entry.number form shown.entry.text.now moves.now) }
+    ensures { OnOk result (out.new.items ≡ out.old.items ++ moves_shown (run_contents shown.entry.script.now)
+        (found_from shown.entry.found.now) shown.entry.number form shown.entry.text.now moves.now) }
 {
     match form {
         TraceForm::Text => push_trace_shown(alloc, out, shown, moves),
@@ -155,8 +155,8 @@ pub fn moves_shown(
     found: &FoundTexts,
     number: usize,
 ) -> Result<Vec<u8>, TextsFault>
-    requires { CanConfigure (contents_told script.now.head) }
-    ensures { IfOk result (λ text. ShowsMoves (run_told script.now) (found_told found.now) number form text.items) }
+    requires { CanConfigure (contents_of script.now.head) }
+    ensures { IfOk result (λ text. ShowsMoves (run_contents script.now) (found_from found.now) number form text.items) }
 {
     let order = numbered(found, number)?;
     let moves = moves_of(alloc, script, order)?;

@@ -16,7 +16,7 @@ use Rattle.gt_calls.specs.declared.request.OpenRequest.{OpenRequest}
 use Rattle.gt_calls.specs.declared.request.Request.{Request}
 use Rattle.gt_calls.specs.Asking.{asked, begun_of, bytes_of, plainly_asked}
 use Rattle.gt_core.specs.History.{History, Setting, known_at, mapping_of, mappings_at, maps_answered_at}
-use Rattle.gt_script_runs.specs.Runs.{Named, SaysRequest, handle_of, never_given}
+use Rattle.gt_script_runs.specs.Runs.{Named, MakesRequest, handle_of, never_given}
 use Rattle.gt_script_lines.specs.declared.calls.ScriptCall.{ScriptCall}
 use Rattle.gt_explore_replay.specs.Courses.{Course}
 use Rattle.gt_script.specs.Lists.{RunTask}
@@ -187,7 +187,7 @@ module _ (s : Setting) (h : History) (tasks : List RunTask) (k : Course) (scene 
         let found : value_of n.mappings place ≡ Some pin.0 = state-at choice handle place there here ∙ run-at choice handle there ∙ pin.1 in
         none-some verdict (sym (ap (λ (m : Option HeldPin). release_begun (λ z. m) place) found) ∙ opened (known_in scene t n.mappings) (record { header = refl; begins = refl; judged = refl; first = refl }))
 
-  module _ (call : ScriptCall) (q p : Request) (asks : SaysRequest k.named k.dom call q) (says : SaysRequest names k.dom call p) where
+  module _ (call : ScriptCall) (q p : Request) (asks : MakesRequest k.named k.dom call q) (says : MakesRequest names k.dom call p) where
     abbrev place : Handle
     place = handle_of names k.dom (label_asked call)
 
@@ -230,7 +230,7 @@ module _ (s : Setting) (h : History) (tasks : List RunTask) (k : Course) (scene 
 
 -- the call of a line of this domain begins as in the run
 pub begun-line : (s : Setting) (h : History) (tasks : List RunTask) (k : Course) (scene : SearchContext) (a : Actor) (t : SparseTable) (d : DomId) (n : ActorHandles) (call : ScriptCall) (q p : Request) (bytes : Bor (List ℕ)) (result : Opened) → d ≡ k.dom → ShowsCalls s h tasks k a → length tasks < 2 ^ 63
-    → KnowsTable s h k.dom scene t → ArePlaced d a.mappings.items n → SaysRequest k.named k.dom call q → bytes.now ≡ call_bytes call → ((named : List Named) → AreNamed n.labels named → p ≡ request_of named d bytes call)
+    → KnowsTable s h k.dom scene t → ArePlaced d a.mappings.items n → MakesRequest k.named k.dom call q → bytes.now ≡ call_bytes call → ((named : List Named) → AreNamed n.labels named → p ≡ request_of named d bytes call)
     → ((z : CallerKnowledge) → BeginsAlike z (known_in scene t n.mappings) d p → OpensSo z d p result) → BeginsAsRun s h k.dom q result
 begun-line s h tasks k scene a t d n call q p bytes result dom show short table placed asks hex asked-so opened =
     let there : ArePlaced k.dom a.mappings.items n = subst (λ (x : DomId). ArePlaced x a.mappings.items n) dom placed in

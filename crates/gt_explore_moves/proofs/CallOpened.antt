@@ -20,7 +20,7 @@ use Rattle.gt_core.specs.declared.trace.ItemEvent.TheVariants.{Began}
 use Rattle.gt_core.specs.declared.trace.Item.{Item}
 use Rattle.gt_core.proofs.Steps.Observers.{answered-stays, kept-known, kept-live}
 use Rattle.gt_core.proofs.AgreementKept.{open_call-own}
-use Rattle.gt_script_runs.specs.Runs.{SaysRequest}
+use Rattle.gt_script_runs.specs.Runs.{MakesRequest}
 use Rattle.gt_script_lines.specs.declared.calls.ScriptCall.{ScriptCall}
 use Rattle.gt_explore_replay.specs.Courses.{Course, Opened, calling, resting}
 use Rattle.gt_explore_replay.specs.Orders.{given_up}
@@ -75,7 +75,7 @@ opened_course k ts t call q = record k { tasks = ts; opened = calling t.line cal
 
 -- it is where the run has brought it, if the call asks the same but for the handle
 pub shows-opened : (s : Setting) (h : History) (tasks ts : List RunTask) (k : Course) (a : Actor) (t : RunTask) (call : ScriptCall) (q p : Request) (place : Handle) (now : Call) (step : Step) → ShowsCalls s h tasks k a → k.opened ≡ resting → k.tasks ≡ t ∷ ts → t.dom ≡ k.dom → t.deed ≡ Do call
-    → SaysRequest k.named k.dom call q → asked p ≡ asked_under place (asked q) → AsksByPlace (handles_at h k.dom) place (asked q) → OpensAsRun (known_by_place s h k.dom) k.dom p now step
+    → MakesRequest k.named k.dom call q → asked p ≡ asked_under place (asked q) → AsksByPlace (handles_at h k.dom) place (asked q) → OpensAsRun (known_by_place s h k.dom) k.dom p now step
     → ShowsCalls s (began k.dom q ∷ h) tasks (opened_course k ts t call q) (opened_actor a now step)
 shows-opened s h tasks ts k a t call q p place now step show rest left dom deed says asks by_place is =
     let d = k.dom in let g : History = began d q ∷ h in let same = begun-same s h d q in

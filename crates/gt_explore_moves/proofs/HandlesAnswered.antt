@@ -13,7 +13,7 @@ use Rattle.gt_core.specs.History.{History}
 use Rattle.gt_core.specs.declared.trace.Answer.{Answer}
 use Rattle.gt_core.specs.declared.trace.Element.TheVariants.{Item as Did}
 use Rattle.gt_core.specs.declared.trace.Item.{Item}
-use Rattle.gt_script_runs.specs.Runs.{Named, SaysRequest, call_bytes, request_of}
+use Rattle.gt_script_runs.specs.Runs.{Named, MakesRequest, call_bytes, request_of}
 use Rattle.gt_script_runs.proofs.AlikeLemmas.{AnswerGiven}
 use Rattle.gt_script_lines.specs.declared.calls.ScriptCall.{ScriptCall}
 use Rattle.gt_script_lines.specs.declared.calls.ScriptCall.TheVariants as calls
@@ -94,5 +94,5 @@ said-so named dom bytes (calls.QuerySize to) fits e = tt
 said-so named dom bytes (calls.GetVersion to) fits e = tt
 
 -- what a line asks fits its types, if the entry that it names does
-pub said-fits : (call : ScriptCall) (named : List Named) (dom : DomId) (request : Request) → NamesEntry call → SaysRequest named dom call request → FitsAsked (asked request)
+pub said-fits : (call : ScriptCall) (named : List Named) (dom : DomId) (request : Request) → NamesEntry call → MakesRequest named dom call request → FitsAsked (asked request)
 said-fits call named dom request fits (bytes, e, is) = subst (λ (q : Request). FitsAsked (asked q)) (sym is) (said-so named dom bytes call fits e)

@@ -36,7 +36,7 @@ use Rattle.gt_calls.specs.Path.{Continuation}
 use Rattle.gt_explore_state.specs.Likeness.{IsLikeReached}
 use Rattle.gt_explore_state.specs.Shows.{IsInRun}
 use Rattle.gt_explore_state.proofs.AlikeFitting.{path-at, same-bare}
-use Rattle.gt_explore_moves.specs.Ticking.{TellsEnd}
+use Rattle.gt_explore_moves.specs.Ticking.{AnswersEnd}
 use Rattle.gt_calls.specs.Holding.{no_pins}
 use Rattle.gt_calls.specs.Machine.{next_to_give, settled}
 use Rattle.gt_calls.specs.Following.{Goes, HoldsAfter}
@@ -129,13 +129,13 @@ to-mapping r a = grind arith
 abbrev pub EndsAs : History → DomId → OpenRequest → Step → Observation → CallResult → Answer → Type 0
 EndsAs h d r z seen (KeptPin m) answer =
     (handle : Handle) × (answer ≡ answers.Mapped handle) × (handle.serial ≡ maps_answered_at h d.0) × (z ≡ PinStep m) × (seen ≡ Taken) × (entry_at h m.dom.0 m.gref.0 ≡ m.entry) × AsksMapping r
-EndsAs h d r z seen v answer = TellsEnd h z v answer
+EndsAs h d r z seen v answer = AnswersEnd h z v answer
 
-tells-value : (h : History) (z : Step) (told : CallValue) (answer : Answer) → answer ≡ answer_with told → TellsEnd h z (Given told) answer
+tells-value : (h : History) (z : Step) (told : CallValue) (answer : Answer) → answer ≡ answer_with told → AnswersEnd h z (Given told) answer
 tells-value h (ReadBytes dom frame off len) told answer e = e
 tells-value h z told answer e = e
 
-tells-denial : (h : History) (z : Step) (denial : Denial) (answer : Answer) → answer ≡ answers.Denied denial → TellsEnd h z (Refused denial) answer
+tells-denial : (h : History) (z : Step) (denial : Denial) (answer : Answer) → answer ≡ answers.Denied denial → AnswersEnd h z (Refused denial) answer
 tells-denial h (ReadBytes dom frame off len) denial answer e = e
 tells-denial h z denial answer e = e
 
@@ -301,7 +301,7 @@ module _ (s : Setting) (h g : History) (alike : AreAlike s h g) (reached : CanBe
       by (inl r) = subst IsWriting (sym r.1) tt
       by (inr r) = subst IsWriting (sym r.0) tt
 
-  granted-here : (y : Step) (a : Answer) → z ≡ y → EndsWith s g x.id w.request b.phase o.step Granted → GivesValue s h x.id c.request (Some y) a → refusal_of a ≡ None → TellsEnd h y Granted a
+  granted-here : (y : Step) (a : Answer) → z ≡ y → EndsWith s g x.id w.request b.phase o.step Granted → GivesValue s h x.id c.request (Some y) a → refusal_of a ≡ None → AnswersEnd h y Granted a
   granted-here (ReadBytes dom frame off len) a is ends value none = read-so s h x.id c.request dom frame off len a (reading dom frame off len is) value none
   granted-here y a is ends value none = done-so s h g x.id c.request y a
       (subst (λ (q : Step). GivesValue s g x.id c.request (Some q) answers.Done) is (value-here answers.Done (ends (λ dom frame off len e.

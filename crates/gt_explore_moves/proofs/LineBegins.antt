@@ -18,7 +18,7 @@ use Rattle.gt_core.specs.History.{History, Setting, known_at}
 use Rattle.gt_core.specs.Legal.{AnsweredBy, BeginsRight}
 use Rattle.gt_core.specs.declared.trace.Answer.{Answer}
 use Rattle.gt_script_runs.specs.Printing.{answer_line}
-use Rattle.gt_script_runs.specs.Runs.{SaysRequest}
+use Rattle.gt_script_runs.specs.Runs.{MakesRequest}
 use Rattle.gt_script_lines.specs.declared.calls.ScriptCall.{ScriptCall}
 use Rattle.gt_calls.specs.declared.request.Request.TheVariants.{Release}
 use Rattle.gt_handles.specs.declared.handles.Handle.{Handle}
@@ -73,7 +73,7 @@ grows-by (Answered text) line old new prints e = e ∙ ap (λ (l : List ℕ). ol
 grows-by led line old new prints e = absurd prints
 
 module _ (s : Setting) (h : History) (scene : SearchContext) (place : ℕ) (texts : List (List ℕ)) (k : Course) (ts : List RunTask) (a : Actor) (t : RunTask) (call : ScriptCall) (q : Request) (answer : Option Answer)
-    (show : ShowsCalls s h (tasks_at scene place) k a) (next : IsNextCall k t ts call) (says : SaysRequest k.named k.dom call q) (right : BeginsRight s h (beginning k.dom q answer) q) (old new : SearchState) (b : Actor)
+    (show : ShowsCalls s h (tasks_at scene place) k a) (next : IsNextCall k t ts call) (says : MakesRequest k.named k.dom call q) (right : BeginsRight s h (beginning k.dom q answer) q) (old new : SearchState) (b : Actor)
     (becomes : new.actors.items ≡ slice_set old.actors.items place b) (ground : new.ground ≡ old.ground) (told : new.told ≡ old.told) where
   -- where a move comes to, if the call has this answer then, or none
   abbrev Comes : Option Answer → TurnResult → Type 0

@@ -13,7 +13,7 @@ use Rattle.gt_calls.specs.declared.request.OpenRequest.TheVariants as asks
 use Rattle.gt_calls.specs.declared.request.Request.{Request}
 use Rattle.gt_calls.specs.Asking.{asked, bytes_of, plainly_asked}
 use Rattle.gt_core.specs.History.{mapping_of}
-use Rattle.gt_script_runs.specs.Runs.{Named, SaysRequest, handle_named, handle_of, never_given, request_of}
+use Rattle.gt_script_runs.specs.Runs.{Named, MakesRequest, handle_named, handle_of, never_given, request_of}
 use Rattle.gt_script_lines.specs.declared.calls.ScriptCall.{ScriptCall}
 use Rattle.gt_script_lines.specs.declared.calls.ScriptCall.TheVariants as calls
 use Rattle.gt_explore_moves.specs.Calls.{SerialsRise}
@@ -121,7 +121,7 @@ request-by named names d one other (calls.Poke frame off hex) e = (refl, ap (λ 
 request-by named names d one other call e = (refl, refl)
 
 -- in a state and in a run a call asks the same but for handles
-pub request-renamed : (named names : List Named) (d : DomId) (call : ScriptCall) (q p : Request) → SaysRequest named d call q → SaysRequest names d call p
+pub request-renamed : (named names : List Named) (d : DomId) (call : ScriptCall) (q p : Request) → MakesRequest named d call q → MakesRequest names d call p
     → (bytes_of p ≡ bytes_of q) × (plainly_asked p ≡ asked_under (handle_of names d (label_asked call)) (plainly_asked q))
 request-renamed named names d call q p (one, e, is) (other, f, also) =
     let both = request-by named names d one other call (f ∙ sym e) in (
@@ -137,7 +137,7 @@ finds-by found mapping named names d one (calls.Load label off len) e = e
 finds-by found mapping named names d one (calls.Store label off hex) e = e
 finds-by found mapping named names d one call e = tt
 
-pub finds-alike : (found mapping : Handle → Option HeldPin) (named names : List Named) (d : DomId) (call : ScriptCall) (q : Request) → SaysRequest named d call q → found (handle_of names d (label_asked call)) ≡ mapping (handle_of named d (label_asked call))
+pub finds-alike : (found mapping : Handle → Option HeldPin) (named names : List Named) (d : DomId) (call : ScriptCall) (q : Request) → MakesRequest named d call q → found (handle_of names d (label_asked call)) ≡ mapping (handle_of named d (label_asked call))
     → FindsSame found (handle_of names d (label_asked call)) mapping (asked q)
 finds-alike found mapping named names d call q (one, e, is) same =
     subst (λ (r : Request). FindsSame found (handle_of names d (label_asked call)) mapping (asked r)) (sym is) (finds-by found mapping named names d one call same)

@@ -26,7 +26,7 @@ use Rattle.gt_core.specs.declared.trace.ItemEvent.{ItemEvent}
 use Rattle.gt_core.specs.declared.trace.ItemEvent.TheVariants.{Began, Stepped}
 use Rattle.gt_core.specs.declared.trace.Item.{Item}
 use Rattle.gt_script_runs.specs.Playing.{setting_of_script}
-use Rattle.gt_script_runs.specs.Runs.{Named, SaysRequest, answer_in}
+use Rattle.gt_script_runs.specs.Runs.{Named, MakesRequest, answer_in}
 use Rattle.gt_script_lines.specs.declared.calls.ScriptCall.{ScriptCall}
 use Rattle.gt_explore_replay.specs.Abreast.{CanComeNext, history_in}
 use Rattle.gt_explore_replay.specs.Courses.{Course, CourseLeads, ActionLeads, GivesAt, Opened, OpenLeads, RestLeads}
@@ -112,13 +112,13 @@ step-of-script vias d actor (Stepped z seen) answer m = tt
 
 -- what a line asks fits its types
 abbrev pub FitsSaid : ScriptCall → Type 0
-FitsSaid call = (named : List Named) (dom : DomId) (request : Request) → SaysRequest named dom call request → FitsAsked (asked request)
+FitsSaid call = (named : List Named) (dom : DomId) (request : Request) → MakesRequest named dom call request → FitsAsked (asked request)
 
 abbrev pub BeginMeets : {E : Type 0} → SearchContext → ℕ → RunTask → ScriptCall → SearchState → SearchState → Result TurnResult E → Type 0
 BeginMeets scene place task call old new res =
     (s : Setting) (h : History) (k : Course) (ts : List RunTask) (a : Actor) (q : Request) (t : SparseTable) (answer : Option Answer)
     → slice_get old.actors.items place ≡ Some a → slice_get old.ground.tables.items place ≡ Some t
-    → ShowsCalls s h (tasks_at scene place) k a → KnowsTable s h k.dom scene t → IsNextCall k task ts call → SaysRequest k.named k.dom call q
+    → ShowsCalls s h (tasks_at scene place) k a → KnowsTable s h k.dom scene t → IsNextCall k task ts call → MakesRequest k.named k.dom call q
     → BeginsRight s h (beginning k.dom q answer) q
     → IfOk res (MovesAsRun s (beginning k.dom q answer ∷ h) (tasks_at scene place) a k (course_after scene.types.items task.line call (given_up q) (record k { tasks = ts }) answer) old new place)
 

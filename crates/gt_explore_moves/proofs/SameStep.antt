@@ -27,7 +27,7 @@ use Rattle.gt_core.specs.declared.trace.ItemEvent.TheVariants.{Began, Stepped}
 use Rattle.gt_core.specs.declared.trace.Item.{Item}
 use Rattle.gt_core.proofs.Words.{fun_ext}
 use Rattle.gt_core.proofs.Steps.Observers.{kept-entry, kept-raises, stepped}
-use Rattle.gt_script_runs.specs.Runs.{Named, SaysRequest, call_bytes, request_of}
+use Rattle.gt_script_runs.specs.Runs.{Named, MakesRequest, call_bytes, request_of}
 use Rattle.gt_script_lines.specs.declared.calls.ScriptCall.{ScriptCall}
 use Rattle.gt_script_lines.specs.declared.calls.ScriptCall.TheVariants as calls
 use Rattle.gt_explore_replay.specs.Courses.{Course, Opened, calling, giving, resting}
@@ -83,7 +83,7 @@ no-handle b y z n e = grind arith
 
 -- what a call is given that stores or pokes
 
-said-given : (named : List Named) (d : DomId) (call : ScriptCall) (q : Request) → SaysRequest named d call q → IsWriting (asked q) → bytes_given_by q ≡ call_bytes call
+said-given : (named : List Named) (d : DomId) (call : ScriptCall) (q : Request) → MakesRequest named d call q → IsWriting (asked q) → bytes_given_by q ≡ call_bytes call
 unfolding request_of
 said-given named d call q (bytes, hex, is) writes = ap bytes_given_by is ∙ by call hex (subst (λ (r : Request). IsWriting (asked r)) is writes) where
   by : (c : ScriptCall) → bytes.now ≡ call_bytes c → IsWriting (asked (request_of named d bytes c)) → bytes_given_by (request_of named d bytes c) ≡ call_bytes c

@@ -41,7 +41,7 @@ use Rattle.gt_core.specs.Prelude.{written}
 use Rattle.gt_core.proofs.Outcomes.{IsSingle}
 use Rattle.gt_core.proofs.Steps.Observers.{stepped}
 use Rattle.gt_script_runs.specs.Printing.{answer_line, answer_text, bytes_text, call_text}
-use Rattle.gt_script_runs.specs.Runs.{Named, SaysRequest, handle_given, label_given, request_of, with_name}
+use Rattle.gt_script_runs.specs.Runs.{Named, MakesRequest, handle_given, label_given, request_of, with_name}
 use Rattle.gt_script_lines.specs.declared.calls.ScriptCall.{ScriptCall}
 use Rattle.gt_script_lines.specs.declared.calls.ScriptCall.TheVariants as calls
 use Rattle.gt_explore_replay.specs.Courses.{Course, Opened, back_after, calling, course_after, course_answered, giving, resting}
@@ -57,7 +57,7 @@ use Rattle.gt_explore_moves.specs.Ends.{tasks_at}
 use Rattle.gt_explore_moves.specs.Mappings.{apart_from, labels_of, mapping_pins}
 use Rattle.gt_explore_moves.specs.Renaming.{asked_under, step_under}
 use Rattle.gt_explore_moves.specs.Starting.{Grows}
-use Rattle.gt_explore_moves.specs.Ticking.{Closes, ClosesBack, CallIsOver, HasStepped, IsTick, MapsSo, TellsEnd, TickLeads}
+use Rattle.gt_explore_moves.specs.Ticking.{Closes, ClosesBack, CallIsOver, HasStepped, IsTick, MapsSo, AnswersEnd, TickLeads}
 use Rattle.gt_explore_moves.specs.Ticking.{TicksAsRun}
 use Rattle.gt_explore_moves.specs.Ticking.{label_given_by, mappings_after}
 use Rattle.gt_explore_moves.specs.declared.actor.Actor.{Actor}
@@ -147,7 +147,7 @@ keeps-each (requests.Unmap handle) n = absurd (n handle (inl refl))
 keeps-each (requests.Release handle) n = absurd (n handle (inr refl))
 keeps-each q n = refl
 
-map-labelled : (named : List Named) (d : DomId) (call : ScriptCall) (q : Request) → SaysRequest named d call q → AsksMapping (asked q) → (given : List ℕ) × (label_given call ≡ Some given)
+map-labelled : (named : List Named) (d : DomId) (call : ScriptCall) (q : Request) → MakesRequest named d call q → AsksMapping (asked q) → (given : List ℕ) × (label_given call ≡ Some given)
 unfolding request_of
 map-labelled named d call q (bytes, hex, is) maps = by call (subst (λ (r : Request). AsksMapping (asked r)) is maps) where
   by : (c : ScriptCall) → AsksMapping (asked (request_of named d bytes c)) → (given : List ℕ) × (label_given c ≡ Some given)
@@ -181,7 +181,7 @@ no-handle-given answer n = grind arith
 none-mapped : (answer : Answer) → GivesNoHandle answer → one_if_mapped (Some answer) ≡ 0
 none-mapped answer n = grind arith
 
-told-plain : (h : History) (z : Step) (v : CallResult) (answer : Answer) → TellsEnd h z v answer → GivesNoHandle answer
+told-plain : (h : History) (z : Step) (v : CallResult) (answer : Answer) → AnswersEnd h z v answer → GivesNoHandle answer
 told-plain h z v answer is = grind arith
 
 -- so ends a call that gives no mapping
@@ -189,7 +189,7 @@ abbrev IsNoMap : CallResult → Type 0
 IsNoMap (KeptPin m) = ⊥
 IsNoMap v = Unit {0}
 
-tells-as : (h : History) (d : DomId) (r : OpenRequest) (z : Step) (seen : Observation) (v : CallResult) (answer : Answer) → IsNoMap v → EndsAs h d r z seen v answer → TellsEnd h z v answer
+tells-as : (h : History) (d : DomId) (r : OpenRequest) (z : Step) (seen : Observation) (v : CallResult) (answer : Answer) → IsNoMap v → EndsAs h d r z seen v answer → AnswersEnd h z v answer
 tells-as h d r z seen (KeptPin m) answer n ends = absurd n
 tells-as h d r z seen Granted answer n ends = ends
 tells-as h d r z seen (Given value) answer n ends = ends
@@ -203,11 +203,11 @@ maps-none label (Refused denial) old new n maps = maps
 
 -- lines
 
-tells-under : (h : History) (b : Handle) (y : Step) (v : CallResult) (answer : Answer) → TellsEnd h (step_under b y) v answer → TellsEnd h y v answer
+tells-under : (h : History) (b : Handle) (y : Step) (v : CallResult) (answer : Answer) → AnswersEnd h (step_under b y) v answer → AnswersEnd h y v answer
 tells-under h b (Unpin p (ByHandle a)) v answer is = is
 tells-under h b y v answer is = is
 
-to-under : (h : History) (b : Handle) (y : Step) (v : CallResult) (answer : Answer) → TellsEnd h y v answer → TellsEnd h (step_under b y) v answer
+to-under : (h : History) (b : Handle) (y : Step) (v : CallResult) (answer : Answer) → AnswersEnd h y v answer → AnswersEnd h (step_under b y) v answer
 to-under h b (Unpin p (ByHandle a)) v answer is = is
 to-under h b y v answer is = is
 
@@ -216,9 +216,9 @@ unfolding patches_at
 read-same h d dom frame off len seen answer t f = ap written (append-nil (patches_at h t f))
 
 -- what is printed is what the run prints
-same-text : (types : List (List ℕ)) (h : History) (d : DomId) (r : OpenRequest) (z : Step) (seen : Observation) (v : CallResult) (answer told : Answer) → EndsAs h d r z seen v answer → TellsEnd (stepped d z seen (Some answer) ∷ h) z v told → answer_text types told ≡ answer_text types answer
+same-text : (types : List (List ℕ)) (h : History) (d : DomId) (r : OpenRequest) (z : Step) (seen : Observation) (v : CallResult) (answer told : Answer) → EndsAs h d r z seen v answer → AnswersEnd (stepped d z seen (Some answer) ∷ h) z v told → answer_text types told ≡ answer_text types answer
 same-text types h d r z seen (KeptPin m) answer told ends tells = ap (answer_text types) (plain z tells) ∙ sym (ap (answer_text types) ends.1) where
-  plain : (y : Step) → TellsEnd (stepped d z seen (Some answer) ∷ h) y (KeptPin m) told → told ≡ answers.Done
+  plain : (y : Step) → AnswersEnd (stepped d z seen (Some answer) ∷ h) y (KeptPin m) told → told ≡ answers.Done
   plain y t = grind arith
 same-text types h d r (ReadBytes dom frame off len) seen Granted answer told ends tells =
     let same : tells.0.bytes.items ≡ ends.0.bytes.items = tells.2 ∙ ap (λ (l : List ℕ). take len (drop off l)) (read-same h d dom frame off len seen (Some answer) dom.0 frame) ∙ sym ends.2 in
@@ -228,10 +228,10 @@ same-text types h d r (ReadBytes dom frame off len) seen Granted answer told end
     read-text l = codes "ok" ++ bytes_text l
 same-text types h d r z seen Granted answer told ends tells = ap (answer_text types) (tells ∙ sym ends)
 same-text types h d r z seen (Given value) answer told ends tells = ap (answer_text types) (tells-so (stepped d z seen (Some answer) ∷ h) z told tells ∙ sym (tells-so h z answer ends)) where
-  tells-so : (g : History) (y : Step) (w : Answer) → TellsEnd g y (Given value) w → w ≡ answer_of (Given value)
+  tells-so : (g : History) (y : Step) (w : Answer) → AnswersEnd g y (Given value) w → w ≡ answer_of (Given value)
   tells-so g y w t = grind arith
 same-text types h d r z seen (Refused denial) answer told ends tells = ap (answer_text types) (tells-so (stepped d z seen (Some answer) ∷ h) z told tells ∙ sym (tells-so h z answer ends)) where
-  tells-so : (g : History) (y : Step) (w : Answer) → TellsEnd g y (Refused denial) w → w ≡ answer_of (Refused denial)
+  tells-so : (g : History) (y : Step) (w : Answer) → AnswersEnd g y (Refused denial) w → w ≡ answer_of (Refused denial)
   tells-so g y w t = grind arith
 
 -- a place of a list that is set twice
@@ -377,8 +377,8 @@ module _ (s : Setting) (h : History) (scene : SearchContext) (before : SearchSta
       line-unmapped : IsNoMap v → (p : HeldPin) (x : Handle) → z ≡ Unpin p (ByHandle x) → Goal z saw answer (label_given call)
       line-unmapped n p x is =
           let drops : GivesUp c.request x = asks-drop p x is in
-          let tells : TellsEnd h z v answer = tells-as h k.dom c.request z saw v answer n told in
-          let done : answer ≡ answers.Done = subst (λ (w : CallResult). TellsEnd h (Unpin p (ByHandle x)) w answer) (is-granted x drops) (subst (λ (y : Step). TellsEnd h y v answer) is tells) in
+          let tells : AnswersEnd h z v answer = tells-as h k.dom c.request z saw v answer n told in
+          let done : answer ≡ answers.Done = subst (λ (w : CallResult). AnswersEnd h (Unpin p (ByHandle x)) w answer) (is-granted x drops) (subst (λ (y : Step). AnswersEnd h y v answer) is tells) in
           let gone : lost ≡ Some x = said.lost_is ∙ gives-up said.request x (subst (λ (r : OpenRequest). GivesUp r x) said.asks drops) in
           subst (λ (y : Step). Goal y saw answer (label_given call)) (sym is)
           (subst (λ (w : Answer). Goal (Unpin p (ByHandle x)) saw w (label_given call)) (sym done)
@@ -390,7 +390,7 @@ module _ (s : Setting) (h : History) (scene : SearchContext) (before : SearchSta
 
       line-kept : IsNoMap v → GivesNone z → Goal z saw answer (label_given call)
       line-kept n gives =
-          let tells : TellsEnd h z v answer = tells-as h k.dom c.request z saw v answer n told in
+          let tells : AnswersEnd h z v answer = tells-as h k.dom c.request z saw v answer n told in
           let plain : GivesNoHandle answer = told-plain h z v answer tells in
           let gone : lost ≡ None = said.lost_is ∙ keeps-each said.request (λ x e. no-drop gives x (subst (λ (r : OpenRequest). GivesUp r x) (sym said.asks) e)) in
           subst (λ (names : List Named). ShowsCalls s (stepped k.dom z saw (Some answer) ∷ h) tasks (over_course k names (held_after k.held lost answer) (k.text ++ answer_line types line k.dom answer)) b)
@@ -421,8 +421,8 @@ module _ (s : Setting) (h : History) (scene : SearchContext) (before : SearchSta
         let made = drop-makes (known_at s h k.dom) k.dom c.request x (values c) z (inr asks) here.right.continues in
         let granted : v ≡ Granted = is-granted x (inr asks) in
         let n : IsNoMap v = subst IsNoMap (sym granted) tt in
-        let tells : TellsEnd h z v answer = tells-as h k.dom c.request z saw v answer n told in
-        let done : answer ≡ answers.Done = subst (λ (w : CallResult). TellsEnd h (Unpin made.0 (ByHandle x)) w answer) granted (subst (λ (y : Step). TellsEnd h y v answer) made.1 tells) in
+        let tells : AnswersEnd h z v answer = tells-as h k.dom c.request z saw v answer n told in
+        let done : answer ≡ answers.Done = subst (λ (w : CallResult). AnswersEnd h (Unpin made.0 (ByHandle x)) w answer) granted (subst (λ (y : Step). AnswersEnd h y v answer) made.1 tells) in
         subst (λ (y : Step). ShowsCalls s (stepped k.dom y saw (Some answer) ∷ h) tasks (record k { opened = resting }) b) (sym made.1)
         (subst (λ (w : Answer). ShowsCalls s (stepped k.dom (Unpin made.0 (ByHandle x)) saw (Some w) ∷ h) tasks (record k { opened = resting }) b) (sym done)
         (shows-less s h tasks k a b made.0 x way.place saw k.held k.text answers.Done show held (at-place x (inr asks)) refl (closed.next ∙ next_m) closed.none
@@ -449,8 +449,8 @@ module _ (s : Setting) (h : History) (scene : SearchContext) (before : SearchSta
           → j ≡ course_after types line call lost k i.answer → (t : RunTask) → t.dom ≡ k.dom → t.line ≡ line → t.deed ≡ Do call → Closes (i ∷ h) types t o.step v m mid new at led → TicksAsRun s (i ∷ h) tasks k j old new at led
       line-ends line call lost task said all few leads t dom line-is deed x =
           let j-is : j ≡ course_answered types line call lost k ended.0 = leads ∙ ap (course_after types line call lost k) ended.1 in
-          let tells : TellsEnd (stepped k.dom z saw (Some ended.0) ∷ h) z v x.answer = subst (λ (y : Item). TellsEnd (y ∷ h) z v x.answer) item-over
-          (tells-under (i ∷ h) way.place z v x.answer (subst (λ (y : Step). TellsEnd (i ∷ h) y v x.answer) same (to-under (i ∷ h) way.place o.step v x.answer x.tells))) in
+          let tells : AnswersEnd (stepped k.dom z saw (Some ended.0) ∷ h) z v x.answer = subst (λ (y : Item). AnswersEnd (y ∷ h) z v x.answer) item-over
+          (tells-under (i ∷ h) way.place z v x.answer (subst (λ (y : Step). AnswersEnd (i ∷ h) y v x.answer) same (to-under (i ∷ h) way.place o.step v x.answer x.tells))) in
           let line-same : answer_line types t.line t.dom x.answer ≡ answer_line types line k.dom ended.0 =
           ap (λ (n : ℕ). answer_line types n t.dom x.answer) line-is ∙ ap (λ (d : DomId). answer_line types line d x.answer) dom
           ∙ ap (λ (l : List ℕ). call_text line k.dom ++ l ++ codes "\n") (same-text types h k.dom c.request z saw v ended.0 x.answer ended.2 tells) in

@@ -59,7 +59,7 @@ use Rattle.gt_core.specs.declared.trace.Item.{Item}
 use Rattle.gt_core.specs.declared.trace.ItemEvent.TheVariants.{Stepped}
 use Rattle.gt_core.proofs.Steps.Unpin.{loses-mapping}
 use Rattle.gt_core.proofs.Swapping.{Releases, keeps-elsewhere, steps-apart-in}
-use Rattle.gt_script_runs.specs.Runs.{Named, SaysRequest, request_of}
+use Rattle.gt_script_runs.specs.Runs.{Named, MakesRequest, request_of}
 use Rattle.gt_script_lines.specs.declared.calls.ScriptCall.{ScriptCall}
 use Rattle.gt_script_lines.specs.declared.calls.ScriptCall.TheVariants as calls
 use Rattle.gt_script.specs.Lists.{RunAction, RunTask}
@@ -382,7 +382,7 @@ CallTouches A uses d (calls.GetVersion dom) = A (LooksHeader (resolved d dom))
 
 pub said-touches : (A : Touch
     → Type 0) (uses : MappingUse) (named : List Named) (d : DomId) (call : ScriptCall) (q : Request)
-    → SaysRequest named d call q → CallTouches A uses d call → RequestTouches A uses d (asked q)
+    → MakesRequest named d call q → CallTouches A uses d call → RequestTouches A uses d (asked q)
 unfolding request_of
 said-touches A uses named d call q (bytes, hex, is) t = subst (λ r. RequestTouches A uses d (asked r)) (sym is)
     (by call t) where

@@ -9,7 +9,7 @@ use Rattle.gt_types.specs.declared.DomId.{DomId}
 use Rattle.gt_types.specs.declared.config.DomainConfig.{DomainConfig}
 use Rattle.gt_calls.specs.Asking.{asked}
 use Rattle.gt_calls.specs.declared.request.Request.{Request}
-use Rattle.gt_script_runs.specs.Runs.{Named, SaysRequest, request_of}
+use Rattle.gt_script_runs.specs.Runs.{Named, MakesRequest, request_of}
 use Rattle.gt_script_lines.specs.declared.calls.ScriptCall.{ScriptCall}
 use Rattle.gt_script_lines.specs.declared.calls.ScriptCall.TheVariants as calls
 use Rattle.gt_script.specs.Lists.{RunTask}
@@ -58,7 +58,7 @@ task-vias c scene is place n t at grants = is.vias ∙ in-lists c.tasks c.head.d
 
 -- what a line asks grants no transitive entry, unless the script may grant one
 pub said-of-script : (vias : Bool) (named : List Named) (dom : DomId) (call : ScriptCall) (q : Request)
-    → SaysRequest named dom call q → (call_grants_via call ≡ true → vias ≡ true) → IsOfScript vias (asked q)
+    → MakesRequest named dom call q → (call_grants_via call ≡ true → vias ≡ true) → IsOfScript vias (asked q)
 unfolding request_of
 said-of-script vias named dom call q (bytes, hex, is) some =
     subst (λ (r : Request). IsOfScript vias (asked r)) (sym is) (by call some)

@@ -5,7 +5,7 @@ use Rattle.std.specs.Prelude.{slice_get}
 use Rattle.gt_explore_moves.specs.Prelude.{DomId, HandleMap, Handle, Makes, HeldPin, OpenRequest, Load, Store, Request, asked}
 use Rattle.gt_explore_moves.specs.Prelude.{bytes_given_by, path, CallerKnowledge, entry_in, knowledge_of, own_generation, IsAt}
 use Rattle.gt_explore_moves.specs.Prelude.{History, Setting, Underway, entry_at, generation_at, known_at, mappings_at}
-use Rattle.gt_explore_moves.specs.Prelude.{maps_answered_at, open_call, table_at, values, may_by, Named, SaysRequest}
+use Rattle.gt_explore_moves.specs.Prelude.{maps_answered_at, open_call, table_at, values, may_by, Named, MakesRequest}
 use Rattle.gt_explore_moves.specs.Prelude.{handle_named, ScriptCall, Course, resting, calling, giving, given_up}
 use Rattle.gt_explore_moves.specs.Prelude.{handles_without, RunTask, Do, SparseTable}
 use Rattle.gt_calls.specs.declared.request.OpenRequest.TheVariants.{Unmap, Release}
@@ -95,7 +95,7 @@ pub record IsOfTask (tasks : List RunTask) (next : ℕ) (d : DomId) (line : ℕ)
 pub record IsOfLine (d : DomId) (call : ScriptCall) (lost : Option Handle) (c : Underway) : Type 0 where
   pub named : List Named
   pub request : Request
-  pub says : SaysRequest named d call request
+  pub says : MakesRequest named d call request
   pub asks : c.request ≡ asked request
   pub given : c.given ≡ bytes_given_by request
   pub lost_is : lost ≡ given_up request

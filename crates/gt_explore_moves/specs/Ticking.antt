@@ -104,10 +104,10 @@ ReadsInFrame step = Unit {0}
 
 -- the answer of a call that ends after this step with this verdict, except for a handle: a read returns the bytes that
 -- the frame holds
-abbrev pub TellsEnd : History → Step → CallResult → Answer → Type 0
-TellsEnd h (ReadBytes dom frame off len) Granted answer =
+abbrev pub AnswersEnd : History → Step → CallResult → Answer → Type 0
+AnswersEnd h (ReadBytes dom frame off len) Granted answer =
     (b : Bytes) × (answer ≡ BytesAnswer b) × (b.bytes.items ≡ take len (drop off (contents_at h dom.0 frame)))
-TellsEnd h step verdict answer = answer ≡ answer_of verdict
+AnswersEnd h step verdict answer = answer ≡ answer_of verdict
 
 -- after this verdict a domain has these mappings: one more after a map that is Ok, whose label names no other one
 abbrev pub MapsSo : Option (List ℕ) → CallResult → List LabelledMapping → List LabelledMapping → Type 0
@@ -125,7 +125,7 @@ pub record CallIsOver (label : Option (List ℕ)) (verdict : CallResult) (a b : 
 pub record Closes (h : History) (types : List (List ℕ)) (t : RunTask) (last : Step) (verdict : CallResult) (a : Actor)
     (old new : SearchState) (at : ℕ) (led : TurnResult) : Type 0 where
   pub answer : Answer
-  pub tells : TellsEnd h last verdict answer
+  pub tells : AnswersEnd h last verdict answer
   pub prints : PrintsLine led (answer_line types t.line t.dom answer)
   pub actor : Actor
   pub becomes : new.actors.items ≡ slice_set old.actors.items at actor

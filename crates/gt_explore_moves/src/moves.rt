@@ -5,7 +5,7 @@ ghost use Rattle.gt_calls.specs.Asking.{FitsAsked, asked};
 ghost use Rattle.gt_calls.specs.declared.request.Request.{Request};
 ghost use Rattle.gt_core.specs.Acting.{answer_of};
 ghost use Rattle.gt_entry.specs.Entries.{IsEntry};
-ghost use Rattle.gt_script_runs.specs.Runs.{Named, SaysRequest};
+ghost use Rattle.gt_script_runs.specs.Runs.{Named, MakesRequest};
 ghost use Rattle.gt_explore_moves.specs.Mappings.{label_bytes};
 ghost use Rattle.gt_explore_moves.specs.Ticking.{bytes_by, label_given_by};
 ghost use Rattle.gt_types.specs.declared.DomId.{DomId};
@@ -39,7 +39,7 @@ fn entry_fits(entry: Entry)
 // A law: the request of a line's call fits its types.
 fn said_fits(call: &ScriptCall<'_>)
     ensures { (named : List Named) (dom : DomId) (request : Request) →
-        SaysRequest named dom call.now request → FitsAsked (asked request) }
+        MakesRequest named dom call.now request → FitsAsked (asked request) }
 {
     match call {
         ScriptCall::Grant { entry, .. } => entry_fits(*entry),
@@ -83,7 +83,7 @@ impl<'s, 'a> SearchContext<'s, 'a> {
     ghost use Rattle.gt_calls.specs.declared.judging.TheConstants.{SERIAL_LIMIT};
     ghost use Rattle.gt_core.specs.History.{History, Setting, Underway, known_at, maps_answered_at, seen_by, values};
     ghost use Rattle.gt_explore_moves.specs.Continuing.{GoesOnAsRun, StillKnows};
-    ghost use Rattle.gt_script_runs.specs.Runs.{SaysRequest};
+    ghost use Rattle.gt_script_runs.specs.Runs.{MakesRequest};
     ghost use Rattle.gt_calls.specs.declared.request.Request.TheVariants.{Release};
     ghost use Rattle.gt_handles.specs.declared.handles.Handle.{Handle};
     ghost use Rattle.gt_types.specs.declared.config.DomainConfig.{DomainConfig};
@@ -101,7 +101,7 @@ impl<'s, 'a> SearchContext<'s, 'a> {
     ghost use Rattle.gt_core.specs.declared.trace.Event.TheVariants.{Tick};
     ghost use Rattle.gt_core.specs.declared.trace.Item.{Item};
     ghost use Rattle.gt_explore_moves.specs.Scenes.{MovesAlong};
-    ghost use Rattle.gt_explore_moves.specs.Ticking.{Closes, ClosesBack, HasStepped, IsTick, ReadsInFrame, ShowsAt, TellsEnd};
+    ghost use Rattle.gt_explore_moves.specs.Ticking.{Closes, ClosesBack, HasStepped, IsTick, ReadsInFrame, ShowsAt, AnswersEnd};
     ghost use Rattle.gt_explore_moves.specs.Ticking.{TickLeads, TicksAsRun, bytes_by, task_in};
     ghost use Rattle.gt_explore_moves.specs.declared.scene.SearchState.{SearchState};
     ghost use Rattle.gt_explore_state.specs.Shows.{PagesShow};
@@ -178,7 +178,7 @@ impl<'s, 'a> SearchContext<'s, 'a> {
     ) -> Result<CallOpening, SearchFault>
         ensures { (s : Setting) (h : History) (tasks : List RunTask) (k : Course) (q : Request) →
             ShowsCalls s h tasks k actor.now → length tasks < 2 ^ 63 → KnowsTable s h k.dom self.now table.now →
-            task.now.dom ≡ k.dom → SaysRequest k.named k.dom call.now q → IfOk result (BeginsAsRun s h k.dom q) }
+            task.now.dom ≡ k.dom → MakesRequest k.named k.dom call.now q → IfOk result (BeginsAsRun s h k.dom q) }
     {
         let bytes = call_bytes(self.alloc, call)?;
         let names = names_of(self.alloc, task.dom, actor.mappings.as_slice())?;
@@ -198,7 +198,7 @@ impl<'s, 'a> SearchContext<'s, 'a> {
             (t : SparseTable) (answer : Option Answer) → slice_get world.old.actors.items at ≡ Some a →
             slice_get world.old.ground.tables.items at ≡ Some t →
             ShowsCalls s h (tasks_at self.now at) k a → KnowsTable s h k.dom self.now t →
-            IsNextCall k task.now ts call.now → SaysRequest k.named k.dom call.now q →
+            IsNextCall k task.now ts call.now → MakesRequest k.named k.dom call.now q →
             BeginsRight s h (beginning k.dom q answer) q →
             IfOk result (MovesAsRun s (beginning k.dom q answer ∷ h) (tasks_at self.now at) a k
             (course_after self.now.types.items task.now.line call.now (given_up q) (record k { tasks = ts }) answer)
@@ -314,7 +314,7 @@ impl<'s, 'a> SearchContext<'s, 'a> {
         verdict: CallResult,
     ) -> Result<Answer, SearchFault>
         ensures { (h : History) → PagesShow h ground.now.pages.items → ReadsInFrame last →
-            IfOk result (TellsEnd h last verdict) }
+            IfOk result (AnswersEnd h last verdict) }
     {
         match (verdict, last) {
             (

@@ -1,7 +1,7 @@
 //! The search of a script's run that returns what it found until it met too many states.
 ghost use Rattle.std.specs.Prelude.{IfOk, IsTrue};
-ghost use Rattle.gt_script.specs.Contents.{contents_told};
-ghost use Rattle.gt_script.specs.RunContents.{run_told};
+ghost use Rattle.gt_script.specs.Contents.{contents_of};
+ghost use Rattle.gt_script.specs.RunContents.{run_contents};
 ghost use Rattle.gt_script.specs.RunScripts.{CanConfigure};
 ghost use Rattle.gt_script.specs.Stuck.{AreNumbered};
 ghost use Rattle.gt_explore_moves.specs.Spaces.{FindsAll};
@@ -23,9 +23,9 @@ pub fn search_within<'s, 'a>(
     script: &'s RunScript<'a>,
     limit: usize,
 ) -> Result<PartialResult, SearchFault>
-    requires { CanConfigure (contents_told script.now.head) }
+    requires { CanConfigure (contents_of script.now.head) }
     ensures { AreNumbered script.now.flags script.now.tasks →
-        IfOk result (λ partial. IsTrue partial.whole → FindsAll (run_told script.now) partial.found) }
+        IfOk result (λ partial. IsTrue partial.whole → FindsAll (run_contents script.now) partial.found) }
 {
     let scene: SearchContext<'s, 's> = SearchContext::new(alloc, script)?;
     gt_explore_search::search_within(alloc, &scene, limit)

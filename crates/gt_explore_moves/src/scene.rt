@@ -1,7 +1,7 @@
 //! The context of a search, and its states.
 ghost use Rattle.std.specs.Prelude.{◌≡◌, false, replicate, map, length, All, IfOk};
 ghost use Rattle.gt_script_runs.specs.Playing.{setting_of_script};
-ghost use Rattle.gt_script.specs.Contents.{contents_told};
+ghost use Rattle.gt_script.specs.Contents.{contents_of};
 ghost use Rattle.gt_script.specs.RunScripts.{CanConfigure, list_of};
 ghost use Rattle.gt_explore_moves.specs.Copies.{IsFirstActor};
 ghost use Rattle.gt_types.specs.Config.{IsWithinLimits};
@@ -44,8 +44,8 @@ pub struct SearchState<'a> {
 
 // Returns the domains of a script, with an index by their numbers.
 fn roster_of(alloc: Global, script: &Script) -> Result<Roster, SearchFault>
-    requires { CanConfigure (contents_told script.now) }
-    ensures setting { IfOk result (λ roster. IsSettingOf roster (setting_of_script (contents_told script.now))) }
+    requires { CanConfigure (contents_of script.now) }
+    ensures setting { IfOk result (λ roster. IsSettingOf roster (setting_of_script (contents_of script.now))) }
     ensures limits { IfOk result (λ roster. IsWithinLimits roster) }
 {
     let config = Config {
@@ -99,7 +99,7 @@ impl<'s, 'a> SearchContext<'s, 'a> {
     ghost use Rattle.std.specs.Prelude.{◌≡◌, slice_get, [], IfOk};
     ghost use Rattle.std.specs.Option.{option_map};
     ghost use Rattle.gt_explore_replay.specs.Courses.{first_courses};
-    ghost use Rattle.gt_script.specs.RunContents.{RunContents, run_told};
+    ghost use Rattle.gt_script.specs.RunContents.{RunContents, run_contents};
     ghost use Rattle.gt_script.specs.Stuck.{AreNumbered};
     ghost use Rattle.gt_explore_moves.specs.Ends.{tasks_at};
     ghost use Rattle.gt_explore_moves.specs.Scenes.{IsSceneOf, SceneShows};
@@ -112,9 +112,9 @@ impl<'s, 'a> SearchContext<'s, 'a> {
         alloc: Global,
         script: &'s RunScript<'a>,
     ) -> Result<SearchContext<'s, 'a>, SearchFault>
-        requires { CanConfigure (contents_told script.now.head) }
+        requires { CanConfigure (contents_of script.now.head) }
         ensures { AreNumbered script.entry.now.flags script.entry.now.tasks →
-            IfOk result (IsSceneOf (run_told script.entry.now)) }
+            IfOk result (IsSceneOf (run_contents script.entry.now)) }
     {
         let head = script.head();
         let lists = lists_of(alloc, script, head.domains())?;

@@ -1,7 +1,7 @@
 //! The search of a script's run.
 ghost use Rattle.std.specs.Prelude.{IfOk};
-ghost use Rattle.gt_script.specs.Contents.{contents_told};
-ghost use Rattle.gt_script.specs.RunContents.{run_told};
+ghost use Rattle.gt_script.specs.Contents.{contents_of};
+ghost use Rattle.gt_script.specs.RunContents.{run_contents};
 ghost use Rattle.gt_script.specs.RunScripts.{CanConfigure};
 ghost use Rattle.gt_script.specs.Stuck.{AreNumbered};
 ghost use Rattle.gt_explore_moves.specs.Spaces.{FindsAll};
@@ -22,8 +22,8 @@ pub fn search<'s, 'a>(
     script: &'s RunScript<'a>,
     limit: usize,
 ) -> Result<SearchResult, SearchFault>
-    requires { CanConfigure (contents_told script.now.head) }
-    ensures { AreNumbered script.now.flags script.now.tasks → IfOk result (FindsAll (run_told script.now)) }
+    requires { CanConfigure (contents_of script.now.head) }
+    ensures { AreNumbered script.now.flags script.now.tasks → IfOk result (FindsAll (run_contents script.now)) }
 {
     let scene: SearchContext<'s, 's> = SearchContext::new(alloc, script)?;
     gt_explore_search::search(alloc, &scene, limit)

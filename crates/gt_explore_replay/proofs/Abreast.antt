@@ -10,7 +10,7 @@ use Rattle.gt_handles.specs.declared.handles.Handle.{Handle}
 use Rattle.gt_calls.specs.declared.request.Request.{Request}
 use Rattle.gt_calls.specs.declared.request.Request.TheVariants.{Release, Unmap}
 use Rattle.gt_core.specs.Acting.{begun_element, ticked_element}
-use Rattle.gt_core.specs.Alike.{bare_handle, bare_request, told_part, AreAlike}
+use Rattle.gt_core.specs.Alike.{bare_handle, bare_request, keyless_answer, AreAlike}
 use Rattle.gt_core.specs.History.{History, Setting, open_call}
 use Rattle.gt_core.specs.Legal.{MayDo, grown}
 use Rattle.gt_core.specs.Standing.{CoreStands}
@@ -29,7 +29,7 @@ use Rattle.gt_script.specs.Stuck.{AreNumbered, IsBelow}
 use Rattle.gt_script.specs.declared.tasks.RunActionBy.TheVariants.{Do}
 use Rattle.gt_script_runs.specs.Naming.{AreNamed}
 use Rattle.gt_script_runs.specs.Printing.{answer_line, call_text}
-use Rattle.gt_script_runs.specs.Runs.{SaysRequest, answer_in, handle_given, label_given, with_name}
+use Rattle.gt_script_runs.specs.Runs.{MakesRequest, answer_in, handle_given, label_given, with_name}
 use Rattle.gt_script_runs.proofs.AlikeLemmas.{text-same}
 use Rattle.gt_explore_replay.specs.Orders.{Happening, did, given_up}
 use Rattle.gt_explore_replay.specs.Walking.{AnswersLine, ClosesCall, IsClosedFrom, tasks_left, tasks_left_of}
@@ -58,7 +58,7 @@ numbered_rest n t ts all = λ k u lt. all (suc k) u (omega arith)
 
 -- one domain
 
-line_alike : (types : List (List ℕ)) (line : ℕ) (dom : DomId) (a b : Answer) → told_part a ≡ told_part b → answer_line types line dom a ≡ answer_line types line dom b
+line_alike : (types : List (List ℕ)) (line : ℕ) (dom : DomId) (a b : Answer) → keyless_answer a ≡ keyless_answer b → answer_line types line dom a ≡ answer_line types line dom b
 line_alike types line dom a b told = ap (λ (l : List ℕ). call_text line dom ++ l ++ codes "\n") (text-same types a b told)
 
 -- a domain has this open from here on, or nothing, and holds these
@@ -86,7 +86,7 @@ goes_on n s g h k v w left kept o x y walks opens does tasks numbered dom labels
 
 -- the call of a line has its answer
 goes_answered : (n : ℕ) (s : Setting) (g h : History) (types : List (List ℕ)) (k : Course) (v w : Walker) (next : ℕ) (left : List RunTask) (line : ℕ) (call : ScriptCall) (lost freed : Option Handle) (x y : Element) (a b : Answer)
-    → WalksAbreast n g h k v → DoAlike s g h k.dom.0 x y → answer_in x ≡ Some a → answer_in y ≡ Some b → told_part a ≡ told_part b
+    → WalksAbreast n g h k v → DoAlike s g h k.dom.0 x y → answer_in x ≡ Some a → answer_in y ≡ Some b → keyless_answer a ≡ keyless_answer b
     → AnswersLine types line call lost b (record v { next = next }) w → tasks_left (record v { next = next }) ≡ left → AreNumbered n left → option_map bare_handle freed ≡ option_map bare_handle lost
     → WalksAbreast n (grown g x) (grown h y) (course_answered types line call freed (record k { tasks = left }) a) w
 goes_answered n s g h types k v w next left line call lost freed x y a b walks both mine theirs told answers tasks numbered loses = record {
@@ -173,13 +173,13 @@ pub record Came (n : ℕ) (s : Setting) (g h : History) (k j : Course) (x : Happ
   pub others : (e : ℕ) → e ≢ k.dom.0 → open_call (grown g mine) e ≡ open_call g e
   pub dom : j.dom ≡ k.dom
 
-none_told : (o : Option Answer) → option_map told_part o ≡ None → o ≡ None
+none_told : (o : Option Answer) → option_map keyless_answer o ≡ None → o ≡ None
 none_told None e = refl
-none_told (Some a) e = absurd (none-some (told_part a) (sym e))
+none_told (Some a) e = absurd (none-some (keyless_answer a) (sym e))
 
-pub some_told : (o : Option Answer) (b : Answer) → option_map told_part o ≡ Some (told_part b) → (a : Answer) × (o ≡ Some a) × (told_part a ≡ told_part b)
-some_told None b e = absurd (none-some (told_part b) e)
-some_told (Some a) b e = (a, refl, same_Some (told_part a) (told_part b) e)
+pub some_told : (o : Option Answer) (b : Answer) → option_map keyless_answer o ≡ Some (keyless_answer b) → (a : Answer) × (o ≡ Some a) × (keyless_answer a ≡ keyless_answer b)
+some_told None b e = absurd (none-some (keyless_answer b) e)
+some_told (Some a) b e = (a, refl, same_Some (keyless_answer a) (keyless_answer b) e)
 
 given_bare : (q : Request) → option_map bare_handle (given_up q) ≡ given_up (bare_request q)
 given_bare (Unmap handle) = refl
@@ -221,7 +221,7 @@ begin_came n s types hs h k j v w task call choice x m old new walks alike stand
     let deed = subst (λ (d : RunAction). ActionLeads types k task.line (drop (v.next + 1) (tasks_left_of v)) d x j) does (line_leads n (history_in hs) h types k j v task choice x walks idle at leads) in
     let q = deed.0 in
     let e = deed.1 in
-    let theirs = subst (λ (d : DomId). SaysRequest walks.names d call.now r) walks.dom (asks walks.names walks.named) in
+    let theirs = subst (λ (d : DomId). MakesRequest walks.names d call.now r) walks.dom (asks walks.names walks.named) in
     let same = asks_alike k.named walks.names k.dom call.now q r walks.same deed.2 theirs in
     let rest = subst (λ (o : Opened). IsOpenSo (history_in hs) k.dom.0 o) (rests v.doing k.opened idle walks.doing) walks.opened in
     let mine : MayDo s (history_in hs) (Begin k.dom q) e = subst (λ (z : Happening). CanComeNext s hs z) deed.3 may in

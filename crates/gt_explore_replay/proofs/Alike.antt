@@ -11,7 +11,7 @@ use Rattle.gt_types.specs.declared.DomId.{DomId}
 use Rattle.gt_handles.specs.declared.handles.Handle.{Handle}
 use Rattle.gt_calls.specs.Asking.{asked}
 use Rattle.gt_calls.specs.declared.request.Request.{Request}
-use Rattle.gt_core.specs.Alike.{bare_handle, bare_request, told_part, AreAlike, AsksKnown, IsGiven, SameElement}
+use Rattle.gt_core.specs.Alike.{bare_handle, bare_request, keyless_answer, AreAlike, AsksKnown, IsGiven, SameElement}
 use Rattle.gt_core.specs.History.{History, Setting, Underway, open_call, underway_after, underway_with}
 use Rattle.gt_core.specs.Legal.{MayDo, grown}
 use Rattle.gt_core.specs.declared.trace.Answer.{Answer}
@@ -25,7 +25,7 @@ use Rattle.gt_core.specs.declared.trace.Item.{Item}
 use Rattle.gt_core.proofs.AlikeRuns.{does-alike, alike-grows}
 use Rattle.gt_script_lines.specs.declared.calls.ScriptCall.{ScriptCall}
 use Rattle.gt_script.specs.declared.actions.ScriptAction.TheVariants as actions
-use Rattle.gt_script_runs.specs.Runs.{Named, SaysRequest, answer_in, handle_given, label_given, with_name}
+use Rattle.gt_script_runs.specs.Runs.{Named, MakesRequest, answer_in, handle_given, label_given, with_name}
 use Rattle.gt_script_runs.proofs.AlikeLemmas.{bare_names, NamesGiven, AnswerGiven, asks-same, asks-known, named-same}
 use Rattle.gt_script_runs.proofs.AlikeLemmas.{named-given}
 use Rattle.gt_script_runs.proofs.AlikeLemmas.{names-after, answers-same, done-given}
@@ -50,13 +50,13 @@ names_answered : (h : History) (names : List Named) → NamesGiven h names → H
 names_answered h [] g = tt
 names_answered h (n ∷ more) g = (g.0, names_answered h more g.1)
 
-pub asks_alike : (one other : List Named) (dom : DomId) (call : ScriptCall) (q r : Request) → SameNames one other → SaysRequest one dom call q → SaysRequest other dom call r → bare_request q ≡ bare_request r
+pub asks_alike : (one other : List Named) (dom : DomId) (call : ScriptCall) (q r : Request) → SameNames one other → MakesRequest one dom call q → MakesRequest other dom call r → bare_request q ≡ bare_request r
 asks_alike one other dom call q r same x y = asks-same one other dom call q r (names_same one other same) x y
 
-pub asks_answered : (h : History) (names : List Named) (dom : DomId) (call : ScriptCall) (q : Request) → HaveAnswered h names → SaysRequest names dom call q → AsksKnown h dom.0 (asked q)
+pub asks_answered : (h : History) (names : List Named) (dom : DomId) (call : ScriptCall) (q : Request) → HaveAnswered h names → MakesRequest names dom call q → AsksKnown h dom.0 (asked q)
 asks_answered h names dom call q g x = asks-known h names dom call q (names_given h names g) x
 
-pub names_alike : (one other : List Named) (dom : DomId) (call : ScriptCall) (a b : Answer) → SameNames one other → told_part a ≡ told_part b
+pub names_alike : (one other : List Named) (dom : DomId) (call : ScriptCall) (a b : Answer) → SameNames one other → keyless_answer a ≡ keyless_answer b
     → SameNames (with_name one dom (label_given call) (handle_given a)) (with_name other dom (label_given call) (handle_given b))
 names_alike one other dom call a b same told =
     sym (names_bare (with_name one dom (label_given call) (handle_given a)))
@@ -86,19 +86,19 @@ abbrev held_told : List Handle → Option Handle → Answer ⊎ List ℕ → Lis
 held_told held lost (inl answer) = held_after held lost answer
 held_told held lost (inr bytes) = held
 
-held_bare : (held : List Handle) (lost : Option Handle) (a : Answer) → map bare_handle (held_after held lost a) ≡ held_told (map bare_handle held) (option_map bare_handle lost) (told_part a)
+held_bare : (held : List Handle) (lost : Option Handle) (a : Answer) → map bare_handle (held_after held lost a) ≡ held_told (map bare_handle held) (option_map bare_handle lost) (keyless_answer a)
 held_bare held (Some x) answers.Done = without_bare x held
 held_bare held (Some x) (answers.Mapped y) = map-append bare_handle held (y ∷ [])
 held_bare held (Some x) a = refl
 held_bare held None (answers.Mapped y) = map-append bare_handle held (y ∷ [])
 held_bare held None a = refl
 
-pub held_alike : (one other : List Handle) (lost freed : Option Handle) (a b : Answer) → SameHandles one other → option_map bare_handle lost ≡ option_map bare_handle freed → told_part a ≡ told_part b
+pub held_alike : (one other : List Handle) (lost freed : Option Handle) (a b : Answer) → SameHandles one other → option_map bare_handle lost ≡ option_map bare_handle freed → keyless_answer a ≡ keyless_answer b
     → SameHandles (held_after one lost a) (held_after other freed b)
 held_alike one other lost freed a b same loses told =
     held_bare one lost a
-    ∙ ap (λ (l : List Handle). held_told l (option_map bare_handle lost) (told_part a)) same
-    ∙ ap (λ (o : Option Handle). held_told (map bare_handle other) o (told_part a)) loses
+    ∙ ap (λ (l : List Handle). held_told l (option_map bare_handle lost) (keyless_answer a)) same
+    ∙ ap (λ (o : Option Handle). held_told (map bare_handle other) o (keyless_answer a)) loses
     ∙ ap (λ (t : Answer ⊎ List ℕ). held_told (map bare_handle other) (option_map bare_handle freed) t) told
     ∙ sym (held_bare other freed b)
 
@@ -205,7 +205,7 @@ began_some (Stepped step seen) q c e = absurd (cc)
 -- an event did the same on both sides, but for keys: the call is open after it, or has its answer
 pub record DoAlike (s : Setting) (g h : History) (d : ℕ) (x y : Element) : Type 0 where
   pub alike : AreAlike s (grown g x) (grown h y)
-  pub told : option_map told_part (answer_in x) ≡ option_map told_part (answer_in y)
+  pub told : option_map keyless_answer (answer_in x) ≡ option_map keyless_answer (answer_in y)
   pub goes : answer_in x ≡ None → open_call (grown g x) d ≢ None
   pub over : (a : Answer) → answer_in x ≡ Some a → open_call (grown g x) d ≡ None
   pub mine : (a : Answer) → answer_in x ≡ Some a → AnswerGiven (grown g x) d a

@@ -22,7 +22,7 @@ use Rattle.gt_script_lines.specs.declared.calls.ScriptCall.{ScriptCall}
 use Rattle.gt_script.specs.declared.tasks.RunActionBy.TheVariants.{Do}
 use Rattle.gt_script.specs.Lists.{RunTask}
 use Rattle.gt_script_runs.specs.Naming.{AreNamed}
-use Rattle.gt_script_runs.specs.Runs.{Named, SaysRequest, answer_in}
+use Rattle.gt_script_runs.specs.Runs.{Named, MakesRequest, answer_in}
 use Rattle.gt_explore_replay.specs.Orders.{did, given_up}
 use Rattle.gt_explore_replay.specs.Walking.{AnswersLine, ClosesCall, IsClosedFrom, WalksTo, tasks_left_of}
 use Rattle.gt_explore_replay.specs.declared.replay.Moved.TheVariants as moves
@@ -51,7 +51,7 @@ TicksSo s old new v t = (h : History) → CoreStands s h old
 
 -- a line's call asks this
 abbrev pub AsksSo : Walker → ScriptCall → Request → Type 0
-AsksSo v call request = (named : List Named) → AreNamed v.labels named → SaysRequest named v.dom call request
+AsksSo v call request = (named : List Named) → AreNamed v.labels named → MakesRequest named v.dom call request
 
 pub line_open : (s : Setting) (types : List (List ℕ)) (old new : CoreState) (v : Walker) (task : RunTask) (call : Bor ScriptCall) (request : Request) (lost : Option Handle) (b : Begun)
     → slice_get (tasks_left_of v) v.next ≡ Some task → task.deed ≡ Do call.now → v.doing ≡ doing.Nothing → AsksSo v call.now request → lost ≡ given_up request → b ≡ begun.Open → BeginsSo s old new v request b

@@ -14,7 +14,7 @@ use Rattle.gt_script.specs.Lists.{RunAction, RunTask}
 use Rattle.gt_script.specs.declared.tasks.RunActionBy.TheVariants.{Do, Tell, Await}
 use Rattle.gt_script_runs.specs.Naming.{AreNamed}
 use Rattle.gt_script_runs.specs.Printing.{answer_line}
-use Rattle.gt_script_runs.specs.Runs.{Named, SaysRequest, EndsWith, answer_in, handle_given, label_given, with_name}
+use Rattle.gt_script_runs.specs.Runs.{Named, MakesRequest, EndsWith, answer_in, handle_given, label_given, with_name}
 use Rattle.gt_explore_replay.specs.Orders.{Happening, did, raised, passed, CallGoesOn, CallHappens, DeedHappens, FollowsList}
 use Rattle.gt_explore_replay.specs.Orders.{GivesMappingsBack}
 use Rattle.gt_explore_replay.specs.Orders.{given_up, held_after}
@@ -84,7 +84,7 @@ at_line types v named task deed hs text at does idle follows =
 
 pub begins_open : (types : List (List ℕ)) (v : Walker) (task : RunTask) (call : Bor ScriptCall) (request : Request) (lost : Option Handle) (x : Element)
     → slice_get (tasks_left_of v) v.next ≡ Some task → task.deed ≡ Do call.now → v.doing ≡ doing.Nothing
-    → ((named : List Named) → AreNamed v.labels named → SaysRequest named v.dom call.now request) → lost ≡ given_up request → answer_in x ≡ None
+    → ((named : List Named) → AreNamed v.labels named → MakesRequest named v.dom call.now request) → lost ≡ given_up request → answer_in x ≡ None
     → Moves types v (did (Begin v.dom request) x) (record v { next = v.next + 1; doing = doing.Line task.line call lost })
 unfolding Continues
 begins_open types v task call request lost x at does idle asks gives none = record {
@@ -107,7 +107,7 @@ begins_open types v task call request lost x at does idle asks gives none = reco
 
 pub begins_done : (types : List (List ℕ)) (v w : Walker) (task : RunTask) (call : Bor ScriptCall) (request : Request) (lost : Option Handle) (x : Element) (answer : Answer)
     → slice_get (tasks_left_of v) v.next ≡ Some task → task.deed ≡ Do call.now → v.doing ≡ doing.Nothing
-    → ((named : List Named) → AreNamed v.labels named → SaysRequest named v.dom call.now request) → lost ≡ given_up request → answer_in x ≡ Some answer
+    → ((named : List Named) → AreNamed v.labels named → MakesRequest named v.dom call.now request) → lost ≡ given_up request → answer_in x ≡ Some answer
     → AnswersLine types task.line call.now lost answer (record v { next = v.next + 1 }) w
     → Moves types v (did (Begin v.dom request) x) w
 unfolding Continues

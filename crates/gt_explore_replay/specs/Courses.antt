@@ -5,7 +5,7 @@ use Rattle.std.specs.Prelude.{slice_set}
 use Rattle.std.specs.List.{flat_map}
 use Rattle.gt_explore_replay.specs.Prelude.{DomId, Handle, Request, Release, Answer, Element, Begin, Tick}
 use Rattle.gt_explore_replay.specs.Prelude.{type_names, RunContents, list_of, RunAction, Do, Tell, Await, RunTask, answer_line, Named}
-use Rattle.gt_explore_replay.specs.Prelude.{SaysRequest, handle_given, label_given, with_name, ScriptCall, answer_in}
+use Rattle.gt_explore_replay.specs.Prelude.{MakesRequest, handle_given, label_given, with_name, ScriptCall, answer_in}
 use Rattle.gt_explore_search.specs.declared.spaces.Turn.{Turn}
 use Rattle.gt_explore_replay.specs.Orders.{Happening, did, raised, passed, given_up, held_after, IsOrderOf}
 
@@ -53,7 +53,7 @@ abbrev pub ActionLeads : List (List ℕ) → Course → ℕ → List RunTask →
 ActionLeads types k line left (Tell flag) x j = (x ≡ raised k.dom flag) × (j ≡ record k { tasks = left })
 ActionLeads types k line left (Await flag) x j = (x ≡ passed k.dom flag) × (j ≡ record k { tasks = left })
 ActionLeads types k line left (Do call) x j =
-    (request : Request) × (e : Element) × SaysRequest k.named k.dom call request
+    (request : Request) × (e : Element) × MakesRequest k.named k.dom call request
     × (x ≡ did (Begin k.dom request) e)
     × (j ≡ course_after types line call (given_up request) (record k { tasks = left }) (answer_in e))
 

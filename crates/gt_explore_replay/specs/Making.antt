@@ -3,7 +3,7 @@ use Rattle.std.specs.Prelude.{◌≡◌, ◌++◌, ◌+◌, ℕ, suc, List, take
 use Rattle.gt_explore_replay.specs.Prelude.{Handle, Request, Release, Setting, DoesEvent, CoreState, Begin, Tick, RunTask}
 use Rattle.gt_explore_replay.specs.Prelude.{begun_element, ticked_element, Begun, Ticked}
 use Rattle.gt_explore_replay.specs.Prelude.{ScriptCall, AreNamed, Named}
-use Rattle.gt_explore_replay.specs.Prelude.{SaysRequest, Moved, Line, GivesBack, Walker}
+use Rattle.gt_explore_replay.specs.Prelude.{MakesRequest, Moved, Line, GivesBack, Walker}
 use Rattle.std.specs.Borrow.{Bor}
 use Rattle.gt_core.specs.declared.core_state.Begun.TheVariants as begun
 use Rattle.gt_core.specs.declared.core_state.Ticked.TheVariants as ticked
@@ -12,7 +12,7 @@ use Rattle.gt_explore_replay.specs.Walking.{AnswersLine, ClosesCall}
 
 -- the call of a line makes this request, whatever handles the labels name
 abbrev pub AsksFor : Walker → ScriptCall → Request → Type 0
-AsksFor v call request = (named : List Named) → AreNamed v.labels named → SaysRequest named v.dom call request
+AsksFor v call request = (named : List Named) → AreNamed v.labels named → MakesRequest named v.dom call request
 
 -- the call of a line, which drops the mapping of this handle, began: it is open, or it has its answer
 abbrev pub IsBegunFrom : List (List ℕ) → RunTask → Bor ScriptCall → Option Handle → Walker → Begun → Option Moved

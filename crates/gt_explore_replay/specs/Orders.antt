@@ -4,7 +4,7 @@ use Rattle.std.specs.Prelude.{slice_get}
 use Rattle.gt_explore_replay.specs.Prelude.{domain_of, DomId, DomainConfig, Handle, Request, Unmap, Release, Legal, actor_of}
 use Rattle.gt_explore_replay.specs.Prelude.{Answer, Done, Mapped, Element, Event, Begin, Tick, type_names, RunContents}
 use Rattle.gt_explore_replay.specs.Prelude.{list_of, RunAction}
-use Rattle.gt_explore_replay.specs.Prelude.{Do, Tell, Await, RunTask, setting_of_script, answer_line, Named, SaysRequest, EndsWith}
+use Rattle.gt_explore_replay.specs.Prelude.{Do, Tell, Await, RunTask, setting_of_script, answer_line, Named, MakesRequest, EndsWith}
 use Rattle.gt_explore_replay.specs.Prelude.{handle_given, label_given, with_name}
 
 -- orders
@@ -106,7 +106,7 @@ DeedHappens types dom named held line (Tell flag) Next hs text =
 DeedHappens types dom named held line (Await flag) Next hs text =
     (more : List Happening) × (hs ≡ passed dom flag ∷ more) × Next named held more text
 DeedHappens types dom named held line (Do call) Next hs text =
-    (request : Request) × SaysRequest named dom call request
+    (request : Request) × MakesRequest named dom call request
     × CallHappens dom request (λ answer more.
     Prints (answer_line types line dom answer)
     (Next (with_name named dom (label_given call) (handle_given answer)) (held_after held (given_up request) answer) more)

@@ -2,8 +2,8 @@
 ghost use Rattle.std.specs.Prelude.{◌≡◌, ◌<◌, ℕ, true, false, List, length, map, All, IfOk, IfSome, IsTrue};
 ghost use Rattle.std.specs.Prelude.{slice_set, get_or};
 ghost use Rattle.std.specs.Option.{IsSomeAnd};
-ghost use Rattle.gt_script.specs.Contents.{contents_told};
-ghost use Rattle.gt_script.specs.RunContents.{run_told};
+ghost use Rattle.gt_script.specs.Contents.{contents_of};
+ghost use Rattle.gt_script.specs.RunContents.{run_contents};
 ghost use Rattle.gt_script.specs.RunScripts.{CanConfigure};
 ghost use Rattle.gt_script.specs.Stuck.{AreNumbered};
 ghost use Rattle.gt_explore_replay.specs.Courses.{IsTurnedBy};
@@ -90,8 +90,8 @@ fn is_raised(told: &[bool], flag: usize) -> bool
 impl<'s, 'a> Replay<'s, 'a> {
     ghost use Rattle.std.specs.Prelude.{◌≡◌, ◌++◌, List, [], ◌∷◌, IfOk, IfSome, IsSome, Some, slice_get, slice_set};
     ghost use Rattle.std.specs.Option.{IsSomeAnd};
-    ghost use Rattle.gt_script.specs.Contents.{contents_told, type_names};
-    ghost use Rattle.gt_script.specs.RunContents.{RunContents, run_told};
+    ghost use Rattle.gt_script.specs.Contents.{contents_of, type_names};
+    ghost use Rattle.gt_script.specs.RunContents.{RunContents, run_contents};
     ghost use Rattle.gt_script.specs.RunScripts.{CanConfigure};
     ghost use Rattle.gt_script.specs.Stuck.{AreNumbered};
     ghost use Rattle.gt_script_runs.specs.Playing.{setting_of_script};
@@ -105,10 +105,10 @@ impl<'s, 'a> Replay<'s, 'a> {
     /// # Errors
     /// `Memory` if an allocation fails.
     pub fn new(alloc: Global, script: &'s RunScript<'a>) -> Result<Replay<'s, 'a>, Memory>
-        requires { CanConfigure (contents_told script.now.head) }
-        ensures walks { IfOk result (HasWalked (run_told script.entry.now) []) }
+        requires { CanConfigure (contents_of script.now.head) }
+        ensures walks { IfOk result (HasWalked (run_contents script.entry.now) []) }
         ensures abreast { AreNumbered script.entry.now.flags script.entry.now.tasks →
-            IfOk result (IsAbreast (run_told script.entry.now) [] (first_courses (run_told script.entry.now))) }
+            IfOk result (IsAbreast (run_contents script.entry.now) [] (first_courses (run_contents script.entry.now))) }
     {
         let head = script.head();
         let walkers = walkers_of(alloc, script, head.domains())?;
@@ -215,10 +215,10 @@ pub fn text_of<'s, 'a>(
     script: &'s RunScript<'a>,
     turns: &[Turn],
 ) -> Result<Option<Vec<u8>>, Memory>
-    requires { CanConfigure (contents_told script.now.head) }
-    ensures possible { IfOk result (λ t. IfSome t (λ text. MayGive (run_told script.now) text.items)) }
+    requires { CanConfigure (contents_of script.now.head) }
+    ensures possible { IfOk result (λ t. IfSome t (λ text. MayGive (run_contents script.now) text.items)) }
     ensures whole { (hs : List Happening) (text : List ℕ) → AreNumbered script.now.flags script.now.tasks →
-        IsTurnedBy (run_told script.now) hs turns.now text →
+        IsTurnedBy (run_contents script.now) hs turns.now text →
         IfOk result (λ t. IsSomeAnd t (λ v. v.items ≡ text)) }
 {
     let mut run = Replay::new(alloc, script)?;

@@ -13,7 +13,7 @@ use Rattle.gt_core.proofs.Words.{Call, State, state_of, History, Setting, Underw
 use Rattle.gt_core.proofs.Words.{seen_by, path, sees, knowledge_of}
 use Rattle.gt_core.proofs.Words.{OpenAgrees, CallAgrees, StateAgrees, StateStands, IsRight, StepsRight, StepsRightIn}
 use Rattle.gt_core.proofs.Words.{BeginsRight, AnsweredBy}
-use Rattle.gt_core.proofs.Words.{AreAlike, IsRun, AsksKnown, IsKnown, IsGiven, told_items, told_item, bare_handle}
+use Rattle.gt_core.proofs.Words.{AreAlike, IsRun, AsksKnown, IsKnown, IsGiven, keyless_items, keyless_item, bare_handle}
 use Rattle.gt_core.proofs.Words.{bare_step, bare_request}
 use Rattle.gt_core.proofs.Words.{Adds, MayDo, Goes, action_at, phase_after, next_to_give, last_first, PhaseStands}
 use Rattle.gt_core.proofs.Words.{begun_of, asked, SpellsItsEntry}
@@ -40,10 +40,10 @@ use Rattle.gt_calls.proofs.Advancing.{continues}
 use Rattle.gt_calls.specs.Machine.{standing_after}
 use Rattle.gt_core.specs.Prelude.{WriteBytes, CopyBytes}
 use Rattle.gt_core.specs.Acting.{answer_of}
-use Rattle.gt_core.specs.GoingOn.{AccessAnsweredSo, AnsweredSo, CanBeReached, IsAccess, IsOnWords, TellsAccess}
+use Rattle.gt_core.specs.GoingOn.{AccessAnsweredSo, AnsweredSo, CanBeReached, IsAccess, IsOnWords, AnswersAccess}
 use Rattle.gt_core.specs.GoingOn.{step_after}
 use Rattle.gt_core.specs.Legal.{next_in}
-use Rattle.gt_core.specs.Alike.{ToldItem, bare_bytes, told_part}
+use Rattle.gt_core.specs.Alike.{KeylessItem, bare_bytes, keyless_answer}
 use Rattle.gt_calls.specs.Asking.{FitsAsked}
 use Rattle.gt_calls.specs.declared.request.Request.{Request}
 use Rattle.gt_calls.specs.declared.request.Request.TheVariants as requests
@@ -254,7 +254,7 @@ module _ (s : Setting) (h g : History) (alike : AreAlike s h g) (reached : CanBe
 
   -- a read that ends its call is told what the range held
   read-told : (dom : DomId) (frame off len : ℕ) → o.step ≡ ReadBytes dom frame off len → path (known_at s g x.id) x.id w.request (values w ++ Nothing ∷ []) ≡ Some (Done Granted)
-      → (y : Answer) × TellsAccess g (ReadBytes dom frame off len) y
+      → (y : Answer) × AnswersAccess g (ReadBytes dom frame off len) y
   read-told dom frame off len is ends = let read : z ≡ ReadBytes dom frame off len = unbare-read z dom frame off len (same ∙ ap bare_step is) in
       let nothing : seen ≡ Nothing = right.sees ∙ ap (λ (y : Step). seen_by s h x.id y) read in
       let over : next_in s h x.id c seen ≡ Some (Done Granted) = ap (λ (v : Observation). path (known_at s h x.id) x.id c.request (values c ++ v ∷ [])) nothing ∙ only-granted _ (path-like Nothing ∙ ap (option_map bare_action) ends) in
@@ -265,7 +265,7 @@ module _ (s : Setting) (h g : History) (alike : AreAlike s h g) (reached : CanBe
       let size : off + len - off ≡ len = omega arith in
       (answers.Bytes t.0, (t.0, refl, t.1 ∙ ap (λ (l : List ℕ). take len (drop off l)) (same-contents dom.0 frame) ∙ ap (λ (n : ℕ). take n (drop off (contents_at g dom.0 frame))) (sym size)))
 
-  access-told : (y : Step) → o.step ≡ y → IsAccess y → path (known_at s g x.id) x.id w.request (values w ++ Nothing ∷ []) ≡ Some (Done Granted) → (ans : Answer) × TellsAccess g y ans
+  access-told : (y : Step) → o.step ≡ y → IsAccess y → path (known_at s g x.id) x.id w.request (values w ++ Nothing ∷ []) ≡ Some (Done Granted) → (ans : Answer) × AnswersAccess g y ans
   access-told (ReadBytes dom frame off len) is access ends = read-told dom frame off len is ends
   access-told (WriteBytes dom frame off len) is access ends = (answers.Done, refl)
   access-told (CopyBytes from to len) is access ends = (answers.Done, refl)
@@ -311,29 +311,29 @@ tick-like s h g i z seen alike reached run right is =
 
 -- a beginning
 
-first-told : (t u : ToldItem) (ts us : List ToldItem) → t ∷ ts ≡ u ∷ us → t ≡ u
+first-told : (t u : KeylessItem) (ts us : List KeylessItem) → t ∷ ts ≡ u ∷ us → t ≡ u
 first-told t u ts us e = cc
 
-rest-told : (t u : ToldItem) (ts us : List ToldItem) → t ∷ ts ≡ u ∷ us → ts ≡ us
+rest-told : (t u : KeylessItem) (ts us : List KeylessItem) → t ∷ ts ≡ u ∷ us → ts ≡ us
 rest-told t u ts us e = cc
 
-mapped-told : (o : Option Answer) (handle : Handle) → option_map told_part o ≡ Some (inl (answers.Mapped (bare_handle handle))) → (other : Handle) × (o ≡ Some (answers.Mapped other)) × (bare_handle other ≡ bare_handle handle)
+mapped-told : (o : Option Answer) (handle : Handle) → option_map keyless_answer o ≡ Some (inl (answers.Mapped (bare_handle handle))) → (other : Handle) × (o ≡ Some (answers.Mapped other)) × (bare_handle other ≡ bare_handle handle)
 mapped-told None handle e = absurd (none-some _ e)
 mapped-told (Some (answers.Mapped other)) handle e = (other, refl, cc)
 mapped-told (Some (answers.Bytes b)) handle e = absurd (let f : inr b.bytes.items ≡ inl (answers.Mapped (bare_handle handle)) = same_Some _ _ e in cc)
 mapped-told (Some answer) handle e = absurd (let f = same_Some _ _ e in cc)
 
 -- a handle that was answered in the one run was answered in the other, but for its key
-given-like : (h g : History) (d : ℕ) (handle : Handle) → told_items h ≡ told_items g → IsGiven h d handle → (other : Handle) × (bare_handle other ≡ bare_handle handle) × IsGiven g d other
-unfolding told_items IsGiven
+given-like : (h g : History) (d : ℕ) (handle : Handle) → keyless_items h ≡ keyless_items g → IsGiven h d handle → (other : Handle) × (bare_handle other ≡ bare_handle handle) × IsGiven g d other
+unfolding keyless_items IsGiven
 given-like [] g d handle e given = absurd given
-given-like (i ∷ h) [] d handle e given = absurd (let f : told_item i ∷ told_items h ≡ [] = e in cc)
-given-like (i ∷ h) (j ∷ g) d handle e (inl given) = let same : told_item i ≡ told_item j = first-told (told_item i) (told_item j) (told_items h) (told_items g) e in
-    let actor : i.actor ≡ j.actor = ap (λ (t : ToldItem). t.actor) same in
-    let answer : option_map told_part (Some (answers.Mapped handle)) ≡ option_map told_part j.answer = ap (option_map told_part) (sym given.1) ∙ ap (λ (t : ToldItem). t.answer) same in
+given-like (i ∷ h) [] d handle e given = absurd (let f : keyless_item i ∷ keyless_items h ≡ [] = e in cc)
+given-like (i ∷ h) (j ∷ g) d handle e (inl given) = let same : keyless_item i ≡ keyless_item j = first-told (keyless_item i) (keyless_item j) (keyless_items h) (keyless_items g) e in
+    let actor : i.actor ≡ j.actor = ap (λ (t : KeylessItem). t.actor) same in
+    let answer : option_map keyless_answer (Some (answers.Mapped handle)) ≡ option_map keyless_answer j.answer = ap (option_map keyless_answer) (sym given.1) ∙ ap (λ (t : KeylessItem). t.answer) same in
     let m = mapped-told j.answer handle (sym answer) in
     (m.0, m.2, inl (ap (λ (n : DomId). n.0) (sym actor) ∙ given.0, m.1))
-given-like (i ∷ h) (j ∷ g) d handle e (inr given) = let r = given-like h g d handle (rest-told (told_item i) (told_item j) (told_items h) (told_items g) e) given in (r.0, r.1, inr r.2)
+given-like (i ∷ h) (j ∷ g) d handle e (inr given) = let r = given-like h g d handle (rest-told (keyless_item i) (keyless_item j) (keyless_items h) (keyless_items g) e) given in (r.0, r.1, inr r.2)
 
 known-like : (s : Setting) (h g : History) (d : ℕ) (handle : Handle) → AreAlike s h g → IsKnown h d handle → (other : Handle) × (bare_handle other ≡ bare_handle handle) × IsKnown g d other
 known-like s h g d handle alike (inl given) = let r = given-like h g d handle alike.same given in (r.0, r.1, inl r.2)
@@ -454,5 +454,5 @@ pub like-goes-on : LikeReachedGoesOn
 like-goes-on s h i (g, alike, reached) run right known fits = let r = item-like s h g i i.happened refl alike reached run right known fits in (r.0 ∷ g, r.1, r.2)
 
 pub like-starts : LikeReachedStarts
-unfolding IsRun told_items
+unfolding IsRun keyless_items
 like-starts config may limits = ([], record { first = tt; second = tt; same = refl }, runs-start config may limits)

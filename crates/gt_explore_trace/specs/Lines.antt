@@ -99,5 +99,5 @@ trace_lines c form before (m ∷ moves) =
     ++ trace_lines c form (before ++ m ∷ []) moves
 
 -- the lines of the moves of an order
-abbrev pub trace_told : RunContents → TraceForm → List TracedMove → List ℕ
-trace_told c form moves = trace_lines c form [] moves
+abbrev pub trace_output : RunContents → TraceForm → List TracedMove → List ℕ
+trace_output c form moves = trace_lines c form [] moves

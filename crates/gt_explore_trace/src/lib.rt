@@ -5,7 +5,7 @@
 //! [`push_participants`] writes.
 //!
 //! It promises that the moves are those of an order of the script that gives the text (`GivesText`), and that the lines
-//! are those of these moves (`trace_told`). The definitions are in `specs/`.
+//! are those of these moves (`trace_output`). The definitions are in `specs/`.
 //!
 //! It uses `gt_explore_replay` and `gt_explore_search` (moves and turns), `gt_script` and `gt_script_lines` (scripts),
 //! `gt_script_runs` (answers), `gt_core` and `gt_entry` (steps), `gt_json` and `gt_text` (texts), `gt_types`, `hex` and

@@ -1,8 +1,8 @@
 //! The lines that show the moves of an order.
 ghost use Rattle.std.specs.Prelude.{◌≡◌, ◌++◌, OnOk};
 ghost use Rattle.std.specs.Option.{option_map};
-ghost use Rattle.gt_script.specs.RunContents.{run_told};
-ghost use Rattle.gt_explore_trace.specs.Lines.{line_value, line_word, move_words, step_members, step_words, trace_told};
+ghost use Rattle.gt_script.specs.RunContents.{run_contents};
+ghost use Rattle.gt_explore_trace.specs.Lines.{line_value, line_word, move_words, step_members, step_words, trace_output};
 
 use crate::answers::{answer_of, push_answer_member, push_answer_part};
 use crate::diagram::{push_arrow, push_note};
@@ -224,7 +224,7 @@ pub fn push_trace(
     form: TraceForm,
     moves: &[TracedMove],
 ) -> Result<(), AllocError>
-    ensures { OnOk result (out.new.items ≡ out.old.items ++ trace_told (run_told script.now) form moves.now) }
+    ensures { OnOk result (out.new.items ≡ out.old.items ++ trace_output (run_contents script.now) form moves.now) }
 {
     let names = script.head().type_names(alloc)?;
     let printer = LinePrinter { alloc, form, names };

@@ -1,7 +1,7 @@
 //! The moves of an order.
 ghost use Rattle.std.specs.Prelude.{IfOk, IfSome};
-ghost use Rattle.gt_script.specs.Contents.{contents_told};
-ghost use Rattle.gt_script.specs.RunContents.{run_told};
+ghost use Rattle.gt_script.specs.Contents.{contents_of};
+ghost use Rattle.gt_script.specs.RunContents.{run_contents};
 ghost use Rattle.gt_script.specs.RunScripts.{CanConfigure};
 ghost use Rattle.gt_explore_trace.specs.Moves.{GivesText};
 
@@ -35,9 +35,9 @@ pub fn traced(
     script: &RunScript,
     turns: &[Turn],
 ) -> Result<Option<TracedOrder>, Memory>
-    requires { CanConfigure (contents_told script.now.head) }
+    requires { CanConfigure (contents_of script.now.head) }
     ensures { IfOk result (λ t. IfSome t (λ order.
-        GivesText (run_told script.now) order.moves.items order.text.items)) }
+        GivesText (run_contents script.now) order.moves.items order.text.items)) }
 {
     let domains = script.head().domains();
     let mut run = Replay::new(alloc, script)?;

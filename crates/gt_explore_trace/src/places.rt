@@ -1,7 +1,7 @@
 //! The lines of a script that moves belong to.
 ghost use Rattle.std.specs.Prelude.{◌≡◌, IfOk, count_by};
 ghost use Rattle.std.specs.Option.{option_map};
-ghost use Rattle.gt_script.specs.RunContents.{run_told};
+ghost use Rattle.gt_script.specs.RunContents.{run_contents};
 ghost use Rattle.gt_explore_trace.specs.Places.{begins_own, index_after, is_beginning, task_of};
 
 use crate::moves::TracedMove;
@@ -56,7 +56,7 @@ pub fn task_of<'s, 'a>(
     traced: &TracedMove,
 ) -> Result<Option<&'s RunTask<'a>>, AllocError>
     ensures { IfOk result (λ t. option_map (λ u. u.now) t
-        ≡ task_of (run_told script.entry.now) before.now traced.now) }
+        ≡ task_of (run_contents script.entry.now) before.now traced.now) }
 {
     let list = script.list_of(alloc, traced.dom)?;
     let index = index_after(begun_by(traced.dom, before), &traced.moved);

@@ -25,17 +25,17 @@ pub record Asked : Type 0 where
   pub place : Answers
   pub words : List (List ℕ)
 
-abbrev pub place_told : Place → Answers
-place_told Anywhere = of_all
-place_told (Line number) = of_line number.now
-place_told (Domain number) = of_domain number.now
+abbrev pub place_asked : Place → Answers
+place_asked Anywhere = of_all
+place_asked (Line number) = of_line number.now
+place_asked (Domain number) = of_domain number.now
 
-abbrev pub told : Condition → Asked
-told c = record { place = place_told c.place; words = c.first.now ∷ map (λ w. w.now) c.more.items }
+abbrev pub condition_asked : Condition → Asked
+condition_asked c = record { place = place_asked c.place; words = c.first.now ∷ map (λ w. w.now) c.more.items }
 
-abbrev pub told_of_term : Result Condition ConditionFault → Result Asked ConditionFault
-told_of_term (Ok c) = Ok (told c)
-told_of_term (Err fault) = Err fault
+abbrev pub term_asked : Result Condition ConditionFault → Result Asked ConditionFault
+term_asked (Ok c) = Ok (condition_asked c)
+term_asked (Err fault) = Err fault
 
 -- the bytes before the first such mark, and those after it
 unfoldable pub at_mark : ℕ → List ℕ → Option (List ℕ × List ℕ)

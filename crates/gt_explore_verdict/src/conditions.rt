@@ -2,8 +2,8 @@
 ghost use Rattle.std.specs.Prelude.{◌≡◌, [], IfErr, IfOk, map};
 ghost use Rattle.std.specs.Option.{option_map};
 ghost use Rattle.gt_explore_verdict.specs.Expressions.{at_mark, conditions_in, fault_in, is_answer_word, is_nonempty};
-ghost use Rattle.gt_explore_verdict.specs.Expressions.{numbered, place_told, placed, read_term, read_terms, told};
-ghost use Rattle.gt_explore_verdict.specs.Expressions.{told_of_term, terms_in, words_in, IsFaultOf};
+ghost use Rattle.gt_explore_verdict.specs.Expressions.{numbered, place_asked, placed, read_term, read_terms, condition_asked};
+ghost use Rattle.gt_explore_verdict.specs.Expressions.{term_asked, terms_in, words_in, IsFaultOf};
 
 use crate::fault::{ConditionFault, ExpressionFault};
 use crate::rules::{is_number, is_rule, is_wrong_rule};
@@ -58,7 +58,7 @@ fn numbered<'e>(mark: u8, word: &'e [u8]) -> Option<(&'e [u8], &'e [u8])>
 
 // Returns the place that the first word of a term names, and the rest of that word.
 fn placed<'e>(word: &'e [u8]) -> (Place<'e>, &'e [u8])
-    ensures { (place_told result.0, result.1.now) ≡ placed word.entry.now }
+    ensures { (place_asked result.0, result.1.now) ≡ placed word.entry.now }
 {
     match numbered(b'=', word) {
         Some((line, answer)) => (Place::Line(line), answer),
@@ -78,7 +78,7 @@ fn is_answer_word(word: &[u8]) -> bool
 
 // Returns what is wrong with the words of a condition, of which the first is this one.
 fn fault_in(place: Place<'_>, first: &[u8], count: usize) -> Option<ConditionFault>
-    ensures { result ≡ fault_in (place_told place.entry) first.now count }
+    ensures { result ≡ fault_in (place_asked place.entry) first.now count }
 {
     if is_wrong_rule(first) {
         return Some(ConditionFault::Rule);
@@ -126,7 +126,7 @@ fn terms_in<'e>(alloc: Global, text: &'e [u8]) -> Result<Vec<&'e [u8]>, AllocErr
 
 // Reads the words of a term.
 fn read_term<'e>(mut words: Vec<&'e [u8]>) -> Result<Condition<'e>, ConditionFault>
-    ensures { told_of_term result ≡ read_term (map (λ w. w.now) words.entry.items) }
+    ensures { term_asked result ≡ read_term (map (λ w. w.now) words.entry.items) }
 {
     if words.is_empty() {
         return Err(ConditionFault::Empty);
@@ -145,7 +145,7 @@ fn read_term<'e>(mut words: Vec<&'e [u8]>) -> Result<Condition<'e>, ConditionFau
 
 // Reads each of these terms.
 fn read_terms<'e>(alloc: Global, terms: &[&'e [u8]]) -> Result<Vec<Condition<'e>>, ExpressionFault>
-    ensures ok { IfOk result (λ cs. read_terms [] 1 (map (λ t. t.now) terms.now) ≡ Ok (map told cs.items)) }
+    ensures ok { IfOk result (λ cs. read_terms [] 1 (map (λ t. t.now) terms.now) ≡ Ok (map condition_asked cs.items)) }
     ensures fault { IfErr result (IsFaultOf (read_terms [] 1 (map (λ t. t.now) terms.now))) }
 {
     let mut conditions = Vec::new(alloc);
@@ -177,7 +177,7 @@ pub fn conditions_of<'e>(
     alloc: Global,
     text: &'e str,
 ) -> Result<Vec<Condition<'e>>, ExpressionFault>
-    ensures ok { IfOk result (λ cs. conditions_in text.entry.now ≡ Ok (map told cs.items)) }
+    ensures ok { IfOk result (λ cs. conditions_in text.entry.now ≡ Ok (map condition_asked cs.items)) }
     ensures fault { IfErr result (IsFaultOf (conditions_in text.entry.now)) }
 {
     let Ok(terms) = terms_in(alloc, text.as_bytes()) else {

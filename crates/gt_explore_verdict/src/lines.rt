@@ -2,7 +2,7 @@
 ghost use Rattle.std.specs.Prelude.{◌≡◌, IfOk, map};
 ghost use Rattle.std.specs.List.{list_all, list_any};
 ghost use Rattle.std.specs.Str.{bytes_eq};
-ghost use Rattle.gt_explore_verdict.specs.Expressions.{told};
+ghost use Rattle.gt_explore_verdict.specs.Expressions.{condition_asked};
 ghost use Rattle.gt_explore_verdict.specs.Satisfying.{begins, is_met_by, is_met_in, line_words, lines_in, satisfies};
 
 use crate::conditions::{Condition, Place};
@@ -59,7 +59,7 @@ fn begins(words: &[&[u8]], with: &[&[u8]]) -> bool
 
 // Returns whether an answer begins with the words of a condition.
 fn begins_as(answer: &[&[u8]], condition: &Condition<'_>) -> bool
-    ensures { result ≡ begins (map (λ w. w.now) answer.now) (told condition.now).words }
+    ensures { result ≡ begins (map (λ w. w.now) answer.now) (condition_asked condition.now).words }
 {
     match answer {
         [] => false,
@@ -72,7 +72,7 @@ fn begins_as(answer: &[&[u8]], condition: &Condition<'_>) -> bool
 // Returns whether a line of a text, of which these are the words, meets a condition.
 #[tactic(auto, unfolding(crate::specs::Satisfying::is_met_by))]
 fn is_met_by(condition: &Condition<'_>, words: &[&[u8]]) -> bool
-    ensures { result ≡ is_met_by (told condition.now) (map (λ w. w.now) words.now) }
+    ensures { result ≡ is_met_by (condition_asked condition.now) (map (λ w. w.now) words.now) }
 {
     match words {
         [line, dom, answer @ ..] => match condition.place {
@@ -86,7 +86,7 @@ fn is_met_by(condition: &Condition<'_>, words: &[&[u8]]) -> bool
 
 // Returns whether a line meets a condition.
 fn line_meets(alloc: Global, condition: &Condition<'_>, line: &[u8]) -> Result<bool, AllocError>
-    ensures { IfOk result (λ b. b ≡ is_met_by (told condition.now) (line_words line.now)) }
+    ensures { IfOk result (λ b. b ≡ is_met_by (condition_asked condition.now) (line_words line.now)) }
 {
     let words = line_words(alloc, line)?;
     Ok(is_met_by(condition, words.as_slice()))
@@ -94,7 +94,7 @@ fn line_meets(alloc: Global, condition: &Condition<'_>, line: &[u8]) -> Result<b
 
 // Returns whether one of these lines meets a condition.
 fn is_met_in(alloc: Global, condition: &Condition<'_>, lines: &[&[u8]]) -> Result<bool, AllocError>
-    ensures { IfOk result (λ b. b ≡ is_met_in (told condition.now) (map (λ l. l.now) lines.now)) }
+    ensures { IfOk result (λ b. b ≡ is_met_in (condition_asked condition.now) (map (λ l. l.now) lines.now)) }
 {
     'lines: for line in lines {
         if line_meets(alloc, condition, line)? {
@@ -113,7 +113,7 @@ pub fn satisfies(
     conditions: &[Condition<'_>],
     text: &[u8],
 ) -> Result<bool, AllocError>
-    ensures { IfOk result (λ b. b ≡ satisfies (map told conditions.now) text.now) }
+    ensures { IfOk result (λ b. b ≡ satisfies (map condition_asked conditions.now) text.now) }
 {
     let lines = lines_in(alloc, text)?;
     'conditions: for condition in conditions {

@@ -14,7 +14,7 @@ use Rattle.std.specs.List.{position_or_len}
 use Rattle.std.specs.Str.{bytes_eq}
 use lib.Pointwise.{pointwise}
 use Rattle.gt_script_runs.specs.Playing.{Played}
-use Rattle.gt_script.specs.Script.{TellsScript}
+use Rattle.gt_script.specs.Script.{ReadsAsScript}
 use Rattle.gt_types.specs.declared.config.DomainConfig.{DomainConfig}
 use Rattle.gt_explore_witness.specs.Witness.{GivesAnswers, GoesOnWith, HaveAnswers, without_number}
 
@@ -73,7 +73,7 @@ pub all_more : (P : DomainConfig → Type 0) (xs : List DomainConfig) (n : ℕ) 
 all_more P xs n d lt holds all = subst (All P) (sym (take_more xs n d lt)) (All-push P (take n xs) (get_or xs n d) all holds)
 
 -- what was printed has the answers
-pub gives : (domains : List DomainConfig) (script text out told : List ℕ) → Played (TellsScript script) false (Some []) (Some out) (Ok tt) → told ≡ out
+pub gives : (domains : List DomainConfig) (script text out told : List ℕ) → Played (ReadsAsScript script) false (Some []) (Some out) (Ok tt) → told ≡ out
     → HaveAnswers domains text told → GivesAnswers domains script text
 gives domains script text out told played is same = record {
   out = out;

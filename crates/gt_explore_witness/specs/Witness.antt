@@ -8,7 +8,7 @@ use Rattle.gt_types.specs.declared.DomId.{DomId}
 use Rattle.gt_types.specs.declared.TypeId.{TypeId}
 use Rattle.gt_types.specs.declared.config.DomainConfig.{DomainConfig}
 use Rattle.gt_types.specs.declared.perms.Perms.{Perms}
-use Rattle.gt_script.specs.Script.{TellsScript}
+use Rattle.gt_script.specs.Script.{ReadsAsScript}
 use Rattle.gt_script_runs.specs.Playing.{Played}
 
 -- a line without its number: what comes after its first space
@@ -52,7 +52,7 @@ HaveAnswers domains text out = All (λ domain. HasAnswers domain.id.0 text out) 
 -- the script is one for `play` that prints the answers of the text
 pub record GivesAnswers (domains : List DomainConfig) (script text : List ℕ) : Type 0 where
   pub out : List ℕ
-  pub played : Played (TellsScript script) false (Some []) (Some out) (Ok tt)
+  pub played : Played (ReadsAsScript script) false (Some []) (Some out) (Ok tt)
   pub answers : HaveAnswers domains text out
 
 -- the policy does not let a domain of this type unmap the entries of one of these domains

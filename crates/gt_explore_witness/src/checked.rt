@@ -2,7 +2,7 @@
 ghost use Rattle.std.specs.Prelude.{◌≡◌, [], Some, Ok, false, map, IfOk, IsTrue};
 ghost use Rattle.std.specs.List.{list_all};
 ghost use Rattle.std.specs.Str.{bytes_eq};
-ghost use Rattle.gt_script.specs.Script.{TellsScript};
+ghost use Rattle.gt_script.specs.Script.{ReadsAsScript};
 ghost use Rattle.gt_script_runs.specs.Playing.{Played};
 ghost use Rattle.gt_explore_witness.specs.Witness.{answers_of, begins_with, domain_word, is_end, ok_line, without_number};
 ghost use Rattle.gt_explore_witness.specs.Witness.{GivesAnswers, GoesOnWith, HasAnswers, HaveAnswers};
@@ -16,7 +16,7 @@ use std::alloc::{AllocError, Global};
 
 // Returns what `play` prints for a script.
 fn played(alloc: Global, script: &[u8]) -> Result<Vec<u8>, TextsFault>
-    ensures { IfOk result (λ out. Played (TellsScript script.now) false (Some []) (Some out.items) (Ok tt)) }
+    ensures { IfOk result (λ out. Played (ReadsAsScript script.now) false (Some []) (Some out.items) (Ok tt)) }
 {
     let mut out = Vec::new(alloc);
     let mut reader = script;

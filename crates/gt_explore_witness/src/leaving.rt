@@ -1,6 +1,6 @@
 //! Domains that leave with mappings that the policy does not let them unmap.
 ghost use Rattle.std.specs.Prelude.{◌≡◌, IfOk};
-ghost use Rattle.gt_script.specs.Contents.{contents_told};
+ghost use Rattle.gt_script.specs.Contents.{contents_of};
 ghost use Rattle.gt_script_runs.specs.Rights.{may_by, may_in};
 ghost use Rattle.gt_explore_witness.specs.Witness.{is_forbidden, may_not_unmap};
 
@@ -38,7 +38,7 @@ fn forbids(rights: &ScriptPolicy, domains: &[DomainConfig], dom: DomId) -> bool
 /// # Errors
 /// `Memory` if an allocation fails.
 pub fn may_not_unmap(alloc: Global, script: &Script, dom: DomId) -> Result<bool, Memory>
-    ensures { IfOk result (λ b. b ≡ may_not_unmap (may_in (contents_told script.now)) script.now.domains dom) }
+    ensures { IfOk result (λ b. b ≡ may_not_unmap (may_in (contents_of script.now)) script.now.domains dom) }
 {
     let rights = ScriptPolicy::of(alloc, script)?;
     Ok(forbids(&rights, script.domains(), dom))

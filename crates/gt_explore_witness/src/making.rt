@@ -1,5 +1,5 @@
 //! A script for `play` that makes the moves of an order.
-ghost use Rattle.gt_script.specs.Contents.{contents_told};
+ghost use Rattle.gt_script.specs.Contents.{contents_of};
 ghost use Rattle.gt_script.specs.RunScripts.{CanConfigure};
 
 use crate::naming::WitnessNames;
@@ -148,7 +148,7 @@ struct WitnessScript {
 }
 
 impl WitnessScript {
-    ghost use Rattle.gt_script.specs.Contents.{contents_told};
+    ghost use Rattle.gt_script.specs.Contents.{contents_of};
     ghost use Rattle.gt_script.specs.RunScripts.{CanConfigure};
 
     // Begins a script for this number of domains.
@@ -284,7 +284,7 @@ impl WitnessScript {
         script: &RunScript,
         turns: &[Turn],
     ) -> Result<(), TextsFault>
-        requires { CanConfigure (contents_told script.now.head) }
+        requires { CanConfigure (contents_of script.now.head) }
     {
         let mut run = Replay::new(self.alloc, script)?;
         self.make_turns(from, &mut run, turns)
@@ -322,7 +322,7 @@ fn witness_from(
     script: &RunScript,
     turns: &[Turn],
 ) -> Result<PlayScript, TextsFault>
-    requires { CanConfigure (contents_told script.now.head) }
+    requires { CanConfigure (contents_of script.now.head) }
 {
     let mut witness = WitnessScript::new(alloc, from.domains.len())?;
     push_head(&mut witness.out, from.lines, body_of(script.tasks()))?;
@@ -344,7 +344,7 @@ pub fn witness_of(
     script: &RunScript,
     turns: &[Turn],
 ) -> Result<PlayScript, TextsFault>
-    requires { CanConfigure (contents_told script.now.head) }
+    requires { CanConfigure (contents_of script.now.head) }
 {
     let head = script.head();
     let lines = text_lines(alloc, source)?;

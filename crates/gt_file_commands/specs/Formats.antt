@@ -2,21 +2,21 @@
 use Rattle.std.specs.Prelude.{ℕ, Bool, true, false, List, Option, Result}
 use Rattle.gt_checks.specs.Checking.{Checked}
 use Rattle.gt_checks.specs.Scripts.{CheckedScript}
-use Rattle.gt_json_commands.specs.AsJson.{Promise, ListedAsJson, PlayedAsJson, ToldAsJson}
+use Rattle.gt_json_commands.specs.AsJson.{Promise, ListedAsJson, PlayedAsJson, WroteDumpAsJson}
 use Rattle.gt_commands.specs.declared.invocation.Format.{Format}
 use Rattle.gt_commands.specs.declared.invocation.Format.TheVariants.{Text, Json}
-use Rattle.gt_entries.specs.Dumps.{Told}
+use Rattle.gt_entries.specs.Dumps.{WroteDump}
 use Rattle.gt_entries.specs.declared.asked.DumpOptions.{DumpOptions}
 use Rattle.gt_entries.specs.declared.fault.DumpFault.{DumpFault}
 use Rattle.gt_script_runs.specs.Playing.{Played}
 use Rattle.gt_script_runs.specs.declared.fault.PlayFault.{PlayFault}
 use Rattle.gt_policy_list.specs.Writing.{Listed}
 use Rattle.gt_policy_list.specs.declared.fault.ListingFault.{ListingFault}
-use Rattle.gt_script.specs.Script.{TellsScript}
+use Rattle.gt_script.specs.Script.{ReadsAsScript}
 
 -- the output of `play`
 abbrev pub PlayedAs : Format → Bool → List ℕ → Promise PlayFault
-PlayedAs Text audited input = Played (TellsScript input) audited
+PlayedAs Text audited input = Played (ReadsAsScript input) audited
 PlayedAs Json audited input = PlayedAsJson input audited
 
 -- the output of `policy`
@@ -25,9 +25,9 @@ ListedAs Text input = Listed input
 ListedAs Json input = ListedAsJson input
 
 -- the output of `entries`
-abbrev pub ToldAs : Format → DumpOptions → List ℕ → Promise DumpFault
-ToldAs Text asked input = Told asked input
-ToldAs Json asked input = ToldAsJson asked input
+abbrev pub WroteDumpAs : Format → DumpOptions → List ℕ → Promise DumpFault
+WroteDumpAs Text asked input = WroteDump asked input
+WroteDumpAs Json asked input = WroteDumpAsJson asked input
 
 -- the output of `check` for a policy, or for a script
 abbrev pub CheckedAs : Bool → List ℕ → Option (List ℕ) → Option (List ℕ) → Result Bool ListingFault → Type 0

@@ -2,7 +2,7 @@
 use Rattle.std.specs.Prelude.{◌≡◌, ◌⊎◌, ℕ, ◌++◌, Bool, true, false, List, [], ◌∷◌, Option, Some, None, Result, Ok, Err}
 use Rattle.std.specs.Prelude.{IfSome, codes}
 use Rattle.std.specs.Borrow.{Bor}
-use Rattle.gt_file_commands.specs.Formats.{CheckedAs, ListedAs, PlayedAs, ToldAs}
+use Rattle.gt_file_commands.specs.Formats.{CheckedAs, ListedAs, PlayedAs, WroteDumpAs}
 use Rattle.gt_file_commands.specs.Prelude.{Keeps, option_map, Appends, AppendsBeginning, Format, DumpOptions}
 use Rattle.gt_file_commands.specs.Prelude.{WhyQuestion, perm_asked, source_asked, target_asked, Explained, CheckedNever}
 use Rattle.gt_file_commands.specs.Prelude.{type_of, words, play_fault_text, explore_fault_text, listing_fault_text}
@@ -97,9 +97,9 @@ Explains file q input old new (Err (failures.Why fault)) = Explained file q inpu
 Explains file q input old new (Err failure) = ⊥
 
 abbrev pub AnswersEntries : Format → DumpOptions → Doing
-AnswersEntries format asked input old new (Ok Yes) = ToldAs format asked input old new (Ok tt)
+AnswersEntries format asked input old new (Ok Yes) = WroteDumpAs format asked input old new (Ok tt)
 AnswersEntries format asked input old new (Ok other) = ⊥
-AnswersEntries format asked input old new (Err (failures.Dump fault)) = ToldAs format asked input old new (Err fault)
+AnswersEntries format asked input old new (Err (failures.Dump fault)) = WroteDumpAs format asked input old new (Err fault)
 AnswersEntries format asked input old new (Err failure) = ⊥
 
 -- what is done with a text

@@ -2,7 +2,7 @@
 ghost use Rattle.gt_text.specs.Streams.{OfInput};
 ghost use Rattle.gt_checks.specs.Breaking.{CheckedNever};
 ghost use Rattle.gt_checks.specs.Explaining.{Explained};
-ghost use Rattle.gt_file_commands.specs.Formats.{CheckedAs, ListedAs, PlayedAs, ToldAs};
+ghost use Rattle.gt_file_commands.specs.Formats.{CheckedAs, ListedAs, PlayedAs, WroteDumpAs};
 
 use crate::formats::{ReportSettings, check_as, entries_as, list_as, play_as};
 use gt_checks::{BreachFault, NeverText, WhyFault, check_never, why};
@@ -129,7 +129,7 @@ pub fn entries_explained<R: Read, W: Write>(
     reasons: &mut Reasons,
 ) -> Result<(), DumpFault>
     ensures { OfInput (R.remaining reader.old) (λ input.
-        ToldAs format asked input (W.contents out.old) (W.contents out.new) result) }
+        WroteDumpAs format asked input (W.contents out.old) (W.contents out.new) result) }
 {
     let mut input = CopyingReader::new(alloc, reader);
     let ending = entries_as(alloc, format, asked, &mut input, out);

@@ -1,6 +1,6 @@
 //! Commands in the two formats of their output.
 ghost use Rattle.gt_text.specs.Streams.{OfInput};
-ghost use Rattle.gt_file_commands.specs.Formats.{CheckedAs, ListedAs, PlayedAs, ToldAs};
+ghost use Rattle.gt_file_commands.specs.Formats.{CheckedAs, ListedAs, PlayedAs, WroteDumpAs};
 
 use gt_checks::{check, check_script};
 use gt_commands::Format;
@@ -55,7 +55,7 @@ pub(crate) fn entries_as<R: Read, W: Write>(
     out: &mut W,
 ) -> Result<(), DumpFault>
     ensures { OfInput (R.remaining reader.old) (λ input.
-        ToldAs format asked input (W.contents out.old) (W.contents out.new) result) }
+        WroteDumpAs format asked input (W.contents out.old) (W.contents out.new) result) }
 {
     match format {
         Format::Text => entries(alloc, asked, reader, out),

@@ -2,7 +2,7 @@
 //!
 //! [`play`], [`list`], [`answer`] and [`show_entries`] work on the text of the named file, or of the standard input.
 //! [`check_files`] and [`check_never_files`] check several, and [`answer_each`] answers the questions of the standard
-//! input. [`tell_rules`] lists the rules. Each returns an [`Outcome`]: yes, no, or no answer. A failure goes to the
+//! input. [`print_rules`] lists the rules. Each returns an [`Outcome`]: yes, no, or no answer. A failure goes to the
 //! standard error in one line ([`finish`]): that of the [`Failure`], or its reason (`gt_command_reasons`).
 //!
 //! Texts come from a trait, [`TextSource`], and go to any writer. So the contracts specify, for texts and a writer with
@@ -38,6 +38,6 @@ pub use given::read_given;
 pub use outcome::{Outcome, outcome_of};
 pub use questions::answer_each;
 pub use reporting::{finish, report};
-pub use rules::tell_rules;
+pub use rules::print_rules;
 pub use style::Style;
 pub use texts::{TextSource, read_fault};

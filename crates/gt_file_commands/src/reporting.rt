@@ -29,7 +29,7 @@ pub fn finish<R, T, E: Eprint>(
 ) -> Outcome
     ensures { result ≡ outcome_of failed ending }
 {
-    if ending.is_err() && reasons.tell_line(context.err) {
+    if ending.is_err() && reasons.print_line(context.err) {
         return outcome_of(failed, &ending);
     }
     report(context.err, ending, failed)

@@ -208,7 +208,7 @@ fn report_unnamed<E: Eprint>(err: &E, name: &str) {
 
 /// Writes the line of the rule of this name, or of each rule if there is no name, in lines of at most the width, if one
 /// is given. Returns the outcome: yes, or unknown if they could not be written or no rule has that name.
-pub fn tell_rules<W: Write, E: Eprint>(
+pub fn print_rules<W: Write, E: Eprint>(
     alloc: Global,
     out: &mut W,
     err: &E,

@@ -27,9 +27,9 @@ use Rattle.gt_core.specs.declared.trace.ItemEvent.{ItemEvent}
 use Rattle.gt_core.specs.declared.trace.ItemEvent.TheVariants.{Began, Stepped}
 use Rattle.gt_core.specs.declared.trace.Item.{Item}
 use Rattle.gt_host.specs.declared.kept.PlayState.{PlayState}
-use Rattle.gt_script_runs.specs.Auditing.{before_begun, before_call, hypercall_of_request, item_told, open_told, record_in, record_of}
-use Rattle.gt_script_runs.specs.Auditing.{encoded_record, record_with, records_of, underway_told, record_lines}
-use Rattle.gt_host.specs.OpenCalls.{told_in}
+use Rattle.gt_script_runs.specs.Auditing.{before_begun, before_call, hypercall_of_request, item_hypercall, open_hypercall, record_in, record_of}
+use Rattle.gt_script_runs.specs.Auditing.{encoded_record, record_with, records_of, underway_hypercall, record_lines}
+use Rattle.gt_host.specs.OpenCalls.{recorded_in}
 use Rattle.gt_host.specs.Recording.{IsAudited}
 use Rattle.gt_script_runs.specs.Runs.{AnswerNothing, answer_in, call_events}
 use Rattle.gt_host.proofs.EventLemmas.{AreOf, answered_leaves, begins_fresh, events_close, item_of, same_or_apart}
@@ -49,69 +49,69 @@ other_before : (i : Item) (h : History) (d : ℕ) → (i.actor.0 ≡ d → ⊥) 
 unfolding before_call
 other_before i h d apart = ap (λ (b : Bool). cond b (before_begun i.happened h (before_call h d)) (before_call h d)) (ne_eqb i.actor.0 d apart)
 
-other_told : (s : Setting) (i : Item) (h : History) (d : DomId) → (i.actor.0 ≡ d.0 → ⊥) → open_told s (i ∷ h) d ≡ open_told s h d
+other_told : (s : Setting) (i : Item) (h : History) (d : DomId) → (i.actor.0 ≡ d.0 → ⊥) → open_hypercall s (i ∷ h) d ≡ open_hypercall s h d
 other_told s i h d apart =
-    ap (λ (b : History). underway_told s d b (open_call (i ∷ h) d.0)) (other_before i h d.0 apart)
-    ∙ ap (λ (o : Option Underway). underway_told s d (before_call h d.0) o) (other_call i h d.0 apart)
+    ap (λ (b : History). underway_hypercall s d b (open_call (i ∷ h) d.0)) (other_before i h d.0 apart)
+    ∙ ap (λ (o : Option Underway). underway_hypercall s d (before_call h d.0) o) (other_call i h d.0 apart)
 
 -- no call is open
-closed_told : (s : Setting) (h : History) (d : DomId) → open_call h d.0 ≡ None → open_told s h d ≡ None
-closed_told s h d none = ap (λ (o : Option Underway). underway_told s d (before_call h d.0) o) none
+closed_told : (s : Setting) (h : History) (d : DomId) → open_call h d.0 ≡ None → open_hypercall s h d ≡ None
+closed_told s h d none = ap (λ (o : Option Underway). underway_hypercall s d (before_call h d.0) o) none
 
 -- a call began
 began_told : (s : Setting) (i : Item) (h : History) (d : DomId) (request : Request) → i.actor ≡ d → i.happened ≡ Began request → i.answer ≡ None
-    → open_told s (i ∷ h) d ≡ hypercall_of_request (subject_at s h d) (asked request)
+    → open_hypercall s (i ∷ h) d ≡ hypercall_of_request (subject_at s h d) (asked request)
 began_told s i h d request own began none =
     let here : i.actor.0 ≡ d.0 = ap (λ (t : DomId). t.0) own in
     let before : before_call (i ∷ h) d.0 ≡ h = own_before i h d.0 here ∙ ap (λ (e : ItemEvent). before_begun e h (before_call h d.0)) began in
     let call : open_call (i ∷ h) d.0 ≡ Some (record { request = asked request; given = bytes_given_by request; steps = [] }) =
     own_call i h d.0 here ∙ ap (λ (o : Option Answer). underway_after (record { actor = i.actor; happened = i.happened; answer = o }) (open_call h d.0)) none
     ∙ ap (λ (e : ItemEvent). underway_with e (open_call h d.0)) began in
-    ap (λ (b : History). underway_told s d b (open_call (i ∷ h) d.0)) before ∙ ap (λ (o : Option Underway). underway_told s d h o) call
+    ap (λ (b : History). underway_hypercall s d b (open_call (i ∷ h) d.0)) before ∙ ap (λ (o : Option Underway). underway_hypercall s d h o) call
 
-step_told : (s : Setting) (d : DomId) (begun : History) (step : Step) (seen : Observation) (c : Option Underway) → underway_told s d begun (underway_with (Stepped step seen) c) ≡ underway_told s d begun c
+step_told : (s : Setting) (d : DomId) (begun : History) (step : Step) (seen : Observation) (c : Option Underway) → underway_hypercall s d begun (underway_with (Stepped step seen) c) ≡ underway_hypercall s d begun c
 step_told s d begun step seen None = refl
 step_told s d begun step seen (Some c) = refl
 
 -- a step that does not answer
 stepped_told : (s : Setting) (actor : DomId) (step : Step) (seen : Observation) (h : History) (d : DomId) → actor ≡ d
-    → open_told s (record { actor = actor; happened = Stepped step seen; answer = None } ∷ h) d ≡ open_told s h d
+    → open_hypercall s (record { actor = actor; happened = Stepped step seen; answer = None } ∷ h) d ≡ open_hypercall s h d
 stepped_told s actor step seen h d own =
     let i : Item = record { actor = actor; happened = Stepped step seen; answer = None } in
     let here : actor.0 ≡ d.0 = ap (λ (t : DomId). t.0) own in
-    ap (λ (b : History). underway_told s d b (open_call (i ∷ h) d.0)) (own_before i h d.0 here)
-    ∙ ap (λ (o : Option Underway). underway_told s d (before_call h d.0) o) (own_call i h d.0 here)
+    ap (λ (b : History). underway_hypercall s d b (open_call (i ∷ h) d.0)) (own_before i h d.0 here)
+    ∙ ap (λ (o : Option Underway). underway_hypercall s d (before_call h d.0) o) (own_call i h d.0 here)
     ∙ step_told s d (before_call h d.0) step seen (open_call h d.0)
 
 item_tick_told : (s : Setting) (h : History) (d : DomId) (actor : DomId) (happened : ItemEvent) (answer : Option Answer) → answer ≡ None
     → MayDo s h (Tick d) (Did (record { actor = actor; happened = happened; answer = answer }))
-    → open_told s (record { actor = actor; happened = happened; answer = answer } ∷ h) d ≡ open_told s h d
+    → open_hypercall s (record { actor = actor; happened = happened; answer = answer } ∷ h) d ≡ open_hypercall s h d
 item_tick_told s h d actor (Began other) answer none may = absurd may.1.1
 item_tick_told s h d actor (Stepped step seen) None none may = stepped_told s actor step seen h d may.1.0
 item_tick_told s h d actor (Stepped step seen) (Some answer) none may = cc
 
 -- a tick that does not answer
-tick_told : (s : Setting) (h : History) (d : DomId) (x : Element) → MayDo s h (Tick d) x → answer_in x ≡ None → open_told s (grown h x) d ≡ open_told s h d
+tick_told : (s : Setting) (h : History) (d : DomId) (x : Element) → MayDo s h (Tick d) x → answer_in x ≡ None → open_hypercall s (grown h x) d ≡ open_hypercall s h d
 tick_told s h d Busy may none = refl
 tick_told s h d Idle may none = refl
 tick_told s h d NoDomain may none = refl
 tick_told s h d (Did i) may none = item_tick_told s h d i.actor i.happened i.answer none may
 
 -- ticks that do not answer
-ticks_told : (s : Setting) (h : History) (d : DomId) (n : ℕ) (xs : List Element) → LegalAfter s h (replicate n (Tick d)) xs → AnswerNothing xs → open_told s (history_after h xs) d ≡ open_told s h d
+ticks_told : (s : Setting) (h : History) (d : DomId) (n : ℕ) (xs : List Element) → LegalAfter s h (replicate n (Tick d)) xs → AnswerNothing xs → open_hypercall s (history_after h xs) d ≡ open_hypercall s h d
 ticks_told s h d zero [] legal quiet = refl
 ticks_told s h d zero (x ∷ xs) legal quiet = absurd legal
 ticks_told s h d (suc n) [] legal quiet = absurd legal
 ticks_told s h d (suc n) (x ∷ xs) legal quiet = ticks_told s (grown h x) d n xs legal.1 quiet.1 ∙ tick_told s h d x legal.0 quiet.0
 
-event_told : (s : Setting) (h : History) (e : Event) (x : Element) (d t : DomId) → actor_of e ≡ d → MayDo s h e x → (d.0 ≡ t.0 → ⊥) → open_told s (grown h x) t ≡ open_told s h t
+event_told : (s : Setting) (h : History) (e : Event) (x : Element) (d t : DomId) → actor_of e ≡ d → MayDo s h e x → (d.0 ≡ t.0 → ⊥) → open_hypercall s (grown h x) t ≡ open_hypercall s h t
 event_told s h e Busy d t own may apart = refl
 event_told s h e Idle d t own may apart = refl
 event_told s h e NoDomain d t own may apart = refl
 event_told s h e (Did i) d t own may apart = other_told s i h t (λ same. apart (sym (ap (λ (u : DomId). u.0) (item_of s h e i d own may)) ∙ same))
 
 -- another domain's call is told as it was
-events_told : (s : Setting) (h : History) (es : List Event) (xs : List Element) (d t : DomId) → AreOf d es → LegalAfter s h es xs → (d.0 ≡ t.0 → ⊥) → open_told s (history_after h xs) t ≡ open_told s h t
+events_told : (s : Setting) (h : History) (es : List Event) (xs : List Element) (d t : DomId) → AreOf d es → LegalAfter s h es xs → (d.0 ≡ t.0 → ⊥) → open_hypercall s (history_after h xs) t ≡ open_hypercall s h t
 events_told s h [] [] d t own legal apart = refl
 events_told s h [] (x ∷ xs) d t own legal apart = absurd legal
 events_told s h (e ∷ es) [] d t own legal apart = absurd legal
@@ -130,7 +130,7 @@ no_record : (s : Setting) (h : History) (x : Element) → answer_in x ≡ None �
 no_record s h Busy none = refl
 no_record s h Idle none = refl
 no_record s h NoDomain none = refl
-no_record s h (Did i) none = ap (λ (o : Option Answer). record_with i.actor (item_told s h i.actor i.happened) o) none
+no_record s h (Did i) none = ap (λ (o : Option Answer). record_with i.actor (item_hypercall s h i.actor i.happened) o) none
 
 -- elements that answer nothing have no record
 no_records : (s : Setting) (h : History) (xs : List Element) → AnswerNothing xs → records_of s h xs ≡ []
@@ -140,13 +140,13 @@ no_records s h (x ∷ xs) quiet =
 
 item_record : (s : Setting) (h : History) (d : DomId) (actor : DomId) (happened : ItemEvent) (answer : Option Answer) (a : Answer) → answer ≡ Some a
     → MayDo s h (Tick d) (Did (record { actor = actor; happened = happened; answer = answer }))
-    → record_of s h (record { actor = actor; happened = happened; answer = answer }) ≡ encoded_record d (open_told s h d) a
+    → record_of s h (record { actor = actor; happened = happened; answer = answer }) ≡ encoded_record d (open_hypercall s h d) a
 item_record s h d actor (Began other) answer a is may = absurd may.1.1
 item_record s h d actor (Stepped step seen) answer a is may =
-    ap (λ (o : Option Answer). record_with actor (open_told s h actor) o) is ∙ ap (λ (t : DomId). encoded_record t (open_told s h t) a) may.1.0
+    ap (λ (o : Option Answer). record_with actor (open_hypercall s h actor) o) is ∙ ap (λ (t : DomId). encoded_record t (open_hypercall s h t) a) may.1.0
 
 -- the tick that answers
-tick_record : (s : Setting) (h : History) (d : DomId) (x : Element) (a : Answer) → MayDo s h (Tick d) x → answer_in x ≡ Some a → record_in s h x ≡ encoded_record d (open_told s h d) a
+tick_record : (s : Setting) (h : History) (d : DomId) (x : Element) (a : Answer) → MayDo s h (Tick d) x → answer_in x ≡ Some a → record_in s h x ≡ encoded_record d (open_hypercall s h d) a
 tick_record s h d Busy a may is = cc
 tick_record s h d Idle a may is = cc
 tick_record s h d NoDomain a may is = cc
@@ -154,7 +154,7 @@ tick_record s h d (Did i) a may is = item_record s h d i.actor i.happened i.answ
 
 -- ticks of which the last answers
 ticks_record : (s : Setting) (h : History) (d : DomId) (n : ℕ) (before : List Element) (last : Element) (a : Answer) → LegalAfter s h (replicate n (Tick d)) (before ++ last ∷ []) → AnswerNothing before → answer_in last ≡ Some a
-    → records_of s h (before ++ last ∷ []) ≡ option_to_list (encoded_record d (open_told s h d) a)
+    → records_of s h (before ++ last ∷ []) ≡ option_to_list (encoded_record d (open_hypercall s h d) a)
 ticks_record s h d zero [] last a legal quiet is = absurd legal
 ticks_record s h d zero (x ∷ before) last a legal quiet is = absurd legal
 ticks_record s h d (suc n) [] last a legal quiet is =
@@ -168,8 +168,8 @@ ticks_record s h d (suc n) (x ∷ before) last a legal quiet is =
 first_record : (s : Setting) (h : History) (d : DomId) (request : Request) (i : Item) (a : Answer) → i.actor ≡ d → i.happened ≡ Began request → i.answer ≡ Some a
     → record_of s h i ≡ encoded_record d (hypercall_of_request (subject_at s h d) (asked request)) a
 first_record s h d request i a own began is =
-    ap (λ (o : Option Answer). record_with i.actor (item_told s h i.actor i.happened) o) is
-    ∙ ap (λ (e : ItemEvent). encoded_record i.actor (item_told s h i.actor e) a) began
+    ap (λ (o : Option Answer). record_with i.actor (item_hypercall s h i.actor i.happened) o) is
+    ∙ ap (λ (e : ItemEvent). encoded_record i.actor (item_hypercall s h i.actor e) a) began
     ∙ ap (λ (t : DomId). encoded_record t (hypercall_of_request (subject_at s h t) (asked request)) a) own
 
 -- a call, from its beginning to its answer
@@ -198,7 +198,7 @@ at n = record { 0 = n }
 
 -- the open calls are told as the history has them
 abbrev pub AreTold : Setting → History → (ℕ → Option Hypercall) → Type 0
-AreTold s h told = (n : ℕ) → told n ≡ open_told s h (at n)
+AreTold s h told = (n : ℕ) → told n ≡ open_hypercall s h (at n)
 
 -- the records of these elements came to the others, and the open calls are told as after them
 pub record Records (s : Setting) (h : History) (trace : List Element) (old new : List Record) (told : ℕ → Option Hypercall) : Type 0 where
@@ -207,7 +207,7 @@ pub record Records (s : Setting) (h : History) (trace : List Element) (old new :
 
 -- more is recorded
 pub audited_more : (s : Setting) (audit : Bool) (before trace : List Element) (kept next : PlayState) → IsAudited s audit before kept → next.audit.is_on ≡ kept.audit.is_on
-    → (kept.audit.is_on ≡ true → AreTold s (history_after [] before) (told_in kept.calls) → Records s (history_after [] before) trace kept.audit.records.items next.audit.records.items (told_in next.calls))
+    → (kept.audit.is_on ≡ true → AreTold s (history_after [] before) (recorded_in kept.calls) → Records s (history_after [] before) trace kept.audit.records.items next.audit.records.items (recorded_in next.calls))
     → IsAudited s audit (before ++ trace) next
 audited_more s audit before trace kept next was same more = record {
   is_on = same ∙ was.is_on;
@@ -216,7 +216,7 @@ audited_more s audit before trace kept next was same more = record {
       let grown_by = more (was.is_on ∙ asked_for) now.calls in
       record {
         records = grown_by.records ∙ ap (λ (l : List Record). l ++ records_of s (history_after [] before) trace) now.records ∙ sym (records_of-append s [] before trace);
-        calls = λ n. grown_by.calls n ∙ ap (λ (h : History). open_told s h (at n)) (sym (history_after-append [] before trace));
+        calls = λ n. grown_by.calls n ∙ ap (λ (h : History). open_hypercall s h (at n)) (sym (history_after-append [] before trace));
       };
 }
 
@@ -230,10 +230,10 @@ pub audited_busy : (s : Setting) (h : History) (trace : List Element) (rs : List
 audited_busy s h trace rs told is known = subst (λ (l : List Element). Records s h l rs rs told) (sym is) (record { records = sym (append-nil rs); calls = known })
 
 -- one domain's call changed
-calls_told : (s : Setting) (h g : History) (d : DomId) (old new : ℕ → Option Hypercall) → AreTold s h old → ((n : ℕ) → (d.0 ≡ n → ⊥) → new n ≡ old n) → ((t : DomId) → (d.0 ≡ t.0 → ⊥) → open_told s g t ≡ open_told s h t)
-    → new d.0 ≡ open_told s g d → AreTold s g new
+calls_told : (s : Setting) (h g : History) (d : DomId) (old new : ℕ → Option Hypercall) → AreTold s h old → ((n : ℕ) → (d.0 ≡ n → ⊥) → new n ≡ old n) → ((t : DomId) → (d.0 ≡ t.0 → ⊥) → open_hypercall s g t ≡ open_hypercall s h t)
+    → new d.0 ≡ open_hypercall s g d → AreTold s g new
 calls_told s h g d old new known kept stays here n = elim (same_or_apart d.0 n) [
-  | inl same ↦ subst (λ (m : ℕ). new m ≡ open_told s g (at m)) same here
+  | inl same ↦ subst (λ (m : ℕ). new m ≡ open_hypercall s g (at m)) same here
   | inr apart ↦ kept n apart ∙ known n ∙ sym (stays (at n) apart)
 ]
 

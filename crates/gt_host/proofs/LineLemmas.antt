@@ -32,10 +32,10 @@ use Rattle.gt_script_runs.specs.declared.labels.Labels.{Labels}
 use Rattle.gt_host.specs.declared.open_calls.OpenCalls.{OpenCalls}
 use Rattle.gt_audit.specs.declared.record.Hypercall.{Hypercall}
 use Rattle.gt_script_runs.specs.Naming.{AreNamed}
-use Rattle.gt_host.specs.OpenCalls.{call_in, told_in}
+use Rattle.gt_host.specs.OpenCalls.{call_in, recorded_in}
 use Rattle.gt_script_runs.specs.Printing.{answer_line, busy_line, idle_line}
 use Rattle.gt_script_runs.specs.Runs.{Progress, Named, DoLine, BeginLine, TickLine, ShowLine, history_of, with_events}
-use Rattle.gt_script_runs.specs.Runs.{with_line, progress_after, after_ticks, progress_begun, named_after, SaysRequest}
+use Rattle.gt_script_runs.specs.Runs.{with_line, progress_after, after_ticks, progress_begun, named_after, MakesRequest}
 use Rattle.gt_script_runs.specs.Runs.{call_events}
 use Rattle.gt_host.specs.Recording.{IsAbout}
 use Rattle.gt_script_runs.specs.Showing.{show_line}
@@ -76,7 +76,7 @@ came : (s : Setting) (audit : Bool) (p : Progress) (events : List Event) (trace 
     → KeepsProgress next (record { events = p.events ++ events; trace = p.trace ++ trace; named = named; open_steps = calls; text = text })
     → ((n : ℕ) → is_some (calls n) ≡ is_some (open_call (history_after (history_of p) trace) n))
     → next.audit.is_on ≡ kept.audit.is_on
-    → (kept.audit.is_on ≡ true → AreTold s (history_of p) (told_in kept.calls) → Records s (history_of p) trace kept.audit.records.items next.audit.records.items (told_in next.calls))
+    → (kept.audit.is_on ≡ true → AreTold s (history_of p) (recorded_in kept.calls) → Records s (history_of p) trace kept.audit.records.items next.audit.records.items (recorded_in next.calls))
     → HasPlayed s audit (record { events = p.events ++ events; trace = p.trace ++ trace; named = named; open_steps = calls; text = text }) new next
 came s audit p events trace named calls text old new kept next come happens keeps knows same recorded =
     let joined : history_after [] (p.trace ++ trace) ≡ history_after (history_of p) trace = history_after-append [] p.trace trace in
@@ -101,7 +101,7 @@ lined s audit p line domains kept come = record {
 -- `do ID CALL`
 
 pub do_answered : (s : Setting) (audit : Bool) (types : List (List ℕ)) (st : ScriptStep) (call : ScriptCall) (p : Progress) (old new : CoreState) (kept next : PlayState) (before after : List ℕ) (request : Request) (said : Option Answer) (a : Answer) (told : Option Hypercall)
-    → SaysRequest p.named st.dom call request → said ≡ Some a → HasPlayed s audit p old kept → HasCalled s (history_of p) st.dom request new said
+    → MakesRequest p.named st.dom call request → said ≡ Some a → HasPlayed s audit p old kept → HasCalled s (history_of p) st.dom request new said
     → (kept.audit.is_on ≡ true → IsAbout s old st.dom request told) → AddsRecord kept next st.dom told a
     → AreNamed next.labels (named_after p.named st.dom st a) → next.calls ≡ kept.calls → after ≡ before ++ answer_line types st.line st.dom a
     → (q : Progress) × DoLine types st call p q × HasPlayed s audit q new next × IsAppended p.text q.text before after
@@ -119,14 +119,14 @@ do_answered s audit types st call p old new kept next before after request said 
       came s audit p events made_so.trace (named_after p.named st.dom st a) p.open_steps (p.text ++ answer_line types st.line st.dom a) old new kept next come made_so.happens
           (record { names = names; calls = λ n. ap (λ (c : OpenCalls). call_in c n) same ∙ come.keeps.calls n })
           (λ n. come.knows n ∙ ap is_some (sym (left n))) adds.is_on
-          (λ on known. subst (λ (l : List Element). Records s (history_of p) l kept.audit.records.items next.audit.records.items (told_in next.calls)) (sym first)
-          (audited_call s (history_of p) st.dom request made_so.ticks made_so.comes.0 made_so.comes.1 ends.before ends.last a kept.audit.records.items next.audit.records.items (told_in next.calls) told
-          (sym first ∙ ends.order) ends.quiet ends.answers legal (about on (history_of p) come.stands) adds.records (subst (λ (c : OpenCalls). AreTold s (history_of p) (told_in c)) (sym same) known))),
+          (λ on known. subst (λ (l : List Element). Records s (history_of p) l kept.audit.records.items next.audit.records.items (recorded_in next.calls)) (sym first)
+          (audited_call s (history_of p) st.dom request made_so.ticks made_so.comes.0 made_so.comes.1 ends.before ends.last a kept.audit.records.items next.audit.records.items (recorded_in next.calls) told
+          (sym first ∙ ends.order) ends.quiet ends.answers legal (about on (history_of p) come.stands) adds.records (subst (λ (c : OpenCalls). AreTold s (history_of p) (recorded_in c)) (sym same) known))),
       (answer_line types st.line st.dom a, refl, line),
     )
 
 pub do_busy : (s : Setting) (audit : Bool) (types : List (List ℕ)) (st : ScriptStep) (call : ScriptCall) (p : Progress) (old new : CoreState) (kept : PlayState) (before after : List ℕ) (request : Request) (said : Option Answer)
-    → SaysRequest p.named st.dom call request → said ≡ None → HasPlayed s audit p old kept → HasCalled s (history_of p) st.dom request new said → after ≡ before ++ busy_line st.line st.dom
+    → MakesRequest p.named st.dom call request → said ≡ None → HasPlayed s audit p old kept → HasCalled s (history_of p) st.dom request new said → after ≡ before ++ busy_line st.line st.dom
     → (q : Progress) × DoLine types st call p q × HasPlayed s audit q new kept × IsAppended p.text q.text before after
 do_busy s audit types st call p old new kept before after request said asks is come made line =
     let made_so = subst (λ (o : Option Answer). HasCalled s (history_of p) st.dom request new o) is made in
@@ -136,7 +136,7 @@ do_busy s audit types st call p old new kept before after request said asks is c
       came s audit p events made_so.trace p.named p.open_steps (p.text ++ busy_line st.line st.dom) old new kept kept come made_so.happens
           (record { names = come.keeps.names; calls = come.keeps.calls })
           (λ n. come.knows n ∙ ap (λ (l : List Element). is_some (open_call (history_after (history_of p) l) n)) (sym made_so.comes)) refl
-          (λ on known. audited_busy s (history_of p) made_so.trace kept.audit.records.items (told_in kept.calls) made_so.comes known),
+          (λ on known. audited_busy s (history_of p) made_so.trace kept.audit.records.items (recorded_in kept.calls) made_so.comes known),
       (busy_line st.line st.dom, refl, line),
     )
 
@@ -144,12 +144,12 @@ do_busy s audit types st call p old new kept before after request said asks is c
 
 -- one event of the domain
 begun_once : (s : Setting) (audit : Bool) (types : List (List ℕ)) (st : ScriptStep) (call : ScriptCall) (p : Progress) (request : Request) (x : Element) (named : List Named) (calls : ℕ → Option ScriptStep) (text : List ℕ) (old new : CoreState) (kept next : PlayState) (before after : List ℕ)
-    → SaysRequest p.named st.dom call request → HasPlayed s audit p old kept → MayDo s (history_of p) (Begin st.dom request) x × CoreStands s (grown (history_of p) x) new
+    → MakesRequest p.named st.dom call request → HasPlayed s audit p old kept → MayDo s (history_of p) (Begin st.dom request) x × CoreStands s (grown (history_of p) x) new
     → progress_begun types (with_events p (Begin st.dom request ∷ []) (x ∷ [])) st x
     ≡ record { events = p.events ++ Begin st.dom request ∷ []; trace = p.trace ++ x ∷ []; named = named; open_steps = calls; text = p.text ++ text }
     → AreNamed next.labels named → ((n : ℕ) → call_in next.calls n ≡ calls n) → ((n : ℕ) → (st.dom.0 ≡ n → ⊥) → calls n ≡ p.open_steps n) → is_some (calls st.dom.0) ≡ is_some (open_call (grown (history_of p) x) st.dom.0)
     → next.audit.is_on ≡ kept.audit.is_on
-    → (kept.audit.is_on ≡ true → AreTold s (history_of p) (told_in kept.calls) → Records s (history_of p) (x ∷ []) kept.audit.records.items next.audit.records.items (told_in next.calls))
+    → (kept.audit.is_on ≡ true → AreTold s (history_of p) (recorded_in kept.calls) → Records s (history_of p) (x ∷ []) kept.audit.records.items next.audit.records.items (recorded_in next.calls))
     → after ≡ before ++ text → (q : Progress) × BeginLine types st call p q × HasPlayed s audit q new next × IsAppended p.text q.text before after
 begun_once s audit types st call p request x named calls text old new kept next before after asks come told is names known others here on_same recorded line =
     let happens = happens_one s (history_of p) (Begin st.dom request) x new told in (
@@ -162,7 +162,7 @@ begun_once s audit types st call p request x named calls text old new kept next 
     )
 
 pub begin_answered : (s : Setting) (audit : Bool) (types : List (List ℕ)) (st : ScriptStep) (call : ScriptCall) (p : Progress) (old new : CoreState) (kept next : PlayState) (before after : List ℕ) (request : Request) (said : Begun) (a : Answer) (hyper : Option Hypercall)
-    → SaysRequest p.named st.dom call request → said ≡ begun.Done a → HasPlayed s audit p old kept → (kept.audit.is_on ≡ true → IsAbout s old st.dom request hyper) → AddsRecord kept next st.dom hyper a → MayDo s (history_of p) (Begin st.dom request) (begun_element st.dom request said) × CoreStands s (grown (history_of p) (begun_element st.dom request said)) new
+    → MakesRequest p.named st.dom call request → said ≡ begun.Done a → HasPlayed s audit p old kept → (kept.audit.is_on ≡ true → IsAbout s old st.dom request hyper) → AddsRecord kept next st.dom hyper a → MayDo s (history_of p) (Begin st.dom request) (begun_element st.dom request said) × CoreStands s (grown (history_of p) (begun_element st.dom request said)) new
     → AreNamed next.labels (named_after p.named st.dom st a) → next.calls ≡ kept.calls → after ≡ before ++ answer_line types st.line st.dom a
     → (q : Progress) × BeginLine types st call p q × HasPlayed s audit q new next × IsAppended p.text q.text before after
 begin_answered s audit types st call p old new kept next before after request said a hyper asks is come about adds told names same line =
@@ -172,20 +172,20 @@ begin_answered s audit types st call p old new kept next before after request sa
     let now : open_call (i ∷ history_of p) st.dom.0 ≡ None = event_closes s (history_of p) (Begin st.dom request) (Did i) st.dom a refl told_so.0 refl in
     begun_once s audit types st call p request (Did i) (named_after p.named st.dom st a) p.open_steps (answer_line types st.line st.dom a) old new kept next before after asks come told_so refl names
     (λ n. ap (λ (c : OpenCalls). call_in c n) same ∙ come.keeps.calls n) (λ n apart. refl) (come.knows st.dom.0 ∙ ap is_some (was ∙ sym now)) adds.is_on
-    (λ on known. audited_call s (history_of p) st.dom request 0 i [] [] (Did i) a kept.audit.records.items next.audit.records.items (told_in next.calls) hyper refl tt refl (told_so.0, tt)
-    (about on (history_of p) come.stands) adds.records (subst (λ (c : OpenCalls). AreTold s (history_of p) (told_in c)) (sym same) known))
+    (λ on known. audited_call s (history_of p) st.dom request 0 i [] [] (Did i) a kept.audit.records.items next.audit.records.items (recorded_in next.calls) hyper refl tt refl (told_so.0, tt)
+    (about on (history_of p) come.stands) adds.records (subst (λ (c : OpenCalls). AreTold s (history_of p) (recorded_in c)) (sym same) known))
     line
 
 pub begin_busy : (s : Setting) (audit : Bool) (types : List (List ℕ)) (st : ScriptStep) (call : ScriptCall) (p : Progress) (old new : CoreState) (kept : PlayState) (before after : List ℕ) (request : Request) (said : Begun)
-    → SaysRequest p.named st.dom call request → said ≡ begun.Busy → HasPlayed s audit p old kept → MayDo s (history_of p) (Begin st.dom request) (begun_element st.dom request said) × CoreStands s (grown (history_of p) (begun_element st.dom request said)) new
+    → MakesRequest p.named st.dom call request → said ≡ begun.Busy → HasPlayed s audit p old kept → MayDo s (history_of p) (Begin st.dom request) (begun_element st.dom request said) × CoreStands s (grown (history_of p) (begun_element st.dom request said)) new
     → after ≡ before ++ busy_line st.line st.dom → (q : Progress) × BeginLine types st call p q × HasPlayed s audit q new kept × IsAppended p.text q.text before after
 begin_busy s audit types st call p old new kept before after request said asks is come told line =
     let told_so = subst (λ (b : Begun). MayDo s (history_of p) (Begin st.dom request) (begun_element st.dom request b) × CoreStands s (grown (history_of p) (begun_element st.dom request b)) new) is told in
     begun_once s audit types st call p request Busy p.named p.open_steps (busy_line st.line st.dom) old new kept kept before after asks come told_so refl come.keeps.names come.keeps.calls (λ n apart. refl) (come.knows st.dom.0) refl
-    (λ on known. audited_busy s (history_of p) (Busy ∷ []) kept.audit.records.items (told_in kept.calls) refl known) line
+    (λ on known. audited_busy s (history_of p) (Busy ∷ []) kept.audit.records.items (recorded_in kept.calls) refl known) line
 
 begun_open : (s : Setting) (audit : Bool) (types : List (List ℕ)) (st : ScriptStep) (call : ScriptCall) (p : Progress) (old new : CoreState) (kept next : PlayState) (before after : List ℕ) (request : Request) (hyper : Option Hypercall)
-    → SaysRequest p.named st.dom call request → HasPlayed s audit p old kept → (kept.audit.is_on ≡ true → IsAbout s old st.dom request hyper) → next.audit ≡ kept.audit → ((n : ℕ) → told_in next.calls n ≡ cond (n == st.dom.0) hyper (told_in kept.calls n))
+    → MakesRequest p.named st.dom call request → HasPlayed s audit p old kept → (kept.audit.is_on ≡ true → IsAbout s old st.dom request hyper) → next.audit ≡ kept.audit → ((n : ℕ) → recorded_in next.calls n ≡ cond (n == st.dom.0) hyper (recorded_in kept.calls n))
     → MayDo s (history_of p) (Begin st.dom request) (Did (record { actor = st.dom; happened = Began request; answer = None }))
     × CoreStands s (record { actor = st.dom; happened = Began request; answer = None } ∷ history_of p) new
     → next.labels ≡ kept.labels → ((n : ℕ) → call_in next.calls n ≡ cond (n == st.dom.0) (Some st) (call_in kept.calls n)) → after ≡ before
@@ -199,13 +199,13 @@ begun_open s audit types st call p old new kept next before after request hyper 
     (subst (λ (l : Labels). AreNamed l p.named) (sym same) come.keeps.names)
     (λ n. known n ∙ ap (λ (o : Option ScriptStep). cond (n == st.dom.0) (Some st) o) (come.keeps.calls n))
     (pick_other p.open_steps (Some st) st.dom.0) (ap is_some (pick_own p.open_steps (Some st) st.dom.0) ∙ sym (ap is_some now)) (ap (λ (a : AuditRecords). a.is_on) was_so)
-    (λ on knew. subst (λ (a : AuditRecords). Records s (history_of p) (Did i ∷ []) kept.audit.records.items a.records.items (told_in next.calls)) (sym was_so)
-    (audited_begun s (history_of p) st.dom request kept.audit.records.items (told_in kept.calls) (told_in next.calls) hyper told.0 (about on (history_of p) come.stands) picked knew))
+    (λ on knew. subst (λ (a : AuditRecords). Records s (history_of p) (Did i ∷ []) kept.audit.records.items a.records.items (recorded_in next.calls)) (sym was_so)
+    (audited_begun s (history_of p) st.dom request kept.audit.records.items (recorded_in kept.calls) (recorded_in next.calls) hyper told.0 (about on (history_of p) come.stands) picked knew))
     (line ∙ sym (append-nil before))
 
 pub begin_open : (s : Setting) (audit : Bool) (types : List (List ℕ)) (st : ScriptStep) (call : ScriptCall) (p : Progress) (old new : CoreState) (kept next : PlayState) (before after : List ℕ) (request : Request) (said : Begun) (hyper : Option Hypercall)
-    → SaysRequest p.named st.dom call request → domain_of s.domains st.dom ≢ None → (said ≡ begun.Open) ⊎ (said ≡ begun.NoDomain) → HasPlayed s audit p old kept
-    → (kept.audit.is_on ≡ true → IsAbout s old st.dom request hyper) → next.audit ≡ kept.audit → ((n : ℕ) → told_in next.calls n ≡ cond (n == st.dom.0) hyper (told_in kept.calls n))
+    → MakesRequest p.named st.dom call request → domain_of s.domains st.dom ≢ None → (said ≡ begun.Open) ⊎ (said ≡ begun.NoDomain) → HasPlayed s audit p old kept
+    → (kept.audit.is_on ≡ true → IsAbout s old st.dom request hyper) → next.audit ≡ kept.audit → ((n : ℕ) → recorded_in next.calls n ≡ cond (n == st.dom.0) hyper (recorded_in kept.calls n))
     → MayDo s (history_of p) (Begin st.dom request) (begun_element st.dom request said) × CoreStands s (grown (history_of p) (begun_element st.dom request said)) new
     → next.labels ≡ kept.labels → ((n : ℕ) → call_in next.calls n ≡ cond (n == st.dom.0) (Some st) (call_in kept.calls n)) → after ≡ before
     → (q : Progress) × BeginLine types st call p q × HasPlayed s audit q new next × IsAppended p.text q.text before after
@@ -219,7 +219,7 @@ begin_open s audit types st call p old new kept next before after request said h
 -- `tick ID N`
 
 pub ticks_answered : (s : Setting) (audit : Bool) (types : List (List ℕ)) (st : ScriptStep) (most : ℕ) (begun : ScriptStep) (p : Progress) (old new : CoreState) (kept next : PlayState) (before after : List ℕ) (said : Option Answer) (a : Answer) (hyper : Option Hypercall)
-    → hyper ≡ told_in kept.calls st.dom.0 → AddsRecord kept next st.dom hyper a → ((n : ℕ) → told_in next.calls n ≡ cond (n == st.dom.0) None (told_in kept.calls n))
+    → hyper ≡ recorded_in kept.calls st.dom.0 → AddsRecord kept next st.dom hyper a → ((n : ℕ) → recorded_in next.calls n ≡ cond (n == st.dom.0) None (recorded_in kept.calls n))
     → call_in kept.calls st.dom.0 ≡ Some begun → said ≡ Some a → HasPlayed s audit p old kept → TicksTo s (history_of p) st.dom most new said
     → AreNamed next.labels (named_after p.named st.dom begun a) → ((n : ℕ) → call_in next.calls n ≡ cond (n == st.dom.0) None (call_in kept.calls n)) → after ≡ before ++ answer_line types begun.line st.dom a
     → (q : Progress) × TickLine types st most (p.open_steps st.dom.0) p q × HasPlayed s audit q new next × IsAppended p.text q.text before after
@@ -239,7 +239,7 @@ ticks_answered s audit types st most begun p old new kept next before after said
           (record { names = names; calls = λ n. known n ∙ ap (λ (o : Option ScriptStep). cond (n == st.dom.0) None o) (come.keeps.calls n) })
           (knows_next p.open_steps calls (history_of p) (history_after (history_of p) made.trace) st.dom.0 come.knows (pick_other p.open_steps None st.dom.0)
           (λ n apart. events_other s (history_of p) events made.trace st.dom n own made.happens.legal apart) (ap is_some (pick_own p.open_steps None st.dom.0) ∙ sym (ap is_some now))) adds.is_on
-          (λ on knew. audited_ticks s (history_of p) st.dom made.ticks made.trace ends.before ends.last a kept.audit.records.items next.audit.records.items (told_in kept.calls) (told_in next.calls) hyper
+          (λ on knew. audited_ticks s (history_of p) st.dom made.ticks made.trace ends.before ends.last a kept.audit.records.items next.audit.records.items (recorded_in kept.calls) (recorded_in next.calls) hyper
           ends.order ends.quiet ends.answers made.happens.legal about adds.records picked knew),
       (answer_line types begun.line st.dom a, refl, line),
     )
@@ -261,7 +261,7 @@ ticks_open s audit types st most begun p old new kept before after said configur
       came s audit p events made.trace p.named p.open_steps p.text old new kept kept come made.happens (record { names = come.keeps.names; calls = come.keeps.calls })
           (knows_next p.open_steps p.open_steps (history_of p) (history_after (history_of p) made.trace) st.dom.0 come.knows (λ n apart. refl)
           (λ n apart. events_other s (history_of p) events made.trace st.dom n own made.happens.legal apart) (ap is_some has ∙ sym (ap is_some stays.0.is))) refl
-          (λ on knew. audited_wait s (history_of p) st.dom made.ticks made.trace kept.audit.records.items (told_in kept.calls) made.comes.0 made.happens.legal knew),
+          (λ on knew. audited_wait s (history_of p) st.dom made.ticks made.trace kept.audit.records.items (recorded_in kept.calls) made.comes.0 made.happens.legal knew),
       ([], sym (append-nil p.text), line ∙ sym (append-nil before)),
     )
 

@@ -12,7 +12,7 @@ use Rattle.gt_script_lines.specs.declared.calls.ScriptCall.{ScriptCall}
 use Rattle.gt_script.specs.declared.actions.ScriptAction.{ScriptAction}
 use Rattle.gt_script.specs.declared.actions.ScriptAction.TheVariants as actions
 use Rattle.gt_script.specs.Contents.{Contents, type_names}
-use Rattle.gt_script.specs.Script.{TellsScript, Wrong}
+use Rattle.gt_script.specs.Script.{ReadsAsScript, Wrong}
 use Rattle.gt_script.specs.declared.script.ScriptStep.{ScriptStep}
 use Rattle.gt_calls.specs.declared.request.Request.{Request}
 use Rattle.gt_core.specs.declared.trace.Answer.{Answer}
@@ -25,7 +25,7 @@ use Rattle.gt_core.specs.History.{History, Setting}
 use Rattle.gt_core.specs.Legal.{Legal, LegalAfter, grown, history_after}
 use Rattle.gt_core.specs.Shown.{shown_at}
 use Rattle.gt_core.specs.declared.core_state.EntryView.{EntryView}
-use Rattle.gt_core.specs.Alike.{told_part, SameEvent, SameElement, IsOfKnown, IsRun, AreAlike}
+use Rattle.gt_core.specs.Alike.{keyless_answer, SameEvent, SameElement, IsOfKnown, IsRun, AreAlike}
 use Rattle.gt_text.specs.Streams.{AppendsBeginning}
 use Rattle.gt_text.specs.Laws.{begins_longer}
 use Rattle.gt_script_runs.specs.Printing.{answer_text, answer_line, call_text, busy_line, idle_line}
@@ -133,7 +133,7 @@ with-call t p q dom s w =
 line-same : (types : List (List ℕ)) (line : ℕ) (dom : DomId) (a b : Answer) → answer_text types a ≡ answer_text types b → answer_line types line dom a ≡ answer_line types line dom b
 line-same types line dom a b e = ap (λ (l : List ℕ). call_text line dom ++ l ++ codes "\n") e
 
-with-answer : (t : Setting) (types : List (List ℕ)) (p q : Progress) (dom : DomId) (s : ScriptStep) (a b : Answer) → told_part a ≡ told_part b → AnswerGiven (history_of p) dom.0 a → AnswerGiven (history_of q) dom.0 b → Together t p q
+with-answer : (t : Setting) (types : List (List ℕ)) (p q : Progress) (dom : DomId) (s : ScriptStep) (a b : Answer) → keyless_answer a ≡ keyless_answer b → AnswerGiven (history_of p) dom.0 a → AnswerGiven (history_of q) dom.0 b → Together t p q
     → Together t (answered types p dom s a) (answered types q dom s b)
 with-answer t types p q dom s a b e one other w =
     record {
@@ -236,12 +236,12 @@ begin-legal t types p s elements.Busy legal = legal
 begin-legal t types p s elements.Idle legal = legal
 begin-legal t types p s elements.NoDomain legal = legal
 
-item-together : (t : Setting) (types : List (List ℕ)) (s : ScriptStep) (p q : Progress) (a b : Option Answer) → option_map told_part a ≡ option_map told_part b → ((x : Answer) → a ≡ Some x → AnswerGiven (history_of p) s.dom.0 x) → ((x : Answer) → b ≡ Some x → AnswerGiven (history_of q) s.dom.0 x)
+item-together : (t : Setting) (types : List (List ℕ)) (s : ScriptStep) (p q : Progress) (a b : Option Answer) → option_map keyless_answer a ≡ option_map keyless_answer b → ((x : Answer) → a ≡ Some x → AnswerGiven (history_of p) s.dom.0 x) → ((x : Answer) → b ≡ Some x → AnswerGiven (history_of q) s.dom.0 x)
     → Together t p q → Together t (after_item types p s a) (after_item types q s b)
 item-together t types s p q None None e one other w = with-call t p q s.dom (Some s) w
-item-together t types s p q None (Some b) e one other w = absurd (none-some (told_part b) e)
-item-together t types s p q (Some a) None e one other w = absurd (none-some (told_part a) (sym e))
-item-together t types s p q (Some a) (Some b) e one other w = with-answer t types p q s.dom s a b (same_Some (told_part a) (told_part b) e) (one a refl) (other b refl) w
+item-together t types s p q None (Some b) e one other w = absurd (none-some (keyless_answer b) e)
+item-together t types s p q (Some a) None e one other w = absurd (none-some (keyless_answer a) (sym e))
+item-together t types s p q (Some a) (Some b) e one other w = with-answer t types p q s.dom s a b (same_Some (keyless_answer a) (keyless_answer b) e) (one a refl) (other b refl) w
 
 begun-together : (t : Setting) (types : List (List ℕ)) (s : ScriptStep) (p q : Progress) (x y : Element) → SameElement x y → ((a : Answer) → answer_in x ≡ Some a → AnswerGiven (history_of p) s.dom.0 a) → ((a : Answer) → answer_in y ≡ Some a → AnswerGiven (history_of q) s.dom.0 a)
     → Together t p q → Together t (progress_begun types p s x) (progress_begun types q s y)
@@ -486,12 +486,12 @@ begins-every law shows tells c audit old new (inr (p, run, all)) q whole =
 -- bytes that are played twice to the end
 
 abbrev TellsOnce : Type 0
-TellsOnce = (bytes : List ℕ) (one other : Result Contents Wrong) → TellsScript bytes one → TellsScript bytes other → one ≡ other
+TellsOnce = (bytes : List ℕ) (one other : Result Contents Wrong) → ReadsAsScript bytes one → ReadsAsScript bytes other → one ≡ other
 
 same-contents : (c e : Contents) → ◌≡◌ {A = Result Contents Wrong} (Ok c) (Ok e) → c ≡ e
 same-contents c e is = cc
 
-pub played-once : StaysAlike → ShowsAlike → HasOneSubject → TellsOnce → (input : List ℕ) (audit : Bool) (old one other : List ℕ) → Played (TellsScript input) audit (Some old) (Some one) (Ok tt) → Played (TellsScript input) audit (Some old) (Some other) (Ok tt) → one ≡ other
+pub played-once : StaysAlike → ShowsAlike → HasOneSubject → TellsOnce → (input : List ℕ) (audit : Bool) (old one other : List ℕ) → Played (ReadsAsScript input) audit (Some old) (Some one) (Ok tt) → Played (ReadsAsScript input) audit (Some old) (Some other) (Ok tt) → one ≡ other
 played-once law shows tells once input audit old one other (c, said, (p, run, went)) (e, says, (q, way, gone)) =
     let same = same-contents e c (once input (Ok e) (Ok c) says said) in
     let way_of = subst (λ (z : Contents). IsLegalRunOf z z.steps q) same way in

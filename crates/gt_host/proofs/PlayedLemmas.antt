@@ -3,7 +3,7 @@ use Rattle.std.proofs.Common.{◌≡◌, ℕ, Bool, List, Option, Result, Ok, Er
 use Rattle.std.specs.Io.KnownBytes.{Keeps}
 use Rattle.gt_script.specs.Contents.{Contents}
 use Rattle.gt_script.specs.Outcomes.{AnswersScript}
-use Rattle.gt_script.specs.Script.{TellsScript, Wrong}
+use Rattle.gt_script.specs.Script.{ReadsAsScript, Wrong}
 use Rattle.gt_script.specs.declared.faults.ScriptError.{ScriptError}
 use Rattle.gt_script.specs.declared.faults.ScriptError.TheVariants as errors
 use Rattle.gt_text.specs.declared.fault.ReadFault.{ReadFault}
@@ -44,6 +44,6 @@ unread : (Told : Result Contents Wrong → Type 0) (audit : Bool) (old : Option 
 unread Told audit old reads.Memory = inl (keeps_same old)
 unread Told audit old reads.Read = keeps_same old
 
-pub played_unread : (audit : Bool) (known old : Option (List ℕ)) (error : ReadFault) (fault : PlayFault) → fault ≡ read_fault error → OfInput known (λ input. Played (TellsScript input) audit old old (Err fault))
+pub played_unread : (audit : Bool) (known old : Option (List ℕ)) (error : ReadFault) (fault : PlayFault) → fault ≡ read_fault error → OfInput known (λ input. Played (ReadsAsScript input) audit old old (Err fault))
 played_unread audit known old error fault is =
-    of_any_input known (λ (input : List ℕ). Played (TellsScript input) audit old old (Err fault)) (λ (input : List ℕ). subst (λ (f : PlayFault). Played (TellsScript input) audit old old (Err f)) (sym is) (unread (TellsScript input) audit old error))
+    of_any_input known (λ (input : List ℕ). Played (ReadsAsScript input) audit old old (Err fault)) (λ (input : List ℕ). subst (λ (f : PlayFault). Played (ReadsAsScript input) audit old old (Err f)) (sym is) (unread (ReadsAsScript input) audit old error))

@@ -27,10 +27,10 @@ use Rattle.gt_core.specs.declared.trace.Element.TheVariants as elements
 use Rattle.gt_core.specs.declared.trace.ItemEvent.{ItemEvent}
 use Rattle.gt_core.specs.declared.trace.ItemEvent.TheVariants.{Began, Stepped}
 use Rattle.gt_core.specs.declared.trace.Item.{Item}
-use Rattle.gt_core.specs.Alike.{bare_handle, bare_request, bare_happened, told_part, told_item, told_items, ToldItem}
+use Rattle.gt_core.specs.Alike.{bare_handle, bare_request, bare_happened, keyless_answer, keyless_item, keyless_items, KeylessItem}
 use Rattle.gt_core.specs.Alike.{IsKnown, AsksKnown, HappensKnown, IsRun, AreAlike}
-use Rattle.gt_script_runs.specs.Auditing.{hypercall_of_request, audited_reply, record_with, before_begun, before_call, underway_told}
-use Rattle.gt_script_runs.specs.Auditing.{item_told, record_of, record_in, records_of, asked_lines, audit_text}
+use Rattle.gt_script_runs.specs.Auditing.{hypercall_of_request, audited_reply, record_with, before_begun, before_call, underway_hypercall}
+use Rattle.gt_script_runs.specs.Auditing.{item_hypercall, record_of, record_in, records_of, asked_lines, audit_text}
 
 -- what the law of gt_core says of handles
 abbrev pub HasOneSubject : Type 0
@@ -89,25 +89,25 @@ call-same law s g h dom q r alike e j k =
 -- what alike histories have in common
 record Newest (s : Setting) (i j : Item) (g h : History) : Type 0 where
   pub alike : AreAlike s g h
-  pub item : told_item i ≡ told_item j
+  pub item : keyless_item i ≡ keyless_item j
   pub known : HappensKnown g i
   pub asked : HappensKnown h j
 
-same-head : (t u : ToldItem) (ts us : List ToldItem) → t ∷ ts ≡ u ∷ us → (t ≡ u) × (ts ≡ us)
+same-head : (t u : KeylessItem) (ts us : List KeylessItem) → t ∷ ts ≡ u ∷ us → (t ≡ u) × (ts ≡ us)
 same-head t u ts us e = (cc, cc)
 
 newest : (s : Setting) (i j : Item) (g h : History) → AreAlike s (i ∷ g) (j ∷ h) → Newest s i j g h
-unfolding IsRun told_items
+unfolding IsRun keyless_items
 newest s i j g h a =
-    let parts = same-head (told_item i) (told_item j) (told_items g) (told_items h) a.same in
+    let parts = same-head (keyless_item i) (keyless_item j) (keyless_items g) (keyless_items h) a.same in
     record { alike = record { first = a.first.2; second = a.second.2; same = parts.1 }; item = parts.0; known = a.first.1; asked = a.second.1 }
 
-none-newer : (i : Item) (g : History) → told_items (i ∷ g) ≡ told_items [] → ⊥
-unfolding told_items
+none-newer : (i : Item) (g : History) → keyless_items (i ∷ g) ≡ keyless_items [] → ⊥
+unfolding keyless_items
 none-newer i g e = cc
 
-none-older : (j : Item) (h : History) → told_items [] ≡ told_items (j ∷ h) → ⊥
-unfolding told_items
+none-older : (j : Item) (h : History) → keyless_items [] ≡ keyless_items (j ∷ h) → ⊥
+unfolding keyless_items
 none-older j h e = cc
 
 -- open calls
@@ -134,18 +134,18 @@ with-alike s d g h b e (Stepped step seen) (Stepped other saw) None (Some o) sam
 with-alike s d g h b e (Stepped step seen) (Stepped other saw) (Some c) None same alike j k w = absurd w
 with-alike s d g h b e (Stepped step seen) (Stepped other saw) (Some c) (Some o) same alike j k w = w
 
-after-alike : (s : Setting) (d : DomId) (g h b e : History) (i j : Item) (c o : Option Underway) → told_item i ≡ told_item j → i.actor ≡ d → j.actor ≡ d → AreAlike s g h → HappensKnown g i → HappensKnown h j → OpensAlike s d b e c o
+after-alike : (s : Setting) (d : DomId) (g h b e : History) (i j : Item) (c o : Option Underway) → keyless_item i ≡ keyless_item j → i.actor ≡ d → j.actor ≡ d → AreAlike s g h → HappensKnown g i → HappensKnown h j → OpensAlike s d b e c o
     → OpensAlike s d (before_begun i.happened g b) (before_begun j.happened h e) (underway_after i c) (underway_after j o)
-after-alike s d g h b e i j c o same own his alike k l w = by i.answer j.answer (ap (λ (t : ToldItem). t.answer) same)
+after-alike s d g h b e i j c o same own his alike k l w = by i.answer j.answer (ap (λ (t : KeylessItem). t.answer) same)
   where
-    by : (a r : Option Answer) → option_map told_part a ≡ option_map told_part r
+    by : (a r : Option Answer) → option_map keyless_answer a ≡ option_map keyless_answer r
         → OpensAlike s d (before_begun i.happened g b) (before_begun j.happened h e) (underway_after (record i { answer = a }) c) (underway_after (record j { answer = r }) o)
     by None None is =
-        with-alike s d g h b e i.happened j.happened c o (ap (λ (t : ToldItem). t.happened) same) alike
+        with-alike s d g h b e i.happened j.happened c o (ap (λ (t : KeylessItem). t.happened) same) alike
         (subst (λ (z : DomId). HappensKnown g (record { actor = z; happened = i.happened; answer = None })) own k)
         (subst (λ (z : DomId). HappensKnown h (record { actor = z; happened = j.happened; answer = None })) his l) w
-    by None (Some r) is = absurd (none-some (told_part r) is)
-    by (Some a) None is = absurd (none-some (told_part a) (sym is))
+    by None (Some r) is = absurd (none-some (keyless_answer r) is)
+    by (Some a) None is = absurd (none-some (keyless_answer a) (sym is))
     by (Some a) (Some r) is = tt
 
 dom-same : (a b : DomId) → a.0 ≡ b.0 → a ≡ b
@@ -158,7 +158,7 @@ opens-alike s d [] (j ∷ h) alike = absurd (none-older j h alike.same)
 opens-alike s d (i ∷ g) [] alike = absurd (none-newer i g alike.same)
 opens-alike s d (i ∷ g) (j ∷ h) alike =
     let n = newest s i j g h alike in
-    by (i.actor.0 == d.0) (j.actor.0 == d.0) refl refl (ap (λ (t : ToldItem). t.actor.0 == d.0) n.item) n (opens-alike s d g h n.alike)
+    by (i.actor.0 == d.0) (j.actor.0 == d.0) refl refl (ap (λ (t : KeylessItem). t.actor.0 == d.0) n.item) n (opens-alike s d g h n.alike)
   where
     by : (b e : Bool) → (i.actor.0 == d.0) ≡ b → (j.actor.0 == d.0) ≡ e → b ≡ e → Newest s i j g h → OpensAlike s d (before_call g d.0) (before_call h d.0) (open_call g d.0) (open_call h d.0)
         → OpensAlike s d (cond b (before_begun i.happened g (before_call g d.0)) (before_call g d.0)) (cond e (before_begun j.happened h (before_call h d.0)) (before_call h d.0))
@@ -169,7 +169,7 @@ opens-alike s d (i ∷ g) (j ∷ h) alike =
     by false true own his is n rest = absurd (cc)
     by false false own his is n rest = rest
 
-under-same : HasOneSubject → (s : Setting) (d : DomId) (g h : History) (c o : Option Underway) → OpensAlike s d g h c o → underway_told s d g c ≡ underway_told s d h o
+under-same : HasOneSubject → (s : Setting) (d : DomId) (g h : History) (c o : Option Underway) → OpensAlike s d g h c o → underway_hypercall s d g c ≡ underway_hypercall s d h o
 under-same law s d g h None None w = refl
 under-same law s d g h None (Some o) w = absurd w
 under-same law s d g h (Some c) None w = absurd w
@@ -179,7 +179,7 @@ under-same law s d g h (Some c) (Some o) (q, r, is, so, e, alike, j, k) =
 -- records
 
 item-same : HasOneSubject → (s : Setting) (g h : History) (d : DomId) (x y : ItemEvent) → AreAlike s g h → bare_happened x ≡ bare_happened y
-    → HappensKnown g (record { actor = d; happened = x; answer = None }) → HappensKnown h (record { actor = d; happened = y; answer = None }) → item_told s g d x ≡ item_told s h d y
+    → HappensKnown g (record { actor = d; happened = x; answer = None }) → HappensKnown h (record { actor = d; happened = y; answer = None }) → item_hypercall s g d x ≡ item_hypercall s h d y
 item-same law s g h d (Began q) (Began r) alike e j k = call-same law s g h d q r alike (began-same q r e) j k
 item-same law s g h d (Began q) (Stepped step seen) alike e j k = absurd (cc)
 item-same law s g h d (Stepped step seen) (Began r) alike e j k = absurd (cc)
@@ -190,27 +190,27 @@ abbrev reply_from : Answer ⊎ List ℕ → Reply
 reply_from (inl answer) = audited_reply answer
 reply_from (inr bytes) = replies.Done
 
-reply-told : (a : Answer) → audited_reply a ≡ reply_from (told_part a)
+reply-told : (a : Answer) → audited_reply a ≡ reply_from (keyless_answer a)
 reply-told (answers.Mapped handle) = refl
 reply-told (answers.Bytes b) = refl
 reply-told a = refl
 
-record-same : (d : DomId) (o : Option Hypercall) (a b : Option Answer) → option_map told_part a ≡ option_map told_part b → record_with d o a ≡ record_with d o b
+record-same : (d : DomId) (o : Option Hypercall) (a b : Option Answer) → option_map keyless_answer a ≡ option_map keyless_answer b → record_with d o a ≡ record_with d o b
 record-same d o None None e = refl
-record-same d o None (Some b) e = absurd (none-some (told_part b) e)
-record-same d o (Some a) None e = absurd (none-some (told_part a) (sym e))
+record-same d o None (Some b) e = absurd (none-some (keyless_answer b) e)
+record-same d o (Some a) None e = absurd (none-some (keyless_answer a) (sym e))
 record-same d None (Some a) (Some b) e = refl
 record-same d (Some call) (Some a) (Some b) e =
-    ap (λ (r : Reply). Some (record { dom = d; call = call; reply = r })) (reply-told a ∙ ap reply_from (same_Some (told_part a) (told_part b) e) ∙ sym (reply-told b))
+    ap (λ (r : Reply). Some (record { dom = d; call = call; reply = r })) (reply-told a ∙ ap reply_from (same_Some (keyless_answer a) (keyless_answer b) e) ∙ sym (reply-told b))
 
 newest-record : HasOneSubject → (s : Setting) (i j : Item) (g h : History) → Newest s i j g h → record_of s g i ≡ record_of s h j
 newest-record law s i j g h n =
-    let own : i.actor ≡ j.actor = ap (λ (t : ToldItem). t.actor) n.item in
+    let own : i.actor ≡ j.actor = ap (λ (t : KeylessItem). t.actor) n.item in
     ap (λ (o : Option Hypercall). record_with i.actor o i.answer)
-    (item-same law s g h i.actor i.happened j.happened n.alike (ap (λ (t : ToldItem). t.happened) n.item) n.known
+    (item-same law s g h i.actor i.happened j.happened n.alike (ap (λ (t : KeylessItem). t.happened) n.item) n.known
     (subst (λ (z : DomId). HappensKnown h (record { actor = z; happened = j.happened; answer = None })) (sym own) n.asked))
-    ∙ record-same i.actor (item_told s h i.actor j.happened) i.answer j.answer (ap (λ (t : ToldItem). t.answer) n.item)
-    ∙ ap (λ (z : DomId). record_with z (item_told s h z j.happened) j.answer) own
+    ∙ record-same i.actor (item_hypercall s h i.actor j.happened) i.answer j.answer (ap (λ (t : KeylessItem). t.answer) n.item)
+    ∙ ap (λ (z : DomId). record_with z (item_hypercall s h z j.happened) j.answer) own
 
 -- the records of a history, in the order of the answers
 unfoldable records_at : Setting → History → List Record

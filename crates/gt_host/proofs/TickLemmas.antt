@@ -10,7 +10,7 @@ use Rattle.gt_core.specs.declared.trace.Event.{Event}
 use Rattle.gt_core.specs.declared.trace.Event.TheVariants.{Tick}
 use Rattle.gt_core.specs.History.{History, Setting}
 use Rattle.gt_core.specs.Legal.{MayDo, LegalAfter, actor_of, grown, history_after}
-use Rattle.gt_core.specs.Alike.{told_part, SameEvent, SameElement, IsOfKnown, AreAlike}
+use Rattle.gt_core.specs.Alike.{keyless_answer, SameEvent, SameElement, IsOfKnown, AreAlike}
 use Rattle.gt_script_runs.specs.Runs.{answer_in, AnswerNothing}
 use Rattle.gt_script_runs.proofs.AlikeLemmas.{answers-same, AnswerGiven, done-given}
 
@@ -29,7 +29,7 @@ none-left t h (y ∷ xs) x p = p
 
 -- an element that answers is not the same as one that does not
 one-answers : (x y : Element) (a : Answer) → SameElement x y → answer_in x ≡ Some a → answer_in y ≡ None → ⊥
-one-answers x y a same e none = none-some (told_part a) (sym (ap (option_map told_part) none) ∙ sym (answers-same x y same) ∙ ap (option_map told_part) e)
+one-answers x y a same e none = none-some (keyless_answer a) (sym (ap (option_map keyless_answer) none) ∙ sym (answers-same x y same) ∙ ap (option_map keyless_answer) e)
 
 -- two answers
 
@@ -39,10 +39,10 @@ FirstsSame t g h x y = SameElement x y × AreAlike t (grown g x) (grown h y)
 
 pub answers-alike : StaysAlike → (t : Setting) (d : DomId) (g h : History) (e f : Event) (n m : ℕ) (xs ys : List Element) (x y : Element) (a b : Answer) → AreAlike t g h → SameEvent e f → IsOfKnown g e → IsOfKnown h f
     → LegalAfter t g (e ∷ replicate n (Tick d)) (xs ++ x ∷ []) → LegalAfter t h (f ∷ replicate m (Tick d)) (ys ++ y ∷ []) → AnswerNothing xs → AnswerNothing ys → answer_in x ≡ Some a → answer_in y ≡ Some b
-    → (told_part a ≡ told_part b) × AreAlike t (history_after g (xs ++ x ∷ [])) (history_after h (ys ++ y ∷ []))
+    → (keyless_answer a ≡ keyless_answer b) × AreAlike t (history_after g (xs ++ x ∷ [])) (history_after h (ys ++ y ∷ []))
 answers-alike law t d g h e f n m [] [] x y a b alike same j k p q quiet still is so =
     let s = law t g h e f x y alike same j k p.0 q.0 in
-    (same_Some (told_part a) (told_part b) (sym (ap (option_map told_part) is) ∙ answers-same x y s.0 ∙ ap (option_map told_part) so), s.1)
+    (same_Some (keyless_answer a) (keyless_answer b) (sym (ap (option_map keyless_answer) is) ∙ answers-same x y s.0 ∙ ap (option_map keyless_answer) so), s.1)
 answers-alike law t d g h e f n m [] (z ∷ ys) x y a b alike same j k p q quiet still is so =
     absurd (one-answers x z a (law t g h e f x z alike same j k p.0 q.0).0 is still.0)
 answers-alike law t d g h e f n m (z ∷ xs) [] x y a b alike same j k p q quiet still is so =

@@ -12,5 +12,5 @@ abbrev pub call_in : OpenCalls → ℕ → Option ScriptStep
 call_in calls dom = option_map (λ o. o.step.now) (get nat_cmp calls.begun dom)
 
 -- the record of the domain's open call
-abbrev pub told_in : OpenCalls → ℕ → Option Hypercall
-told_in calls dom = option_and_then (λ o. o.told) (get nat_cmp calls.begun dom)
+abbrev pub recorded_in : OpenCalls → ℕ → Option Hypercall
+recorded_in calls dom = option_and_then (λ o. o.hypercall) (get nat_cmp calls.begun dom)

@@ -11,23 +11,23 @@ use Rattle.gt_core.specs.States.{CoreState}
 use Rattle.gt_core.specs.Subject.{subject_at}
 use Rattle.gt_core.specs.declared.trace.Element.{Element}
 use Rattle.gt_host.specs.declared.kept.PlayState.{PlayState}
-use Rattle.gt_host.specs.OpenCalls.{told_in}
-use Rattle.gt_script_runs.specs.Auditing.{hypercall_of_request, open_told, records_of}
+use Rattle.gt_host.specs.OpenCalls.{recorded_in}
+use Rattle.gt_script_runs.specs.Auditing.{hypercall_of_request, open_hypercall, records_of}
 
 -- the hypercall in the record of the domain's request, after each history that the core represents
 abbrev pub IsAbout : Setting → CoreState → DomId → Request → Option Hypercall → Type 0
-IsAbout s domains dom request told =
-    (h : History) → CoreStands s h domains → told ≡ hypercall_of_request (subject_at s h dom) (asked request)
+IsAbout s domains dom request hypercall =
+    (h : History) → CoreStands s h domains → hypercall ≡ hypercall_of_request (subject_at s h dom) (asked request)
 
 -- nothing is recorded, and no open call has a record
 pub record RecordsNothing (kept : PlayState) : Type 0 where
   pub records : kept.audit.records.items ≡ []
-  pub calls : (d : ℕ) → told_in kept.calls d ≡ None
+  pub calls : (d : ℕ) → recorded_in kept.calls d ≡ None
 
 -- the records are those of the trace, and those of the open calls too
 pub record IsRecorded (s : Setting) (trace : List Element) (kept : PlayState) : Type 0 where
   pub records : kept.audit.records.items ≡ records_of s [] trace
-  pub calls : (d : ℕ) → told_in kept.calls d ≡ open_told s (history_after [] trace) (record { 0 = d })
+  pub calls : (d : ℕ) → recorded_in kept.calls d ≡ open_hypercall s (history_after [] trace) (record { 0 = d })
 
 -- a trace is recorded, if the audit is on
 pub record IsAudited (s : Setting) (audit : Bool) (trace : List Element) (kept : PlayState) : Type 0 where

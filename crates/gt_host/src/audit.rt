@@ -73,8 +73,8 @@ fn audited_reply(answer: &Answer) -> Reply
 fn push_records(out: &mut Vec<u8>, records: &[Record], names: &[Text]) -> Result<(), AllocError>
     ensures { OnOk result (out.new.items ≡ out.old.items ++ record_lines names.now records.now) }
 {
-    'records: for told in records {
-        push_line(out, told, names)?;
+    'records: for entry in records {
+        push_line(out, entry, names)?;
     }
     Ok(())
 }
@@ -109,18 +109,18 @@ impl AuditRecords {
         }
     }
 
-    /// Appends the record of an answered call. `told` is what `about` returned; nothing is recorded for None.
+    /// Appends the record of an answered call. `hypercall` is what `about` returned; nothing is recorded for None.
     pub fn record(
         &mut self,
         dom: DomId,
-        told: Option<Hypercall>,
+        hypercall: Option<Hypercall>,
         answer: &Answer,
     ) -> Result<(), AllocError>
         ensures records { OnOk result
-            (self.new.records.items ≡ self.old.records.items ++ option_to_list (encoded_record dom told answer.now)) }
+            (self.new.records.items ≡ self.old.records.items ++ option_to_list (encoded_record dom hypercall answer.now)) }
         ensures on { self.new.is_on ≡ self.old.is_on }
     {
-        if let Some(call) = told {
+        if let Some(call) = hypercall {
             let reply = audited_reply(answer);
             self.records.push(Record { dom, call, reply })?;
         }

@@ -62,7 +62,7 @@ impl StepsFault {
     ghost use Rattle.gt_host.specs.Faults.{play_ended};
 
     /// Converts the result of the steps of a script to that of the play.
-    pub fn told(outcome: Result<(), StepsFault>) -> Result<(), PlayFault>
+    pub fn as_play(outcome: Result<(), StepsFault>) -> Result<(), PlayFault>
         ensures { result ≡ play_ended outcome }
     {
         match outcome {

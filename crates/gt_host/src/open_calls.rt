@@ -9,7 +9,7 @@ use std::collections::BTreeMap;
 #[derive(Clone, Copy)]
 pub struct Opened<'b, 'a> {
     pub step: &'b ScriptStep<'a>,
-    pub told: Option<Hypercall>,
+    pub hypercall: Option<Hypercall>,
 }
 
 /// The open calls, by domain.
@@ -21,12 +21,12 @@ pub struct OpenCalls<'b, 'a> {
 impl<'b, 'a> OpenCalls<'b, 'a> {
     ghost use Rattle.std.specs.Prelude.{◌≡◌, ◌==◌, ℕ, OnOk, None, Some, if◌then◌else◌, option_and_then};
     ghost use Rattle.std.specs.Option.{option_map};
-    ghost use Rattle.gt_host.specs.OpenCalls.{call_in, told_in};
+    ghost use Rattle.gt_host.specs.OpenCalls.{call_in, recorded_in};
 
     /// Makes a table without open calls.
     pub fn new(alloc: Global) -> OpenCalls<'b, 'a>
         ensures calls { (d : ℕ) → call_in result d ≡ None }
-        ensures told { (d : ℕ) → told_in result d ≡ None }
+        ensures hypercalls { (d : ℕ) → recorded_in result d ≡ None }
     {
         OpenCalls {
             begun: BTreeMap::new(alloc),
@@ -36,7 +36,7 @@ impl<'b, 'a> OpenCalls<'b, 'a> {
     /// Returns the open call of the domain.
     pub fn of(&self, dom: DomId) -> Option<Opened<'b, 'a>>
         ensures call { option_map (λ o. o.step.now) result ≡ call_in self.now dom.0 }
-        ensures told { option_and_then (λ o. o.told) result ≡ told_in self.now dom.0 }
+        ensures hypercalls { option_and_then (λ o. o.hypercall) result ≡ recorded_in self.now dom.0 }
     {
         self.begun.get(&dom.0).copied()
     }
@@ -46,21 +46,21 @@ impl<'b, 'a> OpenCalls<'b, 'a> {
         &mut self,
         dom: DomId,
         step: &'b ScriptStep<'a>,
-        told: Option<Hypercall>,
+        hypercall: Option<Hypercall>,
     ) -> Result<(), AllocError>
         ensures calls { OnOk result ((d : ℕ) →
             call_in self.new d ≡ (if d == dom.0 then Some step.entry.now else call_in self.old d)) }
-        ensures told { OnOk result ((d : ℕ) →
-            told_in self.new d ≡ (if d == dom.0 then told else told_in self.old d)) }
+        ensures hypercalls { OnOk result ((d : ℕ) →
+            recorded_in self.new d ≡ (if d == dom.0 then hypercall else recorded_in self.old d)) }
     {
-        self.begun.insert(dom.0, Opened { step, told })?;
+        self.begun.insert(dom.0, Opened { step, hypercall })?;
         Ok(())
     }
 
     /// Removes the open call of the domain.
     pub fn end(&mut self, dom: DomId)
         ensures calls { (d : ℕ) → call_in self.new d ≡ (if d == dom.0 then None else call_in self.old d) }
-        ensures told { (d : ℕ) → told_in self.new d ≡ (if d == dom.0 then None else told_in self.old d) }
+        ensures hypercalls { (d : ℕ) → recorded_in self.new d ≡ (if d == dom.0 then None else recorded_in self.old d) }
     {
         self.begun.remove(&dom.0);
     }

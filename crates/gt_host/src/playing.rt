@@ -1,8 +1,8 @@
 //! Plays a script.
 ghost use Rattle.std.specs.Prelude.{◌≡◌, ◌⊎◌, ◌++◌, ℕ, List, take, OnOk, OnErr, IfErr};
 ghost use Rattle.std.specs.Option.{option_map};
-ghost use Rattle.gt_script.specs.Contents.{contents_told};
-ghost use Rattle.gt_script.specs.Script.{TellsScript};
+ghost use Rattle.gt_script.specs.Contents.{contents_of};
+ghost use Rattle.gt_script.specs.Script.{ReadsAsScript};
 ghost use Rattle.gt_host.specs.declared.fault.StepsFault.TheVariants as faults;
 ghost use Rattle.gt_host.specs.OpenCalls.{call_in};
 ghost use Rattle.gt_script_runs.specs.Runs.{open_text, open_lines};
@@ -56,11 +56,11 @@ fn run_lines<'s, 'a, W: Write>(
     writer: &mut W,
     audit: bool,
 ) -> Result<(), StepsFault>
-    requires can { CanStart (contents_told script.now) }
-    requires starts { StartsFor (contents_told script.now) core.old }
-    ensures whole { OnOk result (WritesRun (contents_told script.now) audit (W.contents writer.old)
+    requires can { CanStart (contents_of script.now) }
+    requires starts { StartsFor (contents_of script.now) core.old }
+    ensures whole { OnOk result (WritesRun (contents_of script.now) audit (W.contents writer.old)
         (W.contents writer.new)) }
-    ensures beginning { OnErr result (BeginsRun (contents_told script.now) audit
+    ensures beginning { OnErr result (BeginsRun (contents_of script.now) audit
         (W.contents writer.old) (W.contents writer.new)) }
     ensures errors { IfErr result (λ e. (e ≡ faults.Memory) ⊎ (e ≡ faults.Write)) }
 {
@@ -84,10 +84,10 @@ fn run_script<W: Write>(
     writer: &mut W,
     audit: bool,
 ) -> Result<(), StepsFault>
-    requires { CanStart (contents_told script.now) }
-    ensures whole { OnOk result (WritesRun (contents_told script.now) audit (W.contents writer.old)
+    requires { CanStart (contents_of script.now) }
+    ensures whole { OnOk result (WritesRun (contents_of script.now) audit (W.contents writer.old)
         (W.contents writer.new)) }
-    ensures beginning { OnErr result (BeginsRun (contents_told script.now) audit
+    ensures beginning { OnErr result (BeginsRun (contents_of script.now) audit
         (W.contents writer.old) (W.contents writer.new)) }
     ensures errors { IfErr result (λ e. (e ≡ faults.Memory) ⊎ (e ≡ faults.Write)) }
 {
@@ -103,11 +103,11 @@ fn play_bytes<W: Write>(
     audit: bool,
 ) -> Result<(), PlayFault>
     ensures { (all : List ℕ) → input.now ≡ take READ_LIMIT all →
-        Played (TellsScript all) audit (W.contents writer.old) (W.contents writer.new) result }
+        Played (ReadsAsScript all) audit (W.contents writer.old) (W.contents writer.new) result }
 {
     every_beginning_is_of_the_text();
     match parse(alloc, input) {
-        Ok(script) => StepsFault::told(run_script(alloc, &script, writer, audit)),
+        Ok(script) => StepsFault::as_play(run_script(alloc, &script, writer, audit)),
         Err(error) => Err(PlayFault::from(error)),
     }
 }
@@ -127,7 +127,7 @@ pub fn play<R: Read, W: Write>(
     audit: bool,
 ) -> Result<(), PlayFault>
     ensures text { OfInput (R.remaining reader.old) (λ input.
-        Played (TellsScript input) audit (W.contents writer.old) (W.contents writer.new) result) }
+        Played (ReadsAsScript input) audit (W.contents writer.old) (W.contents writer.new) result) }
     ensures read { ConsumesAtMost READ_LIMIT (R.remaining reader.old) (R.remaining reader.new) }
 {
     match read_text(alloc, reader) {

@@ -126,10 +126,10 @@ fn run_do<'b, 'a, P: Allows>(
 {
     let dom = step.dom;
     let request = request_of(&kept.labels, dom, given.bytes, given.call);
-    let told = kept.audit.about(core, dom, request);
+    let hypercall = kept.audit.about(core, dom, request);
     match run_call(core, dom, request)? {
         Some(answer) => {
-            kept.audit.record(dom, told, &answer)?;
+            kept.audit.record(dom, hypercall, &answer)?;
             let at = AnsweredStep {
                 dom,
                 step,
@@ -162,10 +162,10 @@ fn run_begin<'b, 'a, P: Allows>(
 {
     let dom = step.dom;
     let request = request_of(&kept.labels, dom, given.bytes, given.call);
-    let told = kept.audit.about(core, dom, request);
+    let hypercall = kept.audit.about(core, dom, request);
     match core.begin(dom, request)? {
         Begun::Done(answer) => {
-            kept.audit.record(dom, told, &answer)?;
+            kept.audit.record(dom, hypercall, &answer)?;
             let at = AnsweredStep {
                 dom,
                 step,
@@ -175,7 +175,7 @@ fn run_begin<'b, 'a, P: Allows>(
             answer_call(alloc, &mut kept.labels, types, at, out)?;
         }
         Begun::Busy => push_busy_line(out, step.line, dom)?,
-        Begun::Open | Begun::NoDomain => kept.calls.begin(dom, step, told)?,
+        Begun::Open | Begun::NoDomain => kept.calls.begin(dom, step, hypercall)?,
     }
     Ok(())
 }
@@ -203,7 +203,7 @@ fn run_ticks<'b, 'a, P: Allows>(
     };
     if let Some(answer) = tick_up_to(core, step.dom, most)? {
         kept.calls.end(step.dom);
-        kept.audit.record(step.dom, begun.told, &answer)?;
+        kept.audit.record(step.dom, begun.hypercall, &answer)?;
         let at = AnsweredStep {
             dom: step.dom,
             step: begun.step,

@@ -1,9 +1,9 @@
 -- What is written for a command whose text goes out as JSON.
 use Rattle.std.specs.Prelude.{◌≡◌, ◌⊎◌, ℕ, Bool, List, [], Option, Some, Result, Ok, Err}
 use Rattle.gt_json_commands.specs.Prelude.{Appends, Keeps, AppendsBeginning, json_text, PrintedText, Run, Policy, Entries}
-use Rattle.gt_json_commands.specs.Prelude.{TellsScript}
+use Rattle.gt_json_commands.specs.Prelude.{ReadsAsScript}
 use Rattle.gt_json_commands.specs.Prelude.{PlayFault, Played, ListingFault, Listed, DumpOptions, DumpFault}
-use Rattle.gt_json_commands.specs.Prelude.{Told}
+use Rattle.gt_json_commands.specs.Prelude.{WroteDump}
 use Rattle.gt_text.specs.Streams.{OfInput}
 use Rattle.gt_script_runs.specs.declared.fault.PlayFault.TheVariants as plays
 use Rattle.gt_policy_list.specs.declared.fault.ListingFault.TheVariants as listings
@@ -47,12 +47,12 @@ Passes printed memory write text (Err why) old new (Err fault) = ((fault ≡ mem
 
 -- what `play_json` writes for an input
 abbrev pub PlayedAsJson : List ℕ → Bool → Promise PlayFault
-PlayedAsJson input audit = AsJson Run plays.Memory plays.Write (Played (TellsScript input) audit)
+PlayedAsJson input audit = AsJson Run plays.Memory plays.Write (Played (ReadsAsScript input) audit)
 
 -- what `policy_json` writes for an input
 abbrev pub ListedAsJson : List ℕ → Promise ListingFault
 ListedAsJson input = AsJson Policy listings.Memory listings.Write (Listed input)
 
 -- what `entries_json` writes for an input, with these options
-abbrev pub ToldAsJson : DumpOptions → List ℕ → Promise DumpFault
-ToldAsJson asked input = AsJson Entries dumps.Memory dumps.Write (Told asked input)
+abbrev pub WroteDumpAsJson : DumpOptions → List ℕ → Promise DumpFault
+WroteDumpAsJson asked input = AsJson Entries dumps.Memory dumps.Write (WroteDump asked input)

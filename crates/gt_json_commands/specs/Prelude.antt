@@ -1,5 +1,5 @@
 -- The names of other crates, and of the code, that the definitions here use.
-pub use Rattle.gt_entries.specs.Dumps.{Told}
+pub use Rattle.gt_entries.specs.Dumps.{WroteDump}
 pub use Rattle.gt_entries.specs.declared.asked.DumpOptions.{DumpOptions}
 pub use Rattle.gt_entries.specs.declared.fault.DumpFault.{DumpFault}
 pub use Rattle.gt_script_runs.specs.Playing.{Played}
@@ -9,6 +9,6 @@ pub use Rattle.gt_json.specs.declared.places.PrintedText.{PrintedText}
 pub use Rattle.gt_json.specs.declared.places.PrintedText.TheVariants.{Entries, Policy, Run}
 pub use Rattle.gt_policy_list.specs.Writing.{Listed}
 pub use Rattle.gt_policy_list.specs.declared.fault.ListingFault.{ListingFault}
-pub use Rattle.gt_script.specs.Script.{TellsScript}
+pub use Rattle.gt_script.specs.Script.{ReadsAsScript}
 pub use Rattle.gt_text.specs.Streams.{AppendsBeginning}
 pub use Rattle.std.specs.Io.KnownBytes.{Appends, Keeps}

@@ -5,7 +5,7 @@ ghost use Rattle.gt_json.specs.declared.places.PrintedText.TheVariants as printe
 ghost use Rattle.gt_script_runs.specs.declared.fault.PlayFault.TheVariants as plays;
 ghost use Rattle.gt_policy_list.specs.declared.fault.ListingFault.TheVariants as listings;
 ghost use Rattle.gt_entries.specs.declared.fault.DumpFault.TheVariants as dumps;
-ghost use Rattle.gt_json_commands.specs.AsJson.{ForInput, PlayedAsJson, ListedAsJson, ToldAsJson, Passes};
+ghost use Rattle.gt_json_commands.specs.AsJson.{ForInput, PlayedAsJson, ListedAsJson, WroteDumpAsJson, Passes};
 
 use gt_entries::{DumpFault, DumpOptions, entries};
 use gt_host::play;
@@ -133,7 +133,7 @@ pub fn entries_json<R: Read, W: Write>(
     reader: &mut R,
     writer: &mut W,
 ) -> Result<(), DumpFault>
-    ensures text { ForInput (R.remaining reader.old) (ToldAsJson asked)
+    ensures text { ForInput (R.remaining reader.old) (WroteDumpAsJson asked)
         (W.contents writer.old) (W.contents writer.new) result }
     ensures read { ConsumesAtMost READ_LIMIT (R.remaining reader.old) (R.remaining reader.new) }
 {

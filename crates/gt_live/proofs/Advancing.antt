@@ -40,10 +40,10 @@ use Rattle.gt_calls.specs.Rules.{CallerKnowledge}
 use Rattle.gt_calls.specs.Standing.{IsAt, IsFreshCall, held_by_call, pins_by_call}
 use Rattle.gt_live.specs.declared.driving.Effect.{Effect}
 use Rattle.gt_live.specs.declared.driving.Effect.TheVariants.{Nothing}
-use Rattle.gt_live.specs.Driving.{ActionTells, CanMake, Going, IsSame, Knows, Leaves, StandsSo}
-use Rattle.gt_live.specs.Effects.{Answers, EndsSo, IsFound, IsFoundAt, IsFoundIn, TellsFound, effect_of}
+use Rattle.gt_live.specs.Driving.{ActionCarries, CanMake, Going, IsSame, Knows, Leaves, StandsSo}
+use Rattle.gt_live.specs.Effects.{Answers, EndsSo, IsFound, IsFoundAt, IsFoundIn, ResultIsFound, effect_of}
 use Rattle.gt_live.specs.Ending.{IsAnswerTo, WaitsForNobody}
-use Rattle.gt_live.specs.Walks.{Called, CarriesFound, Made, MakesStep, TellsSteps, view_after, found_by, all_shown}
+use Rattle.gt_live.specs.Walks.{Called, CarriesFound, Made, MakesStep, CarriesSteps, view_after, found_by, all_shown}
 use Rattle.gt_live.specs.Walks.{shown_by}
 use Rattle.gt_live.proofs.ActionsAllowed.{can-make, leaves}
 use Rattle.gt_live.proofs.Ends.{path-sound}
@@ -143,22 +143,22 @@ carried-facts k caller v u w s x steps m facts.None early at found = tt
 carried-facts k caller v u w s x steps m (facts.Policy source target perm) early at found = tt
 carried-facts k caller v u w s x steps m (facts.Field field) early at found = tt
 
-carried-verdict : (k : Layout) (caller : DomId) (v u w : View) (s : Step) (x : Observation) (steps : List Moment) (m : Made k s x u w) (verdict : CallResult) → IsSame v u → v.position ≡ position_in k.ids caller → TellsFound caller s x verdict
-    → TellsSteps k v ((made-gains k s x u w m).step ∷ steps) verdict
+carried-verdict : (k : Layout) (caller : DomId) (v u w : View) (s : Step) (x : Observation) (steps : List Moment) (m : Made k s x u w) (verdict : CallResult) → IsSame v u → v.position ≡ position_in k.ids caller → ResultIsFound caller s x verdict
+    → CarriesSteps k v ((made-gains k s x u w m).step ∷ steps) verdict
 carried-verdict k caller v u w s x steps m (Refused denial) same at found = carried-facts k caller v u w s x steps m denial.facts same.seen (same.position ∙ at) found
 carried-verdict k caller v u w s x steps m Granted same at found = tt
 carried-verdict k caller v u w s x steps m (Given value) same at found = tt
 carried-verdict k caller v u w s x steps m (Mapped p) same at found = tt
 
 carried-so : (k : Layout) (caller : DomId) (v u w : View) (s : Step) (x : Observation) (steps : List Moment) (m : Made k s x u w) (action : Action) → IsSame v u → v.position ≡ position_in k.ids caller → EndsSo caller s x action
-    → ActionTells k v ((made-gains k s x u w m).step ∷ steps) action
+    → ActionCarries k v ((made-gains k s x u w m).step ∷ steps) action
 carried-so k caller v u w s x steps m (Makes next) same at ends = tt
 carried-so k caller v u w s x steps m (Done verdict) same at ends = carried-verdict k caller v u w s x steps m verdict same at ends.1
 
-begins-tells : (k : Layout) (v : View) (o : Option Action) (action : Action) → BeginsSo o → o ≡ Some action → ActionTells k v [] action
+begins-tells : (k : Layout) (v : View) (o : Option Action) (action : Action) → BeginsSo o → o ≡ Some action → ActionCarries k v [] action
 begins-tells k v None action b e = absurd b
 begins-tells k v (Some (Done verdict)) action b e = absurd b
-begins-tells k v (Some (Makes s)) action b e = let same : Makes s ≡ action = cc in subst (λ (a : Action). ActionTells k v [] a) same tt
+begins-tells k v (Some (Makes s)) action b e = let same : Makes s ≡ action = cc in subst (λ (a : Action). ActionCarries k v [] a) same tt
 
 -- after a step that was made the call goes on, and has fewer to come
 pub advance : (c : CallerKnowledge) (k : Layout) (effect : Effect) (v w w' : View) (call call' : Call) (action : Action) (s : Step) (x : Observation) → Knows c k call.caller v → WaitsForNobody call.request → Going c k effect v w call (Makes s) → Made k s x w w'

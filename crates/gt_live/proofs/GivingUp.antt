@@ -621,12 +621,12 @@ module _ (k : Layout) (p : ℕ) where
       given_back = tried.given_back;
     }
 
-    told-so : (caller : DomId) (ys : List SeatStep) → Found caller ys → (dom : DomId) × (gref : GrantRef) × (word : ℕ) × (d ≡ entry_refusal dom gref N18 word) × GaveUp k dom gref word ys
-    told-so caller ys (inl g) = let before : List SeatStep = g.way ++ on_header g.header_at (header.Looked g.header_word) ∷ [] in
+    recorded-so : (caller : DomId) (ys : List SeatStep) → Found caller ys → (dom : DomId) × (gref : GrantRef) × (word : ℕ) × (d ≡ entry_refusal dom gref N18 word) × GaveUp k dom gref word ys
+    recorded-so caller ys (inl g) = let before : List SeatStep = g.way ++ on_header g.header_at (header.Looked g.header_word) ∷ [] in
         (g.dom, g.gref, last_word g.tried.words, g.tried.denial, gives-up g.dom g.gref before ys g.rest (g.all ∙ sym (append_assoc g.way (on_header g.header_at (header.Looked g.header_word) ∷ []) g.rest)) (inr (g.way, g.header_at, g.header_word, refl)) g.tried)
-    told-so caller ys (inr g) = (caller, g.0, last_word g.1.words, g.1.denial, gives-up caller g.0 [] ys ys refl (inl refl) g.1)
+    recorded-so caller ys (inr g) = (caller, g.0, last_word g.1.words, g.1.denial, gives-up caller g.0 [] ys ys refl (inl refl) g.1)
 
 pub four-missed : FourTriesWereMissed
 four-missed k c caller request denial v w plain at called is18 = let p : ℕ = v.position in let way : Continuation = path_of c caller request in let ys : List SeatStep = in_order called.steps in
-    told-so k p denial is18 caller ys
+    recorded-so k p denial is18 caller ys
     (found-of k p denial is18 c caller request plain at ys (begun_of c caller request) refl (goes k p way v called.steps refl called.walked, ap way (sym (shown-in-order called.steps)) ∙ called.answered))

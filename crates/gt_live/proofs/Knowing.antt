@@ -25,7 +25,7 @@ use Rattle.gt_live.specs.declared.domain.Domain.{Domain}
 use Rattle.gt_live.specs.Domains.{IsDomainOf, AllowRelation, done_by, frames_granted, knowledge, verdict_of}
 use Rattle.gt_live.specs.Domains.{verdict_of_frames}
 use Rattle.gt_live.specs.Driving.{Knows}
-use Rattle.gt_live.specs.Walks.{CarriesFound, TellsSteps}
+use Rattle.gt_live.specs.Walks.{CarriesFound, CarriesSteps}
 use Rattle.gt_types.specs.declared.denial.Facts.{Facts}
 use Rattle.gt_types.specs.declared.denial.Facts.TheVariants as facts
 use Rattle.gt_live.specs.Ending.{IsAnswerTo, IsAtOnce, IsWordless}
@@ -67,7 +67,7 @@ wordless k v facts.None no_word = tt
 wordless k v (facts.Policy source target perm) no_word = tt
 wordless k v (facts.Field field) no_word = tt
 
-pub once-tells : (k : Layout) (v : View) (request : OpenRequest) (verdict : CallResult) → IsAtOnce request verdict → TellsSteps k v [] verdict
+pub once-tells : (k : Layout) (v : View) (request : OpenRequest) (verdict : CallResult) → IsAtOnce request verdict → CarriesSteps k v [] verdict
 once-tells k v request (Refused denial) is = wordless k v denial.facts is
 once-tells k v request Granted is = tt
 once-tells k v request (Given value) is = tt

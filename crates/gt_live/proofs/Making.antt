@@ -9,7 +9,7 @@ use Rattle.gt_word_history.specs.declared.view.FrameStep.{FrameStep}
 use Rattle.gt_word_history.specs.Rule.{Layout, id_at}
 use Rattle.gt_word_history.specs.Views.{last_of, with_step}
 use Rattle.gt_word_history.specs.Events.{TookPlace}
-use Rattle.gt_word_history.specs.History.{StepHistory, Moment, SaysWord, part_of, word_place_of}
+use Rattle.gt_word_history.specs.History.{StepHistory, Moment, RecordsWord, part_of, word_place_of}
 use Rattle.gt_word_history.specs.Steps.{TakesStep}
 use Rattle.gt_word_history.specs.declared.view.SeatStep.{SeatStep}
 use Rattle.gt_word_history.specs.declared.view.View.{View}
@@ -36,7 +36,7 @@ gained k seen v w past x found left view step shows = record {
   step = (past, x);
   view = view;
   shows = shows;
-  took = record { stood = (step.stood.0, step.stood.1); says = subst (SaysWord x) (sym step.found_is) step.says; of_last = step.of_last; happens = step.happens };
+  took = record { stood = (step.stood.0, step.stood.1); says = subst (RecordsWord x) (sym step.found_is) step.says; of_last = step.of_last; happens = step.happens };
   mine = sym (step.stood.1.led_here.parts v.position v step.stood.2).0;
 }
 

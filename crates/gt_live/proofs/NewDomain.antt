@@ -16,7 +16,7 @@ use Rattle.gt_handles.specs.Handles.{HandleMap, under, value_of}
 use Rattle.gt_handles.specs.Listing.{has_passing}
 use Rattle.gt_handles.specs.declared.handles.Handle.{Handle}
 use Rattle.gt_handles.specs.declared.handles.HandleSlot.{HandleSlot}
-use Rattle.gt_audit.specs.Telling.{silent}
+use Rattle.gt_audit.specs.Trails.{silent}
 use Rattle.gt_calls.specs.declared.held.HeldPin.{HeldPin}
 use Rattle.gt_calls.specs.declared.known.OwnerEntry.{OwnerEntry}
 use Rattle.gt_calls.specs.Rules.{row_entry, row_generation}

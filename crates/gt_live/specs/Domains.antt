@@ -9,7 +9,7 @@ use Rattle.gt_live.specs.Prelude.{Refused, Frames, SizeTold, Version, HeldPin, C
 use Rattle.gt_live.specs.Prelude.{path_of, CallerKnowledge, knowledge_of}
 use Rattle.gt_live.specs.Prelude.{entry_in}
 use Rattle.gt_live.specs.Prelude.{own_generation, Domain, Departed, Monitor, NotMade, Gone, OutOfMemory, Step}
-use Rattle.gt_audit.specs.Telling.{Tells}
+use Rattle.gt_audit.specs.Trails.{AppendsRecord}
 use Rattle.gt_audit.specs.declared.record.Hypercall.TheVariants as hypercalls
 use Rattle.gt_audit.specs.declared.record.Reply.TheVariants as replies
 use Rattle.gt_live.specs.Mappings.{AddsMapping, IsMappingOf, KeepsMappings, PinsAreOf, Removes}
@@ -176,16 +176,16 @@ abbrev pub mapping_reply : Result Handle Denial → Reply
 mapping_reply result = reply_of (outcome_of result)
 
 -- the result that a reply represents
-abbrev pub told_by : Reply → CallResult
-told_by replies.Done = Granted
-told_by (replies.Frames frames) = Given (Frames frames)
-told_by (replies.Size size) = Given (SizeTold size)
-told_by (replies.Version version) = Given (Version version)
-told_by (replies.Denied denial) = Refused denial
+abbrev pub result_of_reply : Reply → CallResult
+result_of_reply replies.Done = Granted
+result_of_reply (replies.Frames frames) = Given (Frames frames)
+result_of_reply (replies.Size size) = Given (SizeTold size)
+result_of_reply (replies.Version version) = Given (Version version)
+result_of_reply (replies.Denied denial) = Refused denial
 
 -- the record of a call of this domain with this result
-abbrev pub told_of : Domain → Hypercall → CallResult → Record
-told_of d call verdict = record { dom = d.seat.dom; call = call; reply = reply_of verdict }
+abbrev pub record_of_result : Domain → Hypercall → CallResult → Record
+record_of_result d call verdict = record { dom = d.seat.dom; call = call; reply = reply_of verdict }
 
 -- a call that is not recorded had this result: the domain has the same mappings, pins and records as before
 abbrev pub AnswersQuietly : {P : Type 0} → (P → AllowRelation) → Monitor P → Domain → Request → CallResult → Domain
@@ -195,11 +195,11 @@ AnswersQuietly may m d request verdict e =
 
 -- a call that is recorded had this result: the domain has the same mappings and pins as before, and one more record, of
 -- this call, which is kept or counted as lost
-abbrev pub AnswersTold : {P : Type 0} → (P → AllowRelation) → Monitor P → Domain → Request → Hypercall → CallResult
+abbrev pub AnswersRecorded : {P : Type 0} → (P → AllowRelation) → Monitor P → Domain → Request → Hypercall → CallResult
     → Domain
     → Type 0
-AnswersTold may m d request call verdict e =
-    Answered may m d request verdict e × KeepsPinned d e × Tells d.trail (told_of d call verdict) e.trail
+AnswersRecorded may m d request call verdict e =
+    Answered may m d request verdict e × KeepsPinned d e × AppendsRecord d.trail (record_of_result d call verdict) e.trail
 
 -- a call with an access that is not recorded had this result: the domain has the same mappings, pins and records as
 -- before
@@ -226,8 +226,8 @@ abbrev pub copy_reply : Result Copying Denial → Reply
 copy_reply result = reply_of (outcome_of result)
 
 -- the record of a copy of this domain with this result
-abbrev pub told_copy : Domain → CopyArgs → Result Copying Denial → Record
-told_copy d c result =
+abbrev pub record_of_copy : Domain → CopyArgs → Result Copying Denial → Record
+record_of_copy d c result =
     record {
       dom = d.seat.dom;
       call = hypercalls.Copy c.source c.dest c.len c.flags;

@@ -12,7 +12,7 @@ use Rattle.gt_live.specs.Prelude.{Unpinned, Changed, Stored}
 use Rattle.gt_words.specs.Answers.{Pins}
 use Rattle.gt_calls.specs.Resting.{GivesUp}
 use Rattle.gt_live.specs.declared.driving.Effect.TheVariants.{Nothing}
-use Rattle.gt_live.specs.Walks.{IsWalk, TellsSteps, view_after, all_shown}
+use Rattle.gt_live.specs.Walks.{IsWalk, CarriesSteps, view_after, all_shown}
 use Rattle.gt_live.specs.Effects.{Answers}
 use Rattle.gt_live.specs.Ending.{IsHeaderChange, IsMap, IsOwnChange}
 use Rattle.gt_live.specs.Mappings.{HasPin, IsMappingOf, entry_record_of}
@@ -96,9 +96,9 @@ StandsSo c k caller request v w effect (Makes step) = IsSame v w
 StandsSo c k caller request v w effect (Done verdict) = Leaves c k caller request v w effect × Answers effect verdict
 
 -- a result that comes next carries a word of these steps
-abbrev pub ActionTells : Layout → View → List Moment → Action → Type 0
-ActionTells k v steps (Makes step) = Unit {0}
-ActionTells k v steps (Done verdict) = TellsSteps k v steps verdict
+abbrev pub ActionCarries : Layout → View → List Moment → Action → Type 0
+ActionCarries k v steps (Makes step) = Unit {0}
+ActionCarries k v steps (Done verdict) = CarriesSteps k v steps verdict
 
 -- a call under way: it added the steps of its path to its seat's view, and the action comes next
 pub record Going (c : CallerKnowledge) (k : Layout) (effect : Effect) (v w : View) (call : Call)
@@ -112,4 +112,4 @@ pub record Going (c : CallerKnowledge) (k : Layout) (effect : Effect) (v w : Vie
   pub held : held_by_call call ≡ []
   pub unanswered : begun c call.caller call.request ≡ None
   pub stands : StandsSo c k call.caller call.request v w effect action
-  pub carried : ActionTells k v steps action
+  pub carried : ActionCarries k v steps action

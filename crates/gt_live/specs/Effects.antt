@@ -54,12 +54,12 @@ IsFound caller step seen (facts.Header dom word) = IsFoundIn step seen dom word
 IsFound caller step seen other = Unit {0}
 
 -- the same for a result
-abbrev pub TellsFound : DomId → Step → Observation → CallResult → Type 0
-TellsFound caller step seen (Refused denial) = IsFound caller step seen denial.facts
-TellsFound caller step seen verdict = Unit {0}
+abbrev pub ResultIsFound : DomId → Step → Observation → CallResult → Type 0
+ResultIsFound caller step seen (Refused denial) = IsFound caller step seen denial.facts
+ResultIsFound caller step seen verdict = Unit {0}
 
 -- what follows a step with this observation: a step that did more than look is the last one, and the call's result
 -- agrees with what its last step did and found
 abbrev pub EndsSo : DomId → Step → Observation → Action → Type 0
 EndsSo caller step seen (Makes next) = effect_of step seen ≡ Nothing
-EndsSo caller step seen (Done verdict) = Answers (effect_of step seen) verdict × TellsFound caller step seen verdict
+EndsSo caller step seen (Done verdict) = Answers (effect_of step seen) verdict × ResultIsFound caller step seen verdict

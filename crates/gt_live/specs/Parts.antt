@@ -1,6 +1,6 @@
 -- The parts of a monitor and of a domain that contracts name.
 use Rattle.gt_types.specs.declared.config.Config.{Config}
-use Rattle.gt_audit.specs.Telling.{Telling}
+use Rattle.gt_audit.specs.Trails.{TrailState}
 use Rattle.gt_live.specs.Prelude.{Board, CopyArgs, Departed, Domain, HandleMap, HeldPin, Monitor, PendingCopy, SeatOf}
 
 -- the words of a monitor's run
@@ -24,11 +24,11 @@ abbrev pub mappings_of : Domain → HandleMap HeldPin
 mappings_of d = d.mappings
 
 -- its records
-abbrev pub trail_of : Domain → Telling
+abbrev pub trail_of : Domain → TrailState
 trail_of d = d.trail
 
 -- the domain with these records
-abbrev pub with_trail : Domain → Telling → Domain
+abbrev pub with_trail : Domain → TrailState → Domain
 with_trail d trail = record d { trail = trail }
 
 -- the seat that a domain leaves behind
@@ -36,7 +36,7 @@ abbrev pub seat_left : Departed → SeatOf
 seat_left l = l.seat
 
 -- its records
-abbrev pub trail_left : Departed → Telling
+abbrev pub trail_left : Departed → TrailState
 trail_left l = l.trail
 
 -- the copy that is at its access

@@ -7,7 +7,7 @@ use Rattle.gt_types.specs.declared.config.Config.{Config}
 use Rattle.gt_types.specs.declared.limits.TheConstants.{TABLE_ENTRIES}
 use Rattle.gt_words.specs.Conditions.{Board}
 use Rattle.gt_words.specs.Answers.{IsNewSeat}
-use Rattle.gt_audit.specs.Telling.{silent}
+use Rattle.gt_audit.specs.Trails.{silent}
 use Rattle.gt_calls.specs.declared.known.OwnerEntry.{OwnerEntry}
 use Rattle.gt_live.specs.Domains.{IsDomainOf}
 use Rattle.gt_live.specs.declared.domain.Domain.{Domain}

@@ -122,9 +122,9 @@ CarriesFound k v steps (facts.Header dom word) =
 CarriesFound k v steps other = Unit {0}
 
 -- the same for a result
-abbrev pub TellsSteps : Layout → View → List Moment → CallResult → Type 0
-TellsSteps k v steps (Refused denial) = CarriesFound k v steps denial.facts
-TellsSteps k v steps verdict = Unit {0}
+abbrev pub CarriesSteps : Layout → View → List Moment → CallResult → Type 0
+CarriesSteps k v steps (Refused denial) = CarriesFound k v steps denial.facts
+CarriesSteps k v steps verdict = Unit {0}
 
 -- a call took its seat's view from v to w: it added the steps of its path, one after another, each taken at its moment;
 -- after their observations the path ends with this result, and a word that the result carries is one that they found
@@ -134,4 +134,4 @@ pub record Called (k : Layout) (way : Continuation) (verdict : CallResult) (v w 
   pub walked : IsWalk k way v steps
   pub moments : AreMoments k v steps
   pub answered : way (all_shown steps) ≡ Some (Done verdict)
-  pub carried : TellsSteps k v steps verdict
+  pub carried : CarriesSteps k v steps verdict

@@ -8,11 +8,11 @@ ghost use Rattle.gt_live.specs.declared.domain.Domain.{Domain};
 ghost use Rattle.gt_live.specs.Rows.{row_changed};
 ghost use Rattle.gt_live.specs.Domains.{BelongsTo};
 ghost use Rattle.gt_live.specs.Domains.{done_by, known_on, outcome_of, denial_in};
-ghost use Rattle.gt_live.specs.Domains.{reply_of, told_by, frames_granted};
+ghost use Rattle.gt_live.specs.Domains.{reply_of, result_of_reply, frames_granted};
 ghost use Rattle.gt_live.specs.Domains.{verdict_of_frames, verdict_of_size, verdict_of_version};
 ghost use Rattle.gt_live.specs.Questions.{answer_by};
 ghost use Rattle.gt_calls.specs.declared.call.HeaderQuery.{HeaderQuery};
-ghost use Rattle.gt_audit.specs.Telling.{Tells};
+ghost use Rattle.gt_audit.specs.Trails.{AppendsRecord};
 ghost use Rattle.gt_live.specs.Parts.{config_of, mappings_of, rights_of, seat_left, seat_of};
 ghost use Rattle.gt_live.specs.Parts.{trail_left, trail_of, with_trail, words_of};
 
@@ -162,7 +162,7 @@ pub(crate) fn refusal_of(verdict: CallResult) -> Denial
 // Returns the reply for the record of a call whose Ok has no value.
 fn outcome_reply<T>(answer: &Result<T, Denial>) -> Reply
     ensures reply { result ≡ reply_of (outcome_of answer.now) }
-    ensures tells { told_by result ≡ outcome_of answer.now }
+    ensures tells { result_of_reply result ≡ outcome_of answer.now }
 {
     match answer {
         Ok(_) => Reply::Done,
@@ -173,7 +173,7 @@ fn outcome_reply<T>(answer: &Result<T, Denial>) -> Reply
 // Returns the reply for the record of a query of a version.
 fn version_reply(answer: &Result<u32, Denial>) -> Reply
     ensures reply { result ≡ reply_of (verdict_of_version answer.now) }
-    ensures tells { told_by result ≡ verdict_of_version answer.now }
+    ensures tells { result_of_reply result ≡ verdict_of_version answer.now }
 {
     match answer {
         Ok(version) => Reply::Version(*version),
@@ -183,7 +183,7 @@ fn version_reply(answer: &Result<u32, Denial>) -> Reply
 
 fn size_reply(answer: &Result<Size, Denial>) -> Reply
     ensures reply { result ≡ reply_of (verdict_of_size answer.now) }
-    ensures tells { told_by result ≡ verdict_of_size answer.now }
+    ensures tells { result_of_reply result ≡ verdict_of_size answer.now }
 {
     match answer {
         Ok(size) => Reply::Size(*size),
@@ -193,7 +193,7 @@ fn size_reply(answer: &Result<Size, Denial>) -> Reply
 
 fn frames_reply(answer: &Result<u32, Denial>) -> Reply
     ensures reply { result ≡ reply_of (verdict_of_frames answer.now) }
-    ensures tells { told_by result ≡ verdict_of_frames answer.now }
+    ensures tells { result_of_reply result ≡ verdict_of_frames answer.now }
 {
     match answer {
         Ok(frames) => Reply::Frames(*frames),
@@ -203,8 +203,8 @@ fn frames_reply(answer: &Result<u32, Denial>) -> Reply
 
 // Records a call that was Ok.
 #[inline(always)]
-fn tell_done(trail: &mut Trail, dom: DomId, call: Hypercall)
-    ensures { Tells trail.old (record { dom = dom; call = call; reply = Reply.Done }) trail.new }
+fn record_done(trail: &mut Trail, dom: DomId, call: Hypercall)
+    ensures { AppendsRecord trail.old (record { dom = dom; call = call; reply = Reply.Done }) trail.new }
 {
     let reply = Reply::Done;
     trail.push(Record { dom, call, reply });
@@ -213,8 +213,8 @@ fn tell_done(trail: &mut Trail, dom: DomId, call: Hypercall)
 // Records a call that was refused. Few are, so this function is not inlined.
 #[cold]
 #[inline(never)]
-fn tell_refusal(trail: &mut Trail, dom: DomId, call: Hypercall, denial: Denial)
-    ensures { Tells trail.old (record { dom = dom; call = call; reply = Reply.Denied denial }) trail.new }
+fn record_refusal(trail: &mut Trail, dom: DomId, call: Hypercall, denial: Denial)
+    ensures { AppendsRecord trail.old (record { dom = dom; call = call; reply = Reply.Denied denial }) trail.new }
 {
     let reply = Reply::Denied(denial);
     trail.push(Record { dom, call, reply });
@@ -222,7 +222,7 @@ fn tell_refusal(trail: &mut Trail, dom: DomId, call: Hypercall, denial: Denial)
 
 impl Domain {
     ghost use Rattle.std.specs.Prelude.{◌≡◌, ◌≤◌, List, OnErr, OnOk, IfOk, IfSome, None, Some};
-    ghost use Rattle.gt_audit.specs.Telling.{ArePartsOf, HasNone, Tells};
+    ghost use Rattle.gt_audit.specs.Trails.{ArePartsOf, HasNone, AppendsRecord};
     ghost use Rattle.gt_audit.specs.declared.pieces.TheConstants.{MOST_RESERVED};
     ghost use Rattle.gt_live.specs.Domains.{subject_of, HasLeft, BelongsTo};
     ghost use Rattle.gt_live.specs.Domains.{Released, StaysOfRun};
@@ -356,8 +356,8 @@ impl Domain {
 
     // Records a call of the domain.
     #[inline(always)]
-    fn tell(&mut self, call: Hypercall, reply: Reply)
-        ensures told { Tells self.old.trail
+    fn add_record(&mut self, call: Hypercall, reply: Reply)
+        ensures recorded { AppendsRecord self.old.trail
             (record { dom = self.old.seat.dom; call = call; reply = reply }) self.new.trail }
         ensures mine { StaysOfRun self.old self.new }
         ensures kept { self.new ≡ record self.old { trail = self.new.trail } }

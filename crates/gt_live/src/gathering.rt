@@ -31,11 +31,11 @@ impl<P> Monitor<P> {
 
     /// Loads one word with all gathered seats. By its contract, words and views show one state, in which each of these
     /// domains has the view with which it left. So the steps of the whole run have one order.
-    pub fn tell_of_all(&self, all: &mut Gathered)
+    pub fn learn_of_all(&self, all: &mut Gathered)
         requires { all.old.table ≡ (words_of self.now).table }
         ensures same { all.new.views ≡ all.old.views }
         ensures together { StandTogether (words_of self.now).layout all.old.views }
     {
-        self.words.tell_of_all(all);
+        self.words.learn_of_all(all);
     }
 }

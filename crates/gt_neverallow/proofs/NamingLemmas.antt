@@ -14,8 +14,8 @@ use Rattle.gt_policy.specs.declared.lined.LinedStatement.{LinedStatement}
 use Rattle.gt_policy.specs.declared.parse.PolicyFault.{PolicyFault}
 use Rattle.gt_policy.specs.declared.statements.Mention.{Mention}
 use Rattle.gt_policy_text.specs.Lexing.{lexemes_of}
-use Rattle.gt_neverallow.specs.Naming.{NeverSays, is_declared, named_with, names_of, too_long, undeclared, read, faulty}
-use Rattle.gt_neverallow.specs.Reading.{Follows, ReadsTo, fault_in, kind_told}
+use Rattle.gt_neverallow.specs.Naming.{ReadsAsNever, is_declared, named_with, names_of, too_long, undeclared, read, faulty}
+use Rattle.gt_neverallow.specs.Reading.{Follows, ReadsTo, fault_in, fault_kind}
 use Rattle.gt_neverallow.specs.declared.fault.ParseError.{ParseError}
 use Rattle.gt_neverallow.specs.declared.fault.ParseError.TheVariants as errors
 use Rattle.gt_neverallow.specs.declared.statement.Neverallow.{Neverallow}
@@ -36,32 +36,32 @@ first_at xs ns i n within is =
 
 -- what was read of a text
 pub says_read : (xs : List LinedStatement) (text bytes : List ℕ) (ns : List Neverallow) (said : Result (List Neverallow) TokenFault) → bytes ≡ text → length text ≤ 1048576 → Follows [] (lexemes_of bytes) (Ok ns)
-    → named_with ns (undeclared xs (flat_map names_of ns)) ≡ said → NeverSays xs text said
+    → named_with ns (undeclared xs (flat_map names_of ns)) ≡ said → ReadsAsNever xs text said
 says_read xs text bytes ns said same few follows is =
     let follows_text : Follows [] (lexemes_of text) (Ok ns) = subst (λ (l : List ℕ). Follows [] (lexemes_of l) (Ok ns)) same follows in
-    subst (λ (r : Result (List Neverallow) TokenFault). NeverSays xs text r) is (read text ns few follows_text)
+    subst (λ (r : Result (List Neverallow) TokenFault). ReadsAsNever xs text r) is (read text ns few follows_text)
 
 -- a fault of the text
-of_error : (xs : List LinedStatement) (text : List ℕ) (e : ParseError) (f : TokenFault) → length text ≤ 1048576 → ReadsTo (Err e) (lexemes_of text) → fault_in e ≡ Some f → NeverSays xs text (Err f)
+of_error : (xs : List LinedStatement) (text : List ℕ) (e : ParseError) (f : TokenFault) → length text ≤ 1048576 → ReadsTo (Err e) (lexemes_of text) → fault_in e ≡ Some f → ReadsAsNever xs text (Err f)
 of_error xs text errors.Memory f few reads is = absurd (cc is)
 of_error xs text (errors.Fault line kind) f few reads is =
-    let same : at line (kind_told kind) ≡ f = cc is in
-    subst (λ (g : TokenFault). NeverSays xs text (Err g)) same (faulty text (at line (kind_told kind)) few reads)
+    let same : at line (fault_kind kind) ≡ f = cc is in
+    subst (λ (g : TokenFault). ReadsAsNever xs text (Err g)) same (faulty text (at line (fault_kind kind)) few reads)
 
-pub says_faulty : (xs : List LinedStatement) (text bytes : List ℕ) (e : ParseError) (f : TokenFault) → bytes ≡ text → length text ≤ 1048576 → ReadsTo (Err e) (lexemes_of bytes) → fault_in e ≡ Some f → NeverSays xs text (Err f)
+pub says_faulty : (xs : List LinedStatement) (text bytes : List ℕ) (e : ParseError) (f : TokenFault) → bytes ≡ text → length text ≤ 1048576 → ReadsTo (Err e) (lexemes_of bytes) → fault_in e ≡ Some f → ReadsAsNever xs text (Err f)
 says_faulty xs text bytes e f same few reads is = of_error xs text e f few (subst (λ (l : List ℕ). ReadsTo (Err e) (lexemes_of l)) same reads) is
 
-pub says_long : (xs : List LinedStatement) (text : List ℕ) (f : TokenFault) → 1048576 < length text → Some (at 1 Limit) ≡ Some f → NeverSays xs text (Err f)
+pub says_long : (xs : List LinedStatement) (text : List ℕ) (f : TokenFault) → 1048576 < length text → Some (at 1 Limit) ≡ Some f → ReadsAsNever xs text (Err f)
 says_long xs text f long is =
     let same : at 1 Limit ≡ f = cc is in
-    subst (λ (g : TokenFault). NeverSays xs text (Err g)) same (too_long text long)
+    subst (λ (g : TokenFault). ReadsAsNever xs text (Err g)) same (too_long text long)
 
 -- what was made of the statements says what the text does
-module _ (xs : List LinedStatement) (text : List ℕ) (named : Result (List Neverallow) TokenFault) (says : (said : Result (List Neverallow) TokenFault) → named ≡ said → NeverSays xs text said) where
-  pub named_ok : (r : Result (List Neverallow) PolicyFault) → IfOk r (λ ns. named ≡ Ok ns) → IfOk r (λ ns. NeverSays xs text (Ok ns))
+module _ (xs : List LinedStatement) (text : List ℕ) (named : Result (List Neverallow) TokenFault) (says : (said : Result (List Neverallow) TokenFault) → named ≡ said → ReadsAsNever xs text said) where
+  pub named_ok : (r : Result (List Neverallow) PolicyFault) → IfOk r (λ ns. named ≡ Ok ns) → IfOk r (λ ns. ReadsAsNever xs text (Ok ns))
   named_ok (Ok ns) is = says (Ok ns) is
   named_ok (Err e) is = tt
 
-  pub named_err : (r : Result (List Neverallow) PolicyFault) → IfErr r (λ e. (f : TokenFault) → fault_shown e ≡ Some f → named ≡ Err f) → IfErr r (λ e. (f : TokenFault) → fault_shown e ≡ Some f → NeverSays xs text (Err f))
+  pub named_err : (r : Result (List Neverallow) PolicyFault) → IfErr r (λ e. (f : TokenFault) → fault_shown e ≡ Some f → named ≡ Err f) → IfErr r (λ e. (f : TokenFault) → fault_shown e ≡ Some f → ReadsAsNever xs text (Err f))
   named_err (Ok ns) is = tt
   named_err (Err e) is = λ f shown. says (Err f) (is f shown)

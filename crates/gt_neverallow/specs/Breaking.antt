@@ -10,7 +10,7 @@ use Rattle.gt_policy.specs.Lined.{IsLined, statements_in}
 use Rattle.gt_policy.specs.Resolving.{has_grant}
 use Rattle.gt_policy.specs.Shown.{fault_shown}
 use Rattle.gt_policy.specs.Spelling.{types_in}
-use Rattle.gt_policy.specs.Whole.{Says}
+use Rattle.gt_policy.specs.Whole.{ReadsAs}
 use Rattle.gt_policy.specs.declared.fault.TokenFault.{TokenFault}
 use Rattle.gt_policy.specs.declared.lined.LinedStatement.{LinedStatement}
 use Rattle.gt_policy.specs.declared.statements.Allowance.{Allowance}
@@ -19,7 +19,7 @@ use Rattle.gt_policy.specs.declared.statements.Statement.TheVariants.{DeclareTyp
 use Rattle.gt_policy.specs.declared.statements.Statement.TheVariants.{Allow}
 use Rattle.gt_policy_check.specs.Granting.{elements_hold, gives_source, reaches_by}
 use Rattle.gt_policy_check.specs.declared.members.Member.{Member}
-use Rattle.gt_neverallow.specs.Naming.{NeverSays}
+use Rattle.gt_neverallow.specs.Naming.{ReadsAsNever}
 use Rattle.gt_neverallow.specs.declared.breaking.Breach.{Breach}
 use Rattle.gt_neverallow.specs.declared.fault.NeverFault.{NeverFault}
 use Rattle.gt_neverallow.specs.declared.fault.NeverFault.TheVariants.{Policy, Statements}
@@ -90,16 +90,16 @@ AreBroken xs ns found = AllZip (IsBreach xs) (broken xs ns) found
 -- the breaches of a policy by a text of neverallow statements
 abbrev pub AreBreaches : List ℕ → List ℕ → List Breach → Type 0
 AreBreaches policy never found =
-    (m : Meaning) × (xs : List LinedStatement) × (ns : List Neverallow) × Says policy (Ok m) × IsLined policy xs
-    × NeverSays xs never (Ok ns) × AreBroken xs ns found
+    (m : Meaning) × (xs : List LinedStatement) × (ns : List Neverallow) × ReadsAs policy (Ok m) × IsLined policy xs
+    × ReadsAsNever xs never (Ok ns) × AreBroken xs ns found
 
 -- why there is no answer: the first fault of the policy, or of the text of neverallow statements for that policy; a
 -- fault that shows nothing is a failed allocation
 abbrev pub IsNeverFault : List ℕ → List ℕ → NeverFault → Type 0
-IsNeverFault policy never (Policy e) = (f : TokenFault) → fault_shown e ≡ Some f → Says policy (Err f)
+IsNeverFault policy never (Policy e) = (f : TokenFault) → fault_shown e ≡ Some f → ReadsAs policy (Err f)
 IsNeverFault policy never (Statements e) =
-    (m : Meaning) × (xs : List LinedStatement) × Says policy (Ok m) × IsLined policy xs
-    × ((f : TokenFault) → fault_shown e ≡ Some f → NeverSays xs never (Err f))
+    (m : Meaning) × (xs : List LinedStatement) × ReadsAs policy (Ok m) × IsLined policy xs
+    × ((f : TokenFault) → fault_shown e ≡ Some f → ReadsAsNever xs never (Err f))
 
 -- ---- by types with the names that denote them
 

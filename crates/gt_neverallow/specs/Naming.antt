@@ -59,9 +59,9 @@ named_with ns (Some m) = Err (at m.line (Unknown m.name))
 
 -- The meaning of a text for a policy of these statements: neverallow statements, or its first fault. An undeclared name
 -- is a fault only of a text without another fault. (SELinux policy language; faults and the limit own)
-pub data NeverSays (xs : List LinedStatement) : List ℕ → Result (List Neverallow) TokenFault → Type 0 where
-  too_long : (text : List ℕ) → LONGEST_TEXT < length text → NeverSays xs text (Err (at 1 Limit))
+pub data ReadsAsNever (xs : List LinedStatement) : List ℕ → Result (List Neverallow) TokenFault → Type 0 where
+  too_long : (text : List ℕ) → LONGEST_TEXT < length text → ReadsAsNever xs text (Err (at 1 Limit))
   read : (text : List ℕ) (ns : List Neverallow) → length text ≤ LONGEST_TEXT → Follows [] (lexemes_of text) (Ok ns)
-      → NeverSays xs text (named_with ns (undeclared xs (flat_map names_of ns)))
+      → ReadsAsNever xs text (named_with ns (undeclared xs (flat_map names_of ns)))
   faulty : (text : List ℕ) (f : TokenFault) → length text ≤ LONGEST_TEXT → Follows [] (lexemes_of text) (Err f)
-      → NeverSays xs text (Err f)
+      → ReadsAsNever xs text (Err f)

@@ -16,23 +16,23 @@ use Rattle.gt_policy_text.specs.declared.lexer.Token.TheVariants.{TypeattributeW
 use Rattle.gt_neverallow.specs.declared.fault.ParseError.{ParseError}
 use Rattle.gt_neverallow.specs.declared.fault.ParseError.TheVariants.{Fault, Memory}
 use Rattle.gt_neverallow.specs.declared.fault.TokenKind.{TokenKind}
-use Rattle.gt_neverallow.specs.declared.fault.TokenKind.TheVariants as told
+use Rattle.gt_neverallow.specs.declared.fault.TokenKind.TheVariants as tokens
 use Rattle.gt_neverallow.specs.declared.statement.Neverallow.{Neverallow}
 use Rattle.gt_neverallow.specs.declared.statement.TypeChoice.{TypeChoice}
 use Rattle.gt_neverallow.specs.declared.statement.TypeChoice.TheVariants.{But, Every, Of}
 
 -- the kind of a fault of the text
-abbrev pub kind_told : TokenKind → TokenFaultKind
-kind_told told.Syntax = kinds.Syntax
-kind_told (told.Unknown w) = kinds.Unknown w
-kind_told (told.Permission w) = kinds.Permission w
-kind_told (told.Outside w) = kinds.Outside w
-kind_told told.Limit = kinds.Limit
+abbrev pub fault_kind : TokenKind → TokenFaultKind
+fault_kind tokens.Syntax = kinds.Syntax
+fault_kind (tokens.Unknown w) = kinds.Unknown w
+fault_kind (tokens.Permission w) = kinds.Permission w
+fault_kind (tokens.Outside w) = kinds.Outside w
+fault_kind tokens.Limit = kinds.Limit
 
 -- the fault of an error; none if an allocation failed
 abbrev pub fault_in : ParseError → Option TokenFault
 fault_in Memory = None
-fault_in (Fault line kind) = Some (at line (kind_told kind))
+fault_in (Fault line kind) = Some (at line (fault_kind kind))
 
 -- The value and the tokens left are those of the grammar, unless an allocation failed.
 abbrev pub Reads : {X : Type 0} → Result X ParseError → Lexemes → LexerState X → Type 0

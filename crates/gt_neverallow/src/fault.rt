@@ -2,7 +2,7 @@
 ghost use Rattle.std.specs.Prelude.{◌≡◌, Some, None, IfOk};
 ghost use Rattle.gt_policy.specs.Shown.{fault_shown, kind_shown, out_of_memory};
 ghost use Rattle.gt_policy.specs.declared.fault.TokenFault.{TokenFault};
-ghost use Rattle.gt_neverallow.specs.Reading.{fault_in, kind_told};
+ghost use Rattle.gt_neverallow.specs.Reading.{fault_in, fault_kind};
 
 use gt_policy::{PolicyFault, PolicyFaultKind, TextPiece};
 use std::alloc::{AllocError, Global};
@@ -54,7 +54,7 @@ fn memory() -> PolicyFault
 }
 
 fn kind_of<'a>(alloc: Global, kind: TokenKind<'a>) -> Result<PolicyFaultKind, AllocError>
-    ensures { IfOk result (λ k. kind_shown k ≡ Some (kind_told kind.entry)) }
+    ensures { IfOk result (λ k. kind_shown k ≡ Some (fault_kind kind.entry)) }
 {
     match kind {
         TokenKind::Syntax => Ok(PolicyFaultKind::Syntax),

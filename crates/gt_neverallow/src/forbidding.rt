@@ -3,7 +3,7 @@ ghost use Rattle.std.specs.Prelude.{◌≡◌};
 ghost use Rattle.gt_neverallow.specs.Breaking.{chooses_self, chosen_by, forbids_source, forbids_target};
 
 use crate::statement::{Neverallow, TypeChoice};
-use gt_policy_check::{Member, has_grant, holds, is_same, lists, says_self};
+use gt_policy_check::{Member, has_grant, has_self, holds, is_same, lists};
 
 // Returns whether a choice of types has the type.
 fn is_chosen(choice: &TypeChoice, member: &Member) -> bool
@@ -22,7 +22,7 @@ fn chooses_self(choice: &TypeChoice) -> bool
 {
     match choice {
         TypeChoice::Every => false,
-        TypeChoice::Of(items) => says_self(items.as_slice()),
+        TypeChoice::Of(items) => has_self(items.as_slice()),
         TypeChoice::But(_) => false,
     }
 }

@@ -3,7 +3,7 @@ ghost use Rattle.std.specs.Prelude.{◌≡◌, ◌∷◌, ◌<◌, ◌≤◌, le
 ghost use Rattle.gt_policy.specs.Grammar.{at, classes_in_braces, classes_of, is_grant, is_grant_alone, is_refused_word};
 ghost use Rattle.gt_policy.specs.Grammar.{colon, misfit, misfit_name, perms_in_braces, perms_of, semicolon, set_in_braces};
 ghost use Rattle.gt_policy.specs.Grammar.{set_of, type_name};
-ghost use Rattle.gt_neverallow.specs.Reading.{Reads, ReadsNext, ReadsNothing, ReadsTo, fault_in, kind_told};
+ghost use Rattle.gt_neverallow.specs.Reading.{Reads, ReadsNext, ReadsNothing, ReadsTo, fault_in, fault_kind};
 ghost use Rattle.gt_neverallow.specs.Reading.{begins_statement, misfit_statement, never_statement, next_statement, types_of};
 
 use crate::fault::{ParseError, TokenKind};
@@ -15,7 +15,7 @@ use std::alloc::Global;
 
 // Makes the error for a fault on a line.
 fn fault_at<'a>(line: u32, kind: TokenKind<'a>) -> ParseError<'a>
-    ensures { fault_in result ≡ Some (at line (kind_told kind.entry)) }
+    ensures { fault_in result ≡ Some (at line (fault_kind kind.entry)) }
 {
     ParseError::Fault(line, kind)
 }
@@ -23,7 +23,7 @@ fn fault_at<'a>(line: u32, kind: TokenKind<'a>) -> ParseError<'a>
 // Returns the kind of fault for a token that fits nowhere here.
 #[tactic(auto, unfolding(gt_policy::specs::Grammar::misfit))]
 fn misfit<'a>(token: Token<'a>) -> TokenKind<'a>
-    ensures { kind_told result ≡ misfit false token.entry }
+    ensures { fault_kind result ≡ misfit false token.entry }
 {
     match token {
         Token::Tilde => TokenKind::Outside(TextPiece::new(b"~")),
@@ -34,7 +34,7 @@ fn misfit<'a>(token: Token<'a>) -> TokenKind<'a>
 // Returns the kind of fault for a token where a type or a class is expected.
 #[tactic(auto, unfolding(gt_policy::specs::Grammar::misfit_name))]
 fn misfit_name<'a>(token: Token<'a>) -> TokenKind<'a>
-    ensures { kind_told result ≡ misfit_name false token.entry }
+    ensures { fault_kind result ≡ misfit_name false token.entry }
 {
     match token {
         Token::Star => TokenKind::Outside(TextPiece::new(b"*")),
@@ -45,7 +45,7 @@ fn misfit_name<'a>(token: Token<'a>) -> TokenKind<'a>
 // Returns the kind of fault for a token where a statement is expected.
 #[tactic(auto, unfolding(crate::specs::Reading::misfit_statement))]
 fn misfit_statement<'a>(token: Token<'a>) -> TokenKind<'a>
-    ensures { kind_told result ≡ misfit_statement token.entry }
+    ensures { fault_kind result ≡ misfit_statement token.entry }
 {
     match token {
         Token::TypeWord => TokenKind::Outside(TextPiece::new(b"type")),

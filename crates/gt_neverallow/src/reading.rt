@@ -3,7 +3,7 @@ ghost use Rattle.std.specs.Prelude.{◌≡◌, ◌≤◌, length, IfOk, IfErr, I
 ghost use Rattle.gt_policy.specs.Shown.{fault_shown, out_of_memory};
 ghost use Rattle.gt_policy.specs.declared.fault.TokenFault.{TokenFault};
 ghost use Rattle.gt_policy_text.specs.Lexing.{lexemes_of};
-ghost use Rattle.gt_neverallow.specs.Naming.{NeverSays, named_with, names_of, undeclared};
+ghost use Rattle.gt_neverallow.specs.Naming.{ReadsAsNever, named_with, names_of, undeclared};
 ghost use Rattle.gt_neverallow.specs.Reading.{ReadsTo};
 ghost use Rattle.std.specs.List.{flat_map};
 
@@ -65,9 +65,9 @@ pub(crate) fn read_nevers<'a>(
     policy: &[LinedStatement],
     text: &'a str,
 ) -> Result<Items<Neverallow<'a>>, PolicyFault>
-    ensures ok { IfOk result (λ ns. NeverSays policy.now text.entry.now (Ok ns)) }
+    ensures ok { IfOk result (λ ns. ReadsAsNever policy.now text.entry.now (Ok ns)) }
     ensures fault { IfErr result (λ e. (f : TokenFault) → fault_shown e ≡ Some f →
-        NeverSays policy.now text.entry.now (Err f)) }
+        ReadsAsNever policy.now text.entry.now (Err f)) }
     ensures memory { IfErr result (λ e. fault_shown e ≡ None → e ≡ out_of_memory) }
 {
     if text.len() > LONGEST_TEXT {

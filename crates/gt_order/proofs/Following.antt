@@ -14,7 +14,7 @@ use Rattle.gt_calls.specs.declared.request.Request.TheVariants as requests
 use Rattle.gt_core.specs.declared.trace.Answer.{Answer}
 use Rattle.gt_core.specs.declared.trace.Answer.TheVariants as answers
 use Rattle.gt_script_runs.specs.Printing.{answer_line}
-use Rattle.gt_script_runs.specs.Runs.{SaysRequest, Named, handle_given, label_given, with_name}
+use Rattle.gt_script_runs.specs.Runs.{MakesRequest, Named, handle_given, label_given, with_name}
 use Rattle.gt_script.specs.Lists.{RunAction, RunTask}
 use Rattle.gt_script.specs.declared.tasks.RunActionBy.TheVariants.{Do}
 use Rattle.gt_script_lines.specs.declared.calls.ScriptCall.{ScriptCall}
@@ -158,7 +158,7 @@ module _ (Lost Stopped : Type 0) (c : Config) (may : AllowRelation) (types : Lis
 
   -- a call that had memory
   follows-answered : (named : List Named) (held : List Handle) (done : List RunTask) (made : List Deed) (printed : List ℕ) (task : RunTask) (call : ScriptCall) (m : CallMade) (out : CallOutcome) (answer : Answer)
-      → Follows named held done made printed → task.deed ≡ Do call → SaysRequest named dom call m.request → HasItems m out answer
+      → Follows named held done made printed → task.deed ≡ Do call → MakesRequest named dom call m.request → HasItems m out answer
       → (rest : List RunTask) (more : List Happening) (text : List ℕ) → Serves Lost Stopped types dom (with_name named dom (label_given call) (handle_given answer)) (held_after held (given_up m.request) answer) rest more text
       → Serves Lost Stopped types dom [] [] ((done ++ task ∷ []) ++ rest) (happenings (of_core (items_by_outcome dom (way_of c may m) m.request out m.steps) ++ order_of_deeds c may dom made) ++ more) ((printed ++ answer_line types task.line dom answer) ++ text)
   follows-answered named held done made printed task call m out answer before is says items rest more text f =
@@ -184,7 +184,7 @@ module _ (Lost Stopped : Type 0) (c : Config) (may : AllowRelation) (types : Lis
 
   -- a call that got no memory
   follows-starved : (named : List Named) (held : List Handle) (done : List RunTask) (made : List Deed) (printed : List ℕ) (task : RunTask) (call : ScriptCall) (m : CallMade)
-      → Follows named held done made printed → task.deed ≡ Do call → SaysRequest named dom call m.request → IsAllocating m.request → Lost
+      → Follows named held done made printed → task.deed ≡ Do call → MakesRequest named dom call m.request → IsAllocating m.request → Lost
       → (rest : List RunTask) (more : List Happening) (text : List ℕ) → Serves Lost Stopped types dom (with_name named dom (label_given call) None) (held_after held (given_up m.request) no_memory) rest more text
       → Serves Lost Stopped types dom [] [] ((done ++ task ∷ []) ++ rest) (happenings (order_of_deeds c may dom made) ++ more) ((printed ++ answer_line types task.line dom no_memory) ++ text)
   follows-starved named held done made printed task call m before is says allocates lost rest more text f =
@@ -204,7 +204,7 @@ module _ (Lost Stopped : Type 0) (c : Config) (may : AllowRelation) (types : Lis
 
   -- a copy that got no memory at its access
   pub follows-lost : (named : List Named) (held : List Handle) (done : List RunTask) (made : List Deed) (printed : List ℕ) (task : RunTask) (call : ScriptCall) (m : CallMade) (args : CopyArgs)
-      → Follows named held done made printed → task.deed ≡ Do call → SaysRequest named dom call (requests.Copy args) → m.request ≡ requests.Probe args → m.outcome ≡ Told Granted → Lost
+      → Follows named held done made printed → task.deed ≡ Do call → MakesRequest named dom call (requests.Copy args) → m.request ≡ requests.Probe args → m.outcome ≡ Told Granted → Lost
       → Follows (with_name named dom (label_given call) None) held (done ++ task ∷ []) (Call m ∷ made) (printed ++ answer_line types task.line dom no_memory)
   follows-lost named held done made printed task call m args before is says probe outcome lost rest more text f =
       follows-on done made printed task mine line rest more text (before (task ∷ rest) (happenings mine ++ more) (line ++ text) (inr (inl (lost, gets))))
@@ -236,7 +236,7 @@ module _ (Lost Stopped : Type 0) (c : Config) (may : AllowRelation) (types : Lis
 
   module _ {P : Type 0} (mon : Monitor P) (all : HasAllFrames mon) where
     pub follows-more : (named : List Named) (held : List Handle) (done : List RunTask) (made : List Deed) (printed : List ℕ) (task : RunTask) (call : ScriptCall) (m : CallMade) (answer : Answer)
-        → Follows named held done made printed → task.deed ≡ Do call → SaysRequest named dom call m.request → OutcomeGivesAnswer mon m.outcome answer → IsStarvedOnly m.outcome m.request → (answer ≡ no_memory → Lost)
+        → Follows named held done made printed → task.deed ≡ Do call → MakesRequest named dom call m.request → OutcomeGivesAnswer mon m.outcome answer → IsStarvedOnly m.outcome m.request → (answer ≡ no_memory → Lost)
         → Follows (with_name named dom (label_given call) (handle_given answer)) (held_after held (given_up m.request) answer) (done ++ task ∷ []) (Call m ∷ made) (printed ++ answer_line types task.line dom answer)
     follows-more named held done made printed task call m answer before is says gives only lost rest more text f = by m.outcome gives only
       where

@@ -72,7 +72,7 @@ use Rattle.gt_calls.specs.declared.action.CallResult.TheVariants.{Granted}
 use Rattle.gt_calls.specs.declared.request.Request.TheVariants as requests
 use Rattle.gt_core.specs.declared.trace.Answer.{Answer}
 use Rattle.gt_types.specs.declared.copies.CopyArgs.{CopyArgs}
-use Rattle.gt_script_runs.specs.Runs.{SaysRequest, handle_given, label_given, with_name}
+use Rattle.gt_script_runs.specs.Runs.{MakesRequest, handle_given, label_given, with_name}
 use Rattle.gt_word_history.specs.History.{Moment}
 use Rattle.std.proofs.Common.{◌⊎◌}
 
@@ -148,7 +148,7 @@ module _ {P : Type 0} (may : P → AllowRelation) (m : Monitor P) where
     call-comes task is-in call deed done p q x come request outcome steps made for follows =
         let asks : Asks may m p.domain x.request x.answer q.domain = subst (λ (y : Monitor P). Asks may y p.domain x.request x.answer q.domain) over x.asks in
         let m' : CallMade = record { request = request; outcome = outcome; steps = steps; old = p.domain; new = q.domain } in
-        let o : ListOutcome = record { line = task.line; answer = x.answer; told = x.told; lost = x.lost } in
+        let o : ListOutcome = record { line = task.line; answer = x.answer; recorded = x.recorded; lost = x.lost } in
         let types = job.part.types.now in let dom = job.part.dom in
         let printed : answer_lines types dom q.outcomes ≡ answer_lines types dom p.outcomes ++ answer_line types task.line dom x.answer =
         ap (answer_lines types dom) x.outcomes ∙ (flat_map-append (λ (y : ListOutcome). answer_line types y.line dom y.answer) p.outcomes (o ∷ [])
@@ -201,7 +201,7 @@ module _ {P : Type 0} (may : P → AllowRelation) (m : Monitor P) where
             let none : x.answer ≡ no_memory = lost-memory m followed.1 x.answer denial refused lost in
             without x.answer x.request args m' none copy
             (follows-lost (HasStarved final) Stopped m.config (may m.rights) types dom p.named come.held done come.made (answer_lines types dom p.outcomes) task call m' args
-            (come.follows followed) deed (subst (SaysRequest p.named dom call) copy x.says) refl refl (starves none)))
+            (come.follows followed) deed (subst (MakesRequest p.named dom call) copy x.says) refl refl (starves none)))
 
     -- a line that made a step on a flag
     one-flag : (task : RunTask) → IsAmong task job.part.tasks.now → (flag : ℕ) (step : FlagStep) → IsFlagStepOf task.deed flag step → (done : List RunTask) (p q : ListProgress) → q ≡ record p { domain = q.domain } → MakesFlagStep may job.monitor.now flag step p.domain q.domain
@@ -251,7 +251,7 @@ module _ {P : Type 0} (may : P → AllowRelation) (m : Monitor P) where
     one-deed : (task : RunTask) → IsAmong task job.part.tasks.now → (task.dom.0 == job.part.dom.0) ≡ true → (deed : RunAction) → task.deed ≡ deed → (done : List RunTask) (p q : ListProgress) → DoesDeed may job task.line deed p q → AreFinal q → Come done p → Come (done ++ task ∷ []) q
     unfolding DoesDeed
     one-deed task is-in own (Do call) is done p q does all come =
-        let o : ListOutcome = record { line = task.line; answer = does.answer; told = does.told; lost = does.lost } in
+        let o : ListOutcome = record { line = task.line; answer = does.answer; recorded = does.recorded; lost = does.lost } in
         let there = all o (subst (IsAmong o) (sym does.outcomes) (in-last o p.outcomes)) in
         one-call task is-in call done p q is does (λ none. (o, there, none)) come
     one-deed task is-in own (Tell flag) is done p q does all come = raising task is-in flag is done p q does.0 does.1 come

@@ -4,7 +4,7 @@ use Rattle.atomic_table.proofs.Lists.{at_map}
 use Rattle.gt_entry.specs.declared.change.EntryChange.{EntryChange}
 use Rattle.gt_entry.specs.declared.change.EntryChange.TheVariants.{Publish, Revoke, Withdraw, Demote, Promote}
 use Rattle.gt_words.proofs.Lists.{whose_at}
-use Rattle.gt_word_history.specs.History.{StepHistory, Layout, Moment, SaysWord, word_place_of, word_after}
+use Rattle.gt_word_history.specs.History.{StepHistory, Layout, Moment, RecordsWord, word_place_of, word_after}
 use Rattle.gt_word_history.specs.Rule.{header_place}
 use Rattle.gt_word_history.specs.Steps.{StoodWith, TakesStep, changed, changed_word}
 use Rattle.gt_word_history.specs.Views.{entry_steps, last_of, last_record, own_header, steps_on_header, with_step}
@@ -28,7 +28,7 @@ pub record MadeAs (k : Layout) (i : ℕ) (step : Step) (seen : Observation) (v w
   pub the : IsThe k i step x.1
   pub shows : seen_in_step x.1 ≡ seen
   pub stores : StoresChange k x.0 x.1
-  pub says : SaysWord x.1 (word_after k x.0 (word_place_of x.1))
+  pub says : RecordsWord x.1 (word_after k x.0 (word_place_of x.1))
   pub stood : StoodWith (Unit {0}) k x.0 v
   pub stands : StoodWith (Unit {0}) k ((v.position, x.1) ∷ x.0) w
 
@@ -47,7 +47,7 @@ module _ (k : Layout) (i : ℕ) (v w : View) (at : v.position ≡ i) where
       the = the;
       shows = shows;
       stores = stores;
-      says = subst (SaysWord x) (sym takes.found_is) takes.says;
+      says = subst (RecordsWord x) (sym takes.found_is) takes.says;
       stood = takes.stood;
       stands = subst (StoodWith (Unit {0}) k ((v.position, x) ∷ past)) (sym view) takes.still_stands;
     },

@@ -38,7 +38,7 @@ use Rattle.gt_calls.specs.declared.action.Step.TheVariants.{Write as WriteBytes}
 use Rattle.gt_core.proofs.GoingOn.{calls-can-begin}
 use Rattle.gt_live.specs.Mappings.{KeepsMappings}
 use Rattle.gt_core.proofs.Steps.Observers.{stepped}
-use Rattle.gt_core.specs.GoingOn.{AnsweredSo, CanBeReached, MayBeGiven, TellsAccess, begin_answer, beginning}
+use Rattle.gt_core.specs.GoingOn.{AnsweredSo, CanBeReached, MayBeGiven, AnswersAccess, begin_answer, beginning}
 use Rattle.gt_core.specs.History.{History as Items, Setting, contents_at, known_at, one_if_mapped, seen_by, table_at}
 use Rattle.gt_core.specs.History.{values}
 use Rattle.gt_core.specs.Legal.{IsRight}
@@ -156,7 +156,7 @@ stood-of k i given way xs x u at turn = ⊎_elim (words (way (all_shown xs)) ref
     words None e m = absurd (subst (λ (q : Option Action). MakesStep k q (shown_by x) v w) e m)
 
 -- a write or a copy answers no bytes
-tells-done : (g : Items) (k : Layout) (given : List ℕ) (z : Step) (v w : View) → MakesAccess k given z v w → TellsAccess g z AnswerDone
+tells-done : (g : Items) (k : Layout) (given : List ℕ) (z : Step) (v w : View) → MakesAccess k given z v w → AnswersAccess g z AnswerDone
 tells-done g k given (WriteBytes dom frame off len) v w m = refl
 tells-done g k given (CopyBytes from to len) v w m = refl
 tells-done g k given z v w m = absurd m
@@ -414,7 +414,7 @@ module _ (b : Board) (c : Config) (may : AllowRelation) (limits : IsWithinLimits
           (ends-told b c may limits is i l (firsts i) (named i l) o.g ms m xs x v w verdict call seat r leave at-v at-w view steps))
 
       -- its last step is its access
-      ends : (answer : Answer) (z : Step) → way_of c may m (all_shown xs) ≡ Some (Makes z) → AccessedAs k i (bytes_given_by m.request) z v w x → way_of c may m (all_shown (x ∷ xs)) ≡ Some (Done Granted) → TellsAccess o.g z answer → one_if_mapped (Some answer) ≡ 0
+      ends : (answer : Answer) (z : Step) → way_of c may m (all_shown xs) ≡ Some (Makes z) → AccessedAs k i (bytes_given_by m.request) z v w x → way_of c may m (all_shown (x ∷ xs)) ≡ Some (Done Granted) → AnswersAccess o.g z answer → one_if_mapped (Some answer) ≡ 0
           → items_by_outcome d (way_of c may m) m.request m.outcome m.steps ≡ items_of_call d (way_of c may m) m.request (Some answer) (x ∷ xs) → KeepsMappings m.old.mappings m.new.mappings → m.new.seat.view ≡ w
           → Ordered b c may ((i, x.1) ∷ x.0) firsts stages
       ends answer z next so then tells plain items keeps view =
@@ -436,7 +436,7 @@ module _ (b : Board) (c : Config) (may : AllowRelation) (limits : IsWithinLimits
           let then : way_of c may m (all_shown (x ∷ xs)) ≡ Some (Done Granted) = ap (λ (q : List Moment). way_of c may m (all_shown q)) (sym all) ∙ t.done in
           let agree : WritesAgree k o.g t.made.past = subst (WritesAgree k o.g) (ap (λ (q : Moment). q.0) (sym (head-same _ _ _ _ all))) o.writes in
           let had = read-bytes c k is limits o.g t.made.past t.dom t.frame t.off bytes.bytes.items t.made.inside t.made.access.says agree in
-          let tells : TellsAccess o.g z (BytesAnswer bytes) = (bytes, refl, had ∙ ap (λ (n : ℕ). slice_range (contents_at o.g t.dom.0 t.frame) t.off (t.off + n)) t.length_is) in
+          let tells : AnswersAccess o.g z (BytesAnswer bytes) = (bytes, refl, had ∙ ap (λ (n : ℕ). slice_range (contents_at o.g t.dom.0 t.frame) t.off (t.off + n)) t.length_is) in
           ends (BytesAnswer bytes) z next so then tells refl (λ j. items_by_outcome d (way_of c may m) m.request (out j) (made j)) a.1
           (t.made.view ∙ ap (λ (q : List Moment). view_after q m.old.seat.view) all)
       by Wrote out a =

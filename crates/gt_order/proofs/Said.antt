@@ -4,7 +4,7 @@ use Rattle.std.proofs.lemmas.List.Elements.{All-from_get_or}
 use Rattle.hex.specs.Hex.{IsBytes}
 use Rattle.gt_types.specs.declared.DomId.{DomId}
 use Rattle.gt_calls.specs.declared.request.Request.{Request}
-use Rattle.gt_script_runs.specs.Runs.{Named, SaysRequest, call_bytes, request_of}
+use Rattle.gt_script_runs.specs.Runs.{Named, MakesRequest, call_bytes, request_of}
 use Rattle.gt_script_lines.specs.declared.calls.ScriptCall.{ScriptCall}
 use Rattle.gt_script_lines.specs.declared.calls.ScriptCall.TheVariants as calls
 use Rattle.gt_run.specs.Serving.{FitsEntry}
@@ -35,5 +35,5 @@ said-so named dom bytes (calls.QuerySize to) fits e = (tt, tt)
 said-so named dom bytes (calls.GetVersion to) fits e = (tt, tt)
 
 -- what a line asks fits its types, since the entry that it grants does
-pub said-fits : (call : ScriptCall) (named : List Named) (dom : DomId) (request : Request) → FitsEntry call → SaysRequest named dom call request → FitsTypes request
+pub said-fits : (call : ScriptCall) (named : List Named) (dom : DomId) (request : Request) → FitsEntry call → MakesRequest named dom call request → FitsTypes request
 said-fits call named dom request fits (bytes, e, is) = subst FitsTypes (sym is) (said-so named dom bytes call fits e)

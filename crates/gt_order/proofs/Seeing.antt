@@ -6,7 +6,7 @@ use Rattle.gt_types.specs.declared.limits.TheConstants.{TABLE_ENTRIES}
 use Rattle.gt_entry.specs.Words.{header_word}
 use Rattle.gt_entry.specs.declared.change.BodyWord.{BodyWord}
 use Rattle.gt_words.specs.Conditions.{HasDomain}
-use Rattle.gt_word_history.specs.History.{StepHistory, Layout, SaysWord, half_index, word_place_of, word_after}
+use Rattle.gt_word_history.specs.History.{StepHistory, Layout, RecordsWord, half_index, word_place_of, word_after}
 use Rattle.gt_word_history.specs.Rule.{header_place, layout_of, place, position_in}
 use Rattle.gt_word_history.specs.declared.view.EntryStep.TheVariants.{Looked, ReadBody, Pinned, PinMissed, Unpinned}
 use Rattle.gt_word_history.specs.declared.view.EntryStep.TheVariants.{StoredBody, Changed, ChangeMissed}
@@ -48,7 +48,7 @@ module _ (c : Config) (s : Setting) (k : Layout) (g : Items) (h : StepHistory) (
   missed : (w looked e n : ℕ) → w ≡ n → n ≢ e → e ≡ looked → exchange_sees w looked ≡ Missed n
   missed w looked e n a b f = ap (λ (z : Bool). cond z Taken (Missed w)) (ne_eqb w looked (λ y. b (sym a ∙ (y ∙ sym f)))) ∙ ap (λ (z : ℕ). Missed z) a
 
-  pub sees : (step : Step) (x : SeatStep) → IsWithin k step → IsThe k i step x → SaysWord x (word_after k h (word_place_of x)) → seen_by s g (dom_at k i) step ≡ seen_in_step x
+  pub sees : (step : Step) (x : SeatStep) → IsWithin k step → IsThe k i step x → RecordsWord x (word_after k h (word_place_of x)) → seen_by s g (dom_at k i) step ≡ seen_in_step x
   sees (LookHeader d) (Header t (header.Looked n)) w a b = ap (λ (z : ℕ). Word z) (header-there d t w a ∙ sym b)
   sees (LookControl d q) (Entry t r (Looked n)) w a b = ap (λ (z : ℕ). Word z) (word-there d t r q.0 w.0 w.1 a.0 a.1 ∙ sym b)
   sees (LookBody d q half) (Entry t r (ReadBody z n)) w a b =

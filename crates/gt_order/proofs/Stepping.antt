@@ -38,7 +38,7 @@ use Rattle.gt_calls.specs.Opening.{opens}
 use Rattle.gt_types.specs.Config.{IsWithinLimits}
 use Rattle.gt_types.specs.declared.config.Config.{Config}
 use Rattle.gt_words.specs.Conditions.{HasDomain}
-use Rattle.gt_word_history.specs.History.{StepHistory, Layout, SaysWord, word_place_of, word_after}
+use Rattle.gt_word_history.specs.History.{StepHistory, Layout, RecordsWord, word_place_of, word_after}
 use Rattle.gt_words.specs.Laws.{domain_of_run}
 use Rattle.gt_word_history.specs.Rule.{layout_of, place}
 use Rattle.gt_word_history.specs.Steps.{changed, changed_word}
@@ -221,7 +221,7 @@ module _ (c : Config) (may : AllowRelation) (k : Layout) (g : Items) (h : StepHi
   idle q ToReadOnly safe = tt
   idle q ToWritable safe = tt
 
-  goes : (z : Step) (x : SeatStep) → step ≡ z → Rests (known_at s g d) d cl.request (pins_at here.phase) (values cl) (Makes z) → IsThe k i z x → IsWithin k z → StoresChange k h x → SaysWord x (word_after k h (word_place_of x))
+  goes : (z : Step) (x : SeatStep) → step ≡ z → Rests (known_at s g d) d cl.request (pins_at here.phase) (values cl) (Makes z) → IsThe k i z x → IsWithin k z → StoresChange k h x → RecordsWord x (word_after k h (word_place_of x))
       → IsRight s g (stepped d step (seen_in_step x) answer) → Goes z x
   goes (LookHeader dom) (Header t (header.Looked n)) e r a w st says ok = quiet c s k g h i is limits agree inside (stepped d (LookHeader dom) (Word n) answer) (Header t (header.Looked n)) (record { changes = λ z. refl; pins = λ before ps. refl; unpins = λ ps. refl }) refl (λ z half. refl) (λ z. refl) tt
   goes (LookControl dom q) (Entry t y (Looked n)) e r a w st says ok = quiet c s k g h i is limits agree inside (stepped d (LookControl dom q) (Word n) answer) (Entry t y (Looked n)) (record { changes = λ z. refl; pins = λ before ps. refl; unpins = λ ps. refl }) refl (λ z half. refl) (λ z. refl) tt

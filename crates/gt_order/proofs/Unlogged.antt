@@ -18,7 +18,7 @@ use Rattle.gt_script.specs.declared.tasks.RunActionBy.TheVariants.{Await, Do, Te
 use Rattle.gt_live.specs.Domains.{AllowRelation}
 use Rattle.gt_run.specs.Printing.{AreServed, Served, WasServed, all_lost, audits_in, jobs_in, run_text, texts_in}
 use Rattle.gt_run.specs.Serving.{DoesDeed, DoesWhere, ListLeadsTo, ListOutcome, ListProgress, Records}
-use Rattle.gt_run.specs.Serving.{audit_lines, counted, list_start, lost_in, record_made, records_told}
+use Rattle.gt_run.specs.Serving.{audit_lines, counted, list_start, lost_in, record_made, logged_records}
 use Rattle.gt_run.specs.declared.lists.ThreadJob.{ThreadJob}
 use Rattle.gt_script.specs.RunContents.{RunContents}
 use Rattle.gt_run.specs.Runs.{WritesScript}
@@ -27,11 +27,11 @@ use Rattle.gt_order.specs.Printed.{UnloggedRunsPrint}
 
 -- no record of these calls is in a log, and none was lost
 abbrev IsQuiet : List ListOutcome → Type 0
-IsQuiet outcomes = (records_told outcomes ≡ []) × (lost_in outcomes ≡ 0)
+IsQuiet outcomes = (logged_records outcomes ≡ []) × (lost_in outcomes ≡ 0)
 
-quiet-more : (os : List ListOutcome) (o : ListOutcome) → IsQuiet os → o.told ≡ [] → o.lost ≡ 0 → IsQuiet (os ++ o ∷ [])
+quiet-more : (os : List ListOutcome) (o : ListOutcome) → IsQuiet os → o.recorded ≡ [] → o.lost ≡ 0 → IsQuiet (os ++ o ∷ [])
 quiet-more os o quiet told lost = (
-  flat_map-append (λ (x : ListOutcome). x.told) os (o ∷ []) ∙ (ap (λ (l : List Record). l ++ (o.told ++ [])) quiet.0 ∙ (append-nil o.told ∙ told)),
+  flat_map-append (λ (x : ListOutcome). x.recorded) os (o ∷ []) ∙ (ap (λ (l : List Record). l ++ (o.recorded ++ [])) quiet.0 ∙ (append-nil o.recorded ∙ told)),
   sum_by-append (λ (x : ListOutcome). x.lost) os (o ∷ []) ∙ (let before = quiet.1 in omega (arith, before, lost)),
 )
 
@@ -39,8 +39,8 @@ module _ {P : Type 0} (may : P → AllowRelation) (job : ThreadJob P) (unlogged 
   quiet-deed : (line : ℕ) (deed : RunAction) (p q : ListProgress) → DoesDeed may job line deed p q → IsQuiet p.outcomes → IsQuiet q.outcomes
   unfolding DoesDeed
   quiet-deed line (Do call) p q does quiet =
-      let r : Records false (record_made job.part.dom p.domain does.request does.answer) does.told does.lost = subst (λ (b : Bool). Records b (record_made job.part.dom p.domain does.request does.answer) does.told does.lost) unlogged does.records in
-      subst IsQuiet (sym does.outcomes) (quiet-more p.outcomes (record { line = line; answer = does.answer; told = does.told; lost = does.lost }) quiet r.0 r.1)
+      let r : Records false (record_made job.part.dom p.domain does.request does.answer) does.recorded does.lost = subst (λ (b : Bool). Records b (record_made job.part.dom p.domain does.request does.answer) does.recorded does.lost) unlogged does.records in
+      subst IsQuiet (sym does.outcomes) (quiet-more p.outcomes (record { line = line; answer = does.answer; recorded = does.recorded; lost = does.lost }) quiet r.0 r.1)
   quiet-deed line (Tell flag) p q does quiet = subst IsQuiet (ap (λ (r : ListProgress). r.outcomes) (sym does.0)) quiet
   quiet-deed line (Await flag) p q does quiet = subst IsQuiet (ap (λ (r : ListProgress). r.outcomes) (sym does.0)) quiet
 

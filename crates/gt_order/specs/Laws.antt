@@ -1,6 +1,6 @@
 -- Laws about runs, and about the words' steps and the core's items.
 use Rattle.std.specs.Prelude.{◌≡◌, ◌≢◌, ℕ, ◌<◌, ◌∷◌, Option, Some, None}
-use Rattle.gt_order.specs.Prelude.{State, IsWithinLimits, domain_of, Config, Board, StepHistory, Layout, SaysWord}
+use Rattle.gt_order.specs.Prelude.{State, IsWithinLimits, domain_of, Config, Board, StepHistory, Layout, RecordsWord}
 use Rattle.gt_order.specs.Prelude.{word_place_of}
 use Rattle.gt_order.specs.Prelude.{word_after, layout_of, SeatStep, View, path, Makes, Step, CanBeReached, Items}
 use Rattle.gt_order.specs.Prelude.{Underway}
@@ -16,7 +16,7 @@ abbrev pub CoreSeesTheWords : Type 0
 CoreSeesTheWords =
     (c : Config) (may : AllowRelation) (k : Layout) (g : Items) (h : StepHistory) (i : ℕ) (step : Step) (x : SeatStep)
     → k ≡ layout_of c → Agree (setting_of c may) k g h → i < k.domains → IsWithin k step → IsThe k i step x
-    → SaysWord x (word_after k h (word_place_of x)) → seen_by (setting_of c may) g (dom_at k i) step ≡ seen_in_step x
+    → RecordsWord x (word_after k h (word_place_of x)) → seen_by (setting_of c may) g (dom_at k i) step ≡ seen_in_step x
 
 -- if items and history agree, and the seat of an open call made its next step, they agree after it
 abbrev pub StepsKeepAgreement : Type 0
@@ -28,7 +28,7 @@ StepsKeepAgreement =
     let item : Item = record { actor = d; happened = Stepped step (seen_in_step x); answer = answer } in
     CanBeReached s g → Agree s k g h → domain_of s.domains d ≢ None → open_call g d.0 ≡ Some call
     → path (known_at s g d) d call.request (values call) ≡ Some (Makes step)
-    → IsWithin k step → IsThe k i step x → StoresChange k h x → SaysWord x (word_after k h (word_place_of x))
+    → IsWithin k step → IsThe k i step x → StoresChange k h x → RecordsWord x (word_after k h (word_place_of x))
     → IsRight s g item → Agree s k (item ∷ g) ((i, x) ∷ h)
 
 -- each run of the monitor has a legal order

@@ -63,7 +63,7 @@ pub use Rattle.gt_types.specs.declared.limits.TheConstants.{TABLE_ENTRIES}
 pub use Rattle.gt_words.specs.Conditions.{Board, HasDomain, IsSameSeat}
 pub use Rattle.gt_words.specs.Frames.{AccessesFrame, CopiesFrames}
 pub use Rattle.gt_word_history.specs.Controls.{generation_of}
-pub use Rattle.gt_word_history.specs.History.{StepHistory, Layout, Moment, SaysWord, half_index, part_of, word_place_of}
+pub use Rattle.gt_word_history.specs.History.{StepHistory, Layout, Moment, RecordsWord, half_index, part_of, word_place_of}
 pub use Rattle.gt_word_history.specs.History.{word_after}
 pub use Rattle.gt_word_history.specs.Rule.{Shows, header_place, id_at, layout_of, place, position_in}
 pub use Rattle.gt_word_history.specs.Steps.{changed, changed_word}

@@ -5,7 +5,7 @@ use Rattle.std.specs.Io.KnownBytes.{Appends}
 use Rattle.gt_types.specs.Names.{domain_of}
 use Rattle.gt_types.specs.declared.config.DomainConfig.{DomainConfig}
 use Rattle.gt_order.specs.Prelude.{DomId, Handle, Legal, N26, NoFacts, Request, denial_of}
-use Rattle.gt_order.specs.RunNames.{Answer, Do, Named, RunAction, RunTask, SaysRequest}
+use Rattle.gt_order.specs.RunNames.{Answer, Do, Named, RunAction, RunTask, MakesRequest}
 use Rattle.gt_order.specs.RunNames.{ThreadJob, WritesAll}
 use Rattle.gt_calls.specs.declared.request.Request.TheVariants as requests
 use Rattle.gt_core.specs.declared.trace.Answer.TheVariants as answers
@@ -46,7 +46,7 @@ Starves dom request Rest hs = IsAllocating request × Rest hs
 abbrev pub GetsNoMemory : List (List ℕ) → DomId → List Named → List Handle → ℕ → RunAction
     → (List Named → List Handle → List Happening → List ℕ → Type 0) → List Happening → List ℕ → Type 0
 GetsNoMemory types dom named held line (Do call) Next hs text =
-    (request : Request) × SaysRequest named dom call request
+    (request : Request) × MakesRequest named dom call request
     × Starves dom request (λ more. Prints (answer_line types line dom no_memory) (Next named held more) text) hs
 GetsNoMemory types dom named held line action Next hs text = ⊥
 

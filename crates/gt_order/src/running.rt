@@ -1,6 +1,6 @@
 //! Runs of scripts, by the texts that they may print.
 ghost use Rattle.std.specs.Prelude.{is_some};
-ghost use Rattle.gt_script.specs.RunScripts.{RunTells};
+ghost use Rattle.gt_script.specs.RunScripts.{ReadsAsRun};
 ghost use Rattle.gt_text.specs.Streams.{ConsumesAtMost, OfInput};
 ghost use Rattle.gt_text.specs.declared.streams.TheConstants.{READ_LIMIT};
 ghost use Rattle.gt_order.specs.Running.{RanInOrder};
@@ -28,7 +28,7 @@ pub fn run<R: Threads + Wait + Sync, I: Read, W: Write, G: Gate + Sync>(
     gate: &G,
 ) -> Result<(), RunFault>
     ensures text { OfInput (I.remaining reader.old) (λ input.
-        RanInOrder (is_some log.entry) (RunTells input) (W.contents writer.old) (W.contents writer.new) result) }
+        RanInOrder (is_some log.entry) (ReadsAsRun input) (W.contents writer.old) (W.contents writer.new) result) }
     ensures read { ConsumesAtMost READ_LIMIT (I.remaining reader.old) (I.remaining reader.new) }
 {
     gt_run::run(rt, alloc, reader, writer, log, gate)

@@ -25,7 +25,7 @@ use Rattle.gt_policy.specs.declared.rules.AllowRule.{AllowRule}
 use Rattle.gt_policy.specs.Names.{Names, symbol_of}
 use Rattle.gt_policy.specs.Resolving.{known, type_in, attribute_in, element_of, elements_of, given_by, with_statement}
 use Rattle.gt_policy.specs.Resolving.{resolved_draft, granted, nothing_given}
-use Rattle.gt_policy.specs.Allowing.{was_given, stands_for, is_with, holds_type, says_itself, is_granted_by}
+use Rattle.gt_policy.specs.Allowing.{was_given, stands_for, is_with, holds_type, names_itself, is_granted_by}
 use Rattle.gt_policy.specs.Allowing.{some_grants, AreWithin}
 use Rattle.gt_policy.proofs.TextLemmas.{bind_ok}
 use Rattle.gt_policy.proofs.GrantingLemmas.{known_ok, type_ok, type_place, give_rules, allow_read, rule_of}
@@ -142,7 +142,7 @@ module _ (names : Names) where
                 source,
                 elim (either _ _ (right _ _ here)) [
                   | inl target ↦ set_bound r.target b.1 b.3 t target
-                  | inr itself ↦ subst (λ (k : ℕ). k < length names.types) (sym (eqb-true t s (right (says_itself b.1) (t == s) itself))) source
+                  | inr itself ↦ subst (λ (k : ℕ). k < length names.types) (sym (eqb-true t s (right (names_itself b.1) (t == s) itself))) source
                 ],
               )
         ] in

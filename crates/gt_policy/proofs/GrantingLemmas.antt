@@ -37,7 +37,7 @@ use Rattle.gt_policy.specs.Resolving.{known, any_symbol, type_in, type_symbol, a
 use Rattle.gt_policy.specs.Resolving.{element_of, elements_of, given_by, with_allowance, with_statement, resolved_draft}
 use Rattle.gt_policy.specs.Resolving.{granted}
 use Rattle.gt_policy.specs.Resolving.{has_grant, nothing_given}
-use Rattle.gt_policy.specs.Allowing.{was_given, stands_for, is_with, is_without, holds_type, is_itself, says_itself}
+use Rattle.gt_policy.specs.Allowing.{was_given, stands_for, is_with, is_without, holds_type, is_itself, names_itself}
 use Rattle.gt_policy.specs.Allowing.{is_granted_by, is_allowed, type_named, Meaning}
 use Rattle.gt_policy.specs.Granting.{mentions, gives, is_named, names_with, names_without, set_holds, is_self}
 use Rattle.gt_policy.specs.Granting.{lists_word, statement_grants, is_granted}
@@ -292,9 +292,9 @@ module _ (names : Names) (ss : List Statement) (has : ℕ → ℕ → Bool) (kno
       let listed = lists_words a.classes a.perms w perm is_w in
       ap (λ (rs : List DraftRule). list_any p rs) b.5 ∙ list_any-append p d.rules (rule_of b.0 b.1 (granted a.classes a.perms) ∷ [])
       ∙ ap (λ x. list_any p d.rules || x) (sym (or_false (p (rule_of b.0 b.1 (granted a.classes a.perms))))
-      ∙ ap (λ x. (x && holds_type has b.0 i) && (holds_type has b.1 j || (says_itself b.1 && (j == i)))) listed
-      ∙ ap (λ x. ((has_grant a.classes && lists_word a.perms w) && x) && (holds_type has b.1 j || (says_itself b.1 && (j == i)))) source
-      ∙ ap (λ x. ((has_grant a.classes && lists_word a.perms w) && set_holds ss a.source s) && (x || (says_itself b.1 && (j == i)))) target
+      ∙ ap (λ x. (x && holds_type has b.0 i) && (holds_type has b.1 j || (names_itself b.1 && (j == i)))) listed
+      ∙ ap (λ x. ((has_grant a.classes && lists_word a.perms w) && x) && (holds_type has b.1 j || (names_itself b.1 && (j == i)))) source
+      ∙ ap (λ x. ((has_grant a.classes && lists_word a.perms w) && set_holds ss a.source s) && (x || (names_itself b.1 && (j == i)))) target
       ∙ ap (λ x. ((has_grant a.classes && lists_word a.perms w) && set_holds ss a.source s) && (set_holds ss a.target t || (x && (j == i)))) self
       ∙ ap (λ x. ((has_grant a.classes && lists_word a.perms w) && set_holds ss a.source s) && (set_holds ss a.target t || (list_any is_self a.target && x))) (sym one))
 

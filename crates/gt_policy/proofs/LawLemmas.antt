@@ -11,7 +11,7 @@ use Rattle.gt_policy.specs.Grammar.{Lexemes, statement, at, ◌>>=◌}
 use Rattle.gt_policy.specs.Spelling.{declared_names}
 use Rattle.gt_policy.specs.Allowing.{Meaning}
 use Rattle.gt_policy.specs.Resolving.{resolved_draft, nothing_given}
-use Rattle.gt_policy.specs.Whole.{Follows, ended, more, wrong, Says, too_long, clean, faulty, meaning_of}
+use Rattle.gt_policy.specs.Whole.{Follows, ended, more, wrong, ReadsAs, too_long, clean, faulty, meaning_of}
 use Rattle.gt_policy.specs.Undeclared.{IsFirstUndeclared, uses_of}
 use Rattle.gt_policy.specs.Accepting.{IsWritten, IsBroken, SpellsFront, front_end, front_more, meant_by}
 use Rattle.gt_policy.proofs.TextLemmas.{added, all_added, bind_ok, statement_read, statement_spelled, text_read}
@@ -20,7 +20,7 @@ use Rattle.gt_policy.proofs.CleanLemmas.{clean_added, added_clean}
 use Rattle.gt_policy.proofs.UndeclaredLemmas.{meant_undeclared, undeclared_meant}
 
 abbrev says : List ℕ → Type 0
-says text = (said : Result Meaning TokenFault) × Says text said
+says text = (said : Result Meaning TokenFault) × ReadsAs text said
 
 said_by : (text : List ℕ) → length text ≤ 1048576 → (said : Result (Names × List Statement) TokenFault) → Follows no_names [] (lexemes_of text) said → says text
 said_by text short (Ok (names, ss)) h = (meaning_of names (resolved_draft names nothing_given ss), clean text names ss short h)
@@ -40,7 +40,7 @@ says_some text = go (nat_lt 1048576 (length text)) refl
 written_follows : (text : List ℕ) (ss : List Statement) → IsWritten text ss → Follows no_names [] (lexemes_of text) (Ok (declared_names ss, ss))
 written_follows text ss w = text_spelled ss (lexemes_of text) w.spelled no_names (declared_names ss) [] (clean_added ss w.clean)
 
-pub written_says : (text : List ℕ) (ss : List Statement) → IsWritten text ss → Says text (meant_by ss)
+pub written_says : (text : List ℕ) (ss : List Statement) → IsWritten text ss → ReadsAs text (meant_by ss)
 written_says text ss w = clean text (declared_names ss) ss w.short (written_follows text ss w)
 
 -- and the other way round
@@ -51,7 +51,7 @@ follows_written text names ss short h =
     let same : r.0 ≡ ss = sym r.1 in
     subst (λ (xs : List Statement). IsWritten text xs × (declared_names xs ≡ names)) same (record { short = short; spelled = r.2; clean = c.0 }, c.1)
 
-pub says_written : (text : List ℕ) (said : Result Meaning TokenFault) → Says text said → (m : Meaning) → said ≡ Ok m → (ss : List Statement) × IsWritten text ss × (meant_by ss ≡ Ok m)
+pub says_written : (text : List ℕ) (said : Result Meaning TokenFault) → ReadsAs text said → (m : Meaning) → said ≡ Ok m → (ss : List Statement) × IsWritten text ss × (meant_by ss ≡ Ok m)
 says_written text said (too_long _ long) m e = absurd (cc)
 says_written text said (clean _ names ss short h) m e =
     let w = follows_written text names ss short h in
@@ -76,10 +76,10 @@ broken_follows front ls rest (front_more s others _ behind _ h t) seen names ss 
     let b = bind_ok (added seen s) (λ next. all_added next others) names fits in
     more seen b.0 ss s ls behind (Err f) (statement_spelled seen b.0 s ls behind h b.1) (broken_follows others behind rest t b.0 names (ss ++ s ∷ []) f b.2 e)
 
-pub broken_says : (text : List ℕ) (f : TokenFault) → IsBroken text f → Says text (Err f)
+pub broken_says : (text : List ℕ) (f : TokenFault) → IsBroken text f → ReadsAs text (Err f)
 broken_says text f b = faulty text f b.short (broken_follows b.before (lexemes_of text) b.rest b.spelled no_names (declared_names b.before) [] f (clean_added b.before b.clean) b.fault)
 
-says_faulty : (text : List ℕ) (said : Result Meaning TokenFault) → Says text said → (f : TokenFault) → said ≡ Err f
+says_faulty : (text : List ℕ) (said : Result Meaning TokenFault) → ReadsAs text said → (f : TokenFault) → said ≡ Err f
     → ((1048576 < length text) × (at 1 Limit ≡ f)) ⊎ (IsBroken text f ⊎ ((ss : List Statement) × IsWritten text ss × (meant_by ss ≡ Err f)))
 says_faulty text said (too_long _ long) f e = inl (long, cc)
 says_faulty text said (clean _ names ss short h) f e =
@@ -98,8 +98,8 @@ first_fault text f (inl long) = inl long
 first_fault text f (inr (inl broken)) = inr (inl broken)
 first_fault text f (inr (inr w)) = inr (inr (w.0, w.1, meant_undeclared w.0 f w.1.clean w.2))
 
-pub says_first_fault : (text : List ℕ) (f : TokenFault) → Says text (Err f) → ((1048576 < length text) × (at 1 Limit ≡ f)) ⊎ (IsBroken text f ⊎ ((ss : List Statement) × IsWritten text ss × IsFirstUndeclared ss (uses_of ss) f))
+pub says_first_fault : (text : List ℕ) (f : TokenFault) → ReadsAs text (Err f) → ((1048576 < length text) × (at 1 Limit ≡ f)) ⊎ (IsBroken text f ⊎ ((ss : List Statement) × IsWritten text ss × IsFirstUndeclared ss (uses_of ss) f))
 says_first_fault text f h = first_fault text f (says_faulty text (Err f) h f refl)
 
-pub undeclared_says : (text : List ℕ) (ss : List Statement) (f : TokenFault) → IsWritten text ss → IsFirstUndeclared ss (uses_of ss) f → Says text (Err f)
-undeclared_says text ss f w first = subst (λ (r : Result Meaning TokenFault). Says text r) (undeclared_meant ss f w.clean first) (written_says text ss w)
+pub undeclared_says : (text : List ℕ) (ss : List Statement) (f : TokenFault) → IsWritten text ss → IsFirstUndeclared ss (uses_of ss) f → ReadsAs text (Err f)
+undeclared_says text ss f w first = subst (λ (r : Result Meaning TokenFault). ReadsAs text r) (undeclared_meant ss f w.clean first) (written_says text ss w)

@@ -13,7 +13,7 @@ use Rattle.gt_policy.specs.Grammar.{Lexemes}
 use Rattle.gt_policy_text.specs.Lexing.{lexemes_of}
 use Rattle.gt_policy.specs.Names.{Names}
 use Rattle.gt_policy.specs.Spelling.{SpellsStatement}
-use Rattle.gt_policy.specs.Whole.{Follows, Says}
+use Rattle.gt_policy.specs.Whole.{Follows, ReadsAs}
 
 -- the statements without their lines
 abbrev pub statements_in : List LinedStatement → List Statement
@@ -42,10 +42,10 @@ abbrev pub HeedsLined : Result (List LinedStatement) ReadError → Names → Nam
 HeedsLined r seen before ls = UnlessMemory fault_in r (λ found. FollowsLined seen before ls found)
 
 -- these statements spell the text, or it has this fault
-abbrev pub TellsLined : Result (List LinedStatement) TokenFault → List ℕ → Type 0
-TellsLined (Ok xs) text = IsLined text xs
-TellsLined (Err f) text = Says text (Err f)
+abbrev pub ReadsAsLined : Result (List LinedStatement) TokenFault → List ℕ → Type 0
+ReadsAsLined (Ok xs) text = IsLined text xs
+ReadsAsLined (Err f) text = ReadsAs text (Err f)
 
 -- the same, unless an allocation failed
 abbrev pub LinedIs : Result (List LinedStatement) ReadError → List ℕ → Type 0
-LinedIs r text = UnlessMemory fault_in r (λ found. TellsLined found text)
+LinedIs r text = UnlessMemory fault_in r (λ found. ReadsAsLined found text)

@@ -6,7 +6,7 @@ ghost use Rattle.gt_policy.specs.Grammar.{at};
 ghost use Rattle.gt_policy.specs.Granting.{is_granted, lists_word};
 ghost use Rattle.gt_policy.specs.Resolving.{granted, has_grant};
 ghost use Rattle.gt_policy.specs.Undeclared.{AreDeclared, IsFirstUndeclared, uses_of};
-ghost use Rattle.gt_policy.specs.Whole.{Says};
+ghost use Rattle.gt_policy.specs.Whole.{ReadsAs};
 ghost use Rattle.gt_policy.specs.declared.fault.TokenFault.{TokenFault};
 ghost use Rattle.gt_policy.specs.declared.fault.TokenFaultKind.{TokenFaultKind};
 ghost use Rattle.gt_policy.specs.declared.statements.Permissions.{Permissions};
@@ -18,23 +18,23 @@ ghost use Rattle.gt_types.specs.declared.perms.Perms.{Perms};
 use gt_types::{LONGEST_TEXT, the_permissions};
 
 /// A law: every text is a policy or has a fault.
-pub fn every_text_says_something()
-    ensures { (text : List ℕ) → (said : Result Meaning TokenFault) × Says text said }
+pub fn every_text_has_a_meaning()
+    ensures { (text : List ℕ) → (said : Result Meaning TokenFault) × ReadsAs text said }
 {}
 
 /// A law: no text has two meanings, two faults, or one of each.
 pub fn one_meaning()
     ensures { (text : List ℕ) (one other : Result Meaning TokenFault) →
-        Says text one → Says text other → one ≡ other }
+        ReadsAs text one → ReadsAs text other → one ≡ other }
 {}
 
 /// A law: a text is a policy exactly if clean statements whose names are all declared spell its tokens. It then means
 /// what these statements mean.
 pub fn written_texts()
-    ensures accepted { (text : List ℕ) (m : Meaning) → Says text (Ok m) →
+    ensures accepted { (text : List ℕ) (m : Meaning) → ReadsAs text (Ok m) →
         (ss : List Statement) × IsWritten text ss × AreDeclared ss × (meant_by ss ≡ Ok m) }
     ensures written { (text : List ℕ) (ss : List Statement) →
-        IsWritten text ss → Says text (meant_by ss) }
+        IsWritten text ss → ReadsAs text (meant_by ss) }
     ensures meant { (text : List ℕ) (ss : List Statement) →
         IsWritten text ss → AreDeclared ss → (m : Meaning) × (meant_by ss ≡ Ok m) }
 {}
@@ -42,13 +42,13 @@ pub fn written_texts()
 /// A law: the fault of a text is one of three. The text is too long. Or it is the fault of the first malformed
 /// statement. Or all statements are clean, and it is the fault of the first name that is not declared as it has to be.
 pub fn first_faults()
-    ensures faulty { (text : List ℕ) (f : TokenFault) → Says text (Err f) →
+    ensures faulty { (text : List ℕ) (f : TokenFault) → ReadsAs text (Err f) →
         ((LONGEST_TEXT < length text) × (at 1 TokenFaultKind.Limit ≡ f))
         ⊎ (IsBroken text f
         ⊎ ((ss : List Statement) × IsWritten text ss × IsFirstUndeclared ss (uses_of ss) f)) }
-    ensures broken { (text : List ℕ) (f : TokenFault) → IsBroken text f → Says text (Err f) }
+    ensures broken { (text : List ℕ) (f : TokenFault) → IsBroken text f → ReadsAs text (Err f) }
     ensures undeclared { (text : List ℕ) (ss : List Statement) (f : TokenFault) →
-        IsWritten text ss → IsFirstUndeclared ss (uses_of ss) f → Says text (Err f) }
+        IsWritten text ss → IsFirstUndeclared ss (uses_of ss) f → ReadsAs text (Err f) }
 {}
 
 /// A law: a policy allows what the statements of its text grant, by the names in them. Some allow statement whose

@@ -2,7 +2,7 @@
 ghost use Rattle.std.specs.Prelude.{◌≡◌, ◌≤◌, length, IfOk, IfErr, Some, None, Err};
 ghost use Rattle.gt_policy.specs.Lined.{HeedsLined, LinedIs, IsLined};
 ghost use Rattle.gt_policy.specs.Shown.{fault_shown, out_of_memory};
-ghost use Rattle.gt_policy.specs.Whole.{Says};
+ghost use Rattle.gt_policy.specs.Whole.{ReadsAs};
 ghost use Rattle.gt_policy.specs.declared.fault.TokenFault.{TokenFault};
 
 use crate::fault::ReadError;
@@ -55,7 +55,7 @@ pub fn statements_of<'a>(
     text: &'a str,
 ) -> Result<Items<LinedStatement<'a>>, PolicyFault>
     ensures ok { IfOk result (λ statements. IsLined text.entry.now statements) }
-    ensures fault { IfErr result (λ e. (f : TokenFault) → fault_shown e ≡ Some f → Says text.entry.now (Err f)) }
+    ensures fault { IfErr result (λ e. (f : TokenFault) → fault_shown e ≡ Some f → ReadsAs text.entry.now (Err f)) }
     ensures memory { IfErr result (λ e. fault_shown e ≡ None → e ≡ out_of_memory) }
 {
     if text.len() > LONGEST_TEXT {

@@ -2,7 +2,7 @@
 ghost use Rattle.std.specs.Prelude.{◌≡◌, ℕ, IfOk};
 ghost use Rattle.std.specs.List.{list_any};
 ghost use Rattle.gt_types.specs.declared.perms.Perms.{Perms};
-ghost use Rattle.gt_policy.specs.Allowing.{was_given, stands_for, is_with, is_without, holds_type, says_itself};
+ghost use Rattle.gt_policy.specs.Allowing.{was_given, stands_for, is_with, is_without, holds_type, names_itself};
 ghost use Rattle.gt_policy.specs.Allowing.{is_granted_by, grants, some_grants};
 ghost use Rattle.gt_policy.specs.Members.{has};
 ghost use Rattle.gt_policy.specs.Rows.{is_reached};
@@ -50,8 +50,8 @@ impl AllowRule {
     }
 }
 
-fn says_itself(set: &[DraftElement]) -> bool
-    ensures { result ≡ says_itself set.now }
+fn names_itself(set: &[DraftElement]) -> bool
+    ensures { result ≡ names_itself set.now }
 {
     for element in set {
         if let DraftElement::Itself = element {
@@ -132,7 +132,7 @@ impl Members {
         AllowRule {
             source: self.types_of(draft.source.as_slice()),
             target: self.types_of(draft.target.as_slice()),
-            itself: says_itself(draft.target.as_slice()),
+            itself: names_itself(draft.target.as_slice()),
             perms: draft.perms,
         }
     }

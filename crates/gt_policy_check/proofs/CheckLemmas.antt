@@ -6,7 +6,7 @@ use Rattle.std.specs.List.{flat_map, list_any}
 use Rattle.gt_types.specs.Names.{every_permission, permission_name}
 use Rattle.gt_policy.specs.Granting.{statement_grants}
 use Rattle.gt_policy.specs.Shown.{fault_shown}
-use Rattle.gt_policy.specs.Whole.{Says}
+use Rattle.gt_policy.specs.Whole.{ReadsAs}
 use Rattle.gt_policy.specs.declared.fault.TokenFault.{TokenFault}
 use Rattle.gt_policy.specs.declared.parse.PolicyFaultKind.{PolicyFaultKind}
 use Rattle.gt_policy.specs.declared.parse.PolicyFaultKind.TheVariants as kinds
@@ -19,7 +19,7 @@ use Rattle.gt_policy.specs.declared.statements.Statement.TheVariants.{DeclareTyp
 use Rattle.gt_policy.specs.declared.statements.Statement.TheVariants.{Allow}
 use Rattle.gt_policy_check.specs.declared.findings.Finding.{Finding}
 use Rattle.gt_policy_check.specs.Check.{is_useless_with, allows_nothing, useless_line, is_error, is_of_nothing, is_of_repeat}
-use Rattle.gt_policy_check.specs.Check.{error_lines, nothing_lines, repeat_lines, Quiet, TellsUseless, Judges, faulty}
+use Rattle.gt_policy_check.specs.Check.{error_lines, nothing_lines, repeat_lines, Quiet, AddsUseless, Judges, faulty}
 use Rattle.gt_policy_check.specs.Check.{grants_something, grants_with, grants_no_more, no_more_with, repeats, repeats_with}
 use Rattle.gt_policy_check.specs.Check.{repeated_with, lines_repeated}
 use Rattle.std.proofs.lemmas.List.{append-nil, flat_map_more, take_more}
@@ -104,14 +104,14 @@ module _ (old new : List Finding) (x : Finding) (is : new ≡ old ++ x ∷ []) w
 pub quiet_push : (old new : List Finding) (x : Finding) → is_error x.kind ≡ false → is_of_nothing x.kind ≡ false → is_of_repeat x.kind ≡ false → new ≡ old ++ x ∷ [] → Quiet old new
 quiet_push old new x fine nothing repeat is = (no_error_more old new x is fine, no_statement_more old new x is nothing, no_repeat_more old new x is repeat)
 
-pub nothing_push : (old new : List Finding) (x : Finding) → is_error x.kind ≡ false → is_of_nothing x.kind ≡ true → is_of_repeat x.kind ≡ false → new ≡ old ++ x ∷ [] → TellsUseless old new (x.line ∷ []) []
+pub nothing_push : (old new : List Finding) (x : Finding) → is_error x.kind ≡ false → is_of_nothing x.kind ≡ true → is_of_repeat x.kind ≡ false → new ≡ old ++ x ∷ [] → AddsUseless old new (x.line ∷ []) []
 nothing_push old new x fine tells repeat is = (no_error_more old new x is fine, a_statement_more old new x is tells, no_more (repeat_lines old) (repeat_lines new) (no_repeat_more old new x is repeat))
 
-pub repeat_push : (old new : List Finding) (x : Finding) → is_error x.kind ≡ false → is_of_nothing x.kind ≡ false → is_of_repeat x.kind ≡ true → new ≡ old ++ x ∷ [] → TellsUseless old new [] (x.line ∷ [])
+pub repeat_push : (old new : List Finding) (x : Finding) → is_error x.kind ≡ false → is_of_nothing x.kind ≡ false → is_of_repeat x.kind ≡ true → new ≡ old ++ x ∷ [] → AddsUseless old new [] (x.line ∷ [])
 repeat_push old new x fine nothing tells is = (no_error_more old new x is fine, no_more (nothing_lines old) (nothing_lines new) (no_statement_more old new x is nothing), a_repeat_more old new x is tells)
 
 -- a statement that repeats another, and then a note
-pub repeat_then_note : (a b c : List Finding) (repeated : List ℕ) → TellsUseless a b [] repeated → Quiet b c → TellsUseless a c [] repeated
+pub repeat_then_note : (a b c : List Finding) (repeated : List ℕ) → AddsUseless a b [] repeated → Quiet b c → AddsUseless a c [] repeated
 repeat_then_note a b c repeated t q = (q.0 ∙ t.0, q.1 ∙ t.1, q.2 ∙ t.2)
 
 one_then_none : (a b c l : List ℕ) → b ≡ a ++ l → c ≡ b ++ [] → c ≡ a ++ l
@@ -121,7 +121,7 @@ none_then_one : (a b c l : List ℕ) → b ≡ a ++ [] → c ≡ b ++ l → c �
 none_then_one a b c l p q = q ∙ ap (λ (x : List ℕ). x ++ l) (p ∙ append-nil a)
 
 -- nothing more, then what a statement has useless, and then nothing more
-pub tells_all : (a b c d e : List Finding) (nothing repeated : List ℕ) → Quiet a b → TellsUseless b c nothing [] → TellsUseless c d [] repeated → Quiet d e → TellsUseless a e nothing repeated
+pub tells_all : (a b c d e : List Finding) (nothing repeated : List ℕ) → Quiet a b → AddsUseless b c nothing [] → AddsUseless c d [] repeated → Quiet d e → AddsUseless a e nothing repeated
 tells_all a b c d e nothing repeated q n r m = (
   m.0 ∙ r.0 ∙ n.0 ∙ q.0,
   m.1 ∙ one_then_none (nothing_lines a) (nothing_lines c) (nothing_lines d) nothing (n.1 ∙ ap (λ (l : List ℕ). l ++ nothing) q.1) r.1,
@@ -191,7 +191,7 @@ repeated_same xs before (y ∷ ys) =
     ap₂ (λ (b : Bool) (l : List ℕ). (if b then y.line ∷ [] else []) ++ l) (repeats_same xs before y.statement) (repeated_same xs (before ++ y ∷ []) ys)
 
 -- a text that is not a policy
-pub judged_faulty : (line : ℕ) (kind : PolicyFaultKind) (text : List ℕ) (found : List Finding) → ((f : TokenFault) → fault_shown (record { line = line; kind = kind }) ≡ Some f → Says text (Err f))
+pub judged_faulty : (line : ℕ) (kind : PolicyFaultKind) (text : List ℕ) (found : List Finding) → ((f : TokenFault) → fault_shown (record { line = line; kind = kind }) ≡ Some f → ReadsAs text (Err f))
     → is_some (fault_shown (record { line = line; kind = kind })) ≡ true → error_lines found ≡ line ∷ [] → Judges text found
 judged_faulty line kinds.Memory text found says shown lines = absurd (cc)
 judged_faulty line kinds.Syntax text found says shown lines = faulty _ found (says _ refl) lines

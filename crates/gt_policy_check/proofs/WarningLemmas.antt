@@ -5,7 +5,7 @@ use Rattle.std.specs.List.{flat_map}
 use Rattle.gt_policy.specs.Allowing.{Meaning}
 use Rattle.gt_policy.specs.Lined.{IsLined}
 use Rattle.gt_policy.specs.Shown.{fault_shown}
-use Rattle.gt_policy.specs.Whole.{Says}
+use Rattle.gt_policy.specs.Whole.{ReadsAs}
 use Rattle.gt_policy.specs.declared.fault.TokenFault.{TokenFault}
 use Rattle.gt_policy.specs.declared.lined.LinedStatement.{LinedStatement}
 use Rattle.gt_policy.specs.declared.parse.PolicyFaultKind.{PolicyFaultKind}
@@ -36,7 +36,7 @@ repeated_so xs ms (Err fault) s is = tt
 repeated_so xs ms (Ok v) s is = repeated_of xs ms (repeat_lines v.items) s is
 
 -- the findings of a policy are those of its text
-pub judged_sound : {E : Type 0} (text : List ℕ) (m : Meaning) (xs ys : List LinedStatement) (r : Result (Vec Finding Global) E) → ys ≡ xs → Says text (Ok m) → IsLined text xs
+pub judged_sound : {E : Type 0} (text : List ℕ) (m : Meaning) (xs ys : List LinedStatement) (r : Result (Vec Finding Global) E) → ys ≡ xs → ReadsAs text (Ok m) → IsLined text xs
     → IfOk r (λ v. error_lines v.items ≡ []) → IfOk r (λ v. nothing_lines v.items ≡ map (λ x. x.line) (filter (λ x. allows_nothing ys x.statement) ys))
     → IfOk r (λ v. repeat_lines v.items ≡ lines_repeated ys [] ys) → IfOk r (λ v. Judges text v.items)
 judged_sound text m xs ys (Err fault) same says lined none nothing repeated = tt
@@ -44,7 +44,7 @@ judged_sound text m xs ys (Ok v) same says lined none nothing repeated = sound m
 
 -- the finding of a text that is not a policy
 pub judged_fault : {E : Type 0} (line : ℕ) (kind : PolicyFaultKind) (text : List ℕ) (r : Result (Vec Finding Global) E)
-    → ((f : TokenFault) → fault_shown (record { line = line; kind = kind }) ≡ Some f → Says text (Err f))
+    → ((f : TokenFault) → fault_shown (record { line = line; kind = kind }) ≡ Some f → ReadsAs text (Err f))
     → IfOk r (λ _. is_some (fault_shown (record { line = line; kind = kind })) ≡ true) → IfOk r (λ v. error_lines v.items ≡ line ∷ []) → IfOk r (λ v. Judges text v.items)
 judged_fault line kind text (Err fault) says shown lines = tt
 judged_fault line kind text (Ok v) says shown lines = judged_faulty line kind text v.items says shown lines

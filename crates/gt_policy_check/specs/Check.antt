@@ -2,7 +2,7 @@
 use Rattle.std.specs.Prelude.{◌≡◌, ℕ, Bool, true, false, not, ◌&&◌, List, [], ◌∷◌, ◌++◌, Ok, Err, map, filter}
 use Rattle.std.specs.Prelude.{if◌then◌else◌}
 use Rattle.gt_policy_check.specs.Prelude.{flat_map, list_any, every_permission, permission_name, Meaning, statement_grants}
-use Rattle.gt_policy_check.specs.Prelude.{IsLined, statements_in, has_grant, types_in, Says, TokenFault, LinedStatement}
+use Rattle.gt_policy_check.specs.Prelude.{IsLined, statements_in, has_grant, types_in, ReadsAs, TokenFault, LinedStatement}
 use Rattle.gt_policy_check.specs.Prelude.{Statement, DeclareType, DeclareAttribute, GiveAttributes, Allow, Finding, FindingKind}
 use Rattle.gt_policy_check.specs.Prelude.{Fault, OtherClass, OtherPermission, AllowsNothing, NeverAsked, Repeats, NeverNamed}
 use Rattle.gt_policy_check.specs.Prelude.{NoDomain, NeverMatters, NeverMapped, Note, Member}
@@ -137,16 +137,16 @@ Quiet old new =
 
 -- no finding that was added is an error; these lines of statements that allow nothing were added, and
 -- these of statements that repeat another
-abbrev pub TellsUseless : List Finding → List Finding → List ℕ → List ℕ → Type 0
-TellsUseless old new nothing repeated =
+abbrev pub AddsUseless : List Finding → List Finding → List ℕ → List ℕ → Type 0
+AddsUseless old new nothing repeated =
     (error_lines new ≡ error_lines old) × (nothing_lines new ≡ nothing_lines old ++ nothing)
     × (repeat_lines new ≡ repeat_lines old ++ repeated)
 
 -- The findings of a text. A text that is not a policy has one error, at the line of its first fault. A policy has
 -- none, and its findings include exactly the statements that allow nothing, and exactly those that repeat one.
 pub data Judges (text : List ℕ) : List Finding → Type 0 where
-  faulty : (f : TokenFault) (found : List Finding) → Says text (Err f) → error_lines found ≡ f.line ∷ []
+  faulty : (f : TokenFault) (found : List Finding) → ReadsAs text (Err f) → error_lines found ≡ f.line ∷ []
       → Judges text found
-  sound : (m : Meaning) (xs : List LinedStatement) (found : List Finding) → Says text (Ok m) → IsLined text xs
+  sound : (m : Meaning) (xs : List LinedStatement) (found : List Finding) → ReadsAs text (Ok m) → IsLined text xs
       → error_lines found ≡ [] → nothing_lines found ≡ map (λ x. x.line) (filter (λ x. allows_nothing xs x.statement) xs)
       → repeat_lines found ≡ lines_repeated xs [] xs → Judges text found

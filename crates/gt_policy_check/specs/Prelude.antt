@@ -10,7 +10,7 @@ pub use Rattle.gt_policy.specs.Granting.{statement_grants}
 pub use Rattle.gt_policy.specs.Lined.{IsLined, statements_in}
 pub use Rattle.gt_policy.specs.Resolving.{has_grant}
 pub use Rattle.gt_policy.specs.Spelling.{types_in}
-pub use Rattle.gt_policy.specs.Whole.{Says}
+pub use Rattle.gt_policy.specs.Whole.{ReadsAs}
 pub use Rattle.gt_policy.specs.declared.fault.TokenFault.{TokenFault}
 pub use Rattle.gt_policy.specs.declared.lined.LinedStatement.{LinedStatement}
 pub use Rattle.gt_policy.specs.declared.statements.Statement.{Statement}

@@ -1,6 +1,6 @@
 //! Adds findings.
 ghost use Rattle.std.specs.Prelude.{◌≡◌, ◌∷◌, [], true, false, OnOk};
-ghost use Rattle.gt_policy_check.specs.Check.{Quiet, TellsUseless, is_error, is_of_nothing, is_of_repeat};
+ghost use Rattle.gt_policy_check.specs.Check.{Quiet, AddsUseless, is_error, is_of_nothing, is_of_repeat};
 
 use crate::fault::FindingNote;
 use crate::findings::{Finding, FindingKind};
@@ -75,7 +75,7 @@ pub(crate) fn push_nothing(found: &mut Vec<Finding>, finding: Finding) -> Result
     requires no_error { is_error finding.kind ≡ false }
     requires of_statement { is_of_nothing finding.kind ≡ true }
     requires no_repeat { is_of_repeat finding.kind ≡ false }
-    ensures { OnOk result (TellsUseless found.old.items found.new.items (finding.line ∷ []) []) }
+    ensures { OnOk result (AddsUseless found.old.items found.new.items (finding.line ∷ []) []) }
 {
     found.push(finding)?;
     Ok(())
@@ -87,7 +87,7 @@ pub(crate) fn push_repeat(found: &mut Vec<Finding>, finding: Finding) -> Result<
     requires no_error { is_error finding.kind ≡ false }
     requires no_statement { is_of_nothing finding.kind ≡ false }
     requires of_repeat { is_of_repeat finding.kind ≡ true }
-    ensures { OnOk result (TellsUseless found.old.items found.new.items [] (finding.line ∷ [])) }
+    ensures { OnOk result (AddsUseless found.old.items found.new.items [] (finding.line ∷ [])) }
 {
     found.push(finding)?;
     Ok(())

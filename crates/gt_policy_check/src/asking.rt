@@ -5,7 +5,7 @@ ghost use Rattle.std.specs.Option.{option_map};
 ghost use Rattle.gt_policy.specs.Allowing.{Meaning};
 ghost use Rattle.gt_policy.specs.Lined.{IsLined};
 ghost use Rattle.gt_policy.specs.Shown.{fault_shown, out_of_memory};
-ghost use Rattle.gt_policy.specs.Whole.{Says};
+ghost use Rattle.gt_policy.specs.Whole.{ReadsAs};
 ghost use Rattle.gt_policy.specs.declared.fault.TokenFault.{TokenFault};
 ghost use Rattle.gt_policy.specs.declared.lined.LinedStatement.{LinedStatement};
 ghost use Rattle.gt_policy_check.specs.Granting.{gives_of};
@@ -202,9 +202,9 @@ pub fn why(
     text: &str,
     question: &WhyQuestion,
 ) -> Result<Explanation, PolicyFault>
-    ensures ok { IfOk result (λ e. (m : Meaning) × (xs : List LinedStatement) × Says text.now (Ok m)
+    ensures ok { IfOk result (λ e. (m : Meaning) × (xs : List LinedStatement) × ReadsAs text.now (Ok m)
         × IsLined text.now xs × IsExplained file.now question.now xs e) }
-    ensures fault { IfErr result (λ e. (f : TokenFault) → fault_shown e ≡ Some f → Says text.now (Err f)) }
+    ensures fault { IfErr result (λ e. (f : TokenFault) → fault_shown e ≡ Some f → ReadsAs text.now (Err f)) }
     ensures memory { IfErr result (λ e. fault_shown e ≡ None → e ≡ out_of_memory) }
 {
     let statements = match read_policy(alloc, text) {

@@ -388,7 +388,7 @@ fn push_first(message: &mut Vec<u8>, line: u32) -> Result<(), AllocError> {
 }
 
 // Adds the line of the first declaration of a name, and a note there.
-fn tell_first(
+fn report_first(
     alloc: Global,
     explained: &mut Explained,
     declared: &[Declared],
@@ -412,7 +412,7 @@ fn explain_twice(
     explained.column = misfit_column(alloc, text.as_bytes(), line)?;
     push_said(&mut explained.message, name, " is declared twice")?;
     let declared = declared_in(alloc, text)?;
-    tell_first(alloc, explained, declared.as_slice(), name)
+    report_first(alloc, explained, declared.as_slice(), name)
 }
 
 // Explains a word that is not a permission, by the nearest permission.

@@ -100,7 +100,7 @@ fn is_self(item: &SetElement) -> bool
 }
 
 /// Returns whether a set contains `self`.
-pub fn says_self(items: &[SetElement]) -> bool
+pub fn has_self(items: &[SetElement]) -> bool
     ensures { result ≡ list_any is_self items.now }
 {
     'items: for item in items {
@@ -116,7 +116,7 @@ pub fn reaches(allowed: &Allowance, source: &Member, target: &Member) -> bool
     ensures { result ≡ reaches_by source.now target.now allowed.now }
 {
     holds(target.names.as_slice(), allowed.target.as_slice())
-        || (says_self(allowed.target.as_slice()) && is_same(&source.name, &target.name))
+        || (has_self(allowed.target.as_slice()) && is_same(&source.name, &target.name))
 }
 
 fn reaches_some(allowed: &Allowance, source: &Member, targets: &[Member]) -> bool

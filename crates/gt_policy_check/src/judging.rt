@@ -1,7 +1,7 @@
 //! Warnings about the statements of a policy.
 ghost use Rattle.std.specs.Prelude.{◌≡◌, ◌∷◌, [], map, filter, IfOk, OnOk};
 ghost use Rattle.std.specs.List.{flat_map};
-ghost use Rattle.gt_policy_check.specs.Check.{Quiet, TellsUseless, allows_nothing, error_lines, lines_repeated};
+ghost use Rattle.gt_policy_check.specs.Check.{Quiet, AddsUseless, allows_nothing, error_lines, lines_repeated};
 ghost use Rattle.gt_policy_check.specs.Check.{nothing_lines, repeat_line, repeat_lines, repeated_with, useless_line};
 
 use crate::adding::{Place, push_note, push_nothing, push_repeat};
@@ -46,7 +46,7 @@ fn warn_nothing(
     stated: &LinedStatement,
     members: &[Member],
 ) -> Result<(), AllocError>
-    ensures { OnOk result (TellsUseless found.old.items found.new.items (useless_line members.now stated.now) []) }
+    ensures { OnOk result (AddsUseless found.old.items found.new.items (useless_line members.now stated.now) []) }
 {
     if is_useless(&stated.statement, members) {
         let said = reason_text(reason_of(&stated.statement, members));
@@ -110,7 +110,7 @@ fn push_repeated(
     first: u32,
     before: &[LinedStatement],
 ) -> Result<(), AllocError>
-    ensures { OnOk result (TellsUseless found.old.items found.new.items [] (line ∷ [])) }
+    ensures { OnOk result (AddsUseless found.old.items found.new.items [] (line ∷ [])) }
 {
     let message = repeat_message(alloc, first)?;
     push_repeat(
@@ -134,7 +134,7 @@ fn warn_repeat(
     before: &[LinedStatement],
     members: &[Member],
 ) -> Result<(), AllocError>
-    ensures { OnOk result (TellsUseless found.old.items found.new.items []
+    ensures { OnOk result (AddsUseless found.old.items found.new.items []
         (repeat_line members.now before.now stated.now)) }
 {
     match repeated(&stated.statement, before, members) {
@@ -173,7 +173,7 @@ fn warn_at(
     stated: &LinedStatement,
     before: &[LinedStatement],
 ) -> Result<(), AllocError>
-    ensures { OnOk result (TellsUseless found.old.items found.new.items (useless_line policy.now.members.now stated.now)
+    ensures { OnOk result (AddsUseless found.old.items found.new.items (useless_line policy.now.members.now stated.now)
         (repeat_line policy.now.members.now before.now stated.now)) }
 {
     warn_parts(alloc, found, place, policy, &stated.statement)?;
@@ -190,7 +190,7 @@ fn warn(
     stated: &LinedStatement,
     before: &[LinedStatement],
 ) -> Result<(), AllocError>
-    ensures { OnOk result (TellsUseless found.old.items found.new.items (useless_line policy.now.members.now stated.now)
+    ensures { OnOk result (AddsUseless found.old.items found.new.items (useless_line policy.now.members.now stated.now)
         (repeat_line policy.now.members.now before.now stated.now)) }
 {
     let tokens = line_tokens(alloc, policy.bytes, stated.line)?;

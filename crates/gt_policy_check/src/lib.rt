@@ -33,7 +33,7 @@ mod useless;
 pub use asking::{Explanation, WhyAnswer, WhyQuestion, why};
 pub use fault::{permission_names, push_hint, said_of};
 pub use findings::{Finding, FindingKind, check, check_worn};
-pub use granting::{gives_source, has_grant, holds, lists, reaches, says_self};
+pub use granting::{gives_source, has_grant, has_self, holds, lists, reaches};
 pub use members::{Member, is_same, members_of};
 pub use places::column_on;
 pub use reading::read_policy;

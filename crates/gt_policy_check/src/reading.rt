@@ -3,7 +3,7 @@ ghost use Rattle.std.specs.Prelude.{◌≡◌, IfOk, IfErr, None, Some, Ok, Err}
 ghost use Rattle.gt_policy.specs.Allowing.{Meaning};
 ghost use Rattle.gt_policy.specs.Lined.{IsLined};
 ghost use Rattle.gt_policy.specs.Shown.{fault_shown, out_of_memory};
-ghost use Rattle.gt_policy.specs.Whole.{Says};
+ghost use Rattle.gt_policy.specs.Whole.{ReadsAs};
 ghost use Rattle.gt_policy.specs.declared.fault.TokenFault.{TokenFault};
 
 use gt_policy::{Items, LinedStatement, Policy, PolicyFault, statements_of};
@@ -15,8 +15,8 @@ pub fn read_policy<'a>(
     alloc: Global,
     text: &'a str,
 ) -> Result<Items<LinedStatement<'a>>, PolicyFault>
-    ensures ok { IfOk result (λ xs. (m : Meaning) × Says text.entry.now (Ok m) × IsLined text.entry.now xs) }
-    ensures fault { IfErr result (λ e. (f : TokenFault) → fault_shown e ≡ Some f → Says text.entry.now (Err f)) }
+    ensures ok { IfOk result (λ xs. (m : Meaning) × ReadsAs text.entry.now (Ok m) × IsLined text.entry.now xs) }
+    ensures fault { IfErr result (λ e. (f : TokenFault) → fault_shown e ≡ Some f → ReadsAs text.entry.now (Err f)) }
     ensures memory { IfErr result (λ e. fault_shown e ≡ None → e ≡ out_of_memory) }
 {
     Policy::parse(alloc, text)?;

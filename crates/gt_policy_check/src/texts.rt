@@ -6,7 +6,7 @@ ghost use Rattle.gt_policy_check.specs.Texts.{allow_text, names_type, way_text, 
 ghost use Rattle.gt_policy_check.specs.Texts.{note_text, place_text, report_entry_text, by_text, item_by_text};
 ghost use Rattle.gt_policy_check.specs.Granting.{puts_in};
 
-use crate::granting::{holds, puts_in, says_self};
+use crate::granting::{has_self, holds, puts_in};
 use crate::members::{Member, is_same};
 use gt_policy::{Allowance, LinedStatement, Permissions, SetElement, Statement, TextPiece};
 use gt_text::{push_number, push_text};
@@ -215,7 +215,7 @@ fn push_all_held(
 fn push_self(out: &mut Vec<u8>, items: &[SetElement]) -> Result<(), AllocError>
     ensures { OnOk result (out.new.items ≡ out.old.items ++ self_text items.now ++ codes "\n") }
 {
-    if says_self(items) {
+    if has_self(items) {
         push_text(out, " self\n")
     } else {
         push_text(out, "\n")

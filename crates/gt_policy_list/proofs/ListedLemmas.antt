@@ -10,7 +10,7 @@ use Rattle.gt_policy.specs.Allowing.{Meaning, KeptPolicy, Allowed, PolicyShows, 
 use Rattle.gt_policy.specs.Grammar.{at}
 use Rattle.gt_policy.specs.Listing.{AreByName}
 use Rattle.gt_policy.specs.Shown.{fault_shown}
-use Rattle.gt_policy.specs.Whole.{Says, too_long}
+use Rattle.gt_policy.specs.Whole.{ReadsAs, too_long}
 use Rattle.gt_policy.specs.declared.fault.TokenFault as policy
 use Rattle.gt_policy.specs.declared.fault.TokenFaultKind.TheVariants.{Limit}
 use Rattle.gt_policy.specs.declared.parse.PolicyFaultKind.{PolicyFaultKind}
@@ -45,7 +45,7 @@ is_listing : (p : KeptPolicy) (m : Meaning) (ids : List TypeId) → PolicyShows 
 is_listing p m ids shows named =
     (ids, subst (λ (l : List (List ℕ)). AreByName l ids) (ap (λ (a : Allowed). a.types) shows) named, ap (λ (a : Allowed). listing a.types a.may ids) shows)
 
-pub parsed : (p : KeptPolicy) (m : Meaning) (text : List ℕ) (old new : Option (List ℕ)) (r : Result (Unit {0}) ListingFault) → Says text (Ok m) → PolicyShows p m → WritesRules p old new r → Parsed text old new r
+pub parsed : (p : KeptPolicy) (m : Meaning) (text : List ℕ) (old new : Option (List ℕ)) (r : Result (Unit {0}) ListingFault) → ReadsAs text (Ok m) → PolicyShows p m → WritesRules p old new r → Parsed text old new r
 parsed p m text old new (Ok done) says shows w = (m, says, (text_with p w.0, is_listing p m w.0 shows w.1, w.2))
 parsed p m text old new (Err faults.Write) says shows w = (m, says, (text_with p w.0, is_listing p m w.0 shows w.1, w.2))
 parsed p m text old new (Err faults.Memory) says shows (inl kept) = inl kept
@@ -55,7 +55,7 @@ parsed p m text old new (Err (faults.Utf8 line)) says shows w = absurd w
 parsed p m text old new (Err (faults.Policy shown)) says shows w = absurd w
 
 -- the text is not a policy
-refused : (line : ℕ) (kind : PolicyFaultKind) (text : List ℕ) (old : Option (List ℕ)) → ((f : policy.TokenFault) → fault_shown (record { line = line; kind = kind }) ≡ Some f → Says text (Err f)) → Parsed text old old (Err (listing_fault_of line kind))
+refused : (line : ℕ) (kind : PolicyFaultKind) (text : List ℕ) (old : Option (List ℕ)) → ((f : policy.TokenFault) → fault_shown (record { line = line; kind = kind }) ≡ Some f → ReadsAs text (Err f)) → Parsed text old old (Err (listing_fault_of line kind))
 refused line kinds.Memory text old says = inl (keeps_same old)
 refused line kinds.Syntax text old says = (_, refl, says _ refl, keeps_same old)
 refused line (kinds.Unknown name) text old says = (_, refl, says _ refl, keeps_same old)
@@ -65,7 +65,7 @@ refused line (kinds.Outside word) text old says = (_, refl, says _ refl, keeps_s
 refused line kinds.Limit text old says = (_, refl, says _ refl, keeps_same old)
 
 pub parsed_no : (line : ℕ) (kind : PolicyFaultKind) (fault : ListingFault) (text : List ℕ) (old : Option (List ℕ)) → fault ≡ listing_fault_of line kind
-    → ((f : policy.TokenFault) → fault_shown (record { line = line; kind = kind }) ≡ Some f → Says text (Err f)) → Parsed text old old (Err fault)
+    → ((f : policy.TokenFault) → fault_shown (record { line = line; kind = kind }) ≡ Some f → ReadsAs text (Err f)) → Parsed text old old (Err fault)
 parsed_no line kind fault text old is says = subst (λ (f : ListingFault). Parsed text old old (Err f)) (sym is) (refused line kind text old says)
 
 take_shorter : (n : ℕ) (xs : List ℕ) → length (take n xs) ≤ length xs

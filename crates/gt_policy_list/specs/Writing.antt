@@ -5,7 +5,7 @@ use Rattle.gt_types.specs.declared.TypeId.{TypeId}
 use Rattle.gt_policy.specs.Allowing.{Meaning, KeptPolicy, may_of, is_allowed}
 use Rattle.gt_policy.specs.Listing.{AreByName}
 use Rattle.gt_policy.specs.Shown.{fault_shown}
-use Rattle.gt_policy.specs.Whole.{Says}
+use Rattle.gt_policy.specs.Whole.{ReadsAs}
 use Rattle.gt_policy.specs.declared.fault.TokenFault as policy
 use Rattle.gt_policy_list.specs.declared.fault.ListingFault.{ListingFault}
 use Rattle.gt_policy_list.specs.declared.fault.ListingFault.TheVariants.{Utf8, Policy, Memory, Read, Write}
@@ -39,12 +39,12 @@ Listed bytes old new (Err Read) = Keeps old new
 
 -- the same for a text
 abbrev pub Parsed : List ℕ → Option (List ℕ) → Option (List ℕ) → Result (Unit {0}) ListingFault → Type 0
-Parsed text old new (Ok done) = (m : Meaning) × Says text (Ok m) × WritesListing m old new
+Parsed text old new (Ok done) = (m : Meaning) × ReadsAs text (Ok m) × WritesListing m old new
 Parsed text old new (Err (Utf8 line)) = ⊥
 Parsed text old new (Err (Policy shown)) =
-    (f : policy.TokenFault) × (fault_shown shown ≡ Some f) × Says text (Err f) × Keeps old new
-Parsed text old new (Err Write) = (m : Meaning) × Says text (Ok m) × BeginsListing m old new
-Parsed text old new (Err Memory) = Keeps old new ⊎ ((m : Meaning) × Says text (Ok m) × BeginsListing m old new)
+    (f : policy.TokenFault) × (fault_shown shown ≡ Some f) × ReadsAs text (Err f) × Keeps old new
+Parsed text old new (Err Write) = (m : Meaning) × ReadsAs text (Ok m) × BeginsListing m old new
+Parsed text old new (Err Memory) = Keeps old new ⊎ ((m : Meaning) × ReadsAs text (Ok m) × BeginsListing m old new)
 Parsed text old new (Err Read) = ⊥
 
 -- the lines of what a kept policy allows, with these types in their order

@@ -1,7 +1,7 @@
 //! A law about the definition of a listing.
 ghost use Rattle.std.specs.Prelude.{◌≡◌, ℕ, List, Ok};
 ghost use Rattle.gt_policy.specs.Allowing.{Meaning};
-ghost use Rattle.gt_policy.specs.Whole.{Says};
+ghost use Rattle.gt_policy.specs.Whole.{ReadsAs};
 ghost use Rattle.gt_policy_list.specs.Writing.{IsListing};
 
 use gt_policy::written_texts;
@@ -9,7 +9,7 @@ use gt_policy::written_texts;
 /// A law: a policy has only one listing.
 pub fn one_listing()
     ensures { (bytes one other : List ℕ) (m : Meaning) →
-        Says bytes (Ok m) → IsListing m one → IsListing m other → one ≡ other }
+        ReadsAs bytes (Ok m) → IsListing m one → IsListing m other → one ≡ other }
 {
     written_texts();
 }

@@ -5,7 +5,7 @@ use Rattle.gt_program.specs.Prelude.{Request, to_check, to_check_never, to_expla
 use Rattle.gt_program.specs.Prelude.{to_find_text, to_list, to_play, to_run, to_tell_entries, to_tell_rules, for_help}
 use Rattle.gt_program.specs.Prelude.{for_version, nothing, mode_of, Sought, all_texts, a_claim, one_script, one_trace}
 use Rattle.gt_program.specs.Prelude.{one_diagram, all_scripts}
-use Rattle.gt_program.specs.Prelude.{Explored, RunTells, Searched, ExploreFormat, ExploreRequest, Verdict}
+use Rattle.gt_program.specs.Prelude.{Explored, ReadsAsRun, Searched, ExploreFormat, ExploreRequest, Verdict}
 use Rattle.gt_program.specs.Prelude.{Holds, Fails, Undecided, Outcome, No, Unknown, Yes}
 use Rattle.gt_command_reasons.specs.Names.{shown_name}
 use Rattle.gt_file_commands.specs.Working.{AnswersDump, AnswersLines, AnswersQuestion, ChecksAll, ChecksAs, ChecksNever}
@@ -60,8 +60,8 @@ AnswersVerdict Wrote Unknown = Wrote (Ok Undecided)
 
 -- the answer is the verdict
 abbrev pub Searches : Searched → Doing
-Searches asked input old new (Ok outcome) = AnswersVerdict (Explored asked (RunTells input) old new) outcome
-Searches asked input old new (Err (failures.Explore fault)) = Explored asked (RunTells input) old new (Err fault)
+Searches asked input old new (Ok outcome) = AnswersVerdict (Explored asked (ReadsAsRun input) old new) outcome
+Searches asked input old new (Err (failures.Explore fault)) = Explored asked (ReadsAsRun input) old new (Err fault)
 Searches asked input old new (Err failure) = ⊥
 
 -- help or the version: it was written, or not

@@ -15,6 +15,6 @@ pub use Rattle.gt_explore_verdict.specs.declared.judging.Verdict.{Verdict}
 pub use Rattle.gt_explore_verdict.specs.declared.judging.Verdict.TheVariants.{Holds, Fails, Undecided}
 pub use Rattle.gt_file_commands.specs.declared.outcome.Outcome.{Outcome}
 pub use Rattle.gt_file_commands.specs.declared.outcome.Outcome.TheVariants.{No, Unknown, Yes}
-pub use Rattle.gt_script.specs.RunScripts.{RunTells}
+pub use Rattle.gt_script.specs.RunScripts.{ReadsAsRun}
 pub use Rattle.std.specs.Io.KnownBytes.{Keeps}
 pub use Rattle.std.specs.Str.Lines.{lines}

@@ -2,8 +2,8 @@
 ghost use Rattle.std.specs.Prelude.{◌≡◌, IfSome};
 ghost use Rattle.std.specs.Option.{option_map};
 ghost use Rattle.gt_text.specs.Streams.{OfInput};
-ghost use Rattle.gt_script.specs.RunScripts.{RunTells};
-ghost use Rattle.gt_commands.specs.Commands.{sought_told};
+ghost use Rattle.gt_script.specs.RunScripts.{ReadsAsRun};
+ghost use Rattle.gt_commands.specs.Commands.{sought_by};
 ghost use Rattle.gt_explore.specs.Writing.{Explored};
 ghost use Rattle.gt_file_commands.specs.Working.{known_input, Does, Works};
 ghost use Rattle.gt_file_commands.specs.declared.outcome.Outcome.TheVariants.{Unknown};
@@ -32,7 +32,7 @@ fn explore_format(format: Format) -> ExploreFormat
 
 // Returns the request for what is sought.
 fn request_of<'w>(asked: Exploration<'w>) -> ExploreRequest<'w>
-    ensures { IsRequestFor (sought_told asked.entry) result }
+    ensures { IsRequestFor (sought_by asked.entry) result }
 {
     match asked {
         Exploration::Texts => ExploreRequest::Texts,
@@ -64,7 +64,7 @@ fn explore_explained<R: Read, W: Write>(
     reasons: &mut Reasons,
 ) -> Result<Verdict, ExploreFault>
     ensures { OfInput (R.remaining reader.old) (λ input.
-        Explored asked.now (RunTells input) (W.contents out.old) (W.contents out.new) result) }
+        Explored asked.now (ReadsAsRun input) (W.contents out.old) (W.contents out.new) result) }
 {
     let mut input = CopyingReader::new(alloc, reader);
     let ending = explore_reader(alloc, asked, &mut input, out);
@@ -144,7 +144,7 @@ pub(crate) fn explore<'a, R, T: TextSource, W: Write, E: Eprint>(
     out: &mut W,
     reasons: &mut Reasons<'a>,
 ) -> Outcome
-    ensures { Works (Seeks (sought_told asked.entry) options.entry.format options.entry.states) Outcome.Unknown
+    ensures { Works (Seeks (sought_by asked.entry) options.entry.format options.entry.states) Outcome.Unknown
         (known_input (T.file context.now.texts.now) (T.input context.now.texts.now) options.entry.file)
         (W.contents out.old) (W.contents out.new) result }
 {

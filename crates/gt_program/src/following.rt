@@ -7,7 +7,7 @@ use gt_command_reasons::Reasons;
 use gt_commands::Invocation;
 use gt_file_commands::{
     Context, Outcome, TextSource, answer, answer_each, check_files, check_never_files, list, play,
-    show_entries, tell_rules,
+    print_rules, show_entries,
 };
 use gt_policy_check::WhyQuestion;
 use gt_run_command::run_asked;
@@ -34,7 +34,7 @@ pub(crate) fn follow<'a, R: Threads + Wait + Sync, T: TextSource, W: Write, E: E
         }
         Invocation::Policy { format, file, .. } => { list(context, format, file, out, reasons) }
         Invocation::Rules { rule } => {
-            tell_rules(context.alloc, out, context.err, rule, context.style.width)
+            print_rules(context.alloc, out, context.err, rule, context.style.width)
         }
         Invocation::Check { script, files } => check_files(context, script, &files, out, reasons),
         Invocation::CheckNever { never, files } => {

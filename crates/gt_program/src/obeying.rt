@@ -88,7 +88,7 @@ fn obey_long<R: Threads + Wait + Sync, T: TextSource, W: Write, E: Eprint>(
         Ok(invocation) => {
             let mut reasons = Reasons::of(context.alloc, &invocation);
             let outcome = follow(context, invocation, out, &mut reasons);
-            reasons.tell(context.err);
+            reasons.print_all(context.err);
             outcome
         }
         Err(error) => refuse(out, context.err, &error, failed),

@@ -21,8 +21,8 @@ abbrev pub quoted_text : List ℕ → List ℕ
 quoted_text word = codes "\"" ++ flat_map shown_byte word ++ codes "\""
 
 -- one line was appended: a reason at this line of the file
-abbrev pub TellsAt : List ℕ → ℕ → List ℕ → List ℕ → Type 0
-TellsAt file line old new =
+abbrev pub AppendsReasonAt : List ℕ → ℕ → List ℕ → List ℕ → Type 0
+AppendsReasonAt file line old new =
     (column : ℕ) × (message : List ℕ) × (new ≡ old ++ reason_heading file line column ++ message ++ codes "\n")
 
 -- the limit that a fault is about; 0 if it is about none
@@ -41,5 +41,5 @@ abbrev pub name_line : List ℕ → List ℕ → List ℕ → List ℕ
 name_line file name message = file ++ codes ": " ++ quoted_text name ++ message ++ codes "\n"
 
 -- one line was appended: a reason about a name, for this file
-abbrev pub TellsName : List ℕ → List ℕ → List ℕ → List ℕ → Type 0
-TellsName file name old new = (message : List ℕ) × (new ≡ old ++ name_line file name message)
+abbrev pub AppendsNameReason : List ℕ → List ℕ → List ℕ → List ℕ → Type 0
+AppendsNameReason file name old new = (message : List ℕ) × (new ≡ old ++ name_line file name message)

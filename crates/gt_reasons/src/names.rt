@@ -1,6 +1,6 @@
 //! The reasons for which a question about a policy has no answer.
 ghost use Rattle.std.specs.Prelude.{◌≡◌, ◌++◌, OnOk, codes};
-ghost use Rattle.gt_reasons.specs.Reasons.{name_line, TellsName};
+ghost use Rattle.gt_reasons.specs.Reasons.{name_line, AppendsNameReason};
 
 use crate::limits::push_undeclared;
 use crate::texts::push_word;
@@ -47,7 +47,7 @@ pub fn push_type_reason(
     input: &[u8],
     name: &str,
 ) -> Result<(), AllocError>
-    ensures { OnOk result (TellsName file.now name.now out.old.items out.new.items) }
+    ensures { OnOk result (AppendsNameReason file.now name.now out.old.items out.new.items) }
 {
     let message = type_message(alloc, input, name)?;
     push_name(out, file, name, message.as_slice())
@@ -74,7 +74,7 @@ pub fn push_permission_reason(
     file: &str,
     word: &str,
 ) -> Result<(), AllocError>
-    ensures { OnOk result (TellsName file.now word.now out.old.items out.new.items) }
+    ensures { OnOk result (AppendsNameReason file.now word.now out.old.items out.new.items) }
 {
     let message = permission_message(alloc, word)?;
     push_name(out, file, word, message.as_slice())

@@ -1,6 +1,6 @@
 //! The reasons for the faults of a script.
 ghost use Rattle.std.specs.Prelude.{◌≡◌, ◌++◌, OnOk, codes};
-ghost use Rattle.gt_reasons.specs.Reasons.{TellsAt};
+ghost use Rattle.gt_reasons.specs.Reasons.{AppendsReasonAt};
 
 use crate::blocks::{block_text, has_policy};
 use crate::limits::{config_reason, mode_reason};
@@ -103,7 +103,7 @@ fn push_reason(
     line: usize,
     reason: &Reason,
 ) -> Result<(), AllocError>
-    ensures { OnOk result (TellsAt file.now line out.old.items out.new.items) }
+    ensures { OnOk result (AppendsReasonAt file.now line out.old.items out.new.items) }
 {
     push_heading(out, file, line, reason.column)?;
     out.extend_from_slice(reason.message.as_slice())?;
@@ -119,7 +119,7 @@ pub fn push_script_reason(
     input: &[u8],
     fault: &ScriptFault,
 ) -> Result<(), AllocError>
-    ensures { OnOk result (TellsAt file.now fault.now.line out.old.items out.new.items) }
+    ensures { OnOk result (AppendsReasonAt file.now fault.now.line out.old.items out.new.items) }
 {
     let reason = script_reason(alloc, input, fault)?;
     push_reason(out, file, fault.line, &reason)
@@ -178,7 +178,7 @@ pub fn push_block_reason(
     input: &[u8],
     fault: &BlockFault,
 ) -> Result<(), AllocError>
-    ensures { OnOk result (TellsAt file.now fault.now.line out.old.items out.new.items) }
+    ensures { OnOk result (AppendsReasonAt file.now fault.now.line out.old.items out.new.items) }
 {
     let reason = block_reason(alloc, input)?;
     push_reason(out, file, fault.line, &reason)
@@ -204,7 +204,7 @@ pub fn push_policy_reason(
     input: &[u8],
     fault: &PolicyFault,
 ) -> Result<(), AllocError>
-    ensures { OnOk result (TellsAt file.now fault.now.line out.old.items out.new.items) }
+    ensures { OnOk result (AppendsReasonAt file.now fault.now.line out.old.items out.new.items) }
 {
     let reason = policy_reason(alloc, input)?;
     push_reason(out, file, fault.line as usize, &reason)
@@ -219,7 +219,7 @@ pub fn push_utf8_reason(
     input: &[u8],
     line: usize,
 ) -> Result<(), AllocError>
-    ensures { OnOk result (TellsAt file.now line out.old.items out.new.items) }
+    ensures { OnOk result (AppendsReasonAt file.now line out.old.items out.new.items) }
 {
     let reason = utf8_reason(alloc, input)?;
     push_reason(out, file, line, &reason)

@@ -28,7 +28,7 @@ use Rattle.gt_word_history.specs.declared.view.View.{View}
 use Rattle.gt_words.specs.Conditions.{Board, IsSeatOf, position_at}
 use Rattle.gt_words.specs.Laws.{own_position, seat_at}
 use Rattle.gt_audit.specs.Lines.{line_text, lost_text}
-use Rattle.gt_audit.specs.Telling.{Telling}
+use Rattle.gt_audit.specs.Trails.{TrailState}
 use Rattle.gt_text.specs.Printing.{type_text}
 use Rattle.gt_live.specs.Domains.{AllowRelation, HasLeft}
 use Rattle.gt_live.specs.declared.domain.Departed.{Departed}
@@ -53,7 +53,7 @@ use Rattle.gt_run.specs.declared.fault.RunFault.TheVariants.{Play, Thread}
 use Rattle.gt_run.specs.declared.lists.ThreadJob.{ThreadJob}
 use Rattle.gt_run.specs.declared.lists.DomainPart.{DomainPart}
 use Rattle.gt_run.specs.declared.serving.Output.{Output}
-use Rattle.gt_run.specs.declared.telling.TrailLogger.{TrailLogger}
+use Rattle.gt_run.specs.declared.logging.TrailLogger.{TrailLogger}
 use Rattle.gt_run.specs.declared.threads.ThreadRefusal.{ThreadRefusal}
 use Rattle.gt_run.specs.declared.threads.ThreadRefusal.TheVariants as refusals
 
@@ -94,24 +94,24 @@ came_plain may job s e true (Some t) o ready none leaves serves audit lost = let
 came_plain may job s e true None o ready none leaves serves audit lost = (
   serves.left.outcomes,
   served may job s.domain e o.text.items None o.left ready.1 leaves serves,
-  if_ok_as o.audit _ _ (λ a is. is ∙ sym (ap (flat_map (line_text (type_text (λ name. name) job.part.types.now))) serves.told.0)) audit,
-  lost ∙ sym (ap counted serves.told.1),
+  if_ok_as o.audit _ _ (λ a is. is ∙ sym (ap (flat_map (line_text (type_text (λ name. name) job.part.types.now))) serves.recorded.0)) audit,
+  lost ∙ sym (ap counted serves.recorded.1),
 )
 
 -- a list was served with one
-pub came_told : {P : Type 0} (may : P → AllowRelation) (job : ThreadJob P) (s : Stand P) (e : Domain) (trail : Telling) (whole : Bool) (t : Option TrailLogger) (u : TrailLogger) (o : Output)
+pub came_told : {P : Type 0} (may : P → AllowRelation) (job : ThreadJob P) (s : Stand P) (e : Domain) (trail : TrailState) (whole : Bool) (t : Option TrailLogger) (u : TrailLogger) (o : Output)
     → IsReady may job.monitor.now job.part.dom s → t ≡ Some u → trail ≡ e.trail → HasLeft job.monitor.now.words.layout e o.left → Serves may job s.domain whole o.text.items e t
-    → IfOk o.audit (λ a. a.items ≡ flat_map (line_text (type_text (λ name. name) job.part.types.now)) (map (λ x. x.1) u.told.told))
-    → o.lost ≡ counted (trail.lost + u.told.lost) → CameBy whole may job o
+    → IfOk o.audit (λ a. a.items ≡ flat_map (line_text (type_text (λ name. name) job.part.types.now)) (map (λ x. x.1) u.log.recorded))
+    → o.lost ≡ counted (trail.lost + u.log.lost) → CameBy whole may job o
 came_told may job s e trail false t u o ready given same leaves serves audit lost = begun may job s.domain o.text.items ready.1 serves
 came_told may job s e trail true None u o ready given same leaves serves audit lost = let e : None ≡ Some u = given in cc
 came_told may job s e trail true (Some t) u o ready given same leaves serves audit lost =
     let is : t ≡ u = cc given in (
       serves.left.outcomes,
       served may job s.domain e o.text.items (Some t) o.left ready.1 leaves serves,
-      if_ok_as o.audit _ _ (λ a of_u. of_u ∙ ap (λ (x : TrailLogger). flat_map (line_text (type_text (λ name. name) job.part.types.now)) (map (λ y. y.1) x.told.told)) (sym is)
-          ∙ ap (flat_map (line_text (type_text (λ name. name) job.part.types.now))) serves.told.1) audit,
-      lost ∙ ap (λ (x : TrailLogger). counted (trail.lost + x.told.lost)) (sym is) ∙ ap (λ (x : Telling). counted (x.lost + t.told.lost)) same ∙ serves.told.2,
+      if_ok_as o.audit _ _ (λ a of_u. of_u ∙ ap (λ (x : TrailLogger). flat_map (line_text (type_text (λ name. name) job.part.types.now)) (map (λ y. y.1) x.log.recorded)) (sym is)
+          ∙ ap (flat_map (line_text (type_text (λ name. name) job.part.types.now))) serves.recorded.1) audit,
+      lost ∙ ap (λ (x : TrailLogger). counted (trail.lost + x.log.lost)) (sym is) ∙ ap (λ (x : TrailState). counted (x.lost + t.log.lost)) same ∙ serves.recorded.2,
     )
 
 -- starting
@@ -367,7 +367,7 @@ joined_together {P} may m ds us audit lost old new (Ok done) on (inl none) (all,
     (all, lists, a, l, no-state all (subst (λ (vs : List View). AreGathered vs all) none q))
 joined_together may m ds us audit lost old new (Err e) on together j = j
 
--- what was gathered may be told of all, since what a domain left may be taken in
+-- the seat that gathered the others may learn of all, since what a domain left may be taken in
 yields_front : {X Z : Type 0} (s : IntoIter X Z) (xs : List X) (t : IntoIter X Z) → Yields into_iter_steps s xs t → into_iter_items s ≡ xs ++ into_iter_items t
 yields_front s [] t y = ap into_iter_items y
 yields_front s (x ∷ xs) t y = y.1.0 ∙ ap (λ ys. x ∷ ys) (yields_front y.0 xs t y.2)

@@ -8,7 +8,7 @@ use Rattle.gt_script_runs.specs.Naming.{AreNamed}
 use Rattle.std.proofs.Math.Seq.{take-suc}
 use Rattle.std.proofs.lemmas.List.{append-nil}
 use Rattle.std.proofs.lemmas.Option.{slice_get_read}
-use Rattle.gt_audit.specs.Telling.{Telling, nothing_told, silent}
+use Rattle.gt_audit.specs.Trails.{TrailState, empty_account, silent}
 use Rattle.gt_types.specs.declared.DomId.{DomId}
 use Rattle.gt_script_runs.specs.declared.labels.Labels.{Labels}
 use Rattle.gt_script_lines.specs.declared.calls.ScriptCall.{ScriptCall}
@@ -20,13 +20,13 @@ use Rattle.gt_word_history.specs.declared.view.FlagStep.{FlagStep}
 use Rattle.gt_word_history.specs.declared.view.FlagStep.TheVariants.{Passed, Raised}
 use Rattle.gt_script.specs.Lists.{RunAction, RunTask}
 use Rattle.gt_script.specs.declared.tasks.RunActionBy.TheVariants.{Do, Tell, Await}
-use Rattle.gt_run.specs.Serving.{Calls, DoesDeed, DoesWhere, HasCome, IsAwait, IsKeptAt, IsReady, TellsOutcomes}
+use Rattle.gt_run.specs.Serving.{Calls, DoesDeed, DoesWhere, HasCome, IsAwait, IsKeptAt, IsReady, LogsOutcomes}
 use Rattle.gt_run.specs.Serving.{ListLeadsTo}
-use Rattle.gt_run.specs.Serving.{ListProgress, Serves, ServesSome, StartsTold, answer_lines, list_start, counted}
+use Rattle.gt_run.specs.Serving.{ListProgress, Serves, ServesSome, StartsLogged, answer_lines, list_start, counted}
 use Rattle.gt_run.specs.Serving.{gate_line}
 use Rattle.gt_run.specs.Asking.{MakesFlagStep, RaisesFlag, Stand}
 use Rattle.gt_run.specs.declared.lists.ThreadJob.{ThreadJob}
-use Rattle.gt_run.specs.declared.telling.TrailLogger.{TrailLogger}
+use Rattle.gt_run.specs.declared.logging.TrailLogger.{TrailLogger}
 
 -- one line more leads on
 leads_behind : {P : Type 0} (may : P → AllowRelation) (job : ThreadJob P) (p : ListProgress) (tasks : List RunTask) (task : RunTask) (q r : ListProgress)
@@ -72,7 +72,7 @@ flag_kept k job flag m q d e labels t stepped kept = record {
   own = stepped.kept.seat.dom ∙ kept.own;
   names = kept.names;
   asked = kept.asked;
-  told = subst (λ (x : Telling). TellsOutcomes x t q.outcomes) (sym stepped.kept.trail) kept.told;
+  recorded = subst (λ (x : TrailState). LogsOutcomes x t q.outcomes) (sym stepped.kept.trail) kept.recorded;
 }
 
 flag_more : {P : Type 0} (may : P → AllowRelation) (k : Layout) (job : ThreadJob P) (d : Domain) (i : ℕ) (l : RunTask) (text : List ℕ) (e f : Domain) (labels : Labels) (t : Option TrailLogger) (flag : ℕ) (m : FlagStep)
@@ -153,7 +153,7 @@ gate_stops may items job d true true i l (Ok v) old new e labels t flag within i
       });
       prints = (more refl).2 ∙ cc (prints, line_is);
       asked = kept.asked;
-      told = kept.told;
+      recorded = kept.recorded;
     }
 gate_stops may items job d true true i l (Err x) old new e labels t flag within is own awaits line_is come more same = let m = more refl in cc
 gate_stops may items job d false true i l line old new e labels t flag within is own awaits line_is come more same = let m = more refl in cc
@@ -173,25 +173,25 @@ list_ends may job d true i text e labels t all (q, leads, kept, prints) =
       ends = inl (all, refl);
       prints = prints ∙ sym (append-nil (answer_lines job.part.types.now job.part.dom q.outcomes));
       asked = kept.asked;
-      told = kept.told;
+      recorded = kept.recorded;
     }
 list_ends may job d false i text e labels t all come = come
 
 -- before the first line
-pub come_none : {P : Type 0} (may : P → AllowRelation) (job : ThreadJob P) (d : Domain) (text : List ℕ) (labels : Labels) (t : Option TrailLogger) → text ≡ [] → StartsTold job d t → AreNamed labels []
+pub come_none : {P : Type 0} (may : P → AllowRelation) (job : ThreadJob P) (d : Domain) (text : List ℕ) (labels : Labels) (t : Option TrailLogger) → text ≡ [] → StartsLogged job d t → AreNamed labels []
     → HasCome may job d true 0 text d labels t
 come_none may job d text labels t none starts names =
-    (list_start d, refl, record { domain = refl; own = starts.0; names = names; asked = starts.1; told = starts.2 }, none)
+    (list_start d, refl, record { domain = refl; own = starts.0; names = names; asked = starts.1; recorded = starts.2 }, none)
 
-told_none : {A : Type 0} (dom : DomId) (log : Option A) (t : Option TrailLogger) (trail : Telling) → trail ≡ silent → t ≡ option_map (λ l. record { told = nothing_told dom; next = 0 }) log
-    → (is_some t ≡ is_some log) × TellsOutcomes trail t []
-told_none dom None t trail fresh is = (ap is_some is, subst (λ (x : Option TrailLogger). TellsOutcomes trail x []) (sym is) (refl, refl))
+told_none : {A : Type 0} (dom : DomId) (log : Option A) (t : Option TrailLogger) (trail : TrailState) → trail ≡ silent → t ≡ option_map (λ l. record { log = empty_account dom; next = 0 }) log
+    → (is_some t ≡ is_some log) × LogsOutcomes trail t []
+told_none dom None t trail fresh is = (ap is_some is, subst (λ (x : Option TrailLogger). LogsOutcomes trail x []) (sym is) (refl, refl))
 told_none dom (Some log) t trail fresh is =
-    (ap is_some is, subst (λ (x : Option TrailLogger). TellsOutcomes trail x []) (sym is) (sym (ap (λ (x : Telling). length x.records) fresh), refl, ap (λ (x : Telling). counted (x.lost + 0)) fresh))
+    (ap is_some is, subst (λ (x : Option TrailLogger). LogsOutcomes trail x []) (sym is) (sym (ap (λ (x : TrailState). length x.records) fresh), refl, ap (λ (x : TrailState). counted (x.lost + 0)) fresh))
 
 -- nothing was pushed for a domain that has made no call
 pub starts_told : {P : Type 0} (may : P → AllowRelation) (job : ThreadJob P) (s : Stand P) (t : Option TrailLogger) → IsReady may job.monitor.now job.part.dom s
-    → t ≡ option_map (λ l. record { told = nothing_told job.part.dom; next = 0 }) job.log → StartsTold job s.domain t
+    → t ≡ option_map (λ l. record { log = empty_account job.part.dom; next = 0 }) job.log → StartsLogged job s.domain t
 starts_told may job s t ready is =
-    let told = told_none job.part.dom job.log t s.domain.trail ready.1.fresh.trail is in
-    (ready.1.own, told.0, told.1)
+    let recorded = told_none job.part.dom job.log t s.domain.trail ready.1.fresh.trail is in
+    (ready.1.own, recorded.0, recorded.1)

@@ -13,7 +13,7 @@ use Rattle.gt_script_runs.specs.declared.fault.PlayFault.{PlayFault}
 use Rattle.gt_script_runs.specs.declared.fault.PlayFault.TheVariants as plays
 use Rattle.gt_script.specs.Contents.{first_gen, type_names}
 use Rattle.gt_script.specs.RunContents.{RunContents}
-use Rattle.gt_script.specs.RunScripts.{RunAnswers, RunTells}
+use Rattle.gt_script.specs.RunScripts.{RunAnswers, ReadsAsRun}
 use Rattle.gt_script.specs.Script.{Wrong}
 use Rattle.gt_script.specs.declared.faults.ScriptError.{ScriptError}
 use Rattle.gt_script.specs.declared.faults.ScriptError.TheVariants as errors
@@ -78,29 +78,29 @@ wrote_nothing c logged fault old is = wrote_none may_by (AreOf c logged) fault o
 -- a script was run
 pub ran_script : (logged : Bool) (Told : Result RunContents Wrong → Type 0) (c : RunContents) (r : Result (Unit {0}) RunFault) (old new : Option (List ℕ)) → Told (Ok c)
     → WroteScript c logged old new r → Ran logged Told old new r
-ran_script logged Told c (Ok done) old new told wrote = (c, told, wrote)
-ran_script logged Told c (Err Thread) old new told wrote = (c, told, wrote)
-ran_script logged Told c (Err (Play plays.Memory)) old new told (inl kept) = inl kept
-ran_script logged Told c (Err (Play plays.Memory)) old new told (inr begun) = inr (c, told, begun)
-ran_script logged Told c (Err (Play plays.Write)) old new told wrote = (c, told, wrote)
-ran_script logged Told c (Err (Play plays.Read)) old new told wrote = absurd wrote
-ran_script logged Told c (Err (Play (plays.Script fault))) old new told wrote = absurd wrote
-ran_script logged Told c (Err (Play (plays.Policy fault))) old new told wrote = absurd wrote
+ran_script logged Told c (Ok done) old new recorded wrote = (c, recorded, wrote)
+ran_script logged Told c (Err Thread) old new recorded wrote = (c, recorded, wrote)
+ran_script logged Told c (Err (Play plays.Memory)) old new recorded (inl kept) = inl kept
+ran_script logged Told c (Err (Play plays.Memory)) old new recorded (inr begun) = inr (c, recorded, begun)
+ran_script logged Told c (Err (Play plays.Write)) old new recorded wrote = (c, recorded, wrote)
+ran_script logged Told c (Err (Play plays.Read)) old new recorded wrote = absurd wrote
+ran_script logged Told c (Err (Play (plays.Script fault))) old new recorded wrote = absurd wrote
+ran_script logged Told c (Err (Play (plays.Policy fault))) old new recorded wrote = absurd wrote
 
 -- there is no script, and nothing went out
 no_script : (logged : Bool) (Told : Result RunContents Wrong → Type 0) (error : ScriptError) (old : Option (List ℕ)) → RunAnswers (Err error) Told → Ran logged Told old old (Err (Play (fault_of error)))
-no_script logged Told errors.Memory old told = inl (keeps_same old)
-no_script logged Told (errors.Fault f) old told = (told, keeps_same old)
-no_script logged Told (errors.Policy f) old (g, shown, told) = (g, shown, told, keeps_same old)
+no_script logged Told errors.Memory old recorded = inl (keeps_same old)
+no_script logged Told (errors.Fault f) old recorded = (recorded, keeps_same old)
+no_script logged Told (errors.Policy f) old (g, shown, recorded) = (g, shown, recorded, keeps_same old)
 
 pub ran_nothing : (logged : Bool) (Told : Result RunContents Wrong → Type 0) (error : ScriptError) (fault : PlayFault) (old : Option (List ℕ)) → RunAnswers (Err error) Told → fault ≡ fault_of error → Ran logged Told old old (Err (Play fault))
-ran_nothing logged Told error fault old told is = subst (λ (f : PlayFault). Ran logged Told old old (Err (Play f))) (sym is) (no_script logged Told error old told)
+ran_nothing logged Told error fault old recorded is = subst (λ (f : PlayFault). Ran logged Told old old (Err (Play f))) (sym is) (no_script logged Told error old recorded)
 
 -- nothing could be read
 unread : (logged : Bool) (Told : Result RunContents Wrong → Type 0) (old : Option (List ℕ)) (error : ReadFault) → Ran logged Told old old (Err (Play (read_fault error)))
 unread logged Told old reads.Memory = inl (keeps_same old)
 unread logged Told old reads.Read = keeps_same old
 
-pub ran_unread : (logged : Bool) (known old : Option (List ℕ)) (error : ReadFault) (fault : PlayFault) → fault ≡ read_fault error → OfInput known (λ input. Ran logged (RunTells input) old old (Err (Play fault)))
+pub ran_unread : (logged : Bool) (known old : Option (List ℕ)) (error : ReadFault) (fault : PlayFault) → fault ≡ read_fault error → OfInput known (λ input. Ran logged (ReadsAsRun input) old old (Err (Play fault)))
 ran_unread logged known old error fault is =
-    of_any_input known (λ (input : List ℕ). Ran logged (RunTells input) old old (Err (Play fault))) (λ (input : List ℕ). subst (λ (f : PlayFault). Ran logged (RunTells input) old old (Err (Play f))) (sym is) (unread logged (RunTells input) old error))
+    of_any_input known (λ (input : List ℕ). Ran logged (ReadsAsRun input) old old (Err (Play fault))) (λ (input : List ℕ). subst (λ (f : PlayFault). Ran logged (ReadsAsRun input) old old (Err (Play f))) (sym is) (unread logged (ReadsAsRun input) old error))

@@ -1,11 +1,11 @@
 -- The requests of a running domain, and their answers.
 use Rattle.std.specs.Prelude.{◌≡◌, ℕ, List, MatchBool, Result, Ok, Err, OnOk, OnErr, nat_lt}
-use Rattle.gt_run.specs.Prelude.{Size, Denial, Copying, Reading, Writing, Handle, Tells, HeldPin}
+use Rattle.gt_run.specs.Prelude.{Size, Denial, Copying, Reading, Writing, Handle, AppendsRecord, HeldPin}
 use Rattle.gt_run.specs.Prelude.{Request, Answer, Domain, Monitor, IsCopiedBy, IsReadBy, IsWrittenBy}
 use Rattle.gt_run.specs.Prelude.{Accesses, Answered, KeepsPinned, MapAnswered, AllowRelation, mapping_reply}
-use Rattle.gt_run.specs.Prelude.{subject_of, told_copy, told_of, verdict_of, verdict_of_frames, verdict_of_size}
+use Rattle.gt_run.specs.Prelude.{subject_of, record_of_copy, record_of_result, verdict_of, verdict_of_frames, verdict_of_size}
 use Rattle.gt_run.specs.Prelude.{verdict_of_version, Removes}
-use Rattle.gt_live.specs.Domains.{AccessesQuietly, AnswersQuietly, AnswersTold, StaysIn}
+use Rattle.gt_live.specs.Domains.{AccessesQuietly, AnswersQuietly, AnswersRecorded, StaysIn}
 use Rattle.gt_live.specs.Flags.{FlagStepped}
 use Rattle.gt_word_history.specs.declared.view.FlagStep.{FlagStep}
 use Rattle.gt_word_history.specs.declared.view.FlagStep.TheVariants.{Raised}
@@ -71,12 +71,12 @@ abbrev pub AnswersCall : {P : Type 0} → (P → AllowRelation) → Monitor P �
 AnswersCall may m d (requests.Map dom gref flags) answer e =
     (r : Result Handle Denial) × (answer ≡ mapped_answer r)
     × MapAnswered may m d (requests.Map dom gref flags) r e
-    × Tells d.trail (record { dom = d.seat.dom; call = hypercalls.Map dom gref flags; reply = mapping_reply r }) e.trail
+    × AppendsRecord d.trail (record { dom = d.seat.dom; call = hypercalls.Map dom gref flags; reply = mapping_reply r }) e.trail
 AnswersCall may m d (requests.Unmap handle) answer e =
     (r : Result (Unit {0}) Denial) × (answer ≡ plain_answer r)
     × Answered may m d (requests.Unmap handle) (verdict_of r) e
     × OnOk r ((p : HeldPin) × Removes d.mappings e.mappings handle p) × OnErr r (KeepsPinned d e)
-    × Tells d.trail (told_of d (hypercalls.Unmap (subject_of d handle)) (verdict_of r)) e.trail
+    × AppendsRecord d.trail (record_of_result d (hypercalls.Unmap (subject_of d handle)) (verdict_of r)) e.trail
 AnswersCall may m d (requests.Release handle) answer e =
     (r : Result (Unit {0}) Denial) × (answer ≡ plain_answer r)
     × Answered may m d (requests.Release handle) (verdict_of r) e
@@ -84,16 +84,16 @@ AnswersCall may m d (requests.Release handle) answer e =
     × (e.trail ≡ d.trail)
 AnswersCall may m d (requests.SetVersion version) answer e =
     (r : Result (Unit {0}) Denial) × (answer ≡ plain_answer r)
-    × AnswersTold may m d (requests.SetVersion version) (hypercalls.SetVersion version) (verdict_of r) e
+    × AnswersRecorded may m d (requests.SetVersion version) (hypercalls.SetVersion version) (verdict_of r) e
 AnswersCall may m d (requests.SetupTable frames) answer e =
     (r : Result ℕ Denial) × (answer ≡ frames_answer r)
-    × AnswersTold may m d (requests.SetupTable frames) (hypercalls.SetupTable frames) (verdict_of_frames r) e
+    × AnswersRecorded may m d (requests.SetupTable frames) (hypercalls.SetupTable frames) (verdict_of_frames r) e
 AnswersCall may m d (requests.QuerySize dom) answer e =
     (r : Result Size Denial) × (answer ≡ size_answer r)
-    × AnswersTold may m d (requests.QuerySize dom) (hypercalls.QuerySize dom) (verdict_of_size r) e
+    × AnswersRecorded may m d (requests.QuerySize dom) (hypercalls.QuerySize dom) (verdict_of_size r) e
 AnswersCall may m d (requests.GetVersion dom) answer e =
     (r : Result ℕ Denial) × (answer ≡ version_answer r)
-    × AnswersTold may m d (requests.GetVersion dom) (hypercalls.GetVersion dom) (verdict_of_version r) e
+    × AnswersRecorded may m d (requests.GetVersion dom) (hypercalls.GetVersion dom) (verdict_of_version r) e
 AnswersCall may m d (requests.Load handle off len) answer e =
     (r : Result Reading Denial) × IsReadAnswer r answer
     × AccessesQuietly may m d (requests.Load handle off len) (IsReadBy m.words.layout) r e
@@ -111,7 +111,7 @@ AnswersCall may m d (requests.Poke frame off bytes) answer e =
 AnswersCall may m d (requests.Copy args) answer e =
     (r : Result Copying Denial) × (answer ≡ plain_answer r)
     × Accesses may m d (requests.Copy args) (IsCopiedBy m.words.layout d.seat.dom) r e
-    × KeepsPinned d e × Tells d.trail (told_copy d args r) e.trail
+    × KeepsPinned d e × AppendsRecord d.trail (record_of_copy d args r) e.trail
 AnswersCall may m d request answer e =
     (r : Result (Unit {0}) Denial) × (answer ≡ plain_answer r) × AnswersQuietly may m d request (verdict_of r) e
 

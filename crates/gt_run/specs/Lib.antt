@@ -5,4 +5,4 @@ pub mod Prelude
 pub mod Printing
 pub mod Runs
 pub mod Serving
-pub mod Telling
+pub mod Logging

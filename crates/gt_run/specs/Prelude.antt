@@ -1,6 +1,6 @@
 -- Names of other crates, and of the code, that the definitions here use.
 pub use Rattle.gt_audit.specs.Lines.{line_text}
-pub use Rattle.gt_audit.specs.Telling.{Telling, Tells}
+pub use Rattle.gt_audit.specs.Trails.{TrailState, AppendsRecord}
 pub use Rattle.gt_audit.specs.declared.record.Hypercall.{Hypercall}
 pub use Rattle.gt_audit.specs.declared.record.Record.{Record}
 pub use Rattle.gt_calls.specs.Asking.{asked}
@@ -14,13 +14,13 @@ pub use Rattle.gt_handles.specs.declared.handles.Handle.{Handle}
 pub use Rattle.gt_script_runs.specs.Auditing.{hypercall_of_request, encoded_record}
 pub use Rattle.gt_script_runs.specs.Naming.{AreNamed}
 pub use Rattle.gt_script_runs.specs.Printing.{answer_line, call_text}
-pub use Rattle.gt_script_runs.specs.Runs.{SaysRequest, Named, handle_given, label_given, with_name}
+pub use Rattle.gt_script_runs.specs.Runs.{MakesRequest, Named, handle_given, label_given, with_name}
 pub use Rattle.gt_script_runs.specs.declared.labels.Labels.{Labels}
 pub use Rattle.gt_script_lines.specs.declared.calls.ScriptCall.{ScriptCall}
 pub use Rattle.gt_live.specs.Accesses.{IsCopiedBy, IsReadBy, IsWrittenBy}
 pub use Rattle.gt_live.specs.Domains.{Accesses, AllowRelation, Answered, BelongsTo, HasLeft, KeepsPinned, MapAnswered}
 pub use Rattle.gt_live.specs.Domains.{mapping_reply}
-pub use Rattle.gt_live.specs.Domains.{subject_of, told_copy, told_of, verdict_of, verdict_of_frames, verdict_of_size}
+pub use Rattle.gt_live.specs.Domains.{subject_of, record_of_copy, record_of_result, verdict_of, verdict_of_frames, verdict_of_size}
 pub use Rattle.gt_live.specs.Domains.{verdict_of_version}
 pub use Rattle.gt_live.specs.Mappings.{Removes}
 pub use Rattle.gt_live.specs.Starting.{IsNewDomain}
@@ -29,7 +29,7 @@ pub use Rattle.gt_live.specs.declared.domain.Domain.{Domain}
 pub use Rattle.gt_live.specs.declared.monitor.Monitor.{Monitor}
 pub use Rattle.gt_run.specs.declared.lists.ThreadJob.{ThreadJob}
 pub use Rattle.gt_run.specs.declared.lists.DomainPart.{DomainPart}
-pub use Rattle.gt_run.specs.declared.telling.TrailLogger.{TrailLogger}
+pub use Rattle.gt_run.specs.declared.logging.TrailLogger.{TrailLogger}
 pub use Rattle.gt_script.specs.Lists.{RunAction, RunTask}
 pub use Rattle.gt_script.specs.declared.tasks.RunActionBy.TheVariants.{Await, Do, Tell}
 pub use Rattle.gt_text.specs.Printing.{type_text}

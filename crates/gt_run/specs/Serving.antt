@@ -1,9 +1,9 @@
 -- The run of a domain's list: a call for each of its lines, one after the other.
 use Rattle.std.specs.Prelude.{◌≡◌, ◌⊎◌, ◌++◌, ◌+◌, ◌==◌, ◌^◌, ◌-◌, ℕ, Bool, true, false, List, [], ◌∷◌, length, map}
 use Rattle.std.specs.Prelude.{min, take, codes, Option, None, Some, is_some, slice_get}
-use Rattle.gt_run.specs.Prelude.{AllZip, flat_map, sum_by, DomId, type_text, line_text, Telling, Record, asked}
+use Rattle.gt_run.specs.Prelude.{AllZip, flat_map, sum_by, DomId, type_text, line_text, TrailState, Record, asked}
 use Rattle.gt_run.specs.Prelude.{Request, Answer, hypercall_of_request, encoded_record, AreNamed, answer_line, call_text, Named}
-use Rattle.gt_run.specs.Prelude.{handle_given, label_given, with_name, SaysRequest, Labels, ScriptCall, AllowRelation}
+use Rattle.gt_run.specs.Prelude.{handle_given, label_given, with_name, MakesRequest, Labels, ScriptCall, AllowRelation}
 use Rattle.gt_run.specs.Prelude.{subject_of, HasLeft, IsNewDomain, Departed, Domain, Monitor, RunAction, Do, Tell, Await, RunTask, ThreadJob, DomainPart}
 use Rattle.gt_run.specs.Prelude.{Passed, TrailLogger}
 use Rattle.gt_run.specs.Asking.{Asks, MakesFlagStep, RaisesFlag, Stand}
@@ -17,7 +17,7 @@ use Rattle.gt_script_lines.specs.declared.calls.ScriptCall.TheVariants as calls
 pub record ListOutcome : Type 0 where
   pub line : ℕ
   pub answer : Answer
-  pub told : List Record
+  pub recorded : List Record
   pub lost : ℕ
 
 -- the progress of a list: its domain, what the labels name, and the outcomes of its calls so far, in order
@@ -33,9 +33,9 @@ list_start d = record { domain = d; named = []; outcomes = [] }
 -- the fate of the record that a call makes, if it makes one: it went into the log, or it was lost; without a log
 -- neither
 abbrev pub Records : Bool → Option Record → List Record → ℕ → Type 0
-Records true (Some r) told lost = ((told ≡ r ∷ []) × (lost ≡ 0)) ⊎ ((told ≡ []) × (lost ≡ 1))
-Records true None told lost = (told ≡ []) × (lost ≡ 0)
-Records false made told lost = (told ≡ []) × (lost ≡ 0)
+Records true (Some r) recorded lost = ((recorded ≡ r ∷ []) × (lost ≡ 0)) ⊎ ((recorded ≡ []) × (lost ≡ 1))
+Records true None recorded lost = (recorded ≡ []) × (lost ≡ 0)
+Records false made recorded lost = (recorded ≡ []) × (lost ≡ 0)
 
 -- the record of a request of this domain with this answer, if such calls are audited
 abbrev pub record_made : DomId → Domain → Request → Answer → Option Record
@@ -56,14 +56,14 @@ pub record MakesCall {P : Type 0} (may : P → AllowRelation) (job : ThreadJob P
     (p q : ListProgress) : Type 0 where
   pub request : Request
   pub answer : Answer
-  pub told : List Record
+  pub recorded : List Record
   pub lost : ℕ
   pub fits : FitsEntry call
-  pub says : SaysRequest p.named job.part.dom call request
+  pub says : MakesRequest p.named job.part.dom call request
   pub asks : Asks may job.monitor.now p.domain request answer q.domain
-  pub records : Records (is_logged job) (record_made job.part.dom p.domain request answer) told lost
+  pub records : Records (is_logged job) (record_made job.part.dom p.domain request answer) recorded lost
   pub named : q.named ≡ with_name p.named job.part.dom (label_given call) (handle_given answer)
-  pub outcomes : q.outcomes ≡ p.outcomes ++ record { line = line; answer = answer; told = told; lost = lost } ∷ []
+  pub outcomes : q.outcomes ≡ p.outcomes ++ record { line = line; answer = answer; recorded = recorded; lost = lost } ∷ []
 
 -- the effect of a line's action: a call is made, or a flag is raised or passed by a step of the domain
 unfoldable pub DoesDeed : {P : Type 0} → (P → AllowRelation) → ThreadJob P → ℕ → RunAction → ListProgress → ListProgress → Type 0
@@ -91,12 +91,12 @@ abbrev pub answer_lines : List (List ℕ) → DomId → List ListOutcome → Lis
 answer_lines names dom outcomes = flat_map (λ o. answer_line names o.line dom o.answer) outcomes
 
 -- the records of these calls that the log has, in order
-abbrev pub records_told : List ListOutcome → List Record
-records_told outcomes = flat_map (λ o. o.told) outcomes
+abbrev pub logged_records : List ListOutcome → List Record
+logged_records outcomes = flat_map (λ o. o.recorded) outcomes
 
 -- the audit lines of these calls, in order
 abbrev pub audit_lines : List (List ℕ) → List ListOutcome → List ℕ
-audit_lines names outcomes = flat_map (line_text (type_text (λ name. name) names)) (records_told outcomes)
+audit_lines names outcomes = flat_map (line_text (type_text (λ name. name) names)) (logged_records outcomes)
 
 -- how many records of these calls were lost
 abbrev pub lost_in : List ListOutcome → ℕ
@@ -173,11 +173,11 @@ pub record IsBegun {P : Type 0} (may : P → AllowRelation) (job : ThreadJob P) 
 
 -- the records that went into the log, or were lost, are those of these calls: each record of the domain's trail was
 -- pushed
-abbrev pub TellsOutcomes : Telling → Option TrailLogger → List ListOutcome → Type 0
-TellsOutcomes trail None outcomes = (records_told outcomes ≡ []) × (lost_in outcomes ≡ 0)
-TellsOutcomes trail (Some t) outcomes =
-    (t.next ≡ length trail.records) × (map (λ e. e.1) t.told.told ≡ records_told outcomes)
-    × (counted (trail.lost + t.told.lost) ≡ counted (lost_in outcomes))
+abbrev pub LogsOutcomes : TrailState → Option TrailLogger → List ListOutcome → Type 0
+LogsOutcomes trail None outcomes = (logged_records outcomes ≡ []) × (lost_in outcomes ≡ 0)
+LogsOutcomes trail (Some t) outcomes =
+    (t.next ≡ length trail.records) × (map (λ e. e.1) t.log.recorded ≡ logged_records outcomes)
+    × (counted (trail.lost + t.log.lost) ≡ counted (lost_in outcomes))
 
 -- the domain, its labels and its logger are at this point of the list
 pub record IsKeptAt {P : Type 0} (job : ThreadJob P) (p : ListProgress) (d : Domain) (labels : Labels)
@@ -186,7 +186,7 @@ pub record IsKeptAt {P : Type 0} (job : ThreadJob P) (p : ListProgress) (d : Dom
   pub own : d.seat.dom ≡ job.part.dom
   pub names : AreNamed labels p.named
   pub asked : is_some logger ≡ is_logged job
-  pub told : TellsOutcomes d.trail logger p.outcomes
+  pub recorded : LogsOutcomes d.trail logger p.outcomes
 
 -- from each point with such a state, the call of this line leads to a next one, and prints this
 abbrev pub Calls : {P : Type 0} → (P → AllowRelation) → ThreadJob P → ℕ → ScriptCall → Domain → Domain → Labels → Labels
@@ -204,13 +204,13 @@ abbrev pub Makes : {P : Type 0} → (P → AllowRelation) → ThreadJob P → Sc
 Makes may job call d e before after answer =
     FitsEntry call
     × ((named : List Named) → AreNamed before named
-    → (request : Request) × SaysRequest named job.part.dom call request × Asks may job.monitor.now d request answer e
+    → (request : Request) × MakesRequest named job.part.dom call request × Asks may job.monitor.now d request answer e
     × AreNamed after (with_name named job.part.dom (label_given call) (handle_given answer)))
 
 -- nothing was pushed for the calls of this domain, which has made none
-abbrev pub StartsTold : {P : Type 0} → ThreadJob P → Domain → Option TrailLogger → Type 0
-StartsTold job d logger =
-    (d.seat.dom ≡ job.part.dom) × (is_some logger ≡ is_logged job) × TellsOutcomes d.trail logger []
+abbrev pub StartsLogged : {P : Type 0} → ThreadJob P → Domain → Option TrailLogger → Type 0
+StartsLogged job d logger =
+    (d.seat.dom ≡ job.part.dom) × (is_some logger ≡ is_logged job) × LogsOutcomes d.trail logger []
 
 -- a list was served to its end, starting at this domain; the logger and the text are those of its calls
 pub record ServesAll {P : Type 0} (may : P → AllowRelation) (job : ThreadJob P) (d : Domain) (text : List ℕ) (e : Domain)
@@ -223,7 +223,7 @@ pub record ServesAll {P : Type 0} (may : P → AllowRelation) (job : ThreadJob P
   pub ends : EndsList job.part.dom job.part.tasks.now number last
   pub prints : text ≡ answer_lines job.part.types.now job.part.dom left.outcomes ++ last
   pub asked : is_some logger ≡ is_logged job
-  pub told : TellsOutcomes e.trail logger left.outcomes
+  pub recorded : LogsOutcomes e.trail logger left.outcomes
 
 -- some first lines of it were served, and the text is what their calls printed
 pub record ServesSome {P : Type 0} (may : P → AllowRelation) (job : ThreadJob P) (d : Domain) (text : List ℕ) : Type 0 where

@@ -18,10 +18,10 @@ mod fault;
 mod gate;
 mod laws;
 mod lists;
+mod logging;
 mod reading;
 mod running;
 mod serving;
-mod telling;
 mod threads;
 
 pub use fault::RunFault;

@@ -1,8 +1,8 @@
 //! From a script to the output of its domains.
 ghost use Rattle.std.specs.Prelude.{◌≡◌, ℕ, List, take, is_some, IfOk};
-ghost use Rattle.gt_script.specs.Contents.{contents_told};
-ghost use Rattle.gt_script.specs.RunContents.{run_told};
-ghost use Rattle.gt_script.specs.RunScripts.{CanConfigure, RunTells};
+ghost use Rattle.gt_script.specs.Contents.{contents_of};
+ghost use Rattle.gt_script.specs.RunContents.{run_contents};
+ghost use Rattle.gt_script.specs.RunScripts.{CanConfigure, ReadsAsRun};
 ghost use Rattle.gt_script.specs.Stuck.{AreNumbered};
 ghost use Rattle.gt_text.specs.Streams.{ConsumesAtMost, OfInput};
 ghost use Rattle.gt_text.specs.declared.streams.TheConstants.{READ_LIMIT};
@@ -49,9 +49,9 @@ fn run_script<'a, R: Threads + Wait + Sync, G: Gate + Sync, W: Write>(
     gate: &G,
     writer: &mut W,
 ) -> Result<(), RunFault>
-    requires configured { CanConfigure (contents_told script.now.head) }
+    requires configured { CanConfigure (contents_of script.now.head) }
     requires numbered { AreNumbered script.now.flags script.now.tasks }
-    ensures { WroteScript (run_told script.entry.now) (is_some log.entry)
+    ensures { WroteScript (run_contents script.entry.now) (is_some log.entry)
         (W.contents writer.old) (W.contents writer.new) result }
 {
     let head = script.head();
@@ -84,7 +84,7 @@ fn run_bytes<R: Threads + Wait + Sync, G: Gate + Sync, W: Write>(
     gate: &G,
 ) -> Result<(), RunFault>
     ensures { (all : List ℕ) → input.now ≡ take READ_LIMIT all →
-        Ran (is_some log.entry) (RunTells all) (W.contents writer.old) (W.contents writer.new) result }
+        Ran (is_some log.entry) (ReadsAsRun all) (W.contents writer.old) (W.contents writer.new) result }
 {
     match parse_run(alloc, input) {
         Ok(script) => run_script(rt, alloc, &script, log, gate, writer),
@@ -112,7 +112,7 @@ pub fn run<R: Threads + Wait + Sync, I: Read, W: Write, G: Gate + Sync>(
     gate: &G,
 ) -> Result<(), RunFault>
     ensures text { OfInput (I.remaining reader.old) (λ input.
-        Ran (is_some log.entry) (RunTells input) (W.contents writer.old) (W.contents writer.new) result) }
+        Ran (is_some log.entry) (ReadsAsRun input) (W.contents writer.old) (W.contents writer.new) result) }
     ensures read { ConsumesAtMost READ_LIMIT (I.remaining reader.old) (I.remaining reader.new) }
 {
     match read_text(alloc, reader) {

@@ -4,12 +4,12 @@ ghost use Rattle.gt_word_history.specs.declared.view.FlagStep.TheVariants.{Passe
 ghost use Rattle.gt_entry.specs.Entries.{IsEntry};
 ghost use Rattle.gt_run.specs.Asking.{IsSameStand, MakesFlagStep};
 ghost use Rattle.gt_run.specs.Printing.{IsOutputOf};
-ghost use Rattle.gt_run.specs.Serving.{gate_line, Calls, FitsEntry, IsReady, Makes, Serves, StartsTold};
+ghost use Rattle.gt_run.specs.Serving.{gate_line, Calls, FitsEntry, IsReady, Makes, Serves, StartsLogged};
 
 use crate::gate::Gate;
 use crate::lists::ThreadJob;
+use crate::logging::{TrailLogger, log_next, logger_for};
 use crate::running::RunningDomain;
-use crate::telling::{TrailLogger, logger_for, tell_next};
 use gt_core::Answer;
 use gt_entry::Entry;
 use gt_live::Departed;
@@ -94,7 +94,7 @@ fn call_line<'a, R: Wait, P: Allows>(
         domain.old.domain domain.new.domain labels.old labels.new logger.old logger.new text.items) }
 {
     let answer = make_call(rt, domain, labels, job, at.call);
-    tell_next(rt, logger, domain.trail());
+    log_next(rt, logger, domain.trail());
     let mut text = Vec::new(job.alloc);
     push_answer_line(
         job.alloc,
@@ -167,7 +167,7 @@ fn serve<'a, R: Wait, P: Allows, G: Gate>(
     text: &mut Vec<u8>,
 ) -> bool
     requires monitor { domain.old.monitor ≡ job.monitor.now }
-    requires told { StartsTold job domain.old.domain logger.old }
+    requires recorded { StartsLogged job domain.old.domain logger.old }
     requires text { text.old.items ≡ [] }
     ensures same { IsSameStand domain.old domain.new }
     ensures served { Serves P.may job.entry domain.old.domain result text.new.items domain.new.domain logger.new }

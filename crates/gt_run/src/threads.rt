@@ -261,12 +261,12 @@ fn join_each<'s, 'a, R: Threads, P: Allows, W: Write>(
 }
 
 // Loads one word with all gathered seats, if there are any: then words and views show one state of all domains.
-fn tell_of_all<P: Allows>(monitor: &Monitor<P>, gathered: Option<Gathered>)
+fn learn_of_all<P: Allows>(monitor: &Monitor<P>, gathered: Option<Gathered>)
     requires { AreOfThisRun monitor.now.words gathered }
     ensures { ShowTogether monitor.now.words.layout (views_in gathered) }
 {
     if let Some(mut all) = gathered {
-        monitor.tell_of_all(&mut all);
+        monitor.learn_of_all(&mut all);
     }
 }
 
@@ -333,7 +333,7 @@ fn write_each<'s, 'a, R: Threads, P: Allows, W: Write>(
         lost,
         gathered,
     } = join_each(rt, alloc, monitor, handles, writer);
-    tell_of_all(monitor, gathered);
+    learn_of_all(monitor, gathered);
     outcome?;
     write_audit(alloc, writer, audit.as_slice(), lost)
 }

@@ -17,7 +17,7 @@ use Rattle.gt_run.specs.declared.fault.RunFault.{RunFault}
 use Rattle.gt_run.specs.declared.fault.RunFault.TheVariants.{Play, Thread}
 use Rattle.gt_run.specs.declared.lists.ThreadJob.{ThreadJob}
 use Rattle.gt_script.specs.RunContents.{RunContents}
-use Rattle.gt_script.specs.RunScripts.{RunTells}
+use Rattle.gt_script.specs.RunScripts.{ReadsAsRun}
 use Rattle.gt_script.specs.Script.{Wrong}
 use Rattle.gt_text.specs.Streams.{AppendsBeginning, OfInput}
 use Rattle.gt_order.specs.Running.{AppendsText, WroteIfOk}
@@ -97,8 +97,8 @@ module _ (old new : Option (List ℕ)) (text : List ℕ) where
 
 relayed_one : (old new : Option (List ℕ)) (text : List ℕ) (format : Format) (logged : Bool) (input : List ℕ) (outcome answer : Result (Unit {0}) RunFault) → RanAs format logged input (Some []) (Some text) outcome → Relays text outcome old new answer
     → RanAs format logged input old new answer
-relayed_one old new text Text logged input outcome answer ran went = (relayed_text old new text logged (RunTells input) outcome answer ran.0 went, relayed_wrote old new text logged (RunTells input) outcome answer ran.1 went)
-relayed_one old new text Json logged input outcome answer ran went = relayed_json old new text (Ran logged (RunTells input)) outcome answer ran went
+relayed_one old new text Text logged input outcome answer ran went = (relayed_text old new text logged (ReadsAsRun input) outcome answer ran.0 went, relayed_wrote old new text logged (ReadsAsRun input) outcome answer ran.1 went)
+relayed_one old new text Json logged input outcome answer ran went = relayed_json old new text (Ran logged (ReadsAsRun input)) outcome answer ran went
 
 -- what follows for each input follows for the one that there is
 of_input_more : (known : Option (List ℕ)) (P Q : List ℕ → Type 0) → ((input : List ℕ) → P input → Q input) → OfInput known P → OfInput known Q

@@ -8,6 +8,6 @@ pub use Rattle.gt_json_commands.specs.AsJson.{AsJson, Promise}
 pub use Rattle.gt_order.specs.Running.{RanInOrder}
 pub use Rattle.gt_run.specs.Runs.{Ran}
 pub use Rattle.gt_run.specs.declared.fault.RunFault.{RunFault}
-pub use Rattle.gt_script.specs.RunScripts.{RunTells}
+pub use Rattle.gt_script.specs.RunScripts.{ReadsAsRun}
 pub use Rattle.gt_text.specs.Streams.{AppendsBeginning}
 pub use Rattle.std.specs.Io.KnownBytes.{Appends, Keeps}

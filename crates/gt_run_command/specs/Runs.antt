@@ -1,18 +1,18 @@
 -- The output of `run`, and its result.
 use Rattle.std.specs.Prelude.{◌≡◌, ℕ, Bool, List, Result, Ok, Err}
 use Rattle.gt_run_command.specs.Prelude.{Format, Text, Json, Doing, Yes, Run, AsJson, Promise, RanInOrder, Ran, RunFault}
-use Rattle.gt_run_command.specs.Prelude.{RunTells, AppendsBeginning, Appends, Keeps}
+use Rattle.gt_run_command.specs.Prelude.{ReadsAsRun, AppendsBeginning, Appends, Keeps}
 use Rattle.gt_file_commands.specs.declared.failure.Failure.TheVariants as failures
 use Rattle.gt_run.specs.declared.fault.RunFault.TheVariants.{Play, Thread}
 use Rattle.gt_script_runs.specs.declared.fault.PlayFault.TheVariants.{Memory, Policy, Read, Script, Write}
 
 -- the output as JSON, with a log or without
 abbrev pub RanAsJson : List ℕ → Bool → Promise RunFault
-RanAsJson input logged = AsJson Run (Play Memory) (Play Write) (Ran logged (RunTells input))
+RanAsJson input logged = AsJson Run (Play Memory) (Play Write) (Ran logged (ReadsAsRun input))
 
 -- the output in a format
 abbrev pub RanAs : Format → Bool → List ℕ → Promise RunFault
-RanAs Text audited input = RanInOrder audited (RunTells input)
+RanAs Text audited input = RanInOrder audited (ReadsAsRun input)
 RanAs Json audited input = RanAsJson input audited
 
 -- the fault of a run that writes to memory, where a write fails only if an allocation does

@@ -21,16 +21,16 @@ use Rattle.gt_policy.specs.declared.parse.PolicyFaultKind.TheVariants as kind
 use Rattle.gt_script_lines.specs.Words.{words}
 use Rattle.gt_script.specs.Faults.{error_in_block}
 use Rattle.gt_script.specs.Blocks.{opening, closing, block_text, Means, IsFaultyBlock, IsPolicyOf}
-use Rattle.gt_script.specs.Contents.{contents_told, Contents, empty, with_policy, type_names_with}
+use Rattle.gt_script.specs.Contents.{contents_of, Contents, empty, with_policy, type_names_with}
 use Rattle.gt_script.specs.Script.{is_empty, has_no_rights, with_words, with_lines, completed, completed_if_ok, whole}
-use Rattle.gt_script.specs.Script.{in_result, in_script, in_policy, ClosedSays, BlockSays, LinesSay, TextSays, TellsFor}
+use Rattle.gt_script.specs.Script.{in_result, in_script, in_policy, ClosedReads, BlockReads, LinesRead, TextReads, ReadsFor}
 use Rattle.gt_script.specs.Script.{Wrong}
-use Rattle.gt_script.specs.Laws.{lines_said, domain_in, step_on, order_on, is_for, SayParts, IsTripleScript}
+use Rattle.gt_script.specs.Laws.{lines_said, domain_in, step_on, order_on, is_for, GiveParts, IsTripleScript}
 use Rattle.gt_script.specs.Laws.{IsPolicyScript}
 use Rattle.gt_script.specs.Laws.{IsScriptFor, HasBlock, lines_before, IsOpen, IsFaultOfLine, IsFaultOfEnd}
 use Rattle.gt_script.specs.Laws.{IsFirstScriptFault}
 use Rattle.gt_script.specs.Laws.{IsFaultBehind, IsFaultOfLines, IsUnread, IsFaultOf, IsFaultOfBlock, StandsFor}
-use Rattle.gt_script.specs.Outcomes.{AnswersScript, SaysScript}
+use Rattle.gt_script.specs.Outcomes.{AnswersScript, GivesScript}
 use Rattle.gt_script.specs.declared.command.ScriptCommand.{ScriptCommand}
 use Rattle.gt_script.specs.declared.script.Script.{Script}
 use Rattle.gt_script.specs.declared.faults.ScriptError.{ScriptError}
@@ -187,7 +187,7 @@ triple_script command ls s w =
       some_triple = some_triple-of s x.policy w.rights;
     }
 
-rest_says : (command : ScriptCommand) (n : ℕ) (ls : List (List ℕ)) (p : Allowed) (s : Contents) → Whole n ls (with_policy command p) s → SayParts n ls s
+rest_says : (command : ScriptCommand) (n : ℕ) (ls : List (List ℕ)) (p : Allowed) (s : Contents) → Whole n ls (with_policy command p) s → GiveParts n ls s
 rest_says command n ls p s w =
     let x = with_lines-Extends n ls (with_policy command p) s w.made in
     record {
@@ -254,23 +254,23 @@ policy_script command ls first end p s b means w =
       means = means;
       for_command = x.command;
       policy = x.policy;
-      parts = subst (λ (k : ℕ). SayParts k (drop (end + 1) (drop first ls)) s) (number-behind ls first end b) (rest_says command (first + end + 1 + 1) (drop (end + 1) (drop first ls)) p s w);
+      parts = subst (λ (k : ℕ). GiveParts k (drop (end + 1) (drop first ls)) s) (number-behind ls first end b) (rest_says command (first + end + 1 + 1) (drop (end + 1) (drop first ls)) p s w);
       no_triples = x.no_triples p refl;
     }
 
 -- what the lines say, if it is no fault
 
-closed-Ok : (command : ScriptCommand) (ls : List (List ℕ)) (first end : ℕ) (s : Contents) → Block ls first end → ClosedSays command (length ls) first (drop first ls) end (Ok s) → IsScriptFor command ls s
+closed-Ok : (command : ScriptCommand) (ls : List (List ℕ)) (first end : ℕ) (s : Contents) → Block ls first end → ClosedReads command (length ls) first (drop first ls) end (Ok s) → IsScriptFor command ls s
 closed-Ok command ls first end s b (inl (p, means, e)) =
     inr (policy_script command ls first end p s b means
     (whole-by (length ls) (first + end + 1 + 1) (drop (end + 1) (drop first ls)) (with_policy command p) s (with_lines (with_policy command p) (first + end + 1 + 1) (drop (end + 1) (drop first ls))) refl (in_result-Ok _ s e)))
 closed-Ok command ls first end s b (inr (g, faulty, e)) = absurd cc
 
-block-Ok : (command : ScriptCommand) (ls : List (List ℕ)) (place : ℕ) (o : Option ℕ) (s : Contents) → opening ls ≡ Some place → closing (drop (place + 1) ls) ≡ o → BlockSays command (length ls) (place + 1) (drop (place + 1) ls) o (Ok s) → IsScriptFor command ls s
+block-Ok : (command : ScriptCommand) (ls : List (List ℕ)) (place : ℕ) (o : Option ℕ) (s : Contents) → opening ls ≡ Some place → closing (drop (place + 1) ls) ≡ o → BlockReads command (length ls) (place + 1) (drop (place + 1) ls) o (Ok s) → IsScriptFor command ls s
 block-Ok command ls place None s opens closes e = absurd cc
 block-Ok command ls place (Some end) s opens closes e = closed-Ok command ls (place + 1) end s (block-at ls place end opens closes) e
 
-lines-Ok : (command : ScriptCommand) (ls : List (List ℕ)) (o : Option ℕ) (s : Contents) → opening ls ≡ o → LinesSay command ls o (Ok s) → IsScriptFor command ls s
+lines-Ok : (command : ScriptCommand) (ls : List (List ℕ)) (o : Option ℕ) (s : Contents) → opening ls ≡ o → LinesRead command ls o (Ok s) → IsScriptFor command ls s
 lines-Ok command ls None s opens e = inl (triple_script command ls s (whole-by (length ls) 1 ls (empty command) s (with_lines (empty command) 1 ls) refl (in_result-Ok _ s e)))
 lines-Ok command ls (Some place) s opens e = block-Ok command ls place (closing (drop (place + 1) ls)) s opens refl e
 
@@ -287,7 +287,7 @@ open-with ls place o none = record {
   inside = none_closes (drop (place + 1) ls) none;
 }
 
-closed-script : (command : ScriptCommand) (ls : List (List ℕ)) (first end : ℕ) (f : ScriptFault) → Block ls first end → ClosedSays command (length ls) first (drop first ls) end (Err (in_script f)) → IsFaultBehind command ls f
+closed-script : (command : ScriptCommand) (ls : List (List ℕ)) (first end : ℕ) (f : ScriptFault) → Block ls first end → ClosedReads command (length ls) first (drop first ls) end (Err (in_script f)) → IsFaultBehind command ls f
 closed-script command ls first end f b (inl (p, means, e)) =
     let r = fault-by (length ls) (first + end + 1 + 1) (drop (end + 1) (drop first ls)) (with_policy command p) f (with_lines (with_policy command p) (first + end + 1 + 1) (drop (end + 1) (drop first ls))) refl (in_result-script _ f e) in
     record {
@@ -300,15 +300,15 @@ closed-script command ls first end f b (inl (p, means, e)) =
     }
 closed-script command ls first end f b (inr (g, faulty, e)) = absurd cc
 
-block-script : (command : ScriptCommand) (ls : List (List ℕ)) (place : ℕ) (o : Option ℕ) (f : ScriptFault) → opening ls ≡ Some place → closing (drop (place + 1) ls) ≡ o → BlockSays command (length ls) (place + 1) (drop (place + 1) ls) o (Err (in_script f)) → IsFaultOfLines command ls f
+block-script : (command : ScriptCommand) (ls : List (List ℕ)) (place : ℕ) (o : Option ℕ) (f : ScriptFault) → opening ls ≡ Some place → closing (drop (place + 1) ls) ≡ o → BlockReads command (length ls) (place + 1) (drop (place + 1) ls) o (Err (in_script f)) → IsFaultOfLines command ls f
 block-script command ls place None f opens closes e = inr (inl (open-with ls place (opens_at ls place opens) closes, cc))
 block-script command ls place (Some end) f opens closes e = inr (inr (closed-script command ls (place + 1) end f (block-at ls place end opens closes) e))
 
-lines-script : (command : ScriptCommand) (ls : List (List ℕ)) (o : Option ℕ) (f : ScriptFault) → opening ls ≡ o → LinesSay command ls o (Err (in_script f)) → IsFaultOfLines command ls f
+lines-script : (command : ScriptCommand) (ls : List (List ℕ)) (o : Option ℕ) (f : ScriptFault) → opening ls ≡ o → LinesRead command ls o (Err (in_script f)) → IsFaultOfLines command ls f
 lines-script command ls None f opens e = inl (none_opens ls opens, fault-by (length ls) 1 ls (empty command) f (with_lines (empty command) 1 ls) refl (in_result-script _ f e))
 lines-script command ls (Some place) f opens e = block-script command ls place (closing (drop (place + 1) ls)) f opens refl e
 
-closed-policy : (command : ScriptCommand) (bytes : List ℕ) (first end : ℕ) (g : policy.TokenFault) → length bytes ≤ 1048576 → IsUtf8 bytes → Block (lines_in bytes) first end → ClosedSays command (length (lines_in bytes)) first (drop first (lines_in bytes)) end (Err (in_policy g)) → IsFaultOfBlock bytes g
+closed-policy : (command : ScriptCommand) (bytes : List ℕ) (first end : ℕ) (g : policy.TokenFault) → length bytes ≤ 1048576 → IsUtf8 bytes → Block (lines_in bytes) first end → ClosedReads command (length (lines_in bytes)) first (drop first (lines_in bytes)) end (Err (in_policy g)) → IsFaultOfBlock bytes g
 closed-policy command bytes first end g short text b (inl (p, means, e)) = absurd (in_result-policy _ g e)
 closed-policy command bytes first end g short text b (inr (h, faulty, e)) =
     let same : h ≡ g = cc in
@@ -322,36 +322,36 @@ closed-policy command bytes first end g short text b (inr (h, faulty, e)) =
     }
 
 block-policy : (command : ScriptCommand) (bytes : List ℕ) (place : ℕ) (o : Option ℕ) (g : policy.TokenFault) → length bytes ≤ 1048576 → IsUtf8 bytes → opening (lines_in bytes) ≡ Some place → closing (drop (place + 1) (lines_in bytes)) ≡ o
-    → BlockSays command (length (lines_in bytes)) (place + 1) (drop (place + 1) (lines_in bytes)) o (Err (in_policy g)) → IsFaultOfBlock bytes g
+    → BlockReads command (length (lines_in bytes)) (place + 1) (drop (place + 1) (lines_in bytes)) o (Err (in_policy g)) → IsFaultOfBlock bytes g
 block-policy command bytes place None g short text opens closes e = absurd cc
 block-policy command bytes place (Some end) g short text opens closes e = closed-policy command bytes (place + 1) end g short text (block-at (lines_in bytes) place end opens closes) e
 
-lines-policy : (command : ScriptCommand) (bytes : List ℕ) (o : Option ℕ) (g : policy.TokenFault) → length bytes ≤ 1048576 → IsUtf8 bytes → opening (lines_in bytes) ≡ o → LinesSay command (lines_in bytes) o (Err (in_policy g)) → IsFaultOfBlock bytes g
+lines-policy : (command : ScriptCommand) (bytes : List ℕ) (o : Option ℕ) (g : policy.TokenFault) → length bytes ≤ 1048576 → IsUtf8 bytes → opening (lines_in bytes) ≡ o → LinesRead command (lines_in bytes) o (Err (in_policy g)) → IsFaultOfBlock bytes g
 lines-policy command bytes None g short text opens e = absurd (in_result-policy _ g e)
 lines-policy command bytes (Some place) g short text opens e = block-policy command bytes place (closing (drop (place + 1) (lines_in bytes))) g short text opens refl e
 
 -- what bytes say
 
-tells-Ok : (command : ScriptCommand) (bytes : List ℕ) (s : Contents) → TellsFor command bytes (Ok s) → IsScriptFor command (lines_in bytes) s
+tells-Ok : (command : ScriptCommand) (bytes : List ℕ) (s : Contents) → ReadsFor command bytes (Ok s) → IsScriptFor command (lines_in bytes) s
 tells-Ok command bytes s (inl (long, e)) = absurd cc
 tells-Ok command bytes s (inr (inl (short, bad, e))) = absurd cc
 tells-Ok command bytes s (inr (inr (short, text, says))) = lines-Ok command (lines_in bytes) (opening (lines_in bytes)) s refl says
 
-tells-script : (command : ScriptCommand) (bytes : List ℕ) (f : ScriptFault) → TellsFor command bytes (Err (in_script f)) → IsFaultOf command bytes f
+tells-script : (command : ScriptCommand) (bytes : List ℕ) (f : ScriptFault) → ReadsFor command bytes (Err (in_script f)) → IsFaultOf command bytes f
 tells-script command bytes f (inl (long, e)) = inl (inl (long, cc))
 tells-script command bytes f (inr (inl (short, bad, e))) = inl (inr (short, bad, cc))
 tells-script command bytes f (inr (inr (short, text, says))) = inr (short, text, lines-script command (lines_in bytes) (opening (lines_in bytes)) f refl says)
 
-tells-policy : (command : ScriptCommand) (bytes : List ℕ) (g : policy.TokenFault) → TellsFor command bytes (Err (in_policy g)) → IsFaultOfBlock bytes g
+tells-policy : (command : ScriptCommand) (bytes : List ℕ) (g : policy.TokenFault) → ReadsFor command bytes (Err (in_policy g)) → IsFaultOfBlock bytes g
 tells-policy command bytes g (inl (long, e)) = absurd cc
 tells-policy command bytes g (inr (inl (short, bad, e))) = absurd cc
 tells-policy command bytes g (inr (inr (short, text, says))) = lines-policy command bytes (opening (lines_in bytes)) g short text refl says
 
-pub answers-script : (command : ScriptCommand) (bytes : List ℕ) (r : Result Script ScriptError) → AnswersScript r (TellsFor command bytes) → IfOk r (λ s. IsScriptFor command (lines_in bytes) (contents_told s))
-answers-script command bytes (Ok s) h = tells-Ok command bytes (contents_told s) h
+pub answers-script : (command : ScriptCommand) (bytes : List ℕ) (r : Result Script ScriptError) → AnswersScript r (ReadsFor command bytes) → IfOk r (λ s. IsScriptFor command (lines_in bytes) (contents_of s))
+answers-script command bytes (Ok s) h = tells-Ok command bytes (contents_of s) h
 answers-script command bytes (Err e) h = tt
 
-pub answers-fault : (command : ScriptCommand) (bytes : List ℕ) (r : Result Script ScriptError) → AnswersScript r (TellsFor command bytes) → IfErr r (λ e. StandsFor command bytes e)
+pub answers-fault : (command : ScriptCommand) (bytes : List ℕ) (r : Result Script ScriptError) → AnswersScript r (ReadsFor command bytes) → IfErr r (λ e. StandsFor command bytes e)
 answers-fault command bytes (Ok s) h = tt
 answers-fault command bytes (Err errors.Memory) h = tt
 answers-fault command bytes (Err (errors.Fault f)) h = tells-script command bytes f h
@@ -362,40 +362,40 @@ answers-fault command bytes (Err (errors.Policy e)) (g, shown, h) = (g, shown, t
 longer : (n : ℕ) (xs : List ℕ) → n < length (take (n + 1) xs) → n < length xs
 longer n xs h = let many : length (take (n + 1) xs) ≤ length xs = rw length-take (omega arith) in omega (arith, many, h)
 
-tells-all : (command : ScriptCommand) (all : List ℕ) (lines_said : Result Contents Wrong) → TellsFor command (take 1048577 all) lines_said → TellsFor command all lines_said
+tells-all : (command : ScriptCommand) (all : List ℕ) (lines_said : Result Contents Wrong) → ReadsFor command (take 1048577 all) lines_said → ReadsFor command all lines_said
 tells-all command all lines_said (inl (long, e)) = inl (longer 1048576 all long, e)
-tells-all command all lines_said (inr (inl (short, bad, e))) = subst (λ (l : List ℕ). TellsFor command l lines_said) (take_whole 1048576 all short) (inr (inl (short, bad, e)))
-tells-all command all lines_said (inr (inr (short, text, says))) = subst (λ (l : List ℕ). TellsFor command l lines_said) (take_whole 1048576 all short) (inr (inr (short, text, says)))
+tells-all command all lines_said (inr (inl (short, bad, e))) = subst (λ (l : List ℕ). ReadsFor command l lines_said) (take_whole 1048576 all short) (inr (inl (short, bad, e)))
+tells-all command all lines_said (inr (inr (short, text, says))) = subst (λ (l : List ℕ). ReadsFor command l lines_said) (take_whole 1048576 all short) (inr (inr (short, text, says)))
 
-pub answers-all : (command : ScriptCommand) (bytes all : List ℕ) (r : Result Script ScriptError) → bytes ≡ take 1048577 all → AnswersScript r (TellsFor command bytes) → AnswersScript r (TellsFor command all)
-answers-all command bytes all (Ok s) e h = tells-all command all (Ok (contents_told s)) (subst (λ (l : List ℕ). TellsFor command l (Ok (contents_told s))) e h)
+pub answers-all : (command : ScriptCommand) (bytes all : List ℕ) (r : Result Script ScriptError) → bytes ≡ take 1048577 all → AnswersScript r (ReadsFor command bytes) → AnswersScript r (ReadsFor command all)
+answers-all command bytes all (Ok s) e h = tells-all command all (Ok (contents_of s)) (subst (λ (l : List ℕ). ReadsFor command l (Ok (contents_of s))) e h)
 answers-all command bytes all (Err errors.Memory) e h = tt
-answers-all command bytes all (Err (errors.Fault f)) e h = tells-all command all (Err (in_script f)) (subst (λ (l : List ℕ). TellsFor command l (Err (in_script f))) e h)
-answers-all command bytes all (Err (errors.Policy fault)) e (g, shown, h) = (g, shown, tells-all command all (Err (in_policy g)) (subst (λ (l : List ℕ). TellsFor command l (Err (in_policy g))) e h))
+answers-all command bytes all (Err (errors.Fault f)) e h = tells-all command all (Err (in_script f)) (subst (λ (l : List ℕ). ReadsFor command l (Err (in_script f))) e h)
+answers-all command bytes all (Err (errors.Policy fault)) e (g, shown, h) = (g, shown, tells-all command all (Err (in_policy g)) (subst (λ (l : List ℕ). ReadsFor command l (Err (in_policy g))) e h))
 
 -- from the answers of the parts to those of the whole
 
-pub answers-lines : (r : Result Script ScriptError) (all : Result Contents ScriptFault) → SaysScript r all → AnswersScript r (λ w. w ≡ in_result all)
+pub answers-lines : (r : Result Script ScriptError) (all : Result Contents ScriptFault) → GivesScript r all → AnswersScript r (λ w. w ≡ in_result all)
 answers-lines (Ok s) all h = ap in_result (sym h)
 answers-lines (Err errors.Memory) all h = tt
 answers-lines (Err (errors.Fault f)) all h = ap in_result (sym h)
 answers-lines (Err (errors.Policy e)) all h = absurd h
 
 pub answers-weaker : (r : Result Script ScriptError) (P Q : Result Contents Wrong → Type 0) → ((w : Result Contents Wrong) → P w → Q w) → AnswersScript r P → AnswersScript r Q
-answers-weaker (Ok s) P Q f h = f (Ok (contents_told s)) h
+answers-weaker (Ok s) P Q f h = f (Ok (contents_of s)) h
 answers-weaker (Err errors.Memory) P Q f h = tt
 answers-weaker (Err (errors.Fault g)) P Q f h = f (Err (in_script g)) h
 answers-weaker (Err (errors.Policy e)) P Q f (g, shown, h) = (g, shown, f (Err (in_policy g)) h)
 
 -- a text that is none
-pub answers-unread : (command : ScriptCommand) (bytes : List ℕ) (f : ScriptFault) → IsUnread bytes f → TellsFor command bytes (Err (in_script f))
+pub answers-unread : (command : ScriptCommand) (bytes : List ℕ) (f : ScriptFault) → IsUnread bytes f → ReadsFor command bytes (Err (in_script f))
 answers-unread command bytes f (inl (long, e)) = inl (long, ap (λ (g : ScriptFault). Err (in_script g)) e)
 answers-unread command bytes f (inr (short, bad, e)) = inr (inl (short, bad, ap (λ (g : ScriptFault). Err (in_script g)) e))
 
 -- a text
-pub answers-text : (command : ScriptCommand) (bytes text : List ℕ) (r : Result Script ScriptError) → text ≡ bytes → length bytes ≤ 1048576 → IsUtf8 bytes → AnswersScript r (TextSays command text) → AnswersScript r (TellsFor command bytes)
+pub answers-text : (command : ScriptCommand) (bytes text : List ℕ) (r : Result Script ScriptError) → text ≡ bytes → length bytes ≤ 1048576 → IsUtf8 bytes → AnswersScript r (TextReads command text) → AnswersScript r (ReadsFor command bytes)
 answers-text command bytes text r same short utf8 h =
-    subst (λ (l : List ℕ). AnswersScript r (TellsFor command l)) same (answers-weaker r (TextSays command text) (TellsFor command text) (λ w says. inr (inr (subst (λ (l : List ℕ). length l ≤ 1048576) (sym same) short, subst IsUtf8 (sym same) utf8, says))) h)
+    subst (λ (l : List ℕ). AnswersScript r (ReadsFor command l)) same (answers-weaker r (TextReads command text) (ReadsFor command text) (λ w says. inr (inr (subst (λ (l : List ℕ). length l ≤ 1048576) (sym same) short, subst IsUtf8 (sym same) utf8, says))) h)
 
 -- the parts of a text with a policy block
 
@@ -413,51 +413,51 @@ texts-length [] = refl
 texts-length (l ∷ ls) = ap suc (texts-length ls)
 
 -- no line closes the block
-pub block_open : (command : ScriptCommand) (count first : ℕ) (lines : List (List ℕ)) (o : Option ℕ) → o ≡ closing lines → o ≡ None → BlockSays command count first lines (closing lines) (Err (in_script (record { line = count + 1; kind = Syntax })))
+pub block_open : (command : ScriptCommand) (count first : ℕ) (lines : List (List ℕ)) (o : Option ℕ) → o ≡ closing lines → o ≡ None → BlockReads command count first lines (closing lines) (Err (in_script (record { line = count + 1; kind = Syntax })))
 block_open command count first lines o closes none =
-    subst (λ (q : Option ℕ). BlockSays command count first lines q (Err (in_script (record { line = count + 1; kind = Syntax })))) (sym none ∙ closes) refl
+    subst (λ (q : Option ℕ). BlockReads command count first lines q (Err (in_script (record { line = count + 1; kind = Syntax })))) (sym none ∙ closes) refl
 
 -- a line closes it, and the lines behind it say the rest
 pub block_rest : (command : ScriptCommand) (count first end : ℕ) (lines : List (Bor (List ℕ))) (p : Allowed) (c : Contents) (r : Result Script ScriptError) → Some end ≡ closing (texts lines) → Means (texts (take end lines)) p → c ≡ with_policy command p
-    → SaysScript r (whole count c (first + end + 1 + 1) (texts (take (length lines - (end + 1)) (drop (end + 1) lines)))) → AnswersScript r (BlockSays command count first (texts lines) (closing (texts lines)))
+    → GivesScript r (whole count c (first + end + 1 + 1) (texts (take (length lines - (end + 1)) (drop (end + 1) lines)))) → AnswersScript r (BlockReads command count first (texts lines) (closing (texts lines)))
 block_rest command count first end lines p c r closes means starts h =
-    let lines_said : SaysScript r (whole count (with_policy command p) (first + end + 1 + 1) (drop (end + 1) (texts lines))) =
-    subst (λ (l : List (List ℕ)). SaysScript r (whole count (with_policy command p) (first + end + 1 + 1) l)) (ap texts (take_rest (end + 1) lines) ∙ texts-drop (end + 1) lines)
-    (subst (λ (k : Contents). SaysScript r (whole count k (first + end + 1 + 1) (texts (take (length lines - (end + 1)) (drop (end + 1) lines))))) starts h) in
+    let lines_said : GivesScript r (whole count (with_policy command p) (first + end + 1 + 1) (drop (end + 1) (texts lines))) =
+    subst (λ (l : List (List ℕ)). GivesScript r (whole count (with_policy command p) (first + end + 1 + 1) l)) (ap texts (take_rest (end + 1) lines) ∙ texts-drop (end + 1) lines)
+    (subst (λ (k : Contents). GivesScript r (whole count k (first + end + 1 + 1) (texts (take (length lines - (end + 1)) (drop (end + 1) lines))))) starts h) in
     let meant : Means (take end (texts lines)) p = subst (λ (l : List (List ℕ)). Means l p) (texts-take end lines) means in
-    subst (λ (q : Option ℕ). AnswersScript r (BlockSays command count first (texts lines) q)) closes
-    (answers-weaker r (λ w. w ≡ in_result (whole count (with_policy command p) (first + end + 1 + 1) (drop (end + 1) (texts lines)))) (ClosedSays command count first (texts lines) end) (λ w e. inl (p, meant, e)) (answers-lines r _ lines_said))
+    subst (λ (q : Option ℕ). AnswersScript r (BlockReads command count first (texts lines) q)) closes
+    (answers-weaker r (λ w. w ≡ in_result (whole count (with_policy command p) (first + end + 1 + 1) (drop (end + 1) (texts lines)))) (ClosedReads command count first (texts lines) end) (λ w e. inl (p, meant, e)) (answers-lines r _ lines_said))
 
-block-fault : (command : ScriptCommand) (count first end : ℕ) (lines : List (List ℕ)) (error : ScriptError) → IsPolicyOf first (take end lines) (Err error) → AnswersScript (Err error) (ClosedSays command count first lines end)
+block-fault : (command : ScriptCommand) (count first end : ℕ) (lines : List (List ℕ)) (error : ScriptError) → IsPolicyOf first (take end lines) (Err error) → AnswersScript (Err error) (ClosedReads command count first lines end)
 block-fault command count first end lines errors.Memory h = tt
 block-fault command count first end lines (errors.Fault f) h = absurd h
 block-fault command count first end lines (errors.Policy e) (g, shown, faulty) = (g, shown, inr (g, faulty, refl))
 
 pub block_faulty : (command : ScriptCommand) (count first end : ℕ) (lines : List (Bor (List ℕ))) (error : ScriptError) → Some end ≡ closing (texts lines) → IsPolicyOf first (texts (take end lines)) (Err error)
-    → AnswersScript (Err error) (BlockSays command count first (texts lines) (closing (texts lines)))
+    → AnswersScript (Err error) (BlockReads command count first (texts lines) (closing (texts lines)))
 block_faulty command count first end lines error closes h =
-    subst (λ (q : Option ℕ). AnswersScript (Err error) (BlockSays command count first (texts lines) q)) closes
+    subst (λ (q : Option ℕ). AnswersScript (Err error) (BlockReads command count first (texts lines) q)) closes
     (block-fault command count first end (texts lines) error (subst (λ (l : List (List ℕ)). IsPolicyOf first l (Err error)) (texts-take end lines) h))
 
 -- lines with a block
 pub lines_block : (command : ScriptCommand) (lines : List (Bor (List ℕ))) (place : ℕ) (r : Result Script ScriptError) → Some place ≡ opening (texts lines)
-    → (let behind : List (Bor (List ℕ)) = take (length lines - (place + 1)) (drop (place + 1) lines) in AnswersScript r (BlockSays command (length lines) (place + 1) (texts behind) (closing (texts behind)))) → AnswersScript r (LinesSay command (texts lines) (opening (texts lines)))
+    → (let behind : List (Bor (List ℕ)) = take (length lines - (place + 1)) (drop (place + 1) lines) in AnswersScript r (BlockReads command (length lines) (place + 1) (texts behind) (closing (texts behind)))) → AnswersScript r (LinesRead command (texts lines) (opening (texts lines)))
 lines_block command lines place r opens h =
-    subst (λ (q : Option ℕ). AnswersScript r (LinesSay command (texts lines) q)) opens
-    (subst (λ (k : ℕ). AnswersScript r (BlockSays command k (place + 1) (drop (place + 1) (texts lines)) (closing (drop (place + 1) (texts lines))))) (sym (texts-length lines))
-    (subst (λ (l : List (List ℕ)). AnswersScript r (BlockSays command (length lines) (place + 1) l (closing l))) (ap texts (take_rest (place + 1) lines) ∙ texts-drop (place + 1) lines) h))
+    subst (λ (q : Option ℕ). AnswersScript r (LinesRead command (texts lines) q)) opens
+    (subst (λ (k : ℕ). AnswersScript r (BlockReads command k (place + 1) (drop (place + 1) (texts lines)) (closing (drop (place + 1) (texts lines))))) (sym (texts-length lines))
+    (subst (λ (l : List (List ℕ)). AnswersScript r (BlockReads command (length lines) (place + 1) l (closing l))) (ap texts (take_rest (place + 1) lines) ∙ texts-drop (place + 1) lines) h))
 
 -- lines without one
 pub lines_none : (command : ScriptCommand) (lines : List (Bor (List ℕ))) (c : Contents) (o : Option ℕ) (r : Result Script ScriptError) → o ≡ opening (texts lines) → o ≡ None → c ≡ (empty command)
-    → SaysScript r (whole (length lines) c (0 + 1) (texts lines)) → AnswersScript r (LinesSay command (texts lines) (opening (texts lines)))
+    → GivesScript r (whole (length lines) c (0 + 1) (texts lines)) → AnswersScript r (LinesRead command (texts lines) (opening (texts lines)))
 lines_none command lines c o r opens none starts h =
-    let lines_said : SaysScript r (whole (length (texts lines)) (empty command) 1 (texts lines)) =
-    subst (λ (k : ℕ). SaysScript r (whole k (empty command) 1 (texts lines))) (sym (texts-length lines)) (subst (λ (k : Contents). SaysScript r (whole (length lines) k 1 (texts lines))) starts h) in
-    subst (λ (q : Option ℕ). AnswersScript r (LinesSay command (texts lines) q)) (sym none ∙ opens) (answers-lines r (whole (length (texts lines)) (empty command) 1 (texts lines)) lines_said)
+    let lines_said : GivesScript r (whole (length (texts lines)) (empty command) 1 (texts lines)) =
+    subst (λ (k : ℕ). GivesScript r (whole k (empty command) 1 (texts lines))) (sym (texts-length lines)) (subst (λ (k : Contents). GivesScript r (whole (length lines) k 1 (texts lines))) starts h) in
+    subst (λ (q : Option ℕ). AnswersScript r (LinesRead command (texts lines) q)) (sym none ∙ opens) (answers-lines r (whole (length (texts lines)) (empty command) 1 (texts lines)) lines_said)
 
 -- the policy of a block's text
 
-shown-fault : (before line : ℕ) (kind : kinds.PolicyFaultKind) (lines : List (List ℕ)) → ((f : policy.TokenFault) → fault_shown (record { line = line; kind = kind }) ≡ Some f → policies.Says (block_text lines) (Err f))
+shown-fault : (before line : ℕ) (kind : kinds.PolicyFaultKind) (lines : List (List ℕ)) → ((f : policy.TokenFault) → fault_shown (record { line = line; kind = kind }) ≡ Some f → policies.ReadsAs (block_text lines) (Err f))
     → IsPolicyOf before lines (Err (error_in_block (before + line) kind))
 shown-fault before line kind.Memory lines says = tt
 shown-fault before line kind.Syntax lines says = (_, refl, (_, says _ refl, refl))
@@ -468,9 +468,9 @@ shown-fault before line (kind.Outside word) lines says = (_, refl, (_, says _ re
 shown-fault before line kind.Limit lines says = (_, refl, (_, says _ refl, refl))
 
 pub policy_faulty : (before line : ℕ) (kind : kinds.PolicyFaultKind) (lines : List (List ℕ)) (text : List ℕ) (error : ScriptError) → text ≡ block_text lines
-    → ((f : policy.TokenFault) → fault_shown (record { line = line; kind = kind }) ≡ Some f → policies.Says text (Err f)) → error ≡ error_in_block (before + line) kind → IsPolicyOf before lines (Err error)
+    → ((f : policy.TokenFault) → fault_shown (record { line = line; kind = kind }) ≡ Some f → policies.ReadsAs text (Err f)) → error ≡ error_in_block (before + line) kind → IsPolicyOf before lines (Err error)
 policy_faulty before line kind lines text error same says is =
-    subst (λ (e : ScriptError). IsPolicyOf before lines (Err e)) (sym is) (shown-fault before line kind lines (λ f shown. subst (λ (t : List ℕ). policies.Says t (Err f)) same (says f shown)))
+    subst (λ (e : ScriptError). IsPolicyOf before lines (Err e)) (sym is) (shown-fault before line kind lines (λ f shown. subst (λ (t : List ℕ). policies.ReadsAs t (Err f)) same (says f shown)))
 
 -- the names of a policy's types, one more
 pub name_more : (types names after : List (List ℕ)) (i : ℕ) (name : List ℕ) → names ≡ take i types → Some name ≡ slice_get types i → after ≡ names ++ name ∷ [] → after ≡ take (i + 1) types

@@ -17,9 +17,9 @@ use Rattle.std.proofs.lemmas.List.Sums.{sum_by-set}
 use Rattle.std.proofs.lemmas.Option.{slice_get_within, slice_get-get_or, get_or_from_slice_get}
 use Rattle.gt_types.specs.declared.DomId.{DomId}
 use Rattle.gt_types.specs.declared.config.DomainConfig.{DomainConfig}
-use Rattle.gt_script.specs.Stuck.{IsBelow, AreNumbered, IsPassed, PassesAll, IsClosed, IsTold, WaitsAt, AllEnd}
+use Rattle.gt_script.specs.Stuck.{IsBelow, AreNumbered, IsPassed, PassesAll, IsClosed, IsRaisable, WaitsAt, AllEnd}
 use Rattle.gt_script.specs.Stuck.{IsJudged}
-use Rattle.gt_script.specs.Rounds.{flag_holds, HasFlag, Within, is_untold, untold, IsDone, is_waiting, told_after}
+use Rattle.gt_script.specs.Rounds.{flag_holds, HasFlag, Within, is_unraised, unraised_flags, IsDone, is_waiting, raised_after}
 use Rattle.gt_script.specs.Rounds.{is_new}
 use Rattle.gt_script.specs.Rounds.{Comes, WayTo, WaitsFor, TurnGoesOn, HaveCome, Turning, WaitsIn}
 use Rattle.gt_script.specs.Lists.{RunAction, RunTask}
@@ -81,14 +81,14 @@ told-before told flag f h = elim (cases_eq f flag) [
   | inr n ↦ inr (sym (get_or-set_other told flag f true false n) ∙ h)
 ]
 
-no_fewer : (old new : List Bool) (news : Bool) → (news ≡ false → new ≡ old) → (news ≡ true → untold new < untold old) → untold new ≤ untold old
+no_fewer : (old new : List Bool) (news : Bool) → (news ≡ false → new ≡ old) → (news ≡ true → unraised_flags new < unraised_flags old) → unraised_flags new ≤ unraised_flags old
 no_fewer old new true quiet loud = let less = loud refl in omega arith
-no_fewer old new false quiet loud = let same : untold new ≡ untold old = ap untold (quiet refl) in omega arith
+no_fewer old new false quiet loud = let same : unraised_flags new ≡ unraised_flags old = ap unraised_flags (quiet refl) in omega arith
 
-fewer-by : (told : List Bool) (flag : ℕ) → flag < length told → flag_holds told flag ≡ false → untold (set told flag true) < untold told
+fewer-by : (told : List Bool) (flag : ℕ) → flag < length told → flag_holds told flag ≡ false → unraised_flags (set told flag true) < unraised_flags told
 fewer-by told flag within h =
-    let sums = sum_by-set is_untold told flag true false within in
-    let was : is_untold (get_or told flag false) ≡ 1 = ap is_untold h in
+    let sums = sum_by-set is_unraised told flag true false within in
+    let was : is_unraised (get_or told flag false) ≡ 1 = ap is_unraised h in
     omega (arith, sums, was)
 
 same-told : (told : List Bool) (flag : ℕ) → HasFlag told flag → set told flag true ≡ told
@@ -99,10 +99,10 @@ quiet-tell old new flag false true quiet h e = same-told new flag h ∙ quiet re
 quiet-tell old new flag false false quiet h e = absurd cc
 quiet-tell old new flag true b quiet h e = absurd cc
 
-loud-tell : (old new : List Bool) (flag : ℕ) (news b : Bool) → flag < length new → (news ≡ false → new ≡ old) → (news ≡ true → untold new < untold old) → flag_holds new flag ≡ b → (news || not b) ≡ true
-    → untold (set new flag true) < untold old
+loud-tell : (old new : List Bool) (flag : ℕ) (news b : Bool) → flag < length new → (news ≡ false → new ≡ old) → (news ≡ true → unraised_flags new < unraised_flags old) → flag_holds new flag ≡ b → (news || not b) ≡ true
+    → unraised_flags (set new flag true) < unraised_flags old
 loud-tell old new flag news false within quiet loud h e = let some = no_fewer old new news quiet loud in let less = fewer-by new flag within h in omega (arith, some, less)
-loud-tell old new flag true true within quiet loud h e = subst (λ (k : ℕ). k < untold old) (sym (ap untold (same-told new flag h))) (loud refl)
+loud-tell old new flag true true within quiet loud h e = subst (λ (k : ℕ). k < unraised_flags old) (sym (ap unraised_flags (same-told new flag h))) (loud refl)
 loud-tell old new flag false true within quiet loud h e = absurd cc
 
 passes : (told : List Bool) (set : ℕ → Bool) → Within told set → (d : RunAction) → IsDone told d → IsPassed (λ f. IsTrue (set f)) d
@@ -145,8 +145,8 @@ or-false true = refl
 or-false false = refl
 
 way-by : (tasks : List RunTask) (dom : DomId) (old new : List Bool) (place : ℕ) (news : Bool) (x : RunTask) (d : RunAction) → WayTo tasks dom old new place news → place < length tasks → (get_or tasks place x).deed ≡ d
-    → (get_or tasks place x).dom.0 ≡ dom.0 → IsBelow (length new) d → is_waiting new d ≡ false → WayTo tasks dom old (told_after new d) (place + 1) (news || is_new new d)
-unfolding is_waiting told_after is_new
+    → (get_or tasks place x).dom.0 ≡ dom.0 → IsBelow (length new) d → is_waiting new d ≡ false → WayTo tasks dom old (raised_after new d) (place + 1) (news || is_new new d)
+unfolding is_waiting raised_after is_new
 way-by tasks dom old new place news x (Do call) w within deed own below waits =
     subst (λ (b : Bool). WayTo tasks dom old new (place + 1) b) (sym (or-false news))
     (way-past tasks dom old new place news x w within (λ e. subst (λ (k : RunAction). IsDone new k) (sym deed) tt))
@@ -161,10 +161,10 @@ below-at tasks old new dom place news x numbered w within is =
     subst (λ (k : ℕ). IsBelow k x.deed) (sym w.many) (subst (λ (t : RunTask). IsBelow (length old) t.deed) (sym is) (numbered place x within))
 
 pub way-own : (tasks : List RunTask) (dom : DomId) (old new newer : List Bool) (place : ℕ) (news more : Bool) (x : RunTask) → WayTo tasks dom old new place news → place < length tasks → x ≡ get_or tasks place x
-    → x.dom.0 ≡ dom.0 → IsBelow (length new) x.deed → is_waiting new x.deed ≡ false → newer ≡ told_after new x.deed → more ≡ is_new new x.deed → WayTo tasks dom old newer (place + 1) (news || more)
+    → x.dom.0 ≡ dom.0 → IsBelow (length new) x.deed → is_waiting new x.deed ≡ false → newer ≡ raised_after new x.deed → more ≡ is_new new x.deed → WayTo tasks dom old newer (place + 1) (news || more)
 way-own tasks dom old new newer place news more x w within is own below waits told new_one =
     subst (λ (l : List Bool). WayTo tasks dom old l (place + 1) (news || more)) (sym told)
-    (subst (λ (b : Bool). WayTo tasks dom old (told_after new x.deed) (place + 1) (news || b)) (sym new_one)
+    (subst (λ (b : Bool). WayTo tasks dom old (raised_after new x.deed) (place + 1) (news || b)) (sym new_one)
     (way-by tasks dom old new place news x x.deed w within (ap (λ (t : RunTask). t.deed) (sym is)) (ap (λ (t : RunTask). t.dom.0) (sym is) ∙ own) below waits))
 
 pub way-other : (tasks : List RunTask) (dom : DomId) (old new : List Bool) (place : ℕ) (news : Bool) (x : RunTask) → WayTo tasks dom old new place news → place < length tasks → x ≡ get_or tasks place x
@@ -175,12 +175,12 @@ way-other tasks dom old new place news x w within is other = way-past tasks dom 
 
 pub goes-on : (tasks : List RunTask) (dom : DomId) (old new : List Bool) (place flag : ℕ) (news : Bool) (x : RunTask) → WayTo tasks dom old new place news → place < length tasks
     → (get_or tasks place x).deed ≡ Await flag → (get_or tasks place x).dom.0 ≡ dom.0 → flag_holds new flag ≡ false → TurnGoesOn tasks dom old new place news
-goes-on tasks dom old new place flag news x w within deed own untold = (
+goes-on tasks dom old new place flag news x w within deed own unraised_flags = (
   let le : place ≤ length tasks = omega arith in le,
   w,
   λ task there.
       let is : get_or tasks place x ≡ task = get_or_from_slice_get tasks place task x there in
-      (flag, subst (λ (t : RunTask). t.deed ≡ Await flag) is deed, subst (λ (t : RunTask). t.dom.0 ≡ dom.0) is own, untold),
+      (flag, subst (λ (t : RunTask). t.deed ≡ Await flag) is deed, subst (λ (t : RunTask). t.dom.0 ≡ dom.0) is own, unraised_flags),
 )
 
 waits-at : (told : List Bool) (d : RunAction) → is_waiting told d ≡ true → (flag : ℕ) × (d ≡ Await flag) × (flag_holds told flag ≡ false)
@@ -215,10 +215,10 @@ turn-start tasks domains places told have = record {
   rest = λ e i d below there. absurd (omega arith);
 }
 
-loud-turn : (old new newer : List Bool) (news more : Bool) → (news ≡ false → new ≡ old) → (news ≡ true → untold new < untold old) → (more ≡ false → newer ≡ new) → (more ≡ true → untold newer < untold new)
-    → (news || more) ≡ true → untold newer < untold old
+loud-turn : (old new newer : List Bool) (news more : Bool) → (news ≡ false → new ≡ old) → (news ≡ true → unraised_flags new < unraised_flags old) → (more ≡ false → newer ≡ new) → (more ≡ true → unraised_flags newer < unraised_flags new)
+    → (news || more) ≡ true → unraised_flags newer < unraised_flags old
 loud-turn old new newer news true quiet loud calm strong e = let some = no_fewer old new news quiet loud in let less = strong refl in omega (arith, some, less)
-loud-turn old new newer true false quiet loud calm strong e = subst (λ (l : List Bool). untold l < untold old) (sym (calm refl)) (loud refl)
+loud-turn old new newer true false quiet loud calm strong e = subst (λ (l : List Bool). unraised_flags l < unraised_flags old) (sym (calm refl)) (loud refl)
 loud-turn old new newer false false quiet loud calm strong e = absurd cc
 
 pub turn-more : (tasks : List RunTask) (domains : List DomainConfig) (places : List ℕ) (old new newer : List Bool) (i p : ℕ) (news more : Bool) (x : DomainConfig) → Turning tasks domains places old new i news
@@ -355,7 +355,7 @@ closed-told tasks domains places old told news known t e at task flag there deed
 
 -- flags that are told in the least closed set
 
-pub told-is : (tasks : List RunTask) (told : List Bool) → IsClosed tasks (flag_holds told) → ((set : ℕ → Bool) → IsClosed tasks set → Within told set) → (flag : ℕ) → HasFlag told flag ↔ IsTold tasks flag
+pub told-is : (tasks : List RunTask) (told : List Bool) → IsClosed tasks (flag_holds told) → ((set : ℕ → Bool) → IsClosed tasks set → Within told set) → (flag : ℕ) → HasFlag told flag ↔ IsRaisable tasks flag
 told-is tasks told closed least flag = (λ h set c. least set c flag h, λ h. h (flag_holds told) closed)
 
 passed-as : (A B : ℕ → Type 0) → ((f : ℕ) → A f → B f) → (d : RunAction) → IsPassed A d → IsPassed B d
@@ -381,7 +381,7 @@ waits-as A B to back tasks dom line w = record {
   number = w.number;
   awaits = w.awaits;
   before = all-passed-as A B to dom (take w.at tasks) w.before;
-  untold = λ b. w.untold (back w.flag b);
+  unraised_flags = λ b. w.unraised_flags (back w.flag b);
 }
 
 pub judged-as : (A B : ℕ → Type 0) → ((f : ℕ) → A f ↔ B f) → (tasks : List RunTask) (domains : List DomainConfig) (o : Option ℕ) → IsJudged A tasks domains o → IsJudged B tasks domains o
@@ -407,11 +407,11 @@ none-by : (told : List Bool) (tasks : List RunTask) (domains : List DomainConfig
 none-by told tasks domains i x None so_far within here e = all-end-more told tasks domains i x so_far within here
 none-by told tasks domains i x (Some line) so_far within here e = absurd cc
 
-one-by : (told : List Bool) (tasks : List RunTask) (domains : List DomainConfig) (i : ℕ) (x : DomainConfig) (o : Option ℕ) → ((f : ℕ) → HasFlag told f ↔ IsTold tasks f) → AllEnd (HasFlag told) tasks (take i domains)
-    → i < length domains → WaitsIn told tasks (get_or domains i x).id o → is_some o ≡ true → IsJudged (IsTold tasks) tasks domains o
+one-by : (told : List Bool) (tasks : List RunTask) (domains : List DomainConfig) (i : ℕ) (x : DomainConfig) (o : Option ℕ) → ((f : ℕ) → HasFlag told f ↔ IsRaisable tasks f) → AllEnd (HasFlag told) tasks (take i domains)
+    → i < length domains → WaitsIn told tasks (get_or domains i x).id o → is_some o ≡ true → IsJudged (IsRaisable tasks) tasks domains o
 one-by told tasks domains i x None to so_far within here e = absurd cc
 one-by told tasks domains i x (Some line) to so_far within here e =
-    judged-as (HasFlag told) (IsTold tasks) to tasks domains (Some line)
+    judged-as (HasFlag told) (IsRaisable tasks) to tasks domains (Some line)
     (record { place = i; domain = get_or domains i x; there = slice_get-get_or domains i x within; others = so_far; waits = here })
 
 pub none-waits : (told now : List Bool) (tasks : List RunTask) (domains : List DomainConfig) (i : ℕ) (x : DomainConfig) (o : Option ℕ) → AllEnd (HasFlag told) tasks (take i domains) → i < length domains → now ≡ told
@@ -419,12 +419,12 @@ pub none-waits : (told now : List Bool) (tasks : List RunTask) (domains : List D
 none-waits told now tasks domains i x o so_far within same here e =
     none-by told tasks domains i x o so_far within (subst (λ (l : List Bool). WaitsIn l tasks (get_or domains i x).id o) same here) e
 
-pub one-waits : (told now : List Bool) (tasks : List RunTask) (domains : List DomainConfig) (i : ℕ) (x : DomainConfig) (o : Option ℕ) → ((f : ℕ) → HasFlag told f ↔ IsTold tasks f)
-    → AllEnd (HasFlag told) tasks (take i domains) → i < length domains → now ≡ told → WaitsIn now tasks (get_or domains i x).id o → is_some o ≡ true → IsJudged (IsTold tasks) tasks domains o
+pub one-waits : (told now : List Bool) (tasks : List RunTask) (domains : List DomainConfig) (i : ℕ) (x : DomainConfig) (o : Option ℕ) → ((f : ℕ) → HasFlag told f ↔ IsRaisable tasks f)
+    → AllEnd (HasFlag told) tasks (take i domains) → i < length domains → now ≡ told → WaitsIn now tasks (get_or domains i x).id o → is_some o ≡ true → IsJudged (IsRaisable tasks) tasks domains o
 one-waits told now tasks domains i x o to so_far within same here e =
     one-by told tasks domains i x o to so_far within (subst (λ (l : List Bool). WaitsIn l tasks (get_or domains i x).id o) same here) e
 
-pub nobody-waits : (told : List Bool) (tasks : List RunTask) (domains : List DomainConfig) (i : ℕ) → ((f : ℕ) → HasFlag told f ↔ IsTold tasks f) → AllEnd (HasFlag told) tasks (take i domains) → length domains ≤ i
-    → IsJudged (IsTold tasks) tasks domains None
+pub nobody-waits : (told : List Bool) (tasks : List RunTask) (domains : List DomainConfig) (i : ℕ) → ((f : ℕ) → HasFlag told f ↔ IsRaisable tasks f) → AllEnd (HasFlag told) tasks (take i domains) → length domains ≤ i
+    → IsJudged (IsRaisable tasks) tasks domains None
 nobody-waits told tasks domains i to so_far all =
-    judged-as (HasFlag told) (IsTold tasks) to tasks domains None (subst (λ (l : List DomainConfig). AllEnd (HasFlag told) tasks l) (take_all i domains all) so_far)
+    judged-as (HasFlag told) (IsRaisable tasks) to tasks domains None (subst (λ (l : List DomainConfig). AllEnd (HasFlag told) tasks l) (take_all i domains all) so_far)

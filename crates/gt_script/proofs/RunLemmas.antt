@@ -7,13 +7,13 @@ use Rattle.std.proofs.lemmas.List.Elements.{filter-append}
 use Rattle.gt_types.specs.Config.{is_taken}
 use Rattle.gt_types.specs.declared.DomId.{DomId}
 use Rattle.gt_types.specs.declared.config.DomainConfig.{DomainConfig}
-use Rattle.gt_script.specs.Contents.{Contents, contents_told, without_orders}
+use Rattle.gt_script.specs.Contents.{Contents, contents_of, without_orders}
 use Rattle.gt_script.specs.Flags.{flag_names_of}
 use Rattle.gt_script.specs.Laws.{IsScriptFor}
 use Rattle.gt_script.specs.Outcomes.{AnswersScript}
 use Rattle.gt_script.specs.RunContents.{RunContents}
-use Rattle.gt_script.specs.RunScripts.{CanConfigure, ComeToEnd, list_of, RunSays, RunTells, RunAnswers}
-use Rattle.gt_script.specs.Script.{Wrong, TellsFor}
+use Rattle.gt_script.specs.RunScripts.{CanConfigure, ComeToEnd, list_of, ContentsReadAs, ReadsAsRun, RunAnswers}
+use Rattle.gt_script.specs.Script.{Wrong, ReadsFor}
 use Rattle.gt_script.specs.Stuck.{AreNumbered}
 use Rattle.gt_script.specs.Tasks.{tasks_numbered, tasks_of}
 use Rattle.gt_script.specs.declared.command.ScriptCommand.TheVariants.{Run}
@@ -41,7 +41,7 @@ ends-in c orders domains same set h =
     subst (λ (ds : List DomainConfig). ComeToEnd (tasks_of c) ds) set (subst (λ (os : List NamedRunTask). ComeToEnd (tasks_numbered os) domains) same h)
 
 pub says-run : (c head : Contents) (orders : List NamedRunTask) (domains : List DomainConfig) (tasks : List RunTask) (flags : ℕ) → orders ≡ c.orders → head ≡ without_orders c → domains ≡ head.domains
-    → tasks ≡ tasks_numbered orders → flags ≡ length (flag_names_of orders) → ComeToEnd (tasks_numbered orders) domains → RunSays c (Ok (record { head = head; tasks = tasks; flags = flags }))
+    → tasks ≡ tasks_numbered orders → flags ≡ length (flag_names_of orders) → ComeToEnd (tasks_numbered orders) domains → ContentsReadAs c (Ok (record { head = head; tasks = tasks; flags = flags }))
 says-run c head orders domains tasks flags same front set made many h =
     let made_in : tasks ≡ tasks_of c = made ∙ ap (λ (os : List NamedRunTask). tasks_numbered os) same in
     let many_in : flags ≡ length (flag_names_of c.orders) = many ∙ ap (λ (os : List NamedRunTask). length (flag_names_of os)) same in
@@ -55,14 +55,14 @@ run-weaker (Err errors.Memory) P Q f h = tt
 run-weaker (Err (errors.Fault fault)) P Q f h = f _ h
 run-weaker (Err (errors.Policy fault)) P Q f (g, shown, h) = (g, shown, f _ h)
 
-says-tells : (bytes : List ℕ) (c : Contents) → TellsFor Run bytes (Ok c) → (w : Result RunContents Wrong) → RunSays c w → RunTells bytes w
+says-tells : (bytes : List ℕ) (c : Contents) → ReadsFor Run bytes (Ok c) → (w : Result RunContents Wrong) → ContentsReadAs c w → ReadsAsRun bytes w
 says-tells bytes c t (Ok run) h = (c, t, h)
 says-tells bytes c t (Err wrong) h = inr (c, t, h)
 
-pub run-tells : (bytes : List ℕ) (c : Contents) (r : Result RunScript ScriptError) → TellsFor Run bytes (Ok c) → RunAnswers r (RunSays c) → RunAnswers r (RunTells bytes)
-run-tells bytes c r t h = run-weaker r (RunSays c) (RunTells bytes) (says-tells bytes c t) h
+pub run-tells : (bytes : List ℕ) (c : Contents) (r : Result RunScript ScriptError) → ReadsFor Run bytes (Ok c) → RunAnswers r (ContentsReadAs c) → RunAnswers r (ReadsAsRun bytes)
+run-tells bytes c r t h = run-weaker r (ContentsReadAs c) (ReadsAsRun bytes) (says-tells bytes c t) h
 
-pub fault-tells : (bytes : List ℕ) (error : ScriptError) → AnswersScript (Err error) (TellsFor Run bytes) → RunAnswers (Err error) (RunTells bytes)
+pub fault-tells : (bytes : List ℕ) (error : ScriptError) → AnswersScript (Err error) (ReadsFor Run bytes) → RunAnswers (Err error) (ReadsAsRun bytes)
 fault-tells bytes errors.Memory h = tt
 fault-tells bytes (errors.Fault fault) h = inl h
 fault-tells bytes (errors.Policy fault) (g, shown, h) = (g, shown, inl h)
@@ -71,9 +71,9 @@ can-configure : (lines : List (List ℕ)) (c : Contents) → IsScriptFor Run lin
 can-configure lines c (inl s) = (s.parts.faultless, s.parts.some_domain, s.parts.generation)
 can-configure lines c (inr s) = (s.parts.faultless, s.parts.some_domain, s.parts.generation)
 
-pub head-configures : (lines : List (List ℕ)) (c : Contents) (r : Result RunScript ScriptError) → IsScriptFor Run lines c → RunAnswers r (RunSays c) → IfOk r (λ s. CanConfigure (contents_told s.head))
+pub head-configures : (lines : List (List ℕ)) (c : Contents) (r : Result RunScript ScriptError) → IsScriptFor Run lines c → RunAnswers r (ContentsReadAs c) → IfOk r (λ s. CanConfigure (contents_of s.head))
 head-configures lines c (Ok s) of h =
-    let head : contents_told s.head ≡ without_orders c = ap (λ (k : RunContents). k.head) h.1 in
+    let head : contents_of s.head ≡ without_orders c = ap (λ (k : RunContents). k.head) h.1 in
     subst (λ (k : Contents). CanConfigure k) (sym head) (can-configure lines c of)
 head-configures lines c (Err e) of h = tt
 
@@ -82,7 +82,7 @@ ordered lines c (inl s) = s.parts.ordered
 ordered lines c (inr s) = s.parts.ordered
 
 -- each flag that a task of a script for `run` names is one of the script's
-pub flags-numbered : (c : Contents) (r : Result RunScript ScriptError) → RunAnswers r (RunSays c) → IfOk r (λ s. AreNumbered s.flags s.tasks)
+pub flags-numbered : (c : Contents) (r : Result RunScript ScriptError) → RunAnswers r (ContentsReadAs c) → IfOk r (λ s. AreNumbered s.flags s.tasks)
 flags-numbered c (Ok s) h = numbered c.orders s.flags s.tasks (ap (λ (k : RunContents). k.flags) h.1) (ap (λ (k : RunContents). k.tasks) h.1)
 flags-numbered c (Err e) h = tt
 

@@ -19,7 +19,7 @@ use Rattle.gt_script.specs.Blocks.{is_just, opening, closing, Means, IsFaultyBlo
 use Rattle.gt_script.specs.declared.command.ScriptCommand.{ScriptCommand}
 use Rattle.gt_script.specs.Contents.{Contents, empty, with_policy}
 use Rattle.gt_script.specs.Script.{is_empty, has_no_rights, with_words, with_lines, completed, completed_if_ok, whole}
-use Rattle.gt_script.specs.Script.{in_result, in_script, in_policy, BlockSays, LinesSay, TellsFor, Wrong}
+use Rattle.gt_script.specs.Script.{in_result, in_script, in_policy, BlockReads, LinesRead, ReadsFor, Wrong}
 use Rattle.gt_script.specs.Laws.{HasBlock, lines_before, IsFirstScriptFault, IsFaultOfLines, IsFaultOf, IsFaultOfBlock}
 use Rattle.gt_script.specs.declared.faults.ScriptFaultKind.{ScriptFaultKind}
 use Rattle.gt_script.specs.declared.faults.ScriptFaultKind.TheVariants.{Syntax, Config}
@@ -113,40 +113,40 @@ none-closes (l ∷ ls) inside = closing-later l ls (just-false (codes "end") (wo
 
 -- what lines with an opening say
 opened-say : (command : ScriptCommand) (lines front : List (List ℕ)) (opener : List ℕ) (tail : List (List ℕ)) (said : Result Contents Wrong) → lines ≡ front ++ opener ∷ tail → All (λ l. words l ≡ []) front → words opener ≡ codes "policy" ∷ []
-    → BlockSays command (length lines) (length front + 1) tail (closing tail) said → LinesSay command lines (opening lines) said
+    → BlockReads command (length lines) (length front + 1) tail (closing tail) said → LinesRead command lines (opening lines) said
 opened-say command lines front opener tail said parts nothing opens says =
-    subst (λ (o : Option ℕ). LinesSay command lines o said) (sym (ap opening parts ∙ opening-at front opener tail nothing opens))
-    (subst (λ (l : List (List ℕ)). BlockSays command (length lines) (length front + 1) l (closing l) said) (sym (ap (drop (length front + 1)) parts ∙ drop-append-add front (opener ∷ tail) 1)) says)
+    subst (λ (o : Option ℕ). LinesRead command lines o said) (sym (ap opening parts ∙ opening-at front opener tail nothing opens))
+    (subst (λ (l : List (List ℕ)). BlockReads command (length lines) (length front + 1) l (closing l) said) (sym (ap (drop (length front + 1)) parts ∙ drop-append-add front (opener ∷ tail) 1)) says)
 
 -- what lines with a block say
 block-say : (command : ScriptCommand) (lines block rest : List (List ℕ)) (b : HasBlock lines block rest) (said : Result Contents Wrong)
     → (((p : Allowed) × Means block p × (said ≡ in_result (whole (length lines) (with_policy command p) (length b.front + 1 + length block + 1 + 1) rest)))
-    ⊎ ((g : policy.TokenFault) × IsFaultyBlock (length b.front + 1) block g × (said ≡ Err (in_policy g)))) → LinesSay command lines (opening lines) said
+    ⊎ ((g : policy.TokenFault) × IsFaultyBlock (length b.front + 1) block g × (said ≡ Err (in_policy g)))) → LinesRead command lines (opening lines) said
 block-say command lines block rest b said says =
     let tail : List (List ℕ) = block ++ b.closer ∷ rest in
     opened-say command lines b.front b.opener tail said b.parts b.nothing b.opens
-    (subst (λ (o : Option ℕ). BlockSays command (length lines) (length b.front + 1) tail o said) (sym (closing-at block b.closer rest b.inside b.closes))
+    (subst (λ (o : Option ℕ). BlockReads command (length lines) (length b.front + 1) tail o said) (sym (closing-at block b.closer rest b.inside b.closes))
     (subst (λ (u : List (List ℕ) × List (List ℕ)). ((p : Allowed) × Means u.0 p × (said ≡ in_result (whole (length lines) (with_policy command p) (length b.front + 1 + length block + 1 + 1) u.1)))
     ⊎ ((g : policy.TokenFault) × IsFaultyBlock (length b.front + 1) u.0 g × (said ≡ Err (in_policy g))))
     (λ i. (sym (take-append_seam block (b.closer ∷ rest)) i, sym (drop-append-add block (b.closer ∷ rest) 1) i)) says))
 
-fault-of-lines : (command : ScriptCommand) (lines : List (List ℕ)) (f : ScriptFault) → IsFaultOfLines command lines f → LinesSay command lines (opening lines) (Err (in_script f))
+fault-of-lines : (command : ScriptCommand) (lines : List (List ℕ)) (f : ScriptFault) → IsFaultOfLines command lines f → LinesRead command lines (opening lines) (Err (in_script f))
 fault-of-lines command lines f (inl (none, first)) =
-    subst (λ (o : Option ℕ). LinesSay command lines o (Err (in_script f))) (sym (ap opening none.parts ∙ none-opens none.front none.others none.nothing none.another)) (sym (ap in_result (first-fault (length lines) (empty command) 1 lines f first)))
+    subst (λ (o : Option ℕ). LinesRead command lines o (Err (in_script f))) (sym (ap opening none.parts ∙ none-opens none.front none.others none.nothing none.another)) (sym (ap in_result (first-fault (length lines) (empty command) 1 lines f first)))
 fault-of-lines command lines f (inr (inl (x, is))) =
     opened-say command lines x.front x.opener x.block (Err (in_script f)) x.parts x.nothing x.opens
-    (subst (λ (o : Option ℕ). BlockSays command (length lines) (length x.front + 1) x.block o (Err (in_script f))) (sym (none-closes x.block x.inside)) (ap (λ (g : ScriptFault). Err (in_script g)) is))
+    (subst (λ (o : Option ℕ). BlockReads command (length lines) (length x.front + 1) x.block o (Err (in_script f))) (sym (none-closes x.block x.inside)) (ap (λ (g : ScriptFault). Err (in_script g)) is))
 fault-of-lines command lines f (inr (inr x)) =
     let here : lines_before x.has + length x.block + 2 ≡ length x.has.front + 1 + length x.block + 1 + 1 = omega arith in
     let first = subst (λ (n : ℕ). IsFirstScriptFault (length lines) (with_policy command x.rights) n x.rest f) here x.first in
     block-say command lines x.block x.rest x.has (Err (in_script f)) (inl (x.rights, x.means, sym (ap in_result (first-fault (length lines) (with_policy command x.rights) (length x.has.front + 1 + length x.block + 1 + 1) x.rest f first))))
 
 -- a fault that stands is told
-pub fault-told : (command : ScriptCommand) (bytes : List ℕ) (f : ScriptFault) → IsFaultOf command bytes f → TellsFor command bytes (Err (in_script f))
+pub fault-told : (command : ScriptCommand) (bytes : List ℕ) (f : ScriptFault) → IsFaultOf command bytes f → ReadsFor command bytes (Err (in_script f))
 fault-told command bytes f (inl (inl (long, is))) = inl (long, ap (λ (g : ScriptFault). Err (in_script g)) is)
 fault-told command bytes f (inl (inr (short, bad, is))) = inr (inl (short, bad, ap (λ (g : ScriptFault). Err (in_script g)) is))
 fault-told command bytes f (inr (short, text, x)) = inr (inr (short, text, fault-of-lines command (lines_in bytes) f x))
 
 -- a fault of a block that stands is told
-pub block-fault-told : (command : ScriptCommand) (bytes : List ℕ) (g : policy.TokenFault) → IsFaultOfBlock bytes g → TellsFor command bytes (Err (in_policy g))
+pub block-fault-told : (command : ScriptCommand) (bytes : List ℕ) (g : policy.TokenFault) → IsFaultOfBlock bytes g → ReadsFor command bytes (Err (in_policy g))
 block-fault-told command bytes g x = inr (inr (x.short, x.text, block-say command (lines_in bytes) x.block x.rest x.has (Err (in_policy g)) (inr (g, x.faulty, refl))))

@@ -5,7 +5,7 @@ use Rattle.std.specs.Option.{option_map}
 use Rattle.std.specs.Str.{bytes_eq}
 use Rattle.gt_policy.specs.Allowing.{Meaning, KeptPolicy, Allowed, allowed_of, allowed_by}
 use Rattle.gt_policy.specs.Shown.{kind_shown}
-use Rattle.gt_policy.specs.Whole.{Says}
+use Rattle.gt_policy.specs.Whole.{ReadsAs}
 use Rattle.gt_policy.specs.declared.fault.TokenFault as policy
 use Rattle.gt_script_lines.specs.Words.{words}
 use Rattle.gt_script.specs.declared.faults.BlockFault.{BlockFault}
@@ -47,11 +47,11 @@ block_fault_shown e = option_map (λ k. record { line = e.line; kind = k }) (kin
 
 -- the block means these types and what they may do to one another
 abbrev pub Means : List (List ℕ) → Allowed → Type 0
-Means lines a = (m : Meaning) × Says (block_text lines) (Ok m) × (a ≡ allowed_by m)
+Means lines a = (m : Meaning) × ReadsAs (block_text lines) (Ok m) × (a ≡ allowed_by m)
 
 -- the block, after this number of lines, has this first fault
 abbrev pub IsFaultyBlock : ℕ → List (List ℕ) → policy.TokenFault → Type 0
-IsFaultyBlock before lines g = (f : policy.TokenFault) × Says (block_text lines) (Err f) × (g ≡ fault_in_block before f)
+IsFaultyBlock before lines g = (f : policy.TokenFault) × ReadsAs (block_text lines) (Err f) × (g ≡ fault_in_block before f)
 
 -- the policy of a block or its fault, unless an allocation failed
 abbrev pub IsPolicyOf : ℕ → List (List ℕ) → Result KeptPolicy ScriptError → Type 0

@@ -33,8 +33,8 @@ pub record KeptContents : Type 0 where
   pub orders : List NamedRunTask
 
 -- the contents of a kept script
-abbrev pub contents_told : KeptContents → Contents
-contents_told k = record {
+abbrev pub contents_of : KeptContents → Contents
+contents_of k = record {
   command = k.command;
   policy = option_map allowed_of k.policy;
   types = k.types;

@@ -91,7 +91,7 @@ IsLine line = (words line ≡ []) ⊎ IsSome (line_of (words line))
 
 -- The lines, numbered from n, are those of a script: each part holds what they give for it,
 -- in order; so at most one of them is a line `wear`.
-pub record SayParts (n : ℕ) (lines : List (List ℕ)) (c : Contents) : Type 0 where
+pub record GiveParts (n : ℕ) (lines : List (List ℕ)) (c : Contents) : Type 0 where
   pub readable : All IsLine lines
   pub triples : c.triples ≡ filter_map (λ l. triple_in c.types l.1) (lines_said n lines)
   pub wear : option_to_list c.wear ≡ filter_map (λ l. wear_in l.1) (lines_said n lines)
@@ -109,7 +109,7 @@ pub record SayParts (n : ℕ) (lines : List (List ℕ)) (c : Contents) : Type 0 
 -- any name is a type, and each has one number.
 pub record IsTripleScript (command : ScriptCommand) (lines : List (List ℕ)) (c : Contents) : Type 0 where
   pub for_command : c.command ≡ command
-  pub parts : SayParts 1 lines c
+  pub parts : GiveParts 1 lines c
   pub policy : c.policy ≡ None
   pub distinct : AllPairs (λ a b. a ≢ b) c.types
   pub few_types : length c.types ≤ 256
@@ -141,7 +141,7 @@ pub record IsPolicyScript (command : ScriptCommand) (lines : List (List ℕ)) (c
   pub rights : Allowed
   pub means : Means block rights
   pub policy : c.policy ≡ Some rights
-  pub parts : SayParts (lines_before has + length block + 2) rest c
+  pub parts : GiveParts (lines_before has + length block + 2) rest c
   pub no_triples : c.triples ≡ []
 
 -- the lines are those of this script for the command

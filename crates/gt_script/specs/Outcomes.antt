@@ -2,7 +2,7 @@
 use Rattle.std.specs.Prelude.{◌≡◌, ℕ, Some, Result, Ok, Err}
 use Rattle.gt_policy.specs.declared.fault.TokenFault as policy
 use Rattle.gt_script.specs.Blocks.{block_fault_shown}
-use Rattle.gt_script.specs.Contents.{Contents, contents_told}
+use Rattle.gt_script.specs.Contents.{Contents, contents_of}
 use Rattle.gt_script.specs.Script.{Wrong, in_script, in_policy}
 use Rattle.gt_script.specs.declared.faults.ScriptFaultKind.{ScriptFaultKind}
 use Rattle.gt_script.specs.declared.faults.ScriptFault as text
@@ -26,15 +26,15 @@ AddsLines (Err (errors.Fault fault)) script said = said ≡ Err fault
 AddsLines (Err (errors.Policy fault)) script said = ⊥
 
 -- the same for a script that the lines give
-abbrev pub SaysScript : Result Script ScriptError → Result Contents text.ScriptFault → Type 0
-SaysScript (Ok script) said = said ≡ Ok (contents_told script)
-SaysScript (Err errors.Memory) said = Unit {0}
-SaysScript (Err (errors.Fault fault)) said = said ≡ Err fault
-SaysScript (Err (errors.Policy fault)) said = ⊥
+abbrev pub GivesScript : Result Script ScriptError → Result Contents text.ScriptFault → Type 0
+GivesScript (Ok script) said = said ≡ Ok (contents_of script)
+GivesScript (Err errors.Memory) said = Unit {0}
+GivesScript (Err (errors.Fault fault)) said = said ≡ Err fault
+GivesScript (Err (errors.Policy fault)) said = ⊥
 
 -- `Told` holds of this script or this fault, unless an allocation failed
 abbrev pub AnswersScript : Result Script ScriptError → (Result Contents Wrong → Type 0) → Type 0
-AnswersScript (Ok script) Told = Told (Ok (contents_told script))
+AnswersScript (Ok script) Told = Told (Ok (contents_of script))
 AnswersScript (Err errors.Memory) Told = Unit {0}
 AnswersScript (Err (errors.Fault fault)) Told = Told (Err (in_script fault))
 AnswersScript (Err (errors.Policy fault)) Told =

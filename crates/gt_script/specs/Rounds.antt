@@ -21,13 +21,13 @@ abbrev pub Within : List Bool → (ℕ → Bool) → Type 0
 Within told set = (flag : ℕ) → HasFlag told flag → IsTrue (set flag)
 
 -- 1 for a flag that is not raised
-abbrev pub is_untold : Bool → ℕ
-is_untold true = 0
-is_untold false = 1
+abbrev pub is_unraised : Bool → ℕ
+is_unraised true = 0
+is_unraised false = 1
 
 -- the number of flags that are not raised
-abbrev pub untold : List Bool → ℕ
-untold told = sum_by is_untold told
+abbrev pub unraised_flags : List Bool → ℕ
+unraised_flags told = sum_by is_unraised told
 
 -- the flag of an action is raised
 abbrev pub IsDone : List Bool → RunAction → Type 0
@@ -42,10 +42,10 @@ is_waiting told (Tell flag) = false
 is_waiting told (Await flag) = not (flag_holds told flag)
 
 -- the raised flags after this action
-unfoldable pub told_after : List Bool → RunAction → List Bool
-told_after told (Do call) = told
-told_after told (Tell flag) = slice_set told flag true
-told_after told (Await flag) = told
+unfoldable pub raised_after : List Bool → RunAction → List Bool
+raised_after told (Do call) = told
+raised_after told (Tell flag) = slice_set told flag true
+raised_after told (Await flag) = told
 
 -- this action raises a flag that is not raised yet
 unfoldable pub is_new : List Bool → RunAction → Bool
@@ -64,7 +64,7 @@ pub record WayTo (tasks : List RunTask) (dom : DomId) (old new : List Bool) (pla
   pub sound : (set : ℕ → Bool) → IsClosed tasks set → Within old set → Within new set
   pub many : length new ≡ length old
   pub quiet : is_news ≡ false → new ≡ old
-  pub loud : is_news ≡ true → untold new < untold old
+  pub loud : is_news ≡ true → unraised_flags new < unraised_flags old
 
 -- a domain at this position waits for a flag that is not raised, unless it is at the end of the tasks
 abbrev pub WaitsFor : List RunTask → DomId → ℕ → List Bool → Type 0
@@ -88,7 +88,7 @@ pub record Turning (tasks : List RunTask) (domains : List DomainConfig) (places 
   pub sound : (set : ℕ → Bool) → IsClosed tasks set → Within old set → Within new set
   pub many : length new ≡ length old
   pub quiet : is_news ≡ false → new ≡ old
-  pub loud : is_news ≡ true → untold new < untold old
+  pub loud : is_news ≡ true → unraised_flags new < unraised_flags old
   pub rest : is_news ≡ false → (i : ℕ) (d : DomainConfig) → i < upto → slice_get domains i ≡ Some d
       → WaitsFor tasks d.id (get_or places i 0) new
 

@@ -1,6 +1,6 @@
 -- The contents of a script for `run`.
 use Rattle.std.specs.Prelude.{ℕ, List}
-use Rattle.gt_script.specs.Contents.{Contents, KeptContents, contents_told}
+use Rattle.gt_script.specs.Contents.{Contents, KeptContents, contents_of}
 use Rattle.gt_script.specs.Lists.{RunTask}
 
 -- the part before the body, as a script without lines of a body; the tasks of the
@@ -17,5 +17,5 @@ pub record RunKept : Type 0 where
   pub flags : ℕ
 
 -- the contents of a kept script for `run`
-abbrev pub run_told : RunKept → RunContents
-run_told k = record { head = contents_told k.head; tasks = k.tasks; flags = k.flags }
+abbrev pub run_contents : RunKept → RunContents
+run_contents k = record { head = contents_of k.head; tasks = k.tasks; flags = k.flags }

@@ -8,9 +8,9 @@ use Rattle.gt_policy.specs.declared.fault.TokenFault as policy
 use Rattle.gt_script.specs.Blocks.{block_fault_shown}
 use Rattle.gt_script.specs.Contents.{Contents, without_orders, first_gen}
 use Rattle.gt_script.specs.Flags.{flag_names_of}
-use Rattle.gt_script.specs.RunContents.{RunContents, run_told}
-use Rattle.gt_script.specs.Script.{Wrong, in_script, in_policy, TellsFor}
-use Rattle.gt_script.specs.Stuck.{IsTold, AllEnd, IsStuckAt}
+use Rattle.gt_script.specs.RunContents.{RunContents, run_contents}
+use Rattle.gt_script.specs.Script.{Wrong, in_script, in_policy, ReadsFor}
+use Rattle.gt_script.specs.Stuck.{IsRaisable, AllEnd, IsStuckAt}
 use Rattle.gt_script.specs.Tasks.{tasks_of}
 use Rattle.gt_script.specs.declared.command.ScriptCommand.TheVariants.{Run}
 use Rattle.gt_script.specs.declared.faults.ScriptFaultKind.TheVariants.{Stuck}
@@ -33,31 +33,31 @@ run_of c = record { head = without_orders c; tasks = tasks_of c; flags = length 
 
 -- each domain comes to the end of its list
 abbrev pub ComeToEnd : List RunTask → List DomainConfig → Type 0
-ComeToEnd tasks domains = AllEnd (IsTold tasks) tasks domains
+ComeToEnd tasks domains = AllEnd (IsRaisable tasks) tasks domains
 
 -- the line at which the first domain waits that does not come to the end of its list, unless an allocation failed
 abbrev pub IsStuckError : List RunTask → List DomainConfig → ScriptError → Type 0
 IsStuckError tasks domains errors.Memory = Unit {0}
-IsStuckError tasks domains (errors.Fault f) = IsStuckAt (IsTold tasks) tasks domains f.line × (f.kind ≡ Stuck)
+IsStuckError tasks domains (errors.Fault f) = IsStuckAt (IsRaisable tasks) tasks domains f.line × (f.kind ≡ Stuck)
 IsStuckError tasks domains (errors.Policy e) = ⊥
 
 -- What contents that were read for `run` mean: their script, if each domain comes to the end of its
 -- list, and else a fault at the line where the first one that does not waits for ever.
-abbrev pub RunSays : Contents → Result RunContents Wrong → Type 0
-RunSays c (Ok run) = AllEnd (IsTold (tasks_of c)) (tasks_of c) c.domains × (run ≡ run_of c)
-RunSays c (Err (in_script f)) = IsStuckAt (IsTold (tasks_of c)) (tasks_of c) c.domains f.line × (f.kind ≡ Stuck)
-RunSays c (Err (in_policy g)) = ⊥
+abbrev pub ContentsReadAs : Contents → Result RunContents Wrong → Type 0
+ContentsReadAs c (Ok run) = AllEnd (IsRaisable (tasks_of c)) (tasks_of c) c.domains × (run ≡ run_of c)
+ContentsReadAs c (Err (in_script f)) = IsStuckAt (IsRaisable (tasks_of c)) (tasks_of c) c.domains f.line × (f.kind ≡ Stuck)
+ContentsReadAs c (Err (in_policy g)) = ⊥
 
 -- The bytes mean this script for `run`, or have this first fault; a domain that waits for ever
 -- is the last one.
-abbrev pub RunTells : List ℕ → Result RunContents Wrong → Type 0
-RunTells bytes (Ok run) = (c : Contents) × TellsFor Run bytes (Ok c) × RunSays c (Ok run)
-RunTells bytes (Err wrong) =
-    TellsFor Run bytes (Err wrong) ⊎ ((c : Contents) × TellsFor Run bytes (Ok c) × RunSays c (Err wrong))
+abbrev pub ReadsAsRun : List ℕ → Result RunContents Wrong → Type 0
+ReadsAsRun bytes (Ok run) = (c : Contents) × ReadsFor Run bytes (Ok c) × ContentsReadAs c (Ok run)
+ReadsAsRun bytes (Err wrong) =
+    ReadsFor Run bytes (Err wrong) ⊎ ((c : Contents) × ReadsFor Run bytes (Ok c) × ContentsReadAs c (Err wrong))
 
 -- `Told` holds of this script or this fault, unless an allocation failed
 abbrev pub RunAnswers : Result RunScript ScriptError → (Result RunContents Wrong → Type 0) → Type 0
-RunAnswers (Ok script) Told = Told (Ok (run_told script))
+RunAnswers (Ok script) Told = Told (Ok (run_contents script))
 RunAnswers (Err errors.Memory) Told = Unit {0}
 RunAnswers (Err (errors.Fault fault)) Told = Told (Err (in_script fault))
 RunAnswers (Err (errors.Policy fault)) Told =

@@ -188,36 +188,36 @@ in_result (Err f) = Err (in_script f)
 
 -- The meaning of the lines after the line `policy`, which has the number `first`, if the line at index `end` closes
 -- the block: the rest of a script of `count` lines with the policy of the block, or the fault of the block.
-abbrev pub ClosedSays : ScriptCommand → ℕ → ℕ → List (List ℕ) → ℕ → Result Contents Wrong → Type 0
-ClosedSays command count first lines end said =
+abbrev pub ClosedReads : ScriptCommand → ℕ → ℕ → List (List ℕ) → ℕ → Result Contents Wrong → Type 0
+ClosedReads command count first lines end said =
     ((p : Allowed) × Means (take end lines) p
     × (said ≡ in_result (whole count (with_policy command p) (first + end + 1 + 1) (drop (end + 1) lines))))
     ⊎ ((g : policy.TokenFault) × IsFaultyBlock first (take end lines) g × (said ≡ Err (in_policy g)))
 
 -- the same, if a line `end` may be missing
-abbrev pub BlockSays : ScriptCommand → ℕ → ℕ → List (List ℕ) → Option ℕ → Result Contents Wrong → Type 0
-BlockSays command count first lines None said = said ≡ Err (in_script (record { line = count + 1; kind = Syntax }))
-BlockSays command count first lines (Some end) said = ClosedSays command count first lines end said
+abbrev pub BlockReads : ScriptCommand → ℕ → ℕ → List (List ℕ) → Option ℕ → Result Contents Wrong → Type 0
+BlockReads command count first lines None said = said ≡ Err (in_script (record { line = count + 1; kind = Syntax }))
+BlockReads command count first lines (Some end) said = ClosedReads command count first lines end said
 
 -- the meaning of lines, which begin with a policy block or have none
-abbrev pub LinesSay : ScriptCommand → List (List ℕ) → Option ℕ → Result Contents Wrong → Type 0
-LinesSay command lines None said = said ≡ in_result (whole (length lines) (empty command) 1 lines)
-LinesSay command lines (Some place) said =
-    BlockSays command (length lines) (place + 1) (drop (place + 1) lines) (closing (drop (place + 1) lines)) said
+abbrev pub LinesRead : ScriptCommand → List (List ℕ) → Option ℕ → Result Contents Wrong → Type 0
+LinesRead command lines None said = said ≡ in_result (whole (length lines) (empty command) 1 lines)
+LinesRead command lines (Some place) said =
+    BlockReads command (length lines) (place + 1) (drop (place + 1) lines) (closing (drop (place + 1) lines)) said
 
 -- the meaning of a text
-abbrev pub TextSays : ScriptCommand → List ℕ → Result Contents Wrong → Type 0
-TextSays command text said = LinesSay command (lines_in text) (opening (lines_in text)) said
+abbrev pub TextReads : ScriptCommand → List ℕ → Result Contents Wrong → Type 0
+TextReads command text said = LinesRead command (lines_in text) (opening (lines_in text)) said
 
 -- The bytes mean this script for the command, or have this first fault: they are too many, or
 -- not UTF-8, or the text has it.
-abbrev pub TellsFor : ScriptCommand → List ℕ → Result Contents Wrong → Type 0
-TellsFor command bytes said =
+abbrev pub ReadsFor : ScriptCommand → List ℕ → Result Contents Wrong → Type 0
+ReadsFor command bytes said =
     ((LONGEST_TEXT < length bytes) × (said ≡ Err (in_script (record { line = 1; kind = Limit }))))
     ⊎ (((length bytes ≤ LONGEST_TEXT) × (¬ IsUtf8 bytes)
     × (said ≡ Err (in_script (record { line = line_after (take (utf8_valid_len bytes) bytes); kind = Utf8 }))))
-    ⊎ ((length bytes ≤ LONGEST_TEXT) × IsUtf8 bytes × TextSays command bytes said))
+    ⊎ ((length bytes ≤ LONGEST_TEXT) × IsUtf8 bytes × TextReads command bytes said))
 
 -- the same for `play`
-abbrev pub TellsScript : List ℕ → Result Contents Wrong → Type 0
-TellsScript bytes said = TellsFor Play bytes said
+abbrev pub ReadsAsScript : List ℕ → Result Contents Wrong → Type 0
+ReadsAsScript bytes said = ReadsFor Play bytes said

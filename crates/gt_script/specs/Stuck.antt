@@ -33,8 +33,8 @@ IsClosed tasks set = (at : ℕ) (task : RunTask) (flag : ℕ) → slice_get task
     → PassesAll (λ f. IsTrue (set f)) task.dom (take at tasks) → IsTrue (set flag)
 
 -- a flag is raised: it is in each closed set, so in the least one
-abbrev pub IsTold : List RunTask → ℕ → Type 0
-IsTold tasks flag = (set : ℕ → Bool) → IsClosed tasks set → IsTrue (set flag)
+abbrev pub IsRaisable : List RunTask → ℕ → Type 0
+IsRaisable tasks flag = (set : ℕ → Bool) → IsClosed tasks set → IsTrue (set flag)
 
 -- a domain comes to the end of its list, if these flags are raised
 abbrev pub CanEnd : (ℕ → Type 0) → List RunTask → DomId → Type 0
@@ -50,7 +50,7 @@ pub record WaitsAt (Told : ℕ → Type 0) (tasks : List RunTask) (dom : DomId) 
   pub number : task.line ≡ line
   pub awaits : task.deed ≡ Await flag
   pub before : PassesAll Told dom (take at tasks)
-  pub untold : ¬ Told flag
+  pub unraised_flags : ¬ Told flag
 
 -- each of the domains comes to the end of its list
 abbrev pub AllEnd : (ℕ → Type 0) → List RunTask → List DomainConfig → Type 0

@@ -3,9 +3,9 @@ ghost use Rattle.std.specs.Prelude.{◌≡◌, ◌≤◌, ◌<◌, ◌+◌, ◌^
 ghost use Rattle.std.specs.Str.{IsUtf8};
 ghost use Rattle.std.specs.Str.Lines.{lines as lines_in};
 ghost use Rattle.gt_script.specs.Blocks.{opening as opening_in, closing as closing_in};
-ghost use Rattle.gt_script.specs.Script.{LinesSay};
-ghost use Rattle.gt_script.specs.Script.{BlockSays, TextSays, TellsFor, TellsScript};
-ghost use Rattle.gt_script.specs.Contents.{contents_told};
+ghost use Rattle.gt_script.specs.Script.{LinesRead};
+ghost use Rattle.gt_script.specs.Script.{BlockReads, TextReads, ReadsFor, ReadsAsScript};
+ghost use Rattle.gt_script.specs.Contents.{contents_of};
 ghost use Rattle.gt_script.specs.Outcomes.{AnswersScript};
 ghost use Rattle.gt_script.specs.Laws.{IsScriptFor, IsScriptOf, StandsFor, ErrorStands, IsUnread};
 
@@ -29,7 +29,7 @@ fn of_block<'a>(
     requires whole { first + length lines.now ≡ count }
     requires fits { count < 2 ^ 63 }
     ensures { let said = map (λ line. line.now) lines.now in
-        AnswersScript result (BlockSays command count first said (closing_in said)) }
+        AnswersScript result (BlockReads command count first said (closing_in said)) }
 {
     let Some(end) = closing(alloc, lines)? else {
         return Err(ScriptError::Fault(ScriptFault {
@@ -52,7 +52,7 @@ fn of_lines<'a>(
     lines: &[&'a str],
 ) -> Result<Script<'a>, ScriptError>
     ensures { let said = map (λ line. line.now) lines.now in
-        AnswersScript result (LinesSay command said (opening_in said)) }
+        AnswersScript result (LinesRead command said (opening_in said)) }
 {
     match opening(alloc, lines)? {
         Some(place) => of_block(alloc, command, lines.len(), place + 1, &lines[place + 1..]),
@@ -65,7 +65,7 @@ fn of_text<'a>(
     command: ScriptCommand,
     text: &'a str,
 ) -> Result<Script<'a>, ScriptError>
-    ensures { AnswersScript result (TextSays command text.entry.now) }
+    ensures { AnswersScript result (TextReads command text.entry.now) }
 {
     let lines = text_lines(alloc, text)?;
     of_lines(alloc, command, lines.as_slice())
@@ -100,13 +100,13 @@ pub fn parse_for<'a>(
     command: ScriptCommand,
     bytes: &'a [u8],
 ) -> Result<Script<'a>, ScriptError>
-    ensures script { AnswersScript result (TellsFor command bytes.entry.now) }
-    ensures holds { IfOk result (λ s. IsScriptFor command (lines_in bytes.entry.now) (contents_told s)) }
+    ensures script { AnswersScript result (ReadsFor command bytes.entry.now) }
+    ensures holds { IfOk result (λ s. IsScriptFor command (lines_in bytes.entry.now) (contents_of s)) }
     ensures fault { IfErr result (λ e. StandsFor command bytes.entry.now e) }
 
     // The first LONGEST_TEXT + 1 bytes decide what all of them mean.
     ensures beginning { (all : List ℕ) → bytes.entry.now ≡ take (LONGEST_TEXT + 1) all →
-        AnswersScript result (TellsFor command all) }
+        AnswersScript result (ReadsFor command all) }
 {
     match script_text(bytes) {
         Ok(text) => of_text(alloc, command, text),
@@ -118,13 +118,13 @@ pub fn parse_for<'a>(
 /// that are not UTF-8, the first faulty line, what the script lacks. A policy block is checked as a whole at its end. A
 /// line that is only for `run` is a fault. The other error is a failed allocation.
 pub fn parse<'a>(alloc: Global, bytes: &'a [u8]) -> Result<Script<'a>, ScriptError>
-    ensures script { AnswersScript result (TellsScript bytes.entry.now) }
-    ensures holds { IfOk result (λ s. IsScriptOf (lines_in bytes.entry.now) (contents_told s)) }
+    ensures script { AnswersScript result (ReadsAsScript bytes.entry.now) }
+    ensures holds { IfOk result (λ s. IsScriptOf (lines_in bytes.entry.now) (contents_of s)) }
     ensures fault { IfErr result (λ e. ErrorStands bytes.entry.now e) }
 
     // The first LONGEST_TEXT + 1 bytes decide what all of them mean.
     ensures beginning { (all : List ℕ) → bytes.entry.now ≡ take (LONGEST_TEXT + 1) all →
-        AnswersScript result (TellsScript all) }
+        AnswersScript result (ReadsAsScript all) }
 {
     parse_for(alloc, ScriptCommand::Play, bytes)
 }

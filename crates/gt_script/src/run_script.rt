@@ -2,8 +2,8 @@
 ghost use Rattle.std.specs.Prelude.{◌≡◌, ◌+◌, ℕ, List, All, IsTrue, take, map, filter, length, IfOk, IfErr};
 ghost use Rattle.gt_types.specs.Config.{is_taken};
 ghost use Rattle.gt_types.specs.declared.limits.TheConstants.{LONGEST_TEXT};
-ghost use Rattle.gt_script.specs.Contents.{contents_told};
-ghost use Rattle.gt_script.specs.RunScripts.{CanConfigure, RunSays, RunTells, RunAnswers, list_of as list_in};
+ghost use Rattle.gt_script.specs.Contents.{contents_of};
+ghost use Rattle.gt_script.specs.RunScripts.{CanConfigure, ContentsReadAs, ReadsAsRun, RunAnswers, list_of as list_in};
 ghost use Rattle.gt_script.specs.RunScripts.{ComeToEnd, IsStuckError};
 ghost use Rattle.gt_script.specs.Flags.{flag_names_of};
 ghost use Rattle.gt_script.specs.Tasks.{tasks_numbered};
@@ -99,8 +99,8 @@ fn tasks_to_end<'a>(
 
 // Makes the script for `run` of a script that was parsed for `run`.
 fn of_script<'a>(alloc: Global, mut script: Script<'a>) -> Result<RunScript<'a>, ScriptError>
-    requires { All (λ o. IsTrue (is_taken (contents_told script).domains o.dom)) (contents_told script).orders }
-    ensures { RunAnswers result (RunSays (contents_told script.entry)) }
+    requires { All (λ o. IsTrue (is_taken (contents_of script).domains o.dom)) (contents_of script).orders }
+    ensures { RunAnswers result (ContentsReadAs (contents_of script.entry)) }
 {
     let orders = script.take_orders(alloc);
     match tasks_to_end(alloc, orders, script.domains()) {
@@ -116,13 +116,13 @@ fn of_script<'a>(alloc: Global, mut script: Script<'a>) -> Result<RunScript<'a>,
 /// Parses a script for `run`, or returns the first fault. The faults are those of `parse`, but here a line that is only
 /// for `play` is a fault. The last one is a domain that waits for a flag that is never raised.
 pub fn parse_run<'a>(alloc: Global, bytes: &'a [u8]) -> Result<RunScript<'a>, ScriptError>
-    ensures script { RunAnswers result (RunTells bytes.entry.now) }
-    ensures holds { IfOk result (λ s. CanConfigure (contents_told s.head)) }
+    ensures script { RunAnswers result (ReadsAsRun bytes.entry.now) }
+    ensures holds { IfOk result (λ s. CanConfigure (contents_of s.head)) }
     ensures numbered { IfOk result (λ s. AreNumbered s.flags s.tasks) }
 
     // The first LONGEST_TEXT + 1 bytes decide what all of them mean.
     ensures beginning { (all : List ℕ) → bytes.entry.now ≡ take (LONGEST_TEXT + 1) all →
-        RunAnswers result (RunTells all) }
+        RunAnswers result (ReadsAsRun all) }
 {
     match parse_for(alloc, ScriptCommand::Run, bytes) {
         Ok(script) => of_script(alloc, script),

@@ -2,7 +2,7 @@
 ghost use Rattle.std.specs.Prelude.{◌≡◌, ◌≤◌, ◌<◌, ◌+◌, ◌^◌, length, map, IfOk};
 ghost use Rattle.gt_types.specs.Config.{is_taken};
 ghost use Rattle.gt_script.specs.Script.{domain_written, configured};
-ghost use Rattle.gt_script.specs.Contents.{contents_told};
+ghost use Rattle.gt_script.specs.Contents.{contents_of};
 
 use crate::actions::{ScriptAction, play_action_in, run_action_in};
 use crate::command::ScriptCommand;
@@ -118,16 +118,16 @@ impl<'a> Script<'a> {
     ghost use Rattle.gt_script_lines.specs.Words.{words as words_in};
     ghost use Rattle.std.specs.Option.{option_map};
     ghost use Rattle.gt_policy.specs.Allowing.{allowed_of};
-    ghost use Rattle.gt_script.specs.Contents.{contents_told, empty, with_policy, without_orders, type_names};
+    ghost use Rattle.gt_script.specs.Contents.{contents_of, empty, with_policy, without_orders, type_names};
     ghost use Rattle.gt_script.specs.Contents.{first_gen};
     ghost use Rattle.gt_script.specs.Script.{with_triple, GivesTypeNumber, with_domain, with_domain_line, with_order};
     ghost use Rattle.gt_script.specs.Script.{with_body_line, with_script_line, with_words};
     ghost use Rattle.gt_script.specs.Script.{completed, whole};
     ghost use Rattle.gt_script.specs.Script.{has_no_rights, has_body, is_misplaced};
-    ghost use Rattle.gt_script.specs.Outcomes.{AddsLine, AddsLines, SaysScript};
+    ghost use Rattle.gt_script.specs.Outcomes.{AddsLine, AddsLines, GivesScript};
 
     pub(crate) fn new(alloc: Global, command: ScriptCommand) -> Script<'a>
-        ensures { contents_told result ≡ empty command }
+        ensures { contents_of result ≡ empty command }
     {
         Script {
             command,
@@ -143,7 +143,7 @@ impl<'a> Script<'a> {
 
     // Makes a script of only a policy.
     pub(crate) fn with_policy(alloc: Global, command: ScriptCommand, policy: Policy) -> Script<'a>
-        ensures { contents_told result ≡ with_policy command (allowed_of policy) }
+        ensures { contents_of result ≡ with_policy command (allowed_of policy) }
     {
         let mut script = Script::new(alloc, command);
         script.policy = Some(policy);
@@ -153,7 +153,7 @@ impl<'a> Script<'a> {
     /// Returns the names of the types, from the policy or from triples and labels. The index of a name is the number of
     /// its type.
     pub fn type_names(&self, alloc: Global) -> Result<Vec<Text<'_>>, AllocError>
-        ensures { IfOk result (λ names. names.items ≡ type_names (contents_told self.now)) }
+        ensures { IfOk result (λ names. names.items ≡ type_names (contents_of self.now)) }
     {
         match &self.policy {
             Some(policy) => names_of(alloc, policy),
@@ -177,7 +177,7 @@ impl<'a> Script<'a> {
 
     /// Returns the first generation of all entries, 0 to 1,048,575: that of the line `wear`, or 0.
     pub fn first_gen(&self) -> u32
-        ensures { result ≡ first_gen (contents_told self.now) }
+        ensures { result ≡ first_gen (contents_of self.now) }
     {
         self.wear.unwrap_or(0)
     }
@@ -191,8 +191,8 @@ impl<'a> Script<'a> {
 
     // Takes the lines of the body for `run` out of the script.
     pub(crate) fn take_orders(&mut self, alloc: Global) -> Vec<NamedRunTask<'a>>
-        ensures head { contents_told self.new ≡ without_orders (contents_told self.old) }
-        ensures orders { result.items ≡ (contents_told self.old).orders }
+        ensures head { contents_of self.new ≡ without_orders (contents_of self.old) }
+        ensures orders { result.items ≡ (contents_of self.old).orders }
     {
         mem::replace(&mut self.orders, Vec::new(alloc))
     }
@@ -206,7 +206,7 @@ impl<'a> Script<'a> {
 
     #[tactic(auto, unfolding(crate::specs::Script::with_triple))]
     fn add_triple(&mut self, triple: &TripleLine<'a>) -> Result<(), AddError>
-        ensures { AddsLine result (contents_told self.new) (with_triple (contents_told self.old) triple.now) }
+        ensures { AddsLine result (contents_of self.new) (with_triple (contents_of self.old) triple.now) }
     {
         let source = self.types.number(triple.source.as_bytes())?;
         let target = self.types.number(triple.target.as_bytes())?;
@@ -221,7 +221,7 @@ impl<'a> Script<'a> {
 
     // Returns the number of a domain's type, which a policy has to declare. Without a policy any name is a type.
     fn type_number(&mut self, name: &'a [u8]) -> Result<TypeId, AddError>
-        ensures { GivesTypeNumber (contents_told self.old) (contents_told self.new) name.entry.now result }
+        ensures { GivesTypeNumber (contents_of self.old) (contents_of self.new) name.entry.now result }
     {
         match &self.policy {
             Some(policy) => policy
@@ -233,7 +233,7 @@ impl<'a> Script<'a> {
 
     #[tactic(auto, unfolding(crate::specs::Script::with_domain))]
     fn add_domain(&mut self, line: &DomainLine<'a>) -> Result<(), AddError>
-        ensures { AddsLine result (contents_told self.new) (with_domain (contents_told self.old) line.now) }
+        ensures { AddsLine result (contents_of self.new) (with_domain (contents_of self.old) line.now) }
     {
         let label = self.type_number(line.type_name.as_bytes())?;
         let Some(domain) = domain_written(line, label) else {
@@ -248,8 +248,8 @@ impl<'a> Script<'a> {
 
     #[tactic(auto, unfolding(crate::specs::Script::with_domain_line))]
     fn add_step(&mut self, line: usize, dom: DomId, asks: BodyLine<'a>) -> Result<(), AddError>
-        ensures { AddsLine result (contents_told self.new)
-            (with_domain_line (contents_told self.old) line dom asks.entry) }
+        ensures { AddsLine result (contents_of self.new)
+            (with_domain_line (contents_of self.old) line dom asks.entry) }
     {
         let Some(action) = play_action_in(asks) else {
             return Err(AddError::Fault(ScriptFaultKind::Mode));
@@ -260,8 +260,8 @@ impl<'a> Script<'a> {
 
     #[tactic(auto, unfolding(crate::specs::Script::with_order))]
     fn add_order(&mut self, line: usize, dom: DomId, asks: BodyLine<'a>) -> Result<(), AddError>
-        ensures { AddsLine result (contents_told self.new)
-            (with_order (contents_told self.old) line dom asks.entry) }
+        ensures { AddsLine result (contents_of self.new)
+            (with_order (contents_of self.old) line dom asks.entry) }
     {
         let Some(deed) = run_action_in(asks) else {
             return Err(AddError::Fault(ScriptFaultKind::Mode));
@@ -272,8 +272,8 @@ impl<'a> Script<'a> {
 
     #[tactic(auto, unfolding(crate::specs::Script::with_body_line))]
     fn add_body(&mut self, line: usize, id: Number, asks: BodyLine<'a>) -> Result<(), AddError>
-        ensures { AddsLine result (contents_told self.new)
-            (with_body_line (contents_told self.old) line id asks.entry) }
+        ensures { AddsLine result (contents_of self.new)
+            (with_body_line (contents_of self.old) line id asks.entry) }
     {
         let Some(dom) = configured(&self.domains, id) else {
             return Err(AddError::Fault(ScriptFaultKind::Config));
@@ -286,21 +286,21 @@ impl<'a> Script<'a> {
 
     #[tactic(auto, unfolding(crate::specs::Script::has_no_rights))]
     fn has_no_rights(&self) -> bool
-        ensures { result ≡ has_no_rights (contents_told self.now) }
+        ensures { result ≡ has_no_rights (contents_of self.now) }
     {
         self.policy.is_none() && self.triples.is_empty()
     }
 
     #[tactic(auto, unfolding(crate::specs::Script::has_body))]
     fn has_body(&self) -> bool
-        ensures { result ≡ has_body (contents_told self.now) }
+        ensures { result ≡ has_body (contents_of self.now) }
     {
         !self.steps.is_empty() || !self.orders.is_empty()
     }
 
     #[tactic(auto, unfolding(crate::specs::Script::is_misplaced))]
     fn is_misplaced(&self, line: &ScriptLine<'a>) -> bool
-        ensures { result ≡ is_misplaced (contents_told self.now) line.now }
+        ensures { result ≡ is_misplaced (contents_of self.now) line.now }
     {
         match line {
             ScriptLine::Triple(_) => {
@@ -316,8 +316,8 @@ impl<'a> Script<'a> {
 
     #[tactic(auto, unfolding(crate::specs::Script::with_script_line))]
     fn add_line(&mut self, number: usize, line: ScriptLine<'a>) -> Result<(), AddError>
-        ensures { AddsLine result (contents_told self.new)
-            (with_script_line (contents_told self.old) number line.entry) }
+        ensures { AddsLine result (contents_of self.new)
+            (with_script_line (contents_of self.old) number line.entry) }
     {
         if self.is_misplaced(&line) {
             return Err(AddError::Fault(ScriptFaultKind::Syntax));
@@ -335,8 +335,8 @@ impl<'a> Script<'a> {
 
     #[tactic(auto, unfolding(crate::specs::Script::with_words))]
     fn add_words(&mut self, number: usize, words: &[&'a [u8]]) -> Result<(), AddError>
-        ensures { AddsLine result (contents_told self.new)
-            (with_words (contents_told self.old) number (map (λ w. w.now) words.now)) }
+        ensures { AddsLine result (contents_of self.new)
+            (with_words (contents_of self.old) number (map (λ w. w.now) words.now)) }
     {
         if words.is_empty() {
             return Ok(());
@@ -348,8 +348,8 @@ impl<'a> Script<'a> {
     }
 
     fn add_text_line(&mut self, alloc: Global, number: usize, line: &'a str) -> Result<(), AddError>
-        ensures { AddsLine result (contents_told self.new)
-            (with_words (contents_told self.old) number (words_in line.entry.now)) }
+        ensures { AddsLine result (contents_of self.new)
+            (with_words (contents_of self.old) number (words_in line.entry.now)) }
     {
         let words = line_words(alloc, line)?;
         self.add_words(number, words.as_slice())
@@ -359,7 +359,7 @@ impl<'a> Script<'a> {
     #[tactic(auto, unfolding(crate::specs::Script::completed))]
     fn check_complete(&self, count: usize) -> Result<(), ScriptError>
         requires { count < 2 ^ 64 - 1 }
-        ensures { AddsLines result (contents_told self.now) (completed count (contents_told self.now)) }
+        ensures { AddsLines result (contents_of self.now) (completed count (contents_of self.now)) }
     {
         let kind = if self.has_no_rights() {
             ScriptFaultKind::Syntax
@@ -380,7 +380,7 @@ impl<'a> Script<'a> {
         lines: &[&'a str],
     ) -> Result<(), ScriptError>
         requires { (before + length lines.now ≤ count) × (count < 2 ^ 64 - 1) }
-        ensures { AddsLines result (contents_told self.new) (whole count (contents_told self.old) (before + 1)
+        ensures { AddsLines result (contents_of self.new) (whole count (contents_of self.old) (before + 1)
             (map (λ line. line.now) lines.now)) }
     {
         for (i, line) in lines.iter().enumerate() {
@@ -401,7 +401,7 @@ impl<'a> Script<'a> {
         lines: &[&'a str],
     ) -> Result<Script<'a>, ScriptError>
         requires { (before + length lines.now ≤ count) × (count < 2 ^ 64 - 1) }
-        ensures { SaysScript result (whole count (contents_told self.entry) (before + 1)
+        ensures { GivesScript result (whole count (contents_of self.entry) (before + 1)
             (map (λ line. line.now) lines.now)) }
     {
         match self.add_rest(alloc, before, count, lines) {

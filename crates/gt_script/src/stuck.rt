@@ -3,8 +3,8 @@
 //! The domains move in turn, each as far as the raised flags let it, until a whole turn raises no new flag.
 ghost use Rattle.std.specs.Prelude.{◌≡◌, ◌≤◌, ◌↔◌, ℕ, Bool, IfOk, All, IsTrue, length};
 ghost use Rattle.gt_types.specs.Config.{is_taken};
-ghost use Rattle.gt_script.specs.Stuck.{IsBelow, AreNumbered, IsClosed, IsTold, IsJudged};
-ghost use Rattle.gt_script.specs.Rounds.{flag_holds, is_waiting, told_after, is_new, Within, TurnGoesOn, Comes};
+ghost use Rattle.gt_script.specs.Stuck.{IsBelow, AreNumbered, IsClosed, IsRaisable, IsJudged};
+ghost use Rattle.gt_script.specs.Rounds.{flag_holds, is_waiting, raised_after, is_new, Within, TurnGoesOn, Comes};
 ghost use Rattle.gt_script.specs.Rounds.{HaveCome, Turning, WaitsIn};
 
 use crate::tasks::{RunAction, RunTask};
@@ -48,10 +48,10 @@ impl ListPositions {
     }
 
     // Raises the flag of this action, if it raises one. Returns whether the flag is newly raised.
-    #[tactic(auto, unfolding(crate::specs::Rounds::told_after, crate::specs::Rounds::is_new))]
+    #[tactic(auto, unfolding(crate::specs::Rounds::raised_after, crate::specs::Rounds::is_new))]
     fn tell(&mut self, deed: &RunAction) -> bool
         requires { IsBelow (length self.old.told.items) deed.now }
-        ensures told { self.new.told.items ≡ told_after self.old.told.items deed.now }
+        ensures told { self.new.told.items ≡ raised_after self.old.told.items deed.now }
         ensures places { self.new.places.items ≡ self.old.places.items }
         ensures news { result ≡ is_new self.old.told.items deed.now }
     {
@@ -160,7 +160,7 @@ pub fn stuck_line(
 ) -> Result<Option<usize>, AllocError>
     requires numbered { AreNumbered flags tasks.now }
     requires known { All (λ t. IsTrue (is_taken domains.now t.dom)) tasks.now }
-    ensures { IfOk result (λ line. IsJudged (IsTold tasks.now) tasks.now domains.now line) }
+    ensures { IfOk result (λ line. IsJudged (IsRaisable tasks.now) tasks.now domains.now line) }
 {
     let told = raised_flags(alloc, tasks, domains, flags)?;
     'domains: for domain in domains {

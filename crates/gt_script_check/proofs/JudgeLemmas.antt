@@ -8,8 +8,8 @@ use Rattle.gt_policy_check.specs.Check.{error_lines}
 use Rattle.gt_policy_check.specs.declared.findings.Finding.{Finding}
 use Rattle.gt_script.specs.Blocks.{block_fault_shown}
 use Rattle.gt_script.specs.Outcomes.{AnswersScript}
-use Rattle.gt_script.specs.RunScripts.{RunAnswers, RunTells}
-use Rattle.gt_script.specs.Script.{TellsScript, Wrong, in_script, in_policy}
+use Rattle.gt_script.specs.RunScripts.{RunAnswers, ReadsAsRun}
+use Rattle.gt_script.specs.Script.{ReadsAsScript, Wrong, in_script, in_policy}
 use Rattle.gt_script.specs.declared.faults.BlockFault.{BlockFault}
 use Rattle.gt_script.specs.declared.faults.ScriptError.{ScriptError}
 use Rattle.gt_script.specs.declared.faults.ScriptError.TheVariants.{Memory, Fault, Policy}
@@ -26,18 +26,18 @@ shown_line e g shown = by _ shown
     by None is = absurd (cc is)
     by (Some k) is = ap (λ (o : Option TokenFault). option_map_or (λ x. x.line) o 0) is
 
-play_fault : (e : ScriptError) (line : ℕ) (bytes : List ℕ) → error_line e ≡ Some line → AnswersScript (Err e) (TellsScript bytes) → (w : Wrong) × TellsScript bytes (Err w) × (line ≡ line_of_fault w)
+play_fault : (e : ScriptError) (line : ℕ) (bytes : List ℕ) → error_line e ≡ Some line → AnswersScript (Err e) (ReadsAsScript bytes) → (w : Wrong) × ReadsAsScript bytes (Err w) × (line ≡ line_of_fault w)
 play_fault Memory line bytes is told = absurd (cc is)
 play_fault (Fault f) line bytes is told = (in_script f, told, sym (some_same f.line line is))
 play_fault (Policy f) line bytes is (g, shown, told) = (in_policy g, told, sym (some_same f.line line is) ∙ shown_line f g shown)
 
-run_fault : (e : ScriptError) (line : ℕ) (bytes : List ℕ) → error_line e ≡ Some line → RunAnswers (Err e) (RunTells bytes) → (w : Wrong) × RunTells bytes (Err w) × (line ≡ line_of_fault w)
+run_fault : (e : ScriptError) (line : ℕ) (bytes : List ℕ) → error_line e ≡ Some line → RunAnswers (Err e) (ReadsAsRun bytes) → (w : Wrong) × ReadsAsRun bytes (Err w) × (line ≡ line_of_fault w)
 run_fault Memory line bytes is told = absurd (cc is)
 run_fault (Fault f) line bytes is told = (in_script f, told, sym (some_same f.line line is))
 run_fault (Policy f) line bytes is (g, shown, told) = (in_policy g, told, sym (some_same f.line line is) ∙ shown_line f g shown)
 
 -- the error is at the line of one of the faults
-pub judged_faulty : (play run : ScriptError) (bytes : List ℕ) (found : List Finding) → AnswersScript (Err play) (TellsScript bytes) → RunAnswers (Err run) (RunTells bytes) → IsAtEither play run found → JudgesScript bytes found
+pub judged_faulty : (play run : ScriptError) (bytes : List ℕ) (found : List Finding) → AnswersScript (Err play) (ReadsAsScript bytes) → RunAnswers (Err run) (ReadsAsRun bytes) → IsAtEither play run found → JudgesScript bytes found
 judged_faulty play run bytes found told ran (line, other, one, two, at) =
     let p = play_fault play line bytes one told in
     let r = run_fault run other bytes two ran in

@@ -4,8 +4,8 @@ use Rattle.gt_policy_check.specs.Check.{error_lines}
 use Rattle.gt_policy_check.specs.declared.findings.Finding.{Finding}
 use Rattle.gt_script.specs.Contents.{Contents}
 use Rattle.gt_script.specs.RunContents.{RunContents}
-use Rattle.gt_script.specs.RunScripts.{RunTells}
-use Rattle.gt_script.specs.Script.{TellsScript, Wrong, in_script, in_policy}
+use Rattle.gt_script.specs.RunScripts.{ReadsAsRun}
+use Rattle.gt_script.specs.Script.{ReadsAsScript, Wrong, in_script, in_policy}
 use Rattle.gt_script.specs.declared.faults.ScriptError.{ScriptError}
 use Rattle.gt_script.specs.declared.faults.ScriptError.TheVariants.{Memory, Fault, Policy}
 
@@ -17,11 +17,11 @@ line_of_fault (in_policy g) = g.line
 -- The findings of bytes. If they are a script for neither `play` nor `run`, there is one error, at the line of their
 -- first fault for one of the two. If they are a script for one of them, there is none.
 pub data JudgesScript (bytes : List ℕ) : List Finding → Type 0 where
-  for_play : (c : Contents) (found : List Finding) → TellsScript bytes (Ok c) → error_lines found ≡ []
+  for_play : (c : Contents) (found : List Finding) → ReadsAsScript bytes (Ok c) → error_lines found ≡ []
       → JudgesScript bytes found
-  for_run : (c : RunContents) (found : List Finding) → RunTells bytes (Ok c) → error_lines found ≡ []
+  for_run : (c : RunContents) (found : List Finding) → ReadsAsRun bytes (Ok c) → error_lines found ≡ []
       → JudgesScript bytes found
-  faulty : (play run : Wrong) (found : List Finding) → TellsScript bytes (Err play) → RunTells bytes (Err run)
+  faulty : (play run : Wrong) (found : List Finding) → ReadsAsScript bytes (Err play) → ReadsAsRun bytes (Err run)
       → (error_lines found ≡ line_of_fault play ∷ []) ⊎ (error_lines found ≡ line_of_fault run ∷ [])
       → JudgesScript bytes found
 

@@ -12,7 +12,7 @@ use Rattle.std.proofs.lemmas.List.Sums.{AllPass-from_list_all}
 use Rattle.std.proofs.lemmas.Slice.Eq.{bytes_eq-Decides}
 use Rattle.hex.specs.Hex.{decode_of, is_hex_digit}
 use Rattle.hex.proofs.HexLemmas.{decode_of-digits}
-use Rattle.gt_script_lines.specs.Hexadecimal.{hex_word, hex_bytes, SaysItsBytes}
+use Rattle.gt_script_lines.specs.Hexadecimal.{hex_word, hex_bytes, GivesItsBytes}
 
 digit : (b : ℕ) → is_ascii_hexdigit b ≡ true → is_hex_digit b ≡ true
 digit b h = grind (arith, nat_tests)
@@ -29,6 +29,6 @@ said word false e h =
     let decoded = decode_of-digits word even (All-weaker (λ b. is_ascii_hexdigit b ≡ true) (λ b. is_hex_digit b ≡ true) digit word digits) in
     inr (rw decoded.1 refl)
 
-pub says_its_bytes : (word : List ℕ) → SaysItsBytes word
+pub says_its_bytes : (word : List ℕ) → GivesItsBytes word
 unfolding hex_word hex_bytes
 says_its_bytes word h = said word (bytes_eq word (codes "-")) refl h

@@ -18,5 +18,5 @@ unfoldable pub hex_bytes : List ℕ → List ℕ
 hex_bytes word = if bytes_eq word (codes "-") then [] else result_unwrap_or (decode_of word) []
 
 -- such a word, unless it is `-`, is decoded as a whole to these bytes
-abbrev pub SaysItsBytes : List ℕ → Type 0
-SaysItsBytes word = hex_word word ≡ true → (word ≡ codes "-") ⊎ (decode_of word ≡ Ok (hex_bytes word))
+abbrev pub GivesItsBytes : List ℕ → Type 0
+GivesItsBytes word = hex_word word ≡ true → (word ≡ codes "-") ⊎ (decode_of word ≡ Ok (hex_bytes word))

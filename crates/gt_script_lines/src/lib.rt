@@ -23,7 +23,7 @@ pub use body::BodyLine;
 pub use calls::ScriptCall;
 pub use fields::is_word;
 pub use hexadecimal::hex_bytes;
-pub use laws::every_hex_text_says_its_bytes;
+pub use laws::every_hex_text_gives_its_bytes;
 pub use lines::{DomainLine, ScriptLine, TripleLine, read_line};
 pub use numbers::Number;
 pub use texts::Text;

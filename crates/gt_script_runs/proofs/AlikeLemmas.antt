@@ -24,12 +24,12 @@ use Rattle.gt_core.specs.declared.trace.Event.{Event}
 use Rattle.gt_core.specs.declared.trace.Event.TheVariants.{Begin, Tick}
 use Rattle.gt_core.specs.History.{History, Setting}
 use Rattle.gt_core.specs.Legal.{MayDo, actor_of, grown, history_after}
-use Rattle.gt_core.specs.Alike.{bare_handle, bare_bytes, bare_request, told_part, ToldItem, SameElement, IsGiven}
+use Rattle.gt_core.specs.Alike.{bare_handle, bare_bytes, bare_request, keyless_answer, KeylessItem, SameElement, IsGiven}
 use Rattle.gt_core.specs.Alike.{IsKnown}
 use Rattle.gt_core.specs.Alike.{AsksKnown}
 use Rattle.gt_script_runs.specs.Printing.{answer_text, bytes_text}
 use Rattle.gt_script_runs.specs.Runs.{Named, handle_named, handle_of, never_given, with_name, named_after, handle_given}
-use Rattle.gt_script_runs.specs.Runs.{label_said, request_of, SaysRequest, answer_in}
+use Rattle.gt_script_runs.specs.Runs.{label_said, request_of, MakesRequest, answer_in}
 
 -- names
 
@@ -87,7 +87,7 @@ request-same one other dom a b (calls.Store label off hex) same e =
 request-same one other dom a b (calls.Poke frame off hex) same e = ap (λ (l : Bor (List ℕ)). requests.Poke frame off l) (bytes-same a b e)
 request-same one other dom a b call same e = refl
 
-pub asks-same : (one other : List Named) (dom : DomId) (call : ScriptCall) (q r : Request) → bare_names one ≡ bare_names other → SaysRequest one dom call q → SaysRequest other dom call r → bare_request q ≡ bare_request r
+pub asks-same : (one other : List Named) (dom : DomId) (call : ScriptCall) (q r : Request) → bare_names one ≡ bare_names other → MakesRequest one dom call q → MakesRequest other dom call r → bare_request q ≡ bare_request r
 asks-same one other dom call q r same x y =
     ap bare_request x.2 ∙ request-same one other dom x.0 y.0 call same (x.1 ∙ sym y.1) ∙ ap bare_request (sym y.2)
 
@@ -99,7 +99,7 @@ request-known h named dom a (calls.Load label off len) g = found-given h named d
 request-known h named dom a (calls.Store label off hex) g = found-given h named dom.0 label g
 request-known h named dom a call g = tt
 
-pub asks-known : (h : History) (named : List Named) (dom : DomId) (call : ScriptCall) (q : Request) → NamesGiven h named → SaysRequest named dom call q → AsksKnown h dom.0 (asked q)
+pub asks-known : (h : History) (named : List Named) (dom : DomId) (call : ScriptCall) (q : Request) → NamesGiven h named → MakesRequest named dom call q → AsksKnown h dom.0 (asked q)
 asks-known h named dom call q g x = subst (λ (z : Request). AsksKnown h dom.0 (asked z)) (sym x.2) (request-known h named dom x.0 call g)
 
 -- answers
@@ -108,19 +108,19 @@ abbrev told_text : List (List ℕ) → Answer ⊎ List ℕ → List ℕ
 told_text names (inl answer) = answer_text names answer
 told_text names (inr bytes) = codes "ok" ++ bytes_text bytes
 
-text-told : (names : List (List ℕ)) (a : Answer) → answer_text names a ≡ told_text names (told_part a)
+text-told : (names : List (List ℕ)) (a : Answer) → answer_text names a ≡ told_text names (keyless_answer a)
 text-told names (answers.Mapped handle) = refl
 text-told names (answers.Bytes b) = refl
 text-told names a = refl
 
-pub text-same : (names : List (List ℕ)) (a b : Answer) → told_part a ≡ told_part b → answer_text names a ≡ answer_text names b
+pub text-same : (names : List (List ℕ)) (a b : Answer) → keyless_answer a ≡ keyless_answer b → answer_text names a ≡ answer_text names b
 text-same names a b e = text-told names a ∙ ap (told_text names) e ∙ sym (text-told names b)
 
 abbrev told_handle : Answer ⊎ List ℕ → Option Handle
 told_handle (inl answer) = handle_given answer
 told_handle (inr bytes) = None
 
-handle-told : (a : Answer) → option_map bare_handle (handle_given a) ≡ told_handle (told_part a)
+handle-told : (a : Answer) → option_map bare_handle (handle_given a) ≡ told_handle (keyless_answer a)
 handle-told (answers.Mapped handle) = refl
 handle-told (answers.Bytes b) = refl
 handle-told a = refl
@@ -130,7 +130,7 @@ with-name-bare named dom (Some label) (Some handle) = refl
 with-name-bare named dom (Some label) None = refl
 with-name-bare named dom None o = refl
 
-pub named-same : (one other : List Named) (dom : DomId) (s : ScriptStep) (a b : Answer) → bare_names one ≡ bare_names other → told_part a ≡ told_part b → bare_names (named_after one dom s a) ≡ bare_names (named_after other dom s b)
+pub named-same : (one other : List Named) (dom : DomId) (s : ScriptStep) (a b : Answer) → bare_names one ≡ bare_names other → keyless_answer a ≡ keyless_answer b → bare_names (named_after one dom s a) ≡ bare_names (named_after other dom s b)
 named-same one other dom s a b same e =
     with-name-bare one dom (label_said s.action) (handle_given a)
     ∙ ap (λ (l : List Named). with_name l dom (label_said s.action) (option_map bare_handle (handle_given a))) same
@@ -170,8 +170,8 @@ names-after h xs (n ∷ more) g = (given-after h xs n.dom.0 n.handle g.0, names-
 
 -- elements
 
-pub answers-same : (x y : Element) → SameElement x y → option_map told_part (answer_in x) ≡ option_map told_part (answer_in y)
-answers-same (elements.Item i) (elements.Item j) e = ap (λ (t : ToldItem). t.answer) e
+pub answers-same : (x y : Element) → SameElement x y → option_map keyless_answer (answer_in x) ≡ option_map keyless_answer (answer_in y)
+answers-same (elements.Item i) (elements.Item j) e = ap (λ (t : KeylessItem). t.answer) e
 answers-same (elements.Item i) y e = absurd (cc)
 answers-same x (elements.Item j) e = absurd (cc)
 answers-same x y e = refl

@@ -73,22 +73,22 @@ before_call (i ∷ before) d =
     if i.actor.0 == d then before_begun i.happened before (before_call before d) else before_call before d
 
 -- the record of a call under way that began after these items
-abbrev pub underway_told : Setting → DomId → History → Option Underway → Option Hypercall
-underway_told s d begun None = None
-underway_told s d begun (Some c) = hypercall_of_request (subject_at s begun d) c.request
+abbrev pub underway_hypercall : Setting → DomId → History → Option Underway → Option Hypercall
+underway_hypercall s d begun None = None
+underway_hypercall s d begun (Some c) = hypercall_of_request (subject_at s begun d) c.request
 
 -- the record of the domain's open call; an unmap is recorded by the entry that its handle named when it began
-abbrev pub open_told : Setting → History → DomId → Option Hypercall
-open_told s h d = underway_told s d (before_call h d.0) (open_call h d.0)
+abbrev pub open_hypercall : Setting → History → DomId → Option Hypercall
+open_hypercall s h d = underway_hypercall s d (before_call h d.0) (open_call h d.0)
 
 -- the record of the call of an item that came after these
-abbrev pub item_told : Setting → History → DomId → ItemEvent → Option Hypercall
-item_told s h d (Began request) = hypercall_of_request (subject_at s h d) (asked request)
-item_told s h d (Stepped step seen) = open_told s h d
+abbrev pub item_hypercall : Setting → History → DomId → ItemEvent → Option Hypercall
+item_hypercall s h d (Began request) = hypercall_of_request (subject_at s h d) (asked request)
+item_hypercall s h d (Stepped step seen) = open_hypercall s h d
 
 -- the record of an item that came after these, if it has the answer of an audited call
 abbrev pub record_of : Setting → History → Item → Option Record
-record_of s h i = record_with i.actor (item_told s h i.actor i.happened) i.answer
+record_of s h i = record_with i.actor (item_hypercall s h i.actor i.happened) i.answer
 
 -- the record of an element of a trace
 abbrev pub record_in : Setting → History → Element → Option Record

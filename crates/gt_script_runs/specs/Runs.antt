@@ -85,8 +85,8 @@ request_of named dom bytes (calls.QuerySize to) = requests.QuerySize to
 request_of named dom bytes (calls.GetVersion to) = requests.GetVersion to
 
 -- this is the request of a call of a script, if its labels have these handles
-abbrev pub SaysRequest : List Named → DomId → ScriptCall → Request → Type 0
-SaysRequest named dom call request =
+abbrev pub MakesRequest : List Named → DomId → ScriptCall → Request → Type 0
+MakesRequest named dom call request =
     (bytes : Bor (List ℕ)) × (bytes.now ≡ call_bytes call) × (request ≡ request_of named dom bytes call)
 
 -- the label to which a call gives its handle: that of a map
@@ -233,7 +233,7 @@ after_ticks types p dom begun None = p
 -- the line `do ID CALL`
 abbrev pub DoLine : List (List ℕ) → ScriptStep → ScriptCall → Progress → Progress → Type 0
 DoLine types s call p q =
-    (request : Request) × SaysRequest p.named s.dom call request
+    (request : Request) × MakesRequest p.named s.dom call request
     × (ticks : ℕ) × (trace : List Element) × (answer : Option Answer) × (length trace ≡ 1 + ticks)
     × EndsAsCall trace answer
     × (q ≡ progress_after types (with_events p (call_events s.dom request ticks) trace) s answer)
@@ -241,7 +241,7 @@ DoLine types s call p q =
 -- the line `begin ID CALL`
 abbrev pub BeginLine : List (List ℕ) → ScriptStep → ScriptCall → Progress → Progress → Type 0
 BeginLine types s call p q =
-    (request : Request) × SaysRequest p.named s.dom call request
+    (request : Request) × MakesRequest p.named s.dom call request
     × (x : Element) × (q ≡ progress_begun types (with_events p (Begin s.dom request ∷ []) (x ∷ [])) s x)
 
 -- the line `tick ID N`; if the domain has no call open, it prints idle, and nothing happens

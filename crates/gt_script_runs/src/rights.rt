@@ -27,12 +27,12 @@ impl Allows for ScriptPolicy {
 }
 
 impl ScriptPolicy {
-    ghost use Rattle.gt_script.specs.Contents.{contents_told};
+    ghost use Rattle.gt_script.specs.Contents.{contents_of};
     ghost use Rattle.gt_script_runs.specs.Rights.{may_by, may_in};
 
     /// Makes the rights of a script.
     pub fn of<'s, 'a>(alloc: Global, script: &'s Script<'a>) -> Result<ScriptPolicy, Memory>
-        ensures { IfOk result (λ rights. may_by rights ≡ may_in (contents_told script.entry.now)) }
+        ensures { IfOk result (λ rights. may_by rights ≡ may_in (contents_of script.entry.now)) }
     {
         if let Some(policy) = script.policy() {
             return Ok(ScriptPolicy::Table(AllowTable::compile(alloc, policy)?));

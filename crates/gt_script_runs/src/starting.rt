@@ -1,6 +1,6 @@
 //! The core on which a script runs.
 ghost use Rattle.std.specs.Prelude.{◌≢◌, AllPairs, IfOk, IsOk};
-ghost use Rattle.gt_script.specs.Contents.{contents_told};
+ghost use Rattle.gt_script.specs.Contents.{contents_of};
 ghost use Rattle.gt_script.specs.RunScripts.{CanConfigure};
 ghost use Rattle.gt_script_runs.specs.Playing.{StartsFor};
 
@@ -13,9 +13,9 @@ use std::alloc::Global;
 /// Makes a core with the domains and the rights of a script, on which nothing has happened. The only Err is a failed
 /// allocation.
 pub fn core_of(alloc: Global, script: &Script) -> Result<Core<ScriptPolicy>, Memory>
-    requires { CanConfigure (contents_told script.now) }
-    ensures starts { IfOk result (StartsFor (contents_told script.now)) }
-    ensures apart { IsOk result → AllPairs (λ d e. d.id.0 ≢ e.id.0) (contents_told script.now).domains }
+    requires { CanConfigure (contents_of script.now) }
+    ensures starts { IfOk result (StartsFor (contents_of script.now)) }
+    ensures apart { IsOk result → AllPairs (λ d e. d.id.0 ≢ e.id.0) (contents_of script.now).domains }
 {
     let config = Config {
         domains: Vec::from_slice(alloc, script.domains())?,

@@ -13,8 +13,8 @@ use Rattle.gt_shared_table.specs.declared.rule.FrameHolder.{FrameHolder}
 use Rattle.gt_shared_table.specs.Rule.{Cell, HoldsAll, IsSlotOf, Places, name_of}
 use Rattle.gt_shared_table.specs.declared.rule.FrameSlot.{FrameSlot}
 use Rattle.atomic_table.specs.Seated.{TableId}
-use Rattle.gt_shared_table.specs.Telling.{Accessed, Frees, IsByHeld, IsOut, Returns, Took, held_first}
-use Rattle.gt_shared_table.specs.Telling.{holding, left_by, rest_held}
+use Rattle.gt_shared_table.specs.Recording.{Accessed, Frees, IsByHeld, IsOut, Returns, Took, held_first}
+use Rattle.gt_shared_table.specs.Recording.{holding, left_by, rest_held}
 use Rattle.gt_shared_table.specs.Bytes.{journal_by}
 use Rattle.gt_word_history.specs.History.{Layout}
 use Rattle.gt_word_history.specs.declared.view.FrameStep.{FrameStep}

@@ -24,7 +24,7 @@ use Rattle.gt_shared_table.specs.declared.rule.FrameHolder.{FrameHolder}
 use Rattle.gt_shared_table.specs.Bytes.{IsOnWords, IsTrueStep, journal_after, journal_by, journal_made}
 use Rattle.gt_shared_table.specs.Rule.{AreOnce, Cell, FlagsAreKept, FrameAt, Has, IsNamed, FramesAreKept, Places}
 use Rattle.gt_shared_table.specs.Rule.{flag_place, lock_place, made}
-use Rattle.gt_shared_table.specs.Telling.{AreLeft}
+use Rattle.gt_shared_table.specs.Recording.{AreLeft}
 use Rattle.gt_shared_table.proofs.OneStep.{word_again}
 
 pub has_of : (p : ℕ × FrameState) (ps : List (ℕ × FrameState)) → IsAmong p ps → Has p.0 ps

@@ -6,34 +6,34 @@ use Rattle.std.specs.Prelude.{slice_index, false}
 use Rattle.atomic_table.specs.Table.{Allows, Me, Step as TableStep, keeps, step}
 use Rattle.atomic_table.proofs.Lists.{at_map}
 use Rattle.gt_word_history.specs.History.{header_place}
-use Rattle.gt_word_history.specs.Joining.{Learns, TableHolds, tells_own}
+use Rattle.gt_word_history.specs.Joining.{Learns, TableHolds, promises_own}
 use Rattle.gt_word_history.specs.Moves.{MayTake}
 use Rattle.gt_word_history.specs.Rule.{Layout, Shows}
-use Rattle.gt_word_history.specs.Steps.{StepKind, tells}
+use Rattle.gt_word_history.specs.Steps.{StepKind, promises_step}
 use Rattle.gt_word_history.proofs.Joining.{first_id, holders_learn, lifted}
 use Rattle.gt_shared_table.specs.declared.rule.FrameHolder.{FrameHolder}
 use Rattle.gt_shared_table.specs.Bytes.{IsOnWords}
 use Rattle.gt_shared_table.specs.Rule.{Cell, HoldsAll, Places, inner, own_of}
 use Rattle.gt_shared_table.specs.Seats.{learns_all_of}
-use Rattle.gt_shared_table.specs.Words.{IsAlone, tells_word, tells_word_stored}
+use Rattle.gt_shared_table.specs.Words.{IsAlone, promises_word, promises_word_stored}
 use Rattle.gt_shared_table.proofs.Steps.{nothing_found, steps}
 
 module _ (b : Places) (d : StepKind) (f : ℕ → ℕ) (at here slots id : ℕ) (me : Me Cell FrameHolder) (x y : ℕ)
     (alone : IsAlone me) (same : at ≡ here) (before : here < header_place b.layout.domains) (of_run : d.layout ≡ b.layout)
     (leaves : d.leaves ≡ f) (is : (n : ℕ) → IsOnWords (d.step n)) (may : MayTake d at me.0.own.own) where
-  allowed : Allows {S = Unit {0}} (Shows b.layout) slots id (me.0.own.own, []) at f (tells d (step slots at x y none) (me.0.own.own, []))
-  allowed = subst (λ (q : Layout × (ℕ → ℕ)). Allows {S = Unit {0}} (Shows q.0) slots id (me.0.own.own, []) at q.1 (tells d (step slots at x y none) (me.0.own.own, [])))
+  allowed : Allows {S = Unit {0}} (Shows b.layout) slots id (me.0.own.own, []) at f (promises_step d (step slots at x y none) (me.0.own.own, []))
+  allowed = subst (λ (q : Layout × (ℕ → ℕ)). Allows {S = Unit {0}} (Shows q.0) slots id (me.0.own.own, []) at q.1 (promises_step d (step slots at x y none) (me.0.own.own, [])))
       (λ i. (of_run i, leaves i)) (may slots id)
 
-  in_words : Allows (TableHolds b.layout) slots id (me.0.own, []) here f (tells_own d (step slots here x y none) (me.0.own, []))
+  in_words : Allows (TableHolds b.layout) slots id (me.0.own, []) here f (promises_own d (step slots here x y none) (me.0.own, []))
   in_words = lifted b.layout slots id (me.0.own, []) at here f d (step slots at x y none) (step slots here x y none) alone.3 same (ap (λ (i : ℕ). step slots i x y none) same) allowed
 
   -- a step that reports what it found
-  pub moved : Allows (HoldsAll b) slots id me here f (tells_word d (step slots here x y none) me)
+  pub moved : Allows (HoldsAll b) slots id me here f (promises_word d (step slots here x y none) me)
   moved = steps b slots id me here f d (step slots here x y none) alone.3 before is in_words
 
   -- a store, which does not report it
-  pub moved_store : Allows (HoldsAll b) slots id me here f (λ _. tells_word_stored d (step slots here x y none) me)
+  pub moved_store : Allows (HoldsAll b) slots id me here f (λ _. promises_word_stored d (step slots here x y none) me)
   moved_store s holds many found fits = let z = moved s holds many found fits in (z.0, z.1, z.2, z.3, (get_or s.words here 0, z.4))
 
 -- a look that tells of all seats

@@ -7,7 +7,7 @@ use lib.Seq.{map-set}
 use Rattle.std.specs.Prelude.{slice_index}
 use Rattle.atomic_table.specs.Table.{State, keeps, stepped}
 use Rattle.atomic_table.proofs.Lists.{at_map, at_set, set_again}
-use Rattle.gt_word_history.specs.History.{HasLedTo, IsOwners, Layout, PinsLast, SaysWord, StepHistory, header_place, left_by}
+use Rattle.gt_word_history.specs.History.{HasLedTo, IsOwners, Layout, PinsLast, RecordsWord, StepHistory, header_place, left_by}
 use Rattle.gt_word_history.specs.History.{place, word_place_of}
 use Rattle.gt_word_history.specs.Joining.{TableHolds, whole, whole_views}
 use Rattle.gt_word_history.specs.Rule.{Shows, ShowsEntry, Stands, header_now}
@@ -22,7 +22,7 @@ use Rattle.gt_word_history.proofs.Joining.{holds_after, there, views_after}
 use Rattle.gt_word_history.proofs.Moments.{one_history}
 use Rattle.gt_word_history.proofs.Order.{leads_on}
 use Rattle.gt_shared_table.specs.Bytes.{IsAside}
-use Rattle.gt_shared_table.specs.Telling.{outlook_after}
+use Rattle.gt_shared_table.specs.Recording.{outlook_after}
 
 pub word_again : (ws : List ℕ) (i : ℕ) → set ws i (slice_index ws i) ≡ ws
 word_again [] i = refl
@@ -43,7 +43,7 @@ left_aside (Header d m) aside n = absurd aside
 left_aside (Frame d q m) aside n = refl
 left_aside (Flag f m) aside n = refl
 
-says_aside : (x : SeatStep) → IsAside x → (n : ℕ) → SaysWord x n
+says_aside : (x : SeatStep) → IsAside x → (n : ℕ) → RecordsWord x n
 says_aside (Entry d q m) aside n = absurd aside
 says_aside (Header d m) aside n = absurd aside
 says_aside (Frame d q m) aside n = tt

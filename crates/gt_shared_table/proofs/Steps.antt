@@ -16,7 +16,7 @@ use Rattle.gt_word_history.proofs.Joining.{there as there_own, views_after}
 use Rattle.gt_word_history.proofs.Order.{within}
 use Rattle.gt_word_history.proofs.Moments.{one_history, taken_then}
 use Rattle.gt_word_history.specs.History.{StepHistory, header_place}
-use Rattle.gt_word_history.specs.Joining.{TableHolds, tells_own, whole, whole_views}
+use Rattle.gt_word_history.specs.Joining.{TableHolds, promises_own, whole, whole_views}
 use Rattle.gt_word_history.specs.Rule.{Shows, Stands}
 use Rattle.gt_word_history.specs.Views.{with_step}
 use Rattle.gt_word_history.specs.declared.view.FlagStep.TheVariants.{Passed, Raised}
@@ -30,7 +30,7 @@ use Rattle.gt_shared_table.specs.declared.rule.FrameHolder.{FrameHolder}
 use Rattle.gt_shared_table.specs.Bytes.{IsAside, IsOnWords, IsTrueStep, journal_by}
 use Rattle.gt_shared_table.specs.Rule.{Cell, FrameAt, HoldsAll, IsNamed, FramesAreKept, Places, hidden, inner, lock_place, made}
 use Rattle.gt_shared_table.specs.Rule.{flag_place, own_of}
-use Rattle.gt_shared_table.specs.Telling.{Accesses, AddsStep, IsByHeld, TookAt, AreLeft, holder_after, holding, outlook_after}
+use Rattle.gt_shared_table.specs.Recording.{Accesses, AddsStep, IsByHeld, TookAt, AreLeft, holder_after, holding, outlook_after}
 use Rattle.gt_shared_table.specs.Laws.{FlagsArePassed, FlagsAreRaised, FramesAreAwaited, FramesAreFreed, FramesAreLocked}
 use Rattle.gt_shared_table.specs.Laws.{FramesAreReturned}
 use Rattle.gt_shared_table.specs.Laws.{WordsAreStepped}
@@ -338,7 +338,7 @@ steps b slots id me at f d st here before on allows s holds many found bound =
     let told = r.4 in
     let at_end : TableHolds b.layout (record { words = set ws at (f (slice_index ws at)); homes = map hidden s.homes; views = set (map own_of s.views) id y }) =
     subst (λ (hs : List (Maybe (Unit {0}))). TableHolds b.layout (record { words = set ws at (f (slice_index ws at)); homes = hs; views = set (map own_of s.views) id y })) still.0 r.3 in
-    let says : tells_own d st (me.0.own, []) (slice_index s.words at) (y, []) = subst (λ (n : ℕ). tells_own d st (me.0.own, []) n (y, [])) word_is ((refl, told.0.1), told.1, told.2) in (
+    let says : promises_own d st (me.0.own, []) (slice_index s.words at) (y, []) = subst (λ (n : ℕ). promises_own d st (me.0.own, []) n (y, [])) word_is ((refl, told.0.1), told.1, told.2) in (
       record me.0 { own = y },
       keeps,
       tt,

@@ -12,7 +12,7 @@ use Rattle.gt_word_history.specs.declared.view.FrameStep.TheVariants.{Copied}
 use Rattle.gt_word_history.specs.declared.view.SeatStep.TheVariants.{Flag, Frame}
 use Rattle.gt_word_history.specs.declared.view.View.{View}
 use Rattle.gt_shared_table.specs.Rule.{FrameAt}
-use Rattle.gt_shared_table.specs.Telling.{Accesses}
+use Rattle.gt_shared_table.specs.Recording.{Accesses}
 
 -- the seat with the view v made this access to the frame, as one step, right after the history past; its view is then
 -- w: v with that step, and nothing else

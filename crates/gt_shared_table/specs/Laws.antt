@@ -5,7 +5,7 @@ use prog.Atomic.{either}
 use lib.ListN.{get_elem?}
 use Rattle.atomic_table.specs.Table.{State, Me, Allows, opening, Step as TableStep, stepped, keeps, takes, gives, rest}
 use Rattle.gt_word_history.specs.History.{Layout, StepHistory, header_place}
-use Rattle.gt_word_history.specs.Joining.{TableHolds, tells_own}
+use Rattle.gt_word_history.specs.Joining.{TableHolds, promises_own}
 use Rattle.gt_word_history.specs.Steps.{StepKind}
 use Rattle.gt_word_history.specs.declared.view.FlagStep.TheVariants.{Raised}
 use Rattle.gt_word_history.specs.declared.view.FrameStep.{FrameStep}
@@ -18,7 +18,7 @@ use Rattle.gt_shared_table.specs.declared.rule.FrameHolder.{FrameHolder}
 use Rattle.gt_shared_table.specs.Bytes.{IsAside, IsOnWords, IsTrueStep, journal_by}
 use Rattle.gt_shared_table.specs.Rule.{Cell, FrameAt, HoldsAll, IsNamed, FramesAreKept, Places}
 use Rattle.gt_shared_table.specs.Rule.{flag_place, lock_place, made, newcomer, places_of}
-use Rattle.gt_shared_table.specs.Telling.{AddsStep, AreLeft, Frees, IsByHeld, Locks, LooksAtFlag, outlook_after}
+use Rattle.gt_shared_table.specs.Recording.{AddsStep, AreLeft, Frees, IsByHeld, Locks, LooksAtFlag, outlook_after}
 
 -- a seat may access any frame next, and raise or pass a flag; words and views then show a state, and the step is the
 -- new end of the history
@@ -83,9 +83,9 @@ abbrev pub WordsAreStepped : Type 0
 WordsAreStepped =
     (b : Places) (slots id : ℕ) (me : Me Cell FrameHolder) (at : ℕ) (f : ℕ → ℕ) (d : StepKind) (st : TableStep (Unit {0}))
     → me.0.own.gone ≡ false → at < header_place b.layout.domains → ((n : ℕ) → IsOnWords (d.step n))
-    → Allows (TableHolds b.layout) slots id (me.0.own, []) at f (tells_own d st (me.0.own, []))
+    → Allows (TableHolds b.layout) slots id (me.0.own, []) at f (promises_own d st (me.0.own, []))
     → Allows (HoldsAll b) slots id me at f
-    (λ n m. tells_own d st (me.0.own, []) n (m.0.own, []) × (m.0.held ≡ me.0.held) × (m.1 ≡ me.1))
+    (λ n m. promises_own d st (me.0.own, []) n (m.0.own, []) × (m.0.held ≡ me.0.held) × (m.1 ≡ me.1))
 
 -- the rule holds at the start, if the rule of the words does, no frame has two slots, each slot has its frame of zeros,
 -- and no flag is raised

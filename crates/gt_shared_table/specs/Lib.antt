@@ -1,7 +1,7 @@
 pub mod Bytes
 pub mod Laws
 pub mod Rule
-pub mod Telling
+pub mod Recording
 pub mod Seats
 pub mod Words
 pub mod Accesses

@@ -7,7 +7,7 @@ use Rattle.gt_types.specs.declared.config.Config.{Config}
 use Rattle.gt_types.specs.declared.config.DomainConfig.{DomainConfig}
 use Rattle.gt_types.specs.declared.limits.TheConstants.{LAST_GENERATION, LAST_VERSION, MAX_DOMAINS, MAX_FRAMES}
 use Rattle.gt_types.specs.declared.limits.TheConstants.{MAX_TABLE_FRAMES}
-use Rattle.gt_word_history.specs.Joining.{tells_own}
+use Rattle.gt_word_history.specs.Joining.{promises_own}
 use Rattle.gt_word_history.specs.Places.{Board}
 use Rattle.gt_word_history.specs.Steps.{StepKind}
 use Rattle.gt_shared_table.specs.declared.rule.FrameHolder.{FrameHolder}
@@ -19,13 +19,13 @@ abbrev pub on_words : TableStep Cell → TableStep (Unit {0})
 on_words st = record { slots = st.slots; word = st.word; first = st.first; second = st.second; said = none }
 
 -- what a step on a word promises: what the rule of the words promises, and that the seat holds the frames that it held
-abbrev pub tells_word : StepKind → TableStep Cell → Me Cell FrameHolder → ℕ → Me Cell FrameHolder → Type 0
-tells_word d st m n m' =
-    tells_own d (on_words st) (m.0.own, []) n (m'.0.own, []) × (m'.0.held ≡ m.0.held) × (m'.1 ≡ m.1)
+abbrev pub promises_word : StepKind → TableStep Cell → Me Cell FrameHolder → ℕ → Me Cell FrameHolder → Type 0
+promises_word d st m n m' =
+    promises_own d (on_words st) (m.0.own, []) n (m'.0.own, []) × (m'.0.held ≡ m.0.held) × (m'.1 ≡ m.1)
 
 -- the same for a store, which does not report what it found
-abbrev pub tells_word_stored : StepKind → TableStep Cell → Me Cell FrameHolder → Me Cell FrameHolder → Type 0
-tells_word_stored d st m m' = (found : ℕ) × tells_word d st m found m'
+abbrev pub promises_word_stored : StepKind → TableStep Cell → Me Cell FrameHolder → Me Cell FrameHolder → Type 0
+promises_word_stored d st m m' = (found : ℕ) × promises_word d st m found m'
 
 -- the seat holds no frame, took no other seat in, and was not taken in
 abbrev pub IsAlone : Me Cell FrameHolder → Type 0

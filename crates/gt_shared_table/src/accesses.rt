@@ -10,7 +10,7 @@ ghost use Rattle.gt_word_history.specs.Views.{IsAmong};
 ghost use Rattle.gt_word_history.specs.declared.view.FrameStep.TheVariants as access;
 ghost use Rattle.gt_shared_table.specs.Accesses.{IsReadIn, copied_in, written_in};
 ghost use Rattle.gt_shared_table.specs.Rule.{HoldsAll, IsNamed, IsSlotOf, name_of, places_of};
-ghost use Rattle.gt_shared_table.specs.Telling.{Accessed, CopiedBy, Frees, HasBoth, IsOut, Returns, left_by};
+ghost use Rattle.gt_shared_table.specs.Recording.{Accessed, CopiedBy, Frees, HasBoth, IsOut, Returns, left_by};
 
 use crate::locks::{free_lock, lock, return_lock};
 use crate::rule::{CellSeat, Cells, FrameSlot, OfAccess};

@@ -5,7 +5,7 @@ ghost use Rattle.gt_word_history.specs.declared.view.FlagStep.TheVariants.{Passe
 ghost use Rattle.gt_word_history.specs.declared.view.SeatStep.TheVariants.{Flag};
 ghost use Rattle.gt_shared_table.specs.Accesses.{TakesFlagStep};
 ghost use Rattle.gt_shared_table.specs.Rule.{HoldsAll, places_of};
-ghost use Rattle.gt_shared_table.specs.Telling.{AddsStep, LooksAtFlag as looks_at_flag};
+ghost use Rattle.gt_shared_table.specs.Recording.{AddsStep, LooksAtFlag as looks_at_flag};
 
 use crate::rule::{CellSeat, Cells, LooksAtFlag, OfFlag, RaisesFlag};
 use crate::table::{SharedTable, TableSeat};

@@ -5,7 +5,7 @@ ghost use prog.Atomic.{either};
 ghost use Rattle.atomic_table.specs.Table.{Allows};
 ghost use Rattle.gt_word_history.specs.Rule.{layout_of};
 ghost use Rattle.gt_shared_table.specs.Rule.{HoldsAll, IsSlotOf, places_of};
-ghost use Rattle.gt_shared_table.specs.Telling.{Frees, Locks, Returns, Took};
+ghost use Rattle.gt_shared_table.specs.Recording.{Frees, Locks, Returns, Took};
 
 use crate::rule::{CellSeat, Cells, FrameSlot, FreesBy, LocksSlot, OfAccess, OfSlot, ReturnsTo};
 use std::marker::Brand;

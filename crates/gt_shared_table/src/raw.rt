@@ -10,7 +10,7 @@ ghost use Rattle.gt_word_history.specs.Steps.{half_index};
 ghost use Rattle.gt_shared_table.specs.Bytes.{IsOnWords};
 ghost use Rattle.gt_shared_table.specs.Words.{IsAlone};
 
-use crate::rule::{CellSeat, Cells, OfKind, Tells, TellsAll, TellsStore};
+use crate::rule::{CellSeat, Cells, LearnsOfAll, OfKind, StepOnWord, StoreOnWord};
 use gt_entry::{BodyWord, pin_unit};
 use gt_types::Dir;
 use gt_word_history::{DOMAIN_WORDS, ENTRY_WORDS, EntryAt, Purpose};
@@ -43,7 +43,7 @@ pub(crate) fn load_control_word<J: OfKind>(
     ensures step { Takes J.kind (place entry.position entry.gref 0) result seat.old.me.0.own.own seat.new.me.0.own.own }
     ensures alone { IsAlone seat.new.me }
 {
-    cells.load::<Tells<J>>(
+    cells.load::<StepOnWord<J>>(
         seat,
         entry.position * DOMAIN_WORDS + entry.gref * ENTRY_WORDS + ENTRY_WORDS,
     )
@@ -68,7 +68,7 @@ pub(crate) fn load_body_word<J: OfKind>(
         seat.old.me.0.own.own seat.new.me.0.own.own }
     ensures alone { IsAlone seat.new.me }
 {
-    cells.load::<Tells<J>>(
+    cells.load::<StepOnWord<J>>(
         seat,
         entry.position * DOMAIN_WORDS + entry.gref * ENTRY_WORDS + ENTRY_WORDS + index_of(half),
     )
@@ -94,7 +94,7 @@ pub(crate) fn store_body_word<J: OfKind>(
         seat.old.me.0.own.own seat.new.me.0.own.own }
     ensures alone { IsAlone seat.new.me }
 {
-    cells.store::<TellsStore<J>>(
+    cells.store::<StoreOnWord<J>>(
         seat,
         entry.position * DOMAIN_WORDS + entry.gref * ENTRY_WORDS + ENTRY_WORDS + index_of(half),
         new,
@@ -122,7 +122,7 @@ pub(crate) fn exchange_word<J: OfKind>(
     ensures alone { IsAlone seat.new.me }
 {
     let _ = purpose;
-    cells.compare_exchange::<Tells<J>>(
+    cells.compare_exchange::<StepOnWord<J>>(
         seat,
         entry.position * DOMAIN_WORDS + entry.gref * ENTRY_WORDS + ENTRY_WORDS,
         old,
@@ -151,7 +151,7 @@ pub(crate) fn subtract_from_word<J: OfKind>(
     ensures alone { IsAlone seat.new.me }
 {
     let _ = generation;
-    cells.fetch_sub::<Tells<J>>(
+    cells.fetch_sub::<StepOnWord<J>>(
         seat,
         entry.position * DOMAIN_WORDS + entry.gref * ENTRY_WORDS + ENTRY_WORDS,
         pin_unit(dir),
@@ -171,7 +171,7 @@ pub(crate) fn load_header_word<J: OfKind>(cells: &Cells, seat: &mut CellSeat, at
     ensures step { Takes J.kind (header_place at) result seat.old.me.0.own.own seat.new.me.0.own.own }
     ensures alone { IsAlone seat.new.me }
 {
-    cells.load::<Tells<J>>(seat, at * DOMAIN_WORDS)
+    cells.load::<StepOnWord<J>>(seat, at * DOMAIN_WORDS)
 }
 
 // Stores a header word, once.
@@ -187,11 +187,11 @@ pub(crate) fn store_header_word<J: OfKind>(cells: &Cells, seat: &mut CellSeat, a
     ensures step { TakesStored J.kind (header_place at) seat.old.me.0.own.own seat.new.me.0.own.own }
     ensures alone { IsAlone seat.new.me }
 {
-    cells.store::<TellsStore<J>>(seat, at * DOMAIN_WORDS, new)
+    cells.store::<StoreOnWord<J>>(seat, at * DOMAIN_WORDS, new)
 }
 
 // Loads one word. Its contract gives one state with the views of all seats that were taken in.
-pub(crate) fn tell_all<J: OfKind>(cells: &Cells, seat: &mut CellSeat)
+pub(crate) fn learn_all<J: OfKind>(cells: &Cells, seat: &mut CellSeat)
     requires fits { (seat.old.table_id ≡ cells.now.table_id) × (0 < cells.now.table_id.words)
         × (seat.old.me.0.own.own.position ≡ 0) }
     requires here { seat.old.me.0.own.gone ≡ false }
@@ -200,5 +200,5 @@ pub(crate) fn tell_all<J: OfKind>(cells: &Cells, seat: &mut CellSeat)
     ensures table { seat.new.table_id ≡ seat.old.table_id }
     ensures all { Learns J.kind.layout seat.old.me.0.own }
 {
-    cells.load::<TellsAll<J>>(seat, 0);
+    cells.load::<LearnsOfAll<J>>(seat, 0);
 }

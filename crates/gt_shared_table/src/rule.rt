@@ -12,8 +12,8 @@ ghost use Rattle.gt_word_history.specs.declared.view.FrameStep.TheVariants as ac
 ghost use Rattle.gt_word_history.specs.declared.view.SeatStep.TheVariants.{Flag};
 ghost use Rattle.gt_shared_table.specs.Rule.{FrameAt, HoldsAll, Places, newcomer, places_of};
 ghost use Rattle.gt_shared_table.specs.Seats.{dealer, dealt_by, gone_holder, learns_all_of, taker};
-ghost use Rattle.gt_shared_table.specs.Telling.{AddsStep, Frees, Locks, LooksAtFlag as looks_at_flag, Returns, no_places};
-ghost use Rattle.gt_shared_table.specs.Words.{tells_word, tells_word_stored};
+ghost use Rattle.gt_shared_table.specs.Recording.{AddsStep, Frees, Locks, LooksAtFlag as looks_at_flag, Returns, no_places};
+ghost use Rattle.gt_shared_table.specs.Words.{promises_word, promises_word_stored};
 
 use atomic_table::{Join, Play, Seat, Shared, Split, TableRule};
 use gt_frames::Frame;
@@ -117,21 +117,21 @@ impl OfFlag for Brand {
 }
 
 /// A step on a word.
-pub(crate) struct Tells<J> {
+pub(crate) struct StepOnWord<J> {
     kind: PhantomData<J>,
 }
 
-impl<J: OfKind> Play<Option<Frame>, FrameHolder> for Tells<J> {
-    ghost then = { tells_word J.kind };
+impl<J: OfKind> Play<Option<Frame>, FrameHolder> for StepOnWord<J> {
+    ghost then = { promises_word J.kind };
 }
 
 /// A store, which does not report what it found.
-pub(crate) struct TellsStore<J> {
+pub(crate) struct StoreOnWord<J> {
     kind: PhantomData<J>,
 }
 
-impl<J: OfKind> Play<Option<Frame>, FrameHolder> for TellsStore<J> {
-    ghost then = { λ st m _ m'. tells_word_stored J.kind st m m' };
+impl<J: OfKind> Play<Option<Frame>, FrameHolder> for StoreOnWord<J> {
+    ghost then = { λ st m _ m'. promises_word_stored J.kind st m m' };
 }
 
 /// An attempt at a lock.
@@ -198,10 +198,10 @@ impl Join<FrameHolder> for TakeIn {
 }
 
 /// The step by which the first seat learns of all the seats that it took in.
-pub(crate) struct TellsAll<J> {
+pub(crate) struct LearnsOfAll<J> {
     kind: PhantomData<J>,
 }
 
-impl<J: OfKind> Play<Option<Frame>, FrameHolder> for TellsAll<J> {
+impl<J: OfKind> Play<Option<Frame>, FrameHolder> for LearnsOfAll<J> {
     ghost then = { learns_all_of J.kind };
 }

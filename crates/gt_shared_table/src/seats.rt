@@ -3,7 +3,7 @@ ghost use Rattle.std.specs.Prelude.{◌≡◌, ◌∷◌, ◌<◌, [], false};
 ghost use Rattle.gt_word_history.specs.Joining.{GatheredOf, StandTogether, with_view};
 ghost use Rattle.gt_word_history.specs.Places.{dealer_after, dealt_to};
 
-use crate::raw::tell_all;
+use crate::raw::learn_all;
 use crate::rule::{CellSeat, Deal, TakeIn};
 use crate::table::{SharedTable, TableSeat};
 use std::marker::{Brand, Model};
@@ -59,11 +59,11 @@ impl SharedTable {
 
     /// Loads one word with all gathered seats. By its contract, words and views show one state with the views of all of
     /// them. It adds to no view.
-    pub fn tell_of_all(&self, all: &mut Gathered)
+    pub fn learn_of_all(&self, all: &mut Gathered)
         requires { all.old.table ≡ self.now.table }
         ensures same { all.new ≡ all.old }
         ensures together { StandTogether self.now.layout all.old.views }
     {
-        tell_all::<Brand>(&self.table.shared, &mut all.seat);
+        learn_all::<Brand>(&self.table.shared, &mut all.seat);
     }
 }

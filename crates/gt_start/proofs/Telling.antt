@@ -6,22 +6,22 @@ use Rattle.gt_types.specs.declared.config.StartFault.{StartFault}
 use Rattle.gt_types.specs.declared.config.StartFault.TheVariants as starts
 use Rattle.gt_roster.specs.Frameless.{IsFramelessFault}
 use Rattle.gt_policy.specs.Allowing.{Allowed, KeptPolicy, Meaning, PolicyShows}
-use Rattle.gt_policy.specs.Whole.{Says}
+use Rattle.gt_policy.specs.Whole.{ReadsAs}
 use Rattle.gt_policy.specs.declared.fault.TokenFault.{TokenFault}
 use Rattle.gt_start.specs.Beginning.{IsFaultOf, IsLabelFault, IsSetBy, IsTextFault}
-use Rattle.gt_start.specs.Faults.{config_told, policy_told}
+use Rattle.gt_start.specs.Faults.{encoded_config, encoded_policy}
 use Rattle.gt_start.specs.declared.faults.EncodedFault.{EncodedFault}
 use Rattle.gt_start.specs.declared.settings.DomainSettings.{DomainSettings}
 
 -- the fault of a policy is one of its text
-pub of-text : (text : List ℕ) (o : Option TokenFault) (fault : EncodedFault) → ((f : TokenFault) → o ≡ Some f → Says text (Err f))
-    → fault ≡ policy_told o → IsTextFault text fault
+pub of-text : (text : List ℕ) (o : Option TokenFault) (fault : EncodedFault) → ((f : TokenFault) → o ≡ Some f → ReadsAs text (Err f))
+    → fault ≡ encoded_policy o → IsTextFault text fault
 of-text text (Some f) fault says e = inr (inr (f, says f refl, e))
 of-text text None fault says e = inl e
 
 -- the fault of a start is one of the settings
 pub of-settings : (settings : List DomainSettings) (first_gen : ℕ) (text : List ℕ) (c : Config) (s : StartFault) (fault : EncodedFault)
-    → IsSetBy settings first_gen c → IsFramelessFault c s → fault ≡ config_told s → IsFaultOf settings first_gen text fault
+    → IsSetBy settings first_gen c → IsFramelessFault c s → fault ≡ encoded_config s → IsFaultOf settings first_gen text fault
 of-settings settings first_gen text c (starts.Config f) fault set is e = inr (inr (c, is.1.0, f, set, is.1.1, is.1.2, e))
 of-settings settings first_gen text c starts.Memory fault set is e = inl (inl e)
 
@@ -31,7 +31,7 @@ same-count p m shows = ap (λ (a : Allowed). length a.types) shows
 
 -- the fault of a label is one of the settings
 pub of-label : (settings : List DomainSettings) (first_gen : ℕ) (text : List ℕ) (p : KeptPolicy) (m : Meaning) (types : ℕ) (fault : EncodedFault)
-    → Says text (Ok m) → PolicyShows p m → types ≡ length p.types → IsLabelFault types settings fault
+    → ReadsAs text (Ok m) → PolicyShows p m → types ≡ length p.types → IsLabelFault types settings fault
     → IsFaultOf settings first_gen text fault
 of-label settings first_gen text p m types fault says shows count is =
     inr (inl (m, says, subst (λ (n : ℕ). IsLabelFault n settings fault) (count ∙ same-count p m shows) is))

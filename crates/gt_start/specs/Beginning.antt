@@ -9,14 +9,14 @@ use Rattle.gt_types.specs.declared.config.ConfigFault.{ConfigFault}
 use Rattle.gt_types.specs.declared.config.DomainConfig.{DomainConfig}
 use Rattle.gt_types.specs.declared.perms.Perms.{Perms}
 use Rattle.gt_policy.specs.Allowing.{Meaning, is_allowed, type_named}
-use Rattle.gt_policy.specs.Whole.{Says}
+use Rattle.gt_policy.specs.Whole.{ReadsAs}
 use Rattle.gt_policy.specs.declared.fault.TokenFault.{TokenFault}
 use Rattle.gt_allow.specs.Looking.{Table, looks_up}
 use Rattle.gt_attached.specs.Seated.{Seated}
 use Rattle.gt_attached.specs.Starting.{AreNewGuests}
 use Rattle.gt_start.specs.declared.faults.EncodedFault.{EncodedFault}
 use Rattle.gt_start.specs.declared.settings.DomainSettings.{DomainSettings}
-use Rattle.gt_start.specs.Faults.{label_told, limit_told, no_memory, no_text, no_type, token_told}
+use Rattle.gt_start.specs.Faults.{encoded_label, encoded_limit, no_memory, no_text, no_type, encoded_token}
 
 -- which type may do what to which type, in a compiled policy
 abbrev pub may : Table → TypeId → TypeId → Perms → Bool
@@ -48,7 +48,7 @@ pub record Begins (settings : List DomainSettings) (first_gen : ℕ) (text : Lis
   pub config : Config
   pub set : IsSetBy settings first_gen config
   pub meaning : Meaning
-  pub says : Says text (Ok meaning)
+  pub says : ReadsAs text (Ok meaning)
   pub labels : position (is_past (length meaning.types)) settings ≡ None
   pub rights : Table
   pub allows : looks_up rights ≡ is_allowed meaning
@@ -58,24 +58,24 @@ pub record Begins (settings : List DomainSettings) (first_gen : ℕ) (text : Lis
 abbrev pub IsTextFault : List ℕ → EncodedFault → Type 0
 IsTextFault text fault =
     (fault ≡ no_memory)
-    ⊎ (((¬ IsUtf8 text) × (fault ≡ no_text)) ⊎ ((f : TokenFault) × Says text (Err f) × (fault ≡ token_told f)))
+    ⊎ (((¬ IsUtf8 text) × (fault ≡ no_text)) ⊎ ((f : TokenFault) × ReadsAs text (Err f) × (fault ≡ encoded_token f)))
 
 -- the fault is that of the first label that is not below the number of types
 abbrev pub IsLabelFault : ℕ → List DomainSettings → EncodedFault → Type 0
 IsLabelFault types settings fault =
     (i : ℕ) × (s : DomainSettings) × (position (is_past types) settings ≡ Some i) × (slice_get settings i ≡ Some s)
-    × (fault ≡ label_told (record { 0 = s.id }))
+    × (fault ≡ encoded_label (record { 0 = s.id }))
 
 -- the fault is that of the first label that is not a type of the text's policy
 abbrev pub IsUnlabelled : List DomainSettings → List ℕ → EncodedFault → Type 0
 IsUnlabelled settings text fault =
-    (m : Meaning) × Says text (Ok m) × IsLabelFault (length m.types) settings fault
+    (m : Meaning) × ReadsAs text (Ok m) × IsLabelFault (length m.types) settings fault
 
 -- the fault is the first one of the configuration with these settings, where no number of frames is too large
 abbrev pub IsLimitFault : List DomainSettings → ℕ → EncodedFault → Type 0
 IsLimitFault settings first_gen fault =
     (c : Config) × (e : Config) × (f : ConfigFault) × IsSetBy settings first_gen c × HasOneFrameEach c e × IsFirstFault e f
-    × (fault ≡ limit_told f)
+    × (fault ≡ encoded_limit f)
 
 -- why no run started with these settings under this text
 abbrev pub IsFaultOf : List DomainSettings → ℕ → List ℕ → EncodedFault → Type 0
@@ -86,4 +86,4 @@ IsFaultOf settings first_gen text fault =
 abbrev pub IsNameFault : List ℕ → List ℕ → EncodedFault → Type 0
 IsNameFault text name fault =
     IsTextFault text fault
-    ⊎ ((m : Meaning) × Says text (Ok m) × (type_named m.types name ≡ None) × (fault ≡ no_type))
+    ⊎ ((m : Meaning) × ReadsAs text (Ok m) × (type_named m.types name ≡ None) × (fault ≡ no_type))

@@ -42,34 +42,34 @@ policy_kind (Outside name) = 7
 policy_kind Limit = 8
 
 -- a fault of a policy, at its line
-abbrev pub token_told : TokenFault → EncodedFault
-token_told f = record { kind = policy_kind f.kind; line = f.line; dom = 0 }
+abbrev pub encoded_token : TokenFault → EncodedFault
+encoded_token f = record { kind = policy_kind f.kind; line = f.line; dom = 0 }
 
 -- the same; if there is none, allocation failed
-abbrev pub policy_told : Option TokenFault → EncodedFault
-policy_told (Some f) = token_told f
-policy_told None = no_memory
+abbrev pub encoded_policy : Option TokenFault → EncodedFault
+encoded_policy (Some f) = encoded_token f
+encoded_policy None = no_memory
 
 -- a fault of a domain
-abbrev pub domain_told : ℕ → DomId → EncodedFault
-domain_told kind dom = record { kind = kind; line = 0; dom = dom.0 }
+abbrev pub encoded_domain : ℕ → DomId → EncodedFault
+encoded_domain kind dom = record { kind = kind; line = 0; dom = dom.0 }
 
 -- a fault of a configuration
-abbrev pub limit_told : ConfigFault → EncodedFault
-limit_told NoDomains = record { kind = 10; line = 0; dom = 0 }
-limit_told (TooMany dom) = domain_told 11 dom
-limit_told (Id dom) = domain_told 12 dom
-limit_told (Repeated dom) = domain_told 13 dom
-limit_told (Frames dom) = domain_told 14 dom
-limit_told (TableFrames dom) = domain_told 15 dom
-limit_told (Version dom) = domain_told 16 dom
-limit_told Generation = record { kind = 17; line = 0; dom = 0 }
+abbrev pub encoded_limit : ConfigFault → EncodedFault
+encoded_limit NoDomains = record { kind = 10; line = 0; dom = 0 }
+encoded_limit (TooMany dom) = encoded_domain 11 dom
+encoded_limit (Id dom) = encoded_domain 12 dom
+encoded_limit (Repeated dom) = encoded_domain 13 dom
+encoded_limit (Frames dom) = encoded_domain 14 dom
+encoded_limit (TableFrames dom) = encoded_domain 15 dom
+encoded_limit (Version dom) = encoded_domain 16 dom
+encoded_limit Generation = record { kind = 17; line = 0; dom = 0 }
 
 -- the same; if the configuration has none, allocation failed
-abbrev pub config_told : StartFault → EncodedFault
-config_told (starts.Config fault) = limit_told fault
-config_told starts.Memory = no_memory
+abbrev pub encoded_config : StartFault → EncodedFault
+encoded_config (starts.Config fault) = encoded_limit fault
+encoded_config starts.Memory = no_memory
 
 -- the label of a domain is beyond the policy's types
-abbrev pub label_told : DomId → EncodedFault
-label_told dom = domain_told 19 dom
+abbrev pub encoded_label : DomId → EncodedFault
+encoded_label dom = encoded_domain 19 dom

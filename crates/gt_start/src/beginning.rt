@@ -1,7 +1,7 @@
 //! The start of a run.
 ghost use Rattle.std.specs.Prelude.{◌≡◌, length, IfOk, IfErr, Ok, Some};
 ghost use Rattle.gt_policy.specs.Allowing.{Meaning, PolicyShows, type_named};
-ghost use Rattle.gt_policy.specs.Whole.{Says};
+ghost use Rattle.gt_policy.specs.Whole.{ReadsAs};
 ghost use Rattle.gt_start.specs.Beginning.{Begins, IsFaultOf, IsNameFault, IsTextFault};
 
 use crate::faults::{EncodedFault, MEMORY, NO_TYPE, TEXT, config_fault, policy_fault};
@@ -14,7 +14,7 @@ use std::alloc::Global;
 
 // Parses the text of a policy.
 fn policy_of(alloc: Global, text: &[u8]) -> Result<Policy, EncodedFault>
-    ensures policy { IfOk result (λ policy. (m : Meaning) × Says text.now (Ok m) × PolicyShows policy m) }
+    ensures policy { IfOk result (λ policy. (m : Meaning) × ReadsAs text.now (Ok m) × PolicyShows policy m) }
     ensures fault { IfErr result (IsTextFault text.now) }
 {
     let Ok(text) = str::from_utf8(text) else {
@@ -67,7 +67,7 @@ pub fn begin(
 /// The first fault of the text; or that it declares no type of this name; or `memory`.
 pub fn type_of(alloc: Global, policy: &[u8], name: &[u8]) -> Result<TypeId, EncodedFault>
     ensures named { IfOk result (λ id.
-        (m : Meaning) × Says policy.now (Ok m) × (type_named m.types name.now ≡ Some id)) }
+        (m : Meaning) × ReadsAs policy.now (Ok m) × (type_named m.types name.now ≡ Some id)) }
     ensures fault { IfErr result (IsNameFault policy.now name.now) }
 {
     let policy = match policy_of(alloc, policy) {

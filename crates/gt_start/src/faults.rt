@@ -1,7 +1,7 @@
 //! The reasons why a run did not start.
 ghost use Rattle.std.specs.Prelude.{◌≡◌};
 ghost use Rattle.gt_policy.specs.Shown.{fault_shown};
-ghost use Rattle.gt_start.specs.Faults.{config_told, label_told, policy_told};
+ghost use Rattle.gt_start.specs.Faults.{encoded_config, encoded_label, encoded_policy};
 
 use gt_policy::{PolicyFault, PolicyFaultKind};
 use gt_types::{ConfigFault, DomId, StartFault};
@@ -67,7 +67,7 @@ pub(crate) const NO_TYPE: EncodedFault = EncodedFault {
 
 // Encodes the fault of a policy.
 pub(crate) fn policy_fault(refused: PolicyFault) -> EncodedFault
-    ensures { result ≡ policy_told (fault_shown refused) }
+    ensures { result ≡ encoded_policy (fault_shown refused) }
 {
     let nobody = DomId(0);
     match refused.kind {
@@ -83,7 +83,7 @@ pub(crate) fn policy_fault(refused: PolicyFault) -> EncodedFault
 
 // Encodes the fault of a configuration.
 pub(crate) fn config_fault(refused: StartFault) -> EncodedFault
-    ensures { result ≡ config_told refused }
+    ensures { result ≡ encoded_config refused }
 {
     match refused {
         StartFault::Memory => MEMORY,
@@ -102,7 +102,7 @@ pub(crate) fn config_fault(refused: StartFault) -> EncodedFault
 
 // Encodes that the label of a domain is beyond the policy's types.
 pub(crate) fn label_fault(dom: DomId) -> EncodedFault
-    ensures { result ≡ label_told dom }
+    ensures { result ≡ encoded_label dom }
 {
     fault_at(19, 0, dom)
 }

@@ -9,11 +9,11 @@ use Rattle.atomic_table.specs.Table.{State, Me, Act, Allows, Joins, Splits, Step
 use Rattle.atomic_table.specs.Table.{homes_after}
 use Rattle.atomic_table.proofs.Lists.{at_map, set_again, set_else, set_here}
 use Rattle.gt_word_history.specs.Joining.{AreIn, AreTaken, HoldersLearn, TableHolds, IsGoneAt, Learns, SeatsJoin, StepsLift}
-use Rattle.gt_word_history.specs.Joining.{learns_all, outlook_of, tells_own, tells_own_stored, owns, put, taken_by, took}
+use Rattle.gt_word_history.specs.Joining.{learns_all, outlook_of, promises_own, promises_own_stored, owns, put, taken_by, took}
 use Rattle.gt_word_history.specs.Joining.{whole, whole_views}
 use Rattle.gt_word_history.specs.Rule.{Layout, Shows}
 use Rattle.gt_word_history.specs.Places.{dealer_after, dealing, dealt_outlook, dealt_to}
-use Rattle.gt_word_history.specs.Steps.{StepKind, tells, tells_stored}
+use Rattle.gt_word_history.specs.Steps.{StepKind, promises_step, promises_stored}
 use Rattle.gt_word_history.proofs.Opens.{deals}
 use Rattle.gt_word_history.specs.declared.view.Outlook.{Outlook}
 use Rattle.gt_word_history.specs.declared.view.View.{View}
@@ -112,7 +112,7 @@ lift k slots id me at f says here allows s holds many found bound =
     (y, r.1, r.2, holds_after k s holds id me.0 found here at (f (slice_index s.words at)) me.1 y r.1 refl r.3, (r.4, refl, here))
 
 pub steps_lift : StepsLift
-steps_lift k slots id me at f d st here allows = lift k slots id me at f (tells d st (me.0.own, me.1)) here allows
+steps_lift k slots id me at f d st here allows = lift k slots id me at f (promises_step d st (me.0.own, me.1)) here allows
 
 -- joins
 
@@ -222,18 +222,18 @@ deals_so k id x here none_taken own room s holds at =
 
 -- at another number of the same place
 pub lifted : (k : Layout) (slots id : ℕ) (me : Me (Unit {0}) Outlook) (at here : ℕ) (f : ℕ → ℕ) (d : StepKind) (st st' : TableStep (Unit {0})) → me.0.gone ≡ false → at ≡ here → st ≡ st'
-    → Allows (Shows k) slots id (me.0.own, me.1) at f (tells d st (me.0.own, me.1)) → Allows (TableHolds k) slots id me here f (tells_own d st' me)
+    → Allows (Shows k) slots id (me.0.own, me.1) at f (promises_step d st (me.0.own, me.1)) → Allows (TableHolds k) slots id me here f (promises_own d st' me)
 lifted k slots id me at here f d st st' live same also allows =
-    subst (λ (i : ℕ). Allows (TableHolds k) slots id me i f (tells_own d st' me)) same
-    (subst (λ (z : TableStep (Unit {0})). Allows (TableHolds k) slots id me at f (tells_own d z me)) also
-    (lift k slots id me at f (tells d st (me.0.own, me.1)) live allows))
+    subst (λ (i : ℕ). Allows (TableHolds k) slots id me i f (promises_own d st' me)) same
+    (subst (λ (z : TableStep (Unit {0})). Allows (TableHolds k) slots id me at f (promises_own d z me)) also
+    (lift k slots id me at f (promises_step d st (me.0.own, me.1)) live allows))
 
 pub lifted_store : (k : Layout) (slots id : ℕ) (me : Me (Unit {0}) Outlook) (at here new : ℕ) (d : StepKind) (st st' : TableStep (Unit {0})) → me.0.gone ≡ false → at ≡ here → st ≡ st'
-    → Allows (Shows k) slots id (me.0.own, me.1) at (λ _. new) (λ _. tells_stored d st (me.0.own, me.1)) → Allows (TableHolds k) slots id me here (λ _. new) (λ _. tells_own_stored d st' me)
+    → Allows (Shows k) slots id (me.0.own, me.1) at (λ _. new) (λ _. promises_stored d st (me.0.own, me.1)) → Allows (TableHolds k) slots id me here (λ _. new) (λ _. promises_own_stored d st' me)
 lifted_store k slots id me at here new d st st' live same also allows =
-    subst (λ (i : ℕ). Allows (TableHolds k) slots id me i (λ _. new) (λ _. tells_own_stored d st' me)) same
-    (subst (λ (z : TableStep (Unit {0})). Allows (TableHolds k) slots id me at (λ _. new) (λ _. tells_own_stored d z me)) also
-    (lift k slots id me at (λ _. new) (λ _. tells_stored d st (me.0.own, me.1)) live allows))
+    subst (λ (i : ℕ). Allows (TableHolds k) slots id me i (λ _. new) (λ _. promises_own_stored d st' me)) same
+    (subst (λ (z : TableStep (Unit {0})). Allows (TableHolds k) slots id me at (λ _. new) (λ _. promises_own_stored d z me)) also
+    (lift k slots id me at (λ _. new) (λ _. promises_stored d st (me.0.own, me.1)) live allows))
 
 -- a look that tells of all
 

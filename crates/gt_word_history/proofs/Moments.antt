@@ -8,8 +8,8 @@ use lib.ListN.{get_elem?}
 use Rattle.atomic_table.specs.Table.{Act, State, keeps, stepped}
 use Rattle.atomic_table.proofs.Lists.{set_else, set_here}
 use Rattle.gt_word_history.proofs.Order.{nothing_yet, part_else, part_here, up_else, up_here, within}
-use Rattle.gt_word_history.specs.History.{HasLedTo, StepHistory, IsTrue, Layout, SaysWord, part_of, word_place_of, up_to}
-use Rattle.gt_word_history.specs.Order.{AllowedStepsSayWhatIsThere, HistoryIsOne, StepsAreTakenThen}
+use Rattle.gt_word_history.specs.History.{HasLedTo, StepHistory, IsTrue, Layout, RecordsWord, part_of, word_place_of, up_to}
+use Rattle.gt_word_history.specs.Order.{AllowedStepsRecordWhatIsThere, HistoryIsOne, StepsAreTakenThen}
 use Rattle.gt_word_history.specs.Views.{with_step}
 use Rattle.gt_word_history.specs.declared.view.SeatStep.{SeatStep}
 use Rattle.gt_word_history.specs.declared.view.View.{View}
@@ -104,11 +104,11 @@ module _ {S : Type 0} (k : Layout) (s : State S View) (i : ℕ) (v : View) (x : 
 pub taken_then : StepsAreTakenThen
 taken_then k s i v x past at left shown after here = let h : StepHistory = shown.history in
     let go = goes_on k s i v x past h after.history at left [] keeps shown.now.led_here after.now.led_here here in let is = subst (IsTrue k) go after.now.led_here.true_steps in
-    (knows_all k s i v x past h after.history at left [] keeps shown.now.led_here after.now.led_here here, go, is.1, is.2, λ l. subst (SaysWord x) (sym (shown.now.led_here.words (word_place_of x) l)) is.0)
+    (knows_all k s i v x past h after.history at left [] keeps shown.now.led_here after.now.led_here here, go, is.1, is.2, λ l. subst (RecordsWord x) (sym (shown.now.led_here.words (word_place_of x) l)) is.0)
 
 -- a step that is allowed says what it finds
-pub allowed_says : AllowedStepsSayWhatIsThere
+pub allowed_says : AllowedStepsRecordWhatIsThere
 allowed_says k slots id me at f x s shown allows len here fits inside = let n : ℕ = get_or s.words at 0 in let z = allows s shown len here fits in
     let go = goes_on k s id me.0 (x n) z.4.0 shown.history z.3.history at (f n) me.1 z.1 shown.now.led_here
     (subst (λ (u : View). HasLedTo k z.3.history (stepped s at (f n) id me.1 u z.1)) z.4.1 z.3.now.led_here) here in
-    let is = subst (IsTrue k) go z.3.now.led_here.true_steps in subst (SaysWord (x n)) (sym (shown.now.led_here.words (word_place_of (x n)) inside)) is.0
+    let is = subst (IsTrue k) go z.3.now.led_here.true_steps in subst (RecordsWord (x n)) (sym (shown.now.led_here.words (word_place_of (x n)) inside)) is.0

@@ -8,7 +8,7 @@ use native.Mathlib.Decide.{ℕ_discrete}
 use lib.ListN.{get_elem?}
 use Rattle.atomic_table.specs.Table.{State, keeps, opening, stepped}
 use Rattle.atomic_table.proofs.Lists.{at_set}
-use Rattle.gt_word_history.specs.History.{HasLedTo, StepHistory, IsOwners, Layout, PinsLast, SaysWord, initial, left_by}
+use Rattle.gt_word_history.specs.History.{HasLedTo, StepHistory, IsOwners, Layout, PinsLast, RecordsWord, initial, left_by}
 use Rattle.gt_word_history.specs.History.{part_of}
 use Rattle.gt_word_history.specs.History.{word_place_of, up_to, word_after}
 use Rattle.gt_word_history.specs.Places.{dealer_after, dealt_to, new_view}
@@ -46,7 +46,7 @@ within (x ∷ xs) (suc i) a e = let l = within xs i a e in omega arith
 
 -- one step more
 pub leads_on : {S : Type 0} (k : Layout) (s : State S View) (id : ℕ) (v : View) (h : StepHistory) (x : SeatStep) (word y : ℕ) → get_elem? s.views id ≡ some v → HasLedTo k h s → v.position ≡ id → length s.words ≡ k.domains * DOMAIN_WORDS → word < k.domains * DOMAIN_WORDS
-    → word_place_of x ≡ word → y ≡ left_by x (get_or s.words word 0) → SaysWord x (get_or s.words word 0) → IsOwners id x → PinsLast k h x → HasLedTo k ((id, x) ∷ h) (stepped s word y id [] (with_step h x v) keeps)
+    → word_place_of x ≡ word → y ≡ left_by x (get_or s.words word 0) → RecordsWord x (get_or s.words word 0) → IsOwners id x → PinsLast k h x → HasLedTo k ((id, x) ∷ h) (stepped s word y id [] (with_step h x v) keeps)
 leads_on k s id v h x word y at led own wide inside place is says may last = let w : View = with_step h x v in record {
   parts = λ j u e. ⊎_elim (λ (q : (j ≡ id) × (w ≡ u)). let p = led.parts id v at in
       subst (λ (i : ℕ). (u.steps ≡ part_of i ((id, x) ∷ h)) × (u.past ≡ up_to i ((id, x) ∷ h))) (sym q.0)
@@ -58,7 +58,7 @@ leads_on k s id v h x word y at led own wide inside place is says may last = let
       (λ e. subst (λ (p : ℕ). get_or (set s.words word y) p 0 ≡ word_after k ((id, x) ∷ h) p) e
       (get_or-set_same s.words word y 0 (omega arith) ∙ (is ∙ (ap (left_by x) (led.words word inside) ∙ sym (word_here k id x h word place)))))
       (λ n. get_or-set_other s.words word i y 0 (λ f. n (sym f)) ∙ (led.words i l ∙ sym (word_else k id x h i (λ f. n (sym place ∙ f)))));
-  true_steps = (subst (SaysWord x) (led.words word inside ∙ ap (word_after k h) (sym place)) says, may, last, led.true_steps);
+  true_steps = (subst (RecordsWord x) (led.words word inside ∙ ap (word_after k h) (sym place)) says, may, last, led.true_steps);
 }
   where
     cons : ℕ → StepHistory

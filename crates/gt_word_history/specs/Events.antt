@@ -12,7 +12,7 @@ use Rattle.gt_word_history.specs.declared.view.SeatStep.{SeatStep}
 use Rattle.gt_word_history.specs.declared.view.SeatStep.TheVariants.{Entry, Flag, Frame, Header}
 use Rattle.gt_word_history.specs.declared.view.View.{View}
 use Rattle.gt_word_history.specs.Views.{LivePin, without_pin}
-use Rattle.gt_word_history.specs.History.{EntryState, StepHistory, Moment, PinsLast, SaysWord, entry_made, header_made}
+use Rattle.gt_word_history.specs.History.{EntryState, StepHistory, Moment, PinsLast, RecordsWord, entry_made, header_made}
 use Rattle.gt_word_history.specs.History.{word_place_of}
 use Rattle.gt_word_history.specs.History.{word_after}
 pub use Rattle.gt_word_history.specs.History.{HeaderByOwner, IsByOwner}
@@ -65,6 +65,6 @@ pub record Happens (k : Layout) (i : ℕ) (x : SeatStep) (past : StepHistory) : 
 -- gives
 pub record TookPlace (k : Layout) (i : ℕ) (m : Moment) : Type 0 where
   pub stood : (z : State (Unit {0}) View) × Stands k m.0 z
-  pub says : SaysWord m.1 (word_after k m.0 (word_place_of m.1))
+  pub says : RecordsWord m.1 (word_after k m.0 (word_place_of m.1))
   pub of_last : PinsLast k m.0 m.1
   pub happens : Happens k i m.1 m.0

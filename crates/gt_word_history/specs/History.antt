@@ -96,23 +96,23 @@ word_after k [] i = initial k i
 word_after k (p ∷ h) i = cond (word_place_of p.1 == i) (left_by p.1 (word_after k h i)) (word_after k h i)
 
 -- the step on an entry records that it found this number: a taken exchange the one expected, a missed one another
-abbrev pub SaysFound : EntryStep → ℕ → Type 0
-SaysFound (Looked w) n = w ≡ n
-SaysFound (ReadBody h w) n = w ≡ n
-SaysFound (Pinned d e y) n = e ≡ n
-SaysFound (PinMissed d e f w) n = (w ≡ n) × (w ≢ e)
-SaysFound (Changed c e f y) n = e ≡ n
-SaysFound (ChangeMissed c e f w) n = (w ≡ n) × (w ≢ e)
-SaysFound (Unpinned d g) n = Unit {0}
-SaysFound (StoredBody h w) n = Unit {0}
+abbrev pub RecordsFound : EntryStep → ℕ → Type 0
+RecordsFound (Looked w) n = w ≡ n
+RecordsFound (ReadBody h w) n = w ≡ n
+RecordsFound (Pinned d e y) n = e ≡ n
+RecordsFound (PinMissed d e f w) n = (w ≡ n) × (w ≢ e)
+RecordsFound (Changed c e f y) n = e ≡ n
+RecordsFound (ChangeMissed c e f w) n = (w ≡ n) × (w ≢ e)
+RecordsFound (Unpinned d g) n = Unit {0}
+RecordsFound (StoredBody h w) n = Unit {0}
 
 -- the step records that it found this number
-abbrev pub SaysWord : SeatStep → ℕ → Type 0
-SaysWord (Entry t r m) n = SaysFound m n
-SaysWord (Header t (header.Looked w)) n = w ≡ n
-SaysWord (Header t (header.Stored w)) n = Unit {0}
-SaysWord (Frame t f m) n = Unit {0}
-SaysWord (Flag f m) n = Unit {0}
+abbrev pub RecordsWord : SeatStep → ℕ → Type 0
+RecordsWord (Entry t r m) n = RecordsFound m n
+RecordsWord (Header t (header.Looked w)) n = w ≡ n
+RecordsWord (Header t (header.Stored w)) n = Unit {0}
+RecordsWord (Frame t f m) n = Unit {0}
+RecordsWord (Flag f m) n = Unit {0}
 
 -- a step of the domain i on an entry of the domain t stores or changes only if i is t
 abbrev pub IsByOwner : ℕ → ℕ → EntryStep → Type 0
@@ -183,7 +183,7 @@ PinsLast k h (Flag f m) = Unit {0}
 abbrev pub IsTrue : Layout → StepHistory → Type 0
 IsTrue k [] = Unit {0}
 IsTrue k (p ∷ h) =
-    SaysWord p.1 (word_after k h (word_place_of p.1)) × IsOwners p.0 p.1 × PinsLast k h p.1 × IsTrue k h
+    RecordsWord p.1 (word_after k h (word_place_of p.1)) × IsOwners p.0 p.1 × PinsLast k h p.1 × IsTrue k h
 
 -- the history h has led to words and views: each seat has its part of it and knows it up to its own last step, each
 -- step is of one of the seats, and the words are those that it makes

@@ -5,7 +5,7 @@ use Rattle.atomic_table.specs.Table.{Joins}
 use Rattle.gt_word_history.specs.Prelude.{TableId, TableStep}
 use Rattle.gt_word_history.specs.declared.view.Outlook.{Outlook}
 use Rattle.gt_word_history.specs.Rule.{Layout, Shows}
-use Rattle.gt_word_history.specs.Steps.{StepKind, tells, tells_stored}
+use Rattle.gt_word_history.specs.Steps.{StepKind, promises_step, promises_stored}
 
 -- the knowledge of a seat that took no other in
 abbrev pub outlook_of : View → Outlook
@@ -74,18 +74,18 @@ abbrev pub StepsLift : Type 0
 StepsLift =
     (k : Layout) (slots id : ℕ) (me : Me (Unit {0}) Outlook) (at : ℕ) (f : ℕ → ℕ) (d : StepKind)
     (st : TableStep (Unit {0}))
-    → me.0.gone ≡ false → Allows (Shows k) slots id (own_part me) at f (tells d st (own_part me))
+    → me.0.gone ≡ false → Allows (Shows k) slots id (own_part me) at f (promises_step d st (own_part me))
     → Allows (TableHolds k) slots id me at f
-    (λ n m. tells d st (own_part me) n (own_part m) × (m.0.taken ≡ me.0.taken) × (m.0.gone ≡ false))
+    (λ n m. promises_step d st (own_part me) n (own_part m) × (m.0.taken ≡ me.0.taken) × (m.0.gone ≡ false))
 
 -- what a seat's step promises, and that it took no seat in
-abbrev pub tells_own : StepKind → TableStep (Unit {0}) → Me (Unit {0}) Outlook → ℕ → Me (Unit {0}) Outlook → Type 0
-tells_own d st m n m' =
-    tells d st (own_part m) n (own_part m') × (m'.0.taken ≡ m.0.taken) × (m'.0.gone ≡ false)
+abbrev pub promises_own : StepKind → TableStep (Unit {0}) → Me (Unit {0}) Outlook → ℕ → Me (Unit {0}) Outlook → Type 0
+promises_own d st m n m' =
+    promises_step d st (own_part m) n (own_part m') × (m'.0.taken ≡ m.0.taken) × (m'.0.gone ≡ false)
 
-abbrev pub tells_own_stored : StepKind → TableStep (Unit {0}) → Me (Unit {0}) Outlook → Me (Unit {0}) Outlook → Type 0
-tells_own_stored d st m m' =
-    tells_stored d st (own_part m) (own_part m') × (m'.0.taken ≡ m.0.taken) × (m'.0.gone ≡ false)
+abbrev pub promises_own_stored : StepKind → TableStep (Unit {0}) → Me (Unit {0}) Outlook → Me (Unit {0}) Outlook → Type 0
+promises_own_stored d st m m' =
+    promises_stored d st (own_part m) (own_part m') × (m'.0.taken ≡ m.0.taken) × (m'.0.gone ≡ false)
 
 -- the first seat may take in each seat that is not taken in yet
 abbrev pub SeatsJoin : Type 0

@@ -5,7 +5,7 @@ use Rattle.atomic_table.specs.Table.{step}
 use Rattle.gt_word_history.specs.Prelude.{Allows, View}
 use Rattle.gt_word_history.specs.History.{StepHistory}
 use Rattle.gt_word_history.specs.Rule.{Shows}
-use Rattle.gt_word_history.specs.Steps.{StepKind, TakesStep, tells}
+use Rattle.gt_word_history.specs.Steps.{StepKind, TakesStep, promises_step}
 use Rattle.gt_word_history.specs.Views.{with_step}
 
 -- a seat with the view v may take a step of this kind on the word at this index: from each state that words and views
@@ -13,7 +13,7 @@ use Rattle.gt_word_history.specs.Views.{with_step}
 abbrev pub MayTake : StepKind → ℕ → View → Type 0
 MayTake d at v =
     (slots id : ℕ) → Allows {S = Unit {0}} (Shows d.layout) slots id (v, []) at d.leaves
-    (tells d (step slots at 0 0 none) (v, []))
+    (promises_step d (step slots at 0 0 none) (v, []))
 
 -- the seat with the view v took one step of this kind, which found the number n in the word at this index; its view is
 -- then w: v with that step, and nothing else

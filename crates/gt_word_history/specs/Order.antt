@@ -2,7 +2,7 @@
 use Rattle.std.specs.Prelude.{◌≡◌, ℕ, ◌*◌, ◌<◌, [], ◌∷◌, length, slice_index}
 use Rattle.atomic_table.specs.Table.{keeps, stepped}
 use Rattle.gt_word_history.specs.Prelude.{Allows, DOMAIN_WORDS, Me, SeatStep, State, View, get_elem?, some}
-use Rattle.gt_word_history.specs.History.{IsOwners, Layout, PinsLast, SaysWord, StepHistory, word_place_of}
+use Rattle.gt_word_history.specs.History.{IsOwners, Layout, PinsLast, RecordsWord, StepHistory, word_place_of}
 use Rattle.gt_word_history.specs.Rule.{Shows}
 use Rattle.gt_word_history.specs.Views.{with_step}
 
@@ -16,19 +16,19 @@ StepsAreTakenThen =
     → get_elem? s.views i ≡ some v
     → (past ≡ shown.history) × (after.history ≡ (i, x) ∷ shown.history) × IsOwners i x
     × PinsLast k shown.history x × (word_place_of x < k.domains * DOMAIN_WORDS
-    → SaysWord x (slice_index s.words (word_place_of x)))
+    → RecordsWord x (slice_index s.words (word_place_of x)))
 
 -- if a raw step of the table is allowed that adds the step x to its seat's view, by the number found, then x records
 -- the word that is there, in every state that words and views show: so no body can report a step on a word that it did
 -- not find
-abbrev pub AllowedStepsSayWhatIsThere : Type 0
-AllowedStepsSayWhatIsThere =
+abbrev pub AllowedStepsRecordWhatIsThere : Type 0
+AllowedStepsRecordWhatIsThere =
     (k : Layout) (slots id : ℕ) (me : Me (Unit {0}) View) (at : ℕ) (f : ℕ → ℕ) (x : ℕ → SeatStep)
     (s : State (Unit {0}) View) → Shows k s
     → Allows (Shows k) slots id me at f (λ n m. (past : StepHistory) × (m.0 ≡ with_step past (x n) me.0))
     → length s.homes ≡ slots → get_elem? s.views id ≡ some me.0 → slice_index s.words at < 18446744073709551616
     → let step : SeatStep = x (slice_index s.words at) in
-    word_place_of step < k.domains * DOMAIN_WORDS → SaysWord step (slice_index s.words (word_place_of step))
+    word_place_of step < k.domains * DOMAIN_WORDS → RecordsWord step (slice_index s.words (word_place_of step))
 
 -- the views that words and views show determine the history
 abbrev pub HistoryIsOne : Type 0

@@ -8,7 +8,7 @@ use Rattle.gt_word_history.specs.Prelude.{ReadBody, StoredBody, Unpinned, BodyWo
 use Rattle.gt_word_history.specs.Prelude.{EntryRecord, SeatStep, View}
 use Rattle.gt_word_history.specs.Controls.{demoted_word, invalid_word, promoted_word, withdrawn_word}
 use Rattle.gt_word_history.specs.Events.{Happens}
-use Rattle.gt_word_history.specs.History.{StepHistory, PinsLast, SaysWord, word_after}
+use Rattle.gt_word_history.specs.History.{StepHistory, PinsLast, RecordsWord, word_after}
 pub use Rattle.gt_word_history.specs.History.{half_index}
 use Rattle.gt_word_history.specs.Rule.{HasStood, Layout, Stands}
 use Rattle.gt_word_history.specs.Views.{last_of, last_seen, record_seen, with_step}
@@ -32,7 +32,7 @@ pub record TakesStep (S : Type 0) (k : Layout) (v : View) (past : StepHistory) (
   pub stood_before : HasStood S k past
   pub found_is : word_after k past word ≡ found
   pub left_is : word_after k ((v.position, x) ∷ past) word ≡ left
-  pub says : SaysWord x found
+  pub says : RecordsWord x found
   pub of_last : PinsLast k past x
   pub happens : Happens k v.position x past
 
@@ -51,14 +51,14 @@ pub record StepKind : Type 0 where
   pub leaves : ℕ → ℕ
 
 -- what a step of this kind promises: its view gained the step, which was taken on words and views that show a state
-abbrev pub tells : {S : Type 0} → StepKind → TableStep S → Me S View → ℕ → Me S View → Type 0
-tells {S} d st m n m' =
+abbrev pub promises_step : {S : Type 0} → StepKind → TableStep S → Me S View → ℕ → Me S View → Type 0
+promises_step {S} d st m n m' =
     (m'.1 ≡ m.1) × ((past : StepHistory) × (m'.0 ≡ with_step past (d.step n) m.0)
     × TakesStep S d.layout m.0 past (d.step n) st.word n (d.leaves n))
 
 -- the same for a store, which does not report what it found
-abbrev pub tells_stored : {S : Type 0} → StepKind → TableStep S → Me S View → Me S View → Type 0
-tells_stored {S} d st m m' = (found : ℕ) × tells {S = S} d st m found m'
+abbrev pub promises_stored : {S : Type 0} → StepKind → TableStep S → Me S View → Me S View → Type 0
+promises_stored {S} d st m m' = (found : ℕ) × promises_step {S = S} d st m found m'
 
 -- the kinds of step
 

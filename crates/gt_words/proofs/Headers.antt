@@ -20,10 +20,10 @@ use Rattle.gt_types.specs.declared.limits.TheConstants.{ENTRIES_V1, ENTRIES_V2, 
 use Rattle.gt_words.specs.Answers.{AddsToHeader, LooksAtHeader, StepsOnHeader, StoresHeader}
 use Rattle.gt_word_history.specs.Events.{HeaderByOwner, header_after}
 use Rattle.gt_word_history.proofs.Order.{leads_on}
-use Rattle.gt_word_history.specs.History.{StepHistory, SaysWord, left_by}
+use Rattle.gt_word_history.specs.History.{StepHistory, RecordsWord, left_by}
 use Rattle.gt_word_history.specs.Rule.{IsHeader, IsKeptHeader, Layout, Shows, HasStood, Stands, ShowsEntry, header_now}
 use Rattle.gt_word_history.specs.Rule.{header_place, place}
-use Rattle.gt_word_history.specs.Steps.{TakesStep, looking_at_header, on_header, storing_header, tells}
+use Rattle.gt_word_history.specs.Steps.{TakesStep, looking_at_header, on_header, storing_header, promises_step}
 use Rattle.gt_word_history.specs.Views.{own, own_header, steps_on, steps_on_header, stored_header, with_step}
 use Rattle.gt_word_history.specs.declared.view.EntryStep.{EntryStep}
 use Rattle.gt_word_history.specs.declared.view.HeaderStep.{HeaderStep}
@@ -94,7 +94,7 @@ module _ {S : Type 0} (past : StepHistory) (k : Layout) (s : State S View) (id :
         finds_there : (x : HeaderStep) → Finds x (header_now k t (map (steps_on_header t) s.views)) → header_now k t (map (steps_on_header t) s.views) ≡ get_or s.words (header_place t) 0 → Finds x (get_or s.words (header_place t) 0)
         finds_there x f e = subst (Finds x) e f
 
-        says : (x : HeaderStep) → Finds x (get_or s.words (header_place t) 0) → SaysWord (on_header t x) (get_or s.words (header_place t) 0)
+        says : (x : HeaderStep) → Finds x (get_or s.words (header_place t) 0) → RecordsWord (on_header t x) (get_or s.words (header_place t) 0)
         says (header.Looked n) f = f
         says (header.Stored n) f = tt
 
@@ -102,16 +102,16 @@ module _ {S : Type 0} (k : Layout) (slots id : ℕ) (me : Me S View) (t : ℕ) (
   -- the step m is taken, where it leaves the header that its event gives
   header_owes : (m : ℕ → HeaderStep) (f : ℕ → ℕ) (a : ℕ) → ((s : State S View) → Shows k s → get_elem? s.views id ≡ some me.0 → HeaderByOwner id t (m (get_or s.words (header_place t) 0)))
       → ((n : ℕ) → Finds (m n) n) → ((n : ℕ) → f n ≡ header_after (m n) n) → ((n : ℕ) → IsHeader n → IsHeader (f n))
-      → Allows (Shows k) slots id me (header_place t) f (tells (record { layout = k; step = λ n. on_header t (m n); leaves = f }) (step slots (header_place t) a 0 none) me)
+      → Allows (Shows k) slots id me (header_place t) f (promises_step (record { layout = k; step = λ n. on_header t (m n); leaves = f }) (step slots (header_place t) a 0 none) me)
   header_owes m f a own finds leaves ok = kind_owes (record { layout = k; step = λ n. on_header t (m n); leaves = f }) slots id me (header_place t) f (step slots (header_place t) a 0 none) refl (λ n. refl) (omega arith) (λ n. refl)
       (λ s shown at fits. let n : ℕ = get_or s.words (header_place t) 0 in let v : View = me.0 in let h = shown.now.headers t tn in let by = own s shown at in
       let z = shows_header shown.history k s id v t (m n) at shown refl (f n) tn (shown.now.seats id v at).0 by (subst (Finds (m n)) h.0 (finds n)) (leaves n ∙ ap (header_after (m n)) h.0) (ok n h.1) in
       ((shown.now.seats id v at).0, z))
 
-  pub look_header_owes : Allows (Shows k) slots id me (header_place t) (λ n. n) (tells (looking_at_header k t) (step slots (header_place t) 0 0 none) me)
+  pub look_header_owes : Allows (Shows k) slots id me (header_place t) (λ n. n) (promises_step (looking_at_header k t) (step slots (header_place t) 0 0 none) me)
   look_header_owes = header_owes (λ n. header.Looked n) (λ n. n) 0 (λ s shown at. tt) (λ n. refl) (λ n. refl) (λ n h. h)
 
-  pub store_header_owes : (y : ℕ) → me.0.position ≡ t → IsHeader y → Allows (Shows k) slots id me (header_place t) (λ _. y) (tells (storing_header k t y) (step slots (header_place t) y 0 none) me)
+  pub store_header_owes : (y : ℕ) → me.0.position ≡ t → IsHeader y → Allows (Shows k) slots id me (header_place t) (λ _. y) (promises_step (storing_header k t y) (step slots (header_place t) y 0 none) me)
   store_header_owes y own ok = header_owes (λ n. header.Stored y) (λ n. y) y (λ s shown at. sym (shown.now.seats id me.0 at).0 ∙ own) (λ n. tt) (λ n. refl) (λ n h. ok)
 
 -- one more step on a header

@@ -17,7 +17,7 @@ use Rattle.gt_words.proofs.OneEntry.{held_at}
 use Rattle.gt_word_history.proofs.Order.{part_else, part_here, within}
 use Rattle.gt_word_history.specs.Events.{Happens, entry_after, event_on_entry, event_on_header}
 use Rattle.gt_word_history.specs.History.{PinsLast, entry_by, entry_made, header_made, parts_on, HasLedTo}
-use Rattle.gt_word_history.specs.History.{StepHistory, IsByOwner, IsOwners, IsTrue, Layout, SaysWord, part_of}
+use Rattle.gt_word_history.specs.History.{StepHistory, IsByOwner, IsOwners, IsTrue, Layout, RecordsWord, part_of}
 use Rattle.gt_word_history.specs.History.{word_place_of}
 use Rattle.gt_word_history.specs.History.{word_after}
 use Rattle.gt_words.specs.Laws.{EachStepHappened}
@@ -33,7 +33,7 @@ use Rattle.gt_word_history.specs.declared.view.SeatStep.TheVariants.{Entry, Flag
 use Rattle.gt_word_history.specs.declared.view.View.{View}
 use Rattle.gt_word_history.specs.declared.rule.TheConstants.{DOMAIN_WORDS}
 
-true_at : (k : Layout) (later h : StepHistory) (p : ℕ × SeatStep) → IsTrue k (later ++ p ∷ h) → SaysWord p.1 (word_after k h (word_place_of p.1)) × IsOwners p.0 p.1 × PinsLast k h p.1
+true_at : (k : Layout) (later h : StepHistory) (p : ℕ × SeatStep) → IsTrue k (later ++ p ∷ h) → RecordsWord p.1 (word_after k h (word_place_of p.1)) × IsOwners p.0 p.1 × PinsLast k h p.1
 true_at k [] h p is = (is.0, is.1, is.2)
 true_at k (q ∷ later) h p is = true_at k later h p is.3
 
@@ -166,7 +166,7 @@ takes {S} k s id v x at left shown here own inside there after = let h : StepHis
       still_stands = (z, next, subst (λ (i : ℕ). get_elem? z.views i ≡ some w) (sym own) (set_here s.views id w (within s.views id v here)));
       found_is = sym there_is;
       left_is = sym (next.led_here.words at inside) ∙ get_or-set_same s.words at left 0 (let wide = shown.now.wide in omega arith);
-      says = subst (SaysWord x) (ap (word_after k h) there ∙ sym there_is) is.0;
+      says = subst (RecordsWord x) (ap (word_after k h) there ∙ sym there_is) is.0;
       of_last = is.2;
       happens = subst (λ (i : ℕ). Happens k i x h) (sym own) (record { entries = entries k id h lt x is.1; headers = headers k id h lt x is.1 });
     }

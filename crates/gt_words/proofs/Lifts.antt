@@ -13,7 +13,7 @@ use Rattle.atomic_table.proofs.Lists.{at_set, set_again, at_map}
 use Rattle.gt_words.proofs.Lists.{whose_at}
 use Rattle.gt_word_history.proofs.Moments.{beyond}
 use Rattle.gt_word_history.proofs.Order.{apart_test, leads_on}
-use Rattle.gt_word_history.specs.History.{HasLedTo, StepHistory, IsByOwner, IsOfRecord, SaysFound, left_on_entry}
+use Rattle.gt_word_history.specs.History.{HasLedTo, StepHistory, IsByOwner, IsOfRecord, RecordsFound, left_on_entry}
 use Rattle.gt_word_history.specs.History.{owner_steps}
 use Rattle.gt_word_history.specs.History.{part_of, parts_on, word_on}
 use Rattle.gt_word_history.specs.Rule.{IsHeader, Layout, Shows, ShowsEntry, header_now, header_place, place}
@@ -94,7 +94,7 @@ module _ {S : Type 0} (k : Layout) (s : State S View) (id : ℕ) (v : View) (t r
   stays : (j y t' r' j' : ℕ) → r < TABLE_ENTRIES → r' < TABLE_ENTRIES → j < 3 → j' < 3 → (t ≡ t' → r ≡ r' → ⊥) → get_or (set s.words (place t r j) y) (place t' r' j') 0 ≡ get_or s.words (place t' r' j') 0
   stays j y t' r' j' a b c d n = get_or-set_other s.words (place t r j) (place t' r' j') y 0 (λ e. let p = apart t r j t' r' j' a b c d (sym e) in n p.0 p.1)
 
-  pub shows_step : (j y : ℕ) → t < k.domains → r < TABLE_ENTRIES → j < 3 → v.position ≡ id → word_on m ≡ j → y ≡ left_on_entry m (get_or s.words (place t r j) 0) → SaysFound m (get_or s.words (place t r j) 0) → IsByOwner id t m → IsOfRecord (last_record k.first (owner_steps t (map (steps_on t r) s.views))) m
+  pub shows_step : (j y : ℕ) → t < k.domains → r < TABLE_ENTRIES → j < 3 → v.position ≡ id → word_on m ≡ j → y ≡ left_on_entry m (get_or s.words (place t r j) 0) → RecordsFound m (get_or s.words (place t r j) 0) → IsByOwner id t m → IsOfRecord (last_record k.first (owner_steps t (map (steps_on t r) s.views))) m
       → (let ws : List ℕ = set s.words (place t r j) y in ShowsEntry k.first t (get_or ws (place t r 0) 0) (get_or ws (place t r 1) 0) (get_or ws (place t r 2) 0) (set (map (steps_on t r) s.views) id (m ∷ steps_on t r v)))
       → Shows k (stepped s (place t r j) y id [] (added past t r m v) keeps)
   shows_step j y tn rn jn own on is says may last entries = let w : View = added past t r m v in let ws : List ℕ = set s.words (place t r j) y in record {

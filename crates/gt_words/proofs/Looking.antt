@@ -11,7 +11,7 @@ use Rattle.gt_types.specs.declared.Dir.TheVariants.{Read, Write}
 use Rattle.gt_words.proofs.Records.{domain_small, fresh, legal_record, listed_record, low_small, spelled_control}
 use Rattle.gt_words.proofs.Records.{spelled_parts}
 use Rattle.gt_word_history.specs.Controls.{IsValid, generation_of, pins_in}
-use Rattle.gt_word_history.specs.History.{SaysFound, word_on}
+use Rattle.gt_word_history.specs.History.{RecordsFound, word_on}
 use Rattle.gt_words.specs.Laws.{alone}
 use Rattle.gt_word_history.specs.Rule.{IsLawful}
 use Rattle.gt_words.specs.Sight.{Agrees, IsSeenOf, SawRecord}
@@ -71,7 +71,7 @@ saw_known x xs a b Second v (Some s) body f g n = record {
 
 -- a step of a seat that says what it found, where the words show the record x
 module _ (x : EntryRecord) (xs : List EntryRecord) (words : ℕ → ℕ) (reads writes : ℕ) (few : (reads < 4096) × (writes < 4096)) (spelled : words 0 ≡ word_of x.entry x.generation reads writes) (body : IsSpelled x.entry (words 1) (words 2)) where
-  pub saw_more : (m : EntryStep) (h : List EntryStep) → SaysFound m (words (word_on m)) → SawRecord x xs (seen h) → SawRecord x xs (seen (m ∷ h))
+  pub saw_more : (m : EntryStep) (h : List EntryStep) → RecordsFound m (words (word_on m)) → SawRecord x xs (seen h) → SawRecord x xs (seen (m ∷ h))
   saw_more (Looked w) h says saw = looks_at x xs reads writes w few (says ∙ spelled)
   saw_more (PinMissed d e f w) h says saw = looks_at x xs reads writes w few (says.0 ∙ spelled)
   saw_more (ChangeMissed c e f w) h says saw = looks_at x xs reads writes w few (says.0 ∙ spelled)

@@ -13,7 +13,7 @@ use Rattle.gt_word_history.proofs.Order.{apart_test}
 use Rattle.gt_words.proofs.Lifts.{inside, part_there_is}
 use Rattle.gt_words.proofs.Looking.{saw_grown, saw_more}
 use Rattle.gt_word_history.proofs.Order.{part_else, part_here}
-use Rattle.gt_word_history.specs.History.{StepHistory, SaysWord, SaysFound, part_of, word_place_of, word_after, word_on}
+use Rattle.gt_word_history.specs.History.{StepHistory, RecordsWord, RecordsFound, part_of, word_place_of, word_after, word_on}
 use Rattle.gt_words.specs.Laws.{WhatWasSeenIsListed}
 use Rattle.gt_word_history.specs.Rule.{HasStood, IsLawful, Layout, ShowsRecord, Stands, owner_steps, place, total_pins}
 use Rattle.gt_words.specs.Sight.{SawRecord}
@@ -60,7 +60,7 @@ module _ (k : Layout) (t r : ℕ) where
           (λ n. inr (ap (entry_steps t r) (part_else j x h u n)))
 
       -- a step on the entry
-      here : {S : Type 0} (z : State S View) → t < k.domains → r < TABLE_ENTRIES → Stands k h z → SaysFound m (words h (word_on m)) → Lawful ((j, x) ∷ h) → Saw i ((j, x) ∷ h)
+      here : {S : Type 0} (z : State S View) → t < k.domains → r < TABLE_ENTRIES → Stands k h z → RecordsFound m (words h (word_on m)) → Lawful ((j, x) ∷ h) → Saw i ((j, x) ∷ h)
       here z tn rn st says lawful = let f = shown_by tn rn h z st in let g : ℕ = k.first in let own : List EntryStep = on t h in let hs : List (List EntryStep) = map (steps_on t r) z.views in
           let more : SawRecord (last_record g own) (earlier_records g own) (seen (on i ((j, x) ∷ h))) =
           ⊎_elim (λ (e : on i ((j, x) ∷ h) ≡ m ∷ on i h). subst (λ (l : List EntryStep). SawRecord (last_record g own) (earlier_records g own) (seen l)) (sym e)
@@ -71,7 +71,7 @@ module _ (k : Layout) (t r : ℕ) where
           (λ (e : on t ((j, x) ∷ h) ≡ own). subst (λ (l : List EntryStep). SawRecord (last_record g l) (earlier_records g l) (seen (on i ((j, x) ∷ h)))) (sym e) more) (one_more t)
 
   -- one more step of the history, which says the word that was there
-  one_step : {S : Type 0} (i j : ℕ) (x : SeatStep) (h : StepHistory) (z : State S View) → t < k.domains → r < TABLE_ENTRIES → Stands k h z → SaysWord x (word_after k h (word_place_of x)) → Lawful ((j, x) ∷ h) → Saw i h → Saw i ((j, x) ∷ h)
+  one_step : {S : Type 0} (i j : ℕ) (x : SeatStep) (h : StepHistory) (z : State S View) → t < k.domains → r < TABLE_ENTRIES → Stands k h z → RecordsWord x (word_after k h (word_place_of x)) → Lawful ((j, x) ∷ h) → Saw i h → Saw i ((j, x) ∷ h)
   one_step i j (Header d m) h z tn rn st says lawful saw = elsewhere i j (Header d m) h saw (λ l. refl)
   one_step i j (Frame d q m) h z tn rn st says lawful saw = elsewhere i j (Frame d q m) h saw (λ l. refl)
   one_step i j (Flag f m) h z tn rn st says lawful saw = elsewhere i j (Flag f m) h saw (λ l. refl)
@@ -81,7 +81,7 @@ module _ (k : Layout) (t r : ℕ) where
     where
       same : d ≡ t → q ≡ r → Saw i ((j, Entry d q m) ∷ h)
       same e f = let b : ((d == t) && (q == r)) ≡ true = λ u. eq-eqb d t e u && eq-eqb q r f u in
-          here i j (Entry d q m) h saw m (λ l. ap (λ (c : Bool). cond c (m ∷ entry_steps t r l) (entry_steps t r l)) b) z tn rn st (subst (λ (u : ℕ × ℕ). SaysFound m (word_after k h (place u.0 u.1 (word_on m)))) (λ u. (e u, f u)) says) lawful
+          here i j (Entry d q m) h saw m (λ l. ap (λ (c : Bool). cond c (m ∷ entry_steps t r l) (entry_steps t r l)) b) z tn rn st (subst (λ (u : ℕ × ℕ). RecordsFound m (word_after k h (place u.0 u.1 (word_on m)))) (λ u. (e u, f u)) says) lawful
 
       else : (d ≡ t → q ≡ r → ⊥) → Saw i ((j, Entry d q m) ∷ h)
       else n = elsewhere i j (Entry d q m) h saw (λ l. ap (λ (c : Bool). cond c (m ∷ entry_steps t r l) (entry_steps t r l)) (apart_test d q t r n))

@@ -32,10 +32,10 @@ use Rattle.std.proofs.lemmas.Bool.{and_parts}
 use Rattle.gt_word_history.specs.Controls.{ForwardsPin, IsValid, PermitsPin, demoted_word, generation_of, invalid_word}
 use Rattle.gt_word_history.specs.Controls.{pins_in, promoted_word, withdrawn_word}
 use Rattle.gt_word_history.specs.Events.{IsByOwner}
-use Rattle.gt_word_history.specs.History.{IsOfRecord, SaysFound, owner_steps, left_on_entry, word_place_of, word_on}
+use Rattle.gt_word_history.specs.History.{IsOfRecord, RecordsFound, owner_steps, left_on_entry, word_place_of, word_on}
 use Rattle.gt_word_history.specs.Rule.{id_at, IsRecord, Layout, Shows, ShowsEntry, place, total_pins}
 use Rattle.gt_word_history.specs.Steps.{StepKind, TakesStep, changed, entry_kind, exchanging, half_index, looking}
-use Rattle.gt_word_history.specs.Steps.{missed, reading, storing, taken, tells, unpinning}
+use Rattle.gt_word_history.specs.Steps.{missed, reading, storing, taken, promises_step, unpinning}
 use Rattle.gt_words.specs.Sight.{SawRecord}
 use Rattle.gt_word_history.specs.Views.{earlier_records, invalid_at, last_of, last_record, last_seen, live_pins}
 use Rattle.gt_word_history.specs.Views.{record_seen}
@@ -60,7 +60,7 @@ module _ {S : Type 0} (d : StepKind) (slots id : ℕ) (me : Me S View) (i : ℕ)
       → ((s : State S View) (shown : Shows d.layout s) → get_elem? s.views id ≡ some me.0 → let n : ℕ = get_or s.words i 0 in let x = d.step n in
       n < 18446744073709551616
       → (me.0.position ≡ id) × Shows d.layout (stepped s i (f n) id [] (with_step shown.history x me.0) keeps))
-      → Allows (Shows d.layout) slots id me i f (tells d st me)
+      → Allows (Shows d.layout) slots id me i f (promises_step d st me)
   kind_owes is ok inside there step s shown len at fits = let n : ℕ = get_or s.words i 0 in let x = d.step n in let after = step s shown at fits in (
     with_step shown.history x me.0,
     keeps,
@@ -89,12 +89,12 @@ module _ {S : Type 0} (k : Layout) (t r : ℕ) (m : ℕ → EntryStep) (leaves :
   After w a b hs n = ShowsEntry k.first t w a b (set hs id (m n ∷ h)) × IsByOwner id t (m n) × IsOfRecord (last_record k.first (owner_steps t hs)) (m n)
 
   abbrev Fits : ℕ → ℕ → Type 0
-  Fits j n = (word_on (m n) ≡ j) × (leaves n ≡ left_on_entry (m n) n) × SaysFound (m n) n
+  Fits j n = (word_on (m n) ≡ j) × (leaves n ≡ left_on_entry (m n) n) × RecordsFound (m n) n
 
   owes : (j : ℕ) → j < 3 → st.word ≡ place t r j → ((n : ℕ) → f n ≡ leaves n) → ((n : ℕ) → Fits j n)
       → ((s : State S View) → Shows k s → get_elem? s.views id ≡ some me.0 → let n : ℕ = get_or s.words (place t r j) 0 in let ws : List ℕ = set s.words (place t r j) (f n) in
       n < 18446744073709551616 → After (get_or ws (place t r 0) 0) (get_or ws (place t r 1) 0) (get_or ws (place t r 2) 0) (map (steps_on t r) s.views) n)
-      → Allows (Shows k) slots id me (place t r j) f (tells (entry_kind k t r m leaves) st me)
+      → Allows (Shows k) slots id me (place t r j) f (promises_step (entry_kind k t r m leaves) st me)
   owes j jn is ok fit step = kind_owes (entry_kind k t r m leaves) slots id me (place t r j) f st is ok (inside k.domains t r j tn rn jn) (λ n. ap (place t r) (fit n).0) (λ s shown at fits. let n : ℕ = get_or s.words (place t r j) 0 in let after = step s shown at fits in
       ((shown.now.seats id me.0 at).0, shows_step k s id me.0 t r (m n) shown at j (f n) tn rn jn (shown.now.seats id me.0 at).0 (fit n).0 (ok n ∙ (fit n).1) (fit n).2 after.1 after.2 after.0))
 
@@ -113,21 +113,21 @@ module _ {S : Type 0} (k : Layout) (t r : ℕ) (m : ℕ → EntryStep) (leaves :
 
   -- a step on the control word
   pub control_owes : st.word ≡ place t r 0 → ((n : ℕ) → f n ≡ leaves n) → ((n : ℕ) → Fits 0 n) → ((w a b : ℕ) (hs : List (List EntryStep)) → Before w a b hs → w < 18446744073709551616 → After (leaves w) a b hs w)
-      → Allows (Shows k) slots id me (place t r 0) f (tells (entry_kind k t r m leaves) st me)
+      → Allows (Shows k) slots id me (place t r 0) f (promises_step (entry_kind k t r m leaves) st me)
   control_owes is ok fit step = owes 0 (omega arith) is ok fit (λ s shown at fits. let w : ℕ = get_or s.words (place t r 0) 0 in let a : ℕ = get_or s.words (place t r 1) 0 in let b : ℕ = get_or s.words (place t r 2) 0 in
       let hs : List (List EntryStep) = map (steps_on t r) s.views in
       subst (λ (u : ℕ × ℕ × ℕ). After u.0 u.1 u.2 hs w) (λ i. (sym (here s 0 (f w) shown (omega arith) ∙ ok w) i, sym (there s 1 0 (f w) (λ e. omega arith)) i, sym (there s 2 0 (f w) (λ e. omega arith)) i))
       (step w a b hs (before s shown at) fits))
 
   pub first_owes : st.word ≡ place t r 1 → ((n : ℕ) → f n ≡ leaves n) → ((n : ℕ) → Fits 1 n) → ((w a b : ℕ) (hs : List (List EntryStep)) → Before w a b hs → After w (leaves a) b hs a)
-      → Allows (Shows k) slots id me (place t r 1) f (tells (entry_kind k t r m leaves) st me)
+      → Allows (Shows k) slots id me (place t r 1) f (promises_step (entry_kind k t r m leaves) st me)
   first_owes is ok fit step = owes 1 (omega arith) is ok fit (λ s shown at fits. let w : ℕ = get_or s.words (place t r 0) 0 in let a : ℕ = get_or s.words (place t r 1) 0 in let b : ℕ = get_or s.words (place t r 2) 0 in
       let hs : List (List EntryStep) = map (steps_on t r) s.views in
       subst (λ (u : ℕ × ℕ × ℕ). After u.0 u.1 u.2 hs a) (λ i. (sym (there s 0 1 (f a) (λ e. omega arith)) i, sym (here s 1 (f a) shown (omega arith) ∙ ok a) i, sym (there s 2 1 (f a) (λ e. omega arith)) i))
       (step w a b hs (before s shown at)))
 
   pub second_owes : st.word ≡ place t r 2 → ((n : ℕ) → f n ≡ leaves n) → ((n : ℕ) → Fits 2 n) → ((w a b : ℕ) (hs : List (List EntryStep)) → Before w a b hs → After w a (leaves b) hs b)
-      → Allows (Shows k) slots id me (place t r 2) f (tells (entry_kind k t r m leaves) st me)
+      → Allows (Shows k) slots id me (place t r 2) f (promises_step (entry_kind k t r m leaves) st me)
   second_owes is ok fit step = owes 2 (omega arith) is ok fit (λ s shown at fits. let w : ℕ = get_or s.words (place t r 0) 0 in let a : ℕ = get_or s.words (place t r 1) 0 in let b : ℕ = get_or s.words (place t r 2) 0 in
       let hs : List (List EntryStep) = map (steps_on t r) s.views in
       subst (λ (u : ℕ × ℕ × ℕ). After u.0 u.1 u.2 hs b) (λ i. (sym (there s 0 2 (f b) (λ e. omega arith)) i, sym (there s 1 2 (f b) (λ e. omega arith)) i, sym (here s 2 (f b) shown (omega arith) ∙ ok b) i))
@@ -177,16 +177,16 @@ pub spelled_generation : (x : EntryRecord) (word reads writes : ℕ) → IsRecor
 spelled_generation x word reads writes ok in_range is = ap generation_of is ∙ (spelled_parts x.entry x.generation reads writes ok.0 in_range).generation
 
 module _ {S : Type 0} (k : Layout) (slots id : ℕ) (me : Me S View) (t r : ℕ) (tn : t < k.domains) (rn : r < TABLE_ENTRIES) where
-  pub look_owes : Allows (Shows k) slots id me (place t r 0) (λ n. n) (tells (looking k t r) (step slots (place t r 0) 0 0 none) me)
+  pub look_owes : Allows (Shows k) slots id me (place t r 0) (λ n. n) (promises_step (looking k t r) (step slots (place t r 0) 0 0 none) me)
   look_owes = control_owes k t r (λ n. Looked n) (λ n. n) slots id me (λ n. n) (step slots (place t r 0) 0 0 none) tn rn refl (λ n. refl) (λ n. (refl, refl, refl)) (λ w a b hs z fits. (entry_looks k.first t hs id _ z.1 w a b z.0, tt, tt))
 
-  read_first_owes : Allows (Shows k) slots id me (place t r 1) (λ n. n) (tells (reading k t r First) (step slots (place t r 1) 0 0 none) me)
+  read_first_owes : Allows (Shows k) slots id me (place t r 1) (λ n. n) (promises_step (reading k t r First) (step slots (place t r 1) 0 0 none) me)
   read_first_owes = first_owes k t r (λ n. ReadBody First n) (λ n. n) slots id me (λ n. n) (step slots (place t r 1) 0 0 none) tn rn refl (λ n. refl) (λ n. (refl, refl, refl)) (λ w a b hs z. (entry_reads k.first t hs id _ z.1 w a b z.0 First a, tt, tt))
 
-  read_second_owes : Allows (Shows k) slots id me (place t r 2) (λ n. n) (tells (reading k t r Second) (step slots (place t r 2) 0 0 none) me)
+  read_second_owes : Allows (Shows k) slots id me (place t r 2) (λ n. n) (promises_step (reading k t r Second) (step slots (place t r 2) 0 0 none) me)
   read_second_owes = second_owes k t r (λ n. ReadBody Second n) (λ n. n) slots id me (λ n. n) (step slots (place t r 2) 0 0 none) tn rn refl (λ n. refl) (λ n. (refl, refl, refl)) (λ w a b hs z. (entry_reads k.first t hs id _ z.1 w a b z.0 Second b, tt, tt))
 
-  pub read_owes : (h : BodyWord) → Allows (Shows k) slots id me (place t r (half_index h)) (λ n. n) (tells (reading k t r h) (step slots (place t r (half_index h)) 0 0 none) me)
+  pub read_owes : (h : BodyWord) → Allows (Shows k) slots id me (place t r (half_index h)) (λ n. n) (promises_step (reading k t r h) (step slots (place t r (half_index h)) 0 0 none) me)
   read_owes First = read_first_owes
   read_owes Second = read_second_owes
 
@@ -197,23 +197,23 @@ module _ {S : Type 0} (k : Layout) (slots id : ℕ) (me : Me S View) (t r : ℕ)
 
   -- the steps of an exchange say what was found
   exchange_fits : (p : Purpose) (old new : ℕ) → StoresPin p old new → (n : ℕ)
-      → let m : EntryStep = cond (n == old) (taken t r me.0 p old new) (missed p old new n) in (word_on m ≡ 0) × (either (n == old) new n ≡ left_on_entry m n) × SaysFound m n
-  exchange_fits (purpose.Pin d) old new one n = by_cases n old (λ (q : Bool). let m : EntryStep = cond q (taken t r me.0 (purpose.Pin d) old new) (missed (purpose.Pin d) old new n) in (word_on m ≡ 0) × (either q new n ≡ left_on_entry m n) × SaysFound m n)
+      → let m : EntryStep = cond (n == old) (taken t r me.0 p old new) (missed p old new n) in (word_on m ≡ 0) × (either (n == old) new n ≡ left_on_entry m n) × RecordsFound m n
+  exchange_fits (purpose.Pin d) old new one n = by_cases n old (λ (q : Bool). let m : EntryStep = cond q (taken t r me.0 (purpose.Pin d) old new) (missed (purpose.Pin d) old new n) in (word_on m ≡ 0) × (either q new n ≡ left_on_entry m n) × RecordsFound m n)
       (λ e. (refl, one ∙ ap (λ (u : ℕ). u + unit_of d) (sym e), sym e)) (λ ne. (refl, refl, (refl, ne)))
-  exchange_fits (purpose.Change c) old new one n = by_cases n old (λ (q : Bool). let m : EntryStep = cond q (taken t r me.0 (purpose.Change c) old new) (missed (purpose.Change c) old new n) in (word_on m ≡ 0) × (either q new n ≡ left_on_entry m n) × SaysFound m n)
+  exchange_fits (purpose.Change c) old new one n = by_cases n old (λ (q : Bool). let m : EntryStep = cond q (taken t r me.0 (purpose.Change c) old new) (missed (purpose.Change c) old new n) in (word_on m ≡ 0) × (either q new n ≡ left_on_entry m n) × RecordsFound m n)
       (λ e. (refl, refl, sym e)) (λ ne. (refl, refl, (refl, ne)))
 
   -- an exchange, taken where the word is the one expected
   exchange_owes : (p : Purpose) (old new : ℕ) → StoresPin p old new
       → ((w a b : ℕ) (hs : List (List EntryStep)) → Before k t r (λ n. Looked n) (λ n. n) slots id me (λ n. n) (step slots (place t r 0) old new none) tn rn w a b hs → w ≡ old → ShowsEntry k.first t new a b (set hs id (taken t r me.0 p old new ∷ steps_on t r me.0)) × IsByOwner id t (taken t r me.0 p old new) × IsOfRecord (last_record k.first (owner_steps t hs)) (taken t r me.0 p old new))
       → ((w a b : ℕ) (hs : List (List EntryStep)) → Before k t r (λ n. Looked n) (λ n. n) slots id me (λ n. n) (step slots (place t r 0) old new none) tn rn w a b hs → w ≢ old → ShowsEntry k.first t w a b (set hs id (missed p old new w ∷ steps_on t r me.0)) × IsByOwner id t (missed p old new w) × IsOfRecord (last_record k.first (owner_steps t hs)) (missed p old new w))
-      → Allows (Shows k) slots id me (place t r 0) (λ n. either (n == old) new n) (tells (exchanging k t r me.0 p old new) (step slots (place t r 0) old new none) me)
+      → Allows (Shows k) slots id me (place t r 0) (λ n. either (n == old) new n) (promises_step (exchanging k t r me.0 p old new) (step slots (place t r 0) old new none) me)
   exchange_owes p old new one hit miss = control_owes k t r (λ n. cond (n == old) (taken t r me.0 p old new) (missed p old new n)) (λ n. either (n == old) new n) slots id me (λ n. either (n == old) new n) (step slots (place t r 0) old new none) tn rn refl (λ n. refl) (exchange_fits p old new one)
       (λ w a b hs z fits. by_cases w old (λ (q : Bool). let m : EntryStep = cond q (taken t r me.0 p old new) (missed p old new w) in ShowsEntry k.first t (either q new w) a b (set hs id (m ∷ steps_on t r me.0)) × IsByOwner id t m × IsOfRecord (last_record k.first (owner_steps t hs)) m)
       (hit w a b hs z) (miss w a b hs z))
 
   pub pin_owes : (d : Dir) (old new : ℕ) → new ≡ old + unit_of d → HasLooked t r me.0 old → IsValid old → MayPin k t r me.0 d (record_seen (last_seen t r me.0)) → pins_in d old < MAX_PINS
-      → Allows (Shows k) slots id me (place t r 0) (λ n. either (n == old) new n) (tells (exchanging k t r me.0 (purpose.Pin d) old new) (step slots (place t r 0) old new none) me)
+      → Allows (Shows k) slots id me (place t r 0) (λ n. either (n == old) new n) (promises_step (exchanging k t r me.0 (purpose.Pin d) old new) (step slots (place t r 0) old new none) me)
   pin_owes d old new one looked valid may room = exchange_owes (purpose.Pin d) old new one
       (λ w a b hs z e. (
         subst (λ (u : ℕ). ShowsEntry k.first t u a b (set hs id (taken t r me.0 (purpose.Pin d) old new ∷ steps_on t r me.0))) (ap (λ (u : ℕ). u + unit_of d) e ∙ sym one)
@@ -228,7 +228,7 @@ module _ {S : Type 0} (k : Layout) (slots id : ℕ) (me : Me S View) (t r : ℕ)
   lowered Write w a b = omega arith
 
   pub unpin_owes : (d : Dir) (g : ℕ) → Holds t r d g me.0
-      → Allows (Shows k) slots id me (place t r 0) (λ n. (n + (2 ^ 64 - unit_of d)) % 2 ^ 64) (tells (unpinning k t r d g) (step slots (place t r 0) 0 0 none) me)
+      → Allows (Shows k) slots id me (place t r 0) (λ n. (n + (2 ^ 64 - unit_of d)) % 2 ^ 64) (promises_step (unpinning k t r d g) (step slots (place t r 0) 0 0 none) me)
   unpin_owes d g holds = control_owes k t r (λ n. Unpinned d g) (λ n. (n + (2 ^ 64 - unit_of d)) % 2 ^ 64) slots id me (λ n. (n + (2 ^ 64 - unit_of d)) % 2 ^ 64) (step slots (place t r 0) 0 0 none) tn rn refl (λ n. refl) (λ n. (refl, refl, tt))
       (λ w a b hs z fits. let p = there_is d g (live_pins (steps_on t r me.0)) holds in (
         subst (λ (u : ℕ × ℕ). ShowsEntry k.first t u.0 a b (set hs id (Unpinned d u.1 ∷ steps_on t r me.0)))
@@ -250,29 +250,29 @@ module _ {S : Type 0} (k : Layout) (slots id : ℕ) (me : Me S View) (t r : ℕ)
     last_is : me.0.first ≡ k.first → last_of r me.0 ≡ last_record k.first (steps_on t r me.0)
     last_is e = λ i. last_record (e i) (steps_on (own i) r me.0)
 
-    store_first_owes : (v : ℕ) → (last_of r me.0).entry ≡ Invalid → Allows (Shows k) slots id me (place t r 1) (λ _. v) (tells (storing k t r First v) (step slots (place t r 1) v 0 none) me)
+    store_first_owes : (v : ℕ) → (last_of r me.0).entry ≡ Invalid → Allows (Shows k) slots id me (place t r 1) (λ _. v) (promises_step (storing k t r First v) (step slots (place t r 1) v 0 none) me)
     store_first_owes v none_yet = first_owes k t r (λ n. StoredBody First v) (λ n. v) slots id me (λ _. v) (step slots (place t r 1) v 0 none) tn rn refl (λ n. refl) (λ n. (refl, refl, tt))
         (λ w a b hs z. (to_seat w v b hs (StoredBody First v) z.2 (entry_stores_first k.first t hs (steps_on t r me.0) (at_home hs z.1 z.2) w a b z.0 v (ap (λ (x : EntryRecord). x.entry) (sym (last_is z.3)) ∙ none_yet)), sym z.2 ∙ own, tt))
 
-    store_second_owes : (v : ℕ) → (last_of r me.0).entry ≡ Invalid → Allows (Shows k) slots id me (place t r 2) (λ _. v) (tells (storing k t r Second v) (step slots (place t r 2) v 0 none) me)
+    store_second_owes : (v : ℕ) → (last_of r me.0).entry ≡ Invalid → Allows (Shows k) slots id me (place t r 2) (λ _. v) (promises_step (storing k t r Second v) (step slots (place t r 2) v 0 none) me)
     store_second_owes v none_yet = second_owes k t r (λ n. StoredBody Second v) (λ n. v) slots id me (λ _. v) (step slots (place t r 2) v 0 none) tn rn refl (λ n. refl) (λ n. (refl, refl, tt))
         (λ w a b hs z. (to_seat w a v hs (StoredBody Second v) z.2 (entry_stores_second k.first t hs (steps_on t r me.0) (at_home hs z.1 z.2) w a b z.0 v (ap (λ (x : EntryRecord). x.entry) (sym (last_is z.3)) ∙ none_yet)), sym z.2 ∙ own, tt))
 
-    pub store_owes : (h : BodyWord) (v : ℕ) → (last_of r me.0).entry ≡ Invalid → Allows (Shows k) slots id me (place t r (half_index h)) (λ _. v) (tells (storing k t r h v) (step slots (place t r (half_index h)) v 0 none) me)
+    pub store_owes : (h : BodyWord) (v : ℕ) → (last_of r me.0).entry ≡ Invalid → Allows (Shows k) slots id me (place t r (half_index h)) (λ _. v) (promises_step (storing k t r h v) (step slots (place t r (half_index h)) v 0 none) me)
     store_owes First v none_yet = store_first_owes v none_yet
     store_owes Second v none_yet = store_second_owes v none_yet
 
     -- an exchange by the owner
     change_owes : (c : EntryChange) (old new : ℕ)
         → ((w a b : ℕ) (hs : List (List EntryStep)) → ShowsEntry k.first t w a b hs → get_elem? hs t ≡ some (steps_on t r me.0) → me.0.first ≡ k.first → w ≡ old → ShowsEntry k.first t new a b (set hs t (Changed c old new (changed c (last_of r me.0)) ∷ steps_on t r me.0)))
-        → Allows (Shows k) slots id me (place t r 0) (λ n. either (n == old) new n) (tells (exchanging k t r me.0 (purpose.Change c) old new) (step slots (place t r 0) old new none) me)
+        → Allows (Shows k) slots id me (place t r 0) (λ n. either (n == old) new n) (promises_step (exchanging k t r me.0 (purpose.Change c) old new) (step slots (place t r 0) old new none) me)
     change_owes c old new hit = exchange_owes (purpose.Change c) old new tt
         (λ w a b hs z e. (to_seat new a b hs (Changed c old new (changed c (last_of r me.0))) z.2 (hit w a b hs z.0 (at_home hs z.1 z.2) z.3 e), sym z.2 ∙ own, tt))
         (λ w a b hs z n. (entry_misses_change k.first t hs id (steps_on t r me.0) z.1 w a b z.0 c old new, tt, tt))
 
     pub revoke_owes : (old new : ℕ) → IsIdleOf (last_of r me.0) old → new ≡ invalid_word old
         → Allows (Shows k) slots id me (place t r 0) (λ n. either (n == old) new n)
-        (tells (exchanging k t r me.0 (purpose.Change change.Revoke) old new) (step slots (place t r 0) old new none) me)
+        (promises_step (exchanging k t r me.0 (purpose.Change change.Revoke) old new) (step slots (place t r 0) old new none) me)
     revoke_owes old new idle is = change_owes change.Revoke old new (λ w a b hs z at f e.
         let h : List EntryStep = steps_on t r me.0 in let y : EntryRecord = last_record k.first h in let l = last_is f in let m = mine k.first t hs h at w a b z in
         let g : old / 17592186044416 ≡ y.generation = ap generation_of (sym e) ∙ spelled_generation y w (total_pins Read hs) (total_pins Write hs) (legal_record y (earlier_records k.first h) m.lawful) m.in_range m.spelled in
@@ -283,7 +283,7 @@ module _ {S : Type 0} (k : Layout) (slots id : ℕ) (me : Me S View) (t r : ℕ)
 
     pub withdraw_owes : (old new : ℕ) → new ≡ withdrawn_word old
         → Allows (Shows k) slots id me (place t r 0) (λ n. either (n == old) new n)
-        (tells (exchanging k t r me.0 (purpose.Change change.Withdraw) old new) (step slots (place t r 0) old new none) me)
+        (promises_step (exchanging k t r me.0 (purpose.Change change.Withdraw) old new) (step slots (place t r 0) old new none) me)
     withdraw_owes old new is = change_owes change.Withdraw old new (λ w a b hs z at f e.
         let h : List EntryStep = steps_on t r me.0 in let y : EntryRecord = last_record k.first h in let l = last_is f in let m = mine k.first t hs h at w a b z in
         let p = spelled_parts y.entry y.generation (total_pins Read hs) (total_pins Write hs) (legal_record y (earlier_records k.first h) m.lawful).0 m.in_range in let here = sym e ∙ m.spelled in
@@ -299,7 +299,7 @@ module _ {S : Type 0} (k : Layout) (slots id : ℕ) (me : Me S View) (t r : ℕ)
     pub grant_owes : (e : Entry) (old new : ℕ) → IsIdleOf (last_of r me.0) old → new ≡ idle_word_of e ((last_of r me.0).generation + 1) → (last_of r me.0).entry ≡ Invalid → IsEntry e → e ≢ Invalid
         → (last_of r me.0).generation < LAST_GENERATION → IsSpelled e (stored_body First (steps_on t r me.0)) (stored_body Second (steps_on t r me.0))
         → Allows (Shows k) slots id me (place t r 0) (λ n. either (n == old) new n)
-        (tells (exchanging k t r me.0 (purpose.Change (change.Publish e)) old new) (step slots (place t r 0) old new none) me)
+        (promises_step (exchanging k t r me.0 (purpose.Change (change.Publish e)) old new) (step slots (place t r 0) old new none) me)
     grant_owes e old new idle is none_yet ok some_kind room body = let x : EntryRecord = last_of r me.0 in
         change_owes (change.Publish e) old new (λ w a b hs z at f q.
         let l = last_is f in subst (λ (u : ℕ). ShowsEntry k.first t u a b (set hs t (Changed (change.Publish e) old new (record { generation = x.generation + 1; entry = e }) ∷ steps_on t r me.0))) (sym is)
@@ -317,7 +317,7 @@ module _ {S : Type 0} (k : Layout) (slots id : ℕ) (me : Me S View) (t r : ℕ)
     turn_owes : (o : Bool) (c : EntryChange) (old new : ℕ) → ((x : EntryRecord) → changed c x ≡ turned o x) → (last_of r me.0).entry ≢ Invalid → generation_of old < LAST_GENERATION → is_read_only (last_of r me.0).entry ≡ not o → (o ≡ true → pins_in Write old ≡ 0)
         → new + flag (not o) ≡ old + flag o + 17592186044416
         → Allows (Shows k) slots id me (place t r 0) (λ n. either (n == old) new n)
-        (tells (exchanging k t r me.0 (purpose.Change c) old new) (step slots (place t r 0) old new none) me)
+        (promises_step (exchanging k t r me.0 (purpose.Change c) old new) (step slots (place t r 0) old new none) me)
     turn_owes o c old new turns_it some_kind room now unwritten is = let x : EntryRecord = last_of r me.0 in
         change_owes c old new (λ w a b hs z at f q. let l = last_is f in let h : List EntryStep = steps_on t r me.0 in let y : EntryRecord = last_record k.first h in let s = mine k.first t hs h at w a b z in
         let g : old / 17592186044416 ≡ y.generation = ap generation_of (sym q) ∙ spelled_generation y w (total_pins Read hs) (total_pins Write hs) (legal_record y (earlier_records k.first h) s.lawful) s.in_range s.spelled in
@@ -328,9 +328,9 @@ module _ {S : Type 0} (k : Layout) (slots id : ℕ) (me : Me S View) (t r : ℕ)
         (turned_is o y (total_pins Read hs) (total_pins Write hs) w new kind turns s.spelled (is ∙ ap (λ (u : ℕ). u + flag o + 17592186044416) (sym q)))))
 
     pub demote_owes : (old new : ℕ) → (last_of r me.0).entry ≢ Invalid → generation_of old < LAST_GENERATION → is_read_only (last_of r me.0).entry ≡ false → pins_in Write old ≡ 0 → new ≡ demoted_word old
-        → Allows (Shows k) slots id me (place t r 0) (λ n. either (n == old) new n) (tells (exchanging k t r me.0 (purpose.Change change.Demote) old new) (step slots (place t r 0) old new none) me)
+        → Allows (Shows k) slots id me (place t r 0) (λ n. either (n == old) new n) (promises_step (exchanging k t r me.0 (purpose.Change change.Demote) old new) (step slots (place t r 0) old new none) me)
     demote_owes old new some_kind room now unwritten is = turn_owes true change.Demote old new (λ _. refl) some_kind room now (λ _. unwritten) (omega arith)
 
     pub promote_owes : (old new : ℕ) → (last_of r me.0).entry ≢ Invalid → generation_of old < LAST_GENERATION → is_read_only (last_of r me.0).entry ≡ true → new ≡ promoted_word old
-        → Allows (Shows k) slots id me (place t r 0) (λ n. either (n == old) new n) (tells (exchanging k t r me.0 (purpose.Change change.Promote) old new) (step slots (place t r 0) old new none) me)
+        → Allows (Shows k) slots id me (place t r 0) (λ n. either (n == old) new n) (promises_step (exchanging k t r me.0 (purpose.Change change.Promote) old new) (step slots (place t r 0) old new none) me)
     promote_owes old new some_kind room now is = turn_owes false change.Promote old new (λ _. refl) some_kind room now (λ n. cc) (omega arith)

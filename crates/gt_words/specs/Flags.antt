@@ -1,6 +1,6 @@
 -- What the calls on flags promise.
 use Rattle.std.specs.Prelude.{◌≡◌, ℕ}
-use Rattle.gt_shared_table.specs.Telling.{Accesses}
+use Rattle.gt_shared_table.specs.Recording.{Accesses}
 use Rattle.gt_word_history.specs.Events.{TookPlace}
 use Rattle.gt_word_history.specs.History.{StepHistory}
 use Rattle.gt_word_history.specs.Rule.{Layout}

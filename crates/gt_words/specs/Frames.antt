@@ -7,7 +7,7 @@ use Rattle.gt_frames.specs.Receipts.{Copying, End, Reading, Writing}
 use Rattle.gt_frames.specs.declared.writ.Writ.{Writ}
 use Rattle.gt_types.specs.declared.Range.{Range}
 use Rattle.gt_shared_table.specs.Rule.{FrameAt}
-use Rattle.gt_shared_table.specs.Telling.{Accesses}
+use Rattle.gt_shared_table.specs.Recording.{Accesses}
 use Rattle.gt_shared_table.specs.Words.{HasFrame}
 use Rattle.gt_shared_table.specs.declared.table.FrameIndex.{FrameIndex}
 use Rattle.gt_word_history.specs.Events.{TookPlace}

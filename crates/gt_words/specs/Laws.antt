@@ -12,7 +12,7 @@ use Rattle.gt_words.specs.Answers.{Publishes, Revokes}
 use Rattle.gt_word_history.specs.Controls.{generation_of, pins_in}
 use Rattle.gt_word_history.specs.Events.{TookPlace}
 use Rattle.gt_word_history.specs.History.{StepHistory}
-pub use Rattle.gt_word_history.specs.Order.{AllowedStepsSayWhatIsThere, HistoryIsOne, StepsAreTakenThen}
+pub use Rattle.gt_word_history.specs.Order.{AllowedStepsRecordWhatIsThere, HistoryIsOne, StepsAreTakenThen}
 use Rattle.gt_word_history.specs.Rule.{IsLawful, IsNextEntry, IsRevocation, Layout, Shows, header_place, id_at}
 use Rattle.gt_word_history.specs.Rule.{layout_of, owner_steps, place, position_in}
 use Rattle.gt_words.specs.Sight.{SawRecord}

@@ -27,11 +27,11 @@ impl Words {
 
     /// Loads one word with all gathered seats. By its contract, words and views show one state with the views of all of
     /// them, so their steps have one order.
-    pub fn tell_of_all(&self, all: &mut Gathered)
+    pub fn learn_of_all(&self, all: &mut Gathered)
         requires { all.old.table ≡ self.now.table }
         ensures same { all.new.views ≡ all.old.views }
         ensures together { StandTogether self.now.layout all.old.views }
     {
-        self.words.tell_of_all(all);
+        self.words.learn_of_all(all);
     }
 }

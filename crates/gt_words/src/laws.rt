@@ -1,6 +1,6 @@
 //! Consequences of the definitions, for callers. A law does nothing; its contract is the theorem.
 ghost use Rattle.gt_words.specs.Laws.{DomainsAreOfRun, DomainsStandThere, PastPinsAreRefused, PinsAreOfEntries};
-ghost use Rattle.gt_words.specs.Laws.{AllowedStepsSayWhatIsThere, EachStepHappened, HistoryIsOne};
+ghost use Rattle.gt_words.specs.Laws.{AllowedStepsRecordWhatIsThere, EachStepHappened, HistoryIsOne};
 ghost use Rattle.gt_word_history.specs.Joining.{HoldersLearn, SeatsJoin, StepsLift};
 ghost use Rattle.gt_words.specs.Laws.{NoPinOutlivesItsRecord, PinsHaveOneRecord};
 ghost use Rattle.gt_words.specs.Laws.{PinsLeftAreCounted, SeatPositionIsItsDomains};
@@ -75,8 +75,8 @@ pub fn every_history_follows_from_the_views()
 
 /// A law: if a raw step of the table is allowed, the step that it adds to its seat's view records the word that is
 /// there.
-pub fn every_allowed_step_says_what_is_there()
-    ensures { AllowedStepsSayWhatIsThere }
+pub fn every_allowed_step_records_what_is_there()
+    ensures { AllowedStepsRecordWhatIsThere }
 {}
 
 /// A law: each step of a history, whoever took it, was taken at its moment. Words and views showed a state before it.

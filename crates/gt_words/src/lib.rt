@@ -31,7 +31,7 @@ pub use gt_word_history::{
     EntryRecord, EntryStep, FlagStep, FrameStep, HeaderStep, Outlook, Purpose, SeatStep, View,
 };
 pub use laws::{
-    every_allowed_step_says_what_is_there, every_domain_has_its_position,
+    every_allowed_step_records_what_is_there, every_domain_has_its_position,
     every_domain_is_of_the_run, every_history_follows_from_the_views, every_pin_is_of_an_entry,
     every_pin_left_is_counted, every_seat_has_its_position, every_step_is_taken_then,
     every_step_of_a_history_happened, every_word_follows_from_the_views,

@@ -208,7 +208,7 @@ fn two_threads_push(rt: HostRuntime) {
 fn told<R: Wait>(rt: &R, alloc: Global, log: &SharedLog) -> Result<[u64; 3], AllocError> {
     let mut told = DomainLog::new(alloc, log, DomId(2));
     for number in 0..RECORDS {
-        told.tell(rt, number, record(2, number));
+        told.push(rt, number, record(2, number));
     }
     let records = told.records(alloc)?;
     Ok([

@@ -5,7 +5,7 @@ ghost use Rattle.gt_types.specs.declared.Use.TheVariants as uses;
 ghost use Rattle.gt_words.specs.Conditions.{IsSameSeat, IsSeatOf};
 ghost use Rattle.gt_word_history.specs.declared.view.View.{View};
 ghost use Rattle.gt_access.specs.Routes.{MayCopyBy, ReachesBy};
-ghost use Rattle.gt_audit.specs.Telling.{Tells};
+ghost use Rattle.gt_audit.specs.Trails.{AppendsRecord};
 ghost use Rattle.gt_calls.specs.declared.action.CallResult.TheVariants.{Refused};
 ghost use Rattle.gt_calls.specs.declared.request.Request.TheVariants as requests;
 ghost use Rattle.gt_calls.specs.Holding.{last_first, no_pins};
@@ -13,7 +13,7 @@ ghost use Rattle.gt_calls.specs.Rules.{copy_begun};
 ghost use Rattle.gt_live.specs.Accesses.{CopiesBetween, IsCopiedBy, IsIfOneMissing, IsOfAccess};
 ghost use Rattle.gt_live.specs.Driving.{IsSame};
 ghost use Rattle.gt_live.specs.Domains.{Accesses, Answered, BelongsTo, IsUnsettled, KeepsPinned, known_on};
-ghost use Rattle.gt_live.specs.Domains.{told_copy};
+ghost use Rattle.gt_live.specs.Domains.{record_of_copy};
 ghost use Rattle.gt_live.specs.Halves.{copy_hypercall};
 ghost use Rattle.gt_live.specs.Copies.{CopyStopsWith, filled, halfway_with};
 ghost use Rattle.gt_live.specs.Halves.{ComesHalfway, EndsHalfway, IsHalfway, done_copy};
@@ -21,7 +21,7 @@ ghost use Rattle.gt_live.specs.Underway.{AreOfRun, GivesBack, HasTaken};
 ghost use Rattle.gt_live.specs.Parts.{copy_of, seat_of, trail_of, words_of};
 
 use super::bytes::{not_made, run_of};
-use super::{Domain, known_with, refusal_of, tell_done, tell_refusal};
+use super::{Domain, known_with, record_done, record_refusal, refusal_of};
 use crate::monitor::Monitor;
 use crate::routes::{drive_copy, give_back};
 use gt_access::{CopyAccess, copy_under};
@@ -221,16 +221,16 @@ impl Domain {
         ensures answered { Accesses P.may monitor.now self.old
             (requests.Copy copy.now) (IsCopiedBy (words_of monitor.now).layout (seat_of self.old).dom) result self.new }
         ensures kept { KeepsPinned self.old self.new }
-        ensures told { Tells (trail_of self.old) (told_copy self.old copy.now result) (trail_of self.new) }
+        ensures recorded { AppendsRecord (trail_of self.old) (record_of_copy self.old copy.now result) (trail_of self.new) }
     {
         let caller = self.seat.dom();
         match self.make_copy(rt, monitor, copy) {
             Ok(copied) => {
-                tell_done(&mut self.trail, caller, copy_hypercall(*copy));
+                record_done(&mut self.trail, caller, copy_hypercall(*copy));
                 Ok(copied)
             }
             Err(denial) => {
-                tell_refusal(&mut self.trail, caller, copy_hypercall(*copy), denial);
+                record_refusal(&mut self.trail, caller, copy_hypercall(*copy), denial);
                 Err(denial)
             }
         }
@@ -280,8 +280,8 @@ impl Domain {
             (λ denial. Answered P.may monitor.now self.old (requests.Copy copy.now) (Refused denial) self.new) }
         ensures kept { OnErr result (KeepsPinned self.old self.new) }
         ensures seat { IsSameSeat (seat_of self.old) (seat_of self.new) }
-        ensures told { IfErr result (λ denial.
-            Tells (trail_of self.old) (told_copy self.old copy.now (Err denial)) (trail_of self.new)) }
+        ensures recorded { IfErr result (λ denial.
+            AppendsRecord (trail_of self.old) (record_of_copy self.old copy.now (Err denial)) (trail_of self.new)) }
     {
         match self.come_halfway(monitor, copy) {
             Ok(halfway) => Ok(halfway),
@@ -313,7 +313,7 @@ impl Domain {
         requires halfway { IsHalfway P.may monitor.now halfway self.old }
         ensures mine { BelongsTo P.may monitor.now self.new }
         ensures ends { EndsHalfway (words_of monitor.now).layout halfway self.old self.new }
-        ensures told { Tells (trail_of self.old) (done_copy self.old (copy_of halfway)) (trail_of self.new) }
+        ensures recorded { AppendsRecord (trail_of self.old) (done_copy self.old (copy_of halfway)) (trail_of self.new) }
     {
         let copy = halfway.copy;
         self.end_halfway(monitor, halfway);

@@ -3,10 +3,10 @@ ghost use Rattle.std.specs.Prelude.{◌≡◌};
 ghost use Rattle.gt_words.specs.Conditions.{IsSameSeat, position_at};
 ghost use Rattle.gt_live.specs.Walks.{Called};
 ghost use Rattle.gt_live.specs.Driving.{Leaves};
-ghost use Rattle.gt_audit.specs.Telling.{Tells};
+ghost use Rattle.gt_audit.specs.Trails.{AppendsRecord};
 ghost use Rattle.gt_live.specs.Parts.{mappings_of, seat_of, trail_of};
 
-use super::{Domain, known_with, refusal_of, tell_done};
+use super::{Domain, known_with, record_done, refusal_of};
 use crate::driving::{MapArgs, PlacedLeg, drive_map, pin_of};
 use crate::monitor::Monitor;
 use gt_audit::{Hypercall, Record, Reply, Trail};
@@ -28,15 +28,15 @@ fn position_of<P: Allows>(monitor: &Monitor<P>, dom: DomId) -> usize
 // Records a map that was Ok. The record of a refused map is made elsewhere, so a map that is Ok makes no room for that
 // record.
 #[inline(always)]
-fn tell_map(trail: &mut Trail, caller: DomId, dom: DomId, gref: GrantRef, flags: u32)
-    ensures { Tells trail.old (record { dom = caller; call = Hypercall.Map dom gref flags; reply = Reply.Done })
+fn record_map(trail: &mut Trail, caller: DomId, dom: DomId, gref: GrantRef, flags: u32)
+    ensures { AppendsRecord trail.old (record { dom = caller; call = Hypercall.Map dom gref flags; reply = Reply.Done })
         trail.new }
 {
-    tell_done(trail, caller, Hypercall::Map { dom, gref, flags });
+    record_done(trail, caller, Hypercall::Map { dom, gref, flags });
 }
 
 #[inline(always)]
-fn tell_map_refusal(
+fn record_map_refusal(
     trail: &mut Trail,
     caller: DomId,
     dom: DomId,
@@ -44,7 +44,7 @@ fn tell_map_refusal(
     flags: u32,
     denial: Denial,
 )
-    ensures { Tells trail.old
+    ensures { AppendsRecord trail.old
         (record { dom = caller; call = Hypercall.Map dom gref flags; reply = Reply.Denied denial }) trail.new }
 {
     let call = Hypercall::Map { dom, gref, flags };
@@ -58,21 +58,21 @@ fn tell_map_refusal(
 
 // Records an unmap that was Ok.
 #[inline(always)]
-fn tell_unmap(trail: &mut Trail, caller: DomId, subject: Option<(DomId, GrantRef)>)
-    ensures { Tells trail.old (record { dom = caller; call = Hypercall.Unmap subject; reply = Reply.Done }) trail.new }
+fn record_unmap(trail: &mut Trail, caller: DomId, subject: Option<(DomId, GrantRef)>)
+    ensures { AppendsRecord trail.old (record { dom = caller; call = Hypercall.Unmap subject; reply = Reply.Done }) trail.new }
 {
-    tell_done(trail, caller, Hypercall::Unmap { subject });
+    record_done(trail, caller, Hypercall::Unmap { subject });
 }
 
 // Records a refused unmap. It is inlined, since a call of it would make each unmap keep room for the refusal.
 #[inline(always)]
-fn tell_unmap_refusal(
+fn record_unmap_refusal(
     trail: &mut Trail,
     caller: DomId,
     subject: Option<(DomId, GrantRef)>,
     denial: Denial,
 )
-    ensures { Tells trail.old
+    ensures { AppendsRecord trail.old
         (record { dom = caller; call = Hypercall.Unmap subject; reply = Reply.Denied denial }) trail.new }
 {
     trail.push(Record {
@@ -84,7 +84,7 @@ fn tell_unmap_refusal(
 
 impl Domain {
     ghost use Rattle.std.specs.Prelude.{◌≡◌, OnOk, OnErr, None, Some};
-    ghost use Rattle.gt_live.specs.Domains.{mapping_reply, subject_of, told_of, Answered, BelongsTo};
+    ghost use Rattle.gt_live.specs.Domains.{mapping_reply, subject_of, record_of_result, Answered, BelongsTo};
     ghost use Rattle.gt_live.specs.Domains.{Drops, IsUnsettled, KeepsPinned, MapAnswered};
     ghost use Rattle.gt_live.specs.Maps.{pin_effect, pin_verdict};
     ghost use Rattle.gt_calls.specs.Path.{map_leg, path};
@@ -189,18 +189,18 @@ impl Domain {
         ensures mine { BelongsTo P.may monitor.now self.new }
         ensures seat { IsSameSeat (seat_of self.old) (seat_of self.new) }
         ensures answered { MapAnswered P.may monitor.now self.old (Request.Map dom gref flags) result self.new }
-        ensures told { Tells (trail_of self.old)
+        ensures recorded { AppendsRecord (trail_of self.old)
             (record { dom = (seat_of self.old).dom; call = Hypercall.Map dom gref flags; reply = mapping_reply result })
             (trail_of self.new) }
     {
         let caller = self.seat.dom();
         match self.make_mapping(monitor, dom, gref, flags) {
             Ok(handle) => {
-                tell_map(&mut self.trail, caller, dom, gref, flags);
+                record_map(&mut self.trail, caller, dom, gref, flags);
                 Ok(handle)
             }
             Err(denial) => {
-                tell_map_refusal(&mut self.trail, caller, dom, gref, flags, denial);
+                record_map_refusal(&mut self.trail, caller, dom, gref, flags, denial);
                 Err(denial)
             }
         }
@@ -332,17 +332,17 @@ impl Domain {
         ensures answered { Answered P.may monitor.now self.old (Request.Unmap handle) (verdict_of result) self.new }
         ensures removed { OnOk result ((p : HeldPin) × Removes self.old.mappings self.new.mappings handle p) }
         ensures refused { OnErr result (KeepsPinned self.old self.new) }
-        ensures told { Tells self.old.trail
-            (told_of self.old (Hypercall.Unmap (subject_of self.old handle)) (verdict_of result)) self.new.trail }
+        ensures recorded { AppendsRecord self.old.trail
+            (record_of_result self.old (Hypercall.Unmap (subject_of self.old handle)) (verdict_of result)) self.new.trail }
     {
         let caller = self.seat.dom();
         match self.unmap_unrecorded(monitor, handle) {
             Ok(()) => {
-                tell_unmap(&mut self.trail, caller, subject);
+                record_unmap(&mut self.trail, caller, subject);
                 Ok(())
             }
             Err(denial) => {
-                tell_unmap_refusal(&mut self.trail, caller, subject, denial);
+                record_unmap_refusal(&mut self.trail, caller, subject, denial);
                 Err(denial)
             }
         }
@@ -359,8 +359,8 @@ impl Domain {
         ensures answered { Answered P.may monitor.now self.old (Request.Unmap handle) (verdict_of result) self.new }
         ensures removed { OnOk result ((p : HeldPin) × Removes (mappings_of self.old) (mappings_of self.new) handle p) }
         ensures refused { OnErr result (KeepsPinned self.old self.new) }
-        ensures told { Tells (trail_of self.old)
-            (told_of self.old (Hypercall.Unmap (subject_of self.old handle)) (verdict_of result)) (trail_of self.new) }
+        ensures recorded { AppendsRecord (trail_of self.old)
+            (record_of_result self.old (Hypercall.Unmap (subject_of self.old handle)) (verdict_of result)) (trail_of self.new) }
     {
         // Each arm has its own copy of the call, so a handle with a mapping is looked up only once.
         match self.subject(handle) {

@@ -1,5 +1,5 @@
 //! Calls on headers: version, size, and questions about a table. None waits.
-ghost use Rattle.gt_live.specs.Domains.{AnswersQuietly, AnswersTold, StaysIn};
+ghost use Rattle.gt_live.specs.Domains.{AnswersQuietly, AnswersRecorded, StaysIn};
 ghost use Rattle.gt_live.specs.Domains.{frames_granted};
 ghost use Rattle.gt_live.specs.Walks.{Called};
 
@@ -96,11 +96,11 @@ impl Domain {
     ) -> Result<(), Denial>
         requires mine { BelongsTo P.may monitor.now self.old }
         ensures stays { StaysIn P.may monitor.now self.old self.new }
-        ensures answers { AnswersTold P.may monitor.now self.old
+        ensures answers { AnswersRecorded P.may monitor.now self.old
             (Request.SetVersion version) (Hypercall.SetVersion version) (verdict_of result) self.new }
     {
         let result = self.change_version(monitor, version);
-        self.tell(Hypercall::SetVersion { version }, outcome_reply(&result));
+        self.add_record(Hypercall::SetVersion { version }, outcome_reply(&result));
         result
     }
 
@@ -116,11 +116,11 @@ impl Domain {
     ) -> Result<u32, Denial>
         requires mine { BelongsTo P.may monitor.now self.old }
         ensures stays { StaysIn P.may monitor.now self.old self.new }
-        ensures answers { AnswersTold P.may monitor.now self.old
+        ensures answers { AnswersRecorded P.may monitor.now self.old
             (Request.SetupTable frames) (Hypercall.SetupTable frames) (verdict_of_frames result) self.new }
     {
         let result = self.change_size(monitor, frames);
-        self.tell(Hypercall::SetupTable { frames }, frames_reply(&result));
+        self.add_record(Hypercall::SetupTable { frames }, frames_reply(&result));
         result
     }
 
@@ -135,11 +135,11 @@ impl Domain {
     ) -> Result<Size, Denial>
         requires mine { BelongsTo P.may monitor.now self.old }
         ensures stays { StaysIn P.may monitor.now self.old self.new }
-        ensures answers { AnswersTold P.may monitor.now self.old
+        ensures answers { AnswersRecorded P.may monitor.now self.old
             (Request.QuerySize dom) (Hypercall.QuerySize dom) (verdict_of_size result) self.new }
     {
         let result = size_by(self.ask(monitor, dom));
-        self.tell(Hypercall::QuerySize { dom }, size_reply(&result));
+        self.add_record(Hypercall::QuerySize { dom }, size_reply(&result));
         result
     }
 
@@ -154,11 +154,11 @@ impl Domain {
     ) -> Result<u32, Denial>
         requires mine { BelongsTo P.may monitor.now self.old }
         ensures stays { StaysIn P.may monitor.now self.old self.new }
-        ensures answers { AnswersTold P.may monitor.now self.old
+        ensures answers { AnswersRecorded P.may monitor.now self.old
             (Request.GetVersion dom) (Hypercall.GetVersion dom) (verdict_of_version result) self.new }
     {
         let result = version_by(self.ask(monitor, dom));
-        self.tell(Hypercall::GetVersion { dom }, version_reply(&result));
+        self.add_record(Hypercall::GetVersion { dom }, version_reply(&result));
         result
     }
 }

@@ -3,7 +3,7 @@ use Rattle.gt_attached.specs.Encoding.{encoded}
 use Rattle.gt_calls.specs.declared.request.Request.TheVariants as requests
 use Rattle.gt_audit.specs.declared.record.Hypercall.TheVariants as hypercalls
 use Rattle.gt_live.specs.Domains.{verdict_of_version}
-use Rattle.gt_c.specs.Calling.{SaysTold, dom_of, outcome_version}
+use Rattle.gt_c.specs.Calling.{EncodesRecorded, dom_of, outcome_version}
 use Rattle.gt_c.proofs.Made.{idle-there, made}
 use Rattle.gt_c.proofs.calls.gthost_get_version_at.Goals as goal
 
@@ -12,7 +12,7 @@ get_version-requires c = record { idle = idle-there c.args.domain.now.held.value
 
 pub returns : goal.returns
 returns c =
-    made c.of.result (SaysTold outcome_version verdict_of_version (requests.GetVersion (dom_of c.args.dom)) (hypercalls.GetVersion (dom_of c.args.dom)) c.of.result) (c.turned_away.ensures.may c.in_default.is) c.here_mut-here.ensures.value
+    made c.of.result (EncodesRecorded outcome_version verdict_of_version (requests.GetVersion (dom_of c.args.dom)) (hypercalls.GetVersion (dom_of c.args.dom)) c.of.result) (c.turned_away.ensures.may c.in_default.is) c.here_mut-here.ensures.value
     (record {
       result = c.get_version.result;
       encodes = c.of.ensures ∙ ap encoded c.version_outcome.ensures;

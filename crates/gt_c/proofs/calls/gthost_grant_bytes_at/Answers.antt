@@ -2,7 +2,7 @@ use Rattle.std.proofs.Common.{ap, ◌≡◌, ◌∙◌, ℕ, List, Bor}
 use Rattle.gt_attached.specs.Encoding.{encoded}
 use Rattle.gt_calls.specs.declared.request.Request.TheVariants as requests
 use Rattle.gt_c.specs.Asking.{spelled}
-use Rattle.gt_c.specs.Calling.{SaysDone, ref_at}
+use Rattle.gt_c.specs.Calling.{EncodesDone, ref_at}
 use Rattle.gt_c.proofs.Made.{idle-there, made}
 use Rattle.gt_c.proofs.calls.gthost_grant_bytes_at.Goals as goal
 
@@ -11,7 +11,7 @@ grant_bytes-requires c = record { idle = idle-there c.args.domain.now.held.value
 
 pub returns : goal.returns
 returns c =
-    made c.of.result (λ d e. (s : Bor (List ℕ)) × (s.now ≡ spelled c.args.bytes) × SaysDone (requests.GrantBytes (ref_at c.args.gref) s) c.of.result d e) (c.turned_away.ensures.may c.in_default.is) c.here_mut-here.ensures.value (
+    made c.of.result (λ d e. (s : Bor (List ℕ)) × (s.now ≡ spelled c.args.bytes) × EncodesDone (requests.GrantBytes (ref_at c.args.gref) s) c.of.result d e) (c.turned_away.ensures.may c.in_default.is) c.here_mut-here.ensures.value (
       c.spelled.result,
       c.spelled.ensures,
       record {

@@ -5,7 +5,7 @@ use Rattle.gt_attached.specs.Encoding.{encoded}
 use Rattle.gt_calls.specs.declared.request.Request.TheVariants as requests
 use Rattle.gt_c.specs.Asking.{page}
 use Rattle.gt_start.specs.Beginning.{may}
-use Rattle.gt_c.specs.Calling.{SaysDone, ref_at}
+use Rattle.gt_c.specs.Calling.{EncodesDone, ref_at}
 use Rattle.gt_c.proofs.Made.{idle-there, made}
 use Rattle.gt_c.proofs.calls.gthost_grant_page_at.Goals as goal
 
@@ -14,7 +14,7 @@ grant-requires c = record { idle = idle-there c.args.domain.now.held.value (c.tu
 
 pub returns : goal.returns
 returns c =
-    made c.of.result (SaysDone (requests.Grant (ref_at c.args.gref) (page c.args.to c.args.frame c.args.ro)) c.of.result) (c.turned_away.ensures.may c.in_default.is) c.here_mut-here.ensures.value
+    made c.of.result (EncodesDone (requests.Grant (ref_at c.args.gref) (page c.args.to c.args.frame c.args.ro)) c.of.result) (c.turned_away.ensures.may c.in_default.is) c.here_mut-here.ensures.value
     (record {
       result = c.grant.result;
       encodes = c.of.ensures ∙ ap encoded c.done.ensures;

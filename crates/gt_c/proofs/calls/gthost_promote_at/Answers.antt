@@ -1,7 +1,7 @@
 use Rattle.std.proofs.Common.{ap, ◌∙◌}
 use Rattle.gt_attached.specs.Encoding.{encoded}
 use Rattle.gt_calls.specs.declared.request.Request.TheVariants as requests
-use Rattle.gt_c.specs.Calling.{SaysDone, ref_at}
+use Rattle.gt_c.specs.Calling.{EncodesDone, ref_at}
 use Rattle.gt_c.proofs.Made.{idle-there, made}
 use Rattle.gt_c.proofs.calls.gthost_promote_at.Goals as goal
 
@@ -10,7 +10,7 @@ promote-requires c = record { idle = idle-there c.args.domain.now.held.value (c.
 
 pub returns : goal.returns
 returns c =
-    made c.of.result (SaysDone (requests.Promote (ref_at c.args.gref)) c.of.result) (c.turned_away.ensures.may c.in_default.is) c.here_mut-here.ensures.value
+    made c.of.result (EncodesDone (requests.Promote (ref_at c.args.gref)) c.of.result) (c.turned_away.ensures.may c.in_default.is) c.here_mut-here.ensures.value
     (record {
       result = c.promote.result;
       encodes = c.of.ensures ∙ ap encoded c.done.ensures;

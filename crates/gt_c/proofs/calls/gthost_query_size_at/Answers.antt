@@ -3,7 +3,7 @@ use Rattle.gt_attached.specs.Encoding.{encoded}
 use Rattle.gt_calls.specs.declared.request.Request.TheVariants as requests
 use Rattle.gt_audit.specs.declared.record.Hypercall.TheVariants as hypercalls
 use Rattle.gt_live.specs.Domains.{verdict_of_size}
-use Rattle.gt_c.specs.Calling.{SaysTold, dom_of, outcome_size}
+use Rattle.gt_c.specs.Calling.{EncodesRecorded, dom_of, outcome_size}
 use Rattle.gt_c.proofs.Made.{idle-there, made}
 use Rattle.gt_c.proofs.calls.gthost_query_size_at.Goals as goal
 
@@ -12,7 +12,7 @@ query_size-requires c = record { idle = idle-there c.args.domain.now.held.value 
 
 pub returns : goal.returns
 returns c =
-    made c.of.result (SaysTold outcome_size verdict_of_size (requests.QuerySize (dom_of c.args.dom)) (hypercalls.QuerySize (dom_of c.args.dom)) c.of.result) (c.turned_away.ensures.may c.in_default.is) c.here_mut-here.ensures.value
+    made c.of.result (EncodesRecorded outcome_size verdict_of_size (requests.QuerySize (dom_of c.args.dom)) (hypercalls.QuerySize (dom_of c.args.dom)) c.of.result) (c.turned_away.ensures.may c.in_default.is) c.here_mut-here.ensures.value
     (record {
       result = c.query_size.result;
       encodes = c.of.ensures ∙ ap encoded c.size_outcome.ensures;

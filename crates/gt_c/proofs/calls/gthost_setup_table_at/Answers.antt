@@ -3,7 +3,7 @@ use Rattle.gt_attached.specs.Encoding.{encoded}
 use Rattle.gt_calls.specs.declared.request.Request.TheVariants as requests
 use Rattle.gt_audit.specs.declared.record.Hypercall.TheVariants as hypercalls
 use Rattle.gt_live.specs.Domains.{verdict_of_frames}
-use Rattle.gt_c.specs.Calling.{SaysTold, outcome_frames}
+use Rattle.gt_c.specs.Calling.{EncodesRecorded, outcome_frames}
 use Rattle.gt_c.proofs.Made.{idle-there, made}
 use Rattle.gt_c.proofs.calls.gthost_setup_table_at.Goals as goal
 
@@ -12,7 +12,7 @@ setup_table-requires c = record { idle = idle-there c.args.domain.now.held.value
 
 pub returns : goal.returns
 returns c =
-    made c.of.result (SaysTold outcome_frames verdict_of_frames (requests.SetupTable c.args.frames) (hypercalls.SetupTable c.args.frames) c.of.result) (c.turned_away.ensures.may c.in_default.is) c.here_mut-here.ensures.value
+    made c.of.result (EncodesRecorded outcome_frames verdict_of_frames (requests.SetupTable c.args.frames) (hypercalls.SetupTable c.args.frames) c.of.result) (c.turned_away.ensures.may c.in_default.is) c.here_mut-here.ensures.value
     (record {
       result = c.setup_table.result;
       encodes = c.of.ensures ∙ ap encoded c.frames_outcome.ensures;

@@ -9,27 +9,27 @@ use Rattle.gt_attached.specs.declared.answer.AttachedOutcome.TheVariants as outc
 use Rattle.gt_calls.specs.declared.request.Request.TheVariants as requests
 use Rattle.gt_audit.specs.declared.record.Hypercall.TheVariants as hypercalls
 use Rattle.gt_c.specs.Asking.{RefusesForeign, handle_named}
-use Rattle.gt_c.specs.Calling.{SaysUnmapped, outcome}
+use Rattle.gt_c.specs.Calling.{EncodesUnmapped, outcome}
 use Rattle.gt_c.proofs.Made.{idle-there, made}
 use Rattle.gt_c.proofs.calls.gthost_unmap_at.Goals as goal
 
-pub unmap-told-requires : goal.unmap-told-requires
-unmap-told-requires c = record { idle = idle-there c.args.domain.now.held.value (c.is_turned_away.ensures.may c.if-is_turned_away.false) c.here_mut-here.ensures.value }
+pub unmap-answered-requires : goal.unmap-answered-requires
+unmap-answered-requires c = record { idle = idle-there c.args.domain.now.held.value (c.is_turned_away.ensures.may c.if-is_turned_away.false) c.here_mut-here.ensures.value }
 
 pub returns : goal.returns
 returns c =
     let x = c.here_mut-here.result.now in let answer = c.store_done.new.answer in
     let refused : RefusesForeign x c.args.name.now (outcomes.Denied (denial_of N6 NoFacts)) answer =
     λ foreign. c.store_done.ensures
-    ∙ ap (λ (r : Result (Unit {0}) Denial). encoded (outcome r)) (c.unmap-told.ensures.absent (c.handle_named-handle.ensures.foreign foreign)) in
-    made answer (λ d e. SaysUnmapped (requests.Unmap (handle_named d c.args.name.now)) hypercalls.Unmap (handle_named d c.args.name.now) answer d e × RefusesForeign d c.args.name.now (outcomes.Denied (denial_of N6 NoFacts)) answer) (c.is_turned_away.ensures.may c.if-is_turned_away.false) c.here_mut-here.ensures.value (
-      subst (λ (h : Name). SaysUnmapped (requests.Unmap h) hypercalls.Unmap h answer x (record { guest = c.unmap-told.new.self; run = x.run }))
+    ∙ ap (λ (r : Result (Unit {0}) Denial). encoded (outcome r)) (c.unmap-answered.ensures.absent (c.handle_named-handle.ensures.foreign foreign)) in
+    made answer (λ d e. EncodesUnmapped (requests.Unmap (handle_named d c.args.name.now)) hypercalls.Unmap (handle_named d c.args.name.now) answer d e × RefusesForeign d c.args.name.now (outcomes.Denied (denial_of N6 NoFacts)) answer) (c.is_turned_away.ensures.may c.if-is_turned_away.false) c.here_mut-here.ensures.value (
+      subst (λ (h : Name). EncodesUnmapped (requests.Unmap h) hypercalls.Unmap h answer x (record { guest = c.unmap-answered.new.self; run = x.run }))
           c.handle_named-handle.ensures.value
           (record {
-            result = c.unmap-told.result;
+            result = c.unmap-answered.result;
             encodes = c.store_done.ensures;
-            stays = c.unmap-told.ensures.stays;
-            holds = (c.unmap-told.ensures.answered, c.unmap-told.ensures.removed, c.unmap-told.ensures.refused, c.unmap-told.ensures.told);
+            stays = c.unmap-answered.ensures.stays;
+            holds = (c.unmap-answered.ensures.answered, c.unmap-answered.ensures.removed, c.unmap-answered.ensures.refused, c.unmap-answered.ensures.recorded);
           }),
       refused,
     )

@@ -1,5 +1,5 @@
-use Rattle.gt_entries.specs.Dumps.{TellsEntries}
+use Rattle.gt_entries.specs.Dumps.{AreEntryTexts}
 use Rattle.gt_entries.proofs.dumping.push_dump.Given as goal
 
 abbrev pub invariant-entries : goal.invariant-entries
-invariant-entries l = TellsEntries l.asked l.dump l.gref l.out.items
+invariant-entries l = AreEntryTexts l.asked l.dump l.gref l.out.items

@@ -1,21 +1,21 @@
 use Rattle.std.proofs.Common.{◌≡◌, ◌∙◌, Bool, List, ap, map, subst, sym}
-use Rattle.gt_script.specs.RunContents.{run_told}
+use Rattle.gt_script.specs.RunContents.{run_contents}
 use Rattle.gt_explore_replay.specs.Orders.{MayGive}
 use Rattle.gt_explore_verdict.proofs.Judged.{judged_means}
-use Rattle.gt_explore_verdict.specs.Expressions.{told}
+use Rattle.gt_explore_verdict.specs.Expressions.{condition_asked}
 use Rattle.gt_explore_verdict.specs.Judging.{Means, judged}
 use Rattle.gt_explore_verdict.specs.declared.judging.Judgement.{Judgement}
 use Rattle.gt_explore_verdict.specs.declared.judging.Verdict.{Verdict}
 use Rattle.gt_explore_answers.specs.Exploring.{satisfied}
-use Rattle.gt_explore_answers.specs.Telling.{found_told}
+use Rattle.gt_explore_answers.specs.Outputs.{found_from}
 use Rattle.gt_explore_answers.proofs.Answered.{tells_by}
 use Rattle.gt_explore_answers.proofs.answering.claim_made.Goals as goal
 
 pub returns : goal.returns
 returns c =
-    let run = run_told c.args.script.now in
-    let f = found_told c.args.found.now in
-    let cs = map told c.args.conditions.now in
+    let run = run_contents c.args.script.now in
+    let f = found_from c.args.found.now in
+    let cs = map condition_asked c.args.conditions.now in
     let are = c.requires.texts in
     let met : c.in_ok-met.met.items ≡ satisfied cs f = rw c.as_slice.ensures.value at c.in_ok-met.ensures in
     let verdict : c.judge-judgement.result.verdict ≡ (judged c.args.claim (satisfied cs f) f.whole).verdict =

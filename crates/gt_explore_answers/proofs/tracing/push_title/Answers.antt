@@ -1,10 +1,10 @@
 use Rattle.std.proofs.Common.{codes}
-use Rattle.gt_explore_answers.specs.Telling.{found_told}
+use Rattle.gt_explore_answers.specs.Outputs.{found_from}
 use Rattle.gt_explore_answers.specs.Tracing.{heading_line}
 use Rattle.gt_explore_answers.proofs.Shown.{two_joined}
 use Rattle.gt_explore_answers.proofs.tracing.push_title.Goals as goal
 
 pub returns : goal.returns
 returns c =
-    two_joined c.push_heading_line.result c.args.out.now.items (codes "sequenceDiagram\n    title ") (heading_line (found_told c.args.found.now) c.args.number) _ _
+    two_joined c.push_heading_line.result c.args.out.now.items (codes "sequenceDiagram\n    title ") (heading_line (found_from c.args.found.now) c.args.number) _ _
     c.in_ok-push_text.ensures.ok c.push_heading_line.ensures

@@ -8,4 +8,4 @@ returns-clause-run c =
 pub returns-clause-played : goal.returns-clause-played
 returns-clause-played c =
     played-once c.every_alike_event_does_one_thing.ensures c.every_alike_run_shows_one_thing.ensures c.every_known_handle_has_one_subject.ensures
-    c.every_text_tells_one_thing.ensures
+    c.every_text_has_one_meaning.ensures

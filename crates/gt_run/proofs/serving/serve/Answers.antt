@@ -11,7 +11,7 @@ use Rattle.gt_run.proofs.serving.serve.Goals.{then-task-dom+in-Do, then-task-dom
 use Rattle.gt_run.proofs.serving.serve.Goals.{then-task-dom+in-Await+else-not-has_passed, else-task-dom}
 
 pub tasks-init : goal.tasks-init
-tasks-init g c = (c.requires.monitor, refl, come_none g.P.Allows.may _ _ _ _ _ c.requires.text c.requires.told c.new-labels.ensures)
+tasks-init g c = (c.requires.monitor, refl, come_none g.P.Allows.may _ _ _ _ _ c.requires.text c.requires.recorded c.new-labels.ensures)
 
 pub returns-then-not-has_passed-clause-served : goal.returns-then-not-has_passed-clause-served
 returns-then-not-has_passed-clause-served g c =

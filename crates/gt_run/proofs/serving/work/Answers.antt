@@ -7,8 +7,8 @@ use Rattle.gt_run.proofs.JobLemmas.{begun_not, came_plain, came_told}
 use Rattle.gt_run.proofs.serving.work.Goals as goal
 use Rattle.gt_run.proofs.serving.work.Goals.{in-Some, in-None}
 
-pub serve-whole-requires-clause-told : goal.serve-whole-requires-clause-told
-serve-whole-requires-clause-told g c = starts_told g.P.Allows.may c.args.job c.args.domain _ c.requires c.logger_for-logger.ensures
+pub serve-whole-requires-clause-recorded : goal.serve-whole-requires-clause-recorded
+serve-whole-requires-clause-recorded g c = starts_told g.P.Allows.may c.args.job c.args.domain _ c.requires c.logger_for-logger.ensures
 
 pub returns-then-not-wait : goal.returns-then-not-wait
 returns-then-not-wait g c = (

@@ -9,7 +9,7 @@ use Rattle.gt_run.proofs.threads.write_each.Goals as goal
 pub returns : goal.returns
 returns g c =
     let given : c.args.started.refused ≡ None = search rules in
-    let joined = joined_together g.P.Allows.may c.args.monitor.now _ _ _ _ _ _ _ (c.requires given).0 c.tell_of_all.ensures c.join_each-outcome.ensures.joins in
+    let joined = joined_together g.P.Allows.may c.args.monitor.now _ _ _ _ _ _ _ (c.requires given).0 c.learn_of_all.ensures c.join_each-outcome.ensures.joins in
     let out = subst (λ (l : List ℕ). OnOk c.write_audit.result (Appends (g.W.Write.contents c.join_each-outcome.new.writer) (g.W.Write.contents c.write_audit.new.writer)
     (l ++ lost_text c.join_each-outcome.result.lost))) c.as_slice.ensures.value c.write_audit.ensures.whole in
     let begun = subst (λ (l : List ℕ). AppendsBeginning (g.W.Write.contents c.join_each-outcome.new.writer) (g.W.Write.contents c.write_audit.new.writer)

@@ -3,7 +3,7 @@ use Rattle.gt_frames.specs.Frames.{bytes_at}
 use Rattle.gt_word_history.specs.declared.view.FrameStep.{FrameStep}
 use Rattle.gt_word_history.specs.declared.view.FrameStep.TheVariants.{Copied}
 use Rattle.gt_shared_table.specs.Rule.{places_of}
-use Rattle.gt_shared_table.specs.Telling.{IsOut}
+use Rattle.gt_shared_table.specs.Recording.{IsOut}
 use Rattle.gt_shared_table.proofs.Facts.{bytes_again, frees_out, is_right, moved_out, returns_out}
 use Rattle.gt_shared_table.proofs.accesses.copy_out.Goals as goal
 

@@ -1,5 +1,5 @@
 use Rattle.gt_shared_table.specs.Rule.{name_of, places_of}
-use Rattle.gt_shared_table.specs.Telling.{left_by}
+use Rattle.gt_shared_table.specs.Recording.{left_by}
 use Rattle.std.proofs.Common.{[]}
 use Rattle.std.specs.Prelude.{nat_lt}
 use Rattle.gt_frames.specs.Frames.{bytes_at}

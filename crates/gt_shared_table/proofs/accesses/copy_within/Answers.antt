@@ -2,7 +2,7 @@ use Rattle.std.proofs.Common.{Some, true, ap, ◌∙◌}
 use Rattle.atomic_table.specs.Table.{Me}
 use Rattle.gt_shared_table.specs.declared.rule.FrameHolder.{FrameHolder}
 use Rattle.gt_shared_table.specs.Rule.{Cell, places_of}
-use Rattle.gt_shared_table.specs.Telling.{IsOut}
+use Rattle.gt_shared_table.specs.Recording.{IsOut}
 use Rattle.gt_shared_table.proofs.Facts.{frees_within, is_out, moved_out, returns_out}
 use Rattle.gt_shared_table.proofs.accesses.copy_within.Goals as goal
 

@@ -1,5 +1,5 @@
 use Rattle.gt_shared_table.specs.Rule.{name_of, places_of}
-use Rattle.gt_shared_table.specs.Telling.{held_first, left_by}
+use Rattle.gt_shared_table.specs.Recording.{held_first, left_by}
 use Rattle.std.proofs.Common.{[], true}
 use Rattle.gt_frames.specs.Frames.{bytes_at}
 use Rattle.gt_word_history.specs.declared.view.FrameStep.TheVariants.{Copied, Read}

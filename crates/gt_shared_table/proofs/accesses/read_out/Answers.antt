@@ -2,7 +2,7 @@ use Rattle.std.proofs.Common.{refl, ap, true}
 use Rattle.gt_frames.specs.Receipts.{Reading}
 use Rattle.gt_word_history.specs.declared.view.FrameStep.TheVariants.{Read}
 use Rattle.gt_shared_table.specs.Rule.{places_of}
-use Rattle.gt_shared_table.specs.Telling.{IsOut}
+use Rattle.gt_shared_table.specs.Recording.{IsOut}
 use Rattle.gt_shared_table.proofs.Facts.{bytes_are, frees_out, moved_out}
 use Rattle.gt_shared_table.proofs.accesses.read_out.Goals as goal
 

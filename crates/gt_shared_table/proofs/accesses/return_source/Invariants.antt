@@ -1,5 +1,5 @@
 use Rattle.gt_shared_table.specs.Rule.{name_of, places_of}
-use Rattle.gt_shared_table.specs.Telling.{left_by}
+use Rattle.gt_shared_table.specs.Recording.{left_by}
 use Rattle.std.proofs.Common.{[]}
 use Rattle.gt_word_history.specs.declared.view.FrameStep.TheVariants.{Read}
 use Rattle.gt_shared_table.proofs.accesses.return_source.Given as goal

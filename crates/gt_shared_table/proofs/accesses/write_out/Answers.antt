@@ -1,7 +1,7 @@
 use Rattle.std.proofs.Common.{true}
 use Rattle.gt_word_history.specs.declared.view.FrameStep.TheVariants.{Wrote}
 use Rattle.gt_shared_table.specs.Rule.{places_of}
-use Rattle.gt_shared_table.specs.Telling.{IsOut}
+use Rattle.gt_shared_table.specs.Recording.{IsOut}
 use Rattle.gt_shared_table.proofs.Facts.{frees_out, is_right, moved_out, returns_out}
 use Rattle.gt_shared_table.proofs.accesses.write_out.Goals as goal
 

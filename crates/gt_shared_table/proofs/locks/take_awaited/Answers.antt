@@ -2,7 +2,7 @@ use Rattle.std.proofs.Common.{ℕ, sym, subst}
 use Rattle.atomic_table.specs.Table.{Allows}
 use Rattle.gt_word_history.proofs.Order.{within}
 use Rattle.gt_shared_table.specs.Rule.{HoldsAll, name_of, places_of}
-use Rattle.gt_shared_table.specs.Telling.{Locks}
+use Rattle.gt_shared_table.specs.Recording.{Locks}
 use Rattle.gt_shared_table.proofs.Steps.{awaits}
 use Rattle.gt_shared_table.proofs.locks.take_awaited.Goals as goal
 

@@ -3,7 +3,7 @@ use prog.Atomic.{either}
 use Rattle.atomic_table.specs.Table.{Allows}
 use Rattle.gt_word_history.proofs.Order.{within}
 use Rattle.gt_shared_table.specs.Rule.{HoldsAll, name_of, places_of}
-use Rattle.gt_shared_table.specs.Telling.{Locks}
+use Rattle.gt_shared_table.specs.Recording.{Locks}
 use Rattle.gt_shared_table.proofs.Steps.{locks}
 use Rattle.gt_shared_table.proofs.locks.try_lock.Goals as goal
 

@@ -1,12 +1,12 @@
 use Rattle.gt_audit.specs.declared.record.Hypercall.TheVariants as hypercalls
 use Rattle.gt_calls.specs.declared.request.Request.TheVariants.{QuerySize}
-use Rattle.gt_live.specs.Domains.{AnswersTold, verdict_of_size}
+use Rattle.gt_live.specs.Domains.{AnswersRecorded, verdict_of_size}
 use Rattle.gt_attached.proofs.Beside.{beside, idle, still}
 use Rattle.gt_attached.proofs.guest.AttachedDomain.query_size.Goals as goal
 
 pub returns-clause-answers : goal.returns-clause-answers
 returns-clause-answers g c =
-    beside (λ m d. AnswersTold g.P.Allows.may m d (QuerySize c.args.dom) (hypercalls.QuerySize c.args.dom) (verdict_of_size c.query_size.result) c.query_size.new.self)
+    beside (λ m d. AnswersRecorded g.P.Allows.may m d (QuerySize c.args.dom) (hypercalls.QuerySize c.args.dom) (verdict_of_size c.query_size.result) c.query_size.new.self)
     c.deref.ensures c.self.view_is c.query_size.ensures.answers
 
 pub query_size-requires : goal.query_size-requires

@@ -1,12 +1,12 @@
 use Rattle.gt_audit.specs.declared.record.Hypercall.TheVariants as hypercalls
 use Rattle.gt_calls.specs.declared.request.Request.TheVariants.{SetVersion}
-use Rattle.gt_live.specs.Domains.{AnswersTold, verdict_of}
+use Rattle.gt_live.specs.Domains.{AnswersRecorded, verdict_of}
 use Rattle.gt_attached.proofs.Beside.{beside, idle, still}
 use Rattle.gt_attached.proofs.guest.AttachedDomain.set_version.Goals as goal
 
 pub returns-clause-answers : goal.returns-clause-answers
 returns-clause-answers g c =
-    beside (λ m d. AnswersTold g.P.Allows.may m d (SetVersion c.args.version) (hypercalls.SetVersion c.args.version) (verdict_of c.set_version.result) c.set_version.new.self)
+    beside (λ m d. AnswersRecorded g.P.Allows.may m d (SetVersion c.args.version) (hypercalls.SetVersion c.args.version) (verdict_of c.set_version.result) c.set_version.new.self)
     c.deref.ensures c.self.view_is c.set_version.ensures.answers
 
 pub set_version-requires : goal.set_version-requires

@@ -17,6 +17,6 @@ returns-then-entry-number c =
       record {
         dom = ap (λ (e : LogEntry). e.dom) is ∙ one_domain _ _ (eqb-true _ _ (sym (c.if-eq.ensures)));
         number = ap (λ (e : LogEntry). e.number) is ∙ c.if-entry-number.true;
-        told = ap (λ (e : LogEntry). e.told) is ∙ sym c.record.ensures;
+        recorded = ap (λ (e : LogEntry). e.recorded) is ∙ sym c.record.ensures;
       },
     )

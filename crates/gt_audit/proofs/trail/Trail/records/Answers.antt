@@ -10,7 +10,7 @@ records-preserved c =
       | in-Some+in_ok-push w ↦
           rw add-one
           (ap (λ v. v.items) w.records-is ∙ w.in_ok-push.ensures.items
-          ∙ ap (λ (xs : List Record). xs ++ w.in-Some.told ∷ []) c.records.invariant
+          ∙ ap (λ (xs : List Record). xs ++ w.in-Some.recorded ∷ []) c.records.invariant
           ∙ sym (take_get _ _ _ (sym c.get.ensures ∙ w.in-Some.is)))
       | in_default w ↦ absurd (omega (arith, none_past c.args.self.now.records c.records.index (sym c.get.ensures ∙ w.in_default.is)))
     ]

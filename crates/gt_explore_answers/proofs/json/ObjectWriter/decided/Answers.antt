@@ -1,24 +1,24 @@
 use Rattle.std.proofs.Common.{◌≡◌, ◌∙◌, ℕ, Bool, List, Option, ap, map, subst, sym}
-use Rattle.gt_script.specs.RunContents.{run_told}
-use Rattle.gt_script.specs.Contents.{contents_told}
+use Rattle.gt_script.specs.RunContents.{run_contents}
+use Rattle.gt_script.specs.Contents.{contents_of}
 use Rattle.gt_explore_replay.specs.Orders.{MayGive}
 use Rattle.gt_explore_verdict.proofs.Judged.{judged_means}
-use Rattle.gt_explore_verdict.specs.Expressions.{told}
+use Rattle.gt_explore_verdict.specs.Expressions.{condition_asked}
 use Rattle.gt_explore_verdict.specs.Judging.{Means, judged}
 use Rattle.gt_explore_verdict.specs.declared.judging.Judgement.{Judgement}
 use Rattle.gt_explore_verdict.specs.declared.judging.Verdict.{Verdict}
 use Rattle.gt_explore_answers.specs.AsObjects.{ShowsClaim, ShowsClaimedBy}
 use Rattle.gt_explore_answers.specs.Exploring.{satisfied}
-use Rattle.gt_explore_answers.specs.Telling.{found_told}
+use Rattle.gt_explore_answers.specs.Outputs.{found_from}
 use Rattle.gt_explore_answers.proofs.Shown.{ended_so}
 use Rattle.gt_explore_answers.proofs.json.ObjectWriter.decided.Goals as goal
 
 pub returns : goal.returns
 returns c =
-    let run = run_told c.args.self.now.script.now in
-    let head = contents_told c.args.self.now.script.now.head in
-    let f = found_told c.args.self.now.found.now in
-    let cs = map told c.args.conditions.now in
+    let run = run_contents c.args.self.now.script.now in
+    let head = contents_of c.args.self.now.script.now.head in
+    let f = found_from c.args.self.now.found.now in
+    let cs = map condition_asked c.args.conditions.now in
     let are = c.requires.texts in
     let met : c.in_ok-met.met.items ≡ satisfied cs f = rw c.as_slice.ensures.value at c.in_ok-met.ensures in
     let j : c.judge-judgement.result ≡ judged c.args.claim (satisfied cs f) f.whole =

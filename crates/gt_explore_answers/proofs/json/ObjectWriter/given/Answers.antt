@@ -1,8 +1,8 @@
 use Rattle.std.proofs.Common.{◌≡◌, ◌∙◌, ℕ, Option, ap, false, subst, sym}
 use Rattle.std.specs.Prelude.{is_some}
 use Rattle.std.specs.Str.{bytes_eq}
-use Rattle.gt_script.specs.Contents.{contents_told}
-use Rattle.gt_script.specs.RunContents.{run_told}
+use Rattle.gt_script.specs.Contents.{contents_of}
+use Rattle.gt_script.specs.RunContents.{run_contents}
 use Rattle.gt_explore_search.specs.declared.exploring.FoundText.{FoundText}
 use Rattle.gt_explore_verdict.specs.Judging.{verdict_at}
 use Rattle.gt_explore_verdict.specs.declared.judging.Claim.TheVariants.{Find}
@@ -10,15 +10,15 @@ use Rattle.gt_explore_verdict.specs.declared.judging.Verdict.{Verdict}
 use Rattle.gt_explore_answers.specs.AsObjects.{ShowsGiven}
 use Rattle.gt_explore_answers.specs.Exploring.{MeansGiven, place_of}
 use Rattle.gt_explore_answers.specs.Objects.{ShowsText}
-use Rattle.gt_explore_answers.specs.Telling.{found_told}
+use Rattle.gt_explore_answers.specs.Outputs.{found_from}
 use Rattle.gt_explore_answers.proofs.Answered.{means_given, position_map}
 use Rattle.gt_explore_answers.proofs.Shown.{ended_so}
 use Rattle.gt_explore_answers.proofs.json.ObjectWriter.given.Goals as goal
 
 pub returns : goal.returns
 returns c =
-    let run = run_told c.args.self.now.script.now in
-    let f = found_told c.args.self.now.found.now in
+    let run = run_contents c.args.self.now.script.now in
+    let f = found_from c.args.self.now.found.now in
     let place : c.place_of-place.result ≡ place_of c.args.given.now f.texts =
     (rw c.as_slice.ensures.value at c.place_of-place.ensures.place) ∙ position_map (λ t. bytes_eq t c.args.given.now) (λ (o : FoundText). o.text.items) c.args.self.now.found.now.texts.items in
     let verdict : c.verdict_on.result ≡ verdict_at Find (is_some (place_of c.args.given.now f.texts)) f.whole =
@@ -27,5 +27,5 @@ returns c =
     ended_so c.args.limit (ShowsGiven run c.args.given.now) f c.ended.result _ shown.0 _ c.verdict_on.result c.new-text.ensures.items shown.1 (
       verdict,
       subst (λ (v : Verdict). MeansGiven run c.args.given.now v) (sym verdict) (means_given run f c.args.given.now c.requires.texts),
-      subst (λ (o : Option ℕ). ShowsText (contents_told c.args.self.now.script.now.head) f false o shown.0) place shown.2,
+      subst (λ (o : Option ℕ). ShowsText (contents_of c.args.self.now.script.now.head) f false o shown.0) place shown.2,
     ) c.ended.ensures

@@ -11,7 +11,7 @@ use Rattle.gt_live.proofs.Accessing.{none-left}
 use Rattle.gt_live.proofs.AtOnce.{once-asked}
 use Rattle.gt_live.proofs.Knowing.{knows-own}
 use Rattle.gt_live.proofs.Making.{same_seat-self}
-use Rattle.gt_live.proofs.Told.{still-mine}
+use Rattle.gt_live.proofs.Recorded.{still-mine}
 use Rattle.gt_live.proofs.domain.Domain.ask.Goals as goal
 
 pub judge_query-requires : goal.judge_query-requires

@@ -14,7 +14,7 @@ use Rattle.gt_live.specs.Walks.{Called}
 use Rattle.gt_live.proofs.Accessing.{none-left}
 use Rattle.gt_live.proofs.Knowing.{knows-own}
 use Rattle.gt_live.proofs.Making.{same_seat-self}
-use Rattle.gt_live.proofs.Told.{still-mine}
+use Rattle.gt_live.proofs.Recorded.{still-mine}
 use Rattle.gt_live.proofs.domain.Domain.change_size.Goals as goal
 
 pub returns-in-Some : goal.returns-in-Some

@@ -58,14 +58,14 @@ pub returns-in-Map-clause-asked : goal.returns-in-Map-clause-asked
 returns-in-Map-clause-asked g c =
     let e = c.map-mapped.ensures in
     rw (← c.self.view_is, c.in-Map.is)
-    (e.seat.dom, (c.map-mapped.result, mapped _ _ c.map_or_else.ensures, e.answered, e.told), (e.mine, e.seat))
+    (e.seat.dom, (c.map-mapped.result, mapped _ _ c.map_or_else.ensures, e.answered, e.recorded), (e.mine, e.seat))
 
 pub returns-in-Unmap-clause-asked : goal.returns-in-Unmap-clause-asked
 returns-in-Unmap-clause-asked g c =
     let e = c.unmap.ensures in
     rw (← c.self.view_is, c.in-Unmap.is) (
       e.seat.dom,
-      (c.unmap.result, c.done-in-Unmap.ensures, e.answered, e.removed, e.refused, e.told),
+      (c.unmap.result, c.done-in-Unmap.ensures, e.answered, e.removed, e.refused, e.recorded),
       (e.mine, e.seat),
     )
 
@@ -122,4 +122,4 @@ pub returns-in-Copy-clause-asked : goal.returns-in-Copy-clause-asked
 returns-in-Copy-clause-asked g c =
     let e = c.copy.ensures in
     rw (← c.self.view_is, c.in-Copy.is)
-    (e.seat.dom, (c.copy.result, c.copied.ensures, e.answered, e.kept, e.told), (e.mine, e.seat))
+    (e.seat.dom, (c.copy.result, c.copied.ensures, e.answered, e.kept, e.recorded), (e.mine, e.seat))

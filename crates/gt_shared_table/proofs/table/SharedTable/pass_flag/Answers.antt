@@ -2,7 +2,7 @@ use Rattle.std.proofs.Common.{◌≡◌, ℕ, ◌+◌, ap, subst, arith}
 use Rattle.atomic_table.specs.Table.{Allows}
 use Rattle.gt_word_history.specs.Places.{Board}
 use Rattle.gt_shared_table.specs.Rule.{HoldsAll, flag_place, places_of}
-use Rattle.gt_shared_table.specs.Telling.{LooksAtFlag}
+use Rattle.gt_shared_table.specs.Recording.{LooksAtFlag}
 use Rattle.gt_shared_table.proofs.Placed.{few_frames, names_len}
 use Rattle.gt_shared_table.proofs.Steps.{passes}
 use Rattle.gt_shared_table.proofs.table.SharedTable.pass_flag.Goals as goal

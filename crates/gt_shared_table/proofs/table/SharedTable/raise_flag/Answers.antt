@@ -4,7 +4,7 @@ use Rattle.gt_word_history.specs.Places.{Board}
 use Rattle.gt_word_history.specs.declared.view.FlagStep.TheVariants.{Raised}
 use Rattle.gt_word_history.specs.declared.view.SeatStep.TheVariants.{Flag}
 use Rattle.gt_shared_table.specs.Rule.{HoldsAll, flag_place, places_of}
-use Rattle.gt_shared_table.specs.Telling.{AddsStep}
+use Rattle.gt_shared_table.specs.Recording.{AddsStep}
 use Rattle.gt_shared_table.proofs.Placed.{few_frames, names_len}
 use Rattle.gt_shared_table.proofs.Steps.{raises}
 use Rattle.gt_shared_table.proofs.table.SharedTable.raise_flag.Goals as goal

@@ -1,0 +1,143 @@
+-- What exports return in layouts of C: the places of a copy, a mapping, a record, an entry.
+use Rattle.std.specs.Prelude.{◌≡◌, ◌⊎◌, ℕ, Bool, true, false, Option, Some, None, Result, Ok, Err}
+use Rattle.gt_c.specs.Prelude.{slice_get, Dir, Read, Write, Denial, Kept, Spot, Mapped, CopyArgs, End, frame_of, Name}
+use Rattle.gt_c.specs.Prelude.{value_of, encoded, no_end, record_kept, BeginsAccess, EndsAccess, EncodedAnswer, AttachedOutcome}
+use Rattle.gt_c.specs.Prelude.{CopyPlaces, CopyEnd, may, Control, EntryKind, EntryStatus, GrantRef, LooksAtOwn, StaysIdle}
+use Rattle.gt_entry.specs.declared.control.EntryKind.TheVariants.{Invalid, Page, Sub, Via}
+use Rattle.gt_c.specs.Prelude.{EncodedRecord, CopySettings, PlaceReport, PlacesReport, MappedFrame, CDomain}
+use Rattle.gt_attached.specs.declared.answer.AttachedOutcome.TheVariants as outcomes
+use Rattle.gt_c.specs.Calling.{KeepsRun}
+
+-- an end of a copy as C passes it
+abbrev pub end_asked : CopyEnd → End
+end_asked end = record { ptr = end.ptr; domid = record { 0 = end.dom }; offset = end.off }
+
+-- the copy that C asks for
+abbrev pub copy_asked : CopySettings → CopyArgs
+copy_asked c = record { source = end_asked c.source; dest = end_asked c.dest; len = c.len; flags = c.flags }
+
+-- a place as C reads it
+abbrev pub place_report : Spot → PlaceReport
+place_report p = record { frame = p.frame.number; owner = p.frame.owner.0; off = p.off }
+
+-- no place
+abbrev pub no_place : PlaceReport
+no_place = record { frame = 0; owner = 0; off = 0 }
+
+-- the places of a copy that did not begin
+abbrev pub no_places : PlacesReport
+no_places = record { from = no_place; to = no_place; len = 0 }
+
+-- the places of a copy that began; zeros if it was refused
+abbrev pub places_report : Result CopyPlaces Denial → PlacesReport
+places_report (Ok p) = record { from = place_report p.from; to = place_report p.to; len = p.len }
+places_report (Err denial) = no_places
+
+-- the result of a copy's beginning
+abbrev pub outcome_begun : Result CopyPlaces Denial → AttachedOutcome
+outcome_begun (Ok places) = outcomes.Done
+outcome_begun (Err denial) = outcomes.Denied denial
+
+-- a copy of the domain was begun: the answer encodes whether it was, and these are its places
+pub record EncodesBegun (copy : CopyArgs) (places : PlacesReport) (answer : EncodedAnswer) (d e : CDomain) : Type 0 where
+  pub result : Result CopyPlaces Denial
+  pub encodes : answer ≡ encoded (outcome_begun result)
+  pub shown : places ≡ places_report result
+  pub begins : BeginsAccess may d.guest copy result e.guest
+
+-- the copy of a handle's domain was ended; or there was none, or no domain, and the answer is that
+abbrev pub CopyEnds : EncodedAnswer → Option CDomain → Option CDomain → Type 0
+CopyEnds answer None after = (after ≡ None) × (answer ≡ encoded outcomes.NoDomain)
+CopyEnds answer (Some d) None = ⊥
+CopyEnds answer (Some d) (Some e) =
+    ((d.guest.copying ≡ None) × (e ≡ d) × (answer ≡ encoded outcomes.NoCopy))
+    ⊎ (KeepsRun d e × EndsAccess d.guest e.guest × (answer ≡ encoded outcomes.Done))
+
+-- 1 for a mapping that writes, 0 for one that reads
+abbrev pub writes : Dir → ℕ
+writes Read = 0
+writes Write = 1
+
+-- no mapping
+abbrev pub no_mapping : MappedFrame
+no_mapping = record { frame = 0; gref = 0; owner = 0; writes = 0 }
+
+-- a mapping as C reads it
+abbrev pub mapping_report : Option Mapped → MappedFrame
+mapping_report None = no_mapping
+mapping_report (Some p) =
+    record { frame = frame_of p.entry; gref = p.gref.0; owner = p.dom.0; writes = writes p.dir }
+
+-- Ok if there is one, else Absent
+abbrev pub outcome_present : {A : Type 0} → Option A → AttachedOutcome
+outcome_present None = outcomes.Absent
+outcome_present (Some a) = outcomes.Done
+
+-- these are the mapping under this handle, if there is one, and the answer; nothing changed
+abbrev pub EncodesMapping : Name → MappedFrame → EncodedAnswer → CDomain → CDomain → Type 0
+EncodesMapping name mapping answer d e =
+    (answer ≡ encoded (outcome_present (value_of d.guest.domain.mappings name)))
+    × (mapping ≡ mapping_report (value_of d.guest.domain.mappings name)) × (e ≡ d)
+
+-- no record
+abbrev pub no_record : EncodedRecord
+no_record =
+    record {
+      call = 0;
+      caller = 0;
+      dom = 0;
+      gref = 0;
+      flags = 0;
+      len = 0;
+      source = no_end;
+      dest = no_end;
+      reply = encoded outcomes.Done;
+    }
+
+-- a record as C reads it
+abbrev pub kept_record : Option Kept → EncodedRecord
+kept_record None = no_record
+kept_record (Some r) = record_kept r
+
+-- these are the record at this index, if there is one, and the answer; nothing changed
+abbrev pub EncodesRecord : ℕ → EncodedRecord → EncodedAnswer → CDomain → CDomain → Type 0
+EncodesRecord index kept answer d e =
+    (answer ≡ encoded (outcome_present (slice_get d.guest.domain.trail.records index)))
+    × (kept ≡ kept_record (slice_get d.guest.domain.trail.records index)) × (e ≡ d)
+
+-- the number of a kind of entry
+abbrev pub kind_code : EntryKind → ℕ
+kind_code Invalid = 0
+kind_code Page = 1
+kind_code Sub = 2
+kind_code Via = 3
+
+-- 1 for a read-only entry, else 0
+abbrev pub read_only_code : Bool → ℕ
+read_only_code true = 1
+read_only_code false = 0
+
+-- no entry
+abbrev pub no_entry : EntryStatus
+no_entry = record { kind = 0; generation = 0; reads = 0; writes = 0; to = 0; read_only = 0 }
+
+-- an entry as C reads it
+abbrev pub entry_status : Option Control → EntryStatus
+entry_status None = no_entry
+entry_status (Some c) =
+    record {
+      kind = kind_code c.kind;
+      generation = c.generation;
+      reads = c.reads;
+      writes = c.writes;
+      to = c.dom.0;
+      read_only = read_only_code c.ro;
+    }
+
+-- a look at this entry, if the domain's table has it, found this
+pub record EncodesEntry (gref : GrantRef) (entry : EntryStatus) (answer : EncodedAnswer) (d e : CDomain) : Type 0 where
+  pub found : Option Control
+  pub encodes : answer ≡ encoded (outcome_present found)
+  pub shown : entry ≡ entry_status found
+  pub stays : StaysIdle d.guest e.guest
+  pub looks : LooksAtOwn d.guest.monitor.words.layout d.guest.domain gref found e.guest.domain

@@ -1,0 +1,57 @@
+//! Writes findings.
+ghost use Rattle.std.specs.Prelude.{◌≡◌};
+ghost use Rattle.std.specs.List.{list_any};
+ghost use Rattle.gt_policy_check.specs.Check.{is_error};
+ghost use Rattle.gt_checks.specs.Reporting.{WritesFindings};
+
+use gt_policy_check::{Finding, FindingKind, ReportForm, push_json, push_report};
+use gt_policy_list::ListingFault;
+use gt_text::finish;
+use std::alloc::{AllocError, Global};
+use std::io::Write;
+
+fn has_error(found: &[Finding]) -> bool
+    ensures { result ≡ list_any (λ x. is_error x.kind) found.now }
+{
+    found
+        .iter()
+        .any(|finding| matches!(finding.kind, FindingKind::Fault))
+}
+
+// Prints the findings as text or as JSON.
+fn report(
+    alloc: Global,
+    file: &str,
+    form: ReportForm,
+    text: &str,
+    found: &[Finding],
+) -> Result<Vec<u8>, AllocError> {
+    let mut out = Vec::new(alloc);
+    match form {
+        ReportForm::Json => push_json(&mut out, file, found)?,
+        ReportForm::Text | ReportForm::Colored => {
+            push_report(&mut out, file, text, found, form)?;
+        }
+    }
+    Ok(out)
+}
+
+/// Writes findings, and returns whether none of them is an error.
+pub(crate) fn write_findings<W: Write>(
+    alloc: Global,
+    file: &str,
+    form: ReportForm,
+    text: &str,
+    found: &[Finding],
+    writer: &mut W,
+) -> Result<bool, ListingFault>
+    ensures { WritesFindings found.now (W.contents writer.old) (W.contents writer.new) result }
+{
+    let Ok(said) = report(alloc, file, form, text, found) else {
+        return Err(ListingFault::Memory);
+    };
+    match finish(writer, said.as_slice()) {
+        Ok(()) => Ok(!has_error(found)),
+        Err(_) => Err(ListingFault::Write),
+    }
+}

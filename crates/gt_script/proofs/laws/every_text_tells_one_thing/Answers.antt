@@ -1,6 +1,0 @@
-use Rattle.gt_script.proofs.OneLemmas.{tells_one}
-use Rattle.gt_script.specs.declared.command.ScriptCommand.TheVariants.{Play}
-use Rattle.gt_script.proofs.laws.every_text_tells_one_thing.Goals as goal
-
-pub returns : goal.returns
-returns c = tells_one Play c.one_meaning.ensures

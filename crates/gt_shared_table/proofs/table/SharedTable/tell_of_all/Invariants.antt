@@ -1,6 +1,0 @@
-use Rattle.gt_word_history.specs.Rule.{layout_of}
-use Rattle.gt_word_history.specs.Steps.{looking}
-use Rattle.gt_shared_table.proofs.table.SharedTable.tell_of_all.Given as goal
-
-abbrev pub ghosts-tell_all : goal.ghosts-tell_all
-ghosts-tell_all a = record { kind = looking (layout_of a.cells.now.key) 0 0 }
