@@ -1,7 +1,8 @@
 -- The answer of an export, for the call that it made.
 use Rattle.std.specs.Prelude.{◌≡◌, ◌≤◌, ◌⊎◌, ℕ, List, Option, Some, None, IsSome, Result, Ok, Err, OnOk, OnErr}
 use Rattle.gt_c.specs.Prelude.{GrantRef, DomId, Memory, Size, Denial, Table, may, Hypercall, Kept}
-use Rattle.gt_c.specs.Prelude.{HasNone, AppendsRecord, CallResult, Mapped, Request, Name, Domain, Answered, AnswersQuietly}
+use Rattle.gt_c.specs.Prelude.{HasNone, AppendsRecord, CallResult, Mapped, Request, Name, Domain}
+use Rattle.gt_c.specs.Prelude.{Answered, AnswersQuietly}
 use Rattle.gt_c.specs.Prelude.{AnswersRecorded, KeepsPinned, Leaves, Departure, Resets, taken_of}
 use Rattle.gt_c.specs.Prelude.{MapAnswered, mapping_reply, subject_of, record_of_result, verdict_of, Removes, encoded}
 use Rattle.gt_c.specs.Prelude.{EndsAccess}
@@ -42,7 +43,8 @@ abbrev pub CallsGuest : Option CDomain → Option CDomain → EncodedAnswer → 
 CallsGuest before after answer Holds = TurnedAway before after answer ⊎ MadeOn before after Holds
 
 -- the same for a call that returns more than its answer: if no call was made, it returns nothing more
-abbrev pub CallsReporting : Option CDomain → Option CDomain → EncodedAnswer → Type 0 → (CDomain → CDomain → Type 0) → Type 0
+abbrev pub CallsReporting : Option CDomain → Option CDomain → EncodedAnswer → Type 0 → (CDomain → CDomain → Type 0)
+    → Type 0
 CallsReporting before after answer ReportsNothing Holds =
     (TurnedAway before after answer × ReportsNothing) ⊎ MadeOn before after Holds
 
@@ -72,8 +74,8 @@ outcome_followed (Ok followed) = outcomes.Followed followed
 outcome_followed (Err denial) = outcomes.Denied denial
 
 -- the answer encodes a result with this property; the domain keeps its monitor and its seat, and is in no copy
-pub record EncodesResult {R : Type 0} (said : Result R Denial → AttachedOutcome) (Holds : Result R Denial → Type 0) (answer : EncodedAnswer)
-    (d e : CDomain) : Type 0 where
+pub record EncodesResult {R : Type 0} (said : Result R Denial → AttachedOutcome) (Holds : Result R Denial → Type 0)
+    (answer : EncodedAnswer) (d e : CDomain) : Type 0 where
   pub result : Result R Denial
   pub encodes : answer ≡ encoded (said result)
   pub stays : StaysIdle d.guest e.guest
@@ -88,13 +90,15 @@ EncodesDone request answer d e =
 -- the same for an entry of the domain that followed these bytes
 abbrev pub EncodesFollowed : GrantRef → List ℕ → EncodedAnswer → CDomain → CDomain → Type 0
 EncodesFollowed gref bytes answer d e =
-    EncodesResult outcome_followed (λ r. Follows may d.guest.monitor d.guest.domain gref bytes r e.guest.domain) answer d e
+    EncodesResult outcome_followed (λ r. Follows may d.guest.monitor d.guest.domain gref bytes r e.guest.domain)
+    answer d e
 
 -- the same for a call that is recorded, whose result gives this verdict
-abbrev pub EncodesRecorded : {R : Type 0} → (Result R Denial → AttachedOutcome) → (Result R Denial → CallResult) → Request → Hypercall
-    → EncodedAnswer → CDomain → CDomain → Type 0
+abbrev pub EncodesRecorded : {R : Type 0} → (Result R Denial → AttachedOutcome) → (Result R Denial → CallResult)
+    → Request → Hypercall → EncodedAnswer → CDomain → CDomain → Type 0
 EncodesRecorded said verdict request call answer d e =
-    EncodesResult said (λ r. AnswersRecorded may d.guest.monitor d.guest.domain request call (verdict r) e.guest.domain) answer d e
+    EncodesResult said (λ r. AnswersRecorded may d.guest.monitor d.guest.domain request call (verdict r) e.guest.domain)
+    answer d e
 
 -- the record of a map
 abbrev pub record_of_map : Domain → Hypercall → Result Name Denial → Kept
@@ -103,16 +107,19 @@ record_of_map d call r = record { dom = d.seat.dom; call = call; reply = mapping
 -- the same for a map, whose mapping is kept, and is named by its domain and run
 abbrev pub EncodesMapped : Request → Hypercall → EncodedAnswer → CDomain → CDomain → Type 0
 EncodesMapped request call answer d e =
-    EncodesResult (outcome_mapped d.guest.domain.seat.dom d.run) (λ r. MapAnswered may d.guest.monitor d.guest.domain request r e.guest.domain
+    EncodesResult (outcome_mapped d.guest.domain.seat.dom d.run) (λ r.
+    MapAnswered may d.guest.monitor d.guest.domain request r e.guest.domain
     × AppendsRecord d.guest.domain.trail (record_of_map d.guest.domain call r) e.guest.domain.trail) answer d e
 
 -- the same for an unmap, whose mapping is removed
-abbrev pub EncodesUnmapped : Request → (Option (DomId × GrantRef) → Hypercall) → Name → EncodedAnswer → CDomain → CDomain → Type 0
+abbrev pub EncodesUnmapped : Request → (Option (DomId × GrantRef) → Hypercall) → Name → EncodedAnswer → CDomain
+    → CDomain → Type 0
 EncodesUnmapped request call name answer d e =
     EncodesResult outcome (λ r. Answered may d.guest.monitor d.guest.domain request (verdict_of r) e.guest.domain
     × OnOk r ((p : Mapped) × Removes d.guest.domain.mappings e.guest.domain.mappings name p)
     × OnErr r (KeepsPinned d.guest.domain e.guest.domain)
-    × AppendsRecord d.guest.domain.trail (record_of_result d.guest.domain (call (subject_of d.guest.domain name)) (verdict_of r))
+    × AppendsRecord d.guest.domain.trail
+    (record_of_result d.guest.domain (call (subject_of d.guest.domain name)) (verdict_of r))
     e.guest.domain.trail) answer d e
 
 -- the domain keeps at most this many records, and nothing else changed

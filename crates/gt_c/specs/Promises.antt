@@ -18,10 +18,12 @@ use Rattle.gt_types.specs.declared.denial.Facts.TheVariants.{None as NoFacts}
 use Rattle.gt_types.specs.declared.denial.Rule.TheVariants.{N6}
 use Rattle.gt_attached.specs.declared.answer.AttachedOutcome.TheVariants as outcomes
 use Rattle.gt_c.specs.Asking.{RefusesForeign, handle_named, page, spelled, sub, via}
-use Rattle.gt_c.specs.Calling.{CallsGuest, CallsReporting, KeepsAtMost, Reserves, EncodesDone, EncodesFollowed, EncodesMapped}
+use Rattle.gt_c.specs.Calling.{CallsGuest, CallsReporting, KeepsAtMost, Reserves, EncodesDone, EncodesFollowed}
+use Rattle.gt_c.specs.Calling.{EncodesMapped}
 use Rattle.gt_c.specs.Calling.{EncodesRecorded, EncodesUnmapped, TakesAll, dom_of, ref_at}
 use Rattle.gt_c.specs.Calling.{outcome, outcome_frames, outcome_size, outcome_version}
-use Rattle.gt_c.specs.Reports.{EncodesBegun, EncodesEntry, EncodesMapping, EncodesRecord, copy_asked, no_entry, no_mapping}
+use Rattle.gt_c.specs.Reports.{EncodesBegun, EncodesEntry, EncodesMapping, EncodesRecord, copy_asked}
+use Rattle.gt_c.specs.Reports.{no_entry, no_mapping}
 use Rattle.gt_c.specs.Reports.{no_places, no_record}
 
 -- one of the domain's pages is granted
@@ -52,13 +54,16 @@ FollowsBytes gref bytes answer before after =
 
 -- an entry is revoked, withdrawn, demoted, promoted
 abbrev pub RevokesEntry : ℕ → EncodedAnswer → Option CDomain → Option CDomain → Type 0
-RevokesEntry gref answer before after = CallsGuest before after answer (EncodesDone (requests.Revoke (ref_at gref)) answer)
+RevokesEntry gref answer before after =
+    CallsGuest before after answer (EncodesDone (requests.Revoke (ref_at gref)) answer)
 
 abbrev pub Withdraws : ℕ → EncodedAnswer → Option CDomain → Option CDomain → Type 0
-Withdraws gref answer before after = CallsGuest before after answer (EncodesDone (requests.Withdraw (ref_at gref)) answer)
+Withdraws gref answer before after =
+    CallsGuest before after answer (EncodesDone (requests.Withdraw (ref_at gref)) answer)
 
 abbrev pub DemotesEntry : ℕ → EncodedAnswer → Option CDomain → Option CDomain → Type 0
-DemotesEntry gref answer before after = CallsGuest before after answer (EncodesDone (requests.Demote (ref_at gref)) answer)
+DemotesEntry gref answer before after =
+    CallsGuest before after answer (EncodesDone (requests.Demote (ref_at gref)) answer)
 
 abbrev pub Promotes : ℕ → EncodedAnswer → Option CDomain → Option CDomain → Type 0
 Promotes gref answer before after = CallsGuest before after answer (EncodesDone (requests.Promote (ref_at gref)) answer)
@@ -91,12 +96,14 @@ SetsUp frames answer before after =
 abbrev pub AsksSize : ℕ → EncodedAnswer → Option CDomain → Option CDomain → Type 0
 AsksSize dom answer before after =
     CallsGuest before after answer
-    (EncodesRecorded outcome_size verdict_of_size (requests.QuerySize (dom_of dom)) (calls.QuerySize (dom_of dom)) answer)
+    (EncodesRecorded outcome_size verdict_of_size (requests.QuerySize (dom_of dom)) (calls.QuerySize (dom_of dom))
+    answer)
 
 abbrev pub AsksVersion : ℕ → EncodedAnswer → Option CDomain → Option CDomain → Type 0
 AsksVersion dom answer before after =
     CallsGuest before after answer
-    (EncodesRecorded outcome_version verdict_of_version (requests.GetVersion (dom_of dom)) (calls.GetVersion (dom_of dom)) answer)
+    (EncodesRecorded outcome_version verdict_of_version (requests.GetVersion (dom_of dom))
+    (calls.GetVersion (dom_of dom)) answer)
 
 -- a mapping, or a record, is returned; none is by the name of another domain or run
 abbrev pub ReportsMapping : MapHandle → MappingReport → Option CDomain → Option CDomain → Type 0
@@ -112,7 +119,8 @@ ReportsRecord index report before after =
 -- one of the domain's entries is returned
 abbrev pub ReportsEntry : ℕ → EntryReport → Option CDomain → Option CDomain → Type 0
 ReportsEntry gref report before after =
-    CallsReporting before after report.answer (report.entry ≡ no_entry) (EncodesEntry (ref_at gref) report.entry report.answer)
+    CallsReporting before after report.answer (report.entry ≡ no_entry)
+    (EncodesEntry (ref_at gref) report.entry report.answer)
 
 -- the records are taken
 abbrev pub TakesRecords : EncodedAnswer → Option CDomain → Option CDomain → Type 0

@@ -1,7 +1,8 @@
 //! Plans of `explore`.
 ghost use Rattle.std.specs.Prelude.{◌≡◌};
 ghost use Rattle.std.specs.Option.{option_map};
-ghost use Rattle.gt_commands.specs.Commands.{asked_by_some, explore_for, explore_with, formed_of, one_sought, sought_by};
+ghost use Rattle.gt_commands.specs.Commands.{asked_by_some, explore_for, explore_with, formed_of};
+ghost use Rattle.gt_commands.specs.Commands.{one_sought, sought_by};
 
 use crate::invocation::{Exploration, Format, Invocation, SearchOptions};
 use crate::values::{ExploreForm, formed, sought_of};

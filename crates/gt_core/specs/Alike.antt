@@ -56,7 +56,11 @@ pub record KeylessItem : Type 0 where
 
 -- this item without keys
 abbrev pub keyless_item : Item → KeylessItem
-keyless_item i = record { actor = i.actor; happened = bare_happened i.happened; answer = option_map keyless_answer i.answer }
+keyless_item i = record {
+  actor = i.actor;
+  happened = bare_happened i.happened;
+  answer = option_map keyless_answer i.answer;
+}
 
 -- the items without keys
 unfoldable pub keyless_items : History → List KeylessItem

@@ -146,7 +146,8 @@ pub fn texts_of(alloc: Global, script: &RunScript, limit: usize) -> Result<Found
     requires { CanConfigure (contents_of script.now.head) }
     ensures possible { IfOk result (λ all. All (MayGive (run_contents script.now)) (texts_of_orders all.texts.items)) }
     ensures whole { (text : List ℕ) → AreNumbered script.now.flags script.now.tasks →
-        MayGive (run_contents script.now) text → IfOk result (λ all. IsTextAmong text (texts_of_orders all.texts.items)) }
+        MayGive (run_contents script.now) text →
+        IfOk result (λ all. IsTextAmong text (texts_of_orders all.texts.items)) }
     ensures apart { IfOk result (λ all. AreDifferentTexts (texts_of_orders all.texts.items)) }
 {
     let all = texts_within(alloc, script, limit)?;

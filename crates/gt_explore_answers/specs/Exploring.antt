@@ -21,7 +21,8 @@ use Rattle.gt_explore_verdict.specs.declared.judging.Judgement.{Judgement}
 use Rattle.gt_explore_verdict.specs.declared.judging.Verdict.{Verdict}
 use Rattle.gt_explore_verdict.specs.declared.judging.Verdict.TheVariants.{Holds, Fails, Undecided}
 use Rattle.gt_explore_answers.specs.Texts.{AreDifferentTexts, IsTextAmong}
-use Rattle.gt_explore_answers.specs.Outputs.{Found, counterexample_comment, heading, states_line, texts_output, witness_comment}
+use Rattle.gt_explore_answers.specs.Outputs.{Found, counterexample_comment, heading, states_line, texts_output}
+use Rattle.gt_explore_answers.specs.Outputs.{witness_comment}
 use Rattle.gt_explore_answers.specs.Tracing.{IsDiagram, IsTrace, ShowsMoves}
 use Rattle.gt_explore_answers.specs.Witness.{IsWitness, ShowsAfter}
 use Rattle.gt_explore_answers.specs.declared.asking.ExploreRequest.{ExploreRequest}

@@ -300,7 +300,8 @@ fn push_witnesses(
 ) -> Result<(), TextsFault>
     requires { CanConfigure (contents_of script.now.head) }
     ensures { OnOk result ((more : List ℕ) × (out.new.items ≡ out.old.items ++ more)
-        × AreWitnessOutputs (run_contents script.now) (found_from found.now) 0 (texts_of_orders found.now.texts.items) more) }
+        × AreWitnessOutputs (run_contents script.now) (found_from found.now) 0
+        (texts_of_orders found.now.texts.items) more) }
 {
     let mut number = 0;
     let orders = found.texts.as_slice();
@@ -342,8 +343,8 @@ pub fn moves_output(
     number: usize,
 ) -> Result<ExploreOutput, TextsFault>
     requires { CanConfigure (contents_of script.now.head) }
-    ensures { IfOk result (λ made. GivesMoves (run_contents script.now) form number (found_from found.now) made.text.items
-        made.verdict) }
+    ensures { IfOk result (λ made. GivesMoves (run_contents script.now) form number (found_from found.now)
+        made.text.items made.verdict) }
 {
     let text = moves_shown(alloc, form, script, found, number)?;
     let verdict = verdict_of_all(found.whole);
@@ -365,8 +366,8 @@ pub fn answer_in_text(
 ) -> Result<ExploreOutput, TextsFault>
     requires fits { CanConfigure (contents_of script.now.head) }
     requires texts { AreTextsOf (run_contents script.now) (found_from found.now) }
-    ensures { IfOk result (λ made. IsOutputBy (run_contents script.now) request.entry (map condition_asked conditions.now)
-        (found_from found.now) made.text.items made.verdict) }
+    ensures { IfOk result (λ made. IsOutputBy (run_contents script.now) request.entry
+        (map condition_asked conditions.now) (found_from found.now) made.text.items made.verdict) }
 {
     match request {
         ExploreRequest::Texts => all_texts(alloc, found),

@@ -89,7 +89,8 @@ fn first_unplaced(
     script: &RunScript,
     conditions: &[Condition<'_>],
 ) -> Result<Option<(usize, ConditionFault)>, AllocError>
-    ensures { IfOk result (λ found. found ≡ first_unplaced (run_contents script.now) 1 (map condition_asked conditions.now)) }
+    ensures { IfOk result (λ found.
+        found ≡ first_unplaced (run_contents script.now) 1 (map condition_asked conditions.now)) }
 {
     let mut number = 1;
     'conditions: for condition in conditions {
@@ -111,7 +112,8 @@ pub fn conditions_for<'e>(
     script: &RunScript,
     expression: &'e str,
 ) -> Result<Vec<Condition<'e>>, ExpressionFault>
-    ensures ok { IfOk result (λ cs. AreConditions (run_contents script.now) expression.entry.now (map condition_asked cs.items)) }
+    ensures ok { IfOk result (λ cs.
+        AreConditions (run_contents script.now) expression.entry.now (map condition_asked cs.items)) }
     ensures fault { IfErr result (IsExpressionFault (run_contents script.now) expression.entry.now) }
 {
     let conditions = conditions_of(alloc, expression)?;
@@ -148,7 +150,8 @@ pub fn satisfied(
     conditions: &[Condition<'_>],
     texts: &[FoundText],
 ) -> Result<Vec<bool>, AllocError>
-    ensures { IfOk result (λ met. met.items ≡ map (satisfies (map condition_asked conditions.now)) (texts_of_orders texts.now)) }
+    ensures { IfOk result (λ met.
+        met.items ≡ map (satisfies (map condition_asked conditions.now)) (texts_of_orders texts.now)) }
 {
     let mut met = Vec::new(alloc);
     'texts: for order in texts {

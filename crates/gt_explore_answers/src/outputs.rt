@@ -2,7 +2,8 @@
 ghost use Rattle.std.specs.Prelude.{◌≡◌, ◌++◌, ◌<◌, [], codes, decimal, if◌then◌else◌, length, IfSome, OnOk};
 ghost use Rattle.std.specs.List.{flat_map};
 ghost use Rattle.gt_explore_answers.specs.Exploring.{number_output, verdict_line};
-ghost use Rattle.gt_explore_answers.specs.Outputs.{comment_byte, commented, counterexample_comment, counterexample_lines};
+ghost use Rattle.gt_explore_answers.specs.Outputs.{comment_byte, commented, counterexample_comment};
+ghost use Rattle.gt_explore_answers.specs.Outputs.{counterexample_lines};
 ghost use Rattle.gt_explore_answers.specs.Outputs.{found_from, heading};
 ghost use Rattle.gt_explore_answers.specs.Outputs.{states_line, states_output, text_shown, texts_listed, texts_output};
 ghost use Rattle.gt_explore_answers.specs.Outputs.{unplayable_line, witness_comment};

@@ -101,7 +101,8 @@ impl<'s, 'a> SearchContext<'s, 'a> {
     ghost use Rattle.gt_core.specs.declared.trace.Event.TheVariants.{Tick};
     ghost use Rattle.gt_core.specs.declared.trace.Item.{Item};
     ghost use Rattle.gt_explore_moves.specs.Scenes.{MovesAlong};
-    ghost use Rattle.gt_explore_moves.specs.Ticking.{Closes, ClosesBack, HasStepped, IsTick, ReadsInFrame, ShowsAt, AnswersEnd};
+    ghost use Rattle.gt_explore_moves.specs.Ticking.{AnswersEnd, Closes, ClosesBack, HasStepped, IsTick, ReadsInFrame};
+    ghost use Rattle.gt_explore_moves.specs.Ticking.{ShowsAt};
     ghost use Rattle.gt_explore_moves.specs.Ticking.{TickLeads, TicksAsRun, bytes_by, task_in};
     ghost use Rattle.gt_explore_moves.specs.declared.scene.SearchState.{SearchState};
     ghost use Rattle.gt_explore_state.specs.Shows.{PagesShow};

@@ -4,7 +4,8 @@ use Rattle.std.specs.Prelude.{slice_get}
 use Rattle.gt_explore_replay.specs.Prelude.{domain_of, DomId, DomainConfig, Handle, Request, Unmap, Release, Legal, actor_of}
 use Rattle.gt_explore_replay.specs.Prelude.{Answer, Done, Mapped, Element, Event, Begin, Tick, type_names, RunContents}
 use Rattle.gt_explore_replay.specs.Prelude.{list_of, RunAction}
-use Rattle.gt_explore_replay.specs.Prelude.{Do, Tell, Await, RunTask, setting_of_script, answer_line, Named, MakesRequest, EndsWith}
+use Rattle.gt_explore_replay.specs.Prelude.{Do, Tell, Await, RunTask, setting_of_script, answer_line, Named}
+use Rattle.gt_explore_replay.specs.Prelude.{MakesRequest, EndsWith}
 use Rattle.gt_explore_replay.specs.Prelude.{handle_given, label_given, with_name}
 
 -- orders

@@ -2,7 +2,8 @@
 ghost use Rattle.std.specs.Prelude.{◌≡◌, ◌++◌, OnOk};
 ghost use Rattle.std.specs.Option.{option_map};
 ghost use Rattle.gt_script.specs.RunContents.{run_contents};
-ghost use Rattle.gt_explore_trace.specs.Lines.{line_value, line_word, move_words, step_members, step_words, trace_output};
+ghost use Rattle.gt_explore_trace.specs.Lines.{line_value, line_word, move_words, step_members, step_words};
+ghost use Rattle.gt_explore_trace.specs.Lines.{trace_output};
 
 use crate::answers::{answer_of, push_answer_member, push_answer_part};
 use crate::diagram::{push_arrow, push_note};

@@ -2,7 +2,8 @@
 ghost use Rattle.std.specs.Prelude.{◌≡◌, [], IfErr, IfOk, map};
 ghost use Rattle.std.specs.Option.{option_map};
 ghost use Rattle.gt_explore_verdict.specs.Expressions.{at_mark, conditions_in, fault_in, is_answer_word, is_nonempty};
-ghost use Rattle.gt_explore_verdict.specs.Expressions.{numbered, place_asked, placed, read_term, read_terms, condition_asked};
+ghost use Rattle.gt_explore_verdict.specs.Expressions.{condition_asked, numbered, place_asked, placed, read_term};
+ghost use Rattle.gt_explore_verdict.specs.Expressions.{read_terms};
 ghost use Rattle.gt_explore_verdict.specs.Expressions.{term_asked, terms_in, words_in, IsFaultOf};
 
 use crate::fault::{ConditionFault, ExpressionFault};

@@ -117,7 +117,8 @@ impl AuditRecords {
         answer: &Answer,
     ) -> Result<(), AllocError>
         ensures records { OnOk result
-            (self.new.records.items ≡ self.old.records.items ++ option_to_list (encoded_record dom hypercall answer.now)) }
+            (self.new.records.items
+            ≡ self.old.records.items ++ option_to_list (encoded_record dom hypercall answer.now)) }
         ensures on { self.new.is_on ≡ self.old.is_on }
     {
         if let Some(call) = hypercall {

@@ -199,7 +199,8 @@ abbrev pub AnswersRecorded : {P : Type 0} → (P → AllowRelation) → Monitor 
     → Domain
     → Type 0
 AnswersRecorded may m d request call verdict e =
-    Answered may m d request verdict e × KeepsPinned d e × AppendsRecord d.trail (record_of_result d call verdict) e.trail
+    Answered may m d request verdict e × KeepsPinned d e
+    × AppendsRecord d.trail (record_of_result d call verdict) e.trail
 
 -- a call with an access that is not recorded had this result: the domain has the same mappings, pins and records as
 -- before

@@ -3,7 +3,8 @@ use Rattle.std.specs.Prelude.{◌≡◌, ℕ, List, MatchBool, Result, Ok, Err, 
 use Rattle.gt_run.specs.Prelude.{Size, Denial, Copying, Reading, Writing, Handle, AppendsRecord, HeldPin}
 use Rattle.gt_run.specs.Prelude.{Request, Answer, Domain, Monitor, IsCopiedBy, IsReadBy, IsWrittenBy}
 use Rattle.gt_run.specs.Prelude.{Accesses, Answered, KeepsPinned, MapAnswered, AllowRelation, mapping_reply}
-use Rattle.gt_run.specs.Prelude.{subject_of, record_of_copy, record_of_result, verdict_of, verdict_of_frames, verdict_of_size}
+use Rattle.gt_run.specs.Prelude.{subject_of, record_of_copy, record_of_result}
+use Rattle.gt_run.specs.Prelude.{verdict_of, verdict_of_frames, verdict_of_size}
 use Rattle.gt_run.specs.Prelude.{verdict_of_version, Removes}
 use Rattle.gt_live.specs.Domains.{AccessesQuietly, AnswersQuietly, AnswersRecorded, StaysIn}
 use Rattle.gt_live.specs.Flags.{FlagStepped}
@@ -71,7 +72,8 @@ abbrev pub AnswersCall : {P : Type 0} → (P → AllowRelation) → Monitor P �
 AnswersCall may m d (requests.Map dom gref flags) answer e =
     (r : Result Handle Denial) × (answer ≡ mapped_answer r)
     × MapAnswered may m d (requests.Map dom gref flags) r e
-    × AppendsRecord d.trail (record { dom = d.seat.dom; call = hypercalls.Map dom gref flags; reply = mapping_reply r }) e.trail
+    × AppendsRecord d.trail
+    (record { dom = d.seat.dom; call = hypercalls.Map dom gref flags; reply = mapping_reply r }) e.trail
 AnswersCall may m d (requests.Unmap handle) answer e =
     (r : Result (Unit {0}) Denial) × (answer ≡ plain_answer r)
     × Answered may m d (requests.Unmap handle) (verdict_of r) e

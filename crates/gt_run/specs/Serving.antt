@@ -63,7 +63,8 @@ pub record MakesCall {P : Type 0} (may : P → AllowRelation) (job : ThreadJob P
   pub asks : Asks may job.monitor.now p.domain request answer q.domain
   pub records : Records (is_logged job) (record_made job.part.dom p.domain request answer) recorded lost
   pub named : q.named ≡ with_name p.named job.part.dom (label_given call) (handle_given answer)
-  pub outcomes : q.outcomes ≡ p.outcomes ++ record { line = line; answer = answer; recorded = recorded; lost = lost } ∷ []
+  pub outcomes : q.outcomes
+      ≡ p.outcomes ++ record { line = line; answer = answer; recorded = recorded; lost = lost } ∷ []
 
 -- the effect of a line's action: a call is made, or a flag is raised or passed by a step of the domain
 unfoldable pub DoesDeed : {P : Type 0} → (P → AllowRelation) → ThreadJob P → ℕ → RunAction → ListProgress → ListProgress → Type 0

@@ -51,7 +51,8 @@ Means lines a = (m : Meaning) × ReadsAs (block_text lines) (Ok m) × (a ≡ all
 
 -- the block, after this number of lines, has this first fault
 abbrev pub IsFaultyBlock : ℕ → List (List ℕ) → policy.TokenFault → Type 0
-IsFaultyBlock before lines g = (f : policy.TokenFault) × ReadsAs (block_text lines) (Err f) × (g ≡ fault_in_block before f)
+IsFaultyBlock before lines g =
+    (f : policy.TokenFault) × ReadsAs (block_text lines) (Err f) × (g ≡ fault_in_block before f)
 
 -- the policy of a block or its fault, unless an allocation failed
 abbrev pub IsPolicyOf : ℕ → List (List ℕ) → Result KeptPolicy ScriptError → Type 0

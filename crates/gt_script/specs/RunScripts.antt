@@ -45,7 +45,8 @@ IsStuckError tasks domains (errors.Policy e) = ⊥
 -- list, and else a fault at the line where the first one that does not waits for ever.
 abbrev pub ContentsReadAs : Contents → Result RunContents Wrong → Type 0
 ContentsReadAs c (Ok run) = AllEnd (IsRaisable (tasks_of c)) (tasks_of c) c.domains × (run ≡ run_of c)
-ContentsReadAs c (Err (in_script f)) = IsStuckAt (IsRaisable (tasks_of c)) (tasks_of c) c.domains f.line × (f.kind ≡ Stuck)
+ContentsReadAs c (Err (in_script f)) =
+    IsStuckAt (IsRaisable (tasks_of c)) (tasks_of c) c.domains f.line × (f.kind ≡ Stuck)
 ContentsReadAs c (Err (in_policy g)) = ⊥
 
 -- The bytes mean this script for `run`, or have this first fault; a domain that waits for ever

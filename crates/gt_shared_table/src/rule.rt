@@ -12,7 +12,8 @@ ghost use Rattle.gt_word_history.specs.declared.view.FrameStep.TheVariants as ac
 ghost use Rattle.gt_word_history.specs.declared.view.SeatStep.TheVariants.{Flag};
 ghost use Rattle.gt_shared_table.specs.Rule.{FrameAt, HoldsAll, Places, newcomer, places_of};
 ghost use Rattle.gt_shared_table.specs.Seats.{dealer, dealt_by, gone_holder, learns_all_of, taker};
-ghost use Rattle.gt_shared_table.specs.Recording.{AddsStep, Frees, Locks, LooksAtFlag as looks_at_flag, Returns, no_places};
+ghost use Rattle.gt_shared_table.specs.Recording.{AddsStep, Frees, Locks, LooksAtFlag as looks_at_flag, Returns};
+ghost use Rattle.gt_shared_table.specs.Recording.{no_places};
 ghost use Rattle.gt_shared_table.specs.Words.{promises_word, promises_word_stored};
 
 use atomic_table::{Join, Play, Seat, Shared, Split, TableRule};

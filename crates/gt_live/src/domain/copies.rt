@@ -221,7 +221,8 @@ impl Domain {
         ensures answered { Accesses P.may monitor.now self.old
             (requests.Copy copy.now) (IsCopiedBy (words_of monitor.now).layout (seat_of self.old).dom) result self.new }
         ensures kept { KeepsPinned self.old self.new }
-        ensures recorded { AppendsRecord (trail_of self.old) (record_of_copy self.old copy.now result) (trail_of self.new) }
+        ensures recorded { AppendsRecord (trail_of self.old)
+            (record_of_copy self.old copy.now result) (trail_of self.new) }
     {
         let caller = self.seat.dom();
         match self.make_copy(rt, monitor, copy) {
@@ -313,7 +314,8 @@ impl Domain {
         requires halfway { IsHalfway P.may monitor.now halfway self.old }
         ensures mine { BelongsTo P.may monitor.now self.new }
         ensures ends { EndsHalfway (words_of monitor.now).layout halfway self.old self.new }
-        ensures recorded { AppendsRecord (trail_of self.old) (done_copy self.old (copy_of halfway)) (trail_of self.new) }
+        ensures recorded { AppendsRecord (trail_of self.old)
+            (done_copy self.old (copy_of halfway)) (trail_of self.new) }
     {
         let copy = halfway.copy;
         self.end_halfway(monitor, halfway);

@@ -59,7 +59,8 @@ fn record_map_refusal(
 // Records an unmap that was Ok.
 #[inline(always)]
 fn record_unmap(trail: &mut Trail, caller: DomId, subject: Option<(DomId, GrantRef)>)
-    ensures { AppendsRecord trail.old (record { dom = caller; call = Hypercall.Unmap subject; reply = Reply.Done }) trail.new }
+    ensures { AppendsRecord trail.old
+        (record { dom = caller; call = Hypercall.Unmap subject; reply = Reply.Done }) trail.new }
 {
     record_done(trail, caller, Hypercall::Unmap { subject });
 }
@@ -333,7 +334,8 @@ impl Domain {
         ensures removed { OnOk result ((p : HeldPin) × Removes self.old.mappings self.new.mappings handle p) }
         ensures refused { OnErr result (KeepsPinned self.old self.new) }
         ensures recorded { AppendsRecord self.old.trail
-            (record_of_result self.old (Hypercall.Unmap (subject_of self.old handle)) (verdict_of result)) self.new.trail }
+            (record_of_result self.old (Hypercall.Unmap (subject_of self.old handle)) (verdict_of result))
+            self.new.trail }
     {
         let caller = self.seat.dom();
         match self.unmap_unrecorded(monitor, handle) {
@@ -360,7 +362,8 @@ impl Domain {
         ensures removed { OnOk result ((p : HeldPin) × Removes (mappings_of self.old) (mappings_of self.new) handle p) }
         ensures refused { OnErr result (KeepsPinned self.old self.new) }
         ensures recorded { AppendsRecord (trail_of self.old)
-            (record_of_result self.old (Hypercall.Unmap (subject_of self.old handle)) (verdict_of result)) (trail_of self.new) }
+            (record_of_result self.old (Hypercall.Unmap (subject_of self.old handle)) (verdict_of result))
+            (trail_of self.new) }
     {
         // Each arm has its own copy of the call, so a handle with a mapping is looked up only once.
         match self.subject(handle) {
