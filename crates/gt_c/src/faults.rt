@@ -11,7 +11,7 @@ pub struct FaultText {
 }
 
 fn text_of(kind: u32) -> &'static str
-    ensures says { result.now ≡ fault_bytes kind }
+    ensures bytes { result.now ≡ fault_bytes kind }
     ensures fits { length result.now < 80 }
 {
     match kind {

@@ -56,7 +56,7 @@ const LINES: [&str; 27] = [
 
 // Returns why a call was not made.
 fn unmade(rule: u32) -> &'static str
-    ensures says { result.now ≡ unmade_bytes rule }
+    ensures bytes { result.now ≡ unmade_bytes rule }
     ensures fits { length result.now < 240 }
 {
     match rule {
@@ -71,7 +71,7 @@ fn unmade(rule: u32) -> &'static str
 }
 
 fn text_of(rule: u32) -> &'static str
-    ensures says { result.now ≡ rule_bytes rule }
+    ensures bytes { result.now ≡ rule_bytes rule }
     ensures fits { length result.now < 240 }
 {
     let number = rule as usize;

@@ -22,7 +22,7 @@ fn digits_of(alloc: Global, input: &[u8]) -> Result<Vec<u8>, AllocError>
 /// # Errors
 /// `Syntax` for text that is not hexadecimal, `Limit` for more than 1,048,576 bytes of input, or `Memory`.
 pub fn bytes_of(alloc: Global, hex: bool, input: Vec<u8>) -> Result<Vec<u8>, DumpFault>
-    ensures says { IfOk result (λ bytes. GivesDump hex input.items bytes.items) }
+    ensures gives { IfOk result (λ bytes. GivesDump hex input.items bytes.items) }
     ensures few { IfOk result (λ _. length input.items ≤ LONGEST_TEXT) }
     ensures fault { IfErr result (λ fault. IsNoDump hex input.items fault) }
 {

@@ -165,13 +165,13 @@ pub record DecidesClaim (c : RunContents) (claim : Claim) (conditions : List Ask
     (verdict : Verdict) : Type 0 where
   pub is : verdict ≡ (judged claim (satisfied conditions f) f.whole).verdict
   pub means : Means (MayGive c) claim conditions verdict
-  pub tells : IsClaimOutput c claim conditions f text
+  pub output : IsClaimOutput c claim conditions f text
 
 -- the number of a text that the script may give
 pub record NumbersText (c : RunContents) (given : List ℕ) (f : Found) (text : List ℕ) (verdict : Verdict) : Type 0 where
   pub is : verdict ≡ verdict_at Find (is_some (place_of given f.texts)) f.whole
   pub means : MeansGiven c given verdict
-  pub tells : text ≡ number_output f (place_of given f.texts)
+  pub output : text ≡ number_output f (place_of given f.texts)
 
 -- a script for `play` that gives the answers of the text of a number, if one was found
 abbrev pub GivesWitness : RunContents → ℕ → Found → List ℕ → Verdict → Type 0

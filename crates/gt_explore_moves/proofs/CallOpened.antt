@@ -100,7 +100,7 @@ shows-opened s h tasks ts k a t call q p place now step show rest left dom deed 
                   (ap (λ (r : OpenRequest). path (known_by_place s h d) d r []) is.asks ∙ is.follows);
             },
             record { place = a.next; task_is = refl; last = (let e : suc a.next ≡ a.next + 1 = omega arith in e); of_task = t; there = n.0; dom_is = dom; line_is = refl; deed_is = deed },
-            record { named = k.named; request = q; says = says; asks = refl; given = refl; lost_is = refl },
+            record { named = k.named; request = q; makes = says; asks = refl; given = refl; lost_is = refl },
             rests s h tasks k a.next k.opened (open_call h d.0) a.«open» rest show.opens ∙ sym (same-handles s h g d same),
           );
     }

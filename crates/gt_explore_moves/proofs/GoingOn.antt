@@ -69,7 +69,7 @@ opens-going s h g tasks k next resting c z o p same along task show = absurd sho
 opens-going s h g tasks k next (calling line call lost) c z o p same along task show = (
   along,
   subst (IsOfTask tasks next k.dom line call) (sym task) show.1,
-  record { named = show.2.named; request = show.2.request; says = show.2.says; asks = show.2.asks; given = show.2.given; lost_is = show.2.lost_is },
+  record { named = show.2.named; request = show.2.request; makes = show.2.makes; asks = show.2.asks; given = show.2.given; lost_is = show.2.lost_is },
   show.3 ∙ sym (same-handles s h g k.dom same),
 )
 opens-going s h g tasks k next giving c z o p same along task show =

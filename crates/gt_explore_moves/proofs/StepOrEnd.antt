@@ -360,7 +360,7 @@ module _ (s : Setting) (h : History) (scene : SearchContext) (before : SearchSta
       line-mapped : (p : HeldPin) → v ≡ KeptPin p → Goal z saw answer (label_given call)
       line-mapped p is =
           let t = subst (λ (w : CallResult). EndsAs h k.dom c.request z saw w answer) is told in let handle : Handle = t.0 in
-          let label = map-labelled said.named k.dom call said.request said.says (subst AsksMapping said.asks t.6) in
+          let label = map-labelled said.named k.dom call said.request said.makes (subst AsksMapping said.asks t.6) in
           let kept : m.mappings.items ≡ a.mappings.items = keeps (subst GivesNone (sym t.3) tt) in
           let maps : MapsSo (Some label.0) (KeptPin p) m.mappings.items b.mappings.items = subst (λ (l : Option (List ℕ)). MapsSo l (KeptPin p) m.mappings.items b.mappings.items) label.1
           (subst (λ (w : CallResult). MapsSo (label_given call) w m.mappings.items b.mappings.items) is closed.maps) in

@@ -914,7 +914,7 @@ module _ (c : RunContents) (scene : SearchContext) (hs : List Happening) (place 
         all in (
           subst (λ n. TasksTouch (Unmet move) uses k.dom (drop n tasks)) task.last whole.1,
           subst (RequestTouches (Unmet move) uses k.dom) (sym said.asks)
-              (said-touches (Unmet move) uses said.named k.dom call said.request said.says
+              (said-touches (Unmet move) uses said.named k.dom call said.request said.makes
               (subst (DeedTouches (Unmet move) uses k.dom) task.deed_is whole.0)),
         )
     later-unmet o u giving (along, task, released) all = (

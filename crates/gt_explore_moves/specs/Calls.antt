@@ -95,7 +95,7 @@ pub record IsOfTask (tasks : List RunTask) (next : ℕ) (d : DomId) (line : ℕ)
 pub record IsOfLine (d : DomId) (call : ScriptCall) (lost : Option Handle) (c : Underway) : Type 0 where
   pub named : List Named
   pub request : Request
-  pub says : MakesRequest named d call request
+  pub makes : MakesRequest named d call request
   pub asks : c.request ≡ asked request
   pub given : c.given ≡ bytes_given_by request
   pub lost_is : lost ≡ given_up request

@@ -125,7 +125,7 @@ pub record CallIsOver (label : Option (List ℕ)) (verdict : CallResult) (a b : 
 pub record Closes (h : History) (types : List (List ℕ)) (t : RunTask) (last : Step) (verdict : CallResult) (a : Actor)
     (old new : SearchState) (at : ℕ) (led : TurnResult) : Type 0 where
   pub answer : Answer
-  pub tells : AnswersEnd h last verdict answer
+  pub answers : AnswersEnd h last verdict answer
   pub prints : PrintsLine led (answer_line types t.line t.dom answer)
   pub actor : Actor
   pub becomes : new.actors.items ≡ slice_set old.actors.items at actor

@@ -36,7 +36,7 @@ gained k seen v w past x found left view step shows = record {
   step = (past, x);
   view = view;
   shows = shows;
-  took = record { stood = (step.stood.0, step.stood.1); says = subst (RecordsWord x) (sym step.found_is) step.says; of_last = step.of_last; happens = step.happens };
+  took = record { stood = (step.stood.0, step.stood.1); recorded = subst (RecordsWord x) (sym step.found_is) step.recorded; of_last = step.of_last; happens = step.happens };
   mine = sym (step.stood.1.led_here.parts v.position v step.stood.2).0;
 }
 

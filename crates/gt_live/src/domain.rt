@@ -162,7 +162,7 @@ pub(crate) fn refusal_of(verdict: CallResult) -> Denial
 // Returns the reply for the record of a call whose Ok has no value.
 fn outcome_reply<T>(answer: &Result<T, Denial>) -> Reply
     ensures reply { result ≡ reply_of (outcome_of answer.now) }
-    ensures tells { result_of_reply result ≡ outcome_of answer.now }
+    ensures represents { result_of_reply result ≡ outcome_of answer.now }
 {
     match answer {
         Ok(_) => Reply::Done,
@@ -173,7 +173,7 @@ fn outcome_reply<T>(answer: &Result<T, Denial>) -> Reply
 // Returns the reply for the record of a query of a version.
 fn version_reply(answer: &Result<u32, Denial>) -> Reply
     ensures reply { result ≡ reply_of (verdict_of_version answer.now) }
-    ensures tells { result_of_reply result ≡ verdict_of_version answer.now }
+    ensures represents { result_of_reply result ≡ verdict_of_version answer.now }
 {
     match answer {
         Ok(version) => Reply::Version(*version),
@@ -183,7 +183,7 @@ fn version_reply(answer: &Result<u32, Denial>) -> Reply
 
 fn size_reply(answer: &Result<Size, Denial>) -> Reply
     ensures reply { result ≡ reply_of (verdict_of_size answer.now) }
-    ensures tells { result_of_reply result ≡ verdict_of_size answer.now }
+    ensures represents { result_of_reply result ≡ verdict_of_size answer.now }
 {
     match answer {
         Ok(size) => Reply::Size(*size),
@@ -193,7 +193,7 @@ fn size_reply(answer: &Result<Size, Denial>) -> Reply
 
 fn frames_reply(answer: &Result<u32, Denial>) -> Reply
     ensures reply { result ≡ reply_of (verdict_of_frames answer.now) }
-    ensures tells { result_of_reply result ≡ verdict_of_frames answer.now }
+    ensures represents { result_of_reply result ≡ verdict_of_frames answer.now }
 {
     match answer {
         Ok(frames) => Reply::Frames(*frames),

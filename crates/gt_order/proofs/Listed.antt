@@ -169,7 +169,7 @@ module _ {P : Type 0} (may : P → AllowRelation) (m : Monitor P) where
 
     one-call : (task : RunTask) → IsAmong task job.part.tasks.now → (call : ScriptCall) (done : List RunTask) (p q : ListProgress) → task.deed ≡ Do call
         → (x : MakesCall may job task.line call p q) → (x.answer ≡ no_memory → HasStarved final) → Come done p → Come (done ++ task ∷ []) q
-    one-call task is-in call done p q deed x starves come = by (is-made may m p.domain q.domain (record { before = come.mine; afterwards = asks.2.0; seat = asks.2.1 }) x.request x.answer (said-fits call p.named job.part.dom x.request x.fits x.says) asks.1)
+    one-call task is-in call done p q deed x starves come = by (is-made may m p.domain q.domain (record { before = come.mine; afterwards = asks.2.0; seat = asks.2.1 }) x.request x.answer (said-fits call p.named job.part.dom x.request x.fits x.makes) asks.1)
       where
         asks : Asks may m p.domain x.request x.answer q.domain
         asks = subst (λ (y : Monitor P). Asks may y p.domain x.request x.answer q.domain) over x.asks
@@ -192,7 +192,7 @@ module _ {P : Type 0} (may : P → AllowRelation) (m : Monitor P) where
         by (inl z) =
             call-comes task is-in call deed done p q x come x.request z.0 z.1 z.3 (inl (refl, z.2))
             (λ followed. follows-more (HasStarved final) Stopped m.config (may m.rights) types dom m followed.1 p.named come.held done come.made (answer_lines types dom p.outcomes) task call (record { request = x.request; outcome = z.0; steps = z.1; old = p.domain; new = q.domain }) x.answer
-            (come.follows followed) deed x.says z.2 z.4 starves)
+            (come.follows followed) deed x.makes z.2 z.4 starves)
         by (inr (args, copy, denial, refused, lost, (steps, made))) =
             let m' : CallMade = record { request = requests.Probe args; outcome = Told Granted; steps = steps; old = p.domain; new = q.domain } in
             call-comes task is-in call deed done p q x come (requests.Probe args) (Told Granted) steps made
@@ -201,7 +201,7 @@ module _ {P : Type 0} (may : P → AllowRelation) (m : Monitor P) where
             let none : x.answer ≡ no_memory = lost-memory m followed.1 x.answer denial refused lost in
             without x.answer x.request args m' none copy
             (follows-lost (HasStarved final) Stopped m.config (may m.rights) types dom p.named come.held done come.made (answer_lines types dom p.outcomes) task call m' args
-            (come.follows followed) deed (subst (MakesRequest p.named dom call) copy x.says) refl refl (starves none)))
+            (come.follows followed) deed (subst (MakesRequest p.named dom call) copy x.makes) refl refl (starves none)))
 
     -- a line that made a step on a flag
     one-flag : (task : RunTask) → IsAmong task job.part.tasks.now → (flag : ℕ) (step : FlagStep) → IsFlagStepOf task.deed flag step → (done : List RunTask) (p q : ListProgress) → q ≡ record p { domain = q.domain } → MakesFlagStep may job.monitor.now flag step p.domain q.domain

@@ -28,7 +28,7 @@ pub record MadeAs (k : Layout) (i : ℕ) (step : Step) (seen : Observation) (v w
   pub the : IsThe k i step x.1
   pub shows : seen_in_step x.1 ≡ seen
   pub stores : StoresChange k x.0 x.1
-  pub says : RecordsWord x.1 (word_after k x.0 (word_place_of x.1))
+  pub recorded : RecordsWord x.1 (word_after k x.0 (word_place_of x.1))
   pub stood : StoodWith (Unit {0}) k x.0 v
   pub stands : StoodWith (Unit {0}) k ((v.position, x.1) ∷ x.0) w
 
@@ -47,7 +47,7 @@ module _ (k : Layout) (i : ℕ) (v w : View) (at : v.position ≡ i) where
       the = the;
       shows = shows;
       stores = stores;
-      says = subst (RecordsWord x) (sym takes.found_is) takes.says;
+      recorded = subst (RecordsWord x) (sym takes.found_is) takes.recorded;
       stood = takes.stood;
       stands = subst (StoodWith (Unit {0}) k ((v.position, x) ∷ past)) (sym view) takes.still_stands;
     },

@@ -129,7 +129,7 @@ module _ (b : Board) (c : Config) (may : AllowRelation) (limits : IsWithinLimits
       let on : path (known_at s g d) d cl.request (values cl) ≡ Some (Makes step) = ap (path (known_at s g d) d cl.request) seat.call.3 ∙ (on-way step next (all_shown xs) ∙ next) in
       let here = stands-here s g d cl step reached named seat.call.1 on in
       let inner : IsWithin k step = within c may k g d cl step is here quiet (λ p holder e. unpinned step here p holder e) in
-      let saw : seen_by s g d step ≡ seen_in_step x.1 = sees c s k g x.0 i is agree inside step x.1 inner so.the so.says in
+      let saw : seen_by s g d step ≡ seen_in_step x.1 = sees c s k g x.0 i is agree inside step x.1 inner so.the so.recorded in
       let goes = open-calls-can-go-on s g d cl step action answer reached named seat.call.1 on quiet (on-way step next (values cl ++ seen_by s g d step ∷ []) ∙ (ap way (values-then (seen_by s g d step) saw) ∙ then)) answered in
       let right : IsRight s g (stepped d step (seen_in_step x.1) answer) = subst (λ (z : Observation). IsRight s g (stepped d step z answer)) saw goes.0 in record {
         step = step;
@@ -137,7 +137,7 @@ module _ (b : Board) (c : Config) (may : AllowRelation) (limits : IsWithinLimits
         the = so.the;
         right = right;
         reached = subst (λ (z : Observation). CanBeReached s (stepped d step z answer ∷ g)) saw goes.1;
-        agree = step-kept c may k g x.0 i cl step x.1 answer is limits inside reached agree named seat.call.1 on inner so.the so.stores so.says right;
+        agree = step-kept c may k g x.0 i cl step x.1 answer is limits inside reached agree named seat.call.1 on inner so.the so.stores so.recorded right;
         inner = inner;
         here = here;
         quiet = quiet;

@@ -435,7 +435,7 @@ module _ (b : Board) (c : Config) (may : AllowRelation) (limits : IsWithinLimits
           let next : way_of c may m (all_shown xs) ≡ Some (Makes z) = subst (LastNext (way_of c may m) z) all t.next in
           let then : way_of c may m (all_shown (x ∷ xs)) ≡ Some (Done Granted) = ap (λ (q : List Moment). way_of c may m (all_shown q)) (sym all) ∙ t.done in
           let agree : WritesAgree k o.g t.made.past = subst (WritesAgree k o.g) (ap (λ (q : Moment). q.0) (sym (head-same _ _ _ _ all))) o.writes in
-          let had = read-bytes c k is limits o.g t.made.past t.dom t.frame t.off bytes.bytes.items t.made.inside t.made.access.says agree in
+          let had = read-bytes c k is limits o.g t.made.past t.dom t.frame t.off bytes.bytes.items t.made.inside t.made.access.recorded agree in
           let tells : AnswersAccess o.g z (BytesAnswer bytes) = (bytes, refl, had ∙ ap (λ (n : ℕ). slice_range (contents_at o.g t.dom.0 t.frame) t.off (t.off + n)) t.length_is) in
           ends (BytesAnswer bytes) z next so then tells refl (λ j. items_by_outcome d (way_of c may m) m.request (out j) (made j)) a.1
           (t.made.view ∙ ap (λ (q : List Moment). view_after q m.old.seat.view) all)

@@ -236,7 +236,7 @@ module _ (b : Board) (c : Config) (may : AllowRelation) (limits : IsWithinLimits
           let past : v.past ≡ up_to i h = (stood.1.led_here.parts v.position v stood.2).1 ∙ (λ j. up_to (at-v j) (same.0 j)) in
           let seat : (domain_after (firsts i) ms).seat.view ≡ v = sym (ap (λ (q : SeatOf). q.view) fit.is.1.seat) in
           let o = rec (put i (Resting ms) st) (refit h (p ∷ h) st i (Resting ms) f others (record { is = fit.is.2; steps = ap (λ (q : View). q.steps) seat ∙ before; past = ap (λ (q : View). q.past) seat ∙ past })) in
-          to-here moment st same.0 same.1 (step-on-flag b c may limits is firsts new made.past i l ms x st e fit.is made.access.says (subst (λ (q : StepHistory). Ordered b c may q firsts (put i (Resting ms) st)) (sym same.0) o))
+          to-here moment st same.0 same.1 (step-on-flag b c may limits is firsts new made.past i l ms x st e fit.is made.access.recorded (subst (λ (q : StepHistory). Ordered b c may q firsts (put i (Resting ms) st)) (sym same.0) o))
 
       look-step : (i < k.domains) → ((st : ℕ → Stage) → FitAll h st → Ordered b c may h firsts st) → (ms : List Deed) (x : LookMade) (st : ℕ → Stage) → st i ≡ Resting (Look x ∷ ms) → FitAll (p ∷ h) st → Ordered b c may (p ∷ h) firsts st
       look-step l rec ms x st e f =

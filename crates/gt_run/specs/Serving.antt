@@ -59,7 +59,7 @@ pub record MakesCall {P : Type 0} (may : P → AllowRelation) (job : ThreadJob P
   pub recorded : List Record
   pub lost : ℕ
   pub fits : FitsEntry call
-  pub says : MakesRequest p.named job.part.dom call request
+  pub makes : MakesRequest p.named job.part.dom call request
   pub asks : Asks may job.monitor.now p.domain request answer q.domain
   pub records : Records (is_logged job) (record_made job.part.dom p.domain request answer) recorded lost
   pub named : q.named ≡ with_name p.named job.part.dom (label_given call) (handle_given answer)

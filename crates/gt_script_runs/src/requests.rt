@@ -43,7 +43,7 @@ pub fn request_of<'a, 'c>(
     bytes: &'c [u8],
     call: &ScriptCall<'a>,
 ) -> Request<'c>
-    ensures says { (named : List Named) → AreNamed labels.now named →
+    ensures makes { (named : List Named) → AreNamed labels.now named →
         result ≡ request_of named dom bytes.entry call.now }
     ensures plain { IsProbe (asked result) → ⊥ }
 {

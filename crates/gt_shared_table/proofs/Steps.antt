@@ -155,7 +155,7 @@ module _ (b : Places) (s : State Cell FrameHolder) (holds : HoldsAll b s) (id : 
             subst (λ (i : ℕ). get_elem? z.views i ≡ some next) (sym place_is) (set_here (whole_views (map own_of s.views)) id next (within (whole_views (map own_of s.views)) id v.own.own seen_here)),
           );
           stood_before = holds.words.shown.stood;
-          says = says;
+          recorded = says;
           truth = holds.frames.truth;
         }
 

@@ -70,7 +70,7 @@ pub record Accesses (k : Layout) (v : View) (past : StepHistory) (x : SeatStep) 
   pub stood : StoodWith (Unit {0}) k past v
   pub still_stands : StoodWith (Unit {0}) k ((v.position, x) ∷ past) (with_step past x v)
   pub stood_before : HasStood (Unit {0}) k past
-  pub says : IsTrueStep k past x
+  pub recorded : IsTrueStep k past x
   pub truth : AreTrueSteps k past
 
 -- a frame was freed by this access, and these are left

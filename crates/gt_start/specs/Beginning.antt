@@ -48,7 +48,7 @@ pub record Begins (settings : List DomainSettings) (first_gen : ℕ) (text : Lis
   pub config : Config
   pub set : IsSetBy settings first_gen config
   pub meaning : Meaning
-  pub says : ReadsAs text (Ok meaning)
+  pub reads : ReadsAs text (Ok meaning)
   pub labels : position (is_past (length meaning.types)) settings ≡ None
   pub rights : Table
   pub allows : looks_up rights ≡ is_allowed meaning

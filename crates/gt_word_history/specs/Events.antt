@@ -65,6 +65,6 @@ pub record Happens (k : Layout) (i : ℕ) (x : SeatStep) (past : StepHistory) : 
 -- gives
 pub record TookPlace (k : Layout) (i : ℕ) (m : Moment) : Type 0 where
   pub stood : (z : State (Unit {0}) View) × Stands k m.0 z
-  pub says : RecordsWord m.1 (word_after k m.0 (word_place_of m.1))
+  pub recorded : RecordsWord m.1 (word_after k m.0 (word_place_of m.1))
   pub of_last : PinsLast k m.0 m.1
   pub happens : Happens k i m.1 m.0

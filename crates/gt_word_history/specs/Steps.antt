@@ -32,7 +32,7 @@ pub record TakesStep (S : Type 0) (k : Layout) (v : View) (past : StepHistory) (
   pub stood_before : HasStood S k past
   pub found_is : word_after k past word ≡ found
   pub left_is : word_after k ((v.position, x) ∷ past) word ≡ left
-  pub says : RecordsWord x found
+  pub recorded : RecordsWord x found
   pub of_last : PinsLast k past x
   pub happens : Happens k v.position x past
 

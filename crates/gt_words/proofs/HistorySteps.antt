@@ -166,7 +166,7 @@ takes {S} k s id v x at left shown here own inside there after = let h : StepHis
       still_stands = (z, next, subst (λ (i : ℕ). get_elem? z.views i ≡ some w) (sym own) (set_here s.views id w (within s.views id v here)));
       found_is = sym there_is;
       left_is = sym (next.led_here.words at inside) ∙ get_or-set_same s.words at left 0 (let wide = shown.now.wide in omega arith);
-      says = subst (RecordsWord x) (ap (word_after k h) there ∙ sym there_is) is.0;
+      recorded = subst (RecordsWord x) (ap (word_after k h) there ∙ sym there_is) is.0;
       of_last = is.2;
       happens = subst (λ (i : ℕ). Happens k i x h) (sym own) (record { entries = entries k id h lt x is.1; headers = headers k id h lt x is.1 });
     }
@@ -178,4 +178,4 @@ each_happened k s later h i x shown is = let led = shown.now.led_here in
     let some_part : 0 < length (part_of i shown.history) = subst (λ (g : StepHistory). 0 < length (part_of i g)) (sym is) (part_there later h (i, x)) in
     let seat : i < length s.views = lt_of_not-le (λ l. let e : length (part_of i shown.history) ≡ 0 = ap length (led.no_other i l) in omega arith) in
     let few = shown.now.dealt.1 in let inside : i < k.domains = omega arith in
-    record { stood = stood_at (Unit {0}) k later h (i, x) (subst (HasStood (Unit {0}) k) is shown.stood); says = there.0; of_last = there.2; happens = record { entries = entries k i h inside x there.1; headers = headers k i h inside x there.1 } }
+    record { stood = stood_at (Unit {0}) k later h (i, x) (subst (HasStood (Unit {0}) k) is shown.stood); recorded = there.0; of_last = there.2; happens = record { entries = entries k i h inside x there.1; headers = headers k i h inside x there.1 } }

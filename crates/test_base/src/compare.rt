@@ -5,13 +5,13 @@ use std::fmt::Debug;
 use std::process::Abort;
 
 /// Compares two values.
-pub fn same<T: PartialEq + Debug>(rt: &impl Abort, told: &T, wanted: &T) {
-    assert_eq!(rt; *told, *wanted);
+pub fn same<T: PartialEq + Debug>(rt: &impl Abort, found: &T, wanted: &T) {
+    assert_eq!(rt; *found, *wanted);
 }
 
 /// Compares bytes.
-pub fn bytes_are(rt: &impl Abort, told: &[u8], wanted: &[u8]) {
-    assert_eq!(rt; told, wanted);
+pub fn bytes_are(rt: &impl Abort, found: &[u8], wanted: &[u8]) {
+    assert_eq!(rt; found, wanted);
 }
 
 /// Compares a text.

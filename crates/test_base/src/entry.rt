@@ -72,8 +72,8 @@ fn counts_pins(rt: HostRuntime) {
             Some(after) => Some(pins(*after)),
             None => None,
         };
-        let told = (status_word(&control), control.pinned(*dir), control.idle());
-        same(&rt, &told, &(*status, pinned, pins((0, 0))));
+        let found = (status_word(&control), control.pinned(*dir), control.idle());
+        same(&rt, &found, &(*status, pinned, pins((0, 0))));
     }
 }
 
@@ -89,8 +89,8 @@ fn spells_every_kind(rt: HostRuntime) {
     for (entry, first, second) in BODIES.iter() {
         let control = Control::of_entry(*entry, 1, 0, 0);
         let spelled = Entry::spelled(control, *first, *second);
-        let told = (entry.first_body(), entry.second_body(), spelled);
-        same(&rt, &told, &(*first, *second, *entry));
+        let found = (entry.first_body(), entry.second_body(), spelled);
+        same(&rt, &found, &(*first, *second, *entry));
     }
 }
 
@@ -102,8 +102,8 @@ fn packs_headers(rt: HostRuntime) {
         (1, 1, 5, 512),
     ] {
         let header = Header { version, frames };
-        let told = (header.pack(), Header::unpack(word), header.entries());
-        same(&rt, &told, &(word, header, entries));
+        let found = (header.pack(), Header::unpack(word), header.entries());
+        same(&rt, &found, &(word, header, entries));
     }
 }
 
@@ -139,8 +139,8 @@ static PERMITTED: [(Entry, u16, Dir, Use, [bool; 5]); 5] = [
 fn permits_inside_a_sub_page(rt: HostRuntime) {
     for (entry, dom, dir, purpose, wanted) in PERMITTED.iter() {
         for (range, wanted) in RANGES.iter().zip(wanted.iter()) {
-            let told = entry.permits(DomId(*dom), *dir, *purpose, *range);
-            same(&rt, &told, wanted);
+            let found = entry.permits(DomId(*dom), *dir, *purpose, *range);
+            same(&rt, &found, wanted);
         }
     }
 }
@@ -239,8 +239,8 @@ static WRITTEN: [(Entry, Option<[u8; 8]>, Option<[u8; 16]>); 5] = [
 #[test]
 fn writes_what_it_reads(rt: HostRuntime) {
     for (entry, bytes_v1, bytes_v2) in WRITTEN.iter() {
-        let told = (encode_v1(entry), encode_v2(entry));
-        same(&rt, &told, &(*bytes_v1, *bytes_v2));
+        let found = (encode_v1(entry), encode_v2(entry));
+        same(&rt, &found, &(*bytes_v1, *bytes_v2));
     }
 }
 
@@ -282,8 +282,8 @@ fn counts_the_flags_that_are_refused(rt: HostRuntime) {
         (Field::SubPage, 256, 256),
         (Field::Reserved, 254, 762),
     ] {
-        let told = (field, refused(1, field), refused(2, field));
-        same(&rt, &told, &(field, of_version_1, of_version_2));
+        let found = (field, refused(1, field), refused(2, field));
+        same(&rt, &found, &(field, of_version_1, of_version_2));
     }
 }
 
@@ -295,12 +295,12 @@ fn takes(version: u32, flags: u16) -> bool {
 #[test]
 fn takes_two_flags_and_six(rt: HostRuntime) {
     for flags in 0..=u16::MAX {
-        let told = (flags, takes(1, flags), takes(2, flags));
+        let found = (flags, takes(1, flags), takes(2, flags));
         let wanted = (
             flags,
             matches!(flags, 1 | 5),
             matches!(flags, 1 | 3 | 5 | 7 | 257 | 261),
         );
-        same(&rt, &told, &wanted);
+        same(&rt, &found, &wanted);
     }
 }

@@ -165,8 +165,8 @@ fn done_at_last(
 // Takes all actions.
 fn all_done(rt: &impl Abort, frame: &mut Frame, other: &mut Frame) -> Result<(), Memory> {
     for (doing, behind, others) in DONE.iter() {
-        let told = done_at_last(rt, frame, other, *doing)?;
-        same(rt, &told, &(*behind, *others));
+        let found = done_at_last(rt, frame, other, *doing)?;
+        same(rt, &found, &(*behind, *others));
     }
     Ok(())
 }

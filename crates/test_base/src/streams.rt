@@ -116,8 +116,8 @@ fn writes_go_on_until_all_is_out(rt: HostRuntime) {
             Ok(())
         };
         for end in [None, Some(ErrorKind::BrokenPipe)] {
-            let told = written_before(rt.alloc(), left, end);
-            same(&rt, &(left, told), &(left, (want, true)));
+            let found = written_before(rt.alloc(), left, end);
+            same(&rt, &(left, found), &(left, (want, true)));
         }
     }
 }

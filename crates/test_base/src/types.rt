@@ -126,8 +126,8 @@ fn checked(
 
 #[test]
 fn names_the_fault_of_a_configuration(rt: HostRuntime) {
-    for (domains, first_gen, told) in CONFIGS.iter() {
-        same(&rt, &checked(rt.alloc(), domains, *first_gen), &Ok(*told));
+    for (domains, first_gen, found) in CONFIGS.iter() {
+        same(&rt, &checked(rt.alloc(), domains, *first_gen), &Ok(*found));
     }
 }
 
@@ -147,11 +147,11 @@ fn many_checked(
 
 #[test]
 fn takes_as_many_domains_as_the_limit(rt: HostRuntime) {
-    for (count, first_gen, told) in [
+    for (count, first_gen, found) in [
         (64, 0, Ok(())),
         (65, 1_048_576, Err(ConfigFault::TooMany(DomId(1)))),
     ] {
-        same(&rt, &many_checked(rt.alloc(), count, first_gen), &Ok(told));
+        same(&rt, &many_checked(rt.alloc(), count, first_gen), &Ok(found));
     }
 }
 

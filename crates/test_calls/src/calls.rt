@@ -59,7 +59,7 @@ fn mappings(rt: &impl Abort, alloc: Global) -> Result<Handles<HeldPin>, Memory> 
 }
 
 // Returns whether the caller's request follows the script of these parts, and the number of its actions.
-fn told(
+fn found(
     alloc: Global,
     known: &CallerState<'_, Triples>,
     caller: DomId,
@@ -78,8 +78,8 @@ fn rows_go(
     rows: &[Row],
 ) -> Result<(), Memory> {
     for (at, (caller, request, actions, parts)) in rows.iter().enumerate() {
-        let told = told(alloc, known, *caller, *request, parts)?;
-        assert_eq!(rt; told, (true, *actions), "row {at} of its group");
+        let found = found(alloc, known, *caller, *request, parts)?;
+        assert_eq!(rt; found, (true, *actions), "row {at} of its group");
     }
     Ok(())
 }

@@ -5,8 +5,8 @@ use std::fmt::Debug;
 use std::process::Abort;
 
 /// Compares two values.
-pub fn same<T: PartialEq + Debug>(rt: &impl Abort, told: &T, wanted: &T) {
-    assert_eq!(rt; *told, *wanted);
+pub fn same<T: PartialEq + Debug>(rt: &impl Abort, found: &T, wanted: &T) {
+    assert_eq!(rt; *found, *wanted);
 }
 
 /// Compares a text.

@@ -146,11 +146,11 @@ fn says_what_a_source_may_do(rt: HostRuntime) {
 // With tools/refused.sh, which makes each allocation fail in turn: the answer is the same, or the fault is `Memory`.
 #[test]
 fn memory(rt: HostRuntime) {
-    let told = copy_and_query(rt.alloc());
-    let wanted = if told == Err(true) {
+    let found = copy_and_query(rt.alloc());
+    let wanted = if found == Err(true) {
         Err(true)
     } else {
         wanted()
     };
-    same(&rt, &told, &wanted);
+    same(&rt, &found, &wanted);
 }

@@ -80,8 +80,8 @@ fn compared_in(alloc: Global, text: &str) -> Option<(u32, u32)> {
 #[test]
 fn a_table_answers_as_the_walk(rt: HostRuntime) {
     for (text, triples) in POLICIES.iter() {
-        let told = compared_in(rt.alloc(), text);
-        same(&rt, &(*text, told), &(*text, Some((*triples, 0))));
+        let found = compared_in(rt.alloc(), text);
+        same(&rt, &(*text, found), &(*text, Some((*triples, 0))));
     }
 }
 

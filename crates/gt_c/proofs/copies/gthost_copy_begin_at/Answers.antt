@@ -13,6 +13,6 @@ returns c =
     (record {
       result = c.copy_begin-result.result;
       encodes = c.of-answer.ensures ∙ ap encoded c.begun.ensures;
-      told = c.places_report-places.ensures;
+      shown = c.places_report-places.ensures;
       begins = subst (λ (a : CopyArgs). BeginsAccess may c.here_mut-here.result.now.guest a c.copy_begin-result.result c.copy_begin-result.new.self) c.copy_asked.ensures c.copy_begin-result.ensures.begins;
     })

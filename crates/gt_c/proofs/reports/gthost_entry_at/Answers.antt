@@ -14,7 +14,7 @@ returns c =
     (record {
       found = c.status-found.result;
       encodes = c.of-answer.ensures ∙ ap encoded c.present.ensures;
-      told = c.entry_status-entry.ensures;
+      shown = c.entry_status-entry.ensures;
       stays = c.status-found.ensures.stays;
       looks = c.status-found.ensures.looks;
     })

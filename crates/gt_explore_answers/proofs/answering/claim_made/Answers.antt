@@ -22,6 +22,6 @@ returns c =
     ap (λ (j : Judgement). j.verdict) (c.judge-judgement.ensures ∙ ap (λ (m : List Bool). judged c.args.claim m c.args.found.now.whole) (c.as_slice-2.ensures.value ∙ met)) in record {
       is = verdict;
       means = subst (λ (v : Verdict). Means (MayGive run) c.args.claim cs v) (sym verdict) (judged_means (MayGive run) c.args.claim cs f.texts f.whole are.possible are.whole);
-      tells = tells_by run c.args.claim cs f c.as_slice-3.result.now c.as_slice-2.result.now c.judge-judgement.result c.in_ok-text.text.items
+      output = tells_by run c.args.claim cs f c.as_slice-3.result.now c.as_slice-2.result.now c.judge-judgement.result c.in_ok-text.text.items
           (c.as_slice-3.ensures.value ∙ met) (c.as_slice-2.ensures.value ∙ met) c.judge-judgement.ensures c.in_ok-text.ensures;
     }

@@ -19,5 +19,5 @@ returns c = λ run are.
     c.verdict_on-verdict.ensures ∙ ap (λ (o : Option ℕ). verdict_at Find (is_some o) f.whole) place in record {
       is = verdict;
       means = subst (λ (v : Verdict). MeansGiven run c.args.given.now v) (sym verdict) (means_given run f c.args.given.now are);
-      tells = c.in_ok-push_place.ensures ∙ ap (λ (l : List ℕ). l ++ number_output f c.place_of-place.result) c.new-text.ensures.items ∙ ap (λ (o : Option ℕ). number_output f o) place;
+      output = c.in_ok-push_place.ensures ∙ ap (λ (l : List ℕ). l ++ number_output f c.place_of-place.result) c.new-text.ensures.items ∙ ap (λ (o : Option ℕ). number_output f o) place;
     }

@@ -6,5 +6,5 @@ returns c = record {
   numbered = c.in_ok-order.ensures;
   moves = c.in_ok-moves.moves.items;
   gives = c.in_ok-moves.ensures;
-  told = rw (c.new-out.ensures.items, c.as_slice-text.ensures.value, c.as_slice.ensures.value) at c.in_ok-push_moves.ensures;
+  shown = rw (c.new-out.ensures.items, c.as_slice-text.ensures.value, c.as_slice.ensures.value) at c.in_ok-push_moves.ensures;
 }

@@ -9,7 +9,7 @@ returns-clause-made g c = (
   c.granted_fits.ensures,
   λ named are. (
     c.request_of.result,
-    (c.as_slice.result, c.as_slice.ensures.value ∙ c.in_ok-bytes.ensures, c.request_of.ensures.says named are),
+    (c.as_slice.result, c.as_slice.ensures.value ∙ c.in_ok-bytes.ensures, c.request_of.ensures.makes named are),
     subst (λ (m : Monitor g.row.P.Denot). Asks g.P.Allows.may m c.args.domain.now.domain c.request_of.result c.ask-answer.result c.ask-answer.new.self.domain) c.requires c.ask-answer.ensures.asked,
     subst (λ (label : Option (List ℕ)). AreNamed c.name_mapping.new.labels (with_name named c.args.job.now.part.dom label (handle_given c.ask-answer.result))) c.label_given.ensures (c.in_ok-name_mapping.ensures named are),
   ),

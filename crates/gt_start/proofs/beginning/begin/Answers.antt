@@ -11,7 +11,7 @@ returns-in-Ok-start-clause-begun c =
       config = c.in-Ok-configured.config;
       set = c.in-Ok-configured.ensures;
       meaning = said.0;
-      says = said.1;
+      reads = said.1;
       labels = subst (λ (n : ℕ). position (is_past n) c.args.settings.now ≡ None) (c.count.ensures ∙ same-count policy said.0 said.2)
           c.in_default.ensures;
       rights = c.in-Ok-compile.rights;

@@ -10,7 +10,7 @@ returns c = λ h a there shows fits. let at = c.args.at in let x = c.in-Some.act
     let same : x ≡ a = c.in-Some.ensures.value ∙ get_or_from_slice_get w.actors.items at a x there in
     IfOk-weaker c.line.result _ _ (λ led prints. record {
       answer = c.in_ok-answer.answer;
-      tells = c.in_ok-answer.ensures h shows fits;
+      answers = c.in_ok-answer.ensures h shows fits;
       prints = prints;
       actor = c.close.new.self;
       becomes = refl;
