@@ -13,20 +13,21 @@ use Rattle.gt_live.specs.Halves.{ComesHalfway, EndsHalfway}
 use Rattle.gt_live.specs.declared.domain.copies.PendingCopy.{PendingCopy}
 use Rattle.gt_order.specs.Runs.{FitsTypes, IsCall, KeepsNoPin, CallOutcome}
 use Rattle.gt_order.specs.Runs.CallOutcome.{Told, Kept, Starved, Read, Wrote}
+use Rattle.gt_live.specs.Parts.{config_of, mappings_of, rights_of, seat_of, words_of}
 
 -- the domain d of the monitor m was asked this, with these steps and this outcome, and is then e: a call of a run
 abbrev pub WasMade : {P : Type 0} → (P → AllowRelation) → Monitor P → Request → CallOutcome → List Moment → Domain
     → Domain
     → Type 0
 WasMade may m request outcome steps d e =
-    IsCall m.words m.config (may m.rights)
+    IsCall (words_of m) (config_of m) (may (rights_of m))
     (record { request = request; outcome = outcome; steps = steps; old = d; new = e })
 
 -- what each call of a domain ensures: the domain belongs to the monitor before and after, and has the same seat
 pub record StaysOf {P : Type 0} (may : P → AllowRelation) (m : Monitor P) (d e : Domain) : Type 0 where
   pub before : BelongsTo may m d
   pub afterwards : BelongsTo may m e
-  pub seat : IsSameSeat d.seat e.seat
+  pub seat : IsSameSeat (seat_of d) (seat_of e)
 
 -- calls other than map, unmap and release whose result is that of their path; so a call with an access is one of them
 -- only if it is refused
@@ -41,7 +42,7 @@ abbrev pub DropsAreMade : {P : Type 0} → (P → AllowRelation) → Monitor P �
 DropsAreMade may m request =
     (d e : Domain) (handle : Handle) (result : Result (Unit {0}) Denial) → StaysOf may m d e
     → Answered may m d (request handle) (verdict_of result) e
-    → OnOk result ((p : HeldPin) × Removes d.mappings e.mappings handle p) → OnErr result (KeepsPinned d e)
+    → OnOk result ((p : HeldPin) × Removes (mappings_of d) (mappings_of e) handle p) → OnErr result (KeepsPinned d e)
     → (steps : List Moment) × WasMade may m (request handle) (Told (verdict_of result)) steps d e
 
 -- an unmap
@@ -91,36 +92,36 @@ IsSingle request = ⊥
 abbrev pub WritesAreMade : {P : Type 0} → (P → AllowRelation) → Monitor P → Type 0
 WritesAreMade may m =
     (d e : Domain) (request : Request) (r : Writing) → StaysOf may m d e → IsStoring request
-    → Accesses may m d request (IsWrittenBy m.words.layout d.seat.dom (bytes_given_by request)) (Ok r) e
+    → Accesses may m d request (IsWrittenBy (words_of m).layout (seat_of d).dom (bytes_given_by request)) (Ok r) e
     → KeepsPinned d e → (steps : List Moment) × WasMade may m request Wrote steps d e
 
 -- a copy that is Ok
 abbrev pub CopiesAreMade : {P : Type 0} → (P → AllowRelation) → Monitor P → Type 0
 CopiesAreMade may m =
     (d e : Domain) (args : CopyArgs) (r : Copying) → StaysOf may m d e → FitsTypes (requests.Copy args)
-    → Accesses may m d (requests.Copy args) (IsCopiedBy m.words.layout d.seat.dom) (Ok r) e → KeepsPinned d e
+    → Accesses may m d (requests.Copy args) (IsCopiedBy (words_of m).layout (seat_of d).dom) (Ok r) e → KeepsPinned d e
     → (steps : List Moment) × WasMade may m (requests.Copy args) Wrote steps d e
 
 -- a load or a peek that is Ok, with the bytes that it read
 abbrev pub ReadsAreMade : {P : Type 0} → (P → AllowRelation) → Monitor P → Type 0
 ReadsAreMade may m =
     (d e : Domain) (request : Request) (r : Reading) (bytes : Bytes) → StaysOf may m d e → IsLoading request
-    → bytes.bytes.items ≡ r.bytes → Accesses may m d request (IsReadBy m.words.layout) (Ok r) e → KeepsPinned d e
+    → bytes.bytes.items ≡ r.bytes → Accesses may m d request (IsReadBy (words_of m).layout) (Ok r) e → KeepsPinned d e
     → (steps : List Moment) × WasMade may m request (Read bytes) steps d e
 
 -- a copy that reached its access and could not make it: it made the steps of its probe, and counts as the probe
 abbrev pub LostCopiesAreMade : {P : Type 0} → (P → AllowRelation) → Monitor P → Type 0
 LostCopiesAreMade may m =
     (d e : Domain) (args : CopyArgs) (access : Step) → StaysOf may m d e
-    → Accessed m.words.layout (path_of (known_on may m d) d.seat.dom (requests.Copy args)) access IsUnmade d.seat.view
-    e.seat.view
+    → Accessed (words_of m).layout (path_of (known_on may m d) (seat_of d).dom (requests.Copy args)) access IsUnmade
+    (seat_of d).view (seat_of e).view
     → KeepsPinned d e → (steps : List Moment) × WasMade may m (requests.Probe args) (Told Granted) steps d e
 
 -- a copy in two halves, whose access its caller makes: it made the steps of its probe, and counts as the probe
 abbrev pub HalvesAreMade : {P : Type 0} → (P → AllowRelation) → Monitor P → Type 0
 HalvesAreMade may m =
     (d mid e : Domain) (args : CopyArgs) (halfway : PendingCopy) → BelongsTo may m d
-    → ComesHalfway may m d args halfway mid → EndsHalfway m.words.layout halfway mid e → BelongsTo may m e
+    → ComesHalfway may m d args halfway mid → EndsHalfway (words_of m).layout halfway mid e → BelongsTo may m e
     → (steps : List Moment) × WasMade may m (requests.Probe args) (Told Granted) steps d e
 
 -- a load, a peek, a store or a poke that reached its access and could not make it: it made no step, and counts as never
@@ -128,5 +129,6 @@ HalvesAreMade may m =
 abbrev pub LostAccessesAreMade : {P : Type 0} → (P → AllowRelation) → Monitor P → Type 0
 LostAccessesAreMade may m =
     (d e : Domain) (request : Request) (access : Step) → StaysOf may m d e → IsSingle request
-    → Accessed m.words.layout (path_of (known_on may m d) d.seat.dom request) access IsUnmade d.seat.view e.seat.view
+    → Accessed (words_of m).layout (path_of (known_on may m d) (seat_of d).dom request) access IsUnmade
+    (seat_of d).view (seat_of e).view
     → KeepsPinned d e → WasMade may m request Starved [] d e

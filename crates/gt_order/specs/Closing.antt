@@ -11,11 +11,12 @@ use Rattle.gt_live.specs.declared.monitor.Monitor.{Monitor}
 use Rattle.gt_order.specs.Leaving.{AreReleases}
 use Rattle.gt_order.specs.Runs.{AreDeeds, Deed, IsAtRest, LookMade, domain_after}
 use Rattle.gt_order.specs.Runs.Deed.{Call, Look, OnFlag}
+use Rattle.gt_live.specs.Parts.{config_of, rights_of, words_of}
 
 -- the domain d did these deeds, the last one first, and is then e, between two deeds
 pub record LeadTo {P : Type 0} (may : P → AllowRelation) (m : Monitor P) (d : Domain) (deeds : List Deed) (e : Domain)
     : Type 0 where
-  pub made : AreDeeds m.words m.config (may m.rights) d deeds
+  pub made : AreDeeds (words_of m) (config_of m) (may (rights_of m)) d deeds
   pub now : IsAtRest (domain_after d deeds) e
 
 -- each of these deeds is a withdrawal of an entry, or a look at one
@@ -48,5 +49,5 @@ IsStatus gref (Some control) deeds =
 abbrev pub StatusIsLooking : {P : Type 0} → (P → AllowRelation) → Monitor P → Type 0
 StatusIsLooking may m =
     (d e : Domain) (gref : GrantRef) (found : Option Control) → BelongsTo may m d
-    → LooksAtOwn m.words.layout d gref found e
+    → LooksAtOwn (words_of m).layout d gref found e
     → (deeds : List Deed) × LeadTo may m d deeds e × IsStatus gref found deeds

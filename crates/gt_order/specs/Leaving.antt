@@ -12,6 +12,7 @@ use Rattle.gt_live.specs.declared.domain.Departed.{Departed}
 use Rattle.gt_order.specs.Runs.{AreDeeds, Deed, domain_after}
 use Rattle.gt_order.specs.Runs.CallOutcome.{Told}
 use Rattle.gt_order.specs.Runs.Deed.{Call, Look, OnFlag}
+use Rattle.gt_live.specs.Parts.{mappings_of, seat_left, seat_of}
 
 -- each of these deeds is a release that is Ok
 abbrev pub AreReleases : List Deed → Type 0
@@ -28,5 +29,5 @@ LeavingIsReleasing =
     (b : Board) (c : Config) (may : AllowRelation) (d : Domain) (l : Departed) → IsDomainOf b c may d
     → HasLeft b.layout d l
     → (releases : List Deed) × AreDeeds b c may d releases × AreReleases releases
-    × ((domain_after d releases).seat.view ≡ l.seat.view)
-    × ((h : Handle) → value_of (domain_after d releases).mappings h ≡ None)
+    × ((seat_of (domain_after d releases)).view ≡ (seat_left l).view)
+    × ((h : Handle) → value_of (mappings_of (domain_after d releases)) h ≡ None)

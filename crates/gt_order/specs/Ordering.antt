@@ -11,6 +11,7 @@ use Rattle.gt_order.specs.Agreeing.{IsThe, WritesAgree, dom_at}
 use Rattle.gt_order.specs.Runs.{CallMade, CallOutcome, Deed, SeatRun}
 use Rattle.gt_order.specs.Runs.Deed.{Call, Look, OnFlag}
 use Rattle.gt_order.specs.Runs.CallOutcome.{Told, Kept, Starved, Read, Wrote}
+use Rattle.gt_live.specs.Parts.{seat_of}
 
 -- the step is the newest one of the history, by its seat's domain, and it saw what that step shows
 abbrev pub IsNewest : Layout → DomId → Step → Observation → (StepHistory → Type 0) → StepHistory → Type 0
@@ -125,7 +126,7 @@ items_by_outcome d way request outcome steps = items_of_call d way request (answ
 
 -- the path of a call
 abbrev pub way_of : Config → AllowRelation → CallMade → Continuation
-way_of c may m = path_of (knowledge c may m.old) m.old.seat.dom m.request
+way_of c may m = path_of (knowledge c may m.old) (seat_of m.old).dom m.request
 
 -- these items, with nothing else between them
 abbrev pub of_core : List Item → RunOrder

@@ -12,6 +12,7 @@ use Rattle.gt_order.specs.Prelude.{view_after}
 use Rattle.std.specs.Prelude.{◌⊎◌}
 use Rattle.gt_word_history.specs.declared.view.FrameStep.TheVariants as frames
 use Rattle.gt_calls.specs.declared.request.OpenRequest.TheVariants as asks
+use Rattle.gt_live.specs.Parts.{mappings_of, seat_of}
 
 -- the outcome of a call: the result of its path; a mapping under a handle; a refusal since allocation failed or its
 -- access could not be made; Ok with the bytes that it read; or Ok after it wrote or copied
@@ -48,7 +49,8 @@ KeepsNoPin verdict = Unit {0}
 -- the call took its seat's view from d to e by these steps of its path, which ends with this result
 abbrev pub TookSteps : Board → Config → AllowRelation → Request → CallResult → List Moment → Domain → Domain → Type 0
 TookSteps b c may request verdict steps d e =
-    (called : Called b.layout (path_of (knowledge c may d) d.seat.dom request) verdict d.seat.view e.seat.view)
+    (called : Called b.layout (path_of (knowledge c may d) (seat_of d).dom request) verdict (seat_of d).view
+    (seat_of e).view)
     × (called.steps ≡ steps)
 
 -- an access of a call, which was passed these bytes to write, was made as one step of its seat: a write or a copy
@@ -79,10 +81,11 @@ pub record TookTurns (b : Board) (c : Config) (may : AllowRelation) (request : R
   pub last : Moment
   pub before : List Moment
   pub all : steps ≡ last ∷ before
-  pub view : e.seat.view ≡ view_after steps d.seat.view
-  pub walked : IsCallWalk b.layout (bytes_given_by request) (path_of (knowledge c may d) d.seat.dom request) d.seat.view
+  pub view : (seat_of e).view ≡ view_after steps (seat_of d).view
+  pub walked : IsCallWalk b.layout (bytes_given_by request) (path_of (knowledge c may d) (seat_of d).dom request)
+      (seat_of d).view
       steps
-  pub done : path_of (knowledge c may d) d.seat.dom request (all_shown steps) ≡ Some (Done Granted)
+  pub done : path_of (knowledge c may d) (seat_of d).dom request (all_shown steps) ≡ Some (Done Granted)
 
 -- the call read these bytes by one step, and is Ok after it
 pub record TookRead (b : Board) (c : Config) (may : AllowRelation) (request : Request) (bytes : Bytes)
@@ -91,10 +94,10 @@ pub record TookRead (b : Board) (c : Config) (may : AllowRelation) (request : Re
   pub frame : ℕ
   pub off : ℕ
   pub len : ℕ
-  pub next : path_of (knowledge c may d) d.seat.dom request [] ≡ Some (Makes (ReadBytes dom frame off len))
-  pub done : path_of (knowledge c may d) d.seat.dom request (Nothing ∷ []) ≡ Some (Done Granted)
+  pub next : path_of (knowledge c may d) (seat_of d).dom request [] ≡ Some (Makes (ReadBytes dom frame off len))
+  pub done : path_of (knowledge c may d) (seat_of d).dom request (Nothing ∷ []) ≡ Some (Done Granted)
   pub made : AccessesFrame b.layout (position_in b.layout.ids dom) frame (frames.Read off bytes.bytes.items)
-      d.seat.view e.seat.view
+      (seat_of d).view (seat_of e).view
   pub step : steps ≡ (made.past, Frame (position_in b.layout.ids dom) frame (frames.Read off bytes.bytes.items)) ∷ []
   pub length_is : length bytes.bytes.items ≡ len
 
@@ -103,15 +106,16 @@ pub record TookRead (b : Board) (c : Config) (may : AllowRelation) (request : Re
 abbrev pub IsAnswered : Board → Config → AllowRelation → Request → CallOutcome → List Moment → Domain → Domain → Type 0
 IsAnswered b c may request (Told verdict) steps d e =
     KeepsNoPin verdict × TookSteps b c may request verdict steps d e
-    × LeavesMappings (asked request) verdict d.mappings e.mappings
+    × LeavesMappings (asked request) verdict (mappings_of d) (mappings_of e)
 IsAnswered b c may request (Kept handle p) steps d e =
-    IsMap (asked request) × TookSteps b c may request (Mapped p) steps d e × AddsMapping d.mappings e.mappings handle p
+    IsMap (asked request) × TookSteps b c may request (Mapped p) steps d e
+    × AddsMapping (mappings_of d) (mappings_of e) handle p
 IsAnswered b c may request Starved steps d e =
-    (steps ≡ []) × (e.seat.view ≡ d.seat.view) × KeepsMappings d.mappings e.mappings
+    (steps ≡ []) × ((seat_of e).view ≡ (seat_of d).view) × KeepsMappings (mappings_of d) (mappings_of e)
 IsAnswered b c may request (Read bytes) steps d e =
-    TookRead b c may request bytes steps d e × KeepsMappings d.mappings e.mappings
+    TookRead b c may request bytes steps d e × KeepsMappings (mappings_of d) (mappings_of e)
 IsAnswered b c may request Wrote steps d e =
-    TookTurns b c may request steps d e × KeepsMappings d.mappings e.mappings
+    TookTurns b c may request steps d e × KeepsMappings (mappings_of d) (mappings_of e)
 
 -- each byte is below 256
 abbrev pub AreBytesOf : Option (GrantRef × List ℕ) → Type 0
@@ -126,7 +130,7 @@ FitsTypes request = FitsAsked (asked request) × AreBytesOf (bytes_of request)
 pub record IsCall (b : Board) (c : Config) (may : AllowRelation) (m : CallMade) : Type 0 where
   pub before : IsDomainOf b c may m.old
   pub afterwards : IsDomainOf b c may m.new
-  pub seat : IsSameSeat m.old.seat m.new.seat
+  pub seat : IsSameSeat (seat_of m.old) (seat_of m.new)
   pub fits : FitsTypes m.request
   pub answered : IsAnswered b c may m.request m.outcome m.steps m.old m.new
 
@@ -148,7 +152,7 @@ pub record LookMade : Type 0 where
 -- the look was made, and nothing else was done
 pub record IsLook (k : Layout) (x : LookMade) : Type 0 where
   pub entry : x.gref.0 < TABLE_ENTRIES
-  pub found : Made k (LookControl x.old.seat.dom x.gref) (Word x.word) x.old.seat.view x.new.seat.view
+  pub found : Made k (LookControl (seat_of x.old).dom x.gref) (Word x.word) (seat_of x.old).view (seat_of x.new).view
   pub kept : IsUnsettled x.old x.new
 
 -- what a domain does: a call, a step on a flag, or a look
@@ -159,9 +163,9 @@ pub data Deed : Type 0 where
 
 -- between two deeds the domain changed only its records
 pub record IsAtRest (d e : Domain) : Type 0 where
-  pub seat : e.seat ≡ d.seat
+  pub seat : seat_of e ≡ seat_of d
   pub own : e.own.items ≡ d.own.items
-  pub mappings : e.mappings ≡ d.mappings
+  pub mappings : mappings_of e ≡ mappings_of d
 
 -- what a domain did: the domain as it came with the monitor, and its deeds, the last one first
 pub record SeatRun : Type 0 where
@@ -192,7 +196,7 @@ pub record IsSeatRun (b : Board) (c : Config) (may : AllowRelation) (i : ℕ) (r
     : Type 0 where
   pub starts : IsNewDomain b c may i r.first
   pub deeds : AreDeeds b c may r.first r.deeds
-  pub now : get_elem? views i ≡ some (domain_after r.first r.deeds).seat.view
+  pub now : get_elem? views i ≡ some (seat_of (domain_after r.first r.deeds)).view
 
 -- a run of the monitor whose domains are all between two deeds: words and views show a state, and each domain came with
 -- the monitor, did its deeds one after another, and has the view that it has in that state

@@ -18,10 +18,11 @@ use Rattle.gt_calls.specs.declared.action.CallResult.TheVariants.{Granted}
 use Rattle.gt_calls.specs.declared.request.Request.{Request}
 use Rattle.gt_calls.specs.declared.request.Request.TheVariants as requests
 use Rattle.gt_types.specs.declared.copies.CopyArgs.{CopyArgs}
+use Rattle.gt_live.specs.Parts.{config_of, rights_of, seat_left, seat_of, words_of}
 
 -- the table of the monitor has all frames of its configuration
 abbrev pub HasAllFrames : {P : Type 0} → Monitor P → Type 0
-HasAllFrames m = m.words.frames ≡ frames_kept m.config
+HasAllFrames m = (words_of m).frames ≡ frames_kept (config_of m)
 
 -- the refusal of an allocation, or of an access to a frame that is missing, which no table with all frames gives
 abbrev pub IsLost : {P : Type 0} → Monitor P → Denial → Type 0
@@ -87,13 +88,13 @@ AreDeedsOf may job (Look x ∷ ms) q = ⊥
 -- the list of the domain at the position i was served
 pub record HasList {P : Type 0} (may : P → AllowRelation) (m : Monitor P) (i : ℕ) (s : Served P) : Type 0 where
   pub monitor : s.job.monitor.now ≡ m
-  pub dom : s.job.part.dom ≡ id_at m.words.layout.ids i
+  pub dom : s.job.part.dom ≡ id_at (words_of m).layout.ids i
   pub served : WasServed may s
 
 -- the view is the domain's at the end of its list, or the domain has left since
 abbrev pub IsViewOf : Board → Config → AllowRelation → Domain → View → Type 0
 IsViewOf b c may d v =
-    (v ≡ d.seat.view) ⊎ ((l : Departed) × HasLeft b.layout d l × (v ≡ l.seat.view))
+    (v ≡ (seat_of d).view) ⊎ ((l : Departed) × HasLeft b.layout d l × (v ≡ (seat_left l).view))
 
 -- each of a domain's deeds is one of its list, or a release with which it left
 pub record AreDeedsOfList {P : Type 0} (may : P → AllowRelation) (s : Served P) (made : List Deed) : Type 0 where
@@ -112,23 +113,24 @@ pub record AreOfALegalOrder {P : Type 0} (may : P → AllowRelation) (m : Monito
     : Type 0 where
   pub order : RunOrder
   pub seats : ℕ → SeatRun
-  pub legal : IsLegalOrder m.config (may m.rights) m.words.layout h seats order
-  pub each : (i : ℕ) → i < length m.config.domains.items → AreDeedsOfList may (lists i) (seats i).deeds
+  pub legal : IsLegalOrder (config_of m) (may (rights_of m)) (words_of m).layout h seats order
+  pub each : (i : ℕ) → i < length (config_of m).domains.items → AreDeedsOfList may (lists i) (seats i).deeds
 
 -- if the configuration is within the limits of the core, each domain's list was served, and words and views show a
 -- state in which each domain has the view with which its list ended or it left, then the text of the lists is that of a
 -- legal order
 abbrev pub TextsAreOfALegalOrder : {P : Type 0} → (P → AllowRelation) → Monitor P → Type 0
 TextsAreOfALegalOrder {P} may m =
-    (lists : ℕ → Served P) (s : State (Unit {0}) View) (ends : ℕ → View) → IsWithinLimits m.config
-    → ((i : ℕ) → i < length m.config.domains.items → (l : HasList may m i (lists i))
-    × IsViewOf m.words m.config (may m.rights) l.served.left.domain (ends i) × (get_elem? s.views i ≡ some (ends i)))
-    → (shown : Shows m.words.layout s) → AreOfALegalOrder may m shown.history lists
+    (lists : ℕ → Served P) (s : State (Unit {0}) View) (ends : ℕ → View) → IsWithinLimits (config_of m)
+    → ((i : ℕ) → i < length (config_of m).domains.items → (l : HasList may m i (lists i))
+    × IsViewOf (words_of m) (config_of m) (may (rights_of m)) l.served.left.domain (ends i)
+    × (get_elem? s.views i ≡ some (ends i)))
+    → (shown : Shows (words_of m).layout s) → AreOfALegalOrder may m shown.history lists
 
 -- the jobs are those of the monitor's domains, in their order
 abbrev pub AreOfDomains : {P : Type 0} → Monitor P → List (ThreadJob P) → Type 0
 AreOfDomains m jobs =
-    All (λ d. d.monitor.now ≡ m) jobs × (map (λ d. d.part.dom) jobs ≡ map (λ d. d.id) m.config.domains.items)
+    All (λ d. d.monitor.now ≡ m) jobs × (map (λ d. d.part.dom) jobs ≡ map (λ d. d.id) (config_of m).domains.items)
 
 -- the lists of a run, in the order of their domains, are those of a legal order
 abbrev pub AreOfOneOrder : {P : Type 0} → (P → AllowRelation) → Monitor P → List (Served P) → Type 0
@@ -139,5 +141,5 @@ AreOfOneOrder {P} may m all =
 -- what a run wrote at Ok, by the contract of `run`, is the text of a legal order
 abbrev pub RunsWriteALegalOrder : {P : Type 0} → (P → AllowRelation) → Monitor P → Type 0
 RunsWriteALegalOrder {P} may m =
-    (jobs : List (ThreadJob P)) (old new : Option (List ℕ)) → IsWithinLimits m.config → AreOfDomains m jobs
+    (jobs : List (ThreadJob P)) (old new : Option (List ℕ)) → IsWithinLimits (config_of m) → AreOfDomains m jobs
     → (wrote : WritesAll may jobs old new) → AreOfOneOrder may m wrote.0

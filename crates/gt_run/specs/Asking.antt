@@ -13,6 +13,7 @@ use Rattle.gt_word_history.specs.declared.view.FlagStep.TheVariants.{Raised}
 use Rattle.gt_audit.specs.declared.record.Hypercall.TheVariants as hypercalls
 use Rattle.gt_calls.specs.declared.request.Request.TheVariants as requests
 use Rattle.gt_core.specs.declared.trace.Answer.TheVariants as answers
+use Rattle.gt_live.specs.Parts.{mappings_of, seat_of, trail_of, words_of}
 
 -- a domain with the monitor of its run
 pub record Stand (P : Type 0) : Type 0 where
@@ -21,15 +22,15 @@ pub record Stand (P : Type 0) : Type 0 where
 
 -- the same domain on the same monitor, whatever it did in between
 abbrev pub IsSameStand : {P : Type 0} → Stand P → Stand P → Type 0
-IsSameStand s t = (t.monitor ≡ s.monitor) × (t.domain.seat.dom ≡ s.domain.seat.dom)
+IsSameStand s t = (t.monitor ≡ s.monitor) × ((seat_of t.domain).dom ≡ (seat_of s.domain).dom)
 
 -- the domain made this step on the flag, and nothing else, and still belongs to the monitor
 abbrev pub MakesFlagStep : {P : Type 0} → (P → AllowRelation) → Monitor P → ℕ → FlagStep → Domain → Domain → Type 0
-MakesFlagStep may m flag kind d e = FlagStepped m.words.layout flag kind d e × StaysIn may m d e
+MakesFlagStep may m flag kind d e = FlagStepped (words_of m).layout flag kind d e × StaysIn may m d e
 
 -- a flag that the run has is raised by one step of the domain; any other flag leaves all
 abbrev pub RaisesFlag : {P : Type 0} → (P → AllowRelation) → Monitor P → ℕ → Domain → Domain → Type 0
-RaisesFlag may m flag d e = MatchBool (nat_lt flag m.words.flags) (MakesFlagStep may m flag Raised d e) (e ≡ d)
+RaisesFlag may m flag d e = MatchBool (nat_lt flag (words_of m).flags) (MakesFlagStep may m flag Raised d e) (e ≡ d)
 
 -- the answer of a call that gives no value
 abbrev pub plain_answer : {R : Type 0} → Result R Denial → Answer
@@ -72,18 +73,19 @@ abbrev pub AnswersCall : {P : Type 0} → (P → AllowRelation) → Monitor P �
 AnswersCall may m d (requests.Map dom gref flags) answer e =
     (r : Result Handle Denial) × (answer ≡ mapped_answer r)
     × MapAnswered may m d (requests.Map dom gref flags) r e
-    × AppendsRecord d.trail
-    (record { dom = d.seat.dom; call = hypercalls.Map dom gref flags; reply = mapping_reply r }) e.trail
+    × AppendsRecord (trail_of d)
+    (record { dom = (seat_of d).dom; call = hypercalls.Map dom gref flags; reply = mapping_reply r }) (trail_of e)
 AnswersCall may m d (requests.Unmap handle) answer e =
     (r : Result (Unit {0}) Denial) × (answer ≡ plain_answer r)
     × Answered may m d (requests.Unmap handle) (verdict_of r) e
-    × OnOk r ((p : HeldPin) × Removes d.mappings e.mappings handle p) × OnErr r (KeepsPinned d e)
-    × AppendsRecord d.trail (record_of_result d (hypercalls.Unmap (subject_of d handle)) (verdict_of r)) e.trail
+    × OnOk r ((p : HeldPin) × Removes (mappings_of d) (mappings_of e) handle p) × OnErr r (KeepsPinned d e)
+    × AppendsRecord (trail_of d) (record_of_result d (hypercalls.Unmap (subject_of d handle)) (verdict_of r))
+    (trail_of e)
 AnswersCall may m d (requests.Release handle) answer e =
     (r : Result (Unit {0}) Denial) × (answer ≡ plain_answer r)
     × Answered may m d (requests.Release handle) (verdict_of r) e
-    × OnOk r ((p : HeldPin) × Removes d.mappings e.mappings handle p) × OnErr r (KeepsPinned d e)
-    × (e.trail ≡ d.trail)
+    × OnOk r ((p : HeldPin) × Removes (mappings_of d) (mappings_of e) handle p) × OnErr r (KeepsPinned d e)
+    × (trail_of e ≡ trail_of d)
 AnswersCall may m d (requests.SetVersion version) answer e =
     (r : Result (Unit {0}) Denial) × (answer ≡ plain_answer r)
     × AnswersRecorded may m d (requests.SetVersion version) (hypercalls.SetVersion version) (verdict_of r) e
@@ -98,26 +100,26 @@ AnswersCall may m d (requests.GetVersion dom) answer e =
     × AnswersRecorded may m d (requests.GetVersion dom) (hypercalls.GetVersion dom) (verdict_of_version r) e
 AnswersCall may m d (requests.Load handle off len) answer e =
     (r : Result Reading Denial) × IsReadAnswer r answer
-    × AccessesQuietly may m d (requests.Load handle off len) (IsReadBy m.words.layout) r e
+    × AccessesQuietly may m d (requests.Load handle off len) (IsReadBy (words_of m).layout) r e
 AnswersCall may m d (requests.Peek frame off len) answer e =
     (r : Result Reading Denial) × IsReadAnswer r answer
-    × AccessesQuietly may m d (requests.Peek frame off len) (IsReadBy m.words.layout) r e
+    × AccessesQuietly may m d (requests.Peek frame off len) (IsReadBy (words_of m).layout) r e
 AnswersCall may m d (requests.Store handle off bytes) answer e =
     (r : Result Writing Denial) × (answer ≡ plain_answer r)
     × AccessesQuietly may m d (requests.Store handle off bytes)
-    (IsWrittenBy m.words.layout d.seat.dom bytes.now) r e
+    (IsWrittenBy (words_of m).layout (seat_of d).dom bytes.now) r e
 AnswersCall may m d (requests.Poke frame off bytes) answer e =
     (r : Result Writing Denial) × (answer ≡ plain_answer r)
     × AccessesQuietly may m d (requests.Poke frame off bytes)
-    (IsWrittenBy m.words.layout d.seat.dom bytes.now) r e
+    (IsWrittenBy (words_of m).layout (seat_of d).dom bytes.now) r e
 AnswersCall may m d (requests.Copy args) answer e =
     (r : Result Copying Denial) × (answer ≡ plain_answer r)
-    × Accesses may m d (requests.Copy args) (IsCopiedBy m.words.layout d.seat.dom) r e
-    × KeepsPinned d e × AppendsRecord d.trail (record_of_copy d args r) e.trail
+    × Accesses may m d (requests.Copy args) (IsCopiedBy (words_of m).layout (seat_of d).dom) r e
+    × KeepsPinned d e × AppendsRecord (trail_of d) (record_of_copy d args r) (trail_of e)
 AnswersCall may m d request answer e =
     (r : Result (Unit {0}) Denial) × (answer ≡ plain_answer r) × AnswersQuietly may m d request (verdict_of r) e
 
 -- the same of a domain that keeps its number and its seat, and belongs to the monitor afterwards
 abbrev pub Asks : {P : Type 0} → (P → AllowRelation) → Monitor P → Domain → Request → Answer → Domain → Type 0
 Asks may m d request answer e =
-    (e.seat.dom ≡ d.seat.dom) × AnswersCall may m d request answer e × StaysIn may m d e
+    ((seat_of e).dom ≡ (seat_of d).dom) × AnswersCall may m d request answer e × StaysIn may m d e

@@ -21,6 +21,7 @@ use Rattle.gt_run.specs.Faults.{not_written, run_out_of_memory}
 use Rattle.gt_run.specs.Printing.{BeginsLists, Served, WritesLists, all_lost, audits_in}
 use Rattle.gt_run.specs.Runs.{WroteLists}
 use Rattle.gt_run.specs.Serving.{counted}
+use Rattle.gt_live.specs.Parts.{seat_left, words_of}
 
 -- the fault of a run that had begun to write: an allocation failed, or a write failed
 abbrev pub IsLate : RunFault → Type 0
@@ -50,7 +51,7 @@ views_in (Some g) = g.views
 
 -- the domain of each of these lists left one of these views
 abbrev pub AreGathered : {P : Type 0} → List View → List (Served P) → Type 0
-AreGathered views all = All (λ x. IsAmong x.departed.seat.view views) all
+AreGathered views all = All (λ x. IsAmong (seat_left x.departed).view views) all
 
 -- these views are none, or words and views showed one state with all of them
 abbrev pub ShowTogether : Layout → List View → Type 0
@@ -66,13 +67,13 @@ AreOfThisRun b (Some g) = IsOfThisRun b g
 
 -- what a domain left may be taken in: the first domain's comes first
 abbrev pub MayTakeIn : Board → Option GatheredOf → Departed → Type 0
-MayTakeIn b None l = IsSeatOf b l.seat × (l.seat.view.position ≡ 0)
-MayTakeIn b (Some g) l = IsSeatOf b l.seat × IsOfThisRun b g
+MayTakeIn b None l = IsSeatOf b (seat_left l) × ((seat_left l).view.position ≡ 0)
+MayTakeIn b (Some g) l = IsSeatOf b (seat_left l) × IsOfThisRun b g
 
 -- what a domain left was taken in, and all that was gathered before is still there
 abbrev pub IsTakenIn : Board → Option GatheredOf → Departed → GatheredOf → Type 0
 IsTakenIn b old l g =
-    IsOfThisRun b g × IsAmong l.seat.view g.views × ((v : View) → IsAmong v (views_in old) → IsAmong v g.views)
+    IsOfThisRun b g × IsAmong (seat_left l).view g.views × ((v : View) → IsAmong v (views_in old) → IsAmong v g.views)
 
 -- the part of the domain at the first position comes first
 abbrev pub BeginsFirst : Board → List DomainPart → Type 0
@@ -81,7 +82,7 @@ BeginsFirst b (part ∷ parts) = position_at b part.dom ≡ 0
 
 -- the jobs are of this monitor, that of the first domain first
 abbrev pub AreOnRun : {P : Type 0} → Monitor P → List (ThreadJob P) → Type 0
-AreOnRun m jobs = All (λ d. d.monitor.now ≡ m) jobs × BeginsFirst m.words (map (λ d. d.part) jobs)
+AreOnRun m jobs = All (λ d. d.monitor.now ≡ m) jobs × BeginsFirst (words_of m) (map (λ d. d.part) jobs)
 
 -- the fault of a run in which some domain has no thread
 abbrev pub run_fault_of : ThreadRefusal → RunFault

@@ -18,6 +18,7 @@ use Rattle.gt_run.specs.declared.lists.ThreadJob.{ThreadJob}
 use Rattle.gt_run.specs.declared.lists.DomainPart.{DomainPart}
 use Rattle.gt_run.specs.declared.serving.Output.{Output}
 use Rattle.gt_run.specs.Serving.{IsBegun, IsServed, ListOutcome, audit_lines, counted, lost_in}
+use Rattle.gt_live.specs.Parts.{seat_left, words_of}
 
 -- a list that was served, the outcomes of its calls, what it printed, and what its domain left behind
 pub record Served (P : Type 0) : Type 0 where
@@ -36,14 +37,14 @@ AreServed may all = All (WasServed may) all
 
 -- the domain of the list has in this state the view with which it left
 abbrev pub HasViewIn : {P : Type 0} → State (Unit {0}) View → Served P → Type 0
-HasViewIn s x = get_elem? s.views x.departed.seat.view.position ≡ some x.departed.seat.view
+HasViewIn s x = get_elem? s.views (seat_left x.departed).view.position ≡ some (seat_left x.departed).view
 
 -- words and views show one state, in which the domain of each of these lists has the view with which it left: so the
 -- steps of all of them have one order
 abbrev pub ShowOneState : {P : Type 0} → List (Served P) → Type 0
 ShowOneState [] = Unit {0}
 ShowOneState (x ∷ xs) =
-    (s : State (Unit {0}) View) × Shows x.job.monitor.now.words.layout s × All (HasViewIn s) (x ∷ xs)
+    (s : State (Unit {0}) View) × Shows (words_of x.job.monitor.now).layout s × All (HasViewIn s) (x ∷ xs)
 
 -- the jobs of these lists
 abbrev pub jobs_in : {P : Type 0} → List (Served P) → List (ThreadJob P)
@@ -76,7 +77,7 @@ CameBy false may job o = IsBegun may job o.text.items
 
 -- the job's domain left this seat
 abbrev pub LeavesSeat : {P : Type 0} → ThreadJob P → Departed → Type 0
-LeavesSeat job l = IsSeatOf job.monitor.now.words l.seat × (l.seat.dom ≡ job.part.dom)
+LeavesSeat job l = IsSeatOf (words_of job.monitor.now) (seat_left l) × ((seat_left l).dom ≡ job.part.dom)
 
 abbrev pub IsOutputOf : {P : Type 0} → (P → AllowRelation) → ThreadJob P → Output → Type 0
 IsOutputOf may job o = CameBy o.whole may job o × LeavesSeat job o.left

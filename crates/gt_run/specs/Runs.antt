@@ -22,6 +22,7 @@ use Rattle.gt_run.specs.declared.fault.RunFault.TheVariants.{Play, Thread}
 use Rattle.gt_run.specs.declared.lists.ThreadJob.{ThreadJob}
 use Rattle.gt_run.specs.declared.lists.DomainPart.{DomainPart}
 use Rattle.gt_run.specs.Printing.{AreJobsOf, BeginsAll, WritesAll}
+use Rattle.gt_live.specs.Parts.{config_of, rights_of, words_of}
 
 -- The output of these jobs, by the result of the run. At Ok it is the whole text of their lists. If a thread was
 -- refused it is empty. After a failed write or a failed allocation it is a prefix of such a text. There are no other
@@ -62,8 +63,8 @@ Wrote may Are old new (Err (Play (Policy fault))) = ⊥
 -- these rights and this number of flags
 abbrev pub AreUnder : {P : Type 0} → Config → P → ℕ → Bool → List DomainPart → List (ThreadJob P) → Type 0
 AreUnder {P} config rights flags logged parts jobs =
-    (m : Monitor P) × (m.config ≡ config) × IsWithinLimits config × (m.rights ≡ rights) × (m.words.flags ≡ flags)
-    × (m.words.frames ≡ frames_kept config) × AreJobsOf m logged parts jobs
+    (m : Monitor P) × (config_of m ≡ config) × IsWithinLimits config × (rights_of m ≡ rights)
+    × ((words_of m).flags ≡ flags) × ((words_of m).frames ≡ frames_kept config) × AreJobsOf m logged parts jobs
 
 -- the part has these tasks and these names of types
 abbrev pub IsOver : List RunTask → List (List ℕ) → DomainPart → Type 0
@@ -83,12 +84,12 @@ pub record AreOf (c : RunContents) (logged : Bool) (jobs : List (ThreadJob Scrip
   pub parts : List DomainPart
   pub of_script : AreListsOf c parts
   pub monitor : Monitor ScriptRights
-  pub domains : monitor.config.domains.items ≡ c.head.domains
-  pub limits : IsWithinLimits monitor.config
-  pub generation : monitor.config.first_gen ≡ first_gen c.head
-  pub rights : may_by monitor.rights ≡ may_in c.head
-  pub flags : AreNumbered monitor.words.flags c.tasks
-  pub frames : monitor.words.frames ≡ frames_kept monitor.config
+  pub domains : (config_of monitor).domains.items ≡ c.head.domains
+  pub limits : IsWithinLimits (config_of monitor)
+  pub generation : (config_of monitor).first_gen ≡ first_gen c.head
+  pub rights : may_by (rights_of monitor) ≡ may_in c.head
+  pub flags : AreNumbered (words_of monitor).flags c.tasks
+  pub frames : (words_of monitor).frames ≡ frames_kept (config_of monitor)
   pub jobs_are : AreJobsOf monitor logged parts jobs
 
 -- the script's lists wrote their whole text

@@ -9,6 +9,7 @@ use Rattle.gt_run.specs.Prelude.{Passed, TrailLogger}
 use Rattle.gt_run.specs.Asking.{Asks, MakesFlagStep, RaisesFlag, Stand}
 use Rattle.gt_entry.specs.Entries.{IsEntry}
 use Rattle.gt_script_lines.specs.declared.calls.ScriptCall.TheVariants as calls
+use Rattle.gt_live.specs.Parts.{config_of, rights_of, seat_of, trail_of, words_of}
 
 -- calls
 
@@ -112,8 +113,8 @@ counted count = min count (2 ^ 64 - 1)
 -- this is the monitor's domain of that number, which has done nothing
 pub record IsFirst {P : Type 0} (may : P → AllowRelation) (m : Monitor P) (dom : DomId) (d : Domain) : Type 0 where
   pub position : ℕ
-  pub fresh : IsNewDomain m.words m.config (may m.rights) position d
-  pub own : d.seat.dom ≡ dom
+  pub fresh : IsNewDomain (words_of m) (config_of m) (may (rights_of m)) position d
+  pub own : (seat_of d).dom ≡ dom
 
 -- such a domain is on this monitor
 abbrev pub IsReady : {P : Type 0} → (P → AllowRelation) → Monitor P → DomId → Stand P → Type 0
@@ -158,7 +159,7 @@ pub record IsServed {P : Type 0} (may : P → AllowRelation) (job : ThreadJob P)
   pub last : List ℕ
   pub ends : EndsList job.part.dom job.part.tasks.now number last
   pub prints : text ≡ answer_lines job.part.types.now job.part.dom outcomes ++ last
-  pub leaves : HasLeft job.monitor.now.words.layout left.domain departed
+  pub leaves : HasLeft (words_of job.monitor.now).layout left.domain departed
 
 -- some first lines of the job's list were served from a domain that had done nothing, and this is what their calls
 -- printed
@@ -184,10 +185,10 @@ LogsOutcomes trail (Some t) outcomes =
 pub record IsKeptAt {P : Type 0} (job : ThreadJob P) (p : ListProgress) (d : Domain) (labels : Labels)
     (logger : Option TrailLogger) : Type 0 where
   pub domain : p.domain ≡ d
-  pub own : d.seat.dom ≡ job.part.dom
+  pub own : (seat_of d).dom ≡ job.part.dom
   pub names : AreNamed labels p.named
   pub asked : is_some logger ≡ is_logged job
-  pub recorded : LogsOutcomes d.trail logger p.outcomes
+  pub recorded : LogsOutcomes (trail_of d) logger p.outcomes
 
 -- from each point with such a state, the call of this line leads to a next one, and prints this
 abbrev pub Calls : {P : Type 0} → (P → AllowRelation) → ThreadJob P → ℕ → ScriptCall → Domain → Domain → Labels → Labels
@@ -211,7 +212,7 @@ Makes may job call d e before after answer =
 -- nothing was pushed for the calls of this domain, which has made none
 abbrev pub StartsLogged : {P : Type 0} → ThreadJob P → Domain → Option TrailLogger → Type 0
 StartsLogged job d logger =
-    (d.seat.dom ≡ job.part.dom) × (is_some logger ≡ is_logged job) × LogsOutcomes d.trail logger []
+    ((seat_of d).dom ≡ job.part.dom) × (is_some logger ≡ is_logged job) × LogsOutcomes (trail_of d) logger []
 
 -- a list was served to its end, starting at this domain; the logger and the text are those of its calls
 pub record ServesAll {P : Type 0} (may : P → AllowRelation) (job : ThreadJob P) (d : Domain) (text : List ℕ) (e : Domain)
@@ -224,7 +225,7 @@ pub record ServesAll {P : Type 0} (may : P → AllowRelation) (job : ThreadJob P
   pub ends : EndsList job.part.dom job.part.tasks.now number last
   pub prints : text ≡ answer_lines job.part.types.now job.part.dom left.outcomes ++ last
   pub asked : is_some logger ≡ is_logged job
-  pub recorded : LogsOutcomes e.trail logger left.outcomes
+  pub recorded : LogsOutcomes (trail_of e) logger left.outcomes
 
 -- some first lines of it were served, and the text is what their calls printed
 pub record ServesSome {P : Type 0} (may : P → AllowRelation) (job : ThreadJob P) (d : Domain) (text : List ℕ) : Type 0 where

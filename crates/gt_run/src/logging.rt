@@ -24,6 +24,7 @@ impl<'l> TrailLogger<'l> {
     ghost use Rattle.gt_text.specs.Printing.{type_text};
     ghost use Rattle.gt_audit.specs.Lines.{line_text};
     ghost use Rattle.gt_audit.specs.Trails.{empty_account};
+    ghost use Rattle.gt_live.specs.Parts.{trail_left};
     ghost use Rattle.gt_run.specs.Serving.{counted};
     ghost use Rattle.gt_run.specs.Logging.{LogsNext};
 
@@ -63,7 +64,7 @@ impl<'l> TrailLogger<'l> {
 
     /// Counts the records of a departed domain that could not be allocated, in its trail or in the log.
     pub fn lost(&self, left: &Departed) -> u64
-        ensures { result ≡ counted (left.now.trail.lost + self.now.log.lost) }
+        ensures { result ≡ counted ((trail_left left.now).lost + self.now.log.lost) }
     {
         left.lost().saturating_add(self.log.lost())
     }

@@ -78,6 +78,7 @@ fn copied(answer: Result<Copied, Denial>) -> Answer
 impl<'m, P: Allows> RunningDomain<'m, P> {
     ghost use Rattle.gt_words.specs.Conditions.{IsSeatOf};
     ghost use Rattle.gt_live.specs.Domains.{BelongsTo, HasLeft};
+    ghost use Rattle.gt_live.specs.Parts.{seat_left, trail_of, words_of};
     ghost use Rattle.std.specs.Prelude.{MatchBool};
     ghost use Rattle.gt_word_history.specs.declared.view.FlagStep.TheVariants.{Passed};
     ghost use Rattle.gt_calls.specs.Asking.{asked};
@@ -94,15 +95,15 @@ impl<'m, P: Allows> RunningDomain<'m, P> {
 
     /// Returns the records of its calls so far, in order.
     pub fn trail(&self) -> &Trail
-        ensures { result.now ≡ self.now.domain.trail }
+        ensures { result.now ≡ trail_of self.now.domain }
     {
         self.domain.trail()
     }
 
     /// Leaves the run: releases each mapping with its pin.
     pub fn finish(self) -> Departed
-        ensures left { HasLeft self.entry.monitor.words.layout self.entry.domain result }
-        ensures seat { IsSeatOf self.entry.monitor.words result.seat }
+        ensures left { HasLeft (words_of self.entry.monitor).layout self.entry.domain result }
+        ensures seat { IsSeatOf (words_of self.entry.monitor) (seat_left result) }
     {
         let RunningDomain { monitor, domain } = self;
         domain.finish(monitor)

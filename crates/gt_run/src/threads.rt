@@ -6,6 +6,7 @@ ghost use Rattle.gt_types.specs.Config.{AreFaultless};
 ghost use Rattle.gt_types.specs.declared.limits.TheConstants.{LAST_GENERATION};
 ghost use Rattle.gt_audit.specs.Lines.{lost_text};
 ghost use Rattle.gt_live.specs.Domains.{BelongsTo};
+ghost use Rattle.gt_live.specs.Parts.{words_of};
 ghost use Rattle.gt_text.specs.Streams.{AppendsBeginning};
 ghost use Rattle.gt_run.specs.Faults.{run_out_of_memory};
 ghost use Rattle.gt_run.specs.Joining.{AreGathered, AreOfThisRun, AreOnRun, BeginsFirst, IsLate, IsTakenIn};
@@ -210,8 +211,8 @@ fn keep_audit(
 
 // Adds what a domain left behind to what was gathered. The first domain's comes first.
 fn take_in<P: Allows>(monitor: &Monitor<P>, gathered: Option<Gathered>, left: Departed) -> Gathered
-    requires { MayTakeIn monitor.now.words gathered left }
-    ensures { IsTakenIn monitor.now.words gathered left result }
+    requires { MayTakeIn (words_of monitor.now) gathered left }
+    ensures { IsTakenIn (words_of monitor.now) gathered left result }
 {
     match gathered {
         Some(mut all) => {
@@ -234,7 +235,7 @@ fn join_each<'s, 'a, R: Threads, P: Allows, W: Write>(
     requires { AreOnRun monitor.now (promised handles.items) }
     ensures joins { JoinsWhere (AreGathered (views_in result.gathered)) P.may (promised handles.entry.items)
         result.audit.items result.lost (W.contents writer.old) (W.contents writer.new) result.outcome }
-    ensures run { AreOfThisRun monitor.now.words result.gathered }
+    ensures run { AreOfThisRun (words_of monitor.now) result.gathered }
 {
     let mut outcome = Ok(());
     let mut audit = Vec::new(alloc);
@@ -262,8 +263,8 @@ fn join_each<'s, 'a, R: Threads, P: Allows, W: Write>(
 
 // Loads one word with all gathered seats, if there are any: then words and views show one state of all domains.
 fn learn_of_all<P: Allows>(monitor: &Monitor<P>, gathered: Option<Gathered>)
-    requires { AreOfThisRun monitor.now.words gathered }
-    ensures { ShowTogether monitor.now.words.layout (views_in gathered) }
+    requires { AreOfThisRun (words_of monitor.now) gathered }
+    ensures { ShowTogether (words_of monitor.now).layout (views_in gathered) }
 {
     if let Some(mut all) = gathered {
         monitor.learn_of_all(&mut all);
@@ -349,7 +350,7 @@ pub fn run_each<'a, R: Threads + Wait + Sync, P: Allows + Sync, G: Gate + Sync, 
     writer: &mut W,
 ) -> Result<(), RunFault>
     requires ready { AreReady P.may monitor.now domains.items parts.now }
-    requires first { BeginsFirst monitor.now.words parts.now }
+    requires first { BeginsFirst (words_of monitor.now) parts.now }
     ensures { Wrote P.may (AreJobsOf monitor.now (is_some context.now.log) parts.now)
         (W.contents writer.old) (W.contents writer.new) result }
 {
@@ -361,7 +362,7 @@ pub fn run_each<'a, R: Threads + Wait + Sync, P: Allows + Sync, G: Gate + Sync, 
         rt,
         move |scope| -> ReturnedWriter<'_, W>
             requires ready { AreReady P.may monitor.now domains.items parts.now }
-            requires first { BeginsFirst monitor.now.words parts.now }
+            requires first { BeginsFirst (words_of monitor.now) parts.now }
             ensures same { result.writer.ghost_name ≡ writer.entry.ghost_name }
             ensures text { Wrote P.may (AreJobsOf monitor.entry.now (is_some context.entry.now.log) parts.entry.now)
                 (W.contents writer.entry.now) (W.contents result.writer.now) result.outcome }
