@@ -16,7 +16,7 @@ pub mod OneStep
 pub mod Stepping
 pub mod OwnChanges
 pub mod AtOnce
-pub mod Told
+pub mod Recorded
 pub mod Positions
 pub mod Questions
 pub mod Legs
