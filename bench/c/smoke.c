@@ -245,7 +245,7 @@ static void copies(void)
     struct gthost_copy copy = {{7, 1, 100}, {3, GTHOST_DOMID_SELF, 20}, 30, GTHOST_COPY_SOURCE_GREF};
     struct gthost_begun_copy begun;
     struct gthost_found_mapping found;
-    struct gthost_found_record told;
+    struct gthost_found_record record;
     struct gthost_fault fault;
     struct gthost_answer answer;
     struct gthost_handle name = {0, 0, 0, 0};
@@ -276,16 +276,16 @@ static void copies(void)
     WANT(GTHOST_NO_COPY, 0, GTHOST_NOTHING);
     answer = gthost_revoke(&domain[0], 7);
     WANT(GTHOST_OK, 0, GTHOST_NOTHING);
-    told = gthost_record(&domain[1], 0);
-    answer = told.answer;
+    record = gthost_record(&domain[1], 0);
+    answer = record.answer;
     WANT(GTHOST_OK, 0, GTHOST_NOTHING);
-    HOLDS(told.kept.call == GTHOST_CALL_COPY && told.kept.caller == 2 && told.kept.reply.rule == 10 && told.kept.len == 30);
-    told = gthost_record(&domain[1], 1);
-    HOLDS(told.kept.source.ptr == 7 && told.kept.source.dom == 1 && told.kept.source.off == 100);
-    HOLDS(told.kept.dest.ptr == 3 && told.kept.dest.dom == GTHOST_DOMID_SELF && told.kept.dest.off == 20);
-    HOLDS(told.kept.flags == 1 && told.kept.reply.rule == GTHOST_OK);
-    told = gthost_record(&domain[1], 2);
-    answer = told.answer;
+    HOLDS(record.kept.call == GTHOST_CALL_COPY && record.kept.caller == 2 && record.kept.reply.rule == 10 && record.kept.len == 30);
+    record = gthost_record(&domain[1], 1);
+    HOLDS(record.kept.source.ptr == 7 && record.kept.source.dom == 1 && record.kept.source.off == 100);
+    HOLDS(record.kept.dest.ptr == 3 && record.kept.dest.dom == GTHOST_DOMID_SELF && record.kept.dest.off == 20);
+    HOLDS(record.kept.flags == 1 && record.kept.reply.rule == GTHOST_OK);
+    record = gthost_record(&domain[1], 2);
+    answer = record.answer;
     WANT(GTHOST_ABSENT, 0, GTHOST_NOTHING);
     found = gthost_mapping(&domain[1], name);
     answer = found.answer;
@@ -373,7 +373,7 @@ static bool is_no_end(struct gthost_end end)
     return !end.ptr && !end.dom && !end.off;
 }
 
-/* What is told beside the answer to a null pointer is zero. */
+/* What is returned beside the answer to a null pointer is zero. */
 static void nothing_is_told(void)
 {
     const struct gthost_handle name = {0, 0, 0, 0};

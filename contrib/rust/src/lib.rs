@@ -66,8 +66,8 @@ fn fault(fault: raw::Fault) -> Result<(), Fault> {
 /// # Errors
 /// The first fault of the policy, or that it declares no such type.
 pub fn type_of(policy: &str, name: &str) -> Result<u16, Fault> {
-    let told = unsafe { raw::gthost_type_of_at(policy.as_ptr(), policy.len(), name.as_ptr(), name.len()) };
-    fault(told.fault).map(|()| told.label as u16)
+    let report = unsafe { raw::gthost_type_of_at(policy.as_ptr(), policy.len(), name.as_ptr(), name.len()) };
+    fault(report.fault).map(|()| report.label as u16)
 }
 
 /// Starts a run under a policy's text. All entries begin at the generation `first_gen`. The names of its mappings carry
@@ -78,12 +78,12 @@ pub fn type_of(policy: &str, name: &str) -> Result<u16, Fault> {
 pub fn start(settings: &[Settings], first_gen: u32, run: u32, policy: &str) -> Result<Vec<Domain>, Fault> {
     let none = || raw::Domain { at: std::ptr::null_mut(), is_live: false };
     let mut out: Vec<raw::Domain> = settings.iter().map(|_| none()).collect();
-    let told = unsafe {
+    let started = unsafe {
         raw::gthost_start_at(
             settings.as_ptr(), settings.len(), first_gen, run, policy.as_ptr(), policy.len(), out.as_mut_ptr(), out.len(),
         )
     };
-    fault(told).map(|()| out.into_iter().map(|raw| Domain { raw }).collect())
+    fault(started).map(|()| out.into_iter().map(|raw| Domain { raw }).collect())
 }
 
 fn facts(answer: &raw::Answer) -> Facts {

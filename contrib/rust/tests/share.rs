@@ -41,8 +41,8 @@ fn a_page_in_use_is_not_revoked() {
     assert_eq!(back.mapping(handle).unwrap_err().to_string(), "ABSENT");
     front.revoke(7).unwrap();
     assert_eq!(back.query_size(1).unwrap().frames, 1);
-    let told = back.record(4).unwrap();
-    assert_eq!((told.caller, told.call, told.reply), (2, Call::QuerySize { dom: 1 }, Ok(())));
+    let record = back.record(4).unwrap();
+    assert_eq!((record.caller, record.call, record.reply), (2, Call::QuerySize { dom: 1 }, Ok(())));
     assert_eq!(back.record(5).unwrap_err().rule, Rule::ABSENT);
     let taken = back.take_records().unwrap();
     assert_eq!((taken.records, taken.lost), (5, 0));
