@@ -15,7 +15,7 @@ returns-in_default-clause-leads g c = λ p audit come.
 pub returns-in_ok-answer_call-clause-leads : goal.returns-in_ok-answer_call-clause-leads
 returns-in_ok-answer_call-clause-leads g c = λ p audit come.
     ticks_answered (setting_of c.args.core.now.config (g.P.Allows.may c.args.core.now.rights)) audit c.args.types.now c.args.step.now c.args.most c.in-Some.begun.step.now p c.args.core.now.state _ c.args.kept.now
-    (record { alloc = c.args.kept.now.alloc; labels = c.answer_call.new.labels; calls = c.end.new.self; audit = c.record.new.self }) c.args.out.now.items _ c.in_ok-answer.field-0 c.in-Some-2.answer c.in-Some.begun.told
+    (record { alloc = c.args.kept.now.alloc; labels = c.answer_call.new.labels; calls = c.end.new.self; audit = c.record.new.self }) c.args.out.now.items _ c.in_ok-answer.field-0 c.in-Some-2.answer c.in-Some.begun.hypercall
     (sym (ap (λ (o : Option Opened). option_and_then (λ (s : Opened). s.hypercall) o) c.in-Some.is) ∙ c.of.ensures.hypercalls) (record { is_on = c.record.ensures.on; records = c.in_ok-record.ensures.records }) c.end.ensures.hypercalls
     (sym c.of.ensures.call ∙ ap (λ (o : Option Opened). option_map (λ (s : Opened). s.step.now) o) c.in-Some.is) c.in-Some-2.is come (c.in_ok-answer.ensures.ticks (history_of p) come.stands)
     (c.in_ok-answer_call.ensures.named p.named come.keeps.names) c.end.ensures.calls c.in_ok-answer_call.ensures.line
