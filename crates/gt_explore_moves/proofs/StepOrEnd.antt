@@ -450,7 +450,7 @@ module _ (s : Setting) (h : History) (scene : SearchContext) (before : SearchSta
       line-ends line call lost task said all few leads t dom line-is deed x =
           let j-is : j ≡ course_answered types line call lost k ended.0 = leads ∙ ap (course_after types line call lost k) ended.1 in
           let tells : AnswersEnd (stepped k.dom z saw (Some ended.0) ∷ h) z v x.answer = subst (λ (y : Item). AnswersEnd (y ∷ h) z v x.answer) item-over
-          (tells-under (i ∷ h) way.place z v x.answer (subst (λ (y : Step). AnswersEnd (i ∷ h) y v x.answer) same (to-under (i ∷ h) way.place o.step v x.answer x.tells))) in
+          (tells-under (i ∷ h) way.place z v x.answer (subst (λ (y : Step). AnswersEnd (i ∷ h) y v x.answer) same (to-under (i ∷ h) way.place o.step v x.answer x.answers))) in
           let line-same : answer_line types t.line t.dom x.answer ≡ answer_line types line k.dom ended.0 =
           ap (λ (n : ℕ). answer_line types n t.dom x.answer) line-is ∙ ap (λ (d : DomId). answer_line types line d x.answer) dom
           ∙ ap (λ (l : List ℕ). call_text line k.dom ++ l ++ codes "\n") (same-text types h k.dom c.request z saw v ended.0 x.answer ended.2 tells) in
