@@ -2,8 +2,10 @@
 """Runs a command, and prints before its last line what each crate's proof, tests and edits cost.
 
 The costs are processor seconds (user and system) of the kit's processes, as /proc shows them twice a second while they
-run, so each process may cost up to half a second more. The status is that of the command. If that is 0, the command
-CHECK runs too, before the last line is printed, and its failure makes the status 1.
+run, so each process may cost up to half a second more. Machines differ, so they are also compared with the rows of
+docs/GATE.md: how many times as long this run took, and which crates took a third more or less than their rows by that
+pace. The status is that of the command. If that is 0, the command CHECK runs too, before the last line is printed, and
+its failure makes the status 1.
 
 usage: tools/gate_costs.py [--then CHECK] COMMAND [WORD..]        as .ci/run does, with the command rt ci
 """
@@ -82,6 +84,51 @@ def show(costs, seconds):
         print(f"| {crate} | " + " | ".join(f"{cell:.0f}" if cell >= 0.5 else "" for cell in cells) + " |")
     print("| all | " + " | ".join(f"{cell:.0f}" for cell in sums) + " |")
     print(f"{seconds / 60:.0f} minutes on {os.cpu_count()} processors; {costs.memory / 1024 / 1024:.1f} GiB in the largest process")
+    compare(costs)
+
+
+def rows_of(page):
+    """The rows of the page's table: the seconds of each crate, a column each."""
+    rows = {}
+    for line in page.splitlines():
+        cells = [it.strip() for it in line.strip().strip("|").split("|")]
+        if len(cells) == 6 and re.fullmatch(r"[a-z0-9_]+", cells[0]) and cells[0] not in ("crate", "all"):
+            proof, tests, _, edits = (int(it or 0) for it in cells[1:5])
+            rows[cells[0]] = dict(zip(COLUMNS, (proof, tests, edits)))
+    return rows
+
+
+def compare(costs):
+    """Prints how the costs compare with the rows of docs/GATE.md."""
+    table = costs.table()
+    try:
+        page = rows_of(read("docs/GATE.md").decode())
+    except (OSError, ValueError):
+        return
+    # a part that an earlier run did is in neither sum
+    rows = {
+        crate: {column: row[column] if table[crate][column] else 0 for column in COLUMNS}
+        for crate, row in page.items()
+        if crate in table
+    }
+    of_rows = {column: sum(row[column] for row in rows.values()) for column in COLUMNS}
+    took = {column: sum(table[crate][column] for crate in rows) for column in COLUMNS}
+    total = sum(of_rows.values())
+    if not total or not sum(took.values()):
+        return
+    pace = sum(took.values()) / total
+    parts = ", ".join(f"{column} {took[column] / of_rows[column]:.2f}" for column in COLUMNS if of_rows[column])
+    print(f"by the rows of docs/GATE.md {total} seconds, of which this run took {pace:.2f} times as many ({parts})")
+    other = []
+    for crate in in_order(rows):
+        row, now = sum(rows[crate].values()), sum(table[crate].values()) / pace
+        if abs(now - row) >= max(10, row / 3):
+            other.append(f"{crate} {now:.0f} ({row})")
+    if other:
+        print(f"a third from their rows, by that pace: {', '.join(other)}")
+    new = [crate for crate in in_order(table) if crate not in page]
+    if new:
+        print(f"without a row: {', '.join(new)}")
 
 
 def in_order(table):
