@@ -19,7 +19,7 @@ use Rattle.gt_types.specs.declared.DomId.{DomId}
 use Rattle.gt_types.specs.declared.config.DomainConfig.{DomainConfig}
 use Rattle.gt_script.specs.Stuck.{IsBelow, AreNumbered, IsPassed, PassesAll, IsClosed, IsRaisable, WaitsAt, AllEnd}
 use Rattle.gt_script.specs.Stuck.{IsJudged}
-use Rattle.gt_script.specs.Rounds.{flag_holds, HasFlag, Within, is_unraised, unraised_flags, IsDone, is_waiting, raised_after}
+use Rattle.gt_script.specs.Rounds.{flag_holds, HasFlag, Within, is_unraised, unraised_count, IsDone, is_waiting, raised_after}
 use Rattle.gt_script.specs.Rounds.{is_new}
 use Rattle.gt_script.specs.Rounds.{Comes, WayTo, WaitsFor, TurnGoesOn, HaveCome, Turning, WaitsIn}
 use Rattle.gt_script.specs.Lists.{RunAction, RunTask}
@@ -81,11 +81,11 @@ told-before told flag f h = elim (cases_eq f flag) [
   | inr n ↦ inr (sym (get_or-set_other told flag f true false n) ∙ h)
 ]
 
-no_fewer : (old new : List Bool) (news : Bool) → (news ≡ false → new ≡ old) → (news ≡ true → unraised_flags new < unraised_flags old) → unraised_flags new ≤ unraised_flags old
+no_fewer : (old new : List Bool) (news : Bool) → (news ≡ false → new ≡ old) → (news ≡ true → unraised_count new < unraised_count old) → unraised_count new ≤ unraised_count old
 no_fewer old new true quiet loud = let less = loud refl in omega arith
-no_fewer old new false quiet loud = let same : unraised_flags new ≡ unraised_flags old = ap unraised_flags (quiet refl) in omega arith
+no_fewer old new false quiet loud = let same : unraised_count new ≡ unraised_count old = ap unraised_count (quiet refl) in omega arith
 
-fewer-by : (told : List Bool) (flag : ℕ) → flag < length told → flag_holds told flag ≡ false → unraised_flags (set told flag true) < unraised_flags told
+fewer-by : (told : List Bool) (flag : ℕ) → flag < length told → flag_holds told flag ≡ false → unraised_count (set told flag true) < unraised_count told
 fewer-by told flag within h =
     let sums = sum_by-set is_unraised told flag true false within in
     let was : is_unraised (get_or told flag false) ≡ 1 = ap is_unraised h in
@@ -99,10 +99,10 @@ quiet-tell old new flag false true quiet h e = same-told new flag h ∙ quiet re
 quiet-tell old new flag false false quiet h e = absurd cc
 quiet-tell old new flag true b quiet h e = absurd cc
 
-loud-tell : (old new : List Bool) (flag : ℕ) (news b : Bool) → flag < length new → (news ≡ false → new ≡ old) → (news ≡ true → unraised_flags new < unraised_flags old) → flag_holds new flag ≡ b → (news || not b) ≡ true
-    → unraised_flags (set new flag true) < unraised_flags old
+loud-tell : (old new : List Bool) (flag : ℕ) (news b : Bool) → flag < length new → (news ≡ false → new ≡ old) → (news ≡ true → unraised_count new < unraised_count old) → flag_holds new flag ≡ b → (news || not b) ≡ true
+    → unraised_count (set new flag true) < unraised_count old
 loud-tell old new flag news false within quiet loud h e = let some = no_fewer old new news quiet loud in let less = fewer-by new flag within h in omega (arith, some, less)
-loud-tell old new flag true true within quiet loud h e = subst (λ (k : ℕ). k < unraised_flags old) (sym (ap unraised_flags (same-told new flag h))) (loud refl)
+loud-tell old new flag true true within quiet loud h e = subst (λ (k : ℕ). k < unraised_count old) (sym (ap unraised_count (same-told new flag h))) (loud refl)
 loud-tell old new flag false true within quiet loud h e = absurd cc
 
 passes : (told : List Bool) (set : ℕ → Bool) → Within told set → (d : RunAction) → IsDone told d → IsPassed (λ f. IsTrue (set f)) d
@@ -175,12 +175,12 @@ way-other tasks dom old new place news x w within is other = way-past tasks dom 
 
 pub goes-on : (tasks : List RunTask) (dom : DomId) (old new : List Bool) (place flag : ℕ) (news : Bool) (x : RunTask) → WayTo tasks dom old new place news → place < length tasks
     → (get_or tasks place x).deed ≡ Await flag → (get_or tasks place x).dom.0 ≡ dom.0 → flag_holds new flag ≡ false → TurnGoesOn tasks dom old new place news
-goes-on tasks dom old new place flag news x w within deed own unraised_flags = (
+goes-on tasks dom old new place flag news x w within deed own unraised = (
   let le : place ≤ length tasks = omega arith in le,
   w,
   λ task there.
       let is : get_or tasks place x ≡ task = get_or_from_slice_get tasks place task x there in
-      (flag, subst (λ (t : RunTask). t.deed ≡ Await flag) is deed, subst (λ (t : RunTask). t.dom.0 ≡ dom.0) is own, unraised_flags),
+      (flag, subst (λ (t : RunTask). t.deed ≡ Await flag) is deed, subst (λ (t : RunTask). t.dom.0 ≡ dom.0) is own, unraised),
 )
 
 waits-at : (told : List Bool) (d : RunAction) → is_waiting told d ≡ true → (flag : ℕ) × (d ≡ Await flag) × (flag_holds told flag ≡ false)
@@ -215,10 +215,10 @@ turn-start tasks domains places told have = record {
   rest = λ e i d below there. absurd (omega arith);
 }
 
-loud-turn : (old new newer : List Bool) (news more : Bool) → (news ≡ false → new ≡ old) → (news ≡ true → unraised_flags new < unraised_flags old) → (more ≡ false → newer ≡ new) → (more ≡ true → unraised_flags newer < unraised_flags new)
-    → (news || more) ≡ true → unraised_flags newer < unraised_flags old
+loud-turn : (old new newer : List Bool) (news more : Bool) → (news ≡ false → new ≡ old) → (news ≡ true → unraised_count new < unraised_count old) → (more ≡ false → newer ≡ new) → (more ≡ true → unraised_count newer < unraised_count new)
+    → (news || more) ≡ true → unraised_count newer < unraised_count old
 loud-turn old new newer news true quiet loud calm strong e = let some = no_fewer old new news quiet loud in let less = strong refl in omega (arith, some, less)
-loud-turn old new newer true false quiet loud calm strong e = subst (λ (l : List Bool). unraised_flags l < unraised_flags old) (sym (calm refl)) (loud refl)
+loud-turn old new newer true false quiet loud calm strong e = subst (λ (l : List Bool). unraised_count l < unraised_count old) (sym (calm refl)) (loud refl)
 loud-turn old new newer false false quiet loud calm strong e = absurd cc
 
 pub turn-more : (tasks : List RunTask) (domains : List DomainConfig) (places : List ℕ) (old new newer : List Bool) (i p : ℕ) (news more : Bool) (x : DomainConfig) → Turning tasks domains places old new i news
@@ -381,7 +381,7 @@ waits-as A B to back tasks dom line w = record {
   number = w.number;
   awaits = w.awaits;
   before = all-passed-as A B to dom (take w.at tasks) w.before;
-  unraised_flags = λ b. w.unraised_flags (back w.flag b);
+  unraised = λ b. w.unraised (back w.flag b);
 }
 
 pub judged-as : (A B : ℕ → Type 0) → ((f : ℕ) → A f ↔ B f) → (tasks : List RunTask) (domains : List DomainConfig) (o : Option ℕ) → IsJudged A tasks domains o → IsJudged B tasks domains o

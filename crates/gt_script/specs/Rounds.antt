@@ -26,8 +26,8 @@ is_unraised true = 0
 is_unraised false = 1
 
 -- the number of flags that are not raised
-abbrev pub unraised_flags : List Bool → ℕ
-unraised_flags told = sum_by is_unraised told
+abbrev pub unraised_count : List Bool → ℕ
+unraised_count told = sum_by is_unraised told
 
 -- the flag of an action is raised
 abbrev pub IsDone : List Bool → RunAction → Type 0
@@ -64,7 +64,7 @@ pub record WayTo (tasks : List RunTask) (dom : DomId) (old new : List Bool) (pla
   pub sound : (set : ℕ → Bool) → IsClosed tasks set → Within old set → Within new set
   pub many : length new ≡ length old
   pub quiet : is_news ≡ false → new ≡ old
-  pub loud : is_news ≡ true → unraised_flags new < unraised_flags old
+  pub loud : is_news ≡ true → unraised_count new < unraised_count old
 
 -- a domain at this position waits for a flag that is not raised, unless it is at the end of the tasks
 abbrev pub WaitsFor : List RunTask → DomId → ℕ → List Bool → Type 0
@@ -88,7 +88,7 @@ pub record Turning (tasks : List RunTask) (domains : List DomainConfig) (places 
   pub sound : (set : ℕ → Bool) → IsClosed tasks set → Within old set → Within new set
   pub many : length new ≡ length old
   pub quiet : is_news ≡ false → new ≡ old
-  pub loud : is_news ≡ true → unraised_flags new < unraised_flags old
+  pub loud : is_news ≡ true → unraised_count new < unraised_count old
   pub rest : is_news ≡ false → (i : ℕ) (d : DomainConfig) → i < upto → slice_get domains i ≡ Some d
       → WaitsFor tasks d.id (get_or places i 0) new
 

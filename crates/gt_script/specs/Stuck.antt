@@ -32,7 +32,7 @@ abbrev pub IsClosed : List RunTask → (ℕ → Bool) → Type 0
 IsClosed tasks set = (at : ℕ) (task : RunTask) (flag : ℕ) → slice_get tasks at ≡ Some task → task.deed ≡ Tell flag
     → PassesAll (λ f. IsTrue (set f)) task.dom (take at tasks) → IsTrue (set flag)
 
--- a flag is raised: it is in each closed set, so in the least one
+-- a flag comes to be raised: it is in each closed set, so in the least one
 abbrev pub IsRaisable : List RunTask → ℕ → Type 0
 IsRaisable tasks flag = (set : ℕ → Bool) → IsClosed tasks set → IsTrue (set flag)
 
@@ -50,7 +50,7 @@ pub record WaitsAt (Told : ℕ → Type 0) (tasks : List RunTask) (dom : DomId) 
   pub number : task.line ≡ line
   pub awaits : task.deed ≡ Await flag
   pub before : PassesAll Told dom (take at tasks)
-  pub unraised_flags : ¬ Told flag
+  pub unraised : ¬ Told flag
 
 -- each of the domains comes to the end of its list
 abbrev pub AllEnd : (ℕ → Type 0) → List RunTask → List DomainConfig → Type 0

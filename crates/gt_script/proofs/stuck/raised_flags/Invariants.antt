@@ -1,6 +1,6 @@
 use Rattle.std.proofs.Common.{◌≡◌, length, ℕ, Bool}
 use Rattle.gt_script.specs.Stuck.{IsClosed}
-use Rattle.gt_script.specs.Rounds.{HaveCome, Within, unraised_flags}
+use Rattle.gt_script.specs.Rounds.{HaveCome, Within, unraised_count}
 use Rattle.gt_script.proofs.stuck.raised_flags.Given as goal
 
 abbrev pub invariant-turns : goal.invariant-turns
@@ -8,4 +8,4 @@ invariant-turns l = (length l.turns.told.items ≡ l.flags) × (length l.turns.p
     × ((set : ℕ → Bool) → IsClosed l.tasks set → Within l.turns.told.items set)
 
 abbrev pub decreases-turns : goal.decreases-turns
-decreases-turns l = unraised_flags l.turns.told.items
+decreases-turns l = unraised_count l.turns.told.items
