@@ -18,13 +18,11 @@ use Rattle.gt_types.specs.declared.denial.Facts.TheVariants.{None as NoFacts}
 use Rattle.gt_types.specs.declared.denial.Rule.TheVariants.{N6}
 use Rattle.gt_attached.specs.declared.answer.AttachedOutcome.TheVariants as outcomes
 use Rattle.gt_c.specs.Asking.{RefusesForeign, handle_named, page, spelled, sub, via}
-use Rattle.gt_c.specs.Calling.{CallsGuest, CallsReporting, KeepsAtMost, Reserves, EncodesDone, EncodesFollowed}
-use Rattle.gt_c.specs.Calling.{EncodesMapped}
-use Rattle.gt_c.specs.Calling.{EncodesRecorded, EncodesUnmapped, TakesAll, dom_of, ref_at}
+use Rattle.gt_c.specs.Calling.{CallsGuest, CallsReporting, EncodesDone, EncodesFollowed, EncodesMapped}
+use Rattle.gt_c.specs.Calling.{EncodesRecorded, EncodesUnmapped, KeepsAtMost, Reserves, TakesAll, dom_of, ref_at}
 use Rattle.gt_c.specs.Calling.{outcome, outcome_frames, outcome_size, outcome_version}
 use Rattle.gt_c.specs.Reports.{EncodesBegun, EncodesEntry, EncodesMapping, EncodesRecord, copy_asked}
-use Rattle.gt_c.specs.Reports.{no_entry, no_mapping}
-use Rattle.gt_c.specs.Reports.{no_places, no_record}
+use Rattle.gt_c.specs.Reports.{no_entry, no_mapping, no_places, no_record}
 
 -- one of the domain's pages is granted
 abbrev pub GrantsPage : ℕ → ℕ → ℕ → ℕ → EncodedAnswer → Option CDomain → Option CDomain → Type 0
