@@ -1,6 +1,6 @@
 //! What a handle holds: a domain, and the number of its run.
 
-use gt_allow::AllowTable;
+use gt_policy::AllowTable;
 use gt_attached::AttachedDomain;
 
 /// A domain with the rights of a compiled policy, and the number of its run.

@@ -6,9 +6,8 @@ ghost use Rattle.gt_start.specs.Beginning.{Begins, IsFaultOf, IsNameFault, IsTex
 
 use crate::faults::{EncodedFault, MEMORY, NO_TYPE, TEXT, config_fault, policy_fault};
 use crate::settings::{DomainSettings, configured, label_past};
-use gt_allow::AllowTable;
 use gt_attached::{AttachedDomain, start};
-use gt_policy::Policy;
+use gt_policy::{AllowTable, Policy};
 use gt_types::TypeId;
 use std::alloc::Global;
 

@@ -1,5 +1,5 @@
 //! Whole runs, from their settings to the end of each guest.
-use gt_allow::AllowTable;
+use gt_policy::AllowTable;
 use gt_attached::AttachedDomain;
 use gt_calls::Handle;
 use gt_entry::{Entry, EntryKind};
