@@ -1,3 +1,5 @@
 pub mod Advised
 pub mod Broken
+pub mod ErrorLemmas
+pub mod JudgeLemmas
 pub mod Scripted

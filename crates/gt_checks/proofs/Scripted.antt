@@ -7,7 +7,7 @@ use Rattle.gt_checks.specs.Reporting.{WritesFindings}
 use Rattle.gt_policy_list.specs.Faults.{listing_read_fault}
 use Rattle.gt_policy_list.specs.declared.fault.ListingFault.{ListingFault}
 use Rattle.gt_policy_list.specs.declared.fault.ListingFault.TheVariants as faults
-use Rattle.gt_script_check.specs.Judging.{JudgesScript, for_play, for_run, faulty, line_of_fault}
+use Rattle.gt_checks.specs.Judging.{JudgesScript, for_play, for_run, faulty, line_of_fault}
 use Rattle.gt_text.specs.Laws.{keeps_same, of_any_input}
 use Rattle.gt_text.specs.Streams.{OfInput}
 use Rattle.gt_text.specs.declared.fault.ReadFault.{ReadFault}

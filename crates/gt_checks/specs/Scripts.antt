@@ -8,7 +8,7 @@ use Rattle.gt_script.specs.Contents.{Contents}
 use Rattle.gt_script.specs.RunContents.{RunContents}
 use Rattle.gt_script.specs.RunScripts.{ReadsAsRun}
 use Rattle.gt_script.specs.Script.{ReadsAsScript, Wrong}
-use Rattle.gt_script_check.specs.Judging.{JudgesScript}
+use Rattle.gt_checks.specs.Judging.{JudgesScript}
 use Rattle.gt_text.specs.Streams.{AppendsBeginning}
 
 -- the bytes are a script for `play` or for `run`; or they are neither

@@ -9,8 +9,9 @@
 //! `check_never` returns true exactly if no allow statement grants what is forbidden, and that `why` answers by the
 //! statements of the policy and writes the lines of those that grant what is asked, or of the near misses.
 //!
-//! It uses `gt_policy_check` (the findings and the lines), `gt_neverallow` (breaches), `gt_policy_list` (the faults of
-//! a text), `gt_policy`, `gt_script` and `gt_script_check` (scripts), `gt_text` (reads and writes) and `gt_types`.
+//! It uses `gt_policy_check` (the findings in a policy, and their lines), `gt_neverallow` (breaches), `gt_policy_list`
+//! (the faults of a text), `gt_policy`, `gt_script` and `gt_script_lines` (scripts), `gt_reasons` (the reasons for
+//! faults), `gt_text` (reads and writes) and `gt_types`. What it finds in a script is in `src/script_findings.rt`.
 #![tactic(auto)]
 
 mod breaking;
@@ -18,6 +19,7 @@ mod checking;
 mod explaining;
 mod fault;
 mod reporting;
+mod script_findings;
 mod scripts;
 
 pub use breaking::{NeverText, check_never};

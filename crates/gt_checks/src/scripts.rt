@@ -5,9 +5,9 @@ ghost use Rattle.gt_text.specs.Streams.{OfInput};
 ghost use Rattle.gt_checks.specs.Scripts.{CheckedScript};
 
 use crate::reporting::write_findings;
+use crate::script_findings::judge;
 use gt_policy_check::ReportForm;
 use gt_policy_list::ListingFault;
-use gt_script_check::judge;
 use gt_text::{read_text, text_of};
 use std::alloc::Global;
 use std::io::{Read, Write};

@@ -1,8 +1,8 @@
 use Rattle.std.proofs.Common.{◌≡◌, []}
 use Rattle.gt_policy_check.specs.Check.{error_lines}
-use Rattle.gt_script_check.specs.Judging.{IsAtEither, JudgesScript, for_play, for_run}
-use Rattle.gt_script_check.proofs.JudgeLemmas.{judged_faulty, of_found}
-use Rattle.gt_script_check.proofs.judging.judge.Goals as goal
+use Rattle.gt_checks.specs.Judging.{IsAtEither, JudgesScript, for_play, for_run}
+use Rattle.gt_checks.proofs.JudgeLemmas.{judged_faulty, of_found}
+use Rattle.gt_checks.proofs.script_findings.judging.judge.Goals as goal
 
 -- a script for `play`
 pub returns-in-Ok : goal.returns-in-Ok

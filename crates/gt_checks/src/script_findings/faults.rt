@@ -1,9 +1,9 @@
 //! The error of bytes that are not a script.
 ghost use Rattle.std.specs.Prelude.{◌≡◌, ◌⊎◌, ◌∷◌, [], ℕ, Some, IfOk, OnOk};
 ghost use Rattle.gt_policy_check.specs.Check.{error_lines};
-ghost use Rattle.gt_script_check.specs.Judging.{error_line, IsAtEither};
+ghost use Rattle.gt_checks.specs.Judging.{error_line, IsAtEither};
 
-use crate::warning::{column_number, push_warning};
+use crate::script_findings::warning::{column_number, push_warning};
 use gt_policy_check::{Finding, FindingKind};
 use gt_reasons::{Reason, ReasonNote, block_reason, script_reason};
 use gt_script::{ScriptError, ScriptFaultKind};

@@ -13,7 +13,7 @@ use Rattle.gt_script.specs.Script.{ReadsAsScript, Wrong, in_script, in_policy}
 use Rattle.gt_script.specs.declared.faults.BlockFault.{BlockFault}
 use Rattle.gt_script.specs.declared.faults.ScriptError.{ScriptError}
 use Rattle.gt_script.specs.declared.faults.ScriptError.TheVariants.{Memory, Fault, Policy}
-use Rattle.gt_script_check.specs.Judging.{IsAtEither, JudgesScript, error_line, faulty, line_of_fault}
+use Rattle.gt_checks.specs.Judging.{IsAtEither, JudgesScript, error_line, faulty, line_of_fault}
 
 some_same : (a b : ℕ) → ◌≡◌ {A = Option ℕ} (Some a) (Some b) → a ≡ b
 some_same a b e = ap (λ (o : Option ℕ). option_map_or (λ n. n) o 0) e

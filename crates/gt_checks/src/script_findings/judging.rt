@@ -2,13 +2,13 @@
 ghost use Rattle.std.specs.Prelude.{◌≡◌, ◌+◌, [], ℕ, List, take, IfOk, OnOk};
 ghost use Rattle.gt_types.specs.declared.limits.TheConstants.{LONGEST_TEXT};
 ghost use Rattle.gt_policy_check.specs.Check.{error_lines};
-ghost use Rattle.gt_script_check.specs.Judging.{JudgesScript};
+ghost use Rattle.gt_checks.specs.Judging.{JudgesScript};
 
-use crate::block::warn_block;
-use crate::faults::errors;
-use crate::labels::{label_in, warn_label};
-use crate::triples::warn_triple;
-use crate::worn::{body_start, worn_types};
+use crate::script_findings::block::warn_block;
+use crate::script_findings::faults::errors;
+use crate::script_findings::labels::{label_in, warn_label};
+use crate::script_findings::triples::warn_triple;
+use crate::script_findings::worn::{body_start, worn_types};
 use gt_policy_check::Finding;
 use gt_script::{parse, parse_run};
 use gt_script_lines::text_lines;

@@ -2,7 +2,7 @@
 ghost use Rattle.std.specs.Prelude.{◌≡◌, OnOk};
 ghost use Rattle.gt_policy_check.specs.Check.{error_lines};
 
-use crate::warning::{is_error, push_warning};
+use crate::script_findings::warning::{is_error, push_warning};
 use gt_policy_check::{Finding, check_worn};
 use gt_reasons::block_text;
 use gt_types::Memory;

@@ -2,7 +2,7 @@
 ghost use Rattle.std.specs.Prelude.{◌≡◌, OnOk};
 ghost use Rattle.gt_policy_check.specs.Check.{error_lines};
 
-use crate::warning::{column_number, push_warning};
+use crate::script_findings::warning::{column_number, push_warning};
 use gt_policy_check::{Finding, FindingKind, push_hint, said_of};
 use gt_reasons::column_of;
 use gt_script_lines::{BodyLine, Number, ScriptCall, ScriptLine, line_words, read_line};

@@ -1,0 +1,15 @@
+//! What is wrong or useless in a script and its policy block.
+//!
+//! `judge` finds the error of a script, or what is useless in one: what `gt_policy_check` finds in its policy block,
+//! the types that no domain has, the statements and triples that allow nothing to its domains, and the labels that no
+//! earlier map has.
+
+mod block;
+mod faults;
+mod judging;
+mod labels;
+mod triples;
+mod warning;
+mod worn;
+
+pub use judging::judge;

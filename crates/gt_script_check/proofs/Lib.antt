@@ -1,2 +1,0 @@
-pub mod ErrorLemmas
-pub mod JudgeLemmas
