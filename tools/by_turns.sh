@@ -9,7 +9,7 @@ work="$(mktemp -d)"
 trap 'rm -rf "$work"' EXIT
 mkdir "$work/crates"
 cp "$top/HANDLES" "$work/"
-for crate in "$top"/crates/{gt_*,test_cases,test_failing,test_flood,cases_run}; do
+for crate in "$top"/crates/{gt_*,test_cases,test_failing,cases_run}; do
   name="$(basename "$crate")"
   grep -E "^$name( [^:]*)?:" "$top/crates.txt" >>"$work/crates.txt"
   (cd "$top/crates" && tar cf - --exclude=out "$name") | tar xf - -C "$work/crates"

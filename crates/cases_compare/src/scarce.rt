@@ -1,7 +1,7 @@
 //! Memory of calls of which each allocation fails in turn.
 use crate::stops::Stop;
 use std::alloc::{AllocError, Global};
-use test_flood::Flood;
+use test_failing::Flood;
 
 // A call gets this number of further bytes each time that it fails, and this number of times at most.
 const STEP: usize = 16;

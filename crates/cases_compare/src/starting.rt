@@ -3,7 +3,7 @@ use gt_core::Core;
 use gt_types::{Config, DomainConfig, StartFault, Triples};
 use gt_words::Words;
 use std::alloc::{AllocError, Global};
-use test_flood::Flood;
+use test_failing::Flood;
 use test_monitor::{all_running, start_run};
 
 /// The thing to start.

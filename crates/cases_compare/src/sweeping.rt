@@ -2,7 +2,7 @@
 use crate::starting::{Came, Kind, configured, start};
 use gt_types::DomainConfig;
 use std::alloc::{AllocError, Global};
-use test_flood::Flood;
+use test_failing::Flood;
 
 // The number of bytes that are held back, or let through.
 const GAP: usize = 4_000_000;

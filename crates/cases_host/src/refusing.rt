@@ -4,7 +4,7 @@ use std::alloc::{AllocError, Global};
 use std::sync::Wait;
 use std::thread::Threads;
 use test_cases::{Job, UNLIMITED};
-use test_flood::Flood;
+use test_failing::Flood;
 
 // The memory grows by this number of bytes, and this number of times at most.
 const STEP: usize = 16;

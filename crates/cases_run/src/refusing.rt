@@ -9,7 +9,7 @@ use std::alloc::{AllocError, Global};
 use std::sync::{Mutex, Wait};
 use std::thread::Threads;
 use test_cases::UNLIMITED;
-use test_flood::Flood;
+use test_failing::Flood;
 
 // More bytes than any worked script prints.
 const ROOM: usize = 65_536;

@@ -8,7 +8,7 @@ use std::io::{self, Write};
 use std::sync::atomic::{AtomicBool, AtomicU64, Ordering};
 use std::sync::{Mutex, Wait};
 use std::thread::Threads;
-use test_flood::Flood;
+use test_failing::Flood;
 
 /// The number of bytes that are held back, or let through, before lists run. A monitor of three domains starts with
 /// less.
