@@ -8,7 +8,8 @@
  * gthost_get_version, the ends of a copy), GTHOST_DOMID_SELF names the caller. In a grant it names no domain: such an
  * entry permits no one, not even the caller. A reference is the index of an entry in its owner's table, starting at 0.
  * A frame is the number of one of its owner's pages of GTHOST_FRAME_SIZE bytes, starting at 0. Offsets and lengths are
- * in bytes, and a range ends at GTHOST_FRAME_SIZE at most.
+ * in bytes, and a range ends at GTHOST_FRAME_SIZE at most. In this header a handle is a struct gthost_domain. A struct
+ * gthost_handle is the name of a mapping, as Xen's grant_handle_t is; the texts of the rules call that a handle.
  *
  * Generations. Each reference has a generation, which starts at `first_gen`. Each grant, demotion and promotion of the
  * reference raises it by 1. At GTHOST_LAST_GENERATION the reference is worn: these calls are refused by N22 for the
@@ -16,8 +17,9 @@
  *
  * Memory comes from the program's malloc. Only gthost_start, gthost_type_of, gthost_map (for its mapping),
  * gthost_reserve_records and the records that are kept allocate. A run of one domain takes 1 MB. A run of 64 domains
- * takes 51 MB, and 68 MB while it starts. Records take 48 bytes each, in pieces of 12 KiB. A mapping takes less than
- * 100 bytes. gthost_start needs 64 KiB of stack, and every other call 16 KiB.
+ * takes 51 MB, and 68 MB while it starts. Records take 48 bytes each, in pieces of 12 KiB. They are kept until
+ * gthost_take_records, which keeps their room for later ones, or until gthost_finish. A mapping takes less than 100
+ * bytes. gthost_start needs 64 KiB of stack, and every other call 16 KiB.
  *
  * Threads. A handle may be in one call at a time. Different threads may call for different domains of a monitor at the
  * same time. A handle may pass to another thread by anything that orders the last call of one thread before the next
@@ -59,10 +61,11 @@ extern "C" {
 #endif
 
 /*
- * Starts a run of `count` domains under the text of a policy (the subset of FLASK's language that the repository's
- * docs/FORMATS.md defines). All entries begin at the generation `first_gen`. The names of the run's mappings carry the
- * number `run`, so give each run of a process another one. Each of the `out_count` handles must be all zeros, and there
- * must be `count` of them: the handle at each index gets the domain of the settings at that index.
+ * Starts a run of `count` domains, 1 to GTHOST_MAX_DOMAINS, under the text of a policy, of `policy_len` bytes without a
+ * final zero. The repository's docs/FORMATS_POLICY.md defines its language, a subset of FLASK's. All entries begin at
+ * the generation `first_gen`, at most GTHOST_LAST_GENERATION. The names of mappings carry the number `run`: give each
+ * run of a process a different one. `out_count` must be `count`, and each handle of `out` all zeros. The handle at each
+ * index gets the domain of the settings at that index.
  *
  * Returns GTHOST_FAULT_NONE if the run started. Otherwise the fault gives the reason, and `out` is unchanged: the
  * handles are tested first, then the policy, the labels, and the other settings in their order. gthost_start is
@@ -83,7 +86,10 @@ static inline struct gthost_fault gthost_start(const struct gthost_settings *set
     return gthost_start_at(settings, count, first_gen, run, policy, policy_len, out, out_count);
 }
 
-/* Returns the label of the type of this name in a policy's text. gthost_type_of tests for null pointers. */
+/*
+ * Returns the number of the type of this name in a policy's text, the `label` of a domain's settings. Types count from 0
+ * in the order of their declarations. gthost_type_of tests for null pointers.
+ */
 struct gthost_type gthost_type_of_at(const uint8_t *policy, size_t policy_len, const uint8_t *name, size_t name_len);
 
 static inline struct gthost_type gthost_type_of(const uint8_t *policy, size_t policy_len, const uint8_t *name,
@@ -191,10 +197,10 @@ static inline struct gthost_answer gthost_finish(struct gthost_domain *domain)
 
 /*
  * Makes the domain ready for another guest in its place: like gthost_finish, but the domain stays, with no copy and no
- * mapping. Each of its entries is withdrawn, but for those that 64 missed tries left valid, and `more` counts these too.
- * The answer is the same. Its records stay. The new guest has the number, the label, the table and the generations of
- * the one before. The memory of that one is free if `more` is 0. Otherwise it is free when gthost_entry shows each entry
- * invalid and without pins. An entry that is still valid needs another gthost_reset, or a gthost_withdraw.
+ * mapping. Each of its entries is withdrawn, but for those that 64 missed tries left valid; `more` counts these too.
+ * The answer is the same. Its records stay. The new guest has the number, the type, the table and the generations of
+ * the one before. The memory of that one is free if `more` is 0. Otherwise it is free when gthost_entry shows each
+ * entry invalid and without pins. An entry that is still valid needs another gthost_reset, or a gthost_withdraw.
  */
 static inline struct gthost_answer gthost_reset(struct gthost_domain *domain)
 {
@@ -203,7 +209,8 @@ static inline struct gthost_answer gthost_reset(struct gthost_domain *domain)
 
 /*
  * Grants a page to the domain `to`, for reading only if `ro` is not 0: publishes an entry instead of an invalid one
- * that has no pins left. N9, N19, N20, N21, N22.
+ * that has no pins left. Neither the frame nor the domain is checked here. If the owner has no such frame, each map or
+ * copy by the entry is refused (N16). If the run has no such domain, the entry permits no one. N9, N19, N20, N21, N22.
  */
 static inline struct gthost_answer gthost_grant_page(struct gthost_domain *domain, uint32_t gref, uint16_t to,
                                                      uint64_t frame, uint32_t ro)
@@ -287,7 +294,11 @@ static inline struct gthost_found_entry gthost_entry(struct gthost_domain *domai
     return domain ? gthost_entry_at(domain, gref) : gthost_null_entry();
 }
 
-/* Maps an entry of a domain. The answer is a GTHOST_HANDLE. N1, N2, N5, N8 to N13, N16 to N18, N26. */
+/*
+ * Maps the entry `gref` of the domain `dom`. `flags` is GTHOST_MAP_WRITABLE, which asks for map_read and map_write, or
+ * GTHOST_MAP_READ_ONLY, which asks for map_read. The answer is a GTHOST_HANDLE; gthost_handle_of reads the name of the
+ * mapping. N1, N2, N5, N8 to N13, N16 to N18, N26.
+ */
 static inline struct gthost_answer gthost_map(struct gthost_domain *domain, uint16_t dom, uint32_t gref, uint32_t flags)
 {
     struct gthost_answer answer;
@@ -299,7 +310,7 @@ static inline struct gthost_answer gthost_map(struct gthost_domain *domain, uint
     return answer;
 }
 
-/* Unmaps a mapping. N5, N6. */
+/* Unmaps a mapping: releases its pin. Its name is never used again. After N5 the mapping stays. N5, N6. */
 static inline struct gthost_answer gthost_unmap(struct gthost_domain *domain, struct gthost_handle name)
 {
     struct gthost_answer answer;
@@ -343,19 +354,19 @@ static inline struct gthost_answer gthost_set_version(struct gthost_domain *doma
     return domain ? gthost_set_version_at(domain, version) : gthost_null_answer();
 }
 
-/* Grows the domain's table to this many frames, if it has fewer. The answer has their number then. N5, N23. */
+/* Grows the domain's table to this many frames, if it has fewer. Answers with their number (GTHOST_FRAMES). N5, N23. */
 static inline struct gthost_answer gthost_setup_table(struct gthost_domain *domain, uint32_t frames)
 {
     return domain ? gthost_setup_table_at(domain, frames) : gthost_null_answer();
 }
 
-/* Returns the size of a domain's table. N1, N5. */
+/* Returns the number of frames of a domain's table, and the maximum (GTHOST_SIZE). N1, N5. */
 static inline struct gthost_answer gthost_query_size(struct gthost_domain *domain, uint16_t dom)
 {
     return domain ? gthost_query_size_at(domain, dom) : gthost_null_answer();
 }
 
-/* Returns the version of a domain's table. N1, N5. */
+/* Returns the version of a domain's table (GTHOST_TABLE_VERSION). N1, N5. */
 static inline struct gthost_answer gthost_get_version(struct gthost_domain *domain, uint16_t dom)
 {
     return domain ? gthost_get_version_at(domain, dom) : gthost_null_answer();
@@ -373,15 +384,19 @@ static inline struct gthost_found_record gthost_record(struct gthost_domain *dom
 }
 
 /*
- * Drops all records of the domain, and keeps their room: call it when gthost_record has read them. The answer has the
- * number of records, and the number lost before. Both counts begin again at 0.
+ * Drops all records of the domain, and keeps their room: call it when gthost_record has read them. The answer
+ * (GTHOST_TAKEN) has the number of records, and the number lost before. Both counts begin again at 0.
  */
 static inline struct gthost_answer gthost_take_records(struct gthost_domain *domain)
 {
     return domain ? gthost_take_records_at(domain) : gthost_null_answer();
 }
 
-/* Bounds the records: a call is recorded while there are fewer than `records`, otherwise its record is lost. */
+/*
+ * Bounds the number of records. A call is recorded while there are fewer than `records`; otherwise its record is lost.
+ * With 0 none is kept. Records that are there stay. At the start there is no bound, so a program that runs for long
+ * sets one, or calls gthost_take_records from time to time.
+ */
 static inline struct gthost_answer gthost_keep_at_most(struct gthost_domain *domain, size_t records)
 {
     return domain ? gthost_keep_at_most_at(domain, records) : gthost_null_answer();

@@ -121,7 +121,8 @@ enum gthost_kind {
     GTHOST_FRAMES = 2,  /* Ok: `value` frames */
     GTHOST_TABLE_VERSION = 3, /* Ok: the version `value` */
     GTHOST_SIZE = 4,    /* Ok: `value` frames of at most `more` */
-    GTHOST_POLICY = 5,  /* refused: the policy denies the type `source` the permission `detail` (its bit) on `target` */
+    GTHOST_POLICY = 5,  /* refused: the policy denies the type `source` the permission `detail` (enum gthost_permission)
+                           on the type `target`; types count from 0, in the order of their declarations */
     GTHOST_FIELD = 6,   /* refused: the field `detail` of the entry's bytes (enum gthost_field) */
     GTHOST_HEADER = 7,  /* refused: the header `word` of the domain `dom` */
     GTHOST_ENTRY = 8,   /* refused: the control `word` of the entry `gref` of the domain `dom` */
@@ -152,7 +153,22 @@ enum gthost_field {
     GTHOST_FIELD_RESERVED = 9
 };
 
-/* The result of a call. A field without a meaning is 0. No two results have the same answer. */
+/* The permissions of the class grant. */
+enum gthost_permission {
+    GTHOST_PERM_MAP_READ = 1,
+    GTHOST_PERM_MAP_WRITE = 2,
+    GTHOST_PERM_UNMAP = 4,
+    GTHOST_PERM_TRANSFER = 8,
+    GTHOST_PERM_SETUP = 16,
+    GTHOST_PERM_COPY = 32,
+    GTHOST_PERM_QUERY = 64
+};
+
+/*
+ * The result of a call. A field without a meaning is 0. No two results have the same answer. The `word` of an entry has
+ * its read pins in bits 4 to 15, its write pins in 16 to 27, the domain that it permits in 28 to 43, and its generation
+ * in 44 to 63. The `word` of a header has the version in bits 0 and 1, and the number of frames in 2 to 9.
+ */
 struct gthost_answer {
     uint32_t rule;   /* enum gthost_rule */
     int32_t status;  /* GNTST_ of xen/grant_table.h: 0, or negative if a rule refused the call */
@@ -307,7 +323,7 @@ struct gthost_rule_line {
     uint8_t bytes[240];
 };
 
-/* The label of a type of a policy, or why there is none: GTHOST_FAULT_NO_TYPE, or a fault of the policy. */
+/* The number of a type of a policy, or why there is none: GTHOST_FAULT_NO_TYPE, or a fault of the policy. */
 struct gthost_type {
     struct gthost_fault fault;
     uint32_t label;

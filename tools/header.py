@@ -219,6 +219,8 @@ def numbers(text):
     for word, number in re.findall(r"pub const (\w+): u(?:16|32|size) = (\w+);", text):
         if word in LIMITS:
             yield f"GTHOST_{word}", number.replace("_", "")
+    for word, number in re.findall(r"^\s*const ([A-Z_]+) = (\d+);", text, re.M):
+        yield f"GTHOST_PERM_{word}", number
     for number in re.findall(r"fn with_copy\(.*?call: (\d+),", text, re.S):
         yield "GTHOST_CALL_COPY", number
     for word, number in re.findall(r"Hypercall::(\w+)[^=]*=> EncodedRecord \{\s*call: (\d+),", text):

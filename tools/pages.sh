@@ -83,6 +83,7 @@ man() {
     stored "$command -h" | head -n 1 | roff
     stored "$command -h" | section Arguments | list
     stored "$command -h" | section Options | list
+    stored "$command -h" | after | sed -e '1s/^/.PP\n/' -e 's/^$/.PP/' | roff_but_breaks
   done
   printf '.SH OPTIONS\n'
   stored --help | section Options | list
@@ -94,7 +95,7 @@ man() {
   printf '.SH EXAMPLES\n.nf\n'
   stored --help | sed -n '/^Try:/,$p' | sed -e 's/^Try: *//' -e 's/^ *//' | roff
   printf '.fi\n.SH SEE ALSO\n'
-  printf 'docs/TOUR.md (all examples), docs/FORMATS.md (scripts, policies, dumps and their texts),\n'
+  printf 'docs/TOUR.md (all examples), docs/FORMATS_SCRIPTS.md, docs/FORMATS_POLICY.md, docs/FORMATS.md,\n'
   printf '.BR checkpolicy (8),\n.BR sesearch (1),\n.BR xl (1)\n'
 }
 

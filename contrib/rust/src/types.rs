@@ -45,6 +45,7 @@ pub enum Access {
 #[derive(Clone, Copy, Debug, PartialEq, Eq)]
 pub enum Facts {
     None,
+    /// The policy denies the type `source` the permission (a number of `enum gthost_permission`) on the type `target`.
     Policy { source: u32, target: u32, permission: u32 },
     /// A field of an entry's bytes: a number of `enum gthost_field`.
     Field(u32),

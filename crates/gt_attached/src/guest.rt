@@ -108,7 +108,9 @@ impl<P: Allows + Drop> AttachedDomain<P> {
         }
     }
 
-    /// Publishes an entry instead of an invalid one that has no pins left.
+    /// Publishes an entry instead of an invalid one that has no pins left. Neither the frame nor the domain that it
+    /// names is checked: without the frame a use of the entry is refused by N16, and without the domain it permits no
+    /// one.
     ///
     /// # Errors
     /// N9, N20, N21, N22 or N19. Nothing changes but the body words of an invalid entry.
@@ -310,7 +312,7 @@ impl<P: Allows + Drop> AttachedDomain<P> {
     }
 
     /// Bounds the trail: a call is recorded only while the trail has fewer than `records` records. With 0 no call is
-    /// recorded. Records that are there already stay.
+    /// recorded. Records that are there already stay. A new domain has no bound.
     pub fn keep_at_most(&mut self, records: usize)
         requires idle { self.old.copying ≡ None }
         ensures stays { StaysIdle self.old self.new }
@@ -361,7 +363,8 @@ impl<P: Allows + Drop> AttachedDomain<P> {
     /// this copy until `copy_end`. The caller must move those bytes, and no others.
     ///
     /// # Errors
-    /// The first rule that applies. No pin is kept.
+    /// The first rule that applies: N1 to N5 or N16 at the beginning; N9 with the header's word; N10, N11 or N13 to N18
+    /// with the entry's; after a Via also N1 or N5. No pin is kept.
     pub fn copy_begin(&mut self, copy: &CopyArgs) -> Result<CopyPlaces, Denial>
         requires idle { self.old.copying ≡ None }
         ensures begins { BeginsAccess P.may self.old copy.now result self.new }
@@ -379,7 +382,7 @@ impl<P: Allows + Drop> AttachedDomain<P> {
         }
     }
 
-    /// Ends the copy that the domain is in: releases its pins, the last one first.
+    /// Ends the copy that the domain is in: releases its pins, the last one first. The domain must be in a copy.
     pub fn copy_end(&mut self)
         requires copying { IsSome self.old.copying }
         ensures ends { EndsAccess self.old self.new }

@@ -10,8 +10,8 @@ rule_lines =
     (codes "N2 -1 GNTST_general_error: the flags of the map or copy, or the version, are not among those taken; "
     ++ codes "use flags 2 or 6 for a map, 0 to 3 for a copy, version 1 or 2") ∷
     codes "N3 -10 GNTST_bad_copy_arg: offset plus length is above 4096; ask for a range inside the page" ∷
-    (codes "N4 -8 GNTST_permission_denied: the copy names a frame of another domain by its number; name an own "
-    ++ codes "frame, or a grant of that domain") ∷
+    (codes "N4 -8 GNTST_permission_denied: the copy names a frame of another domain by its number; name one "
+    ++ codes "of the caller's frames, or a grant of that domain") ∷
     (codes "N5 -8 GNTST_permission_denied: the policy has no allow rule for these types and this permission; "
     ++ codes "ask for a rule in the policy") ∷
     codes "N6 -4 GNTST_bad_handle: the caller has no mapping with this handle; map first" ∷
@@ -34,8 +34,8 @@ rule_lines =
     (codes "N18 -12 GNTST_eagain: the entry changed during all four tries of a pin, demotion, promotion or "
     ++ codes "withdrawal; try again") ∷
     (codes "N19 -1 GNTST_general_error: the entry to be revoked or granted has live pins, or the one to be "
-    ++ codes "demoted live write pins; withdraw it to close it now, or try again after the other domains have "
-    ++ codes "unmapped") ∷
+    ++ codes "demoted live write pins; try again after the other domains have unmapped; an entry to be "
+    ++ codes "revoked or demoted can be withdrawn now") ∷
     codes "N20 -1 GNTST_general_error: the entry is valid already; revoke it first, or use another reference" ∷
     (codes "N21 -1 GNTST_general_error: the entry given is invalid, or needs a table of version 2; set version "
     ++ codes "2, or grant a whole page") ∷

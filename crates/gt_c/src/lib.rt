@@ -1,4 +1,4 @@
-//! The running monitor for a program in C: one export for each call of a domain that never waits.
+//! The running monitor for a program in C: one export for each call that never waits.
 //!
 //! `include/gthost.h` declares all of it. A [`DomainHandle`] has a domain, or is all zeros. A call borrows the domain
 //! of its handle, makes the call of `gt_attached` on it, and returns an `EncodedAnswer`. Borrowing allocates nothing.

@@ -21,8 +21,8 @@ const LINES: [&str; 27] = [
     "N2 -1 GNTST_general_error: the flags of the map or copy, or the version, are not among those taken; use \
      flags 2 or 6 for a map, 0 to 3 for a copy, version 1 or 2",
     "N3 -10 GNTST_bad_copy_arg: offset plus length is above 4096; ask for a range inside the page",
-    "N4 -8 GNTST_permission_denied: the copy names a frame of another domain by its number; name an own frame, \
-     or a grant of that domain",
+    "N4 -8 GNTST_permission_denied: the copy names a frame of another domain by its number; name one of the \
+     caller's frames, or a grant of that domain",
     "N5 -8 GNTST_permission_denied: the policy has no allow rule for these types and this permission; ask for \
      a rule in the policy",
     "N6 -4 GNTST_bad_handle: the caller has no mapping with this handle; map first",
@@ -43,7 +43,8 @@ const LINES: [&str; 27] = [
     "N18 -12 GNTST_eagain: the entry changed during all four tries of a pin, demotion, promotion or \
      withdrawal; try again",
     "N19 -1 GNTST_general_error: the entry to be revoked or granted has live pins, or the one to be demoted \
-     live write pins; withdraw it to close it now, or try again after the other domains have unmapped",
+     live write pins; try again after the other domains have unmapped; an entry to be revoked or demoted can \
+     be withdrawn now",
     "N20 -1 GNTST_general_error: the entry is valid already; revoke it first, or use another reference",
     "N21 -1 GNTST_general_error: the entry given is invalid, or needs a table of version 2; set version 2, or \
      grant a whole page",

@@ -101,8 +101,9 @@ impl<P: Allows> Core<P> {
         self.machine.begin(dom, request)
     }
 
-    /// Makes the next step of the domain's open call. Returns it, with the call's answer if that step is the last
-    /// one. A refused call has left entries, mappings, tables and frames unchanged, and holds no pin.
+    /// Makes the next step of the domain's open call. Returns the step and what it saw, and the call's answer if that
+    /// step is the last one. After a refusal, entries, mappings, tables and frames are unchanged, except the body
+    /// words of an invalid entry, and the call holds no pin.
     ///
     /// # Errors
     ///

@@ -6,7 +6,7 @@
 //!
 //! Proved: for every list of events, what the core does is a legal trace. Each step sees what the steps before it
 //! left. Another domain's byte is read or written only if a live pin reaches it and the policy allows it. A
-//! revocation is taken exactly if no pin on its entry is live. A refusal names the first rule that applied.
+//! revocation of a valid entry is taken exactly if no pin on it is live. A refusal names the first rule that applied.
 //!
 //! The definitions: `specs/Legal.antt`, over histories (`specs/History.antt`) and over the rules and paths of
 //! calls, which are those of `gt_calls`. `specs/Standing.antt` defines when a core represents a history.

@@ -94,7 +94,7 @@ fn remedy(rule: Rule) -> &'static str {
         Rule::N1 => "name a domain of this run",
         Rule::N2 => "use flags 2 or 6 for a map, 0 to 3 for a copy, version 1 or 2",
         Rule::N3 => "ask for a range inside the page",
-        Rule::N4 => "name an own frame, or a grant of that domain",
+        Rule::N4 => "name one of the caller's frames, or a grant of that domain",
         Rule::N5 => "ask for a rule in the policy",
         Rule::N6 => "map first",
         Rule::N7 => "map the entry for writing",
@@ -110,7 +110,7 @@ fn remedy(rule: Rule) -> &'static str {
         Rule::N17 => "try again after others have unmapped",
         Rule::N18 => "try again",
         Rule::N19 =>
-            "withdraw it to close it now, or try again after the other domains have unmapped",
+            "try again after the other domains have unmapped; an entry to be revoked or demoted can be withdrawn now",
         Rule::N20 => "revoke it first, or use another reference",
         Rule::N21 => "set version 2, or grant a whole page",
         Rule::N22 => "use another reference",

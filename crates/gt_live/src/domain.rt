@@ -272,7 +272,7 @@ impl Domain {
     }
 
     /// Bounds the trail: a call is recorded only while the trail has fewer than `records` records, and is counted as
-    /// lost otherwise. With 0 no call is recorded. Records that are there already stay.
+    /// lost otherwise. With 0 no call is recorded. Records that are there already stay. A new domain has no bound.
     pub fn keep_at_most(&mut self, records: usize)
         ensures bound { self.new ≡ with_trail self.old (record (trail_of self.old) { most = records }) }
         ensures mine { StaysOfRun self.old self.new }
@@ -399,7 +399,8 @@ impl Domain {
         }
     }
 
-    /// Leaves the run: releases each of the domain's mappings with its pin, also if the policy denies an unmap.
+    /// Leaves the run: releases each of the domain's mappings with its pin, also if the policy denies an unmap. The
+    /// domain's entries stay as they are, and others may still map them. [`Domain::close`] withdraws them first.
     pub fn finish<P: Allows>(mut self, monitor: &Monitor<P>) -> Departed
         requires mine { BelongsTo P.may monitor.now self }
         ensures left { HasLeft (words_of monitor.now).layout self result }

@@ -170,7 +170,7 @@ impl<P: Allows + Drop> Monitor<P> {
 
     /// Makes the monitor of a run that keeps no frames, and its domains in order. The caller keeps the frames, and
     /// moves the bytes of a copy between [`Domain::copy_begin`] and [`Domain::copy_end`]. Loads, stores, peeks, pokes
-    /// and whole copies are refused by N16 at their access. A domain may have any number of frames from 1 on.
+    /// and whole copies are refused by N16 at their access. A domain may have from 1 to `u32::MAX` frames.
     ///
     /// # Errors
     /// The first fault of the configuration, or `Memory` if allocation fails, which may be before the check.

@@ -100,7 +100,7 @@ impl<'m, P: Allows> RunningDomain<'m, P> {
         self.domain.trail()
     }
 
-    /// Leaves the run: releases each mapping with its pin.
+    /// Leaves the run: releases each mapping with its pin. The entries stay as they are.
     pub fn finish(self) -> Departed
         ensures left { HasLeft (words_of self.entry.monitor).layout self.entry.domain result }
         ensures seat { IsSeatOf (words_of self.entry.monitor) (seat_left result) }

@@ -7,7 +7,7 @@ pub const DOMID_SELF: u16 = 0x7FF0;
 /// The maximum number of domains of a run.
 pub const MAX_DOMAINS: usize = 64;
 
-/// The maximum number of frames of a domain.
+/// The maximum number of frames of a domain in a run that keeps them.
 pub const MAX_FRAMES: u32 = 64;
 
 /// The size of a frame, in bytes.

@@ -208,7 +208,9 @@ impl Domain {
     /// the frames. The pins that it takes for this are released after the frames are free.
     ///
     /// # Errors
-    /// The first rule that applies; or N26 or N16 at the access. Nothing has changed: no frame, no mapping, no pin.
+    /// The first rule that applies: N1 to N5 or N16 at the beginning; N9 with the header's word; N10, N11 or N13 to N18
+    /// with the entry's; after a Via also N1 or N5. At the access N26, or N16 if the run does not keep the frame.
+    /// Nothing has changed: no frame, no mapping, no pin.
     pub fn copy<R: Wait, P: Allows>(
         &mut self,
         rt: &R,

@@ -20,7 +20,8 @@ impl<P> Monitor<P> {
 }
 
 impl Domain {
-    /// Raises a flag. This is one step of the history, after all earlier steps of the domain.
+    /// Raises a flag, which the run must have ([`Monitor::has_flag`]). This is one step of the history, after all
+    /// earlier steps of the domain.
     pub fn raise_flag<P: Allows>(&mut self, monitor: &Monitor<P>, flag: usize)
         requires mine { BelongsTo P.may monitor.now self.old }
         requires inside { flag < (words_of monitor.now).flags }
@@ -30,8 +31,8 @@ impl Domain {
         monitor.words.raise_flag(&mut self.seat, flag);
     }
 
-    /// Passes a flag if it is raised. This is one step of the history, and an earlier one raised the flag. Otherwise
-    /// returns false and makes no step.
+    /// Passes a flag, which the run must have, if it is raised. This is one step of the history, and an earlier one
+    /// raised the flag. Otherwise returns false and makes no step.
     pub fn pass_flag<P: Allows>(&mut self, monitor: &Monitor<P>, flag: usize) -> bool
         requires mine { BelongsTo P.may monitor.now self.old }
         requires inside { flag < (words_of monitor.now).flags }

@@ -149,7 +149,9 @@ impl Domain {
         judge_bytes(self.known(monitor).header, own, gref, bytes)
     }
 
-    /// Publishes an entry instead of an invalid one that has no pins left.
+    /// Publishes an entry instead of an invalid one that has no pins left. Neither the frame nor the domain that it
+    /// names is checked: without the frame a use of the entry is refused by N16, and without the domain it permits no
+    /// one.
     ///
     /// # Errors
     /// N9, N20, N21, N22, or N19 with the word found. Nothing changes but the body words of an invalid entry.
