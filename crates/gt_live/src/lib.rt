@@ -1,6 +1,7 @@
-//! The monitor of a run: each domain is a value that moves into a thread.
+//! The monitor of a run, and its domains, each for one thread.
 //!
 //! [`Monitor::new`] makes the monitor, which all threads share, and a [`Domain`] for each domain of the configuration.
+//! A `Domain` has to be finished, so it moves into a thread inside a value that finishes it when dropped.
 //! Each call makes the steps of its path (`gt_calls`) itself, on the shared words of `gt_words`. Only the calls that
 //! access bytes lock a frame for it (`gt_access`), and only they may wait.
 //!
