@@ -1,7 +1,7 @@
 -- What was written, as the command that was asked for.
 use Rattle.std.proofs.Common.{◌≡◌, ℕ, Bool, List, Option, Result, sym, subst}
 use Rattle.gt_commands.specs.declared.invocation.Format.{Format}
-use Rattle.gt_json_commands.specs.AsJson.{Promise}
+use Rattle.gt_file_commands.specs.AsJson.{Promise}
 use Rattle.gt_policy_list.specs.declared.fault.ListingFault.{ListingFault}
 use Rattle.gt_text.specs.Streams.{OfInput}
 use Rattle.gt_file_commands.specs.Formats.{CheckedAs}

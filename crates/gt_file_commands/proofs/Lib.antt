@@ -1,5 +1,6 @@
 pub mod FormatLemmas
 pub mod GivenLemmas
+pub mod JsonLemmas
 pub mod QuestionLemmas
 pub mod WholeTexts
 pub mod Worked

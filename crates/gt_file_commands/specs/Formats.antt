@@ -2,7 +2,7 @@
 use Rattle.std.specs.Prelude.{ℕ, Bool, true, false, List, Option, Result}
 use Rattle.gt_checks.specs.Checking.{Checked}
 use Rattle.gt_checks.specs.Scripts.{CheckedScript}
-use Rattle.gt_json_commands.specs.AsJson.{Promise, ListedAsJson, PlayedAsJson, WroteDumpAsJson}
+use Rattle.gt_file_commands.specs.AsJson.{Promise, ListedAsJson, PlayedAsJson, WroteDumpAsJson}
 use Rattle.gt_commands.specs.declared.invocation.Format.{Format}
 use Rattle.gt_commands.specs.declared.invocation.Format.TheVariants.{Text, Json}
 use Rattle.gt_entries.specs.Dumps.{WroteDump}

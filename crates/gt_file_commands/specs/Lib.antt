@@ -1,4 +1,7 @@
+pub mod AsJson
 pub mod Formats
+pub mod JsonNames
 pub mod Laws
+pub mod Names
 pub mod Prelude
 pub mod Working

@@ -8,10 +8,10 @@ use crate::explained::{entries_explained, list_with_reasons, play_with_reasons, 
 use crate::failure::Failure;
 use crate::formats::ReportSettings;
 use crate::outcome::Outcome;
+use crate::reasons::Reasons;
 use crate::reporting::finish;
 use crate::style::Style;
 use crate::texts::{TextSource, read_fault};
-use gt_command_reasons::Reasons;
 use gt_commands::Format;
 use gt_entries::DumpOptions;
 use gt_policy_check::WhyQuestion;

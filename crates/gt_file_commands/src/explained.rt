@@ -5,8 +5,8 @@ ghost use Rattle.gt_checks.specs.Explaining.{Explained};
 ghost use Rattle.gt_file_commands.specs.Formats.{CheckedAs, ListedAs, PlayedAs, WroteDumpAs};
 
 use crate::formats::{ReportSettings, check_as, entries_as, list_as, play_as};
+use crate::reasons::{CopyingReader, Reasons};
 use gt_checks::{BreachFault, NeverText, WhyFault, check_never, why};
-use gt_command_reasons::{CopyingReader, Reasons};
 use gt_commands::Format;
 use gt_entries::{DumpFault, DumpOptions};
 use gt_policy_check::WhyQuestion;

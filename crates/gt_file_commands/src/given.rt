@@ -4,9 +4,9 @@ ghost use Rattle.std.specs.Prelude.{◌≡◌, IfOk, IfSome};
 use crate::commands::Context;
 use crate::failure::Failure;
 use crate::reading::read_whole;
+use crate::reasons::Reasons;
 use crate::reporting::fail;
 use crate::texts::{TextSource, read_fault};
-use gt_command_reasons::Reasons;
 use gt_text::ReadFault;
 
 // Reads the whole text of the named file.

@@ -3,16 +3,16 @@
 //! [`play`], [`list`], [`answer`] and [`show_entries`] work on the text of the named file, or of the standard input.
 //! [`check_files`] and [`check_never_files`] check several, and [`answer_each`] answers the questions of the standard
 //! input. [`print_rules`] lists the rules. Each returns an [`Outcome`]: yes, no, or no answer. A failure goes to the
-//! standard error in one line ([`finish`]): that of the [`Failure`], or its reason (`gt_command_reasons`).
+//! standard error in one line ([`finish`]): that of the [`Failure`], or its reason ([`Reasons`]).
 //!
-//! Texts come from a trait, [`TextSource`], and go to any writer. So the contracts specify, for texts and a writer with
-//! known bytes, the output and the outcome (specs/Working.antt). `run` is in `gt_run_command`, and `explore` and the
-//! command line in `gt_program`: their failures and outcomes are of the same types.
+//! Texts come from a trait, [`TextSource`], and go to any writer, as they are or as JSON Lines. So the contracts
+//! specify, for texts and a writer with known bytes, the output and the outcome (specs/Working.antt). `run`, `explore`
+//! and the command line are in `gt_program`: their failures and outcomes are of the same types.
 //!
-//! It uses `gt_commands` (plans), `gt_host`, `gt_policy_list`, `gt_checks` and `gt_entries` (the commands),
-//! `gt_json_commands` (the same as JSON), `gt_command_reasons`, `gt_policy_check` (questions and findings),
-//! `gt_script_runs` and `gt_explore_faults` (faults), `gt_script_lines` (words), `gt_text` and `gt_types`. Its
-//! definitions also name `gt_script`.
+//! It uses `gt_commands` (plans), `gt_host`, `gt_policy_list`, `gt_checks` and `gt_entries` (the commands), `gt_json`
+//! (the JSON of a text), `gt_reasons` (the words for scripts and policies), `gt_policy_check` (questions and findings),
+//! `gt_script_runs`, `gt_policy` and `gt_explore_faults` (faults), `gt_script_lines` (words), `gt_text` and `gt_types`.
+//! Its definitions also name `gt_script`.
 #![tactic(auto)]
 
 mod asking;
@@ -22,9 +22,11 @@ mod explained;
 mod failure;
 mod formats;
 mod given;
+mod json;
 mod outcome;
 mod questions;
 mod reading;
+mod reasons;
 mod reporting;
 mod rules;
 mod style;
@@ -37,6 +39,7 @@ pub use failure::Failure;
 pub use given::read_given;
 pub use outcome::{Outcome, outcome_of};
 pub use questions::answer_each;
+pub use reasons::{CopyingReader, KeptInput, Reasons};
 pub use reporting::{finish, report};
 pub use rules::print_rules;
 pub use style::Style;

@@ -1,1 +1,3 @@
 pub mod Obeyed
+mod RelayLemmas
+pub mod RunLemmas

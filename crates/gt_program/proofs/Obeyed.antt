@@ -32,7 +32,7 @@ use Rattle.std.specs.Str.{bytes_eq}
 use Rattle.std.proofs.lemmas.Slice.Eq.{bytes_eq-Decides}
 use Rattle.gt_commands.specs.declared.invocation.Invocation.{Invocation}
 use Rattle.gt_commands.specs.declared.invocation.Format.{Format}
-use Rattle.gt_command_reasons.specs.Names.{shown_name}
+use Rattle.gt_file_commands.specs.Names.{shown_name}
 use Rattle.gt_explore_verdict.specs.declared.judging.Verdict.{Verdict}
 use Rattle.gt_explore_verdict.specs.declared.judging.Verdict.TheVariants.{Holds, Fails, Undecided}
 use Rattle.gt_explore_answers.specs.declared.asking.ExploreOptions.{ExploreOptions as Searched}
@@ -42,7 +42,7 @@ use Rattle.gt_file_commands.specs.Working.{AnswersDump, AnswersLines, AnswersQue
 use Rattle.gt_file_commands.specs.Working.{ChecksNever, Does, Doing, Ending, Lists, Plays, Works, known_text}
 use Rattle.gt_file_commands.specs.declared.outcome.Outcome.{Outcome}
 use Rattle.gt_file_commands.specs.declared.outcome.Outcome.TheVariants.{No, Unknown, Yes}
-use Rattle.gt_run_command.specs.Runs.{RunsDomains}
+use Rattle.gt_program.specs.Runs.{RunsDomains}
 use Rattle.gt_program.specs.Obeying.{AnswersVerdict, FitsKind, IsGiven, IsHelped, IsSearched, Obeys, Searches, Seeks}
 use Rattle.gt_program.specs.Obeying.{SeeksText, explore_format, failed_command, failed_mode, failed_word, first_word}
 use Rattle.gt_program.specs.Obeying.{verdict_outcome}

@@ -7,11 +7,11 @@ use Rattle.gt_program.specs.Prelude.{for_version, nothing, mode_of, Sought, all_
 use Rattle.gt_program.specs.Prelude.{one_diagram, all_scripts}
 use Rattle.gt_program.specs.Prelude.{Explored, ReadsAsRun, Searched, ExploreFormat, ExploreRequest, Verdict}
 use Rattle.gt_program.specs.Prelude.{Holds, Fails, Undecided, Outcome, No, Unknown, Yes}
-use Rattle.gt_command_reasons.specs.Names.{shown_name}
+use Rattle.gt_file_commands.specs.Names.{shown_name}
 use Rattle.gt_file_commands.specs.Working.{AnswersDump, AnswersLines, AnswersQuestion, ChecksAll, ChecksAs, ChecksNever}
 use Rattle.gt_file_commands.specs.Working.{Deed, Doing, Lists, Plays, WithFile, Works, known_text}
 use Rattle.gt_file_commands.specs.declared.failure.Failure.TheVariants as failures
-use Rattle.gt_run_command.specs.Runs.{RunsDomains}
+use Rattle.gt_program.specs.Runs.{RunsDomains}
 use Rattle.gt_commands.specs.declared.invocation.Format.TheVariants.{Text, Json}
 use Rattle.gt_commands.specs.declared.invocation.Mode.TheVariants as modes
 use Rattle.gt_explore_answers.specs.declared.asking.ExploreFormat.TheVariants as explored

@@ -10,13 +10,14 @@ ghost use Rattle.gt_file_commands.specs.declared.outcome.Outcome.TheVariants.{Un
 ghost use Rattle.gt_program.specs.Obeying.{explore_format, verdict_outcome, FindsText, IsRequestFor, Searches, Seeks};
 ghost use Rattle.gt_program.specs.Obeying.{SeeksText};
 
-use gt_command_reasons::{CopyingReader, Reasons};
 use gt_commands::{Exploration, Format, SearchOptions};
 use gt_explore::explore as explore_reader;
 use gt_explore_answers::{ExploreFormat, ExploreOptions as Searched, ExploreRequest};
 use gt_explore_faults::ExploreFault;
 use gt_explore_verdict::Verdict;
-use gt_file_commands::{Context, Failure, Outcome, TextSource, finish, read_fault, read_given};
+use gt_file_commands::{
+    Context, CopyingReader, Failure, Outcome, Reasons, TextSource, finish, read_fault, read_given,
+};
 use std::alloc::Global;
 use std::io::{Read, Write};
 

@@ -3,14 +3,13 @@ ghost use Rattle.gt_commands.specs.Commands.{asked_by_plan};
 ghost use Rattle.gt_program.specs.Obeying.{Obeys};
 
 use crate::exploring::{explore, find_text};
-use gt_command_reasons::Reasons;
+use crate::running::run_asked;
 use gt_commands::Invocation;
 use gt_file_commands::{
-    Context, Outcome, TextSource, answer, answer_each, check_files, check_never_files, list, play,
-    print_rules, show_entries,
+    Context, Outcome, Reasons, TextSource, answer, answer_each, check_files, check_never_files,
+    list, play, print_rules, show_entries,
 };
 use gt_policy_check::WhyQuestion;
-use gt_run_command::run_asked;
 use std::io::Write;
 use std::sync::Wait;
 use std::thread::Threads;

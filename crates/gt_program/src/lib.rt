@@ -11,15 +11,16 @@
 //! known bytes, what is written for which words and with which status. That an error comes only if there is one is
 //! tested.
 //!
-//! It uses `gt_commands` (plans) and `clap` (their errors), `gt_file_commands`, `gt_run_command` and `gt_explore` (the
-//! commands), `gt_explore_answers`, `gt_explore_faults` and `gt_explore_verdict` (requests, faults and verdicts of
-//! `explore`), `gt_policy_check` (questions), `gt_command_reasons` and `gt_text`. Its definitions also name
-//! `gt_script`.
+//! It uses `gt_commands` (plans) and `clap` (their errors), `gt_file_commands`, `gt_order` and `gt_explore` (the
+//! commands), `gt_run` and `gt_script_runs` (gates and faults of runs), `gt_audit` (their log), `gt_json` (their JSON),
+//! `gt_explore_answers`, `gt_explore_faults` and `gt_explore_verdict` (requests, faults and verdicts of `explore`),
+//! `gt_policy_check` (questions) and `gt_text`. Its definitions also name `gt_script`.
 #![tactic(auto)]
 
 mod exploring;
 mod following;
 mod obeying;
+mod running;
 mod system;
 
 pub use gt_file_commands::{Context, Outcome, Style, TextSource};

@@ -1,2 +1,0 @@
-pub mod AsJson
-pub mod Prelude

@@ -1,2 +1,0 @@
-mod RelayLemmas
-pub mod RunLemmas

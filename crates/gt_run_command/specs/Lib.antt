@@ -1,2 +1,0 @@
-pub mod Prelude
-pub mod Runs
