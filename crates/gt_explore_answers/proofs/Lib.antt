@@ -1,2 +1,4 @@
+pub mod Compared
+pub mod OneMore
 pub mod Shown
 pub mod Answered

@@ -7,7 +7,6 @@ use Rattle.gt_script.specs.Lists.{RunAction}
 use Rattle.gt_script.specs.RunContents.{RunContents}
 use Rattle.gt_script.specs.declared.tasks.RunActionBy.TheVariants.{Do, Tell, Await}
 use Rattle.gt_explore_replay.specs.Orders.{MayGive}
-use Rattle.gt_explore_trace.specs.declared.facts.TraceForm.{TraceForm}
 use Rattle.gt_explore_verdict.specs.Expressions.{Answers, Asked, conditions_in, of_all, of_domain, of_line}
 use Rattle.gt_explore_verdict.specs.Judging.{Means, judged, verdict_at}
 use Rattle.gt_explore_verdict.specs.Satisfying.{satisfies}
@@ -27,6 +26,7 @@ use Rattle.gt_explore_answers.specs.Tracing.{IsDiagram, IsTrace, ShowsMoves}
 use Rattle.gt_explore_answers.specs.Witness.{IsWitness, ShowsAfter}
 use Rattle.gt_explore_answers.specs.declared.asking.ExploreRequest.{ExploreRequest}
 use Rattle.gt_explore_answers.specs.declared.asking.ExploreRequest.TheVariants as requests
+use Rattle.gt_explore_answers.specs.declared.trace.facts.TraceForm.{TraceForm}
 
 -- these are texts that a script may give, each of them once, and all of them if the search is over
 pub record AreTextsOf (c : RunContents) (f : Found) : Type 0 where

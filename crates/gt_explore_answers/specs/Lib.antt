@@ -1,8 +1,15 @@
 pub mod Answering
 pub mod AsObjects
+pub mod Diagram
 pub mod Exploring
+pub mod Facts
+pub mod GivingAnswers
+pub mod Lines
+pub mod Moves
 pub mod Objects
 pub mod Outputs
+pub mod Places
+pub mod Steps
 pub mod Texts
 pub mod Tracing
 pub mod Witness

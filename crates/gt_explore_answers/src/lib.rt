@@ -8,9 +8,10 @@
 //! compared. Moves are made again on the core. So no promise depends on how a script or an order was made. The
 //! definitions are in `specs/`.
 //!
-//! It uses `gt_explore_verdict` (conditions and verdicts), `gt_explore_witness` (scripts for `play`),
-//! `gt_explore_trace` (moves), `gt_explore_search` (orders), `gt_explore_faults`, `gt_script`, `gt_json`, `gt_text` and
-//! `gt_types`. Its definitions also name `gt_explore_replay` and `gt_script_runs`.
+//! It uses `gt_explore_verdict` (conditions and verdicts), `gt_explore_replay` (moves), `gt_explore_search` (orders),
+//! `gt_explore_faults`, `gt_host` (`play`), `gt_script` and `gt_script_lines` (scripts), `gt_script_runs` (answers, and
+//! what a policy allows), `gt_core` and `gt_entry` (steps), `gt_handles`, `gt_json`, `gt_text`, `gt_types`, `hex` and
+//! `itoa`. Its definitions also name `gt_calls`.
 #![tactic(auto)]
 
 mod answering;
@@ -21,7 +22,9 @@ mod found;
 mod json;
 mod objects;
 mod outputs;
+mod trace;
 mod tracing;
+mod witness;
 
 pub use answering::ExploreOutput;
 pub use asking::{ExploreFormat, ExploreOptions, ExploreRequest};

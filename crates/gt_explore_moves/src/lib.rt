@@ -9,10 +9,10 @@
 //! specs/Spaces.antt). Nothing is claimed of the turns: replay them on the core (`gt_explore_replay`) to see what they
 //! lead to.
 //!
-//! It uses `gt_explore_search` (the search), `gt_calls` (the steps of calls), `gt_explore_same` (their equality),
-//! `gt_explore_state` (words and bytes), `gt_script_runs` (what lines ask and print), `gt_script` and `gt_script_lines`
-//! (scripts), `gt_core` (answers), `gt_entry`, `gt_roster` and `gt_types`. Its definitions also name
-//! `gt_explore_replay` (orders and turns) and `gt_handles`, and its proofs `hex`.
+//! It uses `gt_explore_search` (the search), `gt_calls` (the steps of calls), `gt_explore_state` (words and bytes, and
+//! equality of calls), `gt_script_runs` (what lines ask and print), `gt_script` and `gt_script_lines` (scripts),
+//! `gt_core` (answers), `gt_entry`, `gt_roster` and `gt_types`. Its definitions also name `gt_explore_replay` (orders
+//! and turns) and `gt_handles`, and its proofs `hex`.
 #![tactic(auto)]
 
 mod actor;

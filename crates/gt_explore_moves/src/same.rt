@@ -9,7 +9,7 @@ ghost use Rattle.gt_explore_moves.specs.Mappings.{labels_of, mapping_pins, label
 
 use crate::actor::{Actor, ActorCall, LabelledMapping};
 use crate::parts::{PartInState, StatePart};
-use gt_explore_same::{same_call, same_step};
+use gt_explore_state::{same_call, same_step};
 
 fn same_task(one: Option<usize>, other: Option<usize>) -> bool
     ensures { IsTrue result → other ≡ one }

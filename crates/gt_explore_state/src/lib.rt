@@ -1,11 +1,14 @@
-//! The words and bytes of a small state, which keeps only what differs from the start.
+//! The words and bytes of a small state, which keeps only what differs from the start, and equality of the calls and
+//! steps that such states also have.
 //!
 //! A domain has rows up to the last entry that was touched, and a frame has bytes up to the last one that was written.
 //! The functions here read and change them as if all entries had rows, and all frames all their bytes: the contracts of
 //! [`SparseState`] state this against a history of the run.
 //!
-//! It uses `gt_calls` (what an owner knows of an entry), `gt_core` (histories), `gt_entry`, `gt_frames` (what a write
-//! leaves), `gt_roster` and `gt_types`.
+//! [`same_call`], [`same_step`] and [`same_result`] return true only for equal values: that is proved.
+//!
+//! It uses `gt_calls` (what an owner knows of an entry, calls and steps), `gt_core` (histories), `gt_entry`,
+//! `gt_frames` (what a write leaves), `gt_handles`, `gt_roster` and `gt_types`.
 #![tactic(auto)]
 
 mod copies;
@@ -27,4 +30,5 @@ pub use laws::{
 };
 pub use pages::SparsePage;
 pub use rows::counts_at;
+pub use same::{same_call, same_result, same_step};
 pub use table::SparseTable;

@@ -1,10 +1,20 @@
-//! Equality of tables and pages.
+//! Equality of tables and pages, and of calls, steps and ends of calls.
+//!
+//! Each function here returns true only for equal values, and may return false for them: a search then keeps a state
+//! twice. They are functions rather than a derived `PartialEq` on the types of `gt_calls`, since each crate above that
+//! one would read the derive.
 ghost use Rattle.std.specs.Prelude.{◌≡◌, IsTrue};
 
 use crate::pages::SparsePage;
 use crate::table::SparseTable;
 use gt_calls::{BodyWord, OwnerEntry};
 use gt_core::PinCounts;
+
+mod calls;
+mod steps;
+
+pub use calls::{same_call, same_result};
+pub use steps::same_step;
 
 fn same_row(one: OwnerEntry, other: OwnerEntry) -> bool
     ensures { IsTrue result → other ≡ one }

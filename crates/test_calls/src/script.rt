@@ -4,7 +4,7 @@ use gt_calls::{
     OwnerEntry, PinHolder, Request, Step,
 };
 use gt_entry::{Entry, Header};
-use gt_explore_same::{same_result, same_step};
+use gt_explore_state::{same_result, same_step};
 use gt_roster::Roster;
 use gt_types::{
     Config, Denial, DomId, DomainConfig, Facts, GrantRef, Memory, Perms, Rule, StartFault, Triple,

@@ -1,0 +1,15 @@
+//! Scripts for `play` that give a text of a script for `run`.
+//!
+//! [`witness_of`] makes such a script from the turns that lead to the text: a line for each step of a call, and names
+//! for the mappings that a label doesn't tell apart. [`gives_answers`] plays a script, and compares its answers with
+//! those of a text, domain by domain. [`may_not_unmap`] returns whether there may be none: `play` has no line by which
+//! a domain leaves, and the policy may not let it unmap.
+
+mod checked;
+mod leaving;
+mod making;
+mod naming;
+
+pub use checked::gives_answers;
+pub use leaving::may_not_unmap;
+pub use making::witness_of;

@@ -1,6 +1,0 @@
-use Rattle.std.proofs.Common.{take}
-use Rattle.gt_explore_witness.specs.Witness.{HaveAnswers}
-use Rattle.gt_explore_witness.proofs.checked.have_answers.Given as goal
-
-abbrev pub invariant-domains : goal.invariant-domains
-invariant-domains l = HaveAnswers (take l.domain-index l.domains) l.text l.out
