@@ -1,7 +1,13 @@
 //! All calls, by the rights that they need.
-use crate::copies::{COPIES, PAIRS, TO_MIDDLE};
-use crate::owners::{BY_HANDLE, HANDLE, MAPPING, MAPS, OLDER, OWNERS, PAGE};
-use crate::script::{CALLER, MIDDLE, OWNER, Part, Row, Script, goes, known, rights, three_domains};
+mod copies;
+mod owners;
+mod script;
+
+use crate::calls::copies::{COPIES, PAIRS, TO_MIDDLE};
+use crate::calls::owners::{BY_HANDLE, HANDLE, MAPPING, MAPS, OLDER, OWNERS, PAGE};
+use crate::calls::script::{
+    CALLER, MIDDLE, OWNER, Part, Row, Script, goes, known, rights, three_domains,
+};
 use gt_calls::{CallerState, EntryChange, Handles, HeldPin, OwnerEntry, Request};
 use gt_roster::Roster;
 use gt_types::{DomId, Memory, Perms, StartFault, Triples};

@@ -1,6 +1,6 @@
 //! Maps, owners' calls and calls by a handle: the requests, and the parts of each call.
-use crate::script::Part::{self, Ends, Header, Leg, Refused, RefusedAt, Step, Try};
-use crate::script::{CALLER, GRANTED, OWNER, Row, pin, unseen};
+use crate::calls::script::Part::{self, Ends, Header, Leg, Refused, RefusedAt, Step, Try};
+use crate::calls::script::{CALLER, GRANTED, OWNER, Row, pin, unseen};
 use gt_calls::{
     BodyWord, CallResult, EntryChange, Handle, HeldPin, Observation, PinHolder, Request,
     Step as CallStep,

@@ -1,6 +1,8 @@
 //! Copies: the requests, and the parts of each call.
-use crate::script::Part::{Body, Control, Header, Leg, LongLeg, Refused, RefusedAt, Try, Unpin};
-use crate::script::{CALLER, GRANTED, HEADER, MIDDLE, OWNER, Part, Row, pin, unseen};
+use crate::calls::script::Part::{
+    Body, Control, Header, Leg, LongLeg, Refused, RefusedAt, Try, Unpin,
+};
+use crate::calls::script::{CALLER, GRANTED, HEADER, MIDDLE, OWNER, Part, Row, pin, unseen};
 use gt_calls::Request::{Copy, Probe};
 use gt_calls::{CopyArgs, End, HeldPin, Observation, Request, Spot, Step as CallStep};
 use gt_entry::Entry;
