@@ -12,7 +12,7 @@ use Rattle.std.specs.Ordering.{is_eq}
 use Rattle.std.specs.List.Sorted.{IsPermutation}
 use Rattle.std.specs.declared.cmp.Ordering.TheVariants.{Less, Equal}
 use Rattle.gt_explore_search.specs.declared.exploring.FoundText.{FoundText}
-use Rattle.gt_explore.specs.Adding.{AddsOrder, AreAscending, IsAdded, compared, last_compared}
+use Rattle.gt_explore.specs.Adding.{AddsOrder, IsAdded, last_compared}
 use Rattle.gt_explore_answers.specs.Texts.{AreDifferentTexts, IsApart, IsTextAmong, texts_of_orders}
 
 -- what holds of what an option has

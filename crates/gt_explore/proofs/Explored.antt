@@ -18,10 +18,10 @@ use Rattle.gt_explore_verdict.specs.declared.fault.ExpressionFault.TheVariants a
 use Rattle.gt_explore_verdict.specs.declared.judging.Verdict.{Verdict}
 use Rattle.gt_explore_answers.specs.Exploring.{IsFaultAsked}
 use Rattle.gt_explore_faults.specs.Faults.{expression_fault}
-use Rattle.gt_explore.specs.Writing.{Explored, Explores}
+use Rattle.gt_explore.specs.Writing.{Explored, Explores, Makes}
 use Rattle.gt_explore_answers.specs.declared.asking.ExploreOptions.{ExploreOptions}
 use Rattle.gt_explore_faults.specs.declared.fault.ExploreFault.{ExploreFault}
-use Rattle.gt_explore_faults.specs.declared.fault.ExploreFault.TheVariants.{Play, Term, Number, Texts}
+use Rattle.gt_explore_faults.specs.declared.fault.ExploreFault.TheVariants.{Play, Term, Number, Unfound, Texts}
 
 -- a script was explored
 pub explored_script : (asked : ExploreOptions) (Told : Result RunContents Wrong → Type 0) (c : RunContents) (r : Result Verdict ExploreFault) (old new : Option (List ℕ)) → Told (Ok c)
@@ -29,6 +29,7 @@ pub explored_script : (asked : ExploreOptions) (Told : Result RunContents Wrong 
 explored_script asked Told c (Ok verdict) old new told wrote = (c, told, wrote)
 explored_script asked Told c (Err (Term number fault)) old new told wrote = (c, told, wrote)
 explored_script asked Told c (Err Number) old new told wrote = (c, told, wrote)
+explored_script asked Told c (Err Unfound) old new told wrote = (c, told, wrote)
 explored_script asked Told c (Err (Texts fault)) old new told wrote = (c, told, wrote)
 explored_script asked Told c (Err (Play plays.Write)) old new told wrote = (c, told, wrote)
 explored_script asked Told c (Err (Play plays.Memory)) old new told wrote = absurd wrote
@@ -43,6 +44,14 @@ fault_asked c asked (expressions.Term number fault) old is = (is, keeps_same old
 
 pub explored_fault : (c : RunContents) (asked : ExploreOptions) (error : ExpressionFault) (fault : ExploreFault) (old : Option (List ℕ)) → IsFaultAsked c asked.request error → fault ≡ expression_fault error → Explores c asked old old (Err fault)
 explored_fault c asked error fault old is same = subst (λ (f : ExploreFault). Explores c asked old old (Err f)) (sym same) (fault_asked c asked error old is)
+
+-- nothing was made for the script, and nothing went out
+pub explored_unmade : (c : RunContents) (asked : ExploreOptions) (fault : ExploreFault) (old : Option (List ℕ)) → Makes c asked (Err fault) → Explores c asked old old (Err fault)
+explored_unmade c asked Number old lacks = (lacks, keeps_same old)
+explored_unmade c asked Unfound old lacks = (lacks, keeps_same old)
+explored_unmade c asked (Texts fault) old made = keeps_same old
+explored_unmade c asked (Term number fault) old made = absurd made
+explored_unmade c asked (Play fault) old made = absurd made
 
 -- there is no script, and nothing went out
 no_script : (asked : ExploreOptions) (Told : Result RunContents Wrong → Type 0) (error : ScriptError) (old : Option (List ℕ)) → RunAnswers (Err error) Told → Explored asked Told old old (Err (Play (fault_of error)))

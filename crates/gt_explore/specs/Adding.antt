@@ -1,25 +1,13 @@
 -- Orders whose texts are in the order of their bytes, with one more order.
 use Rattle.std.specs.Prelude.{◌≡◌, ◌⊎◌, ◌++◌, ℕ, List, [], ◌∷◌}
-use Rattle.std.specs.Cmp.Lexicographic.{slice_cmp}
-use Rattle.std.specs.Ordering.{nat_cmp}
 use Rattle.std.specs.declared.cmp.Ordering.{Ordering}
 use Rattle.std.specs.declared.cmp.Ordering.TheVariants.{Less}
 use Rattle.gt_explore_search.specs.declared.exploring.FoundText.{FoundText}
-use Rattle.gt_explore_answers.specs.Texts.{IsTextAmong, texts_of_orders}
+use Rattle.gt_explore_answers.specs.Texts.{AreAscending, IsTextAmong, compared, texts_of_orders}
 
 -- x was added at the end, or not at all
 abbrev pub IsAdded : {X : Type 0} → List X → X → List X → Type 0
 IsAdded old x new = (new ≡ old) ⊎ (new ≡ old ++ x ∷ [])
-
--- two texts by the order of their bytes
-abbrev pub compared : List ℕ → List ℕ → Ordering
-compared one other = slice_cmp nat_cmp one other
-
--- each text comes before the next one
-abbrev pub AreAscending : List (List ℕ) → Type 0
-AreAscending [] = Unit {0}
-AreAscending (text ∷ []) = Unit {0}
-AreAscending (text ∷ next ∷ texts) = (compared text next ≡ Less) × AreAscending (next ∷ texts)
 
 -- the last of these texts, compared with another; if there is none, the result is `Less`
 abbrev pub last_compared : List (List ℕ) → List ℕ → Ordering

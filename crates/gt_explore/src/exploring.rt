@@ -1,5 +1,5 @@
 //! The command `explore`.
-ghost use Rattle.std.specs.Prelude.{◌≡◌, ℕ, List, IfOk, map, take};
+ghost use Rattle.std.specs.Prelude.{◌≡◌, ℕ, List, map, take};
 ghost use Rattle.gt_script.specs.Contents.{contents_of};
 ghost use Rattle.gt_script.specs.RunContents.{run_contents};
 ghost use Rattle.gt_script.specs.RunScripts.{CanConfigure, ReadsAsRun};
@@ -8,13 +8,13 @@ ghost use Rattle.gt_text.specs.declared.streams.TheConstants.{READ_LIMIT};
 ghost use Rattle.gt_script.specs.Stuck.{AreNumbered};
 ghost use Rattle.gt_explore_verdict.specs.Expressions.{condition_asked};
 ghost use Rattle.gt_explore_answers.specs.Exploring.{AreAsked};
-ghost use Rattle.gt_explore.specs.Writing.{Explored, Explores, IsMadeFor};
+ghost use Rattle.gt_explore.specs.Writing.{Explored, Explores, Makes};
 
 use crate::texts::texts_found;
 use gt_explore_answers::{
     ExploreOptions, ExploreOutput, answer_request, conditions_asked, has_its_text,
 };
-use gt_explore_faults::{ExploreFault, TextsFault};
+use gt_explore_faults::ExploreFault;
 use gt_explore_verdict::{Condition, Verdict};
 use gt_script::{RunScript, parse_run};
 use gt_script_runs::PlayFault;
@@ -22,26 +22,34 @@ use gt_text::{read_text, write_text};
 use std::alloc::Global;
 use std::io::{Read, Write};
 
-// Finds the texts of a script, and answers a request by them, which states these conditions. Returns `None` if no text
-// has the number that the request names.
+// Finds the texts of a script, and answers a request by them, which states these conditions.
 fn made_as(
     alloc: Global,
     asked: &ExploreOptions,
     source: &[u8],
     script: &RunScript,
     conditions: &[Condition<'_>],
-) -> Result<Option<ExploreOutput>, TextsFault>
+) -> Result<ExploreOutput, ExploreFault>
     requires fits { CanConfigure (contents_of script.now.head) }
     requires numbered { AreNumbered script.now.flags script.now.tasks }
     requires read { AreAsked (run_contents script.now) asked.now.request (map condition_asked conditions.now) }
-    ensures { IfOk result (IsMadeFor (run_contents script.now) asked.now) }
+    ensures { Makes (run_contents script.now) asked.now result }
 {
-    let found = texts_found(alloc, script, asked.states)?;
+    let found = match texts_found(alloc, script, asked.states) {
+        Ok(found) => found,
+        Err(fault) => return Err(ExploreFault::Texts(fault)),
+    };
     if !has_its_text(asked.request, &found) {
-        return Ok(None);
+        return if found.whole {
+            Err(ExploreFault::Number)
+        } else {
+            Err(ExploreFault::Unfound)
+        };
     }
-    let made = answer_request(alloc, asked, source, script, &found, conditions)?;
-    Ok(Some(made))
+    match answer_request(alloc, asked, source, script, &found, conditions) {
+        Ok(made) => Ok(made),
+        Err(fault) => Err(ExploreFault::Texts(fault)),
+    }
 }
 
 // Explores a script that was parsed.
@@ -58,9 +66,8 @@ fn explore_script<W: Write>(
 {
     let conditions = conditions_asked(alloc, script, asked.request)?;
     match made_as(alloc, asked, source, script, conditions.as_slice()) {
-        Err(fault) => Err(ExploreFault::Texts(fault)),
-        Ok(None) => Err(ExploreFault::Number),
-        Ok(Some(made)) => match write_text(writer, made.text.as_slice()) {
+        Err(fault) => Err(fault),
+        Ok(made) => match write_text(writer, made.text.as_slice()) {
             Ok(()) => Ok(made.verdict),
             Err(_) => Err(ExploreFault::Play(PlayFault::Write)),
         },
@@ -92,9 +99,10 @@ fn explore_bytes<W: Write>(
 /// then, and a list of texts ends with a line that has the words `not all texts`.
 ///
 /// # Errors
-/// The script's first fault. If it has none: the first fault of the expression; that no text has the wanted number; or
-/// that an order or a script for `play` does not give its text. Or an allocation, a read or a write failed. Only after
-/// a failed write was anything written: a prefix of the text.
+/// The script's first fault. If it has none: the first fault of the expression; that no text has the wanted number, or
+/// that none of those found has it, if these are not all; or that an order or a script for `play` does not give its
+/// text. Or an allocation, a read or a write failed. Only after a failed write was anything written: a prefix of the
+/// text.
 pub fn explore<R: Read, W: Write>(
     alloc: Global,
     asked: &ExploreOptions,

@@ -19,7 +19,7 @@ use Rattle.gt_explore_verdict.specs.declared.judging.Claim.TheVariants.{Find, Ne
 use Rattle.gt_explore_verdict.specs.declared.judging.Judgement.{Judgement}
 use Rattle.gt_explore_verdict.specs.declared.judging.Verdict.{Verdict}
 use Rattle.gt_explore_verdict.specs.declared.judging.Verdict.TheVariants.{Holds, Fails, Undecided}
-use Rattle.gt_explore_answers.specs.Texts.{AreDifferentTexts, IsTextAmong}
+use Rattle.gt_explore_answers.specs.Texts.{AreAscending, AreDifferentTexts, IsTextAmong}
 use Rattle.gt_explore_answers.specs.Outputs.{Found, counterexample_comment, heading, states_line, texts_output}
 use Rattle.gt_explore_answers.specs.Outputs.{witness_comment}
 use Rattle.gt_explore_answers.specs.Tracing.{IsDiagram, IsTrace, ShowsMoves}
@@ -28,11 +28,13 @@ use Rattle.gt_explore_answers.specs.declared.asking.ExploreRequest.{ExploreReque
 use Rattle.gt_explore_answers.specs.declared.asking.ExploreRequest.TheVariants as requests
 use Rattle.gt_explore_answers.specs.declared.trace.facts.TraceForm.{TraceForm}
 
--- these are texts that a script may give, each of them once, and all of them if the search is over
+-- these are texts that a script may give, in the order of their bytes, each of them once, and all of them if the search
+-- is over
 pub record AreTextsOf (c : RunContents) (f : Found) : Type 0 where
   pub possible : All (MayGive c) f.texts
   pub whole : f.whole ≡ true → (text : List ℕ) → MayGive c text → IsTextAmong text f.texts
   pub apart : AreDifferentTexts f.texts
+  pub ascending : AreAscending f.texts
 
 -- an action is a call, which has an answer
 abbrev pub is_call : RunAction → Bool

@@ -5,7 +5,7 @@ use Rattle.gt_explore_verdict.specs.Faults.{expression_fault_text}
 use Rattle.gt_explore_verdict.specs.declared.fault.ExpressionFault.{ExpressionFault}
 use Rattle.gt_explore_verdict.specs.declared.fault.ExpressionFault.TheVariants as expression
 use Rattle.gt_explore_faults.specs.declared.fault.ExploreFault.{ExploreFault}
-use Rattle.gt_explore_faults.specs.declared.fault.ExploreFault.TheVariants.{Play, Term, Number, Texts}
+use Rattle.gt_explore_faults.specs.declared.fault.ExploreFault.TheVariants.{Play, Term, Number, Unfound, Texts}
 use Rattle.gt_explore_faults.specs.declared.fault.TextsFault.{TextsFault}
 use Rattle.gt_explore_faults.specs.declared.fault.TextsFault.TheVariants.{Memory, States, Astray}
 
@@ -18,6 +18,7 @@ abbrev pub explore_fault_text : ExploreFault → List ℕ
 explore_fault_text (Play fault) = play_fault_text fault
 explore_fault_text (Term number fault) = expression_fault_text (expression.Term number fault)
 explore_fault_text Number = codes "no such text"
+explore_fault_text Unfound = codes "no such text found"
 explore_fault_text (Texts fault) = texts_fault_text fault
 
 -- an expression's fault as that of an exploration: its term, or want of memory

@@ -78,6 +78,8 @@ pub enum ExploreFault {
     },
     /// No text has the number of the witness, the trace or the diagram. Nothing was written.
     Number,
+    /// None of the texts found has that number, and the search stopped before it met all states. Nothing was written.
+    Unfound,
     /// The texts of the script were not found. Nothing was written.
     Texts(TextsFault),
 }
@@ -93,6 +95,7 @@ impl fmt::Display for ExploreFault {
             ExploreFault::Play(fault) => write!(f, "{fault}"),
             ExploreFault::Term { number, fault } => write!(f, "term {number}: {fault}"),
             ExploreFault::Number => f.write_str("no such text"),
+            ExploreFault::Unfound => f.write_str("no such text found"),
             ExploreFault::Texts(fault) => write!(f, "{fault}"),
         }
     }

@@ -237,6 +237,10 @@ fn explore_reason(
     match fault {
         ExploreFault::Play(fault) => fault_reason(alloc, file, is_line, input, fault),
         ExploreFault::Number => words_reason(alloc, file, "no output has this number"),
+        ExploreFault::Unfound => {
+            let words = "none of the outputs found has this number; raise --states";
+            words_reason(alloc, file, words)
+        }
         ExploreFault::Texts(TextsFault::States) => {
             let words = "the search met more states or answers than it can number";
             words_reason(alloc, file, words)

@@ -5,4 +5,5 @@ returns c = record {
   possible = c.in_ok-all.ensures.possible;
   whole = λ all text may. c.in_ok-all.ensures.whole text c.requires.numbered may all;
   apart = c.in_ok-all.ensures.apart;
+  ascending = c.in_ok-all.ensures.ascending;
 }
