@@ -35,9 +35,11 @@ use Rattle.gt_calls.specs.Asking.{asked, begun_of}
 use Rattle.gt_calls.specs.Opening.{opens}
 use Rattle.gt_calls.specs.Path.{Continuation, after_beginning, by_mapping, ended, makes, path_of, steps_of}
 use Rattle.gt_calls.specs.Rules.{CallerKnowledge, begun}
-use Rattle.gt_live.specs.Accesses.{Accessed, AnsweredAtAccess, ComesTo, HasCause, IsAccess, IsOfAccess, IsUnmade}
+use Rattle.gt_live.specs.Accesses.{Accessed, AnsweredAtAccess, ComesTo, HasCause, IsAccess, IsOfAccess, IsOfMissing}
+use Rattle.gt_live.specs.Accesses.{IsUnmade}
 use Rattle.gt_live.specs.Accesses.{frame_named, onward}
-use Rattle.gt_live.specs.Domains.{IsRefused, AllowRelation, denial_in}
+use Rattle.gt_live.specs.Domains.{IsRefused, IsRefusedWithoutMemory, AllowRelation, denial_in}
+use Rattle.gt_live.specs.Prelude.{Domain, Monitor}
 use Rattle.gt_live.specs.Ending.{IsAccessing, IsWordless}
 use Rattle.gt_live.specs.Mappings.{IsMappingOf, ReachesItsFrame}
 use Rattle.gt_live.specs.Walks.{Called, CarriesFound}
@@ -134,13 +136,19 @@ pub refused-first : {R : Type 0} (b : Board) (c : CallerKnowledge) (caller : Dom
     → AnsweredAtAccess b (path_of c caller request) tells (Err denial) v v
 refused-first b c caller request tells denial v is = inl (refused-called b.layout c caller request denial v is)
 
+-- the refusal at the beginning of a call with an access
+pub refused-plainly : (c : CallerKnowledge) (caller : DomId) (request : Request) (verdict : CallResult) (denial : Denial)
+    → IsAccessing (asked request) → begun_of c caller request ≡ Some verdict → denial ≡ denial_in verdict
+    → IsRefused c caller request denial
+refused-plainly c caller request verdict denial is e said =
+    refuses c caller request verdict denial (refused-once c caller request verdict is e) e said
+
 -- a call with an access that is refused at its beginning, by the verdict there
 pub refused-begun : (k : Layout) (c : CallerKnowledge) (caller : DomId) (request : Request) (verdict : CallResult)
     (denial : Denial) (v : View) → IsAccessing (asked request) → begun_of c caller request ≡ Some verdict
     → denial ≡ denial_in verdict → Called k (path_of c caller request) (Refused denial) v v
 refused-begun k c caller request verdict denial v is e said =
-    refused-called k c caller request denial v
-    (refuses c caller request verdict denial (refused-once c caller request verdict is e) e said)
+    refused-called k c caller request denial v (refused-plainly c caller request verdict denial is e said)
 
 -- the same of a call with an access, by the verdict at its beginning
 pub refused-access : {R : Type 0} (b : Board) (c : CallerKnowledge) (caller : DomId) (request : Request)
@@ -148,8 +156,17 @@ pub refused-access : {R : Type 0} (b : Board) (c : CallerKnowledge) (caller : Do
     → begun_of c caller request ≡ Some verdict → denial ≡ denial_in verdict
     → AnsweredAtAccess b (path_of c caller request) tells (Err denial) v v
 refused-access b c caller request tells verdict denial v is e said =
-    refused-first b c caller request tells denial v
-    (refuses c caller request verdict denial (refused-once c caller request verdict is e) e said)
+    refused-first b c caller request tells denial v (refused-plainly c caller request verdict denial is e said)
+
+-- the refusal of a call that allocates nothing, and whose frame the table does not keep
+pub missing-access : {R : Type 0} (result : Result R Denial) → IfErr result IsOfMissing → IfErr result IsOfAccess
+missing-access (Ok r) is = tt
+missing-access (Err denial) is = inr is
+
+pub missing-plainly : {P R : Type 0} (may : P → AllowRelation) (m : Monitor P) (d : Domain) (request : Request)
+    (result : Result R Denial) → IfErr result IsOfMissing → IfErr result (IsRefusedWithoutMemory may m d request)
+missing-plainly may m d request (Ok r) is = tt
+missing-plainly may m d request (Err denial) is = inr is
 
 -- a call of one access
 whole : (k : Layout) (way : Continuation) (access : Step) (does : View → View → Type 0) (v w : View) → IsAccess access → way ≡ makes access (ended Granted) → does v w → Accessed k way access does v w

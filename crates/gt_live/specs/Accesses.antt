@@ -1,9 +1,10 @@
 -- Calls with an access to bytes: the path to it, the access, and the path from there to the end.
-use Rattle.std.specs.Prelude.{◌≡◌, ◌⊎◌, ℕ, List, [], ◌∷◌, ◌++◌, Some, Result, Ok, Err}
+use Rattle.std.specs.Prelude.{◌≡◌, ◌⊎◌, ℕ, List, [], ◌∷◌, ◌++◌, length, Some, Result, Ok, Err}
 use Rattle.gt_live.specs.Prelude.{DomId, Denial, N16, N26, NoFacts, denial_of, Layout, Moment, View, Copying, Reading}
 use Rattle.gt_live.specs.Prelude.{Writing, FrameName, IsReadOf, copying_at, writing_at, Makes, Observation}
 use Rattle.gt_live.specs.Prelude.{Nothing, Step, ReadBytes, WriteBytes, CopyBytes, Granted, Refused, Continuation}
-use Rattle.gt_live.specs.Prelude.{position_in, Spot}
+use Rattle.gt_live.specs.Prelude.{position_in, Spot, SeatOf, AccessPath, ReachesBy, Use, Write, ForMap, ForCopy}
+use Rattle.gt_access.specs.Routes.{writ_by}
 use Rattle.gt_frames.specs.declared.writ.Writ.{Writ}
 use Rattle.gt_word_history.specs.declared.view.FrameStep.TheVariants as frames
 use Rattle.gt_words.specs.Conditions.{Board}
@@ -47,9 +48,13 @@ pub record Accessed (k : Layout) (way : Continuation) (access : Step) (does : Vi
 abbrev pub IsUnmade : View → View → Type 0
 IsUnmade v w = w ≡ v
 
+-- the refusal of an access to a frame that the table does not keep
+abbrev pub IsOfMissing : Denial → Type 0
+IsOfMissing denial = denial ≡ denial_of N16 NoFacts
+
 -- the refusal of an access that was not made: allocation failed, or the table does not keep the frame
 abbrev pub IsOfAccess : Denial → Type 0
-IsOfAccess denial = (denial ≡ denial_of N26 NoFacts) ⊎ (denial ≡ denial_of N16 NoFacts)
+IsOfAccess denial = (denial ≡ denial_of N26 NoFacts) ⊎ IsOfMissing denial
 
 -- the name of the frame with this number of this owner
 abbrev pub frame_named : DomId → ℕ → FrameName
@@ -87,19 +92,30 @@ ReadsFrame k name off len r v w =
     IsReadOf r name off len
     × AccessesFrame k (position_in k.ids name.owner) name.number (frames.Read off r.bytes) v w
 
--- the writer wrote these bytes to the frame, as one step of the history
+-- the writ is that of a route by which the writer may write this range, at this view: the frame is its own, or the view
+-- has the pins that permit the write, and the writ has their entries
+pub record IsWritOfPins (k : Layout) (v : View) (writer : DomId) (purpose : Use) (name : FrameName) (off len : ℕ) (u : Writ)
+    : Type 0 where
+  pub seat : SeatOf
+  pub dom : seat.dom ≡ writer
+  pub view : seat.view ≡ v
+  pub route : AccessPath
+  pub reaches : ReachesBy k seat Write purpose name off len route
+  pub writ : u ≡ writ_by writer route
+
+-- the writer wrote these bytes to the frame, as one step of the history, by a writ of its pins
 abbrev pub WritesFrame : Layout → FrameName → ℕ → List ℕ → DomId → Writing → View → View → Type 0
 WritesFrame k name off bytes writer r v w =
     (r ≡ writing_at name off bytes writer)
-    × ((u : Writ) × (u.writer ≡ writer)
+    × ((u : Writ) × IsWritOfPins k v writer ForMap name off (length bytes) u
     × AccessesFrame k (position_in k.ids name.owner) name.number
     (frames.Wrote (record { writ = u; off = off; bytes = bytes })) v w)
 
--- the writer copied this many bytes from one place to the other, as one step of the history
+-- the writer copied this many bytes from one place to the other, as one step of the history, by a writ of its pins
 abbrev pub CopiesBetween : Layout → Spot → Spot → ℕ → DomId → Copying → View → View → Type 0
 CopiesBetween k from to len writer r v w =
     (r ≡ copying_at from to len writer)
-    × ((u : Writ) × (u.writer ≡ writer) × CopiesFrames k from to len u v w)
+    × ((u : Writ) × IsWritOfPins k v writer ForCopy to.frame to.off len u × CopiesFrames k from to len u v w)
 
 -- the access read exactly its frame and range
 abbrev pub IsReadBy : Layout → Step → Reading → View → View → Type 0

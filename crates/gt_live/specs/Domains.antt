@@ -13,7 +13,7 @@ use Rattle.gt_audit.specs.Trails.{AppendsRecord}
 use Rattle.gt_audit.specs.declared.record.Hypercall.TheVariants as hypercalls
 use Rattle.gt_audit.specs.declared.record.Reply.TheVariants as replies
 use Rattle.gt_live.specs.Mappings.{AddsMapping, IsMappingOf, KeepsMappings, PinsAreOf, Removes}
-use Rattle.gt_live.specs.Accesses.{AnsweredAtAccess}
+use Rattle.gt_live.specs.Accesses.{AnsweredAtAccess, IsOfMissing}
 use Rattle.gt_live.specs.Ending.{IsWordless}
 use Rattle.gt_live.specs.Walks.{AreMoments, Called, view_after}
 
@@ -102,6 +102,11 @@ MapAnswered may m d request (Err denial) e =
 pub record IsRefused (c : CallerKnowledge) (caller : DomId) (request : Request) (denial : Denial) : Type 0 where
   pub answered : begun_of c caller request ≡ Some (Refused denial)
   pub wordless : IsWordless denial.facts
+
+-- a call that needs no memory was refused: a rule applied at its beginning, or the table does not keep its frame
+abbrev pub IsRefusedWithoutMemory : {P : Type 0} → (P → AllowRelation) → Monitor P → Domain → Request → Denial → Type 0
+IsRefusedWithoutMemory may m d request denial =
+    IsRefused (known_on may m d) d.seat.dom request denial ⊎ IsOfMissing denial
 
 -- only the seat of the domain has made steps, and nothing else has changed yet
 pub record IsUnsettled (d e : Domain) : Type 0 where

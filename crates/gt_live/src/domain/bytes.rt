@@ -5,9 +5,9 @@ ghost use Rattle.gt_types.specs.declared.Use.TheVariants as uses;
 ghost use Rattle.gt_words.specs.Conditions.{IsSameSeat, IsSeatOf};
 ghost use Rattle.gt_access.specs.Routes.{MayAccessBy, ReachesBy};
 ghost use Rattle.gt_calls.specs.declared.request.Request.TheVariants as requests;
-ghost use Rattle.gt_live.specs.Accesses.{Fills, IsIfMissing, IsOfAccess, IsReadBy, IsWrittenBy, ReadsFrame};
+ghost use Rattle.gt_live.specs.Accesses.{Fills, IsIfMissing, IsOfAccess, IsOfMissing, IsReadBy, IsWrittenBy, ReadsFrame};
 ghost use Rattle.gt_live.specs.Accesses.{WritesFrame};
-ghost use Rattle.gt_live.specs.Domains.{AccessesQuietly, BelongsTo, StaysIn, not_made};
+ghost use Rattle.gt_live.specs.Domains.{AccessesQuietly, BelongsTo, IsRefusedWithoutMemory, StaysIn, not_made};
 ghost use Rattle.gt_live.specs.Driving.{IsSame};
 ghost use Rattle.gt_live.specs.Parts.{seat_of, words_of};
 
@@ -63,7 +63,7 @@ fn fill_through<R: Wait, P: Allows>(
     ensures seat { IsSameSeat seat.old seat.new }
     ensures read { IfOk result (λ r. ReadsFrame monitor.now.words.layout access.now.at.frame access.now.at.off
         (length out.old) r seat.old.view seat.new.view) }
-    ensures refused { IfErr result IsOfAccess }
+    ensures refused { IfErr result IsOfMissing }
     ensures cause { IfErr result (IsIfMissing monitor.now.words access.now.at.frame) }
     ensures unmade { OnErr result (seat.new.view ≡ seat.old.view) }
     ensures same { IsSame seat.old.view seat.new.view }
@@ -189,6 +189,8 @@ impl Domain {
         ensures stays { StaysIn P.may monitor.now self.old self.new }
         ensures answers { AccessesQuietly P.may monitor.now self.old
             (requests.Load handle off (length buffer.old)) (IsReadBy (words_of monitor.now).layout) result self.new }
+        ensures refused { IfErr result (IsRefusedWithoutMemory P.may monitor.now self.old
+            (requests.Load handle off (length buffer.old))) }
         ensures filled { Fills result buffer.old buffer.new }
     {
         if let Some(verdict) = judge_load(&self.mappings, handle, off, buffer.len()) {
@@ -257,6 +259,8 @@ impl Domain {
         ensures stays { StaysIn P.may monitor.now self.old self.new }
         ensures answers { AccessesQuietly P.may monitor.now self.old
             (requests.Peek frame off (length buffer.old)) (IsReadBy (words_of monitor.now).layout) result self.new }
+        ensures refused { IfErr result (IsRefusedWithoutMemory P.may monitor.now self.old
+            (requests.Peek frame off (length buffer.old))) }
         ensures filled { Fills result buffer.old buffer.new }
     {
         let caller = self.seat.dom();

@@ -1,4 +1,4 @@
-use Rattle.std.proofs.Common.{◌≡◌, ◌∙◌, sym, ap, subst, refl, Some, length}
+use Rattle.std.proofs.Common.{◌≡◌, ◌∙◌, sym, ap, subst, refl, inl, Some, length}
 use Rattle.std.specs.Prelude.{IfOk, ℕ, option_copied, IfErr}
 use Rattle.gt_frames.specs.Receipts.{Reading}
 use Rattle.gt_types.specs.declared.Dir.TheVariants as dirs
@@ -9,7 +9,8 @@ use Rattle.gt_calls.specs.declared.request.Request.TheVariants as requests
 use Rattle.gt_handles.specs.Handles.{value_of}
 use Rattle.gt_live.specs.Accesses.{frame_named, IsIfMissing, IsReadBy, ReadsFrame}
 use Rattle.gt_live.specs.Domains.{knowledge}
-use Rattle.gt_live.proofs.Accessing.{mapped-way, none-left, one-access, refused-access, reaches-mapped}
+use Rattle.gt_live.proofs.Accessing.{mapped-way, missing-access, missing-plainly, none-left, one-access, refused-access}
+use Rattle.gt_live.proofs.Accessing.{refused-plainly, reaches-mapped}
 use Rattle.gt_live.proofs.DomainKept.{reseated}
 use Rattle.gt_live.proofs.Making.{same_seat-self}
 use Rattle.gt_live.proofs.domain.Domain.load_into.Goals as goal
@@ -32,7 +33,7 @@ returns-clause-answers g c =
     let there : value_of d.mappings c.args.handle ≡ Some held = sym c.get.ensures.value ∙ ap option_copied c.unwrap-held.ensures in
     let k = knowledge m.config may d in
     let way = mapped-way k d.seat.dom (requests.Load c.args.handle c.args.off (length c.args.buffer.now)) c.args.handle held (λ (p : HeldPin). steps.Read p.dom (frame_of p.entry) c.args.off (length c.args.buffer.now)) (sym c.judge_load.ensures ∙ none-left c.judge_load.result c.in_default.not-Some) there refl in (
-      one-access m.words _ (steps.Read held.dom (frame_of held.entry) c.args.off (length c.args.buffer.now)) (IsReadBy m.words.layout) c.fill_through.result d.seat.view c.fill_through.new.seat.view tt way (subst (λ (n : ℕ). IfOk c.fill_through.result (λ (r : Reading). ReadsFrame m.words.layout (frame_named held.dom n) c.args.off (length c.args.buffer.now) r d.seat.view c.fill_through.new.seat.view)) c.frame.ensures c.fill_through.ensures.read) c.fill_through.ensures.unmade c.fill_through.ensures.refused
+      one-access m.words _ (steps.Read held.dom (frame_of held.entry) c.args.off (length c.args.buffer.now)) (IsReadBy m.words.layout) c.fill_through.result d.seat.view c.fill_through.new.seat.view tt way (subst (λ (n : ℕ). IfOk c.fill_through.result (λ (r : Reading). ReadsFrame m.words.layout (frame_named held.dom n) c.args.off (length c.args.buffer.now) r d.seat.view c.fill_through.new.seat.view)) c.frame.ensures c.fill_through.ensures.read) c.fill_through.ensures.unmade (missing-access c.fill_through.result c.fill_through.ensures.refused)
           (subst (λ (n : ℕ). IfErr c.fill_through.result (IsIfMissing m.words (frame_named held.dom n))) c.frame.ensures c.fill_through.ensures.cause),
       (record { slots = refl; given = refl }, c.fill_through.ensures.same.pins),
       refl,
@@ -54,3 +55,12 @@ returns-clause-stays g c =
 
 pub returns-in-Some-clause-stays : goal.returns-in-Some-clause-stays
 returns-in-Some-clause-stays g c = (c.requires.mine, same_seat-self c.args.self.now.seat)
+
+pub returns-clause-refused : goal.returns-clause-refused
+returns-clause-refused g c =
+    missing-plainly g.P.Allows.may c.args.monitor.now c.args.self.now (requests.Load c.args.handle c.args.off (length c.args.buffer.now)) c.fill_through.result c.fill_through.ensures.refused
+
+pub returns-in-Some-clause-refused : goal.returns-in-Some-clause-refused
+returns-in-Some-clause-refused g c =
+    let m = c.args.monitor.now in let d = c.args.self.now in
+    inl (refused-plainly (knowledge m.config (g.P.Allows.may m.rights) d) d.seat.dom (requests.Load c.args.handle c.args.off (length c.args.buffer.now)) c.in-Some.verdict c.refusal_of.result tt (sym c.judge_load.ensures ∙ c.in-Some.is) c.refusal_of.ensures)
