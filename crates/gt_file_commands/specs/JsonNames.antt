@@ -1,4 +1,4 @@
--- The names of other crates, and of the code, that the definitions here use.
+-- Names of other crates that the definitions of what goes out as JSON use.
 pub use Rattle.gt_entries.specs.Dumps.{WroteDump}
 pub use Rattle.gt_entries.specs.declared.asked.DumpOptions.{DumpOptions}
 pub use Rattle.gt_entries.specs.declared.fault.DumpFault.{DumpFault}

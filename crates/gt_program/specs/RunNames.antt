@@ -1,4 +1,4 @@
--- Names of other crates that the definitions here use.
+-- Names of other crates that the definitions of the output of `run` use.
 pub use Rattle.gt_commands.specs.declared.invocation.Format.{Format}
 pub use Rattle.gt_commands.specs.declared.invocation.Format.TheVariants.{Text, Json}
 pub use Rattle.gt_file_commands.specs.Working.{Doing}
