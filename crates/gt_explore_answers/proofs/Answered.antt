@@ -95,13 +95,6 @@ witness_more c f os i number o script rest lt is gives told =
 pub joined : (out comment script rest pushed whole : List ℕ) → pushed ≡ out ++ comment → whole ≡ pushed ++ script → whole ++ rest ≡ out ++ (comment ++ (script ++ rest))
 joined out comment script rest pushed whole p w = ap (λ (l : List ℕ). l ++ rest) (w ∙ ap (λ (l : List ℕ). l ++ script) p) ∙ simp append_assoc
 
--- three texts one after the other
-pub three_joined : {E : Type 0} (r : Result (Unit {0}) E) (out a b c first second third : List ℕ) → first ≡ out ++ a → second ≡ first ++ b → OnOk r (third ≡ second ++ c)
-    → OnOk r (third ≡ out ++ (a ++ (b ++ c)))
-three_joined (Err fault) out a b c first second third f s t = tt
-three_joined (Ok done) out a b c first second third f s t =
-    t ∙ ap (λ (l : List ℕ). l ++ c) (s ∙ ap (λ (l : List ℕ). l ++ b) f) ∙ append_assoc (out ++ a) b c ∙ append_assoc out a (b ++ c)
-
 -- no script is left to write
 pub none_left : (c : RunContents) (f : Found) (number i : ℕ) (os : List FoundText) → length os ≤ i → AreWitnessOutputs c f number (texts_of_orders (drop i os)) []
 none_left c f number i os end = let P : List FoundText → Type 0 = λ ps. AreWitnessOutputs c f number (texts_of_orders ps) [] in subst P (sym (drop_all i os end)) refl
