@@ -1,6 +1,6 @@
 -- The answers to requests.
 use Rattle.std.proofs.Common.{◌≡◌, ◌∙◌, ◌⊎◌, ◌+◌, ◌++◌, ℕ, zero, suc, Bool, true, false, List, [], ◌∷◌, Option, Some, None, ap, refl, subst}
-use Rattle.std.proofs.Common.{sym, slice_get, length, map, inl, inr, drop, get_or, ◌<◌, ◌≤◌, append_assoc, IfOk, OnOk, Result, Ok, Err, Vec, Global}
+use Rattle.std.proofs.Common.{sym, slice_get, length, map, inl, inr, drop, get_or, ◌<◌, ◌≤◌, append_assoc, IfOk, Result, Ok, Err, Vec, Global}
 use Rattle.std.proofs.Math.Bool.{cond}
 use Rattle.std.specs.Prelude.{is_some}
 use Rattle.std.specs.List.{position, position_from}
