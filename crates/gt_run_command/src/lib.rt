@@ -4,9 +4,9 @@
 //! the text as it is or as JSON Lines, and adds the reasons of refusals if they are asked for. It returns an
 //! [`Outcome`], and reports a failure in one line.
 //!
-//! It is proved that the output is what `run` of `gt_order` writes: a text that a run of the script may print, and one
-//! that `explore` lists, under the conditions stated there (`RanInOrder`). As JSON it is that of a text of `run` of
-//! `gt_run` (`Ran`), for which this is not stated (`RanAs` in specs/Runs.antt).
+//! It is proved that the output is what `run` of `gt_order` writes at a gate that refuses no flag: a text that a run of
+//! the script may print, and one that `explore` lists if no line of it has N26 (`RanInOrder`). As JSON it is that of a
+//! text of `run` of `gt_run` (`Ran`), for which this is not stated (`RanAs` in specs/Runs.antt).
 //!
 //! The other commands on texts are in `gt_file_commands`, whose proof needs neither threads nor the monitor. Its
 //! [`Context`], failures and outcomes are used here. `gt_order` has the run, `gt_json` the JSON, `gt_command_reasons`
