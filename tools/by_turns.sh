@@ -18,7 +18,7 @@ source="$work/crates/gt_run/src/threads.rt"
 sed -i \
   -e "s/^    start: &'s OnceLock<bool>,/&\n    turn: \&'s Mutex<u64>,/" \
   -e 's/^    let start = &start;/&\n    let turn = Mutex::new(0u64);\n    let turn = \&turn;/' \
-  -e 's/{ work(rt, alloc, domain, job, gate, start) }/{ let _turn = turn.lock(rt); work(rt, alloc, domain, job, gate, start) }/' \
+  -e 's/{ work(rt, domain, job, gate, start) }/{ let _turn = turn.lock(rt); work(rt, domain, job, gate, start) }/' \
   -e 's/scope, context, monitor, domains, parts, start,/& turn,/' \
   -e 's/^use std::sync::{OnceLock, Wait};/use std::sync::{Mutex, OnceLock, Wait};/' "$source"
 for part in "turn: &'s Mutex" 'let turn = &turn;' 'turn.lock(rt); work' 'parts, start, turn,' '{Mutex, OnceLock'; do

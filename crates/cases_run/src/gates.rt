@@ -1,4 +1,6 @@
 //! Gates that end the wait after a number of turns.
+ghost use Rattle.std.specs.Prelude.{true};
+
 use crate::running::run_logged;
 use gt_audit::SharedLog;
 use gt_run::Gate;
@@ -148,6 +150,8 @@ impl<'l> Turns<'l> {
 }
 
 impl<'l> Gate for Turns<'l> {
+    ghost refuses = { λ _ _. true };
+
     fn tell(&self, flag: usize) {
         self.note_told(flag);
         self.told.fetch_or(bit(flag), Ordering::SeqCst);

@@ -1,4 +1,6 @@
 //! Memory that runs out in the course of a run.
+ghost use Rattle.std.specs.Prelude.{false};
+
 use gt_audit::SharedLog;
 use gt_run::{FlagGate, Gate, RunFault, run};
 use gt_script_runs::PlayFault;
@@ -115,6 +117,8 @@ impl<'r, R: Wait> Scarce<'r, R> {
 }
 
 impl<'r, R: Wait> Gate for Scarce<'r, R> {
+    ghost refuses = { λ _ _. false };
+
     fn tell(&self, flag: usize) {
         self.callers.fetch_add(1, Ordering::SeqCst);
         match self.place {

@@ -15,7 +15,7 @@ use Rattle.gt_script_runs.specs.Playing.{setting_of_script}
 use Rattle.gt_script_runs.specs.Rights.{may_by}
 use Rattle.gt_script_runs.specs.declared.rights.ScriptPolicy.{ScriptPolicy as ScriptRights}
 use Rattle.gt_script.specs.Contents.{type_names}
-use Rattle.gt_script.specs.Lists.{RunTask}
+use Rattle.gt_script.specs.Lists.{RunAction, RunTask}
 use Rattle.gt_script.specs.Stuck.{IsBelow}
 use Rattle.gt_word_history.specs.Views.{IsAmong}
 use Rattle.gt_script.specs.RunContents.{RunContents}
@@ -28,8 +28,8 @@ use Rattle.gt_run.specs.declared.lists.DomainPart.{DomainPart}
 use Rattle.gt_run.specs.declared.lists.ThreadJob.{ThreadJob}
 use Rattle.gt_order.proofs.Happenings.{events-are, happenings, order-known, order-raised, own-are, trace-is}
 use Rattle.gt_order.proofs.Listed.{AreFlagsOf, FollowsAll, HasStarved, IsStopped, follows-all}
-use Rattle.gt_order.proofs.Served.{Serves, follows-list, prints-list}
-use Rattle.gt_order.specs.Explored.{EndsAtNoGate, HasNoneLost, RunsAreExplored}
+use Rattle.gt_order.proofs.Served.{Serves, follows-list, none-refused, prints-list}
+use Rattle.gt_order.specs.Explored.{HasNoneLost, NoneStops, RunsAreExplored}
 use Rattle.gt_order.specs.Ordering.{events_of, items_in, own_in}
 use Rattle.gt_order.specs.Printed.{AllPrint, MayPrint, PrintsList, RunsArePrinted}
 
@@ -44,21 +44,21 @@ all-follow c hs (d ∷ ds) (s ∷ all) same each =
     (s.text, (texts_in all, refl, all-follow c hs ds all (omega (arith, same)) (λ i e t inside. each (suc i) e t (omega (arith, inside)))), each 0 d s (omega arith))
 
 -- each domain serves its list so
-all-print : (c : RunContents) (hs : List Happening) (ds : List DomainConfig) (all : List (Served ScriptRights)) → length ds ≡ length all
-    → ((i : ℕ) (d : DomainConfig) (s : Served ScriptRights) → i < length ds → PrintsList (type_names c.head) (get_or ds i d).id [] [] (list_of c.tasks (get_or ds i d).id) (own_happenings (get_or ds i d).id hs) (get_or all i s).text)
-    → AllPrint c hs ds (texts_in all)
-all-print c hs [] [] same each = refl
-all-print c hs [] (s ∷ all) same each = absurd (omega (arith, same))
-all-print c hs (d ∷ ds) [] same each = absurd (omega (arith, same))
-all-print c hs (d ∷ ds) (s ∷ all) same each =
-    (s.text, (texts_in all, refl, all-print c hs ds all (omega (arith, same)) (λ i e t inside. each (suc i) e t (omega (arith, inside)))), each 0 d s (omega arith))
+all-print : (refuses : ℕ → Bool) (c : RunContents) (hs : List Happening) (ds : List DomainConfig) (all : List (Served ScriptRights)) → length ds ≡ length all
+    → ((i : ℕ) (d : DomainConfig) (s : Served ScriptRights) → i < length ds → PrintsList refuses (type_names c.head) (get_or ds i d).id [] [] (list_of c.tasks (get_or ds i d).id) (own_happenings (get_or ds i d).id hs) (get_or all i s).text)
+    → AllPrint refuses c hs ds (texts_in all)
+all-print refuses c hs [] [] same each = refl
+all-print refuses c hs [] (s ∷ all) same each = absurd (omega (arith, same))
+all-print refuses c hs (d ∷ ds) [] same each = absurd (omega (arith, same))
+all-print refuses c hs (d ∷ ds) (s ∷ all) same each =
+    (s.text, (texts_in all, refl, all-print refuses c hs ds all (omega (arith, same)) (λ i e t inside. each (suc i) e t (omega (arith, inside)))), each 0 d s (omega arith))
 
 all-among : {A : Type 0} (Is : A → Type 0) (xs : List A) → All Is xs → (x : A) → IsAmong x xs → Is x
 all-among Is [] all x is = absurd is
 all-among Is (y ∷ ys) all x (inl e) = subst Is (sym e) (All-head Is y ys all)
 all-among Is (y ∷ ys) all x (inr is) = all-among Is ys (All-tail Is y ys all) x is
 
-module _ (c : RunContents) (logged : Bool) (x : Served ScriptRights) (xs : List (Served ScriptRights)) (of : AreOf c logged (jobs_in (x ∷ xs))) where
+module _ (refuses : ℕ → Bool) (c : RunContents) (logged : Bool) (x : Served ScriptRights) (xs : List (Served ScriptRights)) (of : AreOf c logged (jobs_in (x ∷ xs))) where
   abbrev m : Monitor ScriptRights
   m = of.monitor
 
@@ -113,9 +113,9 @@ module _ (c : RunContents) (logged : Bool) (x : Served ScriptRights) (xs : List 
       others (y ∷ ys) zero l = refl
       others (y ∷ ys) (suc n) l = others ys n (omega (arith, l))
 
-  module _ (are : AreServed may_by (x ∷ xs)) (one : ShowOneState (x ∷ xs)) where
-    all : FollowsAll may_by m x xs on ids are one
-    all = follows-all may_by m x xs on ids are one of.limits
+  module _ (are : AreServed may_by refuses (x ∷ xs)) (one : ShowOneState (x ∷ xs)) where
+    all : FollowsAll may_by refuses m x xs on ids are one
+    all = follows-all may_by refuses m x xs on ids are one of.limits
 
     numbered : AreFlagsOf m c.tasks
     numbered task is = all-among (λ (t : RunTask). IsBelow m.words.flags t.deed) c.tasks of.flags task is
@@ -130,27 +130,31 @@ module _ (c : RunContents) (logged : Bool) (x : Served ScriptRights) (xs : List 
 
     -- the list of the domain at a position
     serves-at : (i : ℕ) (d : DomainConfig) → i < length c.head.domains
-        → Serves (HasStarved (lists i).outcomes) (IsStopped (lists i)) (type_names c.head) (get_or c.head.domains i d).id [] [] (list_of c.tasks (get_or c.head.domains i d).id) (own_happenings (get_or c.head.domains i d).id (happenings all.order)) (lists i).text
+        → Serves (HasStarved (lists i).outcomes) (IsStopped refuses (lists i)) (type_names c.head) (get_or c.head.domains i d).id [] [] (list_of c.tasks (get_or c.head.domains i d).id) (own_happenings (get_or c.head.domains i d).id (happenings all.order)) (lists i).text
     serves-at i d inside =
         let l : i < length (x ∷ xs) = omega (arith, inside, same-many) in
         let within : i < length m.config.domains.items = let e = ap length of.domains in omega (arith, inside, e) in
         let over = over-at i l in
         let mine = all.follow i within (subst (AreFlagsOf m) (sym over.0) numbered) of.frames in
-        let typed = subst (λ (ts : List (List ℕ)). Serves (HasStarved (lists i).outcomes) (IsStopped (lists i)) ts (lists i).job.part.dom [] [] (list_of (lists i).job.part.tasks.now (lists i).job.part.dom) (happenings (own_in (lists i).job.part.dom all.order)) (lists i).text) over.1 mine in
-        let tasked = subst (λ (ts : List RunTask). Serves (HasStarved (lists i).outcomes) (IsStopped (lists i)) (type_names c.head) (lists i).job.part.dom [] [] (list_of ts (lists i).job.part.dom) (happenings (own_in (lists i).job.part.dom all.order)) (lists i).text) over.0 typed in
-        let named = subst (λ (n : DomId). Serves (HasStarved (lists i).outcomes) (IsStopped (lists i)) (type_names c.head) n [] [] (list_of c.tasks n) (happenings (own_in n all.order)) (lists i).text) (dom-at i d l) tasked in
-        subst (λ (hs : List Happening). Serves (HasStarved (lists i).outcomes) (IsStopped (lists i)) (type_names c.head) (get_or c.head.domains i d).id [] [] (list_of c.tasks (get_or c.head.domains i d).id) hs (lists i).text) (sym (own-are (get_or c.head.domains i d).id all.order)) named
+        let typed = subst (λ (ts : List (List ℕ)). Serves (HasStarved (lists i).outcomes) (IsStopped refuses (lists i)) ts (lists i).job.part.dom [] [] (list_of (lists i).job.part.tasks.now (lists i).job.part.dom) (happenings (own_in (lists i).job.part.dom all.order)) (lists i).text) over.1 mine in
+        let tasked = subst (λ (ts : List RunTask). Serves (HasStarved (lists i).outcomes) (IsStopped refuses (lists i)) (type_names c.head) (lists i).job.part.dom [] [] (list_of ts (lists i).job.part.dom) (happenings (own_in (lists i).job.part.dom all.order)) (lists i).text) over.0 typed in
+        let named = subst (λ (n : DomId). Serves (HasStarved (lists i).outcomes) (IsStopped refuses (lists i)) (type_names c.head) n [] [] (list_of c.tasks n) (happenings (own_in n all.order)) (lists i).text) (dom-at i d l) tasked in
+        subst (λ (hs : List Happening). Serves (HasStarved (lists i).outcomes) (IsStopped refuses (lists i)) (type_names c.head) (get_or c.head.domains i d).id [] [] (list_of c.tasks (get_or c.head.domains i d).id) hs (lists i).text) (sym (own-are (get_or c.head.domains i d).id all.order)) named
 
-    pub printed : MayPrint c (texts_in (x ∷ xs))
-    printed = (happenings all.order, record { legal = order-legal; print = all-print c (happenings all.order) c.head.domains (x ∷ xs) (sym same-many) each; known = all-known; flags = order-raised m.config all.order all.flags })
+    pub printed : MayPrint refuses c (texts_in (x ∷ xs))
+    printed = (happenings all.order, record { legal = order-legal; print = all-print refuses c (happenings all.order) c.head.domains (x ∷ xs) (sym same-many) each; known = all-known; flags = order-raised m.config all.order all.flags })
       where
         each : (i : ℕ) (d : DomainConfig) (s : Served ScriptRights) → i < length c.head.domains
-            → PrintsList (type_names c.head) (get_or c.head.domains i d).id [] [] (list_of c.tasks (get_or c.head.domains i d).id) (own_happenings (get_or c.head.domains i d).id (happenings all.order)) (get_or (x ∷ xs) i s).text
+            → PrintsList refuses (type_names c.head) (get_or c.head.domains i d).id [] [] (list_of c.tasks (get_or c.head.domains i d).id) (own_happenings (get_or c.head.domains i d).id (happenings all.order)) (get_or (x ∷ xs) i s).text
         each i d s inside =
-            subst (λ (q : Served ScriptRights). PrintsList (type_names c.head) (get_or c.head.domains i d).id [] [] (list_of c.tasks (get_or c.head.domains i d).id) (own_happenings (get_or c.head.domains i d).id (happenings all.order)) q.text) (same-list x s i (omega (arith, inside, same-many)))
-            (prints-list (HasStarved (lists i).outcomes) (IsStopped (lists i)) (type_names c.head) (get_or c.head.domains i d).id (list_of c.tasks (get_or c.head.domains i d).id) [] [] _ (lists i).text (serves-at i d inside))
+            subst (λ (q : Served ScriptRights). PrintsList refuses (type_names c.head) (get_or c.head.domains i d).id [] [] (list_of c.tasks (get_or c.head.domains i d).id) (own_happenings (get_or c.head.domains i d).id (happenings all.order)) q.text) (same-list x s i (omega (arith, inside, same-many)))
+            (prints-list (HasStarved (lists i).outcomes) (IsStopped refuses (lists i)) (type_names c.head) (get_or c.head.domains i d).id refuses (λ deed stopped. stopped.0) (list_of c.tasks (get_or c.head.domains i d).id) [] [] _ (lists i).text (serves-at i d inside))
 
-    pub explored : All EndsAtNoGate (x ∷ xs) → All HasNoneLost (x ∷ xs) → MayGive c (texts_in (x ∷ xs))
+    none-stopped : NoneStops refuses (x ∷ xs) → (i : ℕ) → i < length (x ∷ xs) → (deed : RunAction) → IsStopped refuses (lists i) deed → ⊥
+    none-stopped (inl none) i l deed stopped = none-refused refuses deed none stopped.0
+    none-stopped (inr passes) i l deed stopped = passes i x l stopped.1.0 stopped.1.1 stopped.1.2
+
+    pub explored : NoneStops refuses (x ∷ xs) → All HasNoneLost (x ∷ xs) → MayGive c (texts_in (x ∷ xs))
     explored passes whole = (happenings all.order, record { legal = order-legal; follow = all-follow c (happenings all.order) c.head.domains (x ∷ xs) (sym same-many) each; known = all-known; flags = order-raised m.config all.order all.flags })
       where
         each : (i : ℕ) (d : DomainConfig) (s : Served ScriptRights) → i < length c.head.domains
@@ -158,8 +162,8 @@ module _ (c : RunContents) (logged : Bool) (x : Served ScriptRights) (xs : List 
         each i d s inside =
             let l : i < length (x ∷ xs) = omega (arith, inside, same-many) in
             subst (λ (q : Served ScriptRights). FollowsList (type_names c.head) (get_or c.head.domains i d).id [] [] (list_of c.tasks (get_or c.head.domains i d).id) (own_happenings (get_or c.head.domains i d).id (happenings all.order)) q.text) (same-list x s i l)
-            (follows-list (HasStarved (lists i).outcomes) (IsStopped (lists i)) (type_names c.head) (get_or c.head.domains i d).id
-            (λ starved. whole i x l starved.0 starved.1 starved.2) (λ stopped. passes i x l stopped.0 stopped.1 stopped.2)
+            (follows-list (HasStarved (lists i).outcomes) (IsStopped refuses (lists i)) (type_names c.head) (get_or c.head.domains i d).id
+            (λ starved. whole i x l starved.0 starved.1 starved.2) (none-stopped passes i l)
             (list_of c.tasks (get_or c.head.domains i d).id) [] [] _ (lists i).text (serves-at i d inside))
 
 -- a run of a script has a domain
@@ -184,15 +188,15 @@ of-lists c logged jobs served same of = record {
 }
 
 pub runs-explored : RunsAreExplored
-runs-explored c logged jobs old new of wrote passes whole = by wrote.0 wrote.1 wrote.2 wrote.3 passes whole
+runs-explored refuses c logged jobs old new of wrote passes whole = by wrote.0 wrote.1 wrote.2 wrote.3 passes whole
   where
-    by : (all : List (Served ScriptRights)) → jobs_in all ≡ jobs → AreServed may_by all → ShowOneState all → All EndsAtNoGate all → All HasNoneLost all → MayGive c (texts_in all)
+    by : (all : List (Served ScriptRights)) → jobs_in all ≡ jobs → AreServed may_by refuses all → ShowOneState all → NoneStops refuses all → All HasNoneLost all → MayGive c (texts_in all)
     by [] same are one passes whole = absurd (none-run c logged jobs of same)
-    by (x ∷ xs) same are one passes whole = explored c logged x xs (of-lists c logged jobs (x ∷ xs) same of) are one passes whole
+    by (x ∷ xs) same are one passes whole = explored refuses c logged x xs (of-lists c logged jobs (x ∷ xs) same of) are one passes whole
 
 pub runs-printed : RunsArePrinted
-runs-printed c logged jobs old new of wrote = by wrote.0 wrote.1 wrote.2 wrote.3
+runs-printed refuses c logged jobs old new of wrote = by wrote.0 wrote.1 wrote.2 wrote.3
   where
-    by : (all : List (Served ScriptRights)) → jobs_in all ≡ jobs → AreServed may_by all → ShowOneState all → MayPrint c (texts_in all)
+    by : (all : List (Served ScriptRights)) → jobs_in all ≡ jobs → AreServed may_by refuses all → ShowOneState all → MayPrint refuses c (texts_in all)
     by [] same are one = absurd (none-run c logged jobs of same)
-    by (x ∷ xs) same are one = printed c logged x xs (of-lists c logged jobs (x ∷ xs) same of) are one
+    by (x ∷ xs) same are one = printed refuses c logged x xs (of-lists c logged jobs (x ∷ xs) same of) are one

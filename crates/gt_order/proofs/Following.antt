@@ -132,7 +132,7 @@ module _ {P : Type 0} (m : Monitor P) (all : HasAllFrames m) where
   pub starved-answer : (answer : Answer) → OutcomeGivesAnswer m Starved answer → answer ≡ no_memory
   starved-answer answer (denial, is, lost) = lost-memory answer denial is lost
 
-module _ (Lost Stopped : Type 0) (c : Config) (may : AllowRelation) (types : List (List ℕ)) (dom : DomId) where
+module _ (Lost : Type 0) (Stopped : RunAction → Type 0) (c : Config) (may : AllowRelation) (types : List (List ℕ)) (dom : DomId) where
   -- whatever follows these deeds follows the lines of the list that did them
   abbrev pub Follows : List Named → List Handle → List RunTask → List Deed → List ℕ → Type 0
   Follows named held done made printed =

@@ -58,7 +58,7 @@ use Rattle.gt_script.specs.declared.tasks.RunActionBy.TheVariants.{Await, Do, Te
 use Rattle.gt_run.specs.Asking.{Asks, MakesFlagStep, RaisesFlag}
 use Rattle.gt_run.specs.Printing.{AreServed, HasViewIn, Served, ShowOneState, WasServed, jobs_in}
 use Rattle.gt_run.specs.Serving.{DoesDeed, DoesWhere, EndsList, ListLeadsTo, MakesCall, ListOutcome, ListProgress}
-use Rattle.gt_run.specs.Serving.{answer_lines, gate_line, list_start}
+use Rattle.gt_run.specs.Serving.{IsRefused, answer_lines, gate_line, list_start}
 use Rattle.gt_run.specs.declared.lists.ThreadJob.{ThreadJob}
 use Rattle.gt_order.specs.Texts.{AreDeedsOf, IsDoneFor, IsFlagStepOf, AreDeedsOfList, AreOfALegalOrder, HasList}
 use Rattle.gt_types.specs.Config.{IsWithinLimits}
@@ -94,16 +94,16 @@ AreFlagsOf m tasks = (task : RunTask) → IsAmong task tasks → IsBelow m.words
 abbrev pub HasStarved : List ListOutcome → Type 0
 HasStarved outcomes = (o : ListOutcome) × IsAmong o outcomes × IsStarved o
 
--- the list was stopped by its gate
-abbrev pub IsStopped : {P : Type 0} → Served P → Type 0
-IsStopped s = (before : List ℕ) × (line : ℕ) × (s.text ≡ before ++ gate_line line s.job.part.dom)
+-- the list was stopped by its gate, which may refuse the flag of this line
+abbrev pub IsStopped : {P : Type 0} → (ℕ → Bool) → Served P → RunAction → Type 0
+IsStopped refuses s deed = IsRefused refuses deed × ((before : List ℕ) × (line : ℕ) × (s.text ≡ before ++ gate_line line s.job.part.dom))
 
 not-below : (i n : ℕ) → nat_lt i n ≡ false → i < n → ⊥
 not-below i n e l = grind (arith, nat_tests)
 
-module _ {P : Type 0} (may : P → AllowRelation) (m : Monitor P) where
+module _ {P : Type 0} (may : P → AllowRelation) (refuses : ℕ → Bool) (m : Monitor P) where
   -- a list, as far as it has come
-  module _ (job : ThreadJob P) (over : job.monitor.now ≡ m) (final : List ListOutcome) (first : Domain) (Stopped : Type 0) where
+  module _ (job : ThreadJob P) (over : job.monitor.now ≡ m) (final : List ListOutcome) (first : Domain) (Stopped : RunAction → Type 0) where
     -- the outcomes so far stay among those at the end
     abbrev AreFinal : ListProgress → Type 0
     AreFinal p = (o : ListOutcome) → IsAmong o p.outcomes → IsAmong o final
@@ -295,7 +295,7 @@ module _ {P : Type 0} (may : P → AllowRelation) (m : Monitor P) where
   -- what these deeds did follows the list
   abbrev DidFollow : Served P → List Deed → Type 0
   DidFollow s made = AreFlagsOf m s.job.part.tasks.now → HasAllFrames m
-      → Serves (HasStarved s.outcomes) (IsStopped s) s.job.part.types.now s.job.part.dom [] [] (list_of s.job.part.tasks.now s.job.part.dom) (happenings (order_of_deeds m.config (may m.rights) s.job.part.dom made)) s.text
+      → Serves (HasStarved s.outcomes) (IsStopped refuses s) s.job.part.types.now s.job.part.dom [] [] (list_of s.job.part.tasks.now s.job.part.dom) (happenings (order_of_deeds m.config (may m.rights) s.job.part.dom made)) s.text
 
   -- a list that was served, up to its last view
   record Finished (i : ℕ) (s : Served P) (v : View) (gone : Type 0) : Type 0 where
@@ -316,15 +316,15 @@ module _ {P : Type 0} (may : P → AllowRelation) (m : Monitor P) where
       let there = own_position m.config k k.ids i d.seat.dom (sym m.same_run) m.limits.distinct (ap (λ (l : Layout). l.ids) m.same_run) (omega arith) (sym own) in
       sym fresh.seat.position ∙ (here ∙ sym there)
 
-  module _ (i : ℕ) (s : Served P) (inside : i < length m.config.domains.items) (l : HasList may m i s) where
+  module _ (i : ℕ) (s : Served P) (inside : i < length m.config.domains.items) (l : HasList may refuses m i s) where
     fresh : IsNewDomain m.words m.config (may m.rights) l.served.first.position l.served.domain
     fresh = subst (λ (y : Monitor P). IsNewDomain y.words y.config (may y.rights) l.served.first.position l.served.domain) l.monitor l.served.first.fresh
 
     starts : IsNewDomain m.words m.config (may m.rights) i l.served.domain
     starts = subst (λ (p : ℕ). IsNewDomain m.words m.config (may m.rights) p l.served.domain) (stands-at i l.served.first.position l.served.domain inside fresh (l.served.first.own ∙ l.dom)) fresh
 
-    come : Come s.job l.monitor s.outcomes l.served.domain (IsStopped s) (list_of (take l.served.number s.job.part.tasks.now) s.job.part.dom) l.served.left
-    come = comes s.job l.monitor s.outcomes l.served.domain (IsStopped s) (take l.served.number s.job.part.tasks.now) (λ t is. take-in l.served.number s.job.part.tasks.now t is) [] (list_start l.served.domain) l.served.left l.served.leads (λ o is. subst (IsAmong o) l.served.came is)
+    come : Come s.job l.monitor s.outcomes l.served.domain (IsStopped refuses s) (list_of (take l.served.number s.job.part.tasks.now) s.job.part.dom) l.served.left
+    come = comes s.job l.monitor s.outcomes l.served.domain (IsStopped refuses s) (take l.served.number s.job.part.tasks.now) (λ t is. take-in l.served.number s.job.part.tasks.now t is) [] (list_start l.served.domain) l.served.left l.served.leads (λ o is. subst (IsAmong o) l.served.came is)
         (record {
           made = [];
           deeds_are = tt;
@@ -333,7 +333,7 @@ module _ {P : Type 0} (may : P → AllowRelation) (m : Monitor P) where
           mine = fresh.domain;
           held = [];
           keeps = keeps-new l.served.domain.mappings fresh.mappings;
-          follows = λ followed. follows-none (HasStarved s.outcomes) (IsStopped s) m.config (may m.rights) s.job.part.types.now s.job.part.dom;
+          follows = λ followed. follows-none (HasStarved s.outcomes) (IsStopped refuses s) m.config (may m.rights) s.job.part.types.now s.job.part.dom;
         })
 
     -- the calls and the releases behind them follow the list
@@ -362,24 +362,24 @@ module _ {P : Type 0} (may : P → AllowRelation) (m : Monitor P) where
             (behind.order ++ [], behind.back [] [] (empty, refl))
 
         -- with the lines that were not served, and what was printed at the end
-        ends-so : (rest : List RunTask) (last : List ℕ) → list_of (take l.served.number tasks) dom ++ rest ≡ list_of tasks dom → l.served.last ≡ last → Serves (HasStarved s.outcomes) (IsStopped s) types dom l.served.left.named come.held rest (happenings left ++ []) last
-            → Serves (HasStarved s.outcomes) (IsStopped s) types dom [] [] (list_of tasks dom) (happenings (order_of_deeds m.config (may m.rights) dom (us ++ come.made))) s.text
+        ends-so : (rest : List RunTask) (last : List ℕ) → list_of (take l.served.number tasks) dom ++ rest ≡ list_of tasks dom → l.served.last ≡ last → Serves (HasStarved s.outcomes) (IsStopped refuses s) types dom l.served.left.named come.held rest (happenings left ++ []) last
+            → Serves (HasStarved s.outcomes) (IsStopped refuses s) types dom [] [] (list_of tasks dom) (happenings (order_of_deeds m.config (may m.rights) dom (us ++ come.made))) s.text
         ends-so rest last e1 printed serves =
             let f = come.follows (numbered, all) rest (happenings left ++ []) last serves in
             let e2 : happenings listed ++ (happenings left ++ []) ≡ happenings (order_of_deeds m.config (may m.rights) dom (us ++ come.made)) =
             ap (λ (hs : List Happening). happenings listed ++ hs) (append-nil (happenings left)) ∙ (sym (happenings-both left listed) ∙ ap happenings (sym (deeds-both m.config (may m.rights) types dom us come.made))) in
             let e3 : answer_lines types dom l.served.left.outcomes ++ last ≡ s.text = sym (l.served.prints ∙ (λ j. answer_lines types dom (sym l.served.came j) ++ printed j)) in
-            subst (λ (ts : List RunTask). Serves (HasStarved s.outcomes) (IsStopped s) types dom [] [] ts (happenings (order_of_deeds m.config (may m.rights) dom (us ++ come.made))) s.text) e1
-            (subst (λ (hs : List Happening). Serves (HasStarved s.outcomes) (IsStopped s) types dom [] [] (list_of (take l.served.number tasks) dom ++ rest) hs s.text) e2
-            (subst (λ (text : List ℕ). Serves (HasStarved s.outcomes) (IsStopped s) types dom [] [] (list_of (take l.served.number tasks) dom ++ rest) (happenings listed ++ (happenings left ++ [])) text) e3 f))
+            subst (λ (ts : List RunTask). Serves (HasStarved s.outcomes) (IsStopped refuses s) types dom [] [] ts (happenings (order_of_deeds m.config (may m.rights) dom (us ++ come.made))) s.text) e1
+            (subst (λ (hs : List Happening). Serves (HasStarved s.outcomes) (IsStopped refuses s) types dom [] [] (list_of (take l.served.number tasks) dom ++ rest) hs s.text) e2
+            (subst (λ (text : List ℕ). Serves (HasStarved s.outcomes) (IsStopped refuses s) types dom [] [] (list_of (take l.served.number tasks) dom ++ rest) (happenings listed ++ (happenings left ++ [])) text) e3 f))
 
-        by : EndsList dom tasks l.served.number l.served.last → Serves (HasStarved s.outcomes) (IsStopped s) types dom [] [] (list_of tasks dom) (happenings (order_of_deeds m.config (may m.rights) dom (us ++ come.made))) s.text
+        by : EndsList refuses dom tasks l.served.number l.served.last → Serves (HasStarved s.outcomes) (IsStopped refuses s) types dom [] [] (list_of tasks dom) (happenings (order_of_deeds m.config (may m.rights) dom (us ++ come.made))) s.text
         by (inl e) =
             ends-so [] [] (append-nil (list_of (take l.served.number tasks) dom) ∙ ap (λ (ts : List RunTask). list_of ts dom) (ap (λ (n : ℕ). take n tasks) e.0 ∙ take-length tasks)) e.1 (leaves, refl)
         by (inr stops) =
             let split = gate-split tasks l.served.number stops.at dom stops.stands stops.own in
-            let stopped : IsStopped s = (answer_lines types dom s.outcomes, stops.at.line, l.served.prints ∙ ap (λ (t : List ℕ). answer_lines types dom s.outcomes ++ t) stops.last_is) in
-            ends-so (stops.at ∷ split.0) (gate_line stops.at.line dom) (sym split.1) stops.last_is (inr (inr (stopped, (stops.awaits, leaves, refl))))
+            let stopped : IsStopped refuses s stops.at.deed = (stops.refused, (answer_lines types dom s.outcomes, stops.at.line, l.served.prints ∙ ap (λ (t : List ℕ). answer_lines types dom s.outcomes ++ t) stops.last_is)) in
+            ends-so (stops.at ∷ split.0) (gate_line stops.at.line dom) (sym split.1) stops.last_is (inr (inr (stopped, leaves, refl)))
 
     finished : (v : View) (ends : IsViewOf m.words m.config (may m.rights) l.served.left.domain v) → Finished i s v (IsGone l.served.left.domain v ends)
     finished v (inl e) = record {
@@ -406,7 +406,7 @@ module _ {P : Type 0} (may : P → AllowRelation) (m : Monitor P) where
 
   -- all lists
   module _ (lists : ℕ → Served P) (s : State (Unit {0}) View) (ends : ℕ → View)
-      (each : (i : ℕ) → i < length m.config.domains.items → (l : HasList may m i (lists i)) × IsViewOf m.words m.config (may m.rights) l.served.left.domain (ends i) × (get_elem? s.views i ≡ some (ends i))) where
+      (each : (i : ℕ) → i < length m.config.domains.items → (l : HasList may refuses m i (lists i)) × IsViewOf m.words m.config (may m.rights) l.served.left.domain (ends i) × (get_elem? s.views i ≡ some (ends i))) where
     abbrev Gone : (i : ℕ) → i < length m.config.domains.items → Type 0
     Gone i inside = IsGone (each i inside).0.served.left.domain (ends i) (each i inside).1
 
@@ -445,7 +445,7 @@ module _ {P : Type 0} (may : P → AllowRelation) (m : Monitor P) where
     text-legal limits shown = let o = text-order limits shown in record { order = o.0; seats = seats; legal = o.1; each = λ i inside. (o.2 i inside).0 }
 
 pub texts-legal : {P : Type 0} (may : P → AllowRelation) (m : Monitor P) → TextsAreOfALegalOrder may m
-texts-legal may m lists s ends limits each shown = text-legal may m lists s ends each limits shown
+texts-legal may m refuses lists s ends limits each shown = text-legal may refuses m lists s ends each limits shown
 
 found : {A : Type 0} (xs : List A) (i : ℕ) (x d : A) → slice_get xs i ≡ Some x → get_or xs i d ≡ x
 found [] i x d e = cc
@@ -459,8 +459,8 @@ stays-at b c may i first (OnFlag x ∷ us) at calls = calls.0.kept.seat.position
 stays-at b c may i first (Look x ∷ us) at calls = calls.0.kept.seat.position ∙ (ap (λ (z : SeatOf). z.view.position) calls.1.seat ∙ stays-at b c may i first us at calls.2)
 
 -- what a run wrote is the text of a legal order
-module _ {P : Type 0} (may : P → AllowRelation) (m : Monitor P) (x : Served P) (xs : List (Served P)) (on : All (λ (d : ThreadJob P). d.monitor.now ≡ m) (jobs_in (x ∷ xs)))
-    (ids : map (λ (d : ThreadJob P). d.part.dom) (jobs_in (x ∷ xs)) ≡ map (λ (d : DomainConfig). d.id) m.config.domains.items) (are : AreServed may (x ∷ xs)) (one : ShowOneState (x ∷ xs)) where
+module _ {P : Type 0} (may : P → AllowRelation) (refuses : ℕ → Bool) (m : Monitor P) (x : Served P) (xs : List (Served P)) (on : All (λ (d : ThreadJob P). d.monitor.now ≡ m) (jobs_in (x ∷ xs)))
+    (ids : map (λ (d : ThreadJob P). d.part.dom) (jobs_in (x ∷ xs)) ≡ map (λ (d : DomainConfig). d.id) m.config.domains.items) (are : AreServed may refuses (x ∷ xs)) (one : ShowOneState (x ∷ xs)) where
   abbrev lists : ℕ → Served P
   lists i = get_or (x ∷ xs) i x
 
@@ -473,13 +473,13 @@ module _ {P : Type 0} (may : P → AllowRelation) (m : Monitor P) (x : Served P)
   job-at : (i : ℕ) → i < length m.config.domains.items → get_or (jobs_in (x ∷ xs)) i x.job ≡ (lists i).job
   job-at i l = get_or-map (λ (s : Served P). s.job) (x ∷ xs) i x x.job (within i l)
 
-  list-at : (i : ℕ) → i < length m.config.domains.items → HasList may m i (lists i)
+  list-at : (i : ℕ) → i < length m.config.domains.items → HasList may refuses m i (lists i)
   list-at i l =
       let inside : i < length (jobs_in (x ∷ xs)) = omega (arith, many) in record {
         monitor = subst (λ (d : ThreadJob P). d.monitor.now ≡ m) (job-at i l) (All-get_or (λ (d : ThreadJob P). d.monitor.now ≡ m) (jobs_in (x ∷ xs)) i x.job inside on);
         dom = ap (λ (d : ThreadJob P). d.part.dom) (sym (job-at i l)) ∙ sym (get_or-map (λ (d : ThreadJob P). d.part.dom) (jobs_in (x ∷ xs)) i x.job (record { 0 = 0 }) inside)
             ∙ ap (λ (ys : List DomId). id_at ys i) (ids ∙ sym (ap (λ (k : Layout). k.ids) m.same_run));
-        served = All-get_or (WasServed may) (x ∷ xs) i x (within i l) are;
+        served = All-get_or (WasServed may refuses) (x ∷ xs) i x (within i l) are;
       }
 
   left-at : (i : ℕ) (l : i < length m.config.domains.items) → IsViewOf m.words m.config (may m.rights) (list-at i l).served.left.domain (lists i).departed.seat.view
@@ -489,7 +489,7 @@ module _ {P : Type 0} (may : P → AllowRelation) (m : Monitor P) (x : Served P)
 
   view-at : (i : ℕ) (l : i < length m.config.domains.items) → get_elem? one.0.views i ≡ some (lists i).departed.seat.view
   view-at i l =
-      let f = finished may m i (lists i) l (list-at i l) (lists i).departed.seat.view (left-at i l) in
+      let f = finished may refuses m i (lists i) l (list-at i l) (lists i).departed.seat.view (left-at i l) in
       let here : (lists i).departed.seat.view.position ≡ i = ap (λ (v : View). v.position) (sym f.view) ∙ stays-at m.words m.config (may m.rights) i f.first f.made f.starts.seat.position f.deeds_are in
       subst (λ (p : ℕ). get_elem? one.0.views p ≡ some (lists i).departed.seat.view) here (All-get_or (HasViewIn one.0) (x ∷ xs) i x (within i l) one.2)
 
@@ -498,7 +498,7 @@ module _ {P : Type 0} (may : P → AllowRelation) (m : Monitor P) (x : Served P)
 
   one-order : IsWithinLimits m.config → AreOfOneOrder may m (x ∷ xs)
   one-order limits =
-      (lists, λ i s e. found (x ∷ xs) i s x e, (shows.history, texts-legal may m lists one.0 (λ i. (lists i).departed.seat.view) limits (λ i l. (list-at i l, left-at i l, view-at i l)) shows))
+      (lists, λ i s e. found (x ∷ xs) i s x e, (shows.history, texts-legal may m refuses lists one.0 (λ i. (lists i).departed.seat.view) limits (λ i l. (list-at i l, left-at i l, view-at i l)) shows))
 
   -- the order of a run, in which what each domain did follows its list
   pub record FollowsAll : Type 0 where
@@ -506,33 +506,33 @@ module _ {P : Type 0} (may : P → AllowRelation) (m : Monitor P) (x : Served P)
     pub legal : Legal (setting_of m.config (may m.rights)) (events_of (items_in order)) (trace_of (items_in order))
     pub flags : AreOnRaisedFlags m.config order
     pub follow : (i : ℕ) → i < length m.config.domains.items → AreFlagsOf m (lists i).job.part.tasks.now → HasAllFrames m
-        → Serves (HasStarved (lists i).outcomes) (IsStopped (lists i)) (lists i).job.part.types.now (lists i).job.part.dom [] [] (list_of (lists i).job.part.tasks.now (lists i).job.part.dom) (happenings (own_in (lists i).job.part.dom order)) (lists i).text
+        → Serves (HasStarved (lists i).outcomes) (IsStopped refuses (lists i)) (lists i).job.part.types.now (lists i).job.part.dom [] [] (list_of (lists i).job.part.tasks.now (lists i).job.part.dom) (happenings (own_in (lists i).job.part.dom order)) (lists i).text
 
   pub follows-all : IsWithinLimits m.config → FollowsAll
   unfolding left-at
   follows-all limits =
-      let o = text-order may m lists one.0 (λ i. (lists i).departed.seat.view) (λ i l. (list-at i l, left-at i l, view-at i l)) limits shows in record {
+      let o = text-order may refuses m lists one.0 (λ i. (lists i).departed.seat.view) (λ i l. (list-at i l, left-at i l, view-at i l)) limits shows in record {
         order = o.0;
         legal = o.1.legal;
         flags = o.1.flags;
         follow = λ i l numbered all.
             let dom : (lists i).job.part.dom ≡ id_at m.words.layout.ids i = (list-at i l).dom in
-            let seats-at = seats may m lists one.0 (λ i. (lists i).departed.seat.view) (λ i l. (list-at i l, left-at i l, view-at i l)) i in
+            let seats-at = seats may refuses m lists one.0 (λ i. (lists i).departed.seat.view) (λ i l. (list-at i l, left-at i l, view-at i l)) i in
             let inside : i < m.words.layout.domains = subst (λ (n : ℕ). i < n) (sym (ap (λ (k : Layout). k.domains) m.same_run)) l in
             let mine : own_in (lists i).job.part.dom o.0 ≡ order_of_deeds m.config (may m.rights) (lists i).job.part.dom seats-at.deeds =
             subst (λ (d : DomId). own_in d o.0 ≡ order_of_deeds m.config (may m.rights) d seats-at.deeds) (sym dom) (o.1.deeds i inside) in
-            subst (λ (g : RunOrder). Serves (HasStarved (lists i).outcomes) (IsStopped (lists i)) (lists i).job.part.types.now (lists i).job.part.dom [] [] (list_of (lists i).job.part.tasks.now (lists i).job.part.dom) (happenings g) (lists i).text) (sym mine)
+            subst (λ (g : RunOrder). Serves (HasStarved (lists i).outcomes) (IsStopped refuses (lists i)) (lists i).job.part.types.now (lists i).job.part.dom [] [] (list_of (lists i).job.part.tasks.now (lists i).job.part.dom) (happenings g) (lists i).text) (sym mine)
             ((o.2 i l).1.1 tt numbered all);
       }
 
 pub runs-legal : {P : Type 0} (may : P → AllowRelation) (m : Monitor P) → RunsWriteALegalOrder may m
-runs-legal {P} may m jobs old new limits of wrote = by wrote.0 wrote.1 wrote.2 wrote.3
+runs-legal {P} may m refuses jobs old new limits of wrote = by wrote.0 wrote.1 wrote.2 wrote.3
   where
-    by : (all : List (Served P)) → jobs_in all ≡ jobs → AreServed may all → ShowOneState all → AreOfOneOrder may m all
+    by : (all : List (Served P)) → jobs_in all ≡ jobs → AreServed may refuses all → ShowOneState all → AreOfOneOrder may m all
     by [] same are one =
         absurd (none (ap length (ap (map (λ (d : ThreadJob P). d.part.dom)) same ∙ of.1)))
       where
         none : 0 ≡ length (map (λ (d : DomainConfig). d.id) m.config.domains.items) → ⊥
         none e = let l = length-map m.config.domains.items (λ (d : DomainConfig). d.id) in let some = limits.some in omega (arith, e, l, some)
     by (x ∷ xs) same are one =
-        one-order may m x xs (subst (All (λ (d : ThreadJob P). d.monitor.now ≡ m)) (sym same) of.0) (ap (map (λ (d : ThreadJob P). d.part.dom)) same ∙ of.1) are one limits
+        one-order may refuses m x xs (subst (All (λ (d : ThreadJob P). d.monitor.now ≡ m)) (sym same) of.0) (ap (map (λ (d : ThreadJob P). d.part.dom)) same ∙ of.1) are one limits

@@ -2,6 +2,7 @@
 use Rattle.std.proofs.Common.{◌≡◌, ◌⊎◌, ◌++◌, ℕ, zero, suc, Bool, true, false, cond, List, [], ◌∷◌, Some}
 use Rattle.std.proofs.Common.{append_assoc, refl, sym, ap, ◌∙◌, inl, inr, ◌==◌}
 use Rattle.std.specs.Prelude.{slice_get, take}
+use Rattle.std.proofs.lemmas.Bool.{false≢true}
 use Rattle.gt_types.specs.declared.DomId.{DomId}
 use Rattle.gt_types.specs.declared.config.DomainConfig.{DomainConfig}
 use Rattle.gt_handles.specs.declared.handles.Handle.{Handle}
@@ -12,7 +13,7 @@ use Rattle.gt_script.specs.Lists.{RunAction, RunTask}
 use Rattle.gt_script.specs.RunContents.{RunContents}
 use Rattle.gt_script.specs.RunScripts.{list_of}
 use Rattle.gt_script.specs.declared.tasks.RunActionBy.TheVariants.{Await, Do, Tell}
-use Rattle.gt_run.specs.Serving.{gate_line}
+use Rattle.gt_run.specs.Serving.{IsRefused, RefusesNone, gate_line}
 use Rattle.gt_calls.specs.declared.request.Request.{Request}
 use Rattle.gt_calls.specs.declared.request.Request.TheVariants as requests
 use Rattle.gt_explore_replay.specs.Orders.{AllFollow, DeedHappens, FollowsList, Happening, Prints}
@@ -24,13 +25,14 @@ use Rattle.gt_order.specs.Printed.{IsUndisturbed, no_memory}
 abbrev Next : Type 1
 Next = List Named → List Handle → List Happening → List ℕ → Type 0
 
--- a domain serves its list; a call may get no memory if Lost, and a gate may stop the list if Stopped
-abbrev pub Serves : Type 0 → Type 0 → List (List ℕ) → DomId → List Named → List Handle → List RunTask → List Happening → List ℕ → Type 0
+-- a domain serves its list; a call may get no memory if Lost, and a gate may stop the list at a line of which Stopped
+-- holds
+abbrev pub Serves : Type 0 → (RunAction → Type 0) → List (List ℕ) → DomId → List Named → List Handle → List RunTask → List Happening → List ℕ → Type 0
 Serves Lost Stopped types dom named held [] hs text = Leaves dom held hs × (text ≡ [])
 Serves Lost Stopped types dom named held (t ∷ ts) hs text =
     DeedHappens types dom named held t.line t.deed (λ names holds more rest. Serves Lost Stopped types dom names holds ts more rest) hs text
     ⊎ ((Lost × GetsNoMemory types dom named held t.line t.deed (λ names holds more rest. Serves Lost Stopped types dom names holds ts more rest) hs text)
-    ⊎ (Stopped × StopsAtGate dom held t hs text))
+    ⊎ (Stopped t.deed × Leaves dom held hs × (text ≡ gate_line t.line dom)))
 
 abbrev IsEndOf : List ℕ → List ℕ → Type 0
 IsEndOf rest text = (before : List ℕ) × (text ≡ before ++ rest)
@@ -61,20 +63,20 @@ lost-map types dom named held line (Await flag) N M hs text f d = d
 lost-map types dom named held line (Do call) N M hs text f (request, says, starves) =
     (request, says, starves-map dom request _ _ hs (λ more (rest, printed, then). (rest, printed, f named held more rest then)) starves)
 
-module _ (Lost Stopped : Type 0) (types : List (List ℕ)) (dom : DomId) where
+module _ (Lost : Type 0) (Stopped : RunAction → Type 0) (types : List (List ℕ)) (dom : DomId) where
   -- the list is one that a run may print
-  pub prints-list : (ts : List RunTask) (named : List Named) (held : List Handle) (hs : List Happening) (text : List ℕ) → Serves Lost Stopped types dom named held ts hs text → PrintsList types dom named held ts hs text
-  prints-list [] named held hs text s = s
-  prints-list (t ∷ ts) named held hs text (inl d) = inl (deed-map types dom named held t.line t.deed _ _ hs text (λ names holds more rest end s. prints-list ts names holds more rest s) d)
-  prints-list (t ∷ ts) named held hs text (inr (inl (lost, d))) = inr (inl (lost-map types dom named held t.line t.deed _ _ hs text (λ names holds more rest s. prints-list ts names holds more rest s) d))
-  prints-list (t ∷ ts) named held hs text (inr (inr (stopped, d))) = inr (inr d)
+  pub prints-list : (refuses : ℕ → Bool) → ((deed : RunAction) → Stopped deed → IsRefused refuses deed) → (ts : List RunTask) (named : List Named) (held : List Handle) (hs : List Happening) (text : List ℕ) → Serves Lost Stopped types dom named held ts hs text → PrintsList refuses types dom named held ts hs text
+  prints-list refuses refused [] named held hs text s = s
+  prints-list refuses refused (t ∷ ts) named held hs text (inl d) = inl (deed-map types dom named held t.line t.deed _ _ hs text (λ names holds more rest end s. prints-list refuses refused ts names holds more rest s) d)
+  prints-list refuses refused (t ∷ ts) named held hs text (inr (inl (lost, d))) = inr (inl (lost-map types dom named held t.line t.deed _ _ hs text (λ names holds more rest s. prints-list refuses refused ts names holds more rest s) d))
+  prints-list refuses refused (t ∷ ts) named held hs text (inr (inr (stopped, leaves, is))) = inr (inr (refused t.deed stopped, leaves, is))
 
   -- without lost calls and gates the list is followed
-  pub follows-list : (Lost → ⊥) → (Stopped → ⊥) → (ts : List RunTask) (named : List Named) (held : List Handle) (hs : List Happening) (text : List ℕ) → Serves Lost Stopped types dom named held ts hs text → FollowsList types dom named held ts hs text
+  pub follows-list : (Lost → ⊥) → ((deed : RunAction) → Stopped deed → ⊥) → (ts : List RunTask) (named : List Named) (held : List Handle) (hs : List Happening) (text : List ℕ) → Serves Lost Stopped types dom named held ts hs text → FollowsList types dom named held ts hs text
   follows-list none passes [] named held hs text s = (s.0.0, s.0.1, s.1)
   follows-list none passes (t ∷ ts) named held hs text (inl d) = deed-map types dom named held t.line t.deed _ _ hs text (λ names holds more rest end s. follows-list none passes ts names holds more rest s) d
   follows-list none passes (t ∷ ts) named held hs text (inr (inl (lost, d))) = absurd (none lost)
-  follows-list none passes (t ∷ ts) named held hs text (inr (inr (stopped, d))) = absurd (passes stopped)
+  follows-list none passes (t ∷ ts) named held hs text (inr (inr (stopped, leaves, is))) = absurd (passes t.deed stopped)
 
 -- texts without such lines
 
@@ -89,16 +91,24 @@ start-part part one rest text is (b, r, e) =
 pub part-in : (part one text : List ℕ) → HasPart part one → HasPart one text → HasPart part text
 part-in part one text p (b, r, e) = end-part part (one ++ r) text (b, e) (start-part part one r (one ++ r) refl p)
 
-end-tells : (types : List (List ℕ)) (rest text : List ℕ) → IsEndOf rest text → IsUndisturbed types text → IsUndisturbed types rest
-end-tells types rest text end none = record {
+-- no line of a gate is in the text, unless the gate refuses no flag anyway
+abbrev HasNoGate : (ℕ → Bool) → List ℕ → Type 0
+HasNoGate refuses text = RefusesNone refuses ⊎ ((line : ℕ) (dom : DomId) → HasPart (gate_line line dom) text → ⊥)
+
+no-gate-in : (refuses : ℕ → Bool) (one text : List ℕ) → ((line : ℕ) (dom : DomId) → HasPart (gate_line line dom) one → HasPart (gate_line line dom) text) → HasNoGate refuses text → HasNoGate refuses one
+no-gate-in refuses one text f (inl none) = inl none
+no-gate-in refuses one text f (inr none) = inr (λ line dom part. none line dom (f line dom part))
+
+end-tells : (refuses : ℕ → Bool) (types : List (List ℕ)) (rest text : List ℕ) → IsEndOf rest text → IsUndisturbed refuses types text → IsUndisturbed refuses types rest
+end-tells refuses types rest text end none = record {
   memory = λ line dom part. none.memory line dom (end-part (answer_line types line dom no_memory) rest text end part);
-  gates = λ line dom part. none.gates line dom (end-part (gate_line line dom) rest text end part);
+  gates = no-gate-in refuses rest text (λ line dom part. end-part (gate_line line dom) rest text end part) none.gates;
 }
 
-start-tells : (types : List (List ℕ)) (one rest text : List ℕ) → text ≡ one ++ rest → IsUndisturbed types text → IsUndisturbed types one
-start-tells types one rest text is none = record {
+start-tells : (refuses : ℕ → Bool) (types : List (List ℕ)) (one rest text : List ℕ) → text ≡ one ++ rest → IsUndisturbed refuses types text → IsUndisturbed refuses types one
+start-tells refuses types one rest text is none = record {
   memory = λ line dom part. none.memory line dom (start-part (answer_line types line dom no_memory) one rest text is part);
-  gates = λ line dom part. none.gates line dom (start-part (gate_line line dom) one rest text is part);
+  gates = no-gate-in refuses one text (λ line dom part. start-part (gate_line line dom) one rest text is part) none.gates;
 }
 
 lost-line : (types : List (List ℕ)) (dom : DomId) (named : List Named) (held : List Handle) (line : ℕ) (action : RunAction) (N : Next) (hs : List Happening) (text : List ℕ) → GetsNoMemory types dom named held line action N hs text → HasPart (answer_line types line dom no_memory) text
@@ -111,35 +121,46 @@ append-none : (xs : List ℕ) → xs ++ [] ≡ xs
 append-none [] = refl
 append-none (x ∷ xs) = ap (λ (l : List ℕ). x ∷ l) (append-none xs)
 
-module _ (types : List (List ℕ)) (dom : DomId) where
-  list-given : (ts : List RunTask) (named : List Named) (held : List Handle) (hs : List Happening) (text : List ℕ) → IsUndisturbed types text → PrintsList types dom named held ts hs text → FollowsList types dom named held ts hs text
-  list-given [] named held hs text none s = (s.0.0, s.0.1, s.1)
-  list-given (t ∷ ts) named held hs text none (inl d) = deed-map types dom named held t.line t.deed _ _ hs text (λ names holds more rest end s. list-given ts names holds more rest (end-tells types rest text end none) s) d
-  list-given (t ∷ ts) named held hs text none (inr (inl d)) = absurd (none.memory t.line dom (lost-line types dom named held t.line t.deed _ hs text d))
-  list-given (t ∷ ts) named held hs text none (inr (inr d)) = absurd (none.gates t.line dom ([], [], d.2 ∙ sym (append-none (gate_line t.line dom))))
+-- a gate that refuses no flag stops no list
+pub none-refused : (refuses : ℕ → Bool) (deed : RunAction) → RefusesNone refuses → IsRefused refuses deed → ⊥
+unfolding IsRefused
+none-refused refuses (Do call) none refused = refused
+none-refused refuses (Tell flag) none refused = refused
+none-refused refuses (Await flag) none refused = false≢true (sym (none flag) ∙ refused)
 
-all-given : (c : RunContents) (hs : List Happening) (ds : List DomainConfig) (text : List ℕ) → IsUndisturbed (type_names c.head) text → AllPrint c hs ds text → AllFollow c hs ds text
-all-given c hs [] text none all = all
-all-given c hs (d ∷ ds) text none (part, (rest, printed, then), list) =
-    (part, (rest, printed, all-given c hs ds rest (end-tells (type_names c.head) rest text (part, printed) none) then), list-given (type_names c.head) d.id (list_of c.tasks d.id) [] [] _ part (start-tells (type_names c.head) part rest text printed none) list)
+not-stopped : (refuses : ℕ → Bool) (dom : DomId) (held : List Handle) (t : RunTask) (hs : List Happening) (text : List ℕ) → HasNoGate refuses text → StopsAtGate refuses dom held t hs text → ⊥
+not-stopped refuses dom held t hs text (inl none) d = none-refused refuses t.deed none d.0
+not-stopped refuses dom held t hs text (inr none) d = none t.line dom ([], [], d.2 ∙ sym (append-none (gate_line t.line dom)))
+
+module _ (refuses : ℕ → Bool) (types : List (List ℕ)) (dom : DomId) where
+  list-given : (ts : List RunTask) (named : List Named) (held : List Handle) (hs : List Happening) (text : List ℕ) → IsUndisturbed refuses types text → PrintsList refuses types dom named held ts hs text → FollowsList types dom named held ts hs text
+  list-given [] named held hs text none s = (s.0.0, s.0.1, s.1)
+  list-given (t ∷ ts) named held hs text none (inl d) = deed-map types dom named held t.line t.deed _ _ hs text (λ names holds more rest end s. list-given ts names holds more rest (end-tells refuses types rest text end none) s) d
+  list-given (t ∷ ts) named held hs text none (inr (inl d)) = absurd (none.memory t.line dom (lost-line types dom named held t.line t.deed _ hs text d))
+  list-given (t ∷ ts) named held hs text none (inr (inr d)) = absurd (not-stopped refuses dom held t hs text none.gates d)
+
+all-given : (refuses : ℕ → Bool) (c : RunContents) (hs : List Happening) (ds : List DomainConfig) (text : List ℕ) → IsUndisturbed refuses (type_names c.head) text → AllPrint refuses c hs ds text → AllFollow c hs ds text
+all-given refuses c hs [] text none all = all
+all-given refuses c hs (d ∷ ds) text none (part, (rest, printed, then), list) =
+    (part, (rest, printed, all-given refuses c hs ds rest (end-tells refuses (type_names c.head) rest text (part, printed) none) then), list-given refuses (type_names c.head) d.id (list_of c.tasks d.id) [] [] _ part (start-tells refuses (type_names c.head) part rest text printed none) list)
 
 pub printed-given : PrintedTextsAreGiven
-printed-given c text (hs, run) none = (hs, record { legal = run.legal; follow = all-given c hs c.head.domains text none run.print; known = run.known; flags = run.flags })
+printed-given refuses c text (hs, run) none = (hs, record { legal = run.legal; follow = all-given refuses c hs c.head.domains text none run.print; known = run.known; flags = run.flags })
 
 -- and the other way
 
-module _ (types : List (List ℕ)) (dom : DomId) where
-  list-printed : (ts : List RunTask) (named : List Named) (held : List Handle) (hs : List Happening) (text : List ℕ) → FollowsList types dom named held ts hs text → PrintsList types dom named held ts hs text
+module _ (refuses : ℕ → Bool) (types : List (List ℕ)) (dom : DomId) where
+  list-printed : (ts : List RunTask) (named : List Named) (held : List Handle) (hs : List Happening) (text : List ℕ) → FollowsList types dom named held ts hs text → PrintsList refuses types dom named held ts hs text
   list-printed [] named held hs text s = ((s.0, s.1), s.2)
   list-printed (t ∷ ts) named held hs text d = inl (deed-map types dom named held t.line t.deed _ _ hs text (λ names holds more rest end s. list-printed ts names holds more rest s) d)
 
-all-printed : (c : RunContents) (hs : List Happening) (ds : List DomainConfig) (text : List ℕ) → AllFollow c hs ds text → AllPrint c hs ds text
-all-printed c hs [] text all = all
-all-printed c hs (d ∷ ds) text (part, (rest, printed, then), list) =
-    (part, (rest, printed, all-printed c hs ds rest then), list-printed (type_names c.head) d.id (list_of c.tasks d.id) [] [] _ part list)
+all-printed : (refuses : ℕ → Bool) (c : RunContents) (hs : List Happening) (ds : List DomainConfig) (text : List ℕ) → AllFollow c hs ds text → AllPrint refuses c hs ds text
+all-printed refuses c hs [] text all = all
+all-printed refuses c hs (d ∷ ds) text (part, (rest, printed, then), list) =
+    (part, (rest, printed, all-printed refuses c hs ds rest then), list-printed refuses (type_names c.head) d.id (list_of c.tasks d.id) [] [] _ part list)
 
 pub given-printed : GivenTextsArePrinted
-given-printed c text (hs, order) = (hs, record { legal = order.legal; print = all-printed c hs c.head.domains text order.follow; known = order.known; flags = order.flags })
+given-printed refuses c text (hs, order) = (hs, record { legal = order.legal; print = all-printed refuses c hs c.head.domains text order.follow; known = order.known; flags = order.flags })
 
 -- the lines of a domain before the one at which its list stopped, and that one
 pub gate-split : (tasks : List RunTask) (n : ℕ) (at : RunTask) (dom : DomId) → slice_get tasks n ≡ Some at → (at.dom.0 == dom.0) ≡ true → (tail : List RunTask) × (list_of tasks dom ≡ list_of (take n tasks) dom ++ at ∷ tail)

@@ -18,7 +18,7 @@ use Rattle.gt_script_runs.specs.Rights.{may_by}
 use Rattle.gt_script_runs.specs.declared.rights.ScriptPolicy.{ScriptPolicy as ScriptRights}
 use Rattle.gt_run.specs.Printing.{texts_in}
 use Rattle.gt_run.specs.Runs.{AreOf, WritesScript}
-use Rattle.gt_run.specs.Serving.{IsAwait, gate_line}
+use Rattle.gt_run.specs.Serving.{IsRefused, RefusesNone, gate_line}
 use Rattle.gt_explore_replay.specs.Orders.{CallHappens, DeedHappens, FlagsAreRaised, GivesMappingsBack, Happening, MayGive, Prints}
 use Rattle.gt_explore_replay.specs.Orders.{doer, events_in, own_happenings, trace_in}
 
@@ -54,67 +54,72 @@ GetsNoMemory types dom named held line action Next hs text = ⊥
 abbrev pub Leaves : DomId → List Handle → List Happening → Type 0
 Leaves dom held hs = (order : List Handle) × GivesMappingsBack dom order held hs
 
--- the gate answered false at this line: the domain prints the gate's line, serves no line more, and leaves
-abbrev pub StopsAtGate : DomId → List Handle → RunTask → List Happening → List ℕ → Type 0
-StopsAtGate dom held t hs text = IsAwait t.deed × Leaves dom held hs × (text ≡ gate_line t.line dom)
+-- the gate refused the domain at this line: the domain prints the gate's line, serves no line more, and leaves
+abbrev pub StopsAtGate : (ℕ → Bool) → DomId → List Handle → RunTask → List Happening → List ℕ → Type 0
+StopsAtGate refuses dom held t hs text =
+    IsRefused refuses t.deed × Leaves dom held hs × (text ≡ gate_line t.line dom)
 
--- a domain serves its list, line by line, and then leaves; a call may get no memory, and a gate may stop the list; this
--- is what it prints
-abbrev pub PrintsList : List (List ℕ) → DomId → List Named → List Handle → List RunTask → List Happening → List ℕ
-    → Type 0
-PrintsList types dom named held [] hs text = Leaves dom held hs × (text ≡ [])
-PrintsList types dom named held (t ∷ ts) hs text =
+-- a domain serves its list, line by line, and then leaves; a call may get no memory, and a gate may stop the list at a
+-- flag that it refuses; this is what it prints
+abbrev pub PrintsList : (ℕ → Bool) → List (List ℕ) → DomId → List Named → List Handle → List RunTask
+    → List Happening → List ℕ → Type 0
+PrintsList refuses types dom named held [] hs text = Leaves dom held hs × (text ≡ [])
+PrintsList refuses types dom named held (t ∷ ts) hs text =
     DeedHappens types dom named held t.line t.deed
-    (λ names holds more rest. PrintsList types dom names holds ts more rest) hs text
+    (λ names holds more rest. PrintsList refuses types dom names holds ts more rest) hs text
     ⊎ (GetsNoMemory types dom named held t.line t.deed
-    (λ names holds more rest. PrintsList types dom names holds ts more rest) hs text
-    ⊎ StopsAtGate dom held t hs text)
+    (λ names holds more rest. PrintsList refuses types dom names holds ts more rest) hs text
+    ⊎ StopsAtGate refuses dom held t hs text)
 
 -- each of the domains serves its list so, and prints its part of the text, in their order
-abbrev pub AllPrint : RunContents → List Happening → List DomainConfig → List ℕ → Type 0
-AllPrint c hs [] text = text ≡ []
-AllPrint c hs (d ∷ ds) text =
-    (part : List ℕ) × Prints part (AllPrint c hs ds) text
-    × PrintsList (type_names c.head) d.id [] [] (list_of c.tasks d.id) (own_happenings d.id hs) part
+abbrev pub AllPrint : (ℕ → Bool) → RunContents → List Happening → List DomainConfig → List ℕ → Type 0
+AllPrint refuses c hs [] text = text ≡ []
+AllPrint refuses c hs (d ∷ ds) text =
+    (part : List ℕ) × Prints part (AllPrint refuses c hs ds) text
+    × PrintsList refuses (type_names c.head) d.id [] [] (list_of c.tasks d.id) (own_happenings d.id hs) part
 
 -- one order of a script's run, and its text: what the core did is a legal trace, each domain serves its list, no other
 -- domain does anything, and no flag is passed that was not raised before
-pub record IsRunOf (c : RunContents) (hs : List Happening) (text : List ℕ) : Type 0 where
+pub record IsRunOf (refuses : ℕ → Bool) (c : RunContents) (hs : List Happening) (text : List ℕ) : Type 0 where
   pub legal : Legal (setting_of_script c.head) (events_in hs) (trace_in hs)
-  pub print : AllPrint c hs c.head.domains text
+  pub print : AllPrint refuses c hs c.head.domains text
   pub known : All (λ x. domain_of c.head.domains (doer x) ≢ None) hs
   pub flags : FlagsAreRaised hs
 
--- a run of the script may print this text
-abbrev pub MayPrint : RunContents → List ℕ → Type 0
-MayPrint c text = (hs : List Happening) × IsRunOf c hs text
+-- a run of the script, at a gate that may refuse these flags, may print this text
+abbrev pub MayPrint : (ℕ → Bool) → RunContents → List ℕ → Type 0
+MayPrint refuses c text = (hs : List Happening) × IsRunOf refuses c hs text
 
 -- what a run of a script writes is a text that a run of it may print
 abbrev pub RunsArePrinted : Type 0
 RunsArePrinted =
-    (c : RunContents) (logged : Bool) (jobs : List (ThreadJob ScriptRights)) (old new : Option (List ℕ))
-    → (of : AreOf c logged jobs) → (wrote : WritesAll may_by jobs old new) → MayPrint c (texts_in wrote.0)
+    (refuses : ℕ → Bool) (c : RunContents) (logged : Bool) (jobs : List (ThreadJob ScriptRights))
+    (old new : Option (List ℕ)) → (of : AreOf c logged jobs) → (wrote : WritesAll may_by refuses jobs old new)
+    → MayPrint refuses c (texts_in wrote.0)
 
 -- without a log, what `run` appends is a text that a run of the script may print
 abbrev pub UnloggedRunsPrint : Type 0
 UnloggedRunsPrint =
-    (c : RunContents) (old new : Option (List ℕ)) → WritesScript c false old new
-    → (text : List ℕ) × MayPrint c text × Appends old new text
+    (refuses : ℕ → Bool) (c : RunContents) (old new : Option (List ℕ)) → WritesScript refuses c false old new
+    → (text : List ℕ) × MayPrint refuses c text × Appends old new text
 
--- a text that `explore` lists is one that a run may print
+-- a text that `explore` lists is one that a run may print, at any gate
 abbrev pub GivenTextsArePrinted : Type 0
-GivenTextsArePrinted = (c : RunContents) (text : List ℕ) → MayGive c text → MayPrint c text
+GivenTextsArePrinted =
+    (refuses : ℕ → Bool) (c : RunContents) (text : List ℕ) → MayGive c text → MayPrint refuses c text
 
 -- this part is in the text
 abbrev pub HasPart : List ℕ → List ℕ → Type 0
 HasPart part text = (before : List ℕ) × (rest : List ℕ) × (text ≡ before ++ (part ++ rest))
 
--- no line of a call that got no memory, and no line of a gate, is in the text
-pub record IsUndisturbed (types : List (List ℕ)) (text : List ℕ) : Type 0 where
+-- no line of a call that got no memory is in the text, and no line of a gate, unless the gate refuses no flag anyway
+pub record IsUndisturbed (refuses : ℕ → Bool) (types : List (List ℕ)) (text : List ℕ) : Type 0 where
   pub memory : (line : ℕ) (dom : DomId) → HasPart (answer_line types line dom no_memory) text → ⊥
-  pub gates : (line : ℕ) (dom : DomId) → HasPart (gate_line line dom) text → ⊥
+  pub gates : RefusesNone refuses ⊎ ((line : ℕ) (dom : DomId) → HasPart (gate_line line dom) text → ⊥)
 
--- a text that a run may print is one that `explore` lists, if it has neither a line with N26 nor the line of a gate
+-- a text that a run may print is one that `explore` lists, if it has no line with N26, and if it has no line of a gate
+-- or the gate refuses no flag
 abbrev pub PrintedTextsAreGiven : Type 0
 PrintedTextsAreGiven =
-    (c : RunContents) (text : List ℕ) → MayPrint c text → IsUndisturbed (type_names c.head) text → MayGive c text
+    (refuses : ℕ → Bool) (c : RunContents) (text : List ℕ) → MayPrint refuses c text
+    → IsUndisturbed refuses (type_names c.head) text → MayGive c text

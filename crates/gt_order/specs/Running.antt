@@ -14,21 +14,23 @@ abbrev pub AppendsText : Bool → Option (List ℕ) → Option (List ℕ) → Li
 AppendsText false old new text = Appends old new text
 AppendsText true old new text = (audit : List ℕ) × Appends old new (text ++ audit)
 
--- a run of the script wrote its text: one that a run of it may print; and one that the script may give, so one that
--- `explore` lists, if it has neither a line with N26 nor the line of a gate
-pub record WroteText (c : RunContents) (logged : Bool) (old new : Option (List ℕ)) : Type 0 where
+-- a run of the script, at a gate that may refuse these flags, wrote its text: one that a run of it may print; and one
+-- that the script may give, so one that `explore` lists, if it has no line with N26, and if it has no line of a gate or
+-- the gate refuses no flag
+pub record WroteText (refuses : ℕ → Bool) (c : RunContents) (logged : Bool) (old new : Option (List ℕ)) : Type 0 where
   pub text : List ℕ
   pub appends : AppendsText logged old new text
-  pub printed : MayPrint c text
-  pub given : IsUndisturbed (type_names c.head) text → MayGive c text
+  pub printed : MayPrint refuses c text
+  pub given : IsUndisturbed refuses (type_names c.head) text → MayGive c text
 
 -- the same of the script that these bytes mean, if the run is Ok
-abbrev pub WroteIfOk : Bool → (Result RunContents Wrong → Type 0) → Option (List ℕ) → Option (List ℕ)
+abbrev pub WroteIfOk : (ℕ → Bool) → Bool → (Result RunContents Wrong → Type 0) → Option (List ℕ) → Option (List ℕ)
     → Result (Unit {0}) RunFault → Type 0
-WroteIfOk logged Told old new (Ok done) = OfScript Told (λ c. WroteText c logged old new)
-WroteIfOk logged Told old new (Err fault) = Unit {0}
+WroteIfOk refuses logged Told old new (Ok done) = OfScript Told (λ c. WroteText refuses c logged old new)
+WroteIfOk refuses logged Told old new (Err fault) = Unit {0}
 
 -- the output of `run`, by its result, with what its text is
-abbrev pub RanInOrder : Bool → (Result RunContents Wrong → Type 0) → Option (List ℕ) → Option (List ℕ)
+abbrev pub RanInOrder : (ℕ → Bool) → Bool → (Result RunContents Wrong → Type 0) → Option (List ℕ) → Option (List ℕ)
     → Result (Unit {0}) RunFault → Type 0
-RanInOrder logged Told old new r = Ran logged Told old new r × WroteIfOk logged Told old new r
+RanInOrder refuses logged Told old new r =
+    Ran refuses logged Told old new r × WroteIfOk refuses logged Told old new r

@@ -1,5 +1,5 @@
 -- The lists of a run, and the legal order whose answers they print, bytes too.
-use Rattle.std.specs.Prelude.{◌≡◌, ◌⊎◌, ℕ, ◌<◌, All, List, [], ◌∷◌, ◌++◌, length, map, Option, Some}
+use Rattle.std.specs.Prelude.{◌≡◌, ◌⊎◌, ℕ, Bool, ◌<◌, All, List, [], ◌∷◌, ◌++◌, length, map, Option, Some}
 use Rattle.std.specs.Prelude.{slice_get}
 use Rattle.gt_order.specs.RunNames.{some, get_elem?, State, Config, Denial, Board, StepHistory, Shows, id_at}
 use Rattle.gt_order.specs.Prelude.{IsWithinLimits, N26, NoFacts, denial_of}
@@ -86,10 +86,11 @@ AreDeedsOf may job (OnFlag x ∷ ms) q =
 AreDeedsOf may job (Look x ∷ ms) q = ⊥
 
 -- the list of the domain at the position i was served
-pub record HasList {P : Type 0} (may : P → AllowRelation) (m : Monitor P) (i : ℕ) (s : Served P) : Type 0 where
+pub record HasList {P : Type 0} (may : P → AllowRelation) (refuses : ℕ → Bool) (m : Monitor P) (i : ℕ) (s : Served P)
+    : Type 0 where
   pub monitor : s.job.monitor.now ≡ m
   pub dom : s.job.part.dom ≡ id_at (words_of m).layout.ids i
-  pub served : WasServed may s
+  pub served : WasServed may refuses s
 
 -- the view is the domain's at the end of its list, or the domain has left since
 abbrev pub IsViewOf : Board → Config → AllowRelation → Domain → View → Type 0
@@ -121,8 +122,9 @@ pub record AreOfALegalOrder {P : Type 0} (may : P → AllowRelation) (m : Monito
 -- legal order
 abbrev pub TextsAreOfALegalOrder : {P : Type 0} → (P → AllowRelation) → Monitor P → Type 0
 TextsAreOfALegalOrder {P} may m =
-    (lists : ℕ → Served P) (s : State (Unit {0}) View) (ends : ℕ → View) → IsWithinLimits (config_of m)
-    → ((i : ℕ) → i < length (config_of m).domains.items → (l : HasList may m i (lists i))
+    (refuses : ℕ → Bool) (lists : ℕ → Served P) (s : State (Unit {0}) View) (ends : ℕ → View)
+    → IsWithinLimits (config_of m)
+    → ((i : ℕ) → i < length (config_of m).domains.items → (l : HasList may refuses m i (lists i))
     × IsViewOf (words_of m) (config_of m) (may (rights_of m)) l.served.left.domain (ends i)
     × (get_elem? s.views i ≡ some (ends i)))
     → (shown : Shows (words_of m).layout s) → AreOfALegalOrder may m shown.history lists
@@ -141,5 +143,5 @@ AreOfOneOrder {P} may m all =
 -- what a run wrote at Ok, by the contract of `run`, is the text of a legal order
 abbrev pub RunsWriteALegalOrder : {P : Type 0} → (P → AllowRelation) → Monitor P → Type 0
 RunsWriteALegalOrder {P} may m =
-    (jobs : List (ThreadJob P)) (old new : Option (List ℕ)) → IsWithinLimits (config_of m) → AreOfDomains m jobs
-    → (wrote : WritesAll may jobs old new) → AreOfOneOrder may m wrote.0
+    (refuses : ℕ → Bool) (jobs : List (ThreadJob P)) (old new : Option (List ℕ)) → IsWithinLimits (config_of m)
+    → AreOfDomains m jobs → (wrote : WritesAll may refuses jobs old new) → AreOfOneOrder may m wrote.0

@@ -80,7 +80,7 @@ pub fn every_run_writes_a_legal_order<P: Allows>(monitor: &Monitor<P>)
 {}
 
 /// A law: what a run writes, but for its audit lines, is a text that the script may give, so one that `explore` lists,
-/// bytes and all, if no list was stopped by its gate and no answer is N26.
+/// bytes and all, if no list was stopped by its gate and no answer is N26. A gate that refuses no flag stops no list.
 pub fn every_run_is_explored()
     ensures { RunsAreExplored }
 {}
@@ -98,12 +98,12 @@ pub fn every_unlogged_run_is_printed()
 {}
 
 /// A law: a text that a run of the script may print is one that `explore` lists, if it has neither a line with N26 nor
-/// the line of a gate.
+/// the line of a gate. At a gate that refuses no flag, it is listed if it has no line with N26.
 pub fn printed_texts_are_given()
     ensures { PrintedTextsAreGiven }
 {}
 
-/// A law: a text that `explore` lists is one that a run of the script may print.
+/// A law: a text that `explore` lists is one that a run of the script may print, at any gate.
 pub fn given_texts_are_printed()
     ensures { GivenTextsArePrinted }
 {}

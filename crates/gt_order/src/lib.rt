@@ -7,9 +7,10 @@
 //! ([`every_run_has_a_legal_order`]). Each law is a function that does nothing, whose contract is the law.
 //!
 //! [`run`] runs a script. By its contract, what it appended is a text that a run of the script may print. `explore`
-//! lists that text, if it has neither N26 nor the line of a gate. Other laws promise the same by the calls of the lists
-//! ([`every_run_is_printed`], [`every_run_is_explored`]), of each text without such lines
-//! ([`printed_texts_are_given`]), and of each text that `explore` lists ([`given_texts_are_printed`]).
+//! lists that text, if it has neither N26 nor the line of a gate. A gate that refuses no flag stops no list. Other laws
+//! promise the same by the calls of the lists ([`every_run_is_printed`], [`every_run_is_explored`]), of each text
+//! without such lines ([`printed_texts_are_given`]), and of each text that `explore` lists
+//! ([`given_texts_are_printed`]).
 //!
 //! It uses `gt_run`, `gt_explore_replay`, `gt_script_runs`, `gt_script`, `gt_script_lines`, `gt_live`, `gt_audit`,
 //! `gt_core`, `gt_words`, `gt_shared_table`, `gt_word_history`, `gt_calls`, `gt_frames`, `gt_handles`, `gt_entry`,

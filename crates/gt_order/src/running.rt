@@ -13,8 +13,9 @@ use std::sync::Wait;
 use std::thread::Threads;
 
 /// Runs the script that the reader has, as [`gt_run::run`] does. What is appended at Ok is a text that a run of the
-/// script may print. It is one that `explore` lists, if it has neither a line with N26 nor the line of a gate. With a
-/// log the audit lines and the number of lost records follow it.
+/// script may print. It is one that `explore` lists, if it has neither a line with N26 nor the line of a gate. If the
+/// gate refuses no flag, it is one that `explore` lists if it has no line with N26. With a log the audit lines and the
+/// number of lost records follow it.
 ///
 /// # Errors
 /// Those of [`gt_run::run`]. At a fault of the script, and if a thread could not be started, nothing was written. After
@@ -28,7 +29,8 @@ pub fn run<R: Threads + Wait + Sync, I: Read, W: Write, G: Gate + Sync>(
     gate: &G,
 ) -> Result<(), RunFault>
     ensures text { OfInput (I.remaining reader.old) (λ input.
-        RanInOrder (is_some log.entry) (ReadsAsRun input) (W.contents writer.old) (W.contents writer.new) result) }
+        RanInOrder (G.refuses gate.now) (is_some log.entry) (ReadsAsRun input)
+        (W.contents writer.old) (W.contents writer.new) result) }
     ensures read { ConsumesAtMost READ_LIMIT (I.remaining reader.old) (I.remaining reader.new) }
 {
     gt_run::run(rt, alloc, reader, writer, log, gate)

@@ -42,7 +42,7 @@ use Rattle.gt_run.specs.Asking.{Stand}
 use Rattle.gt_run.specs.Faults.{run_out_of_memory}
 use Rattle.gt_run.specs.Joining.{AreGathered, AreOfThisRun, AreOnRun, BeginsFirst, IsLate, IsOfThisRun, IsTakenIn}
 use Rattle.gt_run.specs.Joining.{JoinsWhere, MayTakeIn, ShowTogether, WritesNext, WroteStarted, views_in}
-use Rattle.gt_run.specs.Printing.{AreJobsOf, BeginsLists, BeginsRunText, CameBy, HasViewIn, LeavesSeat, PrintsOn, Served}
+use Rattle.gt_run.specs.Printing.{AreAtGate, AreJobsOf, BeginsLists, BeginsRunText, CameBy, HasViewIn, LeavesSeat, PrintsOn, Served}
 use Rattle.gt_run.specs.Printing.{ShowOneState, WasServed, WritesLists}
 use Rattle.gt_run.specs.Printing.{all_lost, audits_in, jobs_in, promised, texts_in}
 use Rattle.gt_run.specs.Runs.{Wrote, WroteLists}
@@ -50,6 +50,7 @@ use Rattle.gt_run.specs.Serving.{AreReady, IsBegun, IsFirst, IsReady, IsServed, 
 use Rattle.gt_run.specs.Serving.{list_start, audit_lines, counted, lost_in}
 use Rattle.gt_run.specs.declared.fault.RunFault.{RunFault}
 use Rattle.gt_run.specs.declared.fault.RunFault.TheVariants.{Play, Thread}
+use Rattle.gt_run.specs.declared.lists.JobAtGate.{JobAtGate}
 use Rattle.gt_run.specs.declared.lists.ThreadJob.{ThreadJob}
 use Rattle.gt_run.specs.declared.lists.DomainPart.{DomainPart}
 use Rattle.gt_run.specs.declared.serving.Output.{Output}
@@ -67,9 +68,9 @@ begun_not may job s text none ready =
 begun : {P : Type 0} (may : P → AllowRelation) (job : ThreadJob P) (d : Domain) (text : List ℕ) → IsFirst may job.monitor.now job.part.dom d → ServesSome may job d text → IsBegun may job text
 begun may job d text first s = record { domain = d; first = first; number = s.number; left = s.left; leads = s.leads; prints = s.prints }
 
-served : {P : Type 0} (may : P → AllowRelation) (job : ThreadJob P) (d e : Domain) (text : List ℕ) (t : Option TrailLogger) (l : Departed) → IsFirst may job.monitor.now job.part.dom d
-    → HasLeft job.monitor.now.words.layout e l → (s : ServesAll may job d text e t) → IsServed may job s.left.outcomes text l
-served may job d e text t l first leaves s = record {
+served : {P : Type 0} (may : P → AllowRelation) (refuses : ℕ → Bool) (job : ThreadJob P) (d e : Domain) (text : List ℕ) (t : Option TrailLogger) (l : Departed) → IsFirst may job.monitor.now job.part.dom d
+    → HasLeft job.monitor.now.words.layout e l → (s : ServesAll may refuses job d text e t) → IsServed may refuses job s.left.outcomes text l
+served may refuses job d e text t l first leaves s = record {
   domain = d;
   first = first;
   number = s.number;
@@ -87,28 +88,28 @@ if_ok_as (Ok v) P Q f p = f v p
 if_ok_as (Err e) P Q f p = tt
 
 -- a list was served without a log
-pub came_plain : {P : Type 0} (may : P → AllowRelation) (job : ThreadJob P) (s : Stand P) (e : Domain) (whole : Bool) (t : Option TrailLogger) (o : Output) → IsReady may job.monitor.now job.part.dom s
-    → t ≡ None → HasLeft job.monitor.now.words.layout e o.left → Serves may job s.domain whole o.text.items e t → IfOk o.audit (λ a. a.items ≡ []) → o.lost ≡ 0 → CameBy whole may job o
-came_plain may job s e false t o ready none leaves serves audit lost = begun may job s.domain o.text.items ready.1 serves
-came_plain may job s e true (Some t) o ready none leaves serves audit lost = let e : Some t ≡ None = none in cc
-came_plain may job s e true None o ready none leaves serves audit lost = (
+pub came_plain : {P : Type 0} (may : P → AllowRelation) (refuses : ℕ → Bool) (job : ThreadJob P) (s : Stand P) (e : Domain) (whole : Bool) (t : Option TrailLogger) (o : Output) → IsReady may job.monitor.now job.part.dom s
+    → t ≡ None → HasLeft job.monitor.now.words.layout e o.left → Serves may refuses job s.domain whole o.text.items e t → IfOk o.audit (λ a. a.items ≡ []) → o.lost ≡ 0 → CameBy whole may refuses job o
+came_plain may refuses job s e false t o ready none leaves serves audit lost = begun may job s.domain o.text.items ready.1 serves
+came_plain may refuses job s e true (Some t) o ready none leaves serves audit lost = let e : Some t ≡ None = none in cc
+came_plain may refuses job s e true None o ready none leaves serves audit lost = (
   serves.left.outcomes,
-  served may job s.domain e o.text.items None o.left ready.1 leaves serves,
+  served may refuses job s.domain e o.text.items None o.left ready.1 leaves serves,
   if_ok_as o.audit _ _ (λ a is. is ∙ sym (ap (flat_map (line_text (type_text (λ name. name) job.part.types.now))) serves.recorded.0)) audit,
   lost ∙ sym (ap counted serves.recorded.1),
 )
 
 -- a list was served with one
-pub came_told : {P : Type 0} (may : P → AllowRelation) (job : ThreadJob P) (s : Stand P) (e : Domain) (trail : TrailState) (whole : Bool) (t : Option TrailLogger) (u : TrailLogger) (o : Output)
-    → IsReady may job.monitor.now job.part.dom s → t ≡ Some u → trail ≡ e.trail → HasLeft job.monitor.now.words.layout e o.left → Serves may job s.domain whole o.text.items e t
+pub came_told : {P : Type 0} (may : P → AllowRelation) (refuses : ℕ → Bool) (job : ThreadJob P) (s : Stand P) (e : Domain) (trail : TrailState) (whole : Bool) (t : Option TrailLogger) (u : TrailLogger) (o : Output)
+    → IsReady may job.monitor.now job.part.dom s → t ≡ Some u → trail ≡ e.trail → HasLeft job.monitor.now.words.layout e o.left → Serves may refuses job s.domain whole o.text.items e t
     → IfOk o.audit (λ a. a.items ≡ flat_map (line_text (type_text (λ name. name) job.part.types.now)) (map (λ x. x.1) u.log.recorded))
-    → o.lost ≡ counted (trail.lost + u.log.lost) → CameBy whole may job o
-came_told may job s e trail false t u o ready given same leaves serves audit lost = begun may job s.domain o.text.items ready.1 serves
-came_told may job s e trail true None u o ready given same leaves serves audit lost = let e : None ≡ Some u = given in cc
-came_told may job s e trail true (Some t) u o ready given same leaves serves audit lost =
+    → o.lost ≡ counted (trail.lost + u.log.lost) → CameBy whole may refuses job o
+came_told may refuses job s e trail false t u o ready given same leaves serves audit lost = begun may job s.domain o.text.items ready.1 serves
+came_told may refuses job s e trail true None u o ready given same leaves serves audit lost = let e : None ≡ Some u = given in cc
+came_told may refuses job s e trail true (Some t) u o ready given same leaves serves audit lost =
     let is : t ≡ u = cc given in (
       serves.left.outcomes,
-      served may job s.domain e o.text.items (Some t) o.left ready.1 leaves serves,
+      served may refuses job s.domain e o.text.items (Some t) o.left ready.1 leaves serves,
       if_ok_as o.audit _ _ (λ a of_u. of_u ∙ ap (λ (x : TrailLogger). flat_map (line_text (type_text (λ name. name) job.part.types.now)) (map (λ y. y.1) x.log.recorded)) (sym is)
           ∙ ap (flat_map (line_text (type_text (λ name. name) job.part.types.now))) serves.recorded.1) audit,
       lost ∙ ap (λ (x : TrailLogger). counted (trail.lost + x.log.lost)) (sym is) ∙ ap (λ (x : TrailState). counted (x.lost + t.log.lost)) same ∙ serves.recorded.2,
@@ -131,16 +132,29 @@ pub pushed_items : {A V E : Type 0} (r : Result V E) (old more new : List A) (fa
 pushed_items (Ok v) old more new failed items well same = items
 pushed_items (Err x) old more new failed items well same = absurd (false≢true (sym well ∙ same))
 
-promised_more : {P : Type 0} (hs : List (PromisedHandle Output (ThreadJob P))) (h : PromisedHandle Output (ThreadJob P)) → promised (hs ++ h ∷ []) ≡ promised hs ++ h.promise ∷ []
-promised_more {P} hs h = map-append (λ (x : PromisedHandle Output (ThreadJob P)). x.promise) hs (h ∷ [])
+promised_more : {P G : Type 0} (hs : List (PromisedHandle Output (JobAtGate P G))) (h : PromisedHandle Output (JobAtGate P G)) → promised (hs ++ h ∷ []) ≡ promised hs ++ h.promise.job ∷ []
+promised_more {P} {G} hs h = map-append (λ (x : PromisedHandle Output (JobAtGate P G)). x.promise.job) hs (h ∷ [])
 
 -- the thread of one job more was kept
-pub jobs_pushed : {P : Type 0} (m : Monitor P) (parts : List DomainPart) (i : ℕ) (p : DomainPart) (logged : Bool) (hs new : List (PromisedHandle Output (ThreadJob P))) (h : PromisedHandle Output (ThreadJob P)) (d : ThreadJob P)
-    → i < length parts → p ≡ get_or parts i p → h.promise ≡ d → d.part ≡ p → d.monitor.now ≡ m → is_some d.log ≡ logged → new ≡ hs ++ h ∷ []
+pub jobs_pushed : {P G : Type 0} (m : Monitor P) (parts : List DomainPart) (i : ℕ) (p : DomainPart) (logged : Bool) (hs new : List (PromisedHandle Output (JobAtGate P G))) (h : PromisedHandle Output (JobAtGate P G)) (d : ThreadJob P)
+    → i < length parts → p ≡ get_or parts i p → h.promise.job ≡ d → d.part ≡ p → d.monitor.now ≡ m → is_some d.log ≡ logged → new ≡ hs ++ h ∷ []
     → AreJobsOf m logged (take i parts) (promised hs) → AreJobsOf m logged (take (i + 1) parts) (promised new)
 jobs_pushed {P} m parts i p logged hs new h d within is kept part over log items are =
     let grown : promised new ≡ promised hs ++ d ∷ [] = ap promised items ∙ promised_more hs h ∙ ap (λ (x : ThreadJob P). promised hs ++ x ∷ []) kept in
     subst (λ (l : List (ThreadJob P)). AreJobsOf m logged (take (i + 1) parts) l) (sym grown) (jobs_more m logged parts i p (promised hs) d within is part over log are)
+
+-- and its gate is that of the others
+pub gate_pushed : {P G : Type 0} (gate : G) (hs new : List (PromisedHandle Output (JobAtGate P G))) (h : PromisedHandle Output (JobAtGate P G)) → h.promise.gate.now ≡ gate → new ≡ hs ++ h ∷ [] → AreAtGate gate hs → AreAtGate gate new
+gate_pushed {P} {G} gate hs new h is items are =
+    subst (AreAtGate gate) (sym items) (All-push (λ (x : PromisedHandle Output (JobAtGate P G)). x.promise.gate.now ≡ gate) hs h are is)
+
+-- the gate of a handle among them
+pub gate_at : {P G : Type 0} (gate : G) (all xs rest : List (PromisedHandle Output (JobAtGate P G))) (h : PromisedHandle Output (JobAtGate P G)) → AreAtGate gate all → all ≡ xs ++ h ∷ rest → h.promise.gate.now ≡ gate
+gate_at {P} {G} gate all xs rest h are is = by xs (subst (AreAtGate gate) is are)
+  where
+    by : (ys : List (PromisedHandle Output (JobAtGate P G))) → AreAtGate gate (ys ++ h ∷ rest) → h.promise.gate.now ≡ gate
+    by [] all = All-head (λ (x : PromisedHandle Output (JobAtGate P G)). x.promise.gate.now ≡ gate) h rest all
+    by (y ∷ ys) all = by ys (All-tail (λ (x : PromisedHandle Output (JobAtGate P G)). x.promise.gate.now ≡ gate) y (ys ++ h ∷ rest) all)
 
 -- the next domain is ready for the next part, and the others for the others
 ready_step : {P : Type 0} (may : P → AllowRelation) (m : Monitor P) (stands rest : List (Stand P)) (s : Stand P) (parts : List DomainPart) (i : ℕ) (p : DomainPart) → i < length parts → p ≡ get_or parts i p
@@ -186,8 +200,8 @@ goes_on : {P : Type 0} (may : P → AllowRelation) (rest : List (ThreadJob P)) (
 goes_on may [] d text none = inl none
 goes_on may (next ∷ rest) d text on = on
 
-begins_more : {P : Type 0} (may : P → AllowRelation) (ds : List (ThreadJob P)) (d : ThreadJob P) (old now new : Option (List ℕ)) → BeginsLists may ds old now → Keeps now new → BeginsLists may (ds ++ d ∷ []) old new
-begins_more may ds d old now new (all, rest, text, same, are, on, out) kept = (
+begins_more : {P : Type 0} (may : P → AllowRelation) (refuses : ℕ → Bool) (ds : List (ThreadJob P)) (d : ThreadJob P) (old now new : Option (List ℕ)) → BeginsLists may refuses ds old now → Keeps now new → BeginsLists may refuses (ds ++ d ∷ []) old new
+begins_more may refuses ds d old now new (all, rest, text, same, are, on, out) kept = (
   all,
   rest ++ d ∷ [],
   text,
@@ -216,31 +230,31 @@ both_ok (Ok v) P Q ok p q = (v, p, q)
 both_ok (Err e) P Q ok p q = let o : false ≡ true = ok in cc
 
 -- the lists that were served, and one more
-lists_more : {P : Type 0} (may : P → AllowRelation) (all : List (Served P)) (s : Served P) (ds : List (ThreadJob P)) (old now new : Option (List ℕ)) → WritesLists may ds all old now
-    → WasServed may s → Appends now new s.text → WritesLists may (ds ++ s.job ∷ []) (all ++ s ∷ []) old new
-lists_more {P} may all s ds old now new (same, are, out) is more = (
+lists_more : {P : Type 0} (may : P → AllowRelation) (refuses : ℕ → Bool) (all : List (Served P)) (s : Served P) (ds : List (ThreadJob P)) (old now new : Option (List ℕ)) → WritesLists may refuses ds all old now
+    → WasServed may refuses s → Appends now new s.text → WritesLists may refuses (ds ++ s.job ∷ []) (all ++ s ∷ []) old new
+lists_more {P} may refuses all s ds old now new (same, are, out) is more = (
   jobs_behind all s ds same,
-  All-append (WasServed may) all (s ∷ []) are (All-cons (WasServed may) s [] is (All-nil (WasServed may))),
+  All-append (WasServed may refuses) all (s ∷ []) are (All-cons (WasServed may refuses) s [] is (All-nil (WasServed may refuses))),
   subst (λ (l : List ℕ). Appends old new l) (sym (texts_behind all s)) (appends_both old now new (texts_in all) s.text out more),
 )
 
 -- the same, of which a beginning went out
-begins_served : {P : Type 0} (may : P → AllowRelation) (all : List (Served P)) (s : Served P) (ds : List (ThreadJob P)) (old now new : Option (List ℕ)) → WritesLists may ds all old now
-    → WasServed may s → AppendsBeginning now new s.text → BeginsLists may (ds ++ s.job ∷ []) old new
-begins_served {P} may all s ds old now new (same, are, out) is more = (
+begins_served : {P : Type 0} (may : P → AllowRelation) (refuses : ℕ → Bool) (all : List (Served P)) (s : Served P) (ds : List (ThreadJob P)) (old now new : Option (List ℕ)) → WritesLists may refuses ds all old now
+    → WasServed may refuses s → AppendsBeginning now new s.text → BeginsLists may refuses (ds ++ s.job ∷ []) old new
+begins_served {P} may refuses all s ds old now new (same, are, out) is more = (
   all ++ s ∷ [],
   [],
   [],
   append-nil (jobs_in (all ++ s ∷ [])) ∙ jobs_behind all s ds same,
-  All-append (WasServed may) all (s ∷ []) are (All-cons (WasServed may) s [] is (All-nil (WasServed may))),
+  All-append (WasServed may refuses) all (s ∷ []) are (All-cons (WasServed may refuses) s [] is (All-nil (WasServed may refuses))),
   refl,
   subst (λ (l : List ℕ). AppendsBeginning old new l) (sym (append-nil (texts_in (all ++ s ∷ [])) ∙ texts_behind all s))
       (begins_after old now new (texts_in all) s.text out more),
 )
 
-begins_next : {P : Type 0} (may : P → AllowRelation) (all : List (Served P)) (d : ThreadJob P) (text : List ℕ) (ds : List (ThreadJob P)) (old now new : Option (List ℕ)) → WritesLists may ds all old now
-    → IsBegun may d text → AppendsBeginning now new text → BeginsLists may (ds ++ d ∷ []) old new
-begins_next may all d text ds old now new (same, are, out) is more = (
+begins_next : {P : Type 0} (may : P → AllowRelation) (refuses : ℕ → Bool) (all : List (Served P)) (d : ThreadJob P) (text : List ℕ) (ds : List (ThreadJob P)) (old now new : Option (List ℕ)) → WritesLists may refuses ds all old now
+    → IsBegun may d text → AppendsBeginning now new text → BeginsLists may refuses (ds ++ d ∷ []) old new
+begins_next may refuses all d text ds old now new (same, are, out) is more = (
   all,
   d ∷ [],
   text,
@@ -251,11 +265,11 @@ begins_next may all d text ds old now new (same, are, out) is more = (
 )
 
 -- a list that was joined, of which a beginning went out
-begins_one : {P : Type 0} (may : P → AllowRelation) (all : List (Served P)) (d : ThreadJob P) (whole : Bool) (o : Output) (ds : List (ThreadJob P)) (old now new : Option (List ℕ)) → WritesLists may ds all old now
-    → CameBy whole may d o → AppendsBeginning now new o.text.items → BeginsLists may (ds ++ d ∷ []) old new
-begins_one may all d true o ds old now new lists came out =
-    begins_served may all (record { job = d; outcomes = came.0; text = o.text.items; departed = o.left }) ds old now new lists came.1 out
-begins_one may all d false o ds old now new lists came out = begins_next may all d o.text.items ds old now new lists came out
+begins_one : {P : Type 0} (may : P → AllowRelation) (refuses : ℕ → Bool) (all : List (Served P)) (d : ThreadJob P) (whole : Bool) (o : Output) (ds : List (ThreadJob P)) (old now new : Option (List ℕ)) → WritesLists may refuses ds all old now
+    → CameBy whole may refuses d o → AppendsBeginning now new o.text.items → BeginsLists may refuses (ds ++ d ∷ []) old new
+begins_one may refuses all d true o ds old now new lists came out =
+    begins_served may refuses all (record { job = d; outcomes = came.0; text = o.text.items; departed = o.left }) ds old now new lists came.1 out
+begins_one may refuses all d false o ds old now new lists came out = begins_next may refuses all d o.text.items ds old now new lists came out
 
 not_ok : {E : Type 0} (e : E) → IsOk {T = Unit {0}} (Err e) → ⊥
 not_ok e ok = let o : false ≡ true = ok in cc
@@ -270,40 +284,40 @@ count_more : (most a b l0 lost l1 : ℕ) → l1 ≡ min (l0 + lost) most → l0 
 count_more most a b l0 lost l1 is before more = omega (arith, is, before, more)
 
 -- a list was joined, and all went well
-joins_well : {P : Type 0} (Q Q' : List (Served P) → Type 0) (may : P → AllowRelation) (ds : List (ThreadJob P)) (d : ThreadJob P) (o : Output) (a0 a1 : List ℕ) (l0 l1 : ℕ) (old now new : Option (List ℕ))
+joins_well : {P : Type 0} (Q Q' : List (Served P) → Type 0) (may : P → AllowRelation) (refuses : ℕ → Bool) (ds : List (ThreadJob P)) (d : ThreadJob P) (o : Output) (a0 a1 : List ℕ) (l0 l1 : ℕ) (old now new : Option (List ℕ))
     → ((all : List (Served P)) (s : Served P) → s.departed ≡ o.left → Q all → Q' (all ++ s ∷ []))
-    → JoinsWhere Q may ds a0 l0 old now (Ok tt) → Appends now new o.text.items → IfOk o.audit (λ more. a1 ≡ a0 ++ more.items) → IsOk o.audit
-    → l1 ≡ counted (l0 + o.lost) → CameBy true may d o → JoinsWhere Q' may (ds ++ d ∷ []) a1 l1 old new (Ok tt)
-joins_well {P} Q Q' may ds d o a0 a1 l0 l1 old now new grows (all, lists, audit, count, q) out more ok lost came =
+    → JoinsWhere Q may refuses ds a0 l0 old now (Ok tt) → Appends now new o.text.items → IfOk o.audit (λ more. a1 ≡ a0 ++ more.items) → IsOk o.audit
+    → l1 ≡ counted (l0 + o.lost) → CameBy true may refuses d o → JoinsWhere Q' may refuses (ds ++ d ∷ []) a1 l1 old new (Ok tt)
+joins_well {P} Q Q' may refuses ds d o a0 a1 l0 l1 old now new grows (all, lists, audit, count, q) out more ok lost came =
     let s : Served P = record { job = d; outcomes = came.0; text = o.text.items; departed = o.left } in
     let both = both_ok o.audit (λ a. a1 ≡ a0 ++ a.items) (λ a. a.items ≡ audit_lines d.part.types.now came.0) ok more came.2 in (
       all ++ s ∷ [],
-      lists_more may all s ds old now new lists came.1 out,
+      lists_more may refuses all s ds old now new lists came.1 out,
       both.1 ∙ ap (λ (l : List ℕ). l ++ both.0.items) audit ∙ ap (λ (l : List ℕ). audits_in all ++ l) both.2 ∙ sym (audits_behind all s),
       count_more (2 ^ 64 - 1) (all_lost all) (lost_in came.0) l0 o.lost l1 lost count came.3 ∙ sym (ap counted (all_lost_behind all s)),
       grows all s refl q,
     )
 
 -- what is known of all threads that were joined, where one more is
-joins_on : {P : Type 0} (Q Q' : List (Served P) → Type 0) (may : P → AllowRelation) (ds : List (ThreadJob P)) (d : ThreadJob P) (whole : Bool) (o : Output) (a0 a1 : List ℕ) (l0 l1 : ℕ) (r0 r1 r2 : Result (Unit {0}) RunFault)
+joins_on : {P : Type 0} (Q Q' : List (Served P) → Type 0) (may : P → AllowRelation) (refuses : ℕ → Bool) (ds : List (ThreadJob P)) (d : ThreadJob P) (whole : Bool) (o : Output) (a0 a1 : List ℕ) (l0 l1 : ℕ) (r0 r1 r2 : Result (Unit {0}) RunFault)
     (old now new : Option (List ℕ))
     → ((all : List (Served P)) (s : Served P) → s.departed ≡ o.left → Q all → Q' (all ++ s ∷ []))
-    → JoinsWhere Q may ds a0 l0 old now r0
+    → JoinsWhere Q may refuses ds a0 l0 old now r0
     → WritesNext r0 whole o.text.items now new r1
     → OnOk r2 (IsOk r1 × IfOk o.audit (λ more. a1 ≡ a0 ++ more.items) × IsOk o.audit)
     → IfErr r2 (λ e. (r1 ≡ Err e) ⊎ (e ≡ run_out_of_memory))
-    → l1 ≡ counted (l0 + o.lost) → CameBy whole may d o
-    → JoinsWhere Q' may (ds ++ d ∷ []) a1 l1 old new r2
-joins_on Q Q' may ds d whole o a0 a1 l0 l1 r0 (Err f) (Ok x) old now new grows i w k e lost came = absurd (not_ok f k.0)
-joins_on Q Q' may ds d whole o a0 a1 l0 l1 (Err f) (Ok c) (Ok x) old now new grows i w k e lost came = absurd (ok_not_err c f w.0)
-joins_on Q Q' may ds d false o a0 a1 l0 l1 (Ok b) (Ok c) (Ok x) old now new grows i w k e lost came = absurd (not_true w.0)
-joins_on Q Q' may ds d true o a0 a1 l0 l1 (Ok b) (Ok c) (Ok x) old now new grows i w k e lost came =
-    joins_well Q Q' may ds d o a0 a1 l0 l1 old now new grows i w.1 k.1 k.2 lost came
-joins_on Q Q' may ds d whole o a0 a1 l0 l1 (Err f) r1 (Err g) old now new grows i w k e lost came = (late_after r1 f g i.0 w.0 e, begins_more may ds d old now new i.1 w.1)
-joins_on Q Q' may ds d whole o a0 a1 l0 l1 (Ok b) (Ok c) (Err g) old now new grows (all, lists, audit, count, q) w k e lost came =
-    (late_now (Ok c) c g refl e, begins_one may all d whole o ds old now new lists came (begins_whole now new o.text.items w.1))
-joins_on Q Q' may ds d whole o a0 a1 l0 l1 (Ok b) (Err f) (Err g) old now new grows (all, lists, audit, count, q) w k e lost came =
-    (late_after (Err f) f g w.0 refl e, begins_one may all d whole o ds old now new lists came w.1)
+    → l1 ≡ counted (l0 + o.lost) → CameBy whole may refuses d o
+    → JoinsWhere Q' may refuses (ds ++ d ∷ []) a1 l1 old new r2
+joins_on Q Q' may refuses ds d whole o a0 a1 l0 l1 r0 (Err f) (Ok x) old now new grows i w k e lost came = absurd (not_ok f k.0)
+joins_on Q Q' may refuses ds d whole o a0 a1 l0 l1 (Err f) (Ok c) (Ok x) old now new grows i w k e lost came = absurd (ok_not_err c f w.0)
+joins_on Q Q' may refuses ds d false o a0 a1 l0 l1 (Ok b) (Ok c) (Ok x) old now new grows i w k e lost came = absurd (not_true w.0)
+joins_on Q Q' may refuses ds d true o a0 a1 l0 l1 (Ok b) (Ok c) (Ok x) old now new grows i w k e lost came =
+    joins_well Q Q' may refuses ds d o a0 a1 l0 l1 old now new grows i w.1 k.1 k.2 lost came
+joins_on Q Q' may refuses ds d whole o a0 a1 l0 l1 (Err f) r1 (Err g) old now new grows i w k e lost came = (late_after r1 f g i.0 w.0 e, begins_more may refuses ds d old now new i.1 w.1)
+joins_on Q Q' may refuses ds d whole o a0 a1 l0 l1 (Ok b) (Ok c) (Err g) old now new grows (all, lists, audit, count, q) w k e lost came =
+    (late_now (Ok c) c g refl e, begins_one may refuses all d whole o ds old now new lists came (begins_whole now new o.text.items w.1))
+joins_on Q Q' may refuses ds d whole o a0 a1 l0 l1 (Ok b) (Err f) (Err g) old now new grows (all, lists, audit, count, q) w k e lost came =
+    (late_after (Err f) f g w.0 refl e, begins_one may refuses all d whole o ds old now new lists came w.1)
 
 -- gathering
 
@@ -359,13 +373,13 @@ no-state : {P : Type 0} (all : List (Served P)) → AreGathered [] all → ShowO
 no-state [] are = tt
 no-state {P} (x ∷ xs) are = absurd (All-head (λ (y : Served P). IsAmong y.departed.seat.view []) x xs are)
 
-pub joined_together : {P : Type 0} (may : P → AllowRelation) (m : Monitor P) (ds : List (ThreadJob P)) (us : List View) (audit : List ℕ) (lost : ℕ) (old new : Option (List ℕ)) (r : Result (Unit {0}) RunFault)
-    → All (λ d. d.monitor.now ≡ m) ds → ShowTogether m.words.layout us → JoinsWhere (AreGathered us) may ds audit lost old new r → JoinsWhere ShowOneState may ds audit lost old new r
-joined_together {P} may m ds us audit lost old new (Ok done) on (inr together) (all, lists, a, l, q) =
+pub joined_together : {P : Type 0} (may : P → AllowRelation) (refuses : ℕ → Bool) (m : Monitor P) (ds : List (ThreadJob P)) (us : List View) (audit : List ℕ) (lost : ℕ) (old new : Option (List ℕ)) (r : Result (Unit {0}) RunFault)
+    → All (λ d. d.monitor.now ≡ m) ds → ShowTogether m.words.layout us → JoinsWhere (AreGathered us) may refuses ds audit lost old new r → JoinsWhere ShowOneState may refuses ds audit lost old new r
+joined_together {P} may refuses m ds us audit lost old new (Ok done) on (inr together) (all, lists, a, l, q) =
     (all, lists, a, l, one-state m us all together (subst (All (λ (d : ThreadJob P). d.monitor.now ≡ m)) (sym lists.0) on) q)
-joined_together {P} may m ds us audit lost old new (Ok done) on (inl none) (all, lists, a, l, q) =
+joined_together {P} may refuses m ds us audit lost old new (Ok done) on (inl none) (all, lists, a, l, q) =
     (all, lists, a, l, no-state all (subst (λ (vs : List View). AreGathered vs all) none q))
-joined_together may m ds us audit lost old new (Err e) on together j = j
+joined_together may refuses m ds us audit lost old new (Err e) on together j = j
 
 -- the seat that gathered the others may learn of all, since what a domain left may be taken in
 yields_front : {X Z : Type 0} (s : IntoIter X Z) (xs : List X) (t : IntoIter X Z) → Yields into_iter_steps s xs t → into_iter_items s ≡ xs ++ into_iter_items t
@@ -389,96 +403,97 @@ may_take {P} m None l before rest d on of none left =
     let seat : IsSeatOf m.words l.seat = subst (λ (n : Monitor P). IsSeatOf n.words l.seat) (on_run_at m before rest d on.0) left.0 in
     (seat, seat_at m.config m.words l.seat m.limits.distinct m.same_run seat ∙ ap (position_at m.words) left.1 ∙ first)
 
-pub may_take_next : {P : Type 0} (m : Monitor P) (gathered : Option GatheredOf) (l : Departed) (all xs rest : List (PromisedHandle Output (ThreadJob P))) (h : PromisedHandle Output (ThreadJob P)) → AreOnRun m (promised all) → all ≡ xs ++ h ∷ rest
-    → AreOfThisRun m.words gathered → (gathered ≡ None → xs ≡ []) → LeavesSeat h.promise l → MayTakeIn m.words gathered l
-may_take_next {P} m gathered l all xs rest h on is of none left =
-    may_take m gathered l (promised xs) (promised rest) h.promise
-    (subst (AreOnRun m) (ap promised is ∙ map-append (λ (x : PromisedHandle Output (ThreadJob P)). x.promise) xs (h ∷ rest)) on) of (λ e. ap promised (none e)) left
+pub may_take_next : {P G : Type 0} (m : Monitor P) (gathered : Option GatheredOf) (l : Departed) (all xs rest : List (PromisedHandle Output (JobAtGate P G))) (h : PromisedHandle Output (JobAtGate P G)) → AreOnRun m (promised all) → all ≡ xs ++ h ∷ rest
+    → AreOfThisRun m.words gathered → (gathered ≡ None → xs ≡ []) → LeavesSeat h.promise.job l → MayTakeIn m.words gathered l
+may_take_next {P} {G} m gathered l all xs rest h on is of none left =
+    may_take m gathered l (promised xs) (promised rest) h.promise.job
+    (subst (AreOnRun m) (ap promised is ∙ map-append (λ (x : PromisedHandle Output (JobAtGate P G)). x.promise.job) xs (h ∷ rest)) on) of (λ e. ap promised (none e)) left
 
 -- one thread more was joined
-pub joins_next : {P : Type 0} (may : P → AllowRelation) (b : Board) (hs : List (PromisedHandle Output (ThreadJob P))) (h : PromisedHandle Output (ThreadJob P)) (o : Output) (a0 a1 : List ℕ) (l0 l1 : ℕ) (r0 r1 r2 : Result (Unit {0}) RunFault)
+pub joins_next : {P G : Type 0} (may : P → AllowRelation) (refuses : G → ℕ → Bool) (gate : G) (b : Board) (hs : List (PromisedHandle Output (JobAtGate P G))) (h : PromisedHandle Output (JobAtGate P G)) (o : Output) (a0 a1 : List ℕ) (l0 l1 : ℕ) (r0 r1 r2 : Result (Unit {0}) RunFault)
     (old now new : Option (List ℕ)) (g0 : Option GatheredOf) (g1 : GatheredOf)
+    → h.promise.gate.now ≡ gate
     → IsTakenIn b g0 o.left g1
-    → JoinsWhere (AreGathered (views_in g0)) may (promised hs) a0 l0 old now r0
+    → JoinsWhere (AreGathered (views_in g0)) may (refuses gate) (promised hs) a0 l0 old now r0
     → WritesNext r0 o.whole o.text.items now new r1
     → OnOk r2 (IsOk r1 × IfOk o.audit (λ more. a1 ≡ a0 ++ more.items) × IsOk o.audit)
     → IfErr r2 (λ e. (r1 ≡ Err e) ⊎ (e ≡ run_out_of_memory))
-    → l1 ≡ counted (l0 + o.lost) → CameBy o.whole may h.promise o
-    → JoinsWhere (AreGathered g1.views) may (promised (hs ++ h ∷ [])) a1 l1 old new r2
-joins_next may b hs h o a0 a1 l0 l1 r0 r1 r2 old now new g0 g1 taken i w k e lost came =
-    subst (λ l. JoinsWhere (AreGathered g1.views) may l a1 l1 old new r2) (sym (promised_more hs h))
-    (joins_on (AreGathered (views_in g0)) (AreGathered g1.views) may (promised hs) h.promise o.whole o a0 a1 l0 l1 r0 r1 r2 old now new
-    (λ all s is are. gathered_more b g0 o.left g1 all s taken is are) i w k e lost came)
+    → l1 ≡ counted (l0 + o.lost) → CameBy o.whole may (refuses h.promise.gate.now) h.promise.job o
+    → JoinsWhere (AreGathered g1.views) may (refuses gate) (promised (hs ++ h ∷ [])) a1 l1 old new r2
+joins_next {P} {G} may refuses gate b hs h o a0 a1 l0 l1 r0 r1 r2 old now new g0 g1 here taken i w k e lost came =
+    subst (λ l. JoinsWhere (AreGathered g1.views) may (refuses gate) l a1 l1 old new r2) (sym (promised_more hs h))
+    (joins_on (AreGathered (views_in g0)) (AreGathered g1.views) may (refuses gate) (promised hs) h.promise.job o.whole o a0 a1 l0 l1 r0 r1 r2 old now new
+    (λ all s is are. gathered_more b g0 o.left g1 all s taken is are) i w k e lost (subst (λ (x : G). CameBy o.whole may (refuses x) h.promise.job o) here came))
 
 -- before the first thread is joined
-pub joins_none : {P : Type 0} (may : P → AllowRelation) (old : Option (List ℕ)) (audit : List ℕ) → audit ≡ [] → JoinsWhere (AreGathered []) may [] audit 0 old old (Ok tt)
-joins_none may None audit none = ([], (refl, All-nil _, tt), none, refl, All-nil _)
-joins_none may (Some xs) audit none = ([], (refl, All-nil _, sym (append-nil xs)), none, refl, All-nil _)
+pub joins_none : {P : Type 0} (may : P → AllowRelation) (refuses : ℕ → Bool) (old : Option (List ℕ)) (audit : List ℕ) → audit ≡ [] → JoinsWhere (AreGathered []) may refuses [] audit 0 old old (Ok tt)
+joins_none may refuses None audit none = ([], (refl, All-nil _, tt), none, refl, All-nil _)
+joins_none may refuses (Some xs) audit none = ([], (refl, All-nil _, sym (append-nil xs)), none, refl, All-nil _)
 
 -- a fault that came late
-late_wrote : {P : Type 0} (may : P → AllowRelation) (ds : List (ThreadJob P)) (e : RunFault) (old new : Option (List ℕ)) → IsLate e → BeginsLists may ds old new ⊎ BeginsRunText may ds old new
-    → WroteLists may ds old new (Err e)
-late_wrote may ds e old new (inl memory) begun = subst (λ (f : RunFault). WroteLists may ds old new (Err f)) (sym memory) begun
-late_wrote may ds e old new (inr write) begun = subst (λ (f : RunFault). WroteLists may ds old new (Err f)) (sym write) begun
+late_wrote : {P : Type 0} (may : P → AllowRelation) (refuses : ℕ → Bool) (ds : List (ThreadJob P)) (e : RunFault) (old new : Option (List ℕ)) → IsLate e → BeginsLists may refuses ds old new ⊎ BeginsRunText may refuses ds old new
+    → WroteLists may refuses ds old new (Err e)
+late_wrote may refuses ds e old new (inl memory) begun = subst (λ (f : RunFault). WroteLists may refuses ds old new (Err f)) (sym memory) begun
+late_wrote may refuses ds e old new (inr write) begun = subst (λ (f : RunFault). WroteLists may refuses ds old new (Err f)) (sym write) begun
 
 -- a fault stopped the threads' lines
-pub wrote_lines : {P : Type 0} (Q : List (Served P) → Type 0) (may : P → AllowRelation) (ds : List (ThreadJob P)) (all : Option ThreadRefusal) (r : Result (Unit {0}) RunFault) (e : RunFault) (audit : List ℕ) (lost : ℕ) (old new : Option (List ℕ))
-    → r ≡ Err e → all ≡ None → JoinsWhere Q may ds audit lost old new r → WroteStarted may all ds old new (Err e)
-wrote_lines Q may ds all r e audit lost old new is given joined =
-    let j = subst (λ (q : Result (Unit {0}) RunFault). JoinsWhere Q may ds audit lost old new q) is joined in
-    subst (λ (b : Option ThreadRefusal). WroteStarted may b ds old new (Err e)) (sym given) (late_wrote may ds e old new j.0 (inl j.1))
+pub wrote_lines : {P : Type 0} (Q : List (Served P) → Type 0) (may : P → AllowRelation) (refuses : ℕ → Bool) (ds : List (ThreadJob P)) (all : Option ThreadRefusal) (r : Result (Unit {0}) RunFault) (e : RunFault) (audit : List ℕ) (lost : ℕ) (old new : Option (List ℕ))
+    → r ≡ Err e → all ≡ None → JoinsWhere Q may refuses ds audit lost old new r → WroteStarted may refuses all ds old new (Err e)
+wrote_lines Q may refuses ds all r e audit lost old new is given joined =
+    let j = subst (λ (q : Result (Unit {0}) RunFault). JoinsWhere Q may refuses ds audit lost old new q) is joined in
+    subst (λ (b : Option ThreadRefusal). WroteStarted may refuses b ds old new (Err e)) (sym given) (late_wrote may refuses ds e old new j.0 (inl j.1))
 
 -- the audit lines went out too, or a beginning of them
-wrote_end : {P : Type 0} (may : P → AllowRelation) (ds : List (ThreadJob P)) (all : List (Served P)) (r : Result (Unit {0}) RunFault) (audit : List ℕ) (lost : ℕ) (old now new : Option (List ℕ))
-    → WritesLists may ds all old now → audit ≡ audits_in all → lost ≡ counted (all_lost all) → ShowOneState all
-    → OnOk r (Appends now new (audit ++ lost_text lost)) → AppendsBeginning now new (audit ++ lost_text lost) → IfErr r IsLate → WroteLists may ds old new r
-wrote_end may ds all (Ok done) audit lost old now new (same, are, out) a l one end begun late =
+wrote_end : {P : Type 0} (may : P → AllowRelation) (refuses : ℕ → Bool) (ds : List (ThreadJob P)) (all : List (Served P)) (r : Result (Unit {0}) RunFault) (audit : List ℕ) (lost : ℕ) (old now new : Option (List ℕ))
+    → WritesLists may refuses ds all old now → audit ≡ audits_in all → lost ≡ counted (all_lost all) → ShowOneState all
+    → OnOk r (Appends now new (audit ++ lost_text lost)) → AppendsBeginning now new (audit ++ lost_text lost) → IfErr r IsLate → WroteLists may refuses ds old new r
+wrote_end may refuses ds all (Ok done) audit lost old now new (same, are, out) a l one end begun late =
     let tail : audit ++ lost_text lost ≡ audits_in all ++ lost_text (counted (all_lost all)) = ap (λ (x : List ℕ). x ++ lost_text lost) a ∙ ap (λ (n : ℕ). audits_in all ++ lost_text n) l in
     (all, same, are, one, appends_both old now new (texts_in all) _ out (subst (λ (x : List ℕ). Appends now new x) tail end))
-wrote_end may ds all (Err e) audit lost old now new (same, are, out) a l one end begun late =
+wrote_end may refuses ds all (Err e) audit lost old now new (same, are, out) a l one end begun late =
     let tail : audit ++ lost_text lost ≡ audits_in all ++ lost_text (counted (all_lost all)) = ap (λ (x : List ℕ). x ++ lost_text lost) a ∙ ap (λ (n : ℕ). audits_in all ++ lost_text n) l in
-    late_wrote may ds e old new late (inr (all, same, are, begins_after old now new (texts_in all) _ out (subst (λ (x : List ℕ). AppendsBeginning now new x) tail begun)))
+    late_wrote may refuses ds e old new late (inr (all, same, are, begins_after old now new (texts_in all) _ out (subst (λ (x : List ℕ). AppendsBeginning now new x) tail begun)))
 
-pub wrote_all : {P : Type 0} (may : P → AllowRelation) (ds : List (ThreadJob P)) (all : Option ThreadRefusal) (r0 r : Result (Unit {0}) RunFault) (d : Unit {0}) (audit : List ℕ) (lost : ℕ) (old now new : Option (List ℕ))
-    → r0 ≡ Ok d → all ≡ None → JoinsWhere ShowOneState may ds audit lost old now r0 → OnOk r (Appends now new (audit ++ lost_text lost)) → AppendsBeginning now new (audit ++ lost_text lost)
-    → IfErr r IsLate → WroteStarted may all ds old new r
-wrote_all may ds all r0 r d audit lost old now new was given joined out begun late =
-    let j = subst (λ (q : Result (Unit {0}) RunFault). JoinsWhere ShowOneState may ds audit lost old now q) was joined in
-    subst (λ (b : Option ThreadRefusal). WroteStarted may b ds old new r) (sym given) (wrote_end may ds j.0 r audit lost old now new j.1 j.2 j.3 j.4 out begun late)
+pub wrote_all : {P : Type 0} (may : P → AllowRelation) (refuses : ℕ → Bool) (ds : List (ThreadJob P)) (all : Option ThreadRefusal) (r0 r : Result (Unit {0}) RunFault) (d : Unit {0}) (audit : List ℕ) (lost : ℕ) (old now new : Option (List ℕ))
+    → r0 ≡ Ok d → all ≡ None → JoinsWhere ShowOneState may refuses ds audit lost old now r0 → OnOk r (Appends now new (audit ++ lost_text lost)) → AppendsBeginning now new (audit ++ lost_text lost)
+    → IfErr r IsLate → WroteStarted may refuses all ds old new r
+wrote_all may refuses ds all r0 r d audit lost old now new was given joined out begun late =
+    let j = subst (λ (q : Result (Unit {0}) RunFault). JoinsWhere ShowOneState may refuses ds audit lost old now q) was joined in
+    subst (λ (b : Option ThreadRefusal). WroteStarted may refuses b ds old new r) (sym given) (wrote_end may refuses ds j.0 r audit lost old now new j.1 j.2 j.3 j.4 out begun late)
 
 -- what jobs wrote of which this is known
-wrote_of : {P : Type 0} (may : P → AllowRelation) (Are : List (ThreadJob P) → Type 0) (ds : List (ThreadJob P)) (r : Result (Unit {0}) RunFault) (old new : Option (List ℕ)) → Are ds → WroteLists may ds old new r
-    → Wrote may Are old new r
-wrote_of may Are ds (Ok done) old new are wrote = (ds, are, wrote)
-wrote_of may Are ds (Err Thread) old new are wrote = wrote
-wrote_of may Are ds (Err (Play plays.Memory)) old new are wrote = inr (ds, are, wrote)
-wrote_of may Are ds (Err (Play plays.Write)) old new are wrote = (ds, are, wrote)
-wrote_of may Are ds (Err (Play plays.Read)) old new are wrote = absurd wrote
-wrote_of may Are ds (Err (Play (plays.Script fault))) old new are wrote = absurd wrote
-wrote_of may Are ds (Err (Play (plays.Policy fault))) old new are wrote = absurd wrote
+wrote_of : {P : Type 0} (may : P → AllowRelation) (refuses : ℕ → Bool) (Are : List (ThreadJob P) → Type 0) (ds : List (ThreadJob P)) (r : Result (Unit {0}) RunFault) (old new : Option (List ℕ)) → Are ds → WroteLists may refuses ds old new r
+    → Wrote may refuses Are old new r
+wrote_of may refuses Are ds (Ok done) old new are wrote = (ds, are, wrote)
+wrote_of may refuses Are ds (Err Thread) old new are wrote = wrote
+wrote_of may refuses Are ds (Err (Play plays.Memory)) old new are wrote = inr (ds, are, wrote)
+wrote_of may refuses Are ds (Err (Play plays.Write)) old new are wrote = (ds, are, wrote)
+wrote_of may refuses Are ds (Err (Play plays.Read)) old new are wrote = absurd wrote
+wrote_of may refuses Are ds (Err (Play (plays.Script fault))) old new are wrote = absurd wrote
+wrote_of may refuses Are ds (Err (Play (plays.Policy fault))) old new are wrote = absurd wrote
 
 -- the threads that were started are those of these jobs, where all were
-pub wrote_started : {P : Type 0} (may : P → AllowRelation) (Are : List (ThreadJob P) → Type 0) (all : Option ThreadRefusal) (hs : List (ThreadJob P)) (r : Result (Unit {0}) RunFault) (old new : Option (List ℕ))
-    → (all ≡ None → Are hs) → WroteStarted may all hs old new r → Wrote may Are old new r
-wrote_started may Are None hs r old new are wrote = wrote_of may Are hs r old new (are refl) wrote
-wrote_started may Are (Some refusals.Memory) hs r old new are wrote = subst (λ (q : Result (Unit {0}) RunFault). Wrote may Are old new q) (sym wrote.0) (inl wrote.1)
-wrote_started may Are (Some refusals.Thread) hs r old new are wrote = subst (λ (q : Result (Unit {0}) RunFault). Wrote may Are old new q) (sym wrote.0) wrote.1
+pub wrote_started : {P : Type 0} (may : P → AllowRelation) (refuses : ℕ → Bool) (Are : List (ThreadJob P) → Type 0) (all : Option ThreadRefusal) (hs : List (ThreadJob P)) (r : Result (Unit {0}) RunFault) (old new : Option (List ℕ))
+    → (all ≡ None → Are hs) → WroteStarted may refuses all hs old new r → Wrote may refuses Are old new r
+wrote_started may refuses Are None hs r old new are wrote = wrote_of may refuses Are hs r old new (are refl) wrote
+wrote_started may refuses Are (Some refusals.Memory) hs r old new are wrote = subst (λ (q : Result (Unit {0}) RunFault). Wrote may refuses Are old new q) (sym wrote.0) (inl wrote.1)
+wrote_started may refuses Are (Some refusals.Thread) hs r old new are wrote = subst (λ (q : Result (Unit {0}) RunFault). Wrote may refuses Are old new q) (sym wrote.0) wrote.1
 
 -- more is known of the jobs
-pub wrote_as : {P : Type 0} (may : P → AllowRelation) (Are Be : List (ThreadJob P) → Type 0) (r : Result (Unit {0}) RunFault) (old new : Option (List ℕ)) → ((ds : List (ThreadJob P)) → Are ds → Be ds)
-    → Wrote may Are old new r → Wrote may Be old new r
-wrote_as may Are Be (Ok done) old new f (ds, are, wrote) = (ds, f ds are, wrote)
-wrote_as may Are Be (Err Thread) old new f wrote = wrote
-wrote_as may Are Be (Err (Play plays.Memory)) old new f (inl kept) = inl kept
-wrote_as may Are Be (Err (Play plays.Memory)) old new f (inr (ds, are, wrote)) = inr (ds, f ds are, wrote)
-wrote_as may Are Be (Err (Play plays.Write)) old new f (ds, are, wrote) = (ds, f ds are, wrote)
-wrote_as may Are Be (Err (Play plays.Read)) old new f wrote = absurd wrote
-wrote_as may Are Be (Err (Play (plays.Script fault))) old new f wrote = absurd wrote
-wrote_as may Are Be (Err (Play (plays.Policy fault))) old new f wrote = absurd wrote
+pub wrote_as : {P : Type 0} (may : P → AllowRelation) (refuses : ℕ → Bool) (Are Be : List (ThreadJob P) → Type 0) (r : Result (Unit {0}) RunFault) (old new : Option (List ℕ)) → ((ds : List (ThreadJob P)) → Are ds → Be ds)
+    → Wrote may refuses Are old new r → Wrote may refuses Be old new r
+wrote_as may refuses Are Be (Ok done) old new f (ds, are, wrote) = (ds, f ds are, wrote)
+wrote_as may refuses Are Be (Err Thread) old new f wrote = wrote
+wrote_as may refuses Are Be (Err (Play plays.Memory)) old new f (inl kept) = inl kept
+wrote_as may refuses Are Be (Err (Play plays.Memory)) old new f (inr (ds, are, wrote)) = inr (ds, f ds are, wrote)
+wrote_as may refuses Are Be (Err (Play plays.Write)) old new f (ds, are, wrote) = (ds, f ds are, wrote)
+wrote_as may refuses Are Be (Err (Play plays.Read)) old new f wrote = absurd wrote
+wrote_as may refuses Are Be (Err (Play (plays.Script fault))) old new f wrote = absurd wrote
+wrote_as may refuses Are Be (Err (Play (plays.Policy fault))) old new f wrote = absurd wrote
 
 -- no memory, and nothing was written yet
-pub wrote_none : {P : Type 0} (may : P → AllowRelation) (Are : List (ThreadJob P) → Type 0) (e : RunFault) (old : Option (List ℕ)) → e ≡ run_out_of_memory → Wrote may Are old old (Err e)
-wrote_none may Are e old is = subst (λ (f : RunFault). Wrote may Are old old (Err f)) (sym is) (inl (keeps_same old))
+pub wrote_none : {P : Type 0} (may : P → AllowRelation) (refuses : ℕ → Bool) (Are : List (ThreadJob P) → Type 0) (e : RunFault) (old : Option (List ℕ)) → e ≡ run_out_of_memory → Wrote may refuses Are old old (Err e)
+wrote_none may refuses Are e old is = subst (λ (f : RunFault). Wrote may refuses Are old old (Err f)) (sym is) (inl (keeps_same old))
 
 -- one domain more stands beside its monitor
 pub stands_on : {P : Type 0} (m : Monitor P) (before after whole : List (Stand P)) (d : Domain) (s : Stand P) (more rest : List Domain) → after ≡ before ++ s ∷ [] → s ≡ record { monitor = m; domain = d }

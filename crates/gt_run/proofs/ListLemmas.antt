@@ -20,10 +20,10 @@ use Rattle.gt_word_history.specs.declared.view.FlagStep.{FlagStep}
 use Rattle.gt_word_history.specs.declared.view.FlagStep.TheVariants.{Passed, Raised}
 use Rattle.gt_script.specs.Lists.{RunAction, RunTask}
 use Rattle.gt_script.specs.declared.tasks.RunActionBy.TheVariants.{Do, Tell, Await}
-use Rattle.gt_run.specs.Serving.{Calls, DoesDeed, DoesWhere, HasCome, IsAwait, IsKeptAt, IsReady, LogsOutcomes}
+use Rattle.gt_run.specs.Serving.{Calls, DoesDeed, DoesWhere, HasCome, IsKeptAt, IsReady, LogsOutcomes}
 use Rattle.gt_run.specs.Serving.{ListLeadsTo}
 use Rattle.gt_run.specs.Serving.{ListProgress, Serves, ServesSome, StartsLogged, answer_lines, list_start, counted}
-use Rattle.gt_run.specs.Serving.{gate_line}
+use Rattle.gt_run.specs.Serving.{IsRefused, gate_line}
 use Rattle.gt_run.specs.Asking.{MakesFlagStep, RaisesFlag, Stand}
 use Rattle.gt_run.specs.declared.lists.ThreadJob.{ThreadJob}
 use Rattle.gt_run.specs.declared.logging.TrailLogger.{TrailLogger}
@@ -131,13 +131,13 @@ do_more may items job d whole false i l line old new e f before after t u call w
     breaks_off may job d whole i old new e before t come (same refl)
 
 -- the gate answers false at a line
-pub gate_stops : {P V E : Type 0} (may : P → AllowRelation) (items : V → List ℕ) (job : ThreadJob P) (d : Domain) (whole r : Bool) (i : ℕ) (l : RunTask) (line : Result V E) (old new : List ℕ) (e : Domain)
+pub gate_stops : {P V E : Type 0} (may : P → AllowRelation) (refuses : ℕ → Bool) (items : V → List ℕ) (job : ThreadJob P) (d : Domain) (whole r : Bool) (i : ℕ) (l : RunTask) (line : Result V E) (old new : List ℕ) (e : Domain)
     (labels : Labels) (t : Option TrailLogger) (flag : ℕ)
-    → i < length job.part.tasks.now → l ≡ get_or job.part.tasks.now i l → (l.dom.0 == job.part.dom.0) ≡ true → l.deed ≡ Await flag
+    → i < length job.part.tasks.now → l ≡ get_or job.part.tasks.now i l → (l.dom.0 == job.part.dom.0) ≡ true → l.deed ≡ Await flag → IsTrue (refuses flag)
     → IfOk line (λ v. items v ≡ gate_line l.line job.part.dom) → HasCome may job d whole i old e labels t
-    → (IsTrue r → IsTrue whole × IsOk line × IfOk line (λ v. new ≡ old ++ items v)) → (r ≡ false → new ≡ old) → Serves may job d r new e t
-unfolding IsAwait
-gate_stops may items job d true true i l (Ok v) old new e labels t flag within is own awaits line_is (q, leads, kept, prints) more same =
+    → (IsTrue r → IsTrue whole × IsOk line × IfOk line (λ v. new ≡ old ++ items v)) → (r ≡ false → new ≡ old) → Serves may refuses job d r new e t
+unfolding IsRefused
+gate_stops may refuses items job d true true i l (Ok v) old new e labels t flag within is own awaits refused line_is (q, leads, kept, prints) more same =
     record {
       left = q;
       domain = kept.domain;
@@ -148,22 +148,22 @@ gate_stops may items job d true true i l (Ok v) old new e labels t flag within i
         at = l;
         own = own;
         stands = slice_get_read job.part.tasks.now (length job.part.tasks.now) i l refl within is;
-        awaits = subst IsAwait (sym awaits) tt;
+        refused = subst (IsRefused refuses) (sym awaits) refused;
         last_is = refl;
       });
       prints = (more refl).2 ∙ cc (prints, line_is);
       asked = kept.asked;
       recorded = kept.recorded;
     }
-gate_stops may items job d true true i l (Err x) old new e labels t flag within is own awaits line_is come more same = let m = more refl in cc
-gate_stops may items job d false true i l line old new e labels t flag within is own awaits line_is come more same = let m = more refl in cc
-gate_stops may items job d whole false i l line old new e labels t flag within is own awaits line_is come more same =
+gate_stops may refuses items job d true true i l (Err x) old new e labels t flag within is own awaits refused line_is come more same = let m = more refl in cc
+gate_stops may refuses items job d false true i l line old new e labels t flag within is own awaits refused line_is come more same = let m = more refl in cc
+gate_stops may refuses items job d whole false i l line old new e labels t flag within is own awaits refused line_is come more same =
     breaks_off may job d whole i old new e labels t come (same refl)
 
 -- all lines were served
-pub list_ends : {P : Type 0} (may : P → AllowRelation) (job : ThreadJob P) (d : Domain) (whole : Bool) (i : ℕ) (text : List ℕ) (e : Domain) (labels : Labels) (t : Option TrailLogger)
-    → i ≡ length job.part.tasks.now → HasCome may job d whole i text e labels t → Serves may job d whole text e t
-list_ends may job d true i text e labels t all (q, leads, kept, prints) =
+pub list_ends : {P : Type 0} (may : P → AllowRelation) (refuses : ℕ → Bool) (job : ThreadJob P) (d : Domain) (whole : Bool) (i : ℕ) (text : List ℕ) (e : Domain) (labels : Labels) (t : Option TrailLogger)
+    → i ≡ length job.part.tasks.now → HasCome may job d whole i text e labels t → Serves may refuses job d whole text e t
+list_ends may refuses job d true i text e labels t all (q, leads, kept, prints) =
     record {
       left = q;
       domain = kept.domain;
@@ -175,7 +175,7 @@ list_ends may job d true i text e labels t all (q, leads, kept, prints) =
       asked = kept.asked;
       recorded = kept.recorded;
     }
-list_ends may job d false i text e labels t all come = come
+list_ends may refuses job d false i text e labels t all come = come
 
 -- before the first line
 pub come_none : {P : Type 0} (may : P → AllowRelation) (job : ThreadJob P) (d : Domain) (text : List ℕ) (labels : Labels) (t : Option TrailLogger) → text ≡ [] → StartsLogged job d t → AreNamed labels []

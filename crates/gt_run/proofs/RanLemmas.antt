@@ -59,48 +59,48 @@ are_of c logged config rights flags parts are domains generation may numbered ds
 }
 
 -- the parts over what the script's head and tasks are kept as, under its rights, wrote
-pub wrote_script : (c : RunContents) (logged : Bool) (config : Config) (rights : ScriptRights) (flags : ℕ) (parts shown : List DomainPart) (r : Result (Unit {0}) RunFault) (old new : Option (List ℕ))
+pub wrote_script : (refuses : ℕ → Bool) (c : RunContents) (logged : Bool) (config : Config) (rights : ScriptRights) (flags : ℕ) (parts shown : List DomainPart) (r : Result (Unit {0}) RunFault) (old new : Option (List ℕ))
     (domains : List DomainConfig) (tasks : List RunTask) (names : List (List ℕ))
     → AreParts domains tasks names parts → (domains ≡ c.head.domains) → (tasks ≡ c.tasks) → (names ≡ type_names c.head) → shown ≡ parts
     → config.domains.items ≡ c.head.domains → config.first_gen ≡ first_gen c.head → may_by rights ≡ may_in c.head → AreNumbered flags c.tasks
-    → Wrote may_by (AreUnder config rights flags logged shown) old new r → WroteScript c logged old new r
-wrote_script c logged config rights flags parts shown r old new domains tasks names are d t n is of_domains generation may numbered wrote =
+    → Wrote may_by refuses (AreUnder config rights flags logged shown) old new r → WroteScript refuses c logged old new r
+wrote_script refuses c logged config rights flags parts shown r old new domains tasks names are d t n is of_domains generation may numbered wrote =
     let named = subst (λ l. AreParts domains tasks l parts) n are in
     let tasked = subst (λ l. AreParts domains l (type_names c.head) parts) t named in
     let all = subst (λ l. AreParts l c.tasks (type_names c.head) parts) d tasked in
-    wrote_as may_by (AreUnder config rights flags logged shown) (AreOf c logged) r old new
+    wrote_as may_by refuses (AreUnder config rights flags logged shown) (AreOf c logged) r old new
     (are_of c logged config rights flags shown (subst (λ l. AreListsOf c l) (sym is) all) of_domains generation may numbered) wrote
 
 -- no memory, and nothing was written
-pub wrote_nothing : (c : RunContents) (logged : Bool) (fault : RunFault) (old : Option (List ℕ)) → fault ≡ run_out_of_memory → WroteScript c logged old old (Err fault)
-wrote_nothing c logged fault old is = wrote_none may_by (AreOf c logged) fault old is
+pub wrote_nothing : (refuses : ℕ → Bool) (c : RunContents) (logged : Bool) (fault : RunFault) (old : Option (List ℕ)) → fault ≡ run_out_of_memory → WroteScript refuses c logged old old (Err fault)
+wrote_nothing refuses c logged fault old is = wrote_none may_by refuses (AreOf c logged) fault old is
 
 -- a script was run
-pub ran_script : (logged : Bool) (Told : Result RunContents Wrong → Type 0) (c : RunContents) (r : Result (Unit {0}) RunFault) (old new : Option (List ℕ)) → Told (Ok c)
-    → WroteScript c logged old new r → Ran logged Told old new r
-ran_script logged Told c (Ok done) old new recorded wrote = (c, recorded, wrote)
-ran_script logged Told c (Err Thread) old new recorded wrote = (c, recorded, wrote)
-ran_script logged Told c (Err (Play plays.Memory)) old new recorded (inl kept) = inl kept
-ran_script logged Told c (Err (Play plays.Memory)) old new recorded (inr begun) = inr (c, recorded, begun)
-ran_script logged Told c (Err (Play plays.Write)) old new recorded wrote = (c, recorded, wrote)
-ran_script logged Told c (Err (Play plays.Read)) old new recorded wrote = absurd wrote
-ran_script logged Told c (Err (Play (plays.Script fault))) old new recorded wrote = absurd wrote
-ran_script logged Told c (Err (Play (plays.Policy fault))) old new recorded wrote = absurd wrote
+pub ran_script : (refuses : ℕ → Bool) (logged : Bool) (Told : Result RunContents Wrong → Type 0) (c : RunContents) (r : Result (Unit {0}) RunFault) (old new : Option (List ℕ)) → Told (Ok c)
+    → WroteScript refuses c logged old new r → Ran refuses logged Told old new r
+ran_script refuses logged Told c (Ok done) old new recorded wrote = (c, recorded, wrote)
+ran_script refuses logged Told c (Err Thread) old new recorded wrote = (c, recorded, wrote)
+ran_script refuses logged Told c (Err (Play plays.Memory)) old new recorded (inl kept) = inl kept
+ran_script refuses logged Told c (Err (Play plays.Memory)) old new recorded (inr begun) = inr (c, recorded, begun)
+ran_script refuses logged Told c (Err (Play plays.Write)) old new recorded wrote = (c, recorded, wrote)
+ran_script refuses logged Told c (Err (Play plays.Read)) old new recorded wrote = absurd wrote
+ran_script refuses logged Told c (Err (Play (plays.Script fault))) old new recorded wrote = absurd wrote
+ran_script refuses logged Told c (Err (Play (plays.Policy fault))) old new recorded wrote = absurd wrote
 
 -- there is no script, and nothing went out
-no_script : (logged : Bool) (Told : Result RunContents Wrong → Type 0) (error : ScriptError) (old : Option (List ℕ)) → RunAnswers (Err error) Told → Ran logged Told old old (Err (Play (fault_of error)))
-no_script logged Told errors.Memory old recorded = inl (keeps_same old)
-no_script logged Told (errors.Fault f) old recorded = (recorded, keeps_same old)
-no_script logged Told (errors.Policy f) old (g, shown, recorded) = (g, shown, recorded, keeps_same old)
+no_script : (refuses : ℕ → Bool) (logged : Bool) (Told : Result RunContents Wrong → Type 0) (error : ScriptError) (old : Option (List ℕ)) → RunAnswers (Err error) Told → Ran refuses logged Told old old (Err (Play (fault_of error)))
+no_script refuses logged Told errors.Memory old recorded = inl (keeps_same old)
+no_script refuses logged Told (errors.Fault f) old recorded = (recorded, keeps_same old)
+no_script refuses logged Told (errors.Policy f) old (g, shown, recorded) = (g, shown, recorded, keeps_same old)
 
-pub ran_nothing : (logged : Bool) (Told : Result RunContents Wrong → Type 0) (error : ScriptError) (fault : PlayFault) (old : Option (List ℕ)) → RunAnswers (Err error) Told → fault ≡ fault_of error → Ran logged Told old old (Err (Play fault))
-ran_nothing logged Told error fault old recorded is = subst (λ (f : PlayFault). Ran logged Told old old (Err (Play f))) (sym is) (no_script logged Told error old recorded)
+pub ran_nothing : (refuses : ℕ → Bool) (logged : Bool) (Told : Result RunContents Wrong → Type 0) (error : ScriptError) (fault : PlayFault) (old : Option (List ℕ)) → RunAnswers (Err error) Told → fault ≡ fault_of error → Ran refuses logged Told old old (Err (Play fault))
+ran_nothing refuses logged Told error fault old recorded is = subst (λ (f : PlayFault). Ran refuses logged Told old old (Err (Play f))) (sym is) (no_script refuses logged Told error old recorded)
 
 -- nothing could be read
-unread : (logged : Bool) (Told : Result RunContents Wrong → Type 0) (old : Option (List ℕ)) (error : ReadFault) → Ran logged Told old old (Err (Play (read_fault error)))
-unread logged Told old reads.Memory = inl (keeps_same old)
-unread logged Told old reads.Read = keeps_same old
+unread : (refuses : ℕ → Bool) (logged : Bool) (Told : Result RunContents Wrong → Type 0) (old : Option (List ℕ)) (error : ReadFault) → Ran refuses logged Told old old (Err (Play (read_fault error)))
+unread refuses logged Told old reads.Memory = inl (keeps_same old)
+unread refuses logged Told old reads.Read = keeps_same old
 
-pub ran_unread : (logged : Bool) (known old : Option (List ℕ)) (error : ReadFault) (fault : PlayFault) → fault ≡ read_fault error → OfInput known (λ input. Ran logged (ReadsAsRun input) old old (Err (Play fault)))
-ran_unread logged known old error fault is =
-    of_any_input known (λ (input : List ℕ). Ran logged (ReadsAsRun input) old old (Err (Play fault))) (λ (input : List ℕ). subst (λ (f : PlayFault). Ran logged (ReadsAsRun input) old old (Err (Play f))) (sym is) (unread logged (ReadsAsRun input) old error))
+pub ran_unread : (refuses : ℕ → Bool) (logged : Bool) (known old : Option (List ℕ)) (error : ReadFault) (fault : PlayFault) → fault ≡ read_fault error → OfInput known (λ input. Ran refuses logged (ReadsAsRun input) old old (Err (Play fault)))
+ran_unread refuses logged known old error fault is =
+    of_any_input known (λ (input : List ℕ). Ran refuses logged (ReadsAsRun input) old old (Err (Play fault))) (λ (input : List ℕ). subst (λ (f : PlayFault). Ran refuses logged (ReadsAsRun input) old old (Err (Play f))) (sym is) (unread refuses logged (ReadsAsRun input) old error))

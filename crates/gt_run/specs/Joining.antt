@@ -37,12 +37,13 @@ WritesNext (Ok well) whole text old new (Err fault) = IsLate fault × AppendsBeg
 
 -- The result of what was joined so far, with these audit lines and this number of lost records: the lines of the lists
 -- went out, the audit lines are of the same calls, and Q holds of the lists. Or, after a fault, a prefix of the lines.
-abbrev pub JoinsWhere : {P : Type 0} → (List (Served P) → Type 0) → (P → AllowRelation) → List (ThreadJob P) → List ℕ → ℕ
-    → Option (List ℕ) → Option (List ℕ) → Result (Unit {0}) RunFault → Type 0
-JoinsWhere {P} Q may jobs audit lost old new (Ok done) =
-    (all : List (Served P)) × WritesLists may jobs all old new × (audit ≡ audits_in all)
+abbrev pub JoinsWhere : {P : Type 0} → (List (Served P) → Type 0) → (P → AllowRelation) → (ℕ → Bool)
+    → List (ThreadJob P) → List ℕ → ℕ → Option (List ℕ) → Option (List ℕ) → Result (Unit {0}) RunFault → Type 0
+JoinsWhere {P} Q may refuses jobs audit lost old new (Ok done) =
+    (all : List (Served P)) × WritesLists may refuses jobs all old new × (audit ≡ audits_in all)
     × (lost ≡ counted (all_lost all)) × Q all
-JoinsWhere Q may jobs audit lost old new (Err fault) = IsLate fault × BeginsLists may jobs old new
+JoinsWhere Q may refuses jobs audit lost old new (Err fault) =
+    IsLate fault × BeginsLists may refuses jobs old new
 
 -- the views that were gathered
 abbrev pub views_in : Option GatheredOf → List View
@@ -91,7 +92,7 @@ run_fault_of refusals.Memory = run_out_of_memory
 
 -- the result of the jobs that were started: if something was refused, nothing was written, and the refusal is the
 -- fault; otherwise all were started, and it is the result of their lists
-abbrev pub WroteStarted : {P : Type 0} → (P → AllowRelation) → Option ThreadRefusal → List (ThreadJob P) → Option (List ℕ) → Option (List ℕ)
-    → Result (Unit {0}) RunFault → Type 0
-WroteStarted may None jobs old new r = WroteLists may jobs old new r
-WroteStarted may (Some refusal) jobs old new r = (r ≡ Err (run_fault_of refusal)) × Keeps old new
+abbrev pub WroteStarted : {P : Type 0} → (P → AllowRelation) → (ℕ → Bool) → Option ThreadRefusal
+    → List (ThreadJob P) → Option (List ℕ) → Option (List ℕ) → Result (Unit {0}) RunFault → Type 0
+WroteStarted may refuses None jobs old new r = WroteLists may refuses jobs old new r
+WroteStarted may refuses (Some refusal) jobs old new r = (r ≡ Err (run_fault_of refusal)) × Keeps old new

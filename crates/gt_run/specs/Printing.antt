@@ -14,6 +14,7 @@ use Rattle.gt_live.specs.Domains.{AllowRelation}
 use Rattle.gt_live.specs.declared.domain.Departed.{Departed}
 use Rattle.gt_live.specs.declared.monitor.Monitor.{Monitor}
 use Rattle.gt_text.specs.Streams.{AppendsBeginning}
+use Rattle.gt_run.specs.declared.lists.JobAtGate.{JobAtGate}
 use Rattle.gt_run.specs.declared.lists.ThreadJob.{ThreadJob}
 use Rattle.gt_run.specs.declared.lists.DomainPart.{DomainPart}
 use Rattle.gt_run.specs.declared.serving.Output.{Output}
@@ -28,12 +29,12 @@ pub record Served (P : Type 0) : Type 0 where
   pub departed : Departed
 
 -- the list was served
-abbrev pub WasServed : {P : Type 0} → (P → AllowRelation) → Served P → Type 0
-WasServed may s = IsServed may s.job s.outcomes s.text s.departed
+abbrev pub WasServed : {P : Type 0} → (P → AllowRelation) → (ℕ → Bool) → Served P → Type 0
+WasServed may refuses s = IsServed may refuses s.job s.outcomes s.text s.departed
 
 -- each of these lists was served
-abbrev pub AreServed : {P : Type 0} → (P → AllowRelation) → List (Served P) → Type 0
-AreServed may all = All (WasServed may) all
+abbrev pub AreServed : {P : Type 0} → (P → AllowRelation) → (ℕ → Bool) → List (Served P) → Type 0
+AreServed may refuses all = All (WasServed may refuses) all
 
 -- the domain of the list has in this state the view with which it left
 abbrev pub HasViewIn : {P : Type 0} → State (Unit {0}) View → Served P → Type 0
@@ -68,19 +69,19 @@ run_text all = texts_in all ++ (audits_in all ++ lost_text (counted (all_lost al
 
 -- the output of a job whose list printed all or did not: its text, its audit lines and its number of lost records are
 -- those of the outcomes of its calls; or its text is that of some first lines
-abbrev pub CameBy : {P : Type 0} → Bool → (P → AllowRelation) → ThreadJob P → Output → Type 0
-CameBy true may job o =
-    (outcomes : List ListOutcome) × IsServed may job outcomes o.text.items o.left
+abbrev pub CameBy : {P : Type 0} → Bool → (P → AllowRelation) → (ℕ → Bool) → ThreadJob P → Output → Type 0
+CameBy true may refuses job o =
+    (outcomes : List ListOutcome) × IsServed may refuses job outcomes o.text.items o.left
     × IfOk o.audit (λ audit. audit.items ≡ audit_lines job.part.types.now outcomes)
     × (o.lost ≡ counted (lost_in outcomes))
-CameBy false may job o = IsBegun may job o.text.items
+CameBy false may refuses job o = IsBegun may job o.text.items
 
 -- the job's domain left this seat
 abbrev pub LeavesSeat : {P : Type 0} → ThreadJob P → Departed → Type 0
 LeavesSeat job l = IsSeatOf (words_of job.monitor.now) (seat_left l) × ((seat_left l).dom ≡ job.part.dom)
 
-abbrev pub IsOutputOf : {P : Type 0} → (P → AllowRelation) → ThreadJob P → Output → Type 0
-IsOutputOf may job o = CameBy o.whole may job o × LeavesSeat job o.left
+abbrev pub IsOutputOf : {P : Type 0} → (P → AllowRelation) → (ℕ → Bool) → ThreadJob P → Output → Type 0
+IsOutputOf may refuses job o = CameBy o.whole may refuses job o × LeavesSeat job o.left
 
 -- the jobs of these parts, in their order, all over this monitor, and with a log or without
 abbrev pub AreJobsOf : {P : Type 0} → Monitor P → Bool → List DomainPart → List (ThreadJob P) → Type 0
@@ -88,14 +89,16 @@ AreJobsOf m logged parts jobs =
     (map (λ d. d.part) jobs ≡ parts) × All (λ d. (d.monitor.now ≡ m) × (is_some d.log ≡ logged)) jobs
 
 -- the lists of these jobs were served, and what they printed went out
-abbrev pub WritesLists : {P : Type 0} → (P → AllowRelation) → List (ThreadJob P) → List (Served P) → Option (List ℕ)
-    → Option (List ℕ) → Type 0
-WritesLists may jobs all old new = (jobs_in all ≡ jobs) × AreServed may all × Appends old new (texts_in all)
+abbrev pub WritesLists : {P : Type 0} → (P → AllowRelation) → (ℕ → Bool) → List (ThreadJob P) → List (Served P)
+    → Option (List ℕ) → Option (List ℕ) → Type 0
+WritesLists may refuses jobs all old new =
+    (jobs_in all ≡ jobs) × AreServed may refuses all × Appends old new (texts_in all)
 
 -- the lists of these jobs were served, their whole text went out, and words and views show one state of all domains
-abbrev pub WritesAll : {P : Type 0} → (P → AllowRelation) → List (ThreadJob P) → Option (List ℕ) → Option (List ℕ) → Type 0
-WritesAll {P} may jobs old new =
-    (all : List (Served P)) × (jobs_in all ≡ jobs) × AreServed may all × ShowOneState all
+abbrev pub WritesAll : {P : Type 0} → (P → AllowRelation) → (ℕ → Bool) → List (ThreadJob P) → Option (List ℕ)
+    → Option (List ℕ) → Type 0
+WritesAll {P} may refuses jobs old new =
+    (all : List (Served P)) × (jobs_in all ≡ jobs) × AreServed may refuses all × ShowOneState all
     × Appends old new (run_text all)
 
 -- what follows those lists that printed all: nothing, or what some first lines of the next list printed
@@ -105,22 +108,28 @@ PrintsOn may (next ∷ rest) text = (text ≡ []) ⊎ IsBegun may next text
 
 -- a prefix of what these lists print went out: the first ones were served, and after what they printed comes nothing,
 -- or a prefix of the next one
-abbrev pub BeginsLists : {P : Type 0} → (P → AllowRelation) → List (ThreadJob P) → Option (List ℕ) → Option (List ℕ) → Type 0
-BeginsLists {P} may jobs old new =
+abbrev pub BeginsLists : {P : Type 0} → (P → AllowRelation) → (ℕ → Bool) → List (ThreadJob P) → Option (List ℕ)
+    → Option (List ℕ) → Type 0
+BeginsLists {P} may refuses jobs old new =
     (all : List (Served P)) × (rest : List (ThreadJob P)) × (text : List ℕ)
-    × (jobs_in all ++ rest ≡ jobs) × AreServed may all × PrintsOn may rest text
+    × (jobs_in all ++ rest ≡ jobs) × AreServed may refuses all × PrintsOn may rest text
     × AppendsBeginning old new (texts_in all ++ text)
 
 -- a prefix of the whole text of these lists went out
-abbrev pub BeginsRunText : {P : Type 0} → (P → AllowRelation) → List (ThreadJob P) → Option (List ℕ) → Option (List ℕ)
-    → Type 0
-BeginsRunText {P} may jobs old new =
-    (all : List (Served P)) × (jobs_in all ≡ jobs) × AreServed may all × AppendsBeginning old new (run_text all)
+abbrev pub BeginsRunText : {P : Type 0} → (P → AllowRelation) → (ℕ → Bool) → List (ThreadJob P) → Option (List ℕ)
+    → Option (List ℕ) → Type 0
+BeginsRunText {P} may refuses jobs old new =
+    (all : List (Served P)) × (jobs_in all ≡ jobs) × AreServed may refuses all × AppendsBeginning old new (run_text all)
 
 -- a prefix of a whole text that these lists may print went out, as far as they were served
-abbrev pub BeginsAll : {P : Type 0} → (P → AllowRelation) → List (ThreadJob P) → Option (List ℕ) → Option (List ℕ) → Type 0
-BeginsAll may jobs old new = BeginsLists may jobs old new ⊎ BeginsRunText may jobs old new
+abbrev pub BeginsAll : {P : Type 0} → (P → AllowRelation) → (ℕ → Bool) → List (ThreadJob P) → Option (List ℕ)
+    → Option (List ℕ) → Type 0
+BeginsAll may refuses jobs old new = BeginsLists may refuses jobs old new ⊎ BeginsRunText may refuses jobs old new
 
 -- the jobs that were promised
-abbrev pub promised : {P : Type 0} → List (PromisedHandle Output (ThreadJob P)) → List (ThreadJob P)
-promised handles = map (λ h. h.promise) handles
+abbrev pub promised : {P G : Type 0} → List (PromisedHandle Output (JobAtGate P G)) → List (ThreadJob P)
+promised handles = map (λ h. h.promise.job) handles
+
+-- all of them at this gate
+abbrev pub AreAtGate : {P G : Type 0} → G → List (PromisedHandle Output (JobAtGate P G)) → Type 0
+AreAtGate gate handles = All (λ h. h.promise.gate.now ≡ gate) handles

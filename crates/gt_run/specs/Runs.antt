@@ -27,37 +27,39 @@ use Rattle.gt_live.specs.Parts.{config_of, rights_of, words_of}
 -- The output of these jobs, by the result of the run. At Ok it is the whole text of their lists. If a thread was
 -- refused it is empty. After a failed write or a failed allocation it is a prefix of such a text. There are no other
 -- faults.
-abbrev pub WroteLists : {P : Type 0} → (P → AllowRelation) → List (ThreadJob P) → Option (List ℕ) → Option (List ℕ)
-    → Result (Unit {0}) RunFault → Type 0
-WroteLists may jobs old new (Ok done) = WritesAll may jobs old new
-WroteLists may jobs old new (Err Thread) = Keeps old new
-WroteLists may jobs old new (Err (Play Memory)) = BeginsAll may jobs old new
-WroteLists may jobs old new (Err (Play Write)) = BeginsAll may jobs old new
-WroteLists may jobs old new (Err (Play Read)) = ⊥
-WroteLists may jobs old new (Err (Play (Script fault))) = ⊥
-WroteLists may jobs old new (Err (Play (Policy fault))) = ⊥
+abbrev pub WroteLists : {P : Type 0} → (P → AllowRelation) → (ℕ → Bool) → List (ThreadJob P) → Option (List ℕ)
+    → Option (List ℕ) → Result (Unit {0}) RunFault → Type 0
+WroteLists may refuses jobs old new (Ok done) = WritesAll may refuses jobs old new
+WroteLists may refuses jobs old new (Err Thread) = Keeps old new
+WroteLists may refuses jobs old new (Err (Play Memory)) = BeginsAll may refuses jobs old new
+WroteLists may refuses jobs old new (Err (Play Write)) = BeginsAll may refuses jobs old new
+WroteLists may refuses jobs old new (Err (Play Read)) = ⊥
+WroteLists may refuses jobs old new (Err (Play (Script fault))) = ⊥
+WroteLists may refuses jobs old new (Err (Play (Policy fault))) = ⊥
 
--- such jobs wrote their whole text
-abbrev pub Writes : {P : Type 0} → (P → AllowRelation) → (List (ThreadJob P) → Type 0) → Option (List ℕ) → Option (List ℕ)
-    → Type 0
-Writes {P} may Are old new = (jobs : List (ThreadJob P)) × Are jobs × WritesAll may jobs old new
+-- such jobs, at a gate that may refuse these flags, wrote their whole text
+abbrev pub Writes : {P : Type 0} → (P → AllowRelation) → (ℕ → Bool) → (List (ThreadJob P) → Type 0)
+    → Option (List ℕ) → Option (List ℕ) → Type 0
+Writes {P} may refuses Are old new =
+    (jobs : List (ThreadJob P)) × Are jobs × WritesAll may refuses jobs old new
 
 -- such jobs wrote a prefix of their whole text
-abbrev pub BeginsToWrite : {P : Type 0} → (P → AllowRelation) → (List (ThreadJob P) → Type 0) → Option (List ℕ)
-    → Option (List ℕ) → Type 0
-BeginsToWrite {P} may Are old new = (jobs : List (ThreadJob P)) × Are jobs × BeginsAll may jobs old new
+abbrev pub BeginsToWrite : {P : Type 0} → (P → AllowRelation) → (ℕ → Bool) → (List (ThreadJob P) → Type 0)
+    → Option (List ℕ) → Option (List ℕ) → Type 0
+BeginsToWrite {P} may refuses Are old new =
+    (jobs : List (ThreadJob P)) × Are jobs × BeginsAll may refuses jobs old new
 
 -- the same of jobs of which this is known; if an allocation fails, it may be that none began, and then nothing was
 -- written
-abbrev pub Wrote : {P : Type 0} → (P → AllowRelation) → (List (ThreadJob P) → Type 0) → Option (List ℕ) → Option (List ℕ)
-    → Result (Unit {0}) RunFault → Type 0
-Wrote may Are old new (Ok done) = Writes may Are old new
-Wrote may Are old new (Err Thread) = Keeps old new
-Wrote may Are old new (Err (Play Memory)) = Keeps old new ⊎ BeginsToWrite may Are old new
-Wrote may Are old new (Err (Play Write)) = BeginsToWrite may Are old new
-Wrote may Are old new (Err (Play Read)) = ⊥
-Wrote may Are old new (Err (Play (Script fault))) = ⊥
-Wrote may Are old new (Err (Play (Policy fault))) = ⊥
+abbrev pub Wrote : {P : Type 0} → (P → AllowRelation) → (ℕ → Bool) → (List (ThreadJob P) → Type 0)
+    → Option (List ℕ) → Option (List ℕ) → Result (Unit {0}) RunFault → Type 0
+Wrote may refuses Are old new (Ok done) = Writes may refuses Are old new
+Wrote may refuses Are old new (Err Thread) = Keeps old new
+Wrote may refuses Are old new (Err (Play Memory)) = Keeps old new ⊎ BeginsToWrite may refuses Are old new
+Wrote may refuses Are old new (Err (Play Write)) = BeginsToWrite may refuses Are old new
+Wrote may refuses Are old new (Err (Play Read)) = ⊥
+Wrote may refuses Are old new (Err (Play (Script fault))) = ⊥
+Wrote may refuses Are old new (Err (Play (Policy fault))) = ⊥
 
 -- the jobs of these parts, over one monitor of this configuration, which is within the limits, with all its frames,
 -- these rights and this number of flags
@@ -93,32 +95,34 @@ pub record AreOf (c : RunContents) (logged : Bool) (jobs : List (ThreadJob Scrip
   pub jobs_are : AreJobsOf monitor logged parts jobs
 
 -- the script's lists wrote their whole text
-abbrev pub WritesScript : RunContents → Bool → Option (List ℕ) → Option (List ℕ) → Type 0
-WritesScript c logged old new = Writes may_by (AreOf c logged) old new
+abbrev pub WritesScript : (ℕ → Bool) → RunContents → Bool → Option (List ℕ) → Option (List ℕ) → Type 0
+WritesScript refuses c logged old new = Writes may_by refuses (AreOf c logged) old new
 
 -- a prefix of the whole text of the script's lists went out
-abbrev pub BeginsScript : RunContents → Bool → Option (List ℕ) → Option (List ℕ) → Type 0
-BeginsScript c logged old new = BeginsToWrite may_by (AreOf c logged) old new
+abbrev pub BeginsScript : (ℕ → Bool) → RunContents → Bool → Option (List ℕ) → Option (List ℕ) → Type 0
+BeginsScript refuses c logged old new = BeginsToWrite may_by refuses (AreOf c logged) old new
 
 -- the output of a script's run, by its result
-abbrev pub WroteScript : RunContents → Bool → Option (List ℕ) → Option (List ℕ) → Result (Unit {0}) RunFault → Type 0
-WroteScript c logged old new r = Wrote may_by (AreOf c logged) old new r
+abbrev pub WroteScript : (ℕ → Bool) → RunContents → Bool → Option (List ℕ) → Option (List ℕ)
+    → Result (Unit {0}) RunFault → Type 0
+WroteScript refuses c logged old new r = Wrote may_by refuses (AreOf c logged) old new r
 
 -- this relation gives a script, of which P holds
 abbrev pub OfScript : (Result RunContents Wrong → Type 0) → (RunContents → Type 0) → Type 0
 OfScript Told P = (c : RunContents) × Told (Ok c) × P c
 
--- The output of `run`, with a log or without, by its result, for bytes that mean this. At Ok it is the whole text of
--- the script. At a fault of the script it is empty, and the fault is the script's first. If a thread was refused it is
--- empty. After a failed write it is a prefix of a text of the script. After a failed allocation it is such a prefix, or
--- empty.
-abbrev pub Ran : Bool → (Result RunContents Wrong → Type 0) → Option (List ℕ) → Option (List ℕ)
+-- The output of `run`, at a gate that may refuse these flags, with a log or without, by its result, for bytes that mean
+-- this. At Ok it is the whole text of the script. At a fault of the script it is empty, and the fault is the script's
+-- first. If a thread was refused it is empty. After a failed write it is a prefix of a text of the script. After a
+-- failed allocation it is such a prefix, or empty.
+abbrev pub Ran : (ℕ → Bool) → Bool → (Result RunContents Wrong → Type 0) → Option (List ℕ) → Option (List ℕ)
     → Result (Unit {0}) RunFault → Type 0
-Ran logged Told old new (Ok done) = OfScript Told (λ c. WritesScript c logged old new)
-Ran logged Told old new (Err Thread) = OfScript Told (λ c. Keeps old new)
-Ran logged Told old new (Err (Play (Script fault))) = Told (Err (in_script fault)) × Keeps old new
-Ran logged Told old new (Err (Play (Policy fault))) =
+Ran refuses logged Told old new (Ok done) = OfScript Told (λ c. WritesScript refuses c logged old new)
+Ran refuses logged Told old new (Err Thread) = OfScript Told (λ c. Keeps old new)
+Ran refuses logged Told old new (Err (Play (Script fault))) = Told (Err (in_script fault)) × Keeps old new
+Ran refuses logged Told old new (Err (Play (Policy fault))) =
     (g : policy.TokenFault) × (block_fault_shown fault ≡ Some g) × Told (Err (in_policy g)) × Keeps old new
-Ran logged Told old new (Err (Play Memory)) = Keeps old new ⊎ OfScript Told (λ c. BeginsScript c logged old new)
-Ran logged Told old new (Err (Play Write)) = OfScript Told (λ c. BeginsScript c logged old new)
-Ran logged Told old new (Err (Play Read)) = Keeps old new
+Ran refuses logged Told old new (Err (Play Memory)) =
+    Keeps old new ⊎ OfScript Told (λ c. BeginsScript refuses c logged old new)
+Ran refuses logged Told old new (Err (Play Write)) = OfScript Told (λ c. BeginsScript refuses c logged old new)
+Ran refuses logged Told old new (Err (Play Read)) = Keeps old new

@@ -1,6 +1,6 @@
 -- The run of a domain's list: a call for each of its lines, one after the other.
 use Rattle.std.specs.Prelude.{◌≡◌, ◌⊎◌, ◌++◌, ◌+◌, ◌==◌, ◌^◌, ◌-◌, ℕ, Bool, true, false, List, [], ◌∷◌, length, map}
-use Rattle.std.specs.Prelude.{min, take, codes, Option, None, Some, is_some, slice_get}
+use Rattle.std.specs.Prelude.{min, take, codes, IsTrue, Option, None, Some, is_some, slice_get}
 use Rattle.gt_run.specs.Prelude.{AllZip, flat_map, sum_by, DomId, type_text, line_text, TrailState, Record, asked}
 use Rattle.gt_run.specs.Prelude.{Request, Answer, hypercall_of_request, encoded_record, AreNamed, answer_line, call_text, Named}
 use Rattle.gt_run.specs.Prelude.{handle_given, label_given, with_name, MakesRequest, Labels, ScriptCall, AllowRelation}
@@ -124,32 +124,39 @@ IsReady may m dom s = (s.monitor ≡ m) × IsFirst may m dom s.domain
 abbrev pub AreReady : {P : Type 0} → (P → AllowRelation) → Monitor P → List (Stand P) → List DomainPart → Type 0
 AreReady may m stands parts = AllZip (λ s p. IsReady may m p.dom s) stands parts
 
--- the line awaits a flag
-unfoldable pub IsAwait : RunAction → Type 0
-IsAwait (Do call) = ⊥
-IsAwait (Tell flag) = ⊥
-IsAwait (Await flag) = Unit {0}
+-- the gate refuses no flag: it stops no list
+abbrev pub RefusesNone : (ℕ → Bool) → Type 0
+RefusesNone refuses = (flag : ℕ) → refuses flag ≡ false
+
+-- the line awaits a flag, which the gate may refuse
+unfoldable pub IsRefused : (ℕ → Bool) → RunAction → Type 0
+IsRefused refuses (Do call) = ⊥
+IsRefused refuses (Tell flag) = ⊥
+IsRefused refuses (Await flag) = IsTrue (refuses flag)
 
 -- `LINE ID gate`: the gate answered false at that line
 abbrev pub gate_line : ℕ → DomId → List ℕ
 gate_line line dom = call_text line dom ++ codes "gate\n"
 
--- a list stops at this line, which awaits a flag, if its gate answers false; this is then its last line
-pub record Stops (dom : DomId) (tasks : List RunTask) (number : ℕ) (last : List ℕ) : Type 0 where
+-- a list stops at this line, which awaits a flag, if its gate answers false, which it does only where it refuses the
+-- flag; this is then its last line
+pub record Stops (refuses : ℕ → Bool) (dom : DomId) (tasks : List RunTask) (number : ℕ) (last : List ℕ)
+    : Type 0 where
   pub at : RunTask
   pub own : (at.dom.0 == dom.0) ≡ true
   pub stands : slice_get tasks number ≡ Some at
-  pub awaits : IsAwait at.deed
+  pub refused : IsRefused refuses at.deed
   pub last_is : last ≡ gate_line at.line dom
 
 -- a list ends after this number of lines: they are all, and nothing more is printed; or it stops there
-abbrev pub EndsList : DomId → List RunTask → ℕ → List ℕ → Type 0
-EndsList dom tasks number last = ((number ≡ length tasks) × (last ≡ [])) ⊎ Stops dom tasks number last
+abbrev pub EndsList : (ℕ → Bool) → DomId → List RunTask → ℕ → List ℕ → Type 0
+EndsList refuses dom tasks number last =
+    ((number ≡ length tasks) × (last ≡ [])) ⊎ Stops refuses dom tasks number last
 
 -- The list of the job was served to its end, from a domain that had done nothing. Its calls had these outcomes. It
 -- printed the lines of their answers, and the line of its gate if that ended it. Then the domain left.
-pub record IsServed {P : Type 0} (may : P → AllowRelation) (job : ThreadJob P) (outcomes : List ListOutcome)
-    (text : List ℕ) (departed : Departed) : Type 0 where
+pub record IsServed {P : Type 0} (may : P → AllowRelation) (refuses : ℕ → Bool) (job : ThreadJob P)
+    (outcomes : List ListOutcome) (text : List ℕ) (departed : Departed) : Type 0 where
   pub domain : Domain
   pub first : IsFirst may job.monitor.now job.part.dom domain
   pub number : ℕ
@@ -157,7 +164,7 @@ pub record IsServed {P : Type 0} (may : P → AllowRelation) (job : ThreadJob P)
   pub leads : ListLeadsTo may job (list_start domain) (take number job.part.tasks.now) left
   pub came : left.outcomes ≡ outcomes
   pub last : List ℕ
-  pub ends : EndsList job.part.dom job.part.tasks.now number last
+  pub ends : EndsList refuses job.part.dom job.part.tasks.now number last
   pub prints : text ≡ answer_lines job.part.types.now job.part.dom outcomes ++ last
   pub leaves : HasLeft (words_of job.monitor.now).layout left.domain departed
 
@@ -215,14 +222,14 @@ StartsLogged job d logger =
     ((seat_of d).dom ≡ job.part.dom) × (is_some logger ≡ is_logged job) × LogsOutcomes (trail_of d) logger []
 
 -- a list was served to its end, starting at this domain; the logger and the text are those of its calls
-pub record ServesAll {P : Type 0} (may : P → AllowRelation) (job : ThreadJob P) (d : Domain) (text : List ℕ) (e : Domain)
-    (logger : Option TrailLogger) : Type 0 where
+pub record ServesAll {P : Type 0} (may : P → AllowRelation) (refuses : ℕ → Bool) (job : ThreadJob P) (d : Domain)
+    (text : List ℕ) (e : Domain) (logger : Option TrailLogger) : Type 0 where
   pub left : ListProgress
   pub domain : left.domain ≡ e
   pub number : ℕ
   pub leads : ListLeadsTo may job (list_start d) (take number job.part.tasks.now) left
   pub last : List ℕ
-  pub ends : EndsList job.part.dom job.part.tasks.now number last
+  pub ends : EndsList refuses job.part.dom job.part.tasks.now number last
   pub prints : text ≡ answer_lines job.part.types.now job.part.dom left.outcomes ++ last
   pub asked : is_some logger ≡ is_logged job
   pub recorded : LogsOutcomes (trail_of e) logger left.outcomes
@@ -235,10 +242,10 @@ pub record ServesSome {P : Type 0} (may : P → AllowRelation) (job : ThreadJob 
   pub prints : text ≡ answer_lines job.part.types.now job.part.dom left.outcomes
 
 -- a list that printed all, or did not, was served
-abbrev pub Serves : {P : Type 0} → (P → AllowRelation) → ThreadJob P → Domain → Bool → List ℕ → Domain → Option TrailLogger
-    → Type 0
-Serves may job d true text e logger = ServesAll may job d text e logger
-Serves may job d false text e logger = ServesSome may job d text
+abbrev pub Serves : {P : Type 0} → (P → AllowRelation) → (ℕ → Bool) → ThreadJob P → Domain → Bool → List ℕ → Domain
+    → Option TrailLogger → Type 0
+Serves may refuses job d true text e logger = ServesAll may refuses job d text e logger
+Serves may refuses job d false text e logger = ServesSome may job d text
 
 -- the result of this number of first lines of a list, if their text is whole or is not: with its labels and its logger,
 -- or only some first ones of them

@@ -38,9 +38,16 @@ pub struct ThreadJob<'s, 'a, P: Allows> {
     pub log: Option<&'s SharedLog>,
 }
 
-// The thread of a domain promises the output of its job.
-impl<'s, 'a, P: Allows> Promise<Output> for ThreadJob<'s, 'a, P> {
+/// The job of a domain's thread, and the gate at which the domain waits.
+#[derive(Drop)]
+pub struct JobAtGate<'s, 'a, P: Allows, G: Gate> {
+    pub job: ThreadJob<'s, 'a, P>,
+    pub gate: &'s G,
+}
+
+// The thread of a domain promises the output of its job at this gate.
+impl<'s, 'a, P: Allows, G: Gate> Promise<Output> for JobAtGate<'s, 'a, P, G> {
     ghost use Rattle.gt_run.specs.Printing.{IsOutputOf};
 
-    ghost kept_by = { λ job output. IsOutputOf P.may job output };
+    ghost kept_by = { λ promised output. IsOutputOf P.may (G.refuses promised.gate.now) promised.job output };
 }

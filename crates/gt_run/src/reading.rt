@@ -51,7 +51,7 @@ fn run_script<'a, R: Threads + Wait + Sync, G: Gate + Sync, W: Write>(
 ) -> Result<(), RunFault>
     requires configured { CanConfigure (contents_of script.now.head) }
     requires numbered { AreNumbered script.now.flags script.now.tasks }
-    ensures { WroteScript (run_contents script.entry.now) (is_some log.entry)
+    ensures { WroteScript (G.refuses gate.now) (run_contents script.entry.now) (is_some log.entry)
         (W.contents writer.old) (W.contents writer.new) result }
 {
     let head = script.head();
@@ -84,7 +84,8 @@ fn run_bytes<R: Threads + Wait + Sync, G: Gate + Sync, W: Write>(
     gate: &G,
 ) -> Result<(), RunFault>
     ensures { (all : List ℕ) → input.now ≡ take READ_LIMIT all →
-        Ran (is_some log.entry) (ReadsAsRun all) (W.contents writer.old) (W.contents writer.new) result }
+        Ran (G.refuses gate.now) (is_some log.entry) (ReadsAsRun all)
+        (W.contents writer.old) (W.contents writer.new) result }
 {
     match parse_run(alloc, input) {
         Ok(script) => run_script(rt, alloc, &script, log, gate, writer),
@@ -112,7 +113,8 @@ pub fn run<R: Threads + Wait + Sync, I: Read, W: Write, G: Gate + Sync>(
     gate: &G,
 ) -> Result<(), RunFault>
     ensures text { OfInput (I.remaining reader.old) (λ input.
-        Ran (is_some log.entry) (ReadsAsRun input) (W.contents writer.old) (W.contents writer.new) result) }
+        Ran (G.refuses gate.now) (is_some log.entry) (ReadsAsRun input)
+        (W.contents writer.old) (W.contents writer.new) result) }
     ensures read { ConsumesAtMost READ_LIMIT (I.remaining reader.old) (I.remaining reader.new) }
 {
     match read_text(alloc, reader) {

@@ -132,8 +132,8 @@ fn has_appended(text: &mut Vec<u8>, whole: bool, line: Result<Vec<u8>, AllocErro
     }
 }
 
-// Waits at the gate until the flag is raised, and passes it. Returns false, and makes no step, if the gate does not let
-// the domain continue.
+// Waits at the gate until the flag is raised, and passes it. Returns false, and makes no step, if the gate refuses the
+// domain at this flag.
 fn has_passed<R: Wait, P: Allows, G: Gate>(
     rt: &R,
     domain: &mut RunningDomain<'_, P>,
@@ -143,7 +143,7 @@ fn has_passed<R: Wait, P: Allows, G: Gate>(
     ensures same { IsSameStand domain.old domain.new }
     ensures passed { MatchBool result
         (MakesFlagStep P.may domain.old.monitor flag Passed domain.old.domain domain.new.domain)
-        (domain.new.domain ≡ domain.old.domain) }
+        ((domain.new.domain ≡ domain.old.domain) × IsTrue (G.refuses gate.now flag)) }
 {
     'looks: for _look in rt.forever() {
         if !gate.pass(flag) {
@@ -170,7 +170,8 @@ fn serve<'a, R: Wait, P: Allows, G: Gate>(
     requires recorded { StartsLogged job domain.old.domain logger.old }
     requires text { text.old.items ≡ [] }
     ensures same { IsSameStand domain.old domain.new }
-    ensures served { Serves P.may job.entry domain.old.domain result text.new.items domain.new.domain logger.new }
+    ensures served { Serves P.may (G.refuses gate.now) job.entry
+        domain.old.domain result text.new.items domain.new.domain logger.new }
 {
     let alloc = job.alloc;
     let mut labels = Labels::new(alloc);
@@ -210,7 +211,7 @@ pub fn work<'a, R: Wait, P: Allows, G: Gate>(
     start: &OnceLock<bool>,
 ) -> Output
     requires { IsReady P.may job.monitor.now job.part.dom domain }
-    ensures { IsOutputOf P.may job.entry result }
+    ensures { IsOutputOf P.may (G.refuses gate.now) job.entry result }
 {
     let mut domain = domain;
     let (alloc, types) = (job.alloc, job.part.types);

@@ -13,13 +13,13 @@ ghost use Rattle.gt_run.specs.Joining.{AreGathered, AreOfThisRun, AreOnRun, Begi
 ghost use Rattle.gt_run.specs.Joining.{JoinsWhere, MayTakeIn, ShowTogether, WritesNext, WroteStarted};
 ghost use Rattle.gt_run.specs.Joining.{run_fault_of, views_in};
 ghost use Rattle.gt_run.specs.declared.threads.ThreadRefusal.TheVariants as refusals;
-ghost use Rattle.gt_run.specs.Printing.{AreJobsOf, IsOutputOf, promised};
+ghost use Rattle.gt_run.specs.Printing.{AreAtGate, AreJobsOf, IsOutputOf, promised};
 ghost use Rattle.gt_run.specs.Runs.{AreUnder, Wrote};
 ghost use Rattle.gt_run.specs.Serving.{counted, AreReady, IsReady};
 
 use crate::fault::RunFault;
 use crate::gate::Gate;
-use crate::lists::{DomainPart, RunContext, ThreadJob};
+use crate::lists::{DomainPart, JobAtGate, RunContext, ThreadJob};
 use crate::running::RunningDomain;
 use crate::serving::{Output, work};
 use gt_audit::push_lost;
@@ -102,8 +102,8 @@ impl<T: Drop> From<AllocFailed<T>> for ThreadRefusal {
 
 // The threads that were started, in the order of their domains, and the refusal, if some domain has none.
 #[derive(Drop)]
-struct Started<'s, 'a, P: Allows> {
-    handles: Vec<PromisedHandle<Output, ThreadJob<'s, 'a, P>>>,
+struct Started<'s, 'a, P: Allows, G: Gate> {
+    handles: Vec<PromisedHandle<Output, JobAtGate<'s, 'a, P, G>>>,
     refused: Option<ThreadRefusal>,
 }
 
@@ -116,10 +116,11 @@ fn start_each<'s, 'a, E, R: Wait + Sync, P: Allows + Sync, G: Gate + Sync>(
     domains: Vec<RunningDomain<'s, P>>,
     parts: &'s [DomainPart<'s, 'a>],
     start: &'s OnceLock<bool>,
-) -> Started<'s, 'a, P>
+) -> Started<'s, 'a, P, G>
     requires { AreReady P.may monitor.now domains.items parts.now }
-    ensures { (result.refused ≡ None) →
+    ensures jobs { (result.refused ≡ None) →
         AreJobsOf monitor.now (is_some context.now.log) parts.entry.now (promised result.handles.items) }
+    ensures gate { (result.refused ≡ None) → AreAtGate context.now.gate.now result.handles.items }
 {
     let (rt, alloc, gate, log) = (context.rt, context.alloc, context.gate, context.log);
     let mut handles = Vec::new(alloc);
@@ -136,15 +137,18 @@ fn start_each<'s, 'a, E, R: Wait + Sync, P: Allows + Sync, G: Gate + Sync>(
             log,
         };
         match scope.spawn_with(
-            ThreadJob {
-                alloc,
-                part,
-                monitor,
-                log,
+            JobAtGate {
+                job: ThreadJob {
+                    alloc,
+                    part,
+                    monitor,
+                    log,
+                },
+                gate,
             },
             move || -> Output
                 requires { IsReady P.may job.monitor.now job.part.dom domain }
-                ensures { IsOutputOf P.may job.entry result }
+                ensures { IsOutputOf P.may (G.refuses gate.entry.now) job.entry result }
             { work(rt, domain, job, gate, start) },
         ) {
             Ok(handle) => {
@@ -225,24 +229,25 @@ fn take_in<P: Allows>(monitor: &Monitor<P>, gathered: Option<Gathered>, left: De
 
 // Joins all threads in their order. Writes the lines of each domain as it is joined, unless something failed before.
 // Gathers what the domains left behind.
-fn join_each<'s, 'a, R: Threads, P: Allows, W: Write>(
-    rt: &R,
-    alloc: Global,
+fn join_each<'s, 'a, R: Threads + Wait, P: Allows, G: Gate, W: Write>(
+    context: &RunContext<'_, R, G>,
     monitor: &Monitor<P>,
-    handles: Vec<PromisedHandle<Output, ThreadJob<'s, 'a, P>>>,
+    handles: Vec<PromisedHandle<Output, JobAtGate<'s, 'a, P, G>>>,
     writer: &mut W,
 ) -> Joined
-    requires { AreOnRun monitor.now (promised handles.items) }
-    ensures joins { JoinsWhere (AreGathered (views_in result.gathered)) P.may (promised handles.entry.items)
+    requires run { AreOnRun monitor.now (promised handles.items) }
+    requires gate { AreAtGate context.now.gate.now handles.items }
+    ensures joins { JoinsWhere (AreGathered (views_in result.gathered)) P.may (G.refuses context.now.gate.now)
+        (promised handles.entry.items)
         result.audit.items result.lost (W.contents writer.old) (W.contents writer.new) result.outcome }
     ensures run { AreOfThisRun (words_of monitor.now) result.gathered }
 {
     let mut outcome = Ok(());
-    let mut audit = Vec::new(alloc);
+    let mut audit = Vec::new(context.alloc);
     let mut lost: u64 = 0;
     let mut gathered = None;
     'joins: for handle in handles {
-        let output = handle.join(rt);
+        let output = handle.join(context.rt);
         outcome = write_next(outcome, writer, &output);
         lost = lost.saturating_add(output.lost);
         let Output {
@@ -272,9 +277,9 @@ fn learn_of_all<P: Allows>(monitor: &Monitor<P>, gathered: Option<Gathered>)
 }
 
 // Joins threads that ran no list.
-fn join_idle<'s, 'a, R: Threads, P: Allows>(
+fn join_idle<'s, 'a, R: Threads, P: Allows, G: Gate>(
     rt: &R,
-    handles: Vec<PromisedHandle<Output, ThreadJob<'s, 'a, P>>>,
+    handles: Vec<PromisedHandle<Output, JobAtGate<'s, 'a, P, G>>>,
 ) {
     'joins: for handle in handles {
         let _ = handle.join(rt);
@@ -312,20 +317,20 @@ fn take_back<W>(writer: &mut W)
 {}
 
 // Writes what the threads print, if each domain has one.
-fn write_each<'s, 'a, R: Threads, P: Allows, W: Write>(
-    rt: &R,
-    alloc: Global,
+fn write_each<'s, 'a, R: Threads + Wait, P: Allows, G: Gate, W: Write>(
+    context: &RunContext<'_, R, G>,
     monitor: &Monitor<P>,
-    started: Started<'s, 'a, P>,
+    started: Started<'s, 'a, P, G>,
     writer: &mut W,
 ) -> Result<(), RunFault>
-    requires { (started.refused ≡ None) → AreOnRun monitor.now (promised started.handles.items) }
-    ensures { WroteStarted P.may started.entry.refused (promised started.entry.handles.items)
-        (W.contents writer.old) (W.contents writer.new) result }
+    requires run { (started.refused ≡ None) → AreOnRun monitor.now (promised started.handles.items) }
+    requires gate { (started.refused ≡ None) → AreAtGate context.now.gate.now started.handles.items }
+    ensures { WroteStarted P.may (G.refuses context.now.gate.now) started.entry.refused
+        (promised started.entry.handles.items) (W.contents writer.old) (W.contents writer.new) result }
 {
     let Started { handles, refused } = started;
     if let Some(refusal) = refused {
-        join_idle(rt, handles);
+        join_idle(context.rt, handles);
         return Err(RunFault::from(refusal));
     }
     let Joined {
@@ -333,10 +338,10 @@ fn write_each<'s, 'a, R: Threads, P: Allows, W: Write>(
         audit,
         lost,
         gathered,
-    } = join_each(rt, alloc, monitor, handles, writer);
+    } = join_each(context, monitor, handles, writer);
     learn_of_all(monitor, gathered);
     outcome?;
-    write_audit(alloc, writer, audit.as_slice(), lost)
+    write_audit(context.alloc, writer, audit.as_slice(), lost)
 }
 
 /// Gives each domain its own thread, with its part, and writes what they print: the lines of each domain as it is
@@ -351,25 +356,25 @@ pub fn run_each<'a, R: Threads + Wait + Sync, P: Allows + Sync, G: Gate + Sync, 
 ) -> Result<(), RunFault>
     requires ready { AreReady P.may monitor.now domains.items parts.now }
     requires first { BeginsFirst (words_of monitor.now) parts.now }
-    ensures { Wrote P.may (AreJobsOf monitor.now (is_some context.now.log) parts.now)
+    ensures { Wrote P.may (G.refuses context.now.gate.now) (AreJobsOf monitor.now (is_some context.now.log) parts.now)
         (W.contents writer.old) (W.contents writer.new) result }
 {
     let start = OnceLock::new();
     let start = &start;
-    let (rt, alloc) = (context.rt, context.alloc);
     let ReturnedWriter { writer, outcome } = thread::scope(
         thread::scope_env(),
-        rt,
+        context.rt,
         move |scope| -> ReturnedWriter<'_, W>
             requires ready { AreReady P.may monitor.now domains.items parts.now }
             requires first { BeginsFirst (words_of monitor.now) parts.now }
             ensures same { result.writer.ghost_name ≡ writer.entry.ghost_name }
-            ensures text { Wrote P.may (AreJobsOf monitor.entry.now (is_some context.entry.now.log) parts.entry.now)
+            ensures text { Wrote P.may (G.refuses context.entry.now.gate.now)
+                (AreJobsOf monitor.entry.now (is_some context.entry.now.log) parts.entry.now)
                 (W.contents writer.entry.now) (W.contents result.writer.now) result.outcome }
         {
             let started = start_each(scope, context, monitor, domains, parts, start);
             let _ = start.try_set(started.refused.is_none());
-            let outcome = write_each(rt, alloc, monitor, started, writer);
+            let outcome = write_each(context, monitor, started, writer);
             ReturnedWriter { writer, outcome }
         },
     );
@@ -396,7 +401,8 @@ pub fn run_lists<'a, R: Threads + Wait + Sync, P: Allows + Drop + Sync, G: Gate 
     requires some { 1 ≤ length config.domains.items }
     requires generation { config.first_gen ≤ LAST_GENERATION }
     requires each { map (λ p. p.dom) parts.now ≡ map (λ d. d.id) config.domains.items }
-    ensures { Wrote P.may (AreUnder config rights flags (is_some context.now.log) parts.now)
+    ensures { Wrote P.may (G.refuses context.now.gate.now)
+        (AreUnder config rights flags (is_some context.now.log) parts.now)
         (W.contents writer.old) (W.contents writer.new) result }
 {
     match Monitor::with_flags(context.alloc, config, rights, flags) {

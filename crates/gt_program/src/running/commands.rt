@@ -4,7 +4,7 @@ ghost use Rattle.gt_text.specs.Streams.{OfInput};
 ghost use Rattle.gt_file_commands.specs.Working.{known_input, Does, Works};
 ghost use Rattle.gt_file_commands.specs.declared.outcome.Outcome.TheVariants.{No};
 ghost use Rattle.gt_commands.specs.declared.invocation.Format.{Format};
-ghost use Rattle.gt_program.specs.Runs.{RanAs, RunsDomains};
+ghost use Rattle.gt_program.specs.Runs.{RanAs, RunsDomains, no_flag};
 
 use super::formats::RunSettings;
 use super::reasons::run_with_reasons;
@@ -27,7 +27,7 @@ fn log_for<'l>(audit: bool, log: &'l SharedLog) -> Option<&'l SharedLog>
 #[tactic(auto, using(crate::proofs::RunLemmas::done_so, crate::proofs::RunLemmas::failed_so, crate::proofs::RunLemmas::not_begun))]
 fn ending_of(ended: Result<(), RunFault>) -> Result<Outcome, Failure>
     ensures { (format : Format) → (audited : Bool) → (input : List ℕ) → (old new : Option (List ℕ)) →
-        RanAs format audited input old new ended → RunsDomains format audited input old new result }
+        RanAs no_flag format audited input old new ended → RunsDomains format audited input old new result }
 {
     match ended {
         Ok(()) => Ok(Outcome::Yes),

@@ -30,7 +30,8 @@ pub(crate) fn run_as<R: Threads + Wait + Sync, I: Read, W: Write, G: Gate + Sync
     out: &mut W,
 ) -> Result<(), RunFault>
     ensures { OfInput (I.remaining reader.old) (λ input.
-        RanAs settings.now.format (is_some settings.now.log) input (W.contents out.old) (W.contents out.new) result) }
+        RanAs (G.refuses settings.now.gate.now) settings.now.format (is_some settings.now.log) input
+        (W.contents out.old) (W.contents out.new) result) }
 {
     match settings.format {
         Format::Text => run(

@@ -53,7 +53,7 @@ pub(crate) fn run_json<R: Threads + Wait + Sync, I: Read, W: Write, G: Gate + Sy
     log: Option<&SharedLog>,
     gate: &G,
 ) -> Result<(), RunFault>
-    ensures text { ForInput (I.remaining reader.old) (λ input. RanAsJson input (is_some log.entry))
+    ensures text { ForInput (I.remaining reader.old) (λ input. RanAsJson (G.refuses gate.now) input (is_some log.entry))
         (W.contents writer.old) (W.contents writer.new) result }
     ensures read { ConsumesAtMost READ_LIMIT (I.remaining reader.old) (I.remaining reader.new) }
 {

@@ -45,7 +45,8 @@ pub(crate) fn run_with_reasons<R: Threads + Wait + Sync, I: Read, W: Write, G: G
     reasons: &mut Reasons,
 ) -> Result<(), RunFault>
     ensures { OfInput (I.remaining reader.old) (λ input.
-        RanAs settings.now.format (is_some settings.now.log) input (W.contents out.old) (W.contents out.new) result) }
+        RanAs (G.refuses settings.now.gate.now) settings.now.format (is_some settings.now.log) input
+        (W.contents out.old) (W.contents out.new) result) }
 {
     if !reasons.are_asked() {
         return run_as(settings, reader, out);

@@ -3,4 +3,4 @@ use Rattle.gt_order.proofs.RunTexts.{input-so}
 use Rattle.gt_order.proofs.running.run.Goals as goal
 
 pub returns-clause-text : goal.returns-clause-text
-returns-clause-text g c = input-so _ _ ReadsAsRun _ _ _ c.run.ensures.text
+returns-clause-text g c = input-so (g.G.Gate.refuses c.args.gate.now) _ _ ReadsAsRun _ _ _ c.run.ensures.text

@@ -16,9 +16,9 @@ tasks-init g c = (c.requires.monitor, refl, come_none g.P.Allows.may _ _ _ _ _ c
 pub returns-then-not-has_passed-clause-served : goal.returns-then-not-has_passed-clause-served
 returns-then-not-has_passed-clause-served g c =
     let within : c.tasks.task-index < length c.args.job.part.tasks.now = search rules in
-    let same = c.if-not-has_passed.ensures.passed in
-    gate_stops g.P.Allows.may (λ v. v.items) c.args.job _ _ _ _ _ _ _ _ _ _ _ _ within c.task-item.is (eq-eqb _ _ c.if-task-dom.true) c.in-Await.is c.gate_line.ensures
-    (subst (λ (d : Domain). HasCome g.P.Allows.may c.args.job c.args.domain.now.domain c.tasks.whole c.tasks.task-index c.tasks.text.items d c.tasks.labels c.tasks.logger) (sym same) c.tasks.invariant.2)
+    let refused = c.if-not-has_passed.ensures.passed in
+    gate_stops g.P.Allows.may (g.G.Gate.refuses c.args.gate.now) (λ v. v.items) c.args.job _ _ _ _ _ _ _ _ _ _ _ _ within c.task-item.is (eq-eqb _ _ c.if-task-dom.true) c.in-Await.is refused.1 c.gate_line.ensures
+    (subst (λ (d : Domain). HasCome g.P.Allows.may c.args.job c.args.domain.now.domain c.tasks.whole c.tasks.task-index c.tasks.text.items d c.tasks.labels c.tasks.logger) (sym refused.0) c.tasks.invariant.2)
     c.has_appended.ensures.appended c.has_appended.ensures.kept
 
 pub tasks-preserved : goal.tasks-preserved
@@ -55,4 +55,4 @@ returns-clause-same g c = (c.tasks.invariant.0 ∙ sym c.requires.monitor, c.tas
 
 pub returns-clause-served : goal.returns-clause-served
 returns-clause-served g c =
-    list_ends g.P.Allows.may c.args.job _ _ _ _ _ _ _ (omega (arith, c.tasks-test.false, c.tasks.auto.task-index-end)) c.tasks.invariant.2
+    list_ends g.P.Allows.may (g.G.Gate.refuses c.args.gate.now) c.args.job _ _ _ _ _ _ _ (omega (arith, c.tasks-test.false, c.tasks.auto.task-index-end)) c.tasks.invariant.2

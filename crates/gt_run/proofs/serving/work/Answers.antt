@@ -24,12 +24,12 @@ returns g c =
     let own = c.finish-left.ensures.left.seat.dom ∙ (c.serve-whole.ensures.same.1 ∙ c.requires.1.own) in
     elim c.match-logger.branch [
       | in-Some w ↦ rw w.audit-is (
-        came_told g.P.Allows.may c.args.job c.args.domain c.serve-whole.new.domain.domain c.finish-left.result.trail c.serve-whole.result c.serve-whole.new.logger _ _
+        came_told g.P.Allows.may (g.G.Gate.refuses c.args.gate.now) c.args.job c.args.domain c.serve-whole.new.domain.domain c.finish-left.result.trail c.serve-whole.result c.serve-whole.new.logger _ _
             c.requires w.in-Some.is leaves.records leaves c.serve-whole.ensures.served w.audit.ensures w.lost.ensures,
         (seat, own),
       )
       | in-None w ↦ rw w.audit-is (
-        came_plain g.P.Allows.may c.args.job c.args.domain c.serve-whole.new.domain.domain c.serve-whole.result c.serve-whole.new.logger _
+        came_plain g.P.Allows.may (g.G.Gate.refuses c.args.gate.now) c.args.job c.args.domain c.serve-whole.new.domain.domain c.serve-whole.result c.serve-whole.new.logger _
             c.requires w.in-None.is leaves c.serve-whole.ensures.served w.new-in-None.ensures.items refl,
         (seat, own),
       )

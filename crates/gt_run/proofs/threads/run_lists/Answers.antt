@@ -20,12 +20,12 @@ run_each-requires g c = (
 
 pub returns-in_ok-domains-in-Ok : goal.returns-in_ok-domains-in-Ok
 returns-in_ok-domains-in-Ok g c =
-    wrote_as g.P.Allows.may _ _ _ _ _ (λ jobs are. (_, c.in-Ok.ensures.run.0, c.in-Ok.ensures.ok, c.in-Ok.ensures.run.1, c.in-Ok.ensures.flags, c.in-Ok.ensures.frames, are)) c.run_each.ensures
+    wrote_as g.P.Allows.may (g.G.Gate.refuses c.args.context.now.gate.now) _ _ _ _ _ (λ jobs are. (_, c.in-Ok.ensures.run.0, c.in-Ok.ensures.ok, c.in-Ok.ensures.run.1, c.in-Ok.ensures.flags, c.in-Ok.ensures.frames, are)) c.run_each.ensures
 
 pub returns-in_err-domains-in-Ok : goal.returns-in_err-domains-in-Ok
 returns-in_err-domains-in-Ok g c =
     let p = err_from_is_err_and c.from_residual.result c.from_residual.ensures.1 in
-    rw p.1 (wrote_none g.P.Allows.may _ _ _ p.2)
+    rw p.1 (wrote_none g.P.Allows.may (g.G.Gate.refuses c.args.context.now.gate.now) _ _ _ p.2)
 
 pub returns-in-Err-Memory : goal.returns-in-Err-Memory
-returns-in-Err-Memory g c = wrote_none g.P.Allows.may _ _ _ c.from.ensures
+returns-in-Err-Memory g c = wrote_none g.P.Allows.may (g.G.Gate.refuses c.args.context.now.gate.now) _ _ _ c.from.ensures

@@ -6,7 +6,7 @@ use Rattle.gt_file_commands.proofs.FormatLemmas.{in_format}
 use Rattle.gt_program.proofs.running.formats.run_as.Goals as goal
 
 pub returns-in-Text : goal.returns-in-Text
-returns-in-Text g c = in_format (λ (f : Format) (input : List ℕ). RanAs f (is_some c.args.settings.now.log) input) _ _ _ _ _ _ c.in-Text.is c.run.ensures.text
+returns-in-Text g c = in_format (λ (f : Format) (input : List ℕ). RanAs (g.G.Gate.refuses c.args.settings.now.gate.now) f (is_some c.args.settings.now.log) input) _ _ _ _ _ _ c.in-Text.is c.run.ensures.text
 
 pub returns-in-Json : goal.returns-in-Json
-returns-in-Json g c = in_format (λ (f : Format) (input : List ℕ). RanAs f (is_some c.args.settings.now.log) input) _ _ _ _ _ _ c.in-Json.is c.run_json.ensures.text
+returns-in-Json g c = in_format (λ (f : Format) (input : List ℕ). RanAs (g.G.Gate.refuses c.args.settings.now.gate.now) f (is_some c.args.settings.now.log) input) _ _ _ _ _ _ c.in-Json.is c.run_json.ensures.text

@@ -10,5 +10,5 @@ use Rattle.gt_program.proofs.running.json.run_json.Goals as goal
 
 pub returns-clause-text : goal.returns-clause-text
 returns-clause-text g c =
-    passed _ Run (runs.Play plays.Memory) (runs.Play plays.Write) (λ (input : List ℕ). Ran (is_some c.args.log) (ReadsAsRun input)) c.new-text.result.items c.run-outcome.new.writer.items c.as_slice.result.now _ _ _ _
+    passed _ Run (runs.Play plays.Memory) (runs.Play plays.Write) (λ (input : List ℕ). Ran (g.G.Gate.refuses c.args.gate.now) (is_some c.args.log) (ReadsAsRun input)) c.new-text.result.items c.run-outcome.new.writer.items c.as_slice.result.now _ _ _ _
     c.new-text.ensures.items c.as_slice.ensures.value c.run-outcome.ensures.text c.pass_run.ensures
