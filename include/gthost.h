@@ -65,8 +65,9 @@ extern "C" {
  * must be `count` of them: the handle at each index gets the domain of the settings at that index.
  *
  * Returns GTHOST_FAULT_NONE if the run started. Otherwise the fault gives the reason, and `out` is unchanged: the
- * handles are tested first, then the policy, the labels, and the other settings in their order. gthost_start is
- * gthost_start_at with a test for null pointers.
+ * handles are tested first, then the policy, the labels, and the other settings in their order. An allocation that
+ * fails is reported at once, after the test of the handles. gthost_start is gthost_start_at with a test for null
+ * pointers.
  */
 struct gthost_fault gthost_start_at(const struct gthost_settings *settings, size_t count, uint32_t first_gen,
                                     uint32_t run, const uint8_t *policy, size_t policy_len,
