@@ -374,8 +374,8 @@ static inline struct gthost_found_record gthost_record(struct gthost_domain *dom
 }
 
 /*
- * Drops all records of the domain, and keeps their room: call it when gthost_record has read them. The answer has the
- * number of records, and the number lost before. Both counts begin again at 0.
+ * Drops all records of the domain, and keeps their room, beside the room that was free: call it when gthost_record has
+ * read them. The answer has the number of records, and the number lost before. Both counts begin again at 0.
  */
 static inline struct gthost_answer gthost_take_records(struct gthost_domain *domain)
 {
