@@ -68,8 +68,9 @@ extern "C" {
  * index gets the domain of the settings at that index.
  *
  * Returns GTHOST_FAULT_NONE if the run started. Otherwise the fault gives the reason, and `out` is unchanged: the
- * handles are tested first, then the policy, the labels, and the other settings in their order. gthost_start is
- * gthost_start_at with a test for null pointers.
+ * handles are tested first, then the policy, the labels, and the other settings in their order. An allocation that
+ * fails is reported at once, after the test of the handles. gthost_start is gthost_start_at with a test for null
+ * pointers.
  */
 struct gthost_fault gthost_start_at(const struct gthost_settings *settings, size_t count, uint32_t first_gen,
                                     uint32_t run, const uint8_t *policy, size_t policy_len,
@@ -384,8 +385,9 @@ static inline struct gthost_found_record gthost_record(struct gthost_domain *dom
 }
 
 /*
- * Drops all records of the domain, and keeps their room: call it when gthost_record has read them. The answer
- * (GTHOST_TAKEN) has the number of records, and the number lost before. Both counts begin again at 0.
+ * Drops all records of the domain, and keeps their room, beside the room that was free: call it when gthost_record has
+ * read them. The answer (GTHOST_TAKEN) has the number of records, and the number lost before. Both counts begin again at
+ * 0.
  */
 static inline struct gthost_answer gthost_take_records(struct gthost_domain *domain)
 {

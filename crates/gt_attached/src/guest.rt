@@ -75,7 +75,7 @@ impl<P: Allows + Drop> Drop for AttachedDomain<P> {
 
 impl<P: Allows + Drop> AttachedDomain<P> {
     ghost use Rattle.std.specs.Prelude.{◌≡◌, ◌≤◌, Err, IsSome, None, OnOk, OnErr, is_some};
-    ghost use Rattle.gt_audit.specs.Trails.{HasNone, AppendsRecord};
+    ghost use Rattle.gt_audit.specs.Trails.{HasNone, AppendsRecord, KeepsRoom};
     ghost use Rattle.gt_audit.specs.declared.pieces.TheConstants.{MOST_RESERVED};
     ghost use Rattle.gt_audit.specs.declared.record.Hypercall.TheVariants as Hypercall;
     ghost use Rattle.gt_calls.specs.declared.held.HeldPin.{HeldPin as Mapping};
@@ -332,6 +332,7 @@ impl<P: Allows + Drop> AttachedDomain<P> {
         ensures bound { OnOk result (records ≤ MOST_RESERVED) }
         ensures refused { OnErr result (self.new.domain ≡ self.old.domain) }
         ensures room { OnOk result (records ≤ (trail_of self.new.domain).room) }
+        ensures grows { (trail_of self.old.domain).room ≤ (trail_of self.new.domain).room }
         ensures kept { self.new.domain ≡ with_trail self.old.domain
             (record (trail_of self.old.domain) { room = (trail_of self.new.domain).room }) }
     {
@@ -431,13 +432,15 @@ impl<P: Allows + Drop> AttachedDomain<P> {
         self.domain.status(&self.monitor, gref)
     }
 
-    /// Drops the domain's records, and keeps their room. Returns the number of records, and the number lost before.
+    /// Drops the domain's records. Keeps the room that they took, and the room that was free. Returns the number of
+    /// records, and the number lost before.
     pub fn take_records(&mut self, alloc: Global) -> TakenCounts
         requires idle { self.old.copying ≡ None }
         ensures stays { StaysIdle self.old self.new }
         ensures taken { result ≡ taken_of (trail_of self.old.domain) }
         ensures emptied { HasNone (trail_of self.new.domain) }
         ensures bound { (trail_of self.new.domain).most ≡ (trail_of self.old.domain).most }
+        ensures room { KeepsRoom (trail_of self.old.domain) (trail_of self.new.domain) }
         ensures kept { self.new.domain ≡ with_trail self.old.domain (trail_of self.new.domain) }
     {
         let mut records = self.domain.take_records(Trail::new(alloc));

@@ -19,6 +19,10 @@ silent = record { records = []; lost = 0; most = 2 ^ 64 - 1; room = 0 }
 abbrev pub HasNone : TrailState → Type 0
 HasNone t = (t.records ≡ []) × (t.lost ≡ 0)
 
+-- the trail has room for as many records as it had, and for as many more as it had room for
+abbrev pub KeepsRoom : TrailState → TrailState → Type 0
+KeepsRoom old new = length old.records + old.room ≤ new.room
+
 -- what was taken of a trail and what is left of it are together all that it had
 pub record ArePartsOf (whole taken left : TrailState) : Type 0 where
   pub records : taken.records ++ left.records ≡ whole.records

@@ -211,7 +211,7 @@ impl Model for Pieces {
 }
 
 impl Pieces {
-    ghost use Rattle.std.specs.Prelude.{◌≡◌, ◌≤◌, ◌+◌, ◌++◌, ◌∷◌, [], OnErr, OnOk, slice_get};
+    ghost use Rattle.std.specs.Prelude.{◌≡◌, ◌≤◌, ◌+◌, ◌++◌, ◌∷◌, [], OnErr, OnOk, length, slice_get};
     ghost use Rattle.gt_audit.specs.declared.pieces.TheConstants.{MOST_RESERVED};
 
     /// Returns an empty list. It does not allocate.
@@ -251,10 +251,10 @@ impl Pieces {
         }
     }
 
-    /// Drops all records, and keeps their room.
+    /// Drops all records, and keeps their room beside the room that was free.
     pub(crate) fn clear(&mut self)
         ensures records { self.new.records ≡ [] }
-        ensures room { self.old.room ≤ self.new.room }
+        ensures room { length self.old.records + self.old.room ≤ self.new.room }
     {
         empty(&mut self.pieces);
         self.at = 0;

@@ -47,7 +47,7 @@ fn count_lost(lost: &mut u64)
 
 impl Trail {
     ghost use Rattle.std.specs.Prelude.{◌≡◌, ◌==◌, ◌≤◌, OnErr, OnOk, IfOk, length, slice_get};
-    ghost use Rattle.gt_audit.specs.Trails.{silent, ArePartsOf, HasNone, AppendsRecord};
+    ghost use Rattle.gt_audit.specs.Trails.{silent, ArePartsOf, HasNone, AppendsRecord, KeepsRoom};
     ghost use Rattle.gt_audit.specs.declared.pieces.TheConstants.{MOST_RESERVED};
 
     /// Returns a trail with no records and no bound. It does not allocate.
@@ -143,11 +143,11 @@ impl Trail {
         self.lost
     }
 
-    /// Drops all records and the count of lost ones, and keeps the room.
+    /// Drops all records and the count of lost ones. Keeps the room that they took, and the room that was free.
     pub fn clear(&mut self)
         ensures emptied { HasNone self.new }
         ensures bound { self.new.most ≡ self.old.most }
-        ensures room { self.old.room ≤ self.new.room }
+        ensures room { KeepsRoom self.old self.new }
     {
         self.pieces.clear();
         self.len = 0;

@@ -1,12 +1,15 @@
 -- The handles of a run that started.
 use Rattle.std.proofs.Common.{◌≡◌, ℕ, ◌+◌, ◌<◌, ◌∙◌, Bool, true, false, ◌||◌, refl, sym, ap, zero, suc, List, [], ◌∷◌, ◌++◌}
+use Rattle.std.proofs.Common.{inl, inr}
+use mathlib.Core.Bool.{true≢false}
 use Rattle.std.proofs.Common.{length, map, take, get_or, add-one, arith, Option, None}
 use Rattle.std.proofs.Math.ListN.{set}
 use Rattle.std.proofs.lemmas.List.{length-map}
 use Rattle.std.proofs.Math.Seq.{take-suc, take-suc-set}
 use Rattle.std.specs.List.{list_any}
 use Rattle.std.specs.Prelude.{slice_index_or}
-use Rattle.gt_c.specs.Starting.{domain_of_handle, holding}
+use Rattle.gt_start.specs.declared.settings.DomainSettings.{DomainSettings}
+use Rattle.gt_c.specs.Starting.{AreWrong, domain_of_handle, holding}
 use Rattle.gt_c.specs.declared.handle.DomainHandle.{DomainHandle}
 use Rattle.gt_c.specs.declared.here.CDomain.{CDomain}
 
@@ -24,6 +27,12 @@ pub all-idle : (hs : List DomainHandle) → list_any (λ h. h.is_live) hs ≡ fa
 all-idle [] e k d lt = absurd (omega (arith, lt))
 all-idle (h ∷ hs) e zero d lt = h.idle (or-left h.is_live (list_any (λ x. x.is_live) hs) e)
 all-idle (h ∷ hs) e (suc k) d lt = all-idle hs (or-right h.is_live (list_any (λ x. x.is_live) hs) e) k d (omega (arith, lt))
+
+-- the handles are right, if there is one for each domain and none is live
+pub are-right : (settings : List DomainSettings) (handles : List DomainHandle) → length handles ≡ length settings
+    → list_any (λ h. h.is_live) handles ≡ false → ¬ AreWrong settings handles
+are-right settings handles same none (inl differs) = differs same
+are-right settings handles same none (inr live) = true≢false (sym live ∙ none)
 
 map-append : {A B : Type 0} (f : A → B) (xs ys : List A) → map f (xs ++ ys) ≡ map f xs ++ map f ys
 map-append f [] ys = refl

@@ -1,7 +1,7 @@
 -- The answer of an export, for the call that it made.
 use Rattle.std.specs.Prelude.{◌≡◌, ◌≤◌, ◌⊎◌, ℕ, List, Option, Some, None, IsSome, Result, Ok, Err, OnOk, OnErr}
 use Rattle.gt_c.specs.Prelude.{GrantRef, DomId, Memory, Size, Denial, Table, may, Hypercall, Kept}
-use Rattle.gt_c.specs.Prelude.{HasNone, AppendsRecord, CallResult, Mapped, Request, Name, Domain}
+use Rattle.gt_c.specs.Prelude.{HasNone, AppendsRecord, KeepsRoom, CallResult, Mapped, Request, Name, Domain}
 use Rattle.gt_c.specs.Prelude.{Answered, AnswersQuietly}
 use Rattle.gt_c.specs.Prelude.{AnswersRecorded, KeepsPinned, Leaves, Departure, Resets, taken_of}
 use Rattle.gt_c.specs.Prelude.{MapAnswered, mapping_reply, subject_of, record_of_result, verdict_of, Removes, encoded}
@@ -134,7 +134,7 @@ outcome_reserved (Ok done) = outcomes.Done
 outcome_reserved (Err refused) = outcomes.NoMemory
 
 -- there is room for this many records, at most 2^24, if the answer is Ok, and nothing else changed; otherwise nothing
--- changed at all
+-- changed at all; the room never becomes less
 pub record Reserves (records : ℕ) (answer : EncodedAnswer) (d e : CDomain) : Type 0 where
   pub result : Result (Unit {0}) Memory
   pub encodes : answer ≡ encoded (outcome_reserved result)
@@ -142,6 +142,7 @@ pub record Reserves (records : ℕ) (answer : EncodedAnswer) (d e : CDomain) : T
   pub bound : OnOk result (records ≤ MOST_RESERVED)
   pub refused : OnErr result (e.guest.domain ≡ d.guest.domain)
   pub room : OnOk result (records ≤ e.guest.domain.trail.room)
+  pub grows : d.guest.domain.trail.room ≤ e.guest.domain.trail.room
   pub kept : e.guest.domain ≡ record d.guest.domain {
     trail =
         record d.guest.domain.trail { room = e.guest.domain.trail.room };
@@ -185,12 +186,13 @@ ResetsGuest answer None after = (after ≡ None) × (answer ≡ encoded outcomes
 ResetsGuest answer (Some d) None = ⊥
 ResetsGuest answer (Some d) (Some e) = KeepsRun d e × MakesReady d.guest e.guest answer
 
--- the records of a domain were dropped, the answer encodes their number and the number lost before, and nothing else
--- changed
+-- the records of a domain were dropped, the answer encodes their number and the number lost before, their room is kept,
+-- and nothing else changed
 abbrev pub TakesAll : EncodedAnswer → CDomain → CDomain → Type 0
 TakesAll answer d e =
     (answer ≡ encoded (outcomes.Taken (taken_of d.guest.domain.trail))) × StaysIdle d.guest e.guest
     × HasNone e.guest.domain.trail × (e.guest.domain.trail.most ≡ d.guest.domain.trail.most)
+    × KeepsRoom d.guest.domain.trail e.guest.domain.trail
     × (e.guest.domain ≡ record d.guest.domain { trail = e.guest.domain.trail })
 
 -- the reference with this number, and the domain

@@ -4,7 +4,7 @@ pub use Rattle.gt_start.specs.Beginning.{Begins, IsFaultOf, may}
 pub use Rattle.gt_start.specs.Faults.{no_fault, wrong_handles}
 pub use Rattle.gt_start.specs.declared.faults.EncodedFault.{EncodedFault}
 pub use Rattle.gt_start.specs.declared.settings.DomainSettings.{DomainSettings}
-pub use Rattle.gt_audit.specs.Trails.{HasNone, AppendsRecord}
+pub use Rattle.gt_audit.specs.Trails.{HasNone, AppendsRecord, KeepsRoom}
 pub use Rattle.gt_audit.specs.declared.record.Hypercall.{Hypercall}
 pub use Rattle.gt_audit.specs.declared.record.Record.{Record as Kept}
 pub use Rattle.gt_c.specs.declared.copies.CopySettings.{CopySettings}

@@ -1,11 +1,10 @@
 -- The start of a run for C.
-use Rattle.std.specs.Prelude.{◌≡◌, ◌≢◌, ◌⊎◌, ℕ, true, List, Option, Some, Ok, length, map}
+use Rattle.std.specs.Prelude.{◌≡◌, ◌≢◌, ◌⊎◌, ℕ, true, List, Option, Some, length, map}
 use Rattle.std.specs.List.{list_any}
 use Rattle.gt_c.specs.Prelude.{Begins, DomainSettings, EncodedFault, DomainHandle, CDomain, IsFaultOf, Seated, Table}
 use Rattle.gt_c.specs.Prelude.{no_fault, wrong_handles}
-use Rattle.gt_start.specs.Beginning.{IsNameFault}
+use Rattle.gt_start.specs.Beginning.{IsNameFault, IsPolicy}
 use Rattle.gt_policy.specs.Allowing.{Meaning, type_named}
-use Rattle.gt_policy.specs.Whole.{ReadsAs}
 use Rattle.gt_c.specs.declared.beginning.TypeReport.{TypeReport}
 
 -- the domain of a handle, if it has one
@@ -32,11 +31,11 @@ pub record Starts (settings : List DomainSettings) (first_gen run : ℕ) (policy
   pub begun : Begins settings first_gen policy guests
   pub handed : map domain_of_handle handles ≡ map (λ g. holding (here_of run g)) guests
 
--- why no run started
+-- why no run started: the handles are wrong; or they are right, and the text, a label or the configuration has a fault
 abbrev pub IsStartFault : List DomainSettings → ℕ → List ℕ → List DomainHandle → EncodedFault → Type 0
 IsStartFault settings first_gen policy handles fault =
     ((fault ≡ wrong_handles) × AreWrong settings handles)
-    ⊎ IsFaultOf settings first_gen policy fault
+    ⊎ ((¬ AreWrong settings handles) × IsFaultOf settings first_gen policy fault)
 
 -- a run started; or none did, the fault gives the reason, and the handles are unchanged
 abbrev pub StartsWith : List DomainSettings → ℕ → ℕ → List ℕ → EncodedFault → List DomainHandle → List DomainHandle → Type 0
@@ -48,5 +47,5 @@ StartsWith settings first_gen run policy fault old new =
 abbrev pub ReportsType : List ℕ → List ℕ → TypeReport → Type 0
 ReportsType policy name report =
     ((report.fault ≡ no_fault)
-    × ((m : Meaning) × ReadsAs policy (Ok m) × (type_named m.types name ≡ Some (record { 0 = report.label }))))
+    × ((m : Meaning) × IsPolicy policy m × (type_named m.types name ≡ Some (record { 0 = report.label }))))
     ⊎ ((report.label ≡ 0) × IsNameFault policy name report.fault)

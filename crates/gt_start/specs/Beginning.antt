@@ -41,6 +41,14 @@ IsSetBy settings first_gen c = (c.domains.items ≡ map domain_set settings) × 
 abbrev pub is_past : ℕ → DomainSettings → Bool
 is_past types s = nat_le types s.label
 
+-- each label is below the number of types
+abbrev pub AreTypes : ℕ → List DomainSettings → Type 0
+AreTypes types settings = position (is_past types) settings ≡ None
+
+-- the text is UTF-8, and a policy with this meaning
+abbrev pub IsPolicy : List ℕ → Meaning → Type 0
+IsPolicy text m = IsUtf8 text × ReadsAs text (Ok m)
+
 -- a run started with these settings under this text: the attached domains are those of a new run of the settings'
 -- domains, whose labels are types of the policy, and whose rights are those of the text
 pub record Begins (settings : List DomainSettings) (first_gen : ℕ) (text : List ℕ) (guests : List (Seated Table))
@@ -48,17 +56,18 @@ pub record Begins (settings : List DomainSettings) (first_gen : ℕ) (text : Lis
   pub config : Config
   pub set : IsSetBy settings first_gen config
   pub meaning : Meaning
-  pub reads : ReadsAs text (Ok meaning)
-  pub labels : position (is_past (length meaning.types)) settings ≡ None
+  pub reads : IsPolicy text meaning
+  pub labels : AreTypes (length meaning.types) settings
   pub rights : Table
   pub allows : looks_up rights ≡ is_allowed meaning
   pub guests_are : AreNewGuests may config rights guests
 
--- the fault is that of a text: the text is not UTF-8, or this is its first fault, or allocation failed
+-- the fault is that of a text: the text is not UTF-8; or it is, and this is its first fault; or allocation failed
 abbrev pub IsTextFault : List ℕ → EncodedFault → Type 0
 IsTextFault text fault =
     (fault ≡ no_memory)
-    ⊎ (((¬ IsUtf8 text) × (fault ≡ no_text)) ⊎ ((f : TokenFault) × ReadsAs text (Err f) × (fault ≡ encoded_token f)))
+    ⊎ (((¬ IsUtf8 text) × (fault ≡ no_text))
+    ⊎ ((f : TokenFault) × IsUtf8 text × ReadsAs text (Err f) × (fault ≡ encoded_token f)))
 
 -- the fault is that of the first label that is not below the number of types
 abbrev pub IsLabelFault : ℕ → List DomainSettings → EncodedFault → Type 0
@@ -66,10 +75,13 @@ IsLabelFault types settings fault =
     (i : ℕ) × (s : DomainSettings) × (position (is_past types) settings ≡ Some i) × (slice_get settings i ≡ Some s)
     × (fault ≡ encoded_label (record { 0 = s.id }))
 
--- the fault is that of the first label that is not a type of the text's policy
+-- the text is a policy, and the fault is that of the first label that is not one of its types
 abbrev pub IsUnlabelled : List DomainSettings → List ℕ → EncodedFault → Type 0
-IsUnlabelled settings text fault =
-    (m : Meaning) × ReadsAs text (Ok m) × IsLabelFault (length m.types) settings fault
+IsUnlabelled settings text fault = (m : Meaning) × IsPolicy text m × IsLabelFault (length m.types) settings fault
+
+-- the text is a policy, and each label is one of its types
+abbrev pub AreLabelled : List DomainSettings → List ℕ → Type 0
+AreLabelled settings text = (m : Meaning) × IsPolicy text m × AreTypes (length m.types) settings
 
 -- the fault is the first one of the configuration with these settings, where no number of frames is too large
 abbrev pub IsLimitFault : List DomainSettings → ℕ → EncodedFault → Type 0
@@ -77,13 +89,16 @@ IsLimitFault settings first_gen fault =
     (c : Config) × (e : Config) × (f : ConfigFault) × IsSetBy settings first_gen c × HasOneFrameEach c e × IsFirstFault e f
     × (fault ≡ encoded_limit f)
 
--- why no run started with these settings under this text
+-- why no run started with these settings under this text: the text has a fault; or it has none, and a label has one; or
+-- neither has one, and the configuration has
 abbrev pub IsFaultOf : List DomainSettings → ℕ → List ℕ → EncodedFault → Type 0
 IsFaultOf settings first_gen text fault =
-    IsTextFault text fault ⊎ (IsUnlabelled settings text fault ⊎ IsLimitFault settings first_gen fault)
+    IsTextFault text fault
+    ⊎ (IsUnlabelled settings text fault
+    ⊎ (AreLabelled settings text × IsLimitFault settings first_gen fault))
 
--- why no type of this name was found: the text has a fault, or it has no type of this name
+-- why no type of this name was found: the text has a fault, or it is a policy without a type of this name
 abbrev pub IsNameFault : List ℕ → List ℕ → EncodedFault → Type 0
 IsNameFault text name fault =
     IsTextFault text fault
-    ⊎ ((m : Meaning) × ReadsAs text (Ok m) × (type_named m.types name ≡ None) × (fault ≡ no_type))
+    ⊎ ((m : Meaning) × IsPolicy text m × (type_named m.types name ≡ None) × (fault ≡ no_type))

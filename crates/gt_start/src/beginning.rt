@@ -1,8 +1,7 @@
 //! The start of a run.
-ghost use Rattle.std.specs.Prelude.{◌≡◌, length, IfOk, IfErr, Ok, Some};
+ghost use Rattle.std.specs.Prelude.{◌≡◌, length, IfOk, IfErr, Some};
 ghost use Rattle.gt_policy.specs.Allowing.{Meaning, PolicyShows, type_named};
-ghost use Rattle.gt_policy.specs.Whole.{ReadsAs};
-ghost use Rattle.gt_start.specs.Beginning.{Begins, IsFaultOf, IsNameFault, IsTextFault};
+ghost use Rattle.gt_start.specs.Beginning.{Begins, IsFaultOf, IsNameFault, IsPolicy, IsTextFault};
 
 use crate::faults::{EncodedFault, MEMORY, NO_TYPE, TEXT, config_fault, policy_fault};
 use crate::settings::{DomainSettings, configured, label_past};
@@ -13,7 +12,7 @@ use std::alloc::Global;
 
 // Parses the text of a policy.
 fn policy_of(alloc: Global, text: &[u8]) -> Result<Policy, EncodedFault>
-    ensures policy { IfOk result (λ policy. (m : Meaning) × ReadsAs text.now (Ok m) × PolicyShows policy m) }
+    ensures policy { IfOk result (λ policy. (m : Meaning) × IsPolicy text.now m × PolicyShows policy m) }
     ensures fault { IfErr result (IsTextFault text.now) }
 {
     let Ok(text) = str::from_utf8(text) else {
@@ -29,8 +28,8 @@ fn policy_of(alloc: Global, text: &[u8]) -> Result<Policy, EncodedFault>
 /// Each entry begins at the generation `first_gen`. The caller keeps the frames.
 ///
 /// # Errors
-/// The first fault of the policy's text; then the first label beyond the policy's types; then the first fault of the
-/// configuration; or `memory`, if allocation fails. No domain is left.
+/// The first fault of the policy's text. If it has none, the first label beyond the policy's types. If there is none,
+/// the first fault of the configuration. Or `memory`, at any time, if allocation fails. No domain is left.
 pub fn begin(
     alloc: Global,
     settings: &[DomainSettings],
@@ -66,7 +65,7 @@ pub fn begin(
 /// The first fault of the text; or that it declares no type of this name; or `memory`.
 pub fn type_of(alloc: Global, policy: &[u8], name: &[u8]) -> Result<TypeId, EncodedFault>
     ensures named { IfOk result (λ id.
-        (m : Meaning) × ReadsAs policy.now (Ok m) × (type_named m.types name.now ≡ Some id)) }
+        (m : Meaning) × IsPolicy policy.now m × (type_named m.types name.now ≡ Some id)) }
     ensures fault { IfErr result (IsNameFault policy.now name.now) }
 {
     let policy = match policy_of(alloc, policy) {

@@ -1,6 +1,6 @@
-use Rattle.std.proofs.Common.{◌∙◌, arith, inl, refl, sym}
+use Rattle.std.proofs.Common.{◌∙◌, arith, inl, inr, refl, sym}
 use Rattle.gt_c.specs.Starting.{here_of}
-use Rattle.gt_c.proofs.Starting.{all-idle, handed-over, same-length}
+use Rattle.gt_c.proofs.Starting.{all-idle, are-right, handed-over, same-length}
 use Rattle.gt_c.proofs.beginning.gthost_start_at.Goals as goal
 
 pub hand_out-requires : goal.hand_out-requires
@@ -11,6 +11,16 @@ hand_out-requires c =
       idle = all-idle c.args.out.now (sym c.is_any_live.ensures ∙ c.if-is_any_live.false);
       count = omega (arith, boxes, count, same);
     }
+
+pub returns-in-Err : goal.returns-in-Err
+returns-in-Err c =
+    let right = are-right c.args.settings.now c.args.out.now c.if-out-settings.false (sym c.is_any_live.ensures ∙ c.if-is_any_live.false) in
+    inr (refl, inr (right, c.in-Err.ensures.fault))
+
+pub returns-in_default : goal.returns-in_default
+returns-in_default c =
+    let right = are-right c.args.settings.now c.args.out.now c.if-out-settings.false (sym c.is_any_live.ensures ∙ c.if-is_any_live.false) in
+    inr (refl, inr (right, inl (inl refl)))
 
 pub returns : goal.returns
 returns c =

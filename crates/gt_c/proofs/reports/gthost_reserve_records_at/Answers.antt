@@ -14,5 +14,6 @@ returns c =
       bound = c.reserve_records.ensures.bound;
       refused = c.reserve_records.ensures.refused;
       room = c.reserve_records.ensures.room;
+      grows = c.reserve_records.ensures.grows;
       kept = c.reserve_records.ensures.kept;
     })

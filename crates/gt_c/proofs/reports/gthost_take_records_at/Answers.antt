@@ -10,4 +10,4 @@ pub returns : goal.returns
 returns c =
     let t = c.take_records-taken.ensures in
     made c.of.result (TakesAll c.of.result) (c.turned_away.ensures.may c.in_default.is) c.here_mut-here.ensures.value
-    (c.of.ensures ∙ ap (λ (x : Told). encoded (Taken x)) t.taken, t.stays, t.emptied, t.bound, t.kept)
+    (c.of.ensures ∙ ap (λ (x : Told). encoded (Taken x)) t.taken, t.stays, t.emptied, t.bound, t.room, t.kept)

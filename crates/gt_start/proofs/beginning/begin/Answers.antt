@@ -1,7 +1,6 @@
-use Rattle.std.proofs.Common.{◌≡◌, ◌∙◌, ℕ, None, ap, position, subst}
+use Rattle.std.proofs.Common.{◌∙◌, ap}
 use Rattle.gt_policy.specs.Allowing.{Allowed}
-use Rattle.gt_start.specs.Beginning.{is_past}
-use Rattle.gt_start.proofs.Telling.{of-settings, same-count}
+use Rattle.gt_start.proofs.Telling.{of-settings, of-types}
 use Rattle.gt_start.proofs.beginning.begin.Goals as goal
 
 pub returns-in-Ok-start-clause-begun : goal.returns-in-Ok-start-clause-begun
@@ -12,8 +11,7 @@ returns-in-Ok-start-clause-begun c =
       set = c.in-Ok-configured.ensures;
       meaning = said.0;
       reads = said.1;
-      labels = subst (λ (n : ℕ). position (is_past n) c.args.settings.now ≡ None) (c.count.ensures ∙ same-count policy said.0 said.2)
-          c.in_default.ensures;
+      labels = of-types c.args.settings.now policy said.0 c.count.result said.2 c.count.ensures c.in_default.ensures;
       rights = c.in-Ok-compile.rights;
       allows = c.in-Ok-compile.ensures ∙ ap (λ (a : Allowed). a.may) said.2;
       guests_are = c.in-Ok-start.ensures.guests;
@@ -21,5 +19,8 @@ returns-in-Ok-start-clause-begun c =
 
 pub returns-clause-fault : goal.returns-clause-fault
 returns-clause-fault c =
-    of-settings c.args.settings.now c.args.first_gen c.args.policy.now c.in-Ok-configured.config c.in-Err-start.refused
-    c.config_fault.result c.in-Ok-configured.ensures c.in-Err-start.ensures.err c.config_fault.ensures
+    let policy = c.in-Ok.policy in let said = c.in-Ok.ensures.policy in
+    let settings = c.args.settings.now in
+    of-settings settings c.args.first_gen c.args.policy.now c.in-Ok-configured.config c.in-Err-start.refused c.config_fault.result
+    (said.0, said.1, of-types settings policy said.0 c.count.result said.2 c.count.ensures c.in_default.ensures)
+    c.in-Ok-configured.ensures c.in-Err-start.ensures.err c.config_fault.ensures
