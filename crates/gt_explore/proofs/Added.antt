@@ -13,7 +13,7 @@ use Rattle.std.specs.List.Sorted.{IsPermutation}
 use Rattle.std.specs.declared.cmp.Ordering.TheVariants.{Less, Equal}
 use Rattle.gt_explore_search.specs.declared.exploring.FoundText.{FoundText}
 use Rattle.gt_explore.specs.Adding.{AddsOrder, IsAdded, last_compared}
-use Rattle.gt_explore_answers.specs.Texts.{AreDifferentTexts, IsApart, IsTextAmong, texts_of_orders}
+use Rattle.gt_explore_answers.specs.Texts.{AreAscending, AreDifferentTexts, IsApart, IsTextAmong, compared, texts_of_orders}
 
 -- what holds of what an option has
 pub some_holds : {X : Type 0} (P : X → Type 0) (o : Option X) (x : X) → IfSome o P → o ≡ Some x → P x

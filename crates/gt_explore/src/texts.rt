@@ -8,7 +8,7 @@ ghost use Rattle.gt_script.specs.Stuck.{AreNumbered};
 ghost use Rattle.gt_explore_replay.specs.Orders.{MayGive};
 ghost use Rattle.gt_explore_search.specs.declared.exploring.FoundText.{FoundText};
 ghost use Rattle.gt_explore.specs.Adding.{AddsOrder, last_compared};
-ghost use Rattle.gt_explore_answers.specs.Texts.{AreDifferentTexts, IsTextAmong, texts_of_orders};
+ghost use Rattle.gt_explore_answers.specs.Texts.{AreAscending, AreDifferentTexts, IsTextAmong, texts_of_orders};
 ghost use Rattle.gt_explore_answers.specs.Exploring.{AreTextsOf};
 ghost use Rattle.gt_explore_answers.specs.Outputs.{found_from};
 

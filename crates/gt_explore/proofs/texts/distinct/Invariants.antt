@@ -2,7 +2,7 @@ use Rattle.std.proofs.Common.{◌≡◌, ℕ, All, Some, slice_get}
 use Rattle.gt_script.specs.RunContents.{run_contents}
 use Rattle.gt_explore_replay.specs.Orders.{MayGive}
 use Rattle.gt_explore_search.specs.declared.exploring.FoundText.{FoundText}
-use Rattle.gt_explore_answers.specs.Texts.{texts_of_orders}
+use Rattle.gt_explore_answers.specs.Texts.{AreAscending, texts_of_orders}
 use Rattle.gt_explore.proofs.Added.{IsThere}
 use Rattle.gt_explore.proofs.texts.distinct.Given as goal
 
