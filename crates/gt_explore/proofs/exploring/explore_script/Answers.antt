@@ -9,4 +9,4 @@ returns-in_err-conditions g c =
     rw p.1 (explored_fault (run_contents c.args.script.now) c.args.asked.now _ p.0 _ c.in_err-conditions.ensures.fault p.2)
 
 pub returns-in-Err : goal.returns-in-Err
-returns-in-Err g c = explored_unmade (run_contents c.args.script.now) c.args.asked.now c.in-Err.fault _ c.made_as.ensures
+returns-in-Err g c = explored_unmade (run_contents c.args.script.now) c.args.asked.now c.in-Err.fault _ c.in-Err.ensures

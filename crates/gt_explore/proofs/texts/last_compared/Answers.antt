@@ -1,6 +1,6 @@
 use Rattle.std.proofs.Common.{◌≡◌, ◌∙◌, ◌+◌, ℕ, List, ap, arith, length, sym}
 use Rattle.gt_explore_search.specs.declared.exploring.FoundText.{FoundText}
-use Rattle.gt_explore.specs.Adding.{compared}
+use Rattle.gt_explore_answers.specs.Texts.{compared}
 use Rattle.gt_explore.proofs.Added.{compared_last}
 use Rattle.gt_explore.proofs.texts.last_compared.Goals as goal
 
