@@ -1,5 +1,5 @@
 -- What a contract sees of an attached domain, and how its copies begin and end.
-use Rattle.std.specs.Prelude.{◌≡◌, length, Option, Some, None, Result, Ok, Err}
+use Rattle.std.specs.Prelude.{◌≡◌, ◌⊎◌, length, Option, Some, None, Result, Ok, Err}
 use Rattle.gt_types.specs.declared.denial.Denial.{Denial}
 use Rattle.gt_audit.specs.Trails.{TrailState, AppendsRecord}
 use Rattle.gt_calls.specs.declared.action.CallResult.TheVariants.{Refused}
@@ -23,6 +23,10 @@ pub record Seated (P : Type 0) : Type 0 where
   pub monitor : Monitor P
   pub domain : Domain
   pub copying : Option PendingCopy
+
+-- a domain beside its monitor, in this copy if there is one
+abbrev pub seated : {P : Type 0} → Monitor P → Domain → Option PendingCopy → Seated P
+seated m d copying = record { monitor = m; domain = d; copying = copying }
 
 -- the domain came with this monitor, or is at the access of this copy
 abbrev pub StandsBy : {P : Type 0} → (P → AllowRelation) → Monitor P → Domain → Option PendingCopy → Type 0
@@ -64,6 +68,16 @@ pub record Leaves {P : Type 0} (may : P → AllowRelation) (m : Monitor P) (d : 
   pub left : Departed
   pub leaves : HasLeft (words_of m).layout closed left
   pub lost : remains.lost ≡ (trail_left left).lost
+
+-- the domain was in no copy, and is unchanged; or the copy that it was in was ended
+abbrev pub Settles : {P : Type 0} → Seated P → Seated P → Type 0
+Settles s t = ((s.copying ≡ None) × (t ≡ s)) ⊎ EndsAccess s t
+
+-- the domain left its run, after the end of its copy if it was in one, and this remains
+pub record LeavesSettled {P : Type 0} (may : P → AllowRelation) (s : Seated P) (remains : Departure) : Type 0 where
+  pub settled : Seated P
+  pub settles : Settles s settled
+  pub leaves : Leaves may settled.monitor settled.domain remains
 
 -- the number of records of a domain, and the number lost
 abbrev pub taken_of : TrailState → TakenCounts

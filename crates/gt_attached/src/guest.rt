@@ -1,7 +1,8 @@
 //! A domain together with its monitor.
-ghost use Rattle.std.specs.Prelude.{◌≡◌};
+ghost use Rattle.std.specs.Prelude.{◌≡◌, None};
 ghost use Rattle.gt_live.specs.Domains.{BelongsTo};
-ghost use Rattle.gt_attached.specs.Seated.{Leaves, StandsBy};
+ghost use Rattle.gt_attached.specs.Seated.{Leaves, LeavesSettled, Settles, StandsBy, seated};
+ghost use Rattle.gt_attached.specs.declared.answer.Departure.{Departure as Remains};
 
 use crate::answer::{Departure, TakenCounts};
 use gt_audit::{Record, Trail};
@@ -29,10 +30,11 @@ pub struct AttachedDomain<P: Allows + Drop> {
     copying: Option<PendingCopy>,
 }
 
-// Releases the pins of the copy that the domain is in, if it is in one.
+// Ends the copy that the domain is in, if it is in one.
 fn settle<P: Allows>(monitor: &Monitor<P>, domain: &mut Domain, copying: Option<PendingCopy>)
-    requires { StandsBy P.may monitor.now domain.old copying }
-    ensures { BelongsTo P.may monitor.now domain.new }
+    requires stands { StandsBy P.may monitor.now domain.old copying }
+    ensures mine { BelongsTo P.may monitor.now domain.new }
+    ensures settles { Settles (seated monitor.now domain.old copying) (seated monitor.now domain.new None) }
 {
     if let Some(halfway) = copying {
         domain.copy_end(monitor, halfway);
@@ -50,6 +52,16 @@ fn depart<P: Allows>(monitor: &Monitor<P>, domain: Domain) -> Departure
     Departure { lost, in_use }
 }
 
+// Does the same, after the end of the copy that the domain is in, if it is in one.
+fn leave<P: Allows>(monitor: &Monitor<P>, domain: Domain, copying: Option<PendingCopy>) -> Departure
+    requires { StandsBy P.may monitor.now domain copying }
+    ensures { LeavesSettled P.may (seated monitor.now domain copying) result }
+{
+    let mut domain = domain;
+    settle(monitor, &mut domain, copying);
+    depart(monitor, domain)
+}
+
 impl<P: Allows + Drop> Model for AttachedDomain<P> {
     ghost use Rattle.std.specs.Arc.{arc_value};
     ghost use Rattle.gt_attached.specs.Seated.{Seated, StandsBy};
@@ -62,14 +74,15 @@ impl<P: Allows + Drop> Model for AttachedDomain<P> {
 }
 
 impl<P: Allows + Drop> Drop for AttachedDomain<P> {
-    fn drop(self) {
+    fn drop(self)
+        ensures { (remains : Remains) × LeavesSettled P.may self remains }
+    {
         let AttachedDomain {
             monitor,
-            mut domain,
+            domain,
             copying,
         } = self;
-        settle(&monitor, &mut domain, copying);
-        let _ = depart(&monitor, domain);
+        let _ = leave(&monitor, domain, copying);
     }
 }
 

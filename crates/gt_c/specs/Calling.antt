@@ -3,9 +3,8 @@ use Rattle.std.specs.Prelude.{◌≡◌, ◌≤◌, ◌⊎◌, ℕ, List, Option
 use Rattle.gt_c.specs.Prelude.{GrantRef, DomId, Memory, Size, Denial, Table, may, Hypercall, Kept}
 use Rattle.gt_c.specs.Prelude.{HasNone, AppendsRecord, KeepsRoom, CallResult, Mapped, Request, Name, Domain}
 use Rattle.gt_c.specs.Prelude.{Answered, AnswersQuietly}
-use Rattle.gt_c.specs.Prelude.{AnswersRecorded, KeepsPinned, Leaves, Departure, Resets, taken_of}
+use Rattle.gt_c.specs.Prelude.{AnswersRecorded, KeepsPinned, LeavesSettled, Settles, Departure, Resets, taken_of}
 use Rattle.gt_c.specs.Prelude.{MapAnswered, mapping_reply, subject_of, record_of_result, verdict_of, Removes, encoded}
-use Rattle.gt_c.specs.Prelude.{EndsAccess}
 use Rattle.gt_c.specs.Prelude.{Seated, StaysIdle, EncodedAnswer, AttachedOutcome, CDomain}
 use Rattle.gt_attached.specs.declared.answer.AttachedOutcome.TheVariants as outcomes
 use Rattle.gt_audit.specs.declared.pieces.TheConstants.{MOST_RESERVED}
@@ -148,21 +147,11 @@ pub record Reserves (records : ℕ) (answer : EncodedAnswer) (d e : CDomain) : T
         record d.guest.domain.trail { room = e.guest.domain.trail.room };
   }
 
--- the domain is in no copy; or it was in one, which was ended
-abbrev pub Settles : Seated Table → Seated Table → Type 0
-Settles s t = (((s.copying ≡ None) × (t ≡ s))) ⊎ EndsAccess s t
-
--- the domain left the run, after the end of its copy if it was in one, and this remains
-pub record LeavesGuest (s : Seated Table) (remains : Departure) : Type 0 where
-  pub settled : Seated Table
-  pub settles : Settles s settled
-  pub leaves : Leaves may settled.monitor settled.domain remains
-
--- the same, and the answer encodes what remains
+-- the domain left the run, after the end of its copy if it was in one, and the answer encodes what remains
 pub record LeavesWith (s : Seated Table) (answer : EncodedAnswer) : Type 0 where
   pub remains : Departure
   pub encodes : answer ≡ encoded (outcomes.Left remains)
-  pub leaves : LeavesGuest s remains
+  pub leaves : LeavesSettled may s remains
 
 -- the domain of a handle left, and the answer encodes what remains; or the handle had none, and the answer is that
 abbrev pub Finishes : EncodedAnswer → Option CDomain → Option CDomain → Type 0

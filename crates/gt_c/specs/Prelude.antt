@@ -33,7 +33,7 @@ pub use Rattle.gt_live.specs.Mappings.{Removes}
 pub use Rattle.gt_live.specs.declared.domain.Domain.{Domain}
 pub use Rattle.gt_attached.specs.Encoding.{encoded}
 pub use Rattle.gt_attached.specs.Recording.{no_end, record_kept}
-pub use Rattle.gt_attached.specs.Seated.{BeginsAccess, EndsAccess, Leaves, Seated, StaysIdle, taken_of}
+pub use Rattle.gt_attached.specs.Seated.{BeginsAccess, EndsAccess, LeavesSettled, Seated, Settles, StaysIdle, taken_of}
 pub use Rattle.gt_attached.specs.declared.answer.EncodedAnswer.{EncodedAnswer}
 pub use Rattle.gt_attached.specs.declared.answer.AttachedOutcome.{AttachedOutcome}
 pub use Rattle.gt_attached.specs.declared.answer.Departure.{Departure}

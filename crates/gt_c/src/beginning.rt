@@ -1,7 +1,8 @@
 //! The start of a run, and how a domain leaves it.
 ghost use Rattle.std.specs.Prelude.{◌≡◌, All, length, map, IfOk, None};
 ghost use Rattle.std.specs.List.{list_any};
-ghost use Rattle.gt_c.specs.Calling.{Finishes, LeavesWith, MakesReady, ResetsGuest, Settles};
+ghost use Rattle.gt_c.specs.Calling.{Finishes, LeavesWith, MakesReady, ResetsGuest};
+ghost use Rattle.gt_attached.specs.Seated.{Settles};
 ghost use Rattle.gt_c.specs.Starting.{StartsWith, ReportsType, domain_of_handle, here_of, holding};
 
 use crate::handle::DomainHandle;

@@ -227,27 +227,29 @@ fn take_in<P: Allows>(monitor: &Monitor<P>, gathered: Option<Gathered>, left: De
     }
 }
 
-// Joins all threads in their order. Writes the lines of each domain as it is joined, unless something failed before.
-// Gathers what the domains left behind.
-fn join_each<'s, 'a, R: Threads + Wait, P: Allows, G: Gate, W: Write>(
-    context: &RunContext<'_, R, G>,
+// Joins all threads of this gate in their order. Writes the lines of each domain as it is joined, unless something
+// failed before. Gathers what the domains left behind.
+fn join_each<'s, 'a, R: Threads, P: Allows, G: Gate, W: Write>(
+    rt: &R,
+    alloc: Global,
+    gate: &G,
     monitor: &Monitor<P>,
     handles: Vec<PromisedHandle<Output, JobAtGate<'s, 'a, P, G>>>,
     writer: &mut W,
 ) -> Joined
     requires run { AreOnRun monitor.now (promised handles.items) }
-    requires gate { AreAtGate context.now.gate.now handles.items }
-    ensures joins { JoinsWhere (AreGathered (views_in result.gathered)) P.may (G.refuses context.now.gate.now)
+    requires gate { AreAtGate gate.now handles.items }
+    ensures joins { JoinsWhere (AreGathered (views_in result.gathered)) P.may (G.refuses gate.now)
         (promised handles.entry.items)
         result.audit.items result.lost (W.contents writer.old) (W.contents writer.new) result.outcome }
     ensures run { AreOfThisRun (words_of monitor.now) result.gathered }
 {
     let mut outcome = Ok(());
-    let mut audit = Vec::new(context.alloc);
+    let mut audit = Vec::new(alloc);
     let mut lost: u64 = 0;
     let mut gathered = None;
     'joins: for handle in handles {
-        let output = handle.join(context.rt);
+        let output = handle.join(rt);
         outcome = write_next(outcome, writer, &output);
         lost = lost.saturating_add(output.lost);
         let Output {
@@ -316,21 +318,23 @@ fn take_back<W>(writer: &mut W)
     ensures { writer.new ≡ writer.old }
 {}
 
-// Writes what the threads print, if each domain has one.
-fn write_each<'s, 'a, R: Threads + Wait, P: Allows, G: Gate, W: Write>(
-    context: &RunContext<'_, R, G>,
+// Writes what the threads of this gate print, if each domain has one.
+fn write_each<'s, 'a, R: Threads, P: Allows, G: Gate, W: Write>(
+    rt: &R,
+    alloc: Global,
+    gate: &G,
     monitor: &Monitor<P>,
     started: Started<'s, 'a, P, G>,
     writer: &mut W,
 ) -> Result<(), RunFault>
     requires run { (started.refused ≡ None) → AreOnRun monitor.now (promised started.handles.items) }
-    requires gate { (started.refused ≡ None) → AreAtGate context.now.gate.now started.handles.items }
-    ensures { WroteStarted P.may (G.refuses context.now.gate.now) started.entry.refused
+    requires gate { (started.refused ≡ None) → AreAtGate gate.now started.handles.items }
+    ensures { WroteStarted P.may (G.refuses gate.now) started.entry.refused
         (promised started.entry.handles.items) (W.contents writer.old) (W.contents writer.new) result }
 {
     let Started { handles, refused } = started;
     if let Some(refusal) = refused {
-        join_idle(context.rt, handles);
+        join_idle(rt, handles);
         return Err(RunFault::from(refusal));
     }
     let Joined {
@@ -338,10 +342,10 @@ fn write_each<'s, 'a, R: Threads + Wait, P: Allows, G: Gate, W: Write>(
         audit,
         lost,
         gathered,
-    } = join_each(context, monitor, handles, writer);
+    } = join_each(rt, alloc, gate, monitor, handles, writer);
     learn_of_all(monitor, gathered);
     outcome?;
-    write_audit(context.alloc, writer, audit.as_slice(), lost)
+    write_audit(alloc, writer, audit.as_slice(), lost)
 }
 
 /// Gives each domain its own thread, with its part, and writes what they print: the lines of each domain as it is
@@ -374,7 +378,8 @@ pub fn run_each<'a, R: Threads + Wait + Sync, P: Allows + Sync, G: Gate + Sync, 
         {
             let started = start_each(scope, context, monitor, domains, parts, start);
             let _ = start.try_set(started.refused.is_none());
-            let outcome = write_each(context, monitor, started, writer);
+            let (rt, alloc, gate) = (context.rt, context.alloc, context.gate);
+            let outcome = write_each(rt, alloc, gate, monitor, started, writer);
             ReturnedWriter { writer, outcome }
         },
     );

@@ -25,7 +25,7 @@ pub of-settings : (settings : List DomainSettings) (first_gen : ℕ) (text : Lis
     → AreLabelled settings text → IsSetBy settings first_gen c → IsFramelessFault c s → fault ≡ encoded_config s
     → IsFaultOf settings first_gen text fault
 of-settings settings first_gen text c (starts.Config f) fault labelled set is e =
-    inr (inr (labelled, c, is.1.0, f, set, is.1.1, is.1.2, e))
+    inr (inr (labelled, (c, is.1.0, f, set, is.1.1, is.1.2, e)))
 of-settings settings first_gen text c starts.Memory fault labelled set is e = inl (inl e)
 
 -- a policy has as many types as what its text means

@@ -49,6 +49,17 @@ fn maps(guest: &mut AttachedDomain<AllowTable>, owner: u16) -> Option<Handle> {
     guest.map(DomId(owner), PAGE, 2).ok()
 }
 
+// Returns the rule by which a map of the page of a domain is refused.
+fn map_refused_by(guest: &mut AttachedDomain<AllowTable>, owner: u16) -> Option<Rule> {
+    if guest.is_copying() {
+        return None;
+    }
+    guest
+        .map(DomId(owner), PAGE, 2)
+        .err()
+        .map(|denial| denial.rule)
+}
+
 // Unmaps a mapping.
 fn unmaps(guest: &mut AttachedDomain<AllowTable>, handle: Handle) -> bool {
     !guest.is_copying() && guest.unmap(handle).is_ok()
@@ -354,6 +365,40 @@ static FOLLOWING: [Act; 18] = [
 fn an_entry_follows_the_bytes_of_its_guest(rt: HostRuntime) -> Result<(), AllocError> {
     let told = told(rt.alloc(), 0, &FOLLOWING)?;
     assert_eq!(rt; told, (None, [Some(0), Some(0)]));
+    Ok(())
+}
+
+// Lets the owner grant its page, lets the mapper map it if `maps_first`, and drops the owner. Returns whether the grant
+// was Ok, the rule by which a map of the page is then refused, and whether a mapping was there to be unmapped.
+fn dropped(alloc: Global, maps_first: bool) -> Result<(bool, Option<Rule>, bool), AllocError> {
+    let Pair {
+        mut owner,
+        mut mapper,
+        mapped: _,
+    } = begin_pair(alloc, 0)?;
+    let granted = grants(&mut owner, 2);
+    let mapped = if maps_first {
+        maps(&mut mapper, 1)
+    } else {
+        None
+    };
+    drop(owner);
+    let rule = map_refused_by(&mut mapper, 1);
+    let is_unmapped = match mapped {
+        Some(handle) => unmaps(&mut mapper, handle),
+        None => false,
+    };
+    Ok((granted, rule, is_unmapped))
+}
+
+#[test]
+fn a_dropped_domain_closes_its_table(rt: HostRuntime) -> Result<(), AllocError> {
+    for maps_first in [false, true] {
+        assert_eq!(rt;
+            dropped(rt.alloc(), maps_first)?,
+            (true, Some(Rule::N10), maps_first)
+        );
+    }
     Ok(())
 }
 
