@@ -1,10 +1,10 @@
 //! All calls, by the rights that they need.
-mod copies;
-mod owners;
+mod copy_rows;
+mod owner_rows;
 mod script;
 
-use crate::calls::copies::{COPIES, PAIRS, TO_MIDDLE};
-use crate::calls::owners::{BY_HANDLE, HANDLE, MAPPING, MAPS, OLDER, OWNERS, PAGE};
+use crate::calls::copy_rows::{COPIES, PAIRS, TO_MIDDLE};
+use crate::calls::owner_rows::{BY_HANDLE, HANDLE, MAPPING, MAPS, OLDER, OWNERS, PAGE};
 use crate::calls::script::{
     CALLER, MIDDLE, OWNER, Part, Row, Script, goes, known, rights, three_domains,
 };
