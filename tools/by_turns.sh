@@ -19,9 +19,9 @@ sed -i \
   -e "s/^    start: &'s OnceLock<bool>,/&\n    turn: \&'s Mutex<u64>,/" \
   -e 's/^    let start = &start;/&\n    let turn = Mutex::new(0u64);\n    let turn = \&turn;/' \
   -e 's/{ work(rt, domain, job, gate, start) }/{ let _turn = turn.lock(rt); work(rt, domain, job, gate, start) }/' \
-  -e 's/scope, context, monitor, domains, parts, start,/& turn,/' \
+  -e 's/scope, context, monitor, domains, parts, start)/scope, context, monitor, domains, parts, start, turn)/' \
   -e 's/^use std::sync::{OnceLock, Wait};/use std::sync::{Mutex, OnceLock, Wait};/' "$source"
-for part in "turn: &'s Mutex" 'let turn = &turn;' 'turn.lock(rt); work' 'parts, start, turn,' '{Mutex, OnceLock'; do
+for part in "turn: &'s Mutex" 'let turn = &turn;' 'turn.lock(rt); work' 'parts, start, turn)' '{Mutex, OnceLock'; do
   grep -qF "$part" "$source" || { echo 'the edit does not fit any more' >&2; exit 2; }
 done
 # The gate of these scripts gives up sooner here, since a program that is tried takes far longer than one that is built.

@@ -112,7 +112,7 @@ GivenTextsArePrinted =
 abbrev pub HasPart : List ℕ → List ℕ → Type 0
 HasPart part text = (before : List ℕ) × (rest : List ℕ) × (text ≡ before ++ (part ++ rest))
 
--- no line of a call that got no memory is in the text, and no line of a gate, unless the gate refuses no flag anyway
+-- no line of a call that got no memory is in the text; and no line of a gate is, if the gate may refuse some flag
 pub record IsUndisturbed (refuses : ℕ → Bool) (types : List (List ℕ)) (text : List ℕ) : Type 0 where
   pub memory : (line : ℕ) (dom : DomId) → HasPart (answer_line types line dom no_memory) text → ⊥
   pub gates : RefusesNone refuses ⊎ ((line : ℕ) (dom : DomId) → HasPart (gate_line line dom) text → ⊥)

@@ -138,8 +138,8 @@ IsRefused refuses (Await flag) = IsTrue (refuses flag)
 abbrev pub gate_line : ℕ → DomId → List ℕ
 gate_line line dom = call_text line dom ++ codes "gate\n"
 
--- a list stops at this line, which awaits a flag, if its gate answers false, which it does only where it refuses the
--- flag; this is then its last line
+-- a list stops at this line, which awaits a flag that its gate may refuse, if its gate answers false; this is then its
+-- last line
 pub record Stops (refuses : ℕ → Bool) (dom : DomId) (tasks : List RunTask) (number : ℕ) (last : List ℕ)
     : Type 0 where
   pub at : RunTask
