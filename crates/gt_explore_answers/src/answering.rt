@@ -334,7 +334,7 @@ fn witnesses(
 /// Returns the moves that lead to the text of this number, in this form.
 ///
 /// # Errors
-/// `Witness` if no text has this number, `Astray` if the order of the text does not lead to it, and `Memory`.
+/// `Astray` if no text has this number, or if the order of the text does not lead to it; and `Memory`.
 pub fn moves_output(
     alloc: Global,
     form: TraceForm,
@@ -354,8 +354,8 @@ pub fn moves_output(
 /// Answers a request about a script by the texts that were found. A claim is one on these conditions.
 ///
 /// # Errors
-/// `Witness` if no text has the number of the witness or of the trace, `Astray` if an order or a witness does not give
-/// its text, and `Memory`.
+/// `Astray` if no text has the number of the witness or of the trace, or if an order or a witness does not give its
+/// text; and `Memory`.
 pub fn answer_in_text(
     alloc: Global,
     request: ExploreRequest<'_>,

@@ -147,7 +147,7 @@ fn push_moves(
 /// diagram of mermaid, or the object of the text and one for each move.
 ///
 /// # Errors
-/// `Witness` if no text has this number, `Astray` if the order of the text does not lead to it, and `Memory`.
+/// `Astray` if no text has this number, or if the order of the text does not lead to it; and `Memory`.
 pub fn moves_shown(
     alloc: Global,
     form: TraceForm,

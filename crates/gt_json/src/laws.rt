@@ -6,8 +6,8 @@ ghost use Rattle.gt_json.specs.Places.{start};
 ghost use Rattle.gt_json.specs.Strings.{SpellsString, escaped};
 ghost use Rattle.gt_json.specs.declared.places.PrintedText.{PrintedText};
 
-/// A law: the members of a line's object reproduce the line, with blanks between them. So nothing is lost and nothing
-/// added: two lines with the same members are the same.
+/// A law: the members of a line's object reproduce the line, with blanks between them, if it is known which words were
+/// names or colons. So no word is lost and none added.
 pub fn every_line_has_its_object()
     ensures { (printed : PrintedText) (line : List ℕ) →
         join_with_byte 32 (all_said (start printed) (json_words line)) ≡ line }
