@@ -110,8 +110,8 @@ fn plain_words(alloc: Global, words: &[String]) -> Result<Vec<String>, AllocErro
 /// for.
 ///
 /// The outcome is yes for success, no for a fault of `play`, `run` and `policy`, for a policy with an error, for a
-/// denied question and for a claim that does not hold, and unknown for a fault of another command and if the words ask for
-/// nothing that the program does.
+/// denied question and for a claim that does not hold, and unknown for a fault of another command and if the words ask
+/// for nothing that the program does.
 #[tactic(auto, using(crate::proofs::Obeyed::obeyed_plain, crate::proofs::Obeyed::without_memory))]
 pub fn obey<R: Threads + Wait + Sync, T: TextSource, W: Write, E: Eprint>(
     context: &Context<R, T, E>,
