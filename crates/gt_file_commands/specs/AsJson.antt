@@ -1,6 +1,7 @@
 -- What is written for a command whose text goes out as JSON.
 use Rattle.std.specs.Prelude.{◌≡◌, ◌⊎◌, ℕ, Bool, List, [], Option, Some, Result, Ok, Err}
-use Rattle.gt_file_commands.specs.JsonNames.{Appends, Keeps, AppendsBeginning, json_text, PrintedText, Run, Policy, Entries}
+use Rattle.gt_file_commands.specs.JsonNames.{Appends, Keeps, AppendsBeginning, json_text, PrintedText}
+use Rattle.gt_file_commands.specs.JsonNames.{Run, Policy, Entries}
 use Rattle.gt_file_commands.specs.JsonNames.{ReadsAsScript}
 use Rattle.gt_file_commands.specs.JsonNames.{PlayFault, Played, ListingFault, Listed, DumpOptions, DumpFault}
 use Rattle.gt_file_commands.specs.JsonNames.{WroteDump}

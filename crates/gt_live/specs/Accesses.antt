@@ -94,8 +94,8 @@ ReadsFrame k name off len r v w =
 
 -- the writ is that of a route by which the writer may write this range, at this view: the frame is its own, or the view
 -- has the pins that permit the write, and the writ has their entries
-pub record IsWritOfPins (k : Layout) (v : View) (writer : DomId) (purpose : Use) (name : FrameName) (off len : ℕ) (u : Writ)
-    : Type 0 where
+pub record IsWritOfPins (k : Layout) (v : View) (writer : DomId) (purpose : Use) (name : FrameName) (off len : ℕ)
+    (u : Writ) : Type 0 where
   pub seat : SeatOf
   pub dom : seat.dom ≡ writer
   pub view : seat.view ≡ v

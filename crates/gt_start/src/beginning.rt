@@ -28,8 +28,8 @@ fn policy_of(alloc: Global, text: &[u8]) -> Result<Policy, EncodedFault>
 /// Each entry begins at the generation `first_gen`. The caller keeps the frames.
 ///
 /// # Errors
-/// The first fault of the policy's text. If it has none, the first label beyond the policy's types. If there is none,
-/// the first fault of the configuration. Or `memory`, at any time, if allocation fails. No domain is left.
+/// The policy's text is tested first, then the labels, then the configuration. The first fault is returned. An
+/// allocation that fails gives `memory`, at any time. No domain is left.
 pub fn begin(
     alloc: Global,
     settings: &[DomainSettings],

@@ -2,7 +2,8 @@
 ghost use Rattle.std.specs.Prelude.{◌≡◌, ◌++◌, OnOk};
 ghost use Rattle.std.specs.List.{flat_map};
 ghost use Rattle.gt_explore_answers.specs.Diagram.{arrow_text, message_text, note_text, one_participant, owner_of};
-ghost use Rattle.gt_explore_answers.specs.Diagram.{participant_kind, participant_name, participant_text, participants_text};
+ghost use Rattle.gt_explore_answers.specs.Diagram.{participant_kind, participant_name};
+ghost use Rattle.gt_explore_answers.specs.Diagram.{participant_text, participants_text};
 
 use gt_core::Step;
 use gt_explore_replay::Moved;

@@ -1,7 +1,8 @@
 //! The facts of a step of a call, and of what it saw.
 ghost use Rattle.std.specs.Prelude.{◌≡◌, ◌++◌, OnOk, codes};
-ghost use Rattle.gt_explore_answers.specs.Steps.{access_start, change_name, copy_text, dir_name, entry_part, exchange_text};
-ghost use Rattle.gt_explore_answers.specs.Steps.{from_part, header_text, look_letters, look_text, pin_text, range_part, seen_part};
+ghost use Rattle.gt_explore_answers.specs.Steps.{access_start, change_name, copy_text, dir_name, entry_part};
+ghost use Rattle.gt_explore_answers.specs.Steps.{exchange_text, from_part, header_text, look_letters, look_text};
+ghost use Rattle.gt_explore_answers.specs.Steps.{pin_text, range_part, seen_part};
 ghost use Rattle.gt_explore_answers.specs.Steps.{step_text, store_letters, taken_part, to_part};
 
 use crate::trace::facts::{

@@ -4,7 +4,8 @@ ghost use Rattle.std.specs.List.{list_all};
 ghost use Rattle.std.specs.Str.{bytes_eq};
 ghost use Rattle.gt_script.specs.Script.{ReadsAsScript};
 ghost use Rattle.gt_script_runs.specs.Playing.{Played};
-ghost use Rattle.gt_explore_answers.specs.GivingAnswers.{answers_of, begins_with, domain_word, is_end, ok_line, without_number};
+ghost use Rattle.gt_explore_answers.specs.GivingAnswers.{answers_of, begins_with, domain_word, is_end};
+ghost use Rattle.gt_explore_answers.specs.GivingAnswers.{ok_line, without_number};
 ghost use Rattle.gt_explore_answers.specs.GivingAnswers.{GivesAnswers, GoesOnWith, HasAnswers, HaveAnswers};
 
 use gt_explore_faults::TextsFault;
