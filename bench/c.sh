@@ -10,12 +10,15 @@
 #   blk       the split block driver of examples/blk, with its hostile back end (where Xen's headers are installed)
 #   xen_front a guest that grants by stores into its own table, and a back end: examples/xen_front
 #   threads   four threads on one monitor
+#   xengnttab the libraries of contrib/xengnttab: a network pair, libxenvchan unmodified, and its calls as a script
+#             (where libxen-dev is installed; VCHAN=DIR has what contrib/xengnttab/fetch.sh fetched, else it is fetched)
 #   rust      the wrapper of contrib/rust, its tests, and the program of its README (where there is a rustc)
 #   lists     LISTS random lists of calls (10,000) get the answers and the audit of `gthost play`
 #
 # All C is compiled with -Wall -Wextra -Wpedantic -Werror by each of gcc and clang that there is. smoke, memory, blk,
-# xen_front, threads and 200 of the lists run under AddressSanitizer and UBSan too, blk, xen_front and threads under
-# ThreadSanitizer, where the compiler has them. The sanitizers see the C side: the library is compiled by its own compiler.
+# xen_front, threads, xengnttab and 200 of the lists run under AddressSanitizer and UBSan too, blk, xen_front, threads
+# and xengnttab under ThreadSanitizer, where the compiler has them. The sanitizers see the C side: the library is compiled
+# by its own compiler.
 # LIBRARY=DIR takes the library from DIR, where `./gthost library` left it, and PROGRAM=FILE the built program gthost.
 set -euo pipefail
 cd "$(dirname "$0")/.."
@@ -108,13 +111,54 @@ run_all() {
   echo "$compiler, $kind: ${programs[*]} ok"
 }
 
+# The sources of libxenvchan, if the headers for it are here.
+vchan="${VCHAN:-}"
+bench=no
+! printf '#include <xengnttab.h>\n#include <libxenvchan.h>\n' | "${CC:-cc}" -E - >/dev/null 2>&1 || bench=yes
+if [ "$bench" = yes ] && [ -z "$vchan" ]; then
+  vchan="$work/libxenvchan"
+  contrib/xengnttab/fetch.sh "$vchan" >"$work/log" 2>&1 ||
+    { echo "not tried: libxenvchan (its sources can't be fetched)" && vchan=; }
+fi
+
+# The libraries for drivers, and their tests.
+drivers() {
+  local compiler="$1" kind="$2" out="$work/xg-$1-$2" small=2000000 packets=100000
+  shift 2
+  [ "$bench" = yes ] || return 0
+  [ "$kind" = plain ] || { small=100000 packets=5000; }
+  make -s -j 4 -C contrib/xengnttab GTHOST="$library" OUT="$out" CC="$compiler" CFLAGS="$*" ${vchan:+VCHAN="$vchan"} tests
+  # Xen's rings are read and written by plain accesses with barriers. Where both sides have the page at one address,
+  # ThreadSanitizer reports that.
+  local run=("$out/first") mode modes=(remap direct) words
+  [ "$kind" != thread ] || modes=(remap)
+  for mode in "${modes[@]}"; do
+    run+=("$out/net $mode $packets")
+    [ -z "$vchan" ] || run+=("$out/vchan $mode $small")
+  done
+  [ -z "$vchan" ] || run+=("$out/trace $out/calls.gt $out/answers")
+  for words in "${run[@]}"; do
+    # shellcheck disable=SC2086
+    $words >"$work/said" 2>&1 || { cat "$work/said"; echo "$compiler, $kind: $words FAILED"; exit 1; }
+  done
+  echo "$compiler, $kind: xengnttab ok"
+}
+
 for compiler in ${CC:-gcc clang}; do
   command -v "$compiler" >/dev/null || continue
   headers "$compiler"
   vmm "$compiler"
   run_all "$compiler" plain -O2
-  ! has "$compiler" address,undefined || run_all "$compiler" address -g -O1 -fsanitize=address,undefined -fno-sanitize-recover=all
-  ! has "$compiler" thread || run_all "$compiler" thread -g -O1 -fsanitize=thread
+  drivers "$compiler" plain -O2
+  sanitized=(-g -O1 -fsanitize=address,undefined -fno-sanitize-recover=all)
+  if has "$compiler" address,undefined; then
+    run_all "$compiler" address "${sanitized[@]}"
+    drivers "$compiler" address "${sanitized[@]}"
+  fi
+  if has "$compiler" thread; then
+    run_all "$compiler" thread -g -O1 -fsanitize=thread
+    drivers "$compiler" thread -g -O1 -fsanitize=thread
+  fi
   last="$compiler"
 done
 
@@ -147,6 +191,9 @@ C
 "$last" -std=c99 "${warnings[@]}" -I"$library" "$work/rules.c" "$archive" -o "$work/rules"
 "$work/rules" >"$work/said"
 "$play" rules | diff - "$work/said"
+if [ "$bench" = yes ] && [ -n "$vchan" ]; then # the calls of libxenvchan as a script: the program gives the same answers
+  "$play" play "$work/xg-$last-plain/calls.gt" | sed -E 's/ source=.*//' | diff "$work/xg-$last-plain/answers" -
+fi
 build "$last" lists -O2
 python3 bench/lists.py "$play" "$work/lists" "$lists" "$seed"
 if has "$last" address,undefined; then

@@ -14,6 +14,10 @@
  * Generations. Each reference has a generation, which starts at `first_gen`. Each grant, demotion and promotion of the
  * reference raises it by 1. At GTHOST_LAST_GENERATION the reference is worn: these calls are refused by N22 for the
  * rest of the run, also after gthost_set_version and gthost_reset. Revoke, withdraw and unmap still work.
+ * A reference lasts for 1,048,575 changes if `first_gen` is 0. At 50,000 grants a second one that is used again at once
+ * is worn after 21 seconds, 32 by turns after 11 minutes, and 8,192 by turns after 48 hours. Many guests use again what
+ * they freed last. So keep the number that you pass here apart from the guest's, have more table frames than the guest,
+ * and pass another number on N22, once the worn one has no pins (examples/xen_front/vmm.c).
  *
  * Memory comes from the program's malloc. Only gthost_start, gthost_type_of, gthost_map (for its mapping),
  * gthost_reserve_records and the records that are kept allocate. A run of one domain takes 1 MB. A run of 64 domains

@@ -4,8 +4,10 @@
     tools/json_lines.py check            compares the end of crates/cases_host/stdout with this program's JSON, reads
                                    each of its lines as JSON, and makes the line of the text of it again
     tools/json_lines.py expected         prints what the end of that file has to be, from `== run` on
-    tools/json_lines.py program GTHOST   runs GTHOST on the examples, on the dumps of crates/cases_program and on dumps of
-                                   drawn bytes, with --format json and without, and compares
+    tools/json_lines.py program GTHOST   runs GTHOST on the examples, on the dumps of crates/cases_program and on dumps
+                                   of drawn bytes, with --format json and without, and compares; then runs each command
+                                   line of crates/cases_program with --format json, and reads each line as an object
+                                   that has no name twice
 
 Exit status: 0 if all is the same. docs/FORMATS_SCRIPTS.md has the form, from which this is written.
 """
@@ -29,6 +31,7 @@ CALLS = {
     "setup": ["asked"],
     "copy": [end + part for end in ("from_", "to_") for part in ("kind", "owner", "at", "off")] + ["len", "flags"],
 }
+WITH_FORMAT = ["play", "run", "explore", "policy", "check", "entries"]
 PLAIN_NUMBER = re.compile(r"-?(0|[1-9][0-9]*)\Z", re.ASCII)
 
 
@@ -137,16 +140,14 @@ def text_of(kind, pairs):
 
 
 def read_object(line):
-    names = []
+    """The members of the object of a line, in which no object may have a name twice."""
 
     def once(pairs):
-        names.extend(name for name, _ in pairs)
+        if len({name for name, _ in pairs}) != len(pairs):
+            raise ValueError("a name is there twice: " + line)
         return pairs
 
-    pairs = json.loads(line, object_pairs_hook=once)
-    if len(set(names)) != len(names):
-        raise ValueError("a name stands twice: " + line)
-    return pairs
+    return json.loads(line, object_pairs_hook=once)
 
 
 def lines_of(name):
@@ -247,6 +248,31 @@ def entries_of(gthost):
     return runs, wrong
 
 
+def every_command_line(gthost):
+    """How many objects the command lines of crates/cases_program print, and how many of them can't be read."""
+    cases = os.path.join(TOP, "crates", "cases_program")
+    gthost = os.path.abspath(gthost)
+    wrong = objects = 0
+    with open(os.path.join(cases, "args"), encoding="utf-8") as file:
+        lines = [line.split() for line in file]
+    for words in lines:
+        if words[:1] != ["gthost"] or words[1:2] not in [[name] for name in WITH_FORMAT]:
+            continue
+        forms = [] if any(word.startswith("--format") for word in words) else ["--format", "json"]
+        with open(os.path.join(cases, "stdin"), "rb") as stdin:
+            told = subprocess.run([gthost, words[1], *forms, *words[2:]], cwd=os.path.join(cases, "data"), stdin=stdin,
+                                  capture_output=True, check=False)
+        for line in told.stdout.decode(errors="replace").splitlines():
+            if forms or line.startswith("{"):
+                objects += 1
+                try:
+                    read_object(line)
+                except ValueError as fault:
+                    print(" ".join(words), fault)
+                    wrong += 1
+    return objects, wrong
+
+
 def program(gthost):
     wrong = runs = 0
     for path in sorted(glob.glob(os.path.join(TOP, "examples", "*.gt"))):
@@ -270,8 +296,10 @@ def program(gthost):
         wrong += compare("policy", text, printed([gthost, "policy", "--format", "json", path]).stdout.decode().splitlines())
     told, differences = entries_of(gthost)
     wrong += differences
-    print(runs, "texts and", told, "dumps,", wrong, "differences")
-    return wrong if runs and told else 1
+    objects, unread = every_command_line(gthost)
+    wrong += unread
+    print(runs, "texts,", told, "dumps and", objects, "objects,", wrong, "differences")
+    return wrong if runs and told and objects else 1
 
 
 if __name__ == "__main__":

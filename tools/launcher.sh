@@ -38,7 +38,16 @@ case "$1" in
       shift
     done
     shift
-    case "$STUB" in slow_try) sleep 6 ;; esac
+    case "$STUB" in
+      slow_try) sleep 6 ;;
+      hangs) # as rt: its child has a session of its own, and a second signal ends this one before the child is ended
+        setsid sleep 300 &
+        child=$!
+        trap 'trap - INT TERM HUP; sleep 0.3; kill "$child"; exit 143' INT TERM HUP
+        echo "$$ $child" >>"$WORK/children"
+        wait "$child"
+        ;;
+    esac
     if [ "$crate" = cases_program ]; then
       for file in "${data[@]}"; do [ -f "${file#*=}" ] || { echo "no file: $file"; exit 2; }; done
       if [ "$STUB" = other ]; then echo "other"; else cat "$STORED"; fi
@@ -113,12 +122,14 @@ builds() { [ "$(wc -l <"$work/builds")" -eq "$2" ] || wrong "$1: other than $2 b
 is_alive() { for child in $(cat "$work/children"); do if kill -0 "$child" 2>/dev/null; then return 0; fi; done; return 1; }
 anew() { chmod -R u+w "$checkout"; rm -rf "$checkout"/crates/*/out "$work/builds" "$work/failed"; : >"$work/builds"; STUB=good; }
 
-stored() { LINE="\$ gthost $1" awk '$0 == ENVIRON["LINE"] { f = 1; next } f && /^status / { exit } f' "$top/crates/cases_program/stdout" >"$work/stored"; }
-
 as=(env)
 anew
 
 # Before the program is built.
+stored() {
+  LINE="\$ gthost $1" awk '$0 == ENVIRON["LINE"] { f = 1; next } f && /^status / { exit } f' "$top/crates/cases_program/stdout" >"$work/stored"
+  [ "$1" != --help ] || { printf '\nIn this checkout:\n' && sed -nE 's|^#  +(./gthost [a-z]+ .*)|  \1|p' "$top/gthost"; } >>"$work/stored"
+}
 for words in --help --version rules 'rules N19' 'play -h'; do
   stored "$words"
   # shellcheck disable=SC2086
@@ -165,7 +176,18 @@ try 'a file below a file' 1 play -v "$script/x"; has 'a file below a file' err '
 try 'no UTF-8' 2 play $'\xff'; has 'no UTF-8' err 'a word of the command line is not UTF-8'; lines 'no UTF-8' 1
 try 'build of a word' 2 build now; lines 'build of a word' 1
 try 'install of two' 2 install a b; lines 'install of two' 1
-try 'install of a flag' 2 install --help; lines 'install of a flag' 1
+try 'install of a flag' 2 install --all; lines 'install of a flag' 1
+for word in build tour install library; do
+  try 'the help' 0 --help; has 'the help' out "^  ./gthost $word( .*)?  [a-z]"
+  for words in "help $word" "$word --help" "$word -h"; do
+    # shellcheck disable=SC2086
+    try "$words" 0 $words; has "$words" out "^Usage: ./gthost $word"
+  done
+done
+[ -z "$(awk 'length > 80' "$work/stored" "$work/out")" ] || wrong 'a line of help above 80 columns'
+for words in biuld:build libary:library touur:tour instal:install; do
+  try "${words%:*}" 2 "${words%:*}"; has "${words%:*}" err "tip: .*'${words#*:}'$"
+done
 unbuilt 'before the program is built'
 
 # No kit: there is a line for it, and nothing is made.
@@ -214,6 +236,32 @@ STUB=good; tried=$((tried + 2)); status=0
 has 'a full device' err '^gthost: write$'; [ "$status" -eq 1 ] || wrong "a full device: status $status"
 status=0; "$checkout/gthost" check some.gt >&- 2>"$work/err" </dev/null || status=$?
 has 'a closed output' err '^gthost: write$'; [ "$status" -eq 2 ] || wrong "a closed output: status $status"
+# A signal ends a run that is not proved with all that it started: one for the group, as of timeout and of a terminal, and
+# one for the launcher alone.
+for signal in TERM INT HUP; do
+  for ((i = 0; i < 20; i++)); do
+    STUB=hangs tried=$((tried + 1)) status=0
+    rm -f "$work/children"
+    setsid env --default-signal="$signal" "$checkout/gthost" explore some.gt >"$work/out" 2>"$work/err" </dev/null &
+    launcher=$!
+    until [ -s "$work/children" ]; do sleep 0.05; done
+    if [ $((i % 4)) -eq 3 ]; then kill -s "$signal" "$launcher"; else kill -s "$signal" -- "-$launcher"; fi
+    wait "$launcher" 2>/dev/null || status=$?
+    [ "$status" -eq $((128 + $(kill -l "$signal"))) ] || wrong "$signal in a run: status $status"
+    for _ in $(seq 20); do is_alive || pgrep -s "$launcher" >/dev/null || break; sleep 0.1; done # until they are reaped
+    if is_alive; then wrong "$signal in a run: a child goes on"; fi
+    ! pgrep -s "$launcher" >"$work/out" || wrong "$signal in a run: something goes on"
+  done
+done
+for ((i = 0; i < 20; i++)); do
+  tried=$((tried + 1)) status=0
+  rm -f "$work/children"
+  timeout 1 "$checkout/gthost" explore some.gt >"$work/out" 2>"$work/err" </dev/null || status=$?
+  [ "$status" -eq 124 ] || wrong "timeout: status $status"
+  for _ in $(seq 20); do is_alive || break; sleep 0.1; done
+  [ -s "$work/children" ] && ! is_alive || wrong 'timeout: a child goes on'
+done
+STUB=good
 try 'the tour' 0 tour; has 'the tour' out "^$(wc -l <"$top/crates/cases_program/args") command lines, all as recorded$"; lines 'the tour' 1
 STUB=other; try 'another tour' 1 tour; has 'another tour' err 'not all as recorded'
 STUB=good
@@ -347,6 +395,92 @@ done
 cmp -s "$out/gthost" "$work/prefix/bin/gthost" || wrong 'an installation: another program'
 try 'a second installation' 0 install "$work/prefix"; lines 'a second installation' 1
 try 'no folder to install below' 1 install "$work/out"; has 'no folder to install below' err 'cannot write .*Not a directory'; lines 'no folder to install below' 1
+
+# What bash offers: for the words, the last of which is being typed.
+# shellcheck disable=SC1091
+source "$top/contrib/completions/gthost.bash"
+offers() {
+  local wanted="$1"
+  shift
+  COMP_WORDS=("$@") COMP_CWORD=$(($# - 1)) COMPREPLY=() tried=$((tried + 1))
+  _gthost "$1"
+  printf '%s\n' "${COMPREPLY[*]}" >"$work/out"
+  : >"$work/err"
+  [[ " ${COMPREPLY[*]} " == *" $wanted "* ]] || wrong "completions of $*"
+}
+offers 'help' gthost he
+offers 'build' "$top/gthost" bu
+offers 'policy' gthost -v pol
+offers 'explore' gthost help e
+offers '--audit' gthost -v play --a
+offers 'all' gthost explore --witness ''
+offers 'n19' gthost rules n1
+offers '19' gthost rules 1
+offers 'N19' gthost rules ''
+offers 'query' gthost why a_t b_t q
+[ "${COMPREPLY[*]}" = query ] || wrong 'completions of a permission'
+offers 'json' gthost run --format j
+COMP_WORDS=(gthost explore --trace '') COMP_CWORD=3; _gthost gthost
+[ "${#COMPREPLY[@]}" -eq 0 ] || wrong 'completions of a number'
+
+# The estimate of a first build, on machines as fast as that of docs/GATE.md and slower: whenever a tenth of the crates or
+# more is done, it is right within a third. The build that it is asked about takes the crates in another order, those of
+# the longest chains first, and each takes up to a fifth more or less than its row.
+fake_build() {
+  awk -v name=gthost -v lanes=4 -v slow="$1" '
+    /^[a-z]/ { crate = $1; sub(/:$/, "", crate); words = $0; sub(/^[^:]*:/, "", words); deps[crate] = words; cost[crate] = 60 }
+    /^\| [a-z_]+ \| [0-9]+ \|/ { if ($2 in cost) cost[$2] = $4 }
+    function below(crate,    parts, n, i) {
+      if ((crate in is_below) || !(crate in deps)) return
+      is_below[crate] = 1
+      n = split(deps[crate], parts, " ")
+      for (i = 1; i <= n; i++) { uses[crate, parts[i]] = 1; below(parts[i]) }
+    }
+    function chain(crate,    other, most) {
+      if (crate in chains) return chains[crate]
+      for (other in is_below) if (((other, crate) in uses) && chain(other) > most) most = chain(other)
+      return chains[crate] = most + cost[crate]
+    }
+    function is_ready(crate,    other) {
+      for (other in is_below) if (((crate, other) in uses) && !(other in is_done)) return 0
+      return 1
+    }
+    END {
+      below(name)
+      srand(7)
+      for (crate in is_below) cost[crate] *= slow * 1.2 * (0.8 + 0.4 * rand())
+      free = lanes
+      while (1) {
+        for (; free > 0; free--) {
+          best = ""
+          for (crate in is_below)
+            if (!(crate in until) && is_ready(crate) && (best == "" || chain(crate) > chain(best))) best = crate
+          if (best == "") break
+          until[best] = time + cost[best]
+        }
+        best = ""
+        for (crate in until) if (!(crate in is_done) && (best == "" || until[crate] < until[best])) best = crate
+        if (best == "") exit
+        time = until[best]
+        is_done[best] = 1
+        free++
+        print int(time), best
+      }
+    }' "$top/crates.txt" "$top/docs/GATE.md"
+}
+for slow in 1 2 3; do
+  fake_build "$slow" >"$work/fake"
+  whole="$(tail -n 1 "$work/fake" | cut -d ' ' -f 1)" count="$(wc -l <"$work/fake")" tried=$((tried + 1))
+  for ((part = 10; part <= 100; part += 5)); do
+    at="$(sed -n "$(((count * part + 99) / 100))p" "$work/fake" | cut -d ' ' -f 1)"
+    now="$(awk -v at="$at" '$1 <= at { printf "%s=1 ", $2 }' "$work/fake")"
+    awk -v name=gthost -v lanes=4 -v seconds="$at" -v changed='' -v then='' -v now="$now" -f "$top/tools/progress.awk" \
+      "$top/crates.txt" "$top/docs/GATE.md" >"$work/out"
+    more="$(sed -nE 's/.*about ([0-9]+) min more$/\1/p' "$work/out")"
+    awk -v told="$((at + more * 60))" -v whole="$whole" 'BEGIN { exit !(told * 3 > whole * 2 && told * 3 < whole * 4) }' ||
+      { : >"$work/err"; wrong "an estimate at $part of 100 crates, $slow times as slow: $((at + more * 60)) of $whole s"; }
+  done
+done
 
 if [ "${1-}" = kit ]; then
   PATH="$path" tried=$((tried + 2)) status=0

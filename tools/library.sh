@@ -21,8 +21,11 @@ cp include/gthost.h include/gthost_types.h "$dir"
 # the numbers of GTHOST_VERSION
 hex=$(sed -n 's/^#define GTHOST_VERSION 0x//p' include/gthost.h)
 version=$((16#$hex >> 16)).$((16#$hex >> 8 & 255)).$((16#$hex & 255))
+# pkg-config --variable=commit gthost
+commit=$(git describe --always --abbrev=12 --exclude='*' --dirty=-changed 2>/dev/null || true)
 cat >"$dir/gthost.pc" <<PC
 prefix=$dir
+commit=$commit
 Name: gthost
 Description: grant tables of a hypervisor
 Version: $version

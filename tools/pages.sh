@@ -91,6 +91,8 @@ man() {
   stored --help | after | sed -n '/^Exit status/,/^Try:/{/^Try:/d;p}' | sed 's/^$/.PP/' | roff_but_breaks
   printf '.SH LIMITS\n'
   stored --version | sed '1,2d' | { printf '.nf\n'; roff; printf '.fi\n'; }
+  printf '.SH ENVIRONMENT\n.TP\n.B COLUMNS\nThe width of the terminal, to which the lines of rules are broken: 80 if it is not set.\n'
+  printf '.TP\n.B NO_COLOR\nIf it is set and not empty, findings on a terminal have no colours.\n'
   printf '.SH FILES\n.I share/gthost/examples\nbelow the folder of the installation: scripts, policies and a dump to try. The command\nlines of EXAMPLES are for the folder share/gthost.\n'
   printf '.SH EXAMPLES\n.nf\n'
   stored --help | sed -n '/^Try:/,$p' | sed -e 's/^Try: *//' -e 's/^ *//' | roff
@@ -107,8 +109,8 @@ flags() {
 # The flags of a command, in one line.
 all_flags() { flags "$1" | cut -d $'\x1f' -f 1 | sed -e 's/^/--/' -e 's/^--verbose$/--verbose -v/' | tr '\n' ' ' | sed 's/ $//'; }
 
-# The values of an option: those that its help names, as `text|json`, of --find the rules, and of --format of `explore` the
-# three that its text names.
+# The values of an option: those that its help names, as `text|json` but not as `N`, of --find the rules, and of --format
+# of `explore` the three that its text names.
 values_of() {
   case "$1$2" in
     find*) rules ;;
@@ -116,7 +118,7 @@ values_of() {
     *) values "$2" ;;
   esac
 }
-values() { printf '%s' "$1" | sed -n 's/^ <\(.*|.*\)>$/\1/p' | tr '|' ' '; }
+values() { printf '%s' "$1" | sed -n 's/^ <\(.*|.*\)>$/\1/p' | sed -E 's/\b[A-Z]+(\||$)//g' | tr '|' ' '; }
 
 # Whether the value of an option is the name of a file.
 is_file() { [ "$1" = " <NEVER>" ] || [ "$1" = " <TEXT>" ]; }
@@ -131,23 +133,28 @@ bash_completion() {
   cat <<'END'
 # Completion of gthost for bash. Made by tools/pages.sh from the texts of --help.
 _gthost() {
-  local word="${COMP_WORDS[COMP_CWORD]}" before="${COMP_WORDS[COMP_CWORD - 1]}" words="" count=0 i
+  local word="${COMP_WORDS[COMP_CWORD]}" before="${COMP_WORDS[COMP_CWORD - 1]}" words="" count=0 first=1 command i
   # `=` is a word by itself.
   if [ "$word" = = ]; then
     word=""
   elif [ "$before" = = ]; then
     before="${COMP_WORDS[COMP_CWORD - 2]}"
   fi
-  if [ "$COMP_CWORD" -eq 1 ]; then
+  # A flag may come before the command.
+  if [ "$COMP_CWORD" -gt 1 ]; then case "${COMP_WORDS[1]}" in -v | --verbose) first=2 ;; esac; fi
+  command="${COMP_WORDS[first]}"
+  if [ "$COMP_CWORD" -eq "$first" ] || [ "$command $COMP_CWORD" = "help $((first + 1))" ]; then
 END
-  printf '    words="%s --help --version"\n' "$(commands | tr '\n' ' ' | sed 's/ $//')"
+  printf '    words="%s"\n' "$(commands | tr '\n' ' ' | sed 's/ $//')"
+  printf '    if [ "$COMP_CWORD" -eq "$first" ]; then words="$words help"; fi\n'
+  printf '    if [ "$COMP_CWORD" -eq 1 ]; then words="$words --help --version"; fi\n'
   printf '    if [[ $1 == */* && -e ${1%%/*}/crates.txt ]]; then words="$words %s"; fi\n' "$(launcher_names)"
   cat <<'END'
     mapfile -t COMPREPLY < <(compgen -W "$words" -- "$word")
     return
   fi
-  case "${COMP_WORDS[1]} $before" in
-    -*) return ;;
+  case "$command $before" in
+    -* | help*) return ;;
 END
   for command in $(commands); do
     flags "$command" | while IFS=$'\x1f' read -r flag value what; do
@@ -155,7 +162,7 @@ END
       printf '    "%s --%s") mapfile -t COMPREPLY < <(compgen %s -- "$word"); return ;;\n' "$command" "$flag" "$(bash_values "$flag" "$value")"
     done
   done
-  printf '  esac\n  case "${COMP_WORDS[1]}" in\n'
+  printf '  esac\n  case "$command" in\n'
   for command in $(commands); do
     printf '    %s) words="%s" ;;\n' "$command" "$(all_flags "$command")"
   done
@@ -165,12 +172,14 @@ END
   case "$word" in
     -*) mapfile -t COMPREPLY < <(compgen -W "$words" -- "$word"); return ;;
   esac
-  for ((i = 2; i < COMP_CWORD; i++)); do
+  for ((i = first + 1; i < COMP_CWORD; i++)); do
     case "${COMP_WORDS[i]}" in -?*) ;; *) count=$((count + 1)) ;; esac
   done
-  case "${COMP_WORDS[1]} $count" in
+  case "$command $count" in
 END
-  printf '    "rules 0") mapfile -t COMPREPLY < <(compgen -W "%s" -- "$word") ;;\n' "$(rules)"
+  printf '    "rules 0")\n      words="%s"\n' "$(rules)"
+  printf '      case "$word" in n*) words="${words,,}" ;; [0-9]*) words="${words//N/}" ;; esac\n'
+  printf '      mapfile -t COMPREPLY < <(compgen -W "$words" -- "$word")\n      ;;\n'
   printf '    "why 2") mapfile -t COMPREPLY < <(compgen -W "%s" -- "$word") ;;\n' "$(permissions)"
   cat <<'END'
     rules* | build* | tour* | "why 0" | "why 1") ;;
@@ -197,6 +206,8 @@ zsh_completion() {
   done
   printf '    )\n  fi\n  if (( CURRENT == 2 )); then\n'
   printf "    _describe command commands\n    _arguments '(- *)--help[Print help]' '(- *)--version[Print version]'\n    return\n  fi\n"
+  printf '  # A flag may come before the command.\n  if [[ $words[2] == (-v|--verbose) ]]; then\n    shift words\n    (( CURRENT-- ))\n  fi\n'
+  printf '  if (( CURRENT == 2 )) || [[ $words[2] == help && CURRENT -eq 3 ]]; then\n    _describe command commands\n    return\n  fi\n'
   printf '  local command=${words[2]}\n  shift words\n  (( CURRENT-- ))\n  case $command in\n'
   for command in $(commands); do
     printf '    %s) _arguments' "$command"
@@ -209,7 +220,7 @@ zsh_completion() {
       fi
     done
     case "$command" in
-      rules) printf " '1:rule:(%s)' ;;\n" "$(rules)" ;;
+      rules) printf " '1:rule:(%s %s)' ;;\n" "$(rules)" "$(rules | tr N n)" ;;
       why) printf " '1:source: ' '2:target: ' '3:permission:(%s)' '4:file:_files' ;;\n" "$(permissions)" ;;
       *) printf " '*:file:_files' ;;\n" ;;
     esac

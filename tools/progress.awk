@@ -1,8 +1,7 @@
-# How far a build is: `12 of 36 crates, about 20 min more`. What each crate costs is read from the table of docs/GATE.md.
-# The estimate is the time of the crates that are left, on this number of lanes (a fifth more in several, which wait for
-# each other) and at least that of the longest chain of them, times how much slower than that this build was so far.
-# Crates under way do not count, so an early estimate would be far too high: ten minutes more are taken to have gone as
-# estimated.
+# How far a build is: `12 of 36 crates, about 20 min more`. What each crate costs is read from the table of
+# docs/GATE.md. The estimate comes from a schedule of the crates on this number of lanes, in the order of crates.txt, in
+# which each takes the seconds of its row (a fifth more on several lanes, which share caches). How slow the machine is
+# follows from the crates that are done: it is the time so far by the time at which the schedule has done as much.
 #
 # usage: awk -v name=gthost -v lanes=4 -v seconds=600 -v changed='CRATE ..' -v then='CRATE=STAMP ..' \
 #            -v now='CRATE=STAMP ..' -f tools/progress.awk crates.txt docs/GATE.md
@@ -30,28 +29,51 @@ function read_stamps(text, stamps,    parts, n, i, at) {
   for (i = 1; i <= n; i++) { at = index(parts[i], "="); stamps[substr(parts[i], 1, at - 1)] = substr(parts[i], at + 1) }
 }
 
-# The seconds of the longest chain of crates up to this one, of those that are not done.
-function chain(crate, done,    parts, n, i, longest, below) {
-  if (!(crate in is_below) || (crate in done)) return 0
-  if (crate in chains) return chains[crate]
+function can_start(crate, is_done,    parts, n, i) {
   n = split(deps[crate], parts, " ")
-  for (i = 1; i <= n; i++) { below = chain(parts[i], done); if (below > longest) longest = below }
-  return chains[crate] = longest + cost[crate]
+  for (i = 1; i <= n; i++) if ((parts[i] in is_below) && !(parts[i] in is_done)) return 0
+  return 1
 }
 
-# The seconds that all crates take that are not done.
-function left(done,    crate, sum, longest, split_up) {
-  split("", chains)
-  for (crate in is_below) if (!(crate in done)) sum += cost[crate]
-  longest = chain(name, done)
-  split_up = sum / lanes * (lanes > 1 ? 1.2 : 1)
-  return split_up > longest ? split_up : longest
+# Schedules the crates that are not in `done`: `moments` has the second at which each of them ends, in their order, and
+# `sums` the seconds of those that are done by then.
+function schedule(done,    is_done, until, crate, next_one, i, free, time, sum) {
+  for (crate in done) is_done[crate] = 1
+  free = lanes
+  while (1) {
+    for (i = 1; i <= crate_count && free > 0; i++) {
+      crate = order[i]
+      if (!(crate in is_below) || (crate in is_done) || (crate in until) || !can_start(crate, is_done)) continue
+      until[crate] = time + cost[crate]
+      free--
+    }
+    next_one = ""
+    for (crate in until) if (next_one == "" || until[crate] < until[next_one]) next_one = crate
+    if (next_one == "") return
+    time = until[next_one]
+    delete until[next_one]
+    is_done[next_one] = 1
+    free++
+    sum += cost[next_one]
+    moments[++steps] = time
+    sums[steps] = sum
+  }
+}
+
+# How many times as long as scheduled the build takes, when crates of so many seconds are done. Before the first one is,
+# the machine counts as slow only once that is late.
+function slowness(made,    i, before) {
+  if (!seconds || !steps) return 1
+  for (i = 1; i <= steps && sums[i] <= made + 0.5; i++) before = moments[i]
+  if (!before) return seconds > moments[1] ? seconds / moments[1] : 1
+  return seconds / (i > steps ? before : (before + moments[i]) / 2)
 }
 
 FILENAME ~ /crates.txt$/ && /^[a-z]/ {
   crate = $1; sub(/:$/, "", crate)
   words = $0; sub(/^[^:]*:/, "", words)
   deps[crate] = words
+  order[++crate_count] = crate
   cost[crate] = 60
 }
 /^\| [a-z_]+ \| [0-9]+ \|/ { if ($2 in cost) cost[$2] = $4 }
@@ -60,13 +82,16 @@ END {
   read_stamps(then, old)
   read_stamps(now, new)
   for (crate in is_below) {
+    if (lanes > 1) cost[crate] *= 1.2
     all++
     if ((crate in old) && !is_stale(crate)) at_first[crate] = 1
-    if ((crate in new) && (!is_stale(crate) || new[crate] != old[crate])) { at_last[crate] = 1; count++ }
+    if ((crate in new) && (!is_stale(crate) || new[crate] != old[crate])) {
+      count++
+      if (!(crate in at_first)) made += cost[crate]
+    }
   }
-  first = left(at_first)
-  rest = left(at_last)
-  slow = (seconds + 600) / (first - rest + 600)
-  if (seconds > first && slow < seconds / first) slow = seconds / (first + 1)
-  printf "%d of %d crates, about %d min%s\n", count, all, rest * slow / 60 + 1, seconds ? " more" : ""
+  schedule(at_first)
+  rest = (steps ? moments[steps] : 0) * slowness(made) - seconds
+  if (rest < 0) rest = 0
+  printf "%d of %d crates, about %d min%s\n", count, all, rest / 60 + 1, seconds ? " more" : ""
 }

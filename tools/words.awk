@@ -2,7 +2,10 @@
 # their options and their texts are read from the outputs that the gate compares, so help and the messages for wrong
 # words are the program's, byte for byte; the program takes them from the parser of command lines that it is built with.
 #
-# usage: awk [-v width=COLUMNS] -f tools/words.awk -- crates/cases_program/stdout WORD..
+# usage: awk [-v width=COLUMNS] [-v own='WORD ..'] -f tools/words.awk -- crates/cases_program/stdout WORD..
+#
+# `own` has the words of the launcher, which are near to others too. The environment variable OWN_HELP has its lines at
+# the end of the help, and VERSION its line after the first of the version.
 #
 # Exit status 0: a command. Its name, `file` or `input`, the place of its FILE among the words, the FILE, and its
 # options follow, a line each, with `questions` if `why` reads these. Then come `=PLACE` for each further FILE, and
@@ -191,6 +194,15 @@ function unknown_option(name, i, words, n,    best, command, j, k, tip, hint) {
   refuse(message hint, usage)
 }
 
+# The help and the version, with what the launcher adds.
+function whole_help() { return text["gthost --help"] (ENVIRON["OWN_HELP"] == "" ? "" : ENVIRON["OWN_HELP"] "\n") }
+function whole_version(    rest) {
+  rest = text["gthost --version"]
+  sub(/^[^\n]*\n/, "", rest)
+  return substr(text["gthost --version"], 1, length(text["gthost --version"]) - length(rest)) \
+    (ENVIRON["VERSION"] == "" ? "" : ENVIRON["VERSION"] "\n") rest
+}
+
 # The words at the top, up to a command.
 function walk_top(words, n,    i, word, marked, name, j, similar, count, order, score, k, list) {
   read_options("")
@@ -206,22 +218,24 @@ function walk_top(words, n,    i, word, marked, name, j, similar, count, order, 
         note_used(name)
         refuse("unexpected value '" substr(word, index(word, "=") + 1) "' for '--" name "' found; no more were expected", usage_of())
       }
-      show(text["gthost --" name])
+      show(name == "help" ? whole_help() : whole_version())
     }
     if (!marked && word ~ /^-[^-]/) {
-      if (word ~ /^-h/) show(text["gthost --help"])
-      if (word ~ /^-V/) show(text["gthost --version"])
+      if (word ~ /^-h/) show(whole_help())
+      if (word ~ /^-V/) show(whole_version())
       refuse("unexpected argument '" substr(word, 1, 2) "' found", plain)
     }
     if (marked && (word in is_command))
       refuse("unexpected argument '" word "' found\n\n  tip: subcommand '" word "' exists; to use it, remove the '--' before it", plain)
     # The nearest comes last, as the parser has it.
-    for (j = 1; j <= command_count; j++) {
-      score = jaro(word, commands[j])
+    own_count = split(own, own_words, " ")
+    for (j = 1; j <= command_count + own_count; j++) {
+      name = j <= command_count ? commands[j] : own_words[j - command_count]
+      score = jaro(word, name)
       if (score <= 0.7) continue
       for (k = ++count; k > 1 && order[k - 1] > score; k--) { order[k] = order[k - 1]; similar[k] = similar[k - 1] }
       order[k] = score
-      similar[k] = commands[j]
+      similar[k] = name
     }
     for (k = 1; k <= count; k++) list = list (k > 1 ? ", " : "") "'" similar[k] "'"
     if (count) list = "\n\n  tip: " (count == 1 ? "a similar subcommand exists: " : "some similar subcommands exist: ") list
@@ -300,7 +314,8 @@ function refuse_option(id, takes) { refuse("--" id " takes " takes ", not '" giv
 function check_values(command) {
   if (command == "entries") {
     if (given["version"] != "1" && given["version"] != "2") refuse_option("version", "1 or 2")
-    if (("script" in given) && !is_number(given["script"], 65535)) refuse_option("script", "the number of a domain, below 65536")
+    if (("script" in given) && !is_number(given["script"], 32751)) refuse_option("script", "the number of a domain, at most 32751")
+    if (("script" in given) && given["format"] == "json") refuse("only one of --script and --format json can be given", plain)
   } else if (command == "explore") {
     if (("witness" in given) && given["witness"] != "all" && !is_number(given["witness"], 0)) refuse_option("witness", "a number or all")
     if (("trace" in given) && !is_number(given["trace"], 0)) refuse_option("trace", "a number")

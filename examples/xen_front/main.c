@@ -79,6 +79,30 @@ static void in_use(void)
     HOLDS(guest_end(&guest, ref));
 }
 
+/* A guest that uses one reference again and again, in a run whose entries have three changes left: the monitor's
+ * references are worn, and others take their place, until none is spare. */
+static void worn(void)
+{
+    const uint32_t ref = FIRST_REF + 40, other = FIRST_REF + 41;
+    struct gthost_handle name;
+    memset(&guest, 0, sizeof guest);
+    HOLDS(vmm_start(&vmm, &guest, GTHOST_LAST_GENERATION - 3));
+    for (uint32_t round = 0; round < 3 * (NUMBERS - REFERENCES + 1); round++) {
+        guest_grant(&guest, ref, BACK, 1 + round % (FRAMES - 1), false);
+        HOLDS(vmm_map(&vmm, ref, true, &name) == GTHOST_OK);
+        HOLDS(vmm_page(&vmm, name) == guest_page(&guest, 1 + round % (FRAMES - 1)) && !guest_end(&guest, ref));
+        HOLDS(vmm_unmap(&vmm, name) && flags_of(ref) == GTF_permit_access && guest_end(&guest, ref));
+        HOLDS(followed_as(ref, GTHOST_FOLLOWED_WITHDRAWN));
+    }
+    HOLDS(vmm.spare == NUMBERS);
+    guest_grant(&guest, ref, BACK, 3, false);
+    HOLDS(vmm_map(&vmm, ref, true, &name) == GTHOST_N22);
+    guest_grant(&guest, other, BACK, 4, false); /* another reference has its own changes left */
+    HOLDS(vmm_map(&vmm, other, true, &name) == GTHOST_OK && vmm_unmap(&vmm, name));
+    HOLDS(vmm_finish(&vmm) == 0);
+    memset(&guest, 0, sizeof guest);
+}
+
 /* What the front end asks of the back end: the reference in the low half, and whether to write in the high one. TAKEN
  * while the back end is at it, and 0 when it is done. */
 static uint64_t asked[REQUESTS];
@@ -182,7 +206,8 @@ static void in_threads(void)
 int main(int argc, char **argv)
 {
     rounds = argc > 1 ? strtoull(argv[1], NULL, 10) : 100000;
-    if (!vmm_start(&vmm, &guest)) {
+    worn();
+    if (!vmm_start(&vmm, &guest, 0)) {
         return 1;
     }
     each_change();

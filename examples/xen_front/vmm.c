@@ -8,14 +8,18 @@ enum { TRIES = 4 };
 static const char POLICY[] = "type back_t; type front_t;\n"
                              "allow back_t front_t:grant { map_read map_write unmap };\n";
 
-bool vmm_start(struct vmm *vmm, struct guest *guest)
+bool vmm_start(struct vmm *vmm, struct guest *guest, uint32_t first_gen)
 {
-    const struct gthost_settings settings[DOMAINS] = {{FRONT, 1, FRAMES, 1, 1}, {BACK, 0, 1, 1, 1}};
+    const struct gthost_settings settings[DOMAINS] = {{FRONT, 1, FRAMES, TABLE_FRAMES, 1}, {BACK, 0, 1, 1, 1}};
     memset(vmm, 0, sizeof *vmm);
     vmm->guest = guest;
+    for (uint32_t ref = 0; ref < REFERENCES; ref++) {
+        vmm->number[ref] = vmm->guests[ref] = ref;
+    }
+    vmm->spare = REFERENCES;
     pthread_mutex_init(&vmm->lock, NULL);
     const struct gthost_fault fault =
-        gthost_start(settings, DOMAINS, 0, 0, (const uint8_t *)POLICY, strlen(POLICY), vmm->domains, DOMAINS);
+        gthost_start(settings, DOMAINS, first_gen, 0, (const uint8_t *)POLICY, strlen(POLICY), vmm->domains, DOMAINS);
     if (fault.kind != GTHOST_FAULT_NONE) {
         fprintf(stderr, "xen_front: no run: fault %u, line %u\n", fault.kind, fault.line);
     }
@@ -35,12 +39,28 @@ static uint64_t look(const struct vmm *vmm, uint32_t ref)
     return __atomic_load_n(&vmm->guest->table[ref].word, __ATOMIC_ACQUIRE);
 }
 
+/* Gives a guest's reference another one of the monitor, if its own is worn and no longer mapped. Requires the lock. */
+static bool replace(struct vmm *vmm, uint32_t ref)
+{
+    const struct gthost_entry_status entry = gthost_entry(&vmm->domains[FRONT - 1], vmm->number[ref]).entry;
+    if (vmm->spare == NUMBERS || entry.reads > 0 || entry.writes > 0) {
+        return false;
+    }
+    gthost_withdraw(&vmm->domains[FRONT - 1], vmm->number[ref]); /* if it is still valid: before a demotion */
+    vmm->guests[vmm->spare] = ref;
+    vmm->number[ref] = vmm->spare++;
+    return true;
+}
+
 /* Requires the lock. */
 static struct gthost_answer follow(struct vmm *vmm, uint32_t ref, uint64_t word)
 {
     struct gthost_entry_bytes bytes = {sizeof word, {0}};
+    struct gthost_answer answer;
     memcpy(bytes.bytes, &word, sizeof word);
-    const struct gthost_answer answer = gthost_follow(&vmm->domains[FRONT - 1], ref, bytes);
+    do {
+        answer = gthost_follow(&vmm->domains[FRONT - 1], vmm->number[ref], bytes);
+    } while (answer.rule == GTHOST_N22 && replace(vmm, ref));
     if (answer.rule == GTHOST_OK) {
         vmm->followed[answer.value]++;
     } else {
@@ -66,10 +86,11 @@ static bool mark(struct vmm *vmm, uint32_t ref, uint64_t word, bool writes)
                                        __ATOMIC_ACQUIRE);
 }
 
-/* Clears the marks of the pins that are gone. Requires the lock. */
-static void clear_marks(struct vmm *vmm, uint32_t ref)
+/* Clears the marks of the pins that are gone from a reference of the monitor. Requires the lock. */
+static void clear_marks(struct vmm *vmm, uint32_t number)
 {
-    const struct gthost_entry_status entry = gthost_entry(&vmm->domains[FRONT - 1], ref).entry;
+    const uint32_t ref = vmm->guests[number];
+    const struct gthost_entry_status entry = gthost_entry(&vmm->domains[FRONT - 1], number).entry;
     const bool writes = entry.writes > 0, reads = entry.reads > 0 || writes;
     const unsigned gone = (writes ? 0u : GTF_writing) | (reads ? 0u : GTF_reading);
     __atomic_fetch_and(&vmm->guest->table[ref].v1.flags, (uint16_t)~gone, __ATOMIC_RELEASE);
@@ -83,8 +104,8 @@ static uint32_t map_once(struct vmm *vmm, uint32_t ref, bool writes, struct gtho
     if (followed.rule != GTHOST_OK) {
         return followed.rule;
     }
-    const struct gthost_answer mapped =
-        gthost_map(&vmm->domains[BACK - 1], FRONT, ref, writes ? GTHOST_MAP_WRITABLE : GTHOST_MAP_READ_ONLY);
+    const uint32_t flags = writes ? GTHOST_MAP_WRITABLE : GTHOST_MAP_READ_ONLY;
+    const struct gthost_answer mapped = gthost_map(&vmm->domains[BACK - 1], FRONT, vmm->number[ref], flags);
     if (mapped.rule != GTHOST_OK) {
         return mapped.rule;
     }
@@ -119,11 +140,11 @@ uint8_t *vmm_page(struct vmm *vmm, struct gthost_handle name)
 
 bool vmm_unmap(struct vmm *vmm, struct gthost_handle name)
 {
-    const uint32_t ref = gthost_mapping(&vmm->domains[BACK - 1], name).mapping.gref;
+    const uint32_t number = gthost_mapping(&vmm->domains[BACK - 1], name).mapping.gref;
     pthread_mutex_lock(&vmm->lock);
     const bool is_done = gthost_unmap(&vmm->domains[BACK - 1], name).rule == GTHOST_OK;
     if (is_done) {
-        clear_marks(vmm, ref);
+        clear_marks(vmm, number);
     }
     pthread_mutex_unlock(&vmm->lock);
     return is_done;

@@ -9,14 +9,13 @@ use Rattle.gt_words.specs.Conditions.{IsSameSeat}
 use Rattle.gt_live.specs.declared.domain.Domain.{Domain}
 use Rattle.gt_live.specs.declared.domain.copies.PendingCopy.{PendingCopy}
 use Rattle.gt_live.specs.declared.monitor.Monitor.{Monitor}
-use Rattle.gt_live.specs.declared.domain.Departed.{Departed}
 use Rattle.gt_live.specs.Closing.{Resets}
 use Rattle.gt_live.specs.Domains.{AllowRelation, Answered, BelongsTo, HasLeft, KeepsPinned, record_of_copy}
 use Rattle.gt_live.specs.Halves.{ComesHalfway, EndsHalfway, IsHalfway, done_copy}
 use Rattle.gt_live.specs.Parts.{seat_of, trail_left, trail_of, words_of}
-use Rattle.gt_attached.specs.declared.answer.Departure.{Departure}
 use Rattle.gt_attached.specs.declared.answer.TakenCounts.{TakenCounts}
 use Rattle.gt_attached.specs.declared.guest.CopyPlaces.{CopyPlaces}
+use Rattle.gt_attached.specs.declared.guest.LeftGuest.{LeftGuest}
 
 -- a domain, its monitor, and the copy that it is in
 pub record Seated (P : Type 0) : Type 0 where
@@ -60,24 +59,23 @@ EndsAccess s t =
     × EndsHalfway (words_of s.monitor).layout h s.domain t.domain
     × AppendsRecord (trail_of s.domain) (done_copy s.domain h.copy) (trail_of t.domain)
 
--- a domain released its mappings, closed its table and left its run, with this many entries still in use and this many
--- records lost
-pub record Leaves {P : Type 0} (may : P → AllowRelation) (m : Monitor P) (d : Domain) (remains : Departure) : Type 0 where
+-- a domain released its mappings, closed its table and left its run by the seat that is given, with this many entries
+-- still in use and this many records lost; it did nothing else
+pub record Leaves {P : Type 0} (may : P → AllowRelation) (m : Monitor P) (d : Domain) (gone : LeftGuest) : Type 0 where
   pub closed : Domain
-  pub resets : Resets may m d remains.in_use closed
-  pub left : Departed
-  pub leaves : HasLeft (words_of m).layout closed left
-  pub lost : remains.lost ≡ (trail_left left).lost
+  pub resets : Resets may m d gone.remains.in_use closed
+  pub leaves : HasLeft (words_of m).layout closed gone.left
+  pub lost : gone.remains.lost ≡ (trail_left gone.left).lost
 
 -- the domain was in no copy, and is unchanged; or the copy that it was in was ended
 abbrev pub Settles : {P : Type 0} → Seated P → Seated P → Type 0
 Settles s t = ((s.copying ≡ None) × (t ≡ s)) ⊎ EndsAccess s t
 
--- the domain left its run, after the end of its copy if it was in one, and this remains
-pub record LeavesSettled {P : Type 0} (may : P → AllowRelation) (s : Seated P) (remains : Departure) : Type 0 where
+-- the domain left its run, after the end of its copy if it was in one, and this is what it left behind
+pub record LeavesSettled {P : Type 0} (may : P → AllowRelation) (s : Seated P) (gone : LeftGuest) : Type 0 where
   pub settled : Seated P
   pub settles : Settles s settled
-  pub leaves : Leaves may settled.monitor settled.domain remains
+  pub leaves : Leaves may settled.monitor settled.domain gone
 
 -- the number of records of a domain, and the number lost
 abbrev pub taken_of : TrailState → TakenCounts

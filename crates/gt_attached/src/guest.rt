@@ -1,18 +1,16 @@
-//! A domain together with its monitor.
+//! A guest, which is a domain in its run and the copy that it is in, and the calls of an attached domain.
 ghost use Rattle.std.specs.Prelude.{◌≡◌, None};
 ghost use Rattle.gt_live.specs.Domains.{BelongsTo};
 ghost use Rattle.gt_attached.specs.Seated.{Leaves, LeavesSettled, Settles, StandsBy, seated};
-ghost use Rattle.gt_attached.specs.declared.answer.Departure.{Departure as Remains};
 
 use crate::answer::{Departure, TakenCounts};
+use crate::attached::AttachedDomain;
 use gt_audit::{Record, Trail};
 use gt_calls::{CopyArgs, Handle, HeldPin, Spot};
 use gt_entry::{Control, Entry};
-use gt_live::{Domain, Followed, Monitor, PendingCopy};
+use gt_live::{Departed, Domain, Followed, Monitor, PendingCopy};
 use gt_types::{Allows, Denial, DomId, GrantRef, Memory, Size};
 use std::alloc::Global;
-use std::marker::Model;
-use std::sync::Arc;
 
 /// The places of a copy at its access: `len` bytes may be read at `from` and written at `to`.
 #[derive(Clone, Copy)]
@@ -22,12 +20,19 @@ pub struct CopyPlaces {
     pub len: u16,
 }
 
-/// A domain with a share of its monitor, and the copy that it is in, if it is in one. When it is dropped, it ends the
-/// copy, closes its table and leaves the run. A contract sees these three parts.
-pub struct AttachedDomain<P: Allows + Drop> {
-    monitor: Arc<Monitor<P>, Global>,
+/// A domain in its run, and the copy that it is in, if it is in one. It is not `Drop`, and its fields are private here, so
+/// whoever else has one can only let it leave. By each such body that compiles, it ends its copy and closes its table.
+pub(crate) struct Guest {
     domain: Domain,
     copying: Option<PendingCopy>,
+}
+
+/// A domain that has left its run: what remains of it, and its seat with its records. No seat can be made or changed.
+/// So this seat is the one that left, and its view has each step that the domain made.
+#[derive(Drop)]
+pub struct LeftGuest {
+    pub remains: Departure,
+    pub left: Departed,
 }
 
 // Ends the copy that the domain is in, if it is in one.
@@ -42,47 +47,41 @@ fn settle<P: Allows>(monitor: &Monitor<P>, domain: &mut Domain, copying: Option<
 }
 
 // Releases the domain's mappings, closes its table and leaves its run.
-fn depart<P: Allows>(monitor: &Monitor<P>, domain: Domain) -> Departure
+fn depart<P: Allows>(monitor: &Monitor<P>, domain: Domain) -> LeftGuest
     requires { BelongsTo P.may monitor.now domain }
     ensures { Leaves P.may monitor.now domain result }
 {
     let mut domain = domain;
     let in_use = domain.reset(monitor) as u64;
-    let lost = domain.finish(monitor).lost();
-    Departure { lost, in_use }
+    let left = domain.finish(monitor);
+    let lost = left.lost();
+    let remains = Departure { lost, in_use };
+    LeftGuest { remains, left }
 }
 
-// Does the same, after the end of the copy that the domain is in, if it is in one.
-fn leave<P: Allows>(monitor: &Monitor<P>, domain: Domain, copying: Option<PendingCopy>) -> Departure
-    requires { StandsBy P.may monitor.now domain copying }
-    ensures { LeavesSettled P.may (seated monitor.now domain copying) result }
-{
-    let mut domain = domain;
-    settle(monitor, &mut domain, copying);
-    depart(monitor, domain)
-}
-
-impl<P: Allows + Drop> Model for AttachedDomain<P> {
-    ghost use Rattle.std.specs.Arc.{arc_value};
-    ghost use Rattle.gt_attached.specs.Seated.{Seated, StandsBy};
-
-    ghost Value = { Seated P };
-
-    ghost view = { λ g. record { monitor = arc_value g.monitor; domain = g.domain; copying = g.copying } };
-
-    ghost invariant = { λ g. StandsBy P.may (arc_value g.monitor) g.domain g.copying };
-}
-
-impl<P: Allows + Drop> Drop for AttachedDomain<P> {
-    fn drop(self)
-        ensures { (remains : Remains) × LeavesSettled P.may self remains }
+impl Guest {
+    /// Makes a guest of a domain that is in no copy.
+    pub(crate) fn new(domain: Domain) -> Guest
+        ensures { result ≡ record { domain = domain; copying = None } }
     {
-        let AttachedDomain {
-            monitor,
+        Guest {
             domain,
+            copying: None,
+        }
+    }
+
+    /// Ends the copy that the domain is in, if it is in one. Then releases its mappings, closes its table and leaves its
+    /// run.
+    pub(crate) fn leave<P: Allows>(self, monitor: &Monitor<P>) -> LeftGuest
+        requires { StandsBy P.may monitor.now self.domain self.copying }
+        ensures { LeavesSettled P.may (seated monitor.now self.domain self.copying) result }
+    {
+        let Guest {
+            mut domain,
             copying,
         } = self;
-        let _ = leave(&monitor, domain, copying);
+        settle(monitor, &mut domain, copying);
+        depart(monitor, domain)
     }
 }
 
@@ -105,21 +104,8 @@ impl<P: Allows + Drop> AttachedDomain<P> {
     ghost use Rattle.gt_types.specs.declared.denial.Facts.TheVariants.{None as NoFacts};
     ghost use Rattle.gt_types.specs.declared.denial.Rule.TheVariants.{N6};
     ghost use Rattle.gt_handles.specs.Handles.{value_of};
-    ghost use Rattle.gt_attached.specs.Seated.{BeginsAccess, EndsAccess, Leaves, StaysIdle, taken_of};
+    ghost use Rattle.gt_attached.specs.Seated.{BeginsAccess, EndsAccess, StaysIdle, taken_of};
     ghost use Rattle.std.specs.List.{slice_get};
-    ghost use Rattle.std.specs.Arc.{arc_value};
-
-    /// Attaches the domain to its monitor.
-    pub(crate) fn new(monitor: Arc<Monitor<P>, Global>, domain: Domain) -> Self
-        requires { BelongsTo P.may (arc_value monitor) domain }
-        ensures { result ≡ record { monitor = arc_value monitor; domain = domain; copying = None } }
-    {
-        AttachedDomain {
-            monitor,
-            domain,
-            copying: None,
-        }
-    }
 
     /// Publishes an entry instead of an invalid one that has no pins left. Neither the frame nor the domain that it
     /// names is checked: without the frame a use of the entry is refused by N16, and without the domain it permits no
@@ -133,7 +119,7 @@ impl<P: Allows + Drop> AttachedDomain<P> {
         ensures answers { AnswersQuietly P.may self.old.monitor self.old.domain
             (Request.Grant gref entry.now) (verdict_of result) self.new.domain }
     {
-        self.domain.grant(&self.monitor, gref, entry)
+        self.guest.domain.grant(&self.monitor, gref, entry)
     }
 
     /// Publishes the entry that the bytes encode in a table of the domain's version.
@@ -146,7 +132,7 @@ impl<P: Allows + Drop> AttachedDomain<P> {
         ensures answers { AnswersQuietly P.may self.old.monitor self.old.domain
             (Request.GrantBytes gref bytes.entry) (verdict_of result) self.new.domain }
     {
-        self.domain.grant_bytes(&self.monitor, gref, bytes)
+        self.guest.domain.grant_bytes(&self.monitor, gref, bytes)
     }
 
     /// Makes one of the domain's entries invalid if it has no pins.
@@ -159,7 +145,7 @@ impl<P: Allows + Drop> AttachedDomain<P> {
         ensures answers { AnswersQuietly P.may self.old.monitor self.old.domain
             (Request.Revoke gref) (verdict_of result) self.new.domain }
     {
-        self.domain.revoke(&self.monitor, gref)
+        self.guest.domain.revoke(&self.monitor, gref)
     }
 
     /// Makes one of the domain's entries invalid, with or without pins.
@@ -172,7 +158,7 @@ impl<P: Allows + Drop> AttachedDomain<P> {
         ensures answers { AnswersQuietly P.may self.old.monitor self.old.domain
             (Request.Withdraw gref) (verdict_of result) self.new.domain }
     {
-        self.domain.withdraw(&self.monitor, gref)
+        self.guest.domain.withdraw(&self.monitor, gref)
     }
 
     /// Makes one of the domain's entries read-only if it has no write pins.
@@ -185,7 +171,7 @@ impl<P: Allows + Drop> AttachedDomain<P> {
         ensures answers { AnswersQuietly P.may self.old.monitor self.old.domain
             (Request.Demote gref) (verdict_of result) self.new.domain }
     {
-        self.domain.demote(&self.monitor, gref)
+        self.guest.domain.demote(&self.monitor, gref)
     }
 
     /// Makes one of the domain's entries writable.
@@ -198,7 +184,7 @@ impl<P: Allows + Drop> AttachedDomain<P> {
         ensures answers { AnswersQuietly P.may self.old.monitor self.old.domain
             (Request.Promote gref) (verdict_of result) self.new.domain }
     {
-        self.domain.promote(&self.monitor, gref)
+        self.guest.domain.promote(&self.monitor, gref)
     }
 
     /// Brings one of the domain's entries to what its guest has written: the bytes are the guest's entry, as its memory
@@ -212,7 +198,7 @@ impl<P: Allows + Drop> AttachedDomain<P> {
         ensures stays { StaysIdle self.old self.new }
         ensures follows { Follows P.may self.old.monitor self.old.domain gref bytes.now result self.new.domain }
     {
-        self.domain.follow(&self.monitor, gref, bytes)
+        self.guest.domain.follow(&self.monitor, gref, bytes)
     }
 
     /// Gives the domain's table this version, 1 or 2, while all its entries are invalid.
@@ -225,7 +211,7 @@ impl<P: Allows + Drop> AttachedDomain<P> {
         ensures answers { AnswersRecorded P.may self.old.monitor self.old.domain
             (Request.SetVersion version) (Hypercall.SetVersion version) (verdict_of result) self.new.domain }
     {
-        self.domain.set_version(&self.monitor, version)
+        self.guest.domain.set_version(&self.monitor, version)
     }
 
     /// Grows the domain's table to `frames` frames if it has fewer, and returns the number that it then has.
@@ -238,7 +224,7 @@ impl<P: Allows + Drop> AttachedDomain<P> {
         ensures answers { AnswersRecorded P.may self.old.monitor self.old.domain
             (Request.SetupTable frames) (Hypercall.SetupTable frames) (verdict_of_frames result) self.new.domain }
     {
-        self.domain.setup_table(&self.monitor, frames)
+        self.guest.domain.setup_table(&self.monitor, frames)
     }
 
     /// Returns the number of frames of a domain's table, and the maximum.
@@ -251,7 +237,7 @@ impl<P: Allows + Drop> AttachedDomain<P> {
         ensures answers { AnswersRecorded P.may self.old.monitor self.old.domain
             (Request.QuerySize dom) (Hypercall.QuerySize dom) (verdict_of_size result) self.new.domain }
     {
-        self.domain.query_size(&self.monitor, dom)
+        self.guest.domain.query_size(&self.monitor, dom)
     }
 
     /// Returns the version of a domain's table.
@@ -264,7 +250,7 @@ impl<P: Allows + Drop> AttachedDomain<P> {
         ensures answers { AnswersRecorded P.may self.old.monitor self.old.domain
             (Request.GetVersion dom) (Hypercall.GetVersion dom) (verdict_of_version result) self.new.domain }
     {
-        self.domain.get_version(&self.monitor, dom)
+        self.guest.domain.get_version(&self.monitor, dom)
     }
 
     /// Maps an entry of a domain, for reading and writing (flags 2) or for reading (flags 6): `GNTMAP_host_map` and
@@ -285,7 +271,7 @@ impl<P: Allows + Drop> AttachedDomain<P> {
             })
             (trail_of self.new.domain) }
     {
-        self.domain.map(&self.monitor, dom, gref, flags)
+        self.guest.domain.map(&self.monitor, dom, gref, flags)
     }
 
     /// Unmaps a mapping, and releases its pin.
@@ -305,7 +291,7 @@ impl<P: Allows + Drop> AttachedDomain<P> {
             (record_of_result self.old.domain (Hypercall.Unmap (subject_of self.old.domain handle)) (verdict_of result))
             (trail_of self.new.domain) }
     {
-        self.domain.unmap(&self.monitor, handle)
+        self.guest.domain.unmap(&self.monitor, handle)
     }
 
     /// Returns the mapping under a handle, or `None` if the domain has no such mapping.
@@ -313,7 +299,7 @@ impl<P: Allows + Drop> AttachedDomain<P> {
         requires idle { self.now.copying ≡ None }
         ensures { result ≡ value_of (mappings_of self.now.domain) handle }
     {
-        self.domain.mapping(&self.monitor, handle)
+        self.guest.domain.mapping(&self.monitor, handle)
     }
 
     /// Returns a handle under which the domain has no mapping now. Its serial is that of the next mapping.
@@ -321,7 +307,7 @@ impl<P: Allows + Drop> AttachedDomain<P> {
         ensures value { result ≡ unused_handle self.now.domain }
         ensures unused { value_of (mappings_of self.now.domain) result ≡ None }
     {
-        self.domain.unused_handle()
+        self.guest.domain.unused_handle()
     }
 
     /// Bounds the trail: a call is recorded only while the trail has fewer than `records` records. With 0 no call is
@@ -332,7 +318,7 @@ impl<P: Allows + Drop> AttachedDomain<P> {
         ensures bound { self.new.domain
             ≡ with_trail self.old.domain (record (trail_of self.old.domain) { most = records }) }
     {
-        self.domain.keep_at_most(records);
+        self.guest.domain.keep_at_most(records);
     }
 
     /// Makes room for `records` more records, which then need no allocation.
@@ -349,28 +335,28 @@ impl<P: Allows + Drop> AttachedDomain<P> {
         ensures kept { self.new.domain ≡ with_trail self.old.domain
             (record (trail_of self.old.domain) { room = (trail_of self.new.domain).room }) }
     {
-        self.domain.reserve_records(records)
+        self.guest.domain.reserve_records(records)
     }
 
     /// Returns the record at an index of the trail, starting at 0.
     pub fn record_at(&self, index: usize) -> Option<Record>
         ensures { result ≡ slice_get (trail_of self.now.domain).records index }
     {
-        self.domain.trail().get(index)
+        self.guest.domain.trail().get(index)
     }
 
     /// Returns the number of records lost so far.
     pub fn lost(&self) -> u64
         ensures { result ≡ (trail_of self.now.domain).lost }
     {
-        self.domain.trail().lost()
+        self.guest.domain.trail().lost()
     }
 
     /// Returns whether the domain is in a copy.
     pub fn is_copying(&self) -> bool
         ensures { result ≡ is_some self.now.copying }
     {
-        self.copying.is_some()
+        self.guest.copying.is_some()
     }
 
     /// Begins a copy: takes its pins, and returns the places where bytes may now be read and written. The domain is in
@@ -383,9 +369,9 @@ impl<P: Allows + Drop> AttachedDomain<P> {
         requires idle { self.old.copying ≡ None }
         ensures begins { BeginsAccess P.may self.old copy.now result self.new }
     {
-        match self.domain.copy_begin(&self.monitor, copy) {
+        match self.guest.domain.copy_begin(&self.monitor, copy) {
             Ok(halfway) => {
-                self.copying = Some(halfway);
+                self.guest.copying = Some(halfway);
                 Ok(CopyPlaces {
                     from: halfway.from,
                     to: halfway.to,
@@ -401,25 +387,11 @@ impl<P: Allows + Drop> AttachedDomain<P> {
         requires copying { IsSome self.old.copying }
         ensures ends { EndsAccess self.old self.new }
     {
-        let copying = self.copying;
+        let copying = self.guest.copying;
         if let Some(halfway) = copying {
-            self.domain.copy_end(&self.monitor, halfway);
-            self.copying = None;
+            self.guest.domain.copy_end(&self.monitor, halfway);
+            self.guest.copying = None;
         }
-    }
-
-    /// Leaves the run: releases each of the domain's mappings, and withdraws each of its valid entries. Returns the
-    /// number of records that were lost, and the number of the domain's entries still in use.
-    pub fn finish(self) -> Departure
-        requires idle { self.copying ≡ None }
-        ensures leaves { Leaves P.may self.monitor self.domain result }
-    {
-        let AttachedDomain {
-            monitor,
-            domain,
-            copying: _,
-        } = self;
-        depart(&monitor, domain)
     }
 
     /// Releases each of the domain's mappings and closes its table, for the next guest in its place. Its records stay.
@@ -430,8 +402,8 @@ impl<P: Allows + Drop> AttachedDomain<P> {
         ensures resets { Resets P.may self.old.monitor self.old.domain result.in_use self.new.domain }
         ensures lost { result.lost ≡ (trail_of self.old.domain).lost }
     {
-        let in_use = self.domain.reset(&self.monitor) as u64;
-        let lost = self.domain.trail().lost();
+        let in_use = self.guest.domain.reset(&self.monitor) as u64;
+        let lost = self.guest.domain.trail().lost();
         Departure { lost, in_use }
     }
 
@@ -442,7 +414,7 @@ impl<P: Allows + Drop> AttachedDomain<P> {
         ensures stays { StaysIdle self.old self.new }
         ensures looks { LooksAtOwn (words_of self.old.monitor).layout self.old.domain gref result self.new.domain }
     {
-        self.domain.status(&self.monitor, gref)
+        self.guest.domain.status(&self.monitor, gref)
     }
 
     /// Drops the domain's records. Keeps the room that they took, and the room that was free. Returns the number of
@@ -456,13 +428,13 @@ impl<P: Allows + Drop> AttachedDomain<P> {
         ensures room { KeepsRoom (trail_of self.old.domain) (trail_of self.new.domain) }
         ensures kept { self.new.domain ≡ with_trail self.old.domain (trail_of self.new.domain) }
     {
-        let mut records = self.domain.take_records(Trail::new(alloc));
+        let mut records = self.guest.domain.take_records(Trail::new(alloc));
         let taken = TakenCounts {
             records: records.len() as u64,
             lost: records.lost(),
         };
         records.clear();
-        let _none = self.domain.take_records(records);
+        let _none = self.guest.domain.take_records(records);
         taken
     }
 
@@ -470,6 +442,6 @@ impl<P: Allows + Drop> AttachedDomain<P> {
     pub fn dom(&self) -> DomId
         ensures { result ≡ (seat_of self.now.domain).dom }
     {
-        self.domain.seat().dom()
+        self.guest.domain.seat().dom()
     }
 }

@@ -13,6 +13,7 @@
 #![tactic(auto)]
 
 mod answer;
+mod attached;
 mod guest;
 mod record;
 mod starting;
@@ -20,6 +21,7 @@ mod starting;
 pub use answer::{
     AttachedOutcome, Departure, EncodedAnswer, MappingName, TakenCounts, answers_are_read_back,
 };
-pub use guest::{AttachedDomain, CopyPlaces};
+pub use attached::AttachedDomain;
+pub use guest::{CopyPlaces, LeftGuest};
 pub use record::{CopyEnd, EncodedRecord};
 pub use starting::start;

@@ -5,7 +5,7 @@ ghost use Rattle.gt_live.specs.Domains.{BelongsTo};
 ghost use Rattle.gt_attached.specs.Starting.{AreNewGuests, beside};
 ghost use Rattle.std.specs.Arc.{arc_value};
 
-use crate::guest::AttachedDomain;
+use crate::attached::AttachedDomain;
 use gt_live::{Domain, Monitor};
 use gt_types::{Allows, Config, StartFault};
 use std::alloc::{AllocError, Global};

@@ -3,7 +3,8 @@ use Rattle.std.specs.Prelude.{◌≡◌, ◌≤◌, ◌⊎◌, ℕ, List, Option
 use Rattle.gt_c.specs.Prelude.{GrantRef, DomId, Memory, Size, Denial, Table, may, Hypercall, Kept}
 use Rattle.gt_c.specs.Prelude.{HasNone, AppendsRecord, KeepsRoom, CallResult, Mapped, Request, Name, Domain}
 use Rattle.gt_c.specs.Prelude.{Answered, AnswersQuietly}
-use Rattle.gt_c.specs.Prelude.{AnswersRecorded, KeepsPinned, LeavesSettled, Settles, Departure, Resets, taken_of}
+use Rattle.gt_c.specs.Prelude.{AnswersRecorded, KeepsPinned, LeavesSettled, Settles, Departure, LeftGuest, Resets}
+use Rattle.gt_c.specs.Prelude.{taken_of}
 use Rattle.gt_c.specs.Prelude.{MapAnswered, mapping_reply, subject_of, record_of_result, verdict_of, Removes, encoded}
 use Rattle.gt_c.specs.Prelude.{Seated, StaysIdle, EncodedAnswer, AttachedOutcome, CDomain}
 use Rattle.gt_attached.specs.declared.answer.AttachedOutcome.TheVariants as outcomes
@@ -149,9 +150,9 @@ pub record Reserves (records : ℕ) (answer : EncodedAnswer) (d e : CDomain) : T
 
 -- the domain left the run, after the end of its copy if it was in one, and the answer encodes what remains
 pub record LeavesWith (s : Seated Table) (answer : EncodedAnswer) : Type 0 where
-  pub remains : Departure
-  pub encodes : answer ≡ encoded (outcomes.Left remains)
-  pub leaves : LeavesSettled may s remains
+  pub gone : LeftGuest
+  pub encodes : answer ≡ encoded (outcomes.Left gone.remains)
+  pub leaves : LeavesSettled may s gone
 
 -- the domain of a handle left, and the answer encodes what remains; or the handle had none, and the answer is that
 abbrev pub Finishes : EncodedAnswer → Option CDomain → Option CDomain → Type 0

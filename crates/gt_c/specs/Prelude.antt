@@ -38,6 +38,7 @@ pub use Rattle.gt_attached.specs.declared.answer.EncodedAnswer.{EncodedAnswer}
 pub use Rattle.gt_attached.specs.declared.answer.AttachedOutcome.{AttachedOutcome}
 pub use Rattle.gt_attached.specs.declared.answer.Departure.{Departure}
 pub use Rattle.gt_attached.specs.declared.guest.CopyPlaces.{CopyPlaces}
+pub use Rattle.gt_attached.specs.declared.guest.LeftGuest.{LeftGuest}
 pub use Rattle.gt_attached.specs.declared.record.CopyEnd.{CopyEnd}
 pub use Rattle.gt_attached.specs.declared.record.EncodedRecord.{EncodedRecord}
 pub use Rattle.gt_types.specs.declared.Dir.{Dir}

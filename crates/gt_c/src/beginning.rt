@@ -1,7 +1,7 @@
 //! The start of a run, and how a domain leaves it.
 ghost use Rattle.std.specs.Prelude.{◌≡◌, All, length, map, IfOk, None};
 ghost use Rattle.std.specs.List.{list_any};
-ghost use Rattle.gt_c.specs.Calling.{Finishes, LeavesWith, MakesReady, ResetsGuest};
+ghost use Rattle.gt_c.specs.Calling.{Finishes, MakesReady, ResetsGuest};
 ghost use Rattle.gt_attached.specs.Seated.{Settles};
 ghost use Rattle.gt_c.specs.Starting.{StartsWith, ReportsType, domain_of_handle, here_of, holding};
 
@@ -87,16 +87,6 @@ fn settle(guest: &mut AttachedDomain<AllowTable>)
     }
 }
 
-// Lets a domain leave, after the end of its copy if it is in one.
-fn left(guest: AttachedDomain<AllowTable>) -> EncodedAnswer
-    ensures { LeavesWith guest result }
-{
-    let mut guest = guest;
-    settle(&mut guest);
-    let remains = guest.finish();
-    EncodedAnswer::of(AttachedOutcome::Left(remains))
-}
-
 /// Lets the domain leave its run: ends its copy, releases its mappings, withdraws its entries, and leaves the handle
 /// without a domain. The last domain frees the monitor. Returns the number of records that were lost, and the number of
 /// entries still in use.
@@ -108,7 +98,8 @@ pub extern "C" fn gthost_finish_at(alloc: Global, domain: &mut DomainHandle) -> 
         return EncodedAnswer::of(AttachedOutcome::NoDomain);
     };
     let here = Box::into_inner(here);
-    left(here.guest)
+    let gone = here.guest.finish();
+    EncodedAnswer::of(AttachedOutcome::Left(gone.remains))
 }
 
 // Makes a domain ready for the next guest in its place, after the end of its copy if it is in one.

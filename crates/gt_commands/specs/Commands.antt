@@ -155,9 +155,9 @@ version_of (Some word) = if bytes_eq word (codes "1") then Some 1
 abbrev pub number_up_to : ℕ → Text → Option ℕ
 number_up_to most word = if is_unsigned_in 0 most word then Some (digits_value 10 (without_leading_plus word)) else None
 
--- the number of a domain, below 65,536
+-- the number of a domain in a script, at most 32,751
 abbrev pub domain_number : Text → Option ℕ
-domain_number word = number_up_to 65535 word
+domain_number word = number_up_to 32751 word
 
 -- `--script DOM`, if it is given
 abbrev pub script_of : Option Text → Option (Option ℕ)
@@ -186,9 +186,9 @@ claim_of (Some find) (Some never) always = None
 claim_of (Some find) None (Some always) = None
 claim_of None (Some never) (Some always) = None
 
--- `--states N`; 100,000 if it is left out
+-- `--states N`; 1,000,000 if it is left out
 abbrev pub states_of : Option Text → Option ℕ
-states_of None = Some 100000
+states_of None = Some 1000000
 states_of (Some word) = number_up_to 18446744073709551615 word
 
 abbrev pub play_with : Option Format → Bool → Bool → Option Text → Request
@@ -279,12 +279,16 @@ why_with (Some source) (Some target) None file = nothing
 why_with (Some source) (Some target) (Some permission) file =
     to_explain (type_of (Some source)) (type_of (Some target)) (type_of (Some permission)) file
 
+-- the lines of a script have no form as JSON
 abbrev pub entries_with : Option ℕ → Option (Option ℕ) → Option Format → Bool → Bool → Option Text → Request
 entries_with None script format hex every file = nothing
 entries_with (Some version) None format hex every file = nothing
 entries_with (Some version) (Some script) None hex every file = nothing
-entries_with (Some version) (Some script) (Some format) hex every file =
-    to_tell_entries version hex every script format file
+entries_with (Some version) (Some None) (Some format) hex every file =
+    to_tell_entries version hex every None format file
+entries_with (Some version) (Some (Some dom)) (Some Plain) hex every file =
+    to_tell_entries version hex every (Some dom) Plain file
+entries_with (Some version) (Some (Some dom)) (Some Json) hex every file = nothing
 
 -- what a command asks for, by the values that were given: nothing if it does not take one of them
 abbrev pub read : Mode → (Text → Option Text) → Request

@@ -83,16 +83,17 @@ Options:
       --has <TEXT>       Print the number of the output in the file TEXT
       --witness <N|all>  Print a script for `play` that gives output N, or each
       --trace <N>        Print the steps that lead to output N, a line each
-      --states <N>       Stop after N states [default: 100000]
+      --states <N>       Stop after N states [default: 1000000]
       --format <FORM>    Print text, json, or mermaid (--trace) [default: text]
   -h, --help             Print help
 
 EXPR is terms joined by `&`: WORD (an answer has it), LINE=ANSWER (the answer to
-this line of the script begins so), ID:ANSWER (an answer of this domain does).
+this line of the script begins so), ID:ANSWER (an answer of this domain does). A
+term that no answer can meet is refused.
 
 Exit status: 0 if the claim holds, TEXT is an output, or all were found; 1 if it
-does not hold, or TEXT is none of them; 2 if it is not decided. A claim that
-fails prints a script for `play`.
+does not hold, or TEXT is none of them; 2 if it is not decided, or TEXT has not
+the lines of an output. A claim that fails prints a script for `play`.
 ";
 
 pub(crate) const POLICY: &str =

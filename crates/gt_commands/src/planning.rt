@@ -171,6 +171,7 @@ fn entries_with<'a>(
         (option_map (λ v. v.now) file.entry) }
 {
     match (version, script, format) {
+        (Some(_), Some(Some(_)), Some(Format::Json)) => None,
         (Some(version), Some(script), Some(format)) => Some(Invocation::Entries {
             dump: EntriesOptions {
                 version,
@@ -346,7 +347,12 @@ fn refused_by_entries<'a>(matches: &ArgMatches<'a>) -> (&'static str, Option<&'a
     if version_of(version).is_none() {
         ("--version takes 1 or 2", version)
     } else if script_of(script).is_none() {
-        ("--script takes the number of a domain, below 65536", script)
+        (
+            "--script takes the number of a domain, at most 32751",
+            script,
+        )
+    } else if script.is_some() && value_of(matches, "format") == Some("json") {
+        ("only one of --script and --format json can be given", None)
     } else {
         refused_format(matches)
     }

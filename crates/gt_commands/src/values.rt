@@ -90,17 +90,20 @@ pub(crate) fn version_of(value: Option<&str>) -> Option<u8>
     }
 }
 
-// Returns the number of a domain, if the word is a number below 65,536.
+// The highest number of a domain in a script.
+const MOST_DOM: u16 = 32_751;
+
+// Returns the number of a domain, if the word is one up to 32,751.
 fn domain_of(word: &str) -> Option<u16>
     ensures { result ≡ domain_number word.now }
 {
     match word.parse() {
-        Ok(number) => Some(number),
-        Err(_) => None,
+        Ok(number) if number <= MOST_DOM => Some(number),
+        _ => None,
     }
 }
 
-/// Returns the domain of a script, if one is given. The outer result is None if the value is not a number below 65,536.
+/// Returns the domain of a script, if one is given. The outer result is None if the value is not a number up to 32,751.
 pub(crate) fn script_of(value: Option<&str>) -> Option<Option<u16>>
     ensures { result ≡ script_of (option_map (λ v. v.now) value.entry) }
 {
@@ -161,12 +164,12 @@ pub(crate) fn sought_of<'a>(
     }
 }
 
-/// Returns the maximum number of states, 100,000 if no value is given. None if the value is not a number of 64 bits.
+/// Returns the maximum number of states, 1,000,000 if no value is given. None if the value is not a number of 64 bits.
 pub(crate) fn states_of(value: Option<&str>) -> Option<usize>
     ensures { result ≡ states_of (option_map (λ v. v.now) value.entry) }
 {
     match value {
-        None => Some(100_000),
+        None => Some(1_000_000),
         Some(word) => number_of(word),
     }
 }

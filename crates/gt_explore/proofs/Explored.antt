@@ -21,7 +21,7 @@ use Rattle.gt_explore_faults.specs.Faults.{expression_fault}
 use Rattle.gt_explore.specs.Writing.{Explored, Explores, Makes}
 use Rattle.gt_explore_answers.specs.declared.asking.ExploreOptions.{ExploreOptions}
 use Rattle.gt_explore_faults.specs.declared.fault.ExploreFault.{ExploreFault}
-use Rattle.gt_explore_faults.specs.declared.fault.ExploreFault.TheVariants.{Play, Term, Number, Unfound, Texts}
+use Rattle.gt_explore_faults.specs.declared.fault.ExploreFault.TheVariants.{Play, Term, Text, Number, Unfound, Texts}
 
 -- a script was explored
 pub explored_script : (asked : ExploreOptions) (Told : Result RunContents Wrong → Type 0) (c : RunContents) (r : Result Verdict ExploreFault) (old new : Option (List ℕ)) → Told (Ok c)
@@ -30,6 +30,7 @@ explored_script asked Told c (Ok verdict) old new told wrote = (c, told, wrote)
 explored_script asked Told c (Err (Term number fault)) old new told wrote = (c, told, wrote)
 explored_script asked Told c (Err Number) old new told wrote = (c, told, wrote)
 explored_script asked Told c (Err Unfound) old new told wrote = (c, told, wrote)
+explored_script asked Told c (Err (Text line fault)) old new told wrote = (c, told, wrote)
 explored_script asked Told c (Err (Texts fault)) old new told wrote = (c, told, wrote)
 explored_script asked Told c (Err (Play plays.Write)) old new told wrote = (c, told, wrote)
 explored_script asked Told c (Err (Play plays.Memory)) old new told wrote = absurd wrote
@@ -49,6 +50,7 @@ explored_fault c asked error fault old is same = subst (λ (f : ExploreFault). E
 pub explored_unmade : (c : RunContents) (asked : ExploreOptions) (fault : ExploreFault) (old : Option (List ℕ)) → Makes c asked (Err fault) → Explores c asked old old (Err fault)
 explored_unmade c asked Number old lacks = (lacks, keeps_same old)
 explored_unmade c asked Unfound old lacks = (lacks, keeps_same old)
+explored_unmade c asked (Text line fault) old refuses = (refuses, keeps_same old)
 explored_unmade c asked (Texts fault) old made = keeps_same old
 explored_unmade c asked (Term number fault) old made = absurd made
 explored_unmade c asked (Play fault) old made = absurd made

@@ -12,9 +12,9 @@ ghost use Rattle.gt_explore.specs.Writing.{Explored, Explores, Makes};
 
 use crate::texts::texts_found;
 use gt_explore_answers::{
-    ExploreOptions, ExploreOutput, answer_request, conditions_asked, has_its_text,
+    ExploreOptions, ExploreOutput, answer_request, conditions_asked, has_its_text, refused_text,
 };
-use gt_explore_faults::ExploreFault;
+use gt_explore_faults::{ExploreFault, TextsFault};
 use gt_explore_verdict::{Condition, Verdict};
 use gt_script::{RunScript, parse_run};
 use gt_script_runs::PlayFault;
@@ -46,9 +46,13 @@ fn made_as(
             Err(ExploreFault::Unfound)
         };
     }
-    match answer_request(alloc, asked, source, script, &found, conditions) {
-        Ok(made) => Ok(made),
-        Err(fault) => Err(ExploreFault::Texts(fault)),
+    match refused_text(alloc, script, asked.request, &found) {
+        Ok(None) => match answer_request(alloc, asked, source, script, &found, conditions) {
+            Ok(made) => Ok(made),
+            Err(fault) => Err(ExploreFault::Texts(fault)),
+        },
+        Ok(Some((line, fault))) => Err(ExploreFault::Text { line, fault }),
+        Err(_) => Err(ExploreFault::Texts(TextsFault::Memory)),
     }
 }
 
@@ -100,9 +104,9 @@ fn explore_bytes<W: Write>(
 ///
 /// # Errors
 /// The script's first fault. If it has none: the first fault of the expression; that no text has the wanted number, or
-/// that none of those found has it, if these are not all; or that an order or a script for `play` does not give its
-/// text. Or an allocation, a read or a write failed. Only after a failed write was anything written: a prefix of the
-/// text.
+/// that none of those found has it, if these are not all; the first line of the given text that is no answer line of
+/// the script, if it is none of the texts; or that an order or a script for `play` does not give its text. Or an
+/// allocation, a read or a write failed. Only after a failed write was anything written: a prefix of the text.
 pub fn explore<R: Read, W: Write>(
     alloc: Global,
     asked: &ExploreOptions,

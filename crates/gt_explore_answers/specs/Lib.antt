@@ -3,6 +3,7 @@ pub mod AsObjects
 pub mod Diagram
 pub mod Exploring
 pub mod Facts
+pub mod Given
 pub mod GivingAnswers
 pub mod Lines
 pub mod Moves

@@ -19,8 +19,8 @@ use gt_text::push_number;
 use gt_types::DomainConfig;
 use std::alloc::{AllocError, Global};
 
-// Returns whether a number is written so.
-fn is_written(alloc: Global, number: usize, text: &[u8]) -> Result<bool, AllocError>
+/// Returns whether a number is written so.
+pub fn is_written(alloc: Global, number: usize, text: &[u8]) -> Result<bool, AllocError>
     ensures { IfOk result (λ b. b ≡ bytes_eq (decimal number) text.now) }
 {
     let mut digits = Vec::new(alloc);
@@ -28,8 +28,8 @@ fn is_written(alloc: Global, number: usize, text: &[u8]) -> Result<bool, AllocEr
     Ok(digits.as_slice() == text)
 }
 
-// Returns whether an action is a call.
-fn is_call(action: &RunAction) -> bool
+/// Returns whether an action is a call.
+pub fn is_call(action: &RunAction) -> bool
     ensures { result ≡ is_call action.now }
 {
     match action {

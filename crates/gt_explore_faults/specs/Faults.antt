@@ -1,11 +1,13 @@
 -- The lines that the faults of an exploration print.
-use Rattle.std.specs.Prelude.{ℕ, List, codes}
+use Rattle.std.specs.Prelude.{ℕ, List, ◌++◌, codes, decimal}
 use Rattle.gt_script_runs.specs.Faults.{play_fault_text}
 use Rattle.gt_explore_verdict.specs.Faults.{expression_fault_text}
 use Rattle.gt_explore_verdict.specs.declared.fault.ExpressionFault.{ExpressionFault}
 use Rattle.gt_explore_verdict.specs.declared.fault.ExpressionFault.TheVariants as expression
 use Rattle.gt_explore_faults.specs.declared.fault.ExploreFault.{ExploreFault}
-use Rattle.gt_explore_faults.specs.declared.fault.ExploreFault.TheVariants.{Play, Term, Number, Unfound, Texts}
+use Rattle.gt_explore_faults.specs.declared.fault.ExploreFault.TheVariants.{Play, Term, Text, Number, Unfound, Texts}
+use Rattle.gt_explore_faults.specs.declared.fault.TextFault.{TextFault}
+use Rattle.gt_explore_faults.specs.declared.fault.TextFault.TheVariants.{CarriageReturn, Audit, Json, Cut, Line}
 use Rattle.gt_explore_faults.specs.declared.fault.TextsFault.{TextsFault}
 use Rattle.gt_explore_faults.specs.declared.fault.TextsFault.TheVariants.{Memory, States, Astray}
 
@@ -14,11 +16,19 @@ texts_fault_text Memory = codes "memory"
 texts_fault_text States = codes "states"
 texts_fault_text Astray = codes "astray"
 
+abbrev pub text_fault_text : TextFault → List ℕ
+text_fault_text CarriageReturn = codes "ends with CR LF; a text has LF"
+text_fault_text Audit = codes "an audit line; give the text without --audit"
+text_fault_text Json = codes "JSON; give the text without --format json"
+text_fault_text Cut = codes "the text is cut off"
+text_fault_text Line = codes "no answer line of this script"
+
 abbrev pub explore_fault_text : ExploreFault → List ℕ
 explore_fault_text (Play fault) = play_fault_text fault
 explore_fault_text (Term number fault) = expression_fault_text (expression.Term number fault)
 explore_fault_text Number = codes "no such text"
 explore_fault_text Unfound = codes "no such text found"
+explore_fault_text (Text line fault) = codes "text line " ++ decimal line ++ codes ": " ++ text_fault_text fault
 explore_fault_text (Texts fault) = texts_fault_text fault
 
 -- an expression's fault as that of an exploration: its term, or want of memory

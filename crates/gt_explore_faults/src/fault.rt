@@ -64,6 +64,38 @@ impl From<Memory> for TextsFault {
     }
 }
 
+/// The reason that a line of a given text is not the answer line that each run of the script has there.
+#[derive(Clone, Copy, Debug, PartialEq, Eq)]
+pub enum TextFault {
+    /// It ends with a carriage return.
+    CarriageReturn,
+    /// It is an audit line.
+    Audit,
+    /// It is JSON.
+    Json,
+    /// The text ends in the line or before it.
+    Cut,
+    /// It is another line.
+    Line,
+}
+
+impl fmt::Display for TextFault {
+    ghost use Rattle.std.specs.Prelude.{Some};
+    ghost use Rattle.gt_explore_faults.specs.Faults.{text_fault_text};
+
+    ghost output = { λ fault. Some (text_fault_text fault) };
+
+    fn fmt<W: fmt::Write>(&self, f: &mut fmt::Formatter<W>) -> fmt::Result {
+        match self {
+            TextFault::CarriageReturn => f.write_str("ends with CR LF; a text has LF"),
+            TextFault::Audit => f.write_str("an audit line; give the text without --audit"),
+            TextFault::Json => f.write_str("JSON; give the text without --format json"),
+            TextFault::Cut => f.write_str("the text is cut off"),
+            TextFault::Line => f.write_str("no answer line of this script"),
+        }
+    }
+}
+
 /// The fault that ended an exploration. It prints as one line, without a line end.
 #[derive(Debug, Drop)]
 pub enum ExploreFault {
@@ -80,6 +112,12 @@ pub enum ExploreFault {
     Number,
     /// None of the texts found has that number, and the search stopped before it met all states. Nothing was written.
     Unfound,
+    /// The given text is not one of the texts: its first line that is no answer line of the script has this number.
+    /// Nothing was written.
+    Text {
+        line: usize,
+        fault: TextFault,
+    },
     /// The texts of the script were not found. Nothing was written.
     Texts(TextsFault),
 }
@@ -96,6 +134,7 @@ impl fmt::Display for ExploreFault {
             ExploreFault::Term { number, fault } => write!(f, "term {number}: {fault}"),
             ExploreFault::Number => f.write_str("no such text"),
             ExploreFault::Unfound => f.write_str("no such text found"),
+            ExploreFault::Text { line, fault } => write!(f, "text line {line}: {fault}"),
             ExploreFault::Texts(fault) => write!(f, "{fault}"),
         }
     }

@@ -10,4 +10,4 @@
 
 mod fault;
 
-pub use fault::{ExploreFault, TextsFault};
+pub use fault::{ExploreFault, TextFault, TextsFault};

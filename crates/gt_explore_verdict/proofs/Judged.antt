@@ -1,6 +1,6 @@
 -- What a verdict on texts that were found means for those that may be given.
 use Rattle.std.proofs.Common.{◌≡◌, ◌∙◌, ◌⊎◌, ◌+◌, ℕ, zero, suc, not, Bool, true, false, List, [], ◌∷◌, All, map, Option, Some, None, ap, refl, subst}
-use Rattle.std.proofs.Common.{sym, slice_get, inl, inr, get_or, arith}
+use Rattle.std.proofs.Common.{sym, slice_get, inl, inr}
 use Rattle.std.proofs.Math.Bool.{cond}
 use Rattle.std.specs.Prelude.{is_some}
 use Rattle.std.proofs.lemmas.Iterator.Adapters.{position_from-zero}

@@ -1,10 +1,10 @@
 -- Expressions: conditions on a text, joined by `&`.
-use Rattle.std.specs.Prelude.{◌≡◌, ℕ, ◌+◌, ◌==◌, ◌||◌, not, Bool, List, [], ◌∷◌, ◌++◌, filter, length, map, codes}
-use Rattle.std.specs.Prelude.{Option, Some, None, Result, Ok, Err, if◌then◌else◌}
-use Rattle.std.specs.List.{slice_split}
-use Rattle.std.specs.Option.{option_map}
+use Rattle.std.specs.Prelude.{◌≡◌, ℕ, ◌+◌, ◌==◌, ◌&&◌, ◌||◌, not, Bool, true, false, List, [], ◌∷◌, ◌++◌, filter}
+use Rattle.std.specs.Prelude.{length, map, codes, Option, Some, None, Result, Ok, Err, if◌then◌else◌}
+use Rattle.std.specs.List.{list_any, slice_split}
 use Rattle.std.specs.Str.{bytes_eq}
-use Rattle.gt_explore_verdict.specs.Rules.{is_number, is_rule, is_wrong_rule}
+use Rattle.gt_explore_verdict.specs.Forms.{may_begin, may_have}
+use Rattle.gt_explore_verdict.specs.Rules.{at_mark, is_number, is_rule, is_wrong_rule}
 use Rattle.gt_explore_verdict.specs.declared.conditions.Condition.{Condition}
 use Rattle.gt_explore_verdict.specs.declared.conditions.Place.{Place}
 use Rattle.gt_explore_verdict.specs.declared.conditions.Place.TheVariants.{Anywhere, Line, Domain}
@@ -37,12 +37,6 @@ abbrev pub term_asked : Result Condition ConditionFault → Result Asked Conditi
 term_asked (Ok c) = Ok (condition_asked c)
 term_asked (Err fault) = Err fault
 
--- the bytes before the first such mark, and those after it
-unfoldable pub at_mark : ℕ → List ℕ → Option (List ℕ × List ℕ)
-at_mark mark [] = None
-at_mark mark (b ∷ bs) =
-    if b == mark then Some ([], bs) else option_map (λ parts. (b ∷ parts.0, parts.1)) (at_mark mark bs)
-
 -- the number before the first such mark, and the bytes after it
 abbrev pub number_only : Option (List ℕ × List ℕ) → Option (List ℕ × List ℕ)
 number_only None = None
@@ -64,26 +58,40 @@ placed word = placed_by (numbered 61 word) (numbered 58 word) word
 abbrev pub is_answer_word : List ℕ → Bool
 is_answer_word word = bytes_eq word (codes "ok") || is_rule word
 
--- what is wrong with the words of a condition, by their number and the first of them
-abbrev pub fault_at : Answers → List ℕ → ℕ → Option ConditionFault
-fault_at of_all first count = if count == 1 then None else Some faults.Words
-fault_at (of_line number) first count = if is_answer_word first then None else Some faults.Answer
-fault_at (of_domain number) first count = if is_answer_word first then None else Some faults.Answer
+-- some answer can be one that a condition with these words is about
+abbrev pub may_be_by : Answers → List ℕ → List (List ℕ) → Bool
+may_be_by of_all first [] = may_have first
+may_be_by of_all first (word ∷ more) = false
+may_be_by (of_line number) first more = may_begin (first ∷ more)
+may_be_by (of_domain number) first more = may_begin (first ∷ more)
 
-abbrev pub fault_in : Answers → List ℕ → ℕ → Option ConditionFault
-fault_in place first count = if is_wrong_rule first then Some faults.Rule else fault_at place first count
+abbrev pub may_be : Answers → List (List ℕ) → Bool
+may_be place [] = false
+may_be place (first ∷ more) = may_be_by place first more
 
--- a term without a fault is a condition
-abbrev pub unless_fault : Option ConditionFault → Asked → Result Asked ConditionFault
-unless_fault None asked = Ok asked
-unless_fault (Some fault) asked = Err fault
+-- why no answer can be such a one
+abbrev pub reason_by : Answers → List ℕ → List (List ℕ) → ConditionFault
+reason_by of_all first [] = faults.Word
+reason_by of_all first (word ∷ more) = faults.Words
+reason_by (of_line number) first more = if is_answer_word first then faults.Beginning else faults.Answer
+reason_by (of_domain number) first more = if is_answer_word first then faults.Beginning else faults.Answer
 
--- the words of a term as a condition
+abbrev pub reason : Answers → List (List ℕ) → ConditionFault
+reason place [] = faults.Empty
+reason place (first ∷ more) = if is_wrong_rule first then faults.Rule else reason_by place first more
+
+-- a condition, if some answer can be one that it is about
+abbrev pub if_possible : Asked → Result Asked ConditionFault
+if_possible asked = if may_be asked.place asked.words then Ok asked else Err (reason asked.place asked.words)
+
+-- the condition that the words of a term name
+abbrev pub named_by : List ℕ → List (List ℕ) → Asked
+named_by word more = record { place = (placed word).0; words = (placed word).1 ∷ more }
+
+-- the words of a term as a condition, if some answer can be one that it is about
 abbrev pub read_term : List (List ℕ) → Result Asked ConditionFault
 read_term [] = Err faults.Empty
-read_term (word ∷ more) =
-    unless_fault (fault_in (placed word).0 (placed word).1 (length (word ∷ more)))
-    (record { place = (placed word).0; words = (placed word).1 ∷ more })
+read_term (word ∷ more) = if_possible (named_by word more)
 
 -- a word is not empty
 abbrev pub is_nonempty : List ℕ → Bool
@@ -97,13 +105,34 @@ words_in term = filter is_nonempty (slice_split (λ b. b == 32) term)
 abbrev pub terms_in : List ℕ → List (List ℕ)
 terms_in text = slice_split (λ b. b == 38) text
 
+-- these words are the same, as far as there are both
+abbrev pub agree : List (List ℕ) → List (List ℕ) → Bool
+agree [] others = true
+agree (word ∷ words) [] = true
+agree (word ∷ words) (other ∷ others) = bytes_eq word other && agree words others
+
+-- both are conditions on the answer to one line, and no answer begins with the words of both
+abbrev pub excludes_at : Answers → Answers → List (List ℕ) → List (List ℕ) → Bool
+excludes_at (of_line line) (of_line same) words others = bytes_eq line same && not (agree words others)
+excludes_at _ _ words others = false
+
+abbrev pub excludes : Asked → Asked → Bool
+excludes one other = excludes_at one.place other.place one.words other.words
+
+-- one of these conditions excludes another one
+abbrev pub is_excluded : List Asked → Asked → Bool
+is_excluded conditions asked = list_any (λ earlier. excludes earlier asked) conditions
+
 -- these conditions, and then those of the terms, of which the first has this number; or the number and the fault of
--- the first term that is not a condition
+-- the first term that is not a condition, or that an earlier one excludes
 abbrev pub read_terms : List Asked → ℕ → List (List ℕ) → Result (List Asked) (ℕ × ConditionFault)
 read_terms before number [] = Ok before
 read_terms before number (term ∷ terms) =
-    elim (read_term (words_in term))
-    [ Ok asked ↦ read_terms (before ++ asked ∷ []) (number + 1) terms | Err fault ↦ Err (number, fault) ]
+    elim (read_term (words_in term)) [
+      | Ok asked ↦ if is_excluded before asked then Err (number, faults.Excluded)
+          else read_terms (before ++ asked ∷ []) (number + 1) terms
+      | Err fault ↦ Err (number, fault)
+    ]
 
 -- the conditions of an expression, or the first term that is not one
 abbrev pub conditions_in : List ℕ → Result (List Asked) (ℕ × ConditionFault)

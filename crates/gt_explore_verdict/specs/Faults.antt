@@ -1,7 +1,8 @@
 -- The lines that the faults of an expression print.
 use Rattle.std.specs.Prelude.{ℕ, List, ◌++◌, codes, decimal}
 use Rattle.gt_explore_verdict.specs.declared.fault.ConditionFault.{ConditionFault}
-use Rattle.gt_explore_verdict.specs.declared.fault.ConditionFault.TheVariants.{Empty, Words, Rule, Answer, NoCall, NoDomain}
+use Rattle.gt_explore_verdict.specs.declared.fault.ConditionFault.TheVariants.{Answer, Beginning, Empty, Excluded}
+use Rattle.gt_explore_verdict.specs.declared.fault.ConditionFault.TheVariants.{NoCall, NoDomain, Rule, Word, Words}
 use Rattle.gt_explore_verdict.specs.declared.fault.ExpressionFault.{ExpressionFault}
 use Rattle.gt_explore_verdict.specs.declared.fault.ExpressionFault.TheVariants.{Memory, Term}
 
@@ -10,6 +11,9 @@ condition_fault_text Empty = codes "no condition"
 condition_fault_text Words = codes "more than one word without LINE= or ID:"
 condition_fault_text Rule = codes "no such rule; the rules are N1 to N26"
 condition_fault_text Answer = codes "an answer is ok or a rule"
+condition_fault_text Word = codes "no answer has this word"
+condition_fault_text Beginning = codes "no answer begins with these words"
+condition_fault_text Excluded = codes "an earlier term on its line excludes it"
 condition_fault_text NoCall = codes "no call on this line"
 condition_fault_text NoDomain = codes "no such domain"
 

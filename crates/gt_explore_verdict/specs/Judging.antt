@@ -1,5 +1,5 @@
 -- Claims about the texts of a script, and what is known of them.
-use Rattle.std.specs.Prelude.{◌≡◌, ℕ, not, Bool, true, false, List, map, is_some}
+use Rattle.std.specs.Prelude.{◌≡◌, ℕ, not, Bool, true, false, List, is_some}
 use Rattle.std.specs.List.{position}
 use Rattle.gt_explore_verdict.specs.Expressions.{Asked}
 use Rattle.gt_explore_verdict.specs.Satisfying.{satisfies}

@@ -1,5 +1,7 @@
 pub mod Expressions
 pub mod Faults
+pub mod Forms
 pub mod Judging
+pub mod Refusing
 pub mod Rules
 pub mod Satisfying

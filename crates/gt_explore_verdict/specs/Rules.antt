@@ -1,5 +1,7 @@
--- Words that are rules.
-use Rattle.std.specs.Prelude.{ℕ, ◌==◌, ◌&&◌, ◌||◌, not, Bool, false, List, [], ◌∷◌, nat_le}
+-- Words that are rules or numbers, and words with a mark.
+use Rattle.std.specs.Prelude.{ℕ, ◌==◌, ◌&&◌, ◌||◌, not, Bool, false, List, [], ◌∷◌, nat_le, Option, Some, None}
+use Rattle.std.specs.Prelude.{if◌then◌else◌}
+use Rattle.std.specs.Option.{option_map}
 use Rattle.std.specs.Char.{is_ascii_digit}
 use Rattle.std.specs.List.{list_all}
 
@@ -25,3 +27,9 @@ looks_like_rule (letter ∷ number) = ((letter == 78) || (letter == 110)) && is_
 -- a word is written as a rule, and is none
 abbrev pub is_wrong_rule : List ℕ → Bool
 is_wrong_rule word = looks_like_rule word && not (is_rule word)
+
+-- the bytes before the first such mark, and those after it
+unfoldable pub at_mark : ℕ → List ℕ → Option (List ℕ × List ℕ)
+at_mark mark [] = None
+at_mark mark (b ∷ bs) =
+    if b == mark then Some ([], bs) else option_map (λ parts. (b ∷ parts.0, parts.1)) (at_mark mark bs)

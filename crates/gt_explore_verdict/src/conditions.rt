@@ -1,13 +1,15 @@
 //! Expressions: conditions joined by `&`.
-ghost use Rattle.std.specs.Prelude.{◌≡◌, [], IfErr, IfOk, map};
+ghost use Rattle.std.specs.Prelude.{◌≡◌, [], ◌∷◌, IfErr, IfOk, map};
 ghost use Rattle.std.specs.Option.{option_map};
-ghost use Rattle.gt_explore_verdict.specs.Expressions.{at_mark, conditions_in, fault_in, is_answer_word, is_nonempty};
-ghost use Rattle.gt_explore_verdict.specs.Expressions.{condition_asked, numbered, place_asked, placed, read_term};
-ghost use Rattle.gt_explore_verdict.specs.Expressions.{read_terms};
+ghost use Rattle.gt_explore_verdict.specs.Expressions.{conditions_in, is_answer_word, is_nonempty};
+ghost use Rattle.gt_explore_verdict.specs.Expressions.{agree, condition_asked, excludes, is_excluded, may_be};
+ghost use Rattle.gt_explore_verdict.specs.Expressions.{numbered, place_asked, placed, read_term, read_terms, reason};
 ghost use Rattle.gt_explore_verdict.specs.Expressions.{term_asked, terms_in, words_in, IsFaultOf};
 
 use crate::fault::{ConditionFault, ExpressionFault};
-use crate::rules::{is_number, is_rule, is_wrong_rule};
+use crate::forms::{may_begin, may_have};
+use crate::lines::is_same;
+use crate::rules::{at_mark, is_number, is_rule, is_wrong_rule};
 use std::alloc::{AllocError, Global};
 
 /// The answers that a condition is about: all answers, the answer to the line of this number, or those of the domain of
@@ -26,19 +28,6 @@ pub struct Condition<'e> {
     pub place: Place<'e>,
     pub first: &'e [u8],
     pub more: Vec<&'e [u8]>,
-}
-
-// Splits a word at the first mark of this kind.
-#[tactic(auto, unfolding(crate::specs::Expressions::at_mark))]
-fn at_mark<'e>(mark: u8, word: &'e [u8]) -> Option<(&'e [u8], &'e [u8])>
-    ensures { option_map (λ parts. (parts.0.now, parts.1.now)) result ≡ at_mark mark word.entry.now }
-{
-    for (i, byte) in word.iter().enumerate() {
-        if *byte == mark {
-            return Some((&word[..i], &word[i + 1..]));
-        }
-    }
-    None
 }
 
 // Splits a word at the first mark of this kind, if a number is before it.
@@ -77,26 +66,36 @@ fn is_answer_word(word: &[u8]) -> bool
     word == b"ok".as_slice() || is_rule(word)
 }
 
-// Returns what is wrong with the words of a condition, of which the first is this one.
-fn fault_in(place: Place<'_>, first: &[u8], count: usize) -> Option<ConditionFault>
-    ensures { result ≡ fault_in (place_asked place.entry) first.now count }
+// Returns whether some answer can be one that a condition with these words is about.
+fn may_be(place: Place<'_>, first: &[u8], more: &[&[u8]]) -> bool
+    ensures { result ≡ may_be (place_asked place.entry) (first.now ∷ map (λ w. w.now) more.now) }
+{
+    match place {
+        Place::Anywhere => match more {
+            [] => may_have(first),
+            [_other, ..] => false,
+        },
+        Place::Line(_) | Place::Domain(_) => may_begin(first, more),
+    }
+}
+
+// Returns why no answer can be one that a condition with these words is about.
+fn reason(place: Place<'_>, first: &[u8], more: &[&[u8]]) -> ConditionFault
+    ensures { result ≡ reason (place_asked place.entry) (first.now ∷ map (λ w. w.now) more.now) }
 {
     if is_wrong_rule(first) {
-        return Some(ConditionFault::Rule);
+        return ConditionFault::Rule;
     }
     match place {
-        Place::Anywhere => {
-            if count == 1 {
-                None
-            } else {
-                Some(ConditionFault::Words)
-            }
-        }
+        Place::Anywhere => match more {
+            [] => ConditionFault::Word,
+            [_other, ..] => ConditionFault::Words,
+        },
         Place::Line(_) | Place::Domain(_) => {
             if is_answer_word(first) {
-                None
+                ConditionFault::Beginning
             } else {
-                Some(ConditionFault::Answer)
+                ConditionFault::Answer
             }
         }
     }
@@ -132,16 +131,61 @@ fn read_term<'e>(mut words: Vec<&'e [u8]>) -> Result<Condition<'e>, ConditionFau
     if words.is_empty() {
         return Err(ConditionFault::Empty);
     }
-    let count = words.len();
     let (place, first) = placed(words.remove(0));
-    match fault_in(place, first, count) {
-        Some(fault) => Err(fault),
-        None => Ok(Condition {
-            place,
-            first,
-            more: words,
-        }),
+    if !may_be(place, first, words.as_slice()) {
+        return Err(reason(place, first, words.as_slice()));
     }
+    Ok(Condition {
+        place,
+        first,
+        more: words,
+    })
+}
+
+// Returns whether these words are the same, as far as there are both.
+fn agree(words: &[&[u8]], others: &[&[u8]]) -> bool
+    ensures { result ≡ agree (map (λ w. w.now) words.now) (map (λ w. w.now) others.now) }
+{
+    let mut at = 0;
+    'words: for word in words {
+        if at >= others.len() {
+            return true;
+        }
+        if !is_same(word, others[at]) {
+            return false;
+        }
+        at += 1;
+    }
+    true
+}
+
+// Returns whether an answer can begin with the words of both conditions.
+fn can_agree(one: &Condition<'_>, other: &Condition<'_>) -> bool
+    ensures { result ≡ agree (condition_asked one.now).words (condition_asked other.now).words }
+{
+    is_same(one.first, other.first) && agree(one.more.as_slice(), other.more.as_slice())
+}
+
+// Returns whether both conditions are on the answer to one line, and no answer meets both.
+fn excludes(one: &Condition<'_>, other: &Condition<'_>) -> bool
+    ensures { result ≡ excludes (condition_asked one.now) (condition_asked other.now) }
+{
+    match (one.place, other.place) {
+        (Place::Line(line), Place::Line(same)) => is_same(line, same) && !can_agree(one, other),
+        _ => false,
+    }
+}
+
+// Returns whether one of these conditions excludes this one.
+fn is_excluded(conditions: &[Condition<'_>], condition: &Condition<'_>) -> bool
+    ensures { result ≡ is_excluded (map condition_asked conditions.now) (condition_asked condition.now) }
+{
+    'conditions: for earlier in conditions {
+        if excludes(earlier, condition) {
+            return true;
+        }
+    }
+    false
 }
 
 // Reads each of these terms.
@@ -157,6 +201,10 @@ fn read_terms<'e>(alloc: Global, terms: &[&'e [u8]]) -> Result<Vec<Condition<'e>
         };
         match read_term(words) {
             Ok(condition) => {
+                if is_excluded(conditions.as_slice(), &condition) {
+                    let fault = ConditionFault::Excluded;
+                    return Err(ExpressionFault::Term { number, fault });
+                }
                 if conditions.push(condition).is_err() {
                     return Err(ExpressionFault::Memory);
                 }
@@ -170,7 +218,8 @@ fn read_terms<'e>(alloc: Global, terms: &[&'e [u8]]) -> Result<Vec<Condition<'e>
 
 /// Reads an expression: terms joined by `&`, each of them a condition. A term is a word, for an answer that has it;
 /// `LINE=ANSWER`, for an answer to this line of the script that begins with these words; or `ID:ANSWER`, for an answer
-/// of this domain that does.
+/// of this domain that does. Two terms on one line that no answer meets are refused, and so is each term that no answer
+/// can meet.
 ///
 /// # Errors
 /// The first term that is not a condition, and `Memory`.

@@ -13,6 +13,12 @@ pub enum ConditionFault {
     Rule,
     /// The answer after `LINE=` or `ID:` begins with neither `ok` nor a rule.
     Answer,
+    /// No answer has the word.
+    Word,
+    /// No answer begins with the words after `LINE=` or `ID:`.
+    Beginning,
+    /// No answer meets it and an earlier term on the same line.
+    Excluded,
     /// The script has no call on the line.
     NoCall,
     /// The script has no domain of the number.
@@ -42,6 +48,9 @@ impl fmt::Display for ConditionFault {
             ConditionFault::Words => f.write_str("more than one word without LINE= or ID:"),
             ConditionFault::Rule => f.write_str("no such rule; the rules are N1 to N26"),
             ConditionFault::Answer => f.write_str("an answer is ok or a rule"),
+            ConditionFault::Word => f.write_str("no answer has this word"),
+            ConditionFault::Beginning => f.write_str("no answer begins with these words"),
+            ConditionFault::Excluded => f.write_str("an earlier term on its line excludes it"),
             ConditionFault::NoCall => f.write_str("no call on this line"),
             ConditionFault::NoDomain => f.write_str("no such domain"),
         }

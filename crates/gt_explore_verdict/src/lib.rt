@@ -5,16 +5,22 @@
 //! that none does, or that each does.
 //!
 //! A text has a line `LINE DOMAIN ANSWER` for each answer. The result of each of these functions is defined in
-//! `specs/`. The crate uses no other.
+//! `specs/`. It uses `gt_types` (rules, statuses and permissions).
 #![tactic(auto)]
 
 mod conditions;
 mod fault;
+mod forms;
 mod judging;
+mod laws;
 mod lines;
 mod rules;
 
 pub use conditions::{Condition, Place, conditions_of};
 pub use fault::{ConditionFault, ExpressionFault};
+pub use forms::{AnswerForm, may_begin};
 pub use judging::{Claim, Judgement, Verdict, judge, verdict_at};
-pub use lines::satisfies;
+pub use laws::{
+    every_impossible_condition_is_never_met, every_two_that_exclude_are_never_both_met,
+};
+pub use lines::{line_words, lines_in, satisfies};

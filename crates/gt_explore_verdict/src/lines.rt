@@ -8,21 +8,22 @@ ghost use Rattle.gt_explore_verdict.specs.Satisfying.{begins, is_met_by, is_met_
 use crate::conditions::{Condition, Place};
 use std::alloc::{AllocError, Global};
 
-// Splits a line into its words, at each space.
-fn line_words<'t>(alloc: Global, line: &'t [u8]) -> Result<Vec<&'t [u8]>, AllocError>
+/// Splits a line into its words, at each space.
+pub fn line_words<'t>(alloc: Global, line: &'t [u8]) -> Result<Vec<&'t [u8]>, AllocError>
     ensures { IfOk result (λ words. map (λ w. w.now) words.items ≡ line_words line.entry.now) }
 {
     line.split(|b| *b == b' ').collect(alloc)
 }
 
-// Splits a text into its lines.
-fn lines_in<'t>(alloc: Global, text: &'t [u8]) -> Result<Vec<&'t [u8]>, AllocError>
+/// Splits a text into its lines. What comes after the last line end is a line too.
+pub fn lines_in<'t>(alloc: Global, text: &'t [u8]) -> Result<Vec<&'t [u8]>, AllocError>
     ensures { IfOk result (λ lines. map (λ l. l.now) lines.items ≡ lines_in text.entry.now) }
 {
     text.split(|b| *b == b'\n').collect(alloc)
 }
 
-fn is_same(one: &[u8], other: &[u8]) -> bool
+/// Returns whether two words are the same.
+pub fn is_same(one: &[u8], other: &[u8]) -> bool
     ensures { result ≡ bytes_eq one.now other.now }
 {
     one == other

@@ -1,8 +1,9 @@
-//! Words that are rules.
+//! Words that are rules or numbers, and words with a mark.
 ghost use Rattle.std.specs.Prelude.{◌≡◌};
+ghost use Rattle.std.specs.Option.{option_map};
 ghost use Rattle.std.specs.List.{list_all};
 ghost use Rattle.std.specs.Char.{is_ascii_digit};
-ghost use Rattle.gt_explore_verdict.specs.Rules.{is_number, is_rule, is_wrong_rule, looks_like_rule};
+ghost use Rattle.gt_explore_verdict.specs.Rules.{at_mark, is_number, is_rule, is_wrong_rule, looks_like_rule};
 
 fn are_digits(bytes: &[u8]) -> bool
     ensures { result ≡ list_all is_ascii_digit bytes.now }
@@ -53,4 +54,17 @@ pub fn is_wrong_rule(word: &[u8]) -> bool
     ensures { result ≡ is_wrong_rule word.now }
 {
     looks_like_rule(word) && !is_rule(word)
+}
+
+/// Splits a word at the first mark of this kind.
+#[tactic(auto, unfolding(crate::specs::Rules::at_mark))]
+pub fn at_mark<'e>(mark: u8, word: &'e [u8]) -> Option<(&'e [u8], &'e [u8])>
+    ensures { option_map (λ parts. (parts.0.now, parts.1.now)) result ≡ at_mark mark word.entry.now }
+{
+    for (i, byte) in word.iter().enumerate() {
+        if *byte == mark {
+            return Some((&word[..i], &word[i + 1..]));
+        }
+    }
+    None
 }

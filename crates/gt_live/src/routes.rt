@@ -7,6 +7,7 @@ ghost use Rattle.gt_calls.specs.declared.held.AccessPath.TheVariants.{Own};
 ghost use Rattle.gt_calls.specs.Holding.{held_by, last_first, no_pins};
 ghost use Rattle.gt_calls.specs.Machine.{at_dest, at_source, through_via};
 ghost use Rattle.gt_calls.specs.Rules.{copy_begun, knows};
+ghost use Rattle.gt_types.specs.Copies.{is_dest_granted};
 ghost use Rattle.gt_live.specs.Copies.{CanGiveBack, IsGivenBack, IsLastOf, CopyStopsWith, dest_leg, source_leg};
 ghost use Rattle.gt_live.specs.Copies.{after_copy, after_dest, phase_after_source, after_through, filled};
 ghost use Rattle.gt_live.specs.Driving.{CanMake, Knows};
@@ -174,6 +175,8 @@ fn reach_dest<P: Allows>(
 }
 
 // Walks a copy whose source is reached to its access, or to its refusal. After a refusal its pins are released.
+// `granted` says whether the destination is reached by a grant: a caller that knows it passes a constant, and a copy to a
+// frame of its own has no call left that its pins would have to be in memory for.
 #[inline(always)]
 fn walk_to_dest<P: Allows>(
     words: &Words,
@@ -181,9 +184,11 @@ fn walk_to_dest<P: Allows>(
     seat: &mut Seat,
     caller: DomId,
     copy: &CopyArgs,
+    granted: bool,
     pins: &mut CallPins,
 ) -> Result<(), Denial>
     requires seat { IsSeatOf words.now seat.old }
+    requires granted { granted ≡ is_dest_granted copy.now }
     requires own { pins.old.dest ≡ Own }
     requires can { CanRun (knows P.may known.now) words.now.layout caller
         (at_dest (knows P.may known.now) caller copy.now pins.old.source) seat.old.view }
@@ -192,7 +197,7 @@ fn walk_to_dest<P: Allows>(
         (at_dest (knows P.may known.now) caller copy.now pins.old.source) seat.old.view
         (after_copy copy.now (filled result pins.new)) seat.new.view }
 {
-    if !copy.is_dest_granted() {
+    if !granted {
         return Ok(());
     }
     match reach_dest(words, known, seat, caller, copy, pins) {
@@ -212,9 +217,11 @@ fn walk<P: Allows>(
     seat: &mut Seat,
     caller: DomId,
     copy: &CopyArgs,
+    granted: bool,
     pins: &mut CallPins,
 ) -> Result<(), Denial>
     requires seat { IsSeatOf words.now seat.old }
+    requires granted { granted ≡ is_dest_granted copy.now }
     requires none { pins.old ≡ no_pins }
     requires can { CanRun (knows P.may known.now) words.now.layout caller
         (at_source (knows P.may known.now) caller copy.now) seat.old.view }
@@ -224,10 +231,10 @@ fn walk<P: Allows>(
         (after_copy copy.now (filled result pins.new)) seat.new.view }
 {
     if !copy.is_source_granted() {
-        return walk_to_dest(words, known, seat, caller, copy, pins);
+        return walk_to_dest(words, known, seat, caller, copy, granted, pins);
     }
     match reach_source(words, known, seat, caller, copy, &mut pins.source) {
-        Ok(()) => walk_to_dest(words, known, seat, caller, copy, pins),
+        Ok(()) => walk_to_dest(words, known, seat, caller, copy, granted, pins),
         Err(denial) => Err(denial),
     }
 }
@@ -241,9 +248,11 @@ pub(crate) fn drive_copy<P: Allows>(
     seat: &mut Seat,
     caller: DomId,
     copy: &CopyArgs,
+    granted: bool,
     pins: &mut CallPins,
 ) -> Result<(), Denial>
     requires seat { IsSeatOf words.now seat.old }
+    requires granted { granted ≡ is_dest_granted copy.now }
     requires none { pins.old ≡ no_pins }
     requires unanswered { copy_begun (knows P.may known.now) caller copy.now ≡ None }
     requires knows { Knows (knows P.may known.now) words.now.layout caller seat.old.view }
@@ -252,7 +261,7 @@ pub(crate) fn drive_copy<P: Allows>(
         caller copy.now (filled result pins.new) seat.old.view seat.new.view }
 {
     every_call_goes_on_by_its_phase();
-    walk(words, known, seat, caller, copy, pins)
+    walk(words, known, seat, caller, copy, granted, pins)
 }
 
 // Releases the pins of a route, the last one first.

@@ -1,3 +1,4 @@
 pub mod Obeyed
+mod OneRun
 mod RelayLemmas
 pub mod RunLemmas

@@ -20,7 +20,7 @@ use Rattle.gt_script.specs.RunContents.{RunContents}
 use Rattle.gt_script.specs.RunScripts.{ReadsAsRun}
 use Rattle.gt_script.specs.Script.{Wrong}
 use Rattle.gt_text.specs.Streams.{AppendsBeginning, OfInput}
-use Rattle.gt_order.specs.Running.{AppendsText, WroteIfOk}
+use Rattle.gt_order.specs.Running.{AppendsText, RanInOrder, WroteIfOk}
 use Rattle.gt_program.specs.Runs.{RanAs, Relays, fault_in_memory}
 
 -- where all stays nothing went out, which is a beginning of any text
@@ -98,7 +98,7 @@ module _ (old new : Option (List ℕ)) (text : List ℕ) where
 relayed_one : (refuses : ℕ → Bool) (old new : Option (List ℕ)) (text : List ℕ) (format : Format) (logged : Bool) (input : List ℕ) (outcome answer : Result (Unit {0}) RunFault) → RanAs refuses format logged input (Some []) (Some text) outcome → Relays text outcome old new answer
     → RanAs refuses format logged input old new answer
 relayed_one refuses old new text Text logged input outcome answer ran went = (relayed_text old new text refuses logged (ReadsAsRun input) outcome answer ran.0 went, relayed_wrote old new text refuses logged (ReadsAsRun input) outcome answer ran.1 went)
-relayed_one refuses old new text Json logged input outcome answer ran went = relayed_json old new text (Ran refuses logged (ReadsAsRun input)) outcome answer ran went
+relayed_one refuses old new text Json logged input outcome answer ran went = relayed_json old new text (RanInOrder refuses logged (ReadsAsRun input)) outcome answer ran went
 
 -- what follows for each input follows for the one that there is
 of_input_more : (known : Option (List ℕ)) (P Q : List ℕ → Type 0) → ((input : List ℕ) → P input → Q input) → OfInput known P → OfInput known Q

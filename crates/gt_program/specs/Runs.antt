@@ -1,6 +1,6 @@
 -- The output of `run`, and its result.
 use Rattle.std.specs.Prelude.{◌≡◌, ℕ, Bool, false, List, Result, Ok, Err}
-use Rattle.gt_program.specs.RunNames.{Format, Text, Json, Doing, Yes, Run, AsJson, Promise, RanInOrder, Ran, RunFault}
+use Rattle.gt_program.specs.RunNames.{Format, Text, Json, Doing, Yes, Run, AsJson, Promise, RanInOrder, RunFault}
 use Rattle.gt_program.specs.RunNames.{ReadsAsRun, AppendsBeginning, Appends, Keeps}
 use Rattle.gt_file_commands.specs.declared.failure.Failure.TheVariants as failures
 use Rattle.gt_run.specs.declared.fault.RunFault.TheVariants.{Play, Thread}
@@ -8,7 +8,7 @@ use Rattle.gt_script_runs.specs.declared.fault.PlayFault.TheVariants.{Memory, Po
 
 -- the output as JSON, at a gate that may refuse these flags, with a log or without
 abbrev pub RanAsJson : (ℕ → Bool) → List ℕ → Bool → Promise RunFault
-RanAsJson refuses input logged = AsJson Run (Play Memory) (Play Write) (Ran refuses logged (ReadsAsRun input))
+RanAsJson refuses input logged = AsJson Run (Play Memory) (Play Write) (RanInOrder refuses logged (ReadsAsRun input))
 
 -- the output in a format
 abbrev pub RanAs : (ℕ → Bool) → Format → Bool → List ℕ → Promise RunFault

@@ -19,10 +19,12 @@
 
 mod exploring;
 mod following;
+mod laws;
 mod obeying;
 mod running;
 mod system;
 
 pub use gt_file_commands::{Context, Outcome, Style, TextSource};
+pub use laws::every_run_is_among_the_explored;
 pub use obeying::{obey, obey_read};
 pub use system::{System, run};

@@ -1,5 +1,8 @@
 //! A domain with its monitor, so that it can move into a thread.
 ghost use Rattle.std.specs.Prelude.{◌≡◌};
+ghost use Rattle.gt_live.specs.Domains.{HasLeft};
+ghost use Rattle.gt_live.specs.Parts.{words_of};
+ghost use Rattle.gt_live.specs.declared.domain.Departed.{Departed as Gone};
 ghost use Rattle.gt_run.specs.Asking.{IsReadAnswer, plain_answer};
 
 use gt_audit::Trail;
@@ -30,7 +33,9 @@ impl<'m, P: Allows> Model for RunningDomain<'m, P> {
 }
 
 impl<'m, P: Allows> Drop for RunningDomain<'m, P> {
-    fn drop(self) {
+    fn drop(self)
+        ensures { (gone : Gone) × HasLeft (words_of self.entry.monitor).layout self.entry.domain gone }
+    {
         let RunningDomain { monitor, domain } = self;
         domain.finish(monitor);
     }
@@ -77,8 +82,8 @@ fn copied(answer: Result<Copied, Denial>) -> Answer
 
 impl<'m, P: Allows> RunningDomain<'m, P> {
     ghost use Rattle.gt_words.specs.Conditions.{IsSeatOf};
-    ghost use Rattle.gt_live.specs.Domains.{BelongsTo, HasLeft};
-    ghost use Rattle.gt_live.specs.Parts.{seat_left, trail_of, words_of};
+    ghost use Rattle.gt_live.specs.Domains.{BelongsTo};
+    ghost use Rattle.gt_live.specs.Parts.{seat_left, trail_of};
     ghost use Rattle.std.specs.Prelude.{MatchBool};
     ghost use Rattle.gt_word_history.specs.declared.view.FlagStep.TheVariants.{Passed};
     ghost use Rattle.gt_calls.specs.Asking.{asked};

@@ -5,6 +5,7 @@ pub mod LawLemmas
 pub mod OneLemmas
 pub mod RoundLemmas
 pub mod RunLemmas
+pub mod RunOne
 pub mod ScriptLemmas
 pub mod StandingLemmas
 pub mod TypeLemmas

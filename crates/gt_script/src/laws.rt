@@ -1,6 +1,8 @@
 //! Laws about the meaning of bytes as a script.
 ghost use Rattle.std.specs.Prelude.{◌≡◌, ℕ, List, Result, Err};
 ghost use Rattle.gt_script.specs.Contents.{Contents};
+ghost use Rattle.gt_script.specs.RunContents.{RunContents};
+ghost use Rattle.gt_script.specs.RunScripts.{ReadsAsRun};
 ghost use Rattle.gt_script.specs.Laws.{IsFaultOf, IsFaultOfBlock};
 ghost use Rattle.gt_script.specs.Script.{ReadsAsScript, ReadsFor, Wrong, in_policy, in_script};
 ghost use Rattle.gt_script.specs.declared.command.ScriptCommand.{ScriptCommand};
@@ -25,3 +27,11 @@ pub fn every_fault_is_reported()
     ensures block { (command : ScriptCommand) (bytes : List ℕ) (g : policy.TokenFault) →
         IsFaultOfBlock bytes g → ReadsFor command bytes (Err (in_policy g)) }
 {}
+
+/// A law: bytes mean only one thing as a script for `run`: a script, or its first fault.
+pub fn every_text_has_one_run()
+    ensures { (bytes : List ℕ) (one other : Result RunContents Wrong) →
+        ReadsAsRun bytes one → ReadsAsRun bytes other → one ≡ other }
+{
+    one_meaning();
+}

@@ -28,7 +28,7 @@ mod types;
 pub use actions::ScriptAction;
 pub use faults::{BlockFault, ScriptError, ScriptFault, ScriptFaultKind};
 pub use gt_script_lines::{ScriptCall, Text, hex_bytes};
-pub use laws::{every_fault_is_reported, every_text_has_one_meaning};
+pub use laws::{every_fault_is_reported, every_text_has_one_meaning, every_text_has_one_run};
 pub use parsing::parse;
 pub use run_script::{RunScript, parse_run};
 pub use script::{Script, ScriptStep};

@@ -13,7 +13,7 @@ use Rattle.gt_shared_table.specs.declared.rule.FrameHolder.{FrameHolder}
 use Rattle.gt_shared_table.specs.Rule.{Cell, HoldsAll, IsSlotOf, Places, name_of}
 use Rattle.gt_shared_table.specs.declared.rule.FrameSlot.{FrameSlot}
 use Rattle.atomic_table.specs.Seated.{TableId}
-use Rattle.gt_shared_table.specs.Recording.{Accessed, Frees, IsByHeld, IsOut, Returns, Took, held_first}
+use Rattle.gt_shared_table.specs.Recording.{Accessed, Frees, IsByHeld, IsOut, OnlyLocked, Returns, Took, held_first}
 use Rattle.gt_shared_table.specs.Recording.{holding, left_by, rest_held}
 use Rattle.gt_shared_table.specs.Bytes.{journal_by}
 use Rattle.gt_word_history.specs.History.{Layout}
@@ -29,8 +29,8 @@ pub one_value : (x y : FrameState) → Some x ≡ Some y → x ≡ y
 one_value x y e = cc
 
 -- a frame that was just taken is out, and was taken last
-pub is_out : (k : Layout) (s : FrameSlot) (me m : Me Cell FrameHolder) (t : Took k s me m) → IsOut k s true t.0 m
-is_out k s me m t = record {
+pub is_out : (b : Places) (s : FrameSlot) (me m : Me Cell FrameHolder) (t : Took b s me m) → IsOut b.layout s true t.0 m
+is_out b s me m t = record {
   carried = ap (λ (z : Me Cell FrameHolder). z.1) t.1 ∙ ap (λ (z : Me Cell FrameHolder). (s.index, Some t.0) ∷ rest z.1) (sym t.1);
   left = inl (ap (λ (z : Me Cell FrameHolder). z.0.held) t.1 ∙ ap (λ (z : Me Cell FrameHolder). (s.index, t.0) ∷ rest_held z.0.held) (sym t.1));
   owner = t.2;
@@ -65,15 +65,15 @@ returns_out b slots id z s last x frame me of out is =
     subst (λ (i : ℕ). Allows (HoldsAll b) slots id (with_frame s frame me) i (λ _. 0) (λ _ m'. Returns (left_by last me.0.held) (with_frame s frame me) m')) (sym of.0)
     (returns b slots id (with_frame s frame me) s.index (name_of s) of.2 x (left_by last me.0.held) out.left (rest me.1) (ap (λ (y : FrameState). (s.index, Some y) ∷ rest me.1) is))
 
--- a frame that was taken and freed by an access: the seat did nothing else
-pub accessed : (b : Places) (s : FrameSlot) (m : FrameStep) (me m1 m' : Me Cell FrameHolder) → Took b.layout s me m1 → Frees b (name_of s) m (left_by true m1.0.held) m1 m' → Accessed b.layout (name_of s) m me m'
+-- a frame that was taken and freed by an access: the seat did nothing else, and took its lock
+pub accessed : (b : Places) (s : FrameSlot) (m : FrameStep) (me m1 m' : Me Cell FrameHolder) → Took b s me m1 → Frees b (name_of s) m (left_by true m1.0.held) m1 m' → Accessed b.layout (name_of s) m (name_of s ∷ me.0.locks) me m'
 accessed b s m me m1 m' t freed =
-    let f : Frees b (name_of s) m me.0.held (holding s.index t.0 me.0, (s.index, Some t.0) ∷ me.1) m' = subst (λ (z : Me Cell FrameHolder). Frees b (name_of s) m (left_by true z.0.held) z m') t.1 freed in
+    let f : Frees b (name_of s) m me.0.held (holding (name_of s) s.index t.0 me.0, (s.index, Some t.0) ∷ me.1) m' = subst (λ (z : Me Cell FrameHolder). Frees b (name_of s) m (left_by true z.0.held) z m') t.1 freed in
     (f.0, f.1, f.2)
 
--- a frame that was taken and returned: nothing changed
-pub unchanged : (k : Layout) (s : FrameSlot) (me m1 m' : Me Cell FrameHolder) → Took k s me m1 → Returns (left_by true m1.0.held) m1 m' → m' ≡ me
-unchanged k s me m1 m' t back = subst (λ (z : Me Cell FrameHolder). Returns (left_by true z.0.held) z m') t.1 back
+-- a frame that was taken and returned: its lock was taken, and nothing else changed
+pub unchanged : (b : Places) (s : FrameSlot) (me m1 m' : Me Cell FrameHolder) → Took b s me m1 → Returns (left_by true m1.0.held) m1 m' → OnlyLocked (name_of s ∷ me.0.locks) me m'
+unchanged b s me m1 m' t back = subst (λ (z : Me Cell FrameHolder). Returns (left_by true z.0.held) z m') t.1 back
 
 pub no_bytes_at : (x : FrameState) (off : ℕ) → [] ≡ bytes_at x off (length {A = ℕ} [])
 no_bytes_at x off = let e : off + 0 - off ≡ 0 = omega arith in ap (λ (n : ℕ). take n (drop off (contents x))) (sym e)
@@ -85,8 +85,8 @@ pub bytes_again : (x : FrameState) (off len : ℕ) → length (contents x) ≡ F
 bytes_again x off len size inside = ap (bytes_at x off) (sym (bytes_len x off len size inside))
 
 -- the frame that was just taken is the one that is carried first
-pub took_is : (k : Layout) (s : FrameSlot) (me m : Me Cell FrameHolder) (t : Took k s me m) (x : FrameState) → m.1 ≡ (s.index, Some x) ∷ rest m.1 → t.0 ≡ x
-took_is k s me m t x e = one_value t.0 x (ap front (sym (ap (λ (z : Me Cell FrameHolder). z.1) t.1) ∙ e))
+pub took_is : (b : Places) (s : FrameSlot) (me m : Me Cell FrameHolder) (t : Took b s me m) (x : FrameState) → m.1 ≡ (s.index, Some x) ∷ rest m.1 → t.0 ≡ x
+took_is b s me m t x e = one_value t.0 x (ap front (sym (ap (λ (z : Me Cell FrameHolder). z.1) t.1) ∙ e))
 
 second_of : (a b : Bool) → IsTrue (a && b) → IsTrue b
 second_of true b e = e
@@ -107,12 +107,12 @@ pub is_right : (x frame : FrameState) (w : Writ) (off : ℕ) (ys : List ℕ) →
 is_right x frame w off ys is kept = last_right x.owner x.number x.journal (record { writ = w; off = off; bytes = ys }) (subst IsKept is kept)
 
 -- a copy within a frame that was just taken
-pub frees_within : (b : Places) (slots id : ℕ) (z : TableId) (s : FrameSlot) (me0 me : Me Cell FrameHolder) (t : Took b.layout s me0 me) → IsSlotOf b z s → (x frame : FrameState) → IsOut b.layout s true x me
+pub frees_within : (b : Places) (slots id : ℕ) (z : TableId) (s : FrameSlot) (me0 me : Me Cell FrameHolder) (t : Took b s me0 me) → IsSlotOf b z s → (x frame : FrameState) → IsOut b.layout s true x me
     → (w : Writ) (off len to : ℕ) → length (contents x) ≡ FRAME_SIZE → off + len ≤ FRAME_SIZE
     → frame ≡ record x { journal = recorded x.journal w to (bytes_at x off len) } → IsKept frame → me.0.own.gone ≡ false
     → Allows (HoldsAll b) slots id (with_frame s frame me) s.lock (λ _. 0) (λ _ m'. Frees b (name_of s) (Copied s.owner s.number off (record { writ = w; off = to; bytes = bytes_at (held_first me.0.held) off len })) (left_by true me.0.held) (with_frame s frame me) m')
 frees_within b slots id z s me0 me t of x frame out w off len to size inside is kept here =
-    let x_is : t.0 ≡ x = took_is b.layout s me0 me t x out.carried in
+    let x_is : t.0 ≡ x = took_is b s me0 me t x out.carried in
     let held_is : me.0.held ≡ (s.index, x) ∷ me0.0.held = ap (λ (z : Me Cell FrameHolder). z.0.held) t.1 ∙ ap (λ (y : FrameState). (s.index, y) ∷ me0.0.held) x_is in
     subst (λ (y : FrameState). Allows (HoldsAll b) slots id (with_frame s frame me) s.lock (λ _. 0) (λ _ m'. Frees b (name_of s) (Copied s.owner s.number off (record { writ = w; off = to; bytes = bytes_at y off len })) (left_by true me.0.held) (with_frame s frame me) m')) (sym (ap held_first held_is))
     (frees_out b slots id z s true x frame me of out (Copied s.owner s.number off (record { writ = w; off = to; bytes = bytes_at x off len })) is

@@ -7,3 +7,4 @@ pub mod Names
 pub mod SeatsKept
 pub mod Moving
 pub mod Placed
+pub mod Upwards

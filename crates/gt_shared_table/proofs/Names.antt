@@ -1,11 +1,19 @@
--- No frame of a run has two slots.
-use Rattle.std.proofs.Common.{◌≡◌, ℕ, zero, suc, ◌+◌, ◌≤◌, List, [], ◌∷◌, ◌++◌, map, sym, refl, ap, arith}
+-- No frame of a run has two slots, and a lower slot has a lower frame.
+use Rattle.std.proofs.Common.{◌≡◌, ℕ, zero, suc, ◌+◌, ◌≤◌, ◌<◌, inl, inr, List, [], ◌∷◌, ◌++◌, map, sym, refl, ap, subst, arith}
 use mathlib.Core.Option.{some, some-injective, some-ne-none}
 use lib.ListN.{get_elem?}
 use Rattle.std.specs.List.{range_with_len}
 use Rattle.gt_types.specs.declared.config.DomainConfig.{DomainConfig}
 use Rattle.gt_shared_table.specs.Rule.{FrameAt, frame_at, names_from}
+use Rattle.std.specs.Prelude.{◌⊎◌, Bool, true, false, nat_lt, ◌≢◌}
+use Rattle.std.proofs.lemmas.Bool.Decides.{nat_tests}
+use Rattle.atomic_table.specs.Seated.{TableId}
+use Rattle.gt_types.specs.declared.config.Config.{Config}
 use Rattle.gt_shared_table.specs.Laws.{AreApart, FramesHaveOneSlot}
+use Rattle.gt_shared_table.specs.Locking.{IsLower, LocksOf, SlotsAreInOrder}
+use Rattle.gt_shared_table.specs.Recording.{both_locks}
+use Rattle.gt_shared_table.specs.Rule.{IsSlotOf, name_of, places_of}
+use Rattle.gt_shared_table.specs.declared.rule.FrameSlot.{FrameSlot}
 
 -- every name of the list is of a domain from this position on
 abbrev AreFrom : ℕ → List FrameAt → Type 0
@@ -51,3 +59,49 @@ apart_from t (d ∷ ds) i j m e g = row_apart t 0 d.frames (names_from (t + 1) d
 
 pub one_slot : FramesHaveOneSlot
 one_slot c = apart_from 0 c.domains.items
+
+-- the frames of a list are in order
+abbrev AreInOrder : List FrameAt → Type 0
+AreInOrder xs = (i j : ℕ) (a b : FrameAt) → get_elem? xs i ≡ some a → get_elem? xs j ≡ some b → i < j → IsLower a b
+
+below_by : (m n : ℕ) → m ≤ n → (t : Bool) → nat_lt m n ≡ t → (m < n) ⊎ (m ≡ n)
+below_by m n le true e = inl (grind (arith, nat_tests))
+below_by m n le false e = inr (grind (arith, nat_tests))
+
+lower_in : (t f : ℕ) (b : FrameAt) → (t < b.0) ⊎ (t ≡ b.0) → (b.0 ≡ t → f + 1 ≤ b.1) → IsLower (t, f) b
+lower_in t f b (inl p) above = inl p
+lower_in t f b (inr p) above = let r = above (sym p) in inr (p, omega arith)
+
+first_lower : (t f n : ℕ) (xs : List FrameAt) → AreFrom (t + 1) xs → (j : ℕ) (a b : FrameAt) → some (frame_at t f) ≡ some a
+    → get_elem? (row t (f + 1) n xs) j ≡ some b → IsLower a b
+first_lower t f n xs h j a b e g =
+    let from_t : AreFrom t xs = λ k m at. let r = h k m at in omega arith in
+    let le = row_from t (f + 1) n xs from_t j b g in
+    subst (λ (x : FrameAt). IsLower x b) (first_is t f a e)
+    (lower_in t f b (below_by t b.0 le (nat_lt t b.0) refl) (λ is. row_above t (f + 1) n xs h j b g is))
+
+row_in_order : (t f n : ℕ) (xs : List FrameAt) → AreFrom (t + 1) xs → AreInOrder xs → AreInOrder (row t f n xs)
+row_in_order t f zero xs h order i j a b e g lt = order i j a b e g lt
+row_in_order t f (suc n) xs h order i zero a b e g lt = absurd (omega arith)
+row_in_order t f (suc n) xs h order zero (suc j) a b e g lt = first_lower t f n xs h j a b e g
+row_in_order t f (suc n) xs h order (suc i) (suc j) a b e g lt = row_in_order t (f + 1) n xs h order i j a b e g (omega arith)
+
+in_order_from : (t : ℕ) (ds : List DomainConfig) → AreInOrder (names_from t ds)
+in_order_from t [] i j a b e g lt = absurd (some-ne-none a (sym e))
+in_order_from t (d ∷ ds) i j a b e g lt = row_in_order t 0 d.frames (names_from (t + 1) ds) (from (t + 1) ds) (in_order_from (t + 1) ds) i j a b e g lt
+
+pub in_order : SlotsAreInOrder
+in_order c i j a b e g lt = in_order_from 0 c.domains.items i j a b e g lt
+
+locked_by : (c : Config) (z : TableId) (s d : FrameSlot) (old : List FrameAt) → IsSlotOf (places_of c) z s → IsSlotOf (places_of c) z d
+    → s.index ≢ d.index → (t : Bool) → nat_lt s.index d.index ≡ t → LocksOf (name_of s) (name_of d) old (both_locks t s d old)
+locked_by c z s d old of_s of_d apart true e = inr (inl (in_order c s.index d.index (name_of s) (name_of d) of_s.2 of_d.2 (grind (arith, nat_tests)), refl))
+locked_by c z s d old of_s of_d apart false e = inr (inr (in_order c d.index s.index (name_of d) (name_of s) of_d.2 of_s.2 (grind (arith, nat_tests)), refl))
+
+-- the locks of two slots, by the names of their frames
+pub locked : (c : Config) (z : TableId) (s d : FrameSlot) (a b : FrameAt) (old : List FrameAt) → IsSlotOf (places_of c) z s → IsSlotOf (places_of c) z d
+    → name_of s ≡ a → name_of d ≡ b → s.index ≢ d.index → LocksOf a b old (both_locks (nat_lt s.index d.index) s d old)
+locked c z s d a b old of_s of_d is_a is_b apart =
+    subst (λ (x : FrameAt). LocksOf x b old (both_locks (nat_lt s.index d.index) s d old)) is_a
+    (subst (λ (y : FrameAt). LocksOf (name_of s) y old (both_locks (nat_lt s.index d.index) s d old)) is_b
+    (locked_by c z s d old of_s of_d apart (nat_lt s.index d.index) refl))

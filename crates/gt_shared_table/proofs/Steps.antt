@@ -86,13 +86,13 @@ module _ (b : Places) (s : State Cell FrameHolder) (holds : HoldsAll b s) (id : 
     there = let f = holds.frames.free q lt is_free in f.1 ∙ ap (λ (z : Cell). some (some z)) (holds.frames.home q n f.0 named f.1)
 
     abbrev pub after : State Cell FrameHolder
-    after = stepped s (lock_place b q) k id carried (holding q x v) (takes q (Some x))
+    after = stepped s (lock_place b q) k id carried (holding n q x v) (takes q (Some x))
 
     same_inner : inner b after ≡ inner b s
     same_inner = λ i. record {
       words = take-set-le n_words s.words (lock_place b q) k (let l : n_words ≤ n_words + 8 * q = omega arith in l) i;
       homes = hidden_set s.homes q none i;
-      views = (map-set own_of s.views id (holding q x v) ∙ set_again (map own_of s.views) id v.own own_at) i;
+      views = (map-set own_of s.views id (holding n q x v) ∙ set_again (map own_of s.views) id v.own own_at) i;
     }
 
     words_after : TableHolds b.layout (inner b after)
@@ -101,7 +101,7 @@ module _ (b : Places) (s : State Cell FrameHolder) (holds : HoldsAll b s) (id : 
     pub locked : HoldsAll b after
     locked = all_by b after words_after h
         (one_history b.layout (whole (inner b after)) (whole (inner b s)) words_after.shown holds.words.shown (λ i. whole_views (same_inner i).views))
-        (takes_keep b h s holds.frames id v at q n named (Some x) there lt (holding q x v) refl k busy carried)
+        (takes_keep b h s holds.frames id v at q n named (Some x) there lt (holding n q x v) refl k busy carried)
 
   -- a seat waits for a frame that another seat has
   module _ (q : ℕ) (n : FrameAt) (named : IsNamed b q n) (lt : q < length b.names) (k : ℕ) (busy : k ≢ 0) (carried : List (ℕ × Cell)) where
@@ -162,7 +162,7 @@ module _ (b : Places) (s : State Cell FrameHolder) (holds : HoldsAll b s) (id : 
     -- a step on a flag
     module _ (f n : ℕ) (carried : List (ℕ × Cell)) where
       abbrev stepper : FrameHolder
-      stepper = record { own = outlook_after h x v.own; held = v.held }
+      stepper = record v { own = outlook_after h x v.own }
 
       abbrev pub flagged : State Cell FrameHolder
       flagged = stepped s (flag_place b f) n id carried stepper keeps
@@ -290,9 +290,9 @@ IsMe m n = m ≡ n
 -- the frame was taken by a step that leaves k in its lock word
 takes_by : (b : Places) (s : State Cell FrameHolder) → HoldsAll b s → (id : ℕ) (me : Me Cell FrameHolder) → get_elem? s.views id ≡ some me.0 → (q : ℕ) (n : FrameAt) → IsNamed b q n → q < length b.names → (k : ℕ) → k ≢ 0
     → slice_index s.words (lock_place b q) ≡ 0
-    → (w : FrameHolder) × (a : Act Cell) × Valid s.homes me.1 a × HoldsAll b (stepped s (lock_place b q) k id me.1 w a) × TookAt b.layout n q me (w, carried_after me.1 a)
+    → (w : FrameHolder) × (a : Act Cell) × Valid s.homes me.1 a × HoldsAll b (stepped s (lock_place b q) k id me.1 w a) × TookAt b n q me (w, carried_after me.1 a)
 takes_by b s holds id me at q n named lt k busy none_has = let y : FrameState = made b holds.words.shown.history n in
-    (holding q y me.0, takes q (Some y), there b s holds id me.0 at q n named lt none_has k busy me.1, locked b s holds id me.0 at q n named lt none_has k busy me.1, (y, refl, refl, refl))
+    (holding n q y me.0, takes q (Some y), there b s holds id me.0 at q n named lt none_has k busy me.1, locked b s holds id me.0 at q n named lt none_has k busy me.1, (y, refl, refl, refl, named))
 
 is_none : (word : ℕ) → (word == 0) ≡ true → word ≡ 0
 is_none word e = grind (arith, nat_tests)
@@ -302,7 +302,7 @@ a_number_is_busy k e = omega arith
 
 locks_by : (b : Places) (s : State Cell FrameHolder) → HoldsAll b s → (id : ℕ) (me : Me Cell FrameHolder) → get_elem? s.views id ≡ some me.0 → (q : ℕ) (n : FrameAt) → IsNamed b q n → q < length b.names → (word : ℕ) → slice_index s.words (lock_place b q) ≡ word → (t : Bool) → (word == 0) ≡ t
     → (w : FrameHolder) × (a : Act Cell) × Valid s.homes me.1 a × HoldsAll b (stepped s (lock_place b q) (either t 1 word) id me.1 w a)
-    × MatchBool t (TookAt b.layout n q me (w, carried_after me.1 a)) (IsMe (w, carried_after me.1 a) me)
+    × MatchBool t (TookAt b n q me (w, carried_after me.1 a)) (IsMe (w, carried_after me.1 a) me)
 locks_by b s holds id me at q n named lt word is true e = takes_by b s holds id me at q n named lt 1 (a_number_is_busy 0) (is ∙ is_none word e)
 locks_by b s holds id me at q n named lt word is false e = (me.0, keeps, tt, nothing_found b s holds id me.0 at (lock_place b q) word is me.1, refl)
 
@@ -311,7 +311,7 @@ locks b slots id me q n named lt s holds many at bound = locks_by b s holds id m
 
 awaits_by : (b : Places) (s : State Cell FrameHolder) → HoldsAll b s → (id : ℕ) (me : Me Cell FrameHolder) → get_elem? s.views id ≡ some me.0 → (q : ℕ) (n : FrameAt) → IsNamed b q n → q < length b.names → (word : ℕ) → slice_index s.words (lock_place b q) ≡ word → (t : Bool) → (word == 0) ≡ t
     → (w : FrameHolder) × (a : Act Cell) × Valid s.homes me.1 a × HoldsAll b (stepped s (lock_place b q) 2 id me.1 w a)
-    × MatchBool t (TookAt b.layout n q me (w, carried_after me.1 a)) (IsMe (w, carried_after me.1 a) me)
+    × MatchBool t (TookAt b n q me (w, carried_after me.1 a)) (IsMe (w, carried_after me.1 a) me)
 awaits_by b s holds id me at q n named lt word is true e = takes_by b s holds id me at q n named lt 2 (a_number_is_busy 1) (is ∙ is_none word e)
 awaits_by b s holds id me at q n named lt word is false e = (me.0, keeps, tt, waits b s holds id me.0 at q n named lt 2 (a_number_is_busy 1) me.1, refl)
 
@@ -344,7 +344,7 @@ steps b slots id me at f d st here before on allows s holds many found bound =
       tt,
       steps_all b s holds id me.0 found here at (f (slice_index s.words at)) before says.0.1.0 (d.step (slice_index s.words at)) (on (slice_index s.words at)) y says.1 says.0.1.1 me.1
           (subst (λ (n : ℕ). TableHolds b.layout (record { words = set ws at (f n); homes = map hidden s.homes; views = set (map own_of s.views) id y })) word_is at_end),
-      (says, refl, refl),
+      (says, refl, refl, refl),
     )
 
 pub returns : FramesAreReturned
@@ -358,7 +358,7 @@ returns b slots id me q n named x hs has c out s holds many at bound = (
 
 pub raises : FlagsAreRaised
 raises b slots id me f here s holds many at bound = let x : SeatStep = Flag f Raised in (
-  record { own = outlook_after holds.words.shown.history x me.0.own; held = me.0.held },
+  record me.0 { own = outlook_after holds.words.shown.history x me.0.own },
   keeps,
   tt,
   flagged_all b s holds id me.0 at x tt here f 1 me.1 (raise_keeps b holds.words.shown.history s holds.frames id me.0 at f _ refl me.1),
@@ -371,7 +371,7 @@ looks_by : (b : Places) (s : State Cell FrameHolder) (holds : HoldsAll b s) (id 
 looks_by b s holds id me at f here word is true e = (me.0, keeps, tt, nothing_found b s holds id me.0 at (flag_place b f) word is me.1, refl)
 looks_by b s holds id me at f here word is false e =
     let x : SeatStep = Flag f Passed in let h = holds.words.shown.history in let some_word : word ≢ 0 = (λ z. let n : (word == 0) ≡ true = eq-eqb word 0 z in cc) in (
-      record { own = outlook_after h x me.0.own; held = me.0.held },
+      record me.0 { own = outlook_after h x me.0.own },
       keeps,
       tt,
       flagged_all b s holds id me.0 at x tt here f word me.1 (pass_keeps b h s holds.frames id me.0 at f word is some_word _ refl me.1),

@@ -61,13 +61,13 @@ abbrev pub FramesAreLocked : Type 0
 FramesAreLocked =
     (b : Places) (slots id : ℕ) (me : Me Cell FrameHolder) (q : ℕ) (n : FrameAt) → IsNamed b q n → q < length b.names
     → Allows (HoldsAll b) slots id me (lock_place b q) (λ w. either (w == 0) 1 w)
-    (λ w m. Locks b.layout n q me w m)
+    (λ w m. Locks b n q me w m)
 
 -- the same by a step that leaves the mark of a frame for which a seat may wait
 abbrev pub FramesAreAwaited : Type 0
 FramesAreAwaited =
     (b : Places) (slots id : ℕ) (me : Me Cell FrameHolder) (q : ℕ) (n : FrameAt) → IsNamed b q n → q < length b.names
-    → Allows (HoldsAll b) slots id me (lock_place b q) (λ _. 2) (λ w m. Locks b.layout n q me w m)
+    → Allows (HoldsAll b) slots id me (lock_place b q) (λ _. 2) (λ w m. Locks b n q me w m)
 
 -- the frame that the seat carries first may be freed by an access
 abbrev pub FramesAreFreed : Type 0
@@ -85,7 +85,8 @@ WordsAreStepped =
     → me.0.own.gone ≡ false → at < header_place b.layout.domains → ((n : ℕ) → IsOnWords (d.step n))
     → Allows (TableHolds b.layout) slots id (me.0.own, []) at f (promises_own d st (me.0.own, []))
     → Allows (HoldsAll b) slots id me at f
-    (λ n m. promises_own d st (me.0.own, []) n (m.0.own, []) × (m.0.held ≡ me.0.held) × (m.1 ≡ me.1))
+    (λ n m. promises_own d st (me.0.own, []) n (m.0.own, []) × (m.0.held ≡ me.0.held) × (m.1 ≡ me.1)
+    × (m.0.locks ≡ me.0.locks))
 
 -- the rule holds at the start, if the rule of the words does, no frame has two slots, each slot has its frame of zeros,
 -- and no flag is raised

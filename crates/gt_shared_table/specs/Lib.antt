@@ -5,3 +5,4 @@ pub mod Recording
 pub mod Seats
 pub mod Words
 pub mod Accesses
+pub mod Locking

@@ -23,22 +23,23 @@ use Rattle.gt_shared_table.specs.declared.rule.FrameSlot.{FrameSlot}
 use Rattle.gt_frames.specs.declared.writ.Writ.{Writ}
 use Rattle.gt_types.specs.declared.Range.{Range}
 
--- the seat also holds this frame, with these contents
-abbrev pub holding : ℕ → FrameState → FrameHolder → FrameHolder
-holding q x v = record v { held = (q, x) ∷ v.held }
+-- the seat took the lock of this frame, and also holds it, with these contents
+abbrev pub holding : FrameAt → ℕ → FrameState → FrameHolder → FrameHolder
+holding a q x v = record v { held = (q, x) ∷ v.held; locks = a ∷ v.locks }
 
--- the seat took the frame of this name out of this slot
-abbrev pub TookAt : Layout → FrameAt → ℕ → Me Cell FrameHolder → Me Cell FrameHolder → Type 0
-TookAt k a q m m' =
-    (x : FrameState) × (m' ≡ (holding q x m.0, (q, Some x) ∷ m.1)) × (x.owner ≡ id_at k.ids a.0) × (x.number ≡ a.1)
+-- the seat took the frame of this slot, whose name this is
+abbrev pub TookAt : Places → FrameAt → ℕ → Me Cell FrameHolder → Me Cell FrameHolder → Type 0
+TookAt b a q m m' =
+    (x : FrameState) × (m' ≡ (holding a q x m.0, (q, Some x) ∷ m.1)) × (x.owner ≡ id_at b.layout.ids a.0)
+    × (x.number ≡ a.1) × IsNamed b q a
 
 -- the seat took the frame of this slot
-abbrev pub Took : Layout → FrameSlot → Me Cell FrameHolder → Me Cell FrameHolder → Type 0
-Took k s m m' = TookAt k (name_of s) s.index m m'
+abbrev pub Took : Places → FrameSlot → Me Cell FrameHolder → Me Cell FrameHolder → Type 0
+Took b s m m' = TookAt b (name_of s) s.index m m'
 
 -- the frame of the slot was taken, or another seat has it
-abbrev pub Locks : Layout → FrameAt → ℕ → Me Cell FrameHolder → ℕ → Me Cell FrameHolder → Type 0
-Locks k a q m n m' = MatchBool (n == 0) (TookAt k a q m m') (m' ≡ m)
+abbrev pub Locks : Places → FrameAt → ℕ → Me Cell FrameHolder → ℕ → Me Cell FrameHolder → Type 0
+Locks b a q m n m' = MatchBool (n == 0) (TookAt b a q m m') (m' ≡ m)
 
 abbrev pub rest_held : List (ℕ × FrameState) → List (ℕ × FrameState)
 rest_held [] = []
@@ -56,7 +57,7 @@ outlook_after past x o = record o { own = with_step past x o.own }
 
 -- what a seat knows after an access, with these frames left
 abbrev pub holder_after : StepHistory → SeatStep → List (ℕ × FrameState) → FrameHolder → FrameHolder
-holder_after past x hs v = record { own = outlook_after past x v.own; held = hs }
+holder_after past x hs v = record { own = outlook_after past x v.own; held = hs; locks = v.locks }
 
 -- these are left of the frames held without the one of this slot, which was taken last or just before the last
 abbrev pub AreLeft : ℕ → FrameState → List (ℕ × FrameState) → List (ℕ × FrameState) → Type 0
@@ -104,7 +105,7 @@ IsByHeld b held x (Copied d f off r) =
 -- the seat made this step, and nothing else, right after the history past
 abbrev pub AddsStep : Layout → SeatStep → Me Cell FrameHolder → Me Cell FrameHolder → Type 0
 AddsStep k x me me' =
-    (past : StepHistory) × (me' ≡ (record { own = outlook_after past x me.0.own; held = me.0.held }, me.1))
+    (past : StepHistory) × (me' ≡ (record me.0 { own = outlook_after past x me.0.own }, me.1))
     × Accesses k me.0.own.own past x
 
 -- the seat looked at the flag, whose word was n: it passed the flag, or did nothing since the flag was not raised
@@ -115,19 +116,30 @@ LooksAtFlag k flag me n me' = MatchBool (n == 0) (me' ≡ me) (AddsStep k (Flag 
 abbrev pub IsOf : TableId → Seat Cell FrameHolder → Type 0
 IsOf z s = s.table_id ≡ z
 
--- the seat made this access to the frame, and nothing else: it is one step, right after the history past
-abbrev pub Accessed : Layout → FrameAt → FrameStep → Me Cell FrameHolder → Me Cell FrameHolder → Type 0
-Accessed k n m me me' =
+-- the seat made this access to the frame, and nothing else: it is one step, right after the history past. By then these
+-- are the locks that it took
+abbrev pub Accessed : Layout → FrameAt → FrameStep → List FrameAt → Me Cell FrameHolder → Me Cell FrameHolder → Type 0
+Accessed k n m locks me me' =
     (past : StepHistory)
-    × (me' ≡ (record { own = outlook_after past (Frame n.0 n.1 m) me.0.own; held = me.0.held }, me.1))
+    × (me' ≡ (record me.0 { own = outlook_after past (Frame n.0 n.1 m) me.0.own; locks = locks }, me.1))
     × Accesses k me.0.own.own past (Frame n.0 n.1 m)
 
 -- the seat copied a range of the first frame to the second, starting at an offset, and did nothing else: it is one
 -- step, with the bytes that the source had
-abbrev pub CopiedBy : Layout → FrameAt → FrameAt → Writ → Range → ℕ → Me Cell FrameHolder → Me Cell FrameHolder → Type 0
-CopiedBy k a b w range to_off me me' =
+abbrev pub CopiedBy : Layout → FrameAt → FrameAt → Writ → Range → ℕ → List FrameAt → Me Cell FrameHolder
+    → Me Cell FrameHolder → Type 0
+CopiedBy k a b w range to_off locks me me' =
     (bytes : List ℕ) × (length bytes ≡ range.len)
-    × Accessed k b (Copied a.0 a.1 range.off (record { writ = w; off = to_off; bytes = bytes })) me me'
+    × Accessed k b (Copied a.0 a.1 range.off (record { writ = w; off = to_off; bytes = bytes })) locks me me'
+
+-- nothing changed, but that the seat took these locks
+abbrev pub OnlyLocked : List FrameAt → Me Cell FrameHolder → Me Cell FrameHolder → Type 0
+OnlyLocked locks me me' = me' ≡ (record me.0 { locks = locks }, me.1)
+
+-- the locks of two frames, after these: that of the lower slot was taken first
+abbrev pub both_locks : Bool → FrameSlot → FrameSlot → List FrameAt → List FrameAt
+both_locks true source dest ns = name_of dest ∷ name_of source ∷ ns
+both_locks false source dest ns = name_of source ∷ name_of dest ∷ ns
 
 -- the two frames held, the one taken last first
 abbrev pub both_held : Bool → FrameSlot → FrameState → FrameSlot → FrameState → List (ℕ × FrameState)
@@ -139,7 +151,10 @@ abbrev pub HasBoth : Layout → FrameSlot → FrameSlot → FrameState → Me Ce
 HasBoth k source dest x me me' =
     (y : FrameState)
     × (me' ≡ (
-      record me.0 { held = both_held (nat_lt source.index dest.index) source x dest y },
+      record me.0 {
+        held = both_held (nat_lt source.index dest.index) source x dest y;
+        locks = both_locks (nat_lt source.index dest.index) source dest me.0.locks;
+      },
       (dest.index, Some y) ∷ (source.index, None) ∷ [],
     ))
     × (y.owner ≡ id_at k.ids dest.owner) × (y.number ≡ dest.number) × (x.owner ≡ id_at k.ids source.owner)

@@ -112,7 +112,7 @@ pub record HoldsAll (b : Places) (s : State Cell FrameHolder) : Type 0 where
 
 -- what a seat knows that holds no frame
 abbrev pub newcomer : Outlook → FrameHolder
-newcomer o = record { own = o; held = [] }
+newcomer o = record { own = o; held = []; locks = [] }
 
 -- the frames of these domains, of which the first is at this position
 abbrev pub names_from : ℕ → List DomainConfig → List FrameAt

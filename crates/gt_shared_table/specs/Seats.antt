@@ -34,7 +34,7 @@ taker v w = record v { own = took v.own w.own }
 
 -- what a seat knows that was taken in: nothing
 abbrev pub gone_holder : FrameHolder
-gone_holder = record { own = gone_outlook; held = [] }
+gone_holder = record { own = gone_outlook; held = []; locks = [] }
 
 -- what the first seat's look promises: nothing changed, and there is one state with all the views that it took in
 abbrev pub learns_all_of : StepKind → TableStep Cell → Me Cell FrameHolder → ℕ → Me Cell FrameHolder → Type 0

@@ -18,10 +18,12 @@ use Rattle.gt_shared_table.specs.Rule.{Cell, FrameAt, Places, flag_place}
 abbrev pub on_words : TableStep Cell → TableStep (Unit {0})
 on_words st = record { slots = st.slots; word = st.word; first = st.first; second = st.second; said = none }
 
--- what a step on a word promises: what the rule of the words promises, and that the seat holds the frames that it held
+-- what a step on a word promises: what the rule of the words promises, and that the seat holds the frames that it held,
+-- and took no lock
 abbrev pub promises_word : StepKind → TableStep Cell → Me Cell FrameHolder → ℕ → Me Cell FrameHolder → Type 0
 promises_word d st m n m' =
     promises_own d (on_words st) (m.0.own, []) n (m'.0.own, []) × (m'.0.held ≡ m.0.held) × (m'.1 ≡ m.1)
+    × (m'.0.locks ≡ m.0.locks)
 
 -- the same for a store, which does not report what it found
 abbrev pub promises_word_stored : StepKind → TableStep Cell → Me Cell FrameHolder → Me Cell FrameHolder → Type 0

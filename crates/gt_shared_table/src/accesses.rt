@@ -10,7 +10,8 @@ ghost use Rattle.gt_word_history.specs.Views.{IsAmong};
 ghost use Rattle.gt_word_history.specs.declared.view.FrameStep.TheVariants as access;
 ghost use Rattle.gt_shared_table.specs.Accesses.{IsReadIn, copied_in, written_in};
 ghost use Rattle.gt_shared_table.specs.Rule.{HoldsAll, IsNamed, IsSlotOf, name_of, places_of};
-ghost use Rattle.gt_shared_table.specs.Recording.{Accessed, CopiedBy, Frees, HasBoth, IsOut, Returns, left_by};
+ghost use Rattle.gt_shared_table.specs.Recording.{CopiedBy, Frees, HasBoth, IsOut, OnlyLocked, Returns, both_locks};
+ghost use Rattle.gt_shared_table.specs.Recording.{left_by};
 
 use crate::locks::{free_lock, lock, return_lock};
 use crate::rule::{CellSeat, Cells, FrameSlot, OfAccess};
@@ -306,10 +307,12 @@ pub(crate) fn copy<R: Wait>(
         copy.to_off copy.range.len) }
     ensures seat { (seat.new.table_id ≡ seat.old.table_id) × (seat.new.id ≡ seat.old.id) }
     ensures copied { OnOk result (CopiedBy (layout_of cells.now.key) (name_of source) (name_of dest) copy.entry.writ.now
-        copy.entry.range copy.entry.to_off seat.old.me seat.new.me) }
+        copy.entry.range copy.entry.to_off
+        (both_locks (nat_lt source.index dest.index) source dest seat.old.me.0.locks) seat.old.me seat.new.me) }
     ensures receipt { IfOk result (λ r. r ≡ copied_in (layout_of cells.now.key) (name_of source) (name_of dest)
         copy.entry.writ.now copy.entry.range copy.entry.to_off) }
-    ensures refused { OnErr result (seat.new.me ≡ seat.old.me) }
+    ensures refused { OnErr result (OnlyLocked
+        (both_locks (nat_lt source.index dest.index) source dest seat.old.me.0.locks) seat.old.me seat.new.me) }
 {
     let frame = lock_both(rt, cells, seat, source, dest);
     let copied = copy_out(cells, seat, source, &frame, dest, copy);
@@ -347,16 +350,17 @@ pub(crate) fn copy_within<R: Wait>(
 ) -> Result<Copied, Memory>
     requires mine { (seat.old.table_id ≡ cells.now.table_id) × (seat.old.me.0.own.gone ≡ false) }
     requires slot { IsSlotOf (places_of cells.now.key) cells.now.table_id slot }
+    requires free { (seat.old.me.1 ≡ []) × (seat.old.me.0.held ≡ []) }
     requires ranges { (copy.range.off + copy.range.len ≤ FRAME_SIZE)
         × (copy.to_off + copy.range.len ≤ FRAME_SIZE) }
     requires right { IsTrue (covers copy.writ.now (id_at (layout_of cells.now.key).ids slot.owner) slot.number
         copy.to_off copy.range.len) }
     ensures seat { (seat.new.table_id ≡ seat.old.table_id) × (seat.new.id ≡ seat.old.id) }
     ensures copied { OnOk result (CopiedBy (layout_of cells.now.key) (name_of slot) (name_of slot) copy.entry.writ.now
-        copy.entry.range copy.entry.to_off seat.old.me seat.new.me) }
+        copy.entry.range copy.entry.to_off (name_of slot ∷ seat.old.me.0.locks) seat.old.me seat.new.me) }
     ensures receipt { IfOk result (λ r. r ≡ copied_in (layout_of cells.now.key) (name_of slot) (name_of slot)
         copy.entry.writ.now copy.entry.range copy.entry.to_off) }
-    ensures refused { OnErr result (seat.new.me ≡ seat.old.me) }
+    ensures refused { OnErr result (OnlyLocked (name_of slot ∷ seat.old.me.0.locks) seat.old.me seat.new.me) }
 {
     lock(rt, cells, seat, slot);
     let copied = match seat.slot_mut(cells, slot.index) {

@@ -49,6 +49,7 @@ impl SharedTable {
         requires table { seat.old.table ≡ self.now.table }
         requires inside { flag < self.now.flags }
         ensures table { seat.new.table ≡ seat.old.table }
+        ensures locks { seat.new.locks ≡ seat.old.locks }
         ensures step { TakesFlagStep self.now.layout flag Raised seat.old.view seat.new.view }
     {
         let word = self.first_flag + flag;
@@ -61,6 +62,7 @@ impl SharedTable {
         requires table { seat.old.table ≡ self.now.table }
         requires inside { flag < self.now.flags }
         ensures table { seat.new.table ≡ seat.old.table }
+        ensures locks { seat.new.locks ≡ seat.old.locks }
         ensures step { MatchBool result (TakesFlagStep self.now.layout flag Passed seat.old.view seat.new.view)
             (seat.new.view ≡ seat.old.view) }
     {

@@ -1,10 +1,11 @@
 //! The calls that access frames. Each is one step of the history. Only these calls may wait.
-ghost use Rattle.std.specs.Prelude.{◌≡◌, ◌≢◌, ◌+◌, ◌≤◌, ◌↔◌, length, IfOk, OnErr, OnOk, IsTrue};
+ghost use Rattle.std.specs.Prelude.{◌≡◌, ◌≢◌, ◌+◌, ◌≤◌, ◌↔◌, ◌∷◌, length, IfOk, OnErr, OnOk, IsTrue};
 ghost use Rattle.gt_frames.specs.Frames.{covers};
 ghost use Rattle.gt_types.specs.declared.limits.TheConstants.{FRAME_SIZE};
 ghost use Rattle.gt_word_history.specs.Rule.{id_at};
 ghost use Rattle.gt_word_history.specs.declared.view.FrameStep.TheVariants as access;
 ghost use Rattle.gt_shared_table.specs.Accesses.{IsReadIn, TakesAccess, TakesCopy, copied_in, written_in};
+ghost use Rattle.gt_shared_table.specs.Locking.{LocksOf};
 ghost use Rattle.gt_shared_table.specs.Words.{HasFrame, named_at};
 
 use crate::accesses::{FrameCopy, FrameWrite, copy, copy_within, read_out, write_out};
@@ -42,15 +43,16 @@ impl SharedTable {
         requires inside { HasFrame self.now frame }
         requires range { off + length out.old ≤ FRAME_SIZE }
         ensures table { seat.new.table ≡ seat.old.table }
+        ensures locks { seat.new.locks ≡ named_at frame ∷ seat.old.locks }
         ensures step { TakesAccess self.now.layout (named_at frame) (access.Read off result.bytes)
             seat.old.view seat.new.view }
         ensures filled { (out.new ≡ result.bytes) × (length result.bytes ≡ length out.old) }
         ensures receipt { IsReadIn self.now.layout (named_at frame) off result }
     {
         let cells = &self.table.shared;
-        let slot = slot_at(cells, &self.firsts, frame);
-        lock(rt, cells, &mut seat.seat, slot);
-        read_out(cells, &mut seat.seat, slot, off, out)
+        let source = slot_at(cells, &self.firsts, frame);
+        lock(rt, cells, &mut seat.seat, source);
+        read_out(cells, &mut seat.seat, source, off, out)
     }
 
     /// Writes to a frame. Waits while another seat has the frame.
@@ -71,6 +73,7 @@ impl SharedTable {
         requires right { IsTrue (covers args.writ.now (id_at self.now.layout.ids frame.position) frame.number
             args.off (length args.bytes.now)) }
         ensures table { seat.new.table ≡ seat.old.table }
+        ensures locks { seat.new.locks ≡ named_at frame ∷ seat.old.locks }
         ensures step { OnOk result (TakesAccess self.now.layout (named_at frame)
             (access.Wrote (record { writ = args.entry.writ.now; off = args.entry.off; bytes = args.entry.bytes.now }))
             seat.old.view seat.new.view) }
@@ -79,9 +82,9 @@ impl SharedTable {
         ensures refused { OnErr result (seat.new.view ≡ seat.old.view) }
     {
         let cells = &self.table.shared;
-        let slot = slot_at(cells, &self.firsts, frame);
-        lock(rt, cells, &mut seat.seat, slot);
-        write_out(cells, &mut seat.seat, slot, args)
+        let dest = slot_at(cells, &self.firsts, frame);
+        lock(rt, cells, &mut seat.seat, dest);
+        write_out(cells, &mut seat.seat, dest, args)
     }
 
     /// Copies a range of one frame to another, or to another place of the same frame. Ranges of one frame may overlap:
@@ -108,6 +111,7 @@ impl SharedTable {
         requires right { IsTrue (covers args.writ.now (id_at self.now.layout.ids dest.position) dest.number args.to_off
             args.range.len) }
         ensures table { seat.new.table ≡ seat.old.table }
+        ensures locks { LocksOf (named_at source) (named_at dest) seat.old.locks seat.new.locks }
         ensures step { OnOk result (TakesCopy self.now.layout (named_at source) (named_at dest) args.entry.writ.now
             args.entry.range args.entry.to_off seat.old.view seat.new.view) }
         ensures receipt { IfOk result (λ r. r ≡ copied_in self.now.layout (named_at source) (named_at dest)

@@ -3,6 +3,7 @@ ghost use Rattle.gt_shared_table.specs.Laws.{AccessesGoOn, FramesAreTaken, Frame
 ghost use Rattle.gt_shared_table.specs.Laws.{FramesAreAwaited, FramesAreFreed, FramesAreLocked, FramesAreReturned};
 ghost use Rattle.gt_shared_table.specs.Laws.{FramesHaveOneSlot};
 ghost use Rattle.gt_shared_table.specs.Laws.{FlagsArePassed, FlagsAreRaised, FramesOpen, WordsAreStepped};
+ghost use Rattle.gt_shared_table.specs.Locking.{CopiesLockUpwards, SeatsFormNoRing, SlotsAreInOrder};
 ghost use Rattle.gt_shared_table.specs.Seats.{SeatsAreDealt, SeatsAreTakenIn};
 
 /// A law: an access to a frame, or a step on a flag, may be the next step of the history.
@@ -43,4 +44,12 @@ pub fn every_frame_has_one_slot()
 pub fn seats_come_and_go()
     ensures dealt { SeatsAreDealt }
     ensures taken_in { SeatsAreTakenIn }
+{}
+
+/// A law: seats that wait for frames never form a ring, in which each waits for a frame that the next one holds. The
+/// frame in a lower slot is the lower one, a copy takes its locks upwards, and seats whose calls do so form no ring.
+pub fn seats_never_wait_in_a_ring()
+    ensures slots { SlotsAreInOrder }
+    ensures upwards { CopiesLockUpwards }
+    ensures no_ring { SeatsFormNoRing }
 {}

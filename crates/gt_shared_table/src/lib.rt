@@ -29,7 +29,7 @@ mod table;
 pub use accesses::{FrameCopy, FrameWrite};
 pub use laws::{
     every_access_is_a_step, every_frame_has_one_slot, every_frame_is_kept, every_step_is_allowed,
-    every_table_opens, seats_come_and_go,
+    every_table_opens, seats_come_and_go, seats_never_wait_in_a_ring,
 };
 pub use rule::FrameHolder;
 pub use seats::Gathered;

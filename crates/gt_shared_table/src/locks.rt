@@ -3,8 +3,8 @@
 ghost use Rattle.std.specs.Prelude.{◌≡◌, ◌<◌, ◌==◌, MatchBool};
 ghost use prog.Atomic.{either};
 ghost use Rattle.atomic_table.specs.Table.{Allows};
-ghost use Rattle.gt_word_history.specs.Rule.{layout_of};
 ghost use Rattle.gt_shared_table.specs.Rule.{HoldsAll, IsSlotOf, places_of};
+ghost use Rattle.gt_shared_table.specs.Locking.{AreBelow};
 ghost use Rattle.gt_shared_table.specs.Recording.{Frees, Locks, Returns, Took};
 
 use crate::rule::{CellSeat, Cells, FrameSlot, FreesBy, LocksSlot, OfAccess, OfSlot, ReturnsTo};
@@ -20,9 +20,9 @@ const AWAITED: u64 = 2;
 fn lock_word<J: OfSlot>(cells: &Cells, seat: &mut CellSeat, slot: FrameSlot) -> u64
     requires fits { (seat.old.table_id ≡ cells.now.table_id) × (slot.lock < cells.now.table_id.words) }
     requires allowed { Allows (HoldsAll (places_of cells.now.key)) cells.now.table_id.slots seat.old.id seat.old.me
-        slot.lock (λ n. either (n == 0) 1 n) (λ n m. Locks J.layout J.name J.slot seat.old.me n m) }
+        slot.lock (λ n. either (n == 0) 1 n) (λ n m. Locks J.places J.name J.slot seat.old.me n m) }
     ensures seat { (seat.new.table_id ≡ seat.old.table_id) × (seat.new.id ≡ seat.old.id) }
-    ensures locks { Locks J.layout J.name J.slot seat.old.me result seat.new.me }
+    ensures locks { Locks J.places J.name J.slot seat.old.me result seat.new.me }
 {
     cells.compare_exchange::<LocksSlot<J>>(seat, slot.lock, 0, TAKEN)
 }
@@ -31,9 +31,9 @@ fn lock_word<J: OfSlot>(cells: &Cells, seat: &mut CellSeat, slot: FrameSlot) -> 
 fn await_word<J: OfSlot>(cells: &Cells, seat: &mut CellSeat, slot: FrameSlot) -> u64
     requires fits { (seat.old.table_id ≡ cells.now.table_id) × (slot.lock < cells.now.table_id.words) }
     requires allowed { Allows (HoldsAll (places_of cells.now.key)) cells.now.table_id.slots seat.old.id seat.old.me
-        slot.lock (λ _. 2) (λ n m. Locks J.layout J.name J.slot seat.old.me n m) }
+        slot.lock (λ _. 2) (λ n m. Locks J.places J.name J.slot seat.old.me n m) }
     ensures seat { (seat.new.table_id ≡ seat.old.table_id) × (seat.new.id ≡ seat.old.id) }
-    ensures locks { Locks J.layout J.name J.slot seat.old.me result seat.new.me }
+    ensures locks { Locks J.places J.name J.slot seat.old.me result seat.new.me }
 {
     cells.swap::<LocksSlot<J>>(seat, slot.lock, AWAITED)
 }
@@ -71,7 +71,7 @@ pub(crate) fn try_lock(cells: &Cells, seat: &mut CellSeat, slot: FrameSlot) -> b
     requires mine { seat.old.table_id ≡ cells.now.table_id }
     requires slot { IsSlotOf (places_of cells.now.key) cells.now.table_id slot }
     ensures seat { (seat.new.table_id ≡ seat.old.table_id) × (seat.new.id ≡ seat.old.id) }
-    ensures took { MatchBool result (Took (layout_of cells.now.key) slot seat.old.me seat.new.me)
+    ensures took { MatchBool result (Took (places_of cells.now.key) slot seat.old.me seat.new.me)
         (seat.new.me ≡ seat.old.me) }
 {
     lock_word::<Brand>(cells, seat, slot) == 0
@@ -83,21 +83,23 @@ fn take_awaited(cells: &Cells, seat: &mut CellSeat, slot: FrameSlot) -> bool
     requires mine { seat.old.table_id ≡ cells.now.table_id }
     requires slot { IsSlotOf (places_of cells.now.key) cells.now.table_id slot }
     ensures seat { (seat.new.table_id ≡ seat.old.table_id) × (seat.new.id ≡ seat.old.id) }
-    ensures took { MatchBool result (Took (layout_of cells.now.key) slot seat.old.me seat.new.me)
+    ensures took { MatchBool result (Took (places_of cells.now.key) slot seat.old.me seat.new.me)
         (seat.new.me ≡ seat.old.me) }
 {
     await_word::<Brand>(cells, seat, slot) == 0
 }
 
-// Takes the frame of a slot that another seat has, or had just now. Waits until that frees it. A seat that waited takes
-// the frame with the mark that others may wait too, so the next wakes when it frees the frame. It is inlined: a call
-// would have its slot in memory, and each lock of a free frame would write it there.
+// Takes the frame of a slot that another seat has, or had just now. Waits until that frees it. Each frame that the seat
+// holds meanwhile lies in a lower slot, so seats never wait in a ring. A seat that waited takes the frame with the mark
+// that others may wait too, so the next wakes when it frees the frame. It is inlined: a call would have its slot in
+// memory, and each lock of a free frame would write it there.
 #[inline(always)]
 fn lock_awaited<R: Wait>(rt: &R, cells: &Cells, seat: &mut CellSeat, slot: FrameSlot)
     requires mine { seat.old.table_id ≡ cells.now.table_id }
     requires slot { IsSlotOf (places_of cells.now.key) cells.now.table_id slot }
+    requires upwards { AreBelow slot.index seat.old.me.0.held }
     ensures seat { (seat.new.table_id ≡ seat.old.table_id) × (seat.new.id ≡ seat.old.id) }
-    ensures took { Took (layout_of cells.now.key) slot seat.old.me seat.new.me }
+    ensures took { Took (places_of cells.now.key) slot seat.old.me seat.new.me }
 {
     'tries: for _try in rt.forever() {
         if take_awaited(cells, seat, slot) {
@@ -108,14 +110,15 @@ fn lock_awaited<R: Wait>(rt: &R, cells: &Cells, seat: &mut CellSeat, slot: Frame
     unreachable!()
 }
 
-// Takes the frame of a slot. Waits while another seat has it. Most frames are free, so the one exchange that takes such
-// a frame is inlined.
+// Takes the frame of a slot. Waits while another seat has it, and meanwhile holds only frames in lower slots. Most
+// frames are free, so the one exchange that takes such a frame is inlined.
 #[inline(always)]
 pub(crate) fn lock<R: Wait>(rt: &R, cells: &Cells, seat: &mut CellSeat, slot: FrameSlot)
     requires mine { seat.old.table_id ≡ cells.now.table_id }
     requires slot { IsSlotOf (places_of cells.now.key) cells.now.table_id slot }
+    requires upwards { AreBelow slot.index seat.old.me.0.held }
     ensures seat { (seat.new.table_id ≡ seat.old.table_id) × (seat.new.id ≡ seat.old.id) }
-    ensures took { Took (layout_of cells.now.key) slot seat.old.me seat.new.me }
+    ensures took { Took (places_of cells.now.key) slot seat.old.me seat.new.me }
 {
     if try_lock(cells, seat, slot) {
         return;

@@ -42,6 +42,7 @@ pub(crate) fn load_control_word<J: OfKind>(
     ensures table { seat.new.table_id ≡ seat.old.table_id }
     ensures step { Takes J.kind (place entry.position entry.gref 0) result seat.old.me.0.own.own seat.new.me.0.own.own }
     ensures alone { IsAlone seat.new.me }
+    ensures locks { seat.new.me.0.locks ≡ seat.old.me.0.locks }
 {
     cells.load::<StepOnWord<J>>(
         seat,
@@ -67,6 +68,7 @@ pub(crate) fn load_body_word<J: OfKind>(
     ensures step { Takes J.kind (place entry.position entry.gref (half_index half)) result
         seat.old.me.0.own.own seat.new.me.0.own.own }
     ensures alone { IsAlone seat.new.me }
+    ensures locks { seat.new.me.0.locks ≡ seat.old.me.0.locks }
 {
     cells.load::<StepOnWord<J>>(
         seat,
@@ -93,6 +95,7 @@ pub(crate) fn store_body_word<J: OfKind>(
     ensures step { TakesStored J.kind (place entry.position entry.gref (half_index half))
         seat.old.me.0.own.own seat.new.me.0.own.own }
     ensures alone { IsAlone seat.new.me }
+    ensures locks { seat.new.me.0.locks ≡ seat.old.me.0.locks }
 {
     cells.store::<StoreOnWord<J>>(
         seat,
@@ -120,6 +123,7 @@ pub(crate) fn exchange_word<J: OfKind>(
     ensures table { seat.new.table_id ≡ seat.old.table_id }
     ensures step { Takes J.kind (place entry.position entry.gref 0) result seat.old.me.0.own.own seat.new.me.0.own.own }
     ensures alone { IsAlone seat.new.me }
+    ensures locks { seat.new.me.0.locks ≡ seat.old.me.0.locks }
 {
     let _ = purpose;
     cells.compare_exchange::<StepOnWord<J>>(
@@ -149,6 +153,7 @@ pub(crate) fn subtract_from_word<J: OfKind>(
     ensures table { seat.new.table_id ≡ seat.old.table_id }
     ensures step { Takes J.kind (place entry.position entry.gref 0) result seat.old.me.0.own.own seat.new.me.0.own.own }
     ensures alone { IsAlone seat.new.me }
+    ensures locks { seat.new.me.0.locks ≡ seat.old.me.0.locks }
 {
     let _ = generation;
     cells.fetch_sub::<StepOnWord<J>>(
@@ -170,6 +175,7 @@ pub(crate) fn load_header_word<J: OfKind>(cells: &Cells, seat: &mut CellSeat, at
     ensures table { seat.new.table_id ≡ seat.old.table_id }
     ensures step { Takes J.kind (header_place at) result seat.old.me.0.own.own seat.new.me.0.own.own }
     ensures alone { IsAlone seat.new.me }
+    ensures locks { seat.new.me.0.locks ≡ seat.old.me.0.locks }
 {
     cells.load::<StepOnWord<J>>(seat, at * DOMAIN_WORDS)
 }
@@ -186,6 +192,7 @@ pub(crate) fn store_header_word<J: OfKind>(cells: &Cells, seat: &mut CellSeat, a
     ensures table { seat.new.table_id ≡ seat.old.table_id }
     ensures step { TakesStored J.kind (header_place at) seat.old.me.0.own.own seat.new.me.0.own.own }
     ensures alone { IsAlone seat.new.me }
+    ensures locks { seat.new.me.0.locks ≡ seat.old.me.0.locks }
 {
     cells.store::<StoreOnWord<J>>(seat, at * DOMAIN_WORDS, new)
 }

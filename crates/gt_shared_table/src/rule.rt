@@ -23,10 +23,13 @@ use gt_word_history::Outlook;
 use std::collections::LinkedList;
 use std::marker::{Brand, PhantomData};
 
-/// What a seat knows: of words and views, and the frames that it took out. No value of it exists at run time.
+/// What a seat knows: of words and views, the frames that it took out, and whose locks it took. No value of it exists
+/// at run time.
 pub struct FrameHolder {
     pub own: Outlook,
     pub held: LinkedList<(u64, Frame)>,
+    /// The frames whose locks it took, the last one first.
+    pub locks: LinkedList<(u64, u64)>,
 }
 
 /// The rule of the table: words and views show a state of the core, and the frames are those of its history.
@@ -68,7 +71,7 @@ impl OfKind for Brand {
 
 /// The slot whose lock is taken. Each call picks one.
 pub(crate) trait OfSlot {
-    ghost layout: { Layout };
+    ghost places: { Places };
 
     ghost name: { FrameAt };
 
@@ -76,7 +79,7 @@ pub(crate) trait OfSlot {
 }
 
 impl OfSlot for Brand {
-    ghost layout = { no_places.layout };
+    ghost places = { no_places };
 
     ghost name = { (0, 0) };
 
@@ -141,7 +144,7 @@ pub(crate) struct LocksSlot<J> {
 }
 
 impl<J: OfSlot> Play<Option<Frame>, FrameHolder> for LocksSlot<J> {
-    ghost then = { λ _ m n m'. Locks J.layout J.name J.slot m n m' };
+    ghost then = { λ _ m n m'. Locks J.places J.name J.slot m n m' };
 }
 
 /// The store that frees a frame. By it an access takes place.

@@ -41,7 +41,7 @@ impl SharedTable {
         requires first { first.old.view.position ≡ 0 }
         requires room { first.old.view.dealt < self.now.layout.domains }
         ensures dealer { first.new ≡ record first.old { view = dealer_after first.old.view } }
-        ensures dealt { result ≡ record first.old { view = dealt_to first.old.view } }
+        ensures dealt { result ≡ record first.old { view = dealt_to first.old.view; locks = [] } }
     {
         TableSeat {
             seat: self.table.shared.split_seat::<Deal>(&mut first.seat),

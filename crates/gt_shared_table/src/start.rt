@@ -1,5 +1,5 @@
 //! The table and its first seat at the start.
-ghost use Rattle.std.specs.Prelude.{◌≡◌, ℕ, ◌+◌, ◌*◌, ◌%◌, ◌<◌, ◌≤◌, length, slice_index, IfOk};
+ghost use Rattle.std.specs.Prelude.{◌≡◌, ℕ, ◌+◌, ◌*◌, ◌%◌, ◌<◌, ◌≤◌, [], length, slice_index, IfOk};
 ghost use Rattle.gt_word_history.specs.History.{initial};
 ghost use Rattle.gt_word_history.specs.Places.{first_view};
 ghost use Rattle.gt_word_history.specs.Rule.{layout_of};
@@ -67,7 +67,8 @@ impl SharedTable {
         ensures run { IfOk result (λ r. r.0.layout ≡ layout_of config.now) }
         ensures frames { IfOk result (λ r. r.0.frames ≡ frames_kept config.now) }
         ensures flags { IfOk result (λ r. r.0.flags ≡ flags) }
-        ensures seat { IfOk result (λ r. r.1 ≡ record { table = r.0.table; view = first_view (layout_of config.now) }) }
+        ensures seat { IfOk result (λ r. r.1
+            ≡ record { table = r.0.table; view = first_view (layout_of config.now); locks = [] }) }
     {
         let firsts = first_slots(alloc, config)?;
         let frames = frames_kept(alloc, config)?;

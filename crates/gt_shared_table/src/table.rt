@@ -60,7 +60,7 @@ pub struct TableSeat {
 impl Model for TableSeat {
     ghost Value = { SeatAt };
 
-    ghost view = { λ s. record { table = s.seat.table_id; view = s.seat.me.0.own.own } };
+    ghost view = { λ s. record { table = s.seat.table_id; view = s.seat.me.0.own.own; locks = s.seat.me.0.locks } };
 
     ghost invariant = { λ s. IsAlone s.seat.me };
 }
@@ -81,6 +81,7 @@ impl SharedTable {
         requires may { MayTake (looking self.now.layout entry.position entry.gref)
             (place entry.position entry.gref 0) seat.old.view }
         ensures table { seat.new.table ≡ seat.old.table }
+        ensures locks { seat.new.locks ≡ seat.old.locks }
         ensures step { Takes (looking self.now.layout entry.position entry.gref)
             (place entry.position entry.gref 0) result seat.old.view seat.new.view }
     {
@@ -95,6 +96,7 @@ impl SharedTable {
         requires may { MayTake (reading self.now.layout entry.position entry.gref half)
             (place entry.position entry.gref (half_index half)) seat.old.view }
         ensures table { seat.new.table ≡ seat.old.table }
+        ensures locks { seat.new.locks ≡ seat.old.locks }
         ensures step { Takes (reading self.now.layout entry.position entry.gref half)
             (place entry.position entry.gref (half_index half)) result seat.old.view seat.new.view }
     {
@@ -109,6 +111,7 @@ impl SharedTable {
         requires may { MayTake (storing self.now.layout entry.position entry.gref half value)
             (place entry.position entry.gref (half_index half)) seat.old.view }
         ensures table { seat.new.table ≡ seat.old.table }
+        ensures locks { seat.new.locks ≡ seat.old.locks }
         ensures step { TakesStored (storing self.now.layout entry.position entry.gref half value)
             (place entry.position entry.gref (half_index half)) seat.old.view seat.new.view }
     {
@@ -131,6 +134,7 @@ impl SharedTable {
         requires may { MayTake (exchanging self.now.layout entry.position entry.gref seat.old.view purpose old new)
             (place entry.position entry.gref 0) seat.old.view }
         ensures table { seat.new.table ≡ seat.old.table }
+        ensures locks { seat.new.locks ≡ seat.old.locks }
         ensures step { Takes (exchanging self.now.layout entry.position entry.gref seat.old.view purpose old new)
             (place entry.position entry.gref 0) result seat.old.view seat.new.view }
     {
@@ -152,6 +156,7 @@ impl SharedTable {
         requires may { MayTake (unpinning self.now.layout entry.position entry.gref dir generation)
             (place entry.position entry.gref 0) seat.old.view }
         ensures table { seat.new.table ≡ seat.old.table }
+        ensures locks { seat.new.locks ≡ seat.old.locks }
         ensures step { Takes (unpinning self.now.layout entry.position entry.gref dir generation)
             (place entry.position entry.gref 0) result seat.old.view seat.new.view }
     {
@@ -165,6 +170,7 @@ impl SharedTable {
         requires inside { at < self.now.layout.domains }
         requires may { MayTake (looking_at_header self.now.layout at) (header_place at) seat.old.view }
         ensures table { seat.new.table ≡ seat.old.table }
+        ensures locks { seat.new.locks ≡ seat.old.locks }
         ensures step { Takes (looking_at_header self.now.layout at) (header_place at) result
             seat.old.view seat.new.view }
     {
@@ -178,6 +184,7 @@ impl SharedTable {
         requires inside { at < self.now.layout.domains }
         requires may { MayTake (storing_header self.now.layout at word) (header_place at) seat.old.view }
         ensures table { seat.new.table ≡ seat.old.table }
+        ensures locks { seat.new.locks ≡ seat.old.locks }
         ensures step { TakesStored (storing_header self.now.layout at word) (header_place at)
             seat.old.view seat.new.view }
     {

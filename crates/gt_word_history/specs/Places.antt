@@ -14,10 +14,12 @@ pub record Board : Type 0 where
   pub frames : List ℕ
   pub flags : ℕ
 
--- what clauses see of a seat of the table: its table and its view
+-- what clauses see of a seat of the table: its table, its view, and the frames whose locks it took, the last one first:
+-- each by its owner's position and its number
 pub record SeatAt : Type 0 where
   pub table : TableId
   pub view : View
+  pub locks : List (ℕ × ℕ)
 
 -- the table has the words of each domain, and at most MAX_DOMAINS domains
 abbrev pub IsWide : ℕ → Layout → Type 0

@@ -1,5 +1,5 @@
 -- The seat that deals, and the one that it deals.
-use Rattle.std.proofs.Common.{◌≡◌, ℕ, ap, ◌∙◌, refl}
+use Rattle.std.proofs.Common.{◌≡◌, ℕ, [], ap, ◌∙◌, refl}
 use Rattle.atomic_table.specs.Seated.{TableId}
 use Rattle.gt_word_history.specs.Places.{IsNewPlace, SeatAt, dealer_after, dealt_to}
 use Rattle.gt_word_history.specs.Rule.{Layout}
@@ -16,7 +16,7 @@ dealer_stays z k i s t new is = record {
 }
 
 -- the seat dealt is new, at the position that the other has counted to
-pub dealt_is_new : (z : TableId) (k : Layout) (i at : ℕ) (s t : SeatAt) → IsNewPlace z k i s → s.view.dealt ≡ at → t ≡ record s { view = dealt_to s.view } → IsNewPlace t.table k at t
+pub dealt_is_new : (z : TableId) (k : Layout) (i at : ℕ) (s t : SeatAt) → IsNewPlace z k i s → s.view.dealt ≡ at → t ≡ record s { view = dealt_to s.view; locks = [] } → IsNewPlace t.table k at t
 dealt_is_new z k i at s t new counted is = record {
   table = refl;
   position = ap (λ (u : SeatAt). u.view.position) is ∙ counted;

@@ -110,7 +110,7 @@ fn leaves(guest: AttachedDomain<AllowTable>) -> Option<u64> {
     if guest.is_copying() {
         return None;
     }
-    Some(guest.finish().in_use)
+    Some(guest.finish().remains.in_use)
 }
 
 // Returns the number of the domain after the one at a position, cyclically.

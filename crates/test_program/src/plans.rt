@@ -27,7 +27,7 @@ const PLAIN: ScriptOptions<'static> = ScriptOptions {
 };
 
 const SEARCH: SearchOptions<'static> = SearchOptions {
-    states: 100_000,
+    states: 1_000_000,
     format: Format::Text,
     file: None,
 };
@@ -241,10 +241,10 @@ static PLANS: [(&str, Invocation<'static>); 43] = [
         },
     ),
     (
-        "gthost entries --version 1 --script 65535",
+        "gthost entries --version 1 --script 32751",
         Invocation::Entries {
             dump: EntriesOptions {
-                script: Some(65_535),
+                script: Some(32_751),
                 ..DUMP
             },
             format: Format::Text,
@@ -430,7 +430,7 @@ fn a_line_is_planned_as_it_asks(rt: HostRuntime) -> Result<(), Fail> {
 }
 
 // Lines without a plan, and whether they are faults.
-static REFUSED: [(&str, bool); 58] = [
+static REFUSED: [(&str, bool); 60] = [
     ("gthost --help", false),
     ("gthost --version", false),
     ("gthost -h", false),
@@ -467,7 +467,9 @@ static REFUSED: [(&str, bool); 58] = [
     ("gthost entries --version 1 --version 2", true),
     ("gthost entries --version 1 --hex --hex", true),
     ("gthost entries --version 1 --script self", true),
+    ("gthost entries --version 1 --script 32752", true),
     ("gthost entries --version 1 --script 65536", true),
+    ("gthost entries --version 1 --script 1 --format json", true),
     ("gthost entries --version 1 --script=-1", true),
     ("gthost entries --version 1 -V", true),
     ("gthost entries -h", false),

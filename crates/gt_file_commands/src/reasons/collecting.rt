@@ -252,7 +252,7 @@ fn explore_reason(
                 "a witness went astray, which is a bug of gthost",
             )
         }
-        ExploreFault::Term { .. } => {
+        ExploreFault::Term { .. } | ExploreFault::Text { .. } => {
             let words = format!(in alloc; "{fault}")?;
             words_reason(alloc, file, words.as_str())
         }

@@ -1,5 +1,6 @@
 //! The call that copies bytes between frames, whole or in two halves.
-ghost use Rattle.std.specs.Prelude.{◌≡◌, ◌+◌, ◌≤◌, Err, IfOk, IfErr, None, OnErr};
+ghost use Rattle.std.specs.Prelude.{◌≡◌, ◌+◌, ◌≤◌, Err, IfOk, IfErr, None, OnErr, false, true};
+ghost use Rattle.gt_types.specs.Copies.{is_dest_granted};
 ghost use Rattle.gt_types.specs.declared.Dir.TheVariants as dirs;
 ghost use Rattle.gt_types.specs.declared.Use.TheVariants as uses;
 ghost use Rattle.gt_words.specs.Conditions.{IsSameSeat, IsSeatOf};
@@ -140,9 +141,11 @@ impl Domain {
         &mut self,
         monitor: &Monitor<P>,
         copy: &CopyArgs,
+        granted: bool,
         pins: &mut CallPins,
     ) -> Result<(), Denial>
         requires mine { BelongsTo P.may monitor.now self.old }
+        requires granted { granted ≡ is_dest_granted copy.now }
         requires none { pins.old ≡ no_pins }
         requires unanswered { copy_begun (known_on P.may monitor.now self.old) self.old.seat.dom copy.now ≡ None }
         ensures kept { IsUnsettled self.old self.new }
@@ -151,7 +154,15 @@ impl Domain {
     {
         let known = known_with(monitor, &self.seat, &self.own, &self.mappings);
         let caller = self.seat.dom();
-        drive_copy(&monitor.words, &known, &mut self.seat, caller, copy, pins)
+        drive_copy(
+            &monitor.words,
+            &known,
+            &mut self.seat,
+            caller,
+            copy,
+            granted,
+            pins,
+        )
     }
 
     // Releases the pins that a copy held at its access.
@@ -165,6 +176,85 @@ impl Domain {
         ensures gives { GivesBack monitor.now.words.layout pins.now self.old.seat.view self.new.seat.view }
     {
         give_back(&monitor.words, &mut self.seat, pins);
+    }
+
+    // Copies to a granted page, without a record. It is a function of its own: its pins are in memory for the walk to its
+    // destination, and a copy to a frame of the caller's own would keep its pins there too.
+    #[inline(never)]
+    fn make_copy_to_grant<R: Wait, P: Allows>(
+        &mut self,
+        rt: &R,
+        monitor: &Monitor<P>,
+        copy: &CopyArgs,
+    ) -> Result<Copied, Denial>
+        requires granted { is_dest_granted copy.now ≡ true }
+        requires mine { BelongsTo P.may monitor.now self.old }
+        ensures mine { BelongsTo P.may monitor.now self.new }
+        ensures seat { IsSameSeat self.old.seat self.new.seat }
+        ensures answered { Accesses P.may monitor.now self.old
+            (requests.Copy copy.now) (IsCopiedBy monitor.now.words.layout self.old.seat.dom) result self.new }
+        ensures kept { KeepsPinned self.old self.new }
+        ensures silent { self.new.trail ≡ self.old.trail }
+    {
+        if let Some(verdict) = self.judge_copy(monitor, copy) {
+            return Err(refusal_of(verdict));
+        }
+        let mut pins = no_pins();
+        match self.drive_copy(monitor, copy, true, &mut pins) {
+            Ok(()) => {}
+            Err(denial) => return Err(denial),
+        }
+        let caller = self.seat.dom();
+        let from = place_of(caller, copy.source, pins.source);
+        let to = place_of(caller, copy.dest, pins.dest);
+        let access = CopyAccess {
+            routes: &pins,
+            from,
+            to,
+            len: copy.len,
+        };
+        let copied = copy_through(rt, monitor, &mut self.seat, &access);
+        self.give_back(monitor, &pins);
+        copied
+    }
+
+    // Copies to a frame of the caller's own, without a record. Its body is that of the function above and not a call of one
+    // that both share: the compiler would not inline that, and would then not know that there is no walk to a destination.
+    fn make_copy_home<R: Wait, P: Allows>(
+        &mut self,
+        rt: &R,
+        monitor: &Monitor<P>,
+        copy: &CopyArgs,
+    ) -> Result<Copied, Denial>
+        requires granted { is_dest_granted copy.now ≡ false }
+        requires mine { BelongsTo P.may monitor.now self.old }
+        ensures mine { BelongsTo P.may monitor.now self.new }
+        ensures seat { IsSameSeat self.old.seat self.new.seat }
+        ensures answered { Accesses P.may monitor.now self.old
+            (requests.Copy copy.now) (IsCopiedBy monitor.now.words.layout self.old.seat.dom) result self.new }
+        ensures kept { KeepsPinned self.old self.new }
+        ensures silent { self.new.trail ≡ self.old.trail }
+    {
+        if let Some(verdict) = self.judge_copy(monitor, copy) {
+            return Err(refusal_of(verdict));
+        }
+        let mut pins = no_pins();
+        match self.drive_copy(monitor, copy, false, &mut pins) {
+            Ok(()) => {}
+            Err(denial) => return Err(denial),
+        }
+        let caller = self.seat.dom();
+        let from = place_of(caller, copy.source, pins.source);
+        let to = place_of(caller, copy.dest, pins.dest);
+        let home = CopyAccess {
+            routes: &pins,
+            from,
+            to,
+            len: copy.len,
+        };
+        let copied = copy_through(rt, monitor, &mut self.seat, &home);
+        self.give_back(monitor, &pins);
+        copied
     }
 
     // Copies, without a record.
@@ -182,26 +272,10 @@ impl Domain {
         ensures kept { KeepsPinned self.old self.new }
         ensures silent { self.new.trail ≡ self.old.trail }
     {
-        if let Some(verdict) = self.judge_copy(monitor, copy) {
-            return Err(refusal_of(verdict));
+        if copy.is_dest_granted() {
+            return self.make_copy_to_grant(rt, monitor, copy);
         }
-        let mut pins = no_pins();
-        match self.drive_copy(monitor, copy, &mut pins) {
-            Ok(()) => {}
-            Err(denial) => return Err(denial),
-        }
-        let caller = self.seat.dom();
-        let from = place_of(caller, copy.source, pins.source);
-        let to = place_of(caller, copy.dest, pins.dest);
-        let access = CopyAccess {
-            routes: &pins,
-            from,
-            to,
-            len: copy.len,
-        };
-        let copied = copy_through(rt, monitor, &mut self.seat, &access);
-        self.give_back(monitor, &pins);
-        copied
+        self.make_copy_home(rt, monitor, copy)
     }
 
     /// Copies bytes between frames: the domain's own, or those of grants, transitive ones too. Waits for the locks of
@@ -258,7 +332,7 @@ impl Domain {
             return Err(refusal_of(verdict));
         }
         let mut pins = no_pins();
-        match self.drive_copy(monitor, copy, &mut pins) {
+        match self.drive_copy(monitor, copy, copy.is_dest_granted(), &mut pins) {
             Ok(()) => Ok(at_access(self.seat.dom(), *copy, pins)),
             Err(denial) => Err(denial),
         }

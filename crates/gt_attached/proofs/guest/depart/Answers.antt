@@ -5,7 +5,6 @@ returns g c =
     record {
       closed = c.reset-in_use.new.self;
       resets = c.reset-in_use.ensures.resets;
-      left = c.finish.result;
-      leaves = c.finish.ensures.left;
+      leaves = c.finish-left.ensures.left;
       lost = c.lost-lost.ensures;
     }

@@ -1,4 +1,4 @@
-use Rattle.std.proofs.Common.{◌≡◌, ◌∙◌, ◌<◌, ◌≤◌, ◌-◌, ℕ, false, List, [], ◌∷◌, ap, arith, drop, length, length-drop, map, refl, sym, Bor}
+use Rattle.std.proofs.Common.{◌≡◌, ◌∙◌, ◌<◌, ◌≤◌, ℕ, false, List, [], ◌∷◌, ap, arith, drop, length, length-drop, map, refl, sym, Bor}
 use Rattle.std.proofs.lemmas.List.{drop_all, length-map}
 use Rattle.gt_explore_verdict.specs.Satisfying.{begins}
 use Rattle.gt_explore_verdict.proofs.lines.begins.Goals as goal

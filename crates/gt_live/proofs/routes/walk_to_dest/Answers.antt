@@ -18,7 +18,7 @@ reach_dest-requires-clause-can g c =
     let known = knows g.P.Allows.may c.args.known.now in let k = c.args.words.now.layout in
     let caller = c.args.caller in let copy = c.args.copy.now in let source = c.args.pins.now.source in
     can-from known k caller (at_dest known caller copy source) (dest_leg known caller copy source) c.args.seat.now.view
-    (dest-walked known k caller copy source (sym c.is_dest_granted.ensures ∙ c.if-not-is_dest_granted.false))
+    (dest-walked known k caller copy source (sym c.requires.granted ∙ c.if-not-granted.false))
     c.requires.can
 
 pub give_back_route-requires-clause-can : goal.give_back_route-requires-clause-can
@@ -26,7 +26,7 @@ give_back_route-requires-clause-can g c =
     let known = knows g.P.Allows.may c.args.known.now in let k = c.args.words.now.layout in
     let caller = c.args.caller in let copy = c.args.copy.now in let source = c.args.pins.now.source in
     let v = c.args.seat.now.view in let u = c.reach_dest.new.seat.view in let denial = c.in-Err.denial in
-    let walked = dest-walked known k caller copy source (sym c.is_dest_granted.ensures ∙ c.if-not-is_dest_granted.false) in
+    let walked = dest-walked known k caller copy source (sym c.requires.granted ∙ c.if-not-granted.false) in
     subst (λ (r : AccessPath). CanGiveBack k (held_by r) u) (sym c.reach_dest.ensures.source)
     (can-give-source k known caller denial source u
     (can-then known k caller (dest_leg known caller copy source) (Ending (only_source k source) (Refused denial)) v u
@@ -40,7 +40,7 @@ returns-in-Err-clause-goes g c =
     let caller = c.args.caller in let copy = c.args.copy.now in let source = c.args.pins.now.source in
     let v = c.args.seat.now.view in let u = c.reach_dest.new.seat.view in let denial = c.in-Err.denial in
     let w = c.give_back_route.new.seat.view in
-    let walked = dest-walked known k caller copy source (sym c.is_dest_granted.ensures ∙ c.if-not-is_dest_granted.false) in
+    let walked = dest-walked known k caller copy source (sym c.requires.granted ∙ c.if-not-granted.false) in
     let end = after_copy copy (Err denial) in
     runs-from known k caller (dest_leg known caller copy source) (at_dest known caller copy source) end v w (sym walked)
     (runs-then known k caller (dest_leg known caller copy source) (Ending (only_source k source) (Refused denial)) end v
@@ -48,13 +48,13 @@ returns-in-Err-clause-goes g c =
     (source-given k known caller denial source u w
     (subst (λ (r : AccessPath). IsGivenBack k (held_by r) u w) c.reach_dest.ensures.source c.give_back_route.ensures.given)))
 
-pub returns-then-not-is_dest_granted-clause-goes : goal.returns-then-not-is_dest_granted-clause-goes
-returns-then-not-is_dest_granted-clause-goes g c =
+pub returns-then-not-granted-clause-goes : goal.returns-then-not-granted-clause-goes
+returns-then-not-granted-clause-goes g c =
     let known = knows g.P.Allows.may c.args.known.now in let k = c.args.words.now.layout in
     let caller = c.args.caller in let copy = c.args.copy.now in let pins = c.args.pins.now in
     let v = c.args.seat.now.view in let start = at_dest known caller copy pins.source in
     runs-to known k caller start start (Accessing copy pins.source pins.dest) v v
-    (dest-own known k caller copy pins.source (sym c.is_dest_granted.ensures ∙ c.if-not-is_dest_granted.true)
+    (dest-own known k caller copy pins.source (sym c.requires.granted ∙ c.if-not-granted.true)
     ∙ ap (λ (r : AccessPath). Accessing copy pins.source r) (sym c.requires.own))
     (runs-none known k caller start v)
 
@@ -63,7 +63,7 @@ returns-in-Ok-clause-goes g c =
     let known = knows g.P.Allows.may c.args.known.now in let k = c.args.words.now.layout in
     let caller = c.args.caller in let copy = c.args.copy.now in let source = c.args.pins.now.source in
     let v = c.args.seat.now.view in let w = c.reach_dest.new.seat.view in
-    let walked = dest-walked known k caller copy source (sym c.is_dest_granted.ensures ∙ c.if-not-is_dest_granted.false) in
+    let walked = dest-walked known k caller copy source (sym c.requires.granted ∙ c.if-not-granted.false) in
     let dest = c.reach_dest.new.pins.dest in
     subst (λ (r : AccessPath). Runs known k caller (at_dest known caller copy source) v (Accessing copy r dest) w)
     (sym c.reach_dest.ensures.source)

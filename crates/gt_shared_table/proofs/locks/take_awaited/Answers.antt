@@ -8,5 +8,5 @@ use Rattle.gt_shared_table.proofs.locks.take_awaited.Goals as goal
 
 pub await_word-requires-clause-allowed : goal.await_word-requires-clause-allowed
 await_word-requires-clause-allowed c = let t = c.args.cells.now in let b = places_of t.key in let s = c.args.seat.now in let q = c.args.slot in
-    subst (λ (i : ℕ). Allows (HoldsAll b) t.table_id.slots s.id s.me i (λ _. 2) (λ n m. Locks b.layout (name_of q) q.index s.me n m)) (sym c.requires.slot.0)
+    subst (λ (i : ℕ). Allows (HoldsAll b) t.table_id.slots s.id s.me i (λ _. 2) (λ n m. Locks b (name_of q) q.index s.me n m)) (sym c.requires.slot.0)
     (awaits b t.table_id.slots s.id s.me q.index (name_of q) c.requires.slot.2 (within b.names q.index (name_of q) c.requires.slot.2))

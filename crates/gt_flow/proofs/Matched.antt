@@ -1,0 +1,268 @@
+-- Two histories that are the same except for bytes of high domains: what they leave, but for bytes, is the same.
+use Rattle.gt_core.proofs.Words.{◌≡◌, ◌+◌, ℕ, zero, suc, refl, Bool, true, false, List, [], ◌∷◌, ◌++◌, Option, Some, None, cond}
+use Rattle.gt_core.proofs.Words.{ap, sym, ◌∙◌, subst, ◌==◌, option_map, eqb-true, length, count_by, gather, by_leg, map, reverse}
+use Rattle.gt_core.proofs.Words.{DomId, TypeId, Entry, Header, EntryChange, BodyWord, Denial, asked, begun_of, bytes_given_by, CallerKnowledge}
+use Rattle.gt_core.proofs.Words.{Request, OpenRequest, Word, Taken, Step, LookHeader, LookControl, LookBody, Observation}
+use Rattle.gt_core.proofs.Words.{PinStep, Exchange, Read, Write, Control, HeldPin, StepsSoFar}
+use Rattle.gt_core.proofs.Words.{History, Setting, Underway, Pin, entry_at, changed_entry_of, change_at, change_of, raises_at}
+use Rattle.gt_core.proofs.Words.{raise_after, body_at, or_else, stored_at, table_at, header_or, header_stored, header_word}
+use Rattle.gt_core.proofs.Words.{open_call, underway_with, underway_after, maps_answered_at, one_if_mapped, live, is_pin_on}
+use Rattle.gt_core.proofs.Words.{pinned_by, unpinned_by, holder_after, mapping_named, known_at, seen_by, word_at, reads_at, control_at}
+use Rattle.gt_core.proofs.Words.{writes_at, exchange_sees, given_in, stood, stood_with, first_at, first_in_call, first_of_item, leg_at}
+use Rattle.gt_core.proofs.Words.{LegNow, leg_now, legs_at, refusal_in, take, drop, contents_at, PinHolder}
+use Rattle.gt_core.specs.declared.trace.Answer.{Answer}
+use Rattle.gt_core.specs.declared.trace.Answer.TheVariants.{Bytes as BytesAnswer}
+use Rattle.gt_core.specs.declared.trace.Bytes.{Bytes}
+use Rattle.gt_core.specs.declared.trace.ItemEvent.{ItemEvent}
+use Rattle.gt_core.specs.declared.trace.ItemEvent.TheVariants.{Began, Stepped}
+use Rattle.gt_core.specs.declared.trace.Item.{Item}
+use Rattle.gt_core.proofs.Steps.Observers.{known-as}
+use Rattle.gt_core.specs.Prelude.{ReadBytes, GrantRef, Rule, N9, N18, N19, HeaderFacts, denial_of, size_of, stands, first, first_look}
+use Rattle.gt_core.specs.Prelude.{before_pin, pins_of, MAX_TRIES}
+use Rattle.gt_core.specs.FirstRule.{looked_at, misses, is_in_body, is_other, is_demote, at_entry, rule_at_look, rule_at_header, rule_at_pin}
+use Rattle.gt_core.specs.FirstRule.{rule_at_via, rule_at_exchange}
+use Rattle.std.specs.Prelude.{◌&&◌, nat_lt, nat_le}
+use Rattle.gt_flow.specs.Low.{is_high}
+use Rattle.gt_flow.proofs.Frames.{hides}
+use Rattle.gt_flow.proofs.Veiled.{pinned-entries}
+
+-- an open call without the bytes that it was passed
+abbrev pub strip : Underway → Underway
+strip c = record { request = c.request; given = []; steps = c.steps }
+
+-- what two histories leave is the same, but for bytes in frames, and bytes that high domains passed
+pub record Matched (s : Setting) (high : TypeId → Bool) (g h : History) : Type 0 where
+  pub entry : (t r : ℕ) → entry_at g t r ≡ entry_at h t r
+  pub raises : (t r : ℕ) → raises_at g t r ≡ raises_at h t r
+  pub body : (t r : ℕ) (which : BodyWord) → body_at g t r which ≡ body_at h t r which
+  pub table : (t : DomId) → table_at s g t ≡ table_at s h t
+  pub maps : (d : ℕ) → maps_answered_at g d ≡ maps_answered_at h d
+  pub pins : live g ≡ live h
+  pub calls : (d : ℕ) → option_map strip (open_call g d) ≡ option_map strip (open_call h d)
+  pub given : (d : ℕ) → hides s high d ≡ false → given_in (open_call g d) ≡ given_in (open_call h d)
+  pub lengths : (d : ℕ) → length (given_in (open_call g d)) ≡ length (given_in (open_call h d))
+  pub ruled : (d : ℕ) → stood s g d ≡ stood s h d
+
+-- the events are the same, but for the bytes that a request passes if they are hidden
+abbrev pub SameDeed : Bool → ItemEvent → ItemEvent → Type 0
+SameDeed b (Began q) (Began r) =
+    (asked q ≡ asked r) × ((k : CallerKnowledge) (d : DomId) → begun_of k d q ≡ begun_of k d r) × (b ≡ false → bytes_given_by q ≡ bytes_given_by r)
+    × (length (bytes_given_by q) ≡ length (bytes_given_by r))
+SameDeed b (Stepped z v) (Stepped y w) = Stepped z v ≡ Stepped y w
+SameDeed b (Began q) (Stepped y w) = ⊥
+SameDeed b (Stepped z v) (Began r) = ⊥
+
+same-deed : {A : Type 0} (f : ItemEvent → A) → ((q r : Request) → f (Began q) ≡ f (Began r)) → (b : Bool) (x y : ItemEvent) → SameDeed b x y → f x ≡ f y
+same-deed f begins b (Began q) (Began r) same = begins q r
+same-deed f begins b (Stepped z v) (Stepped y w) same = ap f same
+same-deed f begins b (Began q) (Stepped y w) same = absurd same
+same-deed f begins b (Stepped z v) (Began r) same = absurd same
+
+-- answers
+
+-- the first n of the bytes, with zeros if there are less
+abbrev pub fitted : ℕ → List ℕ → List ℕ
+fitted zero xs = []
+fitted (suc n) [] = 0 ∷ fitted n []
+fitted (suc n) (x ∷ xs) = x ∷ fitted n xs
+
+pub length-fitted : (n : ℕ) (xs : List ℕ) → length (fitted n xs) ≡ n
+length-fitted zero xs = refl
+length-fitted (suc n) [] = ap (λ (k : ℕ). suc k) (length-fitted n [])
+length-fitted (suc n) (x ∷ xs) = ap (λ (k : ℕ). suc k) (length-fitted n xs)
+
+pub fitted-all : (xs : List ℕ) → fitted (length xs) xs ≡ xs
+fitted-all [] = refl
+fitted-all (x ∷ xs) = ap (λ (l : List ℕ). x ∷ l) (fitted-all xs)
+
+-- a list of as many bytes
+abbrev pub with_bytes : Bytes → List ℕ → Bytes
+with_bytes b xs = record {
+  bytes = record b.bytes {
+    items = fitted (length b.bytes.items) xs;
+    ok = (b.bytes.ok.0 ∙ sym (length-fitted (length b.bytes.items) xs), b.bytes.ok.1);
+  };
+}
+
+-- the bytes that a read of this history has
+abbrev pub reread : History → Option Step → Bytes → Bytes
+reread h (Some (ReadBytes t f o n)) b = with_bytes b (take n (drop o (contents_at h t.0 f)))
+reread h step b = b
+
+-- the answer, with those bytes if they are hidden
+abbrev pub reanswered : Bool → History → Option Step → Answer → Answer
+reanswered b h step (BytesAnswer x) = BytesAnswer (cond b (reread h step x) x)
+reanswered b h step a = a
+
+pub mapped-again : (b : Bool) (h : History) (step : Option Step) (a : Option Answer) → one_if_mapped a ≡ one_if_mapped (option_map (reanswered b h step) a)
+mapped-again b h step None = refl
+mapped-again b h step (Some (BytesAnswer x)) = refl
+mapped-again b h step (Some a) = refl
+
+holder-again : (b : Bool) (h : History) (step : Option Step) (a : Option Answer) (n : ℕ) → holder_after a n ≡ holder_after (option_map (reanswered b h step) a) n
+holder-again b h step None n = refl
+holder-again b h step (Some (BytesAnswer x)) n = refl
+holder-again b h step (Some a) n = refl
+
+pinned-again : (d : DomId) (y : ItemEvent) (a c : Option Answer) (h : History) (ps : List Pin) → ((n : ℕ) → holder_after a n ≡ holder_after c n) → pinned_by d y a h ps ≡ pinned_by d y c h ps
+pinned-again d (Stepped (PinStep p) Taken) a c h ps same =
+    ap (λ (k : PinHolder). record { actor = d.0; holder = k; held = record p { entry = entry_at h p.dom.0 p.gref.0 } } ∷ []) (same (length (gather by_leg d.0 ps)))
+pinned-again d y a c h ps same = refl
+
+-- what follows from it
+
+four : {A B C D E : Type 0} (f : A → B → C → D → E) {a i : A} {b j : B} {c k : C} {d l : D} → a ≡ i → b ≡ j → c ≡ k → d ≡ l → f a b c d ≡ f i j k l
+four {A = A} {B = B} {C = C} {D = D} f {a = a} {i = i} {b = b} {j = j} {c = c} {k = k} {d = d} {l = l} p q r t =
+    ap (λ (x : A). f x b c d) p ∙ ap (λ (x : B). f i x c d) q ∙ ap (λ (x : C). f i j x d) r ∙ ap (λ (x : D). f i j k x) t
+
+module _ (s : Setting) (high : TypeId → Bool) (g h : History) (m : Matched s high g h) where
+  pub known-same : (d : DomId) → known_at s g d ≡ known_at s h d
+  known-same d = known-as s h g d (m.entry d.0) (m.raises d.0) (m.table d) (ap (λ (ps : List Pin). gather mapping_named d.0 ps) m.pins) (m.maps d.0)
+
+  pub reads-same : (t r : ℕ) → reads_at g t r ≡ reads_at h t r
+  reads-same t r = ap (λ (ps : List Pin). count_by (is_pin_on t r Read) ps) m.pins
+
+  pub writes-same : (t r : ℕ) → writes_at g t r ≡ writes_at h t r
+  writes-same t r = ap (λ (ps : List Pin). count_by (is_pin_on t r Write) ps) m.pins
+
+  pub control-same : (t r : ℕ) → control_at s g t r ≡ control_at s h t r
+  control-same t r = let e = m.entry t r in let k = m.raises t r in let n = reads-same t r in let w = writes-same t r in cc
+
+  pub word-same : (t r : ℕ) → word_at s g t r ≡ word_at s h t r
+  word-same t r = let e = m.entry t r in let k = m.raises t r in let n = reads-same t r in let w = writes-same t r in cc
+
+  pub sees-same : (d : DomId) (step : Step) → seen_by s g d step ≡ seen_by s h d step
+  sees-same d (LookHeader dom) = ap (λ (x : Header). Word (header_word x)) (m.table dom)
+  sees-same d (LookControl dom gref) = ap (λ (w : ℕ). Word w) (word-same dom.0 gref.0)
+  sees-same d (LookBody dom gref half) = ap (λ (w : ℕ). Word w) (m.body dom.0 gref.0 half)
+  sees-same d (PinStep p) = ap (λ (w : ℕ). exchange_sees w p.word) (word-same p.dom.0 p.gref.0)
+  sees-same d (Exchange gref looked change) = ap (λ (w : ℕ). exchange_sees w looked) (word-same d.0 gref.0)
+  sees-same d step = refl
+
+  pub leg-same : (d : DomId) (r : OpenRequest) → leg_at s g d r ≡ leg_at s h d r
+  leg-same d r = ap (λ (k : CallerKnowledge). leg_now k d r (map (λ (p : ℕ × HeldPin). p.1) (legs_at g d.0))) (known-same d)
+      ∙ ap (λ (ps : List Pin). leg_now (known_at s h d) d r (map (λ (p : ℕ × HeldPin). p.1) (gather by_leg d.0 ps))) m.pins
+
+  look-same : (leg : Option LegNow) (dom : DomId) (gref : GrantRef) (so_far : StepsSoFar) → rule_at_look s g leg dom gref so_far ≡ rule_at_look s h leg dom gref so_far
+  look-same None dom gref so_far = refl
+  look-same (Some n) dom gref so_far =
+      four (λ (w : ℕ) (e : Entry) (k j : Control). cond (is_in_body so_far) (cond (is_other w (looked_at so_far)) None (before_pin n.leg e (pins_of n.leg.dir k))) (first_look n.leg j))
+      (word-same dom.0 gref.0) (m.entry dom.0 gref.0) (control-same dom.0 gref.0) (control-same dom.0 gref.0)
+
+  header-same : (dom : DomId) (leg : Option LegNow) → rule_at_header s g dom leg ≡ rule_at_header s h dom leg
+  header-same dom None = refl
+  header-same dom (Some n) = ap (λ (t : Header). cond {A = Option Denial} (nat_lt n.leg.gref.0 (size_of t)) None (Some (denial_of N9 (HeaderFacts dom (header_word t))))) (m.table dom)
+
+  pin-same : (d : DomId) (r : OpenRequest) (so_far : StepsSoFar) (p : HeldPin) (seen : Observation) → rule_at_pin s g d r so_far p seen ≡ rule_at_pin s h d r so_far p seen
+  pin-same d r so_far p Taken = four (λ (k : CallerKnowledge) (l : Option LegNow) (e x : Entry). rule_at_via k l e) (known-same d) (leg-same d r) (m.entry p.dom.0 p.gref.0) (m.entry p.dom.0 p.gref.0)
+  pin-same d r so_far p seen = ap (λ (w : ℕ). at_entry p.dom p.gref w (stands (nat_le MAX_TRIES (misses ((PinStep p, seen) ∷ so_far))) N18)) (word-same p.dom.0 p.gref.0)
+
+  pub first-same : (d : DomId) (r : OpenRequest) (so_far : StepsSoFar) (step : Step) → first_at s g d r so_far step ≡ first_at s h d r so_far step
+  first-same d r so_far (LookHeader dom) = ap (λ (l : Option LegNow). rule_at_header s g dom l) (leg-same d r) ∙ header-same dom (leg_at s h d r)
+  first-same d r so_far (LookControl dom gref) =
+      four (λ (w n : ℕ) (rule : Option Rule) (v : Observation). at_entry dom gref w (first (
+      stands (is_demote r && nat_lt 0 n) N19 ∷ rule ∷ stands (nat_le MAX_TRIES (misses ((LookControl dom gref, v) ∷ so_far))) N18 ∷ [])))
+      (word-same dom.0 gref.0) (writes-same dom.0 gref.0)
+      (ap (λ (l : Option LegNow). rule_at_look s g l dom gref so_far) (leg-same d r) ∙ look-same (leg_at s h d r) dom gref so_far) (sees-same d (LookControl dom gref))
+  first-same d r so_far (PinStep p) = ap (λ (v : Observation). rule_at_pin s g d r so_far p v) (sees-same d (PinStep p)) ∙ pin-same d r so_far p (seen_by s h d (PinStep p))
+  first-same d r so_far (Exchange gref looked change) =
+      four (λ (w n k : ℕ) (v : Observation). at_entry d gref w (rule_at_exchange change (n + k) (misses ((Exchange gref looked change, v) ∷ so_far))))
+      (word-same d.0 gref.0) (reads-same d.0 gref.0) (writes-same d.0 gref.0) (sees-same d (Exchange gref looked change))
+  first-same d r so_far step = refl
+
+  first-stripped : (l : History) (d : DomId) (x : ItemEvent) (c : Option Underway) → first_in_call s l d x c ≡ first_in_call s l d x (option_map strip c)
+  first-stripped l d (Began q) c = refl
+  first-stripped l d (Stepped z v) None = refl
+  first-stripped l d (Stepped z v) (Some c) = refl
+
+  first-in : (b : Bool) (d : DomId) (x y : ItemEvent) (c : Option Underway) → SameDeed b x y → first_in_call s g d x c ≡ first_in_call s h d y c
+  first-in b d (Began q) (Began r) c same = ap refusal_in (ap (λ (k : CallerKnowledge). begun_of k d q) (known-same d) ∙ same.1 (known_at s h d) d)
+  first-in b d (Stepped z v) (Stepped y w) None same = refl
+  first-in b d (Stepped z v) (Stepped y w) (Some c) same = first-same d c.request (reverse c.steps) z ∙ ap (λ (x : ItemEvent). first_in_call s h d x (Some c)) same
+  first-in b d (Began q) (Stepped y w) c same = absurd same
+  first-in b d (Stepped z v) (Began r) c same = absurd same
+
+  -- one more item on both
+  module _ (d : DomId) (x y : ItemEvent) (a c : Option Answer) (same : SameDeed (is_high s high d) x y) (st : Option Step) (again : c ≡ option_map (reanswered (is_high s high d) h st) a) where
+    abbrev one : Item
+    one = record { actor = d; happened = x; answer = a }
+
+    abbrev other : Item
+    other = record { actor = d; happened = y; answer = c }
+
+    abbrev b : Bool
+    b = is_high s high d
+
+    strip-with : (z : Step) (v : Observation) (o : Option Underway) → option_map strip (underway_with (Stepped z v) o) ≡ underway_with (Stepped z v) (option_map strip o)
+    strip-with z v None = refl
+    strip-with z v (Some o) = refl
+
+    with-same : (x y : ItemEvent) (o p : Option Underway) → SameDeed b x y → option_map strip o ≡ option_map strip p → option_map strip (underway_with x o) ≡ option_map strip (underway_with y p)
+    with-same (Began q) (Began r) o p same e = ap (λ (z : OpenRequest). Some (record { request = z; given = []; steps = [] })) same.0
+    with-same (Stepped z v) (Stepped y w) o p same e =
+        strip-with z v o ∙ ap (λ (k : Option Underway). underway_with (Stepped z v) k) e ∙ sym (strip-with z v p) ∙ ap (λ (k : ItemEvent). option_map strip (underway_with k p)) same
+    with-same (Began q) (Stepped y w) o p same e = absurd same
+    with-same (Stepped z v) (Began r) o p same e = absurd same
+
+    -- what begins now passes bytes with the same of this
+    abbrev Begins : {A : Type 0} → (List ℕ → A) → Type 0
+    Begins f = (q r : Request) → SameDeed b (Began q) (Began r) → f (bytes_given_by q) ≡ f (bytes_given_by r)
+
+    given-with : {A : Type 0} (f : List ℕ → A) → Begins f → (x y : ItemEvent) (o p : Option Underway) → SameDeed b x y → f (given_in o) ≡ f (given_in p) → f (given_in (underway_with x o)) ≡ f (given_in (underway_with y p))
+    given-with f begins (Began q) (Began r) o p same e = begins q r same
+    given-with f begins (Stepped z v) (Stepped y w) None None same e = refl
+    given-with f begins (Stepped z v) (Stepped y w) None (Some p) same e = e
+    given-with f begins (Stepped z v) (Stepped y w) (Some o) None same e = e
+    given-with f begins (Stepped z v) (Stepped y w) (Some o) (Some p) same e = e
+    given-with f begins (Began q) (Stepped y w) o p same e = absurd same
+    given-with f begins (Stepped z v) (Began r) o p same e = absurd same
+
+    after-same : (a : Option Answer) (o p : Option Underway) → option_map strip o ≡ option_map strip p
+        → option_map strip (underway_after (record one { answer = a }) o) ≡ option_map strip (underway_after (record other { answer = option_map (reanswered b h st) a }) p)
+    after-same None o p e = with-same x y o p same e
+    after-same (Some z) o p e = refl
+
+    given-after : {A : Type 0} (f : List ℕ → A) → Begins f → (a : Option Answer) (o p : Option Underway) → f (given_in o) ≡ f (given_in p)
+        → f (given_in (underway_after (record one { answer = a }) o)) ≡ f (given_in (underway_after (record other { answer = option_map (reanswered b h st) a }) p))
+    given-after f begins None o p e = given-with f begins x y o p same e
+    given-after f begins (Some z) o p e = refl
+
+    either : {A B : Type 0} (f : A → B) (e : Bool) (p q k l : A) → f p ≡ f k → f q ≡ f l → f (cond e p q) ≡ f (cond e k l)
+    either f true p q k l here there = here
+    either f false p q k l here there = there
+
+    owner-given : {A : Type 0} (f : List ℕ → A) (t : ℕ) (e : Bool) → (d.0 == t) ≡ e → ((d.0 == t) ≡ true → Begins f) → f (given_in (open_call g t)) ≡ f (given_in (open_call h t))
+        → f (given_in (cond e (underway_after one (open_call g t)) (open_call g t))) ≡ f (given_in (cond e (underway_after other (open_call h t)) (open_call h t)))
+    owner-given f t true own begins was =
+        subst (λ (z : Option Answer). f (given_in (underway_after one (open_call g t))) ≡ f (given_in (underway_after (record other { answer = z }) (open_call h t)))) (sym again)
+        (given-after f (begins own) a (open_call g t) (open_call h t) was)
+    owner-given f t false own begins was = was
+
+    pub matched-grows : Matched s high (one ∷ g) (other ∷ h)
+    unfolding entry_at raises_at body_at table_at maps_answered_at live open_call stood
+    matched-grows = record {
+      entry = λ t r. ap (λ (k : Option EntryChange). changed_entry_of (cond (d.0 == t) k None) (entry_at g t r)) (same-deed (λ z. change_at z r) (λ q p. refl) b x y same)
+          ∙ ap (λ (k : Entry). changed_entry_of (change_of other t r) k) (m.entry t r);
+      raises = λ t r. ap (λ (k : Option EntryChange). raises_at g t r + raise_after (cond (d.0 == t) k None)) (same-deed (λ z. change_at z r) (λ q p. refl) b x y same)
+          ∙ ap (λ (n : ℕ). n + raise_after (change_of other t r)) (m.raises t r);
+      body = λ t r which. ap (λ (o : Option ℕ). or_else (cond (d.0 == t) o None) (body_at g t r which)) (same-deed (λ z. stored_at z r which) (λ q p. refl) b x y same)
+          ∙ ap (λ (n : ℕ). or_else (cond (d.0 == t) (stored_at y r which) None) n) (m.body t r which);
+      table = λ t. ap (λ (o : Option Header). header_or (cond (d.0 == t.0) o None) (table_at s g t)) (same-deed header_stored (λ q p. refl) b x y same)
+          ∙ ap (λ (z : Header). header_or (cond (d.0 == t.0) (header_stored y) None) z) (m.table t);
+      maps = λ t. ap (λ (n : ℕ). cond (d.0 == t) n 0 + maps_answered_at g t) (mapped-again b h st a ∙ ap one_if_mapped (sym again))
+          ∙ ap (λ (n : ℕ). cond (d.0 == t) (one_if_mapped c) 0 + n) (m.maps t);
+      pins = ap (λ (ps : List Pin). unpinned_by d x ps ++ pinned_by d x a g ps) m.pins
+          ∙ ap (λ (ps : List Pin). ps ++ pinned_by d x a g (live h)) (same-deed (λ z. unpinned_by d z (live h)) (λ q p. refl) b x y same)
+          ∙ ap (λ (ps : List Pin). unpinned_by d y (live h) ++ ps)
+          (same-deed (λ z. pinned_by d z a g (live h)) (λ q p. refl) b x y same ∙ pinned-entries d y a g h (live h) m.entry
+          ∙ pinned-again d y a c h (live h) (λ n. holder-again b h st a n ∙ ap (λ (k : Option Answer). holder_after k n) (sym again)));
+      calls = λ t. either (option_map strip) (d.0 == t) (underway_after one (open_call g t)) (open_call g t) (underway_after other (open_call h t)) (open_call h t)
+          (after-same a (open_call g t) (open_call h t) (m.calls t) ∙ ap (λ (z : Option Answer). option_map strip (underway_after (record other { answer = z }) (open_call h t))) (sym again)) (m.calls t);
+      given = λ t low. owner-given (λ (l : List ℕ). l) t (d.0 == t) refl (λ own q r deed. deed.2 (subst (λ (n : ℕ). hides s high n ≡ false) (sym (eqb-true d.0 t own)) low)) (m.given t low);
+      lengths = λ t. owner-given length t (d.0 == t) refl (λ own q r deed. deed.3) (m.lengths t);
+      ruled = λ t. let first : first_of_item s g one ≡ first_of_item s h other =
+          first-stripped g d x (open_call g d.0) ∙ ap (λ (o : Option Underway). first_in_call s g d x o) (m.calls d.0) ∙ sym (first-stripped g d x (open_call h d.0)) ∙ first-in b d x y (open_call h d.0) same in
+          ap (λ (o : Option Denial). cond (d.0 == t) (stood_with x (stood s g t) o) (stood s g t)) first
+          ∙ ap (λ (o : Option Denial). cond (d.0 == t) (stood_with x o (first_of_item s h other)) o) (m.ruled t)
+          ∙ ap (λ (o : Option Denial). cond (d.0 == t) o (stood s h t)) (same-deed (λ z. stood_with z (stood s h t) (first_of_item s h other)) (λ q p. refl) b x y same);
+    }

@@ -1,0 +1,4 @@
+pub mod Redone
+pub mod Followed
+pub mod Texts
+pub mod Printed

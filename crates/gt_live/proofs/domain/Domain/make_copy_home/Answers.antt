@@ -1,0 +1,151 @@
+use Rattle.std.proofs.Common.{◌≡◌, ◌∙◌, refl, sym, ap, subst, inl}
+use Rattle.gt_types.specs.declared.DomId.{DomId}
+use Rattle.gt_types.specs.declared.places.Spot.{Spot}
+use Rattle.gt_calls.specs.declared.held.HeldPin.{HeldPin}
+use Rattle.gt_calls.specs.declared.request.Request.TheVariants as requests
+use Rattle.gt_calls.specs.Path.{path_of, place_of}
+use Rattle.gt_handles.specs.Handles.{HandleMap}
+use Rattle.gt_live.specs.Domains.{knowledge}
+use Rattle.std.specs.Prelude.{IfErr, IfOk}
+use Rattle.gt_calls.specs.declared.call.Phase.TheVariants.{Accessing}
+use Rattle.gt_live.specs.Copies.{copy_call}
+use Rattle.gt_frames.specs.Receipts.{Copying}
+use Rattle.gt_calls.specs.Holding.{last_first}
+use Rattle.gt_live.specs.Accesses.{CopiesBetween, IsCopiedBy, IsIfOneMissing}
+use Rattle.gt_live.proofs.Accessing.{refused-access}
+use Rattle.gt_live.proofs.Copied.{access-dest, access-dest-range, access-may, access-source, access-source-range}
+use Rattle.gt_live.proofs.Copied.{made-whole, taken-still}
+use Rattle.gt_live.proofs.DomainKept.{looked}
+use Rattle.gt_live.proofs.Making.{same_seat-then, still_seat}
+use Rattle.gt_live.proofs.Taking.{all-back}
+use Rattle.gt_live.proofs.domain.Domain.make_copy_home.Goals as goal
+
+pub drive_copy-requires-clause-unanswered : goal.drive_copy-requires-clause-unanswered
+drive_copy-requires-clause-unanswered g c = sym c.judge_copy.ensures ∙ c.in_default.is
+
+pub copy_through-copied-requires-clause-source : goal.copy_through-copied-requires-clause-source
+copy_through-copied-requires-clause-source g c =
+    let m = c.args.monitor.now in let d = c.args.self.now in let copy = c.args.copy.now in let pins = c.drive_copy.new.pins in
+    let c0 = knowledge m.config (g.P.Allows.may m.rights) d in let f = c.drive_copy.new.self in
+    let me = c.drive_copy.ensures.kept.seat.dom in
+    access-source c0 m.words.layout f.seat d.seat.dom copy pins d.seat.view me c.in-Ok.ensures.stops c.place_of-from.result
+    (c.place_of-from.ensures ∙ ap (λ (x : DomId). place_of x copy.source pins.source) (c.dom-caller.ensures ∙ me))
+
+pub copy_through-copied-requires-clause-dest : goal.copy_through-copied-requires-clause-dest
+copy_through-copied-requires-clause-dest g c =
+    let m = c.args.monitor.now in let d = c.args.self.now in let copy = c.args.copy.now in let pins = c.drive_copy.new.pins in
+    let c0 = knowledge m.config (g.P.Allows.may m.rights) d in let f = c.drive_copy.new.self in
+    let me = c.drive_copy.ensures.kept.seat.dom in
+    access-dest c0 m.words.layout f.seat d.seat.dom copy pins d.seat.view me c.in-Ok.ensures.stops c.place_of-to.result
+    (c.place_of-to.ensures ∙ ap (λ (x : DomId). place_of x copy.dest pins.dest) (c.dom-caller.ensures ∙ me))
+
+pub copy_through-copied-requires-clause-may : goal.copy_through-copied-requires-clause-may
+copy_through-copied-requires-clause-may g c =
+    let m = c.args.monitor.now in let d = c.args.self.now in let copy = c.args.copy.now in let pins = c.drive_copy.new.pins in
+    let c0 = knowledge m.config (g.P.Allows.may m.rights) d in let f = c.drive_copy.new.self in
+    access-may c0 m.words.layout f.seat d.seat.dom copy pins d.seat.view c.drive_copy.ensures.kept.seat.dom
+    c.in-Ok.ensures.stops (sym c.judge_copy.ensures ∙ c.in_default.is)
+
+pub copy_through-copied-requires-clause-source_range : goal.copy_through-copied-requires-clause-source_range
+copy_through-copied-requires-clause-source_range g c =
+    let m = c.args.monitor.now in let d = c.args.self.now in let copy = c.args.copy.now in let pins = c.drive_copy.new.pins in
+    let c0 = knowledge m.config (g.P.Allows.may m.rights) d in let f = c.drive_copy.new.self in
+    let me = c.drive_copy.ensures.kept.seat.dom in
+    access-source-range c0 m.words.layout f.seat d.seat.dom copy pins d.seat.view me c.in-Ok.ensures.stops
+    c.place_of-from.result
+    (c.place_of-from.ensures ∙ ap (λ (x : DomId). place_of x copy.source pins.source) (c.dom-caller.ensures ∙ me))
+
+pub copy_through-copied-requires-clause-dest_range : goal.copy_through-copied-requires-clause-dest_range
+copy_through-copied-requires-clause-dest_range g c =
+    let m = c.args.monitor.now in let d = c.args.self.now in let copy = c.args.copy.now in let pins = c.drive_copy.new.pins in
+    let c0 = knowledge m.config (g.P.Allows.may m.rights) d in let f = c.drive_copy.new.self in
+    let me = c.drive_copy.ensures.kept.seat.dom in
+    access-dest-range c0 m.words.layout f.seat d.seat.dom copy pins d.seat.view me c.in-Ok.ensures.stops
+    c.place_of-to.result
+    (c.place_of-to.ensures ∙ ap (λ (x : DomId). place_of x copy.dest pins.dest) (c.dom-caller.ensures ∙ me))
+
+pub give_back-requires : goal.give_back-requires
+give_back-requires g c =
+    let m = c.args.monitor.now in let d = c.args.self.now in let f = c.drive_copy.new.self in
+    let t = c.copy_through-copied in let pins = c.drive_copy.new.pins in record {
+      seat = still_seat m.words f.seat t.new.seat (still_seat m.words d.seat f.seat c.requires.mine.seat c.drive_copy.ensures.kept.seat) t.ensures.seat;
+      taken = (d.seat.view, taken-still m.words.layout (last_first pins) d.seat.view f.seat.view t.new.seat.view c.in-Ok.ensures.stops.taken t.ensures.same);
+      of_run = c.in-Ok.ensures.stops.of_run;
+    }
+
+pub returns-in-Some-clause-answered : goal.returns-in-Some-clause-answered
+returns-in-Some-clause-answered g c =
+    let m = c.args.monitor.now in let d = c.args.self.now in
+    refused-access m.words (knowledge m.config (g.P.Allows.may m.rights) d) d.seat.dom
+    (requests.Copy c.args.copy.now) (IsCopiedBy m.words.layout d.seat.dom) c.in-Some.verdict c.refusal_of.result d.seat.view tt
+    (sym c.judge_copy.ensures ∙ c.in-Some.is) c.refusal_of.ensures
+
+pub returns-in-Err-clause-mine : goal.returns-in-Err-clause-mine
+returns-in-Err-clause-mine g c =
+    let m = c.args.monitor.now in let d = c.args.self.now in let may = g.P.Allows.may m.rights in
+    let f = c.drive_copy.new.self in let kept = c.drive_copy.ensures.kept in
+    looked m.words m.config may d f c.requires.mine (still_seat m.words d.seat f.seat c.requires.mine.seat kept.seat)
+    kept.seat.dom (ap (λ v. v.items) kept.own) (ap (λ (z : HandleMap HeldPin). z.slots) kept.mappings)
+    c.in-Err.ensures.stops.same
+
+pub returns-in-Err-clause-answered : goal.returns-in-Err-clause-answered
+returns-in-Err-clause-answered g c = inl c.in-Err.ensures.stops.called
+
+pub returns-in-Err-clause-kept : goal.returns-in-Err-clause-kept
+returns-in-Err-clause-kept g c =
+    let one = c.drive_copy.ensures.kept in (
+      record {
+        slots = ap (λ (z : HandleMap HeldPin). z.slots) one.mappings;
+        given = ap (λ (z : HandleMap HeldPin). z.given) one.mappings;
+      },
+      c.in-Err.ensures.stops.same.pins,
+    )
+
+pub returns-clause-mine : goal.returns-clause-mine
+returns-clause-mine g c =
+    let m = c.args.monitor.now in let d = c.args.self.now in let may = g.P.Allows.may m.rights in
+    let f = c.drive_copy.new.self in let e = c.give_back.new.self in let one = c.drive_copy.ensures.kept in
+    let two = c.give_back.ensures.kept in let t = c.copy_through-copied in
+    let same = all-back m.words.layout d.seat.view e.seat.view
+    (c.give_back.ensures.gives.back d.seat.view (taken-still m.words.layout (last_first c.drive_copy.new.pins) d.seat.view f.seat.view t.new.seat.view c.in-Ok.ensures.stops.taken t.ensures.same)) in
+    let seat = same_seat-then d.seat f.seat e.seat one.seat (same_seat-then f.seat t.new.seat e.seat t.ensures.seat two.seat) in
+    looked m.words m.config may d e c.requires.mine (still_seat m.words d.seat e.seat c.requires.mine.seat seat) seat.dom
+    (ap (λ v. v.items) (two.own ∙ one.own)) (ap (λ (z : HandleMap HeldPin). z.slots) (two.mappings ∙ one.mappings)) same
+
+pub returns-clause-answered : goal.returns-clause-answered
+returns-clause-answered g c =
+    let m = c.args.monitor.now in let d = c.args.self.now in let copy = c.args.copy.now in let pins = c.drive_copy.new.pins in
+    let k = m.words.layout in let c0 = knowledge m.config (g.P.Allows.may m.rights) d in let f = c.drive_copy.new.self in
+    let e = c.give_back.new.self in let me = c.drive_copy.ensures.kept.seat.dom in let t = c.copy_through-copied in
+    let from_is : c.place_of-from.result ≡ place_of d.seat.dom copy.source pins.source =
+    c.place_of-from.ensures ∙ ap (λ (x : DomId). place_of x copy.source pins.source) (c.dom-caller.ensures ∙ me) in
+    let to_is : c.place_of-to.result ≡ place_of d.seat.dom copy.dest pins.dest =
+    c.place_of-to.ensures ∙ ap (λ (x : DomId). place_of x copy.dest pins.dest) (c.dom-caller.ensures ∙ me) in
+    made-whole c0 m.words (copy_call d.seat.dom copy (Accessing copy pins.source pins.dest))
+    (place_of d.seat.dom copy.source pins.source) (place_of d.seat.dom copy.dest pins.dest) copy.len d.seat.view
+    f.seat.view t.new.seat.view e.seat.view (path_of c0 d.seat.dom (requests.Copy copy)) d.seat.dom t.result
+    c.in-Ok.ensures.stops c.give_back.ensures.gives refl
+    (subst (λ (q : Spot). IfOk t.result
+    (λ (r : Copying). CopiesBetween k (place_of d.seat.dom copy.source pins.source) q copy.len d.seat.dom r f.seat.view t.new.seat.view))
+    to_is
+    (subst (λ (p : Spot). IfOk t.result
+    (λ (r : Copying). CopiesBetween k p c.place_of-to.result copy.len d.seat.dom r f.seat.view t.new.seat.view)) from_is
+    (subst (λ (x : DomId). IfOk t.result
+    (λ (r : Copying). CopiesBetween k c.place_of-from.result c.place_of-to.result copy.len x r f.seat.view t.new.seat.view)) me
+    t.ensures.copied)))
+    t.ensures.unmade t.ensures.refused
+    (subst (λ (q : Spot). IfErr t.result (IsIfOneMissing m.words (place_of d.seat.dom copy.source pins.source).frame q.frame)) to_is
+    (subst (λ (p : Spot). IfErr t.result (IsIfOneMissing m.words p.frame c.place_of-to.result.frame)) from_is t.ensures.cause))
+
+pub returns-clause-kept : goal.returns-clause-kept
+returns-clause-kept g c =
+    let d = c.args.self.now in let e = c.give_back.new.self in let one = c.drive_copy.ensures.kept in
+    let two = c.give_back.ensures.kept in let t = c.copy_through-copied in let k = c.args.monitor.now.words.layout in
+    let same = all-back k d.seat.view e.seat.view
+    (c.give_back.ensures.gives.back d.seat.view (taken-still k (last_first c.drive_copy.new.pins) d.seat.view c.drive_copy.new.self.seat.view t.new.seat.view c.in-Ok.ensures.stops.taken t.ensures.same)) in (
+      record {
+        slots = ap (λ (z : HandleMap HeldPin). z.slots) (two.mappings ∙ one.mappings);
+        given = ap (λ (z : HandleMap HeldPin). z.given) (two.mappings ∙ one.mappings);
+      },
+      same.pins,
+    )
