@@ -1,3 +1,4 @@
 pub mod BreakingLemmas
 pub mod NamingLemmas
+pub mod PrintingLemmas
 pub mod ReadingLemmas

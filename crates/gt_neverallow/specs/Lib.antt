@@ -1,3 +1,4 @@
 pub mod Breaking
 pub mod Reading
 pub mod Naming
+pub mod Printing

@@ -1,4 +1,8 @@
 //! Prints breaches: each as an error at the allow statement, with a note at the `neverallow` statement.
+ghost use Rattle.std.specs.Prelude.{IfOk, OnOk};
+ghost use Rattle.gt_policy_check.specs.Report.{AddsText, IsPrinted};
+ghost use Rattle.gt_neverallow.specs.Printing.{IsBreachError, IsBreachNote, IsBreachReport, IsBreachText};
+
 use crate::breaking::Breach;
 use gt_policy_check::{Finding, FindingKind, ReportForm, column_on, push_json, push_report};
 use gt_text::push_text;
@@ -14,7 +18,9 @@ pub struct BrokenTexts<'t> {
 }
 
 // Makes the error at the allow statement.
-fn error_of(alloc: Global, texts: &BrokenTexts, breach: &Breach) -> Result<Finding, AllocError> {
+fn error_of(alloc: Global, texts: &BrokenTexts, breach: &Breach) -> Result<Finding, AllocError>
+    ensures { IfOk result (λ x. IsBreachError breach.now x) }
+{
     let mut message = Vec::new(alloc);
     push_text(&mut message, "this statement allows ")?;
     message.extend_from_slice(breach.example.as_slice())?;
@@ -28,7 +34,9 @@ fn error_of(alloc: Global, texts: &BrokenTexts, breach: &Breach) -> Result<Findi
 }
 
 // Makes the note at the `neverallow` statement.
-fn note_of(alloc: Global, texts: &BrokenTexts, breach: &Breach) -> Result<Finding, AllocError> {
+fn note_of(alloc: Global, texts: &BrokenTexts, breach: &Breach) -> Result<Finding, AllocError>
+    ensures { IfOk result (λ x. IsBreachNote breach.now x) }
+{
     let mut message = Vec::new(alloc);
     push_text(&mut message, "this statement forbids it")?;
     Ok(Finding {
@@ -46,7 +54,9 @@ fn push_finding(
     file: &str,
     text: &str,
     finding: Finding,
-) -> Result<(), AllocError> {
+) -> Result<(), AllocError>
+    ensures { OnOk result (AddsText (IsPrinted form file.now finding) out.old.items out.new.items) }
+{
     let found = [finding];
     match form {
         ReportForm::Json => push_json(out, file, found.as_slice()),
@@ -56,19 +66,37 @@ fn push_finding(
     }
 }
 
-/// Appends the breaches in this form. After an Err, part of them may have been appended.
+// Appends a breach: its error, and its note.
+fn push_breach(
+    alloc: Global,
+    out: &mut Vec<u8>,
+    form: ReportForm,
+    texts: &BrokenTexts,
+    breach: &Breach,
+) -> Result<(), AllocError>
+    ensures { OnOk result (AddsText (IsBreachText form texts.now.file.now texts.now.never_file.now breach.now)
+        out.old.items out.new.items) }
+{
+    let error = error_of(alloc, texts, breach)?;
+    push_finding(out, form, texts.file, texts.policy, error)?;
+    let note = note_of(alloc, texts, breach)?;
+    push_finding(out, form, texts.never_file, texts.never, note)
+}
+
+/// Appends the breaches in this form, each as an error at the allow statement and a note at the `neverallow` statement.
+/// After an Err, part of them may have been appended.
 pub fn push_breaches(
     alloc: Global,
     out: &mut Vec<u8>,
     form: ReportForm,
     texts: &BrokenTexts,
     found: &[Breach],
-) -> Result<(), AllocError> {
-    for breach in found {
-        let error = error_of(alloc, texts, breach)?;
-        push_finding(out, form, texts.file, texts.policy, error)?;
-        let note = note_of(alloc, texts, breach)?;
-        push_finding(out, form, texts.never_file, texts.never, note)?;
+) -> Result<(), AllocError>
+    ensures { OnOk result (AddsText (IsBreachReport form texts.now.file.now texts.now.never_file.now found.now)
+        out.old.items out.new.items) }
+{
+    'found: for breach in found {
+        push_breach(alloc, out, form, texts, breach)?;
     }
     Ok(())
 }

@@ -1,3 +1,4 @@
 pub mod CheckLemmas
 pub mod GrantLemmas
+pub mod ReportLemmas
 pub mod WarningLemmas

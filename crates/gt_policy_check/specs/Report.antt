@@ -1,6 +1,9 @@
 -- Findings as text.
-use Rattle.std.specs.Prelude.{ℕ, List, ◌++◌, codes}
+use Rattle.std.specs.Prelude.{◌≡◌, ◌⊎◌, ℕ, ◌==◌, Bool, not, ◌&&◌, ◌||◌, List, [], ◌∷◌, ◌++◌, codes, if◌then◌else◌}
+use Rattle.std.specs.Prelude.{encode_utf8}
+use Rattle.std.specs.Char.{is_control}
 use Rattle.std.specs.Fmt.{decimal}
+use Rattle.std.specs.List.{AllPass, AllZip, concat, flat_map}
 use Rattle.gt_json.specs.Strings.{quoted}
 use Rattle.gt_policy_check.specs.declared.findings.Finding.{Finding}
 use Rattle.gt_policy_check.specs.declared.findings.FindingKind.{FindingKind}
@@ -8,6 +11,8 @@ use Rattle.gt_policy_check.specs.declared.findings.FindingKind.TheVariants.{Faul
 use Rattle.gt_policy_check.specs.declared.findings.FindingKind.TheVariants.{NeverAsked}
 use Rattle.gt_policy_check.specs.declared.findings.FindingKind.TheVariants.{Repeats, NeverNamed, NoDomain, NeverMatters, NeverMapped}
 use Rattle.gt_policy_check.specs.declared.findings.FindingKind.TheVariants.{Note}
+use Rattle.gt_policy_check.specs.declared.report.ReportForm.{ReportForm}
+use Rattle.gt_policy_check.specs.declared.report.ReportForm.TheVariants.{Colored, Json, Text}
 
 -- the severity of a finding
 abbrev pub severity_text : FindingKind → List ℕ
@@ -40,3 +45,61 @@ unfoldable pub object_text : List ℕ → Finding → List ℕ
 object_text file x = codes "{\"file\":" ++ quoted file ++ codes ",\"line\":"
     ++ position_text (codes ",\"column\":") x ++ codes ",\"severity\":\"" ++ severity_text x.kind
     ++ codes "\",\"message\":" ++ quoted x.message.items ++ codes "}\n"
+
+-- U+FFFD is shown for a control character other than a tab
+abbrev pub shown_letter : ℕ → ℕ
+shown_letter c = if is_control c && not (c == 9) then 0xFFFD else c
+
+-- these characters as they are shown
+abbrev pub shown_text : List ℕ → List ℕ
+shown_text letters = flat_map (λ c. encode_utf8 (shown_letter c)) letters
+
+-- a space or a tab
+abbrev pub is_blank : ℕ → Bool
+is_blank byte = (byte == 32) || (byte == 9)
+
+-- the colour of a caret (ECMA-48)
+abbrev pub caret_color : FindingKind → List ℕ
+caret_color Fault = codes "[1;31m"
+caret_color Note = codes "[1;36m"
+caret_color kind = codes "[1;33m"
+
+-- a caret with a line end
+abbrev pub caret_text : ReportForm → FindingKind → List ℕ
+caret_text Text kind = codes "^\n"
+caret_text Colored kind = 27 ∷ caret_color kind ++ codes "^" ++ 27 ∷ codes "[0m\n"
+caret_text Json kind = codes "^\n"
+
+-- the line of a finding, with a caret below it
+unfoldable pub excerpt_text : ReportForm → FindingKind → List ℕ → List ℕ → List ℕ
+excerpt_text form kind letters blanks = shown_text letters ++ codes "\n" ++ blanks ++ caret_text form kind
+
+-- a line with a caret below it, or nothing
+abbrev pub IsExcerpt : ReportForm → FindingKind → List ℕ → Type 0
+IsExcerpt form kind excerpt =
+    (excerpt ≡ [])
+    ⊎ ((letters blanks : List ℕ) × AllPass is_blank blanks × (excerpt ≡ excerpt_text form kind letters blanks))
+
+-- a finding in the layout of compilers: its heading and an excerpt
+abbrev pub IsShown : ReportForm → List ℕ → Finding → List ℕ → Type 0
+IsShown form file x text = (excerpt : List ℕ) × IsExcerpt form x.kind excerpt × (text ≡ heading_text file x ++ excerpt)
+
+-- what is printed of a finding: as JSON its object
+abbrev pub IsPrinted : ReportForm → List ℕ → Finding → List ℕ → Type 0
+IsPrinted Json file x text = text ≡ object_text file x
+IsPrinted Text file x text = IsShown Text file x text
+IsPrinted Colored file x text = IsShown Colored file x text
+
+-- the texts of these, one for each, in their order
+abbrev pub AreTexts : {A : Type 0} → (A → List ℕ → Type 0) → List A → List ℕ → Type 0
+AreTexts R xs all = (texts : List (List ℕ)) × AllZip R xs texts × (all ≡ concat texts)
+
+-- the report of findings in a form: each once, in their order
+abbrev pub IsReport : ReportForm → List ℕ → List Finding → List ℕ → Type 0
+IsReport Json file found report = report ≡ flat_map (object_text file) found
+IsReport Text file found report = AreTexts (IsShown Text file) found report
+IsReport Colored file found report = AreTexts (IsShown Colored file) found report
+
+-- such a text was appended
+abbrev pub AddsText : (List ℕ → Type 0) → List ℕ → List ℕ → Type 0
+AddsText P old new = (text : List ℕ) × P text × (new ≡ old ++ text)

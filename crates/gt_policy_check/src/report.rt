@@ -1,8 +1,10 @@
 //! Findings as text, in the layout of compilers, and as JSON.
-ghost use Rattle.std.specs.Prelude.{◌≡◌, ◌++◌, codes, OnOk};
-ghost use Rattle.std.specs.List.{flat_map};
+ghost use Rattle.std.specs.Prelude.{◌≡◌, ◌++◌, chars, codes, encode_utf8, OnOk};
+ghost use Rattle.std.specs.List.{flat_map, AllPass};
 ghost use Rattle.gt_json.specs.Strings.{quoted};
 ghost use Rattle.gt_policy_check.specs.Report.{heading_text, object_text, position_text, said_text, severity_text};
+ghost use Rattle.gt_policy_check.specs.Report.{caret_text, is_blank, shown_letter, shown_text, AddsText, AreTexts, IsExcerpt};
+ghost use Rattle.gt_policy_check.specs.Report.{IsShown};
 
 use crate::findings::{Finding, FindingKind};
 use crate::places::{bytes_of, line_span};
@@ -60,7 +62,9 @@ fn push_heading(out: &mut Vec<u8>, file: &str, finding: &Finding) -> Result<(), 
 }
 
 /// Appends a character of a line. A control character could move the cursor of the terminal, so U+FFFD replaces it.
-pub(crate) fn push_shown(out: &mut Vec<u8>, letter: char) -> Result<(), AllocError> {
+pub(crate) fn push_shown(out: &mut Vec<u8>, letter: char) -> Result<(), AllocError>
+    ensures { OnOk result (out.new.items ≡ out.old.items ++ encode_utf8 (shown_letter letter)) }
+{
     let mut bytes = [0; 4];
     let shown = if letter.is_control() && letter != '\t' {
         '\u{fffd}'
@@ -71,11 +75,13 @@ pub(crate) fn push_shown(out: &mut Vec<u8>, letter: char) -> Result<(), AllocErr
 }
 
 // Appends blanks as wide as a character of a line. A tab stays a tab, so that the caret is right for any tab width.
-fn push_blank(out: &mut Vec<u8>, letter: char) -> Result<(), AllocError> {
+fn push_blank(out: &mut Vec<u8>, letter: char) -> Result<(), AllocError>
+    ensures { OnOk result (AddsText (AllPass is_blank) out.old.items out.new.items) }
+{
     if letter == '\t' {
         return push_text(out, "\t");
     }
-    for _ in 0..letter.width().unwrap_or(1) {
+    'width: for _ in 0..letter.width().unwrap_or(1) {
         push_text(out, " ")?;
     }
     Ok(())
@@ -90,17 +96,20 @@ fn line_of<'a>(text: &'a str, line: u32) -> &'a str {
 }
 
 /// Appends the characters of a line, with control characters replaced.
-pub(crate) fn push_all_shown(out: &mut Vec<u8>, line: &str) -> Result<(), AllocError> {
-    for letter in line.chars() {
+pub(crate) fn push_all_shown(out: &mut Vec<u8>, line: &str) -> Result<(), AllocError>
+    ensures { OnOk result (out.new.items ≡ out.old.items ++ shown_text (chars line.now)) }
+{
+    'letters: for letter in line.chars() {
         push_shown(out, letter)?;
     }
     Ok(())
 }
 
-// Appends a line end, and blanks as wide as the characters of a line before a column.
-fn push_blanks(out: &mut Vec<u8>, line: &str, column: u32) -> Result<(), AllocError> {
-    push_text(out, "\n")?;
-    for (place, letter) in line.char_indices() {
+// Appends blanks as wide as the characters of a line before a column.
+fn push_blanks(out: &mut Vec<u8>, line: &str, column: u32) -> Result<(), AllocError>
+    ensures { OnOk result (AddsText (AllPass is_blank) out.old.items out.new.items) }
+{
+    'letters: for (place, letter) in line.char_indices() {
         if place + 1 >= column as usize {
             break;
         }
@@ -121,7 +130,9 @@ pub enum ReportForm {
 }
 
 // Returns a caret with a line end, in the colour of the severity if colours are asked for (ECMA-48).
-fn caret(kind: FindingKind, form: ReportForm) -> &'static str {
+fn caret(kind: FindingKind, form: ReportForm) -> &'static str
+    ensures { result.now ≡ caret_text form kind }
+{
     match (form, kind) {
         (ReportForm::Text | ReportForm::Json, _) => "^\n",
         (ReportForm::Colored, FindingKind::Fault) => "\x1b[1;31m^\x1b[0m\n",
@@ -136,14 +147,31 @@ fn push_excerpt(
     text: &str,
     finding: &Finding,
     form: ReportForm,
-) -> Result<(), AllocError> {
+) -> Result<(), AllocError>
+    ensures { OnOk result (AddsText (IsExcerpt form finding.now.kind) out.old.items out.new.items) }
+{
     let line = line_of(text, finding.line);
     if line.is_empty() {
         return Ok(());
     }
     push_all_shown(out, line)?;
+    push_text(out, "\n")?;
     push_blanks(out, line, finding.column)?;
     push_text(out, caret(finding.kind, form))
+}
+
+// Appends a finding in the layout of compilers.
+fn push_finding(
+    out: &mut Vec<u8>,
+    file: &str,
+    text: &str,
+    finding: &Finding,
+    form: ReportForm,
+) -> Result<(), AllocError>
+    ensures { OnOk result (AddsText (IsShown form file.now finding.now) out.old.items out.new.items) }
+{
+    push_heading(out, file, finding)?;
+    push_excerpt(out, text, finding, form)
 }
 
 /// Appends the findings of a text in the layout of compilers: each with its line, and a caret below its column, which
@@ -154,10 +182,11 @@ pub fn push_report(
     text: &str,
     found: &[Finding],
     form: ReportForm,
-) -> Result<(), AllocError> {
-    for finding in found {
-        push_heading(out, file, finding)?;
-        push_excerpt(out, text, finding, form)?;
+) -> Result<(), AllocError>
+    ensures { OnOk result (AddsText (AreTexts (IsShown form file.now) found.now) out.old.items out.new.items) }
+{
+    'found: for finding in found {
+        push_finding(out, file, text, finding, form)?;
     }
     Ok(())
 }

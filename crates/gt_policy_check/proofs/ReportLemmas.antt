@@ -1,0 +1,59 @@
+-- Texts that are appended one after the other.
+use Rattle.std.proofs.Common.{◌≡◌, ℕ, ◌<◌, ◌+◌, List, [], ◌∷◌, ◌++◌, length, take, get_or, refl, sym, subst, ap, ◌∙◌}
+use Rattle.std.proofs.Common.{append_assoc, codes, inr, true, OnOk, Result, Ok, Err}
+use Rattle.std.proofs.lemmas.List.{append-nil, take_more}
+use Rattle.std.proofs.lemmas.List.Elements.{All-append}
+use Rattle.std.proofs.lemmas.Slice.Zip.{all_zipped_more}
+use Rattle.std.specs.List.{AllPass, concat}
+use Rattle.gt_policy_check.specs.Report.{AddsText, AreTexts, IsExcerpt, IsShown, caret_text, excerpt_text, heading_text}
+use Rattle.gt_policy_check.specs.Report.{is_blank, shown_text}
+use Rattle.gt_policy_check.specs.declared.findings.Finding.{Finding}
+use Rattle.gt_policy_check.specs.declared.findings.FindingKind.{FindingKind}
+use Rattle.gt_policy_check.specs.declared.report.ReportForm.{ReportForm}
+
+pub adds_none : (P : List ℕ → Type 0) (old new : List ℕ) → P [] → new ≡ old → AddsText P old new
+adds_none P old new none same = ([], none, same ∙ sym (append-nil old))
+
+pub adds_both : (P Q R : List ℕ → Type 0) (old mid new : List ℕ) → ((a b : List ℕ) → P a → Q b → R (a ++ b)) → AddsText P old mid → AddsText Q mid new → AddsText R old new
+adds_both P Q R old mid new joins (a, p, first) (b, q, second) =
+    (a ++ b, joins a b p q, second ∙ ap (λ (l : List ℕ). l ++ b) first ∙ append_assoc old a b)
+
+concat_more : (texts : List (List ℕ)) (text : List ℕ) → concat (texts ++ text ∷ []) ≡ concat texts ++ text
+concat_more [] text = append-nil text
+concat_more (t ∷ texts) text = ap (λ (l : List ℕ). t ++ l) (concat_more texts text) ∙ sym (append_assoc t (concat texts) text)
+
+-- one more text
+joined : {A : Type 0} (R : A → List ℕ → Type 0) (xs : List A) (x : A) (a b : List ℕ) → AreTexts R xs a → R x b → AreTexts R (xs ++ x ∷ []) (a ++ b)
+joined R xs x a b (texts, zipped, is) one =
+    (texts ++ b ∷ [], all_zipped_more R xs texts x b zipped one, ap (λ (l : List ℕ). l ++ b) is ∙ sym (concat_more texts b))
+
+pub texts_more : {A : Type 0} (R : A → List ℕ → Type 0) (xs : List A) (i : ℕ) (x : A) (old mid new : List ℕ) → i < length xs → x ≡ get_or xs i x → AddsText (AreTexts R (take i xs)) old mid → AddsText (R x) mid new
+    → AddsText (AreTexts R (take (i + 1) xs)) old new
+texts_more R xs i x old mid new within is before added =
+    adds_both (AreTexts R (take i xs)) (R x) (AreTexts R (take (i + 1) xs)) old mid new
+    (λ a b p q. subst (λ (l : List _). AreTexts R l (a ++ b)) (sym (take_more xs i x within ∙ ap (λ (y : _). take i xs ++ y ∷ []) (sym is))) (joined R (take i xs) x a b p q)) before added
+
+-- ---- the parts of a finding
+
+-- what follows from what an Ok promises
+pub on_ok : {T E P Q : Type 0} (r : Result T E) → (P → Q) → OnOk r P → OnOk r Q
+on_ok (Ok x) turns holds = turns holds
+on_ok (Err e) turns holds = tt
+
+pub more_blanks : (old mid new : List ℕ) → AddsText (AllPass is_blank) old mid → AddsText (AllPass is_blank) mid new → AddsText (AllPass is_blank) old new
+more_blanks old mid new before added =
+    adds_both (AllPass is_blank) (AllPass is_blank) (AllPass is_blank) old mid new (λ a b p q. All-append (λ x. is_blank x ≡ true) a b p q) before added
+
+-- a line, a line end, blanks and a caret are an excerpt
+pub excerpt_added : (form : ReportForm) (kind : FindingKind) (letters caret old line start mid new : List ℕ) → line ≡ old ++ shown_text letters → start ≡ line ++ codes "\n" → AddsText (AllPass is_blank) start mid
+    → caret ≡ caret_text form kind → new ≡ mid ++ caret → AddsText (IsExcerpt form kind) old new
+unfolding excerpt_text
+excerpt_added form kind letters caret old line start mid new shown ended (blanks, blank, is) same put =
+    let whole : new ≡ old ++ excerpt_text form kind letters blanks =
+    put ∙ ap (λ (l : List ℕ). mid ++ l) same ∙ ap (λ (l : List ℕ). l ++ caret_text form kind) (is ∙ ap (λ (l : List ℕ). l ++ blanks) (ended ∙ ap (λ (l : List ℕ). l ++ codes "\n") shown)) ∙ simp append_assoc in
+    (excerpt_text form kind letters blanks, inr (letters, blanks, blank, refl), whole)
+
+-- a heading and an excerpt are a finding
+pub finding_added : (form : ReportForm) (file : List ℕ) (x : Finding) (old mid new : List ℕ) → mid ≡ old ++ heading_text file x → AddsText (IsExcerpt form x.kind) mid new → AddsText (IsShown form file x) old new
+finding_added form file x old mid new headed (excerpt, is, put) =
+    (heading_text file x ++ excerpt, (excerpt, is, refl), put ∙ ap (λ (l : List ℕ). l ++ excerpt) headed ∙ append_assoc old (heading_text file x) excerpt)
