@@ -1,13 +1,15 @@
 -- From what was read, found and written to what is advised.
 use Rattle.std.proofs.Common.{◌≡◌, ℕ, ◌<◌, ◌≤◌, List, [], ◌∷◌, length, length-take, take, Option, Some}
-use Rattle.std.proofs.Common.{Result, Ok, Err, Bool, true, false, not, refl, sym, subst, ◌∙◌, inl, inr, arith}
+use Rattle.std.proofs.Common.{Result, Ok, Err, Bool, true, false, not, refl, sym, subst, ap, ◌∙◌, ◌++◌, inl, inr, arith}
 use Rattle.std.specs.List.{list_any}
 use Rattle.std.specs.Io.KnownBytes.{Appends}
 use Rattle.std.specs.Str.{IsUtf8}
 use Rattle.gt_policy_check.specs.Check.{Judges, faulty, sound, error_lines, is_error}
+use Rattle.gt_policy_check.specs.Report.{AddsText}
 use Rattle.gt_policy_check.specs.declared.asking.Explanation.{Explanation}
 use Rattle.gt_policy_check.specs.declared.asking.WhyQuestion.{WhyQuestion}
 use Rattle.gt_policy_check.specs.declared.findings.Finding.{Finding}
+use Rattle.gt_policy_check.specs.declared.report.ReportForm.{ReportForm}
 use Rattle.gt_checks.specs.Checking.{Checked, CheckedText, IsCleanText}
 use Rattle.gt_checks.specs.Explaining.{AnswersWhy, AskedOf, Explained, WritesLines, answer_for}
 use Rattle.gt_checks.specs.Reporting.{WritesFindings}
@@ -25,9 +27,21 @@ use Rattle.gt_policy.specs.declared.fault.TokenFaultKind.TheVariants.{Limit}
 use Rattle.gt_policy.specs.declared.parse.PolicyFaultKind.{PolicyFaultKind}
 use Rattle.gt_policy.specs.declared.parse.PolicyFaultKind.TheVariants as kinds
 use Rattle.gt_text.specs.Laws.{keeps_same, of_any_input, take_whole}
-use Rattle.gt_text.specs.Streams.{OfInput}
+use Rattle.gt_text.specs.Streams.{AppendsBeginning, OfInput}
 use Rattle.gt_text.specs.declared.fault.ReadFault.{ReadFault}
 use Rattle.gt_text.specs.declared.fault.ReadFault.TheVariants as reads
+
+-- ---- a report that is written
+
+pub went_out : (P : List ℕ → Type 0) (old new : Option (List ℕ)) (said lent : List ℕ) → P said → lent ≡ said → Appends old new lent → (report : List ℕ) × P report × Appends old new report
+went_out P old new said lent is same went = (said, is, subst (λ (l : List ℕ). Appends old new l) same went)
+
+pub began_out : (P : List ℕ → Type 0) (old new : Option (List ℕ)) (said lent : List ℕ) → P said → lent ≡ said → AppendsBeginning old new lent → (report : List ℕ) × P report × AppendsBeginning old new report
+began_out P old new said lent is same began = (said, is, subst (λ (l : List ℕ). AppendsBeginning old new l) same began)
+
+-- a report that was appended to nothing
+pub from_nothing : (P : List ℕ → Type 0) (old new : List ℕ) → old ≡ [] → AddsText P old new → P new
+from_nothing P old new none (text, is, put) = subst P (sym (put ∙ ap (λ (l : List ℕ). l ++ text) none)) is
 
 -- ---- a text that is checked
 
@@ -54,59 +68,61 @@ clean : (text : List ℕ) (found : List Finding) → Judges text found → IsCle
 clean text found (faulty f _ says line) = rw (some_error found f.line line) (f, says)
 clean text found (sound m xs _ says lined none _ _) = rw (no_error found none) (m, says)
 
-told : (text : List ℕ) (found : List Finding) (old new : Option (List ℕ)) (r : Result Bool ListingFault) → Judges text found → WritesFindings found old new r → CheckedText text old new r
-told text found old new (Ok answer) judges (is, (report, went)) = (found, report, judges, subst (IsCleanText text) (sym is) (clean text found judges), went)
-told text found old new (Err faults.Write) judges t = t
-told text found old new (Err faults.Memory) judges t = t
-told text found old new (Err faults.Read) judges t = absurd t
-told text found old new (Err (faults.Utf8 line)) judges t = absurd t
-told text found old new (Err (faults.Policy shown)) judges t = absurd t
+told : (form : ReportForm) (file text : List ℕ) (found : List Finding) (old new : Option (List ℕ)) (r : Result Bool ListingFault) → Judges text found → WritesFindings form file found old new r → CheckedText form file text old new r
+told form file text found old new (Ok answer) judges (is, (report, printed, went)) = (report, (found, judges, printed), subst (IsCleanText text) (sym is) (clean text found judges), went)
+told form file text found old new (Err faults.Write) judges (report, printed, began) = (report, (found, judges, printed), began)
+told form file text found old new (Err faults.Memory) judges t = t
+told form file text found old new (Err faults.Read) judges t = absurd t
+told form file text found old new (Err (faults.Utf8 line)) judges t = absurd t
+told form file text found old new (Err (faults.Policy shown)) judges t = absurd t
 
 -- the findings went out
-pub checked_text : (text : List ℕ) (found given : List Finding) (old new : Option (List ℕ)) (r : Result Bool ListingFault) → Judges text found → given ≡ found → WritesFindings given old new r → CheckedText text old new r
-checked_text text found given old new r judges same t = told text found old new r judges (subst (λ (l : List Finding). WritesFindings l old new r) same t)
+pub checked_text : (form : ReportForm) (file text : List ℕ) (found given : List Finding) (old new : Option (List ℕ)) (r : Result Bool ListingFault) → Judges text found → given ≡ found → WritesFindings form file given old new r
+    → CheckedText form file text old new r
+checked_text form file text found given old new r judges same t = told form file text found old new r judges (subst (λ (l : List Finding). WritesFindings form file l old new r) same t)
 
 take_shorter : (n : ℕ) (xs : List ℕ) → length (take n xs) ≤ length xs
 take_shorter n xs = rw length-take (omega arith)
 
-from_text : (bytes : List ℕ) (old new : Option (List ℕ)) (r : Result Bool ListingFault) → IsUtf8 bytes → CheckedText bytes old new r → Checked bytes old new r
-from_text bytes old new (Ok answer) utf8 c = (utf8, c)
-from_text bytes old new (Err faults.Write) utf8 c = c
-from_text bytes old new (Err faults.Memory) utf8 c = c
-from_text bytes old new (Err faults.Read) utf8 c = absurd c
-from_text bytes old new (Err (faults.Utf8 line)) utf8 c = absurd c
-from_text bytes old new (Err (faults.Policy shown)) utf8 c = absurd c
+from_text : (form : ReportForm) (file bytes : List ℕ) (old new : Option (List ℕ)) (r : Result Bool ListingFault) → IsUtf8 bytes → CheckedText form file bytes old new r → Checked form file bytes old new r
+from_text form file bytes old new (Ok answer) utf8 c = (utf8, c)
+from_text form file bytes old new (Err faults.Write) utf8 c = (utf8, c)
+from_text form file bytes old new (Err faults.Memory) utf8 c = c
+from_text form file bytes old new (Err faults.Read) utf8 c = absurd c
+from_text form file bytes old new (Err (faults.Utf8 line)) utf8 c = absurd c
+from_text form file bytes old new (Err (faults.Policy shown)) utf8 c = absurd c
 
 pub whole_read : (all bytes : List ℕ) → bytes ≡ take 1048577 all → length bytes ≤ 1048576 → bytes ≡ all
 whole_read all bytes read short =
     let few : length (take 1048577 all) ≤ 1048576 = subst (λ (l : List ℕ). length l ≤ 1048576) read short in
     read ∙ take_whole 1048576 all few
 
-pub checked_bytes : (all bytes text : List ℕ) (old new : Option (List ℕ)) (r : Result Bool ListingFault) → bytes ≡ take 1048577 all → text ≡ bytes → length bytes ≤ 1048576 → IsUtf8 bytes
-    → CheckedText text old new r → Checked all old new r
-checked_bytes all bytes text old new r read same short utf8 c =
-    subst (λ (l : List ℕ). Checked l old new r) (whole_read all bytes read short) (from_text bytes old new r utf8 (subst (λ (l : List ℕ). CheckedText l old new r) same c))
+pub checked_bytes : (form : ReportForm) (file all bytes text : List ℕ) (old new : Option (List ℕ)) (r : Result Bool ListingFault) → bytes ≡ take 1048577 all → text ≡ bytes → length bytes ≤ 1048576 → IsUtf8 bytes
+    → CheckedText form file text old new r → Checked form file all old new r
+checked_bytes form file all bytes text old new r read same short utf8 c =
+    subst (λ (l : List ℕ). Checked form file l old new r) (whole_read all bytes read short) (from_text form file bytes old new r utf8 (subst (λ (l : List ℕ). CheckedText form file l old new r) same c))
 
 too_many : (all bytes : List ℕ) → bytes ≡ take 1048577 all → 1048576 < length bytes → 1048576 < length all
 too_many all bytes read long =
     let many : 1048576 < length (take 1048577 all) = subst (λ (l : List ℕ). 1048576 < length l) read long in
     omega (arith, many, take_shorter 1048577 all)
 
-pub checked_no : (all bytes : List ℕ) (fault : ListingFault) (old : Option (List ℕ)) → bytes ≡ take 1048577 all → IsNoText bytes fault → Checked all old old (Err fault)
-checked_no all bytes (faults.Utf8 line) old read h = subst (λ (l : List ℕ). Checked l old old (Err (faults.Utf8 line))) (whole_read all bytes read h.0) (h, keeps_same old)
-checked_no all bytes (faults.Policy shown) old read h =
+pub checked_no : (form : ReportForm) (file all bytes : List ℕ) (fault : ListingFault) (old : Option (List ℕ)) → bytes ≡ take 1048577 all → IsNoText bytes fault → Checked form file all old old (Err fault)
+checked_no form file all bytes (faults.Utf8 line) old read h = subst (λ (l : List ℕ). Checked form file l old old (Err (faults.Utf8 line))) (whole_read all bytes read h.0) (h, keeps_same old)
+checked_no form file all bytes (faults.Policy shown) old read h =
     let long = too_many all bytes read h.0 in (at 1 Limit, h.1, (inl long, too_long all long), keeps_same old)
-checked_no all bytes faults.Memory old read h = absurd h
-checked_no all bytes faults.Read old read h = absurd h
-checked_no all bytes faults.Write old read h = absurd h
+checked_no form file all bytes faults.Memory old read h = absurd h
+checked_no form file all bytes faults.Read old read h = absurd h
+checked_no form file all bytes faults.Write old read h = absurd h
 
-unread : (all : List ℕ) (old : Option (List ℕ)) (error : ReadFault) → Checked all old old (Err (listing_read_fault error))
-unread all old reads.Memory = keeps_same old
-unread all old reads.Read = keeps_same old
+unread : (form : ReportForm) (file all : List ℕ) (old : Option (List ℕ)) (error : ReadFault) → Checked form file all old old (Err (listing_read_fault error))
+unread form file all old reads.Memory = keeps_same old
+unread form file all old reads.Read = keeps_same old
 
-pub checked_unread : (known old : Option (List ℕ)) (error : ReadFault) (fault : ListingFault) → fault ≡ listing_read_fault error → OfInput known (λ input. Checked input old old (Err fault))
-checked_unread known old error fault is =
-    of_any_input known (λ (input : List ℕ). Checked input old old (Err fault)) (λ (input : List ℕ). subst (λ (f : ListingFault). Checked input old old (Err f)) (sym is) (unread input old error))
+pub checked_unread : (form : ReportForm) (file : List ℕ) (known old : Option (List ℕ)) (error : ReadFault) (fault : ListingFault) → fault ≡ listing_read_fault error → OfInput known (λ input. Checked form file input old old (Err fault))
+checked_unread form file known old error fault is =
+    of_any_input known (λ (input : List ℕ). Checked form file input old old (Err fault))
+    (λ (input : List ℕ). subst (λ (f : ListingFault). Checked form file input old old (Err f)) (sym is) (unread form file input old error))
 
 -- ---- a question
 

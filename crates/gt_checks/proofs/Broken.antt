@@ -6,55 +6,79 @@ use Rattle.gt_policy.specs.Whole.{ReadsAs}
 use Rattle.gt_policy.specs.declared.fault.TokenFault.{TokenFault}
 use Rattle.gt_policy.specs.declared.parse.PolicyFaultKind.{PolicyFaultKind}
 use Rattle.gt_policy.specs.declared.parse.PolicyFaultKind.TheVariants as kinds
-use Rattle.gt_policy_list.specs.Faults.{listing_fault_of}
+use Rattle.gt_policy_check.specs.declared.report.ReportForm.{ReportForm}
+use Rattle.gt_policy_list.specs.Faults.{listing_fault_of, listing_read_fault}
+use Rattle.gt_policy_list.specs.Reading.{IsNoText}
 use Rattle.gt_policy_list.specs.declared.fault.ListingFault.{ListingFault}
 use Rattle.gt_policy_list.specs.declared.fault.ListingFault.TheVariants as listing
 use Rattle.gt_neverallow.specs.Breaking.{AreBreaches}
 use Rattle.gt_neverallow.specs.declared.breaking.Breach.{Breach}
-use Rattle.gt_text.specs.Laws.{keeps_same}
+use Rattle.gt_text.specs.Laws.{keeps_same, of_any_input}
+use Rattle.gt_text.specs.Streams.{OfInput}
+use Rattle.gt_text.specs.declared.fault.ReadFault.{ReadFault}
+use Rattle.gt_text.specs.declared.fault.ReadFault.TheVariants as reads
 use Rattle.gt_checks.specs.Breaking.{CheckedNever, CheckedNeverText, WritesBreaches}
 use Rattle.gt_checks.specs.declared.fault.BreachFault.{BreachFault}
 use Rattle.gt_checks.specs.declared.fault.BreachFault.TheVariants.{Policy, Statements}
-use Rattle.gt_checks.proofs.Advised.{whole_read}
+use Rattle.gt_checks.proofs.Advised.{checked_no, whole_read}
 
-written : (text given : List ℕ) (found : List Breach) (old new : Option (List ℕ)) (r : Result Bool BreachFault) → AreBreaches text given found → WritesBreaches found old new r → CheckedNeverText given text old new r
-written text given found old new (Ok clean) are (is, (report, went)) = (found, report, are, is, went)
-written text given found old new (Err (Policy listing.Write)) are w = w
-written text given found old new (Err (Policy listing.Memory)) are w = w
-written text given found old new (Err (Policy listing.Read)) are w = absurd w
-written text given found old new (Err (Policy (listing.Utf8 line))) are w = absurd w
-written text given found old new (Err (Policy (listing.Policy shown))) are w = absurd w
-written text given found old new (Err (Statements shown)) are w = absurd w
+module _ (form : ReportForm) (never given file : List ℕ) where
+  written : (text : List ℕ) (found : List Breach) (old new : Option (List ℕ)) (r : Result Bool BreachFault) → AreBreaches text given found → WritesBreaches form file never found old new r → CheckedNeverText form never given file text old new r
+  written text found old new (Ok clean) are (is, (report, printed, went)) = (found, report, are, is, printed, went)
+  written text found old new (Err (Policy listing.Write)) are (report, printed, began) = (found, report, are, printed, began)
+  written text found old new (Err (Policy listing.Memory)) are w = w
+  written text found old new (Err (Policy listing.Read)) are w = absurd w
+  written text found old new (Err (Policy (listing.Utf8 line))) are w = absurd w
+  written text found old new (Err (Policy (listing.Policy shown))) are w = absurd w
+  written text found old new (Err (Statements shown)) are w = absurd w
 
--- the breaches went out
-pub never_text : (text given : List ℕ) (found lent : List Breach) (old new : Option (List ℕ)) (r : Result Bool BreachFault) → AreBreaches text given found → lent ≡ found → WritesBreaches lent old new r → CheckedNeverText given text old new r
-never_text text given found lent old new r are same w = written text given found old new r are (subst (λ (l : List Breach). WritesBreaches l old new r) same w)
+  -- the breaches went out
+  pub never_text : (text : List ℕ) (found lent : List Breach) (old new : Option (List ℕ)) (r : Result Bool BreachFault) → AreBreaches text given found → lent ≡ found → WritesBreaches form file never lent old new r
+      → CheckedNeverText form never given file text old new r
+  never_text text found lent old new r are same w = written text found old new r are (subst (λ (l : List Breach). WritesBreaches form file never l old new r) same w)
 
--- the text is not a policy
-refused : (text given : List ℕ) (line : ℕ) (kind : PolicyFaultKind) (old : Option (List ℕ)) → ((f : TokenFault) → fault_shown (record { line = line; kind = kind }) ≡ Some f → ReadsAs text (Err f))
-    → CheckedNeverText given text old old (Err (Policy (listing_fault_of line kind)))
-refused text given line kinds.Memory old says = keeps_same old
-refused text given line kinds.Syntax old says = (_, refl, says _ refl, keeps_same old)
-refused text given line (kinds.Unknown name) old says = (_, refl, says _ refl, keeps_same old)
-refused text given line (kinds.Twice name) old says = (_, refl, says _ refl, keeps_same old)
-refused text given line (kinds.Permission name) old says = (_, refl, says _ refl, keeps_same old)
-refused text given line (kinds.Outside word) old says = (_, refl, says _ refl, keeps_same old)
-refused text given line kinds.Limit old says = (_, refl, says _ refl, keeps_same old)
+  -- the text is not a policy
+  refused : (text : List ℕ) (line : ℕ) (kind : PolicyFaultKind) (old : Option (List ℕ)) → ((f : TokenFault) → fault_shown (record { line = line; kind = kind }) ≡ Some f → ReadsAs text (Err f))
+      → CheckedNeverText form never given file text old old (Err (Policy (listing_fault_of line kind)))
+  refused text line kinds.Memory old says = keeps_same old
+  refused text line kinds.Syntax old says = (_, refl, says _ refl, keeps_same old)
+  refused text line (kinds.Unknown name) old says = (_, refl, says _ refl, keeps_same old)
+  refused text line (kinds.Twice name) old says = (_, refl, says _ refl, keeps_same old)
+  refused text line (kinds.Permission name) old says = (_, refl, says _ refl, keeps_same old)
+  refused text line (kinds.Outside word) old says = (_, refl, says _ refl, keeps_same old)
+  refused text line kinds.Limit old says = (_, refl, says _ refl, keeps_same old)
 
-pub never_policy : (text given : List ℕ) (line : ℕ) (kind : PolicyFaultKind) (fault : ListingFault) (old : Option (List ℕ)) → fault ≡ listing_fault_of line kind
-    → ((f : TokenFault) → fault_shown (record { line = line; kind = kind }) ≡ Some f → ReadsAs text (Err f)) → CheckedNeverText given text old old (Err (Policy fault))
-never_policy text given line kind fault old is says = subst (λ (f : ListingFault). CheckedNeverText given text old old (Err (Policy f))) (sym is) (refused text given line kind old says)
+  pub never_policy : (text : List ℕ) (line : ℕ) (kind : PolicyFaultKind) (fault : ListingFault) (old : Option (List ℕ)) → fault ≡ listing_fault_of line kind
+      → ((f : TokenFault) → fault_shown (record { line = line; kind = kind }) ≡ Some f → ReadsAs text (Err f)) → CheckedNeverText form never given file text old old (Err (Policy fault))
+  never_policy text line kind fault old is says = subst (λ (f : ListingFault). CheckedNeverText form never given file text old old (Err (Policy f))) (sym is) (refused text line kind old says)
 
-of_text : (given bytes : List ℕ) (old new : Option (List ℕ)) (r : Result Bool BreachFault) → IsUtf8 bytes → CheckedNeverText given bytes old new r → CheckedNever given bytes old new r
-of_text given bytes old new (Ok clean) utf8 c = (utf8, c)
-of_text given bytes old new (Err (Policy listing.Write)) utf8 c = c
-of_text given bytes old new (Err (Policy listing.Memory)) utf8 c = c
-of_text given bytes old new (Err (Policy listing.Read)) utf8 c = absurd c
-of_text given bytes old new (Err (Policy (listing.Utf8 line))) utf8 c = absurd c
-of_text given bytes old new (Err (Policy (listing.Policy shown))) utf8 c = (c.0, c.1, (inr utf8, c.2), c.3)
-of_text given bytes old new (Err (Statements shown)) utf8 c = (utf8, c)
+  of_text : (bytes : List ℕ) (old new : Option (List ℕ)) (r : Result Bool BreachFault) → IsUtf8 bytes → CheckedNeverText form never given file bytes old new r → CheckedNever form never given file bytes old new r
+  of_text bytes old new (Ok clean) utf8 c = (utf8, c)
+  of_text bytes old new (Err (Policy listing.Write)) utf8 c = (utf8, c)
+  of_text bytes old new (Err (Policy listing.Memory)) utf8 c = c
+  of_text bytes old new (Err (Policy listing.Read)) utf8 c = absurd c
+  of_text bytes old new (Err (Policy (listing.Utf8 line))) utf8 c = absurd c
+  of_text bytes old new (Err (Policy (listing.Policy shown))) utf8 c = (c.0, c.1, (inr utf8, c.2), c.3)
+  of_text bytes old new (Err (Statements shown)) utf8 c = (utf8, c)
 
-pub never_bytes : (given all bytes text : List ℕ) (old new : Option (List ℕ)) (r : Result Bool BreachFault) → bytes ≡ take 1048577 all → text ≡ bytes → length bytes ≤ 1048576 → IsUtf8 bytes
-    → CheckedNeverText given text old new r → CheckedNever given all old new r
-never_bytes given all bytes text old new r read same short utf8 c =
-    subst (λ (l : List ℕ). CheckedNever given l old new r) (whole_read all bytes read short) (of_text given bytes old new r utf8 (subst (λ (l : List ℕ). CheckedNeverText given l old new r) same c))
+  pub never_bytes : (all bytes text : List ℕ) (old new : Option (List ℕ)) (r : Result Bool BreachFault) → bytes ≡ take 1048577 all → text ≡ bytes → length bytes ≤ 1048576 → IsUtf8 bytes
+      → CheckedNeverText form never given file text old new r → CheckedNever form never given file all old new r
+  never_bytes all bytes text old new r read same short utf8 c =
+      subst (λ (l : List ℕ). CheckedNever form never given file l old new r) (whole_read all bytes read short) (of_text bytes old new r utf8 (subst (λ (l : List ℕ). CheckedNeverText form never given file l old new r) same c))
+
+  -- the bytes are not a text
+  pub never_no : (all bytes : List ℕ) (fault : ListingFault) (old : Option (List ℕ)) → bytes ≡ take 1048577 all → IsNoText bytes fault → CheckedNever form never given file all old old (Err (Policy fault))
+  never_no all bytes (listing.Utf8 line) old read h = checked_no form file all bytes (listing.Utf8 line) old read h
+  never_no all bytes (listing.Policy shown) old read h = checked_no form file all bytes (listing.Policy shown) old read h
+  never_no all bytes listing.Memory old read h = absurd h
+  never_no all bytes listing.Read old read h = absurd h
+  never_no all bytes listing.Write old read h = absurd h
+
+  unread : (all : List ℕ) (old : Option (List ℕ)) (error : ReadFault) → CheckedNever form never given file all old old (Err (Policy (listing_read_fault error)))
+  unread all old reads.Memory = keeps_same old
+  unread all old reads.Read = keeps_same old
+
+  pub never_unread : (known old : Option (List ℕ)) (error : ReadFault) (fault : ListingFault) → fault ≡ listing_read_fault error → OfInput known (λ input. CheckedNever form never given file input old old (Err (Policy fault)))
+  never_unread known old error fault is =
+      of_any_input known (λ (input : List ℕ). CheckedNever form never given file input old old (Err (Policy fault)))
+      (λ (input : List ℕ). subst (λ (f : ListingFault). CheckedNever form never given file input old old (Err (Policy f))) (sym is) (unread input old error))

@@ -1,5 +1,5 @@
 -- From the results of the parsers to the findings.
-use Rattle.std.proofs.Common.{◌≡◌, ◌⊎◌, ℕ, List, [], ◌∷◌, Option, Some, None, Result, Ok, Err, sym, ap, inl, inr}
+use Rattle.std.proofs.Common.{◌≡◌, ℕ, List, [], ◌∷◌, Option, Some, None, Result, Ok, Err, max, sym, ap, ap₂}
 use Rattle.std.proofs.Common.{◌∙◌}
 use Rattle.std.specs.Prelude.{IfOk, option_map}
 use Rattle.std.specs.Option.{option_map_or}
@@ -13,7 +13,7 @@ use Rattle.gt_script.specs.Script.{ReadsAsScript, Wrong, in_script, in_policy}
 use Rattle.gt_script.specs.declared.faults.BlockFault.{BlockFault}
 use Rattle.gt_script.specs.declared.faults.ScriptError.{ScriptError}
 use Rattle.gt_script.specs.declared.faults.ScriptError.TheVariants.{Memory, Fault, Policy}
-use Rattle.gt_checks.specs.Judging.{IsAtEither, JudgesScript, error_line, faulty, line_of_fault}
+use Rattle.gt_checks.specs.Judging.{IsAtLater, JudgesScript, error_line, faulty, line_of_fault}
 
 some_same : (a b : ℕ) → ◌≡◌ {A = Option ℕ} (Some a) (Some b) → a ≡ b
 some_same a b e = ap (λ (o : Option ℕ). option_map_or (λ n. n) o 0) e
@@ -36,16 +36,15 @@ run_fault Memory line bytes is told = absurd (cc is)
 run_fault (Fault f) line bytes is told = (in_script f, told, sym (some_same f.line line is))
 run_fault (Policy f) line bytes is (g, shown, told) = (in_policy g, told, sym (some_same f.line line is) ∙ shown_line f g shown)
 
--- the error is at the line of one of the faults
-pub judged_faulty : (play run : ScriptError) (bytes : List ℕ) (found : List Finding) → AnswersScript (Err play) (ReadsAsScript bytes) → RunAnswers (Err run) (ReadsAsRun bytes) → IsAtEither play run found → JudgesScript bytes found
+-- the error is at the line of the later fault
+pub judged_faulty : (play run : ScriptError) (bytes : List ℕ) (found : List Finding) → AnswersScript (Err play) (ReadsAsScript bytes) → RunAnswers (Err run) (ReadsAsRun bytes) → IsAtLater play run found → JudgesScript bytes found
 judged_faulty play run bytes found told ran (line, other, one, two, at) =
     let p = play_fault play line bytes one told in
     let r = run_fault run other bytes two ran in
-    faulty p.0 r.0 found p.1 r.1 (either p.2 r.2 at)
+    faulty p.0 r.0 found p.1 r.1 (later p.2 r.2 at)
   where
-    either : {a b c d : ℕ} → a ≡ c → b ≡ d → (error_lines found ≡ a ∷ []) ⊎ (error_lines found ≡ b ∷ []) → (error_lines found ≡ c ∷ []) ⊎ (error_lines found ≡ d ∷ [])
-    either same like (inl is) = inl (is ∙ ap (λ (n : ℕ). n ∷ []) same)
-    either same like (inr is) = inr (is ∙ ap (λ (n : ℕ). n ∷ []) like)
+    later : {a b c d : ℕ} → a ≡ c → b ≡ d → error_lines found ≡ max a b ∷ [] → error_lines found ≡ max c d ∷ []
+    later same like is = is ∙ ap₂ (λ (m n : ℕ). max m n ∷ []) same like
 
 -- what holds of what is found gives something else of it
 pub of_found : {X E : Type 0} (P Q : X → Type 0) → ((x : X) → P x → Q x) → (r : Result X E) → IfOk r P → IfOk r Q

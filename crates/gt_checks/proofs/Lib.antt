@@ -2,4 +2,5 @@ pub mod Advised
 pub mod Broken
 pub mod ErrorLemmas
 pub mod JudgeLemmas
+pub mod PrintedForms
 pub mod Scripted

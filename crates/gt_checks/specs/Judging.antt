@@ -1,5 +1,5 @@
 -- The findings of bytes that should be a script.
-use Rattle.std.specs.Prelude.{◌≡◌, ◌⊎◌, ℕ, List, [], ◌∷◌, Option, Some, None, Ok, Err}
+use Rattle.std.specs.Prelude.{◌≡◌, ℕ, max, List, [], ◌∷◌, Option, Some, None, Ok, Err}
 use Rattle.gt_policy_check.specs.Check.{error_lines}
 use Rattle.gt_policy_check.specs.declared.findings.Finding.{Finding}
 use Rattle.gt_script.specs.Contents.{Contents}
@@ -14,16 +14,15 @@ abbrev pub line_of_fault : Wrong → ℕ
 line_of_fault (in_script f) = f.line
 line_of_fault (in_policy g) = g.line
 
--- The findings of bytes. If they are a script for neither `play` nor `run`, there is one error, at the line of their
--- first fault for one of the two. If they are a script for one of them, there is none.
+-- The findings of bytes. If they are a script for neither `play` nor `run`, there is one error, at the line of the fault
+-- of the two that is further down. If they are a script for one of them, there is none.
 pub data JudgesScript (bytes : List ℕ) : List Finding → Type 0 where
   for_play : (c : Contents) (found : List Finding) → ReadsAsScript bytes (Ok c) → error_lines found ≡ []
       → JudgesScript bytes found
   for_run : (c : RunContents) (found : List Finding) → ReadsAsRun bytes (Ok c) → error_lines found ≡ []
       → JudgesScript bytes found
   faulty : (play run : Wrong) (found : List Finding) → ReadsAsScript bytes (Err play) → ReadsAsRun bytes (Err run)
-      → (error_lines found ≡ line_of_fault play ∷ []) ⊎ (error_lines found ≡ line_of_fault run ∷ [])
-      → JudgesScript bytes found
+      → error_lines found ≡ max (line_of_fault play) (line_of_fault run) ∷ [] → JudgesScript bytes found
 
 -- the line of the fault of an error; none for a failed allocation
 abbrev pub error_line : ScriptError → Option ℕ
@@ -31,8 +30,8 @@ error_line Memory = None
 error_line (Fault f) = Some f.line
 error_line (Policy f) = Some f.line
 
--- there is one error, at the line of one of these
-abbrev pub IsAtEither : ScriptError → ScriptError → List Finding → Type 0
-IsAtEither play run found =
+-- there is one error, at the line of the later one of these
+abbrev pub IsAtLater : ScriptError → ScriptError → List Finding → Type 0
+IsAtLater play run found =
     (line other : ℕ) × (error_line play ≡ Some line) × (error_line run ≡ Some other)
-    × ((error_lines found ≡ line ∷ []) ⊎ (error_lines found ≡ other ∷ []))
+    × (error_lines found ≡ max line other ∷ [])

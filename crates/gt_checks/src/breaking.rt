@@ -1,6 +1,7 @@
 //! Checks a policy against `neverallow` statements, and writes the breaches.
-ghost use Rattle.std.specs.Prelude.{◌≡◌, ◌+◌, ℕ, List, take};
+ghost use Rattle.std.specs.Prelude.{◌≡◌, ◌+◌, ℕ, List, take, IfOk};
 ghost use Rattle.gt_types.specs.declared.limits.TheConstants.{LONGEST_TEXT};
+ghost use Rattle.gt_neverallow.specs.Printing.{IsBreachReport};
 ghost use Rattle.gt_text.specs.Streams.{OfInput};
 ghost use Rattle.gt_checks.specs.Breaking.{CheckedNever, CheckedNeverText, WritesBreaches};
 
@@ -25,7 +26,10 @@ fn report(
     form: ReportForm,
     texts: &BrokenTexts,
     found: &[Breach],
-) -> Result<Vec<u8>, AllocError> {
+) -> Result<Vec<u8>, AllocError>
+    ensures { IfOk result (λ said.
+        IsBreachReport form texts.now.file.now texts.now.never_file.now found.now said.items) }
+{
     let mut out = Vec::new(alloc);
     push_breaches(alloc, &mut out, form, texts, found)?;
     Ok(out)
@@ -39,7 +43,8 @@ fn write_breaches<W: Write>(
     found: &[Breach],
     writer: &mut W,
 ) -> Result<bool, BreachFault>
-    ensures { WritesBreaches found.now (W.contents writer.old) (W.contents writer.new) result }
+    ensures { WritesBreaches form texts.now.file.now texts.now.never_file.now found.now
+        (W.contents writer.old) (W.contents writer.new) result }
 {
     let Ok(said) = report(alloc, form, texts, found) else {
         return Err(BreachFault::Policy(ListingFault::Memory));
@@ -57,8 +62,8 @@ fn check_never_text<W: Write>(
     texts: &BrokenTexts,
     writer: &mut W,
 ) -> Result<bool, BreachFault>
-    ensures { CheckedNeverText texts.now.never.now texts.now.policy.now
-        (W.contents writer.old) (W.contents writer.new) result }
+    ensures { CheckedNeverText form texts.now.never_file.now texts.now.never.now texts.now.file.now
+        texts.now.policy.now (W.contents writer.old) (W.contents writer.new) result }
 {
     match breaches(alloc, texts.policy, texts.never) {
         Ok(found) => write_breaches(alloc, form, texts, found.as_slice(), writer),
@@ -77,7 +82,8 @@ fn check_never_bytes<W: Write>(
     writer: &mut W,
 ) -> Result<bool, BreachFault>
     ensures { (all : List ℕ) → input.now ≡ take (LONGEST_TEXT + 1) all →
-        CheckedNever never.entry.text.now all (W.contents writer.old) (W.contents writer.new) result }
+        CheckedNever form never.entry.file.now never.entry.text.now file.now all
+        (W.contents writer.old) (W.contents writer.new) result }
 {
     match policy_text(input) {
         Ok(policy) => {
@@ -110,7 +116,8 @@ pub fn check_never<R: Read, W: Write>(
     writer: &mut W,
 ) -> Result<bool, BreachFault>
     ensures { OfInput (R.remaining reader.old) (λ input.
-        CheckedNever never.entry.text.now input (W.contents writer.old) (W.contents writer.new) result) }
+        CheckedNever form never.entry.file.now never.entry.text.now file.now input
+        (W.contents writer.old) (W.contents writer.new) result) }
 {
     match read_text(alloc, reader) {
         Ok(input) => check_never_bytes(alloc, file, form, never, input.as_slice(), writer),

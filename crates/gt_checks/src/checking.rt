@@ -19,7 +19,7 @@ fn check_text<W: Write>(
     text: &str,
     writer: &mut W,
 ) -> Result<bool, ListingFault>
-    ensures { CheckedText text.now (W.contents writer.old) (W.contents writer.new) result }
+    ensures { CheckedText form file.now text.now (W.contents writer.old) (W.contents writer.new) result }
 {
     match gt_policy_check::check(alloc, text) {
         Ok(found) => write_findings(alloc, file, form, text, found.as_slice(), writer),
@@ -36,7 +36,7 @@ fn check_bytes<W: Write>(
     writer: &mut W,
 ) -> Result<bool, ListingFault>
     ensures { (all : List ℕ) → input.now ≡ take (LONGEST_TEXT + 1) all →
-        Checked all (W.contents writer.old) (W.contents writer.new) result }
+        Checked form file.now all (W.contents writer.old) (W.contents writer.new) result }
 {
     match policy_text(input) {
         Ok(text) => check_text(alloc, file, form, text, writer),
@@ -58,7 +58,7 @@ pub fn check<R: Read, W: Write>(
     writer: &mut W,
 ) -> Result<bool, ListingFault>
     ensures { OfInput (R.remaining reader.old) (λ input.
-        Checked input (W.contents writer.old) (W.contents writer.new) result) }
+        Checked form file.now input (W.contents writer.old) (W.contents writer.new) result) }
 {
     match read_text(alloc, reader) {
         Ok(input) => check_bytes(alloc, file, form, input.as_slice(), writer),

@@ -1,7 +1,8 @@
 //! Writes findings.
-ghost use Rattle.std.specs.Prelude.{◌≡◌};
+ghost use Rattle.std.specs.Prelude.{◌≡◌, IfOk, OnOk};
 ghost use Rattle.std.specs.List.{list_any};
 ghost use Rattle.gt_policy_check.specs.Check.{is_error};
+ghost use Rattle.gt_policy_check.specs.Report.{AddsText, IsReport};
 ghost use Rattle.gt_checks.specs.Reporting.{WritesFindings};
 
 use gt_policy_check::{Finding, FindingKind, ReportForm, push_json, push_report};
@@ -18,6 +19,22 @@ fn has_error(found: &[Finding]) -> bool
         .any(|finding| matches!(finding.kind, FindingKind::Fault))
 }
 
+// Appends the findings as text or as JSON.
+fn push_findings(
+    out: &mut Vec<u8>,
+    form: ReportForm,
+    file: &str,
+    text: &str,
+    found: &[Finding],
+) -> Result<(), AllocError>
+    ensures { OnOk result (AddsText (IsReport form file.now found.now) out.old.items out.new.items) }
+{
+    match form {
+        ReportForm::Json => push_json(out, file, found),
+        ReportForm::Text | ReportForm::Colored => push_report(out, file, text, found, form),
+    }
+}
+
 // Prints the findings as text or as JSON.
 fn report(
     alloc: Global,
@@ -25,14 +42,11 @@ fn report(
     form: ReportForm,
     text: &str,
     found: &[Finding],
-) -> Result<Vec<u8>, AllocError> {
+) -> Result<Vec<u8>, AllocError>
+    ensures { IfOk result (λ said. IsReport form file.now found.now said.items) }
+{
     let mut out = Vec::new(alloc);
-    match form {
-        ReportForm::Json => push_json(&mut out, file, found)?,
-        ReportForm::Text | ReportForm::Colored => {
-            push_report(&mut out, file, text, found, form)?;
-        }
-    }
+    push_findings(&mut out, form, file, text, found)?;
     Ok(out)
 }
 
@@ -45,7 +59,7 @@ pub(crate) fn write_findings<W: Write>(
     found: &[Finding],
     writer: &mut W,
 ) -> Result<bool, ListingFault>
-    ensures { WritesFindings found.now (W.contents writer.old) (W.contents writer.new) result }
+    ensures { WritesFindings form file.now found.now (W.contents writer.old) (W.contents writer.new) result }
 {
     let Ok(said) = report(alloc, file, form, text, found) else {
         return Err(ListingFault::Memory);

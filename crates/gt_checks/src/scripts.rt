@@ -29,7 +29,7 @@ fn check_script_bytes<W: Write>(
     writer: &mut W,
 ) -> Result<bool, ListingFault>
     ensures { (all : List ℕ) → input.now ≡ take (LONGEST_TEXT + 1) all →
-        CheckedScript all (W.contents writer.old) (W.contents writer.new) result }
+        CheckedScript form file.now all (W.contents writer.old) (W.contents writer.new) result }
 {
     match judge(alloc, input) {
         Ok(found) => write_findings(
@@ -59,7 +59,7 @@ pub fn check_script<R: Read, W: Write>(
     writer: &mut W,
 ) -> Result<bool, ListingFault>
     ensures { OfInput (R.remaining reader.old) (λ input.
-        CheckedScript input (W.contents writer.old) (W.contents writer.new) result) }
+        CheckedScript form file.now input (W.contents writer.old) (W.contents writer.new) result) }
 {
     match read_text(alloc, reader) {
         Ok(input) => check_script_bytes(alloc, file, form, input.as_slice(), writer),

@@ -2,6 +2,7 @@
 use Rattle.std.proofs.Common.{◌≡◌, ℕ, Bool, List, Option, Result, sym, subst}
 use Rattle.gt_commands.specs.declared.invocation.Format.{Format}
 use Rattle.gt_file_commands.specs.AsJson.{Promise}
+use Rattle.gt_policy_check.specs.declared.report.ReportForm.{ReportForm}
 use Rattle.gt_policy_list.specs.declared.fault.ListingFault.{ListingFault}
 use Rattle.gt_text.specs.Streams.{OfInput}
 use Rattle.gt_file_commands.specs.Formats.{CheckedAs}
@@ -12,6 +13,6 @@ pub in_format : {F : Type 0} (Wrote : Format → List ℕ → Promise F) (format
 in_format Wrote format other known old new r is wrote = subst (λ (f : Format). OfInput known (λ input. Wrote f input old new r)) (sym is) wrote
 
 -- a policy was checked or a script, as was asked for
-pub checked_as_asked : (checked script : Bool) (known old new : Option (List ℕ)) (r : Result Bool ListingFault) → script ≡ checked → OfInput known (λ input. CheckedAs checked input old new r)
-    → OfInput known (λ input. CheckedAs script input old new r)
-checked_as_asked checked script known old new r is does = subst (λ (b : Bool). OfInput known (λ input. CheckedAs b input old new r)) (sym is) does
+pub checked_as_asked : (checked script : Bool) (form : ReportForm) (file : List ℕ) (known old new : Option (List ℕ)) (r : Result Bool ListingFault) → script ≡ checked → OfInput known (λ input. CheckedAs checked form file input old new r)
+    → OfInput known (λ input. CheckedAs script form file input old new r)
+checked_as_asked checked script form file known old new r is does = subst (λ (b : Bool). OfInput known (λ input. CheckedAs b form file input old new r)) (sym is) does

@@ -5,9 +5,11 @@ use Rattle.gt_text.specs.Streams.{OfInput}
 use Rattle.gt_policy_check.specs.declared.asking.WhyQuestion.{WhyQuestion}
 use Rattle.gt_entries.specs.declared.asked.DumpOptions.{DumpOptions}
 use Rattle.gt_commands.specs.declared.invocation.Format.{Format}
+use Rattle.gt_policy_check.specs.declared.report.ReportForm.{ReportForm}
+use Rattle.gt_file_commands.specs.Formats.{IsFormOf}
 use Rattle.gt_file_commands.specs.Laws.{worked}
 use Rattle.gt_file_commands.specs.Working.{AnswersDump, AnswersEntries, AnswersQuestion, Answers, Checks, ChecksAll, ChecksAs}
-use Rattle.gt_file_commands.specs.Working.{ChecksFiles, ChecksNever, Does, Doing, Ending, Explains, IsAsked, IsQuestion}
+use Rattle.gt_file_commands.specs.Working.{ChecksFiles, ChecksIn, ChecksNever, Does, Doing, Ending, Explains, IsAsked, IsQuestion}
 use Rattle.gt_file_commands.specs.Working.{OrNothing, Performs, Works, answer_of, kind_checked, outcome_of}
 use Rattle.gt_file_commands.specs.declared.checking.CheckKind.{CheckKind}
 use Rattle.gt_file_commands.specs.declared.commands.Work.{Work}
@@ -30,24 +32,43 @@ pub answered_input : {F : Type 0} (known : Option (List ℕ)) (Wrote : List ℕ 
 answered_input None Wrote answer outcome is (input, few, wrote) = (input, few, subst (λ (o : Outcome). Answers (Wrote input) o) (sym is) (answered_one (Wrote input) answer wrote))
 answered_input (Some all) Wrote answer outcome is wrote = subst (λ (o : Outcome). Answers (Wrote all) o) (sym is) (answered_one (Wrote all) answer wrote)
 
+-- the report has a form of the format, and the name that was shown
+checks_in : (P : ReportForm → List ℕ → Doing) (format : Format) (form : ReportForm) (file input : List ℕ) (old new : Option (List ℕ)) (r : Ending) → IsFormOf format form → Does (P form file) input old new r
+    → Does (ChecksIn P format file) input old new r
+checks_in P format form file input old new r fits (inl does) = inl (form, fits, does)
+checks_in P format form file input old new r fits (inr unopened) = inr unopened
+
+checked_by : (P : ReportForm → List ℕ → Doing) (format : Format) (form : ReportForm) (file : List ℕ) (known old new : Option (List ℕ)) (outcome : Outcome) → IsFormOf format form → Works (P form file) Unknown known old new outcome
+    → Works (ChecksIn P format file) Unknown known old new outcome
+checked_by P format form file None old new outcome fits works = tt
+checked_by P format form file (Some bytes) old new outcome fits (r, is, inl does) = (r, is, inl (checks_in P format form file bytes old new r fits does))
+checked_by P format form file (Some bytes) old new outcome fits (r, is, inr none) = (r, is, inr none)
+
+pub checked_one : (P : ReportForm → List ℕ → Doing) (format : Format) (form : ReportForm) (file same : List ℕ) (known old new : Option (List ℕ)) (outcome : Outcome) → IsFormOf format form → file ≡ same
+    → Works (P form file) Unknown known old new outcome → Works (ChecksIn P format same) Unknown known old new outcome
+checked_one P format form file same known old new outcome fits shown works =
+    subst (λ (f : List ℕ). Works (ChecksIn P format f) Unknown known old new outcome) shown (checked_by P format form file known old new outcome fits works)
+
 -- the files of these names were checked
-pub files_named : (P : Doing) (file : List ℕ → Option (List ℕ)) (given names : List (Option (List ℕ))) (old new : Option (List ℕ)) (outcome : Outcome) → given ≡ names → ChecksFiles P file given old new outcome → ChecksFiles P file names old new outcome
+pub files_named : (P : List ℕ → Doing) (file : List ℕ → Option (List ℕ)) (given names : List (Option (List ℕ))) (old new : Option (List ℕ)) (outcome : Outcome) → given ≡ names → ChecksFiles P file given old new outcome → ChecksFiles P file names old new outcome
 files_named P file given names old new outcome is checked = subst (λ (l : List (Option (List ℕ))). ChecksFiles P file l old new outcome) is checked
 
 -- all files were checked as what was asked for
-pub checked_kind : (script : Bool) (kind : CheckKind) (file : List ℕ → Option (List ℕ)) (input name : Option (List ℕ)) (more : List (Option (List ℕ))) (old new : Option (List ℕ)) (outcome : Outcome) → kind ≡ kind_checked script
-    → ChecksAll (Checks kind) file input name more old new outcome → ChecksAll (ChecksAs script) file input name more old new outcome
-checked_kind true kind file input name more old new outcome is checked = subst (λ (k : CheckKind). ChecksAll (Checks k) file input name more old new outcome) is checked
-checked_kind false kind file input name more old new outcome is checked = subst (λ (k : CheckKind). ChecksAll (Checks k) file input name more old new outcome) is checked
+pub checked_kind : (script : Bool) (kind : CheckKind) (format : Format) (file : List ℕ → Option (List ℕ)) (input name : Option (List ℕ)) (more : List (Option (List ℕ))) (old new : Option (List ℕ)) (outcome : Outcome) → kind ≡ kind_checked script
+    → ChecksAll (ChecksIn (Checks kind) format) file input name more old new outcome → ChecksAll (ChecksIn (ChecksAs script) format) file input name more old new outcome
+checked_kind true kind format file input name more old new outcome is checked = subst (λ (k : CheckKind). ChecksAll (ChecksIn (Checks k) format) file input name more old new outcome) is checked
+checked_kind false kind format file input name more old new outcome is checked = subst (λ (k : CheckKind). ChecksAll (ChecksIn (Checks k) format) file input name more old new outcome) is checked
 
 -- all files were checked against these statements
-pub checked_never : (text bytes : List ℕ) (file : List ℕ → Option (List ℕ)) (input name : Option (List ℕ)) (more : List (Option (List ℕ))) (old new : Option (List ℕ)) (outcome : Outcome) → text ≡ bytes
-    → ChecksAll (ChecksNever text) file input name more old new outcome → OrNothing (ChecksAll (ChecksNever bytes) file input name more) old new outcome
-checked_never text bytes file input name more old new outcome is checked = inl (subst (λ (t : List ℕ). ChecksAll (ChecksNever t) file input name more old new outcome) is checked)
+pub checked_never : (never text bytes : List ℕ) (format : Format) (file : List ℕ → Option (List ℕ)) (input name : Option (List ℕ)) (more : List (Option (List ℕ))) (old new : Option (List ℕ)) (outcome : Outcome) → text ≡ bytes
+    → ChecksAll (ChecksIn (ChecksNever never text) format) file input name more old new outcome → OrNothing (ChecksAll (ChecksIn (ChecksNever never bytes) format) file input name more) old new outcome
+checked_never never text bytes format file input name more old new outcome is checked =
+    inl (subst (λ (t : List ℕ). ChecksAll (ChecksIn (ChecksNever never t) format) file input name more old new outcome) is checked)
 
 -- the text was checked as what was asked for
-pub for_kind : (known old new : Option (List ℕ)) (kind other : CheckKind) (r : Ending) → kind ≡ other → OfInput known (λ input. Checks other input old new r) → OfInput known (λ input. Checks kind input old new r)
-for_kind known old new kind other r is does = subst (λ (k : CheckKind). OfInput known (λ input. Checks k input old new r)) (sym is) does
+pub for_kind : (known old new : Option (List ℕ)) (form : ReportForm) (file : List ℕ) (kind other : CheckKind) (r : Ending) → kind ≡ other → OfInput known (λ input. Checks other form file input old new r)
+    → OfInput known (λ input. Checks kind form file input old new r)
+for_kind known old new form file kind other r is does = subst (λ (k : CheckKind). OfInput known (λ input. Checks k form file input old new r)) (sym is) does
 
 -- a question of these names was answered
 explains_names : (file : List ℕ) (q : WhyQuestion) (source target permission : Option (List ℕ)) (input : List ℕ) (old new : Option (List ℕ)) (r : Ending) → IsQuestion source target permission q

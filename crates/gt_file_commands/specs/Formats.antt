@@ -1,5 +1,5 @@
 -- The output of a command in a format.
-use Rattle.std.specs.Prelude.{ℕ, Bool, true, false, List, Option, Result}
+use Rattle.std.specs.Prelude.{◌≡◌, ◌⊎◌, ℕ, Bool, true, false, List, Option, Result}
 use Rattle.gt_checks.specs.Checking.{Checked}
 use Rattle.gt_checks.specs.Scripts.{CheckedScript}
 use Rattle.gt_file_commands.specs.AsJson.{Promise, ListedAsJson, PlayedAsJson, WroteDumpAsJson}
@@ -10,6 +10,8 @@ use Rattle.gt_entries.specs.declared.asked.DumpOptions.{DumpOptions}
 use Rattle.gt_entries.specs.declared.fault.DumpFault.{DumpFault}
 use Rattle.gt_script_runs.specs.Playing.{Played}
 use Rattle.gt_script_runs.specs.declared.fault.PlayFault.{PlayFault}
+use Rattle.gt_policy_check.specs.declared.report.ReportForm.{ReportForm}
+use Rattle.gt_policy_check.specs.declared.report.ReportForm.TheVariants as forms
 use Rattle.gt_policy_list.specs.Writing.{Listed}
 use Rattle.gt_policy_list.specs.declared.fault.ListingFault.{ListingFault}
 use Rattle.gt_script.specs.Script.{ReadsAsScript}
@@ -29,7 +31,13 @@ abbrev pub WroteDumpAs : Format → DumpOptions → List ℕ → Promise DumpFau
 WroteDumpAs Text asked input = WroteDump asked input
 WroteDumpAs Json asked input = WroteDumpAsJson asked input
 
--- the output of `check` for a policy, or for a script
-abbrev pub CheckedAs : Bool → List ℕ → Option (List ℕ) → Option (List ℕ) → Result Bool ListingFault → Type 0
-CheckedAs false input = Checked input
-CheckedAs true input = CheckedScript input
+-- the output of `check` for a policy, or for a script, in this form and with this name
+abbrev pub CheckedAs : Bool → ReportForm → List ℕ → List ℕ → Option (List ℕ) → Option (List ℕ)
+    → Result Bool ListingFault → Type 0
+CheckedAs false form file input = Checked form file input
+CheckedAs true form file input = CheckedScript form file input
+
+-- the forms of findings in a format: JSON, or text with colours or without
+abbrev pub IsFormOf : Format → ReportForm → Type 0
+IsFormOf Json form = form ≡ forms.Json
+IsFormOf Text form = (form ≡ forms.Text) ⊎ (form ≡ forms.Colored)

@@ -2,12 +2,13 @@
 use Rattle.std.specs.Prelude.{◌≡◌, ◌⊎◌, ℕ, ◌++◌, Bool, true, false, List, [], ◌∷◌, Option, Some, None, Result, Ok, Err}
 use Rattle.std.specs.Prelude.{IfSome, codes}
 use Rattle.std.specs.Borrow.{Bor}
-use Rattle.gt_file_commands.specs.Formats.{CheckedAs, ListedAs, PlayedAs, WroteDumpAs}
+use Rattle.gt_file_commands.specs.Formats.{CheckedAs, IsFormOf, ListedAs, PlayedAs, WroteDumpAs}
+use Rattle.gt_file_commands.specs.Names.{shown_name}
 use Rattle.gt_file_commands.specs.Prelude.{Keeps, option_map, Appends, AppendsBeginning, Format, DumpOptions}
 use Rattle.gt_file_commands.specs.Prelude.{WhyQuestion, perm_asked, source_asked, target_asked, Explained, CheckedNever}
 use Rattle.gt_file_commands.specs.Prelude.{type_of, words, play_fault_text, explore_fault_text, listing_fault_text}
 use Rattle.gt_file_commands.specs.Prelude.{why_fault_text, breach_fault_text, dump_fault_text, read_word}
-use Rattle.gt_file_commands.specs.Prelude.{CheckKind, Failure, Outcome, Work, No, Unknown, Yes}
+use Rattle.gt_file_commands.specs.Prelude.{CheckKind, Failure, Outcome, ReportForm, Work, No, Unknown, Yes}
 use Rattle.gt_file_commands.specs.declared.checking.CheckKind.TheVariants as checks
 use Rattle.gt_file_commands.specs.declared.commands.Work.TheVariants as works
 use Rattle.gt_file_commands.specs.declared.failure.Failure.TheVariants as failures
@@ -67,17 +68,20 @@ Lists format input old new (Ok other) = ⊥
 Lists format input old new (Err (failures.List fault)) = ListedAs format input old new (Err fault)
 Lists format input old new (Err failure) = ⊥
 
--- the answer is whether the text is a policy, or a script
-abbrev pub ChecksAs : Bool → Doing
-ChecksAs script input old new (Ok outcome) = Answers (CheckedAs script input old new) outcome
-ChecksAs script input old new (Err (failures.List fault)) = CheckedAs script input old new (Err fault)
-ChecksAs script input old new (Err failure) = ⊥
+-- the answer is whether the text is a policy, or a script; the report has this form and this name
+abbrev pub ChecksAs : Bool → ReportForm → List ℕ → Doing
+ChecksAs script form file input old new (Ok outcome) = Answers (CheckedAs script form file input old new) outcome
+ChecksAs script form file input old new (Err (failures.List fault)) =
+    CheckedAs script form file input old new (Err fault)
+ChecksAs script form file input old new (Err failure) = ⊥
 
--- the answer is whether no statement of the policy breaks one of these neverallow statements
-abbrev pub ChecksNever : List ℕ → Doing
-ChecksNever given input old new (Ok outcome) = Answers (CheckedNever given input old new) outcome
-ChecksNever given input old new (Err (failures.Breach fault)) = CheckedNever given input old new (Err fault)
-ChecksNever given input old new (Err failure) = ⊥
+-- the answer is whether no statement of the policy breaks one of these neverallow statements, of a text with a name
+abbrev pub ChecksNever : List ℕ → List ℕ → ReportForm → List ℕ → Doing
+ChecksNever never given form file input old new (Ok outcome) =
+    Answers (CheckedNever form never given file input old new) outcome
+ChecksNever never given form file input old new (Err (failures.Breach fault)) =
+    CheckedNever form never given file input old new (Err fault)
+ChecksNever never given form file input old new (Err failure) = ⊥
 
 -- what `check` checks, with `--script` or without
 abbrev pub kind_checked : Bool → CheckKind
@@ -85,10 +89,14 @@ kind_checked false = checks.Policy
 kind_checked true = checks.Script
 
 -- what a text is checked as, or against
-abbrev pub Checks : CheckKind → Doing
+abbrev pub Checks : CheckKind → ReportForm → List ℕ → Doing
 Checks checks.Policy = ChecksAs false
 Checks checks.Script = ChecksAs true
-Checks (checks.Never never) = ChecksNever never.text.now
+Checks (checks.Never never) = ChecksNever never.file.now never.text.now
+
+-- the report has a form of this format
+abbrev pub ChecksIn : (ReportForm → List ℕ → Doing) → Format → List ℕ → Doing
+ChecksIn P format file input old new r = (form : ReportForm) × IsFormOf format form × P form file input old new r
 
 -- the answer is whether it is allowed
 abbrev pub Explains : List ℕ → WhyQuestion → Doing
@@ -106,7 +114,7 @@ AnswersEntries format asked input old new (Err failure) = ⊥
 abbrev pub Performs : Work → Doing
 Performs (works.Play audited format) = Plays format audited
 Performs (works.List format) = Lists format
-Performs (works.Check kind report) = Checks kind
+Performs (works.Check kind report) = Checks kind report.form report.file.now
 Performs (works.Why file question) = Explains file.now question
 Performs (works.Entries asked format) = AnswersEntries format asked
 
@@ -191,18 +199,18 @@ OrNothing D old new outcome = D old new outcome ⊎ ((outcome ≡ Unknown) × Ke
 abbrev pub WithFile : Option (List ℕ) → (List ℕ → Deed) → Deed
 WithFile known D old new outcome = IfSome known (λ bytes. OrNothing (D bytes) old new outcome)
 
--- the files of these names are checked one after the other
-abbrev pub ChecksFiles : Doing → (List ℕ → Option (List ℕ)) → List (Option (List ℕ)) → Deed
+-- the files of these names are checked one after the other, each with its name
+abbrev pub ChecksFiles : (List ℕ → Doing) → (List ℕ → Option (List ℕ)) → List (Option (List ℕ)) → Deed
 ChecksFiles P file [] old new outcome = Keeps old new × (outcome ≡ Yes)
 ChecksFiles P file (None ∷ more) old new outcome = ChecksFiles P file more old new outcome
 ChecksFiles P file (Some name ∷ more) old new outcome =
-    OneAfterOther (Works P Unknown (file name)) (ChecksFiles P file more) old new outcome
+    OneAfterOther (Works (P name) Unknown (file name)) (ChecksFiles P file more) old new outcome
 
 -- the named file is checked, or the standard input, and then the others
-abbrev pub ChecksAll : Doing → (List ℕ → Option (List ℕ)) → Option (List ℕ) → Option (List ℕ) → List (Option (List ℕ))
-    → Deed
+abbrev pub ChecksAll : (List ℕ → Doing) → (List ℕ → Option (List ℕ)) → Option (List ℕ) → Option (List ℕ)
+    → List (Option (List ℕ)) → Deed
 ChecksAll P file input name more =
-    OneAfterOther (Works P Unknown (known_text file input name)) (ChecksFiles P file more)
+    OneAfterOther (Works (P (shown_name name)) Unknown (known_text file input name)) (ChecksFiles P file more)
 
 -- ---- questions, one on each line of the standard input
 

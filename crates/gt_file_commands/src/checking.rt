@@ -1,10 +1,12 @@
 //! Checks of the named files.
-ghost use Rattle.std.specs.Prelude.{◌≡◌, ◌↔◌, map};
+ghost use Rattle.std.specs.Prelude.{◌≡◌, map};
 ghost use Rattle.std.specs.Option.{option_map};
 ghost use Rattle.gt_text.specs.Streams.{OfInput};
 ghost use Rattle.gt_commands.specs.Files.{name_of, names_of};
+ghost use Rattle.gt_file_commands.specs.Formats.{IsFormOf};
+ghost use Rattle.gt_file_commands.specs.Names.{shown_name};
 ghost use Rattle.gt_file_commands.specs.Working.{known_input, kind_checked, Checks, ChecksAll, ChecksAs, ChecksFiles};
-ghost use Rattle.gt_file_commands.specs.Working.{ChecksNever, OrNothing, WithFile, Works};
+ghost use Rattle.gt_file_commands.specs.Working.{ChecksIn, ChecksNever, OrNothing, WithFile, Works};
 
 use crate::commands::{Context, Work, work_asked};
 use crate::explained::{check_explained, check_never_explained};
@@ -55,7 +57,8 @@ fn perform_plain<R: Read, W: Write>(
     reasons: &mut Reasons,
 ) -> Result<Outcome, Failure>
     ensures { OfInput (R.remaining reader.old) (λ input.
-        ChecksAs script input (W.contents out.old) (W.contents out.new) result) }
+        ChecksAs script report.entry.form report.entry.file.now input
+        (W.contents out.old) (W.contents out.new) result) }
 {
     match check_explained(alloc, script, report, reader, out, reasons) {
         Ok(clean) => Ok(Outcome::of_answer(clean)),
@@ -73,7 +76,8 @@ fn perform_never<R: Read, W: Write>(
     reasons: &mut Reasons,
 ) -> Result<Outcome, Failure>
     ensures { OfInput (R.remaining reader.old) (λ input.
-        ChecksNever never.entry.text.now input (W.contents out.old) (W.contents out.new) result) }
+        ChecksNever never.entry.file.now never.entry.text.now report.entry.form report.entry.file.now input
+        (W.contents out.old) (W.contents out.new) result) }
 {
     match check_never_explained(alloc, never, report, reader, out, reasons) {
         Ok(clean) => Ok(Outcome::of_answer(clean)),
@@ -91,7 +95,8 @@ pub(crate) fn perform_check<R: Read, W: Write>(
     reasons: &mut Reasons,
 ) -> Result<Outcome, Failure>
     ensures { OfInput (R.remaining reader.old) (λ input.
-        Checks kind.entry input (W.contents out.old) (W.contents out.new) result) }
+        Checks kind.entry report.entry.form report.entry.file.now input
+        (W.contents out.old) (W.contents out.new) result) }
 {
     match kind {
         CheckKind::Policy => perform_plain(alloc, false, report, reader, out, reasons),
@@ -102,7 +107,7 @@ pub(crate) fn perform_check<R: Read, W: Write>(
 
 // Returns the form in which findings are printed.
 fn form_of(format: Format, style: Style) -> ReportForm
-    ensures { (result ≡ ReportForm.Json) ↔ (format ≡ Format.Json) }
+    ensures { IsFormOf format result }
 {
     match format {
         Format::Json => ReportForm::Json,
@@ -120,7 +125,8 @@ fn check_one<'a, R, T: TextSource, W: Write, E: Eprint>(
     out: &mut W,
     reasons: &mut Reasons<'a>,
 ) -> Outcome
-    ensures { Works (Checks kind.entry) Outcome.Unknown
+    ensures { Works (ChecksIn (Checks kind.entry) format (shown_name (option_map (λ f. f.now) file.entry)))
+        Outcome.Unknown
         (known_input (T.file context.now.texts.now) (T.input context.now.texts.now) file.entry)
         (W.contents out.old) (W.contents out.new) result }
 {
@@ -141,7 +147,7 @@ fn check_more<'a, R, T: TextSource, W: Write, E: Eprint>(
     out: &mut W,
     reasons: &mut Reasons<'a>,
 ) -> Outcome
-    ensures { ChecksFiles (Checks kind.entry) (T.file context.now.texts.now)
+    ensures { ChecksFiles (ChecksIn (Checks kind.entry) format) (T.file context.now.texts.now)
         (map (option_map (λ f. f.now)) files.now) (W.contents out.old) (W.contents out.new) result }
 {
     match files {
@@ -163,8 +169,9 @@ fn check_all<'a, R, T: TextSource, W: Write, E: Eprint>(
     out: &mut W,
     reasons: &mut Reasons<'a>,
 ) -> Outcome
-    ensures { ChecksAll (Checks kind.entry) (T.file context.now.texts.now) (T.input context.now.texts.now)
-        (name_of files.now.file) (names_of files.now.more) (W.contents out.old) (W.contents out.new) result }
+    ensures { ChecksAll (ChecksIn (Checks kind.entry) files.now.format) (T.file context.now.texts.now)
+        (T.input context.now.texts.now) (name_of files.now.file) (names_of files.now.more)
+        (W.contents out.old) (W.contents out.new) result }
 {
     let one = check_one(context, kind, files.format, files.file, out, reasons);
     let names = files.more.names();
@@ -181,8 +188,9 @@ pub fn check_files<'a, R, T: TextSource, W: Write, E: Eprint>(
     out: &mut W,
     reasons: &mut Reasons<'a>,
 ) -> Outcome
-    ensures { ChecksAll (ChecksAs script) (T.file context.now.texts.now) (T.input context.now.texts.now)
-        (name_of files.now.file) (names_of files.now.more) (W.contents out.old) (W.contents out.new) result }
+    ensures { ChecksAll (ChecksIn (ChecksAs script) files.now.format) (T.file context.now.texts.now)
+        (T.input context.now.texts.now) (name_of files.now.file) (names_of files.now.more)
+        (W.contents out.old) (W.contents out.new) result }
 {
     let kind = kind_of(script);
     check_all(context, kind, files, out, reasons)
@@ -197,9 +205,9 @@ fn check_never_bytes<'a, R, T: TextSource, W: Write, E: Eprint>(
     out: &mut W,
     reasons: &mut Reasons<'a>,
 ) -> Outcome
-    ensures { OrNothing (ChecksAll (ChecksNever bytes.now) (T.file context.now.texts.now)
-        (T.input context.now.texts.now) (name_of files.now.file) (names_of files.now.more))
-        (W.contents out.old) (W.contents out.new) result }
+    ensures { OrNothing (ChecksAll (ChecksIn (ChecksNever never.entry.now bytes.now) files.now.format)
+        (T.file context.now.texts.now) (T.input context.now.texts.now)
+        (name_of files.now.file) (names_of files.now.more)) (W.contents out.old) (W.contents out.new) result }
 {
     match policy_text(bytes) {
         Ok(text) => {
@@ -223,8 +231,9 @@ pub fn check_never_files<'a, R, T: TextSource, W: Write, E: Eprint>(
     reasons: &mut Reasons<'a>,
 ) -> Outcome
     ensures { WithFile (T.file context.now.texts.now never.entry.now) (λ given.
-        ChecksAll (ChecksNever given) (T.file context.now.texts.now) (T.input context.now.texts.now)
-        (name_of files.now.file) (names_of files.now.more)) (W.contents out.old) (W.contents out.new) result }
+        ChecksAll (ChecksIn (ChecksNever never.entry.now given) files.now.format) (T.file context.now.texts.now)
+        (T.input context.now.texts.now) (name_of files.now.file) (names_of files.now.more))
+        (W.contents out.old) (W.contents out.new) result }
 {
     match read_given(context, never, reasons) {
         Some(bytes) => check_never_bytes(context, never, bytes.as_slice(), files, out, reasons),

@@ -68,7 +68,8 @@ pub fn check_explained<R: Read, W: Write>(
     reasons: &mut Reasons,
 ) -> Result<bool, ListingFault>
     ensures { OfInput (R.remaining reader.old) (λ input.
-        CheckedAs script input (W.contents out.old) (W.contents out.new) result) }
+        CheckedAs script report.entry.form report.entry.file.now input
+        (W.contents out.old) (W.contents out.new) result) }
 {
     let mut input = CopyingReader::new(alloc, reader);
     let ending = check_as(alloc, script, report, &mut input, out);
@@ -88,7 +89,8 @@ pub fn check_never_explained<R: Read, W: Write>(
     reasons: &mut Reasons,
 ) -> Result<bool, BreachFault>
     ensures { OfInput (R.remaining reader.old) (λ input.
-        CheckedNever never.entry.text.now input (W.contents out.old) (W.contents out.new) result) }
+        CheckedNever report.entry.form never.entry.file.now never.entry.text.now report.entry.file.now input
+        (W.contents out.old) (W.contents out.new) result) }
 {
     let mut input = CopyingReader::new(alloc, reader);
     let ending = check_never(alloc, report.file, report.form, never, &mut input, out);

@@ -79,7 +79,8 @@ pub(crate) fn check_as<R: Read, W: Write>(
     out: &mut W,
 ) -> Result<bool, ListingFault>
     ensures { OfInput (R.remaining reader.old) (λ input.
-        CheckedAs script input (W.contents out.old) (W.contents out.new) result) }
+        CheckedAs script report.entry.form report.entry.file.now input
+        (W.contents out.old) (W.contents out.new) result) }
 {
     if script {
         check_script(alloc, report.file, report.form, reader, out)

@@ -40,7 +40,7 @@ use Rattle.gt_explore_answers.specs.declared.asking.ExploreOptions.{ExploreOptio
 use Rattle.std.specs.Str.Lines.{lines}
 use Rattle.gt_file_commands.specs.Laws.{no_memory, nothing_done}
 use Rattle.gt_file_commands.specs.Working.{AnswersDump, AnswersLines, AnswersQuestion, ChecksAll, ChecksAs, ChecksFiles}
-use Rattle.gt_file_commands.specs.Working.{ChecksNever, Does, Doing, Ending, Lists, Plays, Works, known_text}
+use Rattle.gt_file_commands.specs.Working.{ChecksIn, ChecksNever, Does, Doing, Ending, Lists, Plays, Works, known_text}
 use Rattle.gt_file_commands.specs.declared.outcome.Outcome.{Outcome}
 use Rattle.gt_file_commands.specs.declared.outcome.Outcome.TheVariants.{No, Unknown, Yes}
 use Rattle.gt_program.specs.Runs.{RunsDomains}
@@ -117,12 +117,12 @@ hopeless failed outcome old new (inl unknown) is kept = (inl (is ∙ unknown), k
 hopeless failed outcome old new (inr none) is kept = (inr (is ∙ none), kept)
 
 -- no memory was there for the other files
-unread_files : (P : Doing) (file : List ℕ → Option (List ℕ)) (more : List (Option (List ℕ))) (here : Option (List ℕ)) → (other : Outcome) × ChecksFiles P file more here here other
+unread_files : (P : List ℕ → Doing) (file : List ℕ → Option (List ℕ)) (more : List (Option (List ℕ))) (here : Option (List ℕ)) → (other : Outcome) × ChecksFiles P file more here here other
 unread_files P file [] here = (Yes, (keeps_same here, refl))
 unread_files P file (None ∷ more) here = unread_files P file more here
 unread_files P file (Some name ∷ more) here =
     let others = unread_files P file more here in
-    (Unknown, (here, Unknown, others.0, no_memory P Unknown (file name) here here Unknown refl (keeps_same here), others.1, refl))
+    (Unknown, (here, Unknown, others.0, no_memory (P name) Unknown (file name) here here Unknown refl (keeps_same here), others.1, refl))
 
 out_of_memory : (request : Request) (failed : Outcome) (file : List ℕ → Option (List ℕ)) (input old new : Option (List ℕ)) (outcome : Outcome) → FailedFor request failed → outcome ≡ failed → Keeps old new
     → Obeys request file input old new outcome
@@ -134,10 +134,10 @@ out_of_memory (to_find_text given format states name) failed file input old new 
 out_of_memory (to_list verbose format name) failed file input old new outcome for is kept = no_memory (Lists format) No (known_text file input name) old new outcome (is ∙ for) kept
 out_of_memory (to_tell_rules name) failed file input old new outcome for is kept = inr (is ∙ for)
 out_of_memory (to_check script format name more) failed file input old new outcome for is kept =
-    let others = unread_files (ChecksAs script) file more new in
-    (new, Unknown, others.0, no_memory (ChecksAs script) Unknown (known_text file input name) old new Unknown refl kept, others.1, is ∙ for)
+    let others = unread_files (ChecksIn (ChecksAs script) format) file more new in
+    (new, Unknown, others.0, no_memory (ChecksIn (ChecksAs script) format (shown_name name)) Unknown (known_text file input name) old new Unknown refl kept, others.1, is ∙ for)
 out_of_memory (to_check_never never format name more) failed file input old new outcome for is kept =
-    nothing_done (file never) (λ given. ChecksAll (ChecksNever given) file input name more) old new outcome (is ∙ for) kept
+    nothing_done (file never) (λ given. ChecksAll (ChecksIn (ChecksNever never given) format) file input name more) old new outcome (is ∙ for) kept
 out_of_memory (to_explain source target permission name) failed file input old new outcome for is kept =
     no_memory (AnswersQuestion (shown_name name) source target permission) Unknown (known_text file input name) old new outcome (is ∙ for) kept
 out_of_memory (to_explain_each name) failed file input old new outcome for is kept =

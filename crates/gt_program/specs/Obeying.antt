@@ -8,8 +8,8 @@ use Rattle.gt_program.specs.Prelude.{one_diagram, all_scripts}
 use Rattle.gt_program.specs.Prelude.{Explored, ReadsAsRun, Searched, ExploreFormat, ExploreRequest, Verdict}
 use Rattle.gt_program.specs.Prelude.{Holds, Fails, Undecided, Outcome, No, Unknown, Yes}
 use Rattle.gt_file_commands.specs.Names.{shown_name}
-use Rattle.gt_file_commands.specs.Working.{AnswersDump, AnswersLines, AnswersQuestion, ChecksAll, ChecksAs, ChecksNever}
-use Rattle.gt_file_commands.specs.Working.{Deed, Doing, Lists, Plays, WithFile, Works, known_text}
+use Rattle.gt_file_commands.specs.Working.{AnswersDump, AnswersLines, AnswersQuestion, ChecksAll, ChecksAs, ChecksIn}
+use Rattle.gt_file_commands.specs.Working.{ChecksNever, Deed, Doing, Lists, Plays, WithFile, Works, known_text}
 use Rattle.gt_file_commands.specs.declared.failure.Failure.TheVariants as failures
 use Rattle.gt_program.specs.Runs.{RunsDomains}
 use Rattle.gt_commands.specs.declared.invocation.Format.TheVariants.{Text, Json}
@@ -150,9 +150,10 @@ Obeys (to_list verbose format name) file input old new outcome =
     Works (Lists format) No (known_text file input name) old new outcome
 Obeys (to_tell_rules name) file input old new outcome = (outcome ≡ Yes) ⊎ (outcome ≡ Unknown)
 Obeys (to_check script format name more) file input old new outcome =
-    ChecksAll (ChecksAs script) file input name more old new outcome
+    ChecksAll (ChecksIn (ChecksAs script) format) file input name more old new outcome
 Obeys (to_check_never never format name more) file input old new outcome =
-    WithFile (file never) (λ given. ChecksAll (ChecksNever given) file input name more) old new outcome
+    WithFile (file never) (λ given. ChecksAll (ChecksIn (ChecksNever never given) format) file input name more) old new
+    outcome
 Obeys (to_explain source target permission name) file input old new outcome =
     Works (AnswersQuestion (shown_name name) source target permission) Unknown (known_text file input name) old new
     outcome

@@ -1,7 +1,7 @@
 //! The error of bytes that are not a script.
 ghost use Rattle.std.specs.Prelude.{◌≡◌, ◌⊎◌, ◌∷◌, [], ℕ, Some, IfOk, OnOk};
 ghost use Rattle.gt_policy_check.specs.Check.{error_lines};
-ghost use Rattle.gt_checks.specs.Judging.{error_line, IsAtEither};
+ghost use Rattle.gt_checks.specs.Judging.{error_line, IsAtLater};
 
 use crate::script_findings::warning::{column_number, push_warning};
 use gt_policy_check::{Finding, FindingKind};
@@ -97,7 +97,7 @@ pub(crate) fn errors(
     play: &ScriptError,
     run: &ScriptError,
 ) -> Result<Vec<Finding>, Memory>
-    ensures { IfOk result (λ v. IsAtEither play.now run.now v.items) }
+    ensures { IfOk result (λ v. IsAtLater play.now run.now v.items) }
 {
     match (line_of(play), line_of(run)) {
         (Some(line), Some(other)) => {

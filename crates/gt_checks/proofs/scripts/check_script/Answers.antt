@@ -7,7 +7,7 @@ use Rattle.gt_checks.proofs.scripts.check_script.Goals as goal
 pub returns-in-Ok : goal.returns-in-Ok
 returns-in-Ok g c =
     let checked = rw c.as_slice.ensures.value at c.check_script_bytes.ensures in
-    of_input _ c.in-Ok.input.items (λ (input : List ℕ). CheckedScript input _ _ c.check_script_bytes.result) c.in-Ok.ensures.limit c.in-Ok.ensures.text checked
+    of_input _ c.in-Ok.input.items (λ (input : List ℕ). CheckedScript c.args.form c.args.file.now input _ _ c.check_script_bytes.result) c.in-Ok.ensures.limit c.in-Ok.ensures.text checked
 
 pub returns-in-Err : goal.returns-in-Err
-returns-in-Err g c = unread_script _ _ c.in-Err.fault _ c.from.ensures
+returns-in-Err g c = unread_script c.args.form c.args.file.now _ _ c.in-Err.fault _ c.from.ensures

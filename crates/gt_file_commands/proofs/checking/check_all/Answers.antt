@@ -1,6 +1,6 @@
 use Rattle.std.proofs.Common.{ap, ◌∙◌, map}
 use Rattle.std.specs.Option.{option_map}
-use Rattle.gt_file_commands.specs.Working.{Checks}
+use Rattle.gt_file_commands.specs.Working.{Checks, ChecksIn}
 use Rattle.gt_file_commands.proofs.Worked.{files_named}
 use Rattle.gt_file_commands.proofs.checking.check_all.Goals as goal
 
@@ -11,6 +11,6 @@ returns g c =
       c.check_one-one.result,
       c.check_more-others.result,
       c.check_one-one.ensures,
-      files_named (Checks c.args.kind) _ _ _ _ _ _ names c.check_more-others.ensures,
+      files_named (ChecksIn (Checks c.args.kind) c.args.files.now.format) _ _ _ _ _ _ names c.check_more-others.ensures,
       c.worse.ensures,
     )

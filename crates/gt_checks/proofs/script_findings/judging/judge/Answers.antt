@@ -1,6 +1,6 @@
 use Rattle.std.proofs.Common.{◌≡◌, []}
 use Rattle.gt_policy_check.specs.Check.{error_lines}
-use Rattle.gt_checks.specs.Judging.{IsAtEither, JudgesScript, for_play, for_run}
+use Rattle.gt_checks.specs.Judging.{IsAtLater, JudgesScript, for_play, for_run}
 use Rattle.gt_checks.proofs.JudgeLemmas.{judged_faulty, of_found}
 use Rattle.gt_checks.proofs.script_findings.judging.judge.Goals as goal
 
@@ -14,4 +14,4 @@ returns-in-Ok-parse_run c all given = of_found (λ v. error_lines v.items ≡ []
 
 -- for neither
 pub returns : goal.returns
-returns c all given = of_found (λ v. IsAtEither c.in-Err.error c.in-Err-parse_run.run' v.items) (λ v. JudgesScript all v.items) (λ v at. judged_faulty c.in-Err.error c.in-Err-parse_run.run' all v.items (c.in-Err.ensures.beginning all given) (c.in-Err-parse_run.ensures.beginning all given) at) c.errors.result c.errors.ensures
+returns c all given = of_found (λ v. IsAtLater c.in-Err.error c.in-Err-parse_run.run' v.items) (λ v. JudgesScript all v.items) (λ v at. judged_faulty c.in-Err.error c.in-Err-parse_run.run' all v.items (c.in-Err.ensures.beginning all given) (c.in-Err-parse_run.ensures.beginning all given) at) c.errors.result c.errors.ensures
