@@ -25,7 +25,7 @@ use Rattle.gt_policy.specs.declared.fault.TokenFaultKind.TheVariants.{Limit}
 use Rattle.gt_policy.specs.declared.parse.PolicyFaultKind.{PolicyFaultKind}
 use Rattle.gt_policy.specs.declared.parse.PolicyFaultKind.TheVariants as kinds
 use Rattle.gt_text.specs.Laws.{keeps_same, of_any_input, take_whole}
-use Rattle.gt_text.specs.Streams.{OfInput}
+use Rattle.gt_text.specs.Streams.{AppendsBeginning, OfInput}
 use Rattle.gt_text.specs.declared.fault.ReadFault.{ReadFault}
 use Rattle.gt_text.specs.declared.fault.ReadFault.TheVariants as reads
 
@@ -118,7 +118,8 @@ asked_lines file text lines q e allowed old new (Ok answer) same is (of, went) =
 asked_lines file text lines q e allowed old new (Err NoSource) same is w = absurd w
 asked_lines file text lines q e allowed old new (Err NoTarget) same is w = absurd w
 asked_lines file text lines q e allowed old new (Err NoPermission) same is w = absurd w
-asked_lines file text lines q e allowed old new (Err (Text faults.Write)) same is w = (lines, w)
+asked_lines file text lines q e allowed old new (Err (Text faults.Write)) same is w =
+    (allowed, e, is, subst (λ (l : List ℕ). AppendsBeginning old new l) same w)
 asked_lines file text lines q e allowed old new (Err (Text faults.Memory)) same is w = absurd w
 asked_lines file text lines q e allowed old new (Err (Text faults.Read)) same is w = absurd w
 asked_lines file text lines q e allowed old new (Err (Text (faults.Utf8 line))) same is w = absurd w
@@ -144,7 +145,7 @@ answered_from file bytes q old new (Ok answer) utf8 c = (utf8, c)
 answered_from file bytes q old new (Err NoSource) utf8 c = (utf8, c)
 answered_from file bytes q old new (Err NoTarget) utf8 c = (utf8, c)
 answered_from file bytes q old new (Err NoPermission) utf8 c = (utf8, c)
-answered_from file bytes q old new (Err (Text faults.Write)) utf8 c = c
+answered_from file bytes q old new (Err (Text faults.Write)) utf8 c = (utf8, c)
 answered_from file bytes q old new (Err (Text faults.Memory)) utf8 c = c
 answered_from file bytes q old new (Err (Text faults.Read)) utf8 c = absurd c
 answered_from file bytes q old new (Err (Text (faults.Utf8 line))) utf8 c = absurd c
