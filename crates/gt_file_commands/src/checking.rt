@@ -120,7 +120,7 @@ fn check_one<'a, R, T: TextSource, W: Write, E: Eprint>(
     out: &mut W,
     reasons: &mut Reasons<'a>,
 ) -> Outcome
-    ensures { Works (Checks kind.entry) Outcome.Unknown
+    ensures { Works (Checks kind.entry) Outcome.Unknown (name_of file.entry)
         (known_input (T.file context.now.texts.now) (T.input context.now.texts.now) file.entry)
         (W.contents out.old) (W.contents out.new) result }
 {
