@@ -41,8 +41,8 @@ WritesLines lines allowed old new (Err (Text Read)) = ⊥
 WritesLines lines allowed old new (Err (Text (Utf8 line))) = ⊥
 WritesLines lines allowed old new (Err (Text (Policy shown))) = ⊥
 
--- What was written for a question about a text, by the result: at Ok the lines of its answer, allowed or denied;
--- nothing if a name of the question is unknown.
+-- What was written for a question about a text, by the result: at Ok the lines of its answer, allowed or denied; after
+-- a failed write a prefix of these lines; nothing if a name of the question is unknown.
 abbrev pub AskedOf : List ℕ → WhyQuestion → List ℕ → Option (List ℕ) → Option (List ℕ) → Result Bool WhyFault → Type 0
 AskedOf file q text old new (Ok allowed) =
     (e : Explanation) × AnswersWhy file text q (answer_for allowed) e × Appends old new e.lines.items
@@ -52,7 +52,9 @@ AskedOf file q text old new (Err NoTarget) =
     ((e : Explanation) × AnswersWhy file text q answers.NoTarget e) × Keeps old new
 AskedOf file q text old new (Err NoPermission) =
     ((e : Explanation) × AnswersWhy file text q answers.NoPermission e) × Keeps old new
-AskedOf file q text old new (Err (Text Write)) = (lines : List ℕ) × AppendsBeginning old new lines
+AskedOf file q text old new (Err (Text Write)) =
+    (allowed : Bool) × (e : Explanation) × AnswersWhy file text q (answer_for allowed) e
+    × AppendsBeginning old new e.lines.items
 AskedOf file q text old new (Err (Text Memory)) = Keeps old new
 AskedOf file q text old new (Err (Text Read)) = ⊥
 AskedOf file q text old new (Err (Text (Utf8 line))) = ⊥
@@ -65,7 +67,7 @@ Explained file q bytes old new (Ok allowed) = IsUtf8 bytes × AskedOf file q byt
 Explained file q bytes old new (Err NoSource) = IsUtf8 bytes × AskedOf file q bytes old new (Err NoSource)
 Explained file q bytes old new (Err NoTarget) = IsUtf8 bytes × AskedOf file q bytes old new (Err NoTarget)
 Explained file q bytes old new (Err NoPermission) = IsUtf8 bytes × AskedOf file q bytes old new (Err NoPermission)
-Explained file q bytes old new (Err (Text Write)) = (lines : List ℕ) × AppendsBeginning old new lines
+Explained file q bytes old new (Err (Text Write)) = IsUtf8 bytes × AskedOf file q bytes old new (Err (Text Write))
 Explained file q bytes old new (Err (Text Memory)) = Keeps old new
 Explained file q bytes old new (Err (Text Read)) = Keeps old new
 Explained file q bytes old new (Err (Text (Utf8 line))) = IsNotUtf8At bytes line × Keeps old new

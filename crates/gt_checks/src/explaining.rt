@@ -67,7 +67,7 @@ fn explain_bytes<W: Write>(
 ///
 /// # Errors
 /// The text is not a policy, a name of the question is unknown, or a read or an allocation failed: then nothing was
-/// written. After a failed write, a prefix of the lines was written.
+/// written. After a failed write, a prefix of the lines of the answer was written.
 pub fn why<R: Read, W: Write>(
     alloc: Global,
     file: &str,

@@ -17,9 +17,9 @@ use Rattle.gt_file_commands.specs.declared.outcome.Outcome.{Outcome}
 use Rattle.gt_file_commands.specs.declared.outcome.Outcome.TheVariants.{Unknown}
 
 -- the same for an equal outcome of a failure
-pub worked_as : (P : Doing) (failed same : Outcome) (known old new : Option (List ℕ)) (r : Ending) (outcome : Outcome) → failed ≡ same → IfSome known (λ bytes. Does P bytes old new r) → outcome ≡ outcome_of failed r
-    → Works P same known old new outcome
-worked_as P failed same known old new r outcome is does of = subst (λ (f : Outcome). Works P f known old new outcome) is (worked P failed known old new r outcome does of)
+pub worked_as : (P : Doing) (failed same : Outcome) (name known old new : Option (List ℕ)) (r : Ending) (outcome : Outcome) → failed ≡ same → IfSome known (λ bytes. Does P name bytes old new r) → outcome ≡ outcome_of failed r
+    → Works P same name known old new outcome
+worked_as P failed same name known old new r outcome is does of = subst (λ (f : Outcome). Works P f name known old new outcome) is (worked P failed name known old new r outcome does of)
 
 -- an answer of yes or no
 answered_one : {F : Type 0} (Wrote : Result Bool F → Type 0) (answer : Bool) → Wrote (Ok answer) → Answers Wrote (answer_of answer)
@@ -71,38 +71,38 @@ pub for_kind : (known old new : Option (List ℕ)) (form : ReportForm) (file : L
 for_kind known old new form file kind other r is does = subst (λ (k : CheckKind). OfInput known (λ input. Checks k form file input old new r)) (sym is) does
 
 -- a question of these names was answered
-explains_names : (file : List ℕ) (q : WhyQuestion) (source target permission : Option (List ℕ)) (input : List ℕ) (old new : Option (List ℕ)) (r : Ending) → IsQuestion source target permission q
-    → Does (Explains file q) input old new r → Does (AnswersQuestion file source target permission) input old new r
-explains_names file q source target permission input old new r is (inl does) = inl (q, is, does)
-explains_names file q source target permission input old new r is (inr unopened) = inr unopened
+explains_names : (file : List ℕ) (q : WhyQuestion) (source target permission : Option (List ℕ)) (name : Option (List ℕ)) (input : List ℕ) (old new : Option (List ℕ)) (r : Ending) → IsQuestion source target permission q
+    → Does (Explains file q) name input old new r → Does (AnswersQuestion file source target permission) name input old new r
+explains_names file q source target permission name input old new r is (inl does) = inl (q, is, does)
+explains_names file q source target permission name input old new r is (inr unopened) = inr unopened
 
-question_by : (file : List ℕ) (q : WhyQuestion) (source target permission : Option (List ℕ)) (known old new : Option (List ℕ)) (outcome : Outcome) → IsQuestion source target permission q
-    → Works (Explains file q) Unknown known old new outcome → Works (AnswersQuestion file source target permission) Unknown known old new outcome
-question_by file q source target permission None old new outcome asks works = tt
-question_by file q source target permission (Some bytes) old new outcome asks (r, is, inl does) = (r, is, inl (explains_names file q source target permission bytes old new r asks does))
-question_by file q source target permission (Some bytes) old new outcome asks (r, is, inr none) = (r, is, inr none)
+question_by : (file : List ℕ) (q : WhyQuestion) (source target permission : Option (List ℕ)) (name known old new : Option (List ℕ)) (outcome : Outcome) → IsQuestion source target permission q
+    → Works (Explains file q) Unknown name known old new outcome → Works (AnswersQuestion file source target permission) Unknown name known old new outcome
+question_by file q source target permission name None old new outcome asks works = tt
+question_by file q source target permission name (Some bytes) old new outcome asks (r, is, inl does) = (r, is, inl (explains_names file q source target permission name bytes old new r asks does))
+question_by file q source target permission name (Some bytes) old new outcome asks (r, is, inr none) = (r, is, inr none)
 
-pub answered : (file same : List ℕ) (q : WhyQuestion) (source target permission : Option (List ℕ)) (known old new : Option (List ℕ)) (outcome : Outcome) → file ≡ same → IsQuestion source target permission q
-    → Works (Explains file q) Unknown known old new outcome → Works (AnswersQuestion same source target permission) Unknown known old new outcome
-answered file same q source target permission known old new outcome shown asks works =
-    subst (λ (f : List ℕ). Works (AnswersQuestion f source target permission) Unknown known old new outcome) shown (question_by file q source target permission known old new outcome asks works)
+pub answered : (file same : List ℕ) (q : WhyQuestion) (source target permission : Option (List ℕ)) (name known old new : Option (List ℕ)) (outcome : Outcome) → file ≡ same → IsQuestion source target permission q
+    → Works (Explains file q) Unknown name known old new outcome → Works (AnswersQuestion same source target permission) Unknown name known old new outcome
+answered file same q source target permission name known old new outcome shown asks works =
+    subst (λ (f : List ℕ). Works (AnswersQuestion f source target permission) Unknown name known old new outcome) shown (question_by file q source target permission name known old new outcome asks works)
 
 -- a dump was told as it was asked
-tells_asked : (asked : DumpOptions) (version : ℕ) (hex every : Bool) (script : Option ℕ) (format : Format) (input : List ℕ) (old new : Option (List ℕ)) (r : Ending) → IsAsked version hex every script asked
-    → Does (AnswersEntries format asked) input old new r → Does (AnswersDump version hex every script format) input old new r
-tells_asked asked version hex every script format input old new r is (inl does) = inl (asked, is, does)
-tells_asked asked version hex every script format input old new r is (inr unopened) = inr unopened
+tells_asked : (asked : DumpOptions) (version : ℕ) (hex every : Bool) (script : Option ℕ) (format : Format) (name : Option (List ℕ)) (input : List ℕ) (old new : Option (List ℕ)) (r : Ending) → IsAsked version hex every script asked
+    → Does (AnswersEntries format asked) name input old new r → Does (AnswersDump version hex every script format) name input old new r
+tells_asked asked version hex every script format name input old new r is (inl does) = inl (asked, is, does)
+tells_asked asked version hex every script format name input old new r is (inr unopened) = inr unopened
 
-pub told : (asked : DumpOptions) (version : ℕ) (hex every : Bool) (script : Option ℕ) (format : Format) (known old new : Option (List ℕ)) (outcome : Outcome) → IsAsked version hex every script asked
-    → Works (AnswersEntries format asked) Unknown known old new outcome → Works (AnswersDump version hex every script format) Unknown known old new outcome
-told asked version hex every script format None old new outcome asks works = tt
-told asked version hex every script format (Some bytes) old new outcome asks (r, is, inl does) = (r, is, inl (tells_asked asked version hex every script format bytes old new r asks does))
-told asked version hex every script format (Some bytes) old new outcome asks (r, is, inr none) = (r, is, inr none)
+pub told : (asked : DumpOptions) (version : ℕ) (hex every : Bool) (script : Option ℕ) (format : Format) (name known old new : Option (List ℕ)) (outcome : Outcome) → IsAsked version hex every script asked
+    → Works (AnswersEntries format asked) Unknown name known old new outcome → Works (AnswersDump version hex every script format) Unknown name known old new outcome
+told asked version hex every script format name None old new outcome asks works = tt
+told asked version hex every script format name (Some bytes) old new outcome asks (r, is, inl does) = (r, is, inl (tells_asked asked version hex every script format name bytes old new r asks does))
+told asked version hex every script format name (Some bytes) old new outcome asks (r, is, inr none) = (r, is, inr none)
 
 -- the domain of a dump's script by its number
-pub of_number : (version : ℕ) (hex every : Bool) (one script : Option ℕ) (format : Format) (known old new : Option (List ℕ)) (outcome : Outcome) → one ≡ script
-    → Works (AnswersDump version hex every one format) Unknown known old new outcome → Works (AnswersDump version hex every script format) Unknown known old new outcome
-of_number version hex every one script format known old new outcome is works = subst (λ (n : Option ℕ). Works (AnswersDump version hex every n format) Unknown known old new outcome) is works
+pub of_number : (version : ℕ) (hex every : Bool) (one script : Option ℕ) (format : Format) (name known old new : Option (List ℕ)) (outcome : Outcome) → one ≡ script
+    → Works (AnswersDump version hex every one format) Unknown name known old new outcome → Works (AnswersDump version hex every script format) Unknown name known old new outcome
+of_number version hex every one script format name known old new outcome is works = subst (λ (n : Option ℕ). Works (AnswersDump version hex every n format) Unknown name known old new outcome) is works
 
 -- the work is the one that was asked for
 pub for_work : (known old new : Option (List ℕ)) (work other : Work) (r : Ending) → work ≡ other → OfInput known (λ input. Performs other input old new r) → OfInput known (λ input. Performs work input old new r)

@@ -6,14 +6,14 @@ use Rattle.gt_file_commands.specs.Working.{Deed, Does, Doing, Ending, OrNothing,
 use Rattle.gt_file_commands.specs.declared.failure.Failure.TheVariants as failures
 
 -- it was done
-pub worked : (P : Doing) (failed : Outcome) (known old new : Option (List ℕ)) (r : Ending) (outcome : Outcome) → IfSome known (λ bytes. Does P bytes old new r) → outcome ≡ outcome_of failed r
-    → Works P failed known old new outcome
-worked P failed None old new r outcome does is = tt
-worked P failed (Some bytes) old new r outcome does is = (r, is, inl does)
+pub worked : (P : Doing) (failed : Outcome) (name known old new : Option (List ℕ)) (r : Ending) (outcome : Outcome) → IfSome known (λ bytes. Does P name bytes old new r) → outcome ≡ outcome_of failed r
+    → Works P failed name known old new outcome
+worked P failed name None old new r outcome does is = tt
+worked P failed name (Some bytes) old new r outcome does is = (r, is, inl does)
 
-pub no_memory : (P : Doing) (failed : Outcome) (known old new : Option (List ℕ)) (outcome : Outcome) → outcome ≡ failed → Keeps old new → Works P failed known old new outcome
-no_memory P failed None old new outcome is kept = tt
-no_memory P failed (Some bytes) old new outcome is kept = (Err failures.Memory, is, inr (refl, kept))
+pub no_memory : (P : Doing) (failed : Outcome) (name known old new : Option (List ℕ)) (outcome : Outcome) → outcome ≡ failed → Keeps old new → Works P failed name known old new outcome
+no_memory P failed name None old new outcome is kept = tt
+no_memory P failed name (Some bytes) old new outcome is kept = (Err failures.Memory, is, inr (refl, kept))
 
 -- something was done with a further text
 pub with_text : (known : Option (List ℕ)) (D : List ℕ → Deed) (bytes : List ℕ) (old new : Option (List ℕ)) (outcome : Outcome) → IfSome known (λ all. bytes ≡ all) → OrNothing (D bytes) old new outcome → WithFile known D old new outcome

@@ -4,4 +4,5 @@ pub mod JsonNames
 pub mod Laws
 pub mod Names
 pub mod Prelude
+pub mod Rules
 pub mod Working

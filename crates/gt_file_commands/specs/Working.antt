@@ -126,14 +126,16 @@ failed_work (works.Check kind report) = Unknown
 failed_work (works.Why file question) = Unknown
 failed_work (works.Entries asked format) = Unknown
 
--- a file that was not opened: nothing was written
-abbrev pub IsUnopened : Option (List ℕ) → Option (List ℕ) → Ending → Type 0
-IsUnopened old new (Err (failures.File fault)) = Keeps old new
-IsUnopened old new r = ⊥
+-- a named file was not opened: nothing was written
+abbrev pub IsUnopened : Option (List ℕ) → Option (List ℕ) → Option (List ℕ) → Ending → Type 0
+IsUnopened (Some name) old new (Err (failures.File fault)) = Keeps old new
+IsUnopened (Some name) old new r = ⊥
+IsUnopened None old new r = ⊥
 
--- it was done to these bytes, or the file could not be opened
-abbrev pub Does : Doing → Doing
-Does P input old new r = P input old new r ⊎ IsUnopened old new r
+-- it was done to these bytes of the named file, or of the standard input if none is named, or the named file could not
+-- be opened
+abbrev pub Does : Doing → Option (List ℕ) → Doing
+Does P name input old new r = P input old new r ⊎ IsUnopened name old new r
 
 -- the known bytes of the named file, or of the standard input if none is named
 abbrev pub known_text : (List ℕ → Option (List ℕ)) → Option (List ℕ) → Option (List ℕ) → Option (List ℕ)
@@ -144,13 +146,14 @@ known_text file input (Some name) = file name
 abbrev pub known_input : (List ℕ → Option (List ℕ)) → Option (List ℕ) → Option (Bor (List ℕ)) → Option (List ℕ)
 known_input file input name = known_text file input (option_map (λ f. f.now) name)
 
--- The outcome fits what was done with the named text, if its bytes are known. After a failure it is `failed`. If an
--- allocation fails, nothing was written.
-abbrev pub Works : Doing → Outcome → Option (List ℕ) → Option (List ℕ) → Option (List ℕ) → Outcome → Type 0
-Works P failed known old new outcome =
+-- The outcome fits what was done with the text of this name, if its bytes are known. After a failure it is `failed`. If
+-- an allocation fails, nothing was written.
+abbrev pub Works : Doing → Outcome → Option (List ℕ) → Option (List ℕ) → Option (List ℕ) → Option (List ℕ) → Outcome
+    → Type 0
+Works P failed name known old new outcome =
     IfSome known
     (λ bytes. (r : Ending) × (outcome ≡ outcome_of failed r)
-    × (Does P bytes old new r ⊎ ((r ≡ Err failures.Memory) × Keeps old new)))
+    × (Does P name bytes old new r ⊎ ((r ≡ Err failures.Memory) × Keeps old new)))
 
 -- the question has these names
 abbrev pub IsQuestion : Option (List ℕ) → Option (List ℕ) → Option (List ℕ) → WhyQuestion → Type 0
@@ -204,13 +207,13 @@ abbrev pub ChecksFiles : (List ℕ → Doing) → (List ℕ → Option (List ℕ
 ChecksFiles P file [] old new outcome = Keeps old new × (outcome ≡ Yes)
 ChecksFiles P file (None ∷ more) old new outcome = ChecksFiles P file more old new outcome
 ChecksFiles P file (Some name ∷ more) old new outcome =
-    OneAfterOther (Works (P name) Unknown (file name)) (ChecksFiles P file more) old new outcome
+    OneAfterOther (Works (P name) Unknown (Some name) (file name)) (ChecksFiles P file more) old new outcome
 
 -- the named file is checked, or the standard input, and then the others
 abbrev pub ChecksAll : (List ℕ → Doing) → (List ℕ → Option (List ℕ)) → Option (List ℕ) → Option (List ℕ)
     → List (Option (List ℕ)) → Deed
 ChecksAll P file input name more =
-    OneAfterOther (Works (P (shown_name name)) Unknown (known_text file input name)) (ChecksFiles P file more)
+    OneAfterOther (Works (P (shown_name name)) Unknown name (known_text file input name)) (ChecksFiles P file more)
 
 -- ---- questions, one on each line of the standard input
 
@@ -224,7 +227,7 @@ abbrev pub Asks : List ℕ → Option (List ℕ) → List ℕ → List ℕ → L
 Asks file known source target permission old new outcome =
     ((middle : Option (List ℕ)) × Appends old middle (heading source target permission)
     × Works (AnswersQuestion file (type_of (Some source)) (type_of (Some target)) (type_of (Some permission))) Unknown
-    known middle new outcome)
+    (Some file) known middle new outcome)
     ⊎ (AppendsBeginning old new (heading source target permission) × (outcome ≡ Unknown))
 
 -- a line of three words is a question, one without words is skipped, and any other has no answer

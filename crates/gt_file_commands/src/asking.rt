@@ -1,6 +1,7 @@
 //! Commands by the options of a command line.
 ghost use Rattle.std.specs.Prelude.{◌≡◌};
 ghost use Rattle.std.specs.Option.{option_map};
+ghost use Rattle.gt_commands.specs.Files.{name_of};
 ghost use Rattle.gt_file_commands.specs.Names.{shown_name};
 ghost use Rattle.gt_file_commands.specs.Working.{known_input, AnswersDump, AnswersQuestion, Lists, Plays, Works};
 
@@ -21,7 +22,7 @@ pub fn play<R, T: TextSource, W: Write, E: Eprint>(
     out: &mut W,
     reasons: &mut Reasons,
 ) -> Outcome
-    ensures { Works (Plays options.entry.format options.entry.audit) Outcome.No
+    ensures { Works (Plays options.entry.format options.entry.audit) Outcome.No (name_of options.entry.file)
         (known_input (T.file context.now.texts.now) (T.input context.now.texts.now) options.entry.file)
         (W.contents out.old) (W.contents out.new) result }
 {
@@ -41,7 +42,7 @@ pub fn list<R, T: TextSource, W: Write, E: Eprint>(
     out: &mut W,
     reasons: &mut Reasons,
 ) -> Outcome
-    ensures { Works (Lists format) Outcome.No
+    ensures { Works (Lists format) Outcome.No (name_of file.entry)
         (known_input (T.file context.now.texts.now) (T.input context.now.texts.now) file.entry)
         (W.contents out.old) (W.contents out.new) result }
 {
@@ -57,9 +58,9 @@ pub fn answer<'a, R, T: TextSource, W: Write, E: Eprint>(
     out: &mut W,
     reasons: &mut Reasons<'a>,
 ) -> Outcome
-    ensures { Works (AnswersQuestion (shown_name (option_map (λ f. f.now) file.entry))
+    ensures { Works (AnswersQuestion (shown_name (name_of file.entry))
         (option_map (λ a. a.now) question.entry.source) (option_map (λ a. a.now) question.entry.target)
-        (option_map (λ a. a.now) question.entry.perm)) Outcome.Unknown
+        (option_map (λ a. a.now) question.entry.perm)) Outcome.Unknown (name_of file.entry)
         (known_input (T.file context.now.texts.now) (T.input context.now.texts.now) file.entry)
         (W.contents out.old) (W.contents out.new) result }
 {
@@ -91,7 +92,7 @@ pub fn show_entries<R, T: TextSource, W: Write, E: Eprint>(
     out: &mut W,
     reasons: &mut Reasons,
 ) -> Outcome
-    ensures { Works (AnswersDump dump.version dump.hex dump.all dump.script format) Outcome.Unknown
+    ensures { Works (AnswersDump dump.version dump.hex dump.all dump.script format) Outcome.Unknown (name_of file.entry)
         (known_input (T.file context.now.texts.now) (T.input context.now.texts.now) file.entry)
         (W.contents out.old) (W.contents out.new) result }
 {

@@ -126,7 +126,7 @@ fn check_one<'a, R, T: TextSource, W: Write, E: Eprint>(
     reasons: &mut Reasons<'a>,
 ) -> Outcome
     ensures { Works (ChecksIn (Checks kind.entry) format (shown_name (option_map (λ f. f.now) file.entry)))
-        Outcome.Unknown
+        Outcome.Unknown (name_of file.entry)
         (known_input (T.file context.now.texts.now) (T.input context.now.texts.now) file.entry)
         (W.contents out.old) (W.contents out.new) result }
 {

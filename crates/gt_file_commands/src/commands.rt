@@ -1,6 +1,7 @@
 //! The execution of each command, with the text that it names.
 ghost use Rattle.std.specs.Prelude.{◌≡◌, IfSome};
 ghost use Rattle.gt_text.specs.Streams.{OfInput};
+ghost use Rattle.gt_commands.specs.Files.{name_of};
 ghost use Rattle.gt_file_commands.specs.Working.{failed_work, known_input, Does, Performs, Works};
 
 use crate::checking::{CheckKind, perform_check};
@@ -117,7 +118,8 @@ fn perform_on<R, T: TextSource, W: Write, E>(
     reasons: &mut Reasons,
 ) -> Result<Outcome, Failure>
     ensures { IfSome (known_input (T.file context.now.texts.now) (T.input context.now.texts.now) name.entry)
-        (λ input. Does (Performs work.entry) input (W.contents out.old) (W.contents out.new) result) }
+        (λ input. Does (Performs work.entry) (name_of name.entry) input (W.contents out.old) (W.contents out.new)
+        result) }
 {
     let alloc = context.alloc;
     let Some(name) = name else {
@@ -140,7 +142,7 @@ pub(crate) fn work_asked<R, T: TextSource, W: Write, E: Eprint>(
     out: &mut W,
     reasons: &mut Reasons,
 ) -> Outcome
-    ensures { Works (Performs work.entry) (failed_work work.entry)
+    ensures { Works (Performs work.entry) (failed_work work.entry) (name_of file.entry)
         (known_input (T.file context.now.texts.now) (T.input context.now.texts.now) file.entry)
         (W.contents out.old) (W.contents out.new) result }
 {

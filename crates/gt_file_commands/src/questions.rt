@@ -111,7 +111,7 @@ fn answer_asked<'a, R, T: TextSource, W: Write, E: Eprint>(
     reasons: &mut Reasons<'a>,
 ) -> Outcome
     ensures { Works (AnswersQuestion file.entry.now (type_of (Some words.now.source.now))
-        (type_of (Some words.now.target.now)) (type_of (Some words.now.perm.now))) Unknown
+        (type_of (Some words.now.target.now)) (type_of (Some words.now.perm.now))) Unknown (Some file.entry.now)
         (T.file context.now.texts.now file.entry.now) (W.contents out.old) (W.contents out.new) result }
 {
     let question = WhyQuestion {

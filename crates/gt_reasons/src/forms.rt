@@ -1,4 +1,8 @@
 //! The forms of a script's lines, and what is expected at each word.
+ghost use Rattle.std.specs.Prelude.{◌≡◌, map};
+ghost use Rattle.std.specs.Option.{option_map};
+ghost use Rattle.gt_reasons.specs.Fitting.{example_among, example_named, example_word};
+
 use gt_script_lines::is_word;
 
 /// The forms of the lines, as in docs/FORMATS_SCRIPTS.md. A word in capitals is a part; any other is literal.
@@ -36,137 +40,81 @@ pub static FORMS: [&str; 30] = [
 ];
 
 // A part of a form: its name, a word that fits, and the text of what is expected there.
-struct FormPart {
-    name: &'static str,
-    example: &'static str,
-    expected: &'static str,
-}
+type FormPart = (&'static str, &'static str, &'static str);
 
 static PARTS: [FormPart; 20] = [
-    FormPart {
-        name: "TYPE",
-        example: "t",
-        expected: "a type, as the policy language has names",
-    },
-    FormPart {
-        name: "PERMISSION",
-        example: "copy",
-        expected: "map_read, map_write, unmap, transfer, setup, copy or query",
-    },
-    FormPart {
-        name: "GENERATION",
-        example: "0",
-        expected: "a generation, 0 to 1048575",
-    },
-    FormPart {
-        name: "ID",
-        example: "0",
-        expected: "the number of a domain",
-    },
-    FormPart {
-        name: "LABEL",
-        example: "u:r:t",
-        expected: "a label USER:ROLE:TYPE",
-    },
-    FormPart {
-        name: "FRAMES",
-        example: "1",
-        expected: "a number of frames",
-    },
-    FormPart {
-        name: "TABLEFRAMES",
-        example: "1",
-        expected: "a number of table frames",
-    },
-    FormPart {
-        name: "VERSION",
-        example: "1",
-        expected: "the version of a table",
-    },
-    FormPart {
-        name: "REF",
-        example: "0",
-        expected: "a reference, a number below 4294967296",
-    },
-    FormPart {
-        name: "DOM",
-        example: "0",
-        expected: "a domain, a number below 65536 or self",
-    },
-    FormPart {
-        name: "MODE",
-        example: "rw",
-        expected: "rw or ro",
-    },
-    FormPart {
-        name: "FRAME",
-        example: "0",
-        expected: "a frame, a number below 18446744073709551616",
-    },
-    FormPart {
-        name: "OFF",
-        example: "0",
-        expected: "an offset, a number below 65536",
-    },
-    FormPart {
-        name: "LEN",
-        example: "0",
-        expected: "a length, a number below 65536",
-    },
-    FormPart {
-        name: "HEX",
-        example: "-",
-        expected: "bytes: an even number of hexadecimal digits, at most 8192, or -",
-    },
-    FormPart {
-        name: "NAME",
-        example: "a",
-        expected: "a label: a letter, and at most 31 letters, digits or _",
-    },
-    FormPart {
-        name: "FLAGS",
-        example: "rw",
-        expected: "flags: rw, ro or a number below 4294967296",
-    },
-    FormPart {
-        name: "NUMBER",
-        example: "0",
-        expected: "a number below 4294967296",
-    },
-    FormPart {
-        name: "STEPS",
-        example: "1",
-        expected: "a number of steps, 1 to 100000",
-    },
-    FormPart {
-        name: "FLAG",
-        example: "a",
-        expected: "a flag: a letter, and at most 31 letters, digits or _",
-    },
+    ("TYPE", "t", "a type, as the policy language has names"),
+    (
+        "PERMISSION",
+        "copy",
+        "map_read, map_write, unmap, transfer, setup, copy or query",
+    ),
+    ("GENERATION", "0", "a generation, 0 to 1048575"),
+    ("ID", "0", "the number of a domain"),
+    ("LABEL", "u:r:t", "a label USER:ROLE:TYPE"),
+    ("FRAMES", "1", "a number of frames"),
+    ("TABLEFRAMES", "1", "a number of table frames"),
+    ("VERSION", "1", "the version of a table"),
+    ("REF", "0", "a reference, a number below 4294967296"),
+    ("DOM", "0", "a domain, a number below 65536 or self"),
+    ("MODE", "rw", "rw or ro"),
+    ("FRAME", "0", "a frame, a number below 18446744073709551616"),
+    ("OFF", "0", "an offset, a number below 65536"),
+    ("LEN", "0", "a length, a number below 65536"),
+    (
+        "HEX",
+        "-",
+        "bytes: an even number of hexadecimal digits, at most 8192, or -",
+    ),
+    (
+        "NAME",
+        "a",
+        "a label: a letter, and at most 31 letters, digits or _",
+    ),
+    ("FLAGS", "rw", "flags: rw, ro or a number below 4294967296"),
+    ("NUMBER", "0", "a number below 4294967296"),
+    ("STEPS", "1", "a number of steps, 1 to 100000"),
+    (
+        "FLAG",
+        "a",
+        "a flag: a letter, and at most 31 letters, digits or _",
+    ),
 ];
 
-// Returns the part that this word of a form names; None for a literal word.
-fn part_of(word: &[u8]) -> Option<&'static FormPart> {
-    for part in PARTS.iter() {
-        if is_word(word, part.name) {
+// Returns the first of these parts that has this name.
+fn part_among<'p>(parts: &'p [FormPart], name: &[u8]) -> Option<&'p FormPart>
+    ensures { option_map (λ part. part.now.1.now) result
+        ≡ example_named name.now (map (λ part. (part.0.now, part.1.now)) parts.entry.now) }
+{
+    'parts: for part in parts {
+        if is_word(name, part.0) {
             return Some(part);
         }
     }
     None
 }
 
-/// Returns a word that fits this word of a form.
-pub fn example_of<'f>(word: &'f [u8]) -> &'f [u8] {
-    match part_of(word) {
-        Some(part) => part.example.as_bytes(),
+// Returns the example of the part of this name among these, or the word itself if there is none.
+fn example_among<'w>(parts: &'w [FormPart], word: &'w [u8]) -> &'w [u8]
+    ensures { result.now ≡ example_among (map (λ part. (part.0.now, part.1.now)) parts.entry.now) word.entry.now }
+{
+    match part_among(parts, word) {
+        Some((_, example, _)) => example.as_bytes(),
         None => word,
     }
 }
 
+/// Returns a word that fits this word of a form.
+pub fn example_word<'w>(word: &'w [u8]) -> &'w [u8]
+    ensures { result.now ≡ example_word word.entry.now }
+{
+    example_among(&PARTS, word)
+}
+
 /// Returns what is expected at this word of a form; None for a literal word.
 pub fn expected_at(word: &[u8]) -> Option<&'static str> {
-    match part_of(word) {
-        Some(part) => Some(part.expected),
+    match part_among(&PARTS, word) {
+        Some((_, _, expected)) => Some(*expected),
         None => None,
     }
 }

@@ -5,8 +5,8 @@
 //! `push_block_reason` does so for a policy block, and `push_refusals` prints the statements or triples that are near
 //! misses for a call that the policy refused.
 //!
-//! It is proved that the words before the printed one fit an example of a line, and that the printed one does not fit
-//! the same example. The texts of the reasons are tested.
+//! It is proved that the words before the printed one fit the example of a form, that the printed one does not fit the
+//! same example, and that of no other form more words fit. The texts of the reasons are tested.
 //!
 //! It uses `gt_script_lines` and `gt_script` (lines and faults), `gt_policy_check` and `gt_policy` (policies),
 //! `gt_types` (limits) and `gt_text` (texts).

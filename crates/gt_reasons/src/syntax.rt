@@ -1,9 +1,9 @@
 //! The reasons for the fault `syntax`.
-ghost use Rattle.std.specs.Prelude.{IfOk, map};
-ghost use Rattle.gt_reasons.specs.Fitting.{IsMisfit};
+ghost use Rattle.std.specs.Prelude.{◌≡◌, IfOk, map};
+ghost use Rattle.gt_reasons.specs.Fitting.{example_of, example_word, FitMost, IsFitting, IsMisfit};
 
 use crate::columns::column_of;
-use crate::forms::{FORMS, example_of, expected_at};
+use crate::forms::{FORMS, example_word, expected_at};
 use crate::misfit::fitting;
 use crate::reason::Reason;
 use crate::texts::{is_listed, push_word};
@@ -13,24 +13,37 @@ use gt_text::{push_text, text_of};
 use std::alloc::{AllocError, Global};
 
 // Lists a word that fits, for each word of a form.
-fn examples<'f>(alloc: Global, form: &[&'f [u8]]) -> Result<Vec<&'f [u8]>, AllocError> {
+fn example_words<'f>(alloc: Global, form: &[&'f [u8]]) -> Result<Vec<&'f [u8]>, AllocError>
+    ensures { IfOk result (λ words. map (λ w. w.now) words.items ≡ map example_word (map (λ w. w.now) form.entry.now)) }
+{
     let mut words = Vec::new(alloc);
-    for word in form {
-        words.push(example_of(word))?;
+    'words: for word in form {
+        words.push(example_word(*word))?;
     }
     Ok(words)
 }
 
 // Returns how many of the first words of a line fit the example of a form.
-fn fitting_form<'w>(
-    alloc: Global,
-    words: &[&'w [u8]],
-    form: &[&'w [u8]],
-) -> Result<usize, AllocError>
-    ensures { IfOk result (IsMisfit (map (λ w. w.now) words.now)) }
+fn fitting_form(alloc: Global, words: &[&[u8]], form: &str) -> Result<usize, AllocError>
+    ensures { IfOk result (IsFitting (map (λ w. w.now) words.now) (example_of form.now)) }
 {
-    let example = examples(alloc, form)?;
+    let form = line_words(alloc, form)?;
+    let example = example_words(alloc, form.as_slice())?;
     fitting(alloc, words, example.as_slice())
+}
+
+// Returns the maximum number of first words of a line that fit one of these forms, or 0 if there are none.
+fn most_fitting(alloc: Global, words: &[&[u8]], forms: &[&str]) -> Result<usize, AllocError>
+    ensures { IfOk result (FitMost (map example_of (map (λ f. f.now) forms.now)) (map (λ w. w.now) words.now)) }
+{
+    let mut most = 0;
+    'forms: for form in forms {
+        let count = fitting_form(alloc, words, *form)?;
+        if count > most {
+            most = count;
+        }
+    }
+    Ok(most)
 }
 
 /// Returns the maximum number of first words of a line that fit a form. It is the index of the word that does not fit,
@@ -38,15 +51,7 @@ fn fitting_form<'w>(
 pub fn first_misfit(alloc: Global, words: &[&[u8]]) -> Result<usize, AllocError>
     ensures { IfOk result (IsMisfit (map (λ w. w.now) words.now)) }
 {
-    let mut most = 0;
-    'forms: for form in FORMS.iter() {
-        let form = line_words(alloc, *form)?;
-        let count = fitting_form(alloc, words, form.as_slice())?;
-        if count > most {
-            most = count;
-        }
-    }
-    Ok(most)
+    most_fitting(alloc, words, &FORMS)
 }
 
 // Appends what the forms that fit up to this word expect there, each part once, and returns these parts.
@@ -58,8 +63,8 @@ fn push_expected(
 ) -> Result<Vec<&'static [u8]>, AllocError> {
     let mut told: Vec<&'static [u8]> = Vec::new(alloc);
     for form in FORMS.iter() {
-        let form = line_words(alloc, *form)?;
-        if fitting_form(alloc, words, form.as_slice())? == number {
+        if fitting_form(alloc, words, *form)? == number {
+            let form = line_words(alloc, *form)?;
             push_next(out, &mut told, form.get(number).copied())?;
         }
     }
