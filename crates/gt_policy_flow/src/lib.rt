@@ -14,6 +14,7 @@
 mod flows;
 mod laws;
 mod searching;
+mod steps;
 
 pub use flows::{Access, access_between};
 pub use laws::{every_path_is_found, what_is_reached_is_closed};
