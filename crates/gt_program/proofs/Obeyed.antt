@@ -26,6 +26,7 @@ use Rattle.gt_commands.specs.Leading.{leading_word, word_behind}
 use Rattle.gt_commands.specs.Letters.{long_flag, long_word, with_long_flags}
 use Rattle.gt_commands.specs.Usage.{Line, Word, asks_help, gives, line, long, mark, plain, short, usage_word}
 use Rattle.gt_commands.specs.Usage.{value_given, wrong}
+use Rattle.gt_commands.specs.declared.invocation.Format.TheVariants as formats
 use Rattle.gt_commands.specs.declared.invocation.Mode.{Mode}
 use Rattle.gt_commands.specs.declared.invocation.Mode.TheVariants as modes
 use Rattle.std.specs.Str.{bytes_eq}
@@ -191,7 +192,9 @@ module _ (failed : Outcome) where
   failed_entries None script f hex every file is = inl is
   failed_entries (Some version) None f hex every file is = inl is
   failed_entries (Some version) (Some script) None hex every file is = inl is
-  failed_entries (Some version) (Some script) (Some f) hex every file is = is
+  failed_entries (Some version) (Some None) (Some f) hex every file is = is
+  failed_entries (Some version) (Some (Some dom)) (Some formats.Text) hex every file is = is
+  failed_entries (Some version) (Some (Some dom)) (Some formats.Json) hex every file is = inl is
 
   failed_read : (mode : Mode) (value : List ℕ → Option (List ℕ)) → failed ≡ failed_mode mode → FailedFor (read mode value) failed
   failed_read modes.Play value is = failed_play _ _ _ _ is
