@@ -1,4 +1,5 @@
 pub mod Flowing
+pub mod Pairing
 pub mod Places
 pub mod Growing
 pub mod Looking

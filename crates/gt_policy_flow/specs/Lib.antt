@@ -2,3 +2,4 @@ pub mod Flows
 pub mod Paths
 pub mod Laws
 pub mod Steps
+pub mod Pairs

@@ -50,11 +50,14 @@ access_text xs members x y (Some accesses.Copy) = permission_text xs members x y
 access_text xs members x y (Some accesses.Store) =
     permission_text xs members x y (codes "map_read") ++ codes ", " ++ permission_text xs members x y (codes "map_write")
 
+-- the names of two types
+abbrev pub pair_text : List Member → TypeId → TypeId → List ℕ
+pair_text members x y = name_in members x ++ codes " -> " ++ name_in members y ++ codes "  "
+
 -- a line of a path
 abbrev pub step_text : AllowRelation → (TypeId → Bool) → List LinedStatement → List Member → TypeId → TypeId → List ℕ
 step_text may trusted xs members x y =
-    name_in members x ++ codes " -> " ++ name_in members y ++ codes "  "
-    ++ access_text xs members x y (access_of may (trusted x) x y) ++ codes "\n"
+    codes "  " ++ pair_text members x y ++ access_text xs members x y (access_of may (trusted x) x y) ++ codes "\n"
 
 -- the lines of a path from type x
 abbrev pub path_text : AllowRelation → (TypeId → Bool) → List LinedStatement → List Member → TypeId → List TypeId → List ℕ

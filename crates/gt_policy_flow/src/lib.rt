@@ -13,6 +13,7 @@
 
 mod flows;
 mod laws;
+mod pairs;
 mod searching;
 mod steps;
 

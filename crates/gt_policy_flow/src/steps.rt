@@ -2,7 +2,7 @@
 ghost use Rattle.std.specs.Prelude.{◌≡◌, ◌++◌, codes, OnOk, find};
 ghost use Rattle.gt_policy_check.specs.Granting.{gives_one};
 ghost use Rattle.gt_policy_flow.specs.Flows.{is_among};
-ghost use Rattle.gt_policy_flow.specs.Steps.{access_text, first_line, line_between, name_in, path_text, permission_text, step_text};
+ghost use Rattle.gt_policy_flow.specs.Steps.{access_text, first_line, line_between, name_in, pair_text, path_text, permission_text, step_text};
 
 use crate::flows::{Access, access_between, is_among};
 use gt_policy::{LinedStatement, Statement};
@@ -74,6 +74,21 @@ fn line_between(
     }
 }
 
+/// Appends the names of two types.
+pub(crate) fn push_pair(
+    out: &mut Vec<u8>,
+    members: &[Member],
+    x: TypeId,
+    y: TypeId,
+) -> Result<(), AllocError>
+    ensures { OnOk result (out.new.items ≡ out.old.items ++ pair_text members.now x y) }
+{
+    push_text(out, name_in(members, x))?;
+    push_text(out, " -> ")?;
+    push_text(out, name_in(members, y))?;
+    push_text(out, "  ")
+}
+
 // Appends a permission of one type on another, with the line of the first statement that grants it.
 fn push_permission<P>(
     out: &mut Vec<u8>,
@@ -127,10 +142,8 @@ fn push_step<P: Allows>(
     ensures { OnOk result (out.new.items ≡ out.old.items ++ step_text (P.may read.now.policy.now)
         (is_among read.now.trusted.now) read.now.statements.now read.now.members.now x y) }
 {
-    push_text(out, name_in(read.members, x))?;
-    push_text(out, " -> ")?;
-    push_text(out, name_in(read.members, y))?;
     push_text(out, "  ")?;
+    push_pair(out, read.members, x, y)?;
     let is_trusted = is_among(read.trusted, x);
     push_access(
         out,
