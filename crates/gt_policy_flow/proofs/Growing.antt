@@ -5,7 +5,7 @@ use Rattle.std.proofs.lemmas.Bool.{eqb-false, eqb-true}
 use Rattle.std.proofs.lemmas.Option.{slice_get-map, slice_get_read}
 use Rattle.gt_types.specs.declared.TypeId.{TypeId}
 use Rattle.gt_flow.specs.Flow.{AllowRelation}
-use Rattle.gt_policy_flow.specs.Flows.{AreAmong, MayFlowPast, flows, is_among}
+use Rattle.gt_policy_flow.specs.Flows.{AreAmong, flows, is_among}
 use Rattle.gt_policy_flow.specs.Paths.{AreBackward, IsFoundWithin, IsHop, IsSearched, hop_from}
 use Rattle.gt_policy_flow.specs.declared.searching.Reach.{Reach}
 use Rattle.gt_policy_flow.proofs.Flowing.{is-declared, is-flow, is-found}

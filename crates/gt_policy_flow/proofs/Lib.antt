@@ -1,4 +1,6 @@
+pub mod Asked
 pub mod Flowing
+pub mod Meant
 pub mod Pairing
 pub mod Places
 pub mod Growing

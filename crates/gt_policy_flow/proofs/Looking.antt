@@ -1,5 +1,5 @@
 -- One look at the types that are not reached yet.
-use Rattle.std.proofs.Common.{◌≡◌, ℕ, ◌+◌, ◌-◌, ◌<◌, ◌≤◌, Bool, true, false, not, List, [], ◌∷◌, ◌++◌, length, map, filter, take}
+use Rattle.std.proofs.Common.{◌≡◌, ℕ, ◌+◌, ◌-◌, ◌<◌, Bool, true, false, not, List, [], ◌∷◌, ◌++◌, length, map, filter, take}
 use Rattle.std.proofs.Common.{refl, ap, sym, ◌∙◌, arith, get_or, cond, length-append, ◌||◌, ◌&&◌, Option, Some, None, is_some, if◌then◌else◌}
 use Rattle.std.proofs.lemmas.List.{append-nil, append_assoc, length-map, map-append}
 use Rattle.std.proofs.lemmas.List.Elements.{filter_more}

@@ -1,5 +1,5 @@
 -- The way back from a type to the source.
-use Rattle.std.proofs.Common.{◌≡◌, ℕ, zero, suc, ◌+◌, ◌<◌, ◌≤◌, ◌==◌, Bool, true, false, List, [], ◌∷◌, length, Option, Some, None}
+use Rattle.std.proofs.Common.{◌≡◌, ℕ, zero, suc, ◌+◌, ◌<◌, ◌≤◌, ◌==◌, Bool, true, false, List, [], ◌∷◌, length, Some, None}
 use Rattle.std.proofs.Common.{refl, slice_get, arith, ap, subst, sym, ◌∙◌, position, get_or, cond, inl, inr, not}
 use Rattle.std.proofs.lemmas.Bool.{cases_lt, eq-eqb, eqb-true, le-ltb, lt-ltb}
 use Rattle.std.specs.List.{position_or_len}
@@ -8,7 +8,7 @@ use Rattle.std.proofs.lemmas.Option.{slice_get-get_or}
 use Rattle.gt_types.specs.declared.TypeId.{TypeId}
 use Rattle.gt_flow.specs.Flow.{AllowRelation}
 use Rattle.gt_policy_flow.specs.Flows.{MayFlowPast}
-use Rattle.gt_policy_flow.specs.Paths.{AreBackward, HasPath, IsFoundWithin, IsHop, IsPathPast, IsSearched, IsShortestPath}
+use Rattle.gt_policy_flow.specs.Paths.{AreBackward, IsHop, IsPathPast, IsSearched, IsShortestPath}
 use Rattle.gt_policy_flow.specs.declared.searching.Reach.{Reach}
 use Rattle.gt_policy_flow.proofs.Growing.{here-is}
 use Rattle.gt_policy_flow.proofs.Places.{within}

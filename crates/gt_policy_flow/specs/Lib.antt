@@ -3,3 +3,4 @@ pub mod Paths
 pub mod Laws
 pub mod Steps
 pub mod Pairs
+pub mod Asking

@@ -1,6 +1,6 @@
 -- The answers for pairs of types.
-use Rattle.std.specs.Prelude.{◌≡◌, ℕ, ◌==◌, ◌&&◌, ◌||◌, not, Bool, true, false, List, [], ◌∷◌, ◌++◌, codes, decimal, length}
-use Rattle.std.specs.Prelude.{Option, Some, None, is_some, Result, Ok, Err, if◌then◌else◌}
+use Rattle.std.specs.Prelude.{◌≡◌, ℕ, ◌==◌, ◌||◌, Bool, true, false, List, [], ◌∷◌, ◌++◌, codes, decimal, length}
+use Rattle.std.specs.Prelude.{Option, Some, None, is_some, Result, Ok, Err}
 use Rattle.gt_types.specs.declared.TypeId.{TypeId}
 use Rattle.gt_flow.specs.Flow.{AllowRelation}
 use Rattle.gt_policy.specs.declared.lined.LinedStatement.{LinedStatement}

@@ -11,12 +11,14 @@
 //! It uses `gt_flow` (which access brings bytes where) and `gt_types` (types, permissions, the trait of policies).
 #![tactic(auto)]
 
+mod asking;
 mod flows;
 mod laws;
 mod pairs;
 mod searching;
 mod steps;
 
+pub use asking::{FlowAnswer, FlowQuestion, FlowReport, flow};
 pub use flows::{Access, access_between};
 pub use laws::{every_path_is_found, what_is_reached_is_closed};
 pub use searching::{Reach, ReachedTypes, search};

@@ -1,7 +1,7 @@
 use Rattle.std.proofs.Common.{arith}
 use Rattle.gt_policy_flow.specs.Flows.{flows, is_among}
 use Rattle.gt_policy_flow.specs.Paths.{hop_from}
-use Rattle.gt_policy_flow.proofs.Growing.{at-first, here-is, one-more, searched}
+use Rattle.gt_policy_flow.proofs.Growing.{here-is, one-more, searched}
 use Rattle.gt_policy_flow.proofs.Looking.{less-to-do}
 use Rattle.gt_policy_flow.proofs.searching.search.Goals as goal
 

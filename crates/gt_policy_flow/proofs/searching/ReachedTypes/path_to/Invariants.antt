@@ -1,4 +1,3 @@
-use Rattle.std.proofs.Common.{◌≡◌, ◌<◌, ◌+◌, length}
 use Rattle.gt_policy_flow.proofs.Walking.{IsWalked}
 use Rattle.gt_policy_flow.proofs.searching.ReachedTypes.path_to.Given as goal
 
