@@ -4,3 +4,5 @@ pub mod Laws
 pub mod Steps
 pub mod Pairs
 pub mod Asking
+pub mod Answering
+pub mod Faults

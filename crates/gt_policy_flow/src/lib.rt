@@ -11,14 +11,18 @@
 //! It uses `gt_flow` (which access brings bytes where) and `gt_types` (types, permissions, the trait of policies).
 #![tactic(auto)]
 
+mod answering;
 mod asking;
+mod fault;
 mod flows;
 mod laws;
 mod pairs;
 mod searching;
 mod steps;
 
+pub use answering::answer;
 pub use asking::{FlowAnswer, FlowQuestion, FlowReport, flow};
+pub use fault::FlowFault;
 pub use flows::{Access, access_between};
 pub use laws::{every_path_is_found, what_is_reached_is_closed};
 pub use searching::{Reach, ReachedTypes, search};
