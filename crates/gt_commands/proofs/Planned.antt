@@ -25,7 +25,7 @@ use Rattle.gt_commands.specs.Commands.{asked_with, command_name, gthost_app, mod
 use Rattle.gt_commands.specs.Commands.{refusals}
 use Rattle.gt_commands.specs.declared.invocation.Invocation.{Invocation}
 use Rattle.gt_commands.specs.declared.invocation.Mode.{Mode}
-use Rattle.gt_commands.specs.declared.invocation.Mode.TheVariants.{Play, Run, Explore, Policy, Rules, Check, Why}
+use Rattle.gt_commands.specs.declared.invocation.Mode.TheVariants.{Play, Run, Explore, Policy, Rules, Check, Why, Flow}
 use Rattle.gt_commands.specs.declared.invocation.Mode.TheVariants.{Entries}
 use Rattle.gt_commands.proofs.Top.{Comes, passes, helps, tells_version, refuses, words_come}
 use Rattle.gt_commands.proofs.Wrongs.{Wrong, unknown, stray, missing, valued, valueless, repeated, lacking}
@@ -90,6 +90,7 @@ named_mode Policy = refl
 named_mode Rules = refl
 named_mode Check = refl
 named_mode Why = refl
+named_mode Flow = refl
 named_mode Entries = refl
 
 -- the subcommand that was found, by its name and its rows

@@ -19,7 +19,7 @@ use Rattle.gt_commands.specs.Commands.{Request, request_in_words, request_by, as
 use Rattle.gt_commands.specs.Commands.{command_name}
 use Rattle.gt_commands.specs.Commands.{every_mode, for_help, for_version, gthost_app, mode_of, nothing, read, usage_of}
 use Rattle.gt_commands.specs.declared.invocation.Mode.{Mode}
-use Rattle.gt_commands.specs.declared.invocation.Mode.TheVariants.{Play, Run, Explore, Policy, Rules, Check, Why}
+use Rattle.gt_commands.specs.declared.invocation.Mode.TheVariants.{Play, Run, Explore, Policy, Rules, Check, Why, Flow}
 use Rattle.gt_commands.specs.declared.invocation.Mode.TheVariants.{Entries}
 use Rattle.gt_commands.proofs.Ends.{end, flag_at_end, value_at_end}
 use Rattle.gt_commands.proofs.Lines.{command_tells}
@@ -49,6 +49,7 @@ command_words Rules words = command_tells (usage_of Rules) (command_name Rules) 
 command_words Check words = command_tells (usage_of Check) (command_name Check)
     (refl, refl, (refl, refl, (refl, refl, (refl, refl, (refl, refl, (refl, refl, (refl, refl, (refl, refl, refl)))))))) (refl, (refl, tt)) words
 command_words Why words = command_tells (usage_of Why) (command_name Why) (refl, refl, (refl, refl, (refl, refl, (refl, refl, refl)))) tt words
+command_words Flow words = command_tells (usage_of Flow) (command_name Flow) (refl, refl, (refl, refl, (refl, refl, refl))) (refl, tt) words
 command_words Entries words = command_tells (usage_of Entries) (command_name Entries) (refl, refl, refl) (refl, (refl, (refl, tt))) words
 
 -- what a command asks for by the rows at the end is what it asks for by what was given
@@ -93,6 +94,12 @@ read_rows mode given rows is = ap (λ (rs : List Row). read mode (λ id. first_o
       value_at_end (usage_of Why) given (codes "target") refl,
       value_at_end (usage_of Why) given (codes "permission") refl,
       value_at_end (usage_of Why) given (codes "file") refl,
+    ) refl
+    by Flow = rw (
+      value_at_end (usage_of Flow) given (codes "source") refl,
+      value_at_end (usage_of Flow) given (codes "target") refl,
+      value_at_end (usage_of Flow) given (codes "trust") refl,
+      value_at_end (usage_of Flow) given (codes "file") refl,
     ) refl
     by Entries = rw (
       value_at_end (usage_of Entries) given (codes "version") refl,
@@ -224,6 +231,7 @@ below_command Policy rest = or_nothing (command_fault Policy rest)
 below_command Rules rest = or_nothing (command_fault Rules rest)
 below_command Check rest = or_nothing (command_fault Check rest)
 below_command Why rest = or_nothing (command_fault Why rest)
+below_command Flow rest = or_nothing (command_fault Flow rest)
 below_command Entries rest = or_nothing (command_fault Entries rest)
 
 abbrev sub_at : Walk → Option (Text × List Row)
@@ -237,6 +245,7 @@ sub_of Policy rest = refl
 sub_of Rules rest = refl
 sub_of Check rest = refl
 sub_of Why rest = refl
+sub_of Flow rest = refl
 sub_of Entries rest = refl
 
 -- what a line comes to: the command of a line that passes, its rows and what they ask for; or why it is refused

@@ -5,7 +5,7 @@ use Rattle.gt_commands.specs.Prelude.{bytes_eq, digits_value, without_leading_pl
 use Rattle.gt_commands.specs.Prelude.{is_unsigned_in, App, Row, Text, first_of, new_app, with_subcommand, Error}
 use Rattle.gt_commands.specs.Prelude.{ArgumentConflict, DisplayHelp, DisplayVersion, InvalidSubcommand, InvalidValue}
 use Rattle.gt_commands.specs.Prelude.{MissingRequiredArgument, MissingSubcommand, TooManyValues, UnknownArgument}
-use Rattle.gt_commands.specs.Prelude.{Format, Plain, Json, Invocation, Mode, Play, Run, Policy, Rules, Check, Why}
+use Rattle.gt_commands.specs.Prelude.{Format, Plain, Json, Invocation, Mode, Play, Run, Policy, Rules, Check, Why, Flow}
 use Rattle.gt_commands.specs.Prelude.{Entries, Explore}
 use Rattle.gt_commands.specs.Files.{names_of}
 use Rattle.gt_explore_verdict.specs.declared.judging.Claim.{Claim}
@@ -29,6 +29,7 @@ command_name Policy = codes "policy"
 command_name Rules = codes "rules"
 command_name Check = codes "check"
 command_name Why = codes "why"
+command_name Flow = codes "flow"
 command_name Entries = codes "entries"
 
 abbrev pub one : Text → List Text
@@ -69,6 +70,10 @@ usage_of Check = record file_usage {
 usage_of Why = record common_usage {
   words = codes "source" ∷ codes "target" ∷ codes "permission" ∷ codes "file" ∷ [];
 }
+usage_of Flow = record common_usage {
+  options = one (codes "trust");
+  words = codes "source" ∷ codes "target" ∷ codes "file" ∷ [];
+}
 usage_of Entries = record file_usage {
   flags = codes "hex" ∷ codes "all" ∷ codes "verbose" ∷ [];
   options = codes "version" ∷ codes "script" ∷ codes "format" ∷ [];
@@ -76,7 +81,7 @@ usage_of Entries = record file_usage {
 }
 
 abbrev pub every_mode : List Mode
-every_mode = Play ∷ Run ∷ Explore ∷ Policy ∷ Rules ∷ Check ∷ Why ∷ Entries ∷ []
+every_mode = Play ∷ Run ∷ Explore ∷ Policy ∷ Rules ∷ Check ∷ Why ∷ Flow ∷ Entries ∷ []
 
 -- ---- the program, for the parser of command lines
 
@@ -114,8 +119,8 @@ pub data Sought : Type 0 where
 
 -- To play a script, to run one, to explore one, to find the text of a file among its texts, to list a policy, to list
 -- the rules, to check a policy or a script, to check a policy against the neverallow statements of a file, to explain
--- why a policy allows something, to answer the questions of the standard input about a policy, or to print the entries
--- of a dump, with the options and the FILE, none for standard input, and the further FILEs of a check; help; the
+-- why a policy allows something, to answer the questions of the standard input about a policy, to show by which path
+-- bytes of a type reach another one, or to print the entries of a dump, with the options and the FILE, none for standard input, and the further FILEs of a check; help; the
 -- version; or nothing that the program does. Only `play`, `run` and `policy` need to be asked for the reasons of a
 -- fault: the others take `--verbose` and give the reasons also without it.
 pub data Request : Type 0 where
@@ -129,6 +134,7 @@ pub data Request : Type 0 where
   to_check_never : Text → Format → Option Text → List (Option Text) → Request
   to_explain : Option Text → Option Text → Option Text → Option Text → Request
   to_explain_each : Text → Request
+  to_show_flow : Option Text → Option Text → Option Text → Option Text → Request
   to_tell_entries : ℕ → Bool → Bool → Option ℕ → Format → Option Text → Request
   for_help : Request
   for_version : Request
@@ -279,6 +285,13 @@ why_with (Some source) (Some target) None file = nothing
 why_with (Some source) (Some target) (Some permission) file =
     to_explain (type_of (Some source)) (type_of (Some target)) (type_of (Some permission)) file
 
+-- `SOURCE TARGET [FILE]`, with `--trust TYPES` or without
+abbrev pub flow_with : Option Text → Option Text → Option Text → Option Text → Request
+flow_with None target trusted file = nothing
+flow_with (Some source) None trusted file = nothing
+flow_with (Some source) (Some target) trusted file =
+    to_show_flow (type_of (Some source)) (type_of (Some target)) trusted file
+
 -- the lines of a script have no form as JSON
 abbrev pub entries_with : Option ℕ → Option (Option ℕ) → Option Format → Bool → Bool → Option Text → Request
 entries_with None script format hex every file = nothing
@@ -308,6 +321,8 @@ read Rules value = to_tell_rules (value (codes "file"))
 read Check value = check_with (format_of (value (codes "format"))) (is_true (value (codes "script")))
     (value (codes "never")) (value (codes "file")) (map value more_files)
 read Why value = why_with (value (codes "source")) (value (codes "target")) (value (codes "permission"))
+    (value (codes "file"))
+read Flow value = flow_with (value (codes "source")) (value (codes "target")) (value (codes "trust"))
     (value (codes "file"))
 read Entries value = entries_with (version_of (value (codes "version"))) (script_of (value (codes "script")))
     (format_of (value (codes "format"))) (is_true (value (codes "hex"))) (is_true (value (codes "all"))) (value (codes "file"))
@@ -379,6 +394,8 @@ asked_by_plan (plans.CheckNever never files) =
 asked_by_plan (plans.Why source target permission file) = to_explain (option_map (λ f. f.now) source)
     (option_map (λ f. f.now) target) (option_map (λ f. f.now) permission) (option_map (λ f. f.now) file)
 asked_by_plan (plans.WhyEach file) = to_explain_each file.now
+asked_by_plan (plans.Flow source target trusted file) = to_show_flow (option_map (λ f. f.now) source)
+    (option_map (λ f. f.now) target) (option_map (λ f. f.now) trusted) (option_map (λ f. f.now) file)
 asked_by_plan (plans.Entries dump format file) =
     to_tell_entries dump.version dump.hex dump.all dump.script format (option_map (λ f. f.now) file)
 

@@ -12,7 +12,7 @@ pub use Rattle.gt_commands.specs.declared.invocation.Format.{Format}
 pub use Rattle.gt_commands.specs.declared.invocation.Format.TheVariants.{Json, Text as Plain}
 pub use Rattle.gt_commands.specs.declared.invocation.Invocation.{Invocation}
 pub use Rattle.gt_commands.specs.declared.invocation.Mode.{Mode}
-pub use Rattle.gt_commands.specs.declared.invocation.Mode.TheVariants.{Check, Entries, Explore, Play, Policy, Rules}
+pub use Rattle.gt_commands.specs.declared.invocation.Mode.TheVariants.{Check, Entries, Explore, Flow, Play, Policy, Rules}
 pub use Rattle.gt_commands.specs.declared.invocation.Mode.TheVariants.{Run, Why}
 pub use Rattle.std.specs.Str.{bytes_eq}
 pub use Rattle.std.specs.Str.Parse.{digits_value, without_leading_plus}

@@ -13,6 +13,7 @@ Commands:
   rules    Explain the refusal rules N1 to N26: status, cause, remedy
   check    Report errors and useless statements in a policy or a script
   why      Show by which statements a policy allows something
+  flow     Show a path by which bytes of a type reach another one
   entries  Decode a dump of grant-table frames
   help     Print help, or the help of a command
 
@@ -27,9 +28,9 @@ such as `N19 -1` names the rule that refused the call, and its status: see
 Exit status of play, run and policy: 0 on success, 1 on a fault of the script,
 the policy, a file, memory or a thread.
 
-Exit status of explore, rules, check, why and entries: 0 if the answer is yes
-or nothing is wrong, 1 if the answer is no, 2 if there is no answer: a missing
-file, an unknown name, a text that can't be read, or a search given up.
+Exit status of explore, rules, check, why, flow and entries: 0 if the answer is
+yes or nothing is wrong, 1 if the answer is no, 2 if there is no answer: a
+missing file, an unknown name, a text that can't be read, or a search given up.
 
 A wrong command line exits with status 2.
 
@@ -153,6 +154,30 @@ Options:
 
 A - as SOURCE, TARGET or PERMISSION means any. With one word alone, it is the
 FILE, and the questions are lines SOURCE TARGET PERMISSION of standard input.
+";
+
+pub(crate) const FLOW: &str =
+    "Show a path by which bytes of one type reach another one under a policy
+
+Usage: gthost flow [OPTIONS] [SOURCE] [TARGET] [FILE]
+
+Arguments:
+  [SOURCE]  The type with the bytes
+  [TARGET]  The type that they may reach
+  [FILE]    The policy [default: standard input]
+
+Options:
+  -v, --verbose        Explain faults on stderr [always on]
+      --trust <TYPES>  Leave out stores by these types, joined by commas
+  -h, --help           Print help
+
+SOURCE and TARGET are types, attributes, or `-` for each type. An access is a
+load, a store or a copy that the policy allows. For one pair the output is the
+least number of accesses, and a line for each of them with what it asks for; for
+several, the number for each pair.
+
+Exit status: 0 if there is a path, 1 if there is none, 2 if there is no answer.
+With --trust, a type that is trusted passes on only what it chooses to store.
 ";
 
 pub(crate) const ENTRIES: &str =

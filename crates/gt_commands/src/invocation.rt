@@ -18,12 +18,14 @@ pub enum Mode {
     Check,
     /// Print the statements by which a policy allows something.
     Why,
+    /// Print a path by which bytes of a type reach another one.
+    Flow,
     /// Print the entries of a dump of a grant table.
     Entries,
 }
 
 /// The commands, in the order of the program's help.
-pub(crate) static MODES: [Mode; 8] = [
+pub(crate) static MODES: [Mode; 9] = [
     Mode::Play,
     Mode::Run,
     Mode::Explore,
@@ -31,6 +33,7 @@ pub(crate) static MODES: [Mode; 8] = [
     Mode::Rules,
     Mode::Check,
     Mode::Why,
+    Mode::Flow,
     Mode::Entries,
 ];
 
@@ -50,6 +53,7 @@ impl Mode {
             Mode::Rules => "rules",
             Mode::Check => "check",
             Mode::Why => "why",
+            Mode::Flow => "flow",
             Mode::Entries => "entries",
         }
     }
@@ -207,6 +211,13 @@ pub enum Invocation<'a> {
     /// Answer the questions of the standard input, a line each, about the policy of the file.
     WhyEach {
         file: &'a str,
+    },
+    /// `None` is any type. `trusted`: the names of trusted types, joined by commas.
+    Flow {
+        source: Option<&'a str>,
+        target: Option<&'a str>,
+        trusted: Option<&'a str>,
+        file: Option<&'a str>,
     },
     /// Print the entries of a dump.
     Entries {

@@ -5,7 +5,7 @@ ghost use Rattle.gt_commands.specs.Rules.{IsCommand, flag_rule, free_option, fre
 ghost use Rattle.gt_commands.specs.Commands.{bare_app, gthost_app, mode_app};
 ghost use Rattle.gt_commands.specs.declared.invocation.Mode.TheVariants as modes;
 
-use crate::help::{CHECK, ENTRIES, EXPLORE, HELP, PLAY, POLICY, RULES, RUN, WHY};
+use crate::help::{CHECK, ENTRIES, EXPLORE, FLOW, HELP, PLAY, POLICY, RULES, RUN, WHY};
 use crate::invocation::{MODES, Mode};
 use clap::{Arg, ArgAction, Command};
 use std::alloc::{AllocError, Global};
@@ -82,6 +82,14 @@ static WHY_PARTS: [Part; 5] = [
     Part::Word("permission", "PERMISSION"),
     FILE,
     VERBOSE,
+];
+
+static FLOW_PARTS: [Part; 5] = [
+    Part::Word("source", "SOURCE"),
+    Part::Word("target", "TARGET"),
+    FILE,
+    VERBOSE,
+    Part::Free("trust", "TYPES"),
 ];
 
 static ENTRIES_PARTS: [Part; 7] = [
@@ -175,6 +183,7 @@ fn mode_command<'a>(alloc: Global, mode: Mode) -> Result<Command<'a>, AllocError
         Mode::Rules => command_with(alloc, "rules", RULES, &RULES_PARTS),
         Mode::Check => check_command(alloc),
         Mode::Why => command_with(alloc, "why", WHY, &WHY_PARTS),
+        Mode::Flow => command_with(alloc, "flow", FLOW, &FLOW_PARTS),
         Mode::Entries => command_with(alloc, "entries", ENTRIES, &ENTRIES_PARTS),
     }
 }

@@ -9,6 +9,7 @@ ghost use Rattle.gt_commands.specs.Usage.{is_true};
 ghost use Rattle.gt_commands.specs.Commands.{request_in_words, asked_by_some, asked_named, check_with, entries_with};
 ghost use Rattle.gt_commands.specs.Commands.{IsInvocationOf, IsPlanOf, gthost_app, list_with};
 ghost use Rattle.gt_commands.specs.Commands.{command_name, mode_of, more_files, play_with, read, run_with, why_with};
+ghost use Rattle.gt_commands.specs.Commands.{flow_with};
 ghost use Rattle.gt_commands.specs.declared.invocation.Mode.TheVariants as modes;
 
 use crate::exploring::{explore_with, formed_of, one_sought};
@@ -159,6 +160,27 @@ fn why_with<'a>(
     }
 }
 
+fn flow_with<'a>(
+    source: Option<&'a str>,
+    target: Option<&'a str>,
+    trusted: Option<&'a str>,
+    file: Option<&'a str>,
+) -> Option<Invocation<'a>>
+    ensures { asked_by_some result ≡ flow_with (option_map (λ v. v.now) source.entry)
+        (option_map (λ v. v.now) target.entry) (option_map (λ v. v.now) trusted.entry)
+        (option_map (λ v. v.now) file.entry) }
+{
+    match (source, target) {
+        (Some(source), Some(target)) => Some(Invocation::Flow {
+            source: type_of(Some(source)),
+            target: type_of(Some(target)),
+            trusted,
+            file,
+        }),
+        _ => None,
+    }
+}
+
 fn entries_with<'a>(
     version: Option<u8>,
     script: Option<Option<u16>>,
@@ -256,6 +278,12 @@ fn read<'a>(mode: Mode, matches: &ArgMatches<'a>) -> Option<Invocation<'a>>
             value_of(matches, "permission"),
             file,
         ),
+        Mode::Flow => flow_with(
+            value_of(matches, "source"),
+            value_of(matches, "target"),
+            value_of(matches, "trust"),
+            file,
+        ),
         Mode::Entries => entries_with(
             version_of(value_of(matches, "version")),
             script_of(value_of(matches, "script")),
@@ -297,6 +325,7 @@ fn usage_text(mode: Option<Mode>) -> &'static str {
         Some(Mode::Rules) => "gthost rules [OPTIONS] [RULE]",
         Some(Mode::Check) => "gthost check [OPTIONS] [FILE]...",
         Some(Mode::Why) => "gthost why [OPTIONS] [SOURCE] [TARGET] [PERMISSION] [FILE]",
+        Some(Mode::Flow) => "gthost flow [OPTIONS] [SOURCE] [TARGET] [FILE]",
         Some(Mode::Entries) => "gthost entries [OPTIONS] --version <1|2> [FILE]",
         None => "gthost <COMMAND>",
     }
@@ -369,6 +398,10 @@ fn refused_value<'a>(
         Some(Mode::Entries) => refused_by_entries(matches),
         Some(Mode::Why) => (
             "why takes SOURCE, TARGET and PERMISSION, or one FILE and questions on standard input",
+            None,
+        ),
+        Some(Mode::Flow) => (
+            "flow takes SOURCE and TARGET, each a type, an attribute or -",
             None,
         ),
         _ => refused_format(matches),

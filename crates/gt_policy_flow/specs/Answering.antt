@@ -1,0 +1,64 @@
+-- What is written for a question.
+use Rattle.std.specs.Prelude.{◌≡◌, ℕ, Bool, List, Option, Some, Result, Ok, Err}
+use Rattle.std.specs.Io.KnownBytes.{Appends, Keeps}
+use Rattle.std.specs.Str.{IsUtf8}
+use Rattle.gt_policy.specs.Shown.{fault_shown}
+use Rattle.gt_policy.specs.Whole.{ReadsAs}
+use Rattle.gt_policy.specs.declared.fault.TokenFault.{TokenFault}
+use Rattle.gt_policy_list.specs.Reading.{IsFaulty, IsNotUtf8At}
+use Rattle.gt_policy_list.specs.declared.fault.ListingFault.TheVariants.{Memory, Policy, Read, Utf8, Write}
+use Rattle.gt_text.specs.Streams.{AppendsBeginning}
+use Rattle.gt_policy_flow.specs.Asking.{IsFlowOf, answer_of}
+use Rattle.gt_policy_flow.specs.declared.asking.FlowAnswer.{FlowAnswer}
+use Rattle.gt_policy_flow.specs.declared.asking.FlowAnswer.TheVariants as answers
+use Rattle.gt_policy_flow.specs.declared.asking.FlowQuestion.{FlowQuestion}
+use Rattle.gt_policy_flow.specs.declared.asking.FlowReport.{FlowReport}
+use Rattle.gt_policy_flow.specs.declared.fault.FlowFault.{FlowFault}
+use Rattle.gt_policy_flow.specs.declared.fault.FlowFault.TheVariants.{NoSource, NoTarget, NoTrusted, Text}
+
+-- the policy of the text has this answer to the question
+abbrev pub HasAnswer : List ℕ → FlowQuestion → FlowAnswer → FlowReport → Type 0
+HasAnswer text q answer report = IsFlowOf text q report × (report.answer ≡ answer)
+
+-- the lines went out, or a prefix of them
+abbrev pub WritesFlow : List ℕ → Bool → Option (List ℕ) → Option (List ℕ) → Result Bool FlowFault → Type 0
+WritesFlow lines has old new (Ok answer) = (answer ≡ has) × Appends old new lines
+WritesFlow lines has old new (Err NoSource) = ⊥
+WritesFlow lines has old new (Err NoTarget) = ⊥
+WritesFlow lines has old new (Err NoTrusted) = ⊥
+WritesFlow lines has old new (Err (Text Write)) = AppendsBeginning old new lines
+WritesFlow lines has old new (Err (Text Memory)) = ⊥
+WritesFlow lines has old new (Err (Text Read)) = ⊥
+WritesFlow lines has old new (Err (Text (Utf8 line))) = ⊥
+WritesFlow lines has old new (Err (Text (Policy shown))) = ⊥
+
+-- What was written for a question about a text, by the result: at Ok the lines of its answer, whether there is a path;
+-- nothing if a name of the question is unknown.
+abbrev pub FlowsOf : FlowQuestion → List ℕ → Option (List ℕ) → Option (List ℕ) → Result Bool FlowFault → Type 0
+FlowsOf q text old new (Ok has) =
+    (report : FlowReport) × HasAnswer text q (answer_of has) report × Appends old new report.lines.items
+FlowsOf q text old new (Err NoSource) = ((report : FlowReport) × HasAnswer text q answers.NoSource report) × Keeps old new
+FlowsOf q text old new (Err NoTarget) = ((report : FlowReport) × HasAnswer text q answers.NoTarget report) × Keeps old new
+FlowsOf q text old new (Err NoTrusted) =
+    ((report : FlowReport) × HasAnswer text q answers.NoTrusted report) × Keeps old new
+FlowsOf q text old new (Err (Text Write)) =
+    (has : Bool) × (report : FlowReport) × HasAnswer text q (answer_of has) report
+    × AppendsBeginning old new report.lines.items
+FlowsOf q text old new (Err (Text Memory)) = Keeps old new
+FlowsOf q text old new (Err (Text Read)) = ⊥
+FlowsOf q text old new (Err (Text (Utf8 line))) = ⊥
+FlowsOf q text old new (Err (Text (Policy shown))) =
+    (f : TokenFault) × (fault_shown shown ≡ Some f) × ReadsAs text (Err f) × Keeps old new
+
+-- the same for bytes; nothing if they are too many or not UTF-8
+abbrev pub Flowed : FlowQuestion → List ℕ → Option (List ℕ) → Option (List ℕ) → Result Bool FlowFault → Type 0
+Flowed q bytes old new (Ok has) = IsUtf8 bytes × FlowsOf q bytes old new (Ok has)
+Flowed q bytes old new (Err NoSource) = IsUtf8 bytes × FlowsOf q bytes old new (Err NoSource)
+Flowed q bytes old new (Err NoTarget) = IsUtf8 bytes × FlowsOf q bytes old new (Err NoTarget)
+Flowed q bytes old new (Err NoTrusted) = IsUtf8 bytes × FlowsOf q bytes old new (Err NoTrusted)
+Flowed q bytes old new (Err (Text Write)) = IsUtf8 bytes × FlowsOf q bytes old new (Err (Text Write))
+Flowed q bytes old new (Err (Text Memory)) = Keeps old new
+Flowed q bytes old new (Err (Text Read)) = Keeps old new
+Flowed q bytes old new (Err (Text (Utf8 line))) = IsNotUtf8At bytes line × Keeps old new
+Flowed q bytes old new (Err (Text (Policy shown))) =
+    (f : TokenFault) × (fault_shown shown ≡ Some f) × IsFaulty bytes f × Keeps old new

@@ -1,0 +1,96 @@
+-- A question about a policy text, and its answer.
+use Rattle.std.specs.Prelude.{◌≡◌, ℕ, zero, suc, ◌==◌, ◌&&◌, not, Bool, true, false, List, [], ◌∷◌, ◌++◌, length, map}
+use Rattle.std.specs.Prelude.{Option, Some, None, is_some, if◌then◌else◌, Ok}
+use Rattle.std.specs.List.{flat_map, list_all, slice_get}
+use Rattle.std.specs.Option.{option_map}
+use Rattle.gt_types.specs.declared.TypeId.{TypeId}
+use Rattle.gt_flow.specs.Flow.{AllowRelation}
+use Rattle.gt_policy.specs.Allowing.{Meaning, is_allowed}
+use Rattle.gt_policy.specs.Lined.{IsLined}
+use Rattle.gt_policy.specs.Whole.{ReadsAs}
+use Rattle.gt_policy.specs.declared.lined.LinedStatement.{LinedStatement}
+use Rattle.gt_policy_check.specs.Members.{is_asked, members_of}
+use Rattle.gt_policy_check.specs.declared.members.Member.{Member}
+use Rattle.gt_policy_flow.specs.Flows.{is_among}
+use Rattle.gt_policy_flow.specs.Pairs.{AnswersAll}
+use Rattle.gt_policy_flow.specs.declared.asking.FlowAnswer.{FlowAnswer}
+use Rattle.gt_policy_flow.specs.declared.asking.FlowAnswer.TheVariants as answers
+use Rattle.gt_policy_flow.specs.declared.asking.FlowQuestion.{FlowQuestion}
+use Rattle.gt_policy_flow.specs.declared.asking.FlowReport.{FlowReport}
+use Rattle.gt_policy_flow.specs.declared.pairs.PairForm.{PairForm}
+use Rattle.gt_policy_flow.specs.declared.pairs.PairForm.TheVariants as forms
+
+-- a type is asked for, by its number
+abbrev pub asked_by : Option Member → Option (List ℕ) → Bool
+asked_by None asked = false
+asked_by (Some member) asked = is_asked asked member.names
+
+abbrev pub asked_at : List Member → Option (List ℕ) → ℕ → Bool
+asked_at members asked id = asked_by (slice_get members id) asked
+
+-- a type, if it is asked for
+abbrev pub id_if : Bool → ℕ → List TypeId
+id_if true id = record { 0 = id } ∷ []
+id_if false id = []
+
+-- the types that are asked for, of this number of types
+unfoldable pub ids_asked : List Member → Option (List ℕ) → ℕ → List TypeId
+ids_asked members asked zero = []
+ids_asked members asked (suc n) = ids_asked members asked n ++ id_if (asked_at members asked n) n
+
+-- the types of these names
+abbrev pub trusted_by : List Member → ℕ → List (List ℕ) → List TypeId
+trusted_by members count names = flat_map (λ n. ids_asked members (Some n) count) names
+
+-- each of these names is that of some type
+abbrev pub are_known : List Member → ℕ → List (List ℕ) → Bool
+are_known members count names = list_all (λ n. not (length (ids_asked members (Some n) count) == 0)) names
+
+-- the form of the answers: for one source and one target that are asked for, for several pairs, or for what is reached
+abbrev pub form_of : Bool → ℕ → ℕ → PairForm
+form_of false sources targets = forms.Reached
+form_of true sources targets = if (sources == 1) && (targets == 1) then forms.Steps else forms.Pairs
+
+-- the answer, by whether there is a path
+abbrev pub answer_of : Bool → FlowAnswer
+answer_of true = answers.Path
+answer_of false = answers.NoPath
+
+-- the lines are those of all pairs, and the answer is whether one of them has a path
+abbrev pub Reports : AllowRelation → (TypeId → Bool) → List LinedStatement → List Member → PairForm → List TypeId
+    → List TypeId → FlowReport → Type 0
+Reports may trusted xs members form sources targets report =
+    (has : Bool) × AnswersAll may trusted xs members form targets sources report.lines.items has
+    × (report.answer ≡ answer_of has)
+
+-- an answer without lines
+abbrev pub IsBare : FlowAnswer → FlowReport → Type 0
+IsBare answer report = (report.answer ≡ answer) × (report.lines.items ≡ [])
+
+-- some name is not that of a type, of the trusted ones, the source or the target, in this order; or all are
+abbrev pub ReportsBy : Bool → ℕ → ℕ → (FlowReport → Type 0) → FlowReport → Type 0
+ReportsBy false sources targets Answered report = IsBare answers.NoTrusted report
+ReportsBy true zero targets Answered report = IsBare answers.NoSource report
+ReportsBy true (suc n) zero Answered report = IsBare answers.NoTarget report
+ReportsBy true (suc n) (suc k) Answered report = Answered report
+
+-- the answer to a question, for a policy with this number of types
+abbrev pub IsReport : AllowRelation → ℕ → List LinedStatement → FlowQuestion → FlowReport → Type 0
+IsReport may count xs q report =
+    let members = members_of xs None in
+    let sources = ids_asked members (option_map (λ a. a.now) q.source) count in
+    let targets = ids_asked members (option_map (λ a. a.now) q.target) count in
+    let names = map (λ n. n.now) q.trusted.now in
+    ReportsBy (are_known members count names) (length sources) (length targets)
+    (Reports may (is_among (trusted_by members count names)) xs members
+    (form_of (is_some q.source && is_some q.target) (length sources) (length targets)) sources targets) report
+
+-- what the types of a policy may do, by their numbers
+abbrev pub relation_of : Meaning → AllowRelation
+relation_of m source target perm = is_allowed m source.0 target.0 perm
+
+-- the answer to a question about a text
+abbrev pub IsFlowOf : List ℕ → FlowQuestion → FlowReport → Type 0
+IsFlowOf text q report =
+    (m : Meaning) × (xs : List LinedStatement) × ReadsAs text (Ok m) × IsLined text xs
+    × IsReport (relation_of m) (length m.types) xs q report

@@ -1,0 +1,81 @@
+//! Answers a question about the flows of a policy, and writes the lines.
+ghost use Rattle.std.specs.Prelude.{◌≡◌, ◌+◌, ℕ, List, take};
+ghost use Rattle.gt_types.specs.declared.limits.TheConstants.{LONGEST_TEXT};
+ghost use Rattle.gt_text.specs.Streams.{OfInput};
+ghost use Rattle.gt_policy_flow.specs.Answering.{Flowed, FlowsOf, WritesFlow};
+
+use crate::asking::{FlowAnswer, FlowQuestion, FlowReport, flow};
+use crate::fault::FlowFault;
+use gt_policy_list::{ListingFault, policy_text};
+use gt_text::{finish, read_text};
+use std::alloc::Global;
+use std::io::{Read, Write};
+
+// Writes the lines of an answer.
+fn write_lines<W: Write>(lines: &[u8], has_path: bool, writer: &mut W) -> Result<bool, FlowFault>
+    ensures { WritesFlow lines.now has_path (W.contents writer.old) (W.contents writer.new) result }
+{
+    match finish(writer, lines) {
+        Ok(()) => Ok(has_path),
+        Err(_) => Err(FlowFault::Text(ListingFault::Write)),
+    }
+}
+
+// Answers a question about a text.
+fn answer_text<W: Write>(
+    alloc: Global,
+    question: &FlowQuestion,
+    text: &str,
+    writer: &mut W,
+) -> Result<bool, FlowFault>
+    ensures { FlowsOf question.now text.now (W.contents writer.old) (W.contents writer.new) result }
+{
+    let FlowReport { answer, lines } = match flow(alloc, text, question) {
+        Ok(report) => report,
+        Err(fault) => return Err(FlowFault::Text(ListingFault::from(fault))),
+    };
+    match answer {
+        FlowAnswer::Path => write_lines(lines.as_slice(), true, writer),
+        FlowAnswer::NoPath => write_lines(lines.as_slice(), false, writer),
+        FlowAnswer::NoSource => Err(FlowFault::NoSource),
+        FlowAnswer::NoTarget => Err(FlowFault::NoTarget),
+        FlowAnswer::NoTrusted => Err(FlowFault::NoTrusted),
+    }
+}
+
+// Answers a question about the policy of the bytes that were read: all, or the first up to the read limit.
+fn answer_bytes<W: Write>(
+    alloc: Global,
+    question: &FlowQuestion,
+    input: &[u8],
+    writer: &mut W,
+) -> Result<bool, FlowFault>
+    ensures { (all : List ℕ) → input.now ≡ take (LONGEST_TEXT + 1) all →
+        Flowed question.now all (W.contents writer.old) (W.contents writer.new) result }
+{
+    match policy_text(input) {
+        Ok(text) => answer_text(alloc, question, text, writer),
+        Err(fault) => Err(FlowFault::Text(fault)),
+    }
+}
+
+/// Answers a question about a policy: whether bytes of the source reach the target. Writes the lines of the answer, and
+/// returns whether there is a path. At most 1,048,577 bytes are read.
+///
+/// # Errors
+/// The text is not a policy, a name of the question is unknown, or a read or an allocation failed: then nothing was
+/// written. After a failed write, a prefix of the lines was written.
+pub fn answer<R: Read, W: Write>(
+    alloc: Global,
+    question: &FlowQuestion,
+    reader: &mut R,
+    writer: &mut W,
+) -> Result<bool, FlowFault>
+    ensures { OfInput (R.remaining reader.old) (λ input.
+        Flowed question.now input (W.contents writer.old) (W.contents writer.new) result) }
+{
+    match read_text(alloc, reader) {
+        Ok(input) => answer_bytes(alloc, question, input.as_slice(), writer),
+        Err(fault) => Err(FlowFault::Text(ListingFault::from(fault))),
+    }
+}

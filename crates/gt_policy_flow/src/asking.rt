@@ -1,0 +1,251 @@
+//! Answers whether bytes of a type reach another one by a policy text.
+ghost use Rattle.std.specs.Prelude.{◌≡◌, ◌&&◌, ◌++◌, [], IfErr, IfOk, None, OnOk, Ok, Err, Some, is_some, length, map};
+ghost use Rattle.std.specs.List.{list_any};
+ghost use Rattle.std.specs.Option.{option_map};
+ghost use Rattle.std.specs.Str.{bytes_eq};
+ghost use Rattle.gt_policy.specs.Allowing.{may_of};
+ghost use Rattle.gt_policy.specs.Shown.{fault_shown, out_of_memory};
+ghost use Rattle.gt_policy.specs.Whole.{ReadsAs};
+ghost use Rattle.gt_policy.specs.declared.fault.TokenFault.{TokenFault};
+ghost use Rattle.gt_policy_check.specs.Members.{is_asked, members_of};
+ghost use Rattle.gt_policy_flow.specs.Asking.{IsFlowOf, IsReport, Reports, are_known, asked_at, form_of, ids_asked, trusted_by};
+ghost use Rattle.gt_policy_flow.specs.Flows.{AreAmong, is_among};
+
+use crate::pairs::{PairForm, push_sources};
+use crate::steps::ReadPolicy;
+use gt_policy::{
+    AllowTable, LinedStatement, Policy, PolicyFault, PolicyFaultKind, TextPiece, statements_of,
+};
+use gt_policy_check::{Member, members_of};
+use gt_types::{Allows, TypeId};
+use std::alloc::{AllocError, Global};
+
+/// A question: do bytes of the source reach the target? The name of an attribute asks for each type that has it. None
+/// asks for each declared type. Stores by domains of the trusted types are left out.
+#[derive(Clone, Copy)]
+pub struct FlowQuestion<'q> {
+    pub source: Option<&'q str>,
+    pub target: Option<&'q str>,
+    pub trusted: &'q [&'q str],
+}
+
+/// The answer of a policy to a question.
+#[derive(Clone, Copy, Debug, PartialEq, Eq)]
+pub enum FlowAnswer {
+    /// There is a path from some source to some target.
+    Path,
+    /// There is none.
+    NoPath,
+    /// The source is not a declared type, and no declared type has it as an attribute.
+    NoSource,
+    /// The same of the target.
+    NoTarget,
+    /// The same of a trusted type.
+    NoTrusted,
+}
+
+/// An answer, with its lines. For one source and one target: `SOURCE -> TARGET  N`, where N is the number of accesses,
+/// and a line for each access of a shortest path; or `SOURCE -> TARGET  none`. For several pairs, a line for each. If
+/// the question asks for each type, only pairs with a path have a line. For the other answers there are no lines.
+#[derive(Drop)]
+pub struct FlowReport {
+    pub answer: FlowAnswer,
+    pub lines: Vec<u8>,
+}
+
+// Returns whether a name is among these.
+fn has_name(names: &[TextPiece], wanted: &[u8]) -> bool
+    ensures { result ≡ list_any (λ v. bytes_eq v wanted.now) names.now }
+{
+    'names: for name in names {
+        if name.as_bytes() == wanted {
+            return true;
+        }
+    }
+    false
+}
+
+// Returns whether the type of this number is asked for.
+fn is_asked_at(members: &[Member], asked: Option<&str>, id: u16) -> bool
+    ensures { result ≡ asked_at members.now (option_map (λ a. a.now) asked.entry) id }
+{
+    match (members.get(id as usize), asked) {
+        (None, _) => false,
+        (Some(_), None) => true,
+        (Some(member), Some(wanted)) => has_name(member.names.as_slice(), wanted.as_bytes()),
+    }
+}
+
+// Returns the types that are asked for.
+fn ids_asked(
+    alloc: Global,
+    members: &[Member],
+    count: u16,
+    asked: Option<&str>,
+) -> Result<Vec<TypeId>, AllocError>
+    ensures { IfOk result (λ ids. ids.items ≡ ids_asked members.now (option_map (λ a. a.now) asked.entry) count) }
+{
+    let mut ids = Vec::new(alloc);
+    'types: for id in 0..count {
+        if is_asked_at(members, asked, id) {
+            ids.push(TypeId(id))?;
+        }
+    }
+    Ok(ids)
+}
+
+// Adds the types of these names, and returns whether each name is that of some type.
+fn push_trusted(
+    alloc: Global,
+    trusted: &mut Vec<TypeId>,
+    members: &[Member],
+    count: u16,
+    names: &[&str],
+) -> Result<bool, AllocError>
+    ensures ids { OnOk result (trusted.new.items
+        ≡ trusted.old.items ++ trusted_by members.now count (map (λ n. n.now) names.now)) }
+    ensures known { IfOk result (λ known. known ≡ are_known members.now count (map (λ n. n.now) names.now)) }
+{
+    match names {
+        [] => Ok(true),
+        [name, rest @ ..] => {
+            let ids = ids_asked(alloc, members, count, Some(*name))?;
+            let is_known = !ids.is_empty();
+            trusted.extend_from_slice(ids.as_slice())?;
+            let others = push_trusted(alloc, trusted, members, count, rest)?;
+            Ok(is_known && others)
+        }
+    }
+}
+
+// Returns the form of the answers.
+fn form_of(question: &FlowQuestion, sources: &[TypeId], targets: &[TypeId]) -> PairForm
+    ensures { result ≡ form_of (is_some question.now.source && is_some question.now.target) (length sources.now) (length targets.now) }
+{
+    if question.source.is_none() || question.target.is_none() {
+        PairForm::Reached
+    } else if sources.len() == 1 && targets.len() == 1 {
+        PairForm::Steps
+    } else {
+        PairForm::Pairs
+    }
+}
+
+// Returns an answer without lines.
+fn bare(alloc: Global, answer: FlowAnswer) -> FlowReport
+    ensures answer { result.answer ≡ answer }
+    ensures lines { result.lines.items ≡ [] }
+{
+    FlowReport {
+        answer,
+        lines: Vec::new(alloc),
+    }
+}
+
+// Answers for these sources and targets.
+fn answered<P: Allows>(
+    alloc: Global,
+    read: &ReadPolicy<'_, '_, P>,
+    form: PairForm,
+    count: u16,
+    sources: &[TypeId],
+    targets: &[TypeId],
+) -> Result<FlowReport, AllocError>
+    requires { AreAmong count (P.may read.now.policy.now) }
+    ensures { IfOk result (λ report. Reports (P.may read.now.policy.now) (is_among read.now.trusted.now)
+        read.now.statements.now read.now.members.now form sources.now targets.now report) }
+{
+    let mut lines = Vec::new(alloc);
+    let has_path = push_sources(alloc, &mut lines, read, form, count, sources, targets)?;
+    let answer = if has_path {
+        FlowAnswer::Path
+    } else {
+        FlowAnswer::NoPath
+    };
+    Ok(FlowReport { answer, lines })
+}
+
+// Answers a question about a policy that was read.
+fn report<P: Allows>(
+    alloc: Global,
+    policy: &P,
+    count: u16,
+    statements: &[LinedStatement],
+    question: &FlowQuestion,
+) -> Result<FlowReport, AllocError>
+    requires { AreAmong count (P.may policy.now) }
+    ensures { IfOk result (λ report. IsReport (P.may policy.now) count statements.now question.now report) }
+{
+    let members = members_of(alloc, statements, None)?;
+    let sources = ids_asked(alloc, members.as_slice(), count, question.source)?;
+    let targets = ids_asked(alloc, members.as_slice(), count, question.target)?;
+    let mut trusted = Vec::new(alloc);
+    let are_known = push_trusted(
+        alloc,
+        &mut trusted,
+        members.as_slice(),
+        count,
+        question.trusted,
+    )?;
+    if !are_known {
+        return Ok(bare(alloc, FlowAnswer::NoTrusted));
+    }
+    if sources.is_empty() {
+        return Ok(bare(alloc, FlowAnswer::NoSource));
+    }
+    if targets.is_empty() {
+        return Ok(bare(alloc, FlowAnswer::NoTarget));
+    }
+    let form = form_of(question, sources.as_slice(), targets.as_slice());
+    let read = ReadPolicy {
+        policy,
+        members: members.as_slice(),
+        statements,
+        trusted: trusted.as_slice(),
+    };
+    answered(
+        alloc,
+        &read,
+        form,
+        count,
+        sources.as_slice(),
+        targets.as_slice(),
+    )
+}
+
+// Returns the fault of a failed allocation.
+fn out_of_memory() -> PolicyFault
+    ensures { result ≡ out_of_memory }
+{
+    PolicyFault {
+        line: 0,
+        kind: PolicyFaultKind::Memory,
+    }
+}
+
+/// Answers whether bytes of the source reach the target by the policy of a text, and by which accesses.
+///
+/// # Errors
+/// The first fault of a text that is not a policy. If an allocation fails, it is [`PolicyFaultKind::Memory`] with line 0.
+pub fn flow(alloc: Global, text: &str, question: &FlowQuestion) -> Result<FlowReport, PolicyFault>
+    ensures ok { IfOk result (λ report. IsFlowOf text.now question.now report) }
+    ensures fault { IfErr result (λ e. (f : TokenFault) → fault_shown e ≡ Some f → ReadsAs text.now (Err f)) }
+    ensures memory { IfErr result (λ e. fault_shown e ≡ None → e ≡ out_of_memory) }
+{
+    let policy = Policy::parse(alloc, text)?;
+    let statements = statements_of(alloc, text)?;
+    policy.allows_among_its_types();
+    let Ok(table) = AllowTable::compile(alloc, &policy) else {
+        return Err(out_of_memory());
+    };
+    match report(
+        alloc,
+        &table,
+        policy.count(),
+        statements.as_slice(),
+        question,
+    ) {
+        Ok(report) => Ok(report),
+        Err(_) => Err(out_of_memory()),
+    }
+}

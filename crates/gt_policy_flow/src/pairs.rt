@@ -1,0 +1,143 @@
+//! The answers for pairs of types: whether bytes of the one reach the other.
+ghost use Rattle.std.specs.Prelude.{◌≡◌, ◌++◌, OnOk};
+ghost use Rattle.std.specs.Option.{option_map};
+ghost use Rattle.gt_policy_flow.specs.Flows.{AreAmong, is_among};
+ghost use Rattle.gt_policy_flow.specs.Pairs.{AppendsBlock, AppendsSources, AppendsTargets, block_text, leaves_out};
+ghost use Rattle.gt_policy_flow.specs.Paths.{IsSearched};
+
+use crate::searching::{ReachedTypes, search};
+use crate::steps::{ReadPolicy, push_pair, push_path};
+use gt_text::{push_number, push_text};
+use gt_types::{Allows, TypeId};
+use std::alloc::{AllocError, Global};
+
+/// What is printed for a pair of types.
+#[derive(Clone, Copy)]
+pub(crate) enum PairForm {
+    /// The number of accesses or `none`, and the steps of the path.
+    Steps,
+    /// The number of accesses or `none`. Nothing for a type and itself.
+    Pairs,
+    /// The number of accesses. Nothing if there is no path, nor for a type and itself.
+    Reached,
+}
+
+// Appends the answer for a pair, by its path.
+fn push_block<P: Allows>(
+    out: &mut Vec<u8>,
+    read: &ReadPolicy<'_, '_, P>,
+    form: PairForm,
+    source: TypeId,
+    target: TypeId,
+    path: Option<&[TypeId]>,
+) -> Result<(), AllocError>
+    ensures { OnOk result (out.new.items ≡ out.old.items ++ block_text (P.may read.now.policy.now)
+        (is_among read.now.trusted.now) read.now.statements.now read.now.members.now form source target
+        (option_map (λ p. p.now) path.entry)) }
+{
+    match (path, form) {
+        (None, PairForm::Reached) => Ok(()),
+        (None, _) => {
+            push_pair(out, read.members, source, target)?;
+            push_text(out, "none\n")
+        }
+        (Some(path), form) => {
+            push_pair(out, read.members, source, target)?;
+            push_number(out, path.len())?;
+            push_text(out, "\n")?;
+            match form {
+                PairForm::Steps => push_path(out, read, source, path),
+                _ => Ok(()),
+            }
+        }
+    }
+}
+
+// Returns whether a pair is left out: a type and itself, unless it is the only pair.
+fn leaves_out(form: PairForm, source: TypeId, target: TypeId) -> bool
+    ensures { result ≡ leaves_out form source target }
+{
+    match form {
+        PairForm::Steps => false,
+        PairForm::Pairs | PairForm::Reached => source.0 == target.0,
+    }
+}
+
+// Appends the answer for a source and one target, and returns whether there is a path.
+fn push_target<P: Allows>(
+    alloc: Global,
+    out: &mut Vec<u8>,
+    read: &ReadPolicy<'_, '_, P>,
+    form: PairForm,
+    found: &ReachedTypes,
+    source: TypeId,
+    target: TypeId,
+) -> Result<bool, AllocError>
+    requires { IsSearched (P.may read.now.policy.now) (is_among read.now.trusted.now) source found.now }
+    ensures { AppendsBlock (P.may read.now.policy.now) (is_among read.now.trusted.now) read.now.statements.now
+        read.now.members.now form source target out.old.items out.new.items result }
+{
+    if leaves_out(form, source, target) {
+        return Ok(false);
+    }
+    match found.path_to(alloc, target)? {
+        Some(path) => {
+            push_block(out, read, form, source, target, Some(path.as_slice()))?;
+            Ok(true)
+        }
+        None => {
+            push_block(out, read, form, source, target, None)?;
+            Ok(false)
+        }
+    }
+}
+
+// Appends the answers for a source and these targets, and returns whether there is a path to one of them.
+fn push_targets<P: Allows>(
+    alloc: Global,
+    out: &mut Vec<u8>,
+    read: &ReadPolicy<'_, '_, P>,
+    form: PairForm,
+    found: &ReachedTypes,
+    source: TypeId,
+    targets: &[TypeId],
+) -> Result<bool, AllocError>
+    requires { IsSearched (P.may read.now.policy.now) (is_among read.now.trusted.now) source found.now }
+    ensures { AppendsTargets (P.may read.now.policy.now) (is_among read.now.trusted.now) read.now.statements.now
+        read.now.members.now form source targets.now out.old.items out.new.items result }
+{
+    match targets {
+        [] => Ok(false),
+        [target, rest @ ..] => {
+            let first = push_target(alloc, out, read, form, found, source, *target)?;
+            let others = push_targets(alloc, out, read, form, found, source, rest)?;
+            Ok(first || others)
+        }
+    }
+}
+
+// Appends the answers for these sources and targets, and returns whether there is a path from one of the sources to one
+// of the targets. Each source is searched from once.
+pub(crate) fn push_sources<P: Allows>(
+    alloc: Global,
+    out: &mut Vec<u8>,
+    read: &ReadPolicy<'_, '_, P>,
+    form: PairForm,
+    count: u16,
+    sources: &[TypeId],
+    targets: &[TypeId],
+) -> Result<bool, AllocError>
+    requires { AreAmong count (P.may read.now.policy.now) }
+    ensures { AppendsSources (P.may read.now.policy.now) (is_among read.now.trusted.now) read.now.statements.now
+        read.now.members.now form sources.now targets.now out.old.items out.new.items result }
+{
+    match sources {
+        [] => Ok(false),
+        [source, rest @ ..] => {
+            let found = search(alloc, read.policy, read.trusted, count, *source)?;
+            let first = push_targets(alloc, out, read, form, &found, *source, targets)?;
+            let others = push_sources(alloc, out, read, form, count, rest, targets)?;
+            Ok(first || others)
+        }
+    }
+}

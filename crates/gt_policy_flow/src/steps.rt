@@ -1,0 +1,176 @@
+//! A path as text: a line for each access, with the statements that allow it.
+ghost use Rattle.std.specs.Prelude.{◌≡◌, ◌++◌, codes, OnOk, find};
+ghost use Rattle.gt_policy_check.specs.Granting.{gives_one};
+ghost use Rattle.gt_policy_flow.specs.Flows.{is_among};
+ghost use Rattle.gt_policy_flow.specs.Steps.{access_text, first_line, line_between, name_in, pair_text, path_text, permission_text, step_text};
+
+use crate::flows::{Access, access_between, is_among};
+use gt_policy::{LinedStatement, Statement};
+use gt_policy_check::{Member, gives_source, reaches};
+use gt_text::{push_number, push_text};
+use gt_types::{Allows, Perms, TypeId};
+use std::alloc::AllocError;
+
+/// A policy with what it was read from: its types, in the order of their numbers, and its statements. And the types
+/// that are trusted.
+#[derive(Clone, Copy)]
+pub(crate) struct ReadPolicy<'t, 'a, P> {
+    pub policy: &'t P,
+    pub members: &'t [Member<'a>],
+    pub statements: &'t [LinedStatement<'a>],
+    pub trusted: &'t [TypeId],
+}
+
+// Returns the name of a type.
+fn name_in<'t>(members: &'t [Member<'_>], id: TypeId) -> &'t str
+    ensures { result.now ≡ name_in members.entry.now id }
+{
+    match members.get(id.0 as usize) {
+        Some(member) => member.name.as_str(),
+        None => "",
+    }
+}
+
+// Returns whether a statement grants the permission to the source on the target.
+fn grants(statement: &Statement, source: &Member, target: &Member, perm: &str) -> bool
+    ensures { result ≡ gives_one perm.now source.now target.now statement.now }
+{
+    match statement {
+        Statement::Allow(allowed) => {
+            gives_source(allowed, source, perm) && reaches(allowed, source, target)
+        }
+        _ => false,
+    }
+}
+
+// Returns the line of the first statement that grants the permission, or 0.
+fn first_line(statements: &[LinedStatement], source: &Member, target: &Member, perm: &str) -> u32
+    ensures { result ≡ first_line statements.now source.now target.now perm.now }
+{
+    'statements: for stated in statements {
+        if grants(&stated.statement, source, target, perm) {
+            return stated.line;
+        }
+    }
+    0
+}
+
+// Returns the line of the first statement that grants the permission to a type on a type, or 0.
+fn line_between(
+    statements: &[LinedStatement],
+    members: &[Member],
+    source: TypeId,
+    target: TypeId,
+    perm: &str,
+) -> u32
+    ensures { result ≡ line_between statements.now members.now source target perm.now }
+{
+    match (
+        members.get(source.0 as usize),
+        members.get(target.0 as usize),
+    ) {
+        (Some(source), Some(target)) => first_line(statements, source, target, perm),
+        _ => 0,
+    }
+}
+
+/// Appends the names of two types.
+pub(crate) fn push_pair(
+    out: &mut Vec<u8>,
+    members: &[Member],
+    x: TypeId,
+    y: TypeId,
+) -> Result<(), AllocError>
+    ensures { OnOk result (out.new.items ≡ out.old.items ++ pair_text members.now x y) }
+{
+    push_text(out, name_in(members, x))?;
+    push_text(out, " -> ")?;
+    push_text(out, name_in(members, y))?;
+    push_text(out, "  ")
+}
+
+// Appends a permission of one type on another, with the line of the first statement that grants it.
+fn push_permission<P>(
+    out: &mut Vec<u8>,
+    read: &ReadPolicy<'_, '_, P>,
+    source: TypeId,
+    target: TypeId,
+    perm: &str,
+) -> Result<(), AllocError>
+    ensures { OnOk result (out.new.items ≡ out.old.items ++ permission_text
+        read.now.statements.now read.now.members.now source target perm.now) }
+{
+    push_text(out, perm)?;
+    push_text(out, " (line ")?;
+    push_number(
+        out,
+        line_between(read.statements, read.members, source, target, perm),
+    )?;
+    push_text(out, ")")
+}
+
+// Appends what an access asks for.
+fn push_access<P>(
+    out: &mut Vec<u8>,
+    read: &ReadPolicy<'_, '_, P>,
+    x: TypeId,
+    y: TypeId,
+    access: Option<Access>,
+) -> Result<(), AllocError>
+    ensures { OnOk result (out.new.items ≡ out.old.items
+        ++ access_text read.now.statements.now read.now.members.now x y access) }
+{
+    match access {
+        Some(Access::Load) => push_permission(out, read, y, x, "map_read"),
+        Some(Access::Copy) => push_permission(out, read, x, y, "copy"),
+        Some(Access::Store) => {
+            push_permission(out, read, x, y, "map_read")?;
+            push_text(out, ", ")?;
+            push_permission(out, read, x, y, "map_write")
+        }
+        None => Ok(()),
+    }
+}
+
+// Appends a line of a path.
+fn push_step<P: Allows>(
+    out: &mut Vec<u8>,
+    read: &ReadPolicy<'_, '_, P>,
+    x: TypeId,
+    y: TypeId,
+) -> Result<(), AllocError>
+    ensures { OnOk result (out.new.items ≡ out.old.items ++ step_text (P.may read.now.policy.now)
+        (is_among read.now.trusted.now) read.now.statements.now read.now.members.now x y) }
+{
+    push_text(out, "  ")?;
+    push_pair(out, read.members, x, y)?;
+    let is_trusted = is_among(read.trusted, x);
+    push_access(
+        out,
+        read,
+        x,
+        y,
+        access_between(read.policy, is_trusted, x, y),
+    )?;
+    push_text(out, "\n")
+}
+
+/// Appends the lines of a path from a type: one for each access, with what it asks for and the lines of the statements
+/// that grant that.
+pub(crate) fn push_path<P: Allows>(
+    out: &mut Vec<u8>,
+    read: &ReadPolicy<'_, '_, P>,
+    from: TypeId,
+    path: &[TypeId],
+) -> Result<(), AllocError>
+    ensures { OnOk result (out.new.items ≡ out.old.items ++ path_text (P.may read.now.policy.now)
+        (is_among read.now.trusted.now) read.now.statements.now read.now.members.now from path.now) }
+{
+    match path {
+        [] => Ok(()),
+        [next, rest @ ..] => {
+            push_step(out, read, from, *next)?;
+            push_path(out, read, *next, rest)
+        }
+    }
+}
