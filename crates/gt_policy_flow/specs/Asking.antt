@@ -1,7 +1,7 @@
 -- A question about a policy text, and its answer.
 use Rattle.std.specs.Prelude.{◌≡◌, ℕ, zero, suc, ◌==◌, ◌&&◌, not, Bool, true, false, List, [], ◌∷◌, ◌++◌, length, map}
 use Rattle.std.specs.Prelude.{Option, Some, None, is_some, if◌then◌else◌, Ok}
-use Rattle.std.specs.List.{flat_map, list_all, slice_get}
+use Rattle.std.specs.List.{flat_map, list_all, slice_get, slice_split}
 use Rattle.std.specs.Option.{option_map}
 use Rattle.gt_types.specs.declared.TypeId.{TypeId}
 use Rattle.gt_flow.specs.Flow.{AllowRelation}
@@ -37,6 +37,11 @@ id_if false id = []
 unfoldable pub ids_asked : List Member → Option (List ℕ) → ℕ → List TypeId
 ids_asked members asked zero = []
 ids_asked members asked (suc n) = ids_asked members asked n ++ id_if (asked_at members asked n) n
+
+-- names that are joined by commas
+abbrev pub names_in : Option (List ℕ) → List (List ℕ)
+names_in None = []
+names_in (Some text) = slice_split (λ b. b == 44) text
 
 -- the types of these names
 abbrev pub trusted_by : List Member → ℕ → List (List ℕ) → List TypeId
@@ -80,7 +85,7 @@ IsReport may count xs q report =
     let members = members_of xs None in
     let sources = ids_asked members (option_map (λ a. a.now) q.source) count in
     let targets = ids_asked members (option_map (λ a. a.now) q.target) count in
-    let names = map (λ n. n.now) q.trusted.now in
+    let names = names_in (option_map (λ t. t.now) q.trusted) in
     ReportsBy (are_known members count names) (length sources) (length targets)
     (Reports may (is_among (trusted_by members count names)) xs members
     (form_of (is_some q.source && is_some q.target) (length sources) (length targets)) sources targets) report

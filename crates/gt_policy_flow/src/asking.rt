@@ -1,6 +1,6 @@
 //! Answers whether bytes of a type reach another one by a policy text.
-ghost use Rattle.std.specs.Prelude.{◌≡◌, ◌&&◌, ◌++◌, [], IfErr, IfOk, None, OnOk, Ok, Err, Some, is_some, length, map};
-ghost use Rattle.std.specs.List.{list_any};
+ghost use Rattle.std.specs.Prelude.{◌≡◌, ◌==◌, ◌&&◌, ◌++◌, [], IfErr, IfOk, None, OnOk, Ok, Err, Some, is_some, length, map};
+ghost use Rattle.std.specs.List.{list_any, slice_split};
 ghost use Rattle.std.specs.Option.{option_map};
 ghost use Rattle.std.specs.Str.{bytes_eq};
 ghost use Rattle.gt_policy.specs.Allowing.{may_of};
@@ -8,7 +8,7 @@ ghost use Rattle.gt_policy.specs.Shown.{fault_shown, out_of_memory};
 ghost use Rattle.gt_policy.specs.Whole.{ReadsAs};
 ghost use Rattle.gt_policy.specs.declared.fault.TokenFault.{TokenFault};
 ghost use Rattle.gt_policy_check.specs.Members.{is_asked, members_of};
-ghost use Rattle.gt_policy_flow.specs.Asking.{IsFlowOf, IsReport, Reports, are_known, asked_at, form_of, ids_asked, trusted_by};
+ghost use Rattle.gt_policy_flow.specs.Asking.{IsFlowOf, IsReport, Reports, are_known, asked_at, form_of, ids_asked, names_in, trusted_by};
 ghost use Rattle.gt_policy_flow.specs.Flows.{AreAmong, is_among};
 
 use crate::pairs::{PairForm, push_sources};
@@ -21,12 +21,12 @@ use gt_types::{Allows, TypeId};
 use std::alloc::{AllocError, Global};
 
 /// A question: do bytes of the source reach the target? The name of an attribute asks for each type that has it. None
-/// asks for each declared type. Stores by domains of the trusted types are left out.
+/// asks for each declared type. Stores by domains of the trusted types, whose names are joined by commas, are left out.
 #[derive(Clone, Copy)]
 pub struct FlowQuestion<'q> {
     pub source: Option<&'q str>,
     pub target: Option<&'q str>,
-    pub trusted: &'q [&'q str],
+    pub trusted: Option<&'q str>,
 }
 
 /// The answer of a policy to a question.
@@ -66,13 +66,13 @@ fn has_name(names: &[TextPiece], wanted: &[u8]) -> bool
 }
 
 // Returns whether the type of this number is asked for.
-fn is_asked_at(members: &[Member], asked: Option<&str>, id: u16) -> bool
+fn is_asked_at(members: &[Member], asked: Option<&[u8]>, id: u16) -> bool
     ensures { result ≡ asked_at members.now (option_map (λ a. a.now) asked.entry) id }
 {
     match (members.get(id as usize), asked) {
         (None, _) => false,
         (Some(_), None) => true,
-        (Some(member), Some(wanted)) => has_name(member.names.as_slice(), wanted.as_bytes()),
+        (Some(member), Some(wanted)) => has_name(member.names.as_slice(), wanted),
     }
 }
 
@@ -81,7 +81,7 @@ fn ids_asked(
     alloc: Global,
     members: &[Member],
     count: u16,
-    asked: Option<&str>,
+    asked: Option<&[u8]>,
 ) -> Result<Vec<TypeId>, AllocError>
     ensures { IfOk result (λ ids. ids.items ≡ ids_asked members.now (option_map (λ a. a.now) asked.entry) count) }
 {
@@ -94,13 +94,40 @@ fn ids_asked(
     Ok(ids)
 }
 
+// Returns the bytes of a name.
+fn bytes_of<'q>(name: Option<&'q str>) -> Option<&'q [u8]>
+    ensures { option_map (λ a. a.now) result ≡ option_map (λ a. a.now) name.entry }
+{
+    match name {
+        Some(name) => Some(name.as_bytes()),
+        None => None,
+    }
+}
+
+// Splits a text at each comma.
+fn pieces<'q>(alloc: Global, text: &'q [u8]) -> Result<Vec<&'q [u8]>, AllocError>
+    ensures { IfOk result (λ names. map (λ n. n.now) names.items ≡ slice_split (λ b. b == 44) text.entry.now) }
+{
+    text.split(|b| *b == b',').collect(alloc)
+}
+
+// Returns the names that are joined by commas.
+fn names_in<'q>(alloc: Global, text: Option<&'q str>) -> Result<Vec<&'q [u8]>, AllocError>
+    ensures { IfOk result (λ names. map (λ n. n.now) names.items ≡ names_in (option_map (λ t. t.now) text.entry)) }
+{
+    match text {
+        Some(text) => pieces(alloc, text.as_bytes()),
+        None => Ok(Vec::new(alloc)),
+    }
+}
+
 // Adds the types of these names, and returns whether each name is that of some type.
 fn push_trusted(
     alloc: Global,
     trusted: &mut Vec<TypeId>,
     members: &[Member],
     count: u16,
-    names: &[&str],
+    names: &[&[u8]],
 ) -> Result<bool, AllocError>
     ensures ids { OnOk result (trusted.new.items
         ≡ trusted.old.items ++ trusted_by members.now count (map (λ n. n.now) names.now)) }
@@ -177,15 +204,16 @@ fn report<P: Allows>(
     ensures { IfOk result (λ report. IsReport (P.may policy.now) count statements.now question.now report) }
 {
     let members = members_of(alloc, statements, None)?;
-    let sources = ids_asked(alloc, members.as_slice(), count, question.source)?;
-    let targets = ids_asked(alloc, members.as_slice(), count, question.target)?;
+    let sources = ids_asked(alloc, members.as_slice(), count, bytes_of(question.source))?;
+    let targets = ids_asked(alloc, members.as_slice(), count, bytes_of(question.target))?;
+    let names = names_in(alloc, question.trusted)?;
     let mut trusted = Vec::new(alloc);
     let are_known = push_trusted(
         alloc,
         &mut trusted,
         members.as_slice(),
         count,
-        question.trusted,
+        names.as_slice(),
     )?;
     if !are_known {
         return Ok(bare(alloc, FlowAnswer::NoTrusted));
