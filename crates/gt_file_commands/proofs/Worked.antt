@@ -3,11 +3,13 @@ use Rattle.std.proofs.Common.{◌≡◌, ℕ, Bool, List, Option, None, Some, Re
 use Rattle.std.proofs.Common.{false}
 use Rattle.gt_text.specs.Streams.{OfInput}
 use Rattle.gt_policy_check.specs.declared.asking.WhyQuestion.{WhyQuestion}
+use Rattle.gt_policy_flow.specs.declared.asking.FlowQuestion.{FlowQuestion}
 use Rattle.gt_entries.specs.declared.asked.DumpOptions.{DumpOptions}
 use Rattle.gt_commands.specs.declared.invocation.Format.{Format}
 use Rattle.gt_policy_check.specs.declared.report.ReportForm.{ReportForm}
 use Rattle.gt_file_commands.specs.Formats.{IsFormOf}
 use Rattle.gt_file_commands.specs.Laws.{worked}
+use Rattle.gt_file_commands.specs.Working.{AnswersFlow, IsFlowQuestion, ShowsFlow}
 use Rattle.gt_file_commands.specs.Working.{AnswersDump, AnswersEntries, AnswersQuestion, Answers, Checks, ChecksAll, ChecksAs}
 use Rattle.gt_file_commands.specs.Working.{ChecksFiles, ChecksIn, ChecksNever, Does, Doing, Ending, Explains, IsAsked, IsQuestion}
 use Rattle.gt_file_commands.specs.Working.{OrNothing, Performs, Works, answer_of, kind_checked, outcome_of}
@@ -33,21 +35,21 @@ answered_input None Wrote answer outcome is (input, few, wrote) = (input, few, s
 answered_input (Some all) Wrote answer outcome is wrote = subst (λ (o : Outcome). Answers (Wrote all) o) (sym is) (answered_one (Wrote all) answer wrote)
 
 -- the report has a form of the format, and the name that was shown
-checks_in : (P : ReportForm → List ℕ → Doing) (format : Format) (form : ReportForm) (file input : List ℕ) (old new : Option (List ℕ)) (r : Ending) → IsFormOf format form → Does (P form file) input old new r
-    → Does (ChecksIn P format file) input old new r
-checks_in P format form file input old new r fits (inl does) = inl (form, fits, does)
-checks_in P format form file input old new r fits (inr unopened) = inr unopened
+checks_in : (P : ReportForm → List ℕ → Doing) (format : Format) (form : ReportForm) (file : List ℕ) (name : Option (List ℕ)) (input : List ℕ) (old new : Option (List ℕ)) (r : Ending) → IsFormOf format form → Does (P form file) name input old new r
+    → Does (ChecksIn P format file) name input old new r
+checks_in P format form file name input old new r fits (inl does) = inl (form, fits, does)
+checks_in P format form file name input old new r fits (inr unopened) = inr unopened
 
-checked_by : (P : ReportForm → List ℕ → Doing) (format : Format) (form : ReportForm) (file : List ℕ) (known old new : Option (List ℕ)) (outcome : Outcome) → IsFormOf format form → Works (P form file) Unknown known old new outcome
-    → Works (ChecksIn P format file) Unknown known old new outcome
-checked_by P format form file None old new outcome fits works = tt
-checked_by P format form file (Some bytes) old new outcome fits (r, is, inl does) = (r, is, inl (checks_in P format form file bytes old new r fits does))
-checked_by P format form file (Some bytes) old new outcome fits (r, is, inr none) = (r, is, inr none)
+checked_by : (P : ReportForm → List ℕ → Doing) (format : Format) (form : ReportForm) (file : List ℕ) (name known old new : Option (List ℕ)) (outcome : Outcome) → IsFormOf format form → Works (P form file) Unknown name known old new outcome
+    → Works (ChecksIn P format file) Unknown name known old new outcome
+checked_by P format form file name None old new outcome fits works = tt
+checked_by P format form file name (Some bytes) old new outcome fits (r, is, inl does) = (r, is, inl (checks_in P format form file name bytes old new r fits does))
+checked_by P format form file name (Some bytes) old new outcome fits (r, is, inr none) = (r, is, inr none)
 
-pub checked_one : (P : ReportForm → List ℕ → Doing) (format : Format) (form : ReportForm) (file same : List ℕ) (known old new : Option (List ℕ)) (outcome : Outcome) → IsFormOf format form → file ≡ same
-    → Works (P form file) Unknown known old new outcome → Works (ChecksIn P format same) Unknown known old new outcome
-checked_one P format form file same known old new outcome fits shown works =
-    subst (λ (f : List ℕ). Works (ChecksIn P format f) Unknown known old new outcome) shown (checked_by P format form file known old new outcome fits works)
+pub checked_one : (P : ReportForm → List ℕ → Doing) (format : Format) (form : ReportForm) (file same : List ℕ) (name known old new : Option (List ℕ)) (outcome : Outcome) → IsFormOf format form → file ≡ same
+    → Works (P form file) Unknown name known old new outcome → Works (ChecksIn P format same) Unknown name known old new outcome
+checked_one P format form file same name known old new outcome fits shown works =
+    subst (λ (f : List ℕ). Works (ChecksIn P format f) Unknown name known old new outcome) shown (checked_by P format form file name known old new outcome fits works)
 
 -- the files of these names were checked
 pub files_named : (P : List ℕ → Doing) (file : List ℕ → Option (List ℕ)) (given names : List (Option (List ℕ))) (old new : Option (List ℕ)) (outcome : Outcome) → given ≡ names → ChecksFiles P file given old new outcome → ChecksFiles P file names old new outcome
@@ -86,6 +88,18 @@ pub answered : (file same : List ℕ) (q : WhyQuestion) (source target permissio
     → Works (Explains file q) Unknown name known old new outcome → Works (AnswersQuestion same source target permission) Unknown name known old new outcome
 answered file same q source target permission name known old new outcome shown asks works =
     subst (λ (f : List ℕ). Works (AnswersQuestion f source target permission) Unknown name known old new outcome) shown (question_by file q source target permission name known old new outcome asks works)
+
+-- a question about flows was answered as it was asked
+flow_asked : (q : FlowQuestion) (source target trusted : Option (List ℕ)) (name : Option (List ℕ)) (input : List ℕ) (old new : Option (List ℕ)) (r : Ending) → IsFlowQuestion source target trusted q
+    → Does (ShowsFlow q) name input old new r → Does (AnswersFlow source target trusted) name input old new r
+flow_asked q source target trusted name input old new r is (inl does) = inl (q, is, does)
+flow_asked q source target trusted name input old new r is (inr unopened) = inr unopened
+
+pub flow_answered : (q : FlowQuestion) (source target trusted : Option (List ℕ)) (name known old new : Option (List ℕ)) (outcome : Outcome) → IsFlowQuestion source target trusted q
+    → Works (ShowsFlow q) Unknown name known old new outcome → Works (AnswersFlow source target trusted) Unknown name known old new outcome
+flow_answered q source target trusted name None old new outcome asks works = tt
+flow_answered q source target trusted name (Some bytes) old new outcome asks (r, is, inl does) = (r, is, inl (flow_asked q source target trusted name bytes old new r asks does))
+flow_answered q source target trusted name (Some bytes) old new outcome asks (r, is, inr none) = (r, is, inr none)
 
 -- a dump was told as it was asked
 tells_asked : (asked : DumpOptions) (version : ℕ) (hex every : Bool) (script : Option ℕ) (format : Format) (name : Option (List ℕ)) (input : List ℕ) (old new : Option (List ℕ)) (r : Ending) → IsAsked version hex every script asked

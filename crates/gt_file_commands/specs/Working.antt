@@ -9,6 +9,9 @@ use Rattle.gt_file_commands.specs.Prelude.{WhyQuestion, perm_asked, source_asked
 use Rattle.gt_file_commands.specs.Prelude.{type_of, words, play_fault_text, explore_fault_text, listing_fault_text}
 use Rattle.gt_file_commands.specs.Prelude.{why_fault_text, breach_fault_text, dump_fault_text, read_word}
 use Rattle.gt_file_commands.specs.Prelude.{CheckKind, Failure, Outcome, ReportForm, Work, No, Unknown, Yes}
+use Rattle.gt_policy_flow.specs.Answering.{Flowed}
+use Rattle.gt_policy_flow.specs.Faults.{flow_fault_text}
+use Rattle.gt_policy_flow.specs.declared.asking.FlowQuestion.{FlowQuestion}
 use Rattle.gt_file_commands.specs.declared.checking.CheckKind.TheVariants as checks
 use Rattle.gt_file_commands.specs.declared.commands.Work.TheVariants as works
 use Rattle.gt_file_commands.specs.declared.failure.Failure.TheVariants as failures
@@ -20,6 +23,7 @@ failure_text failures.Thread = codes "gthost: thread"
 failure_text (failures.Explore fault) = codes "gthost: " ++ explore_fault_text fault
 failure_text (failures.List fault) = codes "gthost: " ++ listing_fault_text fault
 failure_text (failures.Why fault) = codes "gthost: " ++ why_fault_text fault
+failure_text (failures.Flow fault) = codes "gthost: " ++ flow_fault_text fault
 failure_text (failures.Breach fault) = codes "gthost: " ++ breach_fault_text fault
 failure_text (failures.Dump fault) = codes "gthost: " ++ dump_fault_text fault
 failure_text (failures.File fault) = codes "gthost: " ++ read_word fault
@@ -104,6 +108,12 @@ Explains file q input old new (Ok outcome) = Answers (Explained file q input old
 Explains file q input old new (Err (failures.Why fault)) = Explained file q input old new (Err fault)
 Explains file q input old new (Err failure) = ⊥
 
+-- the answer is whether there is a path
+abbrev pub ShowsFlow : FlowQuestion → Doing
+ShowsFlow q input old new (Ok outcome) = Answers (Flowed q input old new) outcome
+ShowsFlow q input old new (Err (failures.Flow fault)) = Flowed q input old new (Err fault)
+ShowsFlow q input old new (Err failure) = ⊥
+
 abbrev pub AnswersEntries : Format → DumpOptions → Doing
 AnswersEntries format asked input old new (Ok Yes) = WroteDumpAs format asked input old new (Ok tt)
 AnswersEntries format asked input old new (Ok other) = ⊥
@@ -116,6 +126,7 @@ Performs (works.Play audited format) = Plays format audited
 Performs (works.List format) = Lists format
 Performs (works.Check kind report) = Checks kind report.form report.file.now
 Performs (works.Why file question) = Explains file.now question
+Performs (works.Flow question) = ShowsFlow question
 Performs (works.Entries asked format) = AnswersEntries format asked
 
 -- the outcome of a failure of this work
@@ -124,6 +135,7 @@ failed_work (works.Play audited format) = No
 failed_work (works.List format) = No
 failed_work (works.Check kind report) = Unknown
 failed_work (works.Why file question) = Unknown
+failed_work (works.Flow question) = Unknown
 failed_work (works.Entries asked format) = Unknown
 
 -- a named file was not opened: nothing was written
@@ -160,6 +172,12 @@ abbrev pub IsQuestion : Option (List ℕ) → Option (List ℕ) → Option (List
 IsQuestion source target permission q =
     (source_asked q ≡ source) × (target_asked q ≡ target) × (perm_asked q ≡ permission)
 
+-- the question about flows has these names
+abbrev pub IsFlowQuestion : Option (List ℕ) → Option (List ℕ) → Option (List ℕ) → FlowQuestion → Type 0
+IsFlowQuestion source target trusted q =
+    (option_map (λ a. a.now) q.source ≡ source) × (option_map (λ a. a.now) q.target ≡ target)
+    × (option_map (λ a. a.now) q.trusted ≡ trusted)
+
 -- the options for a dump
 abbrev pub IsAsked : ℕ → Bool → Bool → Option ℕ → DumpOptions → Type 0
 IsAsked version hex every script asked =
@@ -170,6 +188,11 @@ IsAsked version hex every script asked =
 abbrev pub AnswersQuestion : List ℕ → Option (List ℕ) → Option (List ℕ) → Option (List ℕ) → Doing
 AnswersQuestion file source target permission input old new r =
     (q : WhyQuestion) × IsQuestion source target permission q × Explains file q input old new r
+
+-- a question about flows of these names is answered
+abbrev pub AnswersFlow : Option (List ℕ) → Option (List ℕ) → Option (List ℕ) → Doing
+AnswersFlow source target trusted input old new r =
+    (q : FlowQuestion) × IsFlowQuestion source target trusted q × ShowsFlow q input old new r
 
 -- a dump is printed with these options
 abbrev pub AnswersDump : ℕ → Bool → Bool → Option ℕ → Format → Doing

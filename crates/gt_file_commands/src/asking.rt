@@ -3,7 +3,7 @@ ghost use Rattle.std.specs.Prelude.{◌≡◌};
 ghost use Rattle.std.specs.Option.{option_map};
 ghost use Rattle.gt_commands.specs.Files.{name_of};
 ghost use Rattle.gt_file_commands.specs.Names.{shown_name};
-ghost use Rattle.gt_file_commands.specs.Working.{known_input, AnswersDump, AnswersQuestion, Lists, Plays, Works};
+ghost use Rattle.gt_file_commands.specs.Working.{known_input, AnswersDump, AnswersFlow, AnswersQuestion, Lists, Plays, Works};
 
 use crate::commands::{Context, Work, work_asked};
 use crate::outcome::Outcome;
@@ -12,6 +12,7 @@ use crate::texts::TextSource;
 use gt_commands::{EntriesOptions, Format, ScriptOptions};
 use gt_entries::DumpOptions;
 use gt_policy_check::WhyQuestion;
+use gt_policy_flow::FlowQuestion;
 use gt_types::DomId;
 use std::io::Write;
 
@@ -70,6 +71,24 @@ pub fn answer<'a, R, T: TextSource, W: Write, E: Eprint>(
         question,
     };
     work_asked(context, work, file, out, reasons)
+}
+
+/// Answers whether bytes of a type reach another one by the policy of the named file, or of the standard input, and
+/// returns the outcome: the answer, or unknown after a failure.
+pub fn show_flow<R, T: TextSource, W: Write, E: Eprint>(
+    context: &Context<R, T, E>,
+    question: FlowQuestion,
+    file: Option<&str>,
+    out: &mut W,
+    reasons: &mut Reasons,
+) -> Outcome
+    ensures { Works (AnswersFlow (option_map (λ a. a.now) question.entry.source)
+        (option_map (λ a. a.now) question.entry.target) (option_map (λ a. a.now) question.entry.trusted)) Outcome.Unknown
+        (name_of file.entry)
+        (known_input (T.file context.now.texts.now) (T.input context.now.texts.now) file.entry)
+        (W.contents out.old) (W.contents out.new) result }
+{
+    work_asked(context, Work::Flow { question }, file, out, reasons)
 }
 
 // Returns the domain of this number.

@@ -5,7 +5,9 @@ ghost use Rattle.gt_commands.specs.Files.{name_of};
 ghost use Rattle.gt_file_commands.specs.Working.{failed_work, known_input, Does, Performs, Works};
 
 use crate::checking::{CheckKind, perform_check};
-use crate::explained::{entries_explained, list_with_reasons, play_with_reasons, why_explained};
+use crate::explained::{
+    entries_explained, flow_explained, list_with_reasons, play_with_reasons, why_explained,
+};
 use crate::failure::Failure;
 use crate::formats::ReportSettings;
 use crate::outcome::Outcome;
@@ -16,6 +18,7 @@ use crate::texts::{TextSource, read_fault};
 use gt_commands::Format;
 use gt_entries::DumpOptions;
 use gt_policy_check::WhyQuestion;
+use gt_policy_flow::FlowQuestion;
 use std::alloc::Global;
 use std::io::{Read, Write};
 
@@ -42,6 +45,10 @@ pub(crate) enum Work<'w> {
         file: &'w str,
         question: WhyQuestion<'w>,
     },
+    /// Answer the question about the flows of the policy.
+    Flow {
+        question: FlowQuestion<'w>,
+    },
     /// Print the entries of the dump.
     Entries {
         asked: DumpOptions,
@@ -56,7 +63,8 @@ impl Work<'_> {
     {
         match self {
             Work::Play { .. } | Work::List { .. } => Outcome::No,
-            Work::Check { .. } | Work::Why { .. } | Work::Entries { .. } => Outcome::Unknown,
+            Work::Check { .. } | Work::Why { .. } | Work::Flow { .. } | Work::Entries { .. } =>
+                Outcome::Unknown,
         }
     }
 }
@@ -89,6 +97,10 @@ fn perform<R: Read, W: Write>(
         ) {
             Ok(allowed) => Ok(Outcome::of_answer(allowed)),
             Err(fault) => Err(Failure::Why(fault)),
+        },
+        Work::Flow { question } => match flow_explained(alloc, &question, reader, out, reasons) {
+            Ok(has_path) => Ok(Outcome::of_answer(has_path)),
+            Err(fault) => Err(Failure::Flow(fault)),
         },
         Work::Entries { asked, format } => match entries_explained(
             alloc, format, asked, reader, out, reasons,

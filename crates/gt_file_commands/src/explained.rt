@@ -2,6 +2,7 @@
 ghost use Rattle.gt_text.specs.Streams.{OfInput};
 ghost use Rattle.gt_checks.specs.Breaking.{CheckedNever};
 ghost use Rattle.gt_checks.specs.Explaining.{Explained};
+ghost use Rattle.gt_policy_flow.specs.Answering.{Flowed};
 ghost use Rattle.gt_file_commands.specs.Formats.{CheckedAs, ListedAs, PlayedAs, WroteDumpAs};
 
 use crate::formats::{ReportSettings, check_as, entries_as, list_as, play_as};
@@ -10,6 +11,7 @@ use gt_checks::{BreachFault, NeverText, WhyFault, check_never, why};
 use gt_commands::Format;
 use gt_entries::{DumpFault, DumpOptions};
 use gt_policy_check::WhyQuestion;
+use gt_policy_flow::{FlowFault, FlowQuestion};
 use gt_policy_list::ListingFault;
 use gt_script_runs::PlayFault;
 use std::alloc::Global;
@@ -116,6 +118,25 @@ pub fn why_explained<R: Read, W: Write>(
     let ending = why(alloc, file, question, &mut input, out);
     if let Err(fault) = &ending {
         reasons.add_why(&input.kept, question, fault);
+    }
+    ending
+}
+
+/// Answers a question about the flows of the policy of a reader, and adds the reason of a fault.
+pub fn flow_explained<R: Read, W: Write>(
+    alloc: Global,
+    question: &FlowQuestion,
+    reader: &mut R,
+    out: &mut W,
+    reasons: &mut Reasons,
+) -> Result<bool, FlowFault>
+    ensures { OfInput (R.remaining reader.old) (λ input.
+        Flowed question.now input (W.contents out.old) (W.contents out.new) result) }
+{
+    let mut input = CopyingReader::new(alloc, reader);
+    let ending = gt_policy_flow::answer(alloc, question, &mut input, out);
+    if let Err(fault) = &ending {
+        reasons.add_flow(&input.kept, question, fault);
     }
     ending
 }

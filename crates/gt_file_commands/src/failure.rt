@@ -2,6 +2,7 @@
 use gt_checks::{BreachFault, WhyFault};
 use gt_entries::DumpFault;
 use gt_explore_faults::ExploreFault;
+use gt_policy_flow::FlowFault;
 use gt_policy_list::ListingFault;
 use gt_script_runs::PlayFault;
 use gt_text::{ReadFault, WriteFault};
@@ -21,6 +22,8 @@ pub enum Failure {
     List(ListingFault),
     /// A question was not answered.
     Why(WhyFault),
+    /// A question about flows was not answered.
+    Flow(FlowFault),
     /// A policy was not checked against `neverallow` statements.
     Breach(BreachFault),
     /// A dump was not written to its end.
@@ -47,6 +50,7 @@ impl fmt::Display for Failure {
             Failure::Explore(fault) => write!(f, "gthost: {fault}"),
             Failure::List(fault) => write!(f, "gthost: {fault}"),
             Failure::Why(fault) => write!(f, "gthost: {fault}"),
+            Failure::Flow(fault) => write!(f, "gthost: {fault}"),
             Failure::Breach(fault) => write!(f, "gthost: {fault}"),
             Failure::Dump(fault) => write!(f, "gthost: {fault}"),
             Failure::File(fault) => write!(f, "gthost: {fault}"),

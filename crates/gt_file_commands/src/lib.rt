@@ -32,7 +32,7 @@ mod rules;
 mod style;
 mod texts;
 
-pub use asking::{answer, list, play, show_entries};
+pub use asking::{answer, list, play, show_entries, show_flow};
 pub use checking::{check_files, check_never_files};
 pub use commands::Context;
 pub use failure::Failure;

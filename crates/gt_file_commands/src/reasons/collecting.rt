@@ -8,6 +8,7 @@ use gt_entries::{DumpFault, DumpLook, DumpOptions, look_of};
 use gt_explore_faults::{ExploreFault, TextsFault};
 use gt_host::play;
 use gt_policy_check::WhyQuestion;
+use gt_policy_flow::{FlowFault, FlowQuestion};
 use gt_policy_list::ListingFault;
 use gt_reasons::{
     push_block_reason, push_permission_reason, push_policy_reason, push_read_reason, push_refusals,
@@ -176,6 +177,25 @@ fn why_reason(
             let word = question.perm.unwrap_or("-");
             push_permission_reason(alloc, &mut said, file, word)?;
         }
+    }
+    Ok(said)
+}
+
+// Returns the reason for which a question about flows was not answered.
+fn flow_reason(
+    alloc: Global,
+    file: &str,
+    input: &KeptInput,
+    question: &FlowQuestion,
+    fault: &FlowFault,
+) -> Result<Vec<u8>, AllocError> {
+    let mut said = Vec::new(alloc);
+    let bytes = input.bytes().unwrap_or(&[]);
+    match fault {
+        FlowFault::Text(fault) => return listing_reason(alloc, file, true, input, fault),
+        FlowFault::NoSource => push_no_type(alloc, &mut said, file, bytes, question.source)?,
+        FlowFault::NoTarget => push_no_type(alloc, &mut said, file, bytes, question.target)?,
+        FlowFault::NoTrusted => push_no_type(alloc, &mut said, file, bytes, question.trusted)?,
     }
     Ok(said)
 }
@@ -385,6 +405,19 @@ impl<'a> Reasons<'a> {
     pub(crate) fn add_why(&mut self, input: &KeptInput, question: &WhyQuestion, fault: &WhyFault) {
         if let Some(file) = self.file {
             let said = why_reason(self.alloc, file, input, question, fault);
+            self.add(said);
+        }
+    }
+
+    /// Adds the reason for which a question about the flows of the policy that was read was not answered.
+    pub(crate) fn add_flow(
+        &mut self,
+        input: &KeptInput,
+        question: &FlowQuestion,
+        fault: &FlowFault,
+    ) {
+        if let Some(file) = self.file {
+            let said = flow_reason(self.alloc, file, input, question, fault);
             self.add(said);
         }
     }

@@ -1,5 +1,6 @@
 use Rattle.std.proofs.Common.{ℕ, List}
 use Rattle.gt_checks.specs.Explaining.{Explained}
+use Rattle.gt_policy_flow.specs.Answering.{Flowed}
 use Rattle.gt_file_commands.proofs.Worked.{answered_input, for_work}
 use Rattle.gt_file_commands.proofs.commands.perform.Goals as goal
 
@@ -19,6 +20,14 @@ returns-in-Ok-why_explained g c = for_work _ _ _ _ _ _ c.in-Why.is
 
 pub returns-in-Err-why_explained : goal.returns-in-Err-why_explained
 returns-in-Err-why_explained g c = for_work _ _ _ _ _ _ c.in-Why.is c.in-Err-why_explained.ensures
+
+pub returns-in-Ok-flow_explained : goal.returns-in-Ok-flow_explained
+returns-in-Ok-flow_explained g c = for_work _ _ _ _ _ _ c.in-Flow.is
+    (answered_input _ (λ (input : List ℕ). Flowed c.in-Flow.question input (g.W.Write.contents c.args.out.now) (g.W.Write.contents c.flow_explained.new.out)) _ _
+    c.of_answer-in-Flow.ensures c.in-Ok-flow_explained.ensures)
+
+pub returns-in-Err-flow_explained : goal.returns-in-Err-flow_explained
+returns-in-Err-flow_explained g c = for_work _ _ _ _ _ _ c.in-Flow.is c.in-Err-flow_explained.ensures
 
 pub returns-in-Ok-entries_explained : goal.returns-in-Ok-entries_explained
 returns-in-Ok-entries_explained g c = for_work _ _ _ _ _ _ c.in-Entries.is c.in-Ok-entries_explained.ensures
