@@ -1,7 +1,8 @@
 -- From the plan of a command line, or its refusal, to the outcome of the line.
 use Rattle.std.proofs.Common.{◌≡◌, ◌∙◌, ℕ, Bool, List, Option, None, Some, Result, refl, sym, subst, inl}
-use Rattle.std.proofs.Common.{inr, true, false, codes, cond, ◌∷◌, [], ap, Ok, ◌==◌, ◌⊎◌}
-use Rattle.std.specs.Io.KnownBytes.{Keeps}
+use Rattle.std.proofs.Common.{inr, true, false, codes, cond, ◌∷◌, [], ap, Ok, ◌==◌, ◌⊎◌, arith}
+use Rattle.std.specs.Io.KnownBytes.{Appends, Keeps}
+use Rattle.std.proofs.lemmas.List.{append-nil}
 use Rattle.std.specs.Prelude.{drop}
 use Rattle.gt_text.specs.Laws.{keeps_same}
 use Rattle.gt_text.specs.Streams.{OfInput}
@@ -39,6 +40,7 @@ use Rattle.gt_explore_verdict.specs.declared.judging.Verdict.TheVariants.{Holds,
 use Rattle.gt_explore_answers.specs.declared.asking.ExploreOptions.{ExploreOptions as Searched}
 use Rattle.std.specs.Str.Lines.{lines}
 use Rattle.gt_file_commands.specs.Laws.{no_memory, nothing_done}
+use Rattle.gt_file_commands.specs.Rules.{PrintsRules}
 use Rattle.gt_file_commands.specs.Working.{AnswersDump, AnswersLines, AnswersQuestion, ChecksAll, ChecksAs, ChecksFiles}
 use Rattle.gt_file_commands.specs.Working.{ChecksIn, ChecksNever, Does, Doing, Ending, Lists, Plays, Works, known_text}
 use Rattle.gt_file_commands.specs.declared.outcome.Outcome.{Outcome}
@@ -60,28 +62,28 @@ verdict_input None Wrote verdict outcome is (input, few, wrote) = (input, few, s
 verdict_input (Some all) Wrote verdict outcome is wrote = subst (λ (o : Outcome). AnswersVerdict (Wrote all) o) (sym is) (verdict_one (Wrote all) verdict wrote)
 
 -- what a plan asks for is done
-pub as_planned : (p same : Invocation) (file : List ℕ → Option (List ℕ)) (input old new : Option (List ℕ)) (outcome : Outcome) → p ≡ same → Obeys (asked_by_plan same) file input old new outcome
-    → Obeys (asked_by_plan p) file input old new outcome
-as_planned p same file input old new outcome is obeys = subst (λ (q : Invocation). Obeys (asked_by_plan q) file input old new outcome) (sym is) obeys
+pub as_planned : (p same : Invocation) (failed : Outcome) (width : Option ℕ) (file : List ℕ → Option (List ℕ)) (input old new : Option (List ℕ)) (outcome : Outcome) → p ≡ same → Obeys (asked_by_plan same) failed width file input old new outcome
+    → Obeys (asked_by_plan p) failed width file input old new outcome
+as_planned p same failed width file input old new outcome is obeys = subst (λ (q : Invocation). Obeys (asked_by_plan q) failed width file input old new outcome) (sym is) obeys
 
 -- a text was sought among those of a script
-seeks_given : (asked : Searched) (text : List ℕ) (format : Format) (states : ℕ) (input : List ℕ) (old new : Option (List ℕ)) (r : Ending) → IsGiven text asked.request
+seeks_given : (asked : Searched) (text : List ℕ) (format : Format) (states : ℕ) (name : Option (List ℕ)) (input : List ℕ) (old new : Option (List ℕ)) (r : Ending) → IsGiven text asked.request
     → asked.format ≡ explore_format format → asked.states ≡ states
-    → Does (Searches asked) input old new r → Does (SeeksText text format states) input old new r
-seeks_given asked text format states input old new r given form same (inl does) = inl (asked, given, form, same, does)
-seeks_given asked text format states input old new r given form same (inr unopened) = inr unopened
+    → Does (Searches asked) name input old new r → Does (SeeksText text format states) name input old new r
+seeks_given asked text format states name input old new r given form same (inl does) = inl (asked, given, form, same, does)
+seeks_given asked text format states name input old new r given form same (inr unopened) = inr unopened
 
-pub found_so : (asked : Searched) (text : List ℕ) (format : Format) (states : ℕ) (known old new : Option (List ℕ)) (outcome : Outcome) → IsGiven text asked.request
+pub found_so : (asked : Searched) (text : List ℕ) (format : Format) (states : ℕ) (name known old new : Option (List ℕ)) (outcome : Outcome) → IsGiven text asked.request
     → asked.format ≡ explore_format format → asked.states ≡ states
-    → Works (Searches asked) Unknown known old new outcome → Works (SeeksText text format states) Unknown known old new outcome
-found_so asked text format states None old new outcome given form same works = tt
-found_so asked text format states (Some bytes) old new outcome given form same (r, is, inl does) = (r, is, inl (seeks_given asked text format states bytes old new r given form same does))
-found_so asked text format states (Some bytes) old new outcome given form same (r, is, inr none) = (r, is, inr none)
+    → Works (Searches asked) Unknown name known old new outcome → Works (SeeksText text format states) Unknown name known old new outcome
+found_so asked text format states name None old new outcome given form same works = tt
+found_so asked text format states name (Some bytes) old new outcome given form same (r, is, inl does) = (r, is, inl (seeks_given asked text format states name bytes old new r given form same does))
+found_so asked text format states name (Some bytes) old new outcome given form same (r, is, inr none) = (r, is, inr none)
 
 -- what was asked for was done
-pub done : (request : Request) (file : List ℕ → Option (List ℕ)) (input old new : Option (List ℕ)) (p : Invocation) (outcome : Outcome) → asked_by_plan p ≡ request
-    → Obeys (asked_by_plan p) file input old new outcome → Obeys request file input old new outcome
-done request file input old new p outcome plan obeys = subst (λ (r : Request). Obeys r file input old new outcome) plan obeys
+pub done : (request : Request) (failed : Outcome) (width : Option ℕ) (file : List ℕ → Option (List ℕ)) (input old new : Option (List ℕ)) (p : Invocation) (outcome : Outcome) → asked_by_plan p ≡ request
+    → Obeys (asked_by_plan p) failed width file input old new outcome → Obeys request failed width file input old new outcome
+done request failed width file input old new p outcome plan obeys = subst (λ (r : Request). Obeys r failed width file input old new outcome) plan obeys
 
 silent : (failed : Outcome) (kind other : ErrorKind) (old new : Option (List ℕ)) (outcome : Outcome) → FitsKind failed kind old new outcome → kind ≡ other → (other ≡ DisplayHelp → ⊥) → (other ≡ DisplayVersion → ⊥) → Keeps old new
 silent failed kind other old new outcome fits is help version = fits.silent (λ (e : kind ≡ DisplayHelp). help (sym is ∙ e)) (λ (e : kind ≡ DisplayVersion). version (sym is ∙ e))
@@ -112,41 +114,48 @@ helpless : (failed outcome : Outcome) (old new : Option (List ℕ)) → (failed 
 helpless failed outcome old new (inl unknown) is kept = inr (is ∙ unknown, kept)
 helpless failed outcome old new (inr none) is kept = inl (inr (is ∙ none))
 
-hopeless : (failed outcome : Outcome) (old new : Option (List ℕ)) → (failed ≡ Unknown) ⊎ (failed ≡ No) → outcome ≡ failed → Keeps old new → ((outcome ≡ Unknown) ⊎ (outcome ≡ No)) × Keeps old new
-hopeless failed outcome old new (inl unknown) is kept = (inl (is ∙ unknown), kept)
-hopeless failed outcome old new (inr none) is kept = (inr (is ∙ none), kept)
-
 -- no memory was there for the other files
 unread_files : (P : List ℕ → Doing) (file : List ℕ → Option (List ℕ)) (more : List (Option (List ℕ))) (here : Option (List ℕ)) → (other : Outcome) × ChecksFiles P file more here here other
 unread_files P file [] here = (Yes, (keeps_same here, refl))
 unread_files P file (None ∷ more) here = unread_files P file more here
 unread_files P file (Some name ∷ more) here =
     let others = unread_files P file more here in
-    (Unknown, (here, Unknown, others.0, no_memory (P name) Unknown (file name) here here Unknown refl (keeps_same here), others.1, refl))
+    (Unknown, (here, Unknown, others.0, no_memory (P name) Unknown (Some name) (file name) here here Unknown refl (keeps_same here), others.1, refl))
 
-out_of_memory : (request : Request) (failed : Outcome) (file : List ℕ → Option (List ℕ)) (input old new : Option (List ℕ)) (outcome : Outcome) → FailedFor request failed → outcome ≡ failed → Keeps old new
-    → Obeys request file input old new outcome
-out_of_memory (to_play audited verbose format name) failed file input old new outcome for is kept = no_memory (Plays format audited) No (known_text file input name) old new outcome (is ∙ for) kept
-out_of_memory (to_run audited verbose format name) failed file input old new outcome for is kept = no_memory (RunsDomains format audited) No (known_text file input name) old new outcome (is ∙ for) kept
-out_of_memory (to_explore sought format states name) failed file input old new outcome for is kept = no_memory (Seeks sought format states) Unknown (known_text file input name) old new outcome (is ∙ for) kept
-out_of_memory (to_find_text given format states name) failed file input old new outcome for is kept =
-    nothing_done (file given) (λ text. Works (SeeksText text format states) Unknown (known_text file input name)) old new outcome (is ∙ for) kept
-out_of_memory (to_list verbose format name) failed file input old new outcome for is kept = no_memory (Lists format) No (known_text file input name) old new outcome (is ∙ for) kept
-out_of_memory (to_tell_rules name) failed file input old new outcome for is kept = inr (is ∙ for)
-out_of_memory (to_check script format name more) failed file input old new outcome for is kept =
+appends_none : (old new : Option (List ℕ)) → Keeps old new → Appends old new []
+appends_none None new kept = tt
+appends_none (Some old) None kept = absurd kept
+appends_none (Some old) (Some new) kept = kept ∙ sym (append-nil old)
+
+-- no memory was there for the rules
+rules_unprinted : (width : Option ℕ) (name old new : Option (List ℕ)) (outcome : Outcome) → outcome ≡ Unknown → Keeps old new → PrintsRules width name old new outcome
+rules_unprinted width name old new outcome is kept =
+    let cut : PrintsRules width name old new Unknown = (0, omega arith, appends_none old new kept) in
+    subst (λ (o : Outcome). PrintsRules width name old new o) (sym is) cut
+
+out_of_memory : (request : Request) (failed : Outcome) (width : Option ℕ) (file : List ℕ → Option (List ℕ)) (input old new : Option (List ℕ)) (outcome : Outcome) → FailedFor request failed → outcome ≡ failed → Keeps old new
+    → Obeys request failed width file input old new outcome
+out_of_memory (to_play audited verbose format name) failed width file input old new outcome for is kept = no_memory (Plays format audited) No name (known_text file input name) old new outcome (is ∙ for) kept
+out_of_memory (to_run audited verbose format name) failed width file input old new outcome for is kept = no_memory (RunsDomains format audited) No name (known_text file input name) old new outcome (is ∙ for) kept
+out_of_memory (to_explore sought format states name) failed width file input old new outcome for is kept = no_memory (Seeks sought format states) Unknown name (known_text file input name) old new outcome (is ∙ for) kept
+out_of_memory (to_find_text given format states name) failed width file input old new outcome for is kept =
+    nothing_done (file given) (λ text. Works (SeeksText text format states) Unknown name (known_text file input name)) old new outcome (is ∙ for) kept
+out_of_memory (to_list verbose format name) failed width file input old new outcome for is kept = no_memory (Lists format) No name (known_text file input name) old new outcome (is ∙ for) kept
+out_of_memory (to_tell_rules name) failed width file input old new outcome for is kept = rules_unprinted width name old new outcome (is ∙ for) kept
+out_of_memory (to_check script format name more) failed width file input old new outcome for is kept =
     let others = unread_files (ChecksIn (ChecksAs script) format) file more new in
-    (new, Unknown, others.0, no_memory (ChecksIn (ChecksAs script) format (shown_name name)) Unknown (known_text file input name) old new Unknown refl kept, others.1, is ∙ for)
-out_of_memory (to_check_never never format name more) failed file input old new outcome for is kept =
+    (new, Unknown, others.0, no_memory (ChecksIn (ChecksAs script) format (shown_name name)) Unknown name (known_text file input name) old new Unknown refl kept, others.1, is ∙ for)
+out_of_memory (to_check_never never format name more) failed width file input old new outcome for is kept =
     nothing_done (file never) (λ given. ChecksAll (ChecksIn (ChecksNever never given) format) file input name more) old new outcome (is ∙ for) kept
-out_of_memory (to_explain source target permission name) failed file input old new outcome for is kept =
-    no_memory (AnswersQuestion (shown_name name) source target permission) Unknown (known_text file input name) old new outcome (is ∙ for) kept
-out_of_memory (to_explain_each name) failed file input old new outcome for is kept =
+out_of_memory (to_explain source target permission name) failed width file input old new outcome for is kept =
+    no_memory (AnswersQuestion (shown_name name) source target permission) Unknown name (known_text file input name) old new outcome (is ∙ for) kept
+out_of_memory (to_explain_each name) failed width file input old new outcome for is kept =
     nothing_done input (λ asked. AnswersLines name (file name) (lines asked)) old new outcome (is ∙ for) kept
-out_of_memory (to_tell_entries version hex every script format name) failed file input old new outcome for is kept =
-    no_memory (AnswersDump version hex every script format) Unknown (known_text file input name) old new outcome (is ∙ for) kept
-out_of_memory for_help failed file input old new outcome for is kept = helpless failed outcome old new for is kept
-out_of_memory for_version failed file input old new outcome for is kept = helpless failed outcome old new for is kept
-out_of_memory nothing failed file input old new outcome for is kept = hopeless failed outcome old new for is kept
+out_of_memory (to_tell_entries version hex every script format name) failed width file input old new outcome for is kept =
+    no_memory (AnswersDump version hex every script format) Unknown name (known_text file input name) old new outcome (is ∙ for) kept
+out_of_memory for_help failed width file input old new outcome for is kept = helpless failed outcome old new for is kept
+out_of_memory for_version failed width file input old new outcome for is kept = helpless failed outcome old new for is kept
+out_of_memory nothing failed width file input old new outcome for is kept = (inr is, kept)
 
 -- ---- the outcome of a failed allocation, by the words
 
@@ -289,82 +298,84 @@ pub made_first : (words spelled : List (List ℕ)) (failed : Outcome) → failed
 made_first words spelled failed is made = is ∙ sym (leading words) ∙ ap (λ (ws : List (List ℕ)). failed_word (first_word (drop 1 ws))) (sym made)
 
 -- no memory was there for the words
-pub without_memory : (words : List (List ℕ)) (file : List ℕ → Option (List ℕ)) (input old : Option (List ℕ)) (failed outcome : Outcome) → failed ≡ failed_word (leading_word words) → outcome ≡ failed
-    → Obeys (request_in_words (drop 1 (with_long_flags (command_first words)))) file input old old outcome
-without_memory words file input old failed outcome is same =
-    out_of_memory (request_in_words (drop 1 (with_long_flags (command_first words)))) failed file input old old outcome
-    (failed_in_words (drop 1 (with_long_flags (command_first words))) failed (is ∙ sym (leading words))) same (keeps_same old)
+pub without_memory : (words : List (List ℕ)) (width : Option ℕ) (file : List ℕ → Option (List ℕ)) (input old : Option (List ℕ)) (failed outcome : Outcome) → failed ≡ failed_word (leading_word words) → outcome ≡ failed
+    → Obeys (request_in_words (drop 1 (with_long_flags (command_first words)))) (failed_word (leading_word words)) width file input old old outcome
+without_memory words width file input old failed outcome is same =
+    out_of_memory (request_in_words (drop 1 (with_long_flags (command_first words)))) (failed_word (leading_word words)) width file input old old outcome
+    (failed_in_words (drop 1 (with_long_flags (command_first words))) (failed_word (leading_word words)) (sym (leading words))) (same ∙ is) (keeps_same old)
 
 -- the words that were made of a line were obeyed
-pub obeyed_plain : (words spelled : List (List ℕ)) (file : List ℕ → Option (List ℕ)) (input old new : Option (List ℕ)) (outcome : Outcome) → spelled ≡ words
-    → Obeys (request_in_words (drop 1 spelled)) file input old new outcome → Obeys (request_in_words (drop 1 words)) file input old new outcome
-obeyed_plain words spelled file input old new outcome is obeys = subst (λ (ws : List (List ℕ)). Obeys (request_in_words (drop 1 ws)) file input old new outcome) is obeys
+pub obeyed_plain : (words spelled : List (List ℕ)) (failed same : Outcome) (width : Option ℕ) (file : List ℕ → Option (List ℕ)) (input old new : Option (List ℕ)) (outcome : Outcome) → spelled ≡ words → failed ≡ same
+    → Obeys (request_in_words (drop 1 spelled)) failed width file input old new outcome → Obeys (request_in_words (drop 1 words)) same width file input old new outcome
+obeyed_plain words spelled failed same width file input old new outcome is of obeys =
+    subst (λ (f : Outcome). Obeys (request_in_words (drop 1 words)) f width file input old new outcome) of
+    (subst (λ (ws : List (List ℕ)). Obeys (request_in_words (drop 1 ws)) failed width file input old new outcome) is obeys)
 
 -- a command is refused only where memory is
-by_memory : (request : Request) (file : List ℕ → Option (List ℕ)) (input old new : Option (List ℕ)) (error : Error) (failed outcome : Outcome) → FailedFor request failed → kind_of error ≡ OutOfMemory → FitsKind failed (kind_of error) old new outcome
-    → Obeys request file input old new outcome
-by_memory request file input old new error failed outcome for memory fits =
-    out_of_memory request failed file input old new outcome for (fits.memory memory) (silent failed _ OutOfMemory old new outcome fits memory (λ q. cc) (λ q. cc))
+by_memory : (request : Request) (width : Option ℕ) (file : List ℕ → Option (List ℕ)) (input old new : Option (List ℕ)) (error : Error) (failed outcome : Outcome) → FailedFor request failed → kind_of error ≡ OutOfMemory → FitsKind failed (kind_of error) old new outcome
+    → Obeys request failed width file input old new outcome
+by_memory request width file input old new error failed outcome for memory fits =
+    out_of_memory request failed width file input old new outcome for (fits.memory memory) (silent failed _ OutOfMemory old new outcome fits memory (λ q. cc) (λ q. cc))
 
-wrong_line : (other : ErrorKind) (file : List ℕ → Option (List ℕ)) (input old new : Option (List ℕ)) (error : Error) (failed outcome : Outcome) → kind_of error ≡ other → (other ≡ OutOfMemory → ⊥) → (other ≡ DisplayHelp → ⊥) → (other ≡ DisplayVersion → ⊥)
-    → FitsKind failed (kind_of error) old new outcome → Obeys nothing file input old new outcome
-wrong_line other file input old new error failed outcome is memory help version fits =
+wrong_line : (other : ErrorKind) (width : Option ℕ) (file : List ℕ → Option (List ℕ)) (input old new : Option (List ℕ)) (error : Error) (failed outcome : Outcome) → kind_of error ≡ other → (other ≡ OutOfMemory → ⊥) → (other ≡ DisplayHelp → ⊥) → (other ≡ DisplayVersion → ⊥)
+    → FitsKind failed (kind_of error) old new outcome → Obeys nothing failed width file input old new outcome
+wrong_line other width file input old new error failed outcome is memory help version fits =
     (inl (wrong_one failed _ other old new outcome fits is memory help version), silent failed _ other old new outcome fits is help version)
 
 -- it was refused
-pub refused : (request : Request) (file : List ℕ → Option (List ℕ)) (input old new : Option (List ℕ)) (error : Error) (failed outcome : Outcome) → FailedFor request failed → HasKind (refusals request) error → FitsKind failed (kind_of error) old new outcome
-    → Obeys request file input old new outcome
-refused (to_play audited verbose format name) file input old new error failed outcome for (inl memory) fits = by_memory (to_play audited verbose format name) file input old new error failed outcome for memory fits
-refused (to_play audited verbose format name) file input old new error failed outcome for (inr none) fits = absurd none
-refused (to_run audited verbose format name) file input old new error failed outcome for (inl memory) fits = by_memory (to_run audited verbose format name) file input old new error failed outcome for memory fits
-refused (to_run audited verbose format name) file input old new error failed outcome for (inr none) fits = absurd none
-refused (to_explore sought format states name) file input old new error failed outcome for (inl memory) fits = by_memory (to_explore sought format states name) file input old new error failed outcome for memory fits
-refused (to_explore sought format states name) file input old new error failed outcome for (inr none) fits = absurd none
-refused (to_find_text given format states name) file input old new error failed outcome for (inl memory) fits = by_memory (to_find_text given format states name) file input old new error failed outcome for memory fits
-refused (to_find_text given format states name) file input old new error failed outcome for (inr none) fits = absurd none
-refused (to_list verbose format name) file input old new error failed outcome for (inl memory) fits = by_memory (to_list verbose format name) file input old new error failed outcome for memory fits
-refused (to_list verbose format name) file input old new error failed outcome for (inr none) fits = absurd none
-refused (to_tell_rules name) file input old new error failed outcome for (inl memory) fits = by_memory (to_tell_rules name) file input old new error failed outcome for memory fits
-refused (to_tell_rules name) file input old new error failed outcome for (inr none) fits = absurd none
-refused (to_check script format name more) file input old new error failed outcome for (inl memory) fits = by_memory (to_check script format name more) file input old new error failed outcome for memory fits
-refused (to_check script format name more) file input old new error failed outcome for (inr none) fits = absurd none
-refused (to_check_never never format name more) file input old new error failed outcome for (inl memory) fits = by_memory (to_check_never never format name more) file input old new error failed outcome for memory fits
-refused (to_check_never never format name more) file input old new error failed outcome for (inr none) fits = absurd none
-refused (to_explain source target permission name) file input old new error failed outcome for (inl memory) fits = by_memory (to_explain source target permission name) file input old new error failed outcome for memory fits
-refused (to_explain source target permission name) file input old new error failed outcome for (inr none) fits = absurd none
-refused (to_explain_each name) file input old new error failed outcome for (inl memory) fits = by_memory (to_explain_each name) file input old new error failed outcome for memory fits
-refused (to_explain_each name) file input old new error failed outcome for (inr none) fits = absurd none
-refused (to_tell_entries version hex every script format name) file input old new error failed outcome for (inl memory) fits = by_memory (to_tell_entries version hex every script format name) file input old new error failed outcome for memory fits
-refused (to_tell_entries version hex every script format name) file input old new error failed outcome for (inr none) fits = absurd none
-refused for_help file input old new error failed outcome for (inl memory) fits = by_memory for_help file input old new error failed outcome for memory fits
-refused for_help file input old new error failed outcome for (inr (inl help)) fits = inl (fits.help help)
-refused for_help file input old new error failed outcome for (inr (inr none)) fits = absurd none
-refused for_version file input old new error failed outcome for (inl memory) fits = by_memory for_version file input old new error failed outcome for memory fits
-refused for_version file input old new error failed outcome for (inr (inl version)) fits = inl (fits.version version)
-refused for_version file input old new error failed outcome for (inr (inr none)) fits = absurd none
-refused nothing file input old new error failed outcome for (inl memory) fits = by_memory nothing file input old new error failed outcome for memory fits
-refused nothing file input old new error failed outcome for (inr (inl e)) fits = wrong_line UnknownArgument file input old new error failed outcome e (λ q. cc) (λ q. cc) (λ q. cc) fits
-refused nothing file input old new error failed outcome for (inr (inr (inl e))) fits = wrong_line InvalidSubcommand file input old new error failed outcome e (λ q. cc) (λ q. cc) (λ q. cc) fits
-refused nothing file input old new error failed outcome for (inr (inr (inr (inl e)))) fits = wrong_line MissingSubcommand file input old new error failed outcome e (λ q. cc) (λ q. cc) (λ q. cc) fits
-refused nothing file input old new error failed outcome for (inr (inr (inr (inr (inl e))))) fits = wrong_line TooManyValues file input old new error failed outcome e (λ q. cc) (λ q. cc) (λ q. cc) fits
-refused nothing file input old new error failed outcome for (inr (inr (inr (inr (inr (inl e)))))) fits = wrong_line ArgumentConflict file input old new error failed outcome e (λ q. cc) (λ q. cc) (λ q. cc) fits
-refused nothing file input old new error failed outcome for (inr (inr (inr (inr (inr (inr (inl e))))))) fits = wrong_line InvalidValue file input old new error failed outcome e (λ q. cc) (λ q. cc) (λ q. cc) fits
-refused nothing file input old new error failed outcome for (inr (inr (inr (inr (inr (inr (inr (inl e)))))))) fits = wrong_line MissingRequiredArgument file input old new error failed outcome e (λ q. cc) (λ q. cc) (λ q. cc) fits
-refused nothing file input old new error failed outcome for (inr (inr (inr (inr (inr (inr (inr (inr none)))))))) fits = absurd none
+pub refused : (request : Request) (width : Option ℕ) (file : List ℕ → Option (List ℕ)) (input old new : Option (List ℕ)) (error : Error) (failed outcome : Outcome) → FailedFor request failed → HasKind (refusals request) error → FitsKind failed (kind_of error) old new outcome
+    → Obeys request failed width file input old new outcome
+refused (to_play audited verbose format name) width file input old new error failed outcome for (inl memory) fits = by_memory (to_play audited verbose format name) width file input old new error failed outcome for memory fits
+refused (to_play audited verbose format name) width file input old new error failed outcome for (inr none) fits = absurd none
+refused (to_run audited verbose format name) width file input old new error failed outcome for (inl memory) fits = by_memory (to_run audited verbose format name) width file input old new error failed outcome for memory fits
+refused (to_run audited verbose format name) width file input old new error failed outcome for (inr none) fits = absurd none
+refused (to_explore sought format states name) width file input old new error failed outcome for (inl memory) fits = by_memory (to_explore sought format states name) width file input old new error failed outcome for memory fits
+refused (to_explore sought format states name) width file input old new error failed outcome for (inr none) fits = absurd none
+refused (to_find_text given format states name) width file input old new error failed outcome for (inl memory) fits = by_memory (to_find_text given format states name) width file input old new error failed outcome for memory fits
+refused (to_find_text given format states name) width file input old new error failed outcome for (inr none) fits = absurd none
+refused (to_list verbose format name) width file input old new error failed outcome for (inl memory) fits = by_memory (to_list verbose format name) width file input old new error failed outcome for memory fits
+refused (to_list verbose format name) width file input old new error failed outcome for (inr none) fits = absurd none
+refused (to_tell_rules name) width file input old new error failed outcome for (inl memory) fits = by_memory (to_tell_rules name) width file input old new error failed outcome for memory fits
+refused (to_tell_rules name) width file input old new error failed outcome for (inr none) fits = absurd none
+refused (to_check script format name more) width file input old new error failed outcome for (inl memory) fits = by_memory (to_check script format name more) width file input old new error failed outcome for memory fits
+refused (to_check script format name more) width file input old new error failed outcome for (inr none) fits = absurd none
+refused (to_check_never never format name more) width file input old new error failed outcome for (inl memory) fits = by_memory (to_check_never never format name more) width file input old new error failed outcome for memory fits
+refused (to_check_never never format name more) width file input old new error failed outcome for (inr none) fits = absurd none
+refused (to_explain source target permission name) width file input old new error failed outcome for (inl memory) fits = by_memory (to_explain source target permission name) width file input old new error failed outcome for memory fits
+refused (to_explain source target permission name) width file input old new error failed outcome for (inr none) fits = absurd none
+refused (to_explain_each name) width file input old new error failed outcome for (inl memory) fits = by_memory (to_explain_each name) width file input old new error failed outcome for memory fits
+refused (to_explain_each name) width file input old new error failed outcome for (inr none) fits = absurd none
+refused (to_tell_entries version hex every script format name) width file input old new error failed outcome for (inl memory) fits = by_memory (to_tell_entries version hex every script format name) width file input old new error failed outcome for memory fits
+refused (to_tell_entries version hex every script format name) width file input old new error failed outcome for (inr none) fits = absurd none
+refused for_help width file input old new error failed outcome for (inl memory) fits = by_memory for_help width file input old new error failed outcome for memory fits
+refused for_help width file input old new error failed outcome for (inr (inl help)) fits = inl (fits.help help)
+refused for_help width file input old new error failed outcome for (inr (inr none)) fits = absurd none
+refused for_version width file input old new error failed outcome for (inl memory) fits = by_memory for_version width file input old new error failed outcome for memory fits
+refused for_version width file input old new error failed outcome for (inr (inl version)) fits = inl (fits.version version)
+refused for_version width file input old new error failed outcome for (inr (inr none)) fits = absurd none
+refused nothing width file input old new error failed outcome for (inl memory) fits = by_memory nothing width file input old new error failed outcome for memory fits
+refused nothing width file input old new error failed outcome for (inr (inl e)) fits = wrong_line UnknownArgument width file input old new error failed outcome e (λ q. cc) (λ q. cc) (λ q. cc) fits
+refused nothing width file input old new error failed outcome for (inr (inr (inl e))) fits = wrong_line InvalidSubcommand width file input old new error failed outcome e (λ q. cc) (λ q. cc) (λ q. cc) fits
+refused nothing width file input old new error failed outcome for (inr (inr (inr (inl e)))) fits = wrong_line MissingSubcommand width file input old new error failed outcome e (λ q. cc) (λ q. cc) (λ q. cc) fits
+refused nothing width file input old new error failed outcome for (inr (inr (inr (inr (inl e))))) fits = wrong_line TooManyValues width file input old new error failed outcome e (λ q. cc) (λ q. cc) (λ q. cc) fits
+refused nothing width file input old new error failed outcome for (inr (inr (inr (inr (inr (inl e)))))) fits = wrong_line ArgumentConflict width file input old new error failed outcome e (λ q. cc) (λ q. cc) (λ q. cc) fits
+refused nothing width file input old new error failed outcome for (inr (inr (inr (inr (inr (inr (inl e))))))) fits = wrong_line InvalidValue width file input old new error failed outcome e (λ q. cc) (λ q. cc) (λ q. cc) fits
+refused nothing width file input old new error failed outcome for (inr (inr (inr (inr (inr (inr (inr (inl e)))))))) fits = wrong_line MissingRequiredArgument width file input old new error failed outcome e (λ q. cc) (λ q. cc) (λ q. cc) fits
+refused nothing width file input old new error failed outcome for (inr (inr (inr (inr (inr (inr (inr (inr none)))))))) fits = absurd none
 
 -- the same by the words
-pub refused_words : (words : List (List ℕ)) (file : List ℕ → Option (List ℕ)) (input old new : Option (List ℕ)) (error : Error) (failed outcome : Outcome) → failed ≡ failed_word (first_word words) → HasKind (refusals (request_in_words words)) error
-    → FitsKind failed (kind_of error) old new outcome → Obeys (request_in_words words) file input old new outcome
-refused_words words file input old new error failed outcome is has fits = refused (request_in_words words) file input old new error failed outcome (failed_in_words words failed is) has fits
+pub refused_words : (words : List (List ℕ)) (width : Option ℕ) (file : List ℕ → Option (List ℕ)) (input old new : Option (List ℕ)) (error : Error) (failed outcome : Outcome) → failed ≡ failed_word (first_word words) → HasKind (refusals (request_in_words words)) error
+    → FitsKind failed (kind_of error) old new outcome → Obeys (request_in_words words) failed width file input old new outcome
+refused_words words width file input old new error failed outcome is has fits = refused (request_in_words words) width file input old new error failed outcome (failed_in_words words failed is) has fits
 
 -- a script was explored as it was asked
-seeks_asked : (asked : Searched) (sought : Sought) (format : Format) (states : ℕ) (input : List ℕ) (old new : Option (List ℕ)) (r : Ending) → IsSearched sought format states asked
-    → Does (Searches asked) input old new r → Does (Seeks sought format states) input old new r
-seeks_asked asked sought format states input old new r is (inl does) = inl (asked, is, does)
-seeks_asked asked sought format states input old new r is (inr unopened) = inr unopened
+seeks_asked : (asked : Searched) (sought : Sought) (format : Format) (states : ℕ) (name : Option (List ℕ)) (input : List ℕ) (old new : Option (List ℕ)) (r : Ending) → IsSearched sought format states asked
+    → Does (Searches asked) name input old new r → Does (Seeks sought format states) name input old new r
+seeks_asked asked sought format states name input old new r is (inl does) = inl (asked, is, does)
+seeks_asked asked sought format states name input old new r is (inr unopened) = inr unopened
 
-pub sought_so : (asked : Searched) (sought : Sought) (format : Format) (states : ℕ) (known old new : Option (List ℕ)) (outcome : Outcome) → IsSearched sought format states asked
-    → Works (Searches asked) Unknown known old new outcome → Works (Seeks sought format states) Unknown known old new outcome
-sought_so asked sought format states None old new outcome asks works = tt
-sought_so asked sought format states (Some bytes) old new outcome asks (r, is, inl does) = (r, is, inl (seeks_asked asked sought format states bytes old new r asks does))
-sought_so asked sought format states (Some bytes) old new outcome asks (r, is, inr none) = (r, is, inr none)
+pub sought_so : (asked : Searched) (sought : Sought) (format : Format) (states : ℕ) (name known old new : Option (List ℕ)) (outcome : Outcome) → IsSearched sought format states asked
+    → Works (Searches asked) Unknown name known old new outcome → Works (Seeks sought format states) Unknown name known old new outcome
+sought_so asked sought format states name None old new outcome asks works = tt
+sought_so asked sought format states name (Some bytes) old new outcome asks (r, is, inl does) = (r, is, inl (seeks_asked asked sought format states name bytes old new r asks does))
+sought_so asked sought format states name (Some bytes) old new outcome asks (r, is, inr none) = (r, is, inr none)

@@ -8,6 +8,7 @@ use Rattle.gt_program.specs.Prelude.{one_diagram, all_scripts}
 use Rattle.gt_program.specs.Prelude.{Explored, ReadsAsRun, Searched, ExploreFormat, ExploreRequest, Verdict}
 use Rattle.gt_program.specs.Prelude.{Holds, Fails, Undecided, Outcome, No, Unknown, Yes}
 use Rattle.gt_file_commands.specs.Names.{shown_name}
+use Rattle.gt_file_commands.specs.Rules.{PrintsRules}
 use Rattle.gt_file_commands.specs.Working.{AnswersDump, AnswersLines, AnswersQuestion, ChecksAll, ChecksAs, ChecksIn}
 use Rattle.gt_file_commands.specs.Working.{ChecksNever, Deed, Doing, Lists, Plays, WithFile, Works, known_text}
 use Rattle.gt_file_commands.specs.declared.failure.Failure.TheVariants as failures
@@ -127,40 +128,41 @@ SeeksText text format states input old new r =
 -- the text of a file is sought among those of a script
 abbrev pub FindsText : List ℕ → Format → ℕ → (List ℕ → Option (List ℕ)) → Option (List ℕ) → Option (List ℕ) → Deed
 FindsText given format states file input name =
-    WithFile (file given) (λ text. Works (SeeksText text format states) Unknown (known_text file input name))
+    WithFile (file given) (λ text. Works (SeeksText text format states) Unknown name (known_text file input name))
 
 -- ---- the command line
 
 -- The outcome fits the request, and so does the output: a script was played, run or explored, a text was sought among
 -- those of a script, a policy was listed, a policy or a script was checked, or several, a question was answered, or
--- several, a dump was printed, or the rules were: yes, or unknown if they were not written or none has the name. For
--- words that ask for nothing it is help, the version, or nothing, and unknown. After a failed allocation the outcome is
--- that of a failure of the command.
-abbrev pub Obeys : Request → (List ℕ → Option (List ℕ)) → Option (List ℕ) → Option (List ℕ) → Option (List ℕ)
-    → Outcome → Type 0
-Obeys (to_play audited verbose format name) file input old new outcome =
-    Works (Plays format audited) No (known_text file input name) old new outcome
-Obeys (to_run audited verbose format name) file input old new outcome =
-    Works (RunsDomains format audited) No (known_text file input name) old new outcome
-Obeys (to_explore sought format states name) file input old new outcome =
-    Works (Seeks sought format states) Unknown (known_text file input name) old new outcome
-Obeys (to_find_text given format states name) file input old new outcome =
+-- several, a dump was printed, or the rules were, in lines of at most `width`, if there is one. For words that ask for
+-- nothing it is help, the version, or nothing, and unknown. After a failed allocation the outcome is that of a failure of
+-- the command: for words that ask for nothing it is `failed`.
+abbrev pub Obeys : Request → Outcome → Option ℕ → (List ℕ → Option (List ℕ)) → Option (List ℕ) → Option (List ℕ)
+    → Option (List ℕ) → Outcome → Type 0
+Obeys (to_play audited verbose format name) failed width file input old new outcome =
+    Works (Plays format audited) No name (known_text file input name) old new outcome
+Obeys (to_run audited verbose format name) failed width file input old new outcome =
+    Works (RunsDomains format audited) No name (known_text file input name) old new outcome
+Obeys (to_explore sought format states name) failed width file input old new outcome =
+    Works (Seeks sought format states) Unknown name (known_text file input name) old new outcome
+Obeys (to_find_text given format states name) failed width file input old new outcome =
     FindsText given format states file input name old new outcome
-Obeys (to_list verbose format name) file input old new outcome =
-    Works (Lists format) No (known_text file input name) old new outcome
-Obeys (to_tell_rules name) file input old new outcome = (outcome ≡ Yes) ⊎ (outcome ≡ Unknown)
-Obeys (to_check script format name more) file input old new outcome =
+Obeys (to_list verbose format name) failed width file input old new outcome =
+    Works (Lists format) No name (known_text file input name) old new outcome
+Obeys (to_tell_rules name) failed width file input old new outcome = PrintsRules width name old new outcome
+Obeys (to_check script format name more) failed width file input old new outcome =
     ChecksAll (ChecksIn (ChecksAs script) format) file input name more old new outcome
-Obeys (to_check_never never format name more) file input old new outcome =
+Obeys (to_check_never never format name more) failed width file input old new outcome =
     WithFile (file never) (λ given. ChecksAll (ChecksIn (ChecksNever never given) format) file input name more) old new
     outcome
-Obeys (to_explain source target permission name) file input old new outcome =
-    Works (AnswersQuestion (shown_name name) source target permission) Unknown (known_text file input name) old new
-    outcome
-Obeys (to_explain_each name) file input old new outcome =
+Obeys (to_explain source target permission name) failed width file input old new outcome =
+    Works (AnswersQuestion (shown_name name) source target permission) Unknown name (known_text file input name)
+    old new outcome
+Obeys (to_explain_each name) failed width file input old new outcome =
     WithFile input (λ asked. AnswersLines name (file name) (lines asked)) old new outcome
-Obeys (to_tell_entries version hex every script format name) file input old new outcome =
-    Works (AnswersDump version hex every script format) Unknown (known_text file input name) old new outcome
-Obeys for_help file input old new outcome = IsHelped outcome ⊎ ((outcome ≡ Unknown) × Keeps old new)
-Obeys for_version file input old new outcome = IsHelped outcome ⊎ ((outcome ≡ Unknown) × Keeps old new)
-Obeys nothing file input old new outcome = ((outcome ≡ Unknown) ⊎ (outcome ≡ No)) × Keeps old new
+Obeys (to_tell_entries version hex every script format name) failed width file input old new outcome =
+    Works (AnswersDump version hex every script format) Unknown name (known_text file input name) old new outcome
+Obeys for_help failed width file input old new outcome = IsHelped outcome ⊎ ((outcome ≡ Unknown) × Keeps old new)
+Obeys for_version failed width file input old new outcome = IsHelped outcome ⊎ ((outcome ≡ Unknown) × Keeps old new)
+Obeys nothing failed width file input old new outcome =
+    ((outcome ≡ Unknown) ⊎ (outcome ≡ failed)) × Keeps old new

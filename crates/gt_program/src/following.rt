@@ -14,14 +14,15 @@ use std::io::Write;
 use std::sync::Wait;
 use std::thread::Threads;
 
-/// Executes the plan.
+/// Executes the plan. It asks for something, so its outcome does not depend on that of a wrong command line.
 pub(crate) fn follow<'a, R: Threads + Wait + Sync, T: TextSource, W: Write, E: Eprint>(
     context: &Context<R, T, E>,
     invocation: Invocation<'a>,
     out: &mut W,
     reasons: &mut Reasons<'a>,
 ) -> Outcome
-    ensures { Obeys (asked_by_plan invocation.entry) (T.file context.now.texts.now) (T.input context.now.texts.now)
+    ensures { (failed : Outcome) → Obeys (asked_by_plan invocation.entry) failed context.now.style.width
+        (T.file context.now.texts.now) (T.input context.now.texts.now)
         (W.contents out.old) (W.contents out.new) result }
 {
     match invocation {

@@ -79,7 +79,7 @@ fn obey_long<R: Threads + Wait + Sync, T: TextSource, W: Write, E: Eprint>(
     out: &mut W,
 ) -> Outcome
     requires { failed ≡ failed_word (first_word (drop 1 (map string_bytes words.now))) }
-    ensures { Obeys (request_in_words (drop 1 (map string_bytes words.now)))
+    ensures { Obeys (request_in_words (drop 1 (map string_bytes words.now))) failed context.now.style.width
         (T.file context.now.texts.now) (T.input context.now.texts.now)
         (W.contents out.old) (W.contents out.new) result }
 {
@@ -119,6 +119,7 @@ pub fn obey<R: Threads + Wait + Sync, T: TextSource, W: Write, E: Eprint>(
     out: &mut W,
 ) -> Outcome
     ensures { Obeys (request_in_words (drop 1 (with_long_flags (command_first (map string_bytes words.now)))))
+        (failed_word (leading_word (map string_bytes words.now))) context.now.style.width
         (T.file context.now.texts.now) (T.input context.now.texts.now)
         (W.contents out.old) (W.contents out.new) result }
 {
@@ -149,6 +150,7 @@ pub fn obey_read<R: Threads + Wait + Sync, T: TextSource, W: Write, E: Eprint>(
 ) -> Outcome
     ensures read { IfOk words (λ all.
         Obeys (request_in_words (drop 1 (with_long_flags (command_first (map string_bytes all.items)))))
+        (failed_word (leading_word (map string_bytes all.items))) context.now.style.width
         (T.file context.now.texts.now) (T.input context.now.texts.now) (W.contents out.old) (W.contents out.new)
         result) }
     ensures unread { IfErr words (λ error. FitsUnread (error_kind error) result

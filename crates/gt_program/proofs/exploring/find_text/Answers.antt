@@ -10,8 +10,8 @@ use Rattle.gt_program.proofs.exploring.find_text.Goals as goal
 pub returns-in-Some : goal.returns-in-Some
 returns-in-Some g c =
     let found = rw c.as_slice.ensures.value at c.find_bytes.ensures in
-    with_text _ (λ (text : List ℕ). Works (SeeksText text c.args.options.format c.args.options.states) Unknown (known_text (g.T.TextSource.file c.args.context.now.texts.now) (g.T.TextSource.input c.args.context.now.texts.now) (option_map (λ f. f.now) c.args.options.file))) c.in-Some.text.items _ _ _ c.in-Some.ensures (inl found)
+    with_text _ (λ (text : List ℕ). Works (SeeksText text c.args.options.format c.args.options.states) Unknown (option_map (λ f. f.now) c.args.options.file) (known_text (g.T.TextSource.file c.args.context.now.texts.now) (g.T.TextSource.input c.args.context.now.texts.now) (option_map (λ f. f.now) c.args.options.file))) c.in-Some.text.items _ _ _ c.in-Some.ensures (inl found)
 
 pub returns-in-None : goal.returns-in-None
 returns-in-None g c =
-    nothing_done _ (λ (text : List ℕ). Works (SeeksText text c.args.options.format c.args.options.states) Unknown (known_text (g.T.TextSource.file c.args.context.now.texts.now) (g.T.TextSource.input c.args.context.now.texts.now) (option_map (λ f. f.now) c.args.options.file))) _ _ _ refl (keeps_same _)
+    nothing_done _ (λ (text : List ℕ). Works (SeeksText text c.args.options.format c.args.options.states) Unknown (option_map (λ f. f.now) c.args.options.file) (known_text (g.T.TextSource.file c.args.context.now.texts.now) (g.T.TextSource.input c.args.context.now.texts.now) (option_map (λ f. f.now) c.args.options.file))) _ _ _ refl (keeps_same _)

@@ -2,31 +2,34 @@ use Rattle.gt_program.proofs.Obeyed.{as_planned}
 use Rattle.gt_program.proofs.following.follow.Goals as goal
 
 pub returns-in-Play : goal.returns-in-Play
-returns-in-Play g c = as_planned _ _ _ _ _ _ _ c.in-Play.is c.play.ensures
+returns-in-Play g c = λ failed. as_planned _ _ failed _ _ _ _ _ _ c.in-Play.is c.play.ensures
 
 pub returns-in-Run : goal.returns-in-Run
-returns-in-Run g c = as_planned _ _ _ _ _ _ _ c.in-Run.is c.run_asked.ensures
+returns-in-Run g c = λ failed. as_planned _ _ failed _ _ _ _ _ _ c.in-Run.is c.run_asked.ensures
 
 pub returns-in-Explore : goal.returns-in-Explore
-returns-in-Explore g c = as_planned _ _ _ _ _ _ _ c.in-Explore.is c.explore.ensures
+returns-in-Explore g c = λ failed. as_planned _ _ failed _ _ _ _ _ _ c.in-Explore.is c.explore.ensures
 
 pub returns-in-ExploreHas : goal.returns-in-ExploreHas
-returns-in-ExploreHas g c = as_planned _ _ _ _ _ _ _ c.in-ExploreHas.is c.find_text.ensures
+returns-in-ExploreHas g c = λ failed. as_planned _ _ failed _ _ _ _ _ _ c.in-ExploreHas.is c.find_text.ensures
 
 pub returns-in-Policy : goal.returns-in-Policy
-returns-in-Policy g c = as_planned _ _ _ _ _ _ _ c.in-Policy.is c.list.ensures
+returns-in-Policy g c = λ failed. as_planned _ _ failed _ _ _ _ _ _ c.in-Policy.is c.list.ensures
+
+pub returns-in-Rules : goal.returns-in-Rules
+returns-in-Rules g c = λ failed. as_planned _ _ failed _ _ _ _ _ _ c.in-Rules.is c.print_rules.ensures
 
 pub returns-in-Check : goal.returns-in-Check
-returns-in-Check g c = as_planned _ _ _ _ _ _ _ c.in-Check.is c.check_files.ensures
+returns-in-Check g c = λ failed. as_planned _ _ failed _ _ _ _ _ _ c.in-Check.is c.check_files.ensures
 
 pub returns-in-CheckNever : goal.returns-in-CheckNever
-returns-in-CheckNever g c = as_planned _ _ _ _ _ _ _ c.in-CheckNever.is c.check_never_files.ensures
+returns-in-CheckNever g c = λ failed. as_planned _ _ failed _ _ _ _ _ _ c.in-CheckNever.is c.check_never_files.ensures
 
 pub returns-in-Why : goal.returns-in-Why
-returns-in-Why g c = as_planned _ _ _ _ _ _ _ c.in-Why.is c.answer.ensures
+returns-in-Why g c = λ failed. as_planned _ _ failed _ _ _ _ _ _ c.in-Why.is c.answer.ensures
 
 pub returns-in-WhyEach : goal.returns-in-WhyEach
-returns-in-WhyEach g c = as_planned _ _ _ _ _ _ _ c.in-WhyEach.is c.answer_each.ensures
+returns-in-WhyEach g c = λ failed. as_planned _ _ failed _ _ _ _ _ _ c.in-WhyEach.is c.answer_each.ensures
 
 pub returns-in-Entries : goal.returns-in-Entries
-returns-in-Entries g c = as_planned _ _ _ _ _ _ _ c.in-Entries.is c.show_entries.ensures
+returns-in-Entries g c = λ failed. as_planned _ _ failed _ _ _ _ _ _ c.in-Entries.is c.show_entries.ensures
