@@ -23,20 +23,23 @@ use Rattle.gt_word_history.specs.Rule.{Layout}
 use Rattle.gt_word_history.specs.History.{Moment}
 use Rattle.gt_word_history.specs.declared.view.View.{View}
 use Rattle.gt_access.specs.Routes.{IsPinnedFor, ServesAccess}
+use Rattle.gt_frames.specs.Receipts.{Writing}
 use Rattle.gt_calls.specs.declared.action.Observation.TheVariants.{Nothing}
 use Rattle.gt_calls.specs.declared.action.Step.{Step}
+use Rattle.gt_calls.specs.declared.action.Step.TheVariants.{Write as WriteBytes}
 use Rattle.gt_calls.specs.declared.action.CallResult.{CallResult}
 use Rattle.gt_calls.specs.declared.action.CallResult.TheVariants.{Granted, Refused}
+use Rattle.gt_calls.specs.declared.held.AccessPath.{AccessPath}
 use Rattle.gt_calls.specs.declared.held.HeldPin.{HeldPin}
 use Rattle.gt_calls.specs.declared.request.Request.{Request}
 use Rattle.gt_handles.specs.declared.handles.Handle.{Handle}
 use Rattle.gt_calls.specs.declared.request.OpenRequest.TheVariants as asks
-use Rattle.gt_calls.specs.Asking.{asked, begun_of}
+use Rattle.gt_calls.specs.Asking.{asked, begun_of, bytes_given_by}
 use Rattle.gt_calls.specs.Opening.{opens}
 use Rattle.gt_calls.specs.Path.{Continuation, after_beginning, by_mapping, ended, makes, path_of, steps_of}
 use Rattle.gt_calls.specs.Rules.{CallerKnowledge, begun}
 use Rattle.gt_live.specs.Accesses.{Accessed, AnsweredAtAccess, ComesTo, HasCause, IsAccess, IsOfAccess, IsOfMissing}
-use Rattle.gt_live.specs.Accesses.{IsUnmade}
+use Rattle.gt_live.specs.Accesses.{IsUnmade, IsWrittenBy, NamesRoute, WritesFrame}
 use Rattle.gt_live.specs.Accesses.{frame_named, onward}
 use Rattle.gt_live.specs.Domains.{IsRefused, IsRefusedWithoutMemory, AllowRelation, denial_in}
 use Rattle.gt_live.specs.Prelude.{Domain, Monitor}
@@ -180,6 +183,12 @@ pub one-access : {R : Type 0} (b : Board) (way : Continuation) (access : Step) (
     → AnsweredAtAccess b way tells result v w
 one-access b way access tells (Ok r) v w is e ok same err cause = (access, whole b.layout way access (tells access r) v w is e ok)
 one-access b way access tells (Err denial) v w is e ok same err cause = inr (access, whole b.layout way access IsUnmade v w is e same, err, cause)
+
+-- a write by the route that its request names
+pub named-route : (k : Layout) (d : Domain) (request : Request) (dom : DomId) (frame off len : ℕ) (route : AccessPath) (result : Result Writing Denial) (v w : View) → NamesRoute d request route
+    → IfOk result (λ (r : Writing). WritesFrame k (frame_named dom frame) off (bytes_given_by request) d.seat.dom route r v w) → IfOk result (λ (r : Writing). IsWrittenBy k d request (WriteBytes dom frame off len) r v w)
+named-route k d request dom frame off len route (Ok r) v w named written = (route, named, written)
+named-route k d request dom frame off len route (Err denial) v w named written = tt
 
 -- the way of a call through a mapping
 pub mapped-way : (k : CallerKnowledge) (caller : DomId) (request : Request) (handle : Handle) (p : HeldPin) (step : HeldPin → Step) → begun_of k caller request ≡ None → k.mapping handle ≡ Some p

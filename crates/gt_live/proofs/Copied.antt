@@ -46,7 +46,9 @@ use Rattle.gt_calls.specs.Rules.{CallerKnowledge, begun, copy_begun, denied, fir
 use Rattle.gt_types.specs.Copies.{is_dest_granted, is_source_granted}
 use Rattle.gt_calls.specs.Rules.{label_of, refused_when, rights_to_copy, via_judged}
 use Rattle.gt_calls.specs.Standing.{pins_by_call}
-use Rattle.gt_live.specs.Accesses.{Accessed, AnsweredAtAccess, CopiesBetween, IsCopiedBy, IsIfOneMissing, IsOfAccess, IsUnmade}
+use Rattle.gt_live.specs.Accesses.{Accessed, AnsweredAtAccess, CameBy, CopiesBetween, IsCopiedBy, IsIfOneMissing}
+use Rattle.gt_live.specs.Accesses.{IsOfAccess, IsUnmade}
+use Rattle.gt_live.specs.declared.domain.Domain.{Domain}
 use Rattle.gt_live.specs.Accesses.{frame_named, onward}
 use Rattle.gt_live.specs.Driving.{IsSame}
 use Rattle.gt_live.specs.Underway.{AreOfRun, AtAccess, GivesBack, HasTaken}
@@ -156,14 +158,26 @@ pub whole-copy : (c : CallerKnowledge) (k : Layout) (call : Call) (from to : Spo
     → Accessed k (path c call.caller call.request) (CopyBytes from to len) IsUnmade v w × KeepsPins v w
 whole-copy c k call from to len v mid w a g = (copy-whole c k call from to len IsUnmade v mid mid w a refl g, (g.back v a.taken).pins)
 
--- a copy that came to its access and gave its pins back
-pub made-whole : (c : CallerKnowledge) (b : Board) (call : Call) (from to : Spot) (len : ℕ) (v at mid w : View) (way : Continuation) (writer : DomId) (result : Result Copying Denial) → AtAccess c b.layout call from to len v at → GivesBack b.layout (pins_by_call call) mid w → way ≡ path c call.caller call.request
-    → IfOk result (λ (r : Copying). CopiesBetween b.layout from to len writer r at mid) → OnErr result (mid ≡ at) → IfErr result IsOfAccess → IfErr result (IsIfOneMissing b from.frame to.frame) → AnsweredAtAccess b way (IsCopiedBy b.layout writer) result v w
-made-whole c b call from to len v at mid w way writer result a g same ok kept err cause = subst (λ (y : Continuation). AnsweredAtAccess b y (IsCopiedBy b.layout writer) result v w) (sym same) (by result ok kept err cause)
+-- a copy of this caller at its access, with these pins
+abbrev pub at_access : DomId → CopyArgs → CallPins → Call
+at_access caller copy pins = copy_call caller copy (Accessing copy pins.source pins.dest)
+
+-- a copy that came to its access by these routes and gave its pins back
+pub made-whole : (c : CallerKnowledge) (b : Board) (d : Domain) (copy : CopyArgs) (pins : CallPins) (from to : Spot) (len : ℕ) (at mid w : View) (way : Continuation) (result : Result Copying Denial) → AtAccess c b.layout (at_access d.seat.dom copy pins) from to len d.seat.view at → GivesBack b.layout pins mid w
+    → way ≡ path c d.seat.dom (asks.Copy copy) → IfOk result (λ (r : Copying). CopiesBetween b.layout from to len d.seat.dom pins r at mid) → OnErr result (mid ≡ at) → IfErr result IsOfAccess → IfErr result (IsIfOneMissing b from.frame to.frame)
+    → AnsweredAtAccess b way (IsCopiedBy c b.layout d copy) result d.seat.view w
+made-whole c b d copy pins from to len at mid w way result a g same ok kept err cause = subst (λ (y : Continuation). AnsweredAtAccess b y (IsCopiedBy c b.layout d copy) result d.seat.view w) (sym same) (by result ok kept err cause)
   where
-    by : (r : Result Copying Denial) → IfOk r (λ (x : Copying). CopiesBetween b.layout from to len writer x at mid) → OnErr r (mid ≡ at) → IfErr r IsOfAccess → IfErr r (IsIfOneMissing b from.frame to.frame) → AnsweredAtAccess b (path c call.caller call.request) (IsCopiedBy b.layout writer) r v w
-    by (Ok r) o n e x = (CopyBytes from to len, copy-whole c b.layout call from to len (IsCopiedBy b.layout writer (CopyBytes from to len) r) v at mid w a o g)
-    by (Err denial) o n e x = inr (CopyBytes from to len, copy-whole c b.layout call from to len IsUnmade v at mid w a n g, e, x)
+    call : Call
+    call = at_access d.seat.dom copy pins
+
+    came : CameBy c b.layout d.seat.dom copy from to len pins d.seat.view at
+    came = record { ends = a.rests; taken = a.taken }
+
+    by : (r : Result Copying Denial) → IfOk r (λ (x : Copying). CopiesBetween b.layout from to len d.seat.dom pins x at mid) → OnErr r (mid ≡ at) → IfErr r IsOfAccess → IfErr r (IsIfOneMissing b from.frame to.frame)
+        → AnsweredAtAccess b (path c d.seat.dom (asks.Copy copy)) (IsCopiedBy c b.layout d copy) r d.seat.view w
+    by (Ok r) o n e x = (CopyBytes from to len, copy-whole c b.layout call from to len (IsCopiedBy c b.layout d copy (CopyBytes from to len) r) d.seat.view at mid w a (pins, came, o) g)
+    by (Err denial) o n e x = inr (CopyBytes from to len, copy-whole c b.layout call from to len IsUnmade d.seat.view at mid w a n g, e, x)
 
 -- the pins that a copy took are there after its access
 pub taken-still : (k : Layout) (taken : List HeldPin) (v at mid : View) → HasTaken k taken v at → IsSame at mid → HasTaken k taken v mid
@@ -190,10 +204,9 @@ reaches-dest c k s request pins from to len v r x all =
     subst (λ (n : ℕ). ReachesBy k s Write ForCopy to.frame to.off n pins.dest) (sym r.len_is)
     (subst (λ (p : Spot). ReachesBy k s Write ForCopy p.frame p.off r.copy.len pins.dest) (sym r.to_is) at)
 
--- a copy of this caller at its access, with these pins
 abbrev pub Access : CallerKnowledge → Layout → DomId → CopyArgs → CallPins → View → View → Type 0
 Access c k caller copy pins v w =
-    AtAccess c k (copy_call caller copy (Accessing copy pins.source pins.dest))
+    AtAccess c k (at_access caller copy pins)
     (place_of caller copy.source pins.source) (place_of caller copy.dest pins.dest) copy.len v w
 
 module _ (c : CallerKnowledge) (k : Layout) (s : SeatOf) (caller : DomId) (copy : CopyArgs) (pins : CallPins) (v : View)

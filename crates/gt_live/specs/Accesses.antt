@@ -3,13 +3,16 @@ use Rattle.std.specs.Prelude.{◌≡◌, ◌⊎◌, ℕ, List, [], ◌∷◌, �
 use Rattle.gt_live.specs.Prelude.{DomId, Denial, N16, N26, NoFacts, denial_of, Layout, Moment, View, Copying, Reading}
 use Rattle.gt_live.specs.Prelude.{Writing, FrameName, IsReadOf, copying_at, writing_at, Makes, Observation}
 use Rattle.gt_live.specs.Prelude.{Nothing, Step, ReadBytes, WriteBytes, CopyBytes, Granted, Refused, Continuation}
-use Rattle.gt_live.specs.Prelude.{position_in, Spot, SeatOf, AccessPath, ReachesBy, Use, Write, ForMap, ForCopy}
-use Rattle.gt_access.specs.Routes.{writ_by}
-use Rattle.gt_frames.specs.declared.writ.Writ.{Writ}
+use Rattle.gt_live.specs.Prelude.{position_in, Spot, SeatOf, AccessPath, Own, Direct, ReachesBy, Dir, Use, Read, Write}
+use Rattle.gt_live.specs.Prelude.{ForMap, ForCopy, CallerKnowledge, CallPins, Copy, CopyArgs, Domain, HeldPin, Request}
+use Rattle.gt_live.specs.Prelude.{RestsOnWays, bytes_given_by, last_first, value_of}
+use Rattle.gt_calls.specs.declared.request.Request.TheVariants as requests
 use Rattle.gt_word_history.specs.declared.view.FrameStep.TheVariants as frames
 use Rattle.gt_words.specs.Conditions.{Board}
 use Rattle.gt_words.specs.Frames.{AccessesFrame, CopiesFrames, KeepsFrame}
+use Rattle.gt_live.specs.Taken.{HasTaken}
 use Rattle.gt_live.specs.Walks.{AreMoments, Called, IsWalk, view_after, all_shown}
+pub use Rattle.gt_access.specs.Routes.{writ_by}
 pub use Rattle.gt_calls.specs.Standing.{IsAccess}
 
 -- the rest of this path after these observations
@@ -92,30 +95,31 @@ ReadsFrame k name off len r v w =
     IsReadOf r name off len
     × AccessesFrame k (position_in k.ids name.owner) name.number (frames.Read off r.bytes) v w
 
--- the writ is that of a route by which the writer may write this range, at this view: the frame is its own, or the view
--- has the pins that permit the write, and the writ has their entries
-pub record IsWritOfPins (k : Layout) (v : View) (writer : DomId) (purpose : Use) (name : FrameName) (off len : ℕ)
-    (u : Writ) : Type 0 where
+-- at this view the domain reaches this range by the route: the frame is its own, or the view has the pins of the route,
+-- and they permit the access
+pub record ReachesAt (k : Layout) (v : View) (caller : DomId) (dir : Dir) (purpose : Use) (name : FrameName)
+    (off len : ℕ) (route : AccessPath) : Type 0 where
   pub seat : SeatOf
-  pub dom : seat.dom ≡ writer
+  pub dom : seat.dom ≡ caller
   pub view : seat.view ≡ v
-  pub route : AccessPath
-  pub reaches : ReachesBy k seat Write purpose name off len route
-  pub writ : u ≡ writ_by writer route
+  pub reaches : ReachesBy k seat dir purpose name off len route
 
--- the writer wrote these bytes to the frame, as one step of the history, by a writ of its pins
-abbrev pub WritesFrame : Layout → FrameName → ℕ → List ℕ → DomId → Writing → View → View → Type 0
-WritesFrame k name off bytes writer r v w =
+-- the writer wrote these bytes to the frame, as one step of the history, by the writ of this route
+abbrev pub WritesFrame : Layout → FrameName → ℕ → List ℕ → DomId → AccessPath → Writing → View → View → Type 0
+WritesFrame k name off bytes writer route r v w =
     (r ≡ writing_at name off bytes writer)
-    × ((u : Writ) × IsWritOfPins k v writer ForMap name off (length bytes) u
+    × ReachesAt k v writer Write ForMap name off (length bytes) route
     × AccessesFrame k (position_in k.ids name.owner) name.number
-    (frames.Wrote (record { writ = u; off = off; bytes = bytes })) v w)
+    (frames.Wrote (record { writ = writ_by writer route; off = off; bytes = bytes })) v w
 
--- the writer copied this many bytes from one place to the other, as one step of the history, by a writ of its pins
-abbrev pub CopiesBetween : Layout → Spot → Spot → ℕ → DomId → Copying → View → View → Type 0
-CopiesBetween k from to len writer r v w =
+-- the writer copied this many bytes from one place to the other, as one step of the history: it read by the route to
+-- the source, and wrote by the writ of the route to the destination
+abbrev pub CopiesBetween : Layout → Spot → Spot → ℕ → DomId → CallPins → Copying → View → View → Type 0
+CopiesBetween k from to len writer routes r v w =
     (r ≡ copying_at from to len writer)
-    × ((u : Writ) × IsWritOfPins k v writer ForCopy to.frame to.off len u × CopiesFrames k from to len u v w)
+    × ReachesAt k v writer Read ForCopy from.frame from.off len routes.source
+    × ReachesAt k v writer Write ForCopy to.frame to.off len routes.dest
+    × CopiesFrames k from to len (writ_by writer routes.dest) v w
 
 -- the access read exactly its frame and range
 abbrev pub IsReadBy : Layout → Step → Reading → View → View → Type 0
@@ -127,13 +131,33 @@ abbrev pub Fills : Result Reading Denial → List ℕ → List ℕ → Type 0
 Fills (Ok r) old new = new ≡ r.bytes
 Fills (Err denial) old new = new ≡ old
 
--- this writer wrote these bytes to exactly the frame and range of the access
-abbrev pub IsWrittenBy : Layout → DomId → List ℕ → Step → Writing → View → View → Type 0
-IsWrittenBy k writer bytes (WriteBytes dom frame off len) r v w =
-    WritesFrame k (frame_named dom frame) off bytes writer r v w
-IsWrittenBy k writer bytes step r v w = ⊥
+-- the route that a request to write names: a store names the pin of the mapping under its handle, and a poke a frame
+-- that the domain owns
+abbrev pub NamesRoute : Domain → Request → AccessPath → Type 0
+NamesRoute d (requests.Store handle off bytes) route =
+    (p : HeldPin) × (value_of d.mappings handle ≡ Some p) × (route ≡ Direct p)
+NamesRoute d (requests.Poke frame off bytes) route = route ≡ Own
+NamesRoute d request route = ⊥
 
--- this writer copied exactly the access's number of bytes between the access's places
-abbrev pub IsCopiedBy : Layout → DomId → Step → Copying → View → View → Type 0
-IsCopiedBy k writer (CopyBytes from to len) r v w = CopiesBetween k from to len writer r v w
-IsCopiedBy k writer step r v w = ⊥
+-- the domain wrote the bytes of this request to exactly the frame and range of the access, by the route that the
+-- request names
+abbrev pub IsWrittenBy : Layout → Domain → Request → Step → Writing → View → View → Type 0
+IsWrittenBy k d request (WriteBytes dom frame off len) r v w =
+    (route : AccessPath) × NamesRoute d request route
+    × WritesFrame k (frame_named dom frame) off (bytes_given_by request) d.seat.dom route r v w
+IsWrittenBy k d request step r v w = ⊥
+
+-- the copy came by these routes from the view v to its access at the view w: they lead to its two ends, and their pins
+-- are those that it took
+pub record CameBy (c : CallerKnowledge) (k : Layout) (caller : DomId) (copy : CopyArgs) (from to : Spot) (len : ℕ)
+    (routes : CallPins) (v w : View) : Type 0 where
+  pub ends : RestsOnWays c caller (Copy copy) routes from to len
+  pub taken : HasTaken k (last_first routes) v w
+
+-- the domain copied exactly the access's number of bytes between the access's places, by the routes by which this copy
+-- came to it
+abbrev pub IsCopiedBy : CallerKnowledge → Layout → Domain → CopyArgs → Step → Copying → View → View → Type 0
+IsCopiedBy c k d copy (CopyBytes from to len) r v w =
+    (routes : CallPins) × CameBy c k d.seat.dom copy from to len routes d.seat.view v
+    × CopiesBetween k from to len d.seat.dom routes r v w
+IsCopiedBy c k d copy step r v w = ⊥

@@ -1,4 +1,5 @@
 pub mod Walks
+pub mod Taken
 pub mod Accesses
 pub mod Mappings
 pub mod Ending

@@ -6,7 +6,7 @@ pub use Rattle.gt_words.specs.declared.frames.AccessFault.TheVariants.{Gone, Mem
 pub use Rattle.gt_audit.specs.declared.record.Hypercall.{Hypercall}
 pub use Rattle.gt_audit.specs.declared.record.Record.{Record}
 pub use Rattle.gt_audit.specs.declared.record.Reply.{Reply}
-pub use Rattle.gt_calls.specs.Asking.{asked, begun_of}
+pub use Rattle.gt_calls.specs.Asking.{asked, begun_of, bytes_given_by}
 pub use Rattle.gt_calls.specs.Changes.{raise_of}
 pub use Rattle.gt_calls.specs.Following.{GoesOnWith, IsStepAction}
 pub use Rattle.gt_calls.specs.Holding.{last_first, no_pins, pins_so_far, without_last}
@@ -38,7 +38,7 @@ pub use Rattle.gt_calls.specs.declared.copying.PinPurpose.TheVariants.{Dest, Sou
 pub use Rattle.gt_calls.specs.declared.held.HeldPin.{HeldPin}
 pub use Rattle.gt_calls.specs.declared.held.CallPins.{CallPins}
 pub use Rattle.gt_calls.specs.declared.held.AccessPath.{AccessPath}
-pub use Rattle.gt_calls.specs.declared.held.AccessPath.TheVariants.{Direct}
+pub use Rattle.gt_calls.specs.declared.held.AccessPath.TheVariants.{Direct, Own}
 pub use Rattle.gt_calls.specs.declared.leg.Leg.{Leg}
 pub use Rattle.gt_calls.specs.declared.leg.LegPhase.TheVariants.{Header}
 pub use Rattle.gt_calls.specs.declared.leg.TheConstants.{MORE_TRIES}

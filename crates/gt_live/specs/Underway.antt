@@ -1,36 +1,17 @@
 -- A copy under way: the pins that it holds, and where it stops. The code's own representation. It is in specs/ because
 -- contracts cite it.
-use Rattle.std.specs.Prelude.{◌≡◌, ℕ, ◌<◌, ◌==◌, ◌&&◌, Bool, cond, List, [], ◌∷◌, ◌++◌, Some}
-use Rattle.gt_live.specs.Prelude.{Denial, TABLE_ENTRIES, HasDomain, Layout, position_in, LivePin, last_of, live_pins}
-use Rattle.gt_live.specs.Prelude.{steps_on, Moment, View, Action, Spot, Nothing, CopyBytes, CallResult, Granted, Refused}
+use Rattle.std.specs.Prelude.{◌≡◌, ℕ, ◌<◌, List, [], ◌∷◌, ◌++◌, Some}
+use Rattle.gt_live.specs.Prelude.{Denial, TABLE_ENTRIES, HasDomain, Layout}
+use Rattle.gt_live.specs.Prelude.{Moment, View, Action, Spot, Nothing, CopyBytes, CallResult, Granted, Refused}
 use Rattle.gt_live.specs.Prelude.{Call, Phase, Accessing, Ending, Walking, Source, Dest, HeldPin, CallPins, CopyArgs, Copy}
 use Rattle.gt_live.specs.Prelude.{GoesOnWith, last_first, action_at, give_back, path, Rests, RestsOnWays}
 use Rattle.gt_live.specs.Prelude.{CallerKnowledge}
 use Rattle.gt_live.specs.Prelude.{IsAt, held_by_call, held_in, pins_by_call}
-use Rattle.gt_words.specs.Keeping.{SeesNoEarlier}
 use Rattle.gt_calls.specs.declared.action.Action.TheVariants as actions
 use Rattle.gt_live.specs.Accesses.{ComesTo, onward}
 use Rattle.gt_live.specs.Driving.{IsSame}
-use Rattle.gt_live.specs.Mappings.{entry_record_of}
+pub use Rattle.gt_live.specs.Taken.{HasTaken, is_of_entry, live_pins_by}
 use Rattle.gt_live.specs.Walks.{Called, CarriesFound, IsWalk, view_after, all_shown}
-
--- the pin is one of the entry r of the domain t
-abbrev pub is_of_entry : Layout → ℕ → ℕ → HeldPin → Bool
-is_of_entry k t r p = (position_in k.ids p.dom == t) && (p.gref.0 == r)
-
--- those of these pins that are of the entry r of the domain t, as a view has them
-abbrev pub live_pins_by : Layout → ℕ → ℕ → List HeldPin → List LivePin
-live_pins_by k t r [] = []
-live_pins_by k t r (p ∷ ps) =
-    cond (is_of_entry k t r p) ((p.dir, entry_record_of p) ∷ live_pins_by k t r ps) (live_pins_by k t r ps)
-
--- the seat has taken these pins, the last one first, and otherwise has the same pins and records as before
-pub record HasTaken (k : Layout) (taken : List HeldPin) (v w : View) : Type 0 where
-  pub pins : (t r : ℕ) → live_pins (steps_on t r w) ≡ live_pins_by k t r taken ++ live_pins (steps_on t r v)
-  pub records : (r : ℕ) → last_of r w ≡ last_of r v
-  pub seen : SeesNoEarlier v w
-  pub position : w.position ≡ v.position
-  pub ids : w.ids ≡ v.ids
 
 -- each of these pins is of an entry of the run
 abbrev pub AreOfRun : Layout → List HeldPin → Type 0

@@ -20,7 +20,7 @@ use Rattle.gt_calls.specs.declared.action.CallResult.TheVariants.{Granted}
 use Rattle.gt_calls.specs.declared.held.HeldPin.{HeldPin}
 use Rattle.gt_calls.specs.declared.request.Request.{Request}
 use Rattle.gt_calls.specs.declared.request.Request.TheVariants as requests
-use Rattle.gt_live.specs.Accesses.{Accessed, IsAccess, IsCopiedBy, IsReadBy, IsUnmade, IsWrittenBy, onward}
+use Rattle.gt_live.specs.Accesses.{Accessed, IsAccess, IsCopiedBy, IsReadBy, IsUnmade, IsWrittenBy, onward, writ_by}
 use Rattle.gt_live.specs.Domains.{AllowRelation, knowledge}
 use Rattle.gt_live.specs.Ending.{IsOfMapping}
 use Rattle.gt_live.specs.Walks.{IsWalk, Made, MakesStep, all_shown, shown_by, view_after}
@@ -110,9 +110,9 @@ writes-made may m d e request r stays is answered kept = by answered.0 answered.
     plain (requests.Poke frame off bytes) is a = a
     plain q is a = absurd is
 
-    by : (access : Step) → Accessed k way access (IsWrittenBy k d.seat.dom (bytes_given_by request) access r) d.seat.view e.seat.view → (steps : List Moment) × WasMade may m request Wrote steps d e
+    by : (access : Step) → Accessed k way access (IsWrittenBy k d request access r) d.seat.view e.seat.view → (steps : List Moment) × WasMade may m request Wrote steps d e
     by (WriteBytes dom frame off len) a =
-        let u = a.did.1.0 in let f = a.did.1.2 in
+        let u = writ_by d.seat.dom a.did.0 in let f = a.did.2.2 in
         let x : Moment = (f.past, Frame (position_in k.ids dom) frame (frames.Wrote (record { writ = u; off = off; bytes = bytes_given_by request }))) in
         let z = whole k (bytes_given_by request) way (WriteBytes dom frame off len) _ d.seat.view e.seat.view a x (record { made = (u, f); view = f.view; shows = refl }) in (
           z.0,
@@ -136,9 +136,9 @@ copies-made may m d e args r stays fits answered kept = by answered.0 answered.1
     way : Continuation
     way = path_of (knowledge m.config (may m.rights) d) d.seat.dom (requests.Copy args)
 
-    by : (access : Step) → Accessed k way access (IsCopiedBy k d.seat.dom access r) d.seat.view e.seat.view → (steps : List Moment) × WasMade may m (requests.Copy args) Wrote steps d e
+    by : (access : Step) → Accessed k way access (IsCopiedBy (knowledge m.config (may m.rights) d) k d args access r) d.seat.view e.seat.view → (steps : List Moment) × WasMade may m (requests.Copy args) Wrote steps d e
     by (CopyBytes from to len) a =
-        let u = a.did.1.0 in let c = a.did.1.2 in
+        let u = writ_by d.seat.dom a.did.0.dest in let c = a.did.2.3 in
         let x : Moment = (
           c.3.past,
           Frame (position_in k.ids to.frame.owner) to.frame.number

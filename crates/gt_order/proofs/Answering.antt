@@ -7,7 +7,7 @@ use Rattle.gt_types.specs.declared.denial.Denial.{Denial}
 use Rattle.gt_word_history.specs.History.{Moment}
 use Rattle.gt_handles.specs.declared.handles.Handle.{Handle}
 use Rattle.gt_calls.specs.declared.action.CallResult.{CallResult}
-use Rattle.gt_calls.specs.Asking.{asked, bytes_given_by}
+use Rattle.gt_calls.specs.Asking.{asked}
 use Rattle.gt_calls.specs.declared.request.Request.{Request}
 use Rattle.gt_calls.specs.declared.request.Request.TheVariants as requests
 use Rattle.gt_core.specs.Acting.{answer_of}
@@ -141,7 +141,7 @@ module _ {P : Type 0} (may : P → AllowRelation) (m : Monitor P) where
 
     -- a store or a poke: it wrote, a rule refused it, or its access could not be made
     storing : (request : Request) → IsStoring request → IsSingle request → (IsOfMapping (asked request) → ⊥) → FitsTypes request → (answer : Answer) (r : Result Writing Denial) → answer ≡ plain_answer r
-        → Accesses may m d request (IsWrittenBy m.words.layout d.seat.dom (bytes_given_by request)) r e → KeepsPinned d e → IsMade request answer d e
+        → Accesses may m d request (IsWrittenBy m.words.layout d request) r e → KeepsPinned d e → IsMade request answer d e
     storing request is one other fits answer (Ok w) told accessed kept = let z = writes-made may m d e request w stays is accessed kept in (Wrote, z.0, told, z.1, tt)
     storing request is one other fits answer (Err denial) told (inl called) kept = plain request (Refused denial) (answers.Denied denial) answer other fits tt refl told called kept
     storing request is one other fits answer (Err denial) told (inr lost) kept = (Starved, [], (denial, told, lost-is request (single-one request one) lost.0 denial _ _ lost.1 lost.3 lost.2), lost-made may m d e request lost.0 stays one lost.1 kept, single-allocates request one)
@@ -160,7 +160,7 @@ module _ {P : Type 0} (may : P → AllowRelation) (m : Monitor P) where
 
     -- a copy
     copying : (args : CopyArgs) (answer : Answer) → FitsTypes (requests.Copy args) → (r : Result Copying Denial) → answer ≡ plain_answer r
-        → Accesses may m d (requests.Copy args) (IsCopiedBy m.words.layout d.seat.dom) r e → KeepsPinned d e → IsMade (requests.Copy args) answer d e ⊎ IsLostAs (requests.Copy args) answer d e
+        → Accesses may m d (requests.Copy args) (IsCopiedBy (known_on may m d) m.words.layout d args) r e → KeepsPinned d e → IsMade (requests.Copy args) answer d e ⊎ IsLostAs (requests.Copy args) answer d e
     copying args answer fits (Ok r) told accessed kept = let z = copies-made may m d e args r stays fits accessed kept in inl (Wrote, z.0, told, z.1, tt)
     copying args answer fits (Err denial) told (inl called) kept = inl (plain (requests.Copy args) (Refused denial) (answers.Denied denial) answer (λ q. q) fits tt refl told called kept)
     copying args answer fits (Err denial) told (inr lost) kept =

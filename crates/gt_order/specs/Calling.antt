@@ -5,7 +5,7 @@ use Rattle.gt_order.specs.Prelude.{CallResult, Refused, HeldPin, Request, Writin
 use Rattle.gt_order.specs.Prelude.{Accesses, AllowRelation, Answered, BelongsTo, KeepsPinned, MapAnswered, known_on}
 use Rattle.gt_order.specs.Prelude.{verdict_of}
 use Rattle.gt_order.specs.Prelude.{IsOfMapping, Removes, Domain, Monitor}
-use Rattle.gt_order.specs.Prelude.{Bytes, Copying, IsCopiedBy, IsReadBy, IsUnmade, Reading, bytes_given_by}
+use Rattle.gt_order.specs.Prelude.{Bytes, Copying, IsCopiedBy, IsReadBy, IsUnmade, Reading}
 use Rattle.gt_types.specs.declared.copies.CopyArgs.{CopyArgs}
 use Rattle.gt_calls.specs.declared.action.CallResult.TheVariants.{Granted}
 use Rattle.gt_calls.specs.declared.request.Request.TheVariants as requests
@@ -92,15 +92,15 @@ IsSingle request = ⊥
 abbrev pub WritesAreMade : {P : Type 0} → (P → AllowRelation) → Monitor P → Type 0
 WritesAreMade may m =
     (d e : Domain) (request : Request) (r : Writing) → StaysOf may m d e → IsStoring request
-    → Accesses may m d request (IsWrittenBy (words_of m).layout (seat_of d).dom (bytes_given_by request)) (Ok r) e
+    → Accesses may m d request (IsWrittenBy (words_of m).layout d request) (Ok r) e
     → KeepsPinned d e → (steps : List Moment) × WasMade may m request Wrote steps d e
 
 -- a copy that is Ok
 abbrev pub CopiesAreMade : {P : Type 0} → (P → AllowRelation) → Monitor P → Type 0
 CopiesAreMade may m =
     (d e : Domain) (args : CopyArgs) (r : Copying) → StaysOf may m d e → FitsTypes (requests.Copy args)
-    → Accesses may m d (requests.Copy args) (IsCopiedBy (words_of m).layout (seat_of d).dom) (Ok r) e → KeepsPinned d e
-    → (steps : List Moment) × WasMade may m (requests.Copy args) Wrote steps d e
+    → Accesses may m d (requests.Copy args) (IsCopiedBy (known_on may m d) (words_of m).layout d args) (Ok r) e
+    → KeepsPinned d e → (steps : List Moment) × WasMade may m (requests.Copy args) Wrote steps d e
 
 -- a load or a peek that is Ok, with the bytes that it read
 abbrev pub ReadsAreMade : {P : Type 0} → (P → AllowRelation) → Monitor P → Type 0

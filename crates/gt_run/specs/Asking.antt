@@ -6,7 +6,7 @@ use Rattle.gt_run.specs.Prelude.{Accesses, Answered, KeepsPinned, MapAnswered, A
 use Rattle.gt_run.specs.Prelude.{subject_of, record_of_copy, record_of_result}
 use Rattle.gt_run.specs.Prelude.{verdict_of, verdict_of_frames, verdict_of_size}
 use Rattle.gt_run.specs.Prelude.{verdict_of_version, Removes}
-use Rattle.gt_live.specs.Domains.{AccessesQuietly, AnswersQuietly, AnswersRecorded, StaysIn}
+use Rattle.gt_live.specs.Domains.{AccessesQuietly, AnswersQuietly, AnswersRecorded, StaysIn, known_on}
 use Rattle.gt_live.specs.Flags.{FlagStepped}
 use Rattle.gt_word_history.specs.declared.view.FlagStep.{FlagStep}
 use Rattle.gt_word_history.specs.declared.view.FlagStep.TheVariants.{Raised}
@@ -107,14 +107,14 @@ AnswersCall may m d (requests.Peek frame off len) answer e =
 AnswersCall may m d (requests.Store handle off bytes) answer e =
     (r : Result Writing Denial) × (answer ≡ plain_answer r)
     × AccessesQuietly may m d (requests.Store handle off bytes)
-    (IsWrittenBy (words_of m).layout (seat_of d).dom bytes.now) r e
+    (IsWrittenBy (words_of m).layout d (requests.Store handle off bytes)) r e
 AnswersCall may m d (requests.Poke frame off bytes) answer e =
     (r : Result Writing Denial) × (answer ≡ plain_answer r)
     × AccessesQuietly may m d (requests.Poke frame off bytes)
-    (IsWrittenBy (words_of m).layout (seat_of d).dom bytes.now) r e
+    (IsWrittenBy (words_of m).layout d (requests.Poke frame off bytes)) r e
 AnswersCall may m d (requests.Copy args) answer e =
     (r : Result Copying Denial) × (answer ≡ plain_answer r)
-    × Accesses may m d (requests.Copy args) (IsCopiedBy (words_of m).layout (seat_of d).dom) r e
+    × Accesses may m d (requests.Copy args) (IsCopiedBy (known_on may m d) (words_of m).layout d args) r e
     × KeepsPinned d e × AppendsRecord (trail_of d) (record_of_copy d args r) (trail_of e)
 AnswersCall may m d request answer e =
     (r : Result (Unit {0}) Denial) × (answer ≡ plain_answer r) × AnswersQuietly may m d request (verdict_of r) e

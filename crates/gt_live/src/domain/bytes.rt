@@ -9,7 +9,7 @@ ghost use Rattle.gt_live.specs.Accesses.{Fills, IsIfMissing, IsOfAccess, IsOfMis
 ghost use Rattle.gt_live.specs.Accesses.{ReadsFrame, WritesFrame};
 ghost use Rattle.gt_live.specs.Domains.{AccessesQuietly, BelongsTo, IsRefusedWithoutMemory, StaysIn, not_made};
 ghost use Rattle.gt_live.specs.Driving.{IsSame};
-ghost use Rattle.gt_live.specs.Parts.{seat_of, words_of};
+ghost use Rattle.gt_live.specs.Parts.{words_of};
 
 use super::{Domain, refusal_of};
 use crate::monitor::Monitor;
@@ -125,7 +125,7 @@ fn write_through<'a, R: Wait, P: Allows>(
     requires range { access.now.at.off + length bytes.now ≤ FRAME_SIZE }
     ensures seat { IsSameSeat seat.old seat.new }
     ensures written { IfOk result (λ r. WritesFrame monitor.now.words.layout access.now.at.frame access.now.at.off
-        bytes.entry.now seat.old.dom r seat.old.view seat.new.view) }
+        bytes.entry.now seat.old.dom access.now.route.now r seat.old.view seat.new.view) }
     ensures refused { IfErr result IsOfAccess }
     ensures cause { IfErr result (IsIfMissing monitor.now.words access.now.at.frame) }
     ensures unmade { OnErr result (seat.new.view ≡ seat.old.view) }
@@ -295,7 +295,8 @@ impl Domain {
         ensures stays { StaysIn P.may monitor.now self.old self.new }
         ensures answers { AccessesQuietly P.may monitor.now self.old
             (requests.Store handle off bytes.entry)
-            (IsWrittenBy (words_of monitor.now).layout (seat_of self.old).dom bytes.entry.now) result self.new }
+            (IsWrittenBy (words_of monitor.now).layout self.old (requests.Store handle off bytes.entry))
+            result self.new }
     {
         if let Some(verdict) = judge_store(&self.mappings, handle, off, bytes.len()) {
             return Err(refusal_of(verdict));
@@ -329,7 +330,8 @@ impl Domain {
         ensures stays { StaysIn P.may monitor.now self.old self.new }
         ensures answers { AccessesQuietly P.may monitor.now self.old
             (requests.Poke frame off bytes.entry)
-            (IsWrittenBy (words_of monitor.now).layout (seat_of self.old).dom bytes.entry.now) result self.new }
+            (IsWrittenBy (words_of monitor.now).layout self.old (requests.Poke frame off bytes.entry))
+            result self.new }
     {
         let caller = self.seat.dom();
         let config = &monitor.config;

@@ -56,7 +56,7 @@ fn copy_through<R: Wait, P: Allows>(
     requires dest_range { access.now.to.off + access.now.len ≤ FRAME_SIZE }
     ensures seat { IsSameSeat seat.old seat.new }
     ensures copied { IfOk result (λ r. CopiesBetween monitor.now.words.layout access.now.from access.now.to
-        access.now.len seat.old.dom r seat.old.view seat.new.view) }
+        access.now.len seat.old.dom access.now.routes.now r seat.old.view seat.new.view) }
     ensures refused { IfErr result IsOfAccess }
     ensures cause { IfErr result (IsIfOneMissing monitor.now.words access.now.from.frame access.now.to.frame) }
     ensures unmade { OnErr result (seat.new.view ≡ seat.old.view) }
@@ -191,8 +191,9 @@ impl Domain {
         requires mine { BelongsTo P.may monitor.now self.old }
         ensures mine { BelongsTo P.may monitor.now self.new }
         ensures seat { IsSameSeat self.old.seat self.new.seat }
-        ensures answered { Accesses P.may monitor.now self.old
-            (requests.Copy copy.now) (IsCopiedBy monitor.now.words.layout self.old.seat.dom) result self.new }
+        ensures answered { Accesses P.may monitor.now self.old (requests.Copy copy.now)
+            (IsCopiedBy (known_on P.may monitor.now self.old) monitor.now.words.layout self.old copy.now)
+            result self.new }
         ensures kept { KeepsPinned self.old self.new }
         ensures silent { self.new.trail ≡ self.old.trail }
     {
@@ -230,8 +231,9 @@ impl Domain {
         requires mine { BelongsTo P.may monitor.now self.old }
         ensures mine { BelongsTo P.may monitor.now self.new }
         ensures seat { IsSameSeat self.old.seat self.new.seat }
-        ensures answered { Accesses P.may monitor.now self.old
-            (requests.Copy copy.now) (IsCopiedBy monitor.now.words.layout self.old.seat.dom) result self.new }
+        ensures answered { Accesses P.may monitor.now self.old (requests.Copy copy.now)
+            (IsCopiedBy (known_on P.may monitor.now self.old) monitor.now.words.layout self.old copy.now)
+            result self.new }
         ensures kept { KeepsPinned self.old self.new }
         ensures silent { self.new.trail ≡ self.old.trail }
     {
@@ -267,8 +269,9 @@ impl Domain {
         requires mine { BelongsTo P.may monitor.now self.old }
         ensures mine { BelongsTo P.may monitor.now self.new }
         ensures seat { IsSameSeat self.old.seat self.new.seat }
-        ensures answered { Accesses P.may monitor.now self.old
-            (requests.Copy copy.now) (IsCopiedBy monitor.now.words.layout self.old.seat.dom) result self.new }
+        ensures answered { Accesses P.may monitor.now self.old (requests.Copy copy.now)
+            (IsCopiedBy (known_on P.may monitor.now self.old) monitor.now.words.layout self.old copy.now)
+            result self.new }
         ensures kept { KeepsPinned self.old self.new }
         ensures silent { self.new.trail ≡ self.old.trail }
     {
@@ -294,8 +297,9 @@ impl Domain {
         requires mine { BelongsTo P.may monitor.now self.old }
         ensures mine { BelongsTo P.may monitor.now self.new }
         ensures seat { IsSameSeat (seat_of self.old) (seat_of self.new) }
-        ensures answered { Accesses P.may monitor.now self.old
-            (requests.Copy copy.now) (IsCopiedBy (words_of monitor.now).layout (seat_of self.old).dom) result self.new }
+        ensures answered { Accesses P.may monitor.now self.old (requests.Copy copy.now)
+            (IsCopiedBy (known_on P.may monitor.now self.old) (words_of monitor.now).layout self.old copy.now)
+            result self.new }
         ensures kept { KeepsPinned self.old self.new }
         ensures recorded { AppendsRecord (trail_of self.old)
             (record_of_copy self.old copy.now result) (trail_of self.new) }

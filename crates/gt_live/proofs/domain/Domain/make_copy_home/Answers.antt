@@ -7,8 +7,6 @@ use Rattle.gt_calls.specs.Path.{path_of, place_of}
 use Rattle.gt_handles.specs.Handles.{HandleMap}
 use Rattle.gt_live.specs.Domains.{knowledge}
 use Rattle.std.specs.Prelude.{IfErr, IfOk}
-use Rattle.gt_calls.specs.declared.call.Phase.TheVariants.{Accessing}
-use Rattle.gt_live.specs.Copies.{copy_call}
 use Rattle.gt_frames.specs.Receipts.{Copying}
 use Rattle.gt_calls.specs.Holding.{last_first}
 use Rattle.gt_live.specs.Accesses.{CopiesBetween, IsCopiedBy, IsIfOneMissing}
@@ -77,7 +75,8 @@ pub returns-in-Some-clause-answered : goal.returns-in-Some-clause-answered
 returns-in-Some-clause-answered g c =
     let m = c.args.monitor.now in let d = c.args.self.now in
     refused-access m.words (knowledge m.config (g.P.Allows.may m.rights) d) d.seat.dom
-    (requests.Copy c.args.copy.now) (IsCopiedBy m.words.layout d.seat.dom) c.in-Some.verdict c.refusal_of.result d.seat.view tt
+    (requests.Copy c.args.copy.now) (IsCopiedBy (knowledge m.config (g.P.Allows.may m.rights) d) m.words.layout d c.args.copy.now)
+    c.in-Some.verdict c.refusal_of.result d.seat.view tt
     (sym c.judge_copy.ensures ∙ c.in-Some.is) c.refusal_of.ensures
 
 pub returns-in-Err-clause-mine : goal.returns-in-Err-clause-mine
@@ -121,17 +120,17 @@ returns-clause-answered g c =
     c.place_of-from.ensures ∙ ap (λ (x : DomId). place_of x copy.source pins.source) (c.dom-caller.ensures ∙ me) in
     let to_is : c.place_of-to.result ≡ place_of d.seat.dom copy.dest pins.dest =
     c.place_of-to.ensures ∙ ap (λ (x : DomId). place_of x copy.dest pins.dest) (c.dom-caller.ensures ∙ me) in
-    made-whole c0 m.words (copy_call d.seat.dom copy (Accessing copy pins.source pins.dest))
-    (place_of d.seat.dom copy.source pins.source) (place_of d.seat.dom copy.dest pins.dest) copy.len d.seat.view
-    f.seat.view t.new.seat.view e.seat.view (path_of c0 d.seat.dom (requests.Copy copy)) d.seat.dom t.result
+    made-whole c0 m.words d copy pins (place_of d.seat.dom copy.source pins.source)
+    (place_of d.seat.dom copy.dest pins.dest) copy.len f.seat.view t.new.seat.view e.seat.view
+    (path_of c0 d.seat.dom (requests.Copy copy)) t.result
     c.in-Ok.ensures.stops c.give_back.ensures.gives refl
     (subst (λ (q : Spot). IfOk t.result
-    (λ (r : Copying). CopiesBetween k (place_of d.seat.dom copy.source pins.source) q copy.len d.seat.dom r f.seat.view t.new.seat.view))
+    (λ (r : Copying). CopiesBetween k (place_of d.seat.dom copy.source pins.source) q copy.len d.seat.dom pins r f.seat.view t.new.seat.view))
     to_is
     (subst (λ (p : Spot). IfOk t.result
-    (λ (r : Copying). CopiesBetween k p c.place_of-to.result copy.len d.seat.dom r f.seat.view t.new.seat.view)) from_is
+    (λ (r : Copying). CopiesBetween k p c.place_of-to.result copy.len d.seat.dom pins r f.seat.view t.new.seat.view)) from_is
     (subst (λ (x : DomId). IfOk t.result
-    (λ (r : Copying). CopiesBetween k c.place_of-from.result c.place_of-to.result copy.len x r f.seat.view t.new.seat.view)) me
+    (λ (r : Copying). CopiesBetween k c.place_of-from.result c.place_of-to.result copy.len x pins r f.seat.view t.new.seat.view)) me
     t.ensures.copied)))
     t.ensures.unmade t.ensures.refused
     (subst (λ (q : Spot). IfErr t.result (IsIfOneMissing m.words (place_of d.seat.dom copy.source pins.source).frame q.frame)) to_is

@@ -4,12 +4,13 @@ use Rattle.gt_frames.specs.Receipts.{Writing}
 use Rattle.gt_types.specs.declared.Dir.TheVariants as dirs
 use Rattle.gt_entry.specs.Entries.{frame_of}
 use Rattle.gt_calls.specs.declared.action.Step.TheVariants as steps
+use Rattle.gt_calls.specs.declared.held.AccessPath.TheVariants.{Direct}
 use Rattle.gt_calls.specs.declared.held.HeldPin.{HeldPin}
 use Rattle.gt_calls.specs.declared.request.Request.TheVariants as requests
 use Rattle.gt_handles.specs.Handles.{value_of}
 use Rattle.gt_live.specs.Accesses.{frame_named, IsIfMissing, IsWrittenBy, WritesFrame}
 use Rattle.gt_live.specs.Domains.{knowledge}
-use Rattle.gt_live.proofs.Accessing.{mapped-way, none-left, one-access, refused-access, reaches-mapped, writes-by}
+use Rattle.gt_live.proofs.Accessing.{mapped-way, named-route, none-left, one-access, refused-access, reaches-mapped, writes-by}
 use Rattle.gt_live.proofs.DomainKept.{reseated}
 use Rattle.gt_live.proofs.Making.{same_seat-self}
 use Rattle.gt_live.proofs.domain.Domain.store.Goals as goal
@@ -33,7 +34,10 @@ returns-clause-answers g c =
     let there : value_of d.mappings c.args.handle ≡ Some held = sym c.get.ensures.value ∙ ap option_copied c.unwrap-held.ensures in
     let k = knowledge m.config may d in
     let way = mapped-way k d.seat.dom (requests.Store c.args.handle c.args.off c.args.bytes) c.args.handle held (λ (p : HeldPin). steps.Write p.dom (frame_of p.entry) c.args.off (length c.args.bytes.now)) (sym c.judge_store.ensures ∙ none-left c.judge_store.result c.in_default.not-Some) there refl in (
-      one-access m.words _ (steps.Write held.dom (frame_of held.entry) c.args.off (length c.args.bytes.now)) (IsWrittenBy m.words.layout d.seat.dom c.args.bytes.now) c.write_through.result d.seat.view c.write_through.new.seat.view tt way (subst (λ (n : ℕ). IfOk c.write_through.result (λ (r : Writing). WritesFrame m.words.layout (frame_named held.dom n) c.args.off c.args.bytes.now d.seat.dom r d.seat.view c.write_through.new.seat.view)) c.frame.ensures c.write_through.ensures.written) c.write_through.ensures.unmade c.write_through.ensures.refused
+      one-access m.words _ (steps.Write held.dom (frame_of held.entry) c.args.off (length c.args.bytes.now)) (IsWrittenBy m.words.layout d (requests.Store c.args.handle c.args.off c.args.bytes)) c.write_through.result d.seat.view c.write_through.new.seat.view tt way
+          (named-route m.words.layout d (requests.Store c.args.handle c.args.off c.args.bytes) held.dom (frame_of held.entry) c.args.off (length c.args.bytes.now) (Direct held) c.write_through.result d.seat.view c.write_through.new.seat.view (held, there, refl)
+          (subst (λ (n : ℕ). IfOk c.write_through.result (λ (r : Writing). WritesFrame m.words.layout (frame_named held.dom n) c.args.off c.args.bytes.now d.seat.dom (Direct held) r d.seat.view c.write_through.new.seat.view)) c.frame.ensures c.write_through.ensures.written))
+          c.write_through.ensures.unmade c.write_through.ensures.refused
           (subst (λ (n : ℕ). IfErr c.write_through.result (IsIfMissing m.words (frame_named held.dom n))) c.frame.ensures c.write_through.ensures.cause),
       (record { slots = refl; given = refl }, c.write_through.ensures.same.pins),
       refl,
@@ -42,7 +46,7 @@ returns-clause-answers g c =
 pub returns-in-Some-clause-answers : goal.returns-in-Some-clause-answers
 returns-in-Some-clause-answers g c =
     let m = c.args.monitor.now in let d = c.args.self.now in (
-      refused-access m.words (knowledge m.config (g.P.Allows.may m.rights) d) d.seat.dom (requests.Store c.args.handle c.args.off c.args.bytes) (IsWrittenBy m.words.layout d.seat.dom c.args.bytes.now)
+      refused-access m.words (knowledge m.config (g.P.Allows.may m.rights) d) d.seat.dom (requests.Store c.args.handle c.args.off c.args.bytes) (IsWrittenBy m.words.layout d (requests.Store c.args.handle c.args.off c.args.bytes))
           c.in-Some.verdict c.refusal_of.result d.seat.view tt (sym c.judge_store.ensures ∙ c.in-Some.is) c.refusal_of.ensures,
       (record { slots = refl; given = refl }, λ t r. refl),
       refl,
