@@ -15,7 +15,7 @@ use Rattle.clap.specs.declared.error.kind.ErrorKind.TheVariants.{OutOfMemory, In
 use Rattle.clap.specs.declared.error.kind.ErrorKind.TheVariants.{MissingRequiredArgument, MissingSubcommand}
 use Rattle.clap.specs.declared.error.kind.ErrorKind.TheVariants.{TooManyValues, UnknownArgument}
 use Rattle.gt_commands.specs.Commands.{Request, to_play, to_run, to_explore, to_list, to_tell_rules, to_check}
-use Rattle.gt_commands.specs.Commands.{to_check_never, to_explain, to_explain_each, to_find_text}
+use Rattle.gt_commands.specs.Commands.{flow_with, to_check_never, to_explain, to_explain_each, to_find_text, to_show_flow}
 use Rattle.gt_commands.specs.Commands.{to_tell_entries, for_help, for_version, nothing, asked_by_plan, refusals}
 use Rattle.gt_commands.specs.Commands.{request_in_words, request_by, asked_of, asked_of_none, mode_of, read, usage_of}
 use Rattle.gt_commands.specs.Commands.{Sought}
@@ -41,7 +41,7 @@ use Rattle.gt_explore_answers.specs.declared.asking.ExploreOptions.{ExploreOptio
 use Rattle.std.specs.Str.Lines.{lines}
 use Rattle.gt_file_commands.specs.Laws.{no_memory, nothing_done}
 use Rattle.gt_file_commands.specs.Rules.{PrintsRules}
-use Rattle.gt_file_commands.specs.Working.{AnswersDump, AnswersLines, AnswersQuestion, ChecksAll, ChecksAs, ChecksFiles}
+use Rattle.gt_file_commands.specs.Working.{AnswersDump, AnswersFlow, AnswersLines, AnswersQuestion, ChecksAll, ChecksAs, ChecksFiles}
 use Rattle.gt_file_commands.specs.Working.{ChecksIn, ChecksNever, Does, Doing, Ending, Lists, Plays, Works, known_text}
 use Rattle.gt_file_commands.specs.declared.outcome.Outcome.{Outcome}
 use Rattle.gt_file_commands.specs.declared.outcome.Outcome.TheVariants.{No, Unknown, Yes}
@@ -104,6 +104,7 @@ FailedFor (to_check script format name more) failed = failed ≡ Unknown
 FailedFor (to_check_never never format name more) failed = failed ≡ Unknown
 FailedFor (to_explain source target permission name) failed = failed ≡ Unknown
 FailedFor (to_explain_each name) failed = failed ≡ Unknown
+FailedFor (to_show_flow source target trusted name) failed = failed ≡ Unknown
 FailedFor (to_tell_entries version hex every script format name) failed = failed ≡ Unknown
 FailedFor for_help failed = (failed ≡ Unknown) ⊎ (failed ≡ No)
 FailedFor for_version failed = (failed ≡ Unknown) ⊎ (failed ≡ No)
@@ -151,6 +152,8 @@ out_of_memory (to_explain source target permission name) failed width file input
     no_memory (AnswersQuestion (shown_name name) source target permission) Unknown name (known_text file input name) old new outcome (is ∙ for) kept
 out_of_memory (to_explain_each name) failed width file input old new outcome for is kept =
     nothing_done input (λ asked. AnswersLines name (file name) (lines asked)) old new outcome (is ∙ for) kept
+out_of_memory (to_show_flow source target trusted name) failed width file input old new outcome for is kept =
+    no_memory (AnswersFlow source target trusted) Unknown name (known_text file input name) old new outcome (is ∙ for) kept
 out_of_memory (to_tell_entries version hex every script format name) failed width file input old new outcome for is kept =
     no_memory (AnswersDump version hex every script format) Unknown name (known_text file input name) old new outcome (is ∙ for) kept
 out_of_memory for_help failed width file input old new outcome for is kept = helpless failed outcome old new for is kept
@@ -197,6 +200,11 @@ module _ (failed : Outcome) where
   failed_why (Some source) (Some target) None file is = inl is
   failed_why (Some source) (Some target) (Some permission) file is = is
 
+  failed_flow : (source target trusted file : Option (List ℕ)) → failed ≡ Unknown → FailedFor (flow_with source target trusted file) failed
+  failed_flow None target trusted file is = inl is
+  failed_flow (Some source) None trusted file is = inl is
+  failed_flow (Some source) (Some target) trusted file is = is
+
   failed_entries : (version : Option ℕ) (script : Option (Option ℕ)) (f : Option Format) (hex every : Bool) (file : Option (List ℕ)) → failed ≡ Unknown → FailedFor (entries_with version script f hex every file) failed
   failed_entries None script f hex every file is = inl is
   failed_entries (Some version) None f hex every file is = inl is
@@ -213,6 +221,7 @@ module _ (failed : Outcome) where
   failed_read modes.Rules value is = is
   failed_read modes.Check value is = failed_check _ _ _ _ _ is
   failed_read modes.Why value is = failed_why _ _ _ _ is
+  failed_read modes.Flow value is = failed_flow _ _ _ _ is
   failed_read modes.Entries value is = failed_entries _ _ _ _ _ _ is
 
   failed_either : (mode : Mode) → failed ≡ failed_mode mode → (failed ≡ Unknown) ⊎ (failed ≡ No)
@@ -223,6 +232,7 @@ module _ (failed : Outcome) where
   failed_either modes.Rules is = inl is
   failed_either modes.Check is = inl is
   failed_either modes.Why is = inl is
+  failed_either modes.Flow is = inl is
   failed_either modes.Entries is = inl is
 
   failed_of : (mode : Mode) (line : Line) → failed ≡ failed_mode mode → FailedFor (asked_of mode line) failed
@@ -345,6 +355,8 @@ refused (to_explain source target permission name) width file input old new erro
 refused (to_explain source target permission name) width file input old new error failed outcome for (inr none) fits = absurd none
 refused (to_explain_each name) width file input old new error failed outcome for (inl memory) fits = by_memory (to_explain_each name) width file input old new error failed outcome for memory fits
 refused (to_explain_each name) width file input old new error failed outcome for (inr none) fits = absurd none
+refused (to_show_flow source target trusted name) width file input old new error failed outcome for (inl memory) fits = by_memory (to_show_flow source target trusted name) width file input old new error failed outcome for memory fits
+refused (to_show_flow source target trusted name) width file input old new error failed outcome for (inr none) fits = absurd none
 refused (to_tell_entries version hex every script format name) width file input old new error failed outcome for (inl memory) fits = by_memory (to_tell_entries version hex every script format name) width file input old new error failed outcome for memory fits
 refused (to_tell_entries version hex every script format name) width file input old new error failed outcome for (inr none) fits = absurd none
 refused for_help width file input old new error failed outcome for (inl memory) fits = by_memory for_help width file input old new error failed outcome for memory fits

@@ -7,9 +7,10 @@ use crate::running::run_asked;
 use gt_commands::Invocation;
 use gt_file_commands::{
     Context, Outcome, Reasons, TextSource, answer, answer_each, check_files, check_never_files,
-    list, play, print_rules, show_entries,
+    list, play, print_rules, show_entries, show_flow,
 };
 use gt_policy_check::WhyQuestion;
+use gt_policy_flow::FlowQuestion;
 use std::io::Write;
 use std::sync::Wait;
 use std::thread::Threads;
@@ -54,6 +55,19 @@ pub(crate) fn follow<'a, R: Threads + Wait + Sync, T: TextSource, W: Write, E: E
             answer(context, question, file, out, reasons)
         }
         Invocation::WhyEach { file } => answer_each(context, file, out, reasons),
+        Invocation::Flow {
+            source,
+            target,
+            trusted,
+            file,
+        } => {
+            let question = FlowQuestion {
+                source,
+                target,
+                trusted,
+            };
+            show_flow(context, question, file, out, reasons)
+        }
         Invocation::Entries { dump, format, file } => {
             show_entries(context, dump, format, file, out, reasons)
         }

@@ -26,7 +26,12 @@ fn failed_mode(mode: Mode) -> Outcome
 {
     match mode {
         Mode::Play | Mode::Run | Mode::Policy => Outcome::No,
-        Mode::Explore | Mode::Rules | Mode::Check | Mode::Why | Mode::Entries => Outcome::Unknown,
+        Mode::Explore
+        | Mode::Rules
+        | Mode::Check
+        | Mode::Why
+        | Mode::Flow
+        | Mode::Entries => Outcome::Unknown,
     }
 }
 

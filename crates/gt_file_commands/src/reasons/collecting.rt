@@ -292,6 +292,7 @@ impl<'a> Reasons<'a> {
             Invocation::Check { files, .. } => (true, named(true, files.file)),
             Invocation::CheckNever { files, .. } => (true, named(true, files.file)),
             Invocation::Why { file, .. } => (true, named(true, *file)),
+            Invocation::Flow { file, .. } => (true, named(true, *file)),
             Invocation::Entries { file, .. } => (true, named(true, *file)),
             Invocation::WhyEach { file } => (true, Some(*file)),
             Invocation::Rules { .. } => (false, None),

@@ -24,7 +24,7 @@ returns-in-Err-why_explained g c = for_work _ _ _ _ _ _ c.in-Why.is c.in-Err-why
 pub returns-in-Ok-flow_explained : goal.returns-in-Ok-flow_explained
 returns-in-Ok-flow_explained g c = for_work _ _ _ _ _ _ c.in-Flow.is
     (answered_input _ (λ (input : List ℕ). Flowed c.in-Flow.question input (g.W.Write.contents c.args.out.now) (g.W.Write.contents c.flow_explained.new.out)) _ _
-    c.of_answer-in-Flow.ensures c.in-Ok-flow_explained.ensures)
+    c.of_answer-in-Ok-flow_explained.ensures c.in-Ok-flow_explained.ensures)
 
 pub returns-in-Err-flow_explained : goal.returns-in-Err-flow_explained
 returns-in-Err-flow_explained g c = for_work _ _ _ _ _ _ c.in-Flow.is c.in-Err-flow_explained.ensures

@@ -31,5 +31,8 @@ returns-in-Why g c = λ failed. as_planned _ _ failed _ _ _ _ _ _ c.in-Why.is c.
 pub returns-in-WhyEach : goal.returns-in-WhyEach
 returns-in-WhyEach g c = λ failed. as_planned _ _ failed _ _ _ _ _ _ c.in-WhyEach.is c.answer_each.ensures
 
+pub returns-in-Flow : goal.returns-in-Flow
+returns-in-Flow g c = λ failed. as_planned _ _ failed _ _ _ _ _ _ c.in-Flow.is c.show_flow.ensures
+
 pub returns-in-Entries : goal.returns-in-Entries
 returns-in-Entries g c = λ failed. as_planned _ _ failed _ _ _ _ _ _ c.in-Entries.is c.show_entries.ensures
