@@ -182,7 +182,7 @@ END
   printf '      mapfile -t COMPREPLY < <(compgen -W "$words" -- "$word")\n      ;;\n'
   printf '    "why 2") mapfile -t COMPREPLY < <(compgen -W "%s" -- "$word") ;;\n' "$(permissions)"
   cat <<'END'
-    rules* | build* | tour* | "why 0" | "why 1") ;;
+    rules* | build* | tour* | "why 0" | "why 1" | "flow 0" | "flow 1") ;;
     *) mapfile -t COMPREPLY < <(compgen -f -- "$word") ;;
   esac
 }
@@ -221,6 +221,7 @@ zsh_completion() {
     done
     case "$command" in
       rules) printf " '1:rule:(%s %s)' ;;\n" "$(rules)" "$(rules | tr N n)" ;;
+      flow) printf " '1:source: ' '2:target: ' '3:file:_files' ;;\n" ;;
       why) printf " '1:source: ' '2:target: ' '3:permission:(%s)' '4:file:_files' ;;\n" "$(permissions)" ;;
       *) printf " '*:file:_files' ;;\n" ;;
     esac

@@ -333,6 +333,8 @@ function check_values(command) {
     given["FILE"] = given["SOURCE"]
     place["FILE"] = place["SOURCE"]
   }
+  if (command == "flow" && !("TARGET" in given))
+    refuse("flow takes SOURCE and TARGET, each a type, an attribute or -", plain)
   if (command != "explore" && !is_format()) refuse_option("format", "text or json")
 }
 

@@ -11,7 +11,7 @@ _gthost() {
   if [ "$COMP_CWORD" -gt 1 ]; then case "${COMP_WORDS[1]}" in -v | --verbose) first=2 ;; esac; fi
   command="${COMP_WORDS[first]}"
   if [ "$COMP_CWORD" -eq "$first" ] || [ "$command $COMP_CWORD" = "help $((first + 1))" ]; then
-    words="play run explore policy rules check why entries"
+    words="play run explore policy rules check why flow entries"
     if [ "$COMP_CWORD" -eq "$first" ]; then words="$words help"; fi
     if [ "$COMP_CWORD" -eq 1 ]; then words="$words --help --version"; fi
     if [[ $1 == */* && -e ${1%/*}/crates.txt ]]; then words="$words build tour install library"; fi
@@ -33,6 +33,7 @@ _gthost() {
     "policy --format") mapfile -t COMPREPLY < <(compgen -W "text json" -- "$word"); return ;;
     "check --never") mapfile -t COMPREPLY < <(compgen -f -- "$word"); return ;;
     "check --format") mapfile -t COMPREPLY < <(compgen -W "text json" -- "$word"); return ;;
+    "flow --trust") mapfile -t COMPREPLY < <(compgen -W "" -- "$word"); return ;;
     "entries --version") mapfile -t COMPREPLY < <(compgen -W "1 2" -- "$word"); return ;;
     "entries --script") mapfile -t COMPREPLY < <(compgen -W "" -- "$word"); return ;;
     "entries --format") mapfile -t COMPREPLY < <(compgen -W "text json" -- "$word"); return ;;
@@ -45,6 +46,7 @@ _gthost() {
     rules) words="--verbose -v --help" ;;
     check) words="--script --verbose -v --never --format --help" ;;
     why) words="--verbose -v --help" ;;
+    flow) words="--verbose -v --trust --help" ;;
     entries) words="--hex --all --verbose -v --version --script --format --help" ;;
     build | tour | install | library) words="" ;;
   esac
@@ -61,7 +63,7 @@ _gthost() {
       mapfile -t COMPREPLY < <(compgen -W "$words" -- "$word")
       ;;
     "why 2") mapfile -t COMPREPLY < <(compgen -W "map_read map_write unmap transfer setup copy query" -- "$word") ;;
-    rules* | build* | tour* | "why 0" | "why 1") ;;
+    rules* | build* | tour* | "why 0" | "why 1" | "flow 0" | "flow 1") ;;
     *) mapfile -t COMPREPLY < <(compgen -f -- "$word") ;;
   esac
 }

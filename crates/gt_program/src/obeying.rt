@@ -26,12 +26,8 @@ fn failed_mode(mode: Mode) -> Outcome
 {
     match mode {
         Mode::Play | Mode::Run | Mode::Policy => Outcome::No,
-        Mode::Explore
-        | Mode::Rules
-        | Mode::Check
-        | Mode::Why
-        | Mode::Flow
-        | Mode::Entries => Outcome::Unknown,
+        Mode::Explore | Mode::Rules | Mode::Check | Mode::Why | Mode::Flow | Mode::Entries =>
+            Outcome::Unknown,
     }
 }
 
