@@ -1,6 +1,7 @@
 #!/usr/bin/env bash
 # Compares the kinds of step on the shared table with the eight known ones. One of them takes a frame, `LocksSlot`, and
-# it alone promises `Locks`. A second one could take a frame that no contract names.
+# it alone promises `Locks`. A second one could take a frame that no contract names. Also finds a `peek`: a look at a
+# word that no view has, so a body could refuse a call by what it found in another domain's table.
 # Each kind has a line `ghost then`, which can have no other name.
 # usage: tools/plays.sh
 set -euo pipefail
@@ -23,6 +24,10 @@ kinds() {
 
 if ! diff <(echo "$known") <(kinds) >&2; then
   echo "tools/plays.sh: the kinds of step on the shared table are others than the known ones" >&2
+  exit 1
+fi
+if grep -nw peek crates/gt_shared_table/src/*.rt >&2; then
+  echo "tools/plays.sh: gt_shared_table looks at a word without a step" >&2
   exit 1
 fi
 echo "$(echo "$known" | wc -l) kinds of step on the shared table, one of which takes a frame"

@@ -21,6 +21,73 @@ lines() {
 
 count() { find crates/*/"$1" -name '*.edit' 2>/dev/null | wc -l; }
 
+# The bodies that were planted last, each in the words of who would suffer.
+planted() {
+  cat <<'END'
+### In the words of guests and hosts
+
+These bodies were planted last. A private contract or a private definition that repeats a body was changed with it, so
+that only the contract of a public call could refuse it. The third column names the clause, the definition or the
+invariant that is false of the body. Those that a contract refuses are among the edits.
+
+| Bug | Crate | Refused by |
+|---|---|---|
+| A guest that may read one frame reads frame 0 | `gt_shared_table` | contract: `step` and `locks` of `read_frame` |
+| A store without memory keeps the lock of its frame | `gt_shared_table` | contract: `IsAlone`, between calls |
+| A store is answered with N26, though the frame has the byte | `gt_shared_table` | contract: `refused` |
+| Each guest's table begins with the size of the first guest's | `gt_shared_table` | contract: `HoldsAll` |
+| A copy without memory has read its source | `gt_shared_table` | contract: `step` and `refused` of `copy_frames` |
+| A store looks at another guest's table unseen | `gt_shared_table` | test: `tools/plays.sh` |
+| A guest that waits for a raised flag never goes on | `gt_shared_table` | test: `cases_run`, which then never ends |
+| A guest's calls are laid to domain 0 | `gt_audit` | contract: `AppendsRecord`, `IsFor` |
+| The audit line of a call names another caller | `gt_audit` | contract: `text` of `push_line` |
+| A trail that was cleared still has its records | `gt_audit` | contract: `HasNone` |
+| A trail whose records were taken has no bound any more | `gt_audit` | contract: `goes_on` of `take` |
+| A record that counts as lost is in the shared log | `gt_audit` | nothing |
+| Of two records under one number, a search finds the later | `gt_audit` | nothing |
+| A guest that reads a granted page gets its own page | `gt_words` | contract: `step` and `receipt` of `read_frame` |
+| The second call on a domain goes to the table of another | `gt_words` | contract: `position` |
+| A guest that unmaps keeps its write pin | `gt_words` | contract: `Unpins` |
+| A page that is granted to one guest is granted to another | `gt_words` | contract: `Publishes` |
+| A store to a frame that its domain lacks is answered with N26 | `gt_words` | nothing |
+| A guest that leaves maps a page once more | `gt_attached` | contract: `Leaves` (`Resets`, `HasLeft`) |
+| A host copies from the destination to the source | `gt_attached` | contract: `BeginsAccess` |
+| A program that looks at the status takes a refused call as done | `gt_attached` | contract: `encoded` |
+| The record of a copy shows its destination as its source | `gt_attached` | contract: `record_kept` |
+| A run starts without the guests that got no memory | `gt_attached` | contract: `guests` and `count` of `start` |
+| A guest that is dropped grants a page again before it leaves | `gt_attached` | nothing |
+| A policy is read without its last byte | `gt_start` | contract: `begun` and `fault` (`IsPolicy`) |
+| The handle of the first guest is that of the last one | `gt_start` | contract: `begun` (`IsSetBy`) |
+| A guest starts with the type after the policy's last one | `gt_start` | contract: `begun` (`AreTypes`) |
+| A fault of the settings names no guest | `gt_start` | contract: `fault` (`IsLimitFault`) |
+| A type that the policy lacks is answered with want of memory | `gt_start` | nothing |
+| The name of a mapping of an earlier run unmaps a page of this one | `gt_c` | contract: `Unmaps` (`RefusesForeign`) |
+| A refused unmap is answered as done | `gt_c` | contract: `Unmaps` |
+| A page that C grants for reading, by a 2, can be written | `gt_c` | contract: `GrantsPage` |
+| An entry of 16 bytes is read by its first 8 | `gt_c` | contract: `GrantsBytes` |
+| A host sees pins that write as pins that read | `gt_c` | contract: `ReportsEntry` |
+| A copy that C begins goes the other way | `gt_c` | contract: `BeginsCopy` |
+| A copy that was refused prints `ok` | `gt_run` | contract: `Asks` |
+| A guest's line unmaps what the label names for domain 0 | `gt_run` | contract: `Calls` (`MakesRequest`) |
+| A guest at the end of its list takes back its pages | `gt_run` | contract: `IsOutputOf` (`HasLeft`) |
+| A guest that waits for a flag keeps a processor busy | `gt_run` | nothing |
+| A guest that gets no thread grants a page before it leaves | `gt_run` | nothing |
+| A policy is checked against no `neverallow` statement | `gt_checks` | contract: `CheckedNever` |
+| A file that is no text is a clean policy | `gt_checks` | contract: `Checked` |
+| A question about a misspelled type is answered with `denied` | `gt_checks` | contract: `AskedOf` |
+| `check --script` is silent about a label that no map has | `gt_checks` | test: `cases_program` |
+| A script for `run` is told the fault that `play` finds | `gt_checks` | test: `cases_program` |
+| A file of `neverallow` statements loses its last byte | `gt_file_commands` | contract: `read_whole` |
+| A command whose file can't be opened reads the standard input | `gt_file_commands` | contract: `Works` (`Does`) |
+| Questions after the first denied one are not answered | `gt_file_commands` | contract: `AnswersLines` |
+| `check` without a file answers that its file can't be opened | `gt_file_commands` | contract: `Works` (`Does`) |
+| A faulty script prints as JSON what it played | `gt_file_commands` | contract: `PlayedAsJson` |
+
+Of the bodies that nothing refuses, each has its sentence in [NOT_PROVED.md](NOT_PROVED.md).
+
+END
+}
+
 write() {
   local crate folder
   cat <<END
@@ -68,6 +135,7 @@ it begins with a dot or has more than 255 bytes, by a command, by \`run\` or as 
 refused above 65,536 bytes; and a further text that can't be read and has no reason.
 
 END
+  planted
   for crate in $(crates); do
     for folder in must-fail wrong-bodies; do
       [ -n "$(find "crates/$crate/$folder" -name '*.edit' 2>/dev/null | head -n 1)" ] || continue
