@@ -1,11 +1,10 @@
 -- From what was read, found and written to what is advised.
 use Rattle.std.proofs.Common.{◌≡◌, ℕ, ◌<◌, ◌≤◌, List, [], ◌∷◌, length, length-take, take, Option, Some}
-use Rattle.std.proofs.Common.{Result, Ok, Err, Bool, true, false, not, refl, sym, subst, ap, ◌∙◌, ◌++◌, inl, inr, arith}
+use Rattle.std.proofs.Common.{Result, Ok, Err, Bool, true, false, not, refl, sym, subst, ◌∙◌, inl, inr, arith}
 use Rattle.std.specs.List.{list_any}
 use Rattle.std.specs.Io.KnownBytes.{Appends}
 use Rattle.std.specs.Str.{IsUtf8}
 use Rattle.gt_policy_check.specs.Check.{Judges, faulty, sound, error_lines, is_error}
-use Rattle.gt_policy_check.specs.Report.{AddsText}
 use Rattle.gt_policy_check.specs.declared.asking.Explanation.{Explanation}
 use Rattle.gt_policy_check.specs.declared.asking.WhyQuestion.{WhyQuestion}
 use Rattle.gt_policy_check.specs.declared.findings.Finding.{Finding}
@@ -38,10 +37,6 @@ went_out P old new said lent is same went = (said, is, subst (λ (l : List ℕ).
 
 pub began_out : (P : List ℕ → Type 0) (old new : Option (List ℕ)) (said lent : List ℕ) → P said → lent ≡ said → AppendsBeginning old new lent → (report : List ℕ) × P report × AppendsBeginning old new report
 began_out P old new said lent is same began = (said, is, subst (λ (l : List ℕ). AppendsBeginning old new l) same began)
-
--- a report that was appended to nothing
-pub from_nothing : (P : List ℕ → Type 0) (old new : List ℕ) → old ≡ [] → AddsText P old new → P new
-from_nothing P old new none (text, is, put) = subst P (sym (put ∙ ap (λ (l : List ℕ). l ++ text) none)) is
 
 -- ---- a text that is checked
 

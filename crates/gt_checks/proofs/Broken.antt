@@ -12,18 +12,19 @@ use Rattle.gt_policy_list.specs.Reading.{IsNoText}
 use Rattle.gt_policy_list.specs.declared.fault.ListingFault.{ListingFault}
 use Rattle.gt_policy_list.specs.declared.fault.ListingFault.TheVariants as listing
 use Rattle.gt_neverallow.specs.Breaking.{AreBreaches}
-use Rattle.gt_neverallow.specs.declared.breaking.Breach.{Breach}
+use Rattle.gt_neverallow.specs.declared.breaking.NeverFindings.{NeverFindings}
 use Rattle.gt_text.specs.Laws.{keeps_same, of_any_input}
 use Rattle.gt_text.specs.Streams.{OfInput}
 use Rattle.gt_text.specs.declared.fault.ReadFault.{ReadFault}
 use Rattle.gt_text.specs.declared.fault.ReadFault.TheVariants as reads
 use Rattle.gt_checks.specs.Breaking.{CheckedNever, CheckedNeverText, WritesBreaches}
 use Rattle.gt_checks.specs.declared.fault.BreachFault.{BreachFault}
-use Rattle.gt_checks.specs.declared.fault.BreachFault.TheVariants.{Policy, Statements}
+use Rattle.gt_checks.specs.declared.fault.BreachFault.TheVariants.{ForbidsNothing, Policy, Statements}
 use Rattle.gt_checks.proofs.Advised.{checked_no, whole_read}
 
 module _ (form : ReportForm) (never given file : List ℕ) where
-  written : (text : List ℕ) (found : List Breach) (old new : Option (List ℕ)) (r : Result Bool BreachFault) → AreBreaches text given found → WritesBreaches form file never found old new r → CheckedNeverText form never given file text old new r
+  -- what was found went out
+  pub written : (text : List ℕ) (found : NeverFindings) (old new : Option (List ℕ)) (r : Result Bool BreachFault) → AreBreaches text given found → WritesBreaches form file never found old new r → CheckedNeverText form never given file text old new r
   written text found old new (Ok clean) are (is, (report, printed, went)) = (found, report, are, is, printed, went)
   written text found old new (Err (Policy listing.Write)) are (report, printed, began) = (found, report, are, printed, began)
   written text found old new (Err (Policy listing.Memory)) are w = w
@@ -31,11 +32,7 @@ module _ (form : ReportForm) (never given file : List ℕ) where
   written text found old new (Err (Policy (listing.Utf8 line))) are w = absurd w
   written text found old new (Err (Policy (listing.Policy shown))) are w = absurd w
   written text found old new (Err (Statements shown)) are w = absurd w
-
-  -- the breaches went out
-  pub never_text : (text : List ℕ) (found lent : List Breach) (old new : Option (List ℕ)) (r : Result Bool BreachFault) → AreBreaches text given found → lent ≡ found → WritesBreaches form file never lent old new r
-      → CheckedNeverText form never given file text old new r
-  never_text text found lent old new r are same w = written text found old new r are (subst (λ (l : List Breach). WritesBreaches form file never l old new r) same w)
+  written text found old new (Err (ForbidsNothing line)) are w = absurd w
 
   -- the text is not a policy
   refused : (text : List ℕ) (line : ℕ) (kind : PolicyFaultKind) (old : Option (List ℕ)) → ((f : TokenFault) → fault_shown (record { line = line; kind = kind }) ≡ Some f → ReadsAs text (Err f))
@@ -60,6 +57,7 @@ module _ (form : ReportForm) (never given file : List ℕ) where
   of_text bytes old new (Err (Policy (listing.Utf8 line))) utf8 c = absurd c
   of_text bytes old new (Err (Policy (listing.Policy shown))) utf8 c = (c.0, c.1, (inr utf8, c.2), c.3)
   of_text bytes old new (Err (Statements shown)) utf8 c = (utf8, c)
+  of_text bytes old new (Err (ForbidsNothing line)) utf8 c = (utf8, c)
 
   pub never_bytes : (all bytes text : List ℕ) (old new : Option (List ℕ)) (r : Result Bool BreachFault) → bytes ≡ take 1048577 all → text ≡ bytes → length bytes ≤ 1048576 → IsUtf8 bytes
       → CheckedNeverText form never given file text old new r → CheckedNever form never given file all old new r

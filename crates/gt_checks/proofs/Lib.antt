@@ -2,5 +2,4 @@ pub mod Advised
 pub mod Broken
 pub mod ErrorLemmas
 pub mod JudgeLemmas
-pub mod PrintedForms
 pub mod Scripted

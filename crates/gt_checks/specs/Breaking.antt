@@ -1,5 +1,5 @@
 -- What is written for a policy that is checked against neverallow statements.
-use Rattle.std.specs.Prelude.{◌≡◌, ◌==◌, ℕ, Bool, List, length, Option, Some, Result, Ok, Err}
+use Rattle.std.specs.Prelude.{◌≡◌, ◌==◌, ℕ, Bool, List, vec_len, Option, Some, Result, Ok, Err}
 use Rattle.std.specs.Io.KnownBytes.{Appends, Keeps}
 use Rattle.std.specs.Str.{IsUtf8}
 use Rattle.gt_policy.specs.Shown.{fault_shown}
@@ -8,39 +8,40 @@ use Rattle.gt_policy.specs.declared.fault.TokenFault.{TokenFault}
 use Rattle.gt_policy_check.specs.declared.report.ReportForm.{ReportForm}
 use Rattle.gt_policy_list.specs.declared.fault.ListingFault.TheVariants as listing
 use Rattle.gt_neverallow.specs.Breaking.{AreBreaches, IsNeverFault}
-use Rattle.gt_neverallow.specs.Printing.{IsBreachReport}
-use Rattle.gt_neverallow.specs.declared.breaking.Breach.{Breach}
+use Rattle.gt_neverallow.specs.Printing.{IsNeverReport}
+use Rattle.gt_neverallow.specs.declared.breaking.NeverFindings.{NeverFindings}
 use Rattle.gt_neverallow.specs.declared.fault.NeverFault.TheVariants as nevers
 use Rattle.gt_text.specs.Streams.{AppendsBeginning}
 use Rattle.gt_checks.specs.Checking.{Checked}
 use Rattle.gt_checks.specs.declared.fault.BreachFault.{BreachFault}
-use Rattle.gt_checks.specs.declared.fault.BreachFault.TheVariants.{Policy, Statements}
+use Rattle.gt_checks.specs.declared.fault.BreachFault.TheVariants.{ForbidsNothing, Policy, Statements}
 
--- the report of the breaches went out, or a prefix of it; the result is whether there are none
-abbrev pub WritesBreaches : ReportForm → List ℕ → List ℕ → List Breach → Option (List ℕ) → Option (List ℕ)
+-- the report of what was found went out, or a prefix of it; the result is whether there are no breaches
+abbrev pub WritesBreaches : ReportForm → List ℕ → List ℕ → NeverFindings → Option (List ℕ) → Option (List ℕ)
     → Result Bool BreachFault → Type 0
 WritesBreaches form file never found old new (Ok clean) =
-    (clean ≡ (length found == 0))
-    × ((report : List ℕ) × IsBreachReport form file never found report × Appends old new report)
+    (clean ≡ (vec_len found.breaches == 0))
+    × ((report : List ℕ) × IsNeverReport form file never found report × Appends old new report)
 WritesBreaches form file never found old new (Err (Policy listing.Write)) =
-    (report : List ℕ) × IsBreachReport form file never found report × AppendsBeginning old new report
+    (report : List ℕ) × IsNeverReport form file never found report × AppendsBeginning old new report
 WritesBreaches form file never found old new (Err (Policy listing.Memory)) = Keeps old new
 WritesBreaches form file never found old new (Err (Policy listing.Read)) = ⊥
 WritesBreaches form file never found old new (Err (Policy (listing.Utf8 line))) = ⊥
 WritesBreaches form file never found old new (Err (Policy (listing.Policy shown))) = ⊥
 WritesBreaches form file never found old new (Err (Statements shown)) = ⊥
+WritesBreaches form file never found old new (Err (ForbidsNothing line)) = ⊥
 
 -- What was written for a policy text and a text of neverallow statements, each after its name, by the result: at Ok the
--- report of the breaches, and the result is whether there are none; after a failed write a prefix of the report;
--- otherwise nothing.
+-- report of what was found, and the result is whether there are no breaches; after a failed write a prefix of the
+-- report; otherwise nothing.
 abbrev pub CheckedNeverText : ReportForm → List ℕ → List ℕ → List ℕ → List ℕ → Option (List ℕ) → Option (List ℕ)
     → Result Bool BreachFault → Type 0
 CheckedNeverText form never given file text old new (Ok clean) =
-    (found : List Breach) × (report : List ℕ) × AreBreaches text given found × (clean ≡ (length found == 0))
-    × IsBreachReport form file never found report × Appends old new report
+    (found : NeverFindings) × (report : List ℕ) × AreBreaches text given found
+    × (clean ≡ (vec_len found.breaches == 0)) × IsNeverReport form file never found report × Appends old new report
 CheckedNeverText form never given file text old new (Err (Policy listing.Write)) =
-    (found : List Breach) × (report : List ℕ) × AreBreaches text given found
-    × IsBreachReport form file never found report × AppendsBeginning old new report
+    (found : NeverFindings) × (report : List ℕ) × AreBreaches text given found
+    × IsNeverReport form file never found report × AppendsBeginning old new report
 CheckedNeverText form never given file text old new (Err (Policy listing.Memory)) = Keeps old new
 CheckedNeverText form never given file text old new (Err (Policy listing.Read)) = ⊥
 CheckedNeverText form never given file text old new (Err (Policy (listing.Utf8 line))) = ⊥
@@ -48,6 +49,8 @@ CheckedNeverText form never given file text old new (Err (Policy (listing.Policy
     (f : TokenFault) × (fault_shown shown ≡ Some f) × ReadsAs text (Err f) × Keeps old new
 CheckedNeverText form never given file text old new (Err (Statements shown)) =
     IsNeverFault text given (nevers.Statements shown) × Keeps old new
+CheckedNeverText form never given file text old new (Err (ForbidsNothing line)) =
+    IsNeverFault text given (nevers.ForbidsNothing line) × Keeps old new
 
 -- the same for bytes; a fault of the policy is one of a check
 abbrev pub CheckedNever : ReportForm → List ℕ → List ℕ → List ℕ → List ℕ → Option (List ℕ) → Option (List ℕ)
@@ -59,3 +62,5 @@ CheckedNever form never given file bytes old new (Err (Policy listing.Write)) =
 CheckedNever form never given file bytes old new (Err (Policy fault)) = Checked form file bytes old new (Err fault)
 CheckedNever form never given file bytes old new (Err (Statements shown)) =
     IsUtf8 bytes × CheckedNeverText form never given file bytes old new (Err (Statements shown))
+CheckedNever form never given file bytes old new (Err (ForbidsNothing line)) =
+    IsUtf8 bytes × CheckedNeverText form never given file bytes old new (Err (ForbidsNothing line))

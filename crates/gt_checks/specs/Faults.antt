@@ -1,5 +1,6 @@
 -- The texts of the errors.
-use Rattle.std.specs.Prelude.{ℕ, List, codes}
+use Rattle.std.specs.Prelude.{ℕ, List, ◌++◌, codes}
+use Rattle.std.specs.Fmt.{decimal}
 use Rattle.gt_policy.specs.Texts.{fault_text}
 use Rattle.gt_policy_list.specs.Faults.{listing_fault_text}
 use Rattle.gt_checks.specs.declared.fault.BreachFault.{BreachFault}
@@ -18,3 +19,4 @@ why_fault_text faults.NoPermission = codes "the permission is not one of the sev
 abbrev pub breach_fault_text : BreachFault → List ℕ
 breach_fault_text (breaches.Policy fault) = listing_fault_text fault
 breach_fault_text (breaches.Statements fault) = fault_text fault.line fault.kind
+breach_fault_text (breaches.ForbidsNothing line) = codes "line " ++ decimal line ++ codes ": neverallow nothing"

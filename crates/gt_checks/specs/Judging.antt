@@ -14,8 +14,8 @@ abbrev pub line_of_fault : Wrong → ℕ
 line_of_fault (in_script f) = f.line
 line_of_fault (in_policy g) = g.line
 
--- The findings of bytes. If they are a script for neither `play` nor `run`, there is one error, at the line of the fault
--- of the two that is further down. If they are a script for one of them, there is none.
+-- The findings of bytes. If they are a script for neither `play` nor `run`, there is one error, at the line of the
+-- fault of the two that is further down. If they are a script for one of them, there is none.
 pub data JudgesScript (bytes : List ℕ) : List Finding → Type 0 where
   for_play : (c : Contents) (found : List Finding) → ReadsAsScript bytes (Ok c) → error_lines found ≡ []
       → JudgesScript bytes found

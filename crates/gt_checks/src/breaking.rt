@@ -1,12 +1,12 @@
 //! Checks a policy against `neverallow` statements, and writes the breaches.
 ghost use Rattle.std.specs.Prelude.{◌≡◌, ◌+◌, ℕ, List, take, IfOk};
 ghost use Rattle.gt_types.specs.declared.limits.TheConstants.{LONGEST_TEXT};
-ghost use Rattle.gt_neverallow.specs.Printing.{IsBreachReport};
+ghost use Rattle.gt_neverallow.specs.Printing.{IsNeverReport};
 ghost use Rattle.gt_text.specs.Streams.{OfInput};
 ghost use Rattle.gt_checks.specs.Breaking.{CheckedNever, CheckedNeverText, WritesBreaches};
 
 use crate::fault::BreachFault;
-use gt_neverallow::{Breach, BrokenTexts, NeverFault, breaches, push_breaches};
+use gt_neverallow::{BrokenTexts, NeverFault, NeverFindings, breaches, push_never_findings};
 use gt_policy_check::ReportForm;
 use gt_policy_list::{ListingFault, policy_text};
 use gt_text::{finish, read_text};
@@ -20,27 +20,27 @@ pub struct NeverText<'t> {
     pub text: &'t str,
 }
 
-// Prints breaches.
+// Prints what was found.
 fn report(
     alloc: Global,
     form: ReportForm,
     texts: &BrokenTexts,
-    found: &[Breach],
+    found: &NeverFindings,
 ) -> Result<Vec<u8>, AllocError>
     ensures { IfOk result (λ said.
-        IsBreachReport form texts.now.file.now texts.now.never_file.now found.now said.items) }
+        IsNeverReport form texts.now.file.now texts.now.never_file.now found.now said.items) }
 {
     let mut out = Vec::new(alloc);
-    push_breaches(alloc, &mut out, form, texts, found)?;
+    push_never_findings(alloc, &mut out, form, texts, found)?;
     Ok(out)
 }
 
-// Writes breaches, and returns whether there are none.
+// Writes what was found, and returns whether there are no breaches.
 fn write_breaches<W: Write>(
     alloc: Global,
     form: ReportForm,
     texts: &BrokenTexts,
-    found: &[Breach],
+    found: &NeverFindings,
     writer: &mut W,
 ) -> Result<bool, BreachFault>
     ensures { WritesBreaches form texts.now.file.now texts.now.never_file.now found.now
@@ -50,7 +50,7 @@ fn write_breaches<W: Write>(
         return Err(BreachFault::Policy(ListingFault::Memory));
     };
     match finish(writer, said.as_slice()) {
-        Ok(()) => Ok(found.is_empty()),
+        Ok(()) => Ok(found.breaches.is_empty()),
         Err(_) => Err(BreachFault::Policy(ListingFault::Write)),
     }
 }
@@ -66,9 +66,10 @@ fn check_never_text<W: Write>(
         texts.now.policy.now (W.contents writer.old) (W.contents writer.new) result }
 {
     match breaches(alloc, texts.policy, texts.never) {
-        Ok(found) => write_breaches(alloc, form, texts, found.as_slice(), writer),
+        Ok(found) => write_breaches(alloc, form, texts, &found, writer),
         Err(NeverFault::Policy(fault)) => Err(BreachFault::Policy(ListingFault::from(fault))),
         Err(NeverFault::Statements(fault)) => Err(BreachFault::Statements(fault)),
+        Err(NeverFault::ForbidsNothing(line)) => Err(BreachFault::ForbidsNothing(line)),
     }
 }
 

@@ -42,6 +42,9 @@ pub enum BreachFault {
     Policy(ListingFault),
     /// The first fault of the `neverallow` statements, or a failed allocation. Nothing was written.
     Statements(PolicyFault),
+    /// No `neverallow` statement forbids permissions of class `grant`. It has the line of the first one, or 1. Nothing
+    /// was written.
+    ForbidsNothing(u32),
 }
 
 impl fmt::Display for BreachFault {
@@ -54,6 +57,7 @@ impl fmt::Display for BreachFault {
         match self {
             BreachFault::Policy(fault) => write!(f, "{fault}"),
             BreachFault::Statements(fault) => write!(f, "{fault}"),
+            BreachFault::ForbidsNothing(line) => { write!(f, "line {line}: neverallow nothing") }
         }
     }
 }

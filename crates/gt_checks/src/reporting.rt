@@ -1,11 +1,11 @@
 //! Writes findings.
-ghost use Rattle.std.specs.Prelude.{◌≡◌, IfOk, OnOk};
+ghost use Rattle.std.specs.Prelude.{◌≡◌, IfOk};
 ghost use Rattle.std.specs.List.{list_any};
 ghost use Rattle.gt_policy_check.specs.Check.{is_error};
-ghost use Rattle.gt_policy_check.specs.Report.{AddsText, IsReport};
+ghost use Rattle.gt_policy_check.specs.Report.{IsReport};
 ghost use Rattle.gt_checks.specs.Reporting.{WritesFindings};
 
-use gt_policy_check::{Finding, FindingKind, ReportForm, push_json, push_report};
+use gt_policy_check::{Finding, FindingKind, ReportForm, push_findings};
 use gt_policy_list::ListingFault;
 use gt_text::finish;
 use std::alloc::{AllocError, Global};
@@ -19,23 +19,7 @@ fn has_error(found: &[Finding]) -> bool
         .any(|finding| matches!(finding.kind, FindingKind::Fault))
 }
 
-// Appends the findings as text or as JSON.
-fn push_findings(
-    out: &mut Vec<u8>,
-    form: ReportForm,
-    file: &str,
-    text: &str,
-    found: &[Finding],
-) -> Result<(), AllocError>
-    ensures { OnOk result (AddsText (IsReport form file.now found.now) out.old.items out.new.items) }
-{
-    match form {
-        ReportForm::Json => push_json(out, file, found),
-        ReportForm::Text | ReportForm::Colored => push_report(out, file, text, found, form),
-    }
-}
-
-// Prints the findings as text or as JSON.
+// Prints the findings in this form.
 fn report(
     alloc: Global,
     file: &str,

@@ -20,15 +20,18 @@ use Rattle.gt_policy.specs.declared.statements.Allowance.{Allowance}
 use Rattle.gt_policy.specs.declared.statements.Statement.{Statement}
 use Rattle.gt_policy.specs.declared.statements.Statement.TheVariants.{DeclareType, DeclareAttribute, GiveAttributes}
 use Rattle.gt_policy.specs.declared.statements.Statement.TheVariants.{Allow}
+use Rattle.gt_policy_check.specs.Check.{error_lines}
 use Rattle.gt_policy_check.specs.Granting.{gives_source, reaches_by}
 use Rattle.gt_policy_check.specs.Members.{membership_of, members_of, names_in_lines}
 use Rattle.gt_policy_check.specs.Why.{types_asked}
+use Rattle.gt_policy_check.specs.Words.{class_lines, unknown_line}
+use Rattle.gt_policy_check.specs.declared.findings.Finding.{Finding}
 use Rattle.gt_policy_check.specs.declared.members.Member.{Member}
 use Rattle.gt_policy_check.proofs.CheckLemmas.{filter_all}
 use Rattle.gt_policy_check.proofs.GrantLemmas.{any_and, any_asked, any_never, any_same, by_names, held}
 use Rattle.gt_neverallow.specs.Breaking.{breaks, breaks_by, breaks_some, breaks_with, broken, broken_by, example_text}
 use Rattle.gt_neverallow.specs.Breaking.{chooses_self, chosen_by, forbids, forbids_source, forbids_target, is_chosen, is_example}
-use Rattle.gt_neverallow.specs.Breaking.{pairs_if, shows_by, shows_some, shows_with, Adds, AreBroken, IsBreach, IsBrokenOn, Shows}
+use Rattle.gt_neverallow.specs.Breaking.{pairs_if, shows_by, shows_some, shows_with, Adds, AreBroken, AreUnknown, IsBreach, IsBrokenOn, Shows}
 use Rattle.gt_neverallow.specs.declared.breaking.Breach.{Breach}
 use Rattle.gt_neverallow.specs.declared.statement.Neverallow.{Neverallow}
 use Rattle.gt_neverallow.specs.declared.statement.TypeChoice.{TypeChoice}
@@ -209,3 +212,12 @@ shown_by text w ms n a s t (among, sees, meets) is =
 pub adds_more : {X : Type 0} (ms : List Member) (f : X → List (LinedStatement × Neverallow)) (xs : List X) (i : ℕ) (x : X) (old mid new : List Breach) → i < length xs → x ≡ get_or xs i x → Adds ms (flat_map f (take i xs)) old mid → Adds ms (f x) mid new
     → Adds ms (flat_map f (take (i + 1) xs)) old new
 adds_more ms f xs i x old mid new within is before added = adds_both ms (flat_map f (take i xs)) (f x) (flat_map f (take (i + 1) xs)) old mid new (one_more f xs i x within is) before added
+
+-- ---- words that nothing knows
+
+pub unknown_more : (ns : List Neverallow) (i : ℕ) (n : Neverallow) (classes : List (List ℕ)) (old new : List Finding) → i < length ns → n ≡ get_or ns i n → classes ≡ n.classes → AreUnknown (take i ns) old → error_lines new ≡ error_lines old
+    → class_lines new ≡ class_lines old ++ flat_map (unknown_line n.line) classes → AreUnknown (take (i + 1) ns) new
+unknown_more ns i n classes old new within is same before quiet told = (
+  told ∙ ap₂ (λ (a b : List ℕ). a ++ b) before.0 (ap (λ (l : List (List ℕ)). flat_map (unknown_line n.line) l) same) ∙ sym (one_more (λ m. flat_map (unknown_line m.line) m.classes) ns i n within is),
+  quiet ∙ before.1,
+)

@@ -17,12 +17,16 @@ use Rattle.gt_policy.specs.declared.statements.Allowance.{Allowance}
 use Rattle.gt_policy.specs.declared.statements.Statement.{Statement}
 use Rattle.gt_policy.specs.declared.statements.Statement.TheVariants.{DeclareType, DeclareAttribute, GiveAttributes}
 use Rattle.gt_policy.specs.declared.statements.Statement.TheVariants.{Allow}
+use Rattle.gt_policy_check.specs.Check.{error_lines}
+use Rattle.gt_policy_check.specs.Words.{class_lines, unknown_line}
+use Rattle.gt_policy_check.specs.declared.findings.Finding.{Finding}
 use Rattle.gt_policy_check.specs.Granting.{elements_hold, gives_source, reaches_by}
 use Rattle.gt_policy_check.specs.declared.members.Member.{Member}
 use Rattle.gt_neverallow.specs.Naming.{ReadsAsNever}
 use Rattle.gt_neverallow.specs.declared.breaking.Breach.{Breach}
+use Rattle.gt_neverallow.specs.declared.breaking.NeverFindings.{NeverFindings}
 use Rattle.gt_neverallow.specs.declared.fault.NeverFault.{NeverFault}
-use Rattle.gt_neverallow.specs.declared.fault.NeverFault.TheVariants.{Policy, Statements}
+use Rattle.gt_neverallow.specs.declared.fault.NeverFault.TheVariants.{ForbidsNothing, Policy, Statements}
 use Rattle.gt_neverallow.specs.declared.statement.Neverallow.{Neverallow}
 use Rattle.gt_neverallow.specs.declared.statement.TypeChoice.{TypeChoice}
 use Rattle.gt_neverallow.specs.declared.statement.TypeChoice.TheVariants.{But, Every, Of}
@@ -87,19 +91,38 @@ IsBreach xs p b =
 abbrev pub AreBroken : List LinedStatement → List Neverallow → List Breach → Type 0
 AreBroken xs ns found = AllZip (IsBreach xs) (broken xs ns) found
 
--- the breaches of a policy by a text of neverallow statements
-abbrev pub AreBreaches : List ℕ → List ℕ → List Breach → Type 0
+-- the findings of classes are at the lines of the statements with a class that Xen's FLASK policy does not have, once
+-- for each; no finding is an error
+abbrev pub AreUnknown : List Neverallow → List Finding → Type 0
+AreUnknown ns found =
+    (class_lines found ≡ flat_map (λ n. flat_map (unknown_line n.line) n.classes) ns) × (error_lines found ≡ [])
+
+-- the statement forbids some permission of class `grant`
+abbrev pub forbids_grants : Neverallow → Bool
+forbids_grants n = has_grant n.classes && list_any (λ p. lists_word n.perms (permission_name p)) every_permission
+
+-- the line of the first statement; 1 if there is none
+abbrev pub first_line : List Neverallow → ℕ
+first_line [] = 1
+first_line (n ∷ ns) = n.line
+
+-- the breaches of a policy by a text of neverallow statements, of which some forbids permissions of class `grant`
+abbrev pub AreBreaches : List ℕ → List ℕ → NeverFindings → Type 0
 AreBreaches policy never found =
     (m : Meaning) × (xs : List LinedStatement) × (ns : List Neverallow) × ReadsAs policy (Ok m) × IsLined policy xs
-    × ReadsAsNever xs never (Ok ns) × AreBroken xs ns found
+    × ReadsAsNever xs never (Ok ns) × (list_any forbids_grants ns ≡ true) × AreUnknown ns found.words.items
+    × AreBroken xs ns found.breaches.items
 
--- why there is no answer: the first fault of the policy, or of the text of neverallow statements for that policy; a
--- fault that shows nothing is a failed allocation
+-- why there is no answer: the first fault of the policy, or of the text of neverallow statements for that policy, or no
+-- statement forbids permissions of class `grant`; a fault that shows nothing is a failed allocation
 abbrev pub IsNeverFault : List ℕ → List ℕ → NeverFault → Type 0
 IsNeverFault policy never (Policy e) = (f : TokenFault) → fault_shown e ≡ Some f → ReadsAs policy (Err f)
 IsNeverFault policy never (Statements e) =
     (m : Meaning) × (xs : List LinedStatement) × ReadsAs policy (Ok m) × IsLined policy xs
     × ((f : TokenFault) → fault_shown e ≡ Some f → ReadsAsNever xs never (Err f))
+IsNeverFault policy never (ForbidsNothing line) =
+    (m : Meaning) × (xs : List LinedStatement) × (ns : List Neverallow) × ReadsAs policy (Ok m) × IsLined policy xs
+    × ReadsAsNever xs never (Ok ns) × (list_any forbids_grants ns ≡ false) × (line ≡ first_line ns)
 
 -- ---- by types with the names that denote them
 

@@ -1,14 +1,17 @@
 //! Which allow statements of a policy break which `neverallow` statements.
 ghost use Rattle.std.specs.Prelude.{[], IfOk, IfErr, OnOk};
 ghost use Rattle.std.specs.List.{flat_map};
-ghost use Rattle.gt_neverallow.specs.Breaking.{Adds, AreBreaches, AreBroken, IsNeverFault, breaks_with, broken_by, pairs_if};
+ghost use Rattle.gt_neverallow.specs.Breaking.{Adds, AreBreaches, AreBroken, AreUnknown, IsNeverFault, breaks_with};
+ghost use Rattle.gt_neverallow.specs.Breaking.{broken_by, pairs_if};
 
 use crate::example::breach_example;
 use crate::fault::NeverFault;
+use crate::forbidding::{first_line, some_forbids};
 use crate::reading::read_nevers;
 use crate::statement::Neverallow;
+use crate::words::unknown_words;
 use gt_policy::{LinedStatement, PolicyFault, PolicyFaultKind};
-use gt_policy_check::{Member, members_of, read_policy};
+use gt_policy_check::{Finding, Member, members_of, read_policy};
 use std::alloc::{AllocError, Global};
 
 /// An allow statement that grants what a `neverallow` statement forbids.
@@ -20,6 +23,15 @@ pub struct Breach {
     pub forbidden: u32,
     /// Some source, permission and target that the one grants and the other forbids, separated by blanks.
     pub example: Vec<u8>,
+}
+
+/// What was found in `neverallow` statements and by them.
+#[derive(Drop)]
+pub struct NeverFindings {
+    /// A finding of the text for each word of a statement that nothing knows.
+    pub words: Vec<Finding>,
+    /// The broken statements.
+    pub breaches: Vec<Breach>,
 }
 
 // Adds a breach, if the statement breaks the `neverallow` statement.
@@ -91,14 +103,29 @@ fn breaches_of(
     Ok(found)
 }
 
+// Returns the findings about these statements, which the text has.
+fn found_by(
+    alloc: Global,
+    statements: &[LinedStatement],
+    never: &str,
+    nevers: &[Neverallow],
+) -> Result<NeverFindings, AllocError>
+    ensures words { IfOk result (λ found. AreUnknown nevers.now found.words.items) }
+    ensures broken { IfOk result (λ found. AreBroken statements.now nevers.now found.breaches.items) }
+{
+    let words = unknown_words(alloc, never, nevers)?;
+    let breaches = breaches_of(alloc, statements, nevers)?;
+    Ok(NeverFindings { words, breaches })
+}
+
 /// Returns each allow statement of a policy that grants something that a `neverallow` statement of the other text
 /// forbids, once for each such statement, in the order of the policy. An attribute means its types, and the names in
-/// the other text are those of the policy.
+/// the other text are those of the policy. A class in that text that Xen's FLASK policy doesn't have is a finding.
 ///
-/// The error is the first fault of the policy, or else of the other text. If an allocation fails, its kind is
-/// [`PolicyFaultKind::Memory`], with line 0.
-pub fn breaches(alloc: Global, policy: &str, never: &str) -> Result<Vec<Breach>, NeverFault>
-    ensures ok { IfOk result (λ found. AreBreaches policy.now never.now found.items) }
+/// The error is the first fault of the policy, or else of the other text, or that no statement of the other text
+/// forbids permissions of class `grant`. If an allocation fails, its kind is [`PolicyFaultKind::Memory`], with line 0.
+pub fn breaches(alloc: Global, policy: &str, never: &str) -> Result<NeverFindings, NeverFault>
+    ensures ok { IfOk result (λ found. AreBreaches policy.now never.now found) }
     ensures fault { IfErr result (λ e. IsNeverFault policy.now never.now e) }
 {
     let statements = match read_policy(alloc, policy) {
@@ -109,7 +136,10 @@ pub fn breaches(alloc: Global, policy: &str, never: &str) -> Result<Vec<Breach>,
         Ok(nevers) => nevers,
         Err(fault) => return Err(NeverFault::Statements(fault)),
     };
-    match breaches_of(alloc, statements.as_slice(), nevers.as_slice()) {
+    if !some_forbids(nevers.as_slice()) {
+        return Err(NeverFault::ForbidsNothing(first_line(nevers.as_slice())));
+    }
+    match found_by(alloc, statements.as_slice(), never, nevers.as_slice()) {
         Ok(found) => Ok(found),
         Err(_) => Err(NeverFault::Policy(PolicyFault {
             line: 0,

@@ -14,6 +14,8 @@ pub enum NeverFault {
     Policy(PolicyFault),
     /// The first fault of the `neverallow` statements; its kind is `Memory` if an allocation failed.
     Statements(PolicyFault),
+    /// No `neverallow` statement forbids permissions of class `grant`. It has the line of the first one, or 1.
+    ForbidsNothing(u32),
 }
 
 /// The kind of a fault at a token.

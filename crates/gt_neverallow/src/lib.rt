@@ -2,12 +2,13 @@
 //!
 //! A `neverallow` statement grants nothing: it lists what no allow statement of the policy may grant. [`breaches`]
 //! reads a policy and a text of such statements, and returns each pair of an allow statement and a `neverallow`
-//! statement that forbids something that the first one grants. [`push_breaches`] prints them, in the layout of
+//! statement that forbids something that the first one grants. [`push_never_findings`] prints them, in the layout of
 //! compilers or as JSON.
 //!
 //! It is proved that the pairs are exactly those for which some source, target and permission are granted by the one
 //! and forbidden by the other, and that the example of a pair is such a source, permission and target. The pairs have
-//! the order of the policy. An error is the first fault of the policy or of the other text.
+//! the order of the policy. An error is the first fault of the policy or of the other text, or that the other text
+//! forbids no permission of class `grant`.
 //!
 //! It uses `gt_policy` and `gt_policy_text` (statements and tokens), `gt_policy_check` (types, what a statement grants,
 //! findings), `gt_types` (permissions) and `gt_text` (text).
@@ -22,8 +23,9 @@ mod parser;
 mod printing;
 mod reading;
 mod statement;
+mod words;
 
-pub use breaking::{Breach, breaches};
+pub use breaking::{Breach, NeverFindings, breaches};
 pub use fault::NeverFault;
-pub use printing::{BrokenTexts, push_breaches};
+pub use printing::{BrokenTexts, push_never_findings};
 pub use statement::{Neverallow, TypeChoice};

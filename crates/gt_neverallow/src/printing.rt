@@ -1,10 +1,11 @@
 //! Prints breaches: each as an error at the allow statement, with a note at the `neverallow` statement.
-ghost use Rattle.std.specs.Prelude.{IfOk, OnOk};
-ghost use Rattle.gt_policy_check.specs.Report.{AddsText, IsPrinted};
+ghost use Rattle.std.specs.Prelude.{◌∷◌, [], IfOk, OnOk};
+ghost use Rattle.gt_policy_check.specs.Report.{AddsText, IsReport};
 ghost use Rattle.gt_neverallow.specs.Printing.{IsBreachError, IsBreachNote, IsBreachReport, IsBreachText};
+ghost use Rattle.gt_neverallow.specs.Printing.{IsNeverReport};
 
-use crate::breaking::Breach;
-use gt_policy_check::{Finding, FindingKind, ReportForm, column_on, push_json, push_report};
+use crate::breaking::{Breach, NeverFindings};
+use gt_policy_check::{Finding, FindingKind, ReportForm, column_on, push_findings};
 use gt_text::push_text;
 use std::alloc::{AllocError, Global};
 
@@ -55,15 +56,10 @@ fn push_finding(
     text: &str,
     finding: Finding,
 ) -> Result<(), AllocError>
-    ensures { OnOk result (AddsText (IsPrinted form file.now finding) out.old.items out.new.items) }
+    ensures { OnOk result (AddsText (IsReport form file.now (finding ∷ [])) out.old.items out.new.items) }
 {
     let found = [finding];
-    match form {
-        ReportForm::Json => push_json(out, file, found.as_slice()),
-        ReportForm::Text | ReportForm::Colored => {
-            push_report(out, file, text, found.as_slice(), form)
-        }
-    }
+    push_findings(out, form, file, text, found.as_slice())
 }
 
 // Appends a breach: its error, and its note.
@@ -83,9 +79,8 @@ fn push_breach(
     push_finding(out, form, texts.never_file, texts.never, note)
 }
 
-/// Appends the breaches in this form, each as an error at the allow statement and a note at the `neverallow` statement.
-/// After an Err, part of them may have been appended.
-pub fn push_breaches(
+// Appends the breaches, each as an error at the allow statement and a note at the `neverallow` statement.
+fn push_breaches(
     alloc: Global,
     out: &mut Vec<u8>,
     form: ReportForm,
@@ -99,4 +94,26 @@ pub fn push_breaches(
         push_breach(alloc, out, form, texts, breach)?;
     }
     Ok(())
+}
+
+/// Appends what was found, in this form: the words that nothing knows, and then the breaches, each as an error at the
+/// allow statement and a note at the `neverallow` statement. After an Err, part of it may have been appended.
+pub fn push_never_findings(
+    alloc: Global,
+    out: &mut Vec<u8>,
+    form: ReportForm,
+    texts: &BrokenTexts,
+    found: &NeverFindings,
+) -> Result<(), AllocError>
+    ensures { OnOk result (AddsText (IsNeverReport form texts.now.file.now texts.now.never_file.now found.now)
+        out.old.items out.new.items) }
+{
+    push_findings(
+        out,
+        form,
+        texts.never_file,
+        texts.never,
+        found.words.as_slice(),
+    )?;
+    push_breaches(alloc, out, form, texts, found.breaches.as_slice())
 }

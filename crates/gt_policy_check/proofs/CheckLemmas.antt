@@ -28,6 +28,7 @@ use Rattle.gt_policy_check.specs.Granting.{exceeds_on, exceeds_some, gives_one, 
 use Rattle.gt_policy_check.specs.Members.{membership_of, members_of}
 use Rattle.gt_policy_check.specs.Why.{is_meant}
 use Rattle.gt_policy_check.specs.Why.{types_asked}
+use Rattle.gt_policy_check.specs.Words.{class_line, class_lines}
 use Rattle.gt_policy_check.proofs.GrantLemmas.{any_and, any_asked, any_never, any_same, by_names, gives_named}
 
 -- all types are asked for
@@ -79,6 +80,9 @@ nothing_more old new added e none = e ∙ ap (λ (l : List ℕ). old ++ l) none 
 
 no_more : (old new : List ℕ) → new ≡ old → new ≡ old ++ []
 no_more old new is = is ∙ sym (append-nil old)
+
+pub class_push : (old new : List Finding) (x : Finding) → new ≡ old ++ x ∷ [] → class_lines new ≡ class_lines old ++ class_line x.kind x.line
+class_push old new x is = lines_more (λ y. class_line y.kind y.line) old new x is
 
 module _ (old new : List Finding) (x : Finding) (is : new ≡ old ++ x ∷ []) where
   no_error_more : is_error x.kind ≡ false → error_lines new ≡ error_lines old

@@ -1,15 +1,16 @@
 -- Texts that are appended one after the other.
-use Rattle.std.proofs.Common.{◌≡◌, ℕ, ◌<◌, ◌+◌, List, [], ◌∷◌, ◌++◌, length, take, get_or, refl, sym, subst, ap, ◌∙◌}
-use Rattle.std.proofs.Common.{append_assoc, codes, inr, true, OnOk, Result, Ok, Err}
+use Rattle.std.proofs.Common.{◌≡◌, ◌⊎◌, ℕ, ◌<◌, ◌+◌, List, [], ◌∷◌, ◌++◌, length, take, get_or, refl, sym, subst, ap, ◌∙◌}
+use Rattle.std.proofs.Common.{append_assoc, codes, inl, inr, true, OnOk, Result, Ok, Err}
 use Rattle.std.proofs.lemmas.List.{append-nil, take_more}
 use Rattle.std.proofs.lemmas.List.Elements.{All-append}
 use Rattle.std.proofs.lemmas.Slice.Zip.{all_zipped_more}
-use Rattle.std.specs.List.{AllPass, concat}
-use Rattle.gt_policy_check.specs.Report.{AddsText, AreTexts, IsExcerpt, IsShown, caret_text, excerpt_text, heading_text}
+use Rattle.std.specs.List.{AllPass, concat, flat_map}
+use Rattle.gt_policy_check.specs.Report.{AddsText, AreTexts, IsExcerpt, IsReport, IsShown, object_text, caret_text, excerpt_text, heading_text}
 use Rattle.gt_policy_check.specs.Report.{is_blank, shown_text}
 use Rattle.gt_policy_check.specs.declared.findings.Finding.{Finding}
 use Rattle.gt_policy_check.specs.declared.findings.FindingKind.{FindingKind}
 use Rattle.gt_policy_check.specs.declared.report.ReportForm.{ReportForm}
+use Rattle.gt_policy_check.specs.declared.report.ReportForm.TheVariants.{Colored, Json, Text}
 
 pub adds_none : (P : List ℕ → Type 0) (old new : List ℕ) → P [] → new ≡ old → AddsText P old new
 adds_none P old new none same = ([], none, same ∙ sym (append-nil old))
@@ -57,3 +58,16 @@ excerpt_added form kind letters caret old line start mid new shown ended (blanks
 pub finding_added : (form : ReportForm) (file : List ℕ) (x : Finding) (old mid new : List ℕ) → mid ≡ old ++ heading_text file x → AddsText (IsExcerpt form x.kind) mid new → AddsText (IsShown form file x) old new
 finding_added form file x old mid new headed (excerpt, is, put) =
     (heading_text file x ++ excerpt, (excerpt, is, refl), put ∙ ap (λ (l : List ℕ). l ++ excerpt) headed ∙ append_assoc old (heading_text file x) excerpt)
+
+-- ---- findings in a form
+
+pub as_json : (form : ReportForm) (file : List ℕ) (found : List Finding) (old new : List ℕ) → form ≡ Json → new ≡ old ++ flat_map (object_text file) found → AddsText (IsReport form file found) old new
+as_json Json file found old new is put = (flat_map (object_text file) found, refl, put)
+as_json Text file found old new is put = absurd (cc is)
+as_json Colored file found old new is put = absurd (cc is)
+
+pub as_text : (form : ReportForm) (file : List ℕ) (found : List Finding) (old new : List ℕ) → (form ≡ Text) ⊎ (form ≡ Colored) → AddsText (AreTexts (IsShown form file) found) old new → AddsText (IsReport form file found) old new
+as_text Text file found old new is adds = adds
+as_text Colored file found old new is adds = adds
+as_text Json file found old new (inl is) adds = absurd (cc is)
+as_text Json file found old new (inr is) adds = absurd (cc is)

@@ -6,3 +6,4 @@ pub mod Why
 pub mod Report
 pub mod Prelude
 pub mod Useless
+pub mod Words

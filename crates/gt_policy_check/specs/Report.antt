@@ -84,12 +84,6 @@ IsExcerpt form kind excerpt =
 abbrev pub IsShown : ReportForm → List ℕ → Finding → List ℕ → Type 0
 IsShown form file x text = (excerpt : List ℕ) × IsExcerpt form x.kind excerpt × (text ≡ heading_text file x ++ excerpt)
 
--- what is printed of a finding: as JSON its object
-abbrev pub IsPrinted : ReportForm → List ℕ → Finding → List ℕ → Type 0
-IsPrinted Json file x text = text ≡ object_text file x
-IsPrinted Text file x text = IsShown Text file x text
-IsPrinted Colored file x text = IsShown Colored file x text
-
 -- the texts of these, one for each, in their order
 abbrev pub AreTexts : {A : Type 0} → (A → List ℕ → Type 0) → List A → List ℕ → Type 0
 AreTexts R xs all = (texts : List (List ℕ)) × AllZip R xs texts × (all ≡ concat texts)

@@ -1,6 +1,7 @@
 //! Adds findings.
-ghost use Rattle.std.specs.Prelude.{◌≡◌, ◌∷◌, [], true, false, OnOk};
+ghost use Rattle.std.specs.Prelude.{◌≡◌, ◌∷◌, ◌++◌, [], true, false, OnOk};
 ghost use Rattle.gt_policy_check.specs.Check.{Quiet, AddsUseless, is_error, is_of_nothing, is_of_repeat};
+ghost use Rattle.gt_policy_check.specs.Words.{class_line, class_lines};
 
 use crate::fault::FindingNote;
 use crate::findings::{Finding, FindingKind};
@@ -45,6 +46,7 @@ pub(crate) fn push_note(found: &mut Vec<Finding>, note: FindingNote) -> Result<(
 
 /// Adds a finding about a word of a line. Its kind is other than an error, a statement that allows nothing, or a
 /// statement that repeats another.
+#[tactic(auto, using(crate::proofs::CheckLemmas::quiet_push, crate::proofs::CheckLemmas::class_push))]
 pub(crate) fn push_of_word(
     found: &mut Vec<Finding>,
     kind: FindingKind,
@@ -55,18 +57,18 @@ pub(crate) fn push_of_word(
     requires no_error { is_error kind ≡ false }
     requires no_statement { is_of_nothing kind ≡ false }
     requires no_repeat { is_of_repeat kind ≡ false }
-    ensures { OnOk result (Quiet found.old.items found.new.items) }
+    ensures quiet { OnOk result (Quiet found.old.items found.new.items) }
+    ensures classes { OnOk result (class_lines found.new.items
+        ≡ class_lines found.old.items ++ class_line kind place.now.line) }
 {
     let column = column_of_word(place.bytes, place.tokens, word.as_bytes(), 0);
-    push_quiet(
-        found,
-        Finding {
-            kind,
-            line: place.line,
-            column,
-            message,
-        },
-    )
+    found.push(Finding {
+        kind,
+        line: place.line,
+        column,
+        message,
+    })?;
+    Ok(())
 }
 
 /// Adds the finding that a statement allows nothing.

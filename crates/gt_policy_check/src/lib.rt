@@ -2,7 +2,7 @@
 //!
 //! [`why`] answers a question: may a type do this to another, and by which allow statements? Each statement is listed
 //! with its line, and with the attribute through which its sets hold the types. [`check`] finds the first fault of a
-//! text, or what is useless in a policy, with hints; [`push_report`] and [`push_json`] print the findings.
+//! text, or what is useless in a policy, with hints; [`push_findings`] prints the findings.
 //!
 //! It is proved that the listed statements are exactly those that grant the permission, or for a denied question
 //! exactly the near misses. A text has an error exactly if it is not a policy, at the line of its first fault. The
@@ -34,7 +34,8 @@ pub use asking::{Explanation, WhyAnswer, WhyQuestion, why};
 pub use fault::{permission_names, push_hint, said_of};
 pub use findings::{Finding, FindingKind, check, check_worn};
 pub use granting::{gives_source, has_grant, has_self, holds, lists, reaches};
+pub use listed::push_unknown_words;
 pub use members::{Member, is_same, members_of};
 pub use places::column_on;
 pub use reading::read_policy;
-pub use report::{ReportForm, push_json, push_report};
+pub use report::{ReportForm, push_findings, push_json, push_report};

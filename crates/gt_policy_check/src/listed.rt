@@ -1,28 +1,45 @@
 //! Warnings about the classes and permissions of an allow statement.
-ghost use Rattle.std.specs.Prelude.{OnOk};
-ghost use Rattle.gt_policy_check.specs.Check.{Quiet};
+ghost use Rattle.std.specs.Prelude.{◌≡◌, ◌++◌, OnOk};
+ghost use Rattle.std.specs.List.{flat_map};
+ghost use Rattle.gt_policy_check.specs.Check.{error_lines, Quiet};
+ghost use Rattle.gt_policy_check.specs.Words.{class_lines, is_flask_class, is_known_class, unknown_line};
 
 use crate::adding::{Place, push_of_word};
 use crate::fault::{is_near_permission, push_hint, push_permission_hint, said_of};
 use crate::findings::{Finding, FindingKind};
 use crate::granting::has_grant;
+use crate::places::line_tokens;
 use gt_policy::{Allowance, Permissions, TextPiece};
 use gt_types::Perms;
 use std::alloc::{AllocError, Global};
 
-// The other classes of Xen's FLASK policy. Their rules are about other calls than those of grant tables.
-static FLASK_CLASSES: [&str; 12] = [
-    "xen", "xen2", "domain", "domain2", "hvm", "mmu", "resource", "shadow", "event", "security",
-    "version", "argo",
-];
+// Returns whether a class is another one of Xen's FLASK policy. Its rules are about other calls than those of grant
+// tables.
+fn is_flask_class(class: &str) -> bool
+    ensures { result ≡ is_flask_class class.now }
+{
+    matches!(
+        class,
+        "xen"
+            | "xen2"
+            | "domain"
+            | "domain2"
+            | "hvm"
+            | "mmu"
+            | "resource"
+            | "shadow"
+            | "event"
+            | "security"
+            | "version"
+            | "argo"
+    )
+}
 
-fn is_flask_class(class: &str) -> bool {
-    for name in FLASK_CLASSES.iter() {
-        if *name == class {
-            return true;
-        }
-    }
-    false
+// Returns whether a class is one of Xen's FLASK policy.
+fn is_known_class(class: &str) -> bool
+    ensures { result ≡ is_known_class class.now }
+{
+    class == "grant" || is_flask_class(class)
 }
 
 fn has_flask_class(classes: &[TextPiece]) -> bool {
@@ -48,9 +65,11 @@ fn warn_class(
     place: &Place,
     class: &str,
 ) -> Result<(), AllocError>
-    ensures { OnOk result (Quiet found.old.items found.new.items) }
+    ensures quiet { OnOk result (Quiet found.old.items found.new.items) }
+    ensures classes { OnOk result (class_lines found.new.items
+        ≡ class_lines found.old.items ++ unknown_line place.now.line class.now) }
 {
-    if class == "grant" || is_flask_class(class) {
+    if is_known_class(class) {
         return Ok(());
     }
     let message = class_message(alloc, class)?;
@@ -72,8 +91,12 @@ fn warn_other(
     word: &str,
     has_flask_class: bool,
 ) -> Result<(), AllocError>
-    ensures { OnOk result (Quiet found.old.items found.new.items) }
+    ensures quiet { OnOk result (Quiet found.old.items found.new.items) }
+    ensures classes { OnOk result (class_lines found.new.items ≡ class_lines found.old.items) }
 {
+    if Perms::named(word.as_bytes()).is_some() {
+        return Ok(());
+    }
     if has_flask_class && !is_near_permission(alloc, word)? {
         return Ok(());
     }
@@ -95,9 +118,6 @@ fn warn_perm(
         let message = said_of(alloc, word, " is not asked for by any call")?;
         return push_of_word(found, FindingKind::NeverAsked, place, word, message);
     }
-    if Perms::named(word.as_bytes()).is_some() {
-        return Ok(());
-    }
     warn_other(alloc, found, place, word, has_flask_class)
 }
 
@@ -107,7 +127,9 @@ fn warn_classes(
     place: &Place,
     classes: &[TextPiece],
 ) -> Result<(), AllocError>
-    ensures { OnOk result (Quiet found.old.items found.new.items) }
+    ensures quiet { OnOk result (Quiet found.old.items found.new.items) }
+    ensures classes { OnOk result (class_lines found.new.items
+        ≡ class_lines found.old.items ++ flat_map (unknown_line place.now.line) classes.now) }
 {
     'classes: for class in classes {
         warn_class(alloc, found, place, class.as_str())?;
@@ -151,4 +173,71 @@ pub(crate) fn warn_words(
             warn_perms(alloc, found, place, words.as_slice(), is_mixed)
         }
     }
+}
+
+// Warns of words that are not permissions of class `grant`.
+fn warn_others(
+    alloc: Global,
+    found: &mut Vec<Finding>,
+    place: &Place,
+    perms: &[TextPiece],
+    has_flask_class: bool,
+) -> Result<(), AllocError>
+    ensures quiet { OnOk result (Quiet found.old.items found.new.items) }
+    ensures classes { OnOk result (class_lines found.new.items ≡ class_lines found.old.items) }
+{
+    'perms: for perm in perms {
+        warn_other(alloc, found, place, perm.as_str(), has_flask_class)?;
+    }
+    Ok(())
+}
+
+// Warns of words of a statement that Xen's FLASK policy doesn't have.
+fn warn_unknown(
+    alloc: Global,
+    found: &mut Vec<Finding>,
+    place: &Place,
+    classes: &[TextPiece],
+    perms: &Permissions,
+) -> Result<(), AllocError>
+    ensures quiet { OnOk result (Quiet found.old.items found.new.items) }
+    ensures classes { OnOk result (class_lines found.new.items
+        ≡ class_lines found.old.items ++ flat_map (unknown_line place.now.line) classes.now) }
+{
+    warn_classes(alloc, found, place, classes)?;
+    match perms {
+        Permissions::Every => Ok(()),
+        Permissions::Named(words) => {
+            if !has_grant(classes) {
+                return Ok(());
+            }
+            let is_mixed = has_flask_class(classes);
+            warn_others(alloc, found, place, words.as_slice(), is_mixed)
+        }
+    }
+}
+
+/// Adds the findings of the classes and permissions of a statement on this line that Xen's FLASK policy doesn't have:
+/// one for each such class, and beside class `grant` one for each word that is not a permission and may be meant as
+/// one. None of them is an error. After an Err, some of them may have been added.
+pub fn push_unknown_words(
+    alloc: Global,
+    found: &mut Vec<Finding>,
+    text: &str,
+    line: u32,
+    classes: &[TextPiece],
+    perms: &Permissions,
+) -> Result<(), AllocError>
+    ensures errors { OnOk result (error_lines found.new.items ≡ error_lines found.old.items) }
+    ensures classes { OnOk result (class_lines found.new.items
+        ≡ class_lines found.old.items ++ flat_map (unknown_line line) classes.now) }
+{
+    let tokens = line_tokens(alloc, text.as_bytes(), line)?;
+    let place = Place {
+        bytes: text.as_bytes(),
+        tokens: &tokens,
+        line,
+        column: 1,
+    };
+    warn_unknown(alloc, found, &place, classes, perms)
 }

@@ -3,8 +3,8 @@ ghost use Rattle.std.specs.Prelude.{◌≡◌, ◌++◌, chars, codes, encode_ut
 ghost use Rattle.std.specs.List.{flat_map, AllPass};
 ghost use Rattle.gt_json.specs.Strings.{quoted};
 ghost use Rattle.gt_policy_check.specs.Report.{heading_text, object_text, position_text, said_text, severity_text};
-ghost use Rattle.gt_policy_check.specs.Report.{caret_text, is_blank, shown_letter, shown_text, AddsText, AreTexts, IsExcerpt};
-ghost use Rattle.gt_policy_check.specs.Report.{IsShown};
+ghost use Rattle.gt_policy_check.specs.Report.{caret_text, is_blank, shown_letter, shown_text, AddsText, AreTexts};
+ghost use Rattle.gt_policy_check.specs.Report.{IsExcerpt, IsReport, IsShown};
 
 use crate::findings::{Finding, FindingKind};
 use crate::places::{bytes_of, line_span};
@@ -223,4 +223,20 @@ pub fn push_json(out: &mut Vec<u8>, file: &str, found: &[Finding]) -> Result<(),
         push_object(out, file, finding)?;
     }
     Ok(())
+}
+
+/// Appends the findings of a text in this form. After an Err, part of them may have been appended.
+pub fn push_findings(
+    out: &mut Vec<u8>,
+    form: ReportForm,
+    file: &str,
+    text: &str,
+    found: &[Finding],
+) -> Result<(), AllocError>
+    ensures { OnOk result (AddsText (IsReport form file.now found.now) out.old.items out.new.items) }
+{
+    match form {
+        ReportForm::Json => push_json(out, file, found),
+        ReportForm::Text | ReportForm::Colored => push_report(out, file, text, found, form),
+    }
 }

@@ -62,8 +62,8 @@ fn warnings(alloc: Global, input: &[u8]) -> Result<Vec<Finding>, Memory>
 }
 
 /// Checks a script, of which `input` is all or the first bytes up to the read limit. Bytes that are a script for
-/// neither `play` nor `run` have one error, at the line of the fault of the two that is further down. A script has none.
-/// The only Err is a failed allocation.
+/// neither `play` nor `run` have one error, at the line of the fault of the two that is further down. A script has
+/// none. The only Err is a failed allocation.
 pub fn judge(alloc: Global, input: &[u8]) -> Result<Vec<Finding>, Memory>
     ensures { (all : List ℕ) → input.now ≡ take (LONGEST_TEXT + 1) all →
         IfOk result (λ v. JudgesScript all v.items) }

@@ -1,6 +1,6 @@
 //! The reasons that are printed after the line of a fault, or as that line.
 use super::copying::KeptInput;
-use super::given::{given_reason, never_reason, question_reason, text_reason};
+use super::given::{given_reason, never_reason, nothing_reason, question_reason, text_reason};
 use super::names::shown_name;
 use gt_checks::{BreachFault, WhyFault};
 use gt_commands::Invocation;
@@ -376,6 +376,7 @@ impl<'a> Reasons<'a> {
                 listing_reason(self.alloc, file, self.is_line, input, fault)
             }
             BreachFault::Statements(fault) => never_reason(self.alloc, never, fault),
+            BreachFault::ForbidsNothing(line) => nothing_reason(self.alloc, never, *line),
         };
         self.add(said);
     }

@@ -45,6 +45,18 @@ pub(crate) fn never_reason(
     Ok(said)
 }
 
+/// Returns the reason for which `neverallow` statements that forbid nothing of class `grant` were refused.
+pub(crate) fn nothing_reason(alloc: Global, never: &str, line: u32) -> Result<Vec<u8>, AllocError> {
+    let mut said = Vec::new(alloc);
+    let place = format!(in alloc; "{never}:{line}")?;
+    push_read_reason(
+        &mut said,
+        place.as_str(),
+        b"no statement forbids a permission of class grant",
+    )?;
+    Ok(said)
+}
+
 /// Returns the reason for which bytes are not a text.
 pub(crate) fn text_reason(
     alloc: Global,

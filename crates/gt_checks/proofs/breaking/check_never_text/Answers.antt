@@ -1,10 +1,9 @@
-use Rattle.gt_checks.proofs.Broken.{never_policy, never_text}
+use Rattle.gt_checks.proofs.Broken.{never_policy, written}
 use Rattle.gt_checks.proofs.breaking.check_never_text.Goals as goal
 
 pub returns-in-Ok : goal.returns-in-Ok
 returns-in-Ok g c =
-    never_text c.args.form c.args.texts.now.never_file.now c.args.texts.now.never.now c.args.texts.now.file.now c.args.texts.now.policy.now c.in-Ok.found.items c.as_slice.result.now _ _ c.write_breaches.result
-    c.in-Ok.ensures.ok c.as_slice.ensures.value c.write_breaches.ensures
+    written c.args.form c.args.texts.now.never_file.now c.args.texts.now.never.now c.args.texts.now.file.now c.args.texts.now.policy.now c.in-Ok.found _ _ c.write_breaches.result c.in-Ok.ensures.ok c.write_breaches.ensures
 
 pub returns-in-Err-Policy : goal.returns-in-Err-Policy
 returns-in-Err-Policy g c =

@@ -1,5 +1,10 @@
+use Rattle.std.proofs.Common.{◌≡◌, ◌++◌, take}
+use Rattle.std.specs.List.{flat_map}
 use Rattle.gt_policy_check.specs.Check.{Quiet}
+use Rattle.gt_policy_check.specs.Words.{class_lines, unknown_line}
 use Rattle.gt_policy_check.proofs.listed.warn_classes.Given as goal
 
 abbrev pub invariant-classes : goal.invariant-classes
-invariant-classes l = Quiet l.initial.found.items l.found.items
+invariant-classes l =
+    Quiet l.initial.found.items l.found.items
+    × (class_lines l.found.items ≡ class_lines l.initial.found.items ++ flat_map (unknown_line l.place.line) (take l.class-index l.classes))

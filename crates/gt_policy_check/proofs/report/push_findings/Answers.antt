@@ -1,6 +1,5 @@
-use Rattle.gt_policy_check.proofs.ReportLemmas.{on_ok}
-use Rattle.gt_checks.proofs.PrintedForms.{as_json, as_text}
-use Rattle.gt_checks.proofs.reporting.push_findings.Goals as goal
+use Rattle.gt_policy_check.proofs.ReportLemmas.{as_json, as_text, on_ok}
+use Rattle.gt_policy_check.proofs.report.push_findings.Goals as goal
 
 pub returns-in-Json : goal.returns-in-Json
 returns-in-Json c = on_ok c.push_json.result (as_json c.args.form c.args.file.now c.args.found.now _ c.push_json.new.out.items c.in-Json.is) c.push_json.ensures

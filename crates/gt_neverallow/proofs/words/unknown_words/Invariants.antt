@@ -1,0 +1,6 @@
+use Rattle.std.proofs.Common.{take}
+use Rattle.gt_neverallow.specs.Breaking.{AreUnknown}
+use Rattle.gt_neverallow.proofs.words.unknown_words.Given as goal
+
+abbrev pub invariant-nevers : goal.invariant-nevers
+invariant-nevers l = AreUnknown (take l.never-index l.nevers) l.found.items
