@@ -1,6 +1,6 @@
 -- The result of a command line: the output, and the exit status.
 use Rattle.std.specs.Prelude.{◌≡◌, ◌⊎◌, ℕ, List, [], ◌∷◌, Option, Some, None, Result, Ok, Err}
-use Rattle.gt_program.specs.Prelude.{Keeps, lines, ErrorKind, DisplayHelp, DisplayVersion, OutOfMemory, Format, Mode}
+use Rattle.gt_program.specs.Prelude.{Keeps, ErrorKind, DisplayHelp, DisplayVersion, OutOfMemory, Format, Mode}
 use Rattle.gt_program.specs.Prelude.{Request, to_check, to_check_never, to_explain, to_explain_each, to_explore}
 use Rattle.gt_program.specs.Prelude.{to_find_text, to_list, to_play, to_run, to_tell_entries, to_tell_rules, for_help}
 use Rattle.gt_program.specs.Prelude.{for_version, nothing, mode_of, Sought, all_texts, a_claim, one_script, one_trace}
@@ -9,7 +9,7 @@ use Rattle.gt_program.specs.Prelude.{Explored, ReadsAsRun, Searched, ExploreForm
 use Rattle.gt_program.specs.Prelude.{Holds, Fails, Undecided, Outcome, No, Unknown, Yes}
 use Rattle.gt_file_commands.specs.Names.{shown_name}
 use Rattle.gt_file_commands.specs.Rules.{PrintsRules}
-use Rattle.gt_file_commands.specs.Working.{AnswersDump, AnswersLines, AnswersQuestion, ChecksAll, ChecksAs, ChecksNever}
+use Rattle.gt_file_commands.specs.Working.{AnswersDump, AnswersEach, AnswersQuestion, ChecksAll, ChecksAs, ChecksNever}
 use Rattle.gt_file_commands.specs.Working.{Deed, Doing, Lists, Plays, WithFile, Works, known_text}
 use Rattle.gt_file_commands.specs.declared.failure.Failure.TheVariants as failures
 use Rattle.gt_program.specs.Runs.{RunsDomains}
@@ -158,7 +158,7 @@ Obeys (to_explain source target permission name) failed width file input old new
     Works (AnswersQuestion (shown_name name) source target permission) Unknown name (known_text file input name)
     old new outcome
 Obeys (to_explain_each name) failed width file input old new outcome =
-    WithFile input (λ asked. AnswersLines name (file name) (lines asked)) old new outcome
+    AnswersEach name (file name) input old new outcome
 Obeys (to_tell_entries version hex every script format name) failed width file input old new outcome =
     Works (AnswersDump version hex every script format) Unknown name (known_text file input name) old new outcome
 Obeys for_help failed width file input old new outcome = IsHelped outcome ⊎ ((outcome ≡ Unknown) × Keeps old new)
