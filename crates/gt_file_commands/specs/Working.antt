@@ -2,6 +2,9 @@
 use Rattle.std.specs.Prelude.{◌≡◌, ◌⊎◌, ℕ, ◌++◌, Bool, true, false, List, [], ◌∷◌, Option, Some, None, Result, Ok, Err}
 use Rattle.std.specs.Prelude.{IfSome, codes}
 use Rattle.std.specs.Borrow.{Bor}
+use Rattle.std.specs.Str.Lines.{lines}
+use Rattle.gt_policy.specs.Allowing.{Meaning}
+use Rattle.gt_policy.specs.Whole.{ReadsAs}
 use Rattle.gt_file_commands.specs.Formats.{CheckedAs, IsFormOf, ListedAs, PlayedAs, WroteDumpAs}
 use Rattle.gt_file_commands.specs.Names.{shown_name}
 use Rattle.gt_file_commands.specs.Prelude.{Keeps, option_map, Appends, AppendsBeginning, Format, DumpOptions}
@@ -250,7 +253,7 @@ abbrev pub Asks : List ℕ → Option (List ℕ) → List ℕ → List ℕ → L
 Asks file known source target permission old new outcome =
     ((middle : Option (List ℕ)) × Appends old middle (heading source target permission)
     × Works (AnswersQuestion file (type_of (Some source)) (type_of (Some target)) (type_of (Some permission))) Unknown
-    (Some file) known middle new outcome)
+    None known middle new outcome)
     ⊎ (AppendsBeginning old new (heading source target permission) × (outcome ≡ Unknown))
 
 -- a line of three words is a question, one without words is skipped, and any other has no answer
@@ -271,3 +274,21 @@ abbrev pub AnswersLines : List ℕ → Option (List ℕ) → List (List ℕ) →
 AnswersLines file known [] old new outcome = Keeps old new × (outcome ≡ Yes)
 AnswersLines file known (line ∷ more) old new outcome =
     OneAfterOther (AnswersLine file known line) (AnswersLines file known more) old new outcome
+
+-- ---- the policy of a file
+
+-- the text is a policy
+abbrev pub IsPolicy : List ℕ → Type 0
+IsPolicy text = (m : Meaning) × ReadsAs text (Ok m)
+
+-- the questions of the input are answered about this policy; if it is none, nothing is answered
+abbrev pub AnswersAbout : List ℕ → List ℕ → Option (List ℕ) → Deed
+AnswersAbout file policy input old new outcome =
+    (IsPolicy policy × WithFile input (λ asked. AnswersLines file (Some policy) (lines asked)) old new outcome)
+    ⊎ ((outcome ≡ Unknown) × Keeps old new)
+
+-- the same about the text of the file, whose bytes may be known; if the file can't be read, nothing is answered
+abbrev pub AnswersEach : List ℕ → Option (List ℕ) → Option (List ℕ) → Deed
+AnswersEach file known input old new outcome =
+    ((policy : List ℕ) × IfSome known (λ all. policy ≡ all) × AnswersAbout file policy input old new outcome)
+    ⊎ ((outcome ≡ Unknown) × Keeps old new)

@@ -69,8 +69,8 @@ impl Work<'_> {
     }
 }
 
-// Executes this with the text of a reader.
-fn perform<R: Read, W: Write>(
+/// Executes this with the text of a reader.
+pub(crate) fn perform<R: Read, W: Write>(
     alloc: Global,
     work: Work,
     reader: &mut R,

@@ -1,27 +1,37 @@
 //! The questions of the standard input about a policy.
-ghost use Rattle.std.specs.Prelude.{◌≡◌, map, IfOk, IfSome, OnOk, Some};
+ghost use Rattle.std.specs.Prelude.{◌≡◌, map, IfOk, IfSome, OnOk, None, Some};
 ghost use Rattle.std.specs.Option.{option_map};
 ghost use Rattle.std.specs.Str.Lines.{lines as lines_in};
 ghost use Rattle.std.specs.Io.KnownBytes.{Appends};
 ghost use Rattle.gt_text.specs.Streams.{AppendsBeginning};
 ghost use Rattle.gt_commands.specs.Commands.{type_of};
-ghost use Rattle.gt_file_commands.specs.Working.{AnswersLine, AnswersLines, AnswersQuestion, AnswersWords, Asks};
-ghost use Rattle.gt_file_commands.specs.Working.{OrNothing, WithFile, Works, heading};
+ghost use Rattle.gt_file_commands.specs.Working.{AnswersAbout, AnswersEach, AnswersLine, AnswersLines};
+ghost use Rattle.gt_file_commands.specs.Working.{AnswersQuestion, AnswersWords, Asks, IsPolicy, OrNothing, WithFile};
+ghost use Rattle.gt_file_commands.specs.Working.{Works, heading};
 ghost use Rattle.gt_file_commands.specs.declared.outcome.Outcome.TheVariants.{Unknown};
 
-use crate::commands::{Context, Work, work_asked};
+use crate::commands::{Context, Work, perform};
 use crate::failure::Failure;
+use crate::given::read_given;
 use crate::outcome::{Outcome, worse};
 use crate::reading::read_whole;
 use crate::reasons::Reasons;
-use crate::reporting::fail;
+use crate::reporting::{fail, finish};
 use crate::texts::TextSource;
+use gt_policy::Policy;
 use gt_policy_check::WhyQuestion;
-use gt_policy_list::ListingFault;
+use gt_policy_list::{ListingFault, policy_text};
 use gt_script_lines::{line_words, text_lines};
 use gt_text::{ReadFault, push_text, text_of, write_text};
 use std::alloc::{AllocError, Global};
 use std::io::Write;
+
+// The policy that is asked about: the name of its file, and its bytes.
+#[derive(Clone, Copy)]
+struct NamedPolicy<'a, 'p> {
+    file: &'a str,
+    bytes: &'p [u8],
+}
 
 // The three words of a question, as they were read.
 #[derive(Clone, Copy)]
@@ -103,62 +113,62 @@ fn write_heading<W: Write>(
 }
 
 // Answers the question of these words, under the line before it.
-fn answer_asked<'a, R, T: TextSource, W: Write, E: Eprint>(
+fn answer_asked<'a, R, T, W: Write, E: Eprint>(
     context: &Context<R, T, E>,
-    file: &'a str,
+    policy: NamedPolicy<'a, '_>,
     words: &AskedWords,
     out: &mut W,
     reasons: &mut Reasons<'a>,
 ) -> Outcome
-    ensures { Works (AnswersQuestion file.entry.now (type_of (Some words.now.source.now))
-        (type_of (Some words.now.target.now)) (type_of (Some words.now.perm.now))) Unknown (Some file.entry.now)
-        (T.file context.now.texts.now file.entry.now) (W.contents out.old) (W.contents out.new) result }
+    ensures { Works (AnswersQuestion policy.entry.file.now (type_of (Some words.now.source.now))
+        (type_of (Some words.now.target.now)) (type_of (Some words.now.perm.now))) Unknown None
+        (Some policy.entry.bytes.now) (W.contents out.old) (W.contents out.new) result }
 {
     let question = WhyQuestion {
         source: named(words.source),
         target: named(words.target),
         perm: named(words.perm),
     };
-    reasons.begin(Some(file));
-    work_asked(
-        context,
-        Work::Why { file, question },
-        Some(file),
-        out,
-        reasons,
-    )
+    let work = Work::Why {
+        file: policy.file,
+        question,
+    };
+    reasons.begin(Some(policy.file));
+    let mut reader = policy.bytes;
+    let ending = perform(context.alloc, work, &mut reader, out, reasons);
+    finish(context, ending, Outcome::Unknown, reasons)
 }
 
 // Prints the question of these words, and answers it.
-fn ask<'a, R, T: TextSource, W: Write, E: Eprint>(
+fn ask<'a, R, T, W: Write, E: Eprint>(
     context: &Context<R, T, E>,
-    file: &'a str,
+    policy: NamedPolicy<'a, '_>,
     words: &AskedWords,
     out: &mut W,
     reasons: &mut Reasons<'a>,
 ) -> Outcome
-    ensures { Asks file.entry.now (T.file context.now.texts.now file.entry.now) words.now.source.now
+    ensures { Asks policy.entry.file.now (Some policy.entry.bytes.now) words.now.source.now
         words.now.target.now words.now.perm.now (W.contents out.old) (W.contents out.new) result }
 {
     match write_heading(context.alloc, words, out) {
-        Ok(()) => answer_asked(context, file, words, out, reasons),
+        Ok(()) => answer_asked(context, policy, words, out, reasons),
         Err(fault) => fail(context, Failure::List(fault), reasons),
     }
 }
 
 // Asks the question of these words, if they are UTF-8.
-fn ask_words<'a, R, T: TextSource, W: Write, E: Eprint>(
+fn ask_words<'a, R, T, W: Write, E: Eprint>(
     context: &Context<R, T, E>,
-    file: &'a str,
+    policy: NamedPolicy<'a, '_>,
     words: ReadWords,
     out: &mut W,
     reasons: &mut Reasons<'a>,
 ) -> Outcome
-    ensures { OrNothing (Asks file.entry.now (T.file context.now.texts.now file.entry.now) words.entry.source.now
+    ensures { OrNothing (Asks policy.entry.file.now (Some policy.entry.bytes.now) words.entry.source.now
         words.entry.target.now words.entry.perm.now) (W.contents out.old) (W.contents out.new) result }
 {
     match asked_words(words) {
-        Some(words) => ask(context, file, &words, out, reasons),
+        Some(words) => ask(context, policy, &words, out, reasons),
         None => fail(context, Failure::File(ReadFault::Read), reasons),
     }
 }
@@ -176,15 +186,15 @@ fn refuse_line<R, T, E: Eprint>(
 }
 
 // Answers the question of a line by its words.
-fn answer_words<'a, R, T: TextSource, W: Write, E: Eprint>(
+fn answer_words<'a, R, T, W: Write, E: Eprint>(
     context: &Context<R, T, E>,
-    file: &'a str,
+    policy: NamedPolicy<'a, '_>,
     number: usize,
     words: &[&[u8]],
     out: &mut W,
     reasons: &mut Reasons<'a>,
 ) -> Outcome
-    ensures { OrNothing (AnswersWords file.entry.now (T.file context.now.texts.now file.entry.now)
+    ensures { OrNothing (AnswersWords policy.entry.file.now (Some policy.entry.bytes.now)
         (map (λ w. w.now) words.now)) (W.contents out.old) (W.contents out.new) result }
 {
     match words {
@@ -197,81 +207,81 @@ fn answer_words<'a, R, T: TextSource, W: Write, E: Eprint>(
                 target: *target,
                 perm: *perm,
             };
-            ask_words(context, file, words, out, reasons)
+            ask_words(context, policy, words, out, reasons)
         }
         [_, _, _, _, ..] => refuse_line(context, number, reasons),
     }
 }
 
 // Answers the question of a line.
-fn answer_line<'a, R, T: TextSource, W: Write, E: Eprint>(
+fn answer_line<'a, R, T, W: Write, E: Eprint>(
     context: &Context<R, T, E>,
-    file: &'a str,
+    policy: NamedPolicy<'a, '_>,
     number: usize,
     line: &str,
     out: &mut W,
     reasons: &mut Reasons<'a>,
 ) -> Outcome
-    ensures { AnswersLine file.entry.now (T.file context.now.texts.now file.entry.now) line.now
+    ensures { AnswersLine policy.entry.file.now (Some policy.entry.bytes.now) line.now
         (W.contents out.old) (W.contents out.new) result }
 {
     match line_words(context.alloc, line) {
-        Ok(words) => answer_words(context, file, number, words.as_slice(), out, reasons),
+        Ok(words) => answer_words(context, policy, number, words.as_slice(), out, reasons),
         Err(_) => fail(context, Failure::Memory, reasons),
     }
 }
 
 // Answers the questions of these lines, and returns the worst outcome.
-fn answer_lines<'a, R, T: TextSource, W: Write, E: Eprint>(
+fn answer_lines<'a, R, T, W: Write, E: Eprint>(
     context: &Context<R, T, E>,
-    file: &'a str,
+    policy: NamedPolicy<'a, '_>,
     lines: &[&str],
     out: &mut W,
     reasons: &mut Reasons<'a>,
 ) -> Outcome
-    ensures { AnswersLines file.entry.now (T.file context.now.texts.now file.entry.now)
+    ensures { AnswersLines policy.entry.file.now (Some policy.entry.bytes.now)
         (map (λ l. l.now) lines.now) (W.contents out.old) (W.contents out.new) result }
 {
     let mut outcome = Outcome::Yes;
     let mut number: usize = 0;
     'lines: for line in lines {
         number = number.saturating_add(1);
-        let one = answer_line(context, file, number, line, out, reasons);
+        let one = answer_line(context, policy, number, line, out, reasons);
         outcome = worse(outcome, one);
     }
     outcome
 }
 
 // Answers the questions of a text.
-fn answer_text<'a, R, T: TextSource, W: Write, E: Eprint>(
+fn answer_text<'a, R, T, W: Write, E: Eprint>(
     context: &Context<R, T, E>,
-    file: &'a str,
+    policy: NamedPolicy<'a, '_>,
     text: &str,
     out: &mut W,
     reasons: &mut Reasons<'a>,
 ) -> Outcome
-    ensures { OrNothing (AnswersLines file.entry.now (T.file context.now.texts.now file.entry.now)
+    ensures { OrNothing (AnswersLines policy.entry.file.now (Some policy.entry.bytes.now)
         (lines_in text.now)) (W.contents out.old) (W.contents out.new) result }
 {
     match text_lines(context.alloc, text) {
-        Ok(lines) => answer_lines(context, file, lines.as_slice(), out, reasons),
+        Ok(lines) => answer_lines(context, policy, lines.as_slice(), out, reasons),
         Err(_) => fail(context, Failure::Memory, reasons),
     }
 }
 
 // Answers the questions of these bytes.
-fn answer_bytes<'a, R, T: TextSource, W: Write, E: Eprint>(
+fn answer_bytes<'a, R, T, W: Write, E: Eprint>(
     context: &Context<R, T, E>,
-    file: &'a str,
+    policy: NamedPolicy<'a, '_>,
     bytes: &[u8],
     out: &mut W,
     reasons: &mut Reasons<'a>,
 ) -> Outcome
-    ensures { OrNothing (AnswersLines file.entry.now (T.file context.now.texts.now file.entry.now)
+    ensures { OrNothing (AnswersLines policy.entry.file.now (Some policy.entry.bytes.now)
         (lines_in bytes.now)) (W.contents out.old) (W.contents out.new) result }
 {
     match text_of(bytes) {
-        Ok(text) => answer_text(context, file, text, out, reasons),
+        Ok(text) => answer_text(context, policy, text, out, reasons),
         Err(line) => {
             let fault = ListingFault::Utf8 { line };
             reasons.add_text(bytes, &fault);
@@ -280,22 +290,74 @@ fn answer_bytes<'a, R, T: TextSource, W: Write, E: Eprint>(
     }
 }
 
+// Reads bytes as a policy.
+fn read_policy(alloc: Global, bytes: &[u8]) -> Result<(), ListingFault>
+    ensures { OnOk result (IsPolicy bytes.now) }
+{
+    let text = policy_text(bytes)?;
+    match Policy::parse(alloc, text) {
+        Ok(_) => Ok(()),
+        Err(fault) => Err(ListingFault::from(fault)),
+    }
+}
+
+// Answers each question of the standard input about a policy.
+fn answer_input<'a, R, T: TextSource, W: Write, E: Eprint>(
+    context: &Context<R, T, E>,
+    policy: NamedPolicy<'a, '_>,
+    out: &mut W,
+    reasons: &mut Reasons<'a>,
+) -> Outcome
+    ensures { WithFile (T.input context.now.texts.now) (λ asked. AnswersLines policy.entry.file.now
+        (Some policy.entry.bytes.now) (lines_in asked)) (W.contents out.old) (W.contents out.new) result }
+{
+    reasons.begin(None);
+    match read_whole(context.alloc, &mut context.texts.input(), reasons) {
+        Ok(bytes) => answer_bytes(context, policy, bytes.as_slice(), out, reasons),
+        Err(fault) => fail(context, Failure::File(fault), reasons),
+    }
+}
+
+// Answers each question of the standard input about these bytes, if they are a policy.
+fn answer_about<'a, R, T: TextSource, W: Write, E: Eprint>(
+    context: &Context<R, T, E>,
+    policy: NamedPolicy<'a, '_>,
+    out: &mut W,
+    reasons: &mut Reasons<'a>,
+) -> Outcome
+    ensures { AnswersAbout policy.entry.file.now policy.entry.bytes.now (T.input context.now.texts.now)
+        (W.contents out.old) (W.contents out.new) result }
+{
+    match read_policy(context.alloc, policy.bytes) {
+        Ok(()) => answer_input(context, policy, out, reasons),
+        Err(fault) => {
+            reasons.add_text(policy.bytes, &fault);
+            fail(context, Failure::List(fault), reasons)
+        }
+    }
+}
+
 /// Answers each question of the standard input about the policy of the file, and returns the worst outcome. Blank lines
 /// and comments are skipped. Each answer comes after a line `# SOURCE TARGET PERMISSION`. A line that is not a question
-/// is reported with its number, and its outcome is unknown.
+/// is reported with its number, and its outcome is unknown. If the file has no policy, that is reported once, no
+/// question is answered, and the outcome is unknown.
 pub fn answer_each<'a, R, T: TextSource, W: Write, E: Eprint>(
     context: &Context<R, T, E>,
     file: &'a str,
     out: &mut W,
     reasons: &mut Reasons<'a>,
 ) -> Outcome
-    ensures { WithFile (T.input context.now.texts.now) (λ asked. AnswersLines file.entry.now
-        (T.file context.now.texts.now file.entry.now) (lines_in asked))
-        (W.contents out.old) (W.contents out.new) result }
+    ensures { AnswersEach file.entry.now (T.file context.now.texts.now file.entry.now)
+        (T.input context.now.texts.now) (W.contents out.old) (W.contents out.new) result }
 {
-    reasons.begin(None);
-    match read_whole(context.alloc, &mut context.texts.input(), reasons) {
-        Ok(bytes) => answer_bytes(context, file, bytes.as_slice(), out, reasons),
-        Err(fault) => fail(context, Failure::File(fault), reasons),
+    match read_given(context, file, reasons) {
+        Some(bytes) => {
+            let policy = NamedPolicy {
+                file,
+                bytes: bytes.as_slice(),
+            };
+            answer_about(context, policy, out, reasons)
+        }
+        None => Outcome::Unknown,
     }
 }

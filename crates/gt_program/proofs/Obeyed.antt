@@ -38,10 +38,9 @@ use Rattle.gt_file_commands.specs.Names.{shown_name}
 use Rattle.gt_explore_verdict.specs.declared.judging.Verdict.{Verdict}
 use Rattle.gt_explore_verdict.specs.declared.judging.Verdict.TheVariants.{Holds, Fails, Undecided}
 use Rattle.gt_explore_answers.specs.declared.asking.ExploreOptions.{ExploreOptions as Searched}
-use Rattle.std.specs.Str.Lines.{lines}
 use Rattle.gt_file_commands.specs.Laws.{no_memory, nothing_done}
 use Rattle.gt_file_commands.specs.Rules.{PrintsRules}
-use Rattle.gt_file_commands.specs.Working.{AnswersDump, AnswersFlow, AnswersLines, AnswersQuestion, ChecksAll, ChecksAs, ChecksFiles}
+use Rattle.gt_file_commands.specs.Working.{AnswersDump, AnswersFlow, AnswersQuestion, ChecksAll, ChecksAs, ChecksFiles}
 use Rattle.gt_file_commands.specs.Working.{ChecksIn, ChecksNever, Does, Doing, Ending, Lists, Plays, Works, known_text}
 use Rattle.gt_file_commands.specs.declared.outcome.Outcome.{Outcome}
 use Rattle.gt_file_commands.specs.declared.outcome.Outcome.TheVariants.{No, Unknown, Yes}
@@ -150,8 +149,7 @@ out_of_memory (to_check_never never format name more) failed width file input ol
     nothing_done (file never) (λ given. ChecksAll (ChecksIn (ChecksNever never given) format) file input name more) old new outcome (is ∙ for) kept
 out_of_memory (to_explain source target permission name) failed width file input old new outcome for is kept =
     no_memory (AnswersQuestion (shown_name name) source target permission) Unknown name (known_text file input name) old new outcome (is ∙ for) kept
-out_of_memory (to_explain_each name) failed width file input old new outcome for is kept =
-    nothing_done input (λ asked. AnswersLines name (file name) (lines asked)) old new outcome (is ∙ for) kept
+out_of_memory (to_explain_each name) failed width file input old new outcome for is kept = inr (is ∙ for, kept)
 out_of_memory (to_show_flow source target trusted name) failed width file input old new outcome for is kept =
     no_memory (AnswersFlow source target trusted) Unknown name (known_text file input name) old new outcome (is ∙ for) kept
 out_of_memory (to_tell_entries version hex every script format name) failed width file input old new outcome for is kept =

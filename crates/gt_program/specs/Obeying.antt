@@ -1,16 +1,17 @@
 -- The result of a command line: the output, and the exit status.
 use Rattle.std.specs.Prelude.{◌≡◌, ◌⊎◌, ℕ, List, [], ◌∷◌, Option, Some, None, Result, Ok, Err}
-use Rattle.gt_program.specs.Prelude.{Keeps, lines, ErrorKind, DisplayHelp, DisplayVersion, OutOfMemory, Format, Mode}
+use Rattle.gt_program.specs.Prelude.{Keeps, ErrorKind, DisplayHelp, DisplayVersion, OutOfMemory, Format, Mode}
 use Rattle.gt_program.specs.Prelude.{Request, to_check, to_check_never, to_explain, to_explain_each, to_explore}
 use Rattle.gt_program.specs.Prelude.{to_find_text, to_list, to_play, to_run, to_tell_entries, to_tell_rules, for_help}
-use Rattle.gt_program.specs.Prelude.{for_version, nothing, to_show_flow, mode_of, Sought, all_texts, a_claim, one_script, one_trace}
+use Rattle.gt_program.specs.Prelude.{for_version, nothing, to_show_flow, mode_of, Sought, all_texts, a_claim}
+use Rattle.gt_program.specs.Prelude.{one_script, one_trace}
 use Rattle.gt_program.specs.Prelude.{one_diagram, all_scripts}
 use Rattle.gt_program.specs.Prelude.{Explored, ReadsAsRun, Searched, ExploreFormat, ExploreRequest, Verdict}
 use Rattle.gt_program.specs.Prelude.{Holds, Fails, Undecided, Outcome, No, Unknown, Yes}
 use Rattle.gt_file_commands.specs.Names.{shown_name}
 use Rattle.gt_file_commands.specs.Rules.{PrintsRules}
-use Rattle.gt_file_commands.specs.Working.{AnswersDump, AnswersFlow, AnswersLines, AnswersQuestion, ChecksAll, ChecksAs, ChecksIn}
-use Rattle.gt_file_commands.specs.Working.{ChecksNever, Deed, Doing, Lists, Plays, WithFile, Works, known_text}
+use Rattle.gt_file_commands.specs.Working.{AnswersDump, AnswersEach, AnswersFlow, AnswersQuestion, ChecksAll, ChecksAs}
+use Rattle.gt_file_commands.specs.Working.{ChecksIn, ChecksNever, Deed, Doing, Lists, Plays, WithFile, Works, known_text}
 use Rattle.gt_file_commands.specs.declared.failure.Failure.TheVariants as failures
 use Rattle.gt_program.specs.Runs.{RunsDomains}
 use Rattle.gt_commands.specs.declared.invocation.Format.TheVariants.{Text, Json}
@@ -160,7 +161,7 @@ Obeys (to_explain source target permission name) failed width file input old new
     Works (AnswersQuestion (shown_name name) source target permission) Unknown name (known_text file input name)
     old new outcome
 Obeys (to_explain_each name) failed width file input old new outcome =
-    WithFile input (λ asked. AnswersLines name (file name) (lines asked)) old new outcome
+    AnswersEach name (file name) input old new outcome
 Obeys (to_show_flow source target trusted name) failed width file input old new outcome =
     Works (AnswersFlow source target trusted) Unknown name (known_text file input name) old new outcome
 Obeys (to_tell_entries version hex every script format name) failed width file input old new outcome =

@@ -17,4 +17,3 @@ pub use Rattle.gt_file_commands.specs.declared.outcome.Outcome.{Outcome}
 pub use Rattle.gt_file_commands.specs.declared.outcome.Outcome.TheVariants.{No, Unknown, Yes}
 pub use Rattle.gt_script.specs.RunScripts.{ReadsAsRun}
 pub use Rattle.std.specs.Io.KnownBytes.{Keeps}
-pub use Rattle.std.specs.Str.Lines.{lines}

@@ -147,7 +147,8 @@ pub(crate) fn explore<'a, R, T: TextSource, W: Write, E: Eprint>(
     out: &mut W,
     reasons: &mut Reasons<'a>,
 ) -> Outcome
-    ensures { Works (Seeks (sought_by asked.entry) options.entry.format options.entry.states) Outcome.Unknown (name_of options.entry.file)
+    ensures { Works (Seeks (sought_by asked.entry) options.entry.format options.entry.states) Outcome.Unknown
+        (name_of options.entry.file)
         (known_input (T.file context.now.texts.now) (T.input context.now.texts.now) options.entry.file)
         (W.contents out.old) (W.contents out.new) result }
 {

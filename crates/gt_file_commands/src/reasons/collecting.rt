@@ -381,7 +381,7 @@ impl<'a> Reasons<'a> {
         self.add(said);
     }
 
-    /// Adds the reason for which bytes are not a text.
+    /// Adds the reason for which bytes are not a text, or not a policy.
     pub(crate) fn add_text(&mut self, bytes: &[u8], fault: &ListingFault) {
         if let Some(file) = self.file {
             let said = text_reason(self.alloc, file, bytes, fault);

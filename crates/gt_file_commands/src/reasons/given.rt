@@ -3,7 +3,7 @@ use super::collecting::read_words;
 use super::copying::KeptInput;
 use gt_policy::{PolicyFault, PolicyFaultKind};
 use gt_policy_list::ListingFault;
-use gt_reasons::{push_read_reason, push_utf8_reason};
+use gt_reasons::{push_policy_reason, push_read_reason, push_utf8_reason};
 use gt_text::ReadFault;
 use std::alloc::{AllocError, Global};
 
@@ -57,7 +57,7 @@ pub(crate) fn nothing_reason(alloc: Global, never: &str, line: u32) -> Result<Ve
     Ok(said)
 }
 
-/// Returns the reason for which bytes are not a text.
+/// Returns the reason for which bytes are not a text, or not a policy.
 pub(crate) fn text_reason(
     alloc: Global,
     file: &str,
@@ -65,8 +65,10 @@ pub(crate) fn text_reason(
     fault: &ListingFault,
 ) -> Result<Vec<u8>, AllocError> {
     let mut said = Vec::new(alloc);
-    if let ListingFault::Utf8 { line } = fault {
-        push_utf8_reason(alloc, &mut said, file, bytes, *line)?;
+    match fault {
+        ListingFault::Utf8 { line } => push_utf8_reason(alloc, &mut said, file, bytes, *line)?,
+        ListingFault::Policy(fault) => push_policy_reason(alloc, &mut said, file, bytes, fault)?,
+        ListingFault::Read | ListingFault::Memory | ListingFault::Write => {}
     }
     Ok(said)
 }
