@@ -1,0 +1,67 @@
+//! Paths of bytes in chains of types: their lengths, and which pairs have one.
+use crate::compare::same;
+use gt_policy_flow::{FlowAnswer, FlowQuestion, flow};
+use std::alloc::{AllocError, Global};
+
+// Returns a policy of this number of types, t0 and on, of which each one may load from the one before it.
+fn chain(alloc: Global, types: usize) -> Result<String, AllocError> {
+    let mut text = String::new(alloc);
+    for i in 0..types {
+        let line = format!(in alloc; "type t{i};\n")?;
+        text.push_str(line.as_str())?;
+    }
+    for i in 1..types {
+        let line = format!(in alloc; "allow t{i} t{}:grant map_read;\n", i.wrapping_sub(1))?;
+        text.push_str(line.as_str())?;
+    }
+    Ok(text)
+}
+
+// Returns the answer, and the number of lines, for two types of a chain.
+fn asked(
+    alloc: Global,
+    types: usize,
+    source: usize,
+    target: usize,
+) -> Result<Option<(FlowAnswer, usize)>, AllocError> {
+    let text = chain(alloc, types)?;
+    let source = format!(in alloc; "t{source}")?;
+    let target = format!(in alloc; "t{target}")?;
+    let question = FlowQuestion {
+        source: Some(source.as_str()),
+        target: Some(target.as_str()),
+        trusted: None,
+    };
+    Ok(match flow(alloc, text.as_str(), &question) {
+        Ok(report) => Some((
+            report.answer,
+            report.lines.iter().filter(|byte| **byte == b'\n').count(),
+        )),
+        Err(_) => None,
+    })
+}
+
+#[test]
+fn a_path_is_as_long_as_its_chain(rt: HostRuntime) {
+    for types in [2, 3, 17, 256] {
+        let last = types - 1;
+        let forth = asked(rt.alloc(), types, 0, last);
+        same(&rt, &forth, &Ok(Some((FlowAnswer::Path, types))));
+        let back = asked(rt.alloc(), types, last, 0);
+        same(&rt, &back, &Ok(Some((FlowAnswer::NoPath, 1))));
+    }
+}
+
+#[test]
+fn a_type_that_is_not_there_has_no_answer(rt: HostRuntime) {
+    same(
+        &rt,
+        &asked(rt.alloc(), 2, 2, 0),
+        &Ok(Some((FlowAnswer::NoSource, 0))),
+    );
+    same(
+        &rt,
+        &asked(rt.alloc(), 2, 0, 2),
+        &Ok(Some((FlowAnswer::NoTarget, 0))),
+    );
+}
