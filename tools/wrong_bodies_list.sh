@@ -67,6 +67,7 @@ invariant that is false of the body. Those that a contract refuses are among the
 | An entry of 16 bytes is read by its first 8 | `gt_c` | contract: `GrantsBytes` |
 | A host sees pins that write as pins that read | `gt_c` | contract: `ReportsEntry` |
 | A copy that C begins goes the other way | `gt_c` | contract: `BeginsCopy` |
+| A host is told that no entry is in use, while a guest maps one | `gt_c` | nothing |
 | A copy that was refused prints `ok` | `gt_run` | contract: `Asks` |
 | A guest's line unmaps what the label names for domain 0 | `gt_run` | contract: `Calls` (`MakesRequest`) |
 | A guest at the end of its list takes back its pages | `gt_run` | contract: `IsOutputOf` (`HasLeft`) |
