@@ -26,8 +26,8 @@ planted() {
   cat <<'END'
 ### In the words of guests and hosts
 
-These bodies were planted last. A private contract or a private definition that repeats a body was changed with it, so
-that only the contract of a public call could refuse it. The third column names the clause, the definition or the
+These bodies were planted last. Where a private contract or a private definition repeats a body, it was changed with it,
+so that only the contract of a public call could refuse it. The third column names the clause, the definition or the
 invariant that is false of the body. Those that a contract refuses are among the edits.
 
 | Bug | Crate | Refused by |
