@@ -26,8 +26,8 @@ planted() {
   cat <<'END'
 ### In the words of guests and hosts
 
-These bodies were planted last. A private contract or a private definition that repeats a body was changed with it, so
-that only the contract of a public call could refuse it. The third column names the clause, the definition or the
+These bodies were planted last. Where a private contract or a private definition repeats a body, it was changed with it,
+so that only the contract of a public call could refuse it. The third column names the clause, the definition or the
 invariant that is false of the body. Those that a contract refuses are among the edits.
 
 | Bug | Crate | Refused by |
@@ -55,7 +55,7 @@ invariant that is false of the body. Those that a contract refuses are among the
 | A program that looks at the status takes a refused call as done | `gt_attached` | contract: `encoded` |
 | The record of a copy shows its destination as its source | `gt_attached` | contract: `record_kept` |
 | A run starts without the guests that got no memory | `gt_attached` | contract: `guests` and `count` of `start` |
-| A guest that is dropped grants a page again before it leaves | `gt_attached` | nothing |
+| A guest that is dropped grants a page again before it leaves | `gt_attached` | test: `tools/leaves.sh` |
 | A policy is read without its last byte | `gt_start` | contract: `begun` and `fault` (`IsPolicy`) |
 | The handle of the first guest is that of the last one | `gt_start` | contract: `begun` (`IsSetBy`) |
 | A guest starts with the type after the policy's last one | `gt_start` | contract: `begun` (`AreTypes`) |
@@ -67,11 +67,12 @@ invariant that is false of the body. Those that a contract refuses are among the
 | An entry of 16 bytes is read by its first 8 | `gt_c` | contract: `GrantsBytes` |
 | A host sees pins that write as pins that read | `gt_c` | contract: `ReportsEntry` |
 | A copy that C begins goes the other way | `gt_c` | contract: `BeginsCopy` |
+| A host is told that no entry is in use, while a guest maps one | `gt_c` | test: `tools/leaves.sh` |
 | A copy that was refused prints `ok` | `gt_run` | contract: `Asks` |
 | A guest's line unmaps what the label names for domain 0 | `gt_run` | contract: `Calls` (`MakesRequest`) |
 | A guest at the end of its list takes back its pages | `gt_run` | contract: `IsOutputOf` (`HasLeft`) |
 | A guest that waits for a flag keeps a processor busy | `gt_run` | nothing |
-| A guest that gets no thread grants a page before it leaves | `gt_run` | nothing |
+| A guest that gets no thread grants a page before it leaves | `gt_run` | test: `tools/leaves.sh` |
 | A policy is checked against no `neverallow` statement | `gt_checks` | contract: `CheckedNever` |
 | A file that is no text is a clean policy | `gt_checks` | contract: `Checked` |
 | A question about a misspelled type is answered with `denied` | `gt_checks` | contract: `AskedOf` |
