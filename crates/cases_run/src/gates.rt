@@ -12,7 +12,11 @@ use std::sync::atomic::{AtomicU64, Ordering};
 use std::thread::Threads;
 use test_cases::UNLIMITED;
 
+// The turns of a gate that lets no domain through.
 const TURNS: u64 = 100_000_000;
+
+// The turns of a gate at which domains meet. The last thread may start late on a busy machine.
+const MEETING_TURNS: u64 = 100 * TURNS;
 
 // A check found the records where the flag was raised, or did not, or found them where a flag was awaited.
 const RAISED: u64 = 1;
@@ -163,7 +167,11 @@ impl<'l> Gate for Turns<'l> {
         if matches!(self.way, Way::Closed) {
             return false;
         }
-        for _ in 0..TURNS {
+        let turns = match self.way {
+            Way::Closed | Way::Deaf => TURNS,
+            Way::Meeting(_) | Way::Flags => MEETING_TURNS,
+        };
+        for _ in 0..turns {
             if self.lets_on(flag) {
                 return true;
             }
