@@ -17,7 +17,28 @@ fn chain(alloc: Global, types: usize) -> Result<String, AllocError> {
     Ok(text)
 }
 
-// Returns the answer, and the number of lines, for two types of a chain.
+// Returns the answer, and the number of lines, for two types of a policy.
+fn asked_of<'a>(
+    alloc: Global,
+    text: &'a str,
+    source: &'a str,
+    target: &'a str,
+) -> Option<(FlowAnswer, usize)> {
+    let question = FlowQuestion {
+        source: Some(source),
+        target: Some(target),
+        trusted: None,
+    };
+    match flow(alloc, text, &question) {
+        Ok(report) => Some((
+            report.answer,
+            report.lines.iter().filter(|byte| **byte == b'\n').count(),
+        )),
+        Err(_) => None,
+    }
+}
+
+// Returns the same for two types of a chain.
 fn asked(
     alloc: Global,
     types: usize,
@@ -27,18 +48,7 @@ fn asked(
     let text = chain(alloc, types)?;
     let source = format!(in alloc; "t{source}")?;
     let target = format!(in alloc; "t{target}")?;
-    let question = FlowQuestion {
-        source: Some(source.as_str()),
-        target: Some(target.as_str()),
-        trusted: None,
-    };
-    Ok(match flow(alloc, text.as_str(), &question) {
-        Ok(report) => Some((
-            report.answer,
-            report.lines.iter().filter(|byte| **byte == b'\n').count(),
-        )),
-        Err(_) => None,
-    })
+    Ok(asked_of(alloc, text.as_str(), source.as_str(), target.as_str()))
 }
 
 #[test]
