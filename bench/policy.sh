@@ -5,7 +5,8 @@
 # triples are asked of the table; the time of making the text is taken off. Then what one question
 # costs in nanoseconds: by the table, over all 458,752 triples, and by the walk of the statements, over
 # the 1,792 triples of a type on itself. Then `gthost policy` as it is built, on the same texts from a
-# file, with the processor time that it took beside the time that passed.
+# file, with the processor time that it took beside the time that passed, and `gthost flow` for one pair
+# of types and for all.
 #
 # 65,536 statements fit into a text where they are as short as `allow a b:c *;`, which grants
 # nothing; of class `grant` 53,500 do.
@@ -59,22 +60,27 @@ text() {
   }'
 }
 
-# seconds that passed, and seconds of the processor, of one run
+# seconds that passed, and seconds of the processor, of one run of the program
 seconds() {
   local TIMEFORMAT='%R %U'
-  { time "${priority[@]}" "$program" policy "$1" > /dev/null; } 2>&1
+  { time "${priority[@]}" "$program" "$@" > /dev/null; } 2>&1 || [ $? -eq 1 ] # 1: no path
 }
 
+# listing CLASS COUNT WORD..: the quickest of five runs of these words and the text
 listing() {
-  local passed worked
-  text "$1" "$2" > "$work/$1.te"
-  for _ in 1 2 3 4 5; do seconds "$work/$1.te"; done > "$work/times"
+  local class="$1" count="$2" passed worked
+  shift 2
+  text "$class" "$count" > "$work/$class.te"
+  for _ in 1 2 3 4 5; do seconds "$@" "$work/$class.te"; done > "$work/times"
   passed=$(sort -n "$work/times" | head -n 1 | cut -d ' ' -f 1)
   worked=$(sort -n -k 2 "$work/times" | head -n 1 | cut -d ' ' -f 2)
-  echo "gthost policy, class $1, $2 statements: $passed s, of which $worked s of the processor"
+  echo "gthost $*, class $class, $count statements: $passed s, of which $worked s of the processor"
 }
 
 each c 65536
 each grant 53500
-listing c 65536
-listing grant 53500
+listing c 65536 policy
+listing grant 53500 policy
+listing c 65536 flow a b
+listing grant 53500 flow a b
+listing grant 53500 flow - -
