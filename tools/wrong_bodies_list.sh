@@ -38,7 +38,7 @@ invariant that is false of the body. Those that a contract refuses are among the
 | Each guest's table begins with the size of the first guest's | `gt_shared_table` | contract: `HoldsAll` |
 | A copy without memory has read its source | `gt_shared_table` | contract: `step` and `refused` of `copy_frames` |
 | A store looks at another guest's table unseen | `gt_shared_table` | test: `tools/plays.sh` |
-| A guest that waits for a raised flag never goes on | `gt_shared_table` | test: `cases_run`, which then never ends |
+| A guest that waits for a raised flag waits for ever | `gt_shared_table` | test: `cases_run`, which then never ends |
 | A guest's calls are laid to domain 0 | `gt_audit` | contract: `AppendsRecord`, `IsFor` |
 | The audit line of a call names another caller | `gt_audit` | contract: `text` of `push_line` |
 | A trail that was cleared still has its records | `gt_audit` | contract: `HasNone` |
@@ -50,7 +50,7 @@ invariant that is false of the body. Those that a contract refuses are among the
 | A guest that unmaps keeps its write pin | `gt_words` | contract: `Unpins` |
 | A page that is granted to one guest is granted to another | `gt_words` | contract: `Publishes` |
 | A store to a frame that its domain lacks is answered with N26 | `gt_words` | nothing |
-| A guest that leaves maps a page once more | `gt_attached` | contract: `Leaves` (`Resets`, `HasLeft`) |
+| A guest that leaves maps another page | `gt_attached` | contract: `Leaves` (`Resets`, `HasLeft`) |
 | A host copies from the destination to the source | `gt_attached` | contract: `BeginsAccess` |
 | A program that looks at the status takes a refused call as done | `gt_attached` | contract: `encoded` |
 | The record of a copy shows its destination as its source | `gt_attached` | contract: `record_kept` |
@@ -67,17 +67,17 @@ invariant that is false of the body. Those that a contract refuses are among the
 | An entry of 16 bytes is read by its first 8 | `gt_c` | contract: `GrantsBytes` |
 | A host sees pins that write as pins that read | `gt_c` | contract: `ReportsEntry` |
 | A copy that C begins goes the other way | `gt_c` | contract: `BeginsCopy` |
-| A host is told that no entry is in use, while a guest maps one | `gt_c` | test: `tools/leaves.sh` |
+| `finish` answers that no entry is in use, while a guest maps one | `gt_c` | test: `tools/leaves.sh` |
 | A copy that was refused prints `ok` | `gt_run` | contract: `Asks` |
 | A guest's line unmaps what the label names for domain 0 | `gt_run` | contract: `Calls` (`MakesRequest`) |
 | A guest at the end of its list takes back its pages | `gt_run` | contract: `IsOutputOf` (`HasLeft`) |
 | A guest that waits for a flag keeps a processor busy | `gt_run` | nothing |
 | A guest that gets no thread grants a page before it leaves | `gt_run` | test: `tools/leaves.sh` |
 | A policy is checked against no `neverallow` statement | `gt_checks` | contract: `CheckedNever` |
-| A file that is no text is a clean policy | `gt_checks` | contract: `Checked` |
+| A file that is not text is a clean policy | `gt_checks` | contract: `Checked` |
 | A question about a misspelled type is answered with `denied` | `gt_checks` | contract: `AskedOf` |
 | `check --script` is silent about a label that no map has | `gt_checks` | test: `cases_program` |
-| A script for `run` is told the fault that `play` finds | `gt_checks` | test: `cases_program` |
+| A fault that `play` finds is reported of a script for `run` | `gt_checks` | test: `cases_program` |
 | A file of `neverallow` statements loses its last byte | `gt_file_commands` | contract: `read_whole` |
 | A command whose file can't be opened reads the standard input | `gt_file_commands` | contract: `Works` (`Does`) |
 | Questions after the first denied one are not answered | `gt_file_commands` | contract: `AnswersLines` |
