@@ -36,22 +36,22 @@ module _ (may : AllowRelation) (trusted : TypeId → Bool) (xs : List LinedState
   left source target old h = ([], left_out h, sym (append-nil old))
 
   pub with-path : (source target : TypeId) (o : Option (List TypeId)) (p q : List TypeId) (old new : List ℕ)
-      → HasPath may trusted source target o → o ≡ Some p → q ≡ p
+      → leaves_out form source target ≡ false → HasPath may trusted source target o → o ≡ Some p → q ≡ p
       → new ≡ old ++ block_text may trusted xs members form source target (Some q)
       → Appends (Answers may trusted xs members form source target) old new true
-  with-path source target o p q old new has is same e = (
+  with-path source target o p q old new kept has is same e = (
     block_text may trusted xs members form source target (Some p),
-    answered (Some p) (subst (λ v. HasPath may trusted source target v) is has),
+    answered kept (Some p) (subst (λ v. HasPath may trusted source target v) is has),
     e ∙ ap (λ v. old ++ block_text may trusted xs members form source target (Some v)) same,
   )
 
   pub without-path : (source target : TypeId) (o : Option (List TypeId)) (old new : List ℕ)
-      → HasPath may trusted source target o → o ≡ None
+      → leaves_out form source target ≡ false → HasPath may trusted source target o → o ≡ None
       → new ≡ old ++ block_text may trusted xs members form source target None
       → Appends (Answers may trusted xs members form source target) old new false
-  without-path source target o old new has is e = (
+  without-path source target o old new kept has is e = (
     block_text may trusted xs members form source target None,
-    answered None (subst (λ v. HasPath may trusted source target v) is has),
+    answered kept None (subst (λ v. HasPath may trusted source target v) is has),
     e,
   )
 

@@ -38,7 +38,8 @@ module _ (may : AllowRelation) (trusted : TypeId → Bool) (xs : List LinedState
   -- a pair was answered: by a shortest path, or since there is none; or it is left out
   pub data Answers (form : PairForm) (source target : TypeId) : List ℕ → Bool → Type 0 where
     left_out : leaves_out form source target ≡ true → Answers form source target [] false
-    answered : (path : Option (List TypeId)) → HasPath may trusted source target path
+    answered : leaves_out form source target ≡ false → (path : Option (List TypeId))
+        → HasPath may trusted source target path
         → Answers form source target (block_text form source target path) (is_some path)
 
   -- the answers for a source and these targets, one after another, and whether there is a path to one of them
