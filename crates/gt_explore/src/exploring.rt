@@ -104,8 +104,8 @@ fn explore_bytes<W: Write>(
 ///
 /// # Errors
 /// The script's first fault. If it has none: the first fault of the expression; that no text has the wanted number, or
-/// that none of those found has it, if these are not all; the first line of the given text that is no answer line of
-/// the script, if it is none of the texts; or that an order or a script for `play` does not give its text. Or an
+/// that none of those found has it, if these are not all; the first line of the given text that is not an answer line
+/// of the script, if it is not one of the texts; or that an order or a script for `play` does not give its text. Or an
 /// allocation, a read or a write failed. Only after a failed write was anything written: a prefix of the text.
 pub fn explore<R: Read, W: Write>(
     alloc: Global,

@@ -78,7 +78,7 @@ fn line_is_answer(alloc: Global, place: AnswerPlace, line: &[u8]) -> Result<bool
     is_answer_at(alloc, place, words.as_slice())
 }
 
-// Returns whether the line at this index, of so many, is the one that each text has there. What comes after the last
+// Returns whether the line at this index, of `count` lines, is the one that each text has there. What follows the last
 // line end is a line too, and empty.
 fn is_right_at(
     alloc: Global,
@@ -106,7 +106,7 @@ fn ends_in_cr(line: &[u8]) -> bool
     line.ends_with(b"\r")
 }
 
-// Returns what a line is that is no answer line.
+// Returns why a line is not an answer line.
 fn line_fault(line: &[u8]) -> TextFault
     ensures { result ≡ line_fault line.now }
 {

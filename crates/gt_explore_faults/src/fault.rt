@@ -112,7 +112,7 @@ pub enum ExploreFault {
     Number,
     /// None of the texts found has that number, and the search stopped before it met all states. Nothing was written.
     Unfound,
-    /// The given text is not one of the texts: its first line that is no answer line of the script has this number.
+    /// The given text is not one of the texts: its first line that is not an answer line has this number.
     /// Nothing was written.
     Text {
         line: usize,

@@ -175,8 +175,8 @@ fn reach_dest<P: Allows>(
 }
 
 // Walks a copy whose source is reached to its access, or to its refusal. After a refusal its pins are released.
-// `granted` says whether the destination is reached by a grant: a caller that knows it passes a constant, and a copy to a
-// frame of its own has no call left that its pins would have to be in memory for.
+// `granted` is true if the destination is reached by a grant. A caller that knows it passes a constant. Then a copy to
+// a frame of the caller makes no further call that needs its pins in memory.
 #[inline(always)]
 fn walk_to_dest<P: Allows>(
     words: &Words,
