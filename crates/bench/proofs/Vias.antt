@@ -1,7 +1,7 @@
 -- A transitive entry that is kept pinned.
 use Rattle.std.proofs.Common.{◌≡◌, ◌≢◌, ℕ, ◌<◌, true, List, length, refl, sym, ap, ◌∙◌, subst, inl}
-use Rattle.gt_entry.specs.Permits.{forwards}
-use Rattle.gt_entry.specs.declared.entry.Entry.{Entry}
+use Rattle.gt_model.specs.Permits.{forwards}
+use Rattle.gt_model.specs.declared.entry.Entry.{Entry}
 use Rattle.gt_types.specs.declared.Dir.TheVariants.{Read}
 use Rattle.gt_types.specs.declared.DomId.{DomId}
 use Rattle.gt_words.specs.Conditions.{Board, HasDomain, IsSameSeat, IsSeatOf, SeatOf}

@@ -1,6 +1,6 @@
 -- The conditions on a mapper and its entry.
 use Rattle.std.specs.Prelude.{◌≡◌, ◌≢◌, ◌⊎◌, ℕ, ◌<◌, ◌≤◌}
-use Rattle.gt_entry.specs.declared.entry.Entry.TheVariants.{Invalid}
+use Rattle.gt_model.specs.declared.entry.Entry.TheVariants.{Invalid}
 use Rattle.gt_types.specs.declared.Dir.TheVariants.{Read}
 use Rattle.gt_types.specs.declared.DomId.{DomId}
 use Rattle.gt_types.specs.declared.GrantRef.{GrantRef}

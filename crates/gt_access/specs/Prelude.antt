@@ -1,13 +1,13 @@
 -- Names from other crates, and from the code, that these definitions use.
-pub use Rattle.gt_calls.specs.Holding.{owner_by}
-pub use Rattle.gt_calls.specs.Opening.{IsAllowed}
-pub use Rattle.gt_calls.specs.Resting.{GivesHeld}
-pub use Rattle.gt_calls.specs.Rules.{label_of, map_perms, triples}
-pub use Rattle.gt_calls.specs.declared.held.HeldPin.{HeldPin}
-pub use Rattle.gt_calls.specs.declared.held.CallPins.{CallPins}
-pub use Rattle.gt_calls.specs.declared.held.AccessPath.{AccessPath}
-pub use Rattle.gt_calls.specs.declared.held.AccessPath.TheVariants.{Direct, Own, Through}
-pub use Rattle.gt_entry.specs.Permits.{forwards, is_of_frame, permits}
+pub use Rattle.gt_model.specs.Holding.{owner_by}
+pub use Rattle.gt_model.specs.Giving.{IsAllowed}
+pub use Rattle.gt_model.specs.Giving.{GivesHeld}
+pub use Rattle.gt_model.specs.Rules.{label_of, map_perms, triples}
+pub use Rattle.gt_model.specs.declared.held.HeldPin.{HeldPin}
+pub use Rattle.gt_model.specs.declared.held.CallPins.{CallPins}
+pub use Rattle.gt_model.specs.declared.held.AccessPath.{AccessPath}
+pub use Rattle.gt_model.specs.declared.held.AccessPath.TheVariants.{Direct, Own, Through}
+pub use Rattle.gt_model.specs.Permits.{forwards, is_of_frame, permits}
 pub use Rattle.gt_types.specs.declared.places.FrameName.{FrameName}
 pub use Rattle.gt_frames.specs.declared.writ.WriteBasis.TheVariants.{Forwarded, Granted, Owned}
 pub use Rattle.gt_frames.specs.declared.writ.Writ.{Writ}

@@ -6,16 +6,16 @@ use Rattle.gt_types.specs.declared.DomId.{DomId}
 use Rattle.gt_types.specs.declared.denial.Denial.{Denial}
 use Rattle.gt_types.specs.declared.denial.Facts.TheVariants.{None as NoFacts}
 use Rattle.gt_types.specs.declared.denial.Rule.TheVariants.{N6}
-use Rattle.gt_handles.specs.declared.handles.Handle.{Handle}
-use Rattle.gt_calls.specs.Path.{after_beginning, ended, path_of, steps_of}
-use Rattle.gt_calls.specs.Asking.{asked, begun_of}
-use Rattle.gt_calls.specs.Rules.{CallerKnowledge, first, refused_when, unmap_denied}
-use Rattle.gt_calls.specs.declared.action.Action.TheVariants.{Done}
-use Rattle.gt_calls.specs.declared.action.CallResult.{CallResult}
-use Rattle.gt_calls.specs.declared.action.CallResult.TheVariants.{Refused}
-use Rattle.gt_calls.specs.declared.action.Observation.{Observation}
-use Rattle.gt_calls.specs.declared.held.HeldPin.{HeldPin}
-use Rattle.gt_calls.specs.declared.request.Request.TheVariants as requests
+use Rattle.gt_model.specs.declared.handle.Handle.{Handle}
+use Rattle.gt_model.specs.Path.{after_beginning, ended, path_of, steps_of}
+use Rattle.gt_model.specs.Asking.{asked, begun_of}
+use Rattle.gt_model.specs.Rules.{CallerKnowledge, first, refused_when, unmap_denied}
+use Rattle.gt_model.specs.declared.action.Action.TheVariants.{Done}
+use Rattle.gt_model.specs.declared.action.CallResult.{CallResult}
+use Rattle.gt_model.specs.declared.action.CallResult.TheVariants.{Refused}
+use Rattle.gt_model.specs.declared.action.Observation.{Observation}
+use Rattle.gt_model.specs.declared.held.HeldPin.{HeldPin}
+use Rattle.gt_model.specs.declared.request.Request.TheVariants as requests
 use Rattle.gt_live.specs.Domains.{verdict_of}
 use Rattle.gt_live.specs.Prelude.{Layout, View}
 use Rattle.gt_live.specs.Walks.{Called, all_shown}

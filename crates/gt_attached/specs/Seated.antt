@@ -2,9 +2,9 @@
 use Rattle.std.specs.Prelude.{◌≡◌, ◌⊎◌, length, Option, Some, None, Result, Ok, Err}
 use Rattle.gt_types.specs.declared.denial.Denial.{Denial}
 use Rattle.gt_audit.specs.Trails.{TrailState, AppendsRecord}
-use Rattle.gt_calls.specs.declared.action.CallResult.TheVariants.{Refused}
+use Rattle.gt_model.specs.declared.action.CallResult.TheVariants.{Refused}
 use Rattle.gt_types.specs.declared.copies.CopyArgs.{CopyArgs}
-use Rattle.gt_calls.specs.declared.request.Request.TheVariants as requests
+use Rattle.gt_model.specs.declared.request.Request.TheVariants as requests
 use Rattle.gt_words.specs.Conditions.{IsSameSeat}
 use Rattle.gt_live.specs.declared.domain.Domain.{Domain}
 use Rattle.gt_live.specs.declared.domain.copies.PendingCopy.{PendingCopy}

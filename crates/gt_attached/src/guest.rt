@@ -90,8 +90,8 @@ impl<P: Allows + Drop> AttachedDomain<P> {
     ghost use Rattle.gt_audit.specs.Trails.{HasNone, AppendsRecord, KeepsRoom};
     ghost use Rattle.gt_audit.specs.declared.pieces.TheConstants.{MOST_RESERVED};
     ghost use Rattle.gt_audit.specs.declared.record.Hypercall.TheVariants as Hypercall;
-    ghost use Rattle.gt_calls.specs.declared.held.HeldPin.{HeldPin as Mapping};
-    ghost use Rattle.gt_calls.specs.declared.request.Request.TheVariants as Request;
+    ghost use Rattle.gt_model.specs.declared.held.HeldPin.{HeldPin as Mapping};
+    ghost use Rattle.gt_model.specs.declared.request.Request.TheVariants as Request;
     ghost use Rattle.gt_live.specs.Domains.{Answered, AnswersQuietly, AnswersRecorded};
     ghost use Rattle.gt_live.specs.Closing.{LooksAtOwn, Resets};
     ghost use Rattle.gt_live.specs.Following.{Follows};

@@ -1,8 +1,8 @@
 -- What C passes, as values of the monitor.
 use Rattle.std.specs.Prelude.{◌≡◌, ℕ, Bool, true, false, ◌&&◌, List, [], take, ◌==◌, if◌then◌else◌}
-use Rattle.gt_entry.specs.declared.entry.Entry.{Entry}
-use Rattle.gt_entry.specs.declared.entry.Entry.TheVariants.{Page, Sub, Via}
-use Rattle.gt_handles.specs.declared.handles.Handle.{Handle as Name}
+use Rattle.gt_model.specs.declared.entry.Entry.{Entry}
+use Rattle.gt_model.specs.declared.entry.Entry.TheVariants.{Page, Sub, Via}
+use Rattle.gt_model.specs.declared.handle.Handle.{Handle as Name}
 use Rattle.gt_live.specs.Mappings.{unused_handle}
 use Rattle.gt_attached.specs.Encoding.{encoded}
 use Rattle.gt_attached.specs.declared.answer.AttachedOutcome.{AttachedOutcome}

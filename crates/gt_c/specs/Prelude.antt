@@ -15,16 +15,16 @@ pub use Rattle.gt_c.specs.declared.here.CDomain.{CDomain}
 pub use Rattle.gt_c.specs.declared.reports.EntryStatus.{EntryStatus}
 pub use Rattle.gt_c.specs.declared.reports.MappedFrame.{MappedFrame}
 pub use Rattle.gt_types.specs.declared.places.Spot.{Spot}
-pub use Rattle.gt_calls.specs.declared.action.CallResult.{CallResult}
-pub use Rattle.gt_calls.specs.declared.held.HeldPin.{HeldPin as Mapped}
+pub use Rattle.gt_model.specs.declared.action.CallResult.{CallResult}
+pub use Rattle.gt_model.specs.declared.held.HeldPin.{HeldPin as Mapped}
 pub use Rattle.gt_types.specs.declared.copies.CopyArgs.{CopyArgs}
 pub use Rattle.gt_types.specs.declared.copies.End.{End}
-pub use Rattle.gt_calls.specs.declared.request.Request.{Request}
-pub use Rattle.gt_entry.specs.Entries.{frame_of}
-pub use Rattle.gt_entry.specs.declared.control.Control.{Control}
-pub use Rattle.gt_entry.specs.declared.control.EntryKind.{EntryKind}
+pub use Rattle.gt_model.specs.declared.request.Request.{Request}
+pub use Rattle.gt_model.specs.Entries.{frame_of}
+pub use Rattle.gt_model.specs.declared.control.Control.{Control}
+pub use Rattle.gt_model.specs.declared.control.EntryKind.{EntryKind}
 pub use Rattle.gt_handles.specs.Handles.{value_of}
-pub use Rattle.gt_handles.specs.declared.handles.Handle.{Handle as Name}
+pub use Rattle.gt_model.specs.declared.handle.Handle.{Handle as Name}
 pub use Rattle.gt_live.specs.Closing.{LooksAtOwn, Resets}
 pub use Rattle.gt_live.specs.Domains.{Answered, AnswersQuietly, AnswersRecorded, KeepsPinned, MapAnswered}
 pub use Rattle.gt_live.specs.Domains.{mapping_reply, subject_of, record_of_result}

@@ -4,13 +4,13 @@ use Rattle.gt_calls.proofs.Words.{ap, ◌∙◌, subst, inl, inr, arith, DomId, 
 use Rattle.gt_calls.proofs.Words.{Observation, Nothing, HeldPin, AccessPath, Phase, Accessing}
 use Rattle.gt_calls.proofs.Words.{CallerKnowledge, Continuation, accesses, give_back, remains, phase_after}
 use Rattle.gt_calls.proofs.Words.{action_at, FitsAction, HoldsNext, HasShown, held_in, steps_left, last_first}
-use Rattle.gt_calls.specs.declared.request.OpenRequest.TheVariants.{Probe}
-use Rattle.gt_calls.specs.declared.action.CallResult.TheVariants.{Granted}
-use Rattle.gt_calls.specs.Path.{is_copy_access}
+use Rattle.gt_model.specs.declared.request.OpenRequest.TheVariants.{Probe}
+use Rattle.gt_model.specs.declared.action.CallResult.TheVariants.{Granted}
+use Rattle.gt_model.specs.Path.{is_copy_access}
 use Rattle.gt_calls.specs.Machine.{remains_of, settled, unaccessed}
 use Rattle.gt_calls.specs.Resting.{IsCopyOf}
 use Rattle.gt_calls.specs.Standing.{IsSettled}
-unfoldable use Rattle.gt_calls.specs.Path.{without_access}
+unfoldable use Rattle.gt_model.specs.Path.{without_access}
 use Rattle.gt_calls.proofs.{Calls.IsLastQuiet, Calls.goes-on, Calls.wants-action}
 
 -- a path without its access

@@ -4,9 +4,9 @@ use Rattle.gt_calls.specs.Prelude.{Rule, N9, N18, HeaderFacts, denial_of, KindSu
 use Rattle.gt_calls.specs.Prelude.{SecondHalf, Step, LookHeader, LookControl, LookBody, Pin, Observation, Word, Taken, Missed}
 use Rattle.gt_calls.specs.Prelude.{Leg, LegPhase, Header, Look, Body, Second, Pinning, Relook, LegNext, Going}
 use Rattle.gt_calls.specs.Prelude.{LegRefused, Pinned, MORE_TRIES}
-use Rattle.gt_calls.specs.Rules.{first_look, size_of, is_kind}
-use Rattle.gt_calls.specs.Path.{rule_of_try, Continuation, AfterRefusal, AfterPin, entry_refusal, leg, tries}
-use Rattle.gt_calls.specs.Path.{reads_body, reads_second, pins, looks_again, held_of}
+use Rattle.gt_model.specs.Rules.{first_look, size_of, is_kind}
+use Rattle.gt_model.specs.Path.{rule_of_try, Continuation, AfterRefusal, AfterPin, entry_refusal, leg, tries}
+use Rattle.gt_model.specs.Path.{reads_body, reads_second, pins, looks_again, held_of}
 
 -- what follows a missed try, with `more` tries left
 abbrev pub missed_to_come : Leg → ℕ → AfterRefusal → AfterPin → ℕ → Continuation

@@ -6,18 +6,14 @@ use Rattle.gt_calls.specs.Prelude.{TypeId, Write, Perms, Triple, resolved, Entry
 use Rattle.gt_calls.specs.Prelude.{Handle, OpenRequest, Grant, Revoke, Demote, Promote, Map, Unmap, Release, Load}
 use Rattle.gt_calls.specs.Prelude.{SetVersion, SetupTable, QuerySize, GetVersion, Store, Peek, Poke, Copy, Probe, Withdraw}
 use Rattle.gt_calls.specs.Prelude.{HeldPin, CopyArgs, End, Rule, CallResult, SERIAL_LIMIT}
-use Rattle.gt_calls.specs.Rules.{CallerKnowledge, IsOfRun, is_already, cannot_stand, frame_count_of, is_invalid}
-use Rattle.gt_calls.specs.Rules.{size_of}
-use Rattle.gt_calls.specs.Rules.{map_dir, rights_to_map, rights_to_unmap, rights_to_copy, rights_to_setup}
-use Rattle.gt_calls.specs.Rules.{rights_to_query, begun, first, refused_when}
+use Rattle.gt_model.specs.Rules.{CallerKnowledge, IsOfRun, is_already, cannot_stand, frame_count_of, is_invalid}
+use Rattle.gt_model.specs.Rules.{size_of}
+use Rattle.gt_model.specs.Rules.{map_dir, rights_to_map, rights_to_unmap, rights_to_copy, rights_to_setup}
+use Rattle.gt_model.specs.Rules.{rights_to_query, begun, first, refused_when}
 use Rattle.gt_types.specs.Copies.{is_source_granted, is_dest_granted}
-use Rattle.gt_calls.specs.Rules.{copy_begun, granted_when, has_own_ends, denied, has_valid, ends_named, ends_ranged, ends_owned, ends_framed, is_foreign}
-use Rattle.gt_calls.specs.Rules.{is_past_frames}
-
--- the policy allows each of these (XSM FLASK)
-abbrev pub IsAllowed : (TypeId → TypeId → Perms → Bool) → List Triple → Type 0
-IsAllowed may [] = Unit {0}
-IsAllowed may (t ∷ ts) = (may t.source t.target t.perm ≡ true) × IsAllowed may ts
+use Rattle.gt_model.specs.Rules.{copy_begun, granted_when, has_own_ends, denied, has_valid, ends_named, ends_ranged, ends_owned, ends_framed, is_foreign}
+use Rattle.gt_model.specs.Rules.{is_past_frames}
+use Rattle.gt_model.specs.Giving.{IsAllowed}
 
 -- the caller's table has the reference
 abbrev pub IsInTable : CallerKnowledge → GrantRef → Type 0

@@ -1,65 +1,65 @@
 -- Names of other crates, and of the code, that the definitions here use.
-pub use Rattle.gt_calls.specs.declared.action.Action.{Action}
-pub use Rattle.gt_calls.specs.declared.action.Action.TheVariants.{Done, Step as Makes}
+pub use Rattle.gt_model.specs.declared.action.Action.{Action}
+pub use Rattle.gt_model.specs.declared.action.Action.TheVariants.{Done, Step as Makes}
 pub use Rattle.gt_types.specs.declared.places.Spot.{Spot}
-pub use Rattle.gt_calls.specs.declared.action.Observation.{Observation}
-pub use Rattle.gt_calls.specs.declared.action.Observation.TheVariants.{Missed, Nothing, Taken, Word}
-pub use Rattle.gt_calls.specs.declared.action.Step.{Step}
-pub use Rattle.gt_calls.specs.declared.action.Step.TheVariants.{Copy as CopyBytes, Exchange, LookBody, LookControl}
-pub use Rattle.gt_calls.specs.declared.action.Step.TheVariants.{LookHeader, Pin, Read as ReadBytes, StoreBody}
-pub use Rattle.gt_calls.specs.declared.action.Step.TheVariants.{StoreHeader, Unpin, Write as WriteBytes}
-pub use Rattle.gt_calls.specs.declared.action.CallValue.{CallValue}
-pub use Rattle.gt_calls.specs.declared.action.CallValue.TheVariants.{Frames, Size as SizeTold, Version as VersionTold}
-pub use Rattle.gt_calls.specs.declared.action.CallResult.{CallResult}
-pub use Rattle.gt_calls.specs.declared.action.CallResult.TheVariants.{Given, Granted, Mapped, Refused}
+pub use Rattle.gt_model.specs.declared.action.Observation.{Observation}
+pub use Rattle.gt_model.specs.declared.action.Observation.TheVariants.{Missed, Nothing, Taken, Word}
+pub use Rattle.gt_model.specs.declared.action.Step.{Step}
+pub use Rattle.gt_model.specs.declared.action.Step.TheVariants.{Copy as CopyBytes, Exchange, LookBody, LookControl}
+pub use Rattle.gt_model.specs.declared.action.Step.TheVariants.{LookHeader, Pin, Read as ReadBytes, StoreBody}
+pub use Rattle.gt_model.specs.declared.action.Step.TheVariants.{StoreHeader, Unpin, Write as WriteBytes}
+pub use Rattle.gt_model.specs.declared.action.CallValue.{CallValue}
+pub use Rattle.gt_model.specs.declared.action.CallValue.TheVariants.{Frames, Size as SizeTold, Version as VersionTold}
+pub use Rattle.gt_model.specs.declared.action.CallResult.{CallResult}
+pub use Rattle.gt_model.specs.declared.action.CallResult.TheVariants.{Given, Granted, Mapped, Refused}
 pub use Rattle.gt_calls.specs.declared.call.Call.{Call}
 pub use Rattle.gt_calls.specs.declared.call.Phase.{Phase}
 pub use Rattle.gt_calls.specs.declared.call.Phase.TheVariants.{Accessing, Asking, Changing, Ending, Exchanging, Last}
 pub use Rattle.gt_calls.specs.declared.call.Phase.TheVariants.{Looking, Storing, StoringSecond, Walking}
-pub use Rattle.gt_calls.specs.declared.call.HeaderQuery.{HeaderQuery}
-pub use Rattle.gt_calls.specs.declared.call.HeaderQuery.TheVariants.{Size, Version}
+pub use Rattle.gt_model.specs.declared.action.HeaderQuery.{HeaderQuery}
+pub use Rattle.gt_model.specs.declared.action.HeaderQuery.TheVariants.{Size, Version}
 pub use Rattle.gt_calls.specs.declared.call.CallStart.{CallStart}
 pub use Rattle.gt_calls.specs.declared.call.CallStart.TheVariants.{Done as StartDone, Open}
-pub use Rattle.gt_calls.specs.declared.call.TheConstants.{MAX_STEPS}
+pub use Rattle.gt_model.specs.declared.bounds.TheConstants.{MAX_STEPS}
 pub use Rattle.gt_calls.specs.declared.copying.PinPurpose.{PinPurpose}
 pub use Rattle.gt_calls.specs.declared.copying.PinPurpose.TheVariants.{Dest, Mapping, Source}
-pub use Rattle.gt_calls.specs.declared.held.HeldPin.{HeldPin}
-pub use Rattle.gt_calls.specs.declared.held.CallPins.{CallPins}
-pub use Rattle.gt_calls.specs.declared.held.AccessPath.{AccessPath}
-pub use Rattle.gt_calls.specs.declared.held.AccessPath.TheVariants.{Direct, Own, Through}
-pub use Rattle.gt_calls.specs.declared.judging.TheConstants.{SERIAL_LIMIT}
+pub use Rattle.gt_model.specs.declared.held.HeldPin.{HeldPin}
+pub use Rattle.gt_model.specs.declared.held.CallPins.{CallPins}
+pub use Rattle.gt_model.specs.declared.held.AccessPath.{AccessPath}
+pub use Rattle.gt_model.specs.declared.held.AccessPath.TheVariants.{Direct, Own, Through}
+pub use Rattle.gt_model.specs.declared.bounds.TheConstants.{SERIAL_LIMIT}
 pub use Rattle.gt_calls.specs.declared.known.CallerState.{CallerState}
-pub use Rattle.gt_calls.specs.declared.leg.Leg.{Leg}
+pub use Rattle.gt_model.specs.declared.leg.Leg.{Leg}
 pub use Rattle.gt_calls.specs.declared.leg.LegNext.{LegNext}
 pub use Rattle.gt_calls.specs.declared.leg.LegNext.TheVariants.{Going, Pinned, Refused as LegRefused}
 pub use Rattle.gt_calls.specs.declared.leg.LegPhase.{LegPhase}
 pub use Rattle.gt_calls.specs.declared.leg.LegPhase.TheVariants.{Body, Header, Look, Pinning, Relook, Second}
-pub use Rattle.gt_calls.specs.declared.leg.TheConstants.{MORE_TRIES}
-pub use Rattle.gt_calls.specs.declared.request.OpenRequest.{OpenRequest}
-pub use Rattle.gt_calls.specs.declared.request.OpenRequest.TheVariants.{Copy, Demote, GetVersion, Grant, Load, Map, Peek}
-pub use Rattle.gt_calls.specs.declared.request.OpenRequest.TheVariants.{Poke, Promote, QuerySize, Revoke, SetVersion}
-pub use Rattle.gt_calls.specs.declared.request.OpenRequest.TheVariants.{Probe, Release, SetupTable, Store, Unmap, Withdraw}
+pub use Rattle.gt_model.specs.declared.bounds.TheConstants.{MORE_TRIES}
+pub use Rattle.gt_model.specs.declared.request.OpenRequest.{OpenRequest}
+pub use Rattle.gt_model.specs.declared.request.OpenRequest.TheVariants.{Copy, Demote, GetVersion, Grant, Load, Map, Peek}
+pub use Rattle.gt_model.specs.declared.request.OpenRequest.TheVariants.{Poke, Promote, QuerySize, Revoke, SetVersion}
+pub use Rattle.gt_model.specs.declared.request.OpenRequest.TheVariants.{Probe, Release, SetupTable, Store, Unmap, Withdraw}
 pub use Rattle.gt_types.specs.declared.copies.CopyArgs.{CopyArgs}
 pub use Rattle.gt_types.specs.declared.copies.End.{End}
-pub use Rattle.gt_calls.specs.declared.request.PinHolder.TheVariants.{Leg as ByLeg, Mapping as ByHandle}
-pub use Rattle.gt_calls.specs.declared.request.Request.{Request}
-pub use Rattle.gt_entry.specs.Bytes.{Spells, field, first_refused, flags_of, is_set}
-pub use Rattle.gt_entry.specs.Entries.{IsEntry, frame_of}
-pub use Rattle.gt_entry.specs.Permits.{allows_direction, forwards, is_copying, permits}
-pub use Rattle.gt_entry.specs.Spelling.{entry_of}
-pub use Rattle.gt_entry.specs.Words.{control_of, control_word, header_of}
-pub use Rattle.gt_entry.specs.declared.change.EntryChange.{EntryChange}
-pub use Rattle.gt_entry.specs.declared.change.EntryChange.TheVariants.{Demote as ToReadOnly, Promote as ToWritable, Publish}
-pub use Rattle.gt_entry.specs.declared.change.EntryChange.TheVariants.{Revoke as ToInvalid, Withdraw as ToWithdrawn}
-pub use Rattle.gt_entry.specs.declared.change.BodyWord.{BodyWord}
-pub use Rattle.gt_entry.specs.declared.change.BodyWord.TheVariants.{First as FirstHalf, Second as SecondHalf}
-pub use Rattle.gt_entry.specs.declared.control.Control.{Control}
-pub use Rattle.gt_entry.specs.declared.control.EntryKind.TheVariants.{Invalid as KindInvalid, Page as KindPage}
-pub use Rattle.gt_entry.specs.declared.control.EntryKind.TheVariants.{Sub as KindSub, Via as KindVia}
-pub use Rattle.gt_entry.specs.declared.entry.Entry.{Entry}
-pub use Rattle.gt_entry.specs.declared.entry.Entry.TheVariants.{Invalid, Page, Sub, Via}
+pub use Rattle.gt_model.specs.declared.request.PinHolder.TheVariants.{Leg as ByLeg, Mapping as ByHandle}
+pub use Rattle.gt_model.specs.declared.request.Request.{Request}
+pub use Rattle.gt_model.specs.Bytes.{Spells, field, first_refused, flags_of, is_set}
+pub use Rattle.gt_model.specs.Entries.{IsEntry, frame_of}
+pub use Rattle.gt_model.specs.Permits.{allows_direction, forwards, is_copying, permits}
+pub use Rattle.gt_model.specs.Spelling.{entry_of}
+pub use Rattle.gt_model.specs.Words.{control_of, control_word, header_of}
+pub use Rattle.gt_model.specs.declared.change.EntryChange.{EntryChange}
+pub use Rattle.gt_model.specs.declared.change.EntryChange.TheVariants.{Demote as ToReadOnly, Promote as ToWritable, Publish}
+pub use Rattle.gt_model.specs.declared.change.EntryChange.TheVariants.{Revoke as ToInvalid, Withdraw as ToWithdrawn}
+pub use Rattle.gt_model.specs.declared.change.BodyWord.{BodyWord}
+pub use Rattle.gt_model.specs.declared.change.BodyWord.TheVariants.{First as FirstHalf, Second as SecondHalf}
+pub use Rattle.gt_model.specs.declared.control.Control.{Control}
+pub use Rattle.gt_model.specs.declared.control.EntryKind.TheVariants.{Invalid as KindInvalid, Page as KindPage}
+pub use Rattle.gt_model.specs.declared.control.EntryKind.TheVariants.{Sub as KindSub, Via as KindVia}
+pub use Rattle.gt_model.specs.declared.entry.Entry.{Entry}
+pub use Rattle.gt_model.specs.declared.entry.Entry.TheVariants.{Invalid, Page, Sub, Via}
 pub use Rattle.gt_handles.specs.Handles.{HandleMap, count_of, value_of}
-pub use Rattle.gt_handles.specs.declared.handles.Handle.{Handle}
+pub use Rattle.gt_model.specs.declared.handle.Handle.{Handle}
 pub use Rattle.gt_types.specs.Denial.{denial_of}
 pub use Rattle.gt_types.specs.Names.{copy, domain_of, map_read, map_write, query, resolved, setup, unmap}
 pub use Rattle.gt_types.specs.declared.Dir.{Dir}

@@ -1,19 +1,21 @@
 //! Requests at the beginning of their calls.
 ghost use Rattle.std.specs.Prelude.{◌≡◌, IfOk, Option};
-ghost use Rattle.gt_calls.specs.Asking.{asked, plainly_asked, begun_of, judged_as, bytes_begun, JudgesBytes};
-ghost use Rattle.gt_calls.specs.Asking.{SpellsItsEntry};
+ghost use Rattle.gt_model.specs.Asking.{asked, plainly_asked, begun_of, bytes_begun};
+ghost use Rattle.gt_calls.specs.Asking.{judged_as, JudgesBytes};
+ghost use Rattle.gt_model.specs.Asking.{SpellsItsEntry};
 ghost use Rattle.gt_calls.specs.Opening.{Opens};
-ghost use Rattle.gt_calls.specs.Rules.{CallerKnowledge, knows, begun, change_begun, entry_in, own_generation, label_of};
-ghost use Rattle.gt_calls.specs.Rules.{grant_begun};
+ghost use Rattle.gt_model.specs.Rules.{CallerKnowledge, begun, change_begun, label_of};
+ghost use Rattle.gt_calls.specs.Rules.{knows, entry_in, own_generation};
+ghost use Rattle.gt_model.specs.Rules.{grant_begun};
 
-use crate::action::CallResult;
+use gt_model::CallResult;
 use crate::judging::{
     judge_change, judge_copy, judge_grant, judge_load, judge_map, judge_own_access, judge_probe,
     judge_query, judge_release, judge_revoke, judge_setup, judge_store, judge_unmap, judge_version,
     label_of, owner_label,
 };
 use crate::known::{CallerState, OwnerEntry, own_entry};
-use crate::request::{OpenRequest, Request};
+use gt_model::{OpenRequest, Request};
 use gt_entry::{Entry, EntryChange, Header, decode};
 use gt_types::{Allows, Denial, DomId, Facts, GrantRef, LAST_GENERATION, Rule};
 
@@ -115,7 +117,7 @@ pub fn judge_bytes(
 }
 
 // Returns what a call keeps of its request. `judge_request` opens a grant by bytes itself, so it never comes here.
-#[tactic(auto, unfolding(crate::specs::Asking::plainly_asked))]
+#[tactic(auto, unfolding(gt_model::specs::Asking::plainly_asked))]
 fn plainly_asked(request: Request<'_>) -> OpenRequest
     ensures { result ≡ plainly_asked request.entry }
 {

@@ -3,8 +3,8 @@
 ghost use Rattle.std.specs.Prelude.{◌≡◌, ◌+◌};
 ghost use Rattle.gt_types.specs.declared.limits.TheConstants.{FRAME_SIZE, MAX_TRIES, TABLE_ENTRIES};
 ghost use Rattle.gt_calls.specs.Following.{GoesByPhase};
-ghost use Rattle.gt_calls.specs.Rules.{CallerKnowledge};
-ghost use Rattle.gt_calls.specs.declared.action.Observation.{Observation};
+ghost use Rattle.gt_model.specs.Rules.{CallerKnowledge};
+ghost use Rattle.gt_model.specs.declared.action.Observation.{Observation};
 ghost use Rattle.gt_calls.specs.declared.call.Call.{Call};
 
 use crate::call::MAX_STEPS;

@@ -8,7 +8,7 @@ use Rattle.gt_core.proofs.Words.{GivesHeld}
 use Rattle.gt_core.proofs.Words.{History, Setting, known_at, legs_at, LegNow, numbered, begun_route, leg_now, copy_now}
 use Rattle.gt_core.proofs.Words.{toward_source, from_source, after_source, source_now, dest_now, second_now}
 use Rattle.gt_core.proofs.{Legs.IsLegOf}
-use Rattle.gt_calls.specs.declared.held.AccessPath.TheVariants.{Own}
+use Rattle.gt_model.specs.declared.held.AccessPath.TheVariants.{Own}
 use Rattle.gt_calls.specs.Resting.{IsCopyOf}
 
 -- the pair whose right to copy a Via of this leg needs

@@ -18,8 +18,8 @@ use Rattle.gt_core.{proofs.WithoutKeys.asked-bare}
 use Rattle.gt_core.{proofs.WithoutKeys.values-bare, proofs.WithoutKeys.contents-bare, proofs.WithoutKeys.bare-same}
 use Rattle.gt_core.{proofs.HandlesGiven.CallKnown}
 use Rattle.gt_core.{proofs.HandlesGiven.open-known}
-use Rattle.gt_core.specs.declared.trace.Answer.TheVariants as answers
-use Rattle.gt_calls.specs.declared.request.OpenRequest.TheVariants.{Probe}
+use Rattle.gt_model.specs.declared.trace.Answer.TheVariants as answers
+use Rattle.gt_model.specs.declared.request.OpenRequest.TheVariants.{Probe}
 
 -- paths
 

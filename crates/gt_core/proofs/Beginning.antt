@@ -22,7 +22,7 @@ use Rattle.gt_core.{proofs.Steps.Observers.kept-known}
 use Rattle.gt_core.{proofs.Steps.Observers.kept-legs, proofs.Rows.has_id, proofs.Rows.found, proofs.Rows.not-found}
 use Rattle.gt_core.{proofs.Rows.state_of-set}
 use Rattle.gt_calls.specs.declared.asking.Judged.TheVariants as judgeds
-use Rattle.gt_calls.specs.declared.request.Request.TheVariants as requests
+use Rattle.gt_model.specs.declared.request.Request.TheVariants as requests
 
 -- beginnings
 

@@ -7,7 +7,7 @@ use Rattle.gt_core.proofs.Words.{History, Setting, Underway, changed_entry_of}
 use Rattle.gt_core.proofs.Words.{IsRight, IsSafe, IsSafeChange, IsSpelled}
 use Rattle.gt_core.proofs.Words.{StepsRightIn, Answer, ItemEvent, Stepped, Item, body_at, entry_at}
 use Rattle.gt_core.proofs.Words.{open_call, IsLegalHistory}
-use Rattle.gt_core.specs.History.{with_ro, changed_entry}
+use Rattle.gt_model.specs.History.{with_ro, changed_entry}
 use Rattle.gt_core.proofs.{Steps.Observers.unstored, CallsStand.spelled-stays}
 use Rattle.gt_core.proofs.{Steps.Observers.kept-entry, Steps.Observers.stepped}
 use Rattle.gt_core.proofs.{Steps.Observers.exchanged}

@@ -15,7 +15,8 @@ use Rattle.gt_core.proofs.Words.{eq-eqb, CoreState, unwrap_or, nat_lt, replicate
 use Rattle.gt_core.proofs.Words.{frames_of_all, pool_number, AreKept, all_zeros, frame_counts, first_state}
 use Rattle.gt_calls.specs.Machine.{standing_after}
 use Rattle.gt_frames.specs.declared.places.FrameCount.{FrameCount}
-use Rattle.gt_calls.specs.Asking.{FitsAsked, judged_as}
+use Rattle.gt_model.specs.Asking.{FitsAsked}
+use Rattle.gt_calls.specs.Asking.{judged_as}
 use Rattle.gt_calls.proofs.Advancing.{continues, opens as starts-open}
 use Rattle.gt_calls.specs.declared.call.CallStart.TheVariants.{Open as StartOpen}
 use Rattle.gt_core.specs.GoingOn.{AccessAnsweredSo, AnsweredSo, CallsCanBegin, IsAccess, IsOnWords, CanBeReached}
@@ -26,7 +27,7 @@ use Rattle.std.proofs.lemmas.Bool.Decides.{nat_tests}
 use Rattle.std.proofs.lemmas.List.{length-take-le}
 use Rattle.gt_types.specs.declared.limits.TheConstants.{FRAME_SIZE}
 use Rattle.gt_types.specs.declared.places.Spot.{Spot}
-use Rattle.gt_frames.specs.Bytes.{Patch, written}
+use Rattle.gt_model.specs.Written.{Patch, written}
 use Rattle.gt_frames.specs.Frames.{bytes_at, contents}
 use Rattle.gt_frames.specs.Sets.{admits, frame_at, has_range}
 use Rattle.gt_types.specs.declared.places.FrameName.{FrameName}
@@ -34,9 +35,9 @@ use Rattle.gt_frames.specs.declared.writ.Writ.{Writ}
 use Rattle.gt_core.proofs.Steps.Write.{open-admitted}
 use Rattle.gt_core.proofs.Writing.{can-write}
 use Rattle.gt_core.specs.Accesses.{IsAdmitted, basis_of, route_of}
-use Rattle.gt_core.specs.History.{contents_at}
-use Rattle.gt_core.specs.declared.trace.Answer.TheVariants.{Bytes as BytesAnswer}
-use Rattle.gt_core.specs.declared.trace.Bytes.{Bytes}
+use Rattle.gt_model.specs.History.{contents_at}
+use Rattle.gt_model.specs.declared.trace.Answer.TheVariants.{Bytes as BytesAnswer}
+use Rattle.gt_model.specs.declared.trace.Bytes.{Bytes}
 use Rattle.gt_core.specs.Acting.{answer_of, IsOpenCall}
 use Rattle.gt_core.specs.declared.core_state.Begun.TheVariants.{Open as BegunOpen, Done as BegunDone}
 use Rattle.gt_core.proofs.{Beginning.begin-answers, Beginning.begin-opened, Beginning.not-done, Beginning.opened}

@@ -9,7 +9,7 @@ use Rattle.gt_core.proofs.Words.{one_if_mapped, known_at, values, IsRight, Steps
 use Rattle.gt_core.proofs.Words.{IsGiven, IsKnown, AsksKnown, HappensKnown, IsRun, cond_both, All-nil, All}
 use Rattle.std.proofs.lemmas.List.Elements.{All-append, All-weaker}
 use Rattle.gt_core.proofs.{Steps.Observers.all-without}
-use Rattle.gt_core.specs.declared.trace.Answer.TheVariants as answers
+use Rattle.gt_model.specs.declared.trace.Answer.TheVariants as answers
 
 -- a map that is answered
 

@@ -10,7 +10,8 @@ use Rattle.gt_core.proofs.Words.{where_via, next_to_give, History, Setting, know
 use Rattle.gt_core.proofs.Words.{refusal_in, PhaseStands, EndsAfter, IsClean, Write, cond_both, CopyArgs, AccessPath}
 use Rattle.gt_core.proofs.Words.{at_dest}
 use Rattle.gt_core.proofs.{Phases.by-leg, Phases.makes-same, Phases.by-giving, Phases.next_of, Phases.LeavesOrEnds}
-use Rattle.gt_calls.specs.declared.{held.AccessPath.TheVariants.Own, action.CallResult.TheVariants.Mapped}
+use Rattle.gt_model.specs.declared.held.AccessPath.TheVariants.{Own}
+use Rattle.gt_model.specs.declared.action.CallResult.TheVariants.{Mapped}
 
 -- a single step of a call
 

@@ -7,7 +7,7 @@ use Rattle.gt_core.proofs.Words.{leg_after, phase_after, held_in, HoldsAfter, Hi
 use Rattle.gt_core.proofs.Words.{PhaseStands, IsClean, phase_refusal, Observation}
 use Rattle.gt_calls.specs.Machine.{settled}
 use Rattle.gt_calls.specs.Standing.{IsSettled}
-use Rattle.gt_calls.specs.declared.request.OpenRequest.TheVariants.{Probe}
+use Rattle.gt_model.specs.declared.request.OpenRequest.TheVariants.{Probe}
 use Rattle.gt_core.proofs.Outcomes.{ends-so}
 
 -- a call that ends

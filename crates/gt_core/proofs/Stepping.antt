@@ -36,7 +36,7 @@ use Rattle.gt_core.proofs.{Steps.Unpin.leg-agrees as unpin-agrees, Steps.Exchang
 use Rattle.gt_core.proofs.{Steps.Store.header-fits, Steps.Pin.map-lawful, Steps.Pin.CanPin}
 use Rattle.gt_core.proofs.{Steps.Exchange.exchange-stands, Beginning.agrees-found, Rows.has_id, Rows.found}
 use Rattle.gt_core.proofs.{Rows.state_of-set}
-use Rattle.gt_core.specs.declared.trace.Bytes.{Bytes}
+use Rattle.gt_model.specs.declared.trace.Bytes.{Bytes}
 use Rattle.gt_core.proofs.Ticking.{done-next}
 
 -- the states in which only the actor's call, or its handles or bytes, differ

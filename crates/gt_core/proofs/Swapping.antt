@@ -24,23 +24,23 @@ use Rattle.gt_core.specs.Swapping.{SameLook, SameSight, SameSeen, patches_of, Ar
 use Rattle.gt_core.proofs.Steps.Observers.{exchanged-entry, exchanged-raises, kept-entry, kept-raises, kept-table}
 use Rattle.gt_core.proofs.Steps.Observers.{unstored, known-as, gather-append, other-entry, other-raises, other-body}
 use Rattle.gt_core.proofs.Steps.Observers.{other-maps, other-table, other-pins, cond-same, unpinned-live}
-use Rattle.gt_core.specs.FirstRule.{LegNow, leg_now, leg_at, StepsSoFar, looked_at, is_in_body, is_other, misses}
-use Rattle.gt_core.specs.FirstRule.{is_demote, at_entry, rule_at_exchange, rule_at_header}
-use Rattle.gt_core.specs.FirstRule.{rule_before_pin, rule_at_look, rule_at_via, rule_at_pin, first_at, first_in_call}
-use Rattle.gt_core.specs.FirstRule.{first_of_item, stood_with, stood, refusal_in}
-use Rattle.gt_core.specs.History.{control_at, word_at, same_dir, same_half}
+use Rattle.gt_model.specs.FirstRule.{LegNow, leg_now, leg_at, StepsSoFar, looked_at, is_in_body, is_other, misses}
+use Rattle.gt_model.specs.FirstRule.{is_demote, at_entry, rule_at_exchange, rule_at_header}
+use Rattle.gt_model.specs.FirstRule.{rule_before_pin, rule_at_look, rule_at_via, rule_at_pin, first_at, first_in_call}
+use Rattle.gt_model.specs.FirstRule.{first_of_item, stood_with, stood, refusal_in}
+use Rattle.gt_model.specs.History.{control_at, word_at, same_dir, same_half}
 use Rattle.gt_core.specs.Prelude.{control_with, control_word, Leg, first_look, before_pin, pins_of, size_of, denial_of}
 use Rattle.gt_core.specs.Prelude.{N9, N18, N19, HeaderFacts, MAX_TRIES, stands, first}
 use Rattle.gt_core.proofs.Words.{nat_lt, nat_le, reverse, sum_by-cons, ◌&&◌}
-use Rattle.gt_core.specs.History.{patches_at, patches_by, written_by, given_in, WriteMade, underway_after}
-use Rattle.gt_core.specs.Justified.{Justified, AccessIsJustified, MayAccess, MayAsk, MayUseMapping, Reaches, Forwards}
-use Rattle.gt_core.specs.Justified.{ReachesThrough, EndIsJustified, CopyIsJustified, IsSafe, IsSafeChange}
-use Rattle.gt_core.specs.Legal.{StepsRightIn, PinIsSound, NoneStands, next_in, gives_back, verdict_in}
+use Rattle.gt_model.specs.History.{patches_at, patches_by, written_by, given_in, WriteMade, underway_after}
+use Rattle.gt_model.specs.Justified.{Justified, AccessIsJustified, MayAccess, MayAsk, MayUseMapping, Reaches, Forwards}
+use Rattle.gt_model.specs.Justified.{ReachesThrough, EndIsJustified, CopyIsJustified, IsSafe, IsSafeChange}
+use Rattle.gt_model.specs.Legal.{StepsRightIn, PinIsSound, NoneStands, next_in, gives_back, verdict_in}
 use Rattle.gt_core.specs.Prelude.{Load, Store, Peek, Copy, Map, SetupTable, QuerySize, GetVersion, Spot, ForMap}
 use Rattle.gt_core.specs.Prelude.{ForCopy, Publish, ToInvalid, ToReadOnly, IsSpelled, FirstHalf, SecondHalf, written}
 use Rattle.gt_core.specs.Prelude.{Denied, Mapped, Bytes, MAX_TABLE_FRAMES, SpellsItsEntry}
-use Rattle.gt_core.specs.declared.trace.Answer.TheVariants as answers
-use Rattle.gt_core.specs.Legal.{MayDo, IsItemOf, actor_of, grown}
+use Rattle.gt_model.specs.declared.trace.Answer.TheVariants as answers
+use Rattle.gt_model.specs.Legal.{MayDo, IsItemOf, actor_of, grown}
 use Rattle.gt_core.specs.Prelude.{Event, Begin, Tick, Element, Did, Busy, Idle, NoDomain, Patch}
 use Rattle.gt_core.proofs.AgreementKept.{open_call-other}
 

@@ -11,9 +11,9 @@ use Rattle.gt_core.proofs.Words.{is_pin_on, same_dir, reads_at, writes_at, IsRig
 use Rattle.gt_core.proofs.Words.{EndIsJustified, CopyIsJustified, Justified, Forwards, IsLegalHistory, open_call}
 use Rattle.gt_core.proofs.Words.{Underway, changed_entry_of}
 use Rattle.gt_types.specs.declared.Use.{Use}
-use Rattle.gt_entry.specs.Permits.{is_of_frame}
-use Rattle.gt_core.specs.History.{with_ro, changed_entry}
-use Rattle.gt_core.specs.Justified.{Reaches}
+use Rattle.gt_model.specs.Permits.{is_of_frame}
+use Rattle.gt_model.specs.History.{with_ro, changed_entry}
+use Rattle.gt_model.specs.Justified.{Reaches}
 use Rattle.gt_core.specs.TakenBack.{EndsPinsOn, Grants, IsForeignAccess, IsPinOn, IsTakenBack}
 unfoldable use Rattle.gt_core.specs.TakenBack.{IsTakenSince}
 use Rattle.gt_core.proofs.{Playing.legal-grows, Steps.Observers.all-without, Steps.Observers.stepped}

@@ -17,7 +17,8 @@ use Rattle.gt_core.proofs.Words.{arith, stands}
 use Rattle.gt_core.proofs.{Phases.OfAction, Phases.IsHere, Phases.makes-same, EachStep.walk-comes, Legs.ComesTo}
 use Rattle.gt_core.proofs.{Legs.IsLegOf, Legs.Words, Aims.pair_of, Aims.leg-here, Phases.words-of, Phases.next_of}
 use Rattle.gt_core.proofs.{Outcomes.walk-done, Steps.See.table-fits}
-use Rattle.gt_calls.specs.{declared.action.CallResult.TheVariants.Mapped, Path.place_of}
+use Rattle.gt_model.specs.declared.action.CallResult.TheVariants.{Mapped}
+use Rattle.gt_model.specs.Path.{place_of}
 use Rattle.gt_calls.specs.Resting.{IsCopyOf}
 
 -- the next phase of a call that queries a header

@@ -12,7 +12,7 @@ use Rattle.gt_core.proofs.Words.{patches_by, patches_at, written_by, given_in, v
 use Rattle.gt_core.proofs.Words.{bare_step, bare_happened, keyless_answer, keyless_item, keyless_items, KeylessItem, SameHistory}
 use Rattle.gt_core.proofs.Words.{HeldPin}
 use Rattle.gt_core.proofs.Words.{Handle, arith}
-use Rattle.gt_core.specs.declared.trace.Answer.TheVariants.{Done}
+use Rattle.gt_model.specs.declared.trace.Answer.TheVariants.{Done}
 
 -- an answer with this value, whatever its bytes are
 abbrev pub answer_from : Answer ⊎ List ℕ → Answer

@@ -10,7 +10,7 @@ use Rattle.gt_types.specs.declared.limits.TheConstants.{FRAME_SIZE}
 use Rattle.gt_frames.proofs.Overlay.{laid_over}
 use Rattle.gt_frames.proofs.Placing.{length-names_of, placed}
 use Rattle.gt_frames.proofs.Writes.{all_rightful-append, replay-append}
-use Rattle.gt_frames.specs.Bytes.{IsLaidOver, overlay, zeros}
+use Rattle.gt_model.specs.Written.{IsLaidOver, overlay, zeros}
 use Rattle.gt_frames.specs.Frames.{IsKept, contents, covers, is_rightful, recorded}
 use Rattle.gt_frames.specs.Frames.{with_write}
 use Rattle.gt_frames.specs.Places.{frames_of, is_name, names_of}

@@ -2,13 +2,13 @@
 -- contracts cite it.
 use Rattle.std.specs.Prelude.{◌≡◌, ℕ, List, length, IsTrue}
 use Rattle.gt_handles.specs.Handles.{HandleMap, value_of}
-use Rattle.gt_calls.specs.declared.held.HeldPin.{HeldPin}
-use Rattle.gt_calls.specs.declared.held.AccessPath.{AccessPath}
-use Rattle.gt_calls.specs.declared.held.AccessPath.TheVariants.{Own, Direct, Through}
-use Rattle.gt_calls.specs.declared.request.OpenRequest.{OpenRequest}
-use Rattle.gt_calls.specs.declared.request.OpenRequest.TheVariants.{Load, Store, Peek, Copy}
-use Rattle.gt_calls.specs.declared.action.Step.{Step}
-use Rattle.gt_calls.specs.declared.action.Step.TheVariants.{Read as ReadBytes, Write as WriteBytes, Copy as CopyBytes}
+use Rattle.gt_model.specs.declared.held.HeldPin.{HeldPin}
+use Rattle.gt_model.specs.declared.held.AccessPath.{AccessPath}
+use Rattle.gt_model.specs.declared.held.AccessPath.TheVariants.{Own, Direct, Through}
+use Rattle.gt_model.specs.declared.request.OpenRequest.{OpenRequest}
+use Rattle.gt_model.specs.declared.request.OpenRequest.TheVariants.{Load, Store, Peek, Copy}
+use Rattle.gt_model.specs.declared.action.Step.{Step}
+use Rattle.gt_model.specs.declared.action.Step.TheVariants.{Read as ReadBytes, Write as WriteBytes, Copy as CopyBytes}
 use Rattle.gt_calls.specs.declared.call.Call.{Call}
 use Rattle.gt_calls.specs.Holding.{begun_route}
 use Rattle.gt_calls.specs.Standing.{pins_by_call}

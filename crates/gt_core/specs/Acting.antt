@@ -12,11 +12,11 @@ use Rattle.gt_core.specs.Prelude.{CallerKnowledge, knowledge_of, begun, path, Go
 use Rattle.gt_core.specs.Prelude.{IsAt, pins_by_call, most_steps, steps_to_come}
 use Rattle.gt_calls.specs.declared.asking.Judged.{Judged}
 use Rattle.gt_calls.specs.declared.asking.Judged.TheVariants as judgeds
-use Rattle.gt_core.specs.declared.trace.Bytes.{Bytes}
+use Rattle.gt_model.specs.declared.trace.Bytes.{Bytes}
 use Rattle.gt_core.specs.Effects.{with_underway, with_mapping, Adds}
 use Rattle.gt_core.specs.Accesses.{IsWriting}
 use Rattle.gt_core.specs.States.{State, CoreState, core_of, asks_memory, IsMapping}
-use Rattle.gt_core.specs.History.{History, Setting, known_at, Underway, open_call, values}
+use Rattle.gt_model.specs.History.{History, Setting, known_at, Underway, open_call, values}
 
 -- the open call at its start: no rule applies at its beginning, and its first step is next
 pub record IsOpenCall (k : CallerKnowledge) (dom : DomId) (request : Request) (o : OpenCall) : Type 0 where

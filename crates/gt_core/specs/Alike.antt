@@ -3,9 +3,9 @@ use Rattle.std.specs.Prelude.{◌≡◌, ◌≤◌, ◌⊎◌, ℕ, List, [], �
 use Rattle.gt_core.specs.Prelude.{option_map, Bor, inl, inr, DomId, Handle, SERIAL_LIMIT, Request, OpenRequest, Unmap, Release}
 use Rattle.gt_core.specs.Prelude.{Load, Store, ByMapping, Step, Unpin, asked, Answer, Mapped, Bytes, Event, Begin, Tick}
 use Rattle.gt_core.specs.Prelude.{ItemEvent, Began, Stepped, Item, Element, Did}
-use Rattle.gt_calls.specs.declared.request.Request.TheVariants as requests
-use Rattle.gt_core.specs.History.{History, Setting}
-use Rattle.gt_core.specs.Legal.{IsRight}
+use Rattle.gt_model.specs.declared.request.Request.TheVariants as requests
+use Rattle.gt_model.specs.History.{History, Setting}
+use Rattle.gt_model.specs.Legal.{IsRight}
 
 -- equal except for keys
 

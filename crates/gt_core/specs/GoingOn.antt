@@ -5,13 +5,13 @@ use Rattle.gt_core.specs.Prelude.{SpellsItsEntry, asked, begun_of, path, Action,
 use Rattle.gt_core.specs.Prelude.{CopyBytes, CallResult, Nothing, Granted, KeptPin, HeldPin, Request, Answer, BytesAnswer}
 use Rattle.gt_core.specs.Prelude.{AnswerDone, Mapped, Began, Stepped, Item}
 use Rattle.gt_core.specs.Effects.{Adds}
-use Rattle.gt_core.specs.History.{History, Setting, Underway, contents_at, known_at, mappings_at, maps_answered_at}
-use Rattle.gt_core.specs.History.{open_call, seen_by, table_at, values}
-use Rattle.gt_core.specs.Legal.{IsRight, next_in}
+use Rattle.gt_model.specs.History.{History, Setting, Underway, contents_at, known_at, mappings_at, maps_answered_at}
+use Rattle.gt_model.specs.History.{open_call, seen_by, table_at, values}
+use Rattle.gt_model.specs.Legal.{IsRight, next_in}
 use Rattle.gt_core.specs.Standing.{CoreStands, MappingsAgree}
 use Rattle.gt_core.specs.Acting.{answer_of, setting_of}
 use Rattle.gt_core.specs.States.{CoreState}
-use Rattle.gt_core.specs.declared.trace.Bytes.{Bytes}
+use Rattle.gt_model.specs.declared.trace.Bytes.{Bytes}
 pub use Rattle.gt_calls.specs.Standing.{IsAccess}
 
 -- a core represents the history, which is a legal one

@@ -2,10 +2,6 @@ pub mod Accesses
 pub mod Alike
 pub mod Effects
 pub mod GoingOn
-pub mod History
-pub mod Justified
-pub mod FirstRule
-pub mod Legal
 pub mod Rows
 pub mod Shown
 pub mod Sight

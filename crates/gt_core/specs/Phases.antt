@@ -8,10 +8,10 @@ use Rattle.gt_core.specs.Prelude.{SetVersion, SetupTable, QuerySize, GetVersion,
 use Rattle.gt_core.specs.Prelude.{AsksVersion, Leg, LegPhase, AtHeader, Look, Body, Second, Pinning, Relook, Phase}
 use Rattle.gt_core.specs.Prelude.{Storing, StoringSecond, Exchanging, Looking, Changing, Walking, Accessing, Asking}
 use Rattle.gt_core.specs.Prelude.{Last, Ending}
-use Rattle.gt_core.specs.History.{History, Setting, entry_at, generation_at, body_at}
-use Rattle.gt_core.specs.Legal.{LeavesAll, IsSpelled}
+use Rattle.gt_model.specs.History.{History, Setting, entry_at, generation_at, body_at}
+use Rattle.gt_model.specs.Legal.{LeavesAll, IsSpelled}
 use Rattle.gt_calls.specs.Resting.{IsCopyOf}
-use Rattle.gt_core.specs.FirstRule.{StepsSoFar, misses, looked_at, is_in_body, refusal_in}
+use Rattle.gt_model.specs.FirstRule.{StepsSoFar, misses, looked_at, is_in_body, refusal_in}
 
 -- if the leg's entry still has the generation that was looked at and is valid, this holds for it
 abbrev pub WhileSame : Setting → History → Leg → ℕ → (Entry → Type 0) → Type 0

@@ -1,53 +1,57 @@
 -- Names of other crates, and of the code, that the definitions here use.
-pub use Rattle.gt_calls.specs.Asking.{FitsAsked, SpellsItsEntry, asked, begun_of, bytes_given_by}
+pub use Rattle.gt_model.specs.Asking.{FitsAsked, SpellsItsEntry, asked, begun_of, bytes_given_by}
 pub use Rattle.gt_calls.specs.Counting.{most_steps, steps_left, steps_to_come}
 pub use Rattle.gt_calls.specs.Following.{GoesOnWith}
-pub use Rattle.gt_calls.specs.Holding.{last_first}
+pub use Rattle.gt_model.specs.Holding.{last_first}
 pub use Rattle.gt_calls.specs.Machine.{action_at, first_phase}
-pub use Rattle.gt_calls.specs.Opening.{IsAllowed}
-pub use Rattle.gt_calls.specs.Path.{dest_pair, end_leg, entry_refusal, map_leg, path, rule_of_try, second_leg}
-pub use Rattle.gt_calls.specs.Path.{source_pair}
-pub use Rattle.gt_calls.specs.Resting.{GivesHeld, GivesUp, Rests}
-pub use Rattle.gt_calls.specs.Rules.{CallerKnowledge, before_pin, begun, control_with, entry_in, first, first_body}
-pub use Rattle.gt_calls.specs.Rules.{first_look, frame_count_of, own_generation, is_kind}
+pub use Rattle.gt_model.specs.Giving.{IsAllowed}
+pub use Rattle.gt_model.specs.Path.{dest_pair, end_leg, entry_refusal, map_leg, path, rule_of_try, second_leg}
+pub use Rattle.gt_model.specs.Path.{source_pair}
+pub use Rattle.gt_model.specs.Giving.{GivesHeld, GivesUp}
+pub use Rattle.gt_calls.specs.Resting.{Rests}
+pub use Rattle.gt_model.specs.Rules.{CallerKnowledge, before_pin, begun, control_with, first, first_body}
+pub use Rattle.gt_calls.specs.Rules.{entry_in}
+pub use Rattle.gt_model.specs.Rules.{first_look, frame_count_of, is_kind}
+pub use Rattle.gt_calls.specs.Rules.{own_generation}
 pub use Rattle.gt_types.specs.Copies.{is_dest_granted, is_source_granted}
-pub use Rattle.gt_calls.specs.Rules.{knowledge_of, rights_to_copy, rights_to_map, size_of, stands, via_judged}
+pub use Rattle.gt_calls.specs.Rules.{knowledge_of}
+pub use Rattle.gt_model.specs.Rules.{rights_to_copy, rights_to_map, size_of, stands, via_judged}
 pub use Rattle.gt_calls.specs.Standing.{IsAt, StandsAt, held_in, pins_at, pins_by_call}
-pub use Rattle.gt_calls.specs.declared.action.Action.{Action}
-pub use Rattle.gt_calls.specs.declared.action.Action.TheVariants.{Done as Ends, Step as Makes}
+pub use Rattle.gt_model.specs.declared.action.Action.{Action}
+pub use Rattle.gt_model.specs.declared.action.Action.TheVariants.{Done as Ends, Step as Makes}
 pub use Rattle.gt_types.specs.declared.places.Spot.{Spot}
-pub use Rattle.gt_calls.specs.declared.action.Observation.{Observation}
-pub use Rattle.gt_calls.specs.declared.action.Observation.TheVariants.{Missed, Nothing, Taken, Word}
-pub use Rattle.gt_calls.specs.declared.action.Step.{Step}
-pub use Rattle.gt_calls.specs.declared.action.Step.TheVariants.{Copy as CopyBytes, Exchange, LookBody, LookControl}
-pub use Rattle.gt_calls.specs.declared.action.Step.TheVariants.{LookHeader, Pin, Pin as PinStep, Read as ReadBytes}
-pub use Rattle.gt_calls.specs.declared.action.Step.TheVariants.{StoreBody, StoreHeader, Unpin, Write as WriteBytes}
-pub use Rattle.gt_calls.specs.declared.action.CallValue.{CallValue}
-pub use Rattle.gt_calls.specs.declared.action.CallValue.TheVariants.{Frames, Size as SizeTold, Version as VersionTold}
-pub use Rattle.gt_calls.specs.declared.action.CallResult.{CallResult}
-pub use Rattle.gt_calls.specs.declared.action.CallResult.TheVariants.{Given, Granted, Mapped as KeptPin, Refused}
+pub use Rattle.gt_model.specs.declared.action.Observation.{Observation}
+pub use Rattle.gt_model.specs.declared.action.Observation.TheVariants.{Missed, Nothing, Taken, Word}
+pub use Rattle.gt_model.specs.declared.action.Step.{Step}
+pub use Rattle.gt_model.specs.declared.action.Step.TheVariants.{Copy as CopyBytes, Exchange, LookBody, LookControl}
+pub use Rattle.gt_model.specs.declared.action.Step.TheVariants.{LookHeader, Pin, Pin as PinStep, Read as ReadBytes}
+pub use Rattle.gt_model.specs.declared.action.Step.TheVariants.{StoreBody, StoreHeader, Unpin, Write as WriteBytes}
+pub use Rattle.gt_model.specs.declared.action.CallValue.{CallValue}
+pub use Rattle.gt_model.specs.declared.action.CallValue.TheVariants.{Frames, Size as SizeTold, Version as VersionTold}
+pub use Rattle.gt_model.specs.declared.action.CallResult.{CallResult}
+pub use Rattle.gt_model.specs.declared.action.CallResult.TheVariants.{Given, Granted, Mapped as KeptPin, Refused}
 pub use Rattle.gt_calls.specs.declared.call.Call.{Call}
 pub use Rattle.gt_calls.specs.declared.call.Phase.{Phase}
 pub use Rattle.gt_calls.specs.declared.call.Phase.TheVariants.{Accessing, Asking, Changing, Ending, Exchanging, Last}
 pub use Rattle.gt_calls.specs.declared.call.Phase.TheVariants.{Looking, Storing, StoringSecond, Walking}
-pub use Rattle.gt_calls.specs.declared.call.HeaderQuery.{HeaderQuery}
-pub use Rattle.gt_calls.specs.declared.call.HeaderQuery.TheVariants.{Size as AsksSize, Version as AsksVersion}
-pub use Rattle.gt_calls.specs.declared.held.HeldPin.{HeldPin}
-pub use Rattle.gt_calls.specs.declared.held.AccessPath.{AccessPath}
-pub use Rattle.gt_calls.specs.declared.held.AccessPath.TheVariants.{Direct, Through}
-pub use Rattle.gt_calls.specs.declared.judging.TheConstants.{SERIAL_LIMIT}
-pub use Rattle.gt_calls.specs.declared.leg.Leg.{Leg}
+pub use Rattle.gt_model.specs.declared.action.HeaderQuery.{HeaderQuery}
+pub use Rattle.gt_model.specs.declared.action.HeaderQuery.TheVariants.{Size as AsksSize, Version as AsksVersion}
+pub use Rattle.gt_model.specs.declared.held.HeldPin.{HeldPin}
+pub use Rattle.gt_model.specs.declared.held.AccessPath.{AccessPath}
+pub use Rattle.gt_model.specs.declared.held.AccessPath.TheVariants.{Direct, Through}
+pub use Rattle.gt_model.specs.declared.bounds.TheConstants.{SERIAL_LIMIT}
+pub use Rattle.gt_model.specs.declared.leg.Leg.{Leg}
 pub use Rattle.gt_calls.specs.declared.leg.LegPhase.{LegPhase}
 pub use Rattle.gt_calls.specs.declared.leg.LegPhase.TheVariants.{Body, Header as AtHeader, Look, Pinning, Relook}
 pub use Rattle.gt_calls.specs.declared.leg.LegPhase.TheVariants.{Second}
-pub use Rattle.gt_calls.specs.declared.leg.TheConstants.{MORE_TRIES}
-pub use Rattle.gt_calls.specs.declared.request.OpenRequest.{OpenRequest}
-pub use Rattle.gt_calls.specs.declared.request.OpenRequest.TheVariants.{Copy, Demote, GetVersion, Load, Map, Peek, Poke}
-pub use Rattle.gt_calls.specs.declared.request.OpenRequest.TheVariants.{QuerySize, Release, SetVersion, SetupTable, Store, Unmap}
+pub use Rattle.gt_model.specs.declared.bounds.TheConstants.{MORE_TRIES}
+pub use Rattle.gt_model.specs.declared.request.OpenRequest.{OpenRequest}
+pub use Rattle.gt_model.specs.declared.request.OpenRequest.TheVariants.{Copy, Demote, GetVersion, Load, Map, Peek, Poke}
+pub use Rattle.gt_model.specs.declared.request.OpenRequest.TheVariants.{QuerySize, Release, SetVersion, SetupTable, Store, Unmap}
 pub use Rattle.gt_types.specs.declared.copies.CopyArgs.{CopyArgs}
-pub use Rattle.gt_calls.specs.declared.request.PinHolder.{PinHolder}
-pub use Rattle.gt_calls.specs.declared.request.PinHolder.TheVariants.{Leg as ByLeg, Mapping as ByMapping}
-pub use Rattle.gt_calls.specs.declared.request.Request.{Request}
+pub use Rattle.gt_model.specs.declared.request.PinHolder.{PinHolder}
+pub use Rattle.gt_model.specs.declared.request.PinHolder.TheVariants.{Leg as ByLeg, Mapping as ByMapping}
+pub use Rattle.gt_model.specs.declared.request.Request.{Request}
 pub use Rattle.gt_core.specs.declared.core_state.Begun.{Begun}
 pub use Rattle.gt_core.specs.declared.core_state.Begun.TheVariants.{Busy as BegunBusy, Done as BegunDone}
 pub use Rattle.gt_core.specs.declared.core_state.Begun.TheVariants.{NoDomain as BegunNoDomain, Open as BegunOpen}
@@ -58,40 +62,40 @@ pub use Rattle.gt_core.specs.declared.kept.Machine.{Machine}
 pub use Rattle.gt_core.specs.declared.pin_counts.CountsChange.{CountsChange}
 pub use Rattle.gt_core.specs.declared.pin_counts.CountsChange.TheVariants.{Pinned, Stored, Unpinned}
 pub use Rattle.gt_core.specs.declared.pin_counts.PinCounts.{PinCounts}
-pub use Rattle.gt_core.specs.declared.trace.Answer.{Answer}
-pub use Rattle.gt_core.specs.declared.trace.Answer.TheVariants.{Bytes, Bytes as BytesAnswer, Denied, Done}
-pub use Rattle.gt_core.specs.declared.trace.Answer.TheVariants.{Done as AnswerDone, Frames as FramesAnswer, Mapped}
-pub use Rattle.gt_core.specs.declared.trace.Answer.TheVariants.{Mapped as MappedAnswer, Size, Size as SizeAnswer}
-pub use Rattle.gt_core.specs.declared.trace.Answer.TheVariants.{Version, Version as VersionAnswer}
-pub use Rattle.gt_core.specs.declared.trace.Element.{Element}
-pub use Rattle.gt_core.specs.declared.trace.Element.TheVariants.{Busy, Idle, Item as Did, NoDomain}
-pub use Rattle.gt_core.specs.declared.trace.Event.{Event}
-pub use Rattle.gt_core.specs.declared.trace.Event.TheVariants.{Begin, Tick}
-pub use Rattle.gt_core.specs.declared.trace.ItemEvent.{ItemEvent}
-pub use Rattle.gt_core.specs.declared.trace.ItemEvent.TheVariants.{Began, Stepped}
-pub use Rattle.gt_core.specs.declared.trace.Item.{Item}
+pub use Rattle.gt_model.specs.declared.trace.Answer.{Answer}
+pub use Rattle.gt_model.specs.declared.trace.Answer.TheVariants.{Bytes, Bytes as BytesAnswer, Denied, Done}
+pub use Rattle.gt_model.specs.declared.trace.Answer.TheVariants.{Done as AnswerDone, Frames as FramesAnswer, Mapped}
+pub use Rattle.gt_model.specs.declared.trace.Answer.TheVariants.{Mapped as MappedAnswer, Size, Size as SizeAnswer}
+pub use Rattle.gt_model.specs.declared.trace.Answer.TheVariants.{Version, Version as VersionAnswer}
+pub use Rattle.gt_model.specs.declared.trace.Element.{Element}
+pub use Rattle.gt_model.specs.declared.trace.Element.TheVariants.{Busy, Idle, Item as Did, NoDomain}
+pub use Rattle.gt_model.specs.declared.trace.Event.{Event}
+pub use Rattle.gt_model.specs.declared.trace.Event.TheVariants.{Begin, Tick}
+pub use Rattle.gt_model.specs.declared.trace.ItemEvent.{ItemEvent}
+pub use Rattle.gt_model.specs.declared.trace.ItemEvent.TheVariants.{Began, Stepped}
+pub use Rattle.gt_model.specs.declared.trace.Item.{Item}
 pub use Rattle.gt_core.specs.declared.underway.OpenCall.{OpenCall}
-pub use Rattle.gt_entry.specs.Entries.{IsEntry}
-pub use Rattle.gt_entry.specs.Permits.{forwards, permits}
-pub use Rattle.gt_entry.specs.Spelling.{IsSpelled, entry_of}
-pub use Rattle.gt_entry.specs.Words.{IsInRange, control_of, control_word, header_word, pins_of}
-pub use Rattle.gt_entry.specs.declared.change.EntryChange.{EntryChange}
-pub use Rattle.gt_entry.specs.declared.change.EntryChange.TheVariants.{Demote as ToReadOnly, Promote as ToWritable, Publish}
-pub use Rattle.gt_entry.specs.declared.change.EntryChange.TheVariants.{Revoke as ToInvalid, Withdraw as ToWithdrawn}
-pub use Rattle.gt_entry.specs.declared.change.BodyWord.{BodyWord}
-pub use Rattle.gt_entry.specs.declared.change.BodyWord.TheVariants.{First as FirstHalf, Second as SecondHalf}
-pub use Rattle.gt_entry.specs.declared.control.Control.{Control}
-pub use Rattle.gt_entry.specs.declared.control.EntryKind.TheVariants.{Sub as KindSub}
-pub use Rattle.gt_entry.specs.declared.entry.Entry.{Entry}
-pub use Rattle.gt_entry.specs.declared.entry.Entry.TheVariants.{Invalid, Via}
-pub use Rattle.gt_entry.specs.declared.header.Header.{Header}
-pub use Rattle.gt_frames.specs.Bytes.{Patch, written}
+pub use Rattle.gt_model.specs.Entries.{IsEntry}
+pub use Rattle.gt_model.specs.Permits.{forwards, permits}
+pub use Rattle.gt_model.specs.Spelling.{IsSpelled, entry_of}
+pub use Rattle.gt_model.specs.Words.{IsInRange, control_of, control_word, header_word, pins_of}
+pub use Rattle.gt_model.specs.declared.change.EntryChange.{EntryChange}
+pub use Rattle.gt_model.specs.declared.change.EntryChange.TheVariants.{Demote as ToReadOnly, Promote as ToWritable, Publish}
+pub use Rattle.gt_model.specs.declared.change.EntryChange.TheVariants.{Revoke as ToInvalid, Withdraw as ToWithdrawn}
+pub use Rattle.gt_model.specs.declared.change.BodyWord.{BodyWord}
+pub use Rattle.gt_model.specs.declared.change.BodyWord.TheVariants.{First as FirstHalf, Second as SecondHalf}
+pub use Rattle.gt_model.specs.declared.control.Control.{Control}
+pub use Rattle.gt_model.specs.declared.control.EntryKind.TheVariants.{Sub as KindSub}
+pub use Rattle.gt_model.specs.declared.entry.Entry.{Entry}
+pub use Rattle.gt_model.specs.declared.entry.Entry.TheVariants.{Invalid, Via}
+pub use Rattle.gt_model.specs.declared.header.Header.{Header}
+pub use Rattle.gt_model.specs.Written.{Patch, written}
 pub use Rattle.gt_frames.specs.Frames.{bytes_at, patches}
 pub use Rattle.gt_frames.specs.Places.{frame_counts}
 pub use Rattle.gt_frames.specs.Sets.{AreKept, FrameSet, frame_at}
 pub use Rattle.gt_types.specs.declared.places.FrameName.{FrameName}
 pub use Rattle.gt_handles.specs.Handles.{HandleMap, Updates, count_of, value_of, value_of as mapping_under}
-pub use Rattle.gt_handles.specs.declared.handles.Handle.{Handle}
+pub use Rattle.gt_model.specs.declared.handle.Handle.{Handle}
 pub use Rattle.gt_types.specs.Config.{IsFirstFault, IsWithinLimits}
 pub use Rattle.gt_types.specs.Denial.{denial_of}
 pub use Rattle.gt_types.specs.Names.{domain_of, resolved}

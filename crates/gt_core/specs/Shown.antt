@@ -5,8 +5,8 @@ use Rattle.gt_types.specs.declared.DomId.{DomId}
 use Rattle.gt_calls.specs.declared.known.OwnerEntry.{OwnerEntry}
 use Rattle.gt_core.specs.declared.pin_counts.PinCounts.{PinCounts}
 use Rattle.gt_core.specs.declared.core_state.EntryView.{EntryView}
-use Rattle.gt_calls.specs.Rules.{size_of}
-use Rattle.gt_core.specs.History.{History, Setting, entry_at, generation_at, reads_at, writes_at, table_at}
+use Rattle.gt_model.specs.Rules.{size_of}
+use Rattle.gt_model.specs.History.{History, Setting, entry_at, generation_at, reads_at, writes_at, table_at}
 
 -- what the rows of an entry show
 abbrev pub shown_in : Option OwnerEntry → Option PinCounts → Option EntryView

@@ -9,15 +9,15 @@ use Rattle.gt_core.specs.Prelude.{HandleMap, mapping_under, count_of, HeldPin, E
 use Rattle.gt_core.specs.Prelude.{own_generation, frame_count_of, GoesOnWith, action_at, Rests, StandsAt, pins_at}
 use Rattle.gt_core.specs.Prelude.{held_in, Phase}
 use Rattle.gt_core.specs.Prelude.{most_steps, steps_left, Entry, Control, IsInRange, IsEntry, permits, Store, Poke}
-pub use Rattle.gt_calls.specs.Asking.{FitsAsked}
+pub use Rattle.gt_model.specs.Asking.{FitsAsked}
 pub use Rattle.gt_core.specs.States.{State, CoreState, core_of, state_of, first_state, changed_in, asks_memory}
 pub use Rattle.gt_core.specs.States.{IsMapping}
-use Rattle.gt_core.specs.History.{History, Setting, Pin, live, entry_at, generation_at, body_at, table_at, reads_at}
-use Rattle.gt_core.specs.History.{writes_at, control_at, patches_at, contents_at, known_at, maps_answered_at}
-use Rattle.gt_core.specs.History.{mappings_at, mapping_of, legs_at, frame_of, Underway, open_call, values}
-use Rattle.gt_core.specs.Legal.{MayDo, IsLegalHistory, grown}
-use Rattle.gt_core.specs.Justified.{MayUse}
-use Rattle.gt_core.specs.FirstRule.{stood}
+use Rattle.gt_model.specs.History.{History, Setting, Pin, live, entry_at, generation_at, body_at, table_at, reads_at}
+use Rattle.gt_model.specs.History.{writes_at, control_at, patches_at, contents_at, known_at, maps_answered_at}
+use Rattle.gt_model.specs.History.{mappings_at, mapping_of, legs_at, frame_of, Underway, open_call, values}
+use Rattle.gt_model.specs.Legal.{MayDo, IsLegalHistory, grown}
+use Rattle.gt_model.specs.Justified.{MayUse}
+use Rattle.gt_model.specs.FirstRule.{stood}
 use Rattle.gt_core.specs.Acting.{setting_of}
 use Rattle.gt_core.specs.Phases.{PhaseStands, phase_refusal, IsClean, numbered}
 

@@ -3,16 +3,16 @@
 use Rattle.std.specs.Prelude.{Bool, true, false, ℕ, List, [], ◌∷◌, Option, Some, None, ◌==◌, ◌≡◌, ◌<◌, ◌≤◌, ◌+◌, ◌^◌}
 use Rattle.std.specs.Prelude.{◌%◌, min, map, replicate, if◌then◌else◌}
 use Rattle.gt_types.specs.declared.config.DomainConfig.{DomainConfig}
-use Rattle.gt_entry.specs.declared.entry.Entry.TheVariants.{Invalid}
+use Rattle.gt_model.specs.declared.entry.Entry.TheVariants.{Invalid}
 use Rattle.gt_calls.specs.declared.known.TheConstants.{ENTRIES}
 use Rattle.gt_types.specs.declared.limits.TheConstants.{LAST_GENERATION}
-use Rattle.gt_calls.specs.declared.request.OpenRequest.{OpenRequest}
-use Rattle.gt_calls.specs.declared.request.OpenRequest.TheVariants.{Map, Load, Store, Peek, Poke}
+use Rattle.gt_model.specs.declared.request.OpenRequest.{OpenRequest}
+use Rattle.gt_model.specs.declared.request.OpenRequest.TheVariants.{Map, Load, Store, Peek, Poke}
 use Rattle.gt_types.specs.declared.DomId.{DomId}
-use Rattle.gt_entry.specs.declared.header.Header.{Header}
+use Rattle.gt_model.specs.declared.header.Header.{Header}
 use Rattle.gt_calls.specs.declared.known.OwnerEntry.{OwnerEntry}
 use Rattle.gt_handles.specs.Handles.{HandleMap}
-use Rattle.gt_calls.specs.declared.held.HeldPin.{HeldPin}
+use Rattle.gt_model.specs.declared.held.HeldPin.{HeldPin}
 use Rattle.gt_core.specs.declared.pin_counts.PinCounts.{PinCounts}
 use Rattle.gt_core.specs.declared.underway.OpenCall.{OpenCall}
 use Rattle.gt_frames.specs.Sets.{FrameSet}

@@ -3,9 +3,9 @@ use Rattle.std.specs.Prelude.{is_some, if◌then◌else◌, Option, None, option
 use Rattle.gt_types.specs.Names.{domain_of}
 use Rattle.gt_types.specs.declared.DomId.{DomId}
 use Rattle.gt_types.specs.declared.GrantRef.{GrantRef}
-use Rattle.gt_handles.specs.declared.handles.Handle.{Handle}
-use Rattle.gt_calls.specs.declared.held.HeldPin.{HeldPin}
-use Rattle.gt_core.specs.History.{History, Setting, mapping_of, mappings_at}
+use Rattle.gt_model.specs.declared.handle.Handle.{Handle}
+use Rattle.gt_model.specs.declared.held.HeldPin.{HeldPin}
+use Rattle.gt_model.specs.History.{History, Setting, mapping_of, mappings_at}
 
 -- the entry that a pin is on, by its domain and its reference
 abbrev pub entry_place_of : HeldPin → DomId × GrantRef

@@ -1,18 +1,18 @@
 -- What an owner has taken back: no earlier pin reaches the entry, and no other domain reaches the page.
 use Rattle.std.specs.Prelude.{◌≡◌, ◌≢◌, ◌⊎◌, ℕ, true, false, List, [], ◌∷◌, ◌++◌, All}
-use Rattle.gt_entry.specs.declared.entry.Entry.TheVariants.{Invalid}
-use Rattle.gt_entry.specs.Permits.{is_of_frame}
-use Rattle.gt_entry.specs.declared.change.EntryChange.TheVariants.{Publish, Revoke as ToInvalid}
-use Rattle.gt_calls.specs.declared.action.Step.TheVariants.{Exchange}
-use Rattle.gt_calls.specs.declared.action.Step.TheVariants.{Read as ReadBytes, Write as WriteBytes, Copy as CopyBytes}
-use Rattle.gt_calls.specs.declared.action.Observation.TheVariants.{Taken}
-use Rattle.gt_core.specs.declared.trace.Element.{Element}
-use Rattle.gt_core.specs.declared.trace.Event.{Event}
-use Rattle.gt_core.specs.declared.trace.Item.{Item}
-use Rattle.gt_core.specs.declared.trace.ItemEvent.{ItemEvent}
-use Rattle.gt_core.specs.declared.trace.ItemEvent.TheVariants.{Stepped}
-use Rattle.gt_core.specs.History.{History, Setting, Pin, entry_at, live, pinned_by, reads_at, writes_at}
-use Rattle.gt_core.specs.Legal.{IsLegalHistory, Legal, history_after}
+use Rattle.gt_model.specs.declared.entry.Entry.TheVariants.{Invalid}
+use Rattle.gt_model.specs.Permits.{is_of_frame}
+use Rattle.gt_model.specs.declared.change.EntryChange.TheVariants.{Publish, Revoke as ToInvalid}
+use Rattle.gt_model.specs.declared.action.Step.TheVariants.{Exchange}
+use Rattle.gt_model.specs.declared.action.Step.TheVariants.{Read as ReadBytes, Write as WriteBytes, Copy as CopyBytes}
+use Rattle.gt_model.specs.declared.action.Observation.TheVariants.{Taken}
+use Rattle.gt_model.specs.declared.trace.Element.{Element}
+use Rattle.gt_model.specs.declared.trace.Event.{Event}
+use Rattle.gt_model.specs.declared.trace.Item.{Item}
+use Rattle.gt_model.specs.declared.trace.ItemEvent.{ItemEvent}
+use Rattle.gt_model.specs.declared.trace.ItemEvent.TheVariants.{Stepped}
+use Rattle.gt_model.specs.History.{History, Setting, Pin, entry_at, live, pinned_by, reads_at, writes_at}
+use Rattle.gt_model.specs.Legal.{IsLegalHistory, Legal, history_after}
 
 -- the items of a legal trace are a legal history, so what holds for each legal history holds for each run that is
 -- played

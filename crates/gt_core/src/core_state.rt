@@ -1,12 +1,12 @@
 //! The core: a machine over events.
 ghost use Rattle.std.specs.Prelude.{◌≡◌, [], IfOk, IfErr, OnErr, IsOk};
 ghost use Rattle.gt_types.specs.Config.{IsWithinLimits};
-ghost use Rattle.gt_core.specs.Legal.{Legal};
+ghost use Rattle.gt_model.specs.Legal.{Legal};
 ghost use Rattle.gt_core.specs.Standing.{DoesEvent, setting_in};
 ghost use Rattle.gt_core.specs.Acting.{IsStartFaultOf, begun_element, setting_of, ticked_element};
 
 use crate::kept::Machine;
-use crate::trace::{Answer, Element, Event, Item, ItemEvent, Trace};
+use gt_model::{Answer, Element, Event, Item, ItemEvent, Trace};
 use gt_calls::{Handle, Observation, Request, Step};
 use gt_entry::Entry;
 use gt_types::{Allows, Config, DomId, GrantRef, Memory, StartFault};
@@ -73,13 +73,13 @@ pub struct EntryView {
 impl<P: Allows> Core<P> {
     ghost use Rattle.std.specs.Prelude.{◌≡◌, IfOk, OnErr};
     ghost use Rattle.gt_frames.specs.Sets.{AreKept};
-    ghost use Rattle.gt_core.specs.History.{History};
+    ghost use Rattle.gt_model.specs.History.{History};
     ghost use Rattle.gt_core.specs.Shown.{shown_at};
     ghost use Rattle.gt_core.specs.Subject.{subject_at};
     ghost use Rattle.gt_core.specs.Standing.{CoreStands, DoesEvent, setting_in};
     ghost use Rattle.gt_core.specs.Acting.{WantsMemory, WantsMemoryNow};
     ghost use Rattle.gt_core.specs.Acting.{begun_element, ticked_element};
-    ghost use Rattle.gt_core.specs.declared.trace.Event.TheVariants.{Begin, Tick};
+    ghost use Rattle.gt_model.specs.declared.trace.Event.TheVariants.{Begin, Tick};
 
     /// Begins a call of the domain: checks the rules at its beginning, and makes the room that its answer needs.
     /// `tick` makes its steps.

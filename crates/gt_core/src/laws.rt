@@ -3,16 +3,16 @@ ghost use Rattle.gt_core.specs.Alike.{bare_handle, IsKnown, AreAlike, IsOfKnown,
 ghost use Rattle.std.specs.Prelude.{◌≡◌, ℕ};
 ghost use Rattle.gt_types.specs.declared.DomId.{DomId};
 ghost use Rattle.gt_core.specs.GoingOn.{CallsCanBegin, OpenCallsCanAccess, OpenCallsCanGoOn, RunsStart};
-ghost use Rattle.gt_core.specs.History.{History, Setting};
-ghost use Rattle.gt_core.specs.Legal.{MayDo, grown};
+ghost use Rattle.gt_model.specs.History.{History, Setting};
+ghost use Rattle.gt_model.specs.Legal.{MayDo, grown};
 ghost use Rattle.gt_core.specs.Shown.{shown_at};
 ghost use Rattle.gt_core.specs.Subject.{subject_at};
 ghost use Rattle.gt_core.specs.Swapping.{ApartChangePlaces, BeginningsAreApart, LookAlikeGoOn};
 ghost use Rattle.gt_core.specs.Swapping.{StepsThatTouchApartAreApart};
 ghost use Rattle.gt_core.specs.TakenBack.{LegalTracesAreHistories, PagesTakenBackAreOutOfReach, PinsAreTakenSince};
-ghost use Rattle.gt_handles.specs.declared.handles.Handle.{Handle};
-ghost use Rattle.gt_core.specs.declared.trace.Event.{Event};
-ghost use Rattle.gt_core.specs.declared.trace.Element.{Element};
+ghost use Rattle.gt_model.specs.declared.handle.Handle.{Handle};
+ghost use Rattle.gt_model.specs.declared.trace.Event.{Event};
+ghost use Rattle.gt_model.specs.declared.trace.Element.{Element};
 
 /// Proves that an event can do only one thing after a history, except for the key of a handle in an answer.
 pub fn every_event_does_one_thing()

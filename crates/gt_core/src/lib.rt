@@ -24,7 +24,6 @@ mod pin_counts;
 mod sight;
 mod state;
 mod subject;
-mod trace;
 mod underway;
 
 pub use core_state::{Begun, Core, EntryView, Ticked, play};
@@ -43,4 +42,4 @@ pub use laws::{
 pub use machine::answer_of;
 pub use pin_counts::{CountsChange, PinCounts};
 pub use sight::exchange_sees;
-pub use trace::{Answer, Bytes, Element, Event, Item, ItemEvent, Trace};
+pub use gt_model::{Answer, Bytes, Element, Event, Item, ItemEvent, Trace};

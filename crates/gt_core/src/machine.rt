@@ -2,12 +2,13 @@
 ghost use Rattle.std.specs.Prelude.{◌≡◌, ◌<◌, [], length, slice_get, map, IfOk, IfErr, OnOk, OnErr, IsOk};
 ghost use Rattle.std.specs.Prelude.{Option, Some, None};
 ghost use Rattle.gt_types.specs.Config.{IsWithinLimits};
-ghost use Rattle.gt_calls.specs.Rules.{CallerKnowledge, knows};
+ghost use Rattle.gt_model.specs.Rules.{CallerKnowledge};
+ghost use Rattle.gt_calls.specs.Rules.{knows};
 ghost use Rattle.gt_calls.specs.Following.{Goes, IsLeftAlike};
-ghost use Rattle.gt_calls.specs.Asking.{bytes_given_by};
+ghost use Rattle.gt_model.specs.Asking.{bytes_given_by};
 ghost use Rattle.gt_frames.specs.Sets.{all_zeros, AreKept};
 ghost use Rattle.gt_frames.specs.Places.{frame_counts};
-ghost use Rattle.gt_core.specs.History.{History};
+ghost use Rattle.gt_model.specs.History.{History};
 ghost use Rattle.gt_core.specs.States.{State};
 ghost use Rattle.gt_core.specs.Accesses.{IsReadable, IsAdmitted, AccessedBy, IsWriting};
 ghost use Rattle.gt_core.specs.Effects.{applied};
@@ -20,7 +21,7 @@ ghost use Rattle.gt_core.specs.Acting.{IsRoomFor};
 ghost use Rattle.gt_core.specs.Acting.{WantsMemory, WantsMemoryNow, setting_of, setting_by, state_by, known_by};
 ghost use Rattle.gt_core.specs.Acting.{begun_element, ticked_element, ticked_with, answer_with, answer_of};
 ghost use Rattle.gt_core.specs.Standing.{first_state};
-ghost use Rattle.gt_core.specs.declared.trace.Event.TheVariants.{Begin, Tick};
+ghost use Rattle.gt_model.specs.declared.trace.Event.TheVariants.{Begin, Tick};
 
 use crate::accesses::{read_bytes, write_bytes};
 use crate::core_state::{Begun, EntryView, Ticked};
@@ -28,7 +29,7 @@ use crate::effects::apply;
 use crate::kept::Machine;
 use crate::sight::see;
 use crate::state::{DomainState, find};
-use crate::trace::{Answer, Bytes};
+use gt_model::{Answer, Bytes};
 use crate::underway::OpenCall;
 use gt_calls::{
     Action, Call, CallResult, CallStart, CallValue, CallerState, Judged, Observation, Request,

@@ -1,7 +1,7 @@
 //! The entry that a mapping is of.
 ghost use Rattle.std.specs.Prelude.{◌≡◌, option_copied};
 ghost use Rattle.gt_handles.specs.Handles.{value_of};
-ghost use Rattle.gt_core.specs.History.{History};
+ghost use Rattle.gt_model.specs.History.{History};
 ghost use Rattle.gt_core.specs.Standing.{DomainsStand};
 ghost use Rattle.gt_core.specs.Acting.{setting_by};
 ghost use Rattle.gt_core.specs.Subject.{subject_at};

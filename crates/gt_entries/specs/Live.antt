@@ -1,6 +1,6 @@
 -- The bits that a live host sets in the flags of an entry.
 use Rattle.std.specs.Prelude.{ℕ, ◌/◌, ◌%◌, ◌*◌, ◌-◌, ◌≡◌, List, [], ◌∷◌, if◌then◌else◌, codes}
-use Rattle.gt_entry.specs.Bytes.{is_set}
+use Rattle.gt_model.specs.Bytes.{is_set}
 
 -- a byte without its bits 3 and 4
 abbrev pub cleared_byte : ℕ → ℕ

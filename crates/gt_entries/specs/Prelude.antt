@@ -2,8 +2,8 @@
 pub use Rattle.gt_entries.specs.declared.asked.DumpOptions.{DumpOptions}
 pub use Rattle.gt_entries.specs.declared.fault.DumpFault.{DumpFault}
 pub use Rattle.gt_entries.specs.declared.fault.DumpFault.TheVariants.{Limit, Memory, Read, Syntax, Write}
-pub use Rattle.gt_entry.specs.Bytes.{Spells, entry_size, first_refused}
-pub use Rattle.gt_entry.specs.declared.entry.Entry.{Entry}
+pub use Rattle.gt_model.specs.Bytes.{Spells, entry_size, first_refused}
+pub use Rattle.gt_model.specs.declared.entry.Entry.{Entry}
 pub use Rattle.gt_text.specs.Streams.{AppendsBeginning}
 pub use Rattle.gt_types.specs.declared.DomId.{DomId}
 pub use Rattle.gt_types.specs.declared.denial.Field.{Field}

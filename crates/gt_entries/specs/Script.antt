@@ -4,8 +4,8 @@ use Rattle.hex.specs.Hex.{encode_lower}
 use Rattle.gt_text.specs.Printing.{part_text}
 use Rattle.gt_types.specs.declared.DomId.{DomId}
 use Rattle.gt_types.specs.declared.limits.TheConstants.{MAX_FRAMES}
-use Rattle.gt_entry.specs.Entries.{frame_of}
-use Rattle.gt_entry.specs.declared.entry.Entry.{Entry}
+use Rattle.gt_model.specs.Entries.{frame_of}
+use Rattle.gt_model.specs.declared.entry.Entry.{Entry}
 
 -- the offset of the frame number in an entry of this version; it extends to the end of the entry (grant_table.h)
 abbrev pub frame_place : ℕ → ℕ

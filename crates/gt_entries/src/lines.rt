@@ -1,7 +1,7 @@
 //! The line of an entry.
 ghost use Rattle.std.specs.Prelude.{◌≡◌, ◌==◌, ◌++◌, ℕ, List, OnOk};
 ghost use Rattle.std.specs.List.{list_all};
-ghost use Rattle.gt_entry.specs.Bytes.{entry_size};
+ghost use Rattle.gt_model.specs.Bytes.{entry_size};
 ghost use Rattle.gt_entries.specs.Dumps.{Decodes, IsEntryText, is_left_out, dump_line_text, field_text};
 ghost use Rattle.gt_entries.specs.Live.{cleared};
 

@@ -8,11 +8,11 @@ use Rattle.std.proofs.lemmas.Bool.{or_parts}
 use Rattle.gt_types.specs.declared.denial.Field.{Field}
 use Rattle.gt_types.specs.declared.denial.Field.TheVariants.{Length, Kind, Reading, Writing, Pwt, Pcd, Pat, SubPage}
 use Rattle.gt_types.specs.declared.denial.Field.TheVariants.{Reserved}
-use Rattle.gt_entry.specs.declared.entry.Entry.{Entry}
-use Rattle.gt_entry.specs.declared.entry.Entry.TheVariants.{Invalid, Page, Sub, Via}
-use Rattle.gt_entry.specs.Words.{flag}
-use Rattle.gt_entry.specs.Bytes.{field, flags_of, AreBytes, SpellsV1, SpellsV2, is_set, is_refused, flag_fields}
-use Rattle.gt_entry.specs.Bytes.{refused_flag, first_refused}
+use Rattle.gt_model.specs.declared.entry.Entry.{Entry}
+use Rattle.gt_model.specs.declared.entry.Entry.TheVariants.{Invalid, Page, Sub, Via}
+use Rattle.gt_model.specs.Words.{flag}
+use Rattle.gt_model.specs.Bytes.{field, flags_of, AreBytes, SpellsV1, SpellsV2, is_set, is_refused, flag_fields}
+use Rattle.gt_model.specs.Bytes.{refused_flag, first_refused}
 
 -- none of the fields is refused
 record NoneRefused (version size flags : ℕ) : Type 0 where

@@ -12,9 +12,9 @@ use Rattle.byteorder.specs.Endian.{little_number, little_bytes}
 use Rattle.byteorder.specs.Numbers.{little_number-reads_back, little_from-append, length-bytes_low_first}
 use Rattle.gt_types.specs.declared.DomId.{DomId}
 use Rattle.gt_types.specs.declared.GrantRef.{GrantRef}
-use Rattle.gt_entry.specs.declared.entry.Entry.TheVariants.{Page, Sub, Via}
-use Rattle.gt_entry.specs.Words.{flag}
-use Rattle.gt_entry.specs.Bytes.{field, with_field, AreBytes, SpellsV1, SpellsV2, IsZeroPadded}
+use Rattle.gt_model.specs.declared.entry.Entry.TheVariants.{Page, Sub, Via}
+use Rattle.gt_model.specs.Words.{flag}
+use Rattle.gt_model.specs.Bytes.{field, with_field, AreBytes, SpellsV1, SpellsV2, IsZeroPadded}
 
 -- a part up to the end of the bytes is read as the bytes starting at its offset
 pub read-part : (bytes : List ℕ) (at n : ℕ) → little_number n (take (length bytes - at) (drop at bytes)) ≡ field bytes at n

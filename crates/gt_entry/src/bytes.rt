@@ -1,8 +1,8 @@
 //! Entries as guests write them: the bytes of versions 1 and 2.
 ghost use Rattle.std.specs.Prelude.{◌≡◌, ◌+◌, ◌<◌, ℕ, List, Some, None, IfOk, IfErr, IfSome, IfNone, MatchResult};
-ghost use Rattle.gt_entry.specs.declared.entry.Entry.{Entry};
-ghost use Rattle.gt_entry.specs.Words.{flag};
-ghost use Rattle.gt_entry.specs.Bytes.{SpellsV1, SpellsV2, Spells, IsZeroPadded, first_refused, is_set, refused_flag};
+ghost use Rattle.gt_model.specs.declared.entry.Entry.{Entry};
+ghost use Rattle.gt_model.specs.Words.{flag};
+ghost use Rattle.gt_model.specs.Bytes.{SpellsV1, SpellsV2, Spells, IsZeroPadded, first_refused, is_set, refused_flag};
 
 use crate::Entry;
 use crate::fields::{read_u16, read_u32, read_u64, write_u16, write_u32, write_u64};

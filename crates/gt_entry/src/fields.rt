@@ -1,6 +1,6 @@
 //! The numbers in an entry's bytes, by offset. All are little-endian.
 ghost use Rattle.std.specs.Prelude.{◌≡◌, ◌≤◌, ◌+◌, length};
-ghost use Rattle.gt_entry.specs.Bytes.{field, with_field};
+ghost use Rattle.gt_model.specs.Bytes.{field, with_field};
 
 use byteorder::{ByteOrder, LittleEndian};
 

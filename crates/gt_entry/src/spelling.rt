@@ -1,66 +1,15 @@
 //! Entries as words, and the laws about them.
 ghost use Rattle.std.specs.Prelude.{◌≡◌, ◌<◌, ◌+◌, ◌*◌, ◌^◌, ℕ};
-ghost use Rattle.gt_entry.specs.declared.entry.Entry.{Entry};
-ghost use Rattle.gt_entry.specs.declared.control.Control.{Control};
-ghost use Rattle.gt_entry.specs.declared.header.Header.{Header};
-ghost use Rattle.gt_entry.specs.Words.{IsInRange, control_word, control_of, header_word, header_of, word_with, kind_of};
-ghost use Rattle.gt_entry.specs.Entries.{IsEntry};
-ghost use Rattle.gt_entry.specs.Spelling.{first_body, second_body, entry_of, IsSpelled, word_of, control_with};
+ghost use Rattle.gt_model.specs.declared.entry.Entry.{Entry};
+ghost use Rattle.gt_model.specs.declared.control.Control.{Control};
+ghost use Rattle.gt_model.specs.declared.header.Header.{Header};
+ghost use Rattle.gt_model.specs.Words.{IsInRange, control_word, control_of, header_word, header_of, word_with, kind_of};
+ghost use Rattle.gt_model.specs.Entries.{IsEntry};
+ghost use Rattle.gt_model.specs.Spelling.{first_body, second_body, entry_of, IsSpelled, word_of, control_with};
 ghost use Rattle.gt_entry.specs.Laws.{SamePartsOf, PartsOf};
 
 use crate::{Control, Entry, EntryKind};
 use gt_types::{DomId, GrantRef};
-
-impl Entry {
-    /// Returns the first body word: the frame number, or the next domain and its reference. 0 for an invalid entry.
-    pub fn first_body(self) -> u64
-        ensures { result ≡ first_body self }
-    {
-        match self {
-            Entry::Invalid => 0,
-            Entry::Page { frame, .. } | Entry::Sub { frame, .. } => frame,
-            Entry::Via { dom2, gref, .. } => u64::from(dom2.0) + u64::from(gref.0) * 65_536,
-        }
-    }
-
-    /// Returns the second body word: the offset and the length of a sub-page. 0 for other entries.
-    pub fn second_body(self) -> u64
-        ensures { result ≡ second_body self }
-    {
-        match self {
-            Entry::Sub { off, len, .. } => u64::from(off) + u64::from(len) * 65_536,
-            _ => 0,
-        }
-    }
-
-    /// Returns the entry that a control and two body words encode. The second body word counts only for a sub-page.
-    pub fn spelled(control: Control, first: u64, second: u64) -> Entry
-        ensures { result ≡ entry_of control first second }
-    {
-        let (dom, ro) = (control.dom, control.ro);
-        match control.kind {
-            EntryKind::Invalid => Entry::Invalid,
-            EntryKind::Page => Entry::Page {
-                dom,
-                ro,
-                frame: first,
-            },
-            EntryKind::Sub => Entry::Sub {
-                dom,
-                ro,
-                frame: first,
-                off: (second % 65_536) as u16,
-                len: (second / 65_536 % 65_536) as u16,
-            },
-            EntryKind::Via => Entry::Via {
-                dom,
-                ro,
-                dom2: DomId((first % 65_536) as u16),
-                gref: GrantRef((first / 65_536 % 4_294_967_296) as u32),
-            },
-        }
-    }
-}
 
 /// Proves that each control in range is read back unchanged from its word.
 pub fn every_control_is_in_its_word()

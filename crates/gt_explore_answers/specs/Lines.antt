@@ -1,7 +1,7 @@
 -- The lines that show the moves of an order.
 use Rattle.std.specs.Prelude.{ℕ, ◌+◌, List, [], ◌∷◌, ◌++◌, length, Option, Some, None, codes, decimal}
 use Rattle.gt_types.specs.declared.DomId.{DomId}
-use Rattle.gt_core.specs.declared.trace.Answer.{Answer}
+use Rattle.gt_model.specs.declared.trace.Answer.{Answer}
 use Rattle.gt_script_runs.specs.Printing.{answer_text}
 use Rattle.gt_json.specs.Strings.{quoted}
 use Rattle.gt_script.specs.Contents.{type_names}

@@ -5,15 +5,15 @@ use Rattle.gt_types.specs.declared.Dir.TheVariants.{Read, Write}
 use Rattle.gt_types.specs.declared.DomId.{DomId}
 use Rattle.gt_types.specs.declared.GrantRef.{GrantRef}
 use Rattle.gt_types.specs.declared.places.Spot.{Spot}
-use Rattle.gt_entry.specs.declared.change.BodyWord.{BodyWord}
-use Rattle.gt_entry.specs.declared.change.BodyWord.TheVariants.{First, Second}
-use Rattle.gt_entry.specs.declared.change.EntryChange.{EntryChange}
-use Rattle.gt_entry.specs.declared.change.EntryChange.TheVariants.{Demote, Promote, Publish, Revoke, Withdraw}
-use Rattle.gt_calls.specs.declared.action.Observation.{Observation}
-use Rattle.gt_calls.specs.declared.action.Observation.TheVariants.{Missed, Nothing, Taken, Word}
-use Rattle.gt_calls.specs.declared.action.Step.{Step}
-use Rattle.gt_calls.specs.declared.action.Step.TheVariants as steps
-use Rattle.gt_calls.specs.declared.held.HeldPin.{HeldPin}
+use Rattle.gt_model.specs.declared.change.BodyWord.{BodyWord}
+use Rattle.gt_model.specs.declared.change.BodyWord.TheVariants.{First, Second}
+use Rattle.gt_model.specs.declared.change.EntryChange.{EntryChange}
+use Rattle.gt_model.specs.declared.change.EntryChange.TheVariants.{Demote, Promote, Publish, Revoke, Withdraw}
+use Rattle.gt_model.specs.declared.action.Observation.{Observation}
+use Rattle.gt_model.specs.declared.action.Observation.TheVariants.{Missed, Nothing, Taken, Word}
+use Rattle.gt_model.specs.declared.action.Step.{Step}
+use Rattle.gt_model.specs.declared.action.Step.TheVariants as steps
+use Rattle.gt_model.specs.declared.held.HeldPin.{HeldPin}
 use Rattle.gt_explore_answers.specs.Facts.{move_part, number_part, value_part, word_part}
 use Rattle.gt_explore_answers.specs.declared.trace.facts.TraceForm.{TraceForm}
 use Rattle.gt_explore_answers.specs.declared.trace.facts.TraceForm.TheVariants.{Json, Mermaid, Text}

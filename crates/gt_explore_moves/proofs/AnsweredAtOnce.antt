@@ -5,30 +5,30 @@ use Rattle.gt_types.specs.declared.DomId.{DomId}
 use Rattle.gt_types.specs.declared.denial.Denial.{Denial}
 use Rattle.gt_types.specs.declared.denial.Field.{Field}
 use Rattle.gt_types.specs.declared.denial.Rule.TheVariants.{N20, N22, N9}
-use Rattle.gt_entry.specs.Bytes.{first_refused}
+use Rattle.gt_model.specs.Bytes.{first_refused}
 use Rattle.gt_types.specs.declared.TypeId.{TypeId}
 use Rattle.gt_types.specs.declared.perms.Perms.{Perms}
 use Rattle.gt_types.specs.declared.rights.Triple.{Triple}
-use Rattle.gt_entry.specs.declared.header.Header.{Header}
-use Rattle.gt_handles.specs.declared.handles.Handle.{Handle}
-use Rattle.gt_calls.specs.declared.action.CallValue.TheVariants.{Frames}
-use Rattle.gt_calls.specs.declared.action.CallResult.{CallResult}
-use Rattle.gt_calls.specs.declared.action.CallResult.TheVariants.{Given, Granted, Refused}
-use Rattle.gt_calls.specs.declared.held.HeldPin.{HeldPin}
-use Rattle.gt_calls.specs.declared.request.OpenRequest.{OpenRequest}
-use Rattle.gt_calls.specs.declared.request.OpenRequest.TheVariants.{Copy, GetVersion, Load, Map, Peek, QuerySize, SetupTable}
-use Rattle.gt_calls.specs.declared.request.OpenRequest.TheVariants.{Probe, Release, Store, Unmap}
-use Rattle.gt_calls.specs.declared.request.Request.{Request}
-use Rattle.gt_calls.specs.declared.request.Request.TheVariants as requests
-use Rattle.gt_calls.specs.Asking.{asked, begun_of, bytes_begun, field_refused}
-use Rattle.gt_calls.specs.Rules.{CallerKnowledge, begun, denied, first, refused_when}
+use Rattle.gt_model.specs.declared.header.Header.{Header}
+use Rattle.gt_model.specs.declared.handle.Handle.{Handle}
+use Rattle.gt_model.specs.declared.action.CallValue.TheVariants.{Frames}
+use Rattle.gt_model.specs.declared.action.CallResult.{CallResult}
+use Rattle.gt_model.specs.declared.action.CallResult.TheVariants.{Given, Granted, Refused}
+use Rattle.gt_model.specs.declared.held.HeldPin.{HeldPin}
+use Rattle.gt_model.specs.declared.request.OpenRequest.{OpenRequest}
+use Rattle.gt_model.specs.declared.request.OpenRequest.TheVariants.{Copy, GetVersion, Load, Map, Peek, QuerySize, SetupTable}
+use Rattle.gt_model.specs.declared.request.OpenRequest.TheVariants.{Probe, Release, Store, Unmap}
+use Rattle.gt_model.specs.declared.request.Request.{Request}
+use Rattle.gt_model.specs.declared.request.Request.TheVariants as requests
+use Rattle.gt_model.specs.Asking.{asked, begun_of, bytes_begun, field_refused}
+use Rattle.gt_model.specs.Rules.{CallerKnowledge, begun, denied, first, refused_when}
 use Rattle.gt_core.specs.Acting.{answer_of}
-use Rattle.gt_core.specs.History.{History, Pin, Setting, Underway, gather, known_at, mapping_named}
-use Rattle.gt_core.specs.History.{maps_answered_at, one_if_mapped, open_call, table_at}
-use Rattle.gt_core.specs.Legal.{AnsweredBy}
-use Rattle.gt_core.specs.declared.trace.Answer.{Answer}
-use Rattle.gt_core.specs.declared.trace.ItemEvent.TheVariants.{Began}
-use Rattle.gt_core.specs.declared.trace.Item.{Item}
+use Rattle.gt_model.specs.History.{History, Pin, Setting, Underway, gather, known_at, mapping_named}
+use Rattle.gt_model.specs.History.{maps_answered_at, one_if_mapped, open_call, table_at}
+use Rattle.gt_model.specs.Legal.{AnsweredBy}
+use Rattle.gt_model.specs.declared.trace.Answer.{Answer}
+use Rattle.gt_model.specs.declared.trace.ItemEvent.TheVariants.{Began}
+use Rattle.gt_model.specs.declared.trace.Item.{Item}
 use Rattle.gt_core.proofs.Steps.Observers.{KeepsKnown, answered-stays, kept-known, kept-live}
 use Rattle.gt_core.proofs.AgreementKept.{open_call-own}
 use Rattle.gt_script_runs.specs.Runs.{Named, handle_given, label_given, with_name}

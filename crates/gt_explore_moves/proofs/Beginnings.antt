@@ -1,18 +1,18 @@
 -- A call that is open makes a step.
 use Rattle.std.proofs.Common.{◌≡◌, None, sym, ◌∙◌, subst, arith}
 use Rattle.gt_types.specs.declared.DomId.{DomId}
-use Rattle.gt_entry.specs.declared.header.Header.{Header}
-use Rattle.gt_calls.specs.declared.action.Action.{Action}
-use Rattle.gt_calls.specs.declared.action.Action.TheVariants.{Step as Makes, Done}
-use Rattle.gt_calls.specs.declared.action.Observation.TheVariants.{Nothing}
-use Rattle.gt_calls.specs.declared.action.Step.{Step}
-use Rattle.gt_calls.specs.declared.action.CallResult.{CallResult}
+use Rattle.gt_model.specs.declared.header.Header.{Header}
+use Rattle.gt_model.specs.declared.action.Action.{Action}
+use Rattle.gt_model.specs.declared.action.Action.TheVariants.{Step as Makes, Done}
+use Rattle.gt_model.specs.declared.action.Observation.TheVariants.{Nothing}
+use Rattle.gt_model.specs.declared.action.Step.{Step}
+use Rattle.gt_model.specs.declared.action.CallResult.{CallResult}
 use Rattle.gt_calls.specs.declared.call.Call.{Call}
 use Rattle.gt_calls.specs.declared.call.CallStart.TheVariants.{Open as StartOpen}
-use Rattle.gt_calls.specs.declared.request.Request.{Request}
-use Rattle.gt_calls.specs.Asking.{SpellsItsEntry, asked, begun_of}
+use Rattle.gt_model.specs.declared.request.Request.{Request}
+use Rattle.gt_model.specs.Asking.{SpellsItsEntry, asked, begun_of}
 use Rattle.gt_calls.specs.Following.{Goes, IsLeftAlike, Starts}
-use Rattle.gt_calls.specs.Rules.{CallerKnowledge}
+use Rattle.gt_model.specs.Rules.{CallerKnowledge}
 use Rattle.gt_calls.specs.Standing.{IsFreshCall}
 use Rattle.gt_explore_moves.specs.Beginnings.{BeginsAlike, OpensAsRun}
 

@@ -6,7 +6,7 @@ use Rattle.std.proofs.lemmas.Bool.{eq-eqb, true≢false}
 use Rattle.std.proofs.lemmas.Slice.Eq.{bytes_eq-Decides}
 use Rattle.std.proofs.lemmas.Option.{none-some, same_Some}
 use Rattle.gt_types.specs.declared.DomId.{DomId}
-use Rattle.gt_handles.specs.declared.handles.Handle.{Handle}
+use Rattle.gt_model.specs.declared.handle.Handle.{Handle}
 use Rattle.gt_script_runs.specs.Runs.{Named, handle_named, with_name}
 use Rattle.gt_explore_moves.specs.Calls.{LabelsShow}
 use Rattle.gt_explore_moves.specs.Placing.{CountFrom, place_names, place_names_after}

@@ -6,16 +6,16 @@ use Rattle.std.proofs.lemmas.List.{length-map}
 use Rattle.std.proofs.lemmas.Option.{slice_get_past}
 use Rattle.gt_types.specs.declared.DomId.{DomId}
 use Rattle.gt_handles.specs.Handles.{value_of}
-use Rattle.gt_handles.specs.declared.handles.Handle.{Handle}
-use Rattle.gt_calls.specs.declared.action.CallResult.{CallResult}
-use Rattle.gt_calls.specs.declared.action.Step.{Step}
+use Rattle.gt_model.specs.declared.handle.Handle.{Handle}
+use Rattle.gt_model.specs.declared.action.CallResult.{CallResult}
+use Rattle.gt_model.specs.declared.action.Step.{Step}
 use Rattle.gt_calls.specs.declared.call.Call.{Call}
-use Rattle.gt_calls.specs.declared.held.HeldPin.{HeldPin}
-use Rattle.gt_calls.specs.declared.judging.TheConstants.{SERIAL_LIMIT}
-use Rattle.gt_calls.specs.declared.request.OpenRequest.{OpenRequest}
-use Rattle.gt_calls.specs.declared.request.Request.{Request}
-use Rattle.gt_calls.specs.Asking.{asked, begun_of, bytes_of, plainly_asked}
-use Rattle.gt_core.specs.History.{History, Setting, known_at, mapping_of, mappings_at, maps_answered_at}
+use Rattle.gt_model.specs.declared.held.HeldPin.{HeldPin}
+use Rattle.gt_model.specs.declared.bounds.TheConstants.{SERIAL_LIMIT}
+use Rattle.gt_model.specs.declared.request.OpenRequest.{OpenRequest}
+use Rattle.gt_model.specs.declared.request.Request.{Request}
+use Rattle.gt_model.specs.Asking.{asked, begun_of, bytes_of, plainly_asked}
+use Rattle.gt_model.specs.History.{History, Setting, known_at, mapping_of, mappings_at, maps_answered_at}
 use Rattle.gt_script_runs.specs.Runs.{Named, MakesRequest, handle_of, never_given}
 use Rattle.gt_script_lines.specs.declared.calls.ScriptCall.{ScriptCall}
 use Rattle.gt_explore_replay.specs.Courses.{Course}
@@ -40,15 +40,15 @@ use Rattle.std.proofs.Common.{Bor, inl, inr, ◌≤◌}
 use Rattle.std.specs.Prelude.{unwrap_or}
 use Rattle.std.proofs.lemmas.Option.{none-some}
 use Rattle.gt_calls.specs.Opening.{opens}
-use Rattle.gt_calls.specs.Rules.{CallerKnowledge, release_begun}
-use Rattle.gt_calls.specs.declared.request.OpenRequest.TheVariants as asks-for
+use Rattle.gt_model.specs.Rules.{CallerKnowledge, release_begun}
+use Rattle.gt_model.specs.declared.request.OpenRequest.TheVariants as asks-for
 use Rattle.gt_script_runs.specs.Naming.{AreNamed}
 use Rattle.gt_script_runs.specs.Runs.{call_bytes, handle_named, request_of}
 use Rattle.gt_script_lines.specs.declared.calls.ScriptCall.TheVariants as calls
 use Rattle.gt_explore_moves.specs.Beginnings.{OpensSo}
 use Rattle.gt_explore_moves.specs.Calls.{AsksByPlace}
-use Rattle.gt_calls.specs.declared.request.Request.TheVariants as requests
-use Rattle.gt_core.specs.History.{open_call}
+use Rattle.gt_model.specs.declared.request.Request.TheVariants as requests
+use Rattle.gt_model.specs.History.{open_call}
 use Rattle.gt_explore_replay.specs.Courses.{resting}
 use Rattle.gt_explore_moves.specs.Starting.{BeginsAsRun, GivesAsRun}
 use Rattle.gt_explore_moves.proofs.ByPlace.{get-there}

@@ -8,21 +8,21 @@ use Rattle.std.proofs.lemmas.List.{length-map, map-append}
 use Rattle.std.proofs.lemmas.Option.{none-some, same_Some, slice_get_within}
 use Rattle.std.proofs.lemmas.Slice.Eq.{bytes_eq-Decides}
 use Rattle.gt_types.specs.declared.DomId.{DomId}
-use Rattle.gt_entry.specs.declared.entry.Entry.{Entry}
-use Rattle.gt_handles.specs.declared.handles.Handle.{Handle}
-use Rattle.gt_calls.specs.declared.action.Observation.{Observation}
-use Rattle.gt_calls.specs.declared.action.Observation.TheVariants.{Taken}
-use Rattle.gt_calls.specs.declared.action.Step.{Step}
-use Rattle.gt_calls.specs.declared.action.Step.TheVariants.{Exchange, Pin as PinStep, Unpin}
-use Rattle.gt_calls.specs.declared.held.HeldPin.{HeldPin}
-use Rattle.gt_calls.specs.declared.request.PinHolder.TheVariants.{Leg as ByLeg, Mapping as ByHandle}
+use Rattle.gt_model.specs.declared.entry.Entry.{Entry}
+use Rattle.gt_model.specs.declared.handle.Handle.{Handle}
+use Rattle.gt_model.specs.declared.action.Observation.{Observation}
+use Rattle.gt_model.specs.declared.action.Observation.TheVariants.{Taken}
+use Rattle.gt_model.specs.declared.action.Step.{Step}
+use Rattle.gt_model.specs.declared.action.Step.TheVariants.{Exchange, Pin as PinStep, Unpin}
+use Rattle.gt_model.specs.declared.held.HeldPin.{HeldPin}
+use Rattle.gt_model.specs.declared.request.PinHolder.TheVariants.{Leg as ByLeg, Mapping as ByHandle}
 use Rattle.gt_core.specs.Alike.{IsRun}
-use Rattle.gt_core.specs.History.{History, Pin, Setting, Underway, entry_at, gather, holder_after, legs_at, live}
-use Rattle.gt_core.specs.History.{mapping_named, mappings_at, maps_answered_at}
-use Rattle.gt_core.specs.History.{one_if_mapped, open_call, underway_after}
-use Rattle.gt_core.specs.declared.trace.Answer.{Answer}
-use Rattle.gt_core.specs.declared.trace.Answer.TheVariants.{Mapped}
-use Rattle.gt_core.specs.declared.trace.Item.{Item}
+use Rattle.gt_model.specs.History.{History, Pin, Setting, Underway, entry_at, gather, holder_after, legs_at, live}
+use Rattle.gt_model.specs.History.{mapping_named, mappings_at, maps_answered_at}
+use Rattle.gt_model.specs.History.{one_if_mapped, open_call, underway_after}
+use Rattle.gt_model.specs.declared.trace.Answer.{Answer}
+use Rattle.gt_model.specs.declared.trace.Answer.TheVariants.{Mapped}
+use Rattle.gt_model.specs.declared.trace.Item.{Item}
 use Rattle.gt_core.proofs.AgreementKept.{open_call-own}
 use Rattle.gt_core.proofs.Steps.Observers.{answered-stays, exchanged-live, gather-append, kept-live, new_pin}
 use Rattle.gt_core.proofs.Steps.Observers.{pinned-live, stepped}

@@ -3,21 +3,21 @@ use Rattle.std.proofs.Common.{◌≡◌, ◌+◌, ◌≤◌, ℕ, zero, suc, ref
 use Rattle.std.proofs.Common.{sym, ap, ◌∙◌, arith, subst}
 use Rattle.std.specs.Prelude.{slice_get}
 use Rattle.gt_types.specs.declared.DomId.{DomId}
-use Rattle.gt_handles.specs.declared.handles.Handle.{Handle}
-use Rattle.gt_calls.specs.declared.action.Action.TheVariants.{Step as Makes}
-use Rattle.gt_calls.specs.declared.action.Step.{Step}
+use Rattle.gt_model.specs.declared.handle.Handle.{Handle}
+use Rattle.gt_model.specs.declared.action.Action.TheVariants.{Step as Makes}
+use Rattle.gt_model.specs.declared.action.Step.{Step}
 use Rattle.gt_calls.specs.declared.call.Call.{Call}
-use Rattle.gt_calls.specs.declared.held.HeldPin.{HeldPin}
-use Rattle.gt_calls.specs.declared.request.OpenRequest.{OpenRequest}
-use Rattle.gt_calls.specs.declared.request.Request.{Request}
-use Rattle.gt_calls.specs.Asking.{asked, bytes_given_by}
-use Rattle.gt_calls.specs.Path.{path}
-use Rattle.gt_calls.specs.Rules.{CallerKnowledge}
+use Rattle.gt_model.specs.declared.held.HeldPin.{HeldPin}
+use Rattle.gt_model.specs.declared.request.OpenRequest.{OpenRequest}
+use Rattle.gt_model.specs.declared.request.Request.{Request}
+use Rattle.gt_model.specs.Asking.{asked, bytes_given_by}
+use Rattle.gt_model.specs.Path.{path}
+use Rattle.gt_model.specs.Rules.{CallerKnowledge}
 use Rattle.gt_calls.specs.Standing.{IsAt}
-use Rattle.gt_core.specs.History.{History, Pin, Setting, Underway, gather, mapping_named}
-use Rattle.gt_core.specs.History.{maps_answered_at, open_call}
-use Rattle.gt_core.specs.declared.trace.ItemEvent.TheVariants.{Began}
-use Rattle.gt_core.specs.declared.trace.Item.{Item}
+use Rattle.gt_model.specs.History.{History, Pin, Setting, Underway, gather, mapping_named}
+use Rattle.gt_model.specs.History.{maps_answered_at, open_call}
+use Rattle.gt_model.specs.declared.trace.ItemEvent.TheVariants.{Began}
+use Rattle.gt_model.specs.declared.trace.Item.{Item}
 use Rattle.gt_core.proofs.Steps.Observers.{answered-stays, kept-known, kept-live}
 use Rattle.gt_core.proofs.AgreementKept.{open_call-own}
 use Rattle.gt_script_runs.specs.Runs.{MakesRequest}

@@ -5,9 +5,9 @@ use Rattle.std.specs.Prelude.{◌&&◌, ◌==◌, nat_le, not, slice_get}
 use Rattle.std.proofs.lemmas.Bool.{and_parts, eq-eqb, eqb-true}
 use Rattle.std.proofs.lemmas.List.{length-map}
 use Rattle.std.proofs.lemmas.Option.{none-some, slice_get_within}
-use Rattle.gt_handles.specs.declared.handles.Handle.{Handle}
-use Rattle.gt_calls.specs.declared.held.HeldPin.{HeldPin}
-use Rattle.gt_core.specs.History.{History, Setting, Underway, mappings_at, open_call}
+use Rattle.gt_model.specs.declared.handle.Handle.{Handle}
+use Rattle.gt_model.specs.declared.held.HeldPin.{HeldPin}
+use Rattle.gt_model.specs.History.{History, Setting, Underway, mappings_at, open_call}
 use Rattle.gt_explore_replay.specs.Courses.{Course, CourseEnds, CourseLeads, Opened, OpenLeads, RestLeads, calling, giving}
 use Rattle.gt_explore_replay.specs.Courses.{resting}
 use Rattle.gt_explore_replay.specs.Orders.{Happening}

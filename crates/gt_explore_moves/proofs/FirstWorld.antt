@@ -14,7 +14,7 @@ use Rattle.gt_types.specs.declared.DomId.{DomId}
 use Rattle.gt_types.specs.declared.config.Config.{Config}
 use Rattle.gt_types.specs.declared.config.DomainConfig.{DomainConfig}
 use Rattle.gt_core.specs.Acting.{setting_of}
-use Rattle.gt_core.specs.History.{Setting, gather, live, maps_answered_at, open_call}
+use Rattle.gt_model.specs.History.{Setting, gather, live, maps_answered_at, open_call}
 use Rattle.gt_script_runs.specs.Playing.{setting_of_script}
 use Rattle.gt_script_runs.specs.Rights.{may_in}
 use Rattle.gt_explore_replay.specs.Courses.{Course, first_courses, resting}

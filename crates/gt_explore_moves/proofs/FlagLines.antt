@@ -1,7 +1,7 @@
 -- A domain of a state goes past a line that begins no call.
 use Rattle.std.proofs.Common.{◌≡◌, ◌+◌, ◌<◌, ◌^◌, ℕ, List, ◌∷◌, Option, Some, None, sym, ◌∙◌, arith, subst}
 use Rattle.std.specs.Prelude.{slice_set}
-use Rattle.gt_core.specs.History.{History, Setting, Underway, open_call}
+use Rattle.gt_model.specs.History.{History, Setting, Underway, open_call}
 use Rattle.gt_explore_replay.specs.Courses.{Course, Opened, resting}
 use Rattle.gt_script.specs.Lists.{RunTask}
 use Rattle.gt_explore_moves.specs.Calls.{ShowsCalls, ShowsOpen}

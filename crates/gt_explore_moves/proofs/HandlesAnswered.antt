@@ -3,16 +3,16 @@ use Rattle.std.proofs.Common.{◌≡◌, ℕ, refl, List, ◌∷◌, Option, Som
 use Rattle.hex.specs.Hex.{IsBytes}
 use Rattle.gt_types.specs.declared.DomId.{DomId}
 use Rattle.gt_types.specs.declared.GrantRef.{GrantRef}
-use Rattle.gt_handles.specs.declared.handles.Handle.{Handle}
-use Rattle.gt_entry.specs.Entries.{IsEntry}
-use Rattle.gt_entry.specs.declared.entry.Entry.{Entry}
-use Rattle.gt_calls.specs.Asking.{FitsAsked, asked}
-use Rattle.gt_calls.specs.declared.request.Request.{Request}
+use Rattle.gt_model.specs.declared.handle.Handle.{Handle}
+use Rattle.gt_model.specs.Entries.{IsEntry}
+use Rattle.gt_model.specs.declared.entry.Entry.{Entry}
+use Rattle.gt_model.specs.Asking.{FitsAsked, asked}
+use Rattle.gt_model.specs.declared.request.Request.{Request}
 use Rattle.gt_core.specs.Alike.{IsGiven}
-use Rattle.gt_core.specs.History.{History}
-use Rattle.gt_core.specs.declared.trace.Answer.{Answer}
-use Rattle.gt_core.specs.declared.trace.Element.TheVariants.{Item as Did}
-use Rattle.gt_core.specs.declared.trace.Item.{Item}
+use Rattle.gt_model.specs.History.{History}
+use Rattle.gt_model.specs.declared.trace.Answer.{Answer}
+use Rattle.gt_model.specs.declared.trace.Element.TheVariants.{Item as Did}
+use Rattle.gt_model.specs.declared.trace.Item.{Item}
 use Rattle.gt_script_runs.specs.Runs.{Named, MakesRequest, call_bytes, request_of}
 use Rattle.gt_script_runs.proofs.AlikeLemmas.{AnswerGiven}
 use Rattle.gt_script_lines.specs.declared.calls.ScriptCall.{ScriptCall}

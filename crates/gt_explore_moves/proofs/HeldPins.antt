@@ -11,48 +11,48 @@ use Rattle.gt_types.specs.declared.DomId.{DomId}
 use Rattle.gt_types.specs.declared.copies.CopyArgs.{CopyArgs}
 use Rattle.gt_types.specs.declared.GrantRef.{GrantRef}
 use Rattle.gt_types.specs.declared.denial.Denial.{Denial}
-use Rattle.gt_handles.specs.declared.handles.Handle.{Handle}
-use Rattle.gt_entry.specs.Entries.{with_ro}
-use Rattle.gt_entry.specs.Spelling.{control_with, entry_of}
-use Rattle.gt_entry.specs.Words.{control_of, control_word, flag, kind_bits, kind_of}
-use Rattle.gt_entry.specs.declared.change.EntryChange.{EntryChange}
-use Rattle.gt_entry.specs.declared.change.EntryChange.TheVariants.{Demote as ToReadOnly, Promote as ToWritable}
-use Rattle.gt_entry.specs.declared.change.EntryChange.TheVariants.{Publish, Revoke as ToInvalid}
-use Rattle.gt_entry.specs.declared.change.EntryChange.TheVariants.{Withdraw as ToWithdrawn}
-use Rattle.gt_entry.specs.declared.control.Control.{Control}
-use Rattle.gt_entry.specs.declared.control.EntryKind.{EntryKind}
-use Rattle.gt_entry.specs.declared.control.EntryKind.TheVariants as kinds
-use Rattle.gt_entry.specs.declared.entry.Entry.{Entry}
-use Rattle.gt_entry.specs.declared.entry.Entry.TheVariants as entries
-use Rattle.gt_calls.specs.Asking.{asked}
-use Rattle.gt_calls.specs.Path.{Continuation, after_beginning, path, steps_of}
-use Rattle.gt_calls.specs.Rules.{begun}
-use Rattle.gt_calls.specs.declared.action.Action.{Action}
-use Rattle.gt_calls.specs.declared.action.Action.TheVariants.{Step as Makes, Done}
-use Rattle.gt_calls.specs.declared.action.CallResult.{CallResult}
-use Rattle.gt_calls.specs.declared.action.CallResult.TheVariants.{Mapped as KeptPin}
-use Rattle.gt_calls.specs.declared.action.Observation.{Observation}
-use Rattle.gt_calls.specs.declared.action.Observation.TheVariants.{Missed, Taken}
-use Rattle.gt_calls.specs.declared.action.Step.{Step}
-use Rattle.gt_calls.specs.declared.action.Step.TheVariants.{Exchange, Pin as PinStep, Unpin}
-use Rattle.gt_calls.specs.declared.held.HeldPin.{HeldPin}
-use Rattle.gt_calls.specs.declared.request.OpenRequest.{OpenRequest}
-use Rattle.gt_calls.specs.declared.request.OpenRequest.TheVariants.{Copy, Grant, Load, Map, Probe, Store}
-use Rattle.gt_calls.specs.declared.request.PinHolder.TheVariants.{Mapping as ByHandle, Leg as ByLeg}
-use Rattle.gt_calls.specs.declared.request.Request.{Request}
-use Rattle.gt_core.specs.FirstRule.{refusal_in, stood}
-use Rattle.gt_core.specs.History.{History, Setting, Underway, by_leg, change_at, change_of, changed_entry_of, entry_at}
-use Rattle.gt_core.specs.History.{gather, holder_after, known_at, legs_at, live}
-use Rattle.gt_core.specs.History.{exchange_sees, generation_at, open_call, reads_at, seen_by, underway_after, values}
-use Rattle.gt_core.specs.History.{without, word_at, writes_at}
-use Rattle.gt_core.specs.Legal.{AnsweredBy, GivesValue, IsLegalHistory, IsRight, StepsRight, StepsRightIn}
-use Rattle.gt_core.specs.Legal.{gives_back, next_in, refusal_of, verdict_in}
+use Rattle.gt_model.specs.declared.handle.Handle.{Handle}
+use Rattle.gt_model.specs.Entries.{with_ro}
+use Rattle.gt_model.specs.Spelling.{control_with, entry_of}
+use Rattle.gt_model.specs.Words.{control_of, control_word, flag, kind_bits, kind_of}
+use Rattle.gt_model.specs.declared.change.EntryChange.{EntryChange}
+use Rattle.gt_model.specs.declared.change.EntryChange.TheVariants.{Demote as ToReadOnly, Promote as ToWritable}
+use Rattle.gt_model.specs.declared.change.EntryChange.TheVariants.{Publish, Revoke as ToInvalid}
+use Rattle.gt_model.specs.declared.change.EntryChange.TheVariants.{Withdraw as ToWithdrawn}
+use Rattle.gt_model.specs.declared.control.Control.{Control}
+use Rattle.gt_model.specs.declared.control.EntryKind.{EntryKind}
+use Rattle.gt_model.specs.declared.control.EntryKind.TheVariants as kinds
+use Rattle.gt_model.specs.declared.entry.Entry.{Entry}
+use Rattle.gt_model.specs.declared.entry.Entry.TheVariants as entries
+use Rattle.gt_model.specs.Asking.{asked}
+use Rattle.gt_model.specs.Path.{Continuation, after_beginning, path, steps_of}
+use Rattle.gt_model.specs.Rules.{begun}
+use Rattle.gt_model.specs.declared.action.Action.{Action}
+use Rattle.gt_model.specs.declared.action.Action.TheVariants.{Step as Makes, Done}
+use Rattle.gt_model.specs.declared.action.CallResult.{CallResult}
+use Rattle.gt_model.specs.declared.action.CallResult.TheVariants.{Mapped as KeptPin}
+use Rattle.gt_model.specs.declared.action.Observation.{Observation}
+use Rattle.gt_model.specs.declared.action.Observation.TheVariants.{Missed, Taken}
+use Rattle.gt_model.specs.declared.action.Step.{Step}
+use Rattle.gt_model.specs.declared.action.Step.TheVariants.{Exchange, Pin as PinStep, Unpin}
+use Rattle.gt_model.specs.declared.held.HeldPin.{HeldPin}
+use Rattle.gt_model.specs.declared.request.OpenRequest.{OpenRequest}
+use Rattle.gt_model.specs.declared.request.OpenRequest.TheVariants.{Copy, Grant, Load, Map, Probe, Store}
+use Rattle.gt_model.specs.declared.request.PinHolder.TheVariants.{Mapping as ByHandle, Leg as ByLeg}
+use Rattle.gt_model.specs.declared.request.Request.{Request}
+use Rattle.gt_model.specs.FirstRule.{refusal_in, stood}
+use Rattle.gt_model.specs.History.{History, Setting, Underway, by_leg, change_at, change_of, changed_entry_of, entry_at}
+use Rattle.gt_model.specs.History.{gather, holder_after, known_at, legs_at, live}
+use Rattle.gt_model.specs.History.{exchange_sees, generation_at, open_call, reads_at, seen_by, underway_after, values}
+use Rattle.gt_model.specs.History.{without, word_at, writes_at}
+use Rattle.gt_model.specs.Legal.{AnsweredBy, GivesValue, IsLegalHistory, IsRight, StepsRight, StepsRightIn}
+use Rattle.gt_model.specs.Legal.{gives_back, next_in, refusal_of, verdict_in}
 use Rattle.gt_core.specs.Phases.{numbered}
-use Rattle.gt_core.specs.declared.trace.Answer.{Answer}
-use Rattle.gt_core.specs.declared.trace.Answer.TheVariants.{Denied, Done as AnswerDone, Mapped}
-use Rattle.gt_core.specs.declared.trace.Item.{Item}
-use Rattle.gt_core.specs.declared.trace.ItemEvent.{ItemEvent}
-use Rattle.gt_core.specs.declared.trace.ItemEvent.TheVariants.{Began, Stepped}
+use Rattle.gt_model.specs.declared.trace.Answer.{Answer}
+use Rattle.gt_model.specs.declared.trace.Answer.TheVariants.{Denied, Done as AnswerDone, Mapped}
+use Rattle.gt_model.specs.declared.trace.Item.{Item}
+use Rattle.gt_model.specs.declared.trace.ItemEvent.{ItemEvent}
+use Rattle.gt_model.specs.declared.trace.ItemEvent.TheVariants.{Began, Stepped}
 use Rattle.gt_core.proofs.AgreementKept.{open_call-other, open_call-own}
 use Rattle.gt_core.proofs.Steps.Observers.{exchanged-entry, other-pins, stepped, unpinned-live}
 use Rattle.gt_core.proofs.Steps.Pin.{leg-grows, map-legs}

@@ -23,21 +23,21 @@ use Rattle.gt_core.proofs.{Outcomes.single-ends, Values.call-ends, Values.EndsWi
 use Rattle.gt_core.proofs.{Steps.Pin.can-pin}
 use Rattle.gt_core.specs.Acting.{answer_with}
 use Rattle.gt_core.specs.GoingOn.{CanBeReached}
-use Rattle.gt_core.specs.Legal.{gives_back, next_in, refusal_of}
+use Rattle.gt_model.specs.Legal.{gives_back, next_in, refusal_of}
 use Rattle.gt_core.specs.Prelude.{WriteBytes}
-use Rattle.gt_core.specs.declared.trace.Answer.{Answer}
-use Rattle.gt_core.specs.declared.trace.Answer.TheVariants as answers
-use Rattle.gt_core.specs.declared.trace.Bytes.{Bytes}
+use Rattle.gt_model.specs.declared.trace.Answer.{Answer}
+use Rattle.gt_model.specs.declared.trace.Answer.TheVariants as answers
+use Rattle.gt_model.specs.declared.trace.Bytes.{Bytes}
 use Rattle.gt_core.specs.declared.underway.OpenCall.{OpenCall}
 use Rattle.gt_calls.proofs.Advancing.{continues}
-use Rattle.gt_calls.specs.declared.action.CallValue.{CallValue}
+use Rattle.gt_model.specs.declared.action.CallValue.{CallValue}
 use Rattle.gt_calls.specs.Following.{FitsNext}
-use Rattle.gt_calls.specs.Path.{Continuation}
+use Rattle.gt_model.specs.Path.{Continuation}
 use Rattle.gt_explore_state.specs.Likeness.{IsLikeReached}
 use Rattle.gt_explore_state.specs.Shows.{IsInRun}
 use Rattle.gt_explore_state.proofs.AlikeFitting.{path-at, same-bare}
 use Rattle.gt_explore_moves.specs.Ticking.{AnswersEnd}
-use Rattle.gt_calls.specs.Holding.{no_pins}
+use Rattle.gt_model.specs.Holding.{no_pins}
 use Rattle.gt_calls.specs.Machine.{next_to_give, settled}
 use Rattle.gt_calls.specs.Following.{Goes, HoldsAfter}
 use Rattle.gt_calls.specs.Standing.{held_in}

@@ -6,22 +6,22 @@ use Rattle.std.specs.Prelude.{slice_get, slice_set}
 use Rattle.std.proofs.lemmas.List.{length-map}
 use Rattle.gt_types.specs.declared.denial.Denial.{Denial}
 use Rattle.gt_types.specs.declared.DomId.{DomId}
-use Rattle.gt_calls.specs.declared.action.Step.{Step}
-use Rattle.gt_calls.specs.declared.action.CallResult.{CallResult}
+use Rattle.gt_model.specs.declared.action.Step.{Step}
+use Rattle.gt_model.specs.declared.action.CallResult.{CallResult}
 use Rattle.gt_calls.specs.declared.call.Call.{Call}
-use Rattle.gt_calls.specs.declared.request.OpenRequest.{OpenRequest}
-use Rattle.gt_calls.specs.declared.request.Request.{Request}
-use Rattle.gt_calls.specs.Asking.{asked, begun_of}
+use Rattle.gt_model.specs.declared.request.OpenRequest.{OpenRequest}
+use Rattle.gt_model.specs.declared.request.Request.{Request}
+use Rattle.gt_model.specs.Asking.{asked, begun_of}
 use Rattle.gt_core.specs.Acting.{answer_of}
 use Rattle.gt_core.specs.GoingOn.{beginning}
-use Rattle.gt_core.specs.History.{History, Setting, known_at}
-use Rattle.gt_core.specs.Legal.{AnsweredBy, BeginsRight}
-use Rattle.gt_core.specs.declared.trace.Answer.{Answer}
+use Rattle.gt_model.specs.History.{History, Setting, known_at}
+use Rattle.gt_model.specs.Legal.{AnsweredBy, BeginsRight}
+use Rattle.gt_model.specs.declared.trace.Answer.{Answer}
 use Rattle.gt_script_runs.specs.Printing.{answer_line}
 use Rattle.gt_script_runs.specs.Runs.{MakesRequest}
 use Rattle.gt_script_lines.specs.declared.calls.ScriptCall.{ScriptCall}
-use Rattle.gt_calls.specs.declared.request.Request.TheVariants.{Release}
-use Rattle.gt_handles.specs.declared.handles.Handle.{Handle}
+use Rattle.gt_model.specs.declared.request.Request.TheVariants.{Release}
+use Rattle.gt_model.specs.declared.handle.Handle.{Handle}
 use Rattle.gt_explore_replay.specs.Courses.{Course, back_after, course_after, resting}
 use Rattle.gt_explore_replay.specs.Orders.{given_up}
 use Rattle.gt_script.specs.Lists.{RunTask}

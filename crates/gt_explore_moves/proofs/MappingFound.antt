@@ -5,14 +5,14 @@ use Rattle.std.proofs.Common.{◌∷◌, length, map, Option, Some, None, sym, a
 use Rattle.std.specs.Prelude.{slice_get, unwrap_or}
 use Rattle.std.proofs.lemmas.Bool.{eq-eqb}
 use Rattle.gt_types.specs.declared.DomId.{DomId}
-use Rattle.gt_handles.specs.Handles.{same_handle}
+use Rattle.gt_model.specs.Handle.{same_handle}
 use Rattle.gt_handles.specs.Listing.{listed}
-use Rattle.gt_handles.specs.declared.handles.Handle.{Handle}
-use Rattle.gt_calls.specs.declared.held.HeldPin.{HeldPin}
-use Rattle.gt_calls.specs.declared.request.OpenRequest.TheVariants as asks
-use Rattle.gt_calls.specs.declared.request.Request.{Request}
-use Rattle.gt_calls.specs.Asking.{asked, bytes_of, plainly_asked}
-use Rattle.gt_core.specs.History.{mapping_of}
+use Rattle.gt_model.specs.declared.handle.Handle.{Handle}
+use Rattle.gt_model.specs.declared.held.HeldPin.{HeldPin}
+use Rattle.gt_model.specs.declared.request.OpenRequest.TheVariants as asks
+use Rattle.gt_model.specs.declared.request.Request.{Request}
+use Rattle.gt_model.specs.Asking.{asked, bytes_of, plainly_asked}
+use Rattle.gt_model.specs.History.{mapping_of}
 use Rattle.gt_script_runs.specs.Runs.{Named, MakesRequest, handle_named, handle_of, never_given, request_of}
 use Rattle.gt_script_lines.specs.declared.calls.ScriptCall.{ScriptCall}
 use Rattle.gt_script_lines.specs.declared.calls.ScriptCall.TheVariants as calls

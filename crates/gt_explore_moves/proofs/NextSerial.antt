@@ -7,20 +7,20 @@ use Rattle.std.proofs.lemmas.Bool.{eqb-true}
 use Rattle.std.proofs.lemmas.Option.{none-some, same_Some}
 use Rattle.gt_types.specs.declared.DomId.{DomId}
 use Rattle.gt_types.specs.declared.denial.Denial.{Denial}
-use Rattle.gt_handles.specs.declared.handles.Handle.{Handle}
-use Rattle.gt_calls.specs.declared.action.Observation.{Observation}
-use Rattle.gt_calls.specs.declared.action.Step.{Step}
-use Rattle.gt_calls.specs.declared.action.CallResult.{CallResult}
-use Rattle.gt_calls.specs.declared.request.OpenRequest.{OpenRequest}
-use Rattle.gt_calls.specs.Asking.{asked}
+use Rattle.gt_model.specs.declared.handle.Handle.{Handle}
+use Rattle.gt_model.specs.declared.action.Observation.{Observation}
+use Rattle.gt_model.specs.declared.action.Step.{Step}
+use Rattle.gt_model.specs.declared.action.CallResult.{CallResult}
+use Rattle.gt_model.specs.declared.request.OpenRequest.{OpenRequest}
+use Rattle.gt_model.specs.Asking.{asked}
 use Rattle.gt_core.specs.Alike.{IsGiven, IsRun}
-use Rattle.gt_core.specs.History.{History, Setting, Underway, maps_answered_at, one_if_mapped, open_call}
-use Rattle.gt_core.specs.Legal.{AnsweredBy, IsRight, StepsRightIn}
-use Rattle.gt_core.specs.declared.trace.Answer.{Answer}
-use Rattle.gt_core.specs.declared.trace.Answer.TheVariants.{Mapped}
-use Rattle.gt_core.specs.declared.trace.ItemEvent.{ItemEvent}
-use Rattle.gt_core.specs.declared.trace.ItemEvent.TheVariants.{Began, Stepped}
-use Rattle.gt_core.specs.declared.trace.Item.{Item}
+use Rattle.gt_model.specs.History.{History, Setting, Underway, maps_answered_at, one_if_mapped, open_call}
+use Rattle.gt_model.specs.Legal.{AnsweredBy, IsRight, StepsRightIn}
+use Rattle.gt_model.specs.declared.trace.Answer.{Answer}
+use Rattle.gt_model.specs.declared.trace.Answer.TheVariants.{Mapped}
+use Rattle.gt_model.specs.declared.trace.ItemEvent.{ItemEvent}
+use Rattle.gt_model.specs.declared.trace.ItemEvent.TheVariants.{Began, Stepped}
+use Rattle.gt_model.specs.declared.trace.Item.{Item}
 use Rattle.gt_script_runs.specs.Runs.{Named, handle_named}
 use Rattle.gt_explore_replay.specs.Abreast.{HaveAnswered}
 

@@ -4,12 +4,12 @@ use Rattle.std.proofs.Common.{Option, Some, sym, ap, ◌∙◌, arith}
 use Rattle.std.specs.Prelude.{slice_get}
 use Rattle.std.proofs.lemmas.Option.{none-some, same_Some}
 use Rattle.gt_types.specs.declared.DomId.{DomId}
-use Rattle.gt_handles.specs.declared.handles.Handle.{Handle}
-use Rattle.gt_calls.specs.declared.action.Observation.{Observation}
-use Rattle.gt_calls.specs.declared.held.HeldPin.{HeldPin}
-use Rattle.gt_calls.specs.declared.request.PinHolder.TheVariants.{Mapping as ByHandle}
-use Rattle.gt_core.specs.History.{History, Pin, gather, live, mapping_named, mappings_at, same_handle, without}
-use Rattle.gt_core.specs.declared.trace.Answer.{Answer}
+use Rattle.gt_model.specs.declared.handle.Handle.{Handle}
+use Rattle.gt_model.specs.declared.action.Observation.{Observation}
+use Rattle.gt_model.specs.declared.held.HeldPin.{HeldPin}
+use Rattle.gt_model.specs.declared.request.PinHolder.TheVariants.{Mapping as ByHandle}
+use Rattle.gt_model.specs.History.{History, Pin, gather, live, mapping_named, mappings_at, same_handle, without}
+use Rattle.gt_model.specs.declared.trace.Answer.{Answer}
 use Rattle.gt_core.proofs.Mappings.{less}
 use Rattle.gt_core.proofs.Steps.Observers.{unpinned-live, unpins}
 use Rattle.gt_script_runs.specs.Runs.{Named}

@@ -7,36 +7,36 @@ use Rattle.gt_types.specs.declared.DomId.{DomId}
 use Rattle.gt_types.specs.declared.GrantRef.{GrantRef}
 use Rattle.gt_types.specs.declared.denial.Denial.{Denial}
 use Rattle.gt_types.specs.declared.denial.Rule.{Rule}
-use Rattle.gt_entry.specs.declared.change.BodyWord.{BodyWord}
-use Rattle.gt_entry.specs.declared.change.BodyWord.TheVariants.{First as FirstHalf, Second as SecondHalf}
-use Rattle.gt_entry.specs.declared.change.EntryChange.{EntryChange}
-use Rattle.gt_entry.specs.declared.change.EntryChange.TheVariants.{Publish}
-use Rattle.gt_entry.specs.declared.entry.Entry.TheVariants as entries
-use Rattle.gt_entry.specs.declared.entry.Entry.{Entry as TableEntry}
-use Rattle.gt_entry.specs.Words.{control_of, header_of}
-use Rattle.gt_entry.specs.declared.control.EntryKind.TheVariants.{Sub as KindSub}
-use Rattle.gt_calls.specs.Path.{AfterPin, AfterRefusal, Continuation, after_first, beyond}
-use Rattle.gt_calls.specs.Path.{at_first_look, by_mapping}
-use Rattle.gt_calls.specs.Path.{ended, exchanges, exchanges_once, give_back, grant_path, held_of, is_stopped, last_step}
-use Rattle.gt_calls.specs.Path.{leg, looks, makes, reaches, reads_body, refused_holding, second_leg}
-use Rattle.gt_calls.specs.Path.{rule_of_try, tries, try_pin, turn, turns, unless_refused}
-use Rattle.gt_calls.specs.Rules.{CallerKnowledge, first_body, first_look, is_kind, size_of, via_judged}
-use Rattle.gt_calls.specs.declared.action.Action.{Action}
-use Rattle.gt_calls.specs.declared.action.Action.TheVariants.{Step as Makes, Done}
-use Rattle.gt_calls.specs.declared.action.CallResult.{CallResult}
-use Rattle.gt_calls.specs.declared.action.CallResult.TheVariants.{Granted, Refused}
-use Rattle.gt_calls.specs.declared.action.Observation.{Observation}
-use Rattle.gt_calls.specs.declared.action.Observation.TheVariants.{Missed, Nothing, Taken, Word}
-use Rattle.gt_calls.specs.declared.action.Step.{Step}
-use Rattle.gt_calls.specs.declared.action.Step.TheVariants.{Exchange, LookBody, LookControl}
-use Rattle.gt_calls.specs.declared.action.Step.TheVariants.{LookHeader}
-use Rattle.gt_calls.specs.declared.action.Step.TheVariants.{Pin as PinStep, StoreBody, Unpin}
-use Rattle.gt_calls.specs.declared.held.AccessPath.{AccessPath}
-use Rattle.gt_calls.specs.declared.held.AccessPath.TheVariants.{Own, Direct, Through}
-use Rattle.gt_calls.specs.declared.held.HeldPin.{HeldPin}
-use Rattle.gt_calls.specs.declared.leg.Leg.{Leg}
-use Rattle.gt_calls.specs.declared.leg.TheConstants.{MORE_TRIES}
-use Rattle.gt_calls.specs.declared.request.PinHolder.TheVariants.{Leg as ByLeg}
+use Rattle.gt_model.specs.declared.change.BodyWord.{BodyWord}
+use Rattle.gt_model.specs.declared.change.BodyWord.TheVariants.{First as FirstHalf, Second as SecondHalf}
+use Rattle.gt_model.specs.declared.change.EntryChange.{EntryChange}
+use Rattle.gt_model.specs.declared.change.EntryChange.TheVariants.{Publish}
+use Rattle.gt_model.specs.declared.entry.Entry.TheVariants as entries
+use Rattle.gt_model.specs.declared.entry.Entry.{Entry as TableEntry}
+use Rattle.gt_model.specs.Words.{control_of, header_of}
+use Rattle.gt_model.specs.declared.control.EntryKind.TheVariants.{Sub as KindSub}
+use Rattle.gt_model.specs.Path.{AfterPin, AfterRefusal, Continuation, after_first, beyond}
+use Rattle.gt_model.specs.Path.{at_first_look, by_mapping}
+use Rattle.gt_model.specs.Path.{ended, exchanges, exchanges_once, give_back, grant_path, held_of, is_stopped, last_step}
+use Rattle.gt_model.specs.Path.{leg, looks, makes, reaches, reads_body, refused_holding, second_leg}
+use Rattle.gt_model.specs.Path.{rule_of_try, tries, try_pin, turn, turns, unless_refused}
+use Rattle.gt_model.specs.Rules.{CallerKnowledge, first_body, first_look, is_kind, size_of, via_judged}
+use Rattle.gt_model.specs.declared.action.Action.{Action}
+use Rattle.gt_model.specs.declared.action.Action.TheVariants.{Step as Makes, Done}
+use Rattle.gt_model.specs.declared.action.CallResult.{CallResult}
+use Rattle.gt_model.specs.declared.action.CallResult.TheVariants.{Granted, Refused}
+use Rattle.gt_model.specs.declared.action.Observation.{Observation}
+use Rattle.gt_model.specs.declared.action.Observation.TheVariants.{Missed, Nothing, Taken, Word}
+use Rattle.gt_model.specs.declared.action.Step.{Step}
+use Rattle.gt_model.specs.declared.action.Step.TheVariants.{Exchange, LookBody, LookControl}
+use Rattle.gt_model.specs.declared.action.Step.TheVariants.{LookHeader}
+use Rattle.gt_model.specs.declared.action.Step.TheVariants.{Pin as PinStep, StoreBody, Unpin}
+use Rattle.gt_model.specs.declared.held.AccessPath.{AccessPath}
+use Rattle.gt_model.specs.declared.held.AccessPath.TheVariants.{Own, Direct, Through}
+use Rattle.gt_model.specs.declared.held.HeldPin.{HeldPin}
+use Rattle.gt_model.specs.declared.leg.Leg.{Leg}
+use Rattle.gt_model.specs.declared.bounds.TheConstants.{MORE_TRIES}
+use Rattle.gt_model.specs.declared.request.PinHolder.TheVariants.{Leg as ByLeg}
 
 -- the pins of a call
 

@@ -2,21 +2,21 @@
 use Rattle.std.proofs.Common.{◌≡◌, ◌<◌, ℕ, refl, false, List, Option, Some, None, sym, ap, ◌∙◌, arith, subst}
 use Rattle.std.specs.Prelude.{nat_le}
 use Rattle.std.specs.Option.{option_map}
-use Rattle.gt_handles.specs.declared.handles.Handle.{Handle}
+use Rattle.gt_model.specs.declared.handle.Handle.{Handle}
 use Rattle.gt_types.specs.declared.DomId.{DomId}
 use Rattle.gt_types.specs.declared.GrantRef.{GrantRef}
-use Rattle.gt_calls.specs.declared.held.HeldPin.{HeldPin}
-use Rattle.gt_calls.specs.declared.judging.TheConstants.{SERIAL_LIMIT}
-use Rattle.gt_calls.specs.declared.request.OpenRequest.{OpenRequest}
-use Rattle.gt_calls.specs.declared.request.Request.{Request}
-use Rattle.gt_calls.specs.declared.request.Request.TheVariants as requests
-use Rattle.gt_calls.specs.Asking.{asked, asked_by, begun_by, begun_of, bytes_of, plainly_asked}
-use Rattle.gt_calls.specs.declared.request.OpenRequest.TheVariants.{Map, Unmap, Release, Load, Store}
-use Rattle.gt_calls.specs.declared.action.Observation.{Observation}
-use Rattle.gt_calls.specs.declared.action.CallResult.{CallResult}
-use Rattle.gt_calls.specs.Rules.{CallerKnowledge, begun}
+use Rattle.gt_model.specs.declared.held.HeldPin.{HeldPin}
+use Rattle.gt_model.specs.declared.bounds.TheConstants.{SERIAL_LIMIT}
+use Rattle.gt_model.specs.declared.request.OpenRequest.{OpenRequest}
+use Rattle.gt_model.specs.declared.request.Request.{Request}
+use Rattle.gt_model.specs.declared.request.Request.TheVariants as requests
+use Rattle.gt_model.specs.Asking.{asked, asked_by, begun_by, begun_of, bytes_of, plainly_asked}
+use Rattle.gt_model.specs.declared.request.OpenRequest.TheVariants.{Map, Unmap, Release, Load, Store}
+use Rattle.gt_model.specs.declared.action.Observation.{Observation}
+use Rattle.gt_model.specs.declared.action.CallResult.{CallResult}
+use Rattle.gt_model.specs.Rules.{CallerKnowledge, begun}
 use Rattle.gt_calls.specs.Machine.{first_phase, load_phase, store_phase, unmap_phase}
-use Rattle.gt_calls.specs.Path.{path, after_beginning, steps_of}
+use Rattle.gt_model.specs.Path.{path, after_beginning, steps_of}
 use Rattle.gt_explore_moves.specs.Beginnings.{BeginsAlike}
 use Rattle.gt_explore_moves.specs.Renaming.{asked_under, action_under, FindsSame, KnowAlike}
 

@@ -4,27 +4,28 @@ use Rattle.std.specs.Prelude.{slice_get}
 use Rattle.gt_types.specs.declared.DomId.{DomId}
 use Rattle.gt_types.specs.declared.config.DomainConfig.{DomainConfig}
 use Rattle.gt_types.specs.declared.limits.TheConstants.{FRAME_SIZE}
-use Rattle.gt_handles.specs.declared.handles.Handle.{Handle}
-use Rattle.gt_calls.specs.declared.action.Action.TheVariants.{Step as Makes}
-use Rattle.gt_calls.specs.declared.action.Observation.{Observation}
-use Rattle.gt_calls.specs.declared.action.Step.{Step}
-use Rattle.gt_calls.specs.declared.action.Step.TheVariants.{Read as ReadBytes, Unpin, Write as WriteBytes}
+use Rattle.gt_model.specs.declared.handle.Handle.{Handle}
+use Rattle.gt_model.specs.declared.action.Action.TheVariants.{Step as Makes}
+use Rattle.gt_model.specs.declared.action.Observation.{Observation}
+use Rattle.gt_model.specs.declared.action.Step.{Step}
+use Rattle.gt_model.specs.declared.action.Step.TheVariants.{Read as ReadBytes, Unpin, Write as WriteBytes}
 use Rattle.gt_calls.specs.declared.call.Call.{Call}
 use Rattle.gt_calls.specs.declared.call.Phase.{Phase}
-use Rattle.gt_calls.specs.declared.judging.TheConstants.{SERIAL_LIMIT}
-use Rattle.gt_calls.specs.declared.request.PinHolder.TheVariants.{Mapping as ByHandle}
-use Rattle.gt_calls.specs.declared.request.Request.{Request}
-use Rattle.gt_calls.specs.Asking.{asked, bytes_given_by}
-use Rattle.gt_calls.specs.Path.{path}
-use Rattle.gt_calls.specs.Rules.{CallerKnowledge, own_generation}
+use Rattle.gt_model.specs.declared.bounds.TheConstants.{SERIAL_LIMIT}
+use Rattle.gt_model.specs.declared.request.PinHolder.TheVariants.{Mapping as ByHandle}
+use Rattle.gt_model.specs.declared.request.Request.{Request}
+use Rattle.gt_model.specs.Asking.{asked, bytes_given_by}
+use Rattle.gt_model.specs.Path.{path}
+use Rattle.gt_model.specs.Rules.{CallerKnowledge}
+use Rattle.gt_calls.specs.Rules.{own_generation}
 use Rattle.gt_calls.specs.Standing.{IsAt}
-use Rattle.gt_core.specs.History.{History, Setting, Underway, change_at, given_in, maps_answered_at, open_call}
-use Rattle.gt_core.specs.History.{seen_by, values}
-use Rattle.gt_core.specs.Legal.{IsItemOf, IsRight, StepsRight, StepsRightIn}
-use Rattle.gt_core.specs.declared.trace.Event.TheVariants.{Tick}
-use Rattle.gt_core.specs.declared.trace.ItemEvent.{ItemEvent}
-use Rattle.gt_core.specs.declared.trace.ItemEvent.TheVariants.{Began, Stepped}
-use Rattle.gt_core.specs.declared.trace.Item.{Item}
+use Rattle.gt_model.specs.History.{History, Setting, Underway, change_at, given_in, maps_answered_at, open_call}
+use Rattle.gt_model.specs.History.{seen_by, values}
+use Rattle.gt_model.specs.Legal.{IsItemOf, IsRight, StepsRight, StepsRightIn}
+use Rattle.gt_model.specs.declared.trace.Event.TheVariants.{Tick}
+use Rattle.gt_model.specs.declared.trace.ItemEvent.{ItemEvent}
+use Rattle.gt_model.specs.declared.trace.ItemEvent.TheVariants.{Began, Stepped}
+use Rattle.gt_model.specs.declared.trace.Item.{Item}
 use Rattle.gt_core.proofs.Words.{fun_ext}
 use Rattle.gt_core.proofs.Steps.Observers.{kept-entry, kept-raises, stepped}
 use Rattle.gt_script_runs.specs.Runs.{Named, MakesRequest, call_bytes, request_of}

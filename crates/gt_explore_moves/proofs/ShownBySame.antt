@@ -4,7 +4,7 @@ use Rattle.std.proofs.Common.{Option}
 use Rattle.std.proofs.Common.{Bool, Some, sym, ap, ◌∙◌, subst}
 use Rattle.std.specs.Prelude.{slice_get}
 use Rattle.std.proofs.lemmas.Option.{none-some, same_Some}
-use Rattle.gt_core.specs.History.{History, Setting, maps_answered_at, open_call}
+use Rattle.gt_model.specs.History.{History, Setting, maps_answered_at, open_call}
 use Rattle.gt_script_runs.specs.Playing.{setting_of_script}
 use Rattle.gt_explore_replay.specs.Abreast.{history_in}
 use Rattle.gt_explore_replay.specs.Courses.{Course}

@@ -13,11 +13,11 @@ use Rattle.gt_types.specs.Names.{domain_of}
 use Rattle.gt_types.specs.declared.DomId.{DomId}
 use Rattle.gt_types.specs.declared.config.DomainConfig.{DomainConfig}
 use Rattle.gt_core.specs.Alike.{HappensKnown}
-use Rattle.gt_core.specs.History.{History, Setting}
-use Rattle.gt_core.specs.Legal.{IsRight}
-use Rattle.gt_core.specs.declared.trace.Element.TheVariants.{Item as Did}
-use Rattle.gt_core.specs.declared.trace.Event.{Event}
-use Rattle.gt_core.specs.declared.trace.Item.{Item}
+use Rattle.gt_model.specs.History.{History, Setting}
+use Rattle.gt_model.specs.Legal.{IsRight}
+use Rattle.gt_model.specs.declared.trace.Element.TheVariants.{Item as Did}
+use Rattle.gt_model.specs.declared.trace.Event.{Event}
+use Rattle.gt_model.specs.declared.trace.Item.{Item}
 use Rattle.gt_calls.specs.Rules.{own_generation}
 use Rattle.gt_script_runs.specs.Playing.{setting_of_script}
 use Rattle.gt_explore_replay.specs.Abreast.{history_in}

@@ -9,34 +9,34 @@ use Rattle.std.proofs.lemmas.Result.{IfOk-weaker}
 use Rattle.gt_types.specs.declared.DomId.{DomId}
 use Rattle.gt_types.specs.declared.GrantRef.{GrantRef}
 use Rattle.gt_types.specs.declared.denial.Denial.{Denial}
-use Rattle.gt_entry.specs.declared.change.EntryChange.{EntryChange}
-use Rattle.gt_handles.specs.declared.handles.Handle.{Handle}
-use Rattle.gt_calls.specs.declared.action.Action.TheVariants.{Step as Makes, Done}
-use Rattle.gt_calls.specs.declared.action.Observation.{Observation}
-use Rattle.gt_calls.specs.declared.action.Observation.TheVariants.{Taken}
-use Rattle.gt_calls.specs.declared.action.Step.{Step}
-use Rattle.gt_calls.specs.declared.action.Step.TheVariants.{Exchange, Pin as PinStep, Read as ReadBytes, Unpin}
-use Rattle.gt_calls.specs.declared.action.CallResult.{CallResult}
-use Rattle.gt_calls.specs.declared.action.CallResult.TheVariants.{Given, Granted, Mapped as KeptPin, Refused}
+use Rattle.gt_model.specs.declared.change.EntryChange.{EntryChange}
+use Rattle.gt_model.specs.declared.handle.Handle.{Handle}
+use Rattle.gt_model.specs.declared.action.Action.TheVariants.{Step as Makes, Done}
+use Rattle.gt_model.specs.declared.action.Observation.{Observation}
+use Rattle.gt_model.specs.declared.action.Observation.TheVariants.{Taken}
+use Rattle.gt_model.specs.declared.action.Step.{Step}
+use Rattle.gt_model.specs.declared.action.Step.TheVariants.{Exchange, Pin as PinStep, Read as ReadBytes, Unpin}
+use Rattle.gt_model.specs.declared.action.CallResult.{CallResult}
+use Rattle.gt_model.specs.declared.action.CallResult.TheVariants.{Given, Granted, Mapped as KeptPin, Refused}
 use Rattle.gt_calls.specs.declared.call.Call.{Call}
-use Rattle.gt_calls.specs.declared.held.HeldPin.{HeldPin}
-use Rattle.gt_calls.specs.declared.request.OpenRequest.{OpenRequest}
-use Rattle.gt_calls.specs.declared.request.OpenRequest.TheVariants.{Unmap, Release}
-use Rattle.gt_calls.specs.declared.request.PinHolder.TheVariants.{Leg as ByLeg, Mapping as ByHandle}
-use Rattle.gt_calls.specs.declared.request.Request.{Request}
-use Rattle.gt_calls.specs.declared.request.Request.TheVariants as requests
-use Rattle.gt_calls.specs.Asking.{asked}
-use Rattle.gt_calls.specs.Path.{after_beginning, by_mapping, path}
-use Rattle.gt_calls.specs.Resting.{GivesUp}
-use Rattle.gt_calls.specs.Rules.{CallerKnowledge, begun}
+use Rattle.gt_model.specs.declared.held.HeldPin.{HeldPin}
+use Rattle.gt_model.specs.declared.request.OpenRequest.{OpenRequest}
+use Rattle.gt_model.specs.declared.request.OpenRequest.TheVariants.{Unmap, Release}
+use Rattle.gt_model.specs.declared.request.PinHolder.TheVariants.{Leg as ByLeg, Mapping as ByHandle}
+use Rattle.gt_model.specs.declared.request.Request.{Request}
+use Rattle.gt_model.specs.declared.request.Request.TheVariants as requests
+use Rattle.gt_model.specs.Asking.{asked}
+use Rattle.gt_model.specs.Path.{after_beginning, by_mapping, path}
+use Rattle.gt_model.specs.Giving.{GivesUp}
+use Rattle.gt_model.specs.Rules.{CallerKnowledge, begun}
 use Rattle.gt_core.specs.Acting.{answer_of}
-use Rattle.gt_core.specs.History.{History, Setting, Underway, contents_at, known_at, maps_answered_at, one_if_mapped}
-use Rattle.gt_core.specs.History.{open_call, patches_at, seen_by, values}
-use Rattle.gt_core.specs.Justified.{Justified}
-use Rattle.gt_core.specs.Legal.{next_in}
-use Rattle.gt_core.specs.declared.trace.Answer.{Answer}
-use Rattle.gt_core.specs.declared.trace.Answer.TheVariants as answers
-use Rattle.gt_core.specs.declared.trace.Item.{Item}
+use Rattle.gt_model.specs.History.{History, Setting, Underway, contents_at, known_at, maps_answered_at, one_if_mapped}
+use Rattle.gt_model.specs.History.{open_call, patches_at, seen_by, values}
+use Rattle.gt_model.specs.Justified.{Justified}
+use Rattle.gt_model.specs.Legal.{next_in}
+use Rattle.gt_model.specs.declared.trace.Answer.{Answer}
+use Rattle.gt_model.specs.declared.trace.Answer.TheVariants as answers
+use Rattle.gt_model.specs.declared.trace.Item.{Item}
 use Rattle.gt_core.specs.Prelude.{written}
 use Rattle.gt_core.proofs.Outcomes.{IsSingle}
 use Rattle.gt_core.proofs.Steps.Observers.{stepped}

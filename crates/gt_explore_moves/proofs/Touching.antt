@@ -10,53 +10,53 @@ use Rattle.gt_types.specs.declared.Dir.TheVariants.{Read as ToRead, Write as ToW
 use Rattle.gt_types.specs.declared.DomId.{DomId}
 use Rattle.gt_types.specs.declared.GrantRef.{GrantRef}
 use Rattle.gt_types.specs.declared.copies.CopyArgs.{CopyArgs}
-use Rattle.gt_entry.specs.declared.change.EntryChange.TheVariants.{Demote as ToReadOnly, Promote as ToWritable}
-use Rattle.gt_entry.specs.declared.change.EntryChange.TheVariants.{Publish, Revoke as ToInvalid}
-use Rattle.gt_entry.specs.declared.change.EntryChange.TheVariants.{Withdraw as ToWithdrawn}
-use Rattle.gt_entry.specs.declared.entry.Entry.TheVariants as entries
-use Rattle.gt_entry.specs.declared.entry.Entry.{Entry as TableEntry}
-use Rattle.gt_entry.specs.Spelling.{entry_of}
-use Rattle.gt_entry.specs.Words.{control_of}
-use Rattle.gt_handles.specs.declared.handles.Handle.{Handle}
-use Rattle.gt_calls.specs.Asking.{asked}
-use Rattle.gt_calls.specs.Holding.{frame_by, held_by, owner_by}
-use Rattle.gt_calls.specs.Path.{accesses, after_beginning, asks, copies, dest_pair, end_leg, ended, give_back, gref_of}
-use Rattle.gt_calls.specs.Path.{map_leg, path, place_of, refused_holding, second_leg, source_pair, steps_of, to_dest}
-use Rattle.gt_calls.specs.Rules.{CallerKnowledge, begun}
-use Rattle.gt_calls.specs.declared.action.Action.{Action}
-use Rattle.gt_calls.specs.declared.action.Action.TheVariants.{Step as Makes, Done}
-use Rattle.gt_calls.specs.declared.action.CallResult.{CallResult}
-use Rattle.gt_calls.specs.declared.action.CallResult.TheVariants.{Granted, Mapped as KeptPin, Refused}
-use Rattle.gt_calls.specs.declared.action.Observation.{Observation}
-use Rattle.gt_calls.specs.declared.action.Step.{Step}
-use Rattle.gt_calls.specs.declared.action.Step.TheVariants.{Copy as CopyBytes, Exchange, LookBody, LookControl}
-use Rattle.gt_calls.specs.declared.action.Step.TheVariants.{LookHeader}
-use Rattle.gt_calls.specs.declared.action.Step.TheVariants.{Pin as PinStep, Read as ReadBytes, StoreBody, StoreHeader}
-use Rattle.gt_calls.specs.declared.action.Step.TheVariants.{Unpin}
-use Rattle.gt_calls.specs.declared.action.Step.TheVariants.{Write as WriteBytes}
-use Rattle.gt_calls.specs.declared.call.HeaderQuery.{HeaderQuery}
-use Rattle.gt_calls.specs.declared.call.HeaderQuery.TheVariants as queries
-use Rattle.gt_calls.specs.declared.held.AccessPath.{AccessPath}
-use Rattle.gt_calls.specs.declared.held.AccessPath.TheVariants.{Own, Direct, Through}
-use Rattle.gt_calls.specs.declared.held.HeldPin.{HeldPin}
-use Rattle.gt_calls.specs.declared.leg.Leg.{Leg}
-use Rattle.gt_calls.specs.declared.leg.TheConstants.{MORE_TRIES}
-use Rattle.gt_calls.specs.declared.request.OpenRequest.{OpenRequest}
-use Rattle.gt_calls.specs.declared.request.OpenRequest.TheVariants.{Copy, Demote, GetVersion, Grant, Load, Map, Peek}
-use Rattle.gt_calls.specs.declared.request.OpenRequest.TheVariants.{Poke}
-use Rattle.gt_calls.specs.declared.request.OpenRequest.TheVariants.{Promote, QuerySize, Revoke, SetVersion}
-use Rattle.gt_calls.specs.declared.request.OpenRequest.TheVariants.{SetupTable, Store}
-use Rattle.gt_calls.specs.declared.request.OpenRequest.TheVariants.{Probe, Unmap, Release, Withdraw}
-use Rattle.gt_calls.specs.declared.request.PinHolder.TheVariants.{Mapping as ByHandle, Leg as ByLeg}
-use Rattle.gt_calls.specs.declared.request.Request.{Request}
-use Rattle.gt_entry.specs.Entries.{frame_of}
-use Rattle.gt_core.specs.History.{History, Setting, mapping_of, mappings_at, patches_at}
+use Rattle.gt_model.specs.declared.change.EntryChange.TheVariants.{Demote as ToReadOnly, Promote as ToWritable}
+use Rattle.gt_model.specs.declared.change.EntryChange.TheVariants.{Publish, Revoke as ToInvalid}
+use Rattle.gt_model.specs.declared.change.EntryChange.TheVariants.{Withdraw as ToWithdrawn}
+use Rattle.gt_model.specs.declared.entry.Entry.TheVariants as entries
+use Rattle.gt_model.specs.declared.entry.Entry.{Entry as TableEntry}
+use Rattle.gt_model.specs.Spelling.{entry_of}
+use Rattle.gt_model.specs.Words.{control_of}
+use Rattle.gt_model.specs.declared.handle.Handle.{Handle}
+use Rattle.gt_model.specs.Asking.{asked}
+use Rattle.gt_model.specs.Holding.{frame_by, held_by, owner_by}
+use Rattle.gt_model.specs.Path.{accesses, after_beginning, asks, copies, dest_pair, end_leg, ended, give_back, gref_of}
+use Rattle.gt_model.specs.Path.{map_leg, path, place_of, refused_holding, second_leg, source_pair, steps_of, to_dest}
+use Rattle.gt_model.specs.Rules.{CallerKnowledge, begun}
+use Rattle.gt_model.specs.declared.action.Action.{Action}
+use Rattle.gt_model.specs.declared.action.Action.TheVariants.{Step as Makes, Done}
+use Rattle.gt_model.specs.declared.action.CallResult.{CallResult}
+use Rattle.gt_model.specs.declared.action.CallResult.TheVariants.{Granted, Mapped as KeptPin, Refused}
+use Rattle.gt_model.specs.declared.action.Observation.{Observation}
+use Rattle.gt_model.specs.declared.action.Step.{Step}
+use Rattle.gt_model.specs.declared.action.Step.TheVariants.{Copy as CopyBytes, Exchange, LookBody, LookControl}
+use Rattle.gt_model.specs.declared.action.Step.TheVariants.{LookHeader}
+use Rattle.gt_model.specs.declared.action.Step.TheVariants.{Pin as PinStep, Read as ReadBytes, StoreBody, StoreHeader}
+use Rattle.gt_model.specs.declared.action.Step.TheVariants.{Unpin}
+use Rattle.gt_model.specs.declared.action.Step.TheVariants.{Write as WriteBytes}
+use Rattle.gt_model.specs.declared.action.HeaderQuery.{HeaderQuery}
+use Rattle.gt_model.specs.declared.action.HeaderQuery.TheVariants as queries
+use Rattle.gt_model.specs.declared.held.AccessPath.{AccessPath}
+use Rattle.gt_model.specs.declared.held.AccessPath.TheVariants.{Own, Direct, Through}
+use Rattle.gt_model.specs.declared.held.HeldPin.{HeldPin}
+use Rattle.gt_model.specs.declared.leg.Leg.{Leg}
+use Rattle.gt_model.specs.declared.bounds.TheConstants.{MORE_TRIES}
+use Rattle.gt_model.specs.declared.request.OpenRequest.{OpenRequest}
+use Rattle.gt_model.specs.declared.request.OpenRequest.TheVariants.{Copy, Demote, GetVersion, Grant, Load, Map, Peek}
+use Rattle.gt_model.specs.declared.request.OpenRequest.TheVariants.{Poke}
+use Rattle.gt_model.specs.declared.request.OpenRequest.TheVariants.{Promote, QuerySize, Revoke, SetVersion}
+use Rattle.gt_model.specs.declared.request.OpenRequest.TheVariants.{SetupTable, Store}
+use Rattle.gt_model.specs.declared.request.OpenRequest.TheVariants.{Probe, Unmap, Release, Withdraw}
+use Rattle.gt_model.specs.declared.request.PinHolder.TheVariants.{Mapping as ByHandle, Leg as ByLeg}
+use Rattle.gt_model.specs.declared.request.Request.{Request}
+use Rattle.gt_model.specs.Entries.{frame_of}
+use Rattle.gt_model.specs.History.{History, Setting, mapping_of, mappings_at, patches_at}
 use Rattle.gt_core.specs.Swapping.{AreApart, KeepsPins, SameLook, TouchApart, looks_header, on_entry, patches_of}
 use Rattle.gt_core.specs.Swapping.{reads_frames}
 use Rattle.gt_core.specs.Swapping.{stores_header, writes_frames}
-use Rattle.gt_core.specs.declared.trace.Answer.{Answer}
-use Rattle.gt_core.specs.declared.trace.Item.{Item}
-use Rattle.gt_core.specs.declared.trace.ItemEvent.TheVariants.{Stepped}
+use Rattle.gt_model.specs.declared.trace.Answer.{Answer}
+use Rattle.gt_model.specs.declared.trace.Item.{Item}
+use Rattle.gt_model.specs.declared.trace.ItemEvent.TheVariants.{Stepped}
 use Rattle.gt_core.proofs.Steps.Unpin.{loses-mapping}
 use Rattle.gt_core.proofs.Swapping.{Releases, keeps-elsewhere, steps-apart-in}
 use Rattle.gt_script_runs.specs.Runs.{Named, MakesRequest, request_of}

@@ -8,29 +8,29 @@ use Rattle.std.proofs.lemmas.Bool.{eq-eqb, eqb-true, false≢true}
 use Rattle.std.proofs.lemmas.Option.{none-some, same_Some, slice_get_within}
 use Rattle.gt_types.specs.declared.DomId.{DomId}
 use Rattle.gt_types.specs.declared.config.DomainConfig.{DomainConfig}
-use Rattle.gt_handles.specs.declared.handles.Handle.{Handle}
-use Rattle.gt_calls.specs.Path.{path}
-use Rattle.gt_calls.specs.Rules.{CallerKnowledge}
-use Rattle.gt_calls.specs.declared.action.Action.TheVariants as actions
-use Rattle.gt_calls.specs.declared.action.Observation.{Observation}
-use Rattle.gt_calls.specs.declared.action.Step.{Step}
-use Rattle.gt_calls.specs.declared.action.Step.TheVariants as steps
-use Rattle.gt_calls.specs.declared.held.HeldPin.{HeldPin}
-use Rattle.gt_calls.specs.declared.judging.TheConstants.{SERIAL_LIMIT}
-use Rattle.gt_calls.specs.declared.request.Request.{Request}
-use Rattle.gt_calls.specs.declared.request.Request.TheVariants as requests
-use Rattle.gt_core.specs.History.{History, Setting, Underway, known_at, maps_answered_at, mappings_at, open_call}
-use Rattle.gt_core.specs.History.{values}
+use Rattle.gt_model.specs.declared.handle.Handle.{Handle}
+use Rattle.gt_model.specs.Path.{path}
+use Rattle.gt_model.specs.Rules.{CallerKnowledge}
+use Rattle.gt_model.specs.declared.action.Action.TheVariants as actions
+use Rattle.gt_model.specs.declared.action.Observation.{Observation}
+use Rattle.gt_model.specs.declared.action.Step.{Step}
+use Rattle.gt_model.specs.declared.action.Step.TheVariants as steps
+use Rattle.gt_model.specs.declared.held.HeldPin.{HeldPin}
+use Rattle.gt_model.specs.declared.bounds.TheConstants.{SERIAL_LIMIT}
+use Rattle.gt_model.specs.declared.request.Request.{Request}
+use Rattle.gt_model.specs.declared.request.Request.TheVariants as requests
+use Rattle.gt_model.specs.History.{History, Setting, Underway, known_at, maps_answered_at, mappings_at, open_call}
+use Rattle.gt_model.specs.History.{values}
 use Rattle.gt_core.specs.Alike.{IsRun}
-use Rattle.gt_core.specs.Legal.{IsItemOf, IsLegalHistory, IsRight, MayDo, StepsRightIn, actor_of, grown}
+use Rattle.gt_model.specs.Legal.{IsItemOf, IsLegalHistory, IsRight, MayDo, StepsRightIn, actor_of, grown}
 use Rattle.gt_core.specs.Swapping.{AreApart, SameSeen}
-use Rattle.gt_core.specs.declared.trace.Element.{Element}
-use Rattle.gt_core.specs.declared.trace.Element.TheVariants.{Item as Did, Busy, Idle, NoDomain}
-use Rattle.gt_core.specs.declared.trace.Event.{Event}
-use Rattle.gt_core.specs.declared.trace.Event.TheVariants.{Begin, Tick}
-use Rattle.gt_core.specs.declared.trace.Item.{Item}
-use Rattle.gt_core.specs.declared.trace.ItemEvent.{ItemEvent}
-use Rattle.gt_core.specs.declared.trace.ItemEvent.TheVariants.{Began, Stepped}
+use Rattle.gt_model.specs.declared.trace.Element.{Element}
+use Rattle.gt_model.specs.declared.trace.Element.TheVariants.{Item as Did, Busy, Idle, NoDomain}
+use Rattle.gt_model.specs.declared.trace.Event.{Event}
+use Rattle.gt_model.specs.declared.trace.Event.TheVariants.{Begin, Tick}
+use Rattle.gt_model.specs.declared.trace.Item.{Item}
+use Rattle.gt_model.specs.declared.trace.ItemEvent.{ItemEvent}
+use Rattle.gt_model.specs.declared.trace.ItemEvent.TheVariants.{Began, Stepped}
 use Rattle.gt_core.proofs.AgreementKept.{open_call-other}
 use Rattle.gt_core.proofs.Steps.Observers.{other-known}
 use Rattle.gt_core.proofs.Swapping.{Releases, began-apart, events-first, grown-same, may-same}

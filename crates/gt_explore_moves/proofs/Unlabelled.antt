@@ -3,7 +3,7 @@ use Rattle.std.proofs.Common.{◌≡◌, ◌+◌, ◌<◌, ◌≤◌, ℕ, zero,
 use Rattle.std.proofs.Common.{sym, ap, ◌∙◌, arith, take, drop, ◌++◌}
 use Rattle.std.proofs.lemmas.List.{map-set, get_or-map, length-map, take_at}
 use Rattle.std.proofs.Math.Seq.{map-set_same}
-use Rattle.gt_calls.specs.declared.held.HeldPin.{HeldPin}
+use Rattle.gt_model.specs.declared.held.HeldPin.{HeldPin}
 use Rattle.gt_explore_moves.specs.declared.actor.LabelledMapping.{LabelledMapping}
 use Rattle.gt_explore_moves.specs.Mappings.{labels_of, mapping_pins, apart_from, label_bytes, unless_given}
 

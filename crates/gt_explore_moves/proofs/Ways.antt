@@ -5,10 +5,10 @@ use Rattle.std.proofs.lemmas.List.{length-map}
 use Rattle.std.specs.List.{flat_map, range_with_len}
 use Rattle.std.specs.Prelude.{slice_get, slice_set}
 use Rattle.gt_types.specs.declared.config.DomainConfig.{DomainConfig}
-use Rattle.gt_core.specs.History.{History, Setting}
-use Rattle.gt_core.specs.Legal.{LegalAfter, MayDo, grown, history_after}
-use Rattle.gt_core.specs.declared.trace.Element.{Element}
-use Rattle.gt_core.specs.declared.trace.Event.{Event}
+use Rattle.gt_model.specs.History.{History, Setting}
+use Rattle.gt_model.specs.Legal.{LegalAfter, MayDo, grown, history_after}
+use Rattle.gt_model.specs.declared.trace.Element.{Element}
+use Rattle.gt_model.specs.declared.trace.Event.{Event}
 use Rattle.gt_script_runs.specs.Playing.{setting_of_script}
 use Rattle.gt_explore_replay.specs.Abreast.{CanComeNext}
 use Rattle.gt_explore_replay.specs.Courses.{AllCoursesEnd, Course, IsTurnedBy, TurnsLead, courses_text, first_courses}

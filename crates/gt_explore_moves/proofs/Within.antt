@@ -8,40 +8,40 @@ use Rattle.gt_types.specs.declared.DomId.{DomId}
 use Rattle.gt_types.specs.declared.GrantRef.{GrantRef}
 use Rattle.gt_types.specs.declared.copies.CopyArgs.{CopyArgs}
 use Rattle.gt_types.specs.declared.denial.Denial.{Denial}
-use Rattle.gt_entry.specs.declared.entry.Entry.TheVariants as entries
-use Rattle.gt_handles.specs.Handles.{same_handle}
-use Rattle.gt_handles.specs.declared.handles.Handle.{Handle}
-use Rattle.gt_calls.specs.Asking.{asked}
-use Rattle.gt_calls.specs.Path.{steps_of}
-use Rattle.gt_calls.specs.Rules.{begun}
-use Rattle.gt_calls.specs.declared.action.Action.TheVariants.{Step as Makes}
-use Rattle.gt_calls.specs.declared.action.CallResult.{CallResult}
-use Rattle.gt_calls.specs.declared.request.OpenRequest.{OpenRequest}
-use Rattle.gt_calls.specs.declared.request.OpenRequest.TheVariants.{Copy, Grant, Map, Probe}
-use Rattle.gt_calls.specs.declared.action.Observation.{Observation}
-use Rattle.gt_calls.specs.declared.action.Observation.TheVariants.{Taken}
-use Rattle.gt_calls.specs.declared.action.Step.{Step}
-use Rattle.gt_calls.specs.declared.action.Step.TheVariants.{Pin as PinStep, Unpin}
-use Rattle.gt_calls.specs.declared.held.HeldPin.{HeldPin}
-use Rattle.gt_calls.specs.declared.request.PinHolder.{PinHolder}
-use Rattle.gt_calls.specs.declared.request.Request.{Request}
-use Rattle.gt_calls.specs.declared.request.Request.TheVariants as requests
-use Rattle.gt_core.specs.History.{History, Setting, Pin, Underway, gather, holder_after, known_at, live}
-use Rattle.gt_core.specs.History.{mapping_named, mapping_of}
-use Rattle.gt_core.specs.History.{mappings_at, open_call, pinned_by, underway_after, unpinned_by, values, without}
-use Rattle.gt_core.specs.History.{is_holder}
-use Rattle.gt_core.specs.FirstRule.{stood}
-use Rattle.gt_core.specs.Legal.{AnsweredBy, IsItemOf, IsLegalHistory, IsRight, MayDo, StepsRight, StepsRightIn}
-use Rattle.gt_core.specs.Legal.{actor_of, gives_back, grown, next_in, verdict_in}
-use Rattle.gt_core.specs.declared.trace.Answer.{Answer}
-use Rattle.gt_core.specs.declared.trace.Answer.TheVariants.{Done as AnswerDone, Mapped}
-use Rattle.gt_core.specs.declared.trace.Element.{Element}
-use Rattle.gt_core.specs.declared.trace.Element.TheVariants.{Item as Did, Busy, Idle, NoDomain}
-use Rattle.gt_core.specs.declared.trace.Event.{Event}
-use Rattle.gt_core.specs.declared.trace.Event.TheVariants.{Begin, Tick}
-use Rattle.gt_core.specs.declared.trace.Item.{Item}
-use Rattle.gt_core.specs.declared.trace.ItemEvent.{ItemEvent}
-use Rattle.gt_core.specs.declared.trace.ItemEvent.TheVariants.{Began, Stepped}
+use Rattle.gt_model.specs.declared.entry.Entry.TheVariants as entries
+use Rattle.gt_model.specs.Handle.{same_handle}
+use Rattle.gt_model.specs.declared.handle.Handle.{Handle}
+use Rattle.gt_model.specs.Asking.{asked}
+use Rattle.gt_model.specs.Path.{steps_of}
+use Rattle.gt_model.specs.Rules.{begun}
+use Rattle.gt_model.specs.declared.action.Action.TheVariants.{Step as Makes}
+use Rattle.gt_model.specs.declared.action.CallResult.{CallResult}
+use Rattle.gt_model.specs.declared.request.OpenRequest.{OpenRequest}
+use Rattle.gt_model.specs.declared.request.OpenRequest.TheVariants.{Copy, Grant, Map, Probe}
+use Rattle.gt_model.specs.declared.action.Observation.{Observation}
+use Rattle.gt_model.specs.declared.action.Observation.TheVariants.{Taken}
+use Rattle.gt_model.specs.declared.action.Step.{Step}
+use Rattle.gt_model.specs.declared.action.Step.TheVariants.{Pin as PinStep, Unpin}
+use Rattle.gt_model.specs.declared.held.HeldPin.{HeldPin}
+use Rattle.gt_model.specs.declared.request.PinHolder.{PinHolder}
+use Rattle.gt_model.specs.declared.request.Request.{Request}
+use Rattle.gt_model.specs.declared.request.Request.TheVariants as requests
+use Rattle.gt_model.specs.History.{History, Setting, Pin, Underway, gather, holder_after, known_at, live}
+use Rattle.gt_model.specs.History.{mapping_named, mapping_of}
+use Rattle.gt_model.specs.History.{mappings_at, open_call, pinned_by, underway_after, unpinned_by, values, without}
+use Rattle.gt_model.specs.History.{is_holder}
+use Rattle.gt_model.specs.FirstRule.{stood}
+use Rattle.gt_model.specs.Legal.{AnsweredBy, IsItemOf, IsLegalHistory, IsRight, MayDo, StepsRight, StepsRightIn}
+use Rattle.gt_model.specs.Legal.{actor_of, gives_back, grown, next_in, verdict_in}
+use Rattle.gt_model.specs.declared.trace.Answer.{Answer}
+use Rattle.gt_model.specs.declared.trace.Answer.TheVariants.{Done as AnswerDone, Mapped}
+use Rattle.gt_model.specs.declared.trace.Element.{Element}
+use Rattle.gt_model.specs.declared.trace.Element.TheVariants.{Item as Did, Busy, Idle, NoDomain}
+use Rattle.gt_model.specs.declared.trace.Event.{Event}
+use Rattle.gt_model.specs.declared.trace.Event.TheVariants.{Begin, Tick}
+use Rattle.gt_model.specs.declared.trace.Item.{Item}
+use Rattle.gt_model.specs.declared.trace.ItemEvent.{ItemEvent}
+use Rattle.gt_model.specs.declared.trace.ItemEvent.TheVariants.{Began, Stepped}
 use Rattle.gt_core.proofs.AgreementKept.{open_call-other, open_call-own}
 use Rattle.gt_core.proofs.Steps.Observers.{gather-append, other-pins}
 use Rattle.gt_core.proofs.Playing.{legal-grows}
@@ -60,7 +60,7 @@ use Rattle.gt_script_lines.specs.declared.calls.ScriptCall.{ScriptCall}
 use Rattle.gt_explore_moves.specs.declared.touches.Touch.{Touch}
 use Rattle.gt_explore_moves.specs.declared.touches.Touch.TheVariants.{Entry, Raises}
 use Rattle.gt_explore_moves.proofs.HandlesAnswered.{after-dom, back-dom}
-use Rattle.gt_entry.specs.Entries.{frame_of}
+use Rattle.gt_model.specs.Entries.{frame_of}
 use Rattle.gt_explore_moves.specs.declared.touches.MappingUse.{MappingUse}
 use Rattle.gt_explore_moves.specs.Transitive.{AllOfScript, BeginsOfScript, IsOfScript, is_via}
 use Rattle.gt_explore_moves.proofs.HeldPins.{IsPlain, IsSound, copy-took, is-sound, releases-own}

@@ -1,14 +1,14 @@
 -- The start of a call, by what its domain knows.
 use Rattle.std.specs.Prelude.{◌≡◌, [], Some, None}
 use Rattle.gt_types.specs.declared.DomId.{DomId}
-use Rattle.gt_calls.specs.declared.action.Action.TheVariants.{Step as Makes}
-use Rattle.gt_calls.specs.declared.action.Step.{Step}
+use Rattle.gt_model.specs.declared.action.Action.TheVariants.{Step as Makes}
+use Rattle.gt_model.specs.declared.action.Step.{Step}
 use Rattle.gt_calls.specs.declared.call.Call.{Call}
-use Rattle.gt_calls.specs.declared.request.Request.{Request}
-use Rattle.gt_calls.specs.Asking.{asked, begun_of, SpellsItsEntry}
-use Rattle.gt_calls.specs.Path.{path}
+use Rattle.gt_model.specs.declared.request.Request.{Request}
+use Rattle.gt_model.specs.Asking.{asked, begun_of, SpellsItsEntry}
+use Rattle.gt_model.specs.Path.{path}
 use Rattle.gt_calls.specs.Machine.{first_phase}
-use Rattle.gt_calls.specs.Rules.{CallerKnowledge, begun}
+use Rattle.gt_model.specs.Rules.{CallerKnowledge, begun}
 use Rattle.gt_calls.specs.Standing.{IsAt}
 use Rattle.gt_explore_moves.specs.declared.calls.CallOpening.{CallOpening as Opened}
 use Rattle.gt_explore_moves.specs.declared.calls.CallOpening.TheVariants.{Open, Done}

@@ -8,7 +8,7 @@ use Rattle.gt_explore_moves.specs.Prelude.{History, Setting, Underway, entry_at,
 use Rattle.gt_explore_moves.specs.Prelude.{maps_answered_at, open_call, table_at, values, may_by, Named, MakesRequest}
 use Rattle.gt_explore_moves.specs.Prelude.{handle_named, ScriptCall, Course, resting, calling, giving, given_up}
 use Rattle.gt_explore_moves.specs.Prelude.{handles_without, RunTask, Do, SparseTable}
-use Rattle.gt_calls.specs.declared.request.OpenRequest.TheVariants.{Unmap, Release}
+use Rattle.gt_model.specs.declared.request.OpenRequest.TheVariants.{Unmap, Release}
 use Rattle.gt_explore_replay.specs.Courses.{Opened}
 use Rattle.gt_explore_moves.specs.Mappings.{labels_of, mapping_pins}
 use Rattle.gt_explore_moves.specs.Placing.{pin_by_place}

@@ -1,16 +1,16 @@
 -- An open call of a state continues as in the run.
 use Rattle.std.specs.Prelude.{◌≡◌, ◌++◌, ℕ, [], ◌∷◌, Option, Some}
 use Rattle.gt_types.specs.declared.DomId.{DomId}
-use Rattle.gt_calls.specs.declared.action.Action.{Action}
-use Rattle.gt_calls.specs.declared.action.Action.TheVariants.{Step as Makes, Done}
-use Rattle.gt_calls.specs.declared.action.Step.{Step}
+use Rattle.gt_model.specs.declared.action.Action.{Action}
+use Rattle.gt_model.specs.declared.action.Action.TheVariants.{Step as Makes, Done}
+use Rattle.gt_model.specs.declared.action.Step.{Step}
 use Rattle.gt_calls.specs.declared.call.Call.{Call}
 use Rattle.gt_calls.specs.declared.call.Phase.{Phase}
 use Rattle.gt_calls.specs.declared.call.Phase.TheVariants.{Storing, StoringSecond}
-use Rattle.gt_calls.specs.Path.{path}
+use Rattle.gt_model.specs.Path.{path}
 use Rattle.gt_calls.specs.Rules.{entry_in, own_generation}
-use Rattle.gt_core.specs.History.{History, Setting, Underway, entry_at, generation_at, known_at, mappings_at}
-use Rattle.gt_core.specs.History.{maps_answered_at, seen_by, values}
+use Rattle.gt_model.specs.History.{History, Setting, Underway, entry_at, generation_at, known_at, mappings_at}
+use Rattle.gt_model.specs.History.{maps_answered_at, seen_by, values}
 use Rattle.gt_script_runs.specs.Rights.{may_by}
 use Rattle.gt_explore_moves.specs.Calls.{GoesAlong}
 use Rattle.gt_explore_moves.specs.declared.scene.SearchContext.{SearchContext}

@@ -1,9 +1,9 @@
 -- The handles under which a call finds the mappings of a state: the serial of each is the index of its mapping.
 use Rattle.std.specs.Prelude.{◌≡◌, ℕ, suc, List, [], ◌∷◌, length, map, Option, Some, slice_get}
 use Rattle.gt_types.specs.declared.DomId.{DomId}
-use Rattle.gt_handles.specs.declared.handles.Handle.{Handle}
+use Rattle.gt_model.specs.declared.handle.Handle.{Handle}
 use Rattle.gt_handles.specs.Listing.{HasJust}
-use Rattle.gt_calls.specs.declared.held.HeldPin.{HeldPin}
+use Rattle.gt_model.specs.declared.held.HeldPin.{HeldPin}
 use Rattle.gt_script_runs.specs.Naming.{AreNamed}
 use Rattle.gt_script_runs.specs.Runs.{Named, with_name}
 use Rattle.gt_explore_moves.specs.Mappings.{labels_of, mapping_pins}

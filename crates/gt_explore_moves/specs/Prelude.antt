@@ -1,30 +1,31 @@
 -- Names of other crates that the definitions here use.
-pub use Rattle.gt_calls.specs.Asking.{asked, begun_of, bytes_given_by}
-pub use Rattle.gt_calls.specs.Path.{path}
-pub use Rattle.gt_calls.specs.Rules.{CallerKnowledge, entry_in, knowledge_of, own_generation}
+pub use Rattle.gt_model.specs.Asking.{asked, begun_of, bytes_given_by}
+pub use Rattle.gt_model.specs.Path.{path}
+pub use Rattle.gt_model.specs.Rules.{CallerKnowledge}
+pub use Rattle.gt_calls.specs.Rules.{entry_in, knowledge_of, own_generation}
 pub use Rattle.gt_calls.specs.Standing.{IsAt}
-pub use Rattle.gt_calls.specs.declared.action.Action.TheVariants.{Step as Makes}
-pub use Rattle.gt_calls.specs.declared.action.Observation.{Observation}
-pub use Rattle.gt_calls.specs.declared.action.Step.{Step}
-pub use Rattle.gt_calls.specs.declared.action.Step.TheVariants.{Read as ReadBytes, Unpin}
-pub use Rattle.gt_calls.specs.declared.action.CallResult.{CallResult}
-pub use Rattle.gt_calls.specs.declared.action.CallResult.TheVariants.{Granted, Mapped as KeptPin}
+pub use Rattle.gt_model.specs.declared.action.Action.TheVariants.{Step as Makes}
+pub use Rattle.gt_model.specs.declared.action.Observation.{Observation}
+pub use Rattle.gt_model.specs.declared.action.Step.{Step}
+pub use Rattle.gt_model.specs.declared.action.Step.TheVariants.{Read as ReadBytes, Unpin}
+pub use Rattle.gt_model.specs.declared.action.CallResult.{CallResult}
+pub use Rattle.gt_model.specs.declared.action.CallResult.TheVariants.{Granted, Mapped as KeptPin}
 pub use Rattle.gt_calls.specs.declared.call.Call.{Call}
-pub use Rattle.gt_calls.specs.declared.held.HeldPin.{HeldPin}
-pub use Rattle.gt_calls.specs.declared.request.OpenRequest.{OpenRequest}
-pub use Rattle.gt_calls.specs.declared.request.OpenRequest.TheVariants.{Load, Store}
-pub use Rattle.gt_calls.specs.declared.request.Request.{Request}
+pub use Rattle.gt_model.specs.declared.held.HeldPin.{HeldPin}
+pub use Rattle.gt_model.specs.declared.request.OpenRequest.{OpenRequest}
+pub use Rattle.gt_model.specs.declared.request.OpenRequest.TheVariants.{Load, Store}
+pub use Rattle.gt_model.specs.declared.request.Request.{Request}
 pub use Rattle.gt_core.specs.Acting.{answer_of}
-pub use Rattle.gt_core.specs.History.{History, Setting, Underway, contents_at, entry_at, generation_at, known_at}
-pub use Rattle.gt_core.specs.History.{mappings_at, maps_answered_at, open_call, seen_by, table_at, values}
-pub use Rattle.gt_core.specs.Legal.{IsItemOf, IsRight}
-pub use Rattle.gt_core.specs.declared.trace.Answer.{Answer}
-pub use Rattle.gt_core.specs.declared.trace.Answer.TheVariants.{Bytes as BytesAnswer}
-pub use Rattle.gt_core.specs.declared.trace.Bytes.{Bytes}
-pub use Rattle.gt_core.specs.declared.trace.Event.TheVariants.{Tick}
-pub use Rattle.gt_core.specs.declared.trace.Item.{Item}
+pub use Rattle.gt_model.specs.History.{History, Setting, Underway, contents_at, entry_at, generation_at, known_at}
+pub use Rattle.gt_model.specs.History.{mappings_at, maps_answered_at, open_call, seen_by, table_at, values}
+pub use Rattle.gt_model.specs.Legal.{IsItemOf, IsRight}
+pub use Rattle.gt_model.specs.declared.trace.Answer.{Answer}
+pub use Rattle.gt_model.specs.declared.trace.Answer.TheVariants.{Bytes as BytesAnswer}
+pub use Rattle.gt_model.specs.declared.trace.Bytes.{Bytes}
+pub use Rattle.gt_model.specs.declared.trace.Event.TheVariants.{Tick}
+pub use Rattle.gt_model.specs.declared.trace.Item.{Item}
 pub use Rattle.gt_handles.specs.Handles.{HandleMap}
-pub use Rattle.gt_handles.specs.declared.handles.Handle.{Handle}
+pub use Rattle.gt_model.specs.declared.handle.Handle.{Handle}
 pub use Rattle.gt_script_runs.specs.Playing.{setting_of_script}
 pub use Rattle.gt_script_runs.specs.Printing.{answer_line}
 pub use Rattle.gt_script_runs.specs.Rights.{may_by, may_in}

@@ -2,7 +2,7 @@
 use Rattle.std.specs.Prelude.{◌≡◌, ◌++◌, ◌+◌, ℕ, suc, take, drop, List, ◌∷◌, Option, Some, None, slice_set}
 use Rattle.gt_explore_moves.specs.Prelude.{DomId, Handle, Step, Call, Request, asked, begun_of, History, Setting, known_at}
 use Rattle.gt_explore_moves.specs.Prelude.{ScriptCall, Course, resting, RunTask, Do, TurnResult, Answered, Nowhere, On}
-use Rattle.gt_calls.specs.declared.request.Request.TheVariants.{Release}
+use Rattle.gt_model.specs.declared.request.Request.TheVariants.{Release}
 use Rattle.gt_explore_moves.specs.Beginnings.{OpensAsRun}
 use Rattle.gt_explore_moves.specs.Calls.{AsksByPlace, ShowsCalls, handles_at, known_by_place}
 use Rattle.gt_explore_moves.specs.Renaming.{asked_under}

@@ -8,20 +8,20 @@ use Rattle.std.proofs.lemmas.Option.{none-some, same_Some, slice_get-map}
 use Rattle.std.specs.Option.{option_map}
 use Rattle.std.specs.Prelude.{◌==◌, not, filter, slice_get}
 use Rattle.gt_types.specs.declared.DomId.{DomId}
-use Rattle.gt_handles.specs.declared.handles.Handle.{Handle}
-use Rattle.gt_calls.specs.Asking.{asked}
-use Rattle.gt_calls.specs.declared.request.Request.{Request}
+use Rattle.gt_model.specs.declared.handle.Handle.{Handle}
+use Rattle.gt_model.specs.Asking.{asked}
+use Rattle.gt_model.specs.declared.request.Request.{Request}
 use Rattle.gt_core.specs.Alike.{bare_handle, bare_request, keyless_answer, AreAlike, AsksKnown, IsGiven, SameElement}
-use Rattle.gt_core.specs.History.{History, Setting, Underway, open_call, underway_after, underway_with}
-use Rattle.gt_core.specs.Legal.{MayDo, grown}
-use Rattle.gt_core.specs.declared.trace.Answer.{Answer}
-use Rattle.gt_core.specs.declared.trace.Answer.TheVariants as answers
-use Rattle.gt_core.specs.declared.trace.Element.{Element}
-use Rattle.gt_core.specs.declared.trace.Element.TheVariants as elements
-use Rattle.gt_core.specs.declared.trace.Event.TheVariants.{Begin, Tick}
-use Rattle.gt_core.specs.declared.trace.ItemEvent.{ItemEvent}
-use Rattle.gt_core.specs.declared.trace.ItemEvent.TheVariants.{Began, Stepped}
-use Rattle.gt_core.specs.declared.trace.Item.{Item}
+use Rattle.gt_model.specs.History.{History, Setting, Underway, open_call, underway_after, underway_with}
+use Rattle.gt_model.specs.Legal.{MayDo, grown}
+use Rattle.gt_model.specs.declared.trace.Answer.{Answer}
+use Rattle.gt_model.specs.declared.trace.Answer.TheVariants as answers
+use Rattle.gt_model.specs.declared.trace.Element.{Element}
+use Rattle.gt_model.specs.declared.trace.Element.TheVariants as elements
+use Rattle.gt_model.specs.declared.trace.Event.TheVariants.{Begin, Tick}
+use Rattle.gt_model.specs.declared.trace.ItemEvent.{ItemEvent}
+use Rattle.gt_model.specs.declared.trace.ItemEvent.TheVariants.{Began, Stepped}
+use Rattle.gt_model.specs.declared.trace.Item.{Item}
 use Rattle.gt_core.proofs.AlikeRuns.{does-alike, alike-grows}
 use Rattle.gt_script_lines.specs.declared.calls.ScriptCall.{ScriptCall}
 use Rattle.gt_script.specs.declared.actions.ScriptAction.TheVariants as actions

@@ -8,11 +8,11 @@ use Rattle.byteorder.specs.Numbers.{little_from-lt}
 use Rattle.hex.specs.Hex.{IsBytes, decode_of}
 use Rattle.hex.specs.declared.error.FromHexError.{FromHexError}
 use Rattle.hex.proofs.HexLemmas.{decode_of-ok}
-use Rattle.gt_entry.specs.Bytes.{field, flags_of, is_set}
-use Rattle.gt_entry.specs.Entries.{IsEntry}
-use Rattle.gt_entry.specs.declared.entry.Entry.{Entry}
-use Rattle.gt_entry.specs.declared.entry.Entry.TheVariants.{Page, Sub, Via}
-use Rattle.gt_calls.specs.Asking.{domain_said, entry_spelled, is_readonly_said, said_in_v1, said_in_v2}
+use Rattle.gt_model.specs.Bytes.{field, flags_of, is_set}
+use Rattle.gt_model.specs.Entries.{IsEntry}
+use Rattle.gt_model.specs.declared.entry.Entry.{Entry}
+use Rattle.gt_model.specs.declared.entry.Entry.TheVariants.{Page, Sub, Via}
+use Rattle.gt_model.specs.Asking.{domain_said, entry_spelled, is_readonly_said, said_in_v1, said_in_v2}
 use Rattle.gt_script_lines.specs.Hexadecimal.{hex_bytes}
 
 none-bytes : IsBytes []

@@ -11,13 +11,13 @@ use Rattle.std.specs.Option.{IsSomeAnd}
 use Rattle.std.specs.Prelude.{◌==◌, slice_get, slice_set, All, IsSome}
 use Rattle.gt_types.specs.declared.DomId.{DomId}
 use Rattle.gt_types.specs.declared.config.DomainConfig.{DomainConfig}
-use Rattle.gt_handles.specs.declared.handles.Handle.{Handle}
+use Rattle.gt_model.specs.declared.handle.Handle.{Handle}
 use Rattle.gt_core.specs.Alike.{bare_handle, AreAlike, IsRun}
-use Rattle.gt_core.specs.History.{History, Setting, open_call}
-use Rattle.gt_core.specs.Legal.{LegalAfter, MayDo, grown, history_after}
+use Rattle.gt_model.specs.History.{History, Setting, open_call}
+use Rattle.gt_model.specs.Legal.{LegalAfter, MayDo, grown, history_after}
 use Rattle.gt_core.specs.Standing.{CoreStands}
-use Rattle.gt_core.specs.declared.trace.Element.{Element}
-use Rattle.gt_core.specs.declared.trace.Event.{Event}
+use Rattle.gt_model.specs.declared.trace.Element.{Element}
+use Rattle.gt_model.specs.declared.trace.Event.{Event}
 use Rattle.gt_script.specs.Contents.{type_names}
 use Rattle.gt_script.specs.Lists.{RunTask}
 use Rattle.gt_script.specs.RunContents.{RunContents}

@@ -11,7 +11,7 @@ use Rattle.gt_explore_replay.specs.declared.walker.OpenTask.TheVariants.{Nothing
 use Rattle.gt_types.specs.declared.TypeId.{TypeId}
 use Rattle.gt_types.specs.declared.perms.Perms.{Perms}
 use Rattle.gt_types.specs.declared.config.DomainConfig.{DomainConfig}
-use Rattle.gt_core.specs.History.{Setting}
+use Rattle.gt_model.specs.History.{Setting}
 use Rattle.gt_core.specs.Standing.{CoreModel, CoreStands, setting_in}
 use Rattle.gt_script.specs.Contents.{Contents, first_gen, type_names}
 use Rattle.gt_script.specs.RunContents.{RunContents}

@@ -1,22 +1,22 @@
 -- Names of other crates, and of the code, that the definitions here use.
-pub use Rattle.gt_calls.specs.declared.action.Observation.{Observation}
-pub use Rattle.gt_calls.specs.declared.action.Step.{Step}
-pub use Rattle.gt_calls.specs.declared.request.Request.{Request}
-pub use Rattle.gt_calls.specs.declared.request.Request.TheVariants.{Release, Unmap}
+pub use Rattle.gt_model.specs.declared.action.Observation.{Observation}
+pub use Rattle.gt_model.specs.declared.action.Step.{Step}
+pub use Rattle.gt_model.specs.declared.request.Request.{Request}
+pub use Rattle.gt_model.specs.declared.request.Request.TheVariants.{Release, Unmap}
 pub use Rattle.gt_core.specs.Acting.{begun_element, ticked_element}
 pub use Rattle.gt_core.specs.Alike.{bare_handle, AreAlike, IsGiven}
-pub use Rattle.gt_core.specs.History.{History, Setting, open_call}
-pub use Rattle.gt_core.specs.Legal.{Legal, MayDo, actor_of, grown, history_after}
+pub use Rattle.gt_model.specs.History.{History, Setting, open_call}
+pub use Rattle.gt_model.specs.Legal.{Legal, MayDo, actor_of, grown, history_after}
 pub use Rattle.gt_core.specs.Standing.{CoreStands, DoesEvent, setting_in}
 pub use Rattle.gt_core.specs.States.{CoreState}
 pub use Rattle.gt_core.specs.declared.core_state.Begun.{Begun}
 pub use Rattle.gt_core.specs.declared.core_state.Ticked.{Ticked}
-pub use Rattle.gt_core.specs.declared.trace.Answer.{Answer}
-pub use Rattle.gt_core.specs.declared.trace.Answer.TheVariants.{Done, Mapped}
-pub use Rattle.gt_core.specs.declared.trace.Element.{Element}
-pub use Rattle.gt_core.specs.declared.trace.Event.{Event}
-pub use Rattle.gt_core.specs.declared.trace.Event.TheVariants.{Begin, Tick}
-pub use Rattle.gt_handles.specs.declared.handles.Handle.{Handle}
+pub use Rattle.gt_model.specs.declared.trace.Answer.{Answer}
+pub use Rattle.gt_model.specs.declared.trace.Answer.TheVariants.{Done, Mapped}
+pub use Rattle.gt_model.specs.declared.trace.Element.{Element}
+pub use Rattle.gt_model.specs.declared.trace.Event.{Event}
+pub use Rattle.gt_model.specs.declared.trace.Event.TheVariants.{Begin, Tick}
+pub use Rattle.gt_model.specs.declared.handle.Handle.{Handle}
 pub use Rattle.gt_script_runs.specs.Naming.{AreNamed}
 pub use Rattle.gt_script_runs.specs.Playing.{setting_of_script}
 pub use Rattle.gt_script_runs.specs.Printing.{answer_line}

@@ -1,13 +1,13 @@
 -- A domain at the end of its list keeps no mapping: a release is refused only if there is none.
 use Rattle.std.specs.Prelude.{◌≡◌, ◌≢◌, Some, None}
-use Rattle.gt_calls.specs.declared.action.Observation.{Observation}
-use Rattle.gt_calls.specs.declared.action.Step.{Step}
-use Rattle.gt_core.specs.History.{History, Setting, Underway, mapping_of, mappings_at, open_call}
-use Rattle.gt_core.specs.Legal.{IsRight}
-use Rattle.gt_core.specs.declared.trace.Item.{Item}
-use Rattle.gt_core.specs.declared.trace.ItemEvent.TheVariants.{Began, Stepped}
+use Rattle.gt_model.specs.declared.action.Observation.{Observation}
+use Rattle.gt_model.specs.declared.action.Step.{Step}
+use Rattle.gt_model.specs.History.{History, Setting, Underway, mapping_of, mappings_at, open_call}
+use Rattle.gt_model.specs.Legal.{IsRight}
+use Rattle.gt_model.specs.declared.trace.Item.{Item}
+use Rattle.gt_model.specs.declared.trace.ItemEvent.TheVariants.{Began, Stepped}
 use Rattle.gt_explore_replay.specs.Prelude.{Done, Handle, Release}
-use Rattle.gt_calls.specs.declared.request.OpenRequest.TheVariants as asked
+use Rattle.gt_model.specs.declared.request.OpenRequest.TheVariants as asked
 
 -- a release that is answered at its beginning is of a handle under which its domain has no mapping
 abbrev pub RefusedWithoutMapping : Type 0

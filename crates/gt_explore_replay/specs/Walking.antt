@@ -8,8 +8,8 @@ use Rattle.gt_explore_replay.specs.Prelude.{ScriptCall, type_names, RunContents,
 use Rattle.gt_explore_replay.specs.Prelude.{answer_line, may_by, Named, handle_given, label_given, with_name, Replay, OpenTask}
 use Rattle.gt_explore_replay.specs.Prelude.{Nothing, Line, GivesBack, Walker}
 use Rattle.gt_explore_replay.specs.Prelude.{Begin, DomId, Moved, Request, Tick}
-use Rattle.gt_core.specs.declared.trace.Element.TheVariants.{Item as Did}
-use Rattle.gt_core.specs.declared.trace.ItemEvent.TheVariants.{Began as BeganCall, Stepped as SteppedCall}
+use Rattle.gt_model.specs.declared.trace.Element.TheVariants.{Item as Did}
+use Rattle.gt_model.specs.declared.trace.ItemEvent.TheVariants.{Began as BeganCall, Stepped as SteppedCall}
 use Rattle.gt_explore_replay.specs.declared.replay.Moved.TheVariants.{Began, Passed, Raised, Stepped}
 use Rattle.gt_explore_replay.specs.Orders.{Happening, did, doer, own_happenings, events_in, trace_in, IsRaisedBefore}
 use Rattle.gt_explore_replay.specs.Orders.{passed, raised}

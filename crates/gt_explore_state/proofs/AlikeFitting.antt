@@ -5,7 +5,7 @@ use Rattle.gt_core.proofs.Words.{ap, ◌∙◌, arith, subst, ◌==◌, eqb-true
 use Rattle.gt_core.proofs.Words.{count_by, sum_by-cons, option_map, DomId, Dir, Handle, HeldPin, PinHolder, ByMapping, ByLeg}
 use Rattle.gt_core.proofs.Words.{Observation, Taken, Missed}
 use Rattle.gt_core.proofs.Words.{Makes, CallResult, Step, PinStep, Unpin, StoreHeader, Exchange, ReadBytes, State}
-use Rattle.gt_calls.specs.declared.request.OpenRequest.TheVariants.{Probe}
+use Rattle.gt_model.specs.declared.request.OpenRequest.TheVariants.{Probe}
 use Rattle.gt_core.proofs.Words.{inl, inr, state_of, OpenRequest, Release, Unmap}
 use Rattle.gt_core.proofs.Words.{History, Setting, Pin, Underway, live, open_call, values, word_at, seen_by, known_at}
 use Rattle.gt_core.proofs.Words.{legs_at, numbered, without}
@@ -25,10 +25,10 @@ use Rattle.gt_core.proofs.{HandlesGiven.CallKnown, AlikeRuns.bare_action}
 use Rattle.gt_core.specs.Prelude.{WriteBytes, CopyBytes}
 use Rattle.gt_core.specs.GoingOn.{CanBeReached}
 use Rattle.gt_core.specs.declared.underway.OpenCall.{OpenCall}
-use Rattle.gt_core.specs.declared.trace.ItemEvent.TheVariants.{Stepped}
-use Rattle.gt_core.specs.declared.trace.Item.{Item}
-use Rattle.gt_calls.specs.Path.{by_mapping}
-use Rattle.gt_calls.specs.Resting.{GivesUp}
+use Rattle.gt_model.specs.declared.trace.ItemEvent.TheVariants.{Stepped}
+use Rattle.gt_model.specs.declared.trace.Item.{Item}
+use Rattle.gt_model.specs.Path.{by_mapping}
+use Rattle.gt_model.specs.Giving.{GivesUp}
 use Rattle.gt_explore_state.specs.Shows.{IsInRun, LooksInRun, StepFits}
 use Rattle.gt_explore_state.specs.Likeness.{LikeReachedFits}
 use Rattle.gt_explore_state.proofs.Showing.{item-is}

@@ -11,10 +11,10 @@ use Rattle.std.specs.Prelude.{AllPairs}
 use Rattle.gt_types.specs.declared.config.DomainConfig.{DomainConfig}
 use Rattle.std.proofs.Common.{take, drop, ◌++◌}
 use Rattle.std.proofs.lemmas.List.{drop_all, take_all, append-nil}
-use Rattle.gt_calls.specs.declared.action.Observation.{Observation}
-use Rattle.gt_calls.specs.declared.action.Observation.TheVariants.{Taken}
-use Rattle.gt_calls.specs.declared.action.Step.{Step}
-use Rattle.gt_calls.specs.declared.action.Step.TheVariants.{Pin as PinStep, Unpin, StoreBody, StoreHeader, Exchange}
+use Rattle.gt_model.specs.declared.action.Observation.{Observation}
+use Rattle.gt_model.specs.declared.action.Observation.TheVariants.{Taken}
+use Rattle.gt_model.specs.declared.action.Step.{Step}
+use Rattle.gt_model.specs.declared.action.Step.TheVariants.{Pin as PinStep, Unpin, StoreBody, StoreHeader, Exchange}
 use Rattle.gt_explore_state.specs.Tables.{among, OneBecomes, place_of_domain, TablesAfter}
 use Rattle.gt_explore_state.specs.declared.table.SparseTable.{SparseTable}
 use Rattle.gt_explore_state.proofs.Kept.{some-place}

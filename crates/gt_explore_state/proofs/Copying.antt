@@ -13,11 +13,11 @@ use Rattle.gt_types.specs.Names.{domain_of}
 use Rattle.gt_types.specs.Config.{IsWithinLimits}
 use Rattle.gt_types.specs.declared.config.Config.{Config}
 use Rattle.gt_types.specs.declared.limits.TheConstants.{FRAME_SIZE, LAST_GENERATION, LAST_VERSION, MAX_TABLE_FRAMES}
-use Rattle.gt_entry.specs.declared.header.Header.{Header}
-use Rattle.gt_frames.specs.Bytes.{zeros, written}
-use Rattle.gt_core.specs.History.{History, Setting, header_from, table_at, entry_at, raises_at, generation_at, live}
-use Rattle.gt_core.specs.History.{body_at}
-use Rattle.gt_core.specs.History.{patches_at}
+use Rattle.gt_model.specs.declared.header.Header.{Header}
+use Rattle.gt_model.specs.Written.{zeros, written}
+use Rattle.gt_model.specs.History.{History, Setting, header_from, table_at, entry_at, raises_at, generation_at, live}
+use Rattle.gt_model.specs.History.{body_at}
+use Rattle.gt_model.specs.History.{patches_at}
 use Rattle.gt_explore_state.specs.Pages.{kept_bytes, padded}
 use Rattle.gt_explore_state.specs.Rows.{counts_in}
 use Rattle.gt_explore_state.specs.Copies.{AreTablesOf, IsTableOf, SamePage, SamePages, SameTables}

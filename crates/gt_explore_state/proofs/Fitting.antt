@@ -21,9 +21,9 @@ use Rattle.gt_core.proofs.Words.{zero, suc, false, eq-eqb, false≢true, slice_g
 use Rattle.gt_core.proofs.Words.{FRAME_SIZE, CopyIsJustified, Justified}
 use Rattle.gt_core.proofs.Steps.Observers.{stepped}
 use Rattle.gt_core.specs.declared.underway.OpenCall.{OpenCall}
-use Rattle.gt_core.specs.declared.trace.ItemEvent.{ItemEvent}
-use Rattle.gt_core.specs.declared.trace.ItemEvent.TheVariants.{Began, Stepped}
-use Rattle.gt_core.specs.declared.trace.Item.{Item}
+use Rattle.gt_model.specs.declared.trace.ItemEvent.{ItemEvent}
+use Rattle.gt_model.specs.declared.trace.ItemEvent.TheVariants.{Began, Stepped}
+use Rattle.gt_model.specs.declared.trace.Item.{Item}
 use Rattle.gt_explore_state.specs.Shows.{IsInRun, LooksInRun, StepFits, PagesShow, TablesShow, unheld, RightStepsFit}
 use Rattle.gt_explore_state.specs.Shows.{BeginningsChangeNothing}
 use Rattle.gt_explore_state.proofs.Showing.{item-is, tables-begun}

@@ -35,27 +35,27 @@ use Rattle.gt_core.proofs.{Rows.found, Rows.not-found, Rows.has_id}
 use Rattle.gt_core.proofs.Words.{mapping_of, mappings_at}
 use Rattle.gt_core.specs.Alike.{HappensKnown}
 use Rattle.gt_core.specs.declared.core_state.Begun.TheVariants.{Done as BegunDone}
-use Rattle.gt_core.specs.declared.trace.ItemEvent.{ItemEvent}
+use Rattle.gt_model.specs.declared.trace.ItemEvent.{ItemEvent}
 use Rattle.gt_calls.proofs.Advancing.{continues}
 use Rattle.gt_calls.specs.Machine.{standing_after}
 use Rattle.gt_core.specs.Prelude.{WriteBytes, CopyBytes}
 use Rattle.gt_core.specs.Acting.{answer_of}
 use Rattle.gt_core.specs.GoingOn.{AccessAnsweredSo, AnsweredSo, CanBeReached, IsAccess, IsOnWords, AnswersAccess}
 use Rattle.gt_core.specs.GoingOn.{step_after}
-use Rattle.gt_core.specs.Legal.{next_in}
+use Rattle.gt_model.specs.Legal.{next_in}
 use Rattle.gt_core.specs.Alike.{KeylessItem, bare_bytes, keyless_answer}
-use Rattle.gt_calls.specs.Asking.{FitsAsked}
-use Rattle.gt_calls.specs.declared.request.Request.{Request}
-use Rattle.gt_calls.specs.declared.request.Request.TheVariants as requests
-use Rattle.gt_entry.specs.declared.header.Header.{Header}
+use Rattle.gt_model.specs.Asking.{FitsAsked}
+use Rattle.gt_model.specs.declared.request.Request.{Request}
+use Rattle.gt_model.specs.declared.request.Request.TheVariants as requests
+use Rattle.gt_model.specs.declared.header.Header.{Header}
 use Rattle.gt_core.specs.declared.underway.OpenCall.{OpenCall}
-use Rattle.gt_core.specs.declared.trace.Answer.{Answer}
-use Rattle.gt_core.specs.declared.trace.Answer.TheVariants as answers
-use Rattle.gt_core.specs.declared.trace.Bytes.{Bytes}
-use Rattle.gt_core.specs.declared.trace.Element.TheVariants.{Item as Did}
-use Rattle.gt_core.specs.declared.trace.Event.TheVariants.{Begin, Tick}
-use Rattle.gt_core.specs.declared.trace.ItemEvent.TheVariants.{Began, Stepped}
-use Rattle.gt_core.specs.declared.trace.Item.{Item}
+use Rattle.gt_model.specs.declared.trace.Answer.{Answer}
+use Rattle.gt_model.specs.declared.trace.Answer.TheVariants as answers
+use Rattle.gt_model.specs.declared.trace.Bytes.{Bytes}
+use Rattle.gt_model.specs.declared.trace.Element.TheVariants.{Item as Did}
+use Rattle.gt_model.specs.declared.trace.Event.TheVariants.{Begin, Tick}
+use Rattle.gt_model.specs.declared.trace.ItemEvent.TheVariants.{Began, Stepped}
+use Rattle.gt_model.specs.declared.trace.Item.{Item}
 use Rattle.std.proofs.lemmas.List.{get_or_append_left, get_or_push, get_or_past, length_push}
 use Rattle.std.proofs.lemmas.Bool.Decides.{nat_tests}
 use Rattle.gt_explore_state.specs.Likeness.{AsksFit, LikeReachedGoesOn, LikeReachedStarts}

@@ -6,7 +6,7 @@ use Rattle.std.proofs.lemmas.Bool.{eqb-true, and_parts}
 use Rattle.gt_types.specs.declared.DomId.{DomId}
 use Rattle.std.proofs.lemmas.List.Quantifiers.{position-Some}
 use Rattle.std.proofs.lemmas.Bool.Decides.{nat_tests}
-use Rattle.gt_frames.specs.Bytes.{overlay}
+use Rattle.gt_model.specs.Written.{overlay}
 use Rattle.gt_explore_state.specs.Pages.{is_page_of, kept_bytes, padded, page_contents, WritesPage}
 use Rattle.gt_explore_state.specs.declared.pages.SparsePage.{SparsePage}
 

@@ -9,17 +9,17 @@ use Rattle.gt_types.specs.Names.{domain_of}
 use Rattle.gt_types.specs.declared.DomId.{DomId}
 use Rattle.gt_types.specs.declared.config.Config.{Config}
 use Rattle.gt_types.specs.declared.config.DomainConfig.{DomainConfig}
-use Rattle.gt_entry.specs.declared.entry.Entry.{Entry}
-use Rattle.gt_entry.specs.declared.change.BodyWord.{BodyWord}
-use Rattle.gt_entry.specs.declared.change.BodyWord.TheVariants.{First as FirstHalf, Second as SecondHalf}
-use Rattle.gt_entry.specs.Words.{control_word, header_word}
-use Rattle.gt_entry.specs.Spelling.{control_with}
+use Rattle.gt_model.specs.declared.entry.Entry.{Entry}
+use Rattle.gt_model.specs.declared.change.BodyWord.{BodyWord}
+use Rattle.gt_model.specs.declared.change.BodyWord.TheVariants.{First as FirstHalf, Second as SecondHalf}
+use Rattle.gt_model.specs.Words.{control_word, header_word}
+use Rattle.gt_model.specs.Spelling.{control_with}
 use Rattle.gt_calls.specs.Rules.{own_generation}
-use Rattle.gt_calls.specs.declared.action.Step.{Step}
-use Rattle.gt_calls.specs.declared.action.Step.TheVariants.{LookHeader, LookControl, LookBody, Pin as PinStep, Exchange}
-use Rattle.gt_calls.specs.declared.action.Observation.TheVariants.{Word}
-use Rattle.gt_core.specs.History.{History, Setting, entry_at, generation_at, reads_at, body_at, word_at}
-use Rattle.gt_core.specs.History.{seen_by, exchange_sees}
+use Rattle.gt_model.specs.declared.action.Step.{Step}
+use Rattle.gt_model.specs.declared.action.Step.TheVariants.{LookHeader, LookControl, LookBody, Pin as PinStep, Exchange}
+use Rattle.gt_model.specs.declared.action.Observation.TheVariants.{Word}
+use Rattle.gt_model.specs.History.{History, Setting, entry_at, generation_at, reads_at, body_at, word_at}
+use Rattle.gt_model.specs.History.{seen_by, exchange_sees}
 use Rattle.gt_explore_state.specs.Rows.{counts_in, word_in}
 use Rattle.gt_explore_state.specs.Shows.{IsSettingOf, IsInRun, LooksInRun, TableShows, TablesShow}
 use Rattle.gt_explore_state.specs.Tables.{place_of_domain, table_in, header_in_table, word_seen, body_in_table, step_sees}

@@ -9,7 +9,7 @@ use Rattle.std.proofs.lemmas.Grind.{same_number_lists}
 use Rattle.std.specs.Prelude.{slice_range, min}
 use Rattle.std.proofs.lemmas.Bool.Decides.{nat_tests}
 use Rattle.gt_types.specs.declared.limits.TheConstants.{FRAME_SIZE}
-use Rattle.gt_frames.specs.Bytes.{overlay}
+use Rattle.gt_model.specs.Written.{overlay}
 use Rattle.gt_explore_state.specs.Pages.{padded}
 
 -- so many zeros

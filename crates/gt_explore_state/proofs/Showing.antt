@@ -11,10 +11,10 @@ use Rattle.gt_core.proofs.Words.{raises_at, generation_at, body_at, table_at, is
 use Rattle.gt_core.proofs.Words.{raise_of, raise_after, changed_entry_of, header_stored, header_or, stored_at}
 use Rattle.gt_core.proofs.Words.{DomainConfig, false≢true, Pin, pinned_by, unpinned_by, append-nil, ◌++◌, Config}
 use Rattle.gt_core.specs.Prelude.{Request}
-use Rattle.gt_core.specs.declared.trace.Answer.{Answer}
-use Rattle.gt_core.specs.declared.trace.ItemEvent.{ItemEvent}
-use Rattle.gt_core.specs.declared.trace.ItemEvent.TheVariants.{Began, Stepped}
-use Rattle.gt_core.specs.declared.trace.Item.{Item}
+use Rattle.gt_model.specs.declared.trace.Answer.{Answer}
+use Rattle.gt_model.specs.declared.trace.ItemEvent.{ItemEvent}
+use Rattle.gt_model.specs.declared.trace.ItemEvent.TheVariants.{Began, Stepped}
+use Rattle.gt_model.specs.declared.trace.Item.{Item}
 use Rattle.gt_core.proofs.{Steps.Observers.kept-entry, Steps.Observers.kept-raises, Steps.Observers.kept-table}
 use Rattle.gt_core.proofs.{Steps.Observers.unstored}
 use Rattle.gt_core.proofs.{Steps.Observers.KeepsAll, Steps.Observers.stepped}
@@ -24,7 +24,7 @@ use Rattle.gt_core.proofs.{Steps.Observers.grown-count, Steps.Observers.exchange
 use Rattle.gt_core.proofs.{Steps.Observers.exchanged-raises}
 use Rattle.gt_core.proofs.{Steps.Observers.exchanged-live}
 use Rattle.gt_calls.specs.Rules.{entry_in, own_generation}
-use Rattle.gt_entry.specs.Changes.{changed_entry}
+use Rattle.gt_model.specs.Changes.{changed_entry}
 use Rattle.gt_core.specs.Effects.{slot_after}
 use Rattle.gt_explore_state.specs.Rows.{counts_in}
 use Rattle.gt_explore_state.specs.Shows.{CountsShow, IsItemOfStep, IsSettingOf, LosesOne, StepFits, TableShows, TablesShow}

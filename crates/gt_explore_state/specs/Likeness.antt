@@ -5,17 +5,17 @@ use Rattle.gt_types.specs.declared.TypeId.{TypeId}
 use Rattle.gt_types.specs.declared.config.Config.{Config}
 use Rattle.gt_types.specs.declared.config.DomainConfig.{DomainConfig}
 use Rattle.gt_types.specs.declared.perms.Perms.{Perms}
-use Rattle.gt_calls.specs.Asking.{FitsAsked, asked}
-use Rattle.gt_calls.specs.declared.action.Observation.{Observation}
-use Rattle.gt_calls.specs.declared.action.Step.{Step}
+use Rattle.gt_model.specs.Asking.{FitsAsked, asked}
+use Rattle.gt_model.specs.declared.action.Observation.{Observation}
+use Rattle.gt_model.specs.declared.action.Step.{Step}
 use Rattle.gt_core.specs.Acting.{setting_of}
 use Rattle.gt_core.specs.Alike.{AreAlike, HappensKnown}
 use Rattle.gt_core.specs.GoingOn.{CanBeReached}
-use Rattle.gt_core.specs.History.{History, Setting}
-use Rattle.gt_core.specs.Legal.{IsRight}
-use Rattle.gt_core.specs.declared.trace.ItemEvent.{ItemEvent}
-use Rattle.gt_core.specs.declared.trace.ItemEvent.TheVariants.{Began, Stepped}
-use Rattle.gt_core.specs.declared.trace.Item.{Item}
+use Rattle.gt_model.specs.History.{History, Setting}
+use Rattle.gt_model.specs.Legal.{IsRight}
+use Rattle.gt_model.specs.declared.trace.ItemEvent.{ItemEvent}
+use Rattle.gt_model.specs.declared.trace.ItemEvent.TheVariants.{Began, Stepped}
+use Rattle.gt_model.specs.declared.trace.Item.{Item}
 use Rattle.gt_explore_state.specs.Shows.{IsItemOfStep, IsInRun, LooksInRun, unheld}
 
 -- the history differs only in the keys of handles from one that some core represents

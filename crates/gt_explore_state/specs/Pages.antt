@@ -1,7 +1,7 @@
 -- The bytes of the frames that were written to.
 use Rattle.std.specs.Prelude.{◌≡◌, ◌==◌, ◌&&◌, ◌-◌, ◌++◌, ℕ, Bool, List, [], ◌∷◌, length, replicate, if◌then◌else◌}
 use Rattle.gt_types.specs.declared.limits.TheConstants.{FRAME_SIZE}
-use Rattle.gt_frames.specs.Bytes.{overlay}
+use Rattle.gt_model.specs.Written.{overlay}
 use Rattle.gt_explore_state.specs.declared.pages.SparsePage.{SparsePage}
 
 -- the page is of frame f of domain t

@@ -1,23 +1,23 @@
 -- Names of other crates that the definitions here use.
 pub use Rattle.gt_calls.specs.Rules.{entry_in, own_generation}
-pub use Rattle.gt_calls.specs.declared.action.Observation.{Observation}
-pub use Rattle.gt_calls.specs.declared.action.Observation.TheVariants.{Taken}
-pub use Rattle.gt_calls.specs.declared.action.Step.{Step}
-pub use Rattle.gt_calls.specs.declared.action.Step.TheVariants.{Copy as CopyBytes, Exchange, LookBody, LookControl}
-pub use Rattle.gt_calls.specs.declared.action.Step.TheVariants.{LookHeader, Pin as PinStep, Read as ReadBytes}
-pub use Rattle.gt_calls.specs.declared.action.Step.TheVariants.{StoreHeader, Unpin, Write as WriteBytes}
-pub use Rattle.gt_calls.specs.declared.held.HeldPin.{HeldPin}
-pub use Rattle.gt_calls.specs.declared.request.PinHolder.TheVariants.{Leg as ByLeg}
-pub use Rattle.gt_calls.specs.declared.request.Request.{Request}
+pub use Rattle.gt_model.specs.declared.action.Observation.{Observation}
+pub use Rattle.gt_model.specs.declared.action.Observation.TheVariants.{Taken}
+pub use Rattle.gt_model.specs.declared.action.Step.{Step}
+pub use Rattle.gt_model.specs.declared.action.Step.TheVariants.{Copy as CopyBytes, Exchange, LookBody, LookControl}
+pub use Rattle.gt_model.specs.declared.action.Step.TheVariants.{LookHeader, Pin as PinStep, Read as ReadBytes}
+pub use Rattle.gt_model.specs.declared.action.Step.TheVariants.{StoreHeader, Unpin, Write as WriteBytes}
+pub use Rattle.gt_model.specs.declared.held.HeldPin.{HeldPin}
+pub use Rattle.gt_model.specs.declared.request.PinHolder.TheVariants.{Leg as ByLeg}
+pub use Rattle.gt_model.specs.declared.request.Request.{Request}
 pub use Rattle.gt_core.specs.GoingOn.{CanBeReached}
-pub use Rattle.gt_core.specs.History.{History, Pin, Setting, body_at, contents_at, entry_at, generation_at, given_in}
-pub use Rattle.gt_core.specs.History.{is_pin_on, live, open_call, reads_at, same_dir, table_at, without, writes_at}
-pub use Rattle.gt_core.specs.Legal.{IsRight}
+pub use Rattle.gt_model.specs.History.{History, Pin, Setting, body_at, contents_at, entry_at, generation_at, given_in}
+pub use Rattle.gt_model.specs.History.{is_pin_on, live, open_call, reads_at, same_dir, table_at, without, writes_at}
+pub use Rattle.gt_model.specs.Legal.{IsRight}
 pub use Rattle.gt_core.specs.declared.pin_counts.PinCounts.{PinCounts}
-pub use Rattle.gt_core.specs.declared.trace.ItemEvent.TheVariants.{Began, Stepped}
-pub use Rattle.gt_core.specs.declared.trace.Item.{Item}
-pub use Rattle.gt_entry.specs.Changes.{raise_of}
-pub use Rattle.gt_entry.specs.declared.change.BodyWord.TheVariants.{First as FirstHalf, Second as SecondHalf}
+pub use Rattle.gt_model.specs.declared.trace.ItemEvent.TheVariants.{Began, Stepped}
+pub use Rattle.gt_model.specs.declared.trace.Item.{Item}
+pub use Rattle.gt_model.specs.Changes.{raise_of}
+pub use Rattle.gt_model.specs.declared.change.BodyWord.TheVariants.{First as FirstHalf, Second as SecondHalf}
 pub use Rattle.gt_types.specs.Names.{domain_of}
 pub use Rattle.gt_types.specs.declared.Dir.{Dir}
 pub use Rattle.gt_types.specs.declared.DomId.{DomId}

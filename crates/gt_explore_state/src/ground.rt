@@ -22,9 +22,9 @@ impl SparseState {
     ghost use Rattle.gt_types.specs.Config.{IsWithinLimits};
     ghost use Rattle.gt_types.specs.declared.config.Config.{Config};
     ghost use Rattle.gt_types.specs.declared.limits.TheConstants.{FRAME_SIZE};
-    ghost use Rattle.gt_core.specs.declared.trace.Item.{Item};
-    ghost use Rattle.gt_core.specs.History.{History, Setting, contents_at, seen_by};
-    ghost use Rattle.gt_calls.specs.declared.action.Observation.{Observation};
+    ghost use Rattle.gt_model.specs.declared.trace.Item.{Item};
+    ghost use Rattle.gt_model.specs.History.{History, Setting, contents_at, seen_by};
+    ghost use Rattle.gt_model.specs.declared.action.Observation.{Observation};
     ghost use Rattle.gt_explore_state.specs.Shows.{IsGivenTo, IsItemOfStep, IsSettingOf, LooksInRun, PagesShow, TablesShow};
 
     /// Makes the tables of these domains and the frames of a run, before anything happened.

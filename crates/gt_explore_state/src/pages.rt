@@ -1,7 +1,7 @@
 //! The bytes of the frames that were written to.
 ghost use Rattle.std.specs.Prelude.{◌≡◌, ◌≤◌, ◌+◌, ℕ, Some, IfOk, OnOk, length, position, take, drop, vec_len};
 ghost use Rattle.gt_types.specs.declared.limits.TheConstants.{FRAME_SIZE};
-ghost use Rattle.gt_frames.specs.Bytes.{overlay};
+ghost use Rattle.gt_model.specs.Written.{overlay};
 ghost use Rattle.gt_explore_state.specs.Pages.{is_page_of, kept_bytes, padded, page_contents, WritesPage};
 
 use crate::lists::lengthen;

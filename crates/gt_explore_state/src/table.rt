@@ -1,6 +1,6 @@
 //! A domain's grant table in a small state.
 ghost use Rattle.std.specs.Prelude.{◌≡◌};
-ghost use Rattle.gt_entry.specs.Words.{header_word};
+ghost use Rattle.gt_model.specs.Words.{header_word};
 
 use crate::rows::{change_own, counts_at, set_counts, word_at};
 use gt_calls::{BodyWord, EntryChange, OwnerEntry};
@@ -26,7 +26,7 @@ fn header_word(header: Header) -> u64
 
 impl SparseTable {
     ghost use Rattle.std.specs.Prelude.{◌≡◌, ◌%◌, [], IfOk, OnOk};
-    ghost use Rattle.gt_entry.specs.Words.{header_word};
+    ghost use Rattle.gt_model.specs.Words.{header_word};
     ghost use Rattle.gt_explore_state.specs.Rows.{body_in_rows, word_in};
     ghost use Rattle.gt_explore_state.specs.Tables.{CountsChangeOf, OwnChangeOf, HeaderStored, SameTable};
 

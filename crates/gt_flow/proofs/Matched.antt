@@ -10,17 +10,17 @@ use Rattle.gt_core.proofs.Words.{open_call, underway_with, underway_after, maps_
 use Rattle.gt_core.proofs.Words.{pinned_by, unpinned_by, holder_after, mapping_named, known_at, seen_by, word_at, reads_at, control_at}
 use Rattle.gt_core.proofs.Words.{writes_at, exchange_sees, given_in, stood, stood_with, first_at, first_in_call, first_of_item, leg_at}
 use Rattle.gt_core.proofs.Words.{LegNow, leg_now, legs_at, refusal_in, take, drop, contents_at, PinHolder}
-use Rattle.gt_core.specs.declared.trace.Answer.{Answer}
-use Rattle.gt_core.specs.declared.trace.Answer.TheVariants.{Bytes as BytesAnswer}
-use Rattle.gt_core.specs.declared.trace.Bytes.{Bytes}
-use Rattle.gt_core.specs.declared.trace.ItemEvent.{ItemEvent}
-use Rattle.gt_core.specs.declared.trace.ItemEvent.TheVariants.{Began, Stepped}
-use Rattle.gt_core.specs.declared.trace.Item.{Item}
+use Rattle.gt_model.specs.declared.trace.Answer.{Answer}
+use Rattle.gt_model.specs.declared.trace.Answer.TheVariants.{Bytes as BytesAnswer}
+use Rattle.gt_model.specs.declared.trace.Bytes.{Bytes}
+use Rattle.gt_model.specs.declared.trace.ItemEvent.{ItemEvent}
+use Rattle.gt_model.specs.declared.trace.ItemEvent.TheVariants.{Began, Stepped}
+use Rattle.gt_model.specs.declared.trace.Item.{Item}
 use Rattle.gt_core.proofs.Steps.Observers.{known-as}
 use Rattle.gt_core.specs.Prelude.{ReadBytes, GrantRef, Rule, N9, N18, N19, HeaderFacts, denial_of, size_of, stands, first, first_look}
 use Rattle.gt_core.specs.Prelude.{before_pin, pins_of, MAX_TRIES}
-use Rattle.gt_core.specs.FirstRule.{looked_at, misses, is_in_body, is_other, is_demote, at_entry, rule_at_look, rule_at_header, rule_at_pin}
-use Rattle.gt_core.specs.FirstRule.{rule_at_via, rule_at_exchange}
+use Rattle.gt_model.specs.FirstRule.{looked_at, misses, is_in_body, is_other, is_demote, at_entry, rule_at_look, rule_at_header, rule_at_pin}
+use Rattle.gt_model.specs.FirstRule.{rule_at_via, rule_at_exchange}
 use Rattle.std.specs.Prelude.{◌&&◌, nat_lt, nat_le}
 use Rattle.gt_flow.specs.Low.{is_high}
 use Rattle.gt_flow.proofs.Frames.{hides}

@@ -11,24 +11,24 @@ use Rattle.gt_core.proofs.Words.{GivesValue, Justified, MayAsk, MayUseMapping, E
 use Rattle.gt_core.proofs.Words.{IsSafeChange, PinIsSound, NoneStands, IsSpelled, refusal_of, refusal_if, gives_back, verdict_in, CallResult}
 use Rattle.gt_core.proofs.Words.{MayDo, LegalAfter, grown, history_after, SpellsItsEntry, MAX_TABLE_FRAMES}
 use Rattle.gt_core.specs.Alike.{KeylessItem}
-use Rattle.gt_core.specs.Justified.{MayAccess, ReachesThrough}
-use Rattle.gt_core.specs.Legal.{Legal, actor_of}
+use Rattle.gt_model.specs.Justified.{MayAccess, ReachesThrough}
+use Rattle.gt_model.specs.Legal.{Legal, actor_of}
 use Rattle.gt_core.specs.Prelude.{StoreBody, FirstHalf, SecondHalf, Publish, ToInvalid, ToReadOnly, ToWritable, ToWithdrawn, ForMap, ForCopy}
 use Rattle.gt_core.specs.Prelude.{Read, Write, resolved, is_source_granted, is_dest_granted, first_look, before_pin, pins_of, Control}
 use Rattle.std.specs.Prelude.{Any, min, ◌-◌}
 use Rattle.std.proofs.lemmas.List.{length-append, length-drop, length-map, length-take, map-append}
-use Rattle.gt_frames.specs.Bytes.{overlay, replay, zeros}
+use Rattle.gt_model.specs.Written.{overlay, replay, zeros}
 use Rattle.std.specs.Prelude.{◌&&◌}
-use Rattle.gt_core.specs.declared.trace.Answer.{Answer}
-use Rattle.gt_core.specs.declared.trace.Answer.TheVariants as answers
-use Rattle.gt_core.specs.declared.trace.Event.{Event}
-use Rattle.gt_core.specs.declared.trace.Event.TheVariants.{Begin, Tick}
-use Rattle.gt_core.specs.declared.trace.ItemEvent.{ItemEvent}
-use Rattle.gt_core.specs.declared.trace.ItemEvent.TheVariants.{Began, Stepped}
-use Rattle.gt_core.specs.declared.trace.Item.{Item}
-use Rattle.gt_core.specs.declared.trace.Element.{Element}
-use Rattle.gt_core.specs.declared.trace.Element.TheVariants.{Busy, Idle, NoDomain, Item as Did}
-use Rattle.gt_calls.specs.declared.request.Request.TheVariants as requests
+use Rattle.gt_model.specs.declared.trace.Answer.{Answer}
+use Rattle.gt_model.specs.declared.trace.Answer.TheVariants as answers
+use Rattle.gt_model.specs.declared.trace.Event.{Event}
+use Rattle.gt_model.specs.declared.trace.Event.TheVariants.{Begin, Tick}
+use Rattle.gt_model.specs.declared.trace.ItemEvent.{ItemEvent}
+use Rattle.gt_model.specs.declared.trace.ItemEvent.TheVariants.{Began, Stepped}
+use Rattle.gt_model.specs.declared.trace.Item.{Item}
+use Rattle.gt_model.specs.declared.trace.Element.{Element}
+use Rattle.gt_model.specs.declared.trace.Element.TheVariants.{Busy, Idle, NoDomain, Item as Did}
+use Rattle.gt_model.specs.declared.request.Request.TheVariants as requests
 use Rattle.gt_flow.specs.Flow.{IsClosed}
 use Rattle.gt_flow.specs.Laws.{SameLowFrames}
 use Rattle.gt_flow.specs.Low.{hidden_happened, hidden_request, is_high}
@@ -167,7 +167,7 @@ module _ (s : Setting) (high : TypeId → Bool) (g h : History) (m : Matched s h
 
   -- answers
 
-  reread-is : (b : Bool) (t : DomId) (f o n : ℕ) (x : Rattle.gt_core.specs.declared.trace.Bytes.Bytes) → (length (contents_at g t.0 f) ≡ length (contents_at h t.0 f)) → (b ≡ false → contents_at g t.0 f ≡ contents_at h t.0 f) → x.bytes.items ≡ take n (drop o (contents_at g t.0 f))
+  reread-is : (b : Bool) (t : DomId) (f o n : ℕ) (x : Rattle.gt_model.specs.declared.trace.Bytes.Bytes) → (length (contents_at g t.0 f) ≡ length (contents_at h t.0 f)) → (b ≡ false → contents_at g t.0 f ≡ contents_at h t.0 f) → x.bytes.items ≡ take n (drop o (contents_at g t.0 f))
       → (cond b (reread h (Some (ReadBytes t f o n)) x) x).bytes.items ≡ take n (drop o (contents_at h t.0 f))
   reread-is true t f o n x sized same is = let ys : List ℕ = take n (drop o (contents_at h t.0 f)) in
       ap (λ (k : ℕ). fitted k ys) (ap length is ∙ part-length n o (contents_at g t.0 f) (contents_at h t.0 f) sized) ∙ fitted-all ys

@@ -6,16 +6,16 @@ use Rattle.std.specs.Prelude.{◌==◌}
 use Rattle.gt_core.proofs.Words.{eqb-true}
 use Rattle.gt_types.specs.declared.DomId.{DomId}
 use Rattle.gt_types.specs.declared.TypeId.{TypeId}
-use Rattle.gt_handles.specs.declared.handles.Handle.{Handle}
-use Rattle.gt_calls.specs.declared.request.Request.{Request}
-use Rattle.gt_calls.specs.declared.request.Request.TheVariants as requests
-use Rattle.gt_core.specs.History.{Setting}
-use Rattle.gt_core.specs.Legal.{actor_of}
-use Rattle.gt_core.specs.declared.trace.Answer.{Answer}
-use Rattle.gt_core.specs.declared.trace.Answer.TheVariants as answers
-use Rattle.gt_core.specs.declared.trace.Element.{Element}
-use Rattle.gt_core.specs.declared.trace.Event.{Event}
-use Rattle.gt_core.specs.declared.trace.Event.TheVariants.{Begin, Tick}
+use Rattle.gt_model.specs.declared.handle.Handle.{Handle}
+use Rattle.gt_model.specs.declared.request.Request.{Request}
+use Rattle.gt_model.specs.declared.request.Request.TheVariants as requests
+use Rattle.gt_model.specs.History.{Setting}
+use Rattle.gt_model.specs.Legal.{actor_of}
+use Rattle.gt_model.specs.declared.trace.Answer.{Answer}
+use Rattle.gt_model.specs.declared.trace.Answer.TheVariants as answers
+use Rattle.gt_model.specs.declared.trace.Element.{Element}
+use Rattle.gt_model.specs.declared.trace.Event.{Event}
+use Rattle.gt_model.specs.declared.trace.Event.TheVariants.{Begin, Tick}
 use Rattle.gt_script_lines.specs.Hexadecimal.{hex_bytes}
 use Rattle.gt_script_lines.specs.declared.calls.ScriptCall.{ScriptCall}
 use Rattle.gt_script_lines.specs.declared.calls.ScriptCall.TheVariants as calls

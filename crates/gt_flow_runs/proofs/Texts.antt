@@ -10,10 +10,10 @@ use Rattle.gt_types.specs.declared.DomId.{DomId}
 use Rattle.gt_types.specs.declared.TypeId.{TypeId}
 use Rattle.gt_types.specs.declared.config.DomainConfig.{DomainConfig}
 use Rattle.gt_core.proofs.Words.{eqb-true}
-use Rattle.gt_core.specs.History.{Setting}
-use Rattle.gt_core.specs.Legal.{Legal, actor_of}
-use Rattle.gt_core.specs.declared.trace.Element.{Element}
-use Rattle.gt_core.specs.declared.trace.Event.{Event}
+use Rattle.gt_model.specs.History.{Setting}
+use Rattle.gt_model.specs.Legal.{Legal, actor_of}
+use Rattle.gt_model.specs.declared.trace.Element.{Element}
+use Rattle.gt_model.specs.declared.trace.Event.{Event}
 use Rattle.gt_script.specs.Contents.{Contents, type_names}
 use Rattle.gt_script.specs.Lists.{RunTask}
 use Rattle.gt_script.specs.RunContents.{RunContents}

@@ -3,8 +3,8 @@ use Rattle.std.specs.Prelude.{◌≡◌, ◌⊎◌, ℕ, Bool, true, false, List
 use Rattle.gt_types.specs.declared.DomId.{DomId}
 use Rattle.gt_types.specs.declared.TypeId.{TypeId}
 use Rattle.gt_types.specs.declared.config.DomainConfig.{DomainConfig}
-use Rattle.gt_core.specs.History.{Setting}
-use Rattle.gt_core.specs.declared.trace.Answer.{Answer}
+use Rattle.gt_model.specs.History.{Setting}
+use Rattle.gt_model.specs.declared.trace.Answer.{Answer}
 use Rattle.gt_script_lines.specs.Hexadecimal.{hex_bytes}
 use Rattle.gt_script_lines.specs.declared.calls.ScriptCall.{ScriptCall}
 use Rattle.gt_script_lines.specs.declared.calls.ScriptCall.TheVariants.{Poke, Store}

@@ -5,7 +5,7 @@ use Rattle.std.proofs.lemmas.Bool.{cases_lt}
 use Rattle.std.proofs.lemmas.List.{ext_get_or, length-replicate}
 use Rattle.gt_types.specs.declared.limits.TheConstants.{FRAME_SIZE}
 use Rattle.gt_frames.specs.declared.writ.WriteRecord.{WriteRecord}
-use Rattle.gt_frames.specs.Bytes.{overlay, zeros, replay, written, IsLaidOver}
+use Rattle.gt_model.specs.Written.{overlay, zeros, replay, written, IsLaidOver}
 use Rattle.gt_frames.specs.Covering.{IsCovered, LieInside, some_has}
 use Rattle.gt_frames.specs.Frames.{patches}
 use Rattle.gt_frames.specs.Writers.{has_byte}

@@ -8,7 +8,7 @@ use Rattle.gt_types.specs.declared.DomId.{DomId}
 use Rattle.gt_types.specs.declared.limits.TheConstants.{FRAME_SIZE}
 use Rattle.gt_frames.specs.declared.writ.Writ.{Writ}
 use Rattle.gt_frames.specs.declared.writ.WriteRecord.{WriteRecord}
-use Rattle.gt_frames.specs.Bytes.{overlay, zeros, replay}
+use Rattle.gt_model.specs.Written.{overlay, zeros, replay}
 use Rattle.gt_frames.specs.Covering.{AreSomeOf, IsCovered, LieInside, StandFor, some_has}
 use Rattle.gt_frames.specs.Frames.{all_rightful, is_rightful, patches}
 use Rattle.gt_frames.specs.Writers.{has_byte, last_writ}

@@ -3,7 +3,7 @@ use Rattle.std.proofs.Common.{◌≡◌, ℕ, ◌+◌, ◌-◌, ◌<◌, ◌≤�
 use Rattle.std.proofs.Common.{length-append, length-drop}
 use Rattle.std.proofs.lemmas.List.{length-take-le, get_or-take, get_or-drop, get_or_append_left, get_or-append-add}
 use Rattle.std.proofs.lemmas.List.{get_or-append_right}
-use Rattle.gt_frames.specs.Bytes.{overlay, IsLaidOver}
+use Rattle.gt_model.specs.Written.{overlay, IsLaidOver}
 
 module _ (xs : List ℕ) (off : ℕ) (ys : List ℕ) (fits : off + length ys ≤ length xs) where
   front : length (take off xs) ≡ off

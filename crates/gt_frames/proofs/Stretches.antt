@@ -3,7 +3,7 @@ use Rattle.std.proofs.Common.{◌≡◌, ℕ, zero, suc, ◌+◌, ◌-◌, ◌<�
 use Rattle.std.proofs.Common.{length, replicate, get_or, set, take, refl, sym, ◌∙◌, ap, arith}
 use Rattle.std.proofs.lemmas.Bool.{cases_lt}
 use Rattle.std.proofs.lemmas.List.{ext_get_or, length-replicate, take_all}
-use Rattle.gt_frames.specs.Bytes.{overlay, IsLaidOver}
+use Rattle.gt_model.specs.Written.{overlay, IsLaidOver}
 use Rattle.gt_frames.specs.declared.writers.Stretch.{Stretch}
 use Rattle.gt_frames.specs.Writers.{LiesIn, count_used, numbers_of}
 use Rattle.gt_frames.proofs.Overlay.{laid_over, length-overlay}

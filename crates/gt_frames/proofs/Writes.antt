@@ -8,7 +8,7 @@ use Rattle.gt_types.specs.declared.DomId.{DomId}
 use Rattle.gt_frames.specs.declared.frame.FrameParts.{FrameParts}
 use Rattle.gt_frames.specs.declared.writ.Writ.{Writ}
 use Rattle.gt_frames.specs.declared.writ.WriteRecord.{WriteRecord}
-use Rattle.gt_frames.specs.Bytes.{overlay, zeros, replay, written, IsLaidOver}
+use Rattle.gt_model.specs.Written.{overlay, zeros, replay, written, IsLaidOver}
 use Rattle.gt_frames.specs.Frames.{FrameState, patches, contents, bytes_at, covers, is_rightful, all_rightful, IsKept}
 use Rattle.gt_frames.specs.Frames.{IsSound, with_write, IsWrite}
 use Rattle.gt_frames.proofs.Overlay.{length-overlay, laid_over}

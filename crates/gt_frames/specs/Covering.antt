@@ -3,7 +3,7 @@ use Rattle.std.specs.Prelude.{◌≡◌, ℕ, ◌+◌, ◌≤◌, ◌⊎◌, Boo
 use Rattle.gt_types.specs.declared.DomId.{DomId}
 use Rattle.gt_types.specs.declared.limits.TheConstants.{FRAME_SIZE}
 use Rattle.gt_frames.specs.declared.writ.WriteRecord.{WriteRecord}
-use Rattle.gt_frames.specs.Bytes.{written}
+use Rattle.gt_model.specs.Written.{written}
 use Rattle.gt_frames.specs.Frames.{all_rightful, patches}
 use Rattle.gt_frames.specs.Writers.{has_byte, last_writ}
 

@@ -5,13 +5,13 @@ use Rattle.gt_types.specs.declared.DomId.{DomId}
 use Rattle.gt_types.specs.declared.limits.TheConstants.{FRAME_SIZE}
 use Rattle.gt_types.specs.declared.Dir.TheVariants.{Write}
 use Rattle.gt_types.specs.declared.Use.TheVariants.{Copy as ForCopy}
-use Rattle.gt_entry.specs.declared.entry.Entry.{Entry}
-use Rattle.gt_entry.specs.Permits.{permits, forwards, leads_to, is_of_frame}
+use Rattle.gt_model.specs.declared.entry.Entry.{Entry}
+use Rattle.gt_model.specs.Permits.{permits, forwards, leads_to, is_of_frame}
 use Rattle.gt_frames.specs.declared.writ.WriteBasis.{WriteBasis}
 use Rattle.gt_frames.specs.declared.writ.WriteBasis.TheVariants.{Owned, Granted, Forwarded}
 use Rattle.gt_frames.specs.declared.writ.Writ.{Writ}
 use Rattle.gt_frames.specs.declared.writ.WriteRecord.{WriteRecord}
-use Rattle.gt_frames.specs.Bytes.{overlay, IsLaidOver, Patch, written}
+use Rattle.gt_model.specs.Written.{overlay, IsLaidOver, Patch, written}
 
 -- a frame: its owner, its number among the owner's frames, and its writes, the oldest first
 pub record FrameState : Type 0 where

@@ -1,4 +1,3 @@
-pub mod Bytes
 pub mod Copies
 pub mod Covering
 pub mod Frames

@@ -2,7 +2,7 @@
 ghost use Rattle.std.specs.Prelude.{◌≡◌, ◌+◌, ◌≤◌, ◌++◌, [], ◌∷◌, None, length, slice_range, vec_capacity, vec_len};
 ghost use Rattle.std.specs.Prelude.{IsTrue, IfOk};
 ghost use Rattle.std.specs.Prelude.{OnOk, OnErr};
-ghost use Rattle.gt_frames.specs.Bytes.{overlay};
+ghost use Rattle.gt_model.specs.Written.{overlay};
 ghost use Rattle.gt_frames.specs.Frames.{recorded};
 ghost use Rattle.gt_frames.specs.Writers.{KnowsWriters};
 

@@ -1,6 +1,6 @@
 //! Laws of journals.
 ghost use Rattle.std.specs.Prelude.{◌≡◌, List, ◌∷◌, ◌++◌};
-ghost use Rattle.gt_frames.specs.Bytes.{written};
+ghost use Rattle.gt_model.specs.Written.{written};
 ghost use Rattle.gt_frames.specs.Covering.{IsCovered, LieInside, StandFor};
 ghost use Rattle.gt_frames.specs.Frames.{patches};
 ghost use Rattle.gt_frames.specs.declared.writ.WriteRecord.{WriteRecord};

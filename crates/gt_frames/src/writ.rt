@@ -1,6 +1,6 @@
 //! The right by which a range is written.
 ghost use Rattle.std.specs.Prelude.{◌≡◌, IsTrue};
-ghost use Rattle.gt_entry.specs.Permits.{is_of_frame, leads_to};
+ghost use Rattle.gt_model.specs.Permits.{is_of_frame, leads_to};
 ghost use Rattle.gt_frames.specs.Frames.{permits_writing, covers};
 
 use crate::FrameBytes;

@@ -1,7 +1,7 @@
 //! The last writer of each byte of a frame, and the right by which it wrote.
 ghost use Rattle.std.specs.Prelude.{◌≡◌, ◌+◌, ◌<◌, ◌≤◌, ℕ, IfSome, None, false, true, length, replicate};
 ghost use Rattle.std.specs.Prelude.{slice_index_or};
-ghost use Rattle.gt_frames.specs.Bytes.{overlay};
+ghost use Rattle.gt_model.specs.Written.{overlay};
 ghost use Rattle.gt_frames.specs.Writers.{IsUsed, LiesIn, count_used, numbers_of};
 
 use crate::Writ;
@@ -160,7 +160,7 @@ fn assign(below: &mut Vec<u16>, latest: &mut Stretch, number: u16, off: usize, l
 impl Writers {
     ghost use Rattle.std.specs.Prelude.{◌≡◌, ◌+◌, ◌<◌, ◌≤◌, ◌-◌, ℕ, Some, None, IfOk, OnOk, OnErr, true, length};
     ghost use Rattle.std.specs.Prelude.{replicate, slice_get, slice_index_or};
-    ghost use Rattle.gt_frames.specs.Bytes.{overlay};
+    ghost use Rattle.gt_model.specs.Written.{overlay};
     ghost use Rattle.gt_frames.specs.Writers.{AreWriters, HasWrit, IsFree, IsUsed, KeepsWriters, ShowsSame, shown};
     ghost use Rattle.gt_frames.specs.Writers.{count_used, most_writs, numbers_of};
 

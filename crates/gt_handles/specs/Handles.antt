@@ -2,8 +2,9 @@
 use Rattle.std.specs.Prelude.{◌≡◌, ℕ, ◌<◌, ◌==◌, ◌&&◌, Bool, List, Option, Some, None, if◌then◌else◌, is_some, count_by}
 use Rattle.std.specs.Prelude.{slice_index_or, refl}
 use Rattle.std.specs.Coded.{Coded, code_by, coded×, coded_ℕ, coded_list, coded_option}
-use Rattle.gt_handles.specs.declared.handles.Handle.{Handle}
+use Rattle.gt_model.specs.declared.handle.Handle.{Handle}
 use Rattle.gt_handles.specs.declared.handles.HandleSlot.{HandleSlot}
+use Rattle.gt_model.specs.Handle.{same_handle}
 
 -- what each key holds, how many serials were given, and how many more values fit without an allocation
 pub record HandleMap (T : Type 0) : Type 0 where
@@ -26,10 +27,6 @@ kept_code {T} code =
     (λ s. (s.slots, (s.given, s.room)))
     (λ p. record { slots = p.0; given = p.1.0; room = p.1.1 })
     (λ _. refl)
-
--- both are the same handle
-abbrev pub same_handle : Handle → Handle → Bool
-same_handle a b = (a.serial == b.serial) && (a.key == b.key)
 
 module _ {T : Type 0} where
   -- the value of a slot, if the slot has this serial

@@ -7,9 +7,10 @@ use Rattle.std.proofs.lemmas.Bool.{eqb-true, eq-eqb, ne_eqb, and_parts, and_from
 use Rattle.std.proofs.lemmas.Option.{none-some}
 use Rattle.std.proofs.lemmas.List.{length-append}
 use Rattle.std.proofs.lemmas.List.Sums.{sum_by-cons}
-use Rattle.gt_handles.specs.declared.handles.Handle.{Handle}
+use Rattle.gt_model.specs.declared.handle.Handle.{Handle}
 use Rattle.gt_handles.specs.declared.handles.HandleSlot.{HandleSlot}
-use Rattle.gt_handles.specs.Handles.{HandleMap, Updates, value_of, count_of, same_handle, under}
+use Rattle.gt_handles.specs.Handles.{HandleMap, Updates, value_of, count_of, under}
+use Rattle.gt_model.specs.Handle.{same_handle}
 use Rattle.gt_handles.specs.Listing.{AreApart, HasJust, IsInserted, IsTaken, count_passing, has_passing, listed}
 use Rattle.gt_handles.specs.Listing.{unlisted}
 

@@ -1,8 +1,9 @@
 -- The values of a map as a list, each with its handle.
 use Rattle.std.specs.Prelude.{◌≡◌, ◌+◌, ◌++◌, ◌≤◌, ℕ, Bool, false, List, [], ◌∷◌, length, Option, Some, None}
 use Rattle.std.specs.Prelude.{if◌then◌else◌, cond, count_by}
-use Rattle.gt_handles.specs.Handles.{HandleMap, Updates, count_of, same_handle, value_of}
-use Rattle.gt_handles.specs.declared.handles.Handle.{Handle}
+use Rattle.gt_handles.specs.Handles.{HandleMap, Updates, count_of, value_of}
+use Rattle.gt_model.specs.Handle.{same_handle}
+use Rattle.gt_model.specs.declared.handle.Handle.{Handle}
 use Rattle.gt_handles.specs.declared.handles.HandleSlot.{HandleSlot}
 
 module _ {T : Type 0} where

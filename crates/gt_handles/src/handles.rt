@@ -2,17 +2,11 @@
 ghost use Rattle.std.specs.Prelude.{◌≡◌, ◌+◌, ◌<◌, ◌≤◌, ◌^◌, ◌==◌, IsOk, IsSome, IfSome, IfNone, OnOk, OnSome};
 ghost use Rattle.std.specs.Prelude.{Some, None, option_copied, slice_index_or, slice_set};
 
+pub use gt_model::Handle;
 use gt_types::Memory;
 use slab::Slab;
 use std::alloc::Global;
 use std::marker::Model;
-
-/// The name of a value. Its serial is never given again; its key is used again after the value was taken.
-#[derive(Clone, Copy, Debug, PartialEq, Eq)]
-pub struct Handle {
-    pub serial: u64,
-    pub key: usize,
-}
 
 /// A value, with the serial of its handle.
 #[derive(Drop)]

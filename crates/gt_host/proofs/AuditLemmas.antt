@@ -7,25 +7,25 @@ use Rattle.std.proofs.lemmas.List.{append-nil}
 use Rattle.std.proofs.lemmas.Bool.{eq-eqb, ne_eqb}
 use Rattle.std.specs.Prelude.{◌==◌, option_to_list}
 use Rattle.gt_types.specs.declared.DomId.{DomId}
-use Rattle.gt_calls.specs.Asking.{asked, bytes_given_by}
-use Rattle.gt_calls.specs.declared.action.Observation.{Observation}
-use Rattle.gt_calls.specs.declared.action.Step.{Step}
-use Rattle.gt_calls.specs.declared.request.Request.{Request}
+use Rattle.gt_model.specs.Asking.{asked, bytes_given_by}
+use Rattle.gt_model.specs.declared.action.Observation.{Observation}
+use Rattle.gt_model.specs.declared.action.Step.{Step}
+use Rattle.gt_model.specs.declared.request.Request.{Request}
 use Rattle.gt_text.specs.Printing.{type_text}
 use Rattle.gt_audit.specs.Lines.{line_text}
 use Rattle.gt_audit.specs.declared.record.Hypercall.{Hypercall}
 use Rattle.gt_audit.specs.declared.record.Record.{Record}
-use Rattle.gt_core.specs.History.{History, Setting, Underway, open_call, underway_after, underway_with}
-use Rattle.gt_core.specs.Legal.{MayDo, grown, LegalAfter, history_after, actor_of}
+use Rattle.gt_model.specs.History.{History, Setting, Underway, open_call, underway_after, underway_with}
+use Rattle.gt_model.specs.Legal.{MayDo, grown, LegalAfter, history_after, actor_of}
 use Rattle.gt_core.specs.Subject.{subject_at}
-use Rattle.gt_core.specs.declared.trace.Answer.{Answer}
-use Rattle.gt_core.specs.declared.trace.Event.{Event}
-use Rattle.gt_core.specs.declared.trace.Event.TheVariants.{Begin, Tick}
-use Rattle.gt_core.specs.declared.trace.Element.{Element}
-use Rattle.gt_core.specs.declared.trace.Element.TheVariants.{Busy, Idle, NoDomain, Item as Did}
-use Rattle.gt_core.specs.declared.trace.ItemEvent.{ItemEvent}
-use Rattle.gt_core.specs.declared.trace.ItemEvent.TheVariants.{Began, Stepped}
-use Rattle.gt_core.specs.declared.trace.Item.{Item}
+use Rattle.gt_model.specs.declared.trace.Answer.{Answer}
+use Rattle.gt_model.specs.declared.trace.Event.{Event}
+use Rattle.gt_model.specs.declared.trace.Event.TheVariants.{Begin, Tick}
+use Rattle.gt_model.specs.declared.trace.Element.{Element}
+use Rattle.gt_model.specs.declared.trace.Element.TheVariants.{Busy, Idle, NoDomain, Item as Did}
+use Rattle.gt_model.specs.declared.trace.ItemEvent.{ItemEvent}
+use Rattle.gt_model.specs.declared.trace.ItemEvent.TheVariants.{Began, Stepped}
+use Rattle.gt_model.specs.declared.trace.Item.{Item}
 use Rattle.gt_host.specs.declared.kept.PlayState.{PlayState}
 use Rattle.gt_script_runs.specs.Auditing.{before_begun, before_call, hypercall_of_request, item_hypercall, open_hypercall, record_in, record_of}
 use Rattle.gt_script_runs.specs.Auditing.{encoded_record, record_with, records_of, underway_hypercall, record_lines}

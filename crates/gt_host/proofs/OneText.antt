@@ -14,15 +14,15 @@ use Rattle.gt_script.specs.declared.actions.ScriptAction.TheVariants as actions
 use Rattle.gt_script.specs.Contents.{Contents, type_names}
 use Rattle.gt_script.specs.Script.{ReadsAsScript, Wrong}
 use Rattle.gt_script.specs.declared.script.ScriptStep.{ScriptStep}
-use Rattle.gt_calls.specs.declared.request.Request.{Request}
-use Rattle.gt_core.specs.declared.trace.Answer.{Answer}
-use Rattle.gt_core.specs.declared.trace.Item.{Item}
-use Rattle.gt_core.specs.declared.trace.Element.{Element}
-use Rattle.gt_core.specs.declared.trace.Element.TheVariants as elements
-use Rattle.gt_core.specs.declared.trace.Event.{Event}
-use Rattle.gt_core.specs.declared.trace.Event.TheVariants.{Begin, Tick}
-use Rattle.gt_core.specs.History.{History, Setting}
-use Rattle.gt_core.specs.Legal.{Legal, LegalAfter, grown, history_after}
+use Rattle.gt_model.specs.declared.request.Request.{Request}
+use Rattle.gt_model.specs.declared.trace.Answer.{Answer}
+use Rattle.gt_model.specs.declared.trace.Item.{Item}
+use Rattle.gt_model.specs.declared.trace.Element.{Element}
+use Rattle.gt_model.specs.declared.trace.Element.TheVariants as elements
+use Rattle.gt_model.specs.declared.trace.Event.{Event}
+use Rattle.gt_model.specs.declared.trace.Event.TheVariants.{Begin, Tick}
+use Rattle.gt_model.specs.History.{History, Setting}
+use Rattle.gt_model.specs.Legal.{Legal, LegalAfter, grown, history_after}
 use Rattle.gt_core.specs.Shown.{shown_at}
 use Rattle.gt_core.specs.declared.core_state.EntryView.{EntryView}
 use Rattle.gt_core.specs.Alike.{keyless_answer, SameEvent, SameElement, IsOfKnown, IsRun, AreAlike}

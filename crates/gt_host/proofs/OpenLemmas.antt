@@ -4,25 +4,25 @@ use Rattle.std.proofs.Common.{replicate, Option, None, Some, refl, ap, sym, subs
 use Rattle.std.proofs.lemmas.Bool.{eq-eqb, ne_eqb}
 use Rattle.gt_types.specs.Names.{domain_of}
 use Rattle.gt_types.specs.declared.DomId.{DomId}
-use Rattle.gt_core.specs.History.{History, Setting, Underway, open_call, underway_after}
-use Rattle.gt_core.specs.Legal.{MayDo, StepsRight, StepsRightIn, grown, LegalAfter, history_after, most_steps}
-use Rattle.gt_calls.specs.declared.call.TheConstants.{MAX_STEPS}
+use Rattle.gt_model.specs.History.{History, Setting, Underway, open_call, underway_after}
+use Rattle.gt_model.specs.Legal.{MayDo, StepsRight, StepsRightIn, grown, LegalAfter, history_after, most_steps}
+use Rattle.gt_model.specs.declared.bounds.TheConstants.{MAX_STEPS}
 use Rattle.gt_core.specs.Standing.{CoreStands}
 use Rattle.gt_core.specs.Acting.{begun_element}
 use Rattle.gt_core.specs.States.{CoreState}
-use Rattle.gt_calls.specs.declared.request.Request.{Request}
-use Rattle.gt_calls.specs.declared.request.OpenRequest.{OpenRequest}
-use Rattle.gt_calls.specs.declared.request.OpenRequest.TheVariants as asks
-use Rattle.gt_calls.specs.Asking.{asked, bytes_given_by}
-use Rattle.gt_calls.specs.declared.action.Observation.{Observation}
-use Rattle.gt_calls.specs.declared.action.Step.{Step}
-use Rattle.gt_core.specs.declared.trace.Answer.{Answer}
-use Rattle.gt_core.specs.declared.trace.Item.{Item}
-use Rattle.gt_core.specs.declared.trace.ItemEvent.{ItemEvent}
-use Rattle.gt_core.specs.declared.trace.ItemEvent.TheVariants.{Began, Stepped}
-use Rattle.gt_core.specs.declared.trace.Event.TheVariants.{Begin, Tick}
-use Rattle.gt_core.specs.declared.trace.Element.{Element}
-use Rattle.gt_core.specs.declared.trace.Element.TheVariants.{Busy, Idle, NoDomain, Item as Did}
+use Rattle.gt_model.specs.declared.request.Request.{Request}
+use Rattle.gt_model.specs.declared.request.OpenRequest.{OpenRequest}
+use Rattle.gt_model.specs.declared.request.OpenRequest.TheVariants as asks
+use Rattle.gt_model.specs.Asking.{asked, bytes_given_by}
+use Rattle.gt_model.specs.declared.action.Observation.{Observation}
+use Rattle.gt_model.specs.declared.action.Step.{Step}
+use Rattle.gt_model.specs.declared.trace.Answer.{Answer}
+use Rattle.gt_model.specs.declared.trace.Item.{Item}
+use Rattle.gt_model.specs.declared.trace.ItemEvent.{ItemEvent}
+use Rattle.gt_model.specs.declared.trace.ItemEvent.TheVariants.{Began, Stepped}
+use Rattle.gt_model.specs.declared.trace.Event.TheVariants.{Begin, Tick}
+use Rattle.gt_model.specs.declared.trace.Element.{Element}
+use Rattle.gt_model.specs.declared.trace.Element.TheVariants.{Busy, Idle, NoDomain, Item as Did}
 use Rattle.gt_core.specs.declared.core_state.Begun.{Begun}
 use Rattle.gt_core.specs.declared.core_state.Begun.TheVariants as begun
 use Rattle.gt_script_runs.specs.Runs.{answer_in, AnswerNothing}

@@ -11,7 +11,7 @@ use Rattle.gt_types.specs.Config.{is_taken}
 use Rattle.gt_types.specs.declared.TypeId.{TypeId}
 use Rattle.gt_types.specs.declared.perms.Perms.{Perms}
 use Rattle.gt_types.specs.declared.config.DomainConfig.{DomainConfig}
-use Rattle.gt_core.specs.History.{Setting, open_call}
+use Rattle.gt_model.specs.History.{Setting, open_call}
 use Rattle.gt_core.specs.Standing.{CoreModel, CoreStands}
 use Rattle.gt_core.specs.Acting.{setting_of}
 use Rattle.gt_core.specs.States.{CoreState}
@@ -23,7 +23,7 @@ use Rattle.gt_script_runs.specs.Auditing.{asked_lines, audit_text, before_call, 
 use Rattle.gt_script_runs.specs.Playing.{StartsFor, BeginsRun, WritesRun, IsLegalRunOf, setting_of_script, play_text}
 use Rattle.gt_script_runs.specs.Playing.{audited_text}
 use Rattle.gt_host.specs.Recording.{IsAudited, RecordsNothing}
-use Rattle.gt_core.specs.declared.trace.Element.{Element}
+use Rattle.gt_model.specs.declared.trace.Element.{Element}
 use Rattle.gt_script_runs.specs.Runs.{Progress, PlayLeadsTo, IsRunOf, RunsLine, at_start, history_of, open_text, open_lines}
 use Rattle.gt_text.specs.Laws.{appends_both, appends_nothing, begins_after}
 use Rattle.gt_text.specs.Streams.{AppendsBeginning, Sends}

@@ -4,12 +4,12 @@ use Rattle.std.proofs.Common.{◌∙◌, arith}
 use Rattle.std.specs.Option.{option_map}
 use Rattle.std.proofs.lemmas.Option.{none-some, same_Some}
 use Rattle.gt_types.specs.declared.DomId.{DomId}
-use Rattle.gt_core.specs.declared.trace.Answer.{Answer}
-use Rattle.gt_core.specs.declared.trace.Element.{Element}
-use Rattle.gt_core.specs.declared.trace.Event.{Event}
-use Rattle.gt_core.specs.declared.trace.Event.TheVariants.{Tick}
-use Rattle.gt_core.specs.History.{History, Setting}
-use Rattle.gt_core.specs.Legal.{MayDo, LegalAfter, actor_of, grown, history_after}
+use Rattle.gt_model.specs.declared.trace.Answer.{Answer}
+use Rattle.gt_model.specs.declared.trace.Element.{Element}
+use Rattle.gt_model.specs.declared.trace.Event.{Event}
+use Rattle.gt_model.specs.declared.trace.Event.TheVariants.{Tick}
+use Rattle.gt_model.specs.History.{History, Setting}
+use Rattle.gt_model.specs.Legal.{MayDo, LegalAfter, actor_of, grown, history_after}
 use Rattle.gt_core.specs.Alike.{keyless_answer, SameEvent, SameElement, IsOfKnown, AreAlike}
 use Rattle.gt_script_runs.specs.Runs.{answer_in, AnswerNothing}
 use Rattle.gt_script_runs.proofs.AlikeLemmas.{answers-same, AnswerGiven, done-given}

@@ -2,15 +2,15 @@
 use Rattle.std.specs.Prelude.{◌≡◌, ◌≢◌, ℕ, ◌+◌, Bool, List, ◌++◌, length, replicate, Option, None}
 use Rattle.gt_types.specs.Names.{domain_of}
 use Rattle.gt_types.specs.declared.DomId.{DomId}
-use Rattle.gt_core.specs.History.{History, Setting}
-use Rattle.gt_core.specs.Legal.{Legal, LegalAfter, history_after}
+use Rattle.gt_model.specs.History.{History, Setting}
+use Rattle.gt_model.specs.Legal.{Legal, LegalAfter, history_after}
 use Rattle.gt_core.specs.Standing.{CoreStands}
 use Rattle.gt_core.specs.States.{CoreState}
-use Rattle.gt_calls.specs.declared.request.Request.{Request}
-use Rattle.gt_core.specs.declared.trace.Answer.{Answer}
-use Rattle.gt_core.specs.declared.trace.Event.{Event}
-use Rattle.gt_core.specs.declared.trace.Event.TheVariants.{Tick}
-use Rattle.gt_core.specs.declared.trace.Element.{Element}
+use Rattle.gt_model.specs.declared.request.Request.{Request}
+use Rattle.gt_model.specs.declared.trace.Answer.{Answer}
+use Rattle.gt_model.specs.declared.trace.Event.{Event}
+use Rattle.gt_model.specs.declared.trace.Event.TheVariants.{Tick}
+use Rattle.gt_model.specs.declared.trace.Element.{Element}
 use Rattle.gt_host.specs.declared.kept.PlayState.{PlayState}
 use Rattle.gt_script_runs.specs.Naming.{AreNamed}
 use Rattle.gt_host.specs.OpenCalls.{call_in}

@@ -3,7 +3,7 @@ ghost use Rattle.std.specs.Prelude.{◌≡◌, ◌≢◌, ◌++◌, List, None, 
 ghost use Rattle.std.specs.Option.{option_map};
 ghost use Rattle.gt_types.specs.Names.{domain_of};
 ghost use Rattle.gt_types.specs.declared.DomId.{DomId};
-ghost use Rattle.gt_core.specs.History.{History};
+ghost use Rattle.gt_model.specs.History.{History};
 ghost use Rattle.gt_core.specs.Standing.{CoreStands, setting_in};
 ghost use Rattle.gt_script_runs.specs.Printing.{answer_line};
 ghost use Rattle.gt_script_runs.specs.Runs.{call_bytes as bytes_in_call, label_said, DoLine, BeginLine, TickLine, RunsLine};

@@ -4,24 +4,25 @@ use Rattle.std.specs.Prelude.{Result, Ok, Err, IfOk, IfErr}
 use Rattle.gt_types.specs.declared.DomId.{DomId}
 use Rattle.gt_types.specs.declared.GrantRef.{GrantRef}
 use Rattle.gt_types.specs.declared.denial.Denial.{Denial}
-use Rattle.gt_entry.specs.declared.change.EntryChange.{EntryChange}
-use Rattle.gt_entry.specs.declared.change.EntryChange.TheVariants.{Publish, Revoke, Withdraw, Demote, Promote}
-use Rattle.gt_entry.specs.declared.entry.Entry.{Entry}
-use Rattle.gt_entry.specs.declared.header.Header.{Header}
+use Rattle.gt_model.specs.declared.change.EntryChange.{EntryChange}
+use Rattle.gt_model.specs.declared.change.EntryChange.TheVariants.{Publish, Revoke, Withdraw, Demote, Promote}
+use Rattle.gt_model.specs.declared.entry.Entry.{Entry}
+use Rattle.gt_model.specs.declared.header.Header.{Header}
 use Rattle.gt_word_history.specs.Rule.{Layout}
 use Rattle.gt_word_history.specs.declared.view.View.{View}
-use Rattle.gt_calls.specs.Asking.{JudgesBytes, asked, begun_of, bytes_begun, entry_spelled}
-use Rattle.gt_calls.specs.Path.{after_beginning, idle_word, path, path_of, steps_of}
-use Rattle.gt_calls.specs.Rules.{CallerKnowledge, begun, control_with, grant_begun, query_begun}
-use Rattle.gt_entry.specs.Words.{control_word}
-use Rattle.gt_calls.specs.declared.action.CallResult.{CallResult}
-use Rattle.gt_calls.specs.declared.action.CallResult.TheVariants.{Given, Granted, Mapped, Refused}
-use Rattle.gt_calls.specs.declared.call.HeaderQuery.{HeaderQuery}
-use Rattle.gt_calls.specs.declared.call.HeaderQuery.TheVariants.{Size, Version}
+use Rattle.gt_calls.specs.Asking.{JudgesBytes}
+use Rattle.gt_model.specs.Asking.{asked, begun_of, bytes_begun, entry_spelled}
+use Rattle.gt_model.specs.Path.{after_beginning, idle_word, path, path_of, steps_of}
+use Rattle.gt_model.specs.Rules.{CallerKnowledge, begun, control_with, grant_begun, query_begun}
+use Rattle.gt_model.specs.Words.{control_word}
+use Rattle.gt_model.specs.declared.action.CallResult.{CallResult}
+use Rattle.gt_model.specs.declared.action.CallResult.TheVariants.{Given, Granted, Mapped, Refused}
+use Rattle.gt_model.specs.declared.action.HeaderQuery.{HeaderQuery}
+use Rattle.gt_model.specs.declared.action.HeaderQuery.TheVariants.{Size, Version}
 use Rattle.gt_calls.specs.declared.known.OwnerEntry.{OwnerEntry}
-use Rattle.gt_calls.specs.declared.request.OpenRequest.TheVariants as asks
-use Rattle.gt_calls.specs.declared.request.Request.{Request}
-use Rattle.gt_calls.specs.declared.request.Request.TheVariants as requests
+use Rattle.gt_model.specs.declared.request.OpenRequest.TheVariants as asks
+use Rattle.gt_model.specs.declared.request.Request.{Request}
+use Rattle.gt_model.specs.declared.request.Request.TheVariants as requests
 use Rattle.gt_live.specs.Domains.{denial_in, done_by, frames_granted, verdict_of, verdict_of_frames}
 use Rattle.gt_live.specs.Ending.{IsAtOnce, IsWordless, WaitsForNobody}
 use Rattle.gt_live.specs.Questions.{asks_question}

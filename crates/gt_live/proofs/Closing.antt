@@ -9,24 +9,24 @@ use Rattle.std.specs.Prelude.{slice_get, slice_index_or, HoldsAt, Result, Ok, Er
 use Rattle.std.proofs.lemmas.Bool.{cases_eq}
 use Rattle.gt_types.specs.declared.GrantRef.{GrantRef}
 use Rattle.gt_types.specs.declared.denial.Denial.{Denial}
-use Rattle.gt_entry.specs.declared.change.EntryChange.TheVariants.{Withdraw}
-use Rattle.gt_entry.specs.declared.entry.Entry.{Entry}
-use Rattle.gt_entry.specs.declared.entry.Entry.TheVariants.{Invalid, Page, Sub, Via}
+use Rattle.gt_model.specs.declared.change.EntryChange.TheVariants.{Withdraw}
+use Rattle.gt_model.specs.declared.entry.Entry.{Entry}
+use Rattle.gt_model.specs.declared.entry.Entry.TheVariants.{Invalid, Page, Sub, Via}
 use Rattle.gt_handles.specs.Handles.{HandleMap, IsEmpty, under}
 use Rattle.gt_handles.specs.declared.handles.HandleSlot.{HandleSlot}
 use Rattle.gt_words.specs.Conditions.{IsWordOf}
 use Rattle.gt_word_history.specs.History.{Moment}
 use Rattle.gt_word_history.specs.Rule.{Layout}
 use Rattle.gt_word_history.specs.declared.view.View.{View}
-use Rattle.gt_calls.specs.Path.{Continuation}
+use Rattle.gt_model.specs.Path.{Continuation}
 use Rattle.gt_calls.specs.Rules.{entry_in, row_entry}
-use Rattle.gt_calls.specs.declared.action.Observation.TheVariants.{Word}
-use Rattle.gt_calls.specs.declared.action.Step.TheVariants.{LookControl}
-use Rattle.gt_calls.specs.declared.action.CallResult.{CallResult}
-use Rattle.gt_calls.specs.declared.action.CallResult.TheVariants.{Granted, Given, Mapped, Refused}
-use Rattle.gt_calls.specs.declared.held.HeldPin.{HeldPin}
+use Rattle.gt_model.specs.declared.action.Observation.TheVariants.{Word}
+use Rattle.gt_model.specs.declared.action.Step.TheVariants.{LookControl}
+use Rattle.gt_model.specs.declared.action.CallResult.{CallResult}
+use Rattle.gt_model.specs.declared.action.CallResult.TheVariants.{Granted, Given, Mapped, Refused}
+use Rattle.gt_model.specs.declared.held.HeldPin.{HeldPin}
 use Rattle.gt_calls.specs.declared.known.OwnerEntry.{OwnerEntry}
-use Rattle.gt_calls.specs.declared.request.OpenRequest.TheVariants as asks
+use Rattle.gt_model.specs.declared.request.OpenRequest.TheVariants as asks
 use Rattle.gt_live.specs.Closing.{AreRefused, AsksWithdrawal, ClosesRow, ClosesRows, GoesOn, IsCounted, StaysQuiet}
 use Rattle.gt_live.specs.Closing.{is_in_use, is_used}
 use Rattle.gt_live.specs.Domains.{AllowRelation, IsUnsettled, done_by}

@@ -15,7 +15,7 @@ use Rattle.gt_types.specs.declared.Dir.TheVariants.{Read, Write}
 use Rattle.gt_types.specs.declared.Use.TheVariants.{Copy as ForCopy}
 use Rattle.gt_types.specs.declared.denial.Denial.{Denial}
 use Rattle.gt_types.specs.Names.{copy as copying, domain_of, resolved}
-use Rattle.gt_entry.specs.Permits.{permits}
+use Rattle.gt_model.specs.Permits.{permits}
 use Rattle.gt_words.specs.Conditions.{Board, KeepsPins, SeatOf}
 use Rattle.gt_word_history.specs.Rule.{Layout}
 use Rattle.gt_word_history.specs.Views.{IsAmong}
@@ -23,28 +23,29 @@ use Rattle.gt_word_history.specs.declared.view.View.{View}
 use Rattle.gt_frames.specs.Receipts.{Copying}
 use Rattle.gt_access.specs.Routes.{MayCopyBy, MayCopyEach, ReachesBy, named_by, pair_beyond}
 use Rattle.gt_types.specs.declared.places.Spot.{Spot}
-use Rattle.gt_calls.specs.declared.action.Step.TheVariants.{Copy as CopyBytes}
-use Rattle.gt_calls.specs.declared.action.CallResult.{CallResult}
-use Rattle.gt_calls.specs.declared.action.CallResult.TheVariants.{Granted, Refused}
+use Rattle.gt_model.specs.declared.action.Step.TheVariants.{Copy as CopyBytes}
+use Rattle.gt_model.specs.declared.action.CallResult.{CallResult}
+use Rattle.gt_model.specs.declared.action.CallResult.TheVariants.{Granted, Refused}
 use Rattle.gt_calls.specs.declared.call.Call.{Call}
-use Rattle.gt_calls.specs.declared.held.HeldPin.{HeldPin}
-use Rattle.gt_calls.specs.declared.held.CallPins.{CallPins}
-use Rattle.gt_calls.specs.declared.held.AccessPath.{AccessPath}
-use Rattle.gt_calls.specs.declared.held.AccessPath.TheVariants.{Own, Direct, Through}
+use Rattle.gt_model.specs.declared.held.HeldPin.{HeldPin}
+use Rattle.gt_model.specs.declared.held.CallPins.{CallPins}
+use Rattle.gt_model.specs.declared.held.AccessPath.{AccessPath}
+use Rattle.gt_model.specs.declared.held.AccessPath.TheVariants.{Own, Direct, Through}
 use Rattle.gt_types.specs.declared.copies.CopyArgs.{CopyArgs}
 use Rattle.gt_types.specs.declared.copies.End.{End}
-use Rattle.gt_calls.specs.Holding.{frame_by, held_by, last_first, owner_by}
-use Rattle.gt_calls.specs.Opening.{IsAllowed, IsOwnEnd, OpensCopy, opens}
-use Rattle.gt_calls.specs.Path.{Continuation, dest_pair, give_back, path, place_of, source_pair}
-use Rattle.gt_calls.specs.declared.action.Observation.TheVariants.{Nothing}
-use Rattle.gt_calls.specs.declared.request.OpenRequest.{OpenRequest}
-use Rattle.gt_calls.specs.declared.request.OpenRequest.TheVariants as asks
+use Rattle.gt_model.specs.Holding.{frame_by, held_by, last_first, owner_by}
+use Rattle.gt_model.specs.Giving.{IsAllowed}
+use Rattle.gt_calls.specs.Opening.{IsOwnEnd, OpensCopy, opens}
+use Rattle.gt_model.specs.Path.{Continuation, dest_pair, give_back, path, place_of, source_pair}
+use Rattle.gt_model.specs.declared.action.Observation.TheVariants.{Nothing}
+use Rattle.gt_model.specs.declared.request.OpenRequest.{OpenRequest}
+use Rattle.gt_model.specs.declared.request.OpenRequest.TheVariants as asks
 use Rattle.gt_calls.specs.declared.call.Phase.TheVariants.{Accessing}
 use Rattle.gt_live.specs.Copies.{copy_call}
 use Rattle.gt_calls.specs.Resting.{IsReached, RestsOnWays}
-use Rattle.gt_calls.specs.Rules.{CallerKnowledge, begun, copy_begun, denied, first}
+use Rattle.gt_model.specs.Rules.{CallerKnowledge, begun, copy_begun, denied, first}
 use Rattle.gt_types.specs.Copies.{is_dest_granted, is_source_granted}
-use Rattle.gt_calls.specs.Rules.{label_of, refused_when, rights_to_copy, via_judged}
+use Rattle.gt_model.specs.Rules.{label_of, refused_when, rights_to_copy, via_judged}
 use Rattle.gt_calls.specs.Standing.{pins_by_call}
 use Rattle.gt_live.specs.Accesses.{Accessed, AnsweredAtAccess, CameBy, CopiesBetween, IsCopiedBy, IsIfOneMissing}
 use Rattle.gt_live.specs.Accesses.{IsOfAccess, IsUnmade}

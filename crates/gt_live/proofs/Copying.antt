@@ -15,18 +15,18 @@ use Rattle.gt_types.specs.declared.denial.Rule.{Rule}
 use Rattle.gt_types.specs.declared.denial.Rule.TheVariants.{N9, N10, N18}
 use Rattle.gt_types.specs.Denial.{denial_of}
 use Rattle.gt_types.specs.Names.{resolved}
-use Rattle.gt_entry.specs.declared.entry.Entry.{Entry}
-use Rattle.gt_entry.specs.declared.entry.Entry.TheVariants.{Invalid, Page, Sub, Via}
-use Rattle.gt_entry.specs.declared.control.Control.{Control}
-use Rattle.gt_entry.specs.declared.control.EntryKind.{EntryKind}
-use Rattle.gt_entry.specs.declared.control.EntryKind.TheVariants.{Invalid as KindInvalid, Page as KindPage, Sub as KindSub}
-use Rattle.gt_entry.specs.declared.control.EntryKind.TheVariants.{Via as KindVia}
-use Rattle.gt_entry.specs.declared.change.BodyWord.TheVariants.{First as FirstHalf, Second as SecondHalf}
-use Rattle.gt_entry.specs.declared.change.EntryChange.TheVariants.{Publish, Revoke as ToInvalid, Withdraw as ToWithdrawn}
-use Rattle.gt_entry.specs.declared.change.EntryChange.TheVariants.{Demote as ToReadOnly, Promote as ToWritable}
-use Rattle.gt_entry.specs.Permits.{forwards, permits}
-use Rattle.gt_entry.specs.Spelling.{entry_of, entry_with}
-use Rattle.gt_entry.specs.Words.{control_of, header_of, is_kind, kind_of, size_of}
+use Rattle.gt_model.specs.declared.entry.Entry.{Entry}
+use Rattle.gt_model.specs.declared.entry.Entry.TheVariants.{Invalid, Page, Sub, Via}
+use Rattle.gt_model.specs.declared.control.Control.{Control}
+use Rattle.gt_model.specs.declared.control.EntryKind.{EntryKind}
+use Rattle.gt_model.specs.declared.control.EntryKind.TheVariants.{Invalid as KindInvalid, Page as KindPage, Sub as KindSub}
+use Rattle.gt_model.specs.declared.control.EntryKind.TheVariants.{Via as KindVia}
+use Rattle.gt_model.specs.declared.change.BodyWord.TheVariants.{First as FirstHalf, Second as SecondHalf}
+use Rattle.gt_model.specs.declared.change.EntryChange.TheVariants.{Publish, Revoke as ToInvalid, Withdraw as ToWithdrawn}
+use Rattle.gt_model.specs.declared.change.EntryChange.TheVariants.{Demote as ToReadOnly, Promote as ToWritable}
+use Rattle.gt_model.specs.Permits.{forwards, permits}
+use Rattle.gt_model.specs.Spelling.{entry_of, entry_with}
+use Rattle.gt_model.specs.Words.{control_of, header_of, is_kind, kind_of, size_of}
 use Rattle.gt_words.specs.Conditions.{CanPin, HasDomain, MayPin}
 use Rattle.gt_word_history.specs.Controls.{ForwardsPin, LeadsTo, PermitsPin, generation_of, pins_in}
 use Rattle.gt_words.specs.Keeping.{SeesNoEarlier}
@@ -37,46 +37,48 @@ use Rattle.gt_word_history.specs.Views.{value_or_zero, with_body}
 use Rattle.gt_word_history.specs.declared.view.EntryRecord.{EntryRecord}
 use Rattle.gt_word_history.specs.History.{Moment}
 use Rattle.gt_word_history.specs.declared.view.View.{View}
-use Rattle.gt_calls.specs.declared.action.Action.TheVariants.{Step as Makes}
+use Rattle.gt_model.specs.declared.action.Action.TheVariants.{Step as Makes}
 use Rattle.gt_types.specs.declared.places.Spot.{Spot}
-use Rattle.gt_calls.specs.declared.action.Observation.{Observation}
-use Rattle.gt_calls.specs.declared.action.Observation.TheVariants.{Nothing, Word, Taken, Missed}
-use Rattle.gt_calls.specs.declared.action.Step.{Step}
-use Rattle.gt_calls.specs.declared.action.Step.TheVariants.{LookHeader, LookControl, LookBody, Pin, Unpin, StoreBody}
-use Rattle.gt_calls.specs.declared.action.Step.TheVariants.{StoreHeader, Exchange, Read as ReadBytes}
-use Rattle.gt_calls.specs.declared.action.Step.TheVariants.{Write as WriteBytes, Copy as CopyBytes}
-use Rattle.gt_calls.specs.declared.action.CallResult.{CallResult}
-use Rattle.gt_calls.specs.declared.action.CallResult.TheVariants.{Granted, Given, Mapped, Refused}
+use Rattle.gt_model.specs.declared.action.Observation.{Observation}
+use Rattle.gt_model.specs.declared.action.Observation.TheVariants.{Nothing, Word, Taken, Missed}
+use Rattle.gt_model.specs.declared.action.Step.{Step}
+use Rattle.gt_model.specs.declared.action.Step.TheVariants.{LookHeader, LookControl, LookBody, Pin, Unpin, StoreBody}
+use Rattle.gt_model.specs.declared.action.Step.TheVariants.{StoreHeader, Exchange, Read as ReadBytes}
+use Rattle.gt_model.specs.declared.action.Step.TheVariants.{Write as WriteBytes, Copy as CopyBytes}
+use Rattle.gt_model.specs.declared.action.CallResult.{CallResult}
+use Rattle.gt_model.specs.declared.action.CallResult.TheVariants.{Granted, Given, Mapped, Refused}
 use Rattle.gt_calls.specs.declared.call.Phase.{Phase}
 use Rattle.gt_calls.specs.declared.call.Phase.TheVariants.{Storing, StoringSecond, Exchanging, Looking, Changing}
 use Rattle.gt_calls.specs.declared.call.Phase.TheVariants.{Walking, Accessing, Asking, Last, Ending}
 use Rattle.gt_calls.specs.declared.copying.PinPurpose.{PinPurpose}
 use Rattle.gt_calls.specs.declared.copying.PinPurpose.TheVariants.{Mapping, Source, Dest}
-use Rattle.gt_calls.specs.declared.held.HeldPin.{HeldPin}
-use Rattle.gt_calls.specs.declared.held.CallPins.{CallPins as HeldPins}
-use Rattle.gt_calls.specs.declared.held.AccessPath.{AccessPath}
-use Rattle.gt_calls.specs.declared.held.AccessPath.TheVariants.{Own, Direct, Through}
-use Rattle.gt_calls.specs.declared.leg.Leg.{Leg}
+use Rattle.gt_model.specs.declared.held.HeldPin.{HeldPin}
+use Rattle.gt_model.specs.declared.held.CallPins.{CallPins as HeldPins}
+use Rattle.gt_model.specs.declared.held.AccessPath.{AccessPath}
+use Rattle.gt_model.specs.declared.held.AccessPath.TheVariants.{Own, Direct, Through}
+use Rattle.gt_model.specs.declared.leg.Leg.{Leg}
 use Rattle.gt_calls.specs.declared.leg.LegNext.TheVariants.{Going, Refused as LegRefused}
 use Rattle.gt_calls.specs.declared.leg.LegPhase.{LegPhase}
 use Rattle.gt_calls.specs.declared.leg.LegPhase.TheVariants.{Header, Look, Body, Second, Pinning, Relook}
-use Rattle.gt_calls.specs.declared.request.OpenRequest.{OpenRequest}
-use Rattle.gt_calls.specs.declared.request.OpenRequest.TheVariants as asks
+use Rattle.gt_model.specs.declared.request.OpenRequest.{OpenRequest}
+use Rattle.gt_model.specs.declared.request.OpenRequest.TheVariants as asks
 use Rattle.gt_types.specs.declared.copies.CopyArgs.{CopyArgs}
 use Rattle.gt_types.specs.declared.copies.End.{End}
-use Rattle.gt_calls.specs.declared.request.PinHolder.TheVariants.{Mapping as ByHandle, Leg as ByLeg}
-use Rattle.gt_handles.specs.declared.handles.Handle.{Handle}
-use Rattle.gt_calls.specs.Holding.{held_by, last_first, pins_so_far, without_last}
+use Rattle.gt_model.specs.declared.request.PinHolder.TheVariants.{Mapping as ByHandle, Leg as ByLeg}
+use Rattle.gt_model.specs.declared.handle.Handle.{Handle}
+use Rattle.gt_model.specs.Holding.{held_by, last_first, without_last}
+use Rattle.gt_calls.specs.Holding.{pins_so_far}
 use Rattle.gt_calls.specs.Machine.{action_at, after_dest_pin, after_leg, after_pin_of}
 use Rattle.gt_calls.specs.Legs.{on_control_word, after_miss}
 use Rattle.gt_calls.specs.Machine.{after_source_pin, at_dest, next_to_give}
 use Rattle.gt_calls.specs.Legs.{after_words, leg_after, leg_step}
 use Rattle.gt_calls.specs.Machine.{phase_after, where_via}
-use Rattle.gt_calls.specs.Path.{Continuation, dest_pair, end_leg, entry_refusal, held_of, path, place_of, rule_of_try}
-use Rattle.gt_calls.specs.Path.{second_leg, source_pair}
+use Rattle.gt_model.specs.Path.{Continuation, dest_pair, end_leg, entry_refusal, held_of, path, place_of, rule_of_try}
+use Rattle.gt_model.specs.Path.{second_leg, source_pair}
 use Rattle.gt_calls.specs.Resting.{HasRead, HasSeenTable, IsLegFor, IsForwarded, IsMapped, IsOnFrom, IsOfRun as IsNamed}
-use Rattle.gt_calls.specs.Resting.{GivesUp, Lets, Rests, RestsOnTry}
-use Rattle.gt_calls.specs.Rules.{CallerKnowledge, first_look, via_judged}
+use Rattle.gt_model.specs.Giving.{GivesUp}
+use Rattle.gt_calls.specs.Resting.{Lets, Rests, RestsOnTry}
+use Rattle.gt_model.specs.Rules.{CallerKnowledge, first_look, via_judged}
 use Rattle.gt_types.specs.Copies.{is_dest_granted}
 use Rattle.gt_live.specs.Driving.{CanMake, Knows}
 use Rattle.gt_live.specs.Mappings.{HasPin, entry_record_of}

@@ -10,39 +10,39 @@ use Rattle.gt_types.specs.declared.denial.Rule.TheVariants.{N6, N9, N18, N19}
 use Rattle.gt_types.specs.declared.denial.Facts.TheVariants.{None as NoFacts, Header as HeaderFacts}
 use Rattle.gt_types.specs.Denial.{denial_of}
 use Rattle.gt_types.specs.Names.{resolved}
-use Rattle.gt_entry.specs.declared.entry.Entry.{Entry}
-use Rattle.gt_entry.specs.declared.entry.Entry.TheVariants.{Invalid, Page, Sub, Via}
-use Rattle.gt_entry.specs.declared.control.EntryKind.TheVariants.{Sub as KindSub}
-use Rattle.gt_entry.specs.Words.{control_of, header_of, size_of}
-use Rattle.gt_calls.specs.declared.action.Action.{Action}
-use Rattle.gt_calls.specs.declared.action.Action.TheVariants.{Step as Makes, Done}
-use Rattle.gt_entry.specs.declared.change.EntryChange.{EntryChange}
-use Rattle.gt_entry.specs.declared.change.EntryChange.TheVariants.{Publish, Revoke as ToInvalid, Withdraw as ToWithdrawn}
-use Rattle.gt_entry.specs.declared.change.EntryChange.TheVariants.{Demote as ToReadOnly, Promote as ToWritable}
-use Rattle.gt_entry.specs.declared.change.BodyWord.{BodyWord}
-use Rattle.gt_entry.specs.declared.change.BodyWord.TheVariants.{First, Second}
-use Rattle.gt_calls.specs.declared.action.Observation.{Observation}
-use Rattle.gt_calls.specs.declared.action.Observation.TheVariants.{Nothing, Word, Taken, Missed}
-use Rattle.gt_calls.specs.declared.action.Step.{Step}
-use Rattle.gt_calls.specs.declared.action.Step.TheVariants.{LookHeader, LookControl, LookBody, Pin, Unpin, StoreBody}
-use Rattle.gt_calls.specs.declared.action.Step.TheVariants.{StoreHeader, Exchange}
-use Rattle.gt_calls.specs.declared.action.CallResult.{CallResult}
-use Rattle.gt_calls.specs.declared.action.CallResult.TheVariants.{Granted, Given, Mapped, Refused}
-use Rattle.gt_calls.specs.declared.action.CallValue.TheVariants.{Frames}
-use Rattle.gt_calls.specs.declared.request.OpenRequest.{OpenRequest}
-use Rattle.gt_calls.specs.declared.request.OpenRequest.TheVariants as asks
-use Rattle.gt_calls.specs.declared.call.HeaderQuery.TheVariants.{Size, Version}
-use Rattle.gt_calls.specs.declared.held.HeldPin.{HeldPin}
-use Rattle.gt_handles.specs.declared.handles.Handle.{Handle}
-use Rattle.gt_calls.specs.declared.leg.Leg.{Leg}
-use Rattle.gt_calls.specs.declared.request.PinHolder.TheVariants.{Mapping as ByHandle}
-use Rattle.gt_calls.specs.Rules.{CallerKnowledge, begun, first_look, is_kind, first_body, second_body}
-use Rattle.gt_calls.specs.Path.{Continuation, AfterRefusal, AfterPin, after_beginning, at_first_look, by_mapping, ended}
-use Rattle.gt_calls.specs.Path.{entry_refusal, exchanges, exchanges_once, grant_path, held_of, idle_word, is_stopped}
-use Rattle.gt_calls.specs.Path.{last_step, leg, looks, looks_again, makes, map_leg, path, pins, publishes, reads_body}
-use Rattle.gt_calls.specs.Path.{reads_second, refused_at, refused_holding, rule_of_try, steps_of, stores_second}
-use Rattle.gt_calls.specs.Path.{header_value_of}
-use Rattle.gt_calls.specs.Path.{tries, try_pin, turn, turns}
+use Rattle.gt_model.specs.declared.entry.Entry.{Entry}
+use Rattle.gt_model.specs.declared.entry.Entry.TheVariants.{Invalid, Page, Sub, Via}
+use Rattle.gt_model.specs.declared.control.EntryKind.TheVariants.{Sub as KindSub}
+use Rattle.gt_model.specs.Words.{control_of, header_of, size_of}
+use Rattle.gt_model.specs.declared.action.Action.{Action}
+use Rattle.gt_model.specs.declared.action.Action.TheVariants.{Step as Makes, Done}
+use Rattle.gt_model.specs.declared.change.EntryChange.{EntryChange}
+use Rattle.gt_model.specs.declared.change.EntryChange.TheVariants.{Publish, Revoke as ToInvalid, Withdraw as ToWithdrawn}
+use Rattle.gt_model.specs.declared.change.EntryChange.TheVariants.{Demote as ToReadOnly, Promote as ToWritable}
+use Rattle.gt_model.specs.declared.change.BodyWord.{BodyWord}
+use Rattle.gt_model.specs.declared.change.BodyWord.TheVariants.{First, Second}
+use Rattle.gt_model.specs.declared.action.Observation.{Observation}
+use Rattle.gt_model.specs.declared.action.Observation.TheVariants.{Nothing, Word, Taken, Missed}
+use Rattle.gt_model.specs.declared.action.Step.{Step}
+use Rattle.gt_model.specs.declared.action.Step.TheVariants.{LookHeader, LookControl, LookBody, Pin, Unpin, StoreBody}
+use Rattle.gt_model.specs.declared.action.Step.TheVariants.{StoreHeader, Exchange}
+use Rattle.gt_model.specs.declared.action.CallResult.{CallResult}
+use Rattle.gt_model.specs.declared.action.CallResult.TheVariants.{Granted, Given, Mapped, Refused}
+use Rattle.gt_model.specs.declared.action.CallValue.TheVariants.{Frames}
+use Rattle.gt_model.specs.declared.request.OpenRequest.{OpenRequest}
+use Rattle.gt_model.specs.declared.request.OpenRequest.TheVariants as asks
+use Rattle.gt_model.specs.declared.action.HeaderQuery.TheVariants.{Size, Version}
+use Rattle.gt_model.specs.declared.held.HeldPin.{HeldPin}
+use Rattle.gt_model.specs.declared.handle.Handle.{Handle}
+use Rattle.gt_model.specs.declared.leg.Leg.{Leg}
+use Rattle.gt_model.specs.declared.request.PinHolder.TheVariants.{Mapping as ByHandle}
+use Rattle.gt_model.specs.Rules.{CallerKnowledge, begun, first_look, is_kind, first_body, second_body}
+use Rattle.gt_model.specs.Path.{Continuation, AfterRefusal, AfterPin, after_beginning, at_first_look, by_mapping, ended}
+use Rattle.gt_model.specs.Path.{entry_refusal, exchanges, exchanges_once, grant_path, held_of, idle_word, is_stopped}
+use Rattle.gt_model.specs.Path.{last_step, leg, looks, looks_again, makes, map_leg, path, pins, publishes, reads_body}
+use Rattle.gt_model.specs.Path.{reads_second, refused_at, refused_holding, rule_of_try, steps_of, stores_second}
+use Rattle.gt_model.specs.Path.{header_value_of}
+use Rattle.gt_model.specs.Path.{tries, try_pin, turn, turns}
 use Rattle.gt_live.specs.declared.driving.Effect.{Effect}
 use Rattle.gt_live.specs.declared.driving.Effect.TheVariants as effects
 use Rattle.gt_live.specs.Effects.{Answers, EndsSo, IsFound, IsFoundAt, effect_of}

@@ -11,17 +11,18 @@ use Rattle.gt_types.specs.declared.denial.Denial.{Denial}
 use Rattle.gt_types.specs.declared.denial.Rule.{Rule}
 use Rattle.gt_types.specs.declared.denial.Rule.TheVariants.{N9, N10, N20, N21, N22}
 use Rattle.byteorder.specs.Endian.{little_from}
-use Rattle.gt_entry.specs.Bytes.{Spells, SpellsV1, SpellsV2, field}
-use Rattle.gt_entry.specs.Changes.{changed_entry}
-use Rattle.gt_entry.specs.Entries.{IsEntry, is_invalid}
-use Rattle.gt_entry.specs.declared.change.EntryChange.{EntryChange}
-use Rattle.gt_entry.specs.declared.change.EntryChange.TheVariants.{Publish, Revoke, Withdraw, Demote, Promote}
-use Rattle.gt_entry.specs.declared.entry.Entry.{Entry}
-use Rattle.gt_entry.specs.declared.entry.Entry.TheVariants.{Invalid, Page, Sub, Via}
-use Rattle.gt_calls.specs.Path.{path, path_of}
-use Rattle.gt_calls.specs.Rules.{CallerKnowledge, begun, entry_in, first, granted_when, is_already, refused_when, row_entry}
-use Rattle.gt_calls.specs.declared.action.CallResult.{CallResult}
-use Rattle.gt_calls.specs.declared.action.CallResult.TheVariants.{Refused}
+use Rattle.gt_model.specs.Bytes.{Spells, SpellsV1, SpellsV2, field}
+use Rattle.gt_model.specs.Changes.{changed_entry}
+use Rattle.gt_model.specs.Entries.{IsEntry, is_invalid}
+use Rattle.gt_model.specs.declared.change.EntryChange.{EntryChange}
+use Rattle.gt_model.specs.declared.change.EntryChange.TheVariants.{Publish, Revoke, Withdraw, Demote, Promote}
+use Rattle.gt_model.specs.declared.entry.Entry.{Entry}
+use Rattle.gt_model.specs.declared.entry.Entry.TheVariants.{Invalid, Page, Sub, Via}
+use Rattle.gt_model.specs.Path.{path, path_of}
+use Rattle.gt_model.specs.Rules.{CallerKnowledge, begun, first, granted_when, is_already, refused_when}
+use Rattle.gt_calls.specs.Rules.{entry_in, row_entry}
+use Rattle.gt_model.specs.declared.action.CallResult.{CallResult}
+use Rattle.gt_model.specs.declared.action.CallResult.TheVariants.{Refused}
 use Rattle.gt_calls.specs.declared.known.OwnerEntry.{OwnerEntry}
 use Rattle.gt_words.specs.Conditions.{IsSameSeat, SeatOf}
 use Rattle.gt_word_history.specs.Views.{own_table}

@@ -15,17 +15,17 @@ use Rattle.gt_types.specs.declared.denial.Rule.{Rule}
 use Rattle.gt_types.specs.declared.denial.Rule.TheVariants.{N5, N6, N9, N18, N19, N20, N22, N25}
 use Rattle.gt_types.specs.declared.denial.Facts.TheVariants as facts
 use Rattle.gt_types.specs.Denial.{denial_of}
-use Rattle.gt_entry.specs.declared.change.EntryChange.{EntryChange}
-use Rattle.gt_entry.specs.declared.change.EntryChange.TheVariants.{Demote as ToReadOnly, Promote as ToWritable, Publish}
-use Rattle.gt_entry.specs.declared.change.EntryChange.TheVariants.{Revoke as ToInvalid, Withdraw as ToWithdrawn}
-use Rattle.gt_entry.specs.declared.change.BodyWord.TheVariants.{First as FirstHalf, Second as SecondHalf}
-use Rattle.gt_entry.specs.declared.control.Control.{Control}
-use Rattle.gt_entry.specs.declared.control.EntryKind.TheVariants.{Sub as KindSub}
-use Rattle.gt_entry.specs.declared.entry.Entry.{Entry}
-use Rattle.gt_entry.specs.declared.entry.Entry.TheVariants.{Invalid, Page, Sub, Via}
-use Rattle.gt_entry.specs.Bytes.{first_refused}
-use Rattle.gt_entry.specs.Spelling.{entry_of}
-use Rattle.gt_entry.specs.Words.{control_of, header_of, is_kind, pins_of, size_of}
+use Rattle.gt_model.specs.declared.change.EntryChange.{EntryChange}
+use Rattle.gt_model.specs.declared.change.EntryChange.TheVariants.{Demote as ToReadOnly, Promote as ToWritable, Publish}
+use Rattle.gt_model.specs.declared.change.EntryChange.TheVariants.{Revoke as ToInvalid, Withdraw as ToWithdrawn}
+use Rattle.gt_model.specs.declared.change.BodyWord.TheVariants.{First as FirstHalf, Second as SecondHalf}
+use Rattle.gt_model.specs.declared.control.Control.{Control}
+use Rattle.gt_model.specs.declared.control.EntryKind.TheVariants.{Sub as KindSub}
+use Rattle.gt_model.specs.declared.entry.Entry.{Entry}
+use Rattle.gt_model.specs.declared.entry.Entry.TheVariants.{Invalid, Page, Sub, Via}
+use Rattle.gt_model.specs.Bytes.{first_refused}
+use Rattle.gt_model.specs.Spelling.{entry_of}
+use Rattle.gt_model.specs.Words.{control_of, header_of, is_kind, pins_of, size_of}
 use Rattle.gt_types.specs.declared.limits.TheConstants.{LAST_GENERATION}
 use Rattle.gt_word_history.specs.History.{StepHistory, Moment}
 use Rattle.gt_word_history.specs.Rule.{Layout, position_in}
@@ -38,37 +38,37 @@ use Rattle.gt_word_history.specs.declared.view.EntryStep.TheVariants.{ReadBody, 
 use Rattle.gt_word_history.specs.declared.view.HeaderStep.TheVariants as header
 use Rattle.gt_word_history.specs.declared.view.SeatStep.{SeatStep}
 use Rattle.gt_word_history.specs.declared.view.View.{View}
-use Rattle.gt_calls.specs.declared.action.Action.{Action}
-use Rattle.gt_calls.specs.declared.action.Action.TheVariants.{Done, Step as Makes}
-use Rattle.gt_calls.specs.declared.action.Observation.{Observation}
-use Rattle.gt_calls.specs.declared.action.Observation.TheVariants.{Missed, Nothing, Taken, Word}
-use Rattle.gt_calls.specs.declared.action.Step.{Step}
-use Rattle.gt_calls.specs.declared.action.Step.TheVariants.{Exchange, LookBody, LookControl, LookHeader, Pin, StoreBody}
-use Rattle.gt_calls.specs.declared.action.Step.TheVariants.{StoreHeader, Unpin, Read as ReadBytes, Write as WriteBytes}
-use Rattle.gt_calls.specs.declared.action.Step.TheVariants.{Copy as CopyBytes}
-use Rattle.gt_calls.specs.declared.action.CallResult.{CallResult}
-use Rattle.gt_calls.specs.declared.action.CallResult.TheVariants.{Granted, Mapped, Refused}
-use Rattle.gt_calls.specs.declared.held.HeldPin.{HeldPin}
-use Rattle.gt_calls.specs.declared.held.AccessPath.{AccessPath}
-use Rattle.gt_calls.specs.declared.held.AccessPath.TheVariants.{Direct, Own, Through}
-use Rattle.gt_calls.specs.declared.leg.Leg.{Leg}
-use Rattle.gt_calls.specs.declared.leg.TheConstants.{MORE_TRIES}
-use Rattle.gt_calls.specs.declared.request.OpenRequest.{OpenRequest}
-use Rattle.gt_calls.specs.declared.request.OpenRequest.TheVariants as asks
+use Rattle.gt_model.specs.declared.action.Action.{Action}
+use Rattle.gt_model.specs.declared.action.Action.TheVariants.{Done, Step as Makes}
+use Rattle.gt_model.specs.declared.action.Observation.{Observation}
+use Rattle.gt_model.specs.declared.action.Observation.TheVariants.{Missed, Nothing, Taken, Word}
+use Rattle.gt_model.specs.declared.action.Step.{Step}
+use Rattle.gt_model.specs.declared.action.Step.TheVariants.{Exchange, LookBody, LookControl, LookHeader, Pin, StoreBody}
+use Rattle.gt_model.specs.declared.action.Step.TheVariants.{StoreHeader, Unpin, Read as ReadBytes, Write as WriteBytes}
+use Rattle.gt_model.specs.declared.action.Step.TheVariants.{Copy as CopyBytes}
+use Rattle.gt_model.specs.declared.action.CallResult.{CallResult}
+use Rattle.gt_model.specs.declared.action.CallResult.TheVariants.{Granted, Mapped, Refused}
+use Rattle.gt_model.specs.declared.held.HeldPin.{HeldPin}
+use Rattle.gt_model.specs.declared.held.AccessPath.{AccessPath}
+use Rattle.gt_model.specs.declared.held.AccessPath.TheVariants.{Direct, Own, Through}
+use Rattle.gt_model.specs.declared.leg.Leg.{Leg}
+use Rattle.gt_model.specs.declared.bounds.TheConstants.{MORE_TRIES}
+use Rattle.gt_model.specs.declared.request.OpenRequest.{OpenRequest}
+use Rattle.gt_model.specs.declared.request.OpenRequest.TheVariants as asks
 use Rattle.gt_types.specs.declared.copies.CopyArgs.{CopyArgs}
-use Rattle.gt_calls.specs.declared.request.PinHolder.TheVariants.{Leg as ByLeg}
-use Rattle.gt_calls.specs.declared.request.Request.{Request}
-use Rattle.gt_calls.specs.Asking.{asked, begun_by, begun_of, bytes_of, field_refused, plainly_asked}
-use Rattle.gt_calls.specs.Holding.{held_by}
-use Rattle.gt_calls.specs.Path.{AfterPin, AfterRefusal, Continuation, accesses, after_beginning, after_first}
-use Rattle.gt_calls.specs.Path.{at_first_look, beyond, by_mapping, copies, dest_pair, end_leg, ended}
-use Rattle.gt_calls.specs.Path.{entry_refusal, exchanges, exchanges_once, give_back, held_of, is_stopped}
-use Rattle.gt_calls.specs.Path.{last_step, leg, looks, makes, map_leg, path_of, pins, reaches}
-use Rattle.gt_calls.specs.Path.{reads_body, reads_second, refused_at, refused_holding, rule_of_try, second_leg}
-use Rattle.gt_calls.specs.Path.{source_pair, steps_of, to_dest, tries, try_pin, turn, turns}
-use Rattle.gt_calls.specs.Path.{unless_refused}
-use Rattle.gt_calls.specs.Rules.{CallerKnowledge, before_pin, begun, denied, first, first_look}
-use Rattle.gt_calls.specs.Rules.{copy_begun, granted_when, has_own_ends, refused_when, stands, via_judged, is_invalid}
+use Rattle.gt_model.specs.declared.request.PinHolder.TheVariants.{Leg as ByLeg}
+use Rattle.gt_model.specs.declared.request.Request.{Request}
+use Rattle.gt_model.specs.Asking.{asked, begun_by, begun_of, bytes_of, field_refused, plainly_asked}
+use Rattle.gt_model.specs.Holding.{held_by}
+use Rattle.gt_model.specs.Path.{AfterPin, AfterRefusal, Continuation, accesses, after_beginning, after_first}
+use Rattle.gt_model.specs.Path.{at_first_look, beyond, by_mapping, copies, dest_pair, end_leg, ended}
+use Rattle.gt_model.specs.Path.{entry_refusal, exchanges, exchanges_once, give_back, held_of, is_stopped}
+use Rattle.gt_model.specs.Path.{last_step, leg, looks, makes, map_leg, path_of, pins, reaches}
+use Rattle.gt_model.specs.Path.{reads_body, reads_second, refused_at, refused_holding, rule_of_try, second_leg}
+use Rattle.gt_model.specs.Path.{source_pair, steps_of, to_dest, tries, try_pin, turn, turns}
+use Rattle.gt_model.specs.Path.{unless_refused}
+use Rattle.gt_model.specs.Rules.{CallerKnowledge, before_pin, begun, denied, first, first_look}
+use Rattle.gt_model.specs.Rules.{copy_begun, granted_when, has_own_ends, refused_when, stands, via_judged, is_invalid}
 use Rattle.gt_types.specs.Copies.{is_dest_granted, is_source_granted}
 use Rattle.gt_calls.specs.Probing.{IsProbe}
 use Rattle.gt_live.specs.Tries.{AreReads, AreUnpins, BeginsTries, FourTriesWereMissed, FoundAnother, GaveUp}

@@ -2,24 +2,24 @@
 use Rattle.std.proofs.Common.{◌≡◌, ℕ, refl, sym, ap, ◌∙◌, subst, List, []}
 use Rattle.std.specs.Prelude.{is_some}
 use Rattle.gt_types.specs.declared.config.Config.{Config}
-use Rattle.gt_entry.specs.declared.header.Header.{Header}
+use Rattle.gt_model.specs.declared.header.Header.{Header}
 use Rattle.gt_roster.specs.Frameless.{IsRunnable}
 use Rattle.gt_words.specs.Conditions.{Board, HasDomain}
 use Rattle.gt_words.specs.Laws.{domain_of_run, seat_at}
 use Rattle.gt_word_history.specs.Rule.{IsKeptHeader, Layout, layout_of}
 use Rattle.gt_word_history.specs.Views.{own_table}
 use Rattle.gt_word_history.specs.declared.view.View.{View}
-use Rattle.gt_handles.specs.declared.handles.Handle.{Handle}
+use Rattle.gt_model.specs.declared.handle.Handle.{Handle}
 use Rattle.gt_handles.specs.Handles.{HandleMap}
 use Rattle.gt_handles.specs.Listing.{IsInserted}
-use Rattle.gt_calls.specs.declared.action.CallValue.{CallValue}
-use Rattle.gt_calls.specs.declared.action.CallValue.TheVariants as values
-use Rattle.gt_calls.specs.declared.action.CallResult.{CallResult}
-use Rattle.gt_calls.specs.declared.action.CallResult.TheVariants.{Granted, Given, Mapped, Refused}
-use Rattle.gt_calls.specs.declared.held.HeldPin.{HeldPin}
+use Rattle.gt_model.specs.declared.action.CallValue.{CallValue}
+use Rattle.gt_model.specs.declared.action.CallValue.TheVariants as values
+use Rattle.gt_model.specs.declared.action.CallResult.{CallResult}
+use Rattle.gt_model.specs.declared.action.CallResult.TheVariants.{Granted, Given, Mapped, Refused}
+use Rattle.gt_model.specs.declared.held.HeldPin.{HeldPin}
 use Rattle.gt_calls.specs.declared.known.OwnerEntry.{OwnerEntry}
-use Rattle.gt_calls.specs.declared.request.OpenRequest.{OpenRequest}
-use Rattle.gt_calls.specs.declared.request.OpenRequest.TheVariants as asks
+use Rattle.gt_model.specs.declared.request.OpenRequest.{OpenRequest}
+use Rattle.gt_model.specs.declared.request.OpenRequest.TheVariants as asks
 use Rattle.gt_calls.specs.Rules.{knowledge_of}
 use Rattle.gt_live.specs.declared.domain.Domain.{Domain}
 use Rattle.gt_live.specs.Domains.{IsDomainOf, AllowRelation, done_by, frames_granted, knowledge, verdict_of}

@@ -10,7 +10,7 @@ use Rattle.gt_types.specs.declared.config.DomainConfig.{DomainConfig}
 use Rattle.gt_words.specs.Conditions.{Board, IsSeatOf, SeatOf}
 use Rattle.gt_words.specs.Laws.{id_at-map, length-ids}
 use Rattle.gt_word_history.specs.Rule.{Layout, id_at, layout_of}
-use Rattle.gt_calls.specs.Rules.{label_in, label_of}
+use Rattle.gt_model.specs.Rules.{label_in, label_of}
 
 -- a domain is found at its place, if its number is at no earlier one
 found-there : (ds : List DomainConfig) (at : ℕ) (e : DomainConfig) (dom : DomId)

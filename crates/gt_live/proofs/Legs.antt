@@ -7,24 +7,24 @@ use Rattle.gt_types.specs.declared.denial.Facts.TheVariants.{Header as HeaderFac
 use Rattle.gt_types.specs.declared.denial.Rule.{Rule}
 use Rattle.gt_types.specs.declared.denial.Rule.TheVariants.{N9, N18}
 use Rattle.gt_types.specs.Denial.{denial_of}
-use Rattle.gt_entry.specs.Words.{control_of, header_of, is_kind, size_of}
-use Rattle.gt_entry.specs.declared.control.EntryKind.{EntryKind}
-use Rattle.gt_entry.specs.declared.control.EntryKind.TheVariants.{Invalid, Page, Sub, Via}
+use Rattle.gt_model.specs.Words.{control_of, header_of, is_kind, size_of}
+use Rattle.gt_model.specs.declared.control.EntryKind.{EntryKind}
+use Rattle.gt_model.specs.declared.control.EntryKind.TheVariants.{Invalid, Page, Sub, Via}
 use Rattle.gt_word_history.specs.Rule.{Layout}
 use Rattle.gt_word_history.specs.declared.view.View.{View}
 use Rattle.gt_calls.specs.Legs.{after_header, on_control_word, after_miss, after_relook, after_words, leg_after, leg_step}
-use Rattle.gt_calls.specs.Path.{entry_refusal, held_of, rule_of_try}
-use Rattle.gt_calls.specs.Rules.{first_look}
-use Rattle.gt_calls.specs.declared.action.Observation.{Observation}
-use Rattle.gt_calls.specs.declared.action.Observation.TheVariants.{Missed, Word}
-use Rattle.gt_calls.specs.declared.action.Step.TheVariants.{LookControl, Pin}
-use Rattle.gt_calls.specs.declared.held.HeldPin.{HeldPin}
-use Rattle.gt_calls.specs.declared.leg.Leg.{Leg}
+use Rattle.gt_model.specs.Path.{entry_refusal, held_of, rule_of_try}
+use Rattle.gt_model.specs.Rules.{first_look}
+use Rattle.gt_model.specs.declared.action.Observation.{Observation}
+use Rattle.gt_model.specs.declared.action.Observation.TheVariants.{Missed, Word}
+use Rattle.gt_model.specs.declared.action.Step.TheVariants.{LookControl, Pin}
+use Rattle.gt_model.specs.declared.held.HeldPin.{HeldPin}
+use Rattle.gt_model.specs.declared.leg.Leg.{Leg}
 use Rattle.gt_calls.specs.declared.leg.LegNext.{LegNext}
 use Rattle.gt_calls.specs.declared.leg.LegNext.TheVariants.{Going as GoesTo, Refused as LegRefused}
 use Rattle.gt_calls.specs.declared.leg.LegPhase.{LegPhase}
 use Rattle.gt_calls.specs.declared.leg.LegPhase.TheVariants.{Header, Look, Body, Second, Pinning, Relook}
-use Rattle.gt_calls.specs.declared.leg.TheConstants.{MORE_TRIES}
+use Rattle.gt_model.specs.declared.bounds.TheConstants.{MORE_TRIES}
 use Rattle.gt_live.specs.Legs.{WalksLeg}
 use Rattle.gt_live.specs.Walks.{Made, ReadsBody, ReadsSecond}
 

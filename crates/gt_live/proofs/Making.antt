@@ -1,7 +1,7 @@
 -- What a step of a call adds to its seat's view.
 use Rattle.std.proofs.Common.{◌≡◌, ℕ, ◌<◌, refl, sym, ap, ◌∙◌, subst, length, inl, inr, arith}
 use Rattle.std.proofs.lemmas.Bool.{cases_eq}
-use Rattle.gt_entry.specs.declared.change.BodyWord.{BodyWord}
+use Rattle.gt_model.specs.declared.change.BodyWord.{BodyWord}
 use Rattle.gt_words.specs.Conditions.{Board, IsSameSeat, IsSeatOf, Keeps, SeatOf}
 use Rattle.gt_words.specs.Answers.{StoresBody}
 use Rattle.gt_words.specs.Frames.{AccessesFrame}
@@ -13,13 +13,13 @@ use Rattle.gt_word_history.specs.History.{StepHistory, Moment, RecordsWord, part
 use Rattle.gt_word_history.specs.Steps.{TakesStep}
 use Rattle.gt_word_history.specs.declared.view.SeatStep.{SeatStep}
 use Rattle.gt_word_history.specs.declared.view.View.{View}
-use Rattle.gt_entry.specs.declared.change.EntryChange.TheVariants.{Publish, Revoke, Withdraw, Demote, Promote}
-use Rattle.gt_calls.specs.declared.action.Observation.{Observation}
-use Rattle.gt_calls.specs.declared.action.Observation.TheVariants.{Nothing, Word, Taken, Missed}
-use Rattle.gt_calls.specs.declared.action.Step.{Step}
-use Rattle.gt_calls.specs.declared.action.Step.TheVariants.{LookHeader, LookControl, LookBody, Pin, Unpin, StoreBody}
-use Rattle.gt_calls.specs.declared.action.Step.TheVariants.{StoreHeader, Exchange}
-use Rattle.gt_calls.specs.Path.{FitsStep}
+use Rattle.gt_model.specs.declared.change.EntryChange.TheVariants.{Publish, Revoke, Withdraw, Demote, Promote}
+use Rattle.gt_model.specs.declared.action.Observation.{Observation}
+use Rattle.gt_model.specs.declared.action.Observation.TheVariants.{Nothing, Word, Taken, Missed}
+use Rattle.gt_model.specs.declared.action.Step.{Step}
+use Rattle.gt_model.specs.declared.action.Step.TheVariants.{LookHeader, LookControl, LookBody, Pin, Unpin, StoreBody}
+use Rattle.gt_model.specs.declared.action.Step.TheVariants.{StoreHeader, Exchange}
+use Rattle.gt_model.specs.Path.{FitsStep}
 use Rattle.gt_live.specs.Walks.{Made, shown_by, seen_in_step}
 use Rattle.gt_live.specs.Driving.{IsSame}
 

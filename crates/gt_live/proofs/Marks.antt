@@ -1,10 +1,10 @@
 -- Bytes that the hypervisor has marked as in use.
 use Rattle.std.proofs.Common.{◌≡◌, ℕ, ◌+◌, ◌*◌, ◌%◌, ◌<◌, ◌==◌, Bool, true, false, ap, sym, subst, arith, List, [], ◌∷◌, refl}
 use Rattle.std.specs.Prelude.{MatchBool}
-use Rattle.gt_entry.specs.Bytes.{IsLaidOutV1, IsLaidOutV2, Spells, SpellsV1, SpellsV2}
-use Rattle.gt_entry.specs.Words.{flag}
-use Rattle.gt_entry.specs.declared.entry.Entry.{Entry}
-use Rattle.gt_entry.specs.declared.entry.Entry.TheVariants.{Invalid, Page, Sub, Via}
+use Rattle.gt_model.specs.Bytes.{IsLaidOutV1, IsLaidOutV2, Spells, SpellsV1, SpellsV2}
+use Rattle.gt_model.specs.Words.{flag}
+use Rattle.gt_model.specs.declared.entry.Entry.{Entry}
+use Rattle.gt_model.specs.declared.entry.Entry.TheVariants.{Invalid, Page, Sub, Via}
 use Rattle.gt_live.specs.Unmarked.{unmarked, unmarked_byte, with_marks}
 
 -- a byte without marks is what is left of it after some were set

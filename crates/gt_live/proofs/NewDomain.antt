@@ -6,7 +6,7 @@ use Rattle.std.specs.Prelude.{replicate, slice_get}
 use Rattle.gt_types.specs.declared.limits.TheConstants.{TABLE_ENTRIES}
 use Rattle.gt_roster.specs.Frameless.{IsRunnable}
 use Rattle.gt_types.specs.declared.config.Config.{Config}
-use Rattle.gt_entry.specs.declared.entry.Entry.TheVariants.{Invalid}
+use Rattle.gt_model.specs.declared.entry.Entry.TheVariants.{Invalid}
 use Rattle.gt_words.specs.Conditions.{Board}
 use Rattle.gt_words.specs.Answers.{IsNewSeat}
 use Rattle.gt_word_history.specs.Rule.{Layout, layout_of}
@@ -14,10 +14,10 @@ use Rattle.gt_word_history.specs.Views.{LivePin, pins_like, entry_steps, invalid
 use Rattle.gt_word_history.specs.declared.view.SeatStep.{SeatStep}
 use Rattle.gt_handles.specs.Handles.{HandleMap, under, value_of}
 use Rattle.gt_handles.specs.Listing.{has_passing}
-use Rattle.gt_handles.specs.declared.handles.Handle.{Handle}
+use Rattle.gt_model.specs.declared.handle.Handle.{Handle}
 use Rattle.gt_handles.specs.declared.handles.HandleSlot.{HandleSlot}
 use Rattle.gt_audit.specs.Trails.{silent}
-use Rattle.gt_calls.specs.declared.held.HeldPin.{HeldPin}
+use Rattle.gt_model.specs.declared.held.HeldPin.{HeldPin}
 use Rattle.gt_calls.specs.declared.known.OwnerEntry.{OwnerEntry}
 use Rattle.gt_calls.specs.Rules.{row_entry, row_generation}
 use Rattle.gt_live.specs.Domains.{AllowRelation}

@@ -1,7 +1,7 @@
 -- The tries of a call, counted.
 use Rattle.std.proofs.Common.{refl}
 use Rattle.gt_live.specs.Tries.{ChangesMakeFourTries, LegsMakeFourTries}
-use Rattle.gt_calls.specs.Path.{tries, turns}
+use Rattle.gt_model.specs.Path.{tries, turns}
 
 pub legs_four : LegsMakeFourTries
 unfolding tries

@@ -1,6 +1,6 @@
 -- A configuration with at most one frame a domain has the same words.
 use Rattle.std.proofs.Common.{◌≡◌, suc, List, [], ◌∷◌, map, length, refl, ap, ◌∙◌}
-use Rattle.gt_entry.specs.Words.{header_word}
+use Rattle.gt_model.specs.Words.{header_word}
 use Rattle.gt_types.specs.declared.config.Config.{Config}
 use Rattle.gt_types.specs.declared.config.DomainConfig.{DomainConfig}
 use Rattle.gt_roster.specs.Frameless.{HasOneFrameEach, IsFramelessFault, OneFrameIsEnough, with_one_frame}

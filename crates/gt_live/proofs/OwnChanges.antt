@@ -6,28 +6,28 @@ use Rattle.gt_types.specs.declared.DomId.{DomId}
 use Rattle.gt_types.specs.declared.GrantRef.{GrantRef}
 use Rattle.gt_types.specs.declared.denial.Denial.{Denial}
 use Rattle.gt_types.specs.declared.denial.Rule.TheVariants.{N18, N19}
-use Rattle.gt_entry.specs.Words.{control_of}
-use Rattle.gt_entry.specs.Spelling.{first_body, second_body}
-use Rattle.gt_entry.specs.declared.entry.Entry.{Entry}
-use Rattle.gt_entry.specs.declared.entry.Entry.TheVariants.{Invalid, Page, Sub, Via}
-use Rattle.gt_entry.specs.declared.change.BodyWord.TheVariants.{First, Second}
-use Rattle.gt_entry.specs.declared.change.EntryChange.{EntryChange}
-use Rattle.gt_entry.specs.declared.change.EntryChange.TheVariants.{Publish, Revoke, Withdraw, Demote, Promote}
+use Rattle.gt_model.specs.Words.{control_of}
+use Rattle.gt_model.specs.Spelling.{first_body, second_body}
+use Rattle.gt_model.specs.declared.entry.Entry.{Entry}
+use Rattle.gt_model.specs.declared.entry.Entry.TheVariants.{Invalid, Page, Sub, Via}
+use Rattle.gt_model.specs.declared.change.BodyWord.TheVariants.{First, Second}
+use Rattle.gt_model.specs.declared.change.EntryChange.{EntryChange}
+use Rattle.gt_model.specs.declared.change.EntryChange.TheVariants.{Publish, Revoke, Withdraw, Demote, Promote}
 use Rattle.gt_word_history.specs.Rule.{Layout}
 use Rattle.gt_word_history.specs.declared.view.View.{View}
 use Rattle.gt_calls.specs.Machine.{action_at, after_own_miss, after_store, publishing, refused_as}
-use Rattle.gt_calls.specs.Path.{entry_refusal, idle_word, is_stopped, path}
-use Rattle.gt_calls.specs.Rules.{CallerKnowledge, begun}
-use Rattle.gt_calls.specs.declared.action.Action.TheVariants.{Step as Makes}
-use Rattle.gt_calls.specs.declared.action.Observation.TheVariants.{Nothing as Unseen, Word, Taken, Missed}
-use Rattle.gt_calls.specs.declared.action.Step.{Step}
-use Rattle.gt_calls.specs.declared.action.Step.TheVariants.{Exchange, LookControl, StoreBody}
-use Rattle.gt_calls.specs.declared.action.CallResult.{CallResult}
-use Rattle.gt_calls.specs.declared.action.CallResult.TheVariants.{Granted, Refused}
+use Rattle.gt_model.specs.Path.{entry_refusal, idle_word, is_stopped, path}
+use Rattle.gt_model.specs.Rules.{CallerKnowledge, begun}
+use Rattle.gt_model.specs.declared.action.Action.TheVariants.{Step as Makes}
+use Rattle.gt_model.specs.declared.action.Observation.TheVariants.{Nothing as Unseen, Word, Taken, Missed}
+use Rattle.gt_model.specs.declared.action.Step.{Step}
+use Rattle.gt_model.specs.declared.action.Step.TheVariants.{Exchange, LookControl, StoreBody}
+use Rattle.gt_model.specs.declared.action.CallResult.{CallResult}
+use Rattle.gt_model.specs.declared.action.CallResult.TheVariants.{Granted, Refused}
 use Rattle.gt_calls.specs.declared.call.Phase.{Phase}
 use Rattle.gt_calls.specs.declared.call.Phase.TheVariants.{Exchanging, Looking, Changing, Storing, StoringSecond}
-use Rattle.gt_calls.specs.declared.leg.TheConstants.{MORE_TRIES}
-use Rattle.gt_calls.specs.declared.request.OpenRequest.TheVariants.{Grant}
+use Rattle.gt_model.specs.declared.bounds.TheConstants.{MORE_TRIES}
+use Rattle.gt_model.specs.declared.request.OpenRequest.TheVariants.{Grant}
 use Rattle.gt_live.specs.declared.driving.Effect.{Effect}
 use Rattle.gt_live.specs.declared.driving.Effect.TheVariants.{Nothing, Changed}
 use Rattle.gt_live.specs.Domains.{verdict_of}

@@ -4,25 +4,25 @@ use Rattle.gt_types.specs.declared.DomId.{DomId}
 use Rattle.gt_types.specs.declared.denial.Denial.{Denial}
 use Rattle.gt_word_history.specs.Rule.{Layout}
 use Rattle.gt_word_history.specs.declared.view.View.{View}
-use Rattle.gt_calls.specs.declared.action.Action.{Action}
-use Rattle.gt_calls.specs.declared.action.Action.TheVariants.{Step as Makes, Done}
-use Rattle.gt_calls.specs.declared.action.Observation.{Observation}
-use Rattle.gt_calls.specs.declared.action.Observation.TheVariants.{Nothing as Unseen}
-use Rattle.gt_calls.specs.declared.action.Step.{Step}
-use Rattle.gt_calls.specs.declared.action.CallResult.TheVariants.{Refused}
+use Rattle.gt_model.specs.declared.action.Action.{Action}
+use Rattle.gt_model.specs.declared.action.Action.TheVariants.{Step as Makes, Done}
+use Rattle.gt_model.specs.declared.action.Observation.{Observation}
+use Rattle.gt_model.specs.declared.action.Observation.TheVariants.{Nothing as Unseen}
+use Rattle.gt_model.specs.declared.action.Step.{Step}
+use Rattle.gt_model.specs.declared.action.CallResult.TheVariants.{Refused}
 use Rattle.gt_calls.specs.declared.call.Phase.{Phase}
 use Rattle.gt_calls.specs.declared.call.Phase.TheVariants.{Ending, Walking}
 use Rattle.gt_calls.specs.declared.copying.PinPurpose.{PinPurpose}
-use Rattle.gt_calls.specs.declared.leg.Leg.{Leg}
+use Rattle.gt_model.specs.declared.leg.Leg.{Leg}
 use Rattle.gt_calls.specs.declared.leg.LegNext.{LegNext}
 use Rattle.gt_calls.specs.declared.leg.LegNext.TheVariants.{Going}
 use Rattle.gt_calls.specs.declared.leg.LegPhase.TheVariants.{Header}
-use Rattle.gt_calls.specs.declared.held.CallPins.{CallPins}
+use Rattle.gt_model.specs.declared.held.CallPins.{CallPins}
 use Rattle.gt_types.specs.declared.copies.CopyArgs.{CopyArgs}
-use Rattle.gt_calls.specs.Holding.{no_pins}
+use Rattle.gt_model.specs.Holding.{no_pins}
 use Rattle.gt_calls.specs.Machine.{action_at, after_leg, at_source, phase_after}
 use Rattle.gt_calls.specs.Legs.{leg_step}
-use Rattle.gt_calls.specs.Rules.{CallerKnowledge, copy_begun}
+use Rattle.gt_model.specs.Rules.{CallerKnowledge, copy_begun}
 use Rattle.std.specs.Prelude.{Result, Ok, Err}
 use Rattle.gt_live.specs.Copies.{CopyStopsWith, after_copy, copy_call, unmoved_copy}
 use Rattle.gt_live.specs.Driving.{Knows}

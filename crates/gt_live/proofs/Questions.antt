@@ -4,13 +4,13 @@ use Rattle.gt_types.specs.Names.{resolved}
 use Rattle.gt_types.specs.declared.DomId.{DomId}
 use Rattle.gt_word_history.specs.Rule.{Layout}
 use Rattle.gt_word_history.specs.declared.view.View.{View}
-use Rattle.gt_calls.specs.Path.{header_value_of}
-use Rattle.gt_calls.specs.Rules.{CallerKnowledge, query_begun}
-use Rattle.gt_calls.specs.declared.action.Observation.TheVariants.{Word}
-use Rattle.gt_calls.specs.declared.action.Step.TheVariants.{LookHeader}
+use Rattle.gt_model.specs.Path.{header_value_of}
+use Rattle.gt_model.specs.Rules.{CallerKnowledge, query_begun}
+use Rattle.gt_model.specs.declared.action.Observation.TheVariants.{Word}
+use Rattle.gt_model.specs.declared.action.Step.TheVariants.{LookHeader}
 use Rattle.gt_calls.specs.declared.call.Phase.TheVariants.{Asking}
-use Rattle.gt_calls.specs.declared.call.HeaderQuery.{HeaderQuery}
-use Rattle.gt_calls.specs.declared.call.HeaderQuery.TheVariants.{Size, Version}
+use Rattle.gt_model.specs.declared.action.HeaderQuery.{HeaderQuery}
+use Rattle.gt_model.specs.declared.action.HeaderQuery.TheVariants.{Size, Version}
 use Rattle.gt_live.specs.declared.driving.Effect.TheVariants.{Nothing}
 use Rattle.gt_live.specs.Driving.{Knows}
 use Rattle.gt_live.specs.Questions.{asks_question}

@@ -4,19 +4,19 @@ use Rattle.gt_types.specs.declared.DomId.{DomId}
 use Rattle.gt_types.specs.declared.GrantRef.{GrantRef}
 use Rattle.gt_types.specs.declared.Dir.TheVariants.{Read, Write}
 use Rattle.gt_types.specs.declared.denial.Denial.{Denial}
-use Rattle.gt_entry.specs.declared.entry.Entry.{Entry}
-use Rattle.gt_entry.specs.declared.entry.Entry.TheVariants.{Invalid, Page, Sub, Via}
+use Rattle.gt_model.specs.declared.entry.Entry.{Entry}
+use Rattle.gt_model.specs.declared.entry.Entry.TheVariants.{Invalid, Page, Sub, Via}
 use Rattle.gt_word_history.specs.Rule.{Layout}
 use Rattle.gt_word_history.specs.declared.view.View.{View}
-use Rattle.gt_calls.specs.declared.action.CallResult.{CallResult}
-use Rattle.gt_calls.specs.declared.action.CallResult.TheVariants.{Refused}
+use Rattle.gt_model.specs.declared.action.CallResult.{CallResult}
+use Rattle.gt_model.specs.declared.action.CallResult.TheVariants.{Refused}
 use Rattle.gt_calls.specs.declared.call.Phase.TheVariants.{Accessing, Ending, Walking}
 use Rattle.gt_calls.specs.declared.copying.PinPurpose.{PinPurpose}
 use Rattle.gt_calls.specs.declared.copying.PinPurpose.TheVariants.{Source, Dest}
-use Rattle.gt_calls.specs.declared.held.HeldPin.{HeldPin}
-use Rattle.gt_calls.specs.declared.held.AccessPath.{AccessPath}
-use Rattle.gt_calls.specs.declared.held.AccessPath.TheVariants.{Own, Direct}
-use Rattle.gt_calls.specs.declared.leg.Leg.{Leg}
+use Rattle.gt_model.specs.declared.held.HeldPin.{HeldPin}
+use Rattle.gt_model.specs.declared.held.AccessPath.{AccessPath}
+use Rattle.gt_model.specs.declared.held.AccessPath.TheVariants.{Own, Direct}
+use Rattle.gt_model.specs.declared.leg.Leg.{Leg}
 use Rattle.gt_calls.specs.declared.leg.LegNext.{LegNext}
 use Rattle.gt_calls.specs.declared.leg.LegNext.TheVariants.{Refused as LegRefused, Pinned as LegPinned}
 use Rattle.gt_calls.specs.declared.leg.LegPhase.TheVariants.{Header}
@@ -24,8 +24,8 @@ use Rattle.gt_types.specs.declared.copies.CopyArgs.{CopyArgs}
 use Rattle.gt_calls.specs.Holding.{pins_so_far}
 use Rattle.gt_calls.specs.Machine.{after_dest_pin, after_leg, after_source_pin, at_dest, at_source, through_via}
 use Rattle.gt_calls.specs.Machine.{where_via}
-use Rattle.gt_calls.specs.Path.{dest_pair, end_leg, second_leg, source_pair}
-use Rattle.gt_calls.specs.Rules.{CallerKnowledge, via_judged}
+use Rattle.gt_model.specs.Path.{dest_pair, end_leg, second_leg, source_pair}
+use Rattle.gt_model.specs.Rules.{CallerKnowledge, via_judged}
 use Rattle.gt_types.specs.Copies.{is_dest_granted, is_source_granted}
 use Rattle.gt_live.specs.Copies.{dest_leg, source_leg}
 use Rattle.gt_live.specs.Domains.{denial_in}

@@ -5,8 +5,8 @@ use Rattle.gt_audit.specs.Trails.{AppendsRecord, TrailState}
 use Rattle.gt_audit.specs.declared.record.Hypercall.{Hypercall}
 use Rattle.gt_audit.specs.declared.record.Record.{Record}
 use Rattle.gt_audit.specs.declared.record.Reply.{Reply}
-use Rattle.gt_calls.specs.declared.action.CallResult.{CallResult}
-use Rattle.gt_calls.specs.declared.request.Request.{Request}
+use Rattle.gt_model.specs.declared.action.CallResult.{CallResult}
+use Rattle.gt_model.specs.declared.request.Request.{Request}
 use Rattle.gt_words.specs.Conditions.{Board, IsSameSeat, SeatOf}
 use Rattle.gt_types.specs.declared.config.Config.{Config}
 use Rattle.gt_live.specs.declared.domain.Domain.{Domain}

@@ -2,7 +2,7 @@
 use Rattle.std.proofs.Common.{◌≡◌, ℕ, ◌<◌, ◌≤◌, refl, ap, List, [], ◌∷◌, length, get_or, zero, suc, Some, arith}
 use Rattle.std.proofs.Math.ListN.{set}
 use Rattle.std.specs.Prelude.{slice_get}
-use Rattle.gt_entry.specs.declared.change.EntryChange.{EntryChange}
+use Rattle.gt_model.specs.declared.change.EntryChange.{EntryChange}
 use Rattle.gt_calls.specs.declared.known.OwnerEntry.{OwnerEntry}
 use Rattle.gt_calls.specs.Changes.{own_after}
 use Rattle.gt_live.specs.Rows.{row_changed}

@@ -10,19 +10,19 @@ use Rattle.gt_types.specs.declared.Use.{Use}
 use Rattle.gt_types.specs.declared.Use.TheVariants.{Map as ForMap}
 use Rattle.gt_types.specs.declared.denial.Rule.{Rule}
 use Rattle.gt_types.specs.declared.denial.Rule.TheVariants.{N10, N11, N12, N14, N16, N17}
-use Rattle.gt_entry.specs.declared.entry.Entry.{Entry}
-use Rattle.gt_entry.specs.declared.entry.Entry.TheVariants.{Invalid, Page, Sub, Via}
-use Rattle.gt_entry.specs.declared.control.EntryKind.{EntryKind}
-use Rattle.gt_entry.specs.declared.control.EntryKind.TheVariants.{Invalid as KindInvalid, Page as KindPage, Sub as KindSub}
-use Rattle.gt_entry.specs.declared.control.EntryKind.TheVariants.{Via as KindVia}
-use Rattle.gt_entry.specs.Entries.{frame_of}
-use Rattle.gt_entry.specs.Words.{control_of, control_word, is_kind, kind_of, pins_of}
-use Rattle.gt_entry.specs.Spelling.{control_with, idle_word_of, entry_of, entry_with}
-use Rattle.gt_entry.specs.Permits.{is_copying, permits}
+use Rattle.gt_model.specs.declared.entry.Entry.{Entry}
+use Rattle.gt_model.specs.declared.entry.Entry.TheVariants.{Invalid, Page, Sub, Via}
+use Rattle.gt_model.specs.declared.control.EntryKind.{EntryKind}
+use Rattle.gt_model.specs.declared.control.EntryKind.TheVariants.{Invalid as KindInvalid, Page as KindPage, Sub as KindSub}
+use Rattle.gt_model.specs.declared.control.EntryKind.TheVariants.{Via as KindVia}
+use Rattle.gt_model.specs.Entries.{frame_of}
+use Rattle.gt_model.specs.Words.{control_of, control_word, is_kind, kind_of, pins_of}
+use Rattle.gt_model.specs.Spelling.{control_with, idle_word_of, entry_of, entry_with}
+use Rattle.gt_model.specs.Permits.{is_copying, permits}
 use Rattle.gt_word_history.specs.Controls.{pins_in}
-use Rattle.gt_calls.specs.declared.leg.Leg.{Leg}
+use Rattle.gt_model.specs.declared.leg.Leg.{Leg}
 use Rattle.gt_calls.specs.Resting.{Lets}
-use Rattle.gt_calls.specs.Rules.{before_pin, first, first_look, is_outside_sub, is_past_owner, stands}
+use Rattle.gt_model.specs.Rules.{before_pin, first, first_look, is_outside_sub, is_past_owner, stands}
 
 -- none of a list of rules stands: the first does not, and none of the others
 pub none-stands : (b : Bool) (n : Rule) (xs : List (Option Rule)) → first (stands b n ∷ xs) ≡ None → (b ≡ false) × (first xs ≡ None)

@@ -5,18 +5,18 @@ use Rattle.gt_word_history.specs.Rule.{Layout}
 use Rattle.gt_word_history.specs.declared.view.View.{View}
 use Rattle.gt_calls.specs.Following.{Goes, GoesByPhase, IsStepAction as BeginsSo}
 use Rattle.gt_calls.specs.Machine.{action_at, ended_as, first_phase, phase_after, settled}
-use Rattle.gt_calls.specs.Rules.{CallerKnowledge, begun}
+use Rattle.gt_model.specs.Rules.{CallerKnowledge, begun}
 use Rattle.gt_calls.specs.Standing.{IsFreshCall}
-use Rattle.gt_calls.specs.declared.action.Action.{Action}
-use Rattle.gt_calls.specs.declared.action.Action.TheVariants.{Step as Makes, Done}
-use Rattle.gt_calls.specs.declared.action.Observation.{Observation}
-use Rattle.gt_calls.specs.declared.action.Observation.TheVariants.{Nothing as Unseen}
-use Rattle.gt_calls.specs.declared.action.Step.{Step}
-use Rattle.gt_calls.specs.declared.action.CallResult.{CallResult}
+use Rattle.gt_model.specs.declared.action.Action.{Action}
+use Rattle.gt_model.specs.declared.action.Action.TheVariants.{Step as Makes, Done}
+use Rattle.gt_model.specs.declared.action.Observation.{Observation}
+use Rattle.gt_model.specs.declared.action.Observation.TheVariants.{Nothing as Unseen}
+use Rattle.gt_model.specs.declared.action.Step.{Step}
+use Rattle.gt_model.specs.declared.action.CallResult.{CallResult}
 use Rattle.gt_calls.specs.declared.call.Call.{Call}
 use Rattle.gt_calls.specs.declared.call.Phase.{Phase}
-use Rattle.gt_calls.specs.declared.request.OpenRequest.{OpenRequest}
-use Rattle.gt_calls.specs.declared.request.OpenRequest.TheVariants.{Probe}
+use Rattle.gt_model.specs.declared.request.OpenRequest.{OpenRequest}
+use Rattle.gt_model.specs.declared.request.OpenRequest.TheVariants.{Probe}
 use Rattle.gt_live.specs.declared.driving.Effect.{Effect}
 use Rattle.gt_live.specs.declared.driving.Effect.TheVariants.{Nothing}
 use Rattle.gt_live.specs.Driving.{CanMake, Going, Knows}

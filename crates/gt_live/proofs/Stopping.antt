@@ -8,39 +8,39 @@ use Rattle.gt_types.specs.declared.denial.Denial.{Denial}
 use Rattle.gt_types.specs.declared.Dir.TheVariants.{Read}
 use Rattle.gt_word_history.specs.Rule.{Layout}
 use Rattle.gt_word_history.specs.declared.view.View.{View}
-use Rattle.gt_calls.specs.declared.action.Action.{Action}
-use Rattle.gt_calls.specs.declared.action.Action.TheVariants.{Step as Makes, Done}
+use Rattle.gt_model.specs.declared.action.Action.{Action}
+use Rattle.gt_model.specs.declared.action.Action.TheVariants.{Step as Makes, Done}
 use Rattle.gt_types.specs.declared.places.Spot.{Spot}
-use Rattle.gt_calls.specs.declared.action.Observation.{Observation}
-use Rattle.gt_calls.specs.declared.action.Observation.TheVariants.{Nothing}
-use Rattle.gt_calls.specs.declared.action.Step.{Step}
-use Rattle.gt_calls.specs.declared.action.Step.TheVariants.{Pin, Copy as CopyBytes}
-use Rattle.gt_calls.specs.declared.action.CallResult.{CallResult}
-use Rattle.gt_calls.specs.declared.action.CallResult.TheVariants.{Granted, Given, Mapped, Refused}
+use Rattle.gt_model.specs.declared.action.Observation.{Observation}
+use Rattle.gt_model.specs.declared.action.Observation.TheVariants.{Nothing}
+use Rattle.gt_model.specs.declared.action.Step.{Step}
+use Rattle.gt_model.specs.declared.action.Step.TheVariants.{Pin, Copy as CopyBytes}
+use Rattle.gt_model.specs.declared.action.CallResult.{CallResult}
+use Rattle.gt_model.specs.declared.action.CallResult.TheVariants.{Granted, Given, Mapped, Refused}
 use Rattle.gt_calls.specs.declared.call.Call.{Call}
 use Rattle.gt_calls.specs.declared.call.Phase.{Phase}
 use Rattle.gt_calls.specs.declared.call.Phase.TheVariants.{Storing, StoringSecond, Exchanging, Looking, Changing}
 use Rattle.gt_calls.specs.declared.call.Phase.TheVariants.{Walking, Accessing, Asking, Last, Ending}
 use Rattle.gt_calls.specs.declared.copying.PinPurpose.TheVariants.{Source}
-use Rattle.gt_calls.specs.declared.held.HeldPin.{HeldPin}
-use Rattle.gt_calls.specs.declared.held.CallPins.{CallPins}
-use Rattle.gt_calls.specs.declared.held.AccessPath.{AccessPath}
-use Rattle.gt_calls.specs.declared.held.AccessPath.TheVariants.{Own}
-use Rattle.gt_calls.specs.declared.leg.Leg.{Leg}
+use Rattle.gt_model.specs.declared.held.HeldPin.{HeldPin}
+use Rattle.gt_model.specs.declared.held.CallPins.{CallPins}
+use Rattle.gt_model.specs.declared.held.AccessPath.{AccessPath}
+use Rattle.gt_model.specs.declared.held.AccessPath.TheVariants.{Own}
+use Rattle.gt_model.specs.declared.leg.Leg.{Leg}
 use Rattle.gt_calls.specs.declared.leg.LegPhase.{LegPhase}
 use Rattle.gt_calls.specs.declared.leg.LegPhase.TheVariants.{Header, Look, Body, Second, Pinning, Relook}
-use Rattle.gt_calls.specs.declared.request.OpenRequest.{OpenRequest}
-use Rattle.gt_calls.specs.declared.request.OpenRequest.TheVariants as asks
+use Rattle.gt_model.specs.declared.request.OpenRequest.{OpenRequest}
+use Rattle.gt_model.specs.declared.request.OpenRequest.TheVariants as asks
 use Rattle.gt_types.specs.declared.copies.CopyArgs.{CopyArgs}
 use Rattle.gt_calls.specs.Counting.{steps_to_come}
 use Rattle.gt_calls.specs.Following.{FitsNext, Goes}
-use Rattle.gt_calls.specs.Holding.{last_first}
+use Rattle.gt_model.specs.Holding.{last_first}
 use Rattle.gt_calls.specs.Machine.{action_at, at_dest, at_source, first_phase, next_to_give, phase_after}
 use Rattle.gt_calls.specs.Legs.{leg_step}
 use Rattle.gt_calls.specs.Machine.{remains_of, settled, standing_after}
-use Rattle.gt_calls.specs.Path.{end_leg, give_back, path}
+use Rattle.gt_model.specs.Path.{end_leg, give_back, path}
 use Rattle.gt_calls.specs.Resting.{Rests}
-use Rattle.gt_calls.specs.Rules.{CallerKnowledge}
+use Rattle.gt_model.specs.Rules.{CallerKnowledge}
 use Rattle.gt_types.specs.Copies.{is_source_granted}
 use Rattle.gt_calls.specs.Standing.{IsAt, IsFreshCall, held_in, pins_at, pins_by_call}
 use Rattle.gt_live.specs.Driving.{CanMake, Knows}

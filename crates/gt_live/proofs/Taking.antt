@@ -11,7 +11,7 @@ use Rattle.gt_word_history.specs.Views.{IsAmong, LivePin, is_same_dir, last_seen
 use Rattle.gt_word_history.specs.Views.{without_pin}
 use Rattle.gt_word_history.specs.declared.view.EntryRecord.{EntryRecord}
 use Rattle.gt_word_history.specs.declared.view.View.{View}
-use Rattle.gt_calls.specs.declared.held.HeldPin.{HeldPin}
+use Rattle.gt_model.specs.declared.held.HeldPin.{HeldPin}
 use Rattle.gt_live.specs.Driving.{IsSame}
 use Rattle.gt_live.specs.Mappings.{HasPin, entry_record_of}
 use Rattle.gt_live.specs.Underway.{AreOfRun, HasTaken, is_of_entry, live_pins_by}

@@ -8,20 +8,20 @@ use Rattle.gt_word_history.specs.Rule.{Layout}
 use Rattle.gt_word_history.specs.declared.view.View.{View}
 use Rattle.gt_calls.specs.Legs.{leg_after, leg_step}
 use Rattle.gt_calls.specs.Machine.{after_leg}
-use Rattle.gt_calls.specs.Path.{map_leg, path}
-use Rattle.gt_calls.specs.Rules.{CallerKnowledge, begun}
-use Rattle.gt_calls.specs.declared.action.Observation.{Observation}
-use Rattle.gt_calls.specs.declared.action.CallResult.TheVariants.{Mapped, Refused}
+use Rattle.gt_model.specs.Path.{map_leg, path}
+use Rattle.gt_model.specs.Rules.{CallerKnowledge, begun}
+use Rattle.gt_model.specs.declared.action.Observation.{Observation}
+use Rattle.gt_model.specs.declared.action.CallResult.TheVariants.{Mapped, Refused}
 use Rattle.gt_calls.specs.declared.call.Phase.TheVariants.{Walking}
 use Rattle.gt_calls.specs.declared.copying.PinPurpose.TheVariants.{Mapping}
-use Rattle.gt_calls.specs.declared.held.HeldPin.{HeldPin}
-use Rattle.gt_calls.specs.declared.leg.Leg.{Leg}
+use Rattle.gt_model.specs.declared.held.HeldPin.{HeldPin}
+use Rattle.gt_model.specs.declared.leg.Leg.{Leg}
 use Rattle.gt_calls.specs.declared.leg.LegNext.{LegNext}
 use Rattle.gt_calls.specs.declared.leg.LegNext.TheVariants.{Going as GoesTo, Refused as LegRefused, Pinned as LegPinned}
 use Rattle.gt_calls.specs.declared.leg.LegPhase.{LegPhase}
 use Rattle.gt_calls.specs.declared.leg.LegPhase.TheVariants.{Header}
-use Rattle.gt_calls.specs.declared.request.OpenRequest.{OpenRequest}
-use Rattle.gt_calls.specs.declared.request.OpenRequest.TheVariants as asks
+use Rattle.gt_model.specs.declared.request.OpenRequest.{OpenRequest}
+use Rattle.gt_model.specs.declared.request.OpenRequest.TheVariants as asks
 use Rattle.gt_live.specs.declared.driving.Effect.{Effect}
 use Rattle.gt_live.specs.declared.driving.Effect.TheVariants.{Nothing, Pinned, Unpinned, Changed, Stored}
 use Rattle.gt_live.specs.Driving.{Knows, Leaves}

@@ -4,22 +4,22 @@ use Rattle.std.proofs.Common.{◌++◌, Option, Some, None, arith, append_assoc}
 use Rattle.gt_types.specs.declared.limits.TheConstants.{ENTRIES_V1, ENTRIES_V2, MAX_TABLE_FRAMES, TABLE_ENTRIES}
 use Rattle.gt_types.specs.declared.DomId.{DomId}
 use Rattle.gt_types.specs.declared.GrantRef.{GrantRef}
-use Rattle.gt_entry.specs.declared.control.EntryKind.TheVariants.{Sub as KindSub}
-use Rattle.gt_entry.specs.Words.{control_of, header_of, size_of}
+use Rattle.gt_model.specs.declared.control.EntryKind.TheVariants.{Sub as KindSub}
+use Rattle.gt_model.specs.Words.{control_of, header_of, size_of}
 use Rattle.gt_word_history.specs.Rule.{Layout, position_in}
 use Rattle.gt_word_history.specs.Views.{Seen as Looks, seen, steps_on, with_body}
-use Rattle.gt_entry.specs.declared.change.BodyWord.TheVariants.{First}
+use Rattle.gt_model.specs.declared.change.BodyWord.TheVariants.{First}
 use Rattle.gt_word_history.specs.History.{Moment}
 use Rattle.gt_word_history.specs.declared.view.View.{View}
-use Rattle.gt_calls.specs.declared.action.Action.{Action}
-use Rattle.gt_calls.specs.declared.action.Action.TheVariants.{Step as Makes}
-use Rattle.gt_calls.specs.declared.action.Observation.{Observation}
-use Rattle.gt_calls.specs.declared.action.Observation.TheVariants.{Word}
-use Rattle.gt_calls.specs.declared.action.Step.{Step}
-use Rattle.gt_calls.specs.declared.action.Step.TheVariants.{LookHeader, LookControl, LookBody}
-use Rattle.gt_calls.specs.Path.{Continuation}
+use Rattle.gt_model.specs.declared.action.Action.{Action}
+use Rattle.gt_model.specs.declared.action.Action.TheVariants.{Step as Makes}
+use Rattle.gt_model.specs.declared.action.Observation.{Observation}
+use Rattle.gt_model.specs.declared.action.Observation.TheVariants.{Word}
+use Rattle.gt_model.specs.declared.action.Step.{Step}
+use Rattle.gt_model.specs.declared.action.Step.TheVariants.{LookHeader, LookControl, LookBody}
+use Rattle.gt_model.specs.Path.{Continuation}
 use Rattle.gt_calls.specs.Resting.{HasRead, HasSeenTable}
-use Rattle.gt_calls.specs.Rules.{is_kind}
+use Rattle.gt_model.specs.Rules.{is_kind}
 use Rattle.gt_live.specs.Walks.{IsWalk, Made, MakesStep, view_after, all_shown, shown_by}
 
 module _ {A : Type 0} where

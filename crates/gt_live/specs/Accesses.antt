@@ -6,7 +6,7 @@ use Rattle.gt_live.specs.Prelude.{Nothing, Step, ReadBytes, WriteBytes, CopyByte
 use Rattle.gt_live.specs.Prelude.{position_in, Spot, SeatOf, AccessPath, Own, Direct, ReachesBy, Dir, Use, Read, Write}
 use Rattle.gt_live.specs.Prelude.{ForMap, ForCopy, CallerKnowledge, CallPins, Copy, CopyArgs, Domain, HeldPin, Request}
 use Rattle.gt_live.specs.Prelude.{RestsOnWays, bytes_given_by, last_first, value_of}
-use Rattle.gt_calls.specs.declared.request.Request.TheVariants as requests
+use Rattle.gt_model.specs.declared.request.Request.TheVariants as requests
 use Rattle.gt_word_history.specs.declared.view.FrameStep.TheVariants as frames
 use Rattle.gt_words.specs.Conditions.{Board}
 use Rattle.gt_words.specs.Frames.{AccessesFrame, CopiesFrames, KeepsFrame}

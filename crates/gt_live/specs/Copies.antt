@@ -6,7 +6,7 @@ use Rattle.gt_live.specs.Prelude.{Accessing, Ending, Walking, PinPurpose, Source
 use Rattle.gt_live.specs.Prelude.{CopyArgs, Copy, Call, ByLeg, last_first, no_pins, pins_so_far}
 use Rattle.gt_live.specs.Prelude.{without_last, after_pin_of, at_dest, end_leg, place_of, second_leg, CallerKnowledge}
 use Rattle.gt_live.specs.Prelude.{PendingCopy}
-use Rattle.gt_calls.specs.declared.held.AccessPath.TheVariants.{Own}
+use Rattle.gt_model.specs.declared.held.AccessPath.TheVariants.{Own}
 use Rattle.gt_live.specs.Driving.{CanMake}
 use Rattle.gt_live.specs.Underway.{AtAccess, EndsRefused}
 use Rattle.gt_live.specs.Walks.{Made}

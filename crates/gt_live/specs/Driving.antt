@@ -10,7 +10,7 @@ use Rattle.gt_live.specs.Prelude.{path}
 use Rattle.gt_live.specs.Prelude.{Rests, CallerKnowledge, begun, IsAt, held_by_call, pins_by_call, Effect, Pinned}
 use Rattle.gt_live.specs.Prelude.{Unpinned, Changed, Stored}
 use Rattle.gt_words.specs.Answers.{Pins}
-use Rattle.gt_calls.specs.Resting.{GivesUp}
+use Rattle.gt_model.specs.Giving.{GivesUp}
 use Rattle.gt_live.specs.declared.driving.Effect.TheVariants.{Nothing}
 use Rattle.gt_live.specs.Walks.{IsWalk, CarriesSteps, view_after, all_shown}
 use Rattle.gt_live.specs.Effects.{Answers}

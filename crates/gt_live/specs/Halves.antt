@@ -5,7 +5,7 @@ use Rattle.gt_live.specs.Prelude.{Hypercall, Record, Spot, CopyBytes, Call, Copy
 use Rattle.gt_live.specs.Prelude.{pins_by_call, Domain, PendingCopy, Monitor}
 use Rattle.gt_audit.specs.declared.record.Hypercall.TheVariants as hypercalls
 use Rattle.gt_audit.specs.declared.record.Reply.TheVariants as replies
-use Rattle.gt_calls.specs.declared.request.Request.TheVariants as requests
+use Rattle.gt_model.specs.declared.request.Request.TheVariants as requests
 use Rattle.gt_live.specs.Accesses.{Accessed, IsUnmade}
 use Rattle.gt_live.specs.Domains.{AllowRelation, BelongsTo, IsUnsettled, known_on}
 use Rattle.gt_live.specs.Underway.{AtAccess, GivesBack}

@@ -5,17 +5,17 @@ use Rattle.gt_types.specs.declared.DomId.{DomId}
 use Rattle.gt_types.specs.declared.GrantRef.{GrantRef}
 use Rattle.gt_types.specs.declared.denial.Denial.{Denial}
 use Rattle.gt_types.specs.declared.denial.Rule.TheVariants.{N19}
-use Rattle.gt_entry.specs.declared.change.EntryChange.{EntryChange}
-use Rattle.gt_entry.specs.declared.change.EntryChange.TheVariants.{Publish, Revoke, Withdraw, Demote, Promote}
+use Rattle.gt_model.specs.declared.change.EntryChange.{EntryChange}
+use Rattle.gt_model.specs.declared.change.EntryChange.TheVariants.{Publish, Revoke, Withdraw, Demote, Promote}
 use Rattle.gt_word_history.specs.Rule.{Layout}
 use Rattle.gt_word_history.specs.declared.view.View.{View}
-use Rattle.gt_calls.specs.Path.{entry_refusal}
-use Rattle.gt_calls.specs.Rules.{CallerKnowledge}
+use Rattle.gt_model.specs.Path.{entry_refusal}
+use Rattle.gt_model.specs.Rules.{CallerKnowledge}
 use Rattle.gt_calls.specs.declared.known.OwnerEntry.{OwnerEntry}
-use Rattle.gt_calls.specs.declared.action.Observation.TheVariants.{Taken, Missed}
-use Rattle.gt_calls.specs.declared.action.Step.TheVariants.{Exchange}
-use Rattle.gt_calls.specs.declared.request.OpenRequest.{OpenRequest}
-use Rattle.gt_calls.specs.declared.request.OpenRequest.TheVariants as asks
+use Rattle.gt_model.specs.declared.action.Observation.TheVariants.{Taken, Missed}
+use Rattle.gt_model.specs.declared.action.Step.TheVariants.{Exchange}
+use Rattle.gt_model.specs.declared.request.OpenRequest.{OpenRequest}
+use Rattle.gt_model.specs.declared.request.OpenRequest.TheVariants as asks
 use Rattle.gt_live.specs.declared.driving.Effect.{Effect}
 use Rattle.gt_live.specs.declared.driving.Effect.TheVariants.{Nothing, Changed}
 use Rattle.gt_live.specs.Walks.{Made}

@@ -6,63 +6,65 @@ pub use Rattle.gt_words.specs.declared.frames.AccessFault.TheVariants.{Gone, Mem
 pub use Rattle.gt_audit.specs.declared.record.Hypercall.{Hypercall}
 pub use Rattle.gt_audit.specs.declared.record.Record.{Record}
 pub use Rattle.gt_audit.specs.declared.record.Reply.{Reply}
-pub use Rattle.gt_calls.specs.Asking.{asked, begun_of, bytes_given_by}
+pub use Rattle.gt_model.specs.Asking.{asked, begun_of, bytes_given_by}
 pub use Rattle.gt_calls.specs.Changes.{raise_of}
 pub use Rattle.gt_calls.specs.Following.{GoesOnWith, IsStepAction}
-pub use Rattle.gt_calls.specs.Holding.{last_first, no_pins, pins_so_far, without_last}
+pub use Rattle.gt_model.specs.Holding.{last_first, no_pins, without_last}
+pub use Rattle.gt_calls.specs.Holding.{pins_so_far}
 pub use Rattle.gt_calls.specs.Machine.{action_at, after_pin_of, at_dest}
-pub use Rattle.gt_calls.specs.Opening.{IsAllowed}
-pub use Rattle.gt_calls.specs.Path.{AfterPin, AfterRefusal, Continuation, end_leg, entry_refusal, give_back, path}
-pub use Rattle.gt_calls.specs.Path.{path_of, place_of, refused_at, second_leg, tries, try_pin, turn, turns}
+pub use Rattle.gt_model.specs.Giving.{IsAllowed}
+pub use Rattle.gt_model.specs.Path.{AfterPin, AfterRefusal, Continuation, end_leg, entry_refusal, give_back, path}
+pub use Rattle.gt_model.specs.Path.{path_of, place_of, refused_at, second_leg, tries, try_pin, turn, turns}
 pub use Rattle.gt_calls.specs.Resting.{Rests, RestsOnWays}
-pub use Rattle.gt_calls.specs.Rules.{CallerKnowledge, begun, entry_in, frame_count_of, own_generation, knowledge_of}
-pub use Rattle.gt_calls.specs.Rules.{label_of}
-pub use Rattle.gt_calls.specs.Rules.{map_perms, triples}
+pub use Rattle.gt_model.specs.Rules.{CallerKnowledge, begun, frame_count_of}
+pub use Rattle.gt_calls.specs.Rules.{entry_in, own_generation, knowledge_of}
+pub use Rattle.gt_model.specs.Rules.{label_of}
+pub use Rattle.gt_model.specs.Rules.{map_perms, triples}
 pub use Rattle.gt_calls.specs.Standing.{IsAt, IsFreshCall, held_by_call, held_in, pins_by_call}
-pub use Rattle.gt_calls.specs.declared.action.Action.{Action}
-pub use Rattle.gt_calls.specs.declared.action.Action.TheVariants.{Done, Step as Makes}
-pub use Rattle.gt_calls.specs.declared.action.Observation.{Observation}
-pub use Rattle.gt_calls.specs.declared.action.Observation.TheVariants.{Missed, Nothing, Taken, Word}
-pub use Rattle.gt_calls.specs.declared.action.Step.{Step}
-pub use Rattle.gt_calls.specs.declared.action.Step.TheVariants.{Copy as CopyBytes, Exchange, LookBody, LookControl}
-pub use Rattle.gt_calls.specs.declared.action.Step.TheVariants.{LookHeader, Pin, Read as ReadBytes, StoreBody}
-pub use Rattle.gt_calls.specs.declared.action.Step.TheVariants.{StoreHeader, Unpin, Write as WriteBytes}
-pub use Rattle.gt_calls.specs.declared.action.CallValue.TheVariants.{Frames, Size as SizeTold, Version}
-pub use Rattle.gt_calls.specs.declared.action.CallResult.{CallResult}
-pub use Rattle.gt_calls.specs.declared.action.CallResult.TheVariants.{Given, Granted, Mapped, Refused}
+pub use Rattle.gt_model.specs.declared.action.Action.{Action}
+pub use Rattle.gt_model.specs.declared.action.Action.TheVariants.{Done, Step as Makes}
+pub use Rattle.gt_model.specs.declared.action.Observation.{Observation}
+pub use Rattle.gt_model.specs.declared.action.Observation.TheVariants.{Missed, Nothing, Taken, Word}
+pub use Rattle.gt_model.specs.declared.action.Step.{Step}
+pub use Rattle.gt_model.specs.declared.action.Step.TheVariants.{Copy as CopyBytes, Exchange, LookBody, LookControl}
+pub use Rattle.gt_model.specs.declared.action.Step.TheVariants.{LookHeader, Pin, Read as ReadBytes, StoreBody}
+pub use Rattle.gt_model.specs.declared.action.Step.TheVariants.{StoreHeader, Unpin, Write as WriteBytes}
+pub use Rattle.gt_model.specs.declared.action.CallValue.TheVariants.{Frames, Size as SizeTold, Version}
+pub use Rattle.gt_model.specs.declared.action.CallResult.{CallResult}
+pub use Rattle.gt_model.specs.declared.action.CallResult.TheVariants.{Given, Granted, Mapped, Refused}
 pub use Rattle.gt_calls.specs.declared.call.Call.{Call}
 pub use Rattle.gt_calls.specs.declared.call.Phase.{Phase}
 pub use Rattle.gt_calls.specs.declared.call.Phase.TheVariants.{Accessing, Ending, Walking}
 pub use Rattle.gt_calls.specs.declared.copying.PinPurpose.{PinPurpose}
 pub use Rattle.gt_calls.specs.declared.copying.PinPurpose.TheVariants.{Dest, Source}
-pub use Rattle.gt_calls.specs.declared.held.HeldPin.{HeldPin}
-pub use Rattle.gt_calls.specs.declared.held.CallPins.{CallPins}
-pub use Rattle.gt_calls.specs.declared.held.AccessPath.{AccessPath}
-pub use Rattle.gt_calls.specs.declared.held.AccessPath.TheVariants.{Direct, Own}
-pub use Rattle.gt_calls.specs.declared.leg.Leg.{Leg}
+pub use Rattle.gt_model.specs.declared.held.HeldPin.{HeldPin}
+pub use Rattle.gt_model.specs.declared.held.CallPins.{CallPins}
+pub use Rattle.gt_model.specs.declared.held.AccessPath.{AccessPath}
+pub use Rattle.gt_model.specs.declared.held.AccessPath.TheVariants.{Direct, Own}
+pub use Rattle.gt_model.specs.declared.leg.Leg.{Leg}
 pub use Rattle.gt_calls.specs.declared.leg.LegPhase.TheVariants.{Header}
-pub use Rattle.gt_calls.specs.declared.leg.TheConstants.{MORE_TRIES}
-pub use Rattle.gt_calls.specs.declared.request.OpenRequest.{OpenRequest}
-pub use Rattle.gt_calls.specs.declared.request.OpenRequest.TheVariants.{Copy}
+pub use Rattle.gt_model.specs.declared.bounds.TheConstants.{MORE_TRIES}
+pub use Rattle.gt_model.specs.declared.request.OpenRequest.{OpenRequest}
+pub use Rattle.gt_model.specs.declared.request.OpenRequest.TheVariants.{Copy}
 pub use Rattle.gt_types.specs.declared.copies.CopyArgs.{CopyArgs}
 pub use Rattle.gt_types.specs.declared.copies.End.{End}
-pub use Rattle.gt_calls.specs.declared.request.PinHolder.TheVariants.{Leg as ByLeg}
-pub use Rattle.gt_calls.specs.declared.request.Request.{Request}
-pub use Rattle.gt_entry.specs.Entries.{frame_of}
-pub use Rattle.gt_entry.specs.Permits.{permits}
-pub use Rattle.gt_entry.specs.Words.{control_of, is_kind}
-pub use Rattle.gt_entry.specs.declared.change.EntryChange.{EntryChange}
-pub use Rattle.gt_entry.specs.declared.change.EntryChange.TheVariants.{Demote, Promote, Publish, Revoke, Withdraw}
-pub use Rattle.gt_entry.specs.declared.change.BodyWord.{BodyWord}
-pub use Rattle.gt_entry.specs.declared.change.BodyWord.TheVariants.{First as FirstHalf, Second as SecondHalf}
-pub use Rattle.gt_entry.specs.declared.control.EntryKind.TheVariants.{Sub}
-pub use Rattle.gt_entry.specs.declared.entry.Entry.TheVariants.{Invalid}
+pub use Rattle.gt_model.specs.declared.request.PinHolder.TheVariants.{Leg as ByLeg}
+pub use Rattle.gt_model.specs.declared.request.Request.{Request}
+pub use Rattle.gt_model.specs.Entries.{frame_of}
+pub use Rattle.gt_model.specs.Permits.{permits}
+pub use Rattle.gt_model.specs.Words.{control_of, is_kind}
+pub use Rattle.gt_model.specs.declared.change.EntryChange.{EntryChange}
+pub use Rattle.gt_model.specs.declared.change.EntryChange.TheVariants.{Demote, Promote, Publish, Revoke, Withdraw}
+pub use Rattle.gt_model.specs.declared.change.BodyWord.{BodyWord}
+pub use Rattle.gt_model.specs.declared.change.BodyWord.TheVariants.{First as FirstHalf, Second as SecondHalf}
+pub use Rattle.gt_model.specs.declared.control.EntryKind.TheVariants.{Sub}
+pub use Rattle.gt_model.specs.declared.entry.Entry.TheVariants.{Invalid}
 pub use Rattle.gt_frames.specs.Receipts.{Copying, Reading, Writing}
 pub use Rattle.gt_types.specs.declared.places.FrameName.{FrameName}
 pub use Rattle.gt_types.specs.declared.places.Spot.{Spot}
 pub use Rattle.gt_handles.specs.Handles.{HandleMap, KeepsSpent, value_of}
 pub use Rattle.gt_handles.specs.Listing.{IsInserted, IsTaken, count_passing}
-pub use Rattle.gt_handles.specs.declared.handles.Handle.{Handle}
+pub use Rattle.gt_model.specs.declared.handle.Handle.{Handle}
 pub use Rattle.gt_live.specs.declared.domain.Domain.{Domain}
 pub use Rattle.gt_live.specs.declared.domain.Departed.{Departed}
 pub use Rattle.gt_live.specs.declared.domain.copies.PendingCopy.{PendingCopy}

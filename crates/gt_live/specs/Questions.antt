@@ -2,13 +2,13 @@
 use Rattle.std.specs.Prelude.{ℕ, Result, Ok, Err}
 use Rattle.gt_types.specs.declared.DomId.{DomId}
 use Rattle.gt_types.specs.declared.denial.Denial.{Denial}
-use Rattle.gt_calls.specs.Path.{header_value_of}
-use Rattle.gt_calls.specs.declared.action.CallResult.{CallResult}
-use Rattle.gt_calls.specs.declared.action.CallResult.TheVariants.{Refused}
-use Rattle.gt_calls.specs.declared.call.HeaderQuery.{HeaderQuery}
-use Rattle.gt_calls.specs.declared.call.HeaderQuery.TheVariants.{Size, Version}
-use Rattle.gt_calls.specs.declared.request.OpenRequest.{OpenRequest}
-use Rattle.gt_calls.specs.declared.request.OpenRequest.TheVariants.{QuerySize, GetVersion}
+use Rattle.gt_model.specs.Path.{header_value_of}
+use Rattle.gt_model.specs.declared.action.CallResult.{CallResult}
+use Rattle.gt_model.specs.declared.action.CallResult.TheVariants.{Refused}
+use Rattle.gt_model.specs.declared.action.HeaderQuery.{HeaderQuery}
+use Rattle.gt_model.specs.declared.action.HeaderQuery.TheVariants.{Size, Version}
+use Rattle.gt_model.specs.declared.request.OpenRequest.{OpenRequest}
+use Rattle.gt_model.specs.declared.request.OpenRequest.TheVariants.{QuerySize, GetVersion}
 
 -- the request for this question about this domain's table
 abbrev pub asks_question : DomId → HeaderQuery → OpenRequest

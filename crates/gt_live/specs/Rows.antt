@@ -1,6 +1,6 @@
 -- How an owner's rows change.
 use Rattle.std.specs.Prelude.{ℕ, List, [], ◌∷◌, zero, suc}
-use Rattle.gt_entry.specs.declared.change.EntryChange.{EntryChange}
+use Rattle.gt_model.specs.declared.change.EntryChange.{EntryChange}
 use Rattle.gt_calls.specs.declared.known.OwnerEntry.{OwnerEntry}
 use Rattle.gt_calls.specs.Changes.{own_after}
 

@@ -1,6 +1,6 @@
 -- The domains at the start of a run.
 use Rattle.std.specs.Prelude.{◌≡◌, ℕ, Bool, List, [], replicate}
-use Rattle.gt_entry.specs.declared.entry.Entry.TheVariants.{Invalid}
+use Rattle.gt_model.specs.declared.entry.Entry.TheVariants.{Invalid}
 use Rattle.gt_types.specs.declared.TypeId.{TypeId}
 use Rattle.gt_types.specs.declared.perms.Perms.{Perms}
 use Rattle.gt_types.specs.declared.config.Config.{Config}

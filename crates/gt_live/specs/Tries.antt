@@ -7,7 +7,7 @@ use Rattle.gt_live.specs.Prelude.{path_of, refused_at, tries, try_pin, turn, tur
 use Rattle.gt_word_history.specs.declared.view.EntryStep.TheVariants.{Unpinned}
 use Rattle.gt_word_history.specs.declared.view.HeaderStep.TheVariants as header
 use Rattle.gt_live.specs.Walks.{Called}
-use Rattle.gt_calls.specs.Asking.{asked}
+use Rattle.gt_model.specs.Asking.{asked}
 use Rattle.gt_calls.specs.Probing.{IsProbe}
 
 -- a leg makes at most four tries: a missed one leads to the next, and the fourth to N18 with the word that it found

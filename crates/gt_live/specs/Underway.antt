@@ -7,7 +7,7 @@ use Rattle.gt_live.specs.Prelude.{Call, Phase, Accessing, Ending, Walking, Sourc
 use Rattle.gt_live.specs.Prelude.{GoesOnWith, last_first, action_at, give_back, path, Rests, RestsOnWays}
 use Rattle.gt_live.specs.Prelude.{CallerKnowledge}
 use Rattle.gt_live.specs.Prelude.{IsAt, held_by_call, held_in, pins_by_call}
-use Rattle.gt_calls.specs.declared.action.Action.TheVariants as actions
+use Rattle.gt_model.specs.declared.action.Action.TheVariants as actions
 use Rattle.gt_live.specs.Accesses.{ComesTo, onward}
 use Rattle.gt_live.specs.Driving.{IsSame}
 pub use Rattle.gt_live.specs.Taken.{HasTaken, is_of_entry, live_pins_by}

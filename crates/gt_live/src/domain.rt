@@ -11,7 +11,7 @@ ghost use Rattle.gt_live.specs.Domains.{done_by, known_on, outcome_of, denial_in
 ghost use Rattle.gt_live.specs.Domains.{reply_of, result_of_reply, frames_granted};
 ghost use Rattle.gt_live.specs.Domains.{verdict_of_frames, verdict_of_size, verdict_of_version};
 ghost use Rattle.gt_live.specs.Questions.{answer_by};
-ghost use Rattle.gt_calls.specs.declared.call.HeaderQuery.{HeaderQuery};
+ghost use Rattle.gt_model.specs.declared.action.HeaderQuery.{HeaderQuery};
 ghost use Rattle.gt_audit.specs.Trails.{AppendsRecord};
 ghost use Rattle.gt_live.specs.Parts.{config_of, mappings_of, rights_of, seat_left, seat_of};
 ghost use Rattle.gt_live.specs.Parts.{trail_left, trail_of, with_trail, words_of};
@@ -228,15 +228,16 @@ impl Domain {
     ghost use Rattle.gt_live.specs.Domains.{Released, StaysOfRun};
     ghost use Rattle.gt_live.specs.Owning.{IsRowOf};
     ghost use Rattle.gt_live.specs.Questions.{answer_by};
-    ghost use Rattle.gt_calls.specs.declared.call.HeaderQuery.{HeaderQuery};
-    ghost use Rattle.gt_calls.specs.Rules.{knows, label_of};
+    ghost use Rattle.gt_model.specs.declared.action.HeaderQuery.{HeaderQuery};
+    ghost use Rattle.gt_calls.specs.Rules.{knows};
+    ghost use Rattle.gt_model.specs.Rules.{label_of};
     ghost use Rattle.gt_live.specs.Domains.{known_on, verdict_of_frames, verdict_of_size};
     ghost use Rattle.gt_live.specs.Domains.{verdict_of_version};
     ghost use Rattle.gt_live.specs.Mappings.{ReachesItsFrame, unused_handle};
     ghost use Rattle.gt_access.specs.Routes.{MayAccessBy};
-    ghost use Rattle.gt_calls.specs.declared.held.AccessPath.TheVariants.{Direct};
+    ghost use Rattle.gt_model.specs.declared.held.AccessPath.TheVariants.{Direct};
     ghost use Rattle.gt_handles.specs.Handles.{value_of};
-    ghost use Rattle.gt_calls.specs.declared.held.HeldPin.{HeldPin};
+    ghost use Rattle.gt_model.specs.declared.held.HeldPin.{HeldPin};
     ghost use Rattle.gt_handles.specs.Handles.{IsEmpty};
 
     /// Makes the domain with this seat, which has made no call.

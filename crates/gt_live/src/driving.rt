@@ -1,13 +1,14 @@
 //! The steps of calls on the words, and a map driven along its path.
 ghost use Rattle.std.specs.Prelude.{◌≡◌, None, Some, [], ◌∷◌, MatchResult};
-ghost use Rattle.gt_calls.specs.Rules.{knows, map_begun};
-ghost use Rattle.gt_calls.specs.Path.{map_leg, path};
+ghost use Rattle.gt_calls.specs.Rules.{knows};
+ghost use Rattle.gt_model.specs.Rules.{map_begun};
+ghost use Rattle.gt_model.specs.Path.{map_leg, path};
 ghost use Rattle.gt_words.specs.Conditions.{IsSeatOf, IsSameSeat, position_at};
 ghost use Rattle.gt_live.specs.Walks.{Made, Called, ReadsBody};
 ghost use Rattle.gt_live.specs.Driving.{CanMake, Knows, Leaves};
 ghost use Rattle.gt_live.specs.Legs.{CanWalkLeg, WalksLeg, next_by};
 ghost use Rattle.gt_live.specs.Maps.{pin_effect, pin_of, pin_verdict};
-ghost use Rattle.gt_calls.specs.declared.request.OpenRequest.TheVariants as asks;
+ghost use Rattle.gt_model.specs.declared.request.OpenRequest.TheVariants as asks;
 
 use gt_calls::{
     BodyWord, CallerState, HeldPin, Leg, MORE_TRIES, Observation, Step, entry_refusal,

@@ -1,9 +1,10 @@
 //! Calls of one step on a header: another version, a larger table, and questions about a table.
 ghost use Rattle.std.specs.Prelude.{◌≡◌, ◌<◌, None};
-ghost use Rattle.gt_calls.specs.Path.{path, header_value_of};
-ghost use Rattle.gt_calls.specs.Rules.{begun, knows, query_begun};
-ghost use Rattle.gt_calls.specs.declared.call.HeaderQuery.{HeaderQuery};
-ghost use Rattle.gt_calls.specs.declared.request.OpenRequest.TheVariants as asks;
+ghost use Rattle.gt_model.specs.Path.{path, header_value_of};
+ghost use Rattle.gt_model.specs.Rules.{begun, query_begun};
+ghost use Rattle.gt_calls.specs.Rules.{knows};
+ghost use Rattle.gt_model.specs.declared.action.HeaderQuery.{HeaderQuery};
+ghost use Rattle.gt_model.specs.declared.request.OpenRequest.TheVariants as asks;
 ghost use Rattle.gt_words.specs.Conditions.{IsSeatOf, IsSameSeat};
 ghost use Rattle.gt_live.specs.Driving.{CanMake, IsSame, Knows};
 ghost use Rattle.gt_live.specs.Questions.{asks_question};

@@ -1,9 +1,10 @@
 //! An owner's changes of its entries, each driven along its path.
 ghost use Rattle.std.specs.Prelude.{◌≡◌, None, MatchResult};
-ghost use Rattle.gt_calls.specs.Rules.{begun, knows};
-ghost use Rattle.gt_calls.specs.Path.{idle_word, is_stopped, path};
-ghost use Rattle.gt_calls.specs.declared.request.OpenRequest.TheVariants as asks;
-ghost use Rattle.gt_entry.specs.Words.{control_of};
+ghost use Rattle.gt_model.specs.Rules.{begun};
+ghost use Rattle.gt_calls.specs.Rules.{knows};
+ghost use Rattle.gt_model.specs.Path.{idle_word, is_stopped, path};
+ghost use Rattle.gt_model.specs.declared.request.OpenRequest.TheVariants as asks;
+ghost use Rattle.gt_model.specs.Words.{control_of};
 ghost use Rattle.gt_words.specs.Conditions.{IsSeatOf, IsSameSeat};
 ghost use Rattle.gt_live.specs.Domains.{verdict_of};
 ghost use Rattle.gt_live.specs.Driving.{CanMake, Knows, Leaves};

@@ -6,7 +6,7 @@ use Rattle.std.specs.Prelude.{slice_range}
 use Rattle.gt_types.specs.Config.{IsWithinLimits}
 use Rattle.gt_types.specs.declared.DomId.{DomId}
 use Rattle.gt_types.specs.declared.config.Config.{Config}
-use Rattle.gt_frames.specs.Bytes.{written}
+use Rattle.gt_model.specs.Written.{written}
 use Rattle.gt_frames.specs.Frames.{bytes_at, patch_of, patches}
 use Rattle.gt_frames.specs.declared.writ.WriteRecord.{WriteRecord}
 use Rattle.gt_shared_table.specs.Bytes.{IsTrueStep, frame_made, journal_after, journal_by, journal_made}
@@ -20,19 +20,19 @@ use Rattle.gt_word_history.specs.declared.view.FrameStep.TheVariants as frames
 use Rattle.gt_word_history.specs.declared.view.SeatStep.{SeatStep}
 use Rattle.gt_word_history.specs.declared.view.SeatStep.TheVariants.{Entry, Flag, Frame, Header}
 use Rattle.gt_word_history.specs.declared.view.View.{View}
-use Rattle.gt_calls.specs.declared.action.Observation.{Observation}
-use Rattle.gt_calls.specs.declared.action.Observation.TheVariants.{Nothing}
-use Rattle.gt_calls.specs.declared.action.Step.{Step}
-use Rattle.gt_calls.specs.declared.action.Step.TheVariants.{LookHeader, LookControl, LookBody, Pin, Unpin, StoreBody}
-use Rattle.gt_calls.specs.declared.action.Step.TheVariants.{StoreHeader, Exchange, Read as ReadBytes}
-use Rattle.gt_calls.specs.declared.action.Step.TheVariants.{Write as WriteBytes, Copy as CopyBytes}
+use Rattle.gt_model.specs.declared.action.Observation.{Observation}
+use Rattle.gt_model.specs.declared.action.Observation.TheVariants.{Nothing}
+use Rattle.gt_model.specs.declared.action.Step.{Step}
+use Rattle.gt_model.specs.declared.action.Step.TheVariants.{LookHeader, LookControl, LookBody, Pin, Unpin, StoreBody}
+use Rattle.gt_model.specs.declared.action.Step.TheVariants.{StoreHeader, Exchange, Read as ReadBytes}
+use Rattle.gt_model.specs.declared.action.Step.TheVariants.{Write as WriteBytes, Copy as CopyBytes}
 use Rattle.gt_core.proofs.Steps.Observers.{stepped}
 use Rattle.gt_core.proofs.Words.{append-nil}
 use Rattle.gt_core.specs.GoingOn.{IsAccess, IsOnWords}
-use Rattle.gt_core.specs.History.{History as Items, Setting, WriteMade, contents_at, given_in, open_call, patches_at}
-use Rattle.gt_core.specs.History.{patches_by, seen_by, written_by}
-use Rattle.gt_core.specs.declared.trace.Answer.{Answer}
-use Rattle.gt_core.specs.declared.trace.Item.{Item}
+use Rattle.gt_model.specs.History.{History as Items, Setting, WriteMade, contents_at, given_in, open_call, patches_at}
+use Rattle.gt_model.specs.History.{patches_by, seen_by, written_by}
+use Rattle.gt_model.specs.declared.trace.Answer.{Answer}
+use Rattle.gt_model.specs.declared.trace.Item.{Item}
 use Rattle.gt_live.specs.Walks.{seen_in_step}
 use Rattle.gt_order.proofs.Places.{as-many, dom-there, test-apart, test-same}
 use Rattle.gt_order.specs.Agreeing.{IsThe, WritesAgree, dom_at}

@@ -6,10 +6,10 @@ use Rattle.gt_types.specs.Config.{IsWithinLimits}
 use Rattle.gt_types.specs.declared.DomId.{DomId}
 use Rattle.gt_types.specs.declared.config.Config.{Config}
 use Rattle.gt_types.specs.declared.limits.TheConstants.{TABLE_ENTRIES}
-use Rattle.gt_entry.specs.Spelling.{control_with}
-use Rattle.gt_entry.specs.Words.{control_word, header_word}
-use Rattle.gt_entry.specs.declared.change.BodyWord.{BodyWord}
-use Rattle.gt_entry.specs.declared.change.BodyWord.TheVariants.{First, Second}
+use Rattle.gt_model.specs.Spelling.{control_with}
+use Rattle.gt_model.specs.Words.{control_word, header_word}
+use Rattle.gt_model.specs.declared.change.BodyWord.{BodyWord}
+use Rattle.gt_model.specs.declared.change.BodyWord.TheVariants.{First, Second}
 use Rattle.gt_word_history.specs.History.{StepHistory, Layout, half_index, left_by, word_after}
 use Rattle.gt_word_history.specs.Rule.{header_place, layout_of, place}
 use Rattle.gt_word_history.specs.declared.view.EntryStep.TheVariants.{StoredBody}
@@ -21,10 +21,10 @@ use Rattle.gt_core.proofs.Steps.Observers.{unstored}
 use Rattle.gt_core.proofs.Words.{GrantRef, None, Option, Pin, Observation, Some, StoreBody, StoreHeader, [], append-nil}
 use Rattle.gt_core.proofs.Words.{header_or, or_else, pinned_by, unpinned_by, ◌++◌}
 use Rattle.gt_word_history.specs.declared.view.EntryRecord.{EntryRecord}
-use Rattle.gt_core.specs.History.{History as Items, Setting, body_at, change_at, entry_at, generation_at, header_stored}
-use Rattle.gt_core.specs.History.{live, raises_at, reads_at, same_half, stored_at, table_at, word_at, writes_at}
-use Rattle.gt_core.specs.declared.trace.Answer.{Answer}
-use Rattle.gt_core.specs.declared.trace.Item.{Item}
+use Rattle.gt_model.specs.History.{History as Items, Setting, body_at, change_at, entry_at, generation_at, header_stored}
+use Rattle.gt_model.specs.History.{live, raises_at, reads_at, same_half, stored_at, table_at, word_at, writes_at}
+use Rattle.gt_model.specs.declared.trace.Answer.{Answer}
+use Rattle.gt_model.specs.declared.trace.Item.{Item}
 use Rattle.gt_order.proofs.Places.{ChangesNothing, header-apart, headers-apart, places-apart, record-kept, test-apart}
 use Rattle.gt_order.proofs.Places.{word-else, word-here, word-kept}
 use Rattle.gt_order.specs.Agreeing.{Agree, dom_at, last_at}

@@ -8,15 +8,15 @@ use Rattle.gt_types.specs.declared.GrantRef.{GrantRef}
 use Rattle.gt_types.specs.declared.denial.Field.{Field}
 use Rattle.gt_types.specs.declared.denial.Field.TheVariants.{Length}
 use Rattle.gt_order.proofs.Spelled.{v1-read, v2-page, v2-sub, v2-via}
-use Rattle.gt_entry.specs.Bytes.{Spells, SpellsV1, SpellsV2, entry_size, field, first_refused, flag_fields, flags_of}
-use Rattle.gt_entry.specs.Bytes.{is_refused, is_set, is_table_version}
-use Rattle.gt_entry.specs.declared.entry.Entry.{Entry}
-use Rattle.gt_entry.specs.declared.entry.Entry.TheVariants.{Page, Sub, Via}
-use Rattle.gt_entry.specs.declared.header.Header.{Header}
-use Rattle.gt_calls.specs.Asking.{SpellsItsEntry, SpellsEntryBy, begun_by, begun_of, bytes_begun, bytes_of, entry_spelled, said_in_v1}
-use Rattle.gt_calls.specs.Asking.{said_in_v2}
-use Rattle.gt_calls.specs.Rules.{CallerKnowledge}
-use Rattle.gt_calls.specs.declared.request.Request.{Request}
+use Rattle.gt_model.specs.Bytes.{Spells, SpellsV1, SpellsV2, entry_size, field, first_refused, flag_fields, flags_of}
+use Rattle.gt_model.specs.Bytes.{is_refused, is_set, is_table_version}
+use Rattle.gt_model.specs.declared.entry.Entry.{Entry}
+use Rattle.gt_model.specs.declared.entry.Entry.TheVariants.{Page, Sub, Via}
+use Rattle.gt_model.specs.declared.header.Header.{Header}
+use Rattle.gt_model.specs.Asking.{SpellsItsEntry, SpellsEntryBy, begun_by, begun_of, bytes_begun, bytes_of, entry_spelled, said_in_v1}
+use Rattle.gt_model.specs.Asking.{said_in_v2}
+use Rattle.gt_model.specs.Rules.{CallerKnowledge}
+use Rattle.gt_model.specs.declared.request.Request.{Request}
 use Rattle.gt_order.specs.Runs.{AreBytesOf}
 
 -- no field is found, so the first one is not, and none of the others

@@ -7,8 +7,8 @@ use Rattle.gt_types.specs.declared.GrantRef.{GrantRef}
 use Rattle.gt_types.specs.declared.config.Config.{Config}
 use Rattle.gt_types.specs.declared.denial.Denial.{Denial}
 use Rattle.gt_types.specs.declared.limits.TheConstants.{LAST_VERSION, TABLE_ENTRIES}
-use Rattle.gt_entry.specs.Words.{header_of, header_word, size_of}
-use Rattle.gt_entry.specs.declared.header.Header.{Header}
+use Rattle.gt_model.specs.Words.{header_of, header_word, size_of}
+use Rattle.gt_model.specs.declared.header.Header.{Header}
 use Rattle.gt_words.specs.Conditions.{Board}
 use Rattle.gt_word_history.specs.History.{StepHistory, Layout}
 use Rattle.gt_word_history.specs.Rule.{header_place}
@@ -17,10 +17,10 @@ use Rattle.gt_word_history.specs.Views.{last_of, own_header, own_table}
 use Rattle.gt_word_history.specs.declared.view.EntryRecord.{EntryRecord}
 use Rattle.gt_word_history.specs.declared.view.View.{View}
 use Rattle.gt_calls.specs.Rules.{entry_in, own_generation, row_entry, row_generation}
-use Rattle.gt_calls.specs.declared.action.Observation.TheVariants.{Word}
-use Rattle.gt_calls.specs.declared.action.Step.TheVariants.{LookControl}
+use Rattle.gt_model.specs.declared.action.Observation.TheVariants.{Word}
+use Rattle.gt_model.specs.declared.action.Step.TheVariants.{LookControl}
 use Rattle.gt_calls.specs.declared.known.OwnerEntry.{OwnerEntry}
-use Rattle.gt_calls.specs.declared.request.Request.TheVariants as requests
+use Rattle.gt_model.specs.declared.request.Request.TheVariants as requests
 use Rattle.gt_core.proofs.Steps.See.{table-fits}
 use Rattle.gt_live.proofs.DomainKept.{looked}
 use Rattle.gt_live.proofs.Making.{look-same, still_seat}

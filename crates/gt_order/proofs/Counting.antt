@@ -9,18 +9,18 @@ use Rattle.gt_types.specs.declared.DomId.{DomId}
 use Rattle.gt_types.specs.declared.GrantRef.{GrantRef}
 use Rattle.gt_types.specs.declared.config.Config.{Config}
 use Rattle.gt_types.specs.declared.limits.TheConstants.{TABLE_ENTRIES}
-use Rattle.gt_entry.specs.Changes.{changed_entry, raise_of}
-use Rattle.gt_entry.specs.Entries.{is_invalid, is_read_only}
+use Rattle.gt_model.specs.Changes.{changed_entry, raise_of}
+use Rattle.gt_model.specs.Entries.{is_invalid, is_read_only}
 use Rattle.gt_entry.specs.Laws.{control-round}
-use Rattle.gt_entry.specs.Spelling.{control_with, idle_word_of}
-use Rattle.gt_entry.specs.Words.{control_of, control_word, header_word, unit_of}
-use Rattle.gt_entry.specs.declared.change.EntryChange.{EntryChange}
-use Rattle.gt_entry.specs.declared.change.EntryChange.TheVariants.{Publish, Revoke, Withdraw, Demote, Promote}
-use Rattle.gt_entry.specs.declared.control.Control.{Control}
-use Rattle.gt_entry.specs.declared.control.EntryKind.{EntryKind}
-use Rattle.gt_entry.specs.declared.control.EntryKind.TheVariants as kinds
-use Rattle.gt_entry.specs.declared.entry.Entry.{Entry as EntryOf}
-use Rattle.gt_entry.specs.declared.entry.Entry.TheVariants.{Invalid, Page, Sub, Via}
+use Rattle.gt_model.specs.Spelling.{control_with, idle_word_of}
+use Rattle.gt_model.specs.Words.{control_of, control_word, header_word, unit_of}
+use Rattle.gt_model.specs.declared.change.EntryChange.{EntryChange}
+use Rattle.gt_model.specs.declared.change.EntryChange.TheVariants.{Publish, Revoke, Withdraw, Demote, Promote}
+use Rattle.gt_model.specs.declared.control.Control.{Control}
+use Rattle.gt_model.specs.declared.control.EntryKind.{EntryKind}
+use Rattle.gt_model.specs.declared.control.EntryKind.TheVariants as kinds
+use Rattle.gt_model.specs.declared.entry.Entry.{Entry as EntryOf}
+use Rattle.gt_model.specs.declared.entry.Entry.TheVariants.{Invalid, Page, Sub, Via}
 use Rattle.gt_words.specs.Conditions.{HasDomain}
 use Rattle.gt_word_history.specs.Controls.{generation_of, pins_in}
 use Rattle.gt_word_history.specs.History.{StepHistory, Layout, half_index, word_after}
@@ -30,20 +30,20 @@ use Rattle.gt_word_history.specs.declared.view.EntryRecord.{EntryRecord}
 use Rattle.gt_word_history.specs.declared.view.EntryStep.TheVariants.{Pinned, Unpinned, Changed}
 use Rattle.gt_word_history.specs.declared.view.SeatStep.{SeatStep}
 use Rattle.gt_word_history.specs.declared.view.SeatStep.TheVariants.{Entry}
-use Rattle.gt_calls.specs.declared.held.HeldPin.{HeldPin}
-use Rattle.gt_calls.specs.declared.request.PinHolder.{PinHolder}
-use Rattle.gt_calls.specs.declared.action.Observation.{Observation}
+use Rattle.gt_model.specs.declared.held.HeldPin.{HeldPin}
+use Rattle.gt_model.specs.declared.request.PinHolder.{PinHolder}
+use Rattle.gt_model.specs.declared.action.Observation.{Observation}
 use Rattle.gt_core.proofs.Steps.Observers.{exchanged, exchanged-live, grown-count, kept-entry, kept-raises, kept-table}
 use Rattle.gt_core.proofs.Steps.Observers.{new_pin, other-entry, other-raises, pinned-live, pins, pins_at}
 use Rattle.gt_core.proofs.Steps.Observers.{unpinned-live, unpins, unstored}
 use Rattle.gt_core.proofs.Steps.Unpin.{Loses}
 use Rattle.gt_core.proofs.Words.{count_by, is_pin_on, without}
-use Rattle.gt_core.specs.History.{History as Items, Setting, control_at, changed_entry_of, entry_at, generation_at}
-use Rattle.gt_core.specs.History.{live}
-use Rattle.gt_core.specs.History.{raise_after, raises_at, reads_at, same_dir, word_at, writes_at}
+use Rattle.gt_model.specs.History.{History as Items, Setting, control_at, changed_entry_of, entry_at, generation_at}
+use Rattle.gt_model.specs.History.{live}
+use Rattle.gt_model.specs.History.{raise_after, raises_at, reads_at, same_dir, word_at, writes_at}
 use Rattle.gt_core.specs.Standing.{FitsWord}
-use Rattle.gt_core.specs.declared.trace.Answer.{Answer}
-use Rattle.gt_core.specs.declared.trace.Item.{Item}
+use Rattle.gt_model.specs.declared.trace.Answer.{Answer}
+use Rattle.gt_model.specs.declared.trace.Item.{Item}
 use Rattle.gt_order.proofs.AgreementKept.{half-few, half-some, word-same}
 use Rattle.gt_order.proofs.Places.{dom-there, header-apart, places-apart, record-else, record-here, record-kept}
 use Rattle.gt_order.proofs.Places.{test-apart, word-else, word-here}

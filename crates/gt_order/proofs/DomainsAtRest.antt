@@ -18,14 +18,14 @@ use Rattle.gt_core.proofs.Rows.{found, has_id, not-found}
 use Rattle.gt_core.proofs.Steps.Observers.{kept-entry, kept-raises, kept-table, unstored}
 use Rattle.gt_core.proofs.Steps.Write.{frames-begun}
 use Rattle.gt_core.specs.GoingOn.{CanBeReached, beginning}
-use Rattle.gt_core.specs.History.{History as Items}
+use Rattle.gt_model.specs.History.{History as Items}
 use Rattle.gt_core.specs.Acting.{setting_of}
 use Rattle.gt_core.specs.declared.core_state.Begun.TheVariants.{Done as BegunDone}
-use Rattle.gt_core.specs.declared.trace.Element.TheVariants.{Item as Did}
-use Rattle.gt_core.specs.declared.trace.Event.TheVariants.{Begin}
-use Rattle.gt_core.specs.declared.trace.Item.{Item}
+use Rattle.gt_model.specs.declared.trace.Element.TheVariants.{Item as Did}
+use Rattle.gt_model.specs.declared.trace.Event.TheVariants.{Begin}
+use Rattle.gt_model.specs.declared.trace.Item.{Item}
 use Rattle.gt_core.specs.declared.underway.OpenCall.{OpenCall}
-use Rattle.gt_entry.specs.Words.{header_word}
+use Rattle.gt_model.specs.Words.{header_word}
 use Rattle.gt_types.specs.declared.config.Config.{Config}
 use Rattle.gt_words.specs.Conditions.{Board}
 use Rattle.gt_word_history.specs.History.{StepHistory, Layout, part_of}

@@ -18,9 +18,9 @@ use Rattle.gt_types.specs.declared.denial.Facts.TheVariants.{Policy}
 use Rattle.gt_types.specs.declared.denial.Rule.{Rule}
 use Rattle.gt_types.specs.declared.denial.Rule.TheVariants.{N1, N2, N5, N6, N8}
 use Rattle.gt_types.specs.declared.config.Config.{Config}
-use Rattle.gt_entry.specs.Words.{header_of, header_word}
+use Rattle.gt_model.specs.Words.{header_of, header_word}
 use Rattle.gt_handles.specs.Handles.{HandleMap}
-use Rattle.gt_handles.specs.declared.handles.Handle.{Handle}
+use Rattle.gt_model.specs.declared.handle.Handle.{Handle}
 use Rattle.gt_words.specs.Conditions.{Board, SeatOf}
 use Rattle.gt_word_history.specs.History.{StepHistory, Layout, Moment, part_of, word_after}
 use Rattle.gt_word_history.specs.Rule.{header_place, layout_of}
@@ -29,21 +29,23 @@ use Rattle.gt_word_history.specs.Views.{own_header, own_table}
 use Rattle.gt_word_history.specs.declared.view.View.{View}
 use Rattle.gt_calls.proofs.Advancing.{opens as starts-open}
 use Rattle.gt_calls.proofs.Saying.{plain-asked, plain-begun}
-use Rattle.gt_calls.specs.Asking.{SpellsItsEntry, asked, asked_by, begun_of, bytes_of, bytes_given_by, judged_as, plainly_asked}
+use Rattle.gt_model.specs.Asking.{SpellsItsEntry, asked, asked_by, begun_of, bytes_of, bytes_given_by, plainly_asked}
+use Rattle.gt_calls.specs.Asking.{judged_as}
 use Rattle.gt_calls.specs.Following.{IsStepAction as MakesFirst}
-use Rattle.gt_calls.specs.Path.{FitsStep, after_beginning, path, path_of, steps_of}
+use Rattle.gt_model.specs.Path.{FitsStep, after_beginning, path, path_of, steps_of}
 use Rattle.gt_calls.specs.Standing.{pins_at}
-use Rattle.gt_calls.specs.Rules.{CallerKnowledge, begun, denied, first, knowledge_of, map_begun, map_dir, refused_when}
-use Rattle.gt_calls.specs.Rules.{rights_to_map, rights_to_unmap, unmap_begun, unmap_denied}
-use Rattle.gt_calls.specs.declared.action.Action.TheVariants.{Step as Makes, Done}
-use Rattle.gt_calls.specs.declared.action.Observation.{Observation}
-use Rattle.gt_calls.specs.declared.action.Step.{Step}
-use Rattle.gt_calls.specs.declared.action.CallResult.{CallResult}
-use Rattle.gt_calls.specs.declared.action.CallResult.TheVariants.{Mapped as KeptPin, Refused}
-use Rattle.gt_calls.specs.declared.held.HeldPin.{HeldPin}
-use Rattle.gt_calls.specs.declared.request.OpenRequest.{OpenRequest}
-use Rattle.gt_calls.specs.declared.request.OpenRequest.TheVariants.{Map, Release, Unmap}
-use Rattle.gt_calls.specs.declared.request.Request.{Request}
+use Rattle.gt_model.specs.Rules.{CallerKnowledge, begun, denied, first, map_begun, map_dir, refused_when}
+use Rattle.gt_calls.specs.Rules.{knowledge_of}
+use Rattle.gt_model.specs.Rules.{rights_to_map, rights_to_unmap, unmap_begun, unmap_denied}
+use Rattle.gt_model.specs.declared.action.Action.TheVariants.{Step as Makes, Done}
+use Rattle.gt_model.specs.declared.action.Observation.{Observation}
+use Rattle.gt_model.specs.declared.action.Step.{Step}
+use Rattle.gt_model.specs.declared.action.CallResult.{CallResult}
+use Rattle.gt_model.specs.declared.action.CallResult.TheVariants.{Mapped as KeptPin, Refused}
+use Rattle.gt_model.specs.declared.held.HeldPin.{HeldPin}
+use Rattle.gt_model.specs.declared.request.OpenRequest.{OpenRequest}
+use Rattle.gt_model.specs.declared.request.OpenRequest.TheVariants.{Map, Release, Unmap}
+use Rattle.gt_model.specs.declared.request.Request.{Request}
 use Rattle.gt_core.proofs.Beginning.{plain-unmapped}
 use Rattle.gt_core.proofs.AgreementKept.{open_call-own}
 use Rattle.gt_core.proofs.Mappings.{mappings-same}
@@ -51,14 +53,14 @@ use Rattle.gt_core.proofs.Steps.Observers.{kept-table, stepped}
 use Rattle.gt_core.proofs.Steps.See.{table-fits}
 use Rattle.gt_core.specs.Effects.{Adds}
 use Rattle.gt_core.specs.GoingOn.{CanBeReached}
-use Rattle.gt_core.specs.History.{History as Items, Setting, Underway, known_at, maps_answered_at, mappings_at}
-use Rattle.gt_core.specs.History.{one_if_mapped, open_call, seen_by, table_at, underway_after, values}
+use Rattle.gt_model.specs.History.{History as Items, Setting, Underway, known_at, maps_answered_at, mappings_at}
+use Rattle.gt_model.specs.History.{one_if_mapped, open_call, seen_by, table_at, underway_after, values}
 use Rattle.gt_core.specs.Standing.{MappingsAgree}
 use Rattle.gt_core.specs.Acting.{answer_of, setting_of}
-use Rattle.gt_core.specs.declared.trace.Answer.{Answer}
-use Rattle.gt_core.specs.declared.trace.Answer.TheVariants.{Mapped}
-use Rattle.gt_core.specs.declared.trace.ItemEvent.TheVariants.{Stepped}
-use Rattle.gt_core.specs.declared.trace.Item.{Item}
+use Rattle.gt_model.specs.declared.trace.Answer.{Answer}
+use Rattle.gt_model.specs.declared.trace.Answer.TheVariants.{Mapped}
+use Rattle.gt_model.specs.declared.trace.ItemEvent.TheVariants.{Stepped}
+use Rattle.gt_model.specs.declared.trace.Item.{Item}
 use Rattle.gt_live.specs.Domains.{AllowRelation, IsDomainOf, IsUnsettled, knowledge}
 use Rattle.gt_live.specs.Flags.{FlagStepped}
 use Rattle.gt_live.specs.Ending.{IsMap}

@@ -1,11 +1,11 @@
 -- What a domain knows after a step of its call: the same where the call goes on, and where it ends the mappings that the
 -- domain then has.
-use Rattle.gt_calls.specs.Rules.{CallerKnowledge}
+use Rattle.gt_model.specs.Rules.{CallerKnowledge}
 use Rattle.std.proofs.Common.{zero, suc, slice_index_or, slice_set, is_some, count_by}
 use Rattle.std.proofs.lemmas.List.Elements.{All-pop}
 use Rattle.std.proofs.lemmas.List.Sums.{sum_by-cons}
 use Rattle.gt_core.proofs.Words.{Publish, ToInvalid, ToReadOnly, ToWithdrawn, ToWritable}
-use Rattle.gt_calls.specs.declared.held.CallPins.{CallPins}
+use Rattle.gt_model.specs.declared.held.CallPins.{CallPins}
 use Rattle.gt_core.proofs.Words.{◌≡◌, ◌≢◌, ◌+◌, inl, inr, ℕ, refl, Bool, true, false, cond, ◌==◌, List, [], ◌∷◌, ◌++◌}
 use Rattle.gt_core.proofs.Words.{Option, Some, None, sym, ap, ◌∙◌, subst, reverse, same_Some, none-some, arith}
 use Rattle.gt_core.proofs.Words.{eqb-true, fun_ext, All, DomId, domain_of, HeldPin, Handle, HandleMap, ByMapping, ByLeg}
@@ -18,11 +18,11 @@ use Rattle.gt_core.proofs.Words.{mapping_of, mappings_at, maps_answered_at, Mapp
 use Rattle.gt_core.proofs.Words.{change_at, handle_taken, gather, mapping_named, seen_by, word_at, answer_of, FitsStep}
 use Rattle.gt_core.proofs.Words.{HandleSlot, last_first}
 use Rattle.gt_core.proofs.Words.{after_beginning, same_handle, Denial, holder_after, FitsNext, eq-eqb, State}
-use Rattle.gt_calls.specs.declared.action.CallValue.TheVariants.{Frames, Size as SizeTold, Version as VersionTold}
-use Rattle.gt_calls.specs.declared.action.Action.{Action}
-use Rattle.gt_calls.specs.Resting.{GivesUp}
-use Rattle.gt_calls.specs.Rules.{begun}
-use Rattle.gt_calls.specs.Path.{by_mapping as by_handle}
+use Rattle.gt_model.specs.declared.action.CallValue.TheVariants.{Frames, Size as SizeTold, Version as VersionTold}
+use Rattle.gt_model.specs.declared.action.Action.{Action}
+use Rattle.gt_model.specs.Giving.{GivesUp}
+use Rattle.gt_model.specs.Rules.{begun}
+use Rattle.gt_model.specs.Path.{by_mapping as by_handle}
 use Rattle.gt_calls.proofs.Advancing.{leads-here, stands-on}
 use Rattle.gt_core.proofs.Beginning.{plain-unmapped}
 use Rattle.gt_core.proofs.Mappings.{mappings-same}
@@ -34,11 +34,11 @@ use Rattle.gt_core.proofs.Steps.Unpin.{leg-mappings, mapping-agrees}
 use Rattle.gt_core.proofs.Values.{MapEnds, call-ends}
 use Rattle.gt_core.specs.Effects.{Adds}
 use Rattle.gt_core.specs.GoingOn.{IsOnWords, CanBeReached}
-use Rattle.gt_core.specs.History.{History as Items}
+use Rattle.gt_model.specs.History.{History as Items}
 use Rattle.gt_core.specs.GoingOn.{IsAccess}
-use Rattle.gt_core.specs.declared.trace.Answer.{Answer}
-use Rattle.gt_core.specs.declared.trace.Answer.TheVariants.{Denied, Mapped}
-use Rattle.gt_core.specs.declared.trace.Item.{Item}
+use Rattle.gt_model.specs.declared.trace.Answer.{Answer}
+use Rattle.gt_model.specs.declared.trace.Answer.TheVariants.{Denied, Mapped}
+use Rattle.gt_model.specs.declared.trace.Item.{Item}
 use Rattle.gt_handles.specs.Handles.{under}
 use Rattle.gt_live.specs.Ending.{WaitsForNobody}
 use Rattle.gt_live.specs.Mappings.{KeepsMappings, Removes}
@@ -48,7 +48,7 @@ use Rattle.gt_order.specs.Runs.{LeavesMappings}
 use Rattle.gt_calls.specs.Machine.{settled}
 use Rattle.gt_calls.specs.Resting.{IsCopyOf}
 use Rattle.gt_calls.specs.declared.call.Phase.TheVariants.{Accessing}
-use Rattle.gt_calls.specs.declared.request.OpenRequest.TheVariants.{Probe}
+use Rattle.gt_model.specs.declared.request.OpenRequest.TheVariants.{Probe}
 use Rattle.gt_types.specs.declared.copies.CopyArgs.{CopyArgs}
 
 -- where the core stands at an open call

@@ -9,8 +9,8 @@ use Rattle.gt_types.specs.Names.{domain_of}
 use Rattle.gt_types.specs.declared.DomId.{DomId}
 use Rattle.gt_types.specs.declared.config.DomainConfig.{DomainConfig}
 use Rattle.gt_core.specs.Acting.{setting_of}
-use Rattle.gt_core.specs.History.{Setting}
-use Rattle.gt_core.specs.Legal.{Legal}
+use Rattle.gt_model.specs.History.{Setting}
+use Rattle.gt_model.specs.Legal.{Legal}
 use Rattle.gt_script_runs.specs.Playing.{setting_of_script}
 use Rattle.gt_script_runs.specs.Rights.{may_by}
 use Rattle.gt_script_runs.specs.declared.rights.ScriptPolicy.{ScriptPolicy as ScriptRights}

@@ -9,13 +9,13 @@ use Rattle.gt_word_history.specs.declared.view.FlagStep.{FlagStep}
 use Rattle.gt_word_history.specs.declared.view.FlagStep.TheVariants.{Passed, Raised}
 use Rattle.gt_word_history.specs.declared.view.SeatStep.{SeatStep}
 use Rattle.gt_word_history.specs.declared.view.SeatStep.TheVariants.{Entry, Flag, Frame, Header}
-use Rattle.gt_calls.specs.declared.action.Step.{Step}
-use Rattle.gt_calls.specs.declared.action.Step.TheVariants.{Copy as CopyBytes, Exchange, LookBody, LookControl, LookHeader}
-use Rattle.gt_calls.specs.declared.action.Step.TheVariants.{Pin, Read as ReadBytes, StoreBody, StoreHeader, Unpin}
-use Rattle.gt_calls.specs.declared.action.Step.TheVariants.{Write as WriteBytes}
-use Rattle.gt_core.specs.History.{History as Items, Setting}
-use Rattle.gt_core.specs.declared.trace.ItemEvent.{ItemEvent}
-use Rattle.gt_core.specs.declared.trace.ItemEvent.TheVariants.{Began, Stepped}
+use Rattle.gt_model.specs.declared.action.Step.{Step}
+use Rattle.gt_model.specs.declared.action.Step.TheVariants.{Copy as CopyBytes, Exchange, LookBody, LookControl, LookHeader}
+use Rattle.gt_model.specs.declared.action.Step.TheVariants.{Pin, Read as ReadBytes, StoreBody, StoreHeader, Unpin}
+use Rattle.gt_model.specs.declared.action.Step.TheVariants.{Write as WriteBytes}
+use Rattle.gt_model.specs.History.{History as Items, Setting}
+use Rattle.gt_model.specs.declared.trace.ItemEvent.{ItemEvent}
+use Rattle.gt_model.specs.declared.trace.ItemEvent.TheVariants.{Began, Stepped}
 use Rattle.gt_order.proofs.Places.{ChangesNothing, record-kept, word-kept}
 use Rattle.gt_order.specs.Agreeing.{Agree, IsThe}
 use Rattle.gt_order.specs.Ordering.{AreStepsOf, IsRaisedIn, RunOrder, ThenSteps}

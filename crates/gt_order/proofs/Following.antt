@@ -6,13 +6,13 @@ use Rattle.gt_types.specs.declared.Size.{Size}
 use Rattle.gt_types.specs.declared.config.Config.{Config}
 use Rattle.gt_types.specs.declared.denial.Denial.{Denial}
 use Rattle.gt_handles.specs.Handles.{HandleMap}
-use Rattle.gt_handles.specs.declared.handles.Handle.{Handle}
-use Rattle.gt_calls.specs.declared.action.CallResult.TheVariants.{Granted}
-use Rattle.gt_calls.specs.declared.held.HeldPin.{HeldPin}
-use Rattle.gt_calls.specs.declared.request.Request.{Request}
-use Rattle.gt_calls.specs.declared.request.Request.TheVariants as requests
-use Rattle.gt_core.specs.declared.trace.Answer.{Answer}
-use Rattle.gt_core.specs.declared.trace.Answer.TheVariants as answers
+use Rattle.gt_model.specs.declared.handle.Handle.{Handle}
+use Rattle.gt_model.specs.declared.action.CallResult.TheVariants.{Granted}
+use Rattle.gt_model.specs.declared.held.HeldPin.{HeldPin}
+use Rattle.gt_model.specs.declared.request.Request.{Request}
+use Rattle.gt_model.specs.declared.request.Request.TheVariants as requests
+use Rattle.gt_model.specs.declared.trace.Answer.{Answer}
+use Rattle.gt_model.specs.declared.trace.Answer.TheVariants as answers
 use Rattle.gt_script_runs.specs.Printing.{answer_line}
 use Rattle.gt_script_runs.specs.Runs.{MakesRequest, Named, handle_given, label_given, with_name}
 use Rattle.gt_script.specs.Lists.{RunAction, RunTask}

@@ -7,18 +7,18 @@ use Rattle.std.proofs.lemmas.List.Elements.{All-cons, All-nil}
 use Rattle.gt_types.specs.Names.{domain_of}
 use Rattle.gt_types.specs.declared.DomId.{DomId}
 use Rattle.gt_types.specs.declared.config.Config.{Config}
-use Rattle.gt_calls.specs.Path.{Continuation}
-use Rattle.gt_calls.specs.declared.request.Request.{Request}
+use Rattle.gt_model.specs.Path.{Continuation}
+use Rattle.gt_model.specs.declared.request.Request.{Request}
 use Rattle.gt_core.specs.Acting.{setting_of}
-use Rattle.gt_core.specs.History.{History as Items, Setting}
-use Rattle.gt_core.specs.Legal.{LegalAfter, actor_of}
-use Rattle.gt_core.specs.declared.trace.Answer.{Answer}
-use Rattle.gt_core.specs.declared.trace.Element.{Element}
-use Rattle.gt_core.specs.declared.trace.Element.TheVariants.{Item as Did, Busy, Idle, NoDomain}
-use Rattle.gt_core.specs.declared.trace.Event.TheVariants.{Begin, Tick}
-use Rattle.gt_core.specs.declared.trace.Item.{Item}
-use Rattle.gt_core.specs.declared.trace.ItemEvent.{ItemEvent}
-use Rattle.gt_core.specs.declared.trace.ItemEvent.TheVariants.{Began, Stepped}
+use Rattle.gt_model.specs.History.{History as Items, Setting}
+use Rattle.gt_model.specs.Legal.{LegalAfter, actor_of}
+use Rattle.gt_model.specs.declared.trace.Answer.{Answer}
+use Rattle.gt_model.specs.declared.trace.Element.{Element}
+use Rattle.gt_model.specs.declared.trace.Element.TheVariants.{Item as Did, Busy, Idle, NoDomain}
+use Rattle.gt_model.specs.declared.trace.Event.TheVariants.{Begin, Tick}
+use Rattle.gt_model.specs.declared.trace.Item.{Item}
+use Rattle.gt_model.specs.declared.trace.ItemEvent.{ItemEvent}
+use Rattle.gt_model.specs.declared.trace.ItemEvent.TheVariants.{Began, Stepped}
 use Rattle.gt_script_runs.specs.Runs.{AnswerNothing, answer_in}
 use Rattle.gt_explore_replay.specs.Orders.{CallHappens, FlagsAreRaised, Happening, IsRaisedBefore, did, doer, events_in}
 use Rattle.gt_explore_replay.specs.Orders.{own_happenings, passed, raised, ticks_of, trace_in}

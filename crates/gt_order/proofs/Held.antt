@@ -5,12 +5,13 @@ use Rattle.std.specs.Prelude.{count_by, is_some}
 use Rattle.std.proofs.lemmas.Bool.{eq-eqb, ne_eqb}
 use Rattle.std.proofs.lemmas.List.{map-append}
 use Rattle.std.proofs.lemmas.Option.{none-some}
-use Rattle.gt_handles.specs.Handles.{HandleMap, same_handle, under, value_of}
+use Rattle.gt_handles.specs.Handles.{HandleMap, under, value_of}
+use Rattle.gt_model.specs.Handle.{same_handle}
 use Rattle.gt_handles.specs.Laws.{inserted-listed, nothing-listed, same-handle, taken-listed}
 use Rattle.gt_handles.specs.Listing.{HasJust, listed, unlisted}
-use Rattle.gt_handles.specs.declared.handles.Handle.{Handle}
+use Rattle.gt_model.specs.declared.handle.Handle.{Handle}
 use Rattle.gt_handles.specs.declared.handles.HandleSlot.{HandleSlot}
-use Rattle.gt_calls.specs.declared.held.HeldPin.{HeldPin}
+use Rattle.gt_model.specs.declared.held.HeldPin.{HeldPin}
 use Rattle.gt_live.specs.Mappings.{AddsMapping, KeepsMappings, Removes}
 use Rattle.gt_word_history.specs.Views.{IsAmong}
 use Rattle.gt_explore_replay.specs.Orders.{handles_without}

@@ -20,40 +20,40 @@ use Rattle.gt_types.specs.declared.denial.Facts.TheVariants.{None as NoFacts}
 use Rattle.gt_types.specs.declared.denial.Rule.{Rule}
 use Rattle.gt_types.specs.declared.denial.Rule.TheVariants.{N16}
 use Rattle.gt_types.specs.declared.places.FrameName.{FrameName}
-use Rattle.gt_entry.specs.Words.{control_of}
-use Rattle.gt_entry.specs.declared.change.BodyWord.TheVariants.{First as FirstHalf, Second as SecondHalf}
-use Rattle.gt_entry.specs.declared.control.EntryKind.TheVariants.{Sub as KindSub}
-use Rattle.gt_entry.specs.declared.entry.Entry.{Entry}
-use Rattle.gt_entry.specs.declared.entry.Entry.TheVariants.{Invalid, Page, Sub, Via}
+use Rattle.gt_model.specs.Words.{control_of}
+use Rattle.gt_model.specs.declared.change.BodyWord.TheVariants.{First as FirstHalf, Second as SecondHalf}
+use Rattle.gt_model.specs.declared.control.EntryKind.TheVariants.{Sub as KindSub}
+use Rattle.gt_model.specs.declared.entry.Entry.{Entry}
+use Rattle.gt_model.specs.declared.entry.Entry.TheVariants.{Invalid, Page, Sub, Via}
 use Rattle.gt_handles.specs.Handles.{value_of}
-use Rattle.gt_handles.specs.declared.handles.Handle.{Handle}
+use Rattle.gt_model.specs.declared.handle.Handle.{Handle}
 use Rattle.gt_calls.proofs.Shown.{lets}
-use Rattle.gt_calls.specs.Asking.{begun_of}
-use Rattle.gt_calls.specs.Holding.{frame_by, frame_of, held_by, owner_by}
+use Rattle.gt_model.specs.Asking.{begun_of}
+use Rattle.gt_model.specs.Holding.{frame_by, frame_of, held_by, owner_by}
 use Rattle.gt_calls.specs.Opening.{OpensCopy, OpensOwn, opens}
-use Rattle.gt_calls.specs.Path.{AfterPin, AfterRefusal, Continuation, accesses, after_beginning, at_first_look, beyond}
-use Rattle.gt_calls.specs.Path.{by_mapping, copies, dest_pair, end_leg, ended, entry_refusal, exchanges, give_back, held_of}
-use Rattle.gt_calls.specs.Path.{last_step, leg, looks, makes, path_of, place_of, reaches, reads_body, refused_holding}
-use Rattle.gt_calls.specs.Path.{rule_of_try, second_leg, source_pair, to_dest, tries, try_pin, unless_refused}
+use Rattle.gt_model.specs.Path.{AfterPin, AfterRefusal, Continuation, accesses, after_beginning, at_first_look, beyond}
+use Rattle.gt_model.specs.Path.{by_mapping, copies, dest_pair, end_leg, ended, entry_refusal, exchanges, give_back, held_of}
+use Rattle.gt_model.specs.Path.{last_step, leg, looks, makes, path_of, place_of, reaches, reads_body, refused_holding}
+use Rattle.gt_model.specs.Path.{rule_of_try, second_leg, source_pair, to_dest, tries, try_pin, unless_refused}
 use Rattle.gt_calls.specs.Resting.{Lets}
-use Rattle.gt_calls.specs.Rules.{CallerKnowledge, begun, first_look, frame_count_of, frames_in, is_kind, via_judged}
-use Rattle.gt_calls.specs.declared.action.Action.TheVariants.{Step as Makes}
-use Rattle.gt_calls.specs.declared.action.CallResult.{CallResult}
-use Rattle.gt_calls.specs.declared.action.CallResult.TheVariants.{Granted}
-use Rattle.gt_calls.specs.declared.action.Observation.{Observation}
-use Rattle.gt_calls.specs.declared.action.Observation.TheVariants.{Missed, Nothing, Taken, Word}
-use Rattle.gt_calls.specs.declared.action.Step.{Step}
-use Rattle.gt_calls.specs.declared.action.Step.TheVariants.{Copy as CopyBytes, LookBody, LookControl, LookHeader, Pin}
-use Rattle.gt_calls.specs.declared.action.Step.TheVariants.{Read as ReadBytes, Unpin, Write as WriteBytes}
-use Rattle.gt_calls.specs.declared.held.AccessPath.{AccessPath}
-use Rattle.gt_calls.specs.declared.held.AccessPath.TheVariants.{Direct, Own, Through}
-use Rattle.gt_calls.specs.declared.held.HeldPin.{HeldPin}
-use Rattle.gt_calls.specs.declared.leg.Leg.{Leg}
-use Rattle.gt_calls.specs.declared.leg.TheConstants.{MORE_TRIES}
-use Rattle.gt_calls.specs.declared.request.OpenRequest.TheVariants as asks
-use Rattle.gt_calls.specs.declared.request.PinHolder.TheVariants.{Leg as ByLeg}
-use Rattle.gt_calls.specs.declared.request.Request.{Request}
-use Rattle.gt_calls.specs.declared.request.Request.TheVariants as requests
+use Rattle.gt_model.specs.Rules.{CallerKnowledge, begun, first_look, frame_count_of, frames_in, is_kind, via_judged}
+use Rattle.gt_model.specs.declared.action.Action.TheVariants.{Step as Makes}
+use Rattle.gt_model.specs.declared.action.CallResult.{CallResult}
+use Rattle.gt_model.specs.declared.action.CallResult.TheVariants.{Granted}
+use Rattle.gt_model.specs.declared.action.Observation.{Observation}
+use Rattle.gt_model.specs.declared.action.Observation.TheVariants.{Missed, Nothing, Taken, Word}
+use Rattle.gt_model.specs.declared.action.Step.{Step}
+use Rattle.gt_model.specs.declared.action.Step.TheVariants.{Copy as CopyBytes, LookBody, LookControl, LookHeader, Pin}
+use Rattle.gt_model.specs.declared.action.Step.TheVariants.{Read as ReadBytes, Unpin, Write as WriteBytes}
+use Rattle.gt_model.specs.declared.held.AccessPath.{AccessPath}
+use Rattle.gt_model.specs.declared.held.AccessPath.TheVariants.{Direct, Own, Through}
+use Rattle.gt_model.specs.declared.held.HeldPin.{HeldPin}
+use Rattle.gt_model.specs.declared.leg.Leg.{Leg}
+use Rattle.gt_model.specs.declared.bounds.TheConstants.{MORE_TRIES}
+use Rattle.gt_model.specs.declared.request.OpenRequest.TheVariants as asks
+use Rattle.gt_model.specs.declared.request.PinHolder.TheVariants.{Leg as ByLeg}
+use Rattle.gt_model.specs.declared.request.Request.{Request}
+use Rattle.gt_model.specs.declared.request.Request.TheVariants as requests
 use Rattle.gt_shared_table.specs.Words.{frames_kept}
 use Rattle.gt_word_history.specs.Rule.{Layout, layout_of, position_in}
 use Rattle.gt_word_history.specs.declared.view.View.{View}

@@ -8,14 +8,14 @@ use Rattle.gt_types.specs.declared.denial.Rule.TheVariants.{N6}
 use Rattle.gt_words.specs.Conditions.{Board, IsSameSeat}
 use Rattle.gt_word_history.specs.declared.view.View.{View}
 use Rattle.gt_handles.specs.Handles.{HandleMap, value_of}
-use Rattle.gt_handles.specs.declared.handles.Handle.{Handle}
-use Rattle.gt_calls.specs.Path.{ended, makes, path_of, by_mapping, after_beginning}
-use Rattle.gt_calls.specs.Rules.{CallerKnowledge, refused_when}
-use Rattle.gt_calls.specs.declared.action.Step.TheVariants.{Unpin}
-use Rattle.gt_calls.specs.declared.action.CallResult.TheVariants.{Granted}
-use Rattle.gt_calls.specs.declared.held.HeldPin.{HeldPin}
-use Rattle.gt_calls.specs.declared.request.PinHolder.TheVariants.{Mapping as ByMapping}
-use Rattle.gt_calls.specs.declared.request.Request.TheVariants as requests
+use Rattle.gt_model.specs.declared.handle.Handle.{Handle}
+use Rattle.gt_model.specs.Path.{ended, makes, path_of, by_mapping, after_beginning}
+use Rattle.gt_model.specs.Rules.{CallerKnowledge, refused_when}
+use Rattle.gt_model.specs.declared.action.Step.TheVariants.{Unpin}
+use Rattle.gt_model.specs.declared.action.CallResult.TheVariants.{Granted}
+use Rattle.gt_model.specs.declared.held.HeldPin.{HeldPin}
+use Rattle.gt_model.specs.declared.request.PinHolder.TheVariants.{Mapping as ByMapping}
+use Rattle.gt_model.specs.declared.request.Request.TheVariants as requests
 use Rattle.gt_live.proofs.DomainKept.{unmapped}
 use Rattle.gt_live.proofs.Making.{still_seat}
 use Rattle.gt_live.proofs.OneStep.{one-step}

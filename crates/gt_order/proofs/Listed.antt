@@ -22,11 +22,11 @@ use Rattle.gt_word_history.specs.declared.view.FlagStep.{FlagStep}
 use Rattle.gt_word_history.specs.declared.view.FlagStep.TheVariants.{Passed, Raised}
 use Rattle.gt_word_history.specs.declared.view.View.{View}
 use Rattle.gt_handles.specs.Handles.{HandleMap, value_of}
-use Rattle.gt_calls.specs.declared.held.HeldPin.{HeldPin}
-use Rattle.gt_handles.specs.declared.handles.Handle.{Handle}
-use Rattle.gt_calls.specs.declared.request.Request.{Request}
+use Rattle.gt_model.specs.declared.held.HeldPin.{HeldPin}
+use Rattle.gt_model.specs.declared.handle.Handle.{Handle}
+use Rattle.gt_model.specs.declared.request.Request.{Request}
 use Rattle.gt_core.specs.Acting.{setting_of}
-use Rattle.gt_core.specs.Legal.{Legal}
+use Rattle.gt_model.specs.Legal.{Legal}
 use Rattle.gt_live.specs.Domains.{AllowRelation, HasLeft, BelongsTo}
 use Rattle.gt_live.specs.Starting.{IsNewDomain}
 use Rattle.gt_live.specs.declared.domain.Domain.{Domain}
@@ -68,9 +68,9 @@ use Rattle.gt_order.proofs.Answering.{IsLostAs, IsMade, is-made}
 use Rattle.gt_order.specs.Calling.{WasMade}
 use Rattle.gt_order.specs.Runs.{CallOutcome}
 use Rattle.gt_order.specs.Runs.CallOutcome.{Told}
-use Rattle.gt_calls.specs.declared.action.CallResult.TheVariants.{Granted}
-use Rattle.gt_calls.specs.declared.request.Request.TheVariants as requests
-use Rattle.gt_core.specs.declared.trace.Answer.{Answer}
+use Rattle.gt_model.specs.declared.action.CallResult.TheVariants.{Granted}
+use Rattle.gt_model.specs.declared.request.Request.TheVariants as requests
+use Rattle.gt_model.specs.declared.trace.Answer.{Answer}
 use Rattle.gt_types.specs.declared.copies.CopyArgs.{CopyArgs}
 use Rattle.gt_script_runs.specs.Runs.{MakesRequest, handle_given, label_given, with_name}
 use Rattle.gt_word_history.specs.History.{Moment}

@@ -1,8 +1,8 @@
 -- What a call's step is among the steps of the history.
 use Rattle.std.proofs.Common.{◌≡◌, ℕ, refl, sym, ap, ◌∙◌, subst, [], ◌∷◌, get_or, map, arith, ◌<◌}
 use Rattle.atomic_table.proofs.Lists.{at_map}
-use Rattle.gt_entry.specs.declared.change.EntryChange.{EntryChange}
-use Rattle.gt_entry.specs.declared.change.EntryChange.TheVariants.{Publish, Revoke, Withdraw, Demote, Promote}
+use Rattle.gt_model.specs.declared.change.EntryChange.{EntryChange}
+use Rattle.gt_model.specs.declared.change.EntryChange.TheVariants.{Publish, Revoke, Withdraw, Demote, Promote}
 use Rattle.gt_words.proofs.Lists.{whose_at}
 use Rattle.gt_word_history.specs.History.{StepHistory, Layout, Moment, RecordsWord, word_place_of, word_after}
 use Rattle.gt_word_history.specs.Rule.{header_place}
@@ -12,12 +12,12 @@ use Rattle.gt_word_history.specs.Views.{stored_header}
 use Rattle.gt_word_history.specs.declared.view.EntryRecord.{EntryRecord}
 use Rattle.gt_word_history.specs.declared.view.SeatStep.{SeatStep}
 use Rattle.gt_word_history.specs.declared.view.View.{View}
-use Rattle.gt_calls.specs.declared.action.Observation.{Observation}
-use Rattle.gt_calls.specs.declared.action.Observation.TheVariants.{Nothing, Word, Taken, Missed}
-use Rattle.gt_calls.specs.declared.action.Step.{Step}
-use Rattle.gt_calls.specs.declared.action.Step.TheVariants.{LookHeader, LookControl, LookBody, Pin, Unpin, StoreBody}
-use Rattle.gt_calls.specs.declared.action.Step.TheVariants.{StoreHeader, Exchange, Read as ReadBytes}
-use Rattle.gt_calls.specs.declared.action.Step.TheVariants.{Write as WriteBytes, Copy as CopyBytes}
+use Rattle.gt_model.specs.declared.action.Observation.{Observation}
+use Rattle.gt_model.specs.declared.action.Observation.TheVariants.{Nothing, Word, Taken, Missed}
+use Rattle.gt_model.specs.declared.action.Step.{Step}
+use Rattle.gt_model.specs.declared.action.Step.TheVariants.{LookHeader, LookControl, LookBody, Pin, Unpin, StoreBody}
+use Rattle.gt_model.specs.declared.action.Step.TheVariants.{StoreHeader, Exchange, Read as ReadBytes}
+use Rattle.gt_model.specs.declared.action.Step.TheVariants.{Write as WriteBytes, Copy as CopyBytes}
 use Rattle.gt_core.specs.GoingOn.{IsOnWords}
 use Rattle.gt_live.specs.Walks.{Made, seen_in_step}
 use Rattle.gt_order.specs.Agreeing.{IsThe, StoresChange, last_at}

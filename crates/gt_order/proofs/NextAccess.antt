@@ -12,23 +12,23 @@ use Rattle.gt_word_history.specs.declared.view.FrameStep.TheVariants as frames
 use Rattle.gt_word_history.specs.declared.view.SeatStep.{SeatStep}
 use Rattle.gt_word_history.specs.declared.view.SeatStep.TheVariants.{Frame}
 use Rattle.gt_word_history.specs.declared.view.View.{View}
-use Rattle.gt_calls.specs.Asking.{asked, begun_of, bytes_given_by}
-use Rattle.gt_calls.specs.Path.{Continuation, path, steps_of}
-use Rattle.gt_calls.specs.Rules.{CallerKnowledge}
-use Rattle.gt_calls.specs.declared.action.Action.{Action}
-use Rattle.gt_calls.specs.declared.action.Action.TheVariants.{Step as Makes}
-use Rattle.gt_calls.specs.declared.action.Observation.{Observation}
-use Rattle.gt_calls.specs.declared.action.Step.{Step}
-use Rattle.gt_calls.specs.declared.action.Observation.TheVariants.{Nothing}
-use Rattle.gt_calls.specs.declared.action.Step.TheVariants.{Copy as CopyBytes, Read as ReadBytes, Write as WriteBytes}
+use Rattle.gt_model.specs.Asking.{asked, begun_of, bytes_given_by}
+use Rattle.gt_model.specs.Path.{Continuation, path, steps_of}
+use Rattle.gt_model.specs.Rules.{CallerKnowledge}
+use Rattle.gt_model.specs.declared.action.Action.{Action}
+use Rattle.gt_model.specs.declared.action.Action.TheVariants.{Step as Makes}
+use Rattle.gt_model.specs.declared.action.Observation.{Observation}
+use Rattle.gt_model.specs.declared.action.Step.{Step}
+use Rattle.gt_model.specs.declared.action.Observation.TheVariants.{Nothing}
+use Rattle.gt_model.specs.declared.action.Step.TheVariants.{Copy as CopyBytes, Read as ReadBytes, Write as WriteBytes}
 use Rattle.gt_core.proofs.GoingOn.{open-calls-can-access}
 use Rattle.gt_core.proofs.Steps.Observers.{kept-table, stepped}
 use Rattle.gt_core.specs.GoingOn.{AccessAnsweredSo, IsAccess, CanBeReached}
-use Rattle.gt_core.specs.History.{History as Items, Setting, Underway, known_at, seen_by}
-use Rattle.gt_core.specs.History.{given_in, one_if_mapped, table_at, values}
-use Rattle.gt_core.specs.Legal.{IsRight}
+use Rattle.gt_model.specs.History.{History as Items, Setting, Underway, known_at, seen_by}
+use Rattle.gt_model.specs.History.{given_in, one_if_mapped, table_at, values}
+use Rattle.gt_model.specs.Legal.{IsRight}
 use Rattle.gt_core.specs.Acting.{setting_of}
-use Rattle.gt_core.specs.declared.trace.Answer.{Answer}
+use Rattle.gt_model.specs.declared.trace.Answer.{Answer}
 use Rattle.gt_live.specs.Domains.{AllowRelation, knowledge}
 use Rattle.gt_live.specs.Walks.{all_shown, seen_in_step}
 use Rattle.gt_live.specs.declared.domain.Domain.{Domain}

@@ -6,34 +6,34 @@ use Rattle.gt_types.specs.Names.{domain_of}
 use Rattle.gt_types.specs.declared.DomId.{DomId}
 use Rattle.gt_types.specs.declared.config.Config.{Config}
 use Rattle.gt_types.specs.declared.limits.TheConstants.{TABLE_ENTRIES}
-use Rattle.gt_handles.specs.declared.handles.Handle.{Handle}
+use Rattle.gt_model.specs.declared.handle.Handle.{Handle}
 use Rattle.gt_words.specs.Conditions.{Board, HasDomain}
 use Rattle.gt_word_history.specs.History.{Layout, Moment}
 use Rattle.gt_word_history.specs.Rule.{layout_of}
 use Rattle.gt_word_history.specs.Steps.{StoodWith}
 use Rattle.gt_word_history.specs.declared.view.View.{View}
 use Rattle.gt_calls.proofs.Saying.{begun-asked}
-use Rattle.gt_calls.specs.Asking.{SpellsItsEntry, asked, begun_of}
-use Rattle.gt_calls.specs.Path.{Continuation, FitsStep, after_beginning, path, path_of, steps_of}
-use Rattle.gt_calls.specs.Rules.{CallerKnowledge, begun}
-use Rattle.gt_calls.specs.declared.action.Action.{Action}
-use Rattle.gt_calls.specs.declared.action.Action.TheVariants.{Step as Makes, Done}
-use Rattle.gt_calls.specs.declared.action.Observation.{Observation}
-use Rattle.gt_calls.specs.declared.action.Step.{Step}
-use Rattle.gt_calls.specs.declared.action.Step.TheVariants.{Unpin}
-use Rattle.gt_calls.specs.declared.action.CallResult.{CallResult}
-use Rattle.gt_calls.specs.declared.held.HeldPin.{HeldPin}
-use Rattle.gt_calls.specs.declared.request.PinHolder.{PinHolder}
-use Rattle.gt_calls.specs.declared.request.PinHolder.TheVariants.{Mapping as ByMapping, Leg as ByLeg}
-use Rattle.gt_calls.specs.declared.request.Request.{Request}
+use Rattle.gt_model.specs.Asking.{SpellsItsEntry, asked, begun_of}
+use Rattle.gt_model.specs.Path.{Continuation, FitsStep, after_beginning, path, path_of, steps_of}
+use Rattle.gt_model.specs.Rules.{CallerKnowledge, begun}
+use Rattle.gt_model.specs.declared.action.Action.{Action}
+use Rattle.gt_model.specs.declared.action.Action.TheVariants.{Step as Makes, Done}
+use Rattle.gt_model.specs.declared.action.Observation.{Observation}
+use Rattle.gt_model.specs.declared.action.Step.{Step}
+use Rattle.gt_model.specs.declared.action.Step.TheVariants.{Unpin}
+use Rattle.gt_model.specs.declared.action.CallResult.{CallResult}
+use Rattle.gt_model.specs.declared.held.HeldPin.{HeldPin}
+use Rattle.gt_model.specs.declared.request.PinHolder.{PinHolder}
+use Rattle.gt_model.specs.declared.request.PinHolder.TheVariants.{Mapping as ByMapping, Leg as ByLeg}
+use Rattle.gt_model.specs.declared.request.Request.{Request}
 use Rattle.gt_core.proofs.GoingOn.{open-calls-can-go-on}
 use Rattle.gt_core.proofs.Steps.Observers.{stepped}
 use Rattle.gt_core.specs.GoingOn.{AnsweredSo, IsOnWords, CanBeReached}
-use Rattle.gt_core.specs.History.{History as Items, Setting, Underway, known_at, mapping_of, mappings_at, seen_by}
-use Rattle.gt_core.specs.History.{values}
-use Rattle.gt_core.specs.Legal.{IsRight}
+use Rattle.gt_model.specs.History.{History as Items, Setting, Underway, known_at, mapping_of, mappings_at, seen_by}
+use Rattle.gt_model.specs.History.{values}
+use Rattle.gt_model.specs.Legal.{IsRight}
 use Rattle.gt_core.specs.Acting.{setting_of}
-use Rattle.gt_core.specs.declared.trace.Answer.{Answer}
+use Rattle.gt_model.specs.declared.trace.Answer.{Answer}
 use Rattle.gt_live.proofs.Making.{made-fits}
 use Rattle.gt_live.proofs.Walking.{after-position}
 use Rattle.gt_live.specs.Domains.{AllowRelation, knowledge}

@@ -14,15 +14,15 @@ use Rattle.gt_word_history.specs.declared.view.FrameStep.TheVariants as frames
 use Rattle.gt_word_history.specs.declared.view.SeatStep.TheVariants.{Flag, Frame}
 use Rattle.gt_word_history.specs.declared.view.SeatStep.{SeatStep}
 use Rattle.gt_word_history.specs.declared.view.View.{View}
-use Rattle.gt_calls.specs.Asking.{bytes_given_by}
-use Rattle.gt_calls.specs.declared.action.Action.TheVariants.{Step as Makes}
-use Rattle.gt_calls.specs.declared.action.CallResult.{CallResult}
-use Rattle.gt_calls.specs.declared.action.CallResult.TheVariants.{Mapped as KeptPin}
-use Rattle.gt_calls.specs.declared.action.Step.{Step}
-use Rattle.gt_calls.specs.declared.action.Step.TheVariants.{Read as ReadBytes}
+use Rattle.gt_model.specs.Asking.{bytes_given_by}
+use Rattle.gt_model.specs.declared.action.Action.TheVariants.{Step as Makes}
+use Rattle.gt_model.specs.declared.action.CallResult.{CallResult}
+use Rattle.gt_model.specs.declared.action.CallResult.TheVariants.{Mapped as KeptPin}
+use Rattle.gt_model.specs.declared.action.Step.{Step}
+use Rattle.gt_model.specs.declared.action.Step.TheVariants.{Read as ReadBytes}
 use Rattle.gt_core.specs.GoingOn.{CanBeReached}
-use Rattle.gt_core.specs.History.{History as Items}
-use Rattle.gt_core.specs.Legal.{Legal}
+use Rattle.gt_model.specs.History.{History as Items}
+use Rattle.gt_model.specs.Legal.{Legal}
 use Rattle.gt_core.specs.Acting.{setting_of}
 use Rattle.gt_live.proofs.Walking.{after-position}
 use Rattle.gt_live.specs.Domains.{AllowRelation}

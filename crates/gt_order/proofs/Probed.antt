@@ -4,7 +4,7 @@ use Rattle.std.proofs.Common.{append_assoc}
 use Rattle.std.proofs.lemmas.Bool.{false≢true}
 use Rattle.std.proofs.lemmas.List.{append-nil}
 use Rattle.gt_types.specs.declared.places.Spot.{Spot}
-use Rattle.gt_calls.specs.declared.request.OpenRequest.TheVariants as asks
+use Rattle.gt_model.specs.declared.request.OpenRequest.TheVariants as asks
 use Rattle.gt_types.specs.Copies.{is_dest_granted, is_source_granted}
 use Rattle.gt_types.specs.declared.DomId.{DomId}
 use Rattle.gt_types.specs.declared.Dir.TheVariants.{Read as ForReading, Write as ForWriting}
@@ -15,22 +15,22 @@ use Rattle.gt_word_history.specs.History.{Moment, part_of}
 use Rattle.gt_word_history.specs.Rule.{Layout}
 use Rattle.gt_word_history.specs.Views.{with_step}
 use Rattle.gt_word_history.specs.declared.view.View.{View}
-use Rattle.gt_calls.specs.Path.{Continuation, accesses, after_beginning, copies, dest_pair, end_leg, ended, is_copy_access, path_of}
-use Rattle.gt_calls.specs.Path.{place_of, reaches, source_pair, to_dest}
-unfoldable use Rattle.gt_calls.specs.Path.{without_access}
-use Rattle.gt_calls.specs.Holding.{held_by}
-use Rattle.gt_calls.specs.Rules.{CallerKnowledge, begun, first, granted_when, has_own_ends}
-use Rattle.gt_calls.specs.declared.action.Action.{Action}
-use Rattle.gt_calls.specs.declared.action.Action.TheVariants.{Done, Step as Makes}
-use Rattle.gt_calls.specs.declared.action.CallResult.{CallResult}
-use Rattle.gt_calls.specs.declared.action.CallResult.TheVariants.{Granted}
-use Rattle.gt_calls.specs.declared.action.Observation.{Observation}
-use Rattle.gt_calls.specs.declared.action.Observation.TheVariants.{Missed, Nothing, Taken, Word}
-use Rattle.gt_calls.specs.declared.action.Step.{Step}
-use Rattle.gt_calls.specs.declared.action.Step.TheVariants.{Copy as CopyBytes, Read as ReadBytes, Write as WriteBytes}
-use Rattle.gt_calls.specs.declared.held.AccessPath.TheVariants.{Own}
-use Rattle.gt_calls.specs.declared.held.HeldPin.{HeldPin}
-use Rattle.gt_calls.specs.declared.request.Request.TheVariants as requests
+use Rattle.gt_model.specs.Path.{Continuation, accesses, after_beginning, copies, dest_pair, end_leg, ended, is_copy_access, path_of}
+use Rattle.gt_model.specs.Path.{place_of, reaches, source_pair, to_dest}
+unfoldable use Rattle.gt_model.specs.Path.{without_access}
+use Rattle.gt_model.specs.Holding.{held_by}
+use Rattle.gt_model.specs.Rules.{CallerKnowledge, begun, first, granted_when, has_own_ends}
+use Rattle.gt_model.specs.declared.action.Action.{Action}
+use Rattle.gt_model.specs.declared.action.Action.TheVariants.{Done, Step as Makes}
+use Rattle.gt_model.specs.declared.action.CallResult.{CallResult}
+use Rattle.gt_model.specs.declared.action.CallResult.TheVariants.{Granted}
+use Rattle.gt_model.specs.declared.action.Observation.{Observation}
+use Rattle.gt_model.specs.declared.action.Observation.TheVariants.{Missed, Nothing, Taken, Word}
+use Rattle.gt_model.specs.declared.action.Step.{Step}
+use Rattle.gt_model.specs.declared.action.Step.TheVariants.{Copy as CopyBytes, Read as ReadBytes, Write as WriteBytes}
+use Rattle.gt_model.specs.declared.held.AccessPath.TheVariants.{Own}
+use Rattle.gt_model.specs.declared.held.HeldPin.{HeldPin}
+use Rattle.gt_model.specs.declared.request.Request.TheVariants as requests
 use Rattle.gt_calls.proofs.Probing.{here, on, past, same}
 use Rattle.gt_live.specs.Accesses.{Accessed, IsAccess, IsUnmade, onward}
 use Rattle.gt_live.specs.Domains.{AllowRelation, knowledge}

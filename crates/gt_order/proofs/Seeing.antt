@@ -3,8 +3,8 @@ use Rattle.std.proofs.Common.{◌≡◌, ◌≢◌, ℕ, ◌<◌, Bool, cond, sy
 use Rattle.gt_types.specs.declared.DomId.{DomId}
 use Rattle.gt_types.specs.declared.config.Config.{Config}
 use Rattle.gt_types.specs.declared.limits.TheConstants.{TABLE_ENTRIES}
-use Rattle.gt_entry.specs.Words.{header_word}
-use Rattle.gt_entry.specs.declared.change.BodyWord.{BodyWord}
+use Rattle.gt_model.specs.Words.{header_word}
+use Rattle.gt_model.specs.declared.change.BodyWord.{BodyWord}
 use Rattle.gt_words.specs.Conditions.{HasDomain}
 use Rattle.gt_word_history.specs.History.{StepHistory, Layout, RecordsWord, half_index, word_place_of, word_after}
 use Rattle.gt_word_history.specs.Rule.{header_place, layout_of, place, position_in}
@@ -13,12 +13,12 @@ use Rattle.gt_word_history.specs.declared.view.EntryStep.TheVariants.{StoredBody
 use Rattle.gt_word_history.specs.declared.view.HeaderStep.TheVariants as header
 use Rattle.gt_word_history.specs.declared.view.SeatStep.{SeatStep}
 use Rattle.gt_word_history.specs.declared.view.SeatStep.TheVariants.{Entry, Header}
-use Rattle.gt_calls.specs.declared.action.Observation.TheVariants.{Word, Taken, Missed}
-use Rattle.gt_calls.specs.declared.action.Step.{Step}
-use Rattle.gt_calls.specs.declared.action.Step.TheVariants.{LookHeader, LookControl, LookBody, Pin as PinStep, Unpin}
-use Rattle.gt_calls.specs.declared.action.Step.TheVariants.{StoreBody, StoreHeader, Exchange, Read as ReadBytes}
-use Rattle.gt_calls.specs.declared.action.Step.TheVariants.{Write as WriteBytes, Copy as CopyBytes}
-use Rattle.gt_core.specs.History.{History as Items, Setting, body_at, exchange_sees, seen_by, table_at, word_at}
+use Rattle.gt_model.specs.declared.action.Observation.TheVariants.{Word, Taken, Missed}
+use Rattle.gt_model.specs.declared.action.Step.{Step}
+use Rattle.gt_model.specs.declared.action.Step.TheVariants.{LookHeader, LookControl, LookBody, Pin as PinStep, Unpin}
+use Rattle.gt_model.specs.declared.action.Step.TheVariants.{StoreBody, StoreHeader, Exchange, Read as ReadBytes}
+use Rattle.gt_model.specs.declared.action.Step.TheVariants.{Write as WriteBytes, Copy as CopyBytes}
+use Rattle.gt_model.specs.History.{History as Items, Setting, body_at, exchange_sees, seen_by, table_at, word_at}
 use Rattle.gt_core.specs.Acting.{setting_of}
 use Rattle.gt_live.specs.Walks.{seen_in_step}
 use Rattle.gt_order.proofs.Places.{dom-there}

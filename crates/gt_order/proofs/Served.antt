@@ -5,7 +5,7 @@ use Rattle.std.specs.Prelude.{slice_get, take}
 use Rattle.std.proofs.lemmas.Bool.{false≢true}
 use Rattle.gt_types.specs.declared.DomId.{DomId}
 use Rattle.gt_types.specs.declared.config.DomainConfig.{DomainConfig}
-use Rattle.gt_handles.specs.declared.handles.Handle.{Handle}
+use Rattle.gt_model.specs.declared.handle.Handle.{Handle}
 use Rattle.gt_script_runs.specs.Printing.{answer_line}
 use Rattle.gt_script_runs.specs.Runs.{Named}
 use Rattle.gt_script.specs.Contents.{type_names}
@@ -14,8 +14,8 @@ use Rattle.gt_script.specs.RunContents.{RunContents}
 use Rattle.gt_script.specs.RunScripts.{list_of}
 use Rattle.gt_script.specs.declared.tasks.RunActionBy.TheVariants.{Await, Do, Tell}
 use Rattle.gt_run.specs.Serving.{IsRefused, RefusesNone, gate_line}
-use Rattle.gt_calls.specs.declared.request.Request.{Request}
-use Rattle.gt_calls.specs.declared.request.Request.TheVariants as requests
+use Rattle.gt_model.specs.declared.request.Request.{Request}
+use Rattle.gt_model.specs.declared.request.Request.TheVariants as requests
 use Rattle.gt_explore_replay.specs.Orders.{AllFollow, DeedHappens, FollowsList, Happening, Prints}
 use Rattle.gt_order.specs.Printed.{AllPrint, GetsNoMemory, GivenTextsArePrinted, HasPart, Leaves, PrintedTextsAreGiven}
 use Rattle.gt_order.specs.Printed.{PrintsList, Starves, StopsAtGate}

@@ -10,24 +10,24 @@ use Rattle.gt_words.specs.Conditions.{Board}
 use Rattle.gt_word_history.specs.History.{StepHistory, Layout, Moment, part_of, up_to}
 use Rattle.gt_word_history.specs.Rule.{layout_of}
 use Rattle.gt_word_history.specs.declared.view.View.{View}
-use Rattle.gt_calls.specs.Asking.{asked, bytes_given_by}
-use Rattle.gt_calls.specs.declared.action.Action.TheVariants.{Step as Makes}
-use Rattle.gt_calls.specs.declared.action.Step.{Step}
+use Rattle.gt_model.specs.Asking.{asked, bytes_given_by}
+use Rattle.gt_model.specs.declared.action.Action.TheVariants.{Step as Makes}
+use Rattle.gt_model.specs.declared.action.Step.{Step}
 use Rattle.gt_core.proofs.AgreementKept.{open_call-other}
 use Rattle.gt_core.proofs.Mappings.{mappings-same}
 use Rattle.gt_core.proofs.Playing.{history-more, legal-more}
 use Rattle.gt_core.proofs.Steps.Observers.{other-known, other-maps, other-pins}
 use Rattle.gt_core.specs.GoingOn.{CanBeReached}
-use Rattle.gt_core.specs.History.{History as Items, Setting, Underway, mapping_named, known_at, maps_answered_at}
-use Rattle.gt_core.specs.History.{mappings_at, open_call, values}
-use Rattle.gt_core.specs.Legal.{IsRight, Legal, MayDo, history_after}
+use Rattle.gt_model.specs.History.{History as Items, Setting, Underway, mapping_named, known_at, maps_answered_at}
+use Rattle.gt_model.specs.History.{mappings_at, open_call, values}
+use Rattle.gt_model.specs.Legal.{IsRight, Legal, MayDo, history_after}
 use Rattle.gt_core.specs.Standing.{MappingsAgree}
 use Rattle.gt_core.specs.Acting.{setting_of}
-use Rattle.gt_core.specs.declared.trace.Answer.{Answer}
-use Rattle.gt_core.specs.declared.trace.Element.TheVariants.{Item as Did}
-use Rattle.gt_core.specs.declared.trace.ItemEvent.{ItemEvent}
-use Rattle.gt_core.specs.declared.trace.ItemEvent.TheVariants.{Began, Stepped}
-use Rattle.gt_core.specs.declared.trace.Item.{Item}
+use Rattle.gt_model.specs.declared.trace.Answer.{Answer}
+use Rattle.gt_model.specs.declared.trace.Element.TheVariants.{Item as Did}
+use Rattle.gt_model.specs.declared.trace.ItemEvent.{ItemEvent}
+use Rattle.gt_model.specs.declared.trace.ItemEvent.TheVariants.{Began, Stepped}
+use Rattle.gt_model.specs.declared.trace.Item.{Item}
 use Rattle.gt_live.specs.Domains.{AllowRelation, knowledge}
 use Rattle.gt_live.specs.Walks.{view_after, all_shown}
 use Rattle.gt_live.specs.declared.domain.Domain.{Domain}

@@ -3,29 +3,29 @@ use Rattle.std.proofs.Common.{◌≡◌, ◌≢◌, ℕ, zero, suc, ◌+◌, ◌
 use Rattle.std.proofs.Common.{◌∷◌, length, map, get_or, Option, Some, None, sym, refl, ap, ◌∙◌, subst, arith, eq-eqb}
 use Rattle.std.proofs.Common.{ne_eqb}
 use Rattle.std.proofs.lemmas.List.Elements.{All-nil}
-use Rattle.gt_core.specs.History.{Pin}
+use Rattle.gt_model.specs.History.{Pin}
 use Rattle.gt_types.specs.Config.{IsWithinLimits}
 use Rattle.gt_types.specs.Names.{domain_of}
 use Rattle.gt_types.specs.declared.DomId.{DomId}
 use Rattle.gt_types.specs.declared.config.Config.{Config}
 use Rattle.gt_types.specs.declared.config.DomainConfig.{DomainConfig}
 use Rattle.gt_types.specs.declared.limits.TheConstants.{TABLE_ENTRIES}
-use Rattle.gt_entry.specs.Words.{header_of, header_word}
-use Rattle.gt_entry.specs.declared.change.BodyWord.{BodyWord}
-use Rattle.gt_entry.specs.declared.change.BodyWord.TheVariants.{First, Second}
+use Rattle.gt_model.specs.Words.{header_of, header_word}
+use Rattle.gt_model.specs.declared.change.BodyWord.{BodyWord}
+use Rattle.gt_model.specs.declared.change.BodyWord.TheVariants.{First, Second}
 use Rattle.gt_handles.specs.Handles.{HandleMap}
 use Rattle.gt_words.specs.Conditions.{Board}
 use Rattle.gt_word_history.specs.History.{Layout, half_index, initial}
 use Rattle.gt_words.specs.Laws.{id_at-map}
 use Rattle.gt_word_history.specs.Rule.{first_header, header_place, layout_of, place}
 use Rattle.gt_word_history.specs.Views.{header_steps, own_header, stored_header}
-use Rattle.gt_calls.specs.declared.held.HeldPin.{HeldPin}
+use Rattle.gt_model.specs.declared.held.HeldPin.{HeldPin}
 use Rattle.gt_core.proofs.GoingOn.{runs-start}
 use Rattle.gt_core.proofs.Mappings.{no-handles}
 use Rattle.gt_core.proofs.Steps.See.{table-fits}
 use Rattle.gt_core.specs.GoingOn.{CanBeReached}
-use Rattle.gt_core.specs.History.{Setting, generation_at, header_from, mappings_at, word_at}
-unfoldable use Rattle.gt_core.specs.History.{body_at, entry_at, gather, live, maps_answered_at, open_call, patches_at, raises_at, table_at}
+use Rattle.gt_model.specs.History.{Setting, generation_at, header_from, mappings_at, word_at}
+unfoldable use Rattle.gt_model.specs.History.{body_at, entry_at, gather, live, maps_answered_at, open_call, patches_at, raises_at, table_at}
 use Rattle.gt_core.specs.Standing.{MappingsAgree}
 use Rattle.gt_core.specs.Acting.{setting_of}
 use Rattle.gt_live.specs.Domains.{AllowRelation}

@@ -3,10 +3,10 @@ use Rattle.gt_core.proofs.Words.{live, without, ◌++◌, []}
 use Rattle.std.proofs.lemmas.List.{length-reverse, reverse-append}
 use Rattle.std.proofs.lemmas.List.Elements.{All-append, All-cons, All-head, All-nil, All-pop, All-push, All-tail}
 use Rattle.gt_core.proofs.Steps.Observers.{all-without, exchanged-live, new_pin, pinned-live, unpinned-live}
-use Rattle.gt_core.specs.declared.trace.Item.{Item}
+use Rattle.gt_model.specs.declared.trace.Item.{Item}
 use Rattle.std.specs.Prelude.{All, cond, length, ◌+◌, ◌==◌}
 use Rattle.gt_calls.specs.Resting.{RestsOnLast}
-use Rattle.gt_core.specs.History.{Pin, by_leg, legs_at, gather}
+use Rattle.gt_model.specs.History.{Pin, by_leg, legs_at, gather}
 use Rattle.gt_core.specs.Phases.{numbered}
 use Rattle.gt_core.proofs.Steps.Unpin.{Loses, loses-leg}
 use Rattle.gt_core.proofs.Words.{◌≡◌, ◌≢◌, ◌<◌, ◌≤◌, ℕ, refl, Bool, true, false, not, List, ◌∷◌, Option, Some, None}
@@ -27,12 +27,12 @@ use Rattle.gt_core.proofs.Steps.Observers.{stepped, pins, unpins, exchanged}
 use Rattle.gt_core.proofs.Steps.See.{IsWithin as InCore, table-fits}
 use Rattle.gt_core.proofs.Steps.Unpin.{loses-mapping}
 use Rattle.gt_core.specs.GoingOn.{IsOnWords, CanBeReached}
-use Rattle.gt_core.specs.History.{History as Items}
-use Rattle.gt_core.specs.declared.trace.Answer.{Answer}
+use Rattle.gt_model.specs.History.{History as Items}
+use Rattle.gt_model.specs.declared.trace.Answer.{Answer}
 use Rattle.gt_core.specs.declared.underway.OpenCall.{OpenCall}
-use Rattle.gt_core.specs.Justified.{IsSafeChange}
-use Rattle.gt_entry.specs.Entries.{is_read_only}
-use Rattle.gt_calls.specs.declared.request.OpenRequest.TheVariants.{Demote, Promote}
+use Rattle.gt_model.specs.Justified.{IsSafeChange}
+use Rattle.gt_model.specs.Entries.{is_read_only}
+use Rattle.gt_model.specs.declared.request.OpenRequest.TheVariants.{Demote, Promote}
 use Rattle.gt_core.specs.Acting.{setting_of}
 use Rattle.gt_calls.specs.Opening.{opens}
 use Rattle.gt_types.specs.Config.{IsWithinLimits}

@@ -3,10 +3,10 @@ use Rattle.std.proofs.Common.{ℕ, List, [], ◌∷◌, Option, Some, None, inl}
 use Rattle.gt_word_history.specs.History.{Moment}
 use Rattle.gt_word_history.specs.Rule.{Layout}
 use Rattle.gt_word_history.specs.declared.view.View.{View}
-use Rattle.gt_calls.specs.Path.{Continuation}
-use Rattle.gt_calls.specs.declared.action.Action.{Action}
-use Rattle.gt_calls.specs.declared.action.Action.TheVariants.{Done, Step as Makes}
-use Rattle.gt_calls.specs.declared.action.Observation.{Observation}
+use Rattle.gt_model.specs.Path.{Continuation}
+use Rattle.gt_model.specs.declared.action.Action.{Action}
+use Rattle.gt_model.specs.declared.action.Action.TheVariants.{Done, Step as Makes}
+use Rattle.gt_model.specs.declared.action.Observation.{Observation}
 use Rattle.gt_live.specs.Walks.{IsWalk, MakesStep, all_shown, shown_by, view_after}
 use Rattle.gt_order.specs.Runs.{IsCallWalk, MakesTurn}
 

@@ -7,8 +7,8 @@ use Rattle.gt_order.specs.Prelude.{verdict_of}
 use Rattle.gt_order.specs.Prelude.{IsOfMapping, Removes, Domain, Monitor}
 use Rattle.gt_order.specs.Prelude.{Bytes, Copying, IsCopiedBy, IsReadBy, IsUnmade, Reading}
 use Rattle.gt_types.specs.declared.copies.CopyArgs.{CopyArgs}
-use Rattle.gt_calls.specs.declared.action.CallResult.TheVariants.{Granted}
-use Rattle.gt_calls.specs.declared.request.Request.TheVariants as requests
+use Rattle.gt_model.specs.declared.action.CallResult.TheVariants.{Granted}
+use Rattle.gt_model.specs.declared.request.Request.TheVariants as requests
 use Rattle.gt_live.specs.Halves.{ComesHalfway, EndsHalfway}
 use Rattle.gt_live.specs.declared.domain.copies.PendingCopy.{PendingCopy}
 use Rattle.gt_order.specs.Runs.{FitsTypes, IsCall, KeepsNoPin, CallOutcome}

@@ -1,9 +1,9 @@
 -- Closing a table, resetting a domain and looking at an entry are deeds of a run.
 use Rattle.std.specs.Prelude.{◌≡◌, ℕ, List, [], ◌∷◌, ◌++◌, Option, Some, None}
 use Rattle.gt_types.specs.declared.GrantRef.{GrantRef}
-use Rattle.gt_entry.specs.declared.control.Control.{Control}
-use Rattle.gt_entry.specs.Words.{control_of}
-use Rattle.gt_calls.specs.declared.request.Request.TheVariants as requests
+use Rattle.gt_model.specs.declared.control.Control.{Control}
+use Rattle.gt_model.specs.Words.{control_of}
+use Rattle.gt_model.specs.declared.request.Request.TheVariants as requests
 use Rattle.gt_live.specs.Closing.{Closes, LooksAtOwn, Resets}
 use Rattle.gt_live.specs.Domains.{AllowRelation, BelongsTo}
 use Rattle.gt_live.specs.declared.domain.Domain.{Domain}

@@ -3,7 +3,7 @@ use Rattle.std.specs.Prelude.{◌≡◌, ◌⊎◌, ◌++◌, ℕ, Bool, All, Li
 use Rattle.gt_order.specs.Prelude.{N26, NoFacts, denial_of}
 use Rattle.gt_order.specs.RunNames.{IsAmong, ThreadJob, Served, WritesAll}
 use Rattle.gt_order.specs.RunNames.{ListOutcome}
-use Rattle.gt_core.specs.declared.trace.Answer.TheVariants as answers
+use Rattle.gt_model.specs.declared.trace.Answer.TheVariants as answers
 use Rattle.gt_script.specs.RunContents.{RunContents}
 use Rattle.gt_script_runs.specs.Rights.{may_by}
 use Rattle.gt_script_runs.specs.declared.rights.ScriptPolicy.{ScriptPolicy as ScriptRights}

@@ -3,9 +3,9 @@ use Rattle.std.specs.Prelude.{◌≡◌, List, [], ◌∷◌, None}
 use Rattle.gt_types.specs.declared.config.Config.{Config}
 use Rattle.gt_words.specs.Conditions.{Board}
 use Rattle.gt_handles.specs.Handles.{value_of}
-use Rattle.gt_handles.specs.declared.handles.Handle.{Handle}
-use Rattle.gt_calls.specs.declared.action.CallResult.TheVariants.{Granted}
-use Rattle.gt_calls.specs.declared.request.Request.TheVariants as requests
+use Rattle.gt_model.specs.declared.handle.Handle.{Handle}
+use Rattle.gt_model.specs.declared.action.CallResult.TheVariants.{Granted}
+use Rattle.gt_model.specs.declared.request.Request.TheVariants as requests
 use Rattle.gt_live.specs.Domains.{AllowRelation, HasLeft, IsDomainOf}
 use Rattle.gt_live.specs.declared.domain.Domain.{Domain}
 use Rattle.gt_live.specs.declared.domain.Departed.{Departed}

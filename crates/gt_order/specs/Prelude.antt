@@ -1,43 +1,43 @@
 -- Names from other crates, and from the code, that these definitions use.
 pub use Rattle.atomic_table.specs.Table.{State}
-pub use Rattle.gt_calls.specs.Asking.{FitsAsked, asked, bytes_given_by, bytes_of}
-pub use Rattle.gt_calls.specs.Path.{Continuation, path, path_of}
-pub use Rattle.gt_calls.specs.declared.action.Action.{Action}
-pub use Rattle.gt_calls.specs.declared.action.Action.TheVariants.{Done, Step as Makes}
-pub use Rattle.gt_calls.specs.declared.action.Observation.{Observation}
-pub use Rattle.gt_calls.specs.declared.action.Observation.TheVariants.{Nothing, Word}
-pub use Rattle.gt_calls.specs.declared.action.Step.{Step}
-pub use Rattle.gt_calls.specs.declared.action.Step.TheVariants.{Exchange, LookBody, LookControl, LookHeader}
-pub use Rattle.gt_calls.specs.declared.action.Step.TheVariants.{Pin as PinStep, StoreBody, StoreHeader, Unpin}
-pub use Rattle.gt_calls.specs.declared.action.Step.TheVariants.{Copy as CopyBytes, Read as ReadBytes, Write as WriteBytes}
-pub use Rattle.gt_calls.specs.declared.action.CallResult.{CallResult}
-pub use Rattle.gt_calls.specs.declared.action.CallResult.TheVariants.{Granted, Mapped, Refused}
-pub use Rattle.gt_calls.specs.declared.held.HeldPin.{HeldPin}
-pub use Rattle.gt_calls.specs.declared.request.OpenRequest.{OpenRequest}
-pub use Rattle.gt_calls.specs.declared.request.Request.{Request}
+pub use Rattle.gt_model.specs.Asking.{FitsAsked, asked, bytes_given_by, bytes_of}
+pub use Rattle.gt_model.specs.Path.{Continuation, path, path_of}
+pub use Rattle.gt_model.specs.declared.action.Action.{Action}
+pub use Rattle.gt_model.specs.declared.action.Action.TheVariants.{Done, Step as Makes}
+pub use Rattle.gt_model.specs.declared.action.Observation.{Observation}
+pub use Rattle.gt_model.specs.declared.action.Observation.TheVariants.{Nothing, Word}
+pub use Rattle.gt_model.specs.declared.action.Step.{Step}
+pub use Rattle.gt_model.specs.declared.action.Step.TheVariants.{Exchange, LookBody, LookControl, LookHeader}
+pub use Rattle.gt_model.specs.declared.action.Step.TheVariants.{Pin as PinStep, StoreBody, StoreHeader, Unpin}
+pub use Rattle.gt_model.specs.declared.action.Step.TheVariants.{Copy as CopyBytes, Read as ReadBytes, Write as WriteBytes}
+pub use Rattle.gt_model.specs.declared.action.CallResult.{CallResult}
+pub use Rattle.gt_model.specs.declared.action.CallResult.TheVariants.{Granted, Mapped, Refused}
+pub use Rattle.gt_model.specs.declared.held.HeldPin.{HeldPin}
+pub use Rattle.gt_model.specs.declared.request.OpenRequest.{OpenRequest}
+pub use Rattle.gt_model.specs.declared.request.Request.{Request}
 pub use Rattle.gt_core.specs.Acting.{answer_of, setting_of}
 pub use Rattle.gt_core.specs.GoingOn.{CanBeReached}
-pub use Rattle.gt_core.specs.History.{History as Items, Setting, Underway, body_at, entry_at, generation_at, known_at}
-pub use Rattle.gt_core.specs.History.{open_call, patches_at, seen_by, table_at, values, word_at}
-pub use Rattle.gt_core.specs.Legal.{IsRight, Legal}
-pub use Rattle.gt_core.specs.declared.trace.Answer.{Answer}
-pub use Rattle.gt_core.specs.declared.trace.Answer.TheVariants.{Bytes as BytesAnswer, Done as AnswerDone}
-pub use Rattle.gt_core.specs.declared.trace.Answer.TheVariants.{Mapped as MappedAnswer}
-pub use Rattle.gt_core.specs.declared.trace.Bytes.{Bytes}
-pub use Rattle.gt_core.specs.declared.trace.Element.{Element}
-pub use Rattle.gt_core.specs.declared.trace.Element.TheVariants.{Item as Did}
-pub use Rattle.gt_core.specs.declared.trace.Event.{Event}
-pub use Rattle.gt_core.specs.declared.trace.Event.TheVariants.{Begin, Tick}
-pub use Rattle.gt_core.specs.declared.trace.ItemEvent.{ItemEvent}
-pub use Rattle.gt_core.specs.declared.trace.ItemEvent.TheVariants.{Began, Stepped}
-pub use Rattle.gt_core.specs.declared.trace.Item.{Item}
-pub use Rattle.gt_entry.specs.Words.{header_word}
-pub use Rattle.gt_entry.specs.declared.change.BodyWord.{BodyWord}
+pub use Rattle.gt_model.specs.History.{History as Items, Setting, Underway, body_at, entry_at, generation_at, known_at}
+pub use Rattle.gt_model.specs.History.{open_call, patches_at, seen_by, table_at, values, word_at}
+pub use Rattle.gt_model.specs.Legal.{IsRight, Legal}
+pub use Rattle.gt_model.specs.declared.trace.Answer.{Answer}
+pub use Rattle.gt_model.specs.declared.trace.Answer.TheVariants.{Bytes as BytesAnswer, Done as AnswerDone}
+pub use Rattle.gt_model.specs.declared.trace.Answer.TheVariants.{Mapped as MappedAnswer}
+pub use Rattle.gt_model.specs.declared.trace.Bytes.{Bytes}
+pub use Rattle.gt_model.specs.declared.trace.Element.{Element}
+pub use Rattle.gt_model.specs.declared.trace.Element.TheVariants.{Item as Did}
+pub use Rattle.gt_model.specs.declared.trace.Event.{Event}
+pub use Rattle.gt_model.specs.declared.trace.Event.TheVariants.{Begin, Tick}
+pub use Rattle.gt_model.specs.declared.trace.ItemEvent.{ItemEvent}
+pub use Rattle.gt_model.specs.declared.trace.ItemEvent.TheVariants.{Began, Stepped}
+pub use Rattle.gt_model.specs.declared.trace.Item.{Item}
+pub use Rattle.gt_model.specs.Words.{header_word}
+pub use Rattle.gt_model.specs.declared.change.BodyWord.{BodyWord}
 pub use Rattle.gt_frames.specs.Frames.{patches}
 pub use Rattle.gt_frames.specs.Receipts.{Copying, Reading, Writing}
 pub use Rattle.gt_frames.specs.declared.writ.Writ.{Writ}
 pub use Rattle.gt_handles.specs.Handles.{HandleMap}
-pub use Rattle.gt_handles.specs.declared.handles.Handle.{Handle}
+pub use Rattle.gt_model.specs.declared.handle.Handle.{Handle}
 pub use Rattle.gt_live.specs.Accesses.{Accessed, IsCopiedBy, IsReadBy, IsUnmade, IsWrittenBy}
 pub use Rattle.gt_live.specs.Domains.{Accesses, AllowRelation, Answered, IsDomainOf, BelongsTo, KeepsPinned}
 pub use Rattle.gt_live.specs.Domains.{IsUnsettled, MapAnswered}

@@ -1,8 +1,8 @@
 -- Names from other crates that the definitions of texts use.
 pub use Rattle.atomic_table.specs.Table.{State}
-pub use Rattle.gt_calls.specs.declared.request.Request.{Request}
+pub use Rattle.gt_model.specs.declared.request.Request.{Request}
 pub use Rattle.gt_core.specs.Acting.{answer_of}
-pub use Rattle.gt_core.specs.declared.trace.Answer.{Answer}
+pub use Rattle.gt_model.specs.declared.trace.Answer.{Answer}
 pub use Rattle.gt_script_runs.specs.Runs.{MakesRequest, Named}
 pub use Rattle.gt_script_lines.specs.declared.calls.ScriptCall.{ScriptCall}
 pub use Rattle.gt_live.specs.Domains.{AllowRelation, HasLeft}

@@ -11,7 +11,7 @@ use Rattle.gt_order.specs.Prelude.{FlagStep, FlagStepped, IsOfMapping, IsUnsettl
 use Rattle.gt_order.specs.Prelude.{view_after}
 use Rattle.std.specs.Prelude.{◌⊎◌}
 use Rattle.gt_word_history.specs.declared.view.FrameStep.TheVariants as frames
-use Rattle.gt_calls.specs.declared.request.OpenRequest.TheVariants as asks
+use Rattle.gt_model.specs.declared.request.OpenRequest.TheVariants as asks
 use Rattle.gt_live.specs.Parts.{mappings_of, seat_of}
 
 -- the outcome of a call: the result of its path; a mapping under a handle; a refusal since allocation failed or its

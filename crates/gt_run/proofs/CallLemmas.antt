@@ -8,9 +8,9 @@ use Rattle.std.proofs.lemmas.List.Sums.{sum_by-append}
 use Rattle.std.proofs.lemmas.Option.{slice_get_past}
 use Rattle.gt_audit.specs.Trails.{TrailState, AppendsRecord, AppendsNumbered}
 use Rattle.gt_audit.specs.declared.record.Record.{Record}
-use Rattle.gt_calls.specs.declared.request.Request.{Request}
-use Rattle.gt_calls.specs.declared.request.Request.TheVariants as requests
-use Rattle.gt_core.specs.declared.trace.Answer.{Answer}
+use Rattle.gt_model.specs.declared.request.Request.{Request}
+use Rattle.gt_model.specs.declared.request.Request.TheVariants as requests
+use Rattle.gt_model.specs.declared.trace.Answer.{Answer}
 use Rattle.gt_script_runs.specs.Printing.{answer_line}
 use Rattle.gt_script_runs.specs.Runs.{handle_given, label_given, with_name}
 use Rattle.gt_script_runs.specs.declared.labels.Labels.{Labels}
@@ -21,7 +21,7 @@ use Rattle.gt_live.specs.declared.monitor.Monitor.{Monitor}
 use Rattle.gt_types.specs.declared.DomId.{DomId}
 use Rattle.gt_run.specs.Asking.{AnswersCall, Asks}
 use Rattle.gt_types.specs.declared.GrantRef.{GrantRef}
-use Rattle.gt_entry.specs.declared.entry.Entry.{Entry}
+use Rattle.gt_model.specs.declared.entry.Entry.{Entry}
 use Rattle.gt_script_lines.specs.declared.calls.ScriptCall.TheVariants as said
 use Rattle.gt_run.specs.Serving.{Calls, FitsEntry, LogsOutcomes, Makes, ListOutcome, Records}
 use Rattle.gt_run.specs.Serving.{answer_lines}

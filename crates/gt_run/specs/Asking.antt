@@ -11,8 +11,8 @@ use Rattle.gt_live.specs.Flags.{FlagStepped}
 use Rattle.gt_word_history.specs.declared.view.FlagStep.{FlagStep}
 use Rattle.gt_word_history.specs.declared.view.FlagStep.TheVariants.{Raised}
 use Rattle.gt_audit.specs.declared.record.Hypercall.TheVariants as hypercalls
-use Rattle.gt_calls.specs.declared.request.Request.TheVariants as requests
-use Rattle.gt_core.specs.declared.trace.Answer.TheVariants as answers
+use Rattle.gt_model.specs.declared.request.Request.TheVariants as requests
+use Rattle.gt_model.specs.declared.trace.Answer.TheVariants as answers
 use Rattle.gt_live.specs.Parts.{mappings_of, seat_of, trail_of, words_of}
 
 -- a domain with the monitor of its run

@@ -3,14 +3,14 @@ pub use Rattle.gt_audit.specs.Lines.{line_text}
 pub use Rattle.gt_audit.specs.Trails.{TrailState, AppendsRecord}
 pub use Rattle.gt_audit.specs.declared.record.Hypercall.{Hypercall}
 pub use Rattle.gt_audit.specs.declared.record.Record.{Record}
-pub use Rattle.gt_calls.specs.Asking.{asked}
-pub use Rattle.gt_calls.specs.declared.action.Step.{Step}
-pub use Rattle.gt_calls.specs.declared.action.CallResult.{CallResult}
-pub use Rattle.gt_calls.specs.declared.held.HeldPin.{HeldPin}
-pub use Rattle.gt_calls.specs.declared.request.Request.{Request}
-pub use Rattle.gt_core.specs.declared.trace.Answer.{Answer}
+pub use Rattle.gt_model.specs.Asking.{asked}
+pub use Rattle.gt_model.specs.declared.action.Step.{Step}
+pub use Rattle.gt_model.specs.declared.action.CallResult.{CallResult}
+pub use Rattle.gt_model.specs.declared.held.HeldPin.{HeldPin}
+pub use Rattle.gt_model.specs.declared.request.Request.{Request}
+pub use Rattle.gt_model.specs.declared.trace.Answer.{Answer}
 pub use Rattle.gt_frames.specs.Receipts.{Copying, Reading, Writing}
-pub use Rattle.gt_handles.specs.declared.handles.Handle.{Handle}
+pub use Rattle.gt_model.specs.declared.handle.Handle.{Handle}
 pub use Rattle.gt_script_runs.specs.Auditing.{hypercall_of_request, encoded_record}
 pub use Rattle.gt_script_runs.specs.Naming.{AreNamed}
 pub use Rattle.gt_script_runs.specs.Printing.{answer_line, call_text}

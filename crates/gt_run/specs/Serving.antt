@@ -7,7 +7,7 @@ use Rattle.gt_run.specs.Prelude.{handle_given, label_given, with_name, MakesRequ
 use Rattle.gt_run.specs.Prelude.{subject_of, HasLeft, IsNewDomain, Departed, Domain, Monitor, RunAction, Do, Tell, Await, RunTask, ThreadJob, DomainPart}
 use Rattle.gt_run.specs.Prelude.{Passed, TrailLogger}
 use Rattle.gt_run.specs.Asking.{Asks, MakesFlagStep, RaisesFlag, Stand}
-use Rattle.gt_entry.specs.Entries.{IsEntry}
+use Rattle.gt_model.specs.Entries.{IsEntry}
 use Rattle.gt_script_lines.specs.declared.calls.ScriptCall.TheVariants as calls
 use Rattle.gt_live.specs.Parts.{config_of, rights_of, seat_of, trail_of, words_of}
 

@@ -86,7 +86,7 @@ impl<'m, P: Allows> RunningDomain<'m, P> {
     ghost use Rattle.gt_live.specs.Parts.{seat_left, trail_of};
     ghost use Rattle.std.specs.Prelude.{MatchBool};
     ghost use Rattle.gt_word_history.specs.declared.view.FlagStep.TheVariants.{Passed};
-    ghost use Rattle.gt_calls.specs.Asking.{asked};
+    ghost use Rattle.gt_model.specs.Asking.{asked};
     ghost use Rattle.gt_calls.specs.Probing.{IsProbe};
     ghost use Rattle.gt_run.specs.Asking.{Asks, IsSameStand, MakesFlagStep, RaisesFlag};
 

@@ -1,7 +1,7 @@
 //! One domain's list, from its first line to its last.
 ghost use Rattle.std.specs.Prelude.{◌≡◌, ◌++◌, [], false, IfOk, IsOk, IsTrue, MatchBool};
 ghost use Rattle.gt_word_history.specs.declared.view.FlagStep.TheVariants.{Passed};
-ghost use Rattle.gt_entry.specs.Entries.{IsEntry};
+ghost use Rattle.gt_model.specs.Entries.{IsEntry};
 ghost use Rattle.gt_run.specs.Asking.{IsSameStand, MakesFlagStep};
 ghost use Rattle.gt_run.specs.Printing.{IsOutputOf};
 ghost use Rattle.gt_run.specs.Serving.{gate_line, Calls, FitsEntry, IsReady, Makes, Serves, StartsLogged};

@@ -5,8 +5,8 @@ use Rattle.std.specs.Str.{bytes_eq}
 use Rattle.gt_types.specs.declared.copies.End.{End}
 use Rattle.gt_types.specs.declared.DomId.{DomId}
 use Rattle.gt_types.specs.declared.GrantRef.{GrantRef}
-use Rattle.gt_entry.specs.declared.entry.Entry.{Entry}
-use Rattle.gt_entry.specs.declared.entry.Entry.TheVariants as entries
+use Rattle.gt_model.specs.declared.entry.Entry.{Entry}
+use Rattle.gt_model.specs.declared.entry.Entry.TheVariants as entries
 use Rattle.gt_script_lines.specs.Fields.{◌>>=◌, u16_word, u32_word, u64_word, reference_word, domain_word, mode_word}
 use Rattle.gt_script_lines.specs.Fields.{flags_word, label_word, text_where}
 use Rattle.gt_script_lines.specs.Hexadecimal.{hex_word}

@@ -8,7 +8,7 @@ use Rattle.std.specs.Map.{KeepsOthers, lookup}
 use Rattle.std.specs.Ordering.{nat_cmp, ordering_then, is_eq}
 use Rattle.std.specs.declared.cmp.Ordering.{Ordering}
 use Rattle.std.specs.declared.cmp.Ordering.TheVariants.{Less, Equal, Greater}
-use Rattle.gt_handles.specs.declared.handles.Handle.{Handle}
+use Rattle.gt_model.specs.declared.handle.Handle.{Handle}
 use Rattle.gt_script_runs.specs.Labels.{is_label}
 
 -- the order of the keys, by their numbers and their texts

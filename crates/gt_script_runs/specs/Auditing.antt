@@ -4,11 +4,11 @@ use Rattle.std.specs.Prelude.{option_to_list}
 use Rattle.gt_script_runs.specs.Prelude.{DomId, GrantRef, Handle, asked, OpenRequest, type_text, line_text, reply_text}
 use Rattle.gt_script_runs.specs.Prelude.{Hypercall, Record, Reply, History, Setting, Underway, open_call, grown, subject_at}
 use Rattle.gt_script_runs.specs.Prelude.{Answer, Element, ItemEvent, Began, Stepped, Item}
-use Rattle.gt_calls.specs.declared.request.OpenRequest.TheVariants as asks
+use Rattle.gt_model.specs.declared.request.OpenRequest.TheVariants as asks
 use Rattle.gt_audit.specs.declared.record.Hypercall.TheVariants as calls
 use Rattle.gt_audit.specs.declared.record.Reply.TheVariants as replies
-use Rattle.gt_core.specs.declared.trace.Answer.TheVariants as answers
-use Rattle.gt_core.specs.declared.trace.Element.TheVariants as elements
+use Rattle.gt_model.specs.declared.trace.Answer.TheVariants as answers
+use Rattle.gt_model.specs.declared.trace.Element.TheVariants as elements
 use Rattle.gt_script_runs.specs.Printing.{answer_text}
 
 -- the records of calls

@@ -5,7 +5,7 @@ use Rattle.std.specs.Ordering.{nat_cmp, ordering_then, is_eq}
 use Rattle.std.specs.Cmp.Lexicographic.{slice_cmp}
 use Rattle.std.specs.Map.{lookup}
 use Rattle.gt_script_runs.specs.declared.labels.Labels.{Labels}
-use Rattle.gt_handles.specs.declared.handles.Handle.{Handle}
+use Rattle.gt_model.specs.declared.handle.Handle.{Handle}
 
 -- a key is this label of this domain
 abbrev pub is_label : ℕ → List ℕ → (ℕ × Bor (List ℕ)) → Bool

@@ -4,7 +4,7 @@ use Rattle.gt_script_runs.specs.declared.labels.Labels.{Labels}
 use Rattle.gt_script_runs.specs.Labels.{handle_in}
 use Rattle.gt_types.specs.declared.DomId.{DomId}
 use Rattle.gt_script.specs.declared.script.ScriptStep.{ScriptStep}
-use Rattle.gt_core.specs.declared.trace.Answer.{Answer}
+use Rattle.gt_model.specs.declared.trace.Answer.{Answer}
 use Rattle.gt_script_runs.specs.Runs.{Named, handle_named, named_after}
 
 -- each label has its handle

@@ -3,24 +3,24 @@ pub use Rattle.gt_audit.specs.Lines.{line_text, reply_text}
 pub use Rattle.gt_audit.specs.declared.record.Hypercall.{Hypercall}
 pub use Rattle.gt_audit.specs.declared.record.Record.{Record}
 pub use Rattle.gt_audit.specs.declared.record.Reply.{Reply}
-pub use Rattle.gt_calls.specs.Asking.{asked}
-pub use Rattle.gt_calls.specs.declared.request.OpenRequest.{OpenRequest}
-pub use Rattle.gt_calls.specs.declared.request.Request.{Request}
+pub use Rattle.gt_model.specs.Asking.{asked}
+pub use Rattle.gt_model.specs.declared.request.OpenRequest.{OpenRequest}
+pub use Rattle.gt_model.specs.declared.request.Request.{Request}
 pub use Rattle.gt_core.specs.Acting.{setting_of}
-pub use Rattle.gt_core.specs.History.{History, Setting, Underway, open_call}
-pub use Rattle.gt_core.specs.Legal.{Legal, grown, history_after}
+pub use Rattle.gt_model.specs.History.{History, Setting, Underway, open_call}
+pub use Rattle.gt_model.specs.Legal.{Legal, grown, history_after}
 pub use Rattle.gt_core.specs.Shown.{shown_at}
 pub use Rattle.gt_core.specs.Standing.{CoreModel, CoreStands}
 pub use Rattle.gt_core.specs.Subject.{subject_at}
-pub use Rattle.gt_core.specs.declared.trace.Answer.{Answer}
-pub use Rattle.gt_core.specs.declared.trace.Answer.TheVariants.{Mapped}
-pub use Rattle.gt_core.specs.declared.trace.Element.{Element}
-pub use Rattle.gt_core.specs.declared.trace.Event.{Event}
-pub use Rattle.gt_core.specs.declared.trace.Event.TheVariants.{Begin, Tick}
-pub use Rattle.gt_core.specs.declared.trace.ItemEvent.{ItemEvent}
-pub use Rattle.gt_core.specs.declared.trace.ItemEvent.TheVariants.{Began, Stepped}
-pub use Rattle.gt_core.specs.declared.trace.Item.{Item}
-pub use Rattle.gt_handles.specs.declared.handles.Handle.{Handle}
+pub use Rattle.gt_model.specs.declared.trace.Answer.{Answer}
+pub use Rattle.gt_model.specs.declared.trace.Answer.TheVariants.{Mapped}
+pub use Rattle.gt_model.specs.declared.trace.Element.{Element}
+pub use Rattle.gt_model.specs.declared.trace.Event.{Event}
+pub use Rattle.gt_model.specs.declared.trace.Event.TheVariants.{Begin, Tick}
+pub use Rattle.gt_model.specs.declared.trace.ItemEvent.{ItemEvent}
+pub use Rattle.gt_model.specs.declared.trace.ItemEvent.TheVariants.{Began, Stepped}
+pub use Rattle.gt_model.specs.declared.trace.Item.{Item}
+pub use Rattle.gt_model.specs.declared.handle.Handle.{Handle}
 pub use Rattle.gt_script_runs.specs.declared.fault.PlayFault.{PlayFault}
 pub use Rattle.gt_script_runs.specs.declared.fault.PlayFault.TheVariants.{Memory, Policy, Read, Script, Write}
 pub use Rattle.gt_script_runs.specs.declared.rights.ScriptPolicy.{ScriptPolicy}

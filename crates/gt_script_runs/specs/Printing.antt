@@ -3,8 +3,8 @@ use Rattle.std.specs.Prelude.{ℕ, List, [], length, ◌++◌, ◌==◌, codes, 
 use Rattle.hex.specs.Hex.{encode_lower}
 use Rattle.gt_types.specs.declared.DomId.{DomId}
 use Rattle.gt_text.specs.Printing.{type_text, denial_text, frames_text, size_text, version_text}
-use Rattle.gt_core.specs.declared.trace.Answer.{Answer}
-use Rattle.gt_core.specs.declared.trace.Answer.TheVariants as answers
+use Rattle.gt_model.specs.declared.trace.Answer.{Answer}
+use Rattle.gt_model.specs.declared.trace.Answer.TheVariants as answers
 
 -- a blank and the bytes of an answer, two lower-case hexadecimal digits each; nothing if there are none
 abbrev pub bytes_text : List ℕ → List ℕ

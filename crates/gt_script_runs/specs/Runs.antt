@@ -6,8 +6,8 @@ use Rattle.gt_script_runs.specs.Prelude.{ScriptStep, Handle, Request, Answer, Ma
 use Rattle.gt_script_runs.specs.Prelude.{History, Setting, open_call, history_after, shown_at}
 use Rattle.gt_script_lines.specs.declared.calls.ScriptCall.TheVariants as calls
 use Rattle.gt_script.specs.declared.actions.ScriptAction.TheVariants as actions
-use Rattle.gt_calls.specs.declared.request.Request.TheVariants as requests
-use Rattle.gt_core.specs.declared.trace.Element.TheVariants as elements
+use Rattle.gt_model.specs.declared.request.Request.TheVariants as requests
+use Rattle.gt_model.specs.declared.trace.Element.TheVariants as elements
 use Rattle.gt_script_runs.specs.Printing.{answer_line, busy_line, idle_line, open_line}
 use Rattle.gt_script_runs.specs.Showing.{show_line}
 

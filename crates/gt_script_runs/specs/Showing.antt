@@ -6,8 +6,8 @@ pub use Rattle.gt_text.specs.Printing.{part_text}
 pub use Rattle.gt_text.specs.Entries.{entry_text}
 use Rattle.gt_types.specs.declared.DomId.{DomId}
 use Rattle.gt_types.specs.declared.GrantRef.{GrantRef}
-use Rattle.gt_entry.specs.Spelling.{control_with}
-use Rattle.gt_entry.specs.Words.{status_bits_of}
+use Rattle.gt_model.specs.Spelling.{control_with}
+use Rattle.gt_model.specs.Words.{status_bits_of}
 use Rattle.gt_core.specs.declared.core_state.EntryView.{EntryView}
 
 -- a status word: four lower-case hexadecimal digits

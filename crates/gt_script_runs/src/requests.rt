@@ -1,7 +1,7 @@
 //! The requests of the calls of a script, and the labels of their mappings.
 ghost use Rattle.std.specs.Prelude.{◌≡◌, List, OnOk, IfOk};
 ghost use Rattle.std.specs.Option.{option_map};
-ghost use Rattle.gt_calls.specs.Asking.{asked};
+ghost use Rattle.gt_model.specs.Asking.{asked};
 ghost use Rattle.gt_calls.specs.Probing.{IsProbe};
 ghost use Rattle.gt_script_runs.specs.Runs.{Named, hex_of_call, call_bytes as bytes_in_call, request_of, handle_given, with_name};
 ghost use Rattle.gt_script_runs.specs.Runs.{label_given};

@@ -1,7 +1,7 @@
 //! The single steps on the kit's table, each at the index of its word.
 ghost use Rattle.std.specs.Prelude.{◌≡◌, ℕ, ◌+◌, ◌-◌, ◌%◌, ◌^◌, ◌<◌, ◌==◌, false};
 ghost use prog.Atomic.{either};
-ghost use Rattle.gt_entry.specs.Words.{unit_of};
+ghost use Rattle.gt_model.specs.Words.{unit_of};
 ghost use Rattle.gt_word_history.specs.Joining.{Learns};
 ghost use Rattle.gt_word_history.specs.Moves.{MayTake, Takes, TakesStored};
 ghost use Rattle.gt_word_history.specs.Places.{IsInside, IsWide};

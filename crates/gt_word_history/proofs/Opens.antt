@@ -10,8 +10,8 @@ use lib.Seq.{map-set}
 use Rattle.atomic_table.specs.Table.{opening, Splits}
 use Rattle.atomic_table.proofs.Lists.{at_set, at_snoc, set_again, at_map}
 use Rattle.std.proofs.Common.{length-set}
-use Rattle.gt_entry.specs.Spelling.{word_of}
-use Rattle.gt_entry.specs.Words.{header_word}
+use Rattle.gt_model.specs.Spelling.{word_of}
+use Rattle.gt_model.specs.Words.{header_word}
 use Rattle.gt_types.specs.declared.Dir.{Dir}
 use Rattle.gt_types.specs.declared.Dir.TheVariants.{Read, Write}
 use Rattle.gt_types.specs.declared.config.DomainConfig.{DomainConfig}
@@ -27,7 +27,7 @@ use Rattle.gt_word_history.specs.Views.{IsAmong, earlier_records, exchanged, las
 use Rattle.gt_word_history.specs.Views.{pins_until}
 use Rattle.gt_word_history.specs.Views.{steps_on, steps_on_header, stored_body, stored_header}
 use Rattle.gt_word_history.specs.declared.view.EntryStep.{EntryStep}
-use Rattle.gt_entry.specs.declared.change.BodyWord.TheVariants.{First, Second}
+use Rattle.gt_model.specs.declared.change.BodyWord.TheVariants.{First, Second}
 use Rattle.gt_word_history.specs.declared.view.HeaderStep.{HeaderStep}
 use Rattle.gt_word_history.specs.declared.view.EntryRecord.{EntryRecord}
 use Rattle.gt_word_history.specs.declared.view.View.{View}

@@ -4,13 +4,13 @@ use Rattle.gt_types.specs.declared.Dir.{Dir}
 use Rattle.gt_types.specs.declared.Dir.TheVariants.{Read, Write}
 use Rattle.gt_types.specs.declared.DomId.{DomId}
 use Rattle.gt_types.specs.declared.Use.{Use}
-use Rattle.gt_entry.specs.declared.control.EntryKind.TheVariants.{Invalid as KindInvalid}
-use Rattle.gt_entry.specs.declared.entry.Entry.{Entry}
-use Rattle.gt_entry.specs.declared.entry.Entry.TheVariants.{Invalid, Page, Sub, Via}
-use Rattle.gt_entry.specs.Entries.{is_read_only}
-use Rattle.gt_entry.specs.Permits.{permits, forwards}
-use Rattle.gt_entry.specs.Spelling.{low_bits}
-use Rattle.gt_entry.specs.Words.{control_of, pins_of, kind_of}
+use Rattle.gt_model.specs.declared.control.EntryKind.TheVariants.{Invalid as KindInvalid}
+use Rattle.gt_model.specs.declared.entry.Entry.{Entry}
+use Rattle.gt_model.specs.declared.entry.Entry.TheVariants.{Invalid, Page, Sub, Via}
+use Rattle.gt_model.specs.Entries.{is_read_only}
+use Rattle.gt_model.specs.Permits.{permits, forwards}
+use Rattle.gt_model.specs.Spelling.{low_bits}
+use Rattle.gt_model.specs.Words.{control_of, pins_of, kind_of}
 
 -- the generation in a control word
 abbrev pub generation_of : ℕ → ℕ

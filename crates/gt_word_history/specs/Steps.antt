@@ -12,7 +12,7 @@ use Rattle.gt_word_history.specs.History.{StepHistory, PinsLast, RecordsWord, wo
 pub use Rattle.gt_word_history.specs.History.{half_index}
 use Rattle.gt_word_history.specs.Rule.{HasStood, Layout, Stands}
 use Rattle.gt_word_history.specs.Views.{last_of, last_seen, record_seen, with_step}
-use Rattle.gt_entry.specs.declared.change.EntryChange.TheVariants as change
+use Rattle.gt_model.specs.declared.change.EntryChange.TheVariants as change
 use Rattle.gt_word_history.specs.declared.view.Purpose.TheVariants as purpose
 use Rattle.gt_word_history.specs.declared.view.HeaderStep.TheVariants as header
 use Rattle.gt_word_history.specs.declared.view.SeatStep.TheVariants as step_of

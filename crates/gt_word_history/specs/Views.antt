@@ -5,7 +5,7 @@ use Rattle.gt_word_history.specs.Prelude.{Dir, Read, Write, BodyWord, First, Sec
 use Rattle.gt_word_history.specs.Prelude.{Pinned, PinMissed, Unpinned, StoredBody, Changed, ChangeMissed, HeaderStep}
 use Rattle.gt_word_history.specs.Prelude.{SeatStep}
 use Rattle.gt_word_history.specs.Prelude.{View, KindSub, entry_of, control_of, header_of, kind_of, TableHeader}
-use Rattle.gt_entry.specs.declared.entry.Entry.TheVariants as entries
+use Rattle.gt_model.specs.declared.entry.Entry.TheVariants as entries
 use Rattle.gt_word_history.specs.declared.view.HeaderStep.TheVariants as header
 use Rattle.gt_word_history.specs.declared.view.SeatStep.TheVariants.{Entry, Flag, Frame, Header}
 use Rattle.gt_word_history.specs.Controls.{generation_of}

@@ -1,6 +1,6 @@
 //! The words of a domain's header, and of an entry without pins.
 ghost use Rattle.std.specs.Prelude.{◌≡◌, ◌*◌, ◌<◌};
-ghost use Rattle.gt_entry.specs.Spelling.{idle_word_of};
+ghost use Rattle.gt_model.specs.Spelling.{idle_word_of};
 ghost use Rattle.gt_word_history.specs.Rule.{first_header};
 
 use gt_entry::{Control, Entry, Header};

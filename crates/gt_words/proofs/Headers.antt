@@ -14,8 +14,8 @@ use Rattle.gt_words.proofs.SeatsKept.{header_keeps, header_keeps_pins, header_ke
 use Rattle.gt_words.proofs.Lifts.{still_dealt, still_seated}
 use Rattle.gt_words.proofs.StepDuties.{kind_owes}
 use Rattle.gt_entry.specs.Laws.{header-round}
-use Rattle.gt_entry.specs.Words.{header_of, header_word, size_of}
-use Rattle.gt_entry.specs.declared.header.Header.{Header}
+use Rattle.gt_model.specs.Words.{header_of, header_word, size_of}
+use Rattle.gt_model.specs.declared.header.Header.{Header}
 use Rattle.gt_types.specs.declared.limits.TheConstants.{ENTRIES_V1, ENTRIES_V2, TABLE_ENTRIES}
 use Rattle.gt_words.specs.Answers.{AddsToHeader, LooksAtHeader, StepsOnHeader, StoresHeader}
 use Rattle.gt_word_history.specs.Events.{HeaderByOwner, header_after}

@@ -2,11 +2,11 @@
 use Rattle.std.proofs.Common.{◌≡◌, ◌≢◌, inl, inr, ℕ, ◌<◌, List, ◌∷◌, sym, refl, ap, ◌∙◌, subst, Option, Some, None}
 use Rattle.std.proofs.Common.{IsSome}
 use Rattle.gt_entry.specs.Laws.{digits, entry-read}
-use Rattle.gt_entry.specs.Spelling.{IsSpelled, control_with, entry_of, low_bits, named_domain, word_of}
-use Rattle.gt_entry.specs.Words.{control_of}
-use Rattle.gt_entry.specs.declared.control.Control.{Control}
-use Rattle.gt_entry.specs.declared.entry.Entry.{Entry}
-use Rattle.gt_entry.specs.declared.entry.Entry.TheVariants.{Invalid, Page, Sub, Via}
+use Rattle.gt_model.specs.Spelling.{IsSpelled, control_with, entry_of, low_bits, named_domain, word_of}
+use Rattle.gt_model.specs.Words.{control_of}
+use Rattle.gt_model.specs.declared.control.Control.{Control}
+use Rattle.gt_model.specs.declared.entry.Entry.{Entry}
+use Rattle.gt_model.specs.declared.entry.Entry.TheVariants.{Invalid, Page, Sub, Via}
 use Rattle.gt_types.specs.declared.Dir.TheVariants.{Read, Write}
 use Rattle.gt_words.proofs.Records.{domain_small, fresh, legal_record, listed_record, low_small, spelled_control}
 use Rattle.gt_words.proofs.Records.{spelled_parts}
@@ -20,10 +20,10 @@ use Rattle.gt_word_history.specs.Views.{with_body}
 use Rattle.gt_word_history.specs.declared.view.EntryStep.{EntryStep}
 use Rattle.gt_word_history.specs.declared.view.EntryStep.TheVariants.{ChangeMissed, Changed, Looked, PinMissed, Pinned}
 use Rattle.gt_word_history.specs.declared.view.EntryStep.TheVariants.{ReadBody, StoredBody, Unpinned}
-use Rattle.gt_entry.specs.declared.change.BodyWord.{BodyWord}
-use Rattle.gt_entry.specs.declared.change.BodyWord.TheVariants.{First, Second}
+use Rattle.gt_model.specs.declared.change.BodyWord.{BodyWord}
+use Rattle.gt_model.specs.declared.change.BodyWord.TheVariants.{First, Second}
 use Rattle.gt_word_history.specs.declared.view.EntryRecord.{EntryRecord}
-use Rattle.gt_entry.specs.declared.control.EntryKind.TheVariants as kind
+use Rattle.gt_model.specs.declared.control.EntryKind.TheVariants as kind
 
 -- the word of the last record is a look at it
 pub looks_at : (x : EntryRecord) (xs : List EntryRecord) (r w : ℕ) (word : ℕ) → (r < 4096) × (w < 4096) → word ≡ word_of x.entry x.generation r w → SawRecord x xs (Some (record { word = word; first = None; second = None }))

@@ -6,11 +6,11 @@ use mathlib.Core.Option.{some, some-injective, some-ne-none}
 use mathlib.Core.Logic.{dite}
 use native.Mathlib.Decide.{ℕ_discrete}
 use lib.ListN.{get_elem?}
-use Rattle.gt_entry.specs.Entries.{IsEntry, is_read_only, with_ro}
-use Rattle.gt_entry.specs.Spelling.{IsSpelled, idle_word_of, low_bits, named_domain, word_of}
-use Rattle.gt_entry.specs.Words.{flag, unit_of}
-use Rattle.gt_entry.specs.declared.entry.Entry.{Entry}
-use Rattle.gt_entry.specs.declared.entry.Entry.TheVariants.{Invalid, Page, Sub, Via}
+use Rattle.gt_model.specs.Entries.{IsEntry, is_read_only, with_ro}
+use Rattle.gt_model.specs.Spelling.{IsSpelled, idle_word_of, low_bits, named_domain, word_of}
+use Rattle.gt_model.specs.Words.{flag, unit_of}
+use Rattle.gt_model.specs.declared.entry.Entry.{Entry}
+use Rattle.gt_model.specs.declared.entry.Entry.TheVariants.{Invalid, Page, Sub, Via}
 use Rattle.gt_types.specs.declared.Dir.{Dir}
 use Rattle.gt_types.specs.declared.Dir.TheVariants.{Read, Write}
 use Rattle.gt_words.proofs.EarlierRecords.{goes_on, goes_on_here, still_gone, until_fewer, until_later}
@@ -25,14 +25,14 @@ use Rattle.gt_word_history.specs.Views.{HasBody, IsAmong, LivePin, Seen, earlier
 use Rattle.gt_word_history.specs.Views.{pin_count}
 use Rattle.gt_word_history.specs.Views.{live_pins}
 use Rattle.gt_word_history.specs.Views.{pins_until, record_seen, stored_body, weight}
-use Rattle.gt_entry.specs.declared.change.EntryChange.{EntryChange}
+use Rattle.gt_model.specs.declared.change.EntryChange.{EntryChange}
 use Rattle.gt_word_history.specs.declared.view.EntryStep.{EntryStep}
 use Rattle.gt_word_history.specs.declared.view.EntryStep.TheVariants.{ChangeMissed, Changed, Looked, PinMissed, Pinned}
 use Rattle.gt_word_history.specs.declared.view.EntryStep.TheVariants.{ReadBody, StoredBody, Unpinned}
-use Rattle.gt_entry.specs.declared.change.BodyWord.{BodyWord}
-use Rattle.gt_entry.specs.declared.change.BodyWord.TheVariants.{First, Second}
+use Rattle.gt_model.specs.declared.change.BodyWord.{BodyWord}
+use Rattle.gt_model.specs.declared.change.BodyWord.TheVariants.{First, Second}
 use Rattle.gt_word_history.specs.declared.view.EntryRecord.{EntryRecord}
-use Rattle.gt_entry.specs.declared.change.EntryChange.TheVariants as change
+use Rattle.gt_model.specs.declared.change.EntryChange.TheVariants as change
 
 pub count_in : (d : Dir) (p : LivePin) (ps : List LivePin) → IsAmong p ps → p.0 ≡ d → 1 ≤ pin_count d ps
 count_in d p [] h e = absurd h

@@ -8,7 +8,7 @@ use Rattle.atomic_table.proofs.Lists.{at_map}
 use Rattle.gt_types.specs.declared.Dir.{Dir}
 use Rattle.gt_types.specs.declared.Dir.TheVariants.{Read, Write}
 use Rattle.gt_types.specs.declared.limits.TheConstants.{TABLE_ENTRIES}
-use Rattle.gt_entry.specs.declared.entry.Entry.TheVariants.{Invalid}
+use Rattle.gt_model.specs.declared.entry.Entry.TheVariants.{Invalid}
 use Rattle.gt_words.proofs.Lifts.{owner_made}
 use Rattle.gt_word_history.proofs.Moments.{taken_then}
 use Rattle.gt_word_history.specs.Steps.{on_entry}

@@ -6,21 +6,21 @@ use Rattle.std.proofs.lemmas.Grind.{common_steps}
 use mathlib.Core.Option.{some, some-injective, some-ne-none}
 use lib.ListN.{get_elem?}
 use Rattle.atomic_table.proofs.Lists.{at_set}
-use Rattle.gt_entry.specs.Entries.{IsEntry, is_read_only}
+use Rattle.gt_model.specs.Entries.{IsEntry, is_read_only}
 use Rattle.gt_entry.specs.Laws.{PartsOf, control-round, entry-word, parts}
-use Rattle.gt_entry.specs.Spelling.{IsSpelled, control_with, low_bits, named_domain, word_of}
-use Rattle.gt_entry.specs.Words.{IsInRange, control_of, unit_of}
-use Rattle.gt_entry.specs.declared.entry.Entry.{Entry}
-use Rattle.gt_entry.specs.declared.entry.Entry.TheVariants.{Invalid, Page, Sub, Via}
+use Rattle.gt_model.specs.Spelling.{IsSpelled, control_with, low_bits, named_domain, word_of}
+use Rattle.gt_model.specs.Words.{IsInRange, control_of, unit_of}
+use Rattle.gt_model.specs.declared.entry.Entry.{Entry}
+use Rattle.gt_model.specs.declared.entry.Entry.TheVariants.{Invalid, Page, Sub, Via}
 use Rattle.gt_types.specs.declared.Dir.{Dir}
 use Rattle.gt_types.specs.declared.Dir.TheVariants.{Read, Write}
 use Rattle.gt_words.specs.Laws.{bounded}
 use Rattle.gt_word_history.specs.Rule.{IsLawful, IsNextEntry, IsRecord, IsRevocation, MayFollow, ShowsRecord, total_pins}
 use Rattle.gt_word_history.specs.Views.{IsAmong, LivePin, is_same_dir, pin_count, live_pins, weight, without_pin}
-use Rattle.gt_entry.specs.declared.change.EntryChange.{EntryChange}
+use Rattle.gt_model.specs.declared.change.EntryChange.{EntryChange}
 use Rattle.gt_word_history.specs.declared.view.EntryStep.{EntryStep}
 use Rattle.gt_word_history.specs.declared.view.EntryStep.TheVariants.{Changed, Pinned, StoredBody, Unpinned}
-use Rattle.gt_entry.specs.declared.change.BodyWord.{BodyWord}
+use Rattle.gt_model.specs.declared.change.BodyWord.{BodyWord}
 use Rattle.gt_word_history.specs.declared.view.EntryRecord.{EntryRecord}
 
 pub total_pins-set : (d : Dir) (hs : List (List EntryStep)) (i : ℕ) (h h' : List EntryStep) → get_elem? hs i ≡ some h → total_pins d (set hs i h') + pin_count d (live_pins h) ≡ total_pins d hs + pin_count d (live_pins h')

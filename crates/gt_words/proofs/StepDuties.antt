@@ -9,11 +9,11 @@ use prog.Atomic.{either}
 use lib.ListN.{get_elem?}
 use Rattle.atomic_table.specs.Table.{State, Me, Step as TableStep, step, stepped, keeps, Allows}
 use Rattle.atomic_table.proofs.Lists.{at_map}
-use Rattle.gt_entry.specs.Entries.{IsEntry, is_read_only, with_ro}
-use Rattle.gt_entry.specs.Spelling.{IsSpelled, idle_word_of, low_bits, named_domain, word_of}
-use Rattle.gt_entry.specs.Words.{flag, unit_of}
-use Rattle.gt_entry.specs.declared.entry.Entry.{Entry}
-use Rattle.gt_entry.specs.declared.entry.Entry.TheVariants.{Invalid, Page, Sub, Via}
+use Rattle.gt_model.specs.Entries.{IsEntry, is_read_only, with_ro}
+use Rattle.gt_model.specs.Spelling.{IsSpelled, idle_word_of, low_bits, named_domain, word_of}
+use Rattle.gt_model.specs.Words.{flag, unit_of}
+use Rattle.gt_model.specs.declared.entry.Entry.{Entry}
+use Rattle.gt_model.specs.declared.entry.Entry.TheVariants.{Invalid, Page, Sub, Via}
 use Rattle.gt_types.specs.declared.Dir.{Dir}
 use Rattle.gt_types.specs.declared.Dir.TheVariants.{Read, Write}
 use Rattle.gt_words.proofs.HistorySteps.{takes}
@@ -26,7 +26,7 @@ use Rattle.gt_words.proofs.OneEntry.{turned_low}
 use Rattle.gt_words.proofs.Records.{legal_record, spelled_parts}
 use Rattle.gt_words.proofs.Seeing.{saw_there}
 use Rattle.gt_words.specs.Conditions.{HasLooked, Holds, IsIdleOf, MayPin}
-use Rattle.gt_entry.specs.Permits.{is_copying}
+use Rattle.gt_model.specs.Permits.{is_copying}
 use Rattle.gt_types.specs.declared.DomId.{DomId}
 use Rattle.std.proofs.lemmas.Bool.{and_parts}
 use Rattle.gt_word_history.specs.Controls.{ForwardsPin, IsValid, PermitsPin, demoted_word, generation_of, invalid_word}
@@ -41,16 +41,16 @@ use Rattle.gt_word_history.specs.Views.{earlier_records, invalid_at, last_of, la
 use Rattle.gt_word_history.specs.Views.{record_seen}
 use Rattle.gt_word_history.specs.Views.{seen}
 use Rattle.gt_word_history.specs.Views.{steps_on, stored_body, with_step}
-use Rattle.gt_entry.specs.declared.change.EntryChange.{EntryChange}
+use Rattle.gt_model.specs.declared.change.EntryChange.{EntryChange}
 use Rattle.gt_word_history.specs.declared.view.EntryStep.{EntryStep}
 use Rattle.gt_word_history.specs.declared.view.EntryStep.TheVariants.{Changed, Looked, ReadBody, StoredBody, Unpinned}
-use Rattle.gt_entry.specs.declared.change.BodyWord.{BodyWord}
-use Rattle.gt_entry.specs.declared.change.BodyWord.TheVariants.{First, Second}
+use Rattle.gt_model.specs.declared.change.BodyWord.{BodyWord}
+use Rattle.gt_model.specs.declared.change.BodyWord.TheVariants.{First, Second}
 use Rattle.gt_word_history.specs.declared.view.Purpose.{Purpose}
 use Rattle.gt_word_history.specs.declared.view.EntryRecord.{EntryRecord}
 use Rattle.gt_word_history.specs.declared.view.View.{View}
 use Rattle.gt_word_history.specs.declared.rule.TheConstants.{DOMAIN_WORDS}
-use Rattle.gt_entry.specs.declared.change.EntryChange.TheVariants as change
+use Rattle.gt_model.specs.declared.change.EntryChange.TheVariants as change
 use Rattle.gt_word_history.specs.declared.view.Purpose.TheVariants as purpose
 use Rattle.gt_types.specs.declared.limits.TheConstants.{LAST_GENERATION, MAX_PINS, TABLE_ENTRIES}
 

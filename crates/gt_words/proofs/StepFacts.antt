@@ -9,12 +9,12 @@ use prog.Atomic.{either}
 use lib.ListN.{get_elem?}
 use Rattle.atomic_table.proofs.Lists.{at_map}
 use Rattle.atomic_table.specs.Table.{State}
-use Rattle.gt_entry.specs.Entries.{is_read_only}
-use Rattle.gt_entry.specs.Spelling.{control_with, named_domain, word_of}
-use Rattle.gt_entry.specs.Words.{control_of, unit_of}
-use Rattle.gt_entry.specs.declared.control.Control.{Control}
-use Rattle.gt_entry.specs.declared.entry.Entry.{Entry}
-use Rattle.gt_entry.specs.declared.entry.Entry.TheVariants.{Invalid, Page, Sub, Via}
+use Rattle.gt_model.specs.Entries.{is_read_only}
+use Rattle.gt_model.specs.Spelling.{control_with, named_domain, word_of}
+use Rattle.gt_model.specs.Words.{control_of, unit_of}
+use Rattle.gt_model.specs.declared.control.Control.{Control}
+use Rattle.gt_model.specs.declared.entry.Entry.{Entry}
+use Rattle.gt_model.specs.declared.entry.Entry.TheVariants.{Invalid, Page, Sub, Via}
 use Rattle.gt_types.specs.declared.Dir.{Dir}
 use Rattle.gt_types.specs.declared.Dir.TheVariants.{Read, Write}
 use Rattle.gt_words.proofs.SeatsKept.{AreAlike, body_generation, given_less, given_records, keeps, keeps_header}
@@ -46,16 +46,16 @@ use Rattle.gt_word_history.specs.Views.{IsAmong, LivePin, Seen, earlier_records,
 use Rattle.gt_word_history.specs.Views.{last_record}
 use Rattle.gt_word_history.specs.Views.{last_seen, own, own_body, pin_count, live_pins, record_seen, seen, steps_on}
 use Rattle.gt_word_history.specs.Views.{steps_on_header, stored_body, with_step}
-use Rattle.gt_entry.specs.declared.change.EntryChange.{EntryChange}
+use Rattle.gt_model.specs.declared.change.EntryChange.{EntryChange}
 use Rattle.gt_word_history.specs.declared.view.EntryStep.{EntryStep}
 use Rattle.gt_word_history.specs.declared.view.EntryStep.TheVariants.{ChangeMissed, Changed, Looked, PinMissed, Pinned}
 use Rattle.gt_word_history.specs.declared.view.EntryStep.TheVariants.{ReadBody, StoredBody, Unpinned}
-use Rattle.gt_entry.specs.declared.change.BodyWord.{BodyWord}
-use Rattle.gt_entry.specs.declared.change.BodyWord.TheVariants.{First, Second}
+use Rattle.gt_model.specs.declared.change.BodyWord.{BodyWord}
+use Rattle.gt_model.specs.declared.change.BodyWord.TheVariants.{First, Second}
 use Rattle.gt_word_history.specs.declared.view.Purpose.{Purpose}
 use Rattle.gt_word_history.specs.declared.view.EntryRecord.{EntryRecord}
 use Rattle.gt_word_history.specs.declared.view.View.{View}
-use Rattle.gt_entry.specs.declared.change.EntryChange.TheVariants.{Demote, Publish, Revoke}
+use Rattle.gt_model.specs.declared.change.EntryChange.TheVariants.{Demote, Publish, Revoke}
 use Rattle.gt_types.specs.declared.limits.TheConstants.{TABLE_ENTRIES}
 
 -- one more step on an entry

@@ -14,7 +14,7 @@ use Rattle.gt_word_history.specs.Views.{LivePin, last_record, live_pins, stored_
 use Rattle.gt_word_history.specs.declared.view.EntryStep.{EntryStep}
 use Rattle.gt_word_history.specs.declared.view.EntryStep.TheVariants.{ChangeMissed, Changed, Looked, PinMissed, Pinned}
 use Rattle.gt_word_history.specs.declared.view.EntryStep.TheVariants.{ReadBody, StoredBody, Unpinned}
-use Rattle.gt_entry.specs.declared.change.BodyWord.TheVariants.{First, Second}
+use Rattle.gt_model.specs.declared.change.BodyWord.TheVariants.{First, Second}
 
 module _ (g t : ℕ) (hs : List (List EntryStep)) (i : ℕ) (h : List EntryStep) (at : get_elem? hs i ≡ some h) where
   live_here : (m : EntryStep) → map live_pins (set hs i (m ∷ h)) ≡ set (map live_pins hs) i (live_pins (m ∷ h))

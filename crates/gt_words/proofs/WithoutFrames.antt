@@ -1,7 +1,7 @@
 -- A table of words alone serves the same run.
 use Rattle.std.proofs.Common.{◌≡◌, ℕ, zero, suc, ◌<◌, ◌≤◌, List, [], ◌∷◌, map, length, sym, refl, ap, ◌∙◌, subst, arith, All}
 use Rattle.gt_types.specs.Config.{IsWithinLimits}
-use Rattle.gt_entry.specs.Words.{header_word}
+use Rattle.gt_model.specs.Words.{header_word}
 use Rattle.gt_types.specs.declared.limits.TheConstants.{LAST_VERSION, MAX_FRAMES, MAX_TABLE_FRAMES}
 use Rattle.gt_types.specs.declared.config.Config.{Config}
 use Rattle.gt_types.specs.declared.config.DomainConfig.{DomainConfig}

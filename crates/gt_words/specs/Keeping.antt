@@ -1,6 +1,6 @@
 -- What a call keeps of what its seat knew.
 use Rattle.std.specs.Prelude.{◌≡◌, ◌≢◌, ℕ, ◌+◌, ◌≤◌, ◌<◌, cond, ◌==◌, ◌&&◌, Bool, Option, Some, None}
-use Rattle.gt_entry.specs.declared.change.BodyWord.{BodyWord}
+use Rattle.gt_model.specs.declared.change.BodyWord.{BodyWord}
 use Rattle.gt_types.specs.declared.Dir.{Dir}
 use Rattle.gt_word_history.specs.Controls.{generation_of}
 use Rattle.gt_word_history.specs.Views.{IsAmong, LivePin, Seen, is_same_dir, last_of, own_body, own_header, own_list}

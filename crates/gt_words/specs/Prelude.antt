@@ -2,18 +2,18 @@
 pub use Rattle.atomic_table.proofs.Lists.{at_map}
 pub use Rattle.atomic_table.specs.Seated.{TableId}
 pub use Rattle.atomic_table.specs.Table.{Allows, Me, State, Step as TableStep, keeps, stepped}
-pub use Rattle.gt_entry.specs.Changes.{changed_entry, raise_of}
-pub use Rattle.gt_entry.specs.Entries.{IsEntry, is_read_only, with_ro}
-pub use Rattle.gt_entry.specs.Spelling.{IsSpelled, control_with, entry_of, idle_word_of, word_of}
-pub use Rattle.gt_entry.specs.Words.{control_of, header_of, header_word, kind_of, size_of, unit_of}
-pub use Rattle.gt_entry.specs.declared.change.EntryChange.{EntryChange}
-pub use Rattle.gt_entry.specs.declared.change.EntryChange.TheVariants.{Demote, Promote, Publish, Revoke, Withdraw}
-pub use Rattle.gt_entry.specs.declared.change.BodyWord.{BodyWord}
-pub use Rattle.gt_entry.specs.declared.change.BodyWord.TheVariants.{First, Second}
-pub use Rattle.gt_entry.specs.declared.control.EntryKind.TheVariants.{Sub as KindSub}
-pub use Rattle.gt_entry.specs.declared.entry.Entry.{Entry}
-pub use Rattle.gt_entry.specs.declared.entry.Entry.TheVariants.{Invalid, Page, Sub, Via}
-pub use Rattle.gt_entry.specs.declared.header.Header.{Header, Header as TableHeader}
+pub use Rattle.gt_model.specs.Changes.{changed_entry, raise_of}
+pub use Rattle.gt_model.specs.Entries.{IsEntry, is_read_only, with_ro}
+pub use Rattle.gt_model.specs.Spelling.{IsSpelled, control_with, entry_of, idle_word_of, word_of}
+pub use Rattle.gt_model.specs.Words.{control_of, header_of, header_word, kind_of, size_of, unit_of}
+pub use Rattle.gt_model.specs.declared.change.EntryChange.{EntryChange}
+pub use Rattle.gt_model.specs.declared.change.EntryChange.TheVariants.{Demote, Promote, Publish, Revoke, Withdraw}
+pub use Rattle.gt_model.specs.declared.change.BodyWord.{BodyWord}
+pub use Rattle.gt_model.specs.declared.change.BodyWord.TheVariants.{First, Second}
+pub use Rattle.gt_model.specs.declared.control.EntryKind.TheVariants.{Sub as KindSub}
+pub use Rattle.gt_model.specs.declared.entry.Entry.{Entry}
+pub use Rattle.gt_model.specs.declared.entry.Entry.TheVariants.{Invalid, Page, Sub, Via}
+pub use Rattle.gt_model.specs.declared.header.Header.{Header, Header as TableHeader}
 pub use Rattle.gt_types.specs.Config.{IsFirstFault, IsWithinLimits}
 pub use Rattle.gt_types.specs.Names.{domain_of}
 pub use Rattle.gt_types.specs.declared.Dir.{Dir}

@@ -1,8 +1,8 @@
 -- What a seat saw of an entry, compared with its owner's list.
 use Rattle.std.specs.Prelude.{◌≡◌, ℕ, ◌+◌, ◌*◌, ◌<◌, List, ◌∷◌, Option, Some, None, IfSome}
-use Rattle.gt_entry.specs.Spelling.{word_of}
-use Rattle.gt_entry.specs.declared.entry.Entry.{Entry}
-use Rattle.gt_entry.specs.declared.entry.Entry.TheVariants.{Invalid, Page, Sub, Via}
+use Rattle.gt_model.specs.Spelling.{word_of}
+use Rattle.gt_model.specs.declared.entry.Entry.{Entry}
+use Rattle.gt_model.specs.declared.entry.Entry.TheVariants.{Invalid, Page, Sub, Via}
 use Rattle.gt_word_history.specs.Views.{IsAmong, Seen}
 use Rattle.gt_word_history.specs.declared.view.EntryRecord.{EntryRecord}
 

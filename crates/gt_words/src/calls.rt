@@ -1,6 +1,6 @@
 //! The calls, with domains given by their positions. Each makes one step of the table, and its contract names the step.
 ghost use Rattle.std.specs.Prelude.{◌≡◌, ◌<◌, true, MatchResult};
-ghost use Rattle.gt_entry.specs.Entries.{IsEntry};
+ghost use Rattle.gt_model.specs.Entries.{IsEntry};
 ghost use Rattle.gt_words.specs.Answers.{Changes, Demotes, LooksAtBody, LooksAtControl, LooksAtHeader, MissesBusy};
 ghost use Rattle.gt_words.specs.Answers.{MissesChange, MissesPin, Pins, Publishes, Revokes, StoresBody, StoresHeader};
 ghost use Rattle.gt_words.specs.Answers.{Unpins};

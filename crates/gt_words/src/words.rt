@@ -2,8 +2,8 @@
 ghost use Rattle.std.specs.Prelude.{◌≡◌, ◌⊎◌, ◌<◌, ◌≤◌, length, MatchResult, IfOk, IfErr, OnOk, HoldsAt, ℕ};
 ghost use Rattle.std.specs.Prelude.{position, ◌==◌, true};
 ghost use Rattle.gt_types.specs.Config.{IsWithinLimits};
-ghost use Rattle.gt_entry.specs.Words.{header_word};
-ghost use Rattle.gt_entry.specs.Entries.{IsEntry};
+ghost use Rattle.gt_model.specs.Words.{header_word};
+ghost use Rattle.gt_model.specs.Entries.{IsEntry};
 ghost use Rattle.gt_word_history.specs.Controls.{generation_of};
 ghost use Rattle.gt_word_history.specs.Views.{own_header, own_table, last_of};
 ghost use Rattle.gt_word_history.specs.Rule.{layout_of, position_in, IsKeptHeader};

@@ -1,6 +1,6 @@
 -- The knowledge of the tests' owner about its entry.
 use Rattle.std.specs.Prelude.{◌≡◌, ℕ}
-use Rattle.gt_entry.specs.declared.entry.Entry.{Entry}
+use Rattle.gt_model.specs.declared.entry.Entry.{Entry}
 use Rattle.gt_words.specs.Conditions.{Board, HasDomain, IsSameSeat, IsSeatOf, SeatOf}
 use Rattle.gt_word_history.specs.Views.{last_of}
 use Rattle.gt_word_history.specs.declared.view.View.{View}

@@ -1,6 +1,6 @@
 //! An owner, which knows its own entries from its own calls.
 ghost use Rattle.std.specs.Prelude.{◌≡◌, ◌≢◌, ◌+◌, ◌<◌, ℕ};
-ghost use Rattle.gt_entry.specs.Spelling.{IsSpelled};
+ghost use Rattle.gt_model.specs.Spelling.{IsSpelled};
 ghost use Rattle.gt_word_history.specs.Views.{last_of, own_body};
 ghost use Rattle.gt_words.specs.Conditions.{HasDomain, IsSeatOf, IsSameSeat};
 ghost use Rattle.bench.specs.Mapping.{Owns, OwnsStill};

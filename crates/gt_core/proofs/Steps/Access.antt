@@ -13,8 +13,10 @@ use Rattle.gt_core.proofs.Words.{IsMapped, IsPermitted, Reaches, Forwards, MayCo
 use Rattle.gt_core.proofs.Words.{EndIsJustified, cond_both}
 use Rattle.gt_core.proofs.{Phases.none-of, Steps.Observers.IsKeyed, Steps.Observers.mapping-keyed}
 use Rattle.gt_core.proofs.{Steps.Observers.leg-keyed}
-use Rattle.gt_calls.specs.{declared.held.AccessPath.TheVariants.Own, Path.place_of}
-use Rattle.gt_core.{specs.Justified.AccessIsJustified, specs.Standing.LetsUse}
+use Rattle.gt_model.specs.declared.held.AccessPath.TheVariants.{Own}
+use Rattle.gt_model.specs.Path.{place_of}
+use Rattle.gt_model.specs.Justified.{AccessIsJustified}
+use Rattle.gt_core.{specs.Standing.LetsUse}
 
 -- pins among those of a domain
 

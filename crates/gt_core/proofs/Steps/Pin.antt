@@ -34,10 +34,10 @@ use Rattle.gt_core.proofs.{Phases.makes-same, Phases.by-giving, Phases.of-run, P
 use Rattle.gt_core.proofs.{Legs.alone, Legs.control-parts, Legs.IsAsTried, Legs.as-tried, Legs.still-judged}
 use Rattle.gt_core.proofs.{Legs.IsLegOf, Legs.ComesTo, Legs.miss-comes, Aims.pair_of, Aims.leg-here}
 use Rattle.gt_core.specs.declared.pin_counts.CountsChange.TheVariants.{Pinned}
-use Rattle.gt_calls.specs.declared.held.AccessPath.TheVariants.{Own}
+use Rattle.gt_model.specs.declared.held.AccessPath.TheVariants.{Own}
 use Rattle.gt_calls.specs.Resting.{IsCopyOf}
 use Rattle.gt_calls.specs.Opening.{OpensCopy}
-use Rattle.gt_calls.specs.declared.request.OpenRequest.TheVariants.{Probe}
+use Rattle.gt_model.specs.declared.request.OpenRequest.TheVariants.{Probe}
 
 -- the pin can be counted
 abbrev pub IsFew : History → Pin → Type 0

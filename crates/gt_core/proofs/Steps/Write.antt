@@ -20,7 +20,8 @@ use Rattle.gt_core.proofs.Words.{Writ, WriteRecord, BegunBusy, BegunNoDomain, co
 use Rattle.gt_core.proofs.{Starting.get-replicate, Steps.Observers.stepped, Phases.call-is, Phases.none-of}
 use Rattle.gt_core.proofs.{Steps.Access.permits-as, Steps.Access.mapping-pin, Steps.Access.same-held}
 use Rattle.gt_core.proofs.{Steps.Access.read-justified, Steps.Access.copy-justified}
-use Rattle.gt_calls.specs.{declared.held.AccessPath.TheVariants.Own, Path.place_of}
+use Rattle.gt_model.specs.declared.held.AccessPath.TheVariants.{Own}
+use Rattle.gt_model.specs.Path.{place_of}
 use Rattle.std.specs.Cmp.{both_ways}
 
 -- what a frame holds, and which frames exist

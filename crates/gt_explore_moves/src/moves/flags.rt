@@ -13,7 +13,7 @@ pub(super) fn is_set(flags: &[bool], at: usize) -> bool
 
 impl<'s, 'a> SearchContext<'s, 'a> {
     ghost use Rattle.std.specs.Prelude.{◌≡◌, ◌<◌, List, ◌∷◌, Some, true, length, slice_get, slice_set};
-    ghost use Rattle.gt_core.specs.History.{History, Setting};
+    ghost use Rattle.gt_model.specs.History.{History, Setting};
     ghost use Rattle.gt_explore_replay.specs.Courses.{Course, resting};
     ghost use Rattle.gt_script.specs.Lists.{RunTask};
     ghost use Rattle.gt_explore_moves.specs.Calls.{ShowsCalls};

@@ -4,7 +4,7 @@ ghost use Rattle.gt_types.specs.declared.Dir.TheVariants as dirs;
 ghost use Rattle.gt_types.specs.declared.Use.TheVariants as uses;
 ghost use Rattle.gt_words.specs.Conditions.{IsSameSeat, IsSeatOf};
 ghost use Rattle.gt_access.specs.Routes.{MayAccessBy, ReachesBy};
-ghost use Rattle.gt_calls.specs.declared.request.Request.TheVariants as requests;
+ghost use Rattle.gt_model.specs.declared.request.Request.TheVariants as requests;
 ghost use Rattle.gt_live.specs.Accesses.{Fills, IsIfMissing, IsOfAccess, IsOfMissing, IsReadBy, IsWrittenBy};
 ghost use Rattle.gt_live.specs.Accesses.{ReadsFrame, WritesFrame};
 ghost use Rattle.gt_live.specs.Domains.{AccessesQuietly, BelongsTo, IsRefusedWithoutMemory, StaysIn, not_made};

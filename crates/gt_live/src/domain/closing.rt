@@ -1,6 +1,6 @@
 //! The closing of a domain's table before the domain leaves, and a look at one of its entries.
 ghost use Rattle.std.specs.Prelude.{◌≡◌, true};
-ghost use Rattle.gt_entry.specs.declared.entry.Entry.TheVariants.{Invalid};
+ghost use Rattle.gt_model.specs.declared.entry.Entry.TheVariants.{Invalid};
 ghost use Rattle.gt_calls.specs.Rules.{entry_in};
 ghost use Rattle.gt_live.specs.Closing.{is_in_use};
 ghost use Rattle.gt_live.specs.Parts.{words_of};
@@ -34,7 +34,7 @@ fn is_shut(own: &[OwnerEntry], gref: GrantRef) -> bool
 
 impl Domain {
     ghost use Rattle.std.specs.Prelude.{◌≡◌, ℕ, ◌<◌, OnOk, OnErr, slice_get};
-    ghost use Rattle.gt_entry.specs.declared.change.EntryChange.TheVariants.{Withdraw};
+    ghost use Rattle.gt_model.specs.declared.change.EntryChange.TheVariants.{Withdraw};
     ghost use Rattle.gt_types.specs.declared.limits.TheConstants.{TABLE_ENTRIES};
     ghost use Rattle.gt_live.specs.Domains.{BelongsTo, StaysIn};
     ghost use Rattle.gt_live.specs.Closing.{AsksWithdrawal, Closes, ClosesRow, IsCounted, LooksAtOwn, Resets};
@@ -44,8 +44,8 @@ impl Domain {
     ghost use Rattle.gt_live.specs.Walks.{Made};
     ghost use Rattle.gt_words.specs.Conditions.{IsWordOf};
     ghost use Rattle.gt_word_history.specs.Views.{last_of};
-    ghost use Rattle.gt_calls.specs.declared.action.Observation.TheVariants.{Word};
-    ghost use Rattle.gt_calls.specs.declared.action.Step.TheVariants.{LookControl};
+    ghost use Rattle.gt_model.specs.declared.action.Observation.TheVariants.{Word};
+    ghost use Rattle.gt_model.specs.declared.action.Step.TheVariants.{LookControl};
 
     // Withdraws one of the domain's entries, in at most four tries.
     fn withdraw_row<P: Allows>(

@@ -1,6 +1,6 @@
 //! A guest's own table: an entry follows the bytes that the guest keeps for it in its own memory.
 ghost use Rattle.std.specs.Prelude.{◌≡◌, ◌↔◌, ◌%◌, ◌<◌, IsTrue, IfOk, MatchResult, Some, None};
-ghost use Rattle.gt_entry.specs.Bytes.{Spells, first_refused, flags_of};
+ghost use Rattle.gt_model.specs.Bytes.{Spells, first_refused, flags_of};
 ghost use Rattle.gt_types.specs.Denial.{denial_of};
 ghost use Rattle.gt_types.specs.declared.denial.Rule.TheVariants as rules;
 ghost use Rattle.gt_types.specs.declared.denial.Facts.TheVariants as facts;

@@ -88,15 +88,15 @@ impl Domain {
     ghost use Rattle.gt_live.specs.Domains.{mapping_reply, subject_of, record_of_result, Answered, BelongsTo};
     ghost use Rattle.gt_live.specs.Domains.{Drops, IsUnsettled, KeepsPinned, MapAnswered};
     ghost use Rattle.gt_live.specs.Maps.{pin_effect, pin_verdict};
-    ghost use Rattle.gt_calls.specs.Path.{map_leg, path};
-    ghost use Rattle.gt_calls.specs.declared.request.Request.{Request};
-    ghost use Rattle.gt_calls.specs.Rules.{map_begun, owner_label, unmap_begun};
-    ghost use Rattle.gt_calls.specs.declared.request.OpenRequest.TheVariants as asks;
+    ghost use Rattle.gt_model.specs.Path.{map_leg, path};
+    ghost use Rattle.gt_model.specs.declared.request.Request.{Request};
+    ghost use Rattle.gt_model.specs.Rules.{map_begun, owner_label, unmap_begun};
+    ghost use Rattle.gt_model.specs.declared.request.OpenRequest.TheVariants as asks;
     ghost use Rattle.gt_live.specs.Domains.{known_on, verdict_of};
     ghost use Rattle.std.specs.Option.{IsSome};
     ghost use Rattle.gt_handles.specs.Handles.{value_of};
     ghost use Rattle.gt_live.specs.Mappings.{Removes};
-    ghost use Rattle.gt_calls.specs.declared.held.HeldPin.{HeldPin};
+    ghost use Rattle.gt_model.specs.declared.held.HeldPin.{HeldPin};
 
     // Builds the leg of a map.
     #[inline(always)]

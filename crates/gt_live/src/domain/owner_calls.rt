@@ -15,15 +15,15 @@ impl Domain {
     ghost use Rattle.gt_types.specs.declared.limits.TheConstants.{TABLE_ENTRIES};
     ghost use Rattle.gt_live.specs.Domains.{BelongsTo};
     ghost use Rattle.gt_live.specs.Domains.{IsUnsettled, KeepsPinned};
-    ghost use Rattle.gt_entry.specs.Changes.{changed_entry};
+    ghost use Rattle.gt_model.specs.Changes.{changed_entry};
     ghost use Rattle.gt_live.specs.Following.{entry_of};
     ghost use Rattle.gt_live.specs.Rows.{row_changed};
     ghost use Rattle.gt_live.specs.Owning.{IsRowOf, asks_change, change_effect};
-    ghost use Rattle.gt_calls.specs.Asking.{asked, begun_of};
-    ghost use Rattle.gt_calls.specs.Path.{idle_word, path};
-    ghost use Rattle.gt_calls.specs.Rules.{begun};
-    ghost use Rattle.gt_calls.specs.declared.request.Request.{Request};
-    ghost use Rattle.gt_calls.specs.declared.request.OpenRequest.TheVariants as asks;
+    ghost use Rattle.gt_model.specs.Asking.{asked, begun_of};
+    ghost use Rattle.gt_model.specs.Path.{idle_word, path};
+    ghost use Rattle.gt_model.specs.Rules.{begun};
+    ghost use Rattle.gt_model.specs.declared.request.Request.{Request};
+    ghost use Rattle.gt_model.specs.declared.request.OpenRequest.TheVariants as asks;
     ghost use Rattle.gt_live.specs.Domains.{known_on, verdict_of};
 
     // Returns the result of a change of the entry with this row, if it is decided at its beginning.

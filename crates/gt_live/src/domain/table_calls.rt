@@ -18,9 +18,9 @@ impl Domain {
     ghost use Rattle.gt_live.specs.Domains.{BelongsTo};
     ghost use Rattle.gt_live.specs.Domains.{KeepsPinned};
     ghost use Rattle.gt_live.specs.Questions.{answer_by, asks_question};
-    ghost use Rattle.gt_calls.specs.Path.{path};
-    ghost use Rattle.gt_calls.specs.declared.call.HeaderQuery.{HeaderQuery};
-    ghost use Rattle.gt_calls.specs.declared.request.Request.{Request};
+    ghost use Rattle.gt_model.specs.Path.{path};
+    ghost use Rattle.gt_model.specs.declared.action.HeaderQuery.{HeaderQuery};
+    ghost use Rattle.gt_model.specs.declared.request.Request.{Request};
     ghost use Rattle.gt_live.specs.Domains.{known_on, verdict_of, verdict_of_frames, verdict_of_size};
     ghost use Rattle.gt_live.specs.Domains.{verdict_of_version};
 

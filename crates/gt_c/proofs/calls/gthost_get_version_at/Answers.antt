@@ -1,6 +1,6 @@
 use Rattle.std.proofs.Common.{ap, ◌∙◌}
 use Rattle.gt_attached.specs.Encoding.{encoded}
-use Rattle.gt_calls.specs.declared.request.Request.TheVariants as requests
+use Rattle.gt_model.specs.declared.request.Request.TheVariants as requests
 use Rattle.gt_audit.specs.declared.record.Hypercall.TheVariants as hypercalls
 use Rattle.gt_live.specs.Domains.{verdict_of_version}
 use Rattle.gt_c.specs.Calling.{EncodesRecorded, dom_of, outcome_version}

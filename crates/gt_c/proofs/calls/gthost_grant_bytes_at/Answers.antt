@@ -1,6 +1,6 @@
 use Rattle.std.proofs.Common.{ap, ◌≡◌, ◌∙◌, ℕ, List, Bor}
 use Rattle.gt_attached.specs.Encoding.{encoded}
-use Rattle.gt_calls.specs.declared.request.Request.TheVariants as requests
+use Rattle.gt_model.specs.declared.request.Request.TheVariants as requests
 use Rattle.gt_c.specs.Asking.{spelled}
 use Rattle.gt_c.specs.Calling.{EncodesDone, ref_at}
 use Rattle.gt_c.proofs.Made.{idle-there, made}

@@ -1,8 +1,8 @@
 use Rattle.std.proofs.Common.{ap, subst, ◌∙◌}
-use Rattle.gt_entry.specs.declared.entry.Entry.{Entry}
+use Rattle.gt_model.specs.declared.entry.Entry.{Entry}
 use Rattle.gt_live.specs.Domains.{AnswersQuietly, verdict_of}
 use Rattle.gt_attached.specs.Encoding.{encoded}
-use Rattle.gt_calls.specs.declared.request.Request.TheVariants as requests
+use Rattle.gt_model.specs.declared.request.Request.TheVariants as requests
 use Rattle.gt_c.specs.Asking.{sub}
 use Rattle.gt_start.specs.Beginning.{may}
 use Rattle.gt_c.specs.Calling.{EncodesDone, ref_at}

@@ -3,10 +3,10 @@ use Rattle.gt_types.specs.Denial.{denial_of}
 use Rattle.gt_types.specs.declared.denial.Denial.{Denial}
 use Rattle.gt_types.specs.declared.denial.Facts.TheVariants.{None as NoFacts}
 use Rattle.gt_types.specs.declared.denial.Rule.TheVariants.{N6}
-use Rattle.gt_handles.specs.declared.handles.Handle.{Handle as Name}
+use Rattle.gt_model.specs.declared.handle.Handle.{Handle as Name}
 use Rattle.gt_attached.specs.Encoding.{encoded}
 use Rattle.gt_attached.specs.declared.answer.AttachedOutcome.TheVariants as outcomes
-use Rattle.gt_calls.specs.declared.request.Request.TheVariants as requests
+use Rattle.gt_model.specs.declared.request.Request.TheVariants as requests
 use Rattle.gt_audit.specs.declared.record.Hypercall.TheVariants as hypercalls
 use Rattle.gt_c.specs.Asking.{RefusesForeign, handle_named}
 use Rattle.gt_c.specs.Calling.{EncodesUnmapped, outcome}

@@ -1,9 +1,9 @@
 use Rattle.std.proofs.Common.{◌≡◌, ap, refl, ◌∙◌, Option}
 use Rattle.gt_attached.specs.Encoding.{encoded}
 use Rattle.gt_attached.specs.declared.answer.AttachedOutcome.TheVariants as outcomes
-use Rattle.gt_calls.specs.declared.held.HeldPin.{HeldPin as Kept}
+use Rattle.gt_model.specs.declared.held.HeldPin.{HeldPin as Kept}
 use Rattle.gt_handles.specs.Handles.{value_of}
-use Rattle.gt_handles.specs.declared.handles.Handle.{Handle as Name}
+use Rattle.gt_model.specs.declared.handle.Handle.{Handle as Name}
 use Rattle.gt_c.specs.Asking.{RefusesForeign, handle_named}
 use Rattle.gt_c.specs.Reports.{no_mapping, EncodesMapping, mapping_report, outcome_present}
 use Rattle.gt_c.proofs.Made.{made-telling}

@@ -2,9 +2,9 @@ use Rattle.gt_calls.proofs.Words.{◌≡◌, refl, ◌∙◌, DomId, CallResult,
 use Rattle.gt_calls.proofs.Words.{Leg, LegPhase, Phase, Walking, Accessing, Asking, Last, Ending, Observation, Step, CallPins}
 use Rattle.gt_calls.proofs.Words.{LegRefused, after_leg, ap, knows, leg_after, phase_after, pins_so_far, sym}
 use Rattle.gt_calls.specs.Prelude.{Denial}
-use Rattle.gt_calls.specs.declared.action.CallResult.TheVariants.{Refused}
+use Rattle.gt_model.specs.declared.action.CallResult.TheVariants.{Refused}
 use Rattle.gt_calls.specs.Machine.{change_after}
-use Rattle.gt_calls.specs.declared.call.HeaderQuery.{HeaderQuery}
+use Rattle.gt_model.specs.declared.action.HeaderQuery.{HeaderQuery}
 use Rattle.gt_calls.proofs.call.advance_phase.Goals as goal
 
 -- the phases that are left are those of a change

@@ -1,5 +1,5 @@
 use Rattle.std.proofs.Common.{replicate, sym, subst}
-use Rattle.gt_entry.specs.Bytes.{SpellsV1}
+use Rattle.gt_model.specs.Bytes.{SpellsV1}
 use Rattle.gt_entry.proofs.Encoding.{zeros, v1-encoded}
 use Rattle.gt_entry.proofs.bytes.encode_v1.Goals as goal
 

@@ -1,5 +1,5 @@
 use Rattle.std.proofs.Common.{replicate, sym, subst, refl}
-use Rattle.gt_entry.specs.Bytes.{SpellsV2, IsZeroPadded}
+use Rattle.gt_model.specs.Bytes.{SpellsV2, IsZeroPadded}
 use Rattle.gt_entry.proofs.Encoding.{zeros, v2-page-encoded, v2-sub-encoded, v2-via-encoded}
 use Rattle.gt_entry.proofs.bytes.encode_v2.Goals as goal
 

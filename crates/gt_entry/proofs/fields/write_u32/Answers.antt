@@ -1,5 +1,5 @@
 use Rattle.std.proofs.Common.{◌<◌, ◌^◌, List, ℕ, ap, ◌∙◌, arith}
-use Rattle.gt_entry.specs.Bytes.{field}
+use Rattle.gt_model.specs.Bytes.{field}
 use Rattle.gt_entry.proofs.Encoding.{written-part, field-there}
 use Rattle.gt_entry.proofs.fields.write_u32.Goals as goal
 

@@ -1,6 +1,6 @@
 use Rattle.std.proofs.Common.{◌≡◌, ◌∙◌, ◌+◌, ◌-◌, ◌++◌, ap, List, ℕ, length, replicate, arith, rules}
 use Rattle.std.proofs.lemmas.Grind.{common_steps}
-use Rattle.gt_frames.specs.Bytes.{overlay}
+use Rattle.gt_model.specs.Written.{overlay}
 use Rattle.gt_explore_state.specs.Pages.{padded}
 use Rattle.gt_explore_state.proofs.Padding.{laid-padded}
 use Rattle.gt_explore_state.proofs.pages.lay.Goals as goal

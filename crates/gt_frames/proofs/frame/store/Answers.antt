@@ -1,6 +1,6 @@
 use Rattle.std.proofs.Common.{◌≡◌, ℕ, arith, length, refl, replicate, subst}
 use Rattle.std.proofs.lemmas.Grind.{common_steps}
-use Rattle.gt_frames.specs.Bytes.{overlay}
+use Rattle.gt_model.specs.Written.{overlay}
 use Rattle.gt_frames.specs.Frames.{recorded}
 use Rattle.gt_frames.specs.Writers.{numbers_of}
 use Rattle.gt_frames.proofs.Shown.{knows_after}

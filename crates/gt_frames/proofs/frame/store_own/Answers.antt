@@ -1,6 +1,6 @@
 use Rattle.std.proofs.Common.{◌≡◌, ◌∙◌, ℕ, List, subst}
 use Rattle.std.specs.Prelude.{OnOk}
-use Rattle.gt_frames.specs.Bytes.{overlay}
+use Rattle.gt_model.specs.Written.{overlay}
 use Rattle.gt_frames.specs.Frames.{recorded}
 use Rattle.gt_frames.proofs.frame.store_own.Goals as goal
 

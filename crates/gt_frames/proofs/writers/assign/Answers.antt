@@ -1,5 +1,5 @@
 use Rattle.std.proofs.Common.{◌≡◌, ◌∙◌, ℕ, List, ap, arith, sym, refl, replicate}
-use Rattle.gt_frames.specs.Bytes.{overlay}
+use Rattle.gt_model.specs.Written.{overlay}
 use Rattle.gt_frames.specs.declared.writers.Stretch.{Stretch}
 use Rattle.gt_frames.specs.Writers.{numbers_of}
 use Rattle.gt_frames.proofs.Stretches.{covered, grown}

@@ -1,5 +1,5 @@
 use Rattle.std.proofs.Common.{◌≡◌}
-use Rattle.gt_core.specs.History.{History}
+use Rattle.gt_model.specs.History.{History}
 use Rattle.gt_core.specs.Standing.{CoreStands}
 use Rattle.gt_core.specs.Acting.{setting_of}
 use Rattle.gt_host.proofs.RunLemmas.{IsTicking}

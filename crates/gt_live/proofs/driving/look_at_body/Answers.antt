@@ -1,8 +1,8 @@
 use Rattle.std.proofs.Common.{◌∙◌, Bool, ap, refl, subst, sym}
-use Rattle.gt_entry.specs.Words.{is_kind}
-use Rattle.gt_entry.specs.declared.control.Control.{Control}
-use Rattle.gt_entry.specs.declared.control.EntryKind.{EntryKind}
-use Rattle.gt_entry.specs.declared.control.EntryKind.TheVariants.{Sub}
+use Rattle.gt_model.specs.Words.{is_kind}
+use Rattle.gt_model.specs.declared.control.Control.{Control}
+use Rattle.gt_model.specs.declared.control.EntryKind.{EntryKind}
+use Rattle.gt_model.specs.declared.control.EntryKind.TheVariants.{Sub}
 use Rattle.gt_live.specs.Walks.{ReadsSecond}
 use Rattle.gt_live.proofs.Making.{same_seat-then}
 use Rattle.gt_live.proofs.Legs.{no-sub}

@@ -1,9 +1,9 @@
 use Rattle.std.proofs.Common.{◌≡◌, ◌∙◌, Option, None, Some, ap, subst, sym}
 use Rattle.std.proofs.lemmas.Bool.{eq-eqb, ne_eqb}
 use Rattle.gt_types.specs.declared.denial.Rule.{Rule}
-use Rattle.gt_calls.specs.declared.action.Observation.TheVariants.{Taken, Word}
-use Rattle.gt_calls.specs.declared.action.Step.TheVariants.{Pin}
-use Rattle.gt_calls.specs.declared.held.HeldPin.{HeldPin}
+use Rattle.gt_model.specs.declared.action.Observation.TheVariants.{Taken, Word}
+use Rattle.gt_model.specs.declared.action.Step.TheVariants.{Pin}
+use Rattle.gt_model.specs.declared.held.HeldPin.{HeldPin}
 use Rattle.gt_calls.specs.declared.leg.LegNext.TheVariants.{Refused, Pinned}
 use Rattle.gt_calls.specs.declared.leg.LegPhase.TheVariants.{Body, Header, Look, Pinning, Relook}
 use Rattle.gt_calls.specs.Legs.{after_miss}

@@ -2,11 +2,11 @@ use Rattle.std.proofs.Common.{refl, sym, subst}
 use Rattle.gt_types.specs.Names.{resolved}
 use Rattle.gt_types.specs.declared.DomId.{DomId}
 use Rattle.gt_calls.specs.Rules.{knows}
-use Rattle.gt_calls.specs.declared.action.Observation.TheVariants.{Word}
-use Rattle.gt_calls.specs.declared.action.Step.TheVariants.{LookHeader}
+use Rattle.gt_model.specs.declared.action.Observation.TheVariants.{Word}
+use Rattle.gt_model.specs.declared.action.Step.TheVariants.{LookHeader}
 use Rattle.gt_calls.specs.declared.call.Phase.TheVariants.{Asking}
-use Rattle.gt_calls.specs.declared.call.HeaderQuery.{HeaderQuery}
-use Rattle.gt_calls.specs.declared.call.HeaderQuery.TheVariants.{Size}
+use Rattle.gt_model.specs.declared.action.HeaderQuery.{HeaderQuery}
+use Rattle.gt_model.specs.declared.action.HeaderQuery.TheVariants.{Size}
 use Rattle.gt_live.specs.Driving.{CanMake}
 use Rattle.gt_live.specs.Questions.{asks_question}
 use Rattle.gt_live.specs.Walks.{Made}

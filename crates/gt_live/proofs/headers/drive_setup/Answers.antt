@@ -1,11 +1,11 @@
 use Rattle.std.proofs.Common.{ℕ, refl, subst, sym}
 use Rattle.gt_calls.specs.Rules.{knows}
-use Rattle.gt_calls.specs.declared.action.Observation.TheVariants.{Nothing as Unseen}
-use Rattle.gt_calls.specs.declared.action.Step.TheVariants as steps
-use Rattle.gt_calls.specs.declared.action.CallValue.TheVariants.{Frames}
-use Rattle.gt_calls.specs.declared.action.CallResult.TheVariants.{Given}
+use Rattle.gt_model.specs.declared.action.Observation.TheVariants.{Nothing as Unseen}
+use Rattle.gt_model.specs.declared.action.Step.TheVariants as steps
+use Rattle.gt_model.specs.declared.action.CallValue.TheVariants.{Frames}
+use Rattle.gt_model.specs.declared.action.CallResult.TheVariants.{Given}
 use Rattle.gt_calls.specs.declared.call.Phase.TheVariants as phases
-use Rattle.gt_calls.specs.declared.request.OpenRequest.TheVariants as asks
+use Rattle.gt_model.specs.declared.request.OpenRequest.TheVariants as asks
 use Rattle.gt_live.specs.Driving.{CanMake}
 use Rattle.gt_live.specs.Walks.{Made}
 use Rattle.gt_live.proofs.Stepping.{can-only, only}

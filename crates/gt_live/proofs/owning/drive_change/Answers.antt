@@ -1,9 +1,9 @@
 use Rattle.std.proofs.Common.{◌≡◌, refl, subst, sym}
-use Rattle.gt_calls.specs.Path.{path}
+use Rattle.gt_model.specs.Path.{path}
 use Rattle.gt_calls.specs.Rules.{knows}
-use Rattle.gt_entry.specs.declared.entry.Entry.{Entry}
-use Rattle.gt_entry.specs.declared.change.EntryChange.{EntryChange}
-use Rattle.gt_entry.specs.declared.change.EntryChange.TheVariants.{Publish, Revoke}
+use Rattle.gt_model.specs.declared.entry.Entry.{Entry}
+use Rattle.gt_model.specs.declared.change.EntryChange.{EntryChange}
+use Rattle.gt_model.specs.declared.change.EntryChange.TheVariants.{Publish, Revoke}
 use Rattle.gt_live.specs.Domains.{verdict_of}
 use Rattle.gt_live.specs.Driving.{Leaves}
 use Rattle.gt_live.specs.Owning.{IsInTurns, asks_change, change_effect}

@@ -1,6 +1,6 @@
 use Rattle.gt_calls.specs.Rules.{knows}
-use Rattle.gt_calls.specs.declared.action.Action.TheVariants.{Step as Makes}
-use Rattle.gt_calls.specs.declared.action.Step.TheVariants.{LookControl}
+use Rattle.gt_model.specs.declared.action.Action.TheVariants.{Step as Makes}
+use Rattle.gt_model.specs.declared.action.Step.TheVariants.{LookControl}
 use Rattle.gt_calls.specs.declared.call.Phase.TheVariants.{Looking}
 use Rattle.gt_words.specs.Conditions.{IsSeatOf, IsSameSeat}
 use Rattle.gt_live.specs.Owning.{asks_change}

@@ -1,7 +1,7 @@
 use Rattle.std.proofs.Common.{List, [], sym, subst}
 use Rattle.std.proofs.lemmas.List.{append-nil}
-use Rattle.gt_calls.specs.declared.held.HeldPin.{HeldPin}
-use Rattle.gt_calls.specs.Holding.{held_by}
+use Rattle.gt_model.specs.declared.held.HeldPin.{HeldPin}
+use Rattle.gt_model.specs.Holding.{held_by}
 use Rattle.gt_live.specs.Underway.{HasTaken}
 use Rattle.gt_live.proofs.GivingBack.{can-give, dest-run, given-both, given-taken, gives-back, source-run}
 use Rattle.gt_live.proofs.routes.give_back.Goals as goal

@@ -1,6 +1,6 @@
 use Rattle.std.proofs.Common.{refl, sym, subst}
-use Rattle.gt_calls.specs.declared.held.AccessPath.{AccessPath}
-use Rattle.gt_calls.specs.Holding.{held_by}
+use Rattle.gt_model.specs.declared.held.AccessPath.{AccessPath}
+use Rattle.gt_model.specs.Holding.{held_by}
 use Rattle.gt_live.specs.Copies.{CanGiveBack, IsGivenBack}
 use Rattle.gt_live.proofs.routes.give_back_route.Goals as goal
 

@@ -2,8 +2,8 @@ use Rattle.std.proofs.Common.{refl, ap, Some}
 use Rattle.std.specs.Prelude.{Ok, Err}
 use Rattle.gt_types.specs.declared.DomId.{DomId}
 use Rattle.gt_calls.specs.declared.copying.PinPurpose.TheVariants.{Dest}
-use Rattle.gt_calls.specs.declared.held.AccessPath.TheVariants.{Through}
-use Rattle.gt_calls.specs.Holding.{held_by}
+use Rattle.gt_model.specs.declared.held.AccessPath.TheVariants.{Through}
+use Rattle.gt_model.specs.Holding.{held_by}
 use Rattle.gt_calls.specs.Machine.{through_via}
 use Rattle.gt_calls.specs.Rules.{knows}
 use Rattle.gt_live.specs.Copies.{after_dest, dest_leg}

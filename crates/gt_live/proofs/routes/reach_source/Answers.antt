@@ -2,7 +2,7 @@ use Rattle.std.proofs.Common.{[], refl, ap, Some}
 use Rattle.std.specs.Prelude.{Ok, Err}
 use Rattle.gt_types.specs.declared.DomId.{DomId}
 use Rattle.gt_calls.specs.declared.copying.PinPurpose.TheVariants.{Source}
-use Rattle.gt_calls.specs.declared.held.AccessPath.TheVariants.{Through}
+use Rattle.gt_model.specs.declared.held.AccessPath.TheVariants.{Through}
 use Rattle.gt_calls.specs.Machine.{through_via}
 use Rattle.gt_calls.specs.Rules.{knows}
 use Rattle.gt_live.specs.Copies.{phase_after_source, source_leg}

@@ -1,7 +1,7 @@
 use Rattle.std.proofs.Common.{◌≡◌, ◌∙◌, ap, sym}
-use Rattle.gt_calls.specs.declared.held.CallPins.{CallPins}
-use Rattle.gt_calls.specs.declared.held.AccessPath.{AccessPath}
-use Rattle.gt_calls.specs.declared.held.AccessPath.TheVariants.{Own}
+use Rattle.gt_model.specs.declared.held.CallPins.{CallPins}
+use Rattle.gt_model.specs.declared.held.AccessPath.{AccessPath}
+use Rattle.gt_model.specs.declared.held.AccessPath.TheVariants.{Own}
 use Rattle.gt_calls.specs.Machine.{at_dest, at_source}
 use Rattle.gt_calls.specs.Rules.{knows}
 use Rattle.gt_live.specs.Copies.{after_copy, filled, source_leg}

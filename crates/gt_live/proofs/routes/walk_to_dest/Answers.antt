@@ -1,11 +1,11 @@
 use Rattle.std.proofs.Common.{◌∙◌, ap, subst, sym}
 use Rattle.std.specs.Prelude.{Err}
-use Rattle.gt_calls.specs.declared.action.CallResult.TheVariants.{Refused}
+use Rattle.gt_model.specs.declared.action.CallResult.TheVariants.{Refused}
 use Rattle.gt_calls.specs.declared.call.Phase.TheVariants.{Accessing, Ending}
-use Rattle.gt_calls.specs.declared.held.AccessPath.{AccessPath}
+use Rattle.gt_model.specs.declared.held.AccessPath.{AccessPath}
 use Rattle.gt_calls.specs.Machine.{at_dest}
 use Rattle.gt_calls.specs.Rules.{knows}
-use Rattle.gt_calls.specs.Holding.{held_by}
+use Rattle.gt_model.specs.Holding.{held_by}
 use Rattle.gt_live.specs.Copies.{CanGiveBack, IsGivenBack, after_copy, dest_leg}
 use Rattle.gt_live.specs.Phases.{Runs}
 use Rattle.gt_live.proofs.GivingBack.{can-give-source, only_source, source-given}

@@ -1,19 +1,19 @@
 use Rattle.std.proofs.Common.{[], subst, ◌≡◌, ℕ, ◌+◌, ap, ◌∙◌, arith}
 use Rattle.gt_words.proofs.calls.grant.Goals as goal
-use Rattle.gt_entry.specs.Spelling.{IsSpelled, idle_word_of}
-use Rattle.gt_entry.specs.declared.change.BodyWord.TheVariants.{First, Second}
+use Rattle.gt_model.specs.Spelling.{IsSpelled, idle_word_of}
+use Rattle.gt_model.specs.declared.change.BodyWord.TheVariants.{First, Second}
 use Rattle.gt_word_history.specs.declared.view.View.{View}
-use Rattle.gt_entry.specs.Words.{control_of}
-use Rattle.gt_entry.specs.declared.control.Control.{Control}
-use Rattle.gt_entry.specs.declared.entry.Entry.{Entry}
-use Rattle.gt_entry.specs.declared.entry.Entry.TheVariants.{Invalid}
+use Rattle.gt_model.specs.Words.{control_of}
+use Rattle.gt_model.specs.declared.control.Control.{Control}
+use Rattle.gt_model.specs.declared.entry.Entry.{Entry}
+use Rattle.gt_model.specs.declared.entry.Entry.TheVariants.{Invalid}
 use Rattle.gt_words.proofs.StepDuties.{grant_owes}
 use Rattle.gt_words.proofs.StepFacts.{exchange_missed, exchange_taken, finds_pins, publishes}
 use Rattle.gt_words.specs.Conditions.{IsIdleOf}
 use Rattle.gt_word_history.specs.Steps.{changed_word}
 use Rattle.gt_word_history.specs.Views.{last_of, own_body, steps_on, stored_body}
 use Rattle.gt_word_history.specs.declared.view.EntryRecord.{EntryRecord}
-use Rattle.gt_entry.specs.declared.change.EntryChange.TheVariants as change
+use Rattle.gt_model.specs.declared.change.EntryChange.TheVariants as change
 use Rattle.gt_word_history.specs.declared.view.Purpose.TheVariants as purpose
 
 -- the generation that the word has

@@ -8,7 +8,7 @@ use Rattle.gt_words.specs.Conditions.{IsWordOf}
 use Rattle.gt_word_history.specs.Controls.{generation_of}
 use Rattle.gt_word_history.specs.declared.view.EntryRecord.{EntryRecord}
 use Rattle.gt_word_history.specs.Views.{last_of}
-use Rattle.gt_entry.specs.declared.change.EntryChange.TheVariants as change
+use Rattle.gt_model.specs.declared.change.EntryChange.TheVariants as change
 use Rattle.gt_word_history.specs.declared.view.Purpose.TheVariants as purpose
 
 -- the word is not worn

@@ -1,13 +1,13 @@
 use Rattle.std.proofs.Common.{[], ◌≡◌, ℕ, ap, ◌∙◌, arith}
 use Rattle.gt_words.proofs.calls.revoke.Goals as goal
-use Rattle.gt_entry.specs.Spelling.{idle_word_of}
-use Rattle.gt_entry.specs.Words.{control_of}
-use Rattle.gt_entry.specs.declared.control.Control.{Control}
-use Rattle.gt_entry.specs.declared.entry.Entry.TheVariants.{Invalid}
+use Rattle.gt_model.specs.Spelling.{idle_word_of}
+use Rattle.gt_model.specs.Words.{control_of}
+use Rattle.gt_model.specs.declared.control.Control.{Control}
+use Rattle.gt_model.specs.declared.entry.Entry.TheVariants.{Invalid}
 use Rattle.gt_words.proofs.StepDuties.{revoke_owes}
 use Rattle.gt_words.proofs.StepFacts.{exchange_missed, exchange_taken, finds_pins, revokes}
 use Rattle.gt_word_history.specs.Controls.{invalid_word}
-use Rattle.gt_entry.specs.declared.change.EntryChange.TheVariants as change
+use Rattle.gt_model.specs.declared.change.EntryChange.TheVariants as change
 use Rattle.gt_word_history.specs.declared.view.Purpose.TheVariants as purpose
 
 -- the invalid word of the same generation

@@ -2,7 +2,7 @@ use Rattle.std.proofs.Common.{[], ℕ}
 use Rattle.gt_words.proofs.calls.withdraw.Goals as goal
 use Rattle.gt_words.proofs.StepDuties.{withdraw_owes}
 use Rattle.gt_words.proofs.StepFacts.{exchange_missed, exchange_taken, finds_another, takes_change}
-use Rattle.gt_entry.specs.declared.change.EntryChange.TheVariants as change
+use Rattle.gt_model.specs.declared.change.EntryChange.TheVariants as change
 use Rattle.gt_word_history.specs.declared.view.Purpose.TheVariants as purpose
 
 pub exchange-found-requires-clause-may : goal.exchange-found-requires-clause-may

@@ -1,6 +1,6 @@
 use Rattle.std.proofs.Common.{◌≡◌, ◌∙◌, sym, ap, subst, true, inr}
-use Rattle.gt_entry.specs.Permits.{forwards}
-use Rattle.gt_entry.specs.declared.entry.Entry.{Entry}
+use Rattle.gt_model.specs.Permits.{forwards}
+use Rattle.gt_model.specs.declared.entry.Entry.{Entry}
 use Rattle.gt_types.specs.declared.Dir.TheVariants.{Read}
 use Rattle.gt_types.specs.declared.DomId.{DomId}
 use Rattle.gt_word_history.specs.Controls.{LeadsTo}

@@ -1,4 +1,4 @@
-use Rattle.gt_calls.specs.declared.request.Request.TheVariants.{Grant}
+use Rattle.gt_model.specs.declared.request.Request.TheVariants.{Grant}
 use Rattle.gt_live.specs.Domains.{AnswersQuietly, verdict_of}
 use Rattle.gt_attached.proofs.Beside.{beside, idle, still}
 use Rattle.gt_attached.proofs.attached.AttachedDomain.grant.Goals as goal

@@ -1,5 +1,5 @@
 use Rattle.gt_audit.specs.declared.record.Hypercall.TheVariants as hypercalls
-use Rattle.gt_calls.specs.declared.request.Request.TheVariants.{SetupTable}
+use Rattle.gt_model.specs.declared.request.Request.TheVariants.{SetupTable}
 use Rattle.gt_live.specs.Domains.{AnswersRecorded, verdict_of_frames}
 use Rattle.gt_attached.proofs.Beside.{beside, idle, still}
 use Rattle.gt_attached.proofs.attached.AttachedDomain.setup_table.Goals as goal

@@ -3,7 +3,7 @@ use Rattle.gt_types.specs.Denial.{denial_of}
 use Rattle.gt_types.specs.declared.denial.Facts.TheVariants.{None as NoFacts}
 use Rattle.gt_types.specs.declared.denial.Rule.TheVariants.{N6}
 use Rattle.gt_handles.specs.Handles.{value_of}
-use Rattle.gt_calls.specs.declared.held.HeldPin.{HeldPin}
+use Rattle.gt_model.specs.declared.held.HeldPin.{HeldPin}
 use Rattle.gt_live.specs.Domains.{KeepsPinned, known_on}
 use Rattle.gt_live.specs.Mappings.{Removes}
 use Rattle.gt_attached.proofs.Beside.{beside, idle, still}

@@ -3,7 +3,7 @@ use Rattle.std.specs.Prelude.{slice_get}
 use Rattle.std.proofs.lemmas.Option.{get_or_from_slice_get, none-some, slice_get_past}
 use Rattle.std.proofs.lemmas.Result.{IfOk-weaker}
 use Rattle.std.specs.Vec.{with_item}
-use Rattle.gt_core.specs.declared.trace.Answer.{Answer}
+use Rattle.gt_model.specs.declared.trace.Answer.{Answer}
 use Rattle.gt_script_runs.specs.Printing.{answer_line}
 use Rattle.gt_explore_moves.specs.Calls.{KnowsTable, ShowsCalls}
 use Rattle.gt_explore_moves.specs.Ends.{tasks_at}

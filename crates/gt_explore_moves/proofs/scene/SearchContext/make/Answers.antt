@@ -1,7 +1,7 @@
 use Rattle.std.proofs.Common.{◌≡◌, ◌∷◌, Vec, Global, sym, ap, ◌∙◌, subst}
 use Rattle.gt_types.specs.declared.DomId.{DomId}
-use Rattle.gt_calls.specs.declared.action.Observation.{Observation}
-use Rattle.gt_core.specs.History.{seen_by}
+use Rattle.gt_model.specs.declared.action.Observation.{Observation}
+use Rattle.gt_model.specs.History.{seen_by}
 use Rattle.gt_explore_state.specs.Shows.{IsGivenTo, IsItemOfStep, LooksInRun, PagesShow, TablesShow}
 use Rattle.gt_explore_state.specs.declared.ground.SparseState.{SparseState}
 use Rattle.gt_explore_state.specs.declared.pages.SparsePage.{SparsePage}

@@ -1,6 +1,6 @@
 use Rattle.std.proofs.Common.{sym, ap, ◌∙◌, subst}
 use Rattle.gt_calls.specs.Following.{IsLeftAlike}
-use Rattle.gt_calls.specs.Rules.{CallerKnowledge}
+use Rattle.gt_model.specs.Rules.{CallerKnowledge}
 use Rattle.gt_explore_moves.specs.Calls.{known_in}
 use Rattle.gt_explore_moves.proofs.OpenAlong.{goes-on-as-run}
 use Rattle.gt_explore_moves.proofs.scene.SearchContext.next.Goals as goal

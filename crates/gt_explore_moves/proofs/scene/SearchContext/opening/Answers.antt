@@ -1,5 +1,5 @@
 use Rattle.std.proofs.Common.{sym, subst}
-use Rattle.gt_calls.specs.Rules.{CallerKnowledge}
+use Rattle.gt_model.specs.Rules.{CallerKnowledge}
 use Rattle.gt_explore_moves.specs.Beginnings.{BeginsAlike}
 use Rattle.gt_explore_moves.proofs.scene.SearchContext.opening.Goals as goal
 

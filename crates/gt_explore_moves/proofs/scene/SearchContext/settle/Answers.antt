@@ -3,7 +3,7 @@ use Rattle.std.specs.Prelude.{slice_get}
 use Rattle.std.proofs.lemmas.Option.{get_or_from_slice_get, none-some, slice_get_past}
 use Rattle.std.specs.Vec.{with_item}
 use Rattle.gt_types.specs.declared.config.DomainConfig.{DomainConfig}
-use Rattle.gt_calls.specs.declared.action.Action.{Action}
+use Rattle.gt_model.specs.declared.action.Action.{Action}
 use Rattle.gt_explore_moves.specs.Continuing.{GoesOnAsRun}
 use Rattle.gt_explore_moves.specs.Ticking.{mappings_after}
 use Rattle.gt_explore_moves.specs.declared.actor.Actor.{Actor}

@@ -1,8 +1,8 @@
 use Rattle.std.proofs.Common.{◌≡◌, ◌∙◌, ap, sym, subst, refl, Some}
 use Rattle.gt_types.specs.declared.DomId.{DomId}
-use Rattle.gt_calls.specs.Path.{path, header_value_of}
-use Rattle.gt_calls.specs.Rules.{CallerKnowledge, label_of, query_begun}
-use Rattle.gt_calls.specs.declared.call.HeaderQuery.{HeaderQuery}
+use Rattle.gt_model.specs.Path.{path, header_value_of}
+use Rattle.gt_model.specs.Rules.{CallerKnowledge, label_of, query_begun}
+use Rattle.gt_model.specs.declared.action.HeaderQuery.{HeaderQuery}
 use Rattle.gt_live.specs.Domains.{knowledge}
 use Rattle.gt_live.specs.Driving.{Knows}
 use Rattle.gt_live.specs.Questions.{asks_question}

@@ -1,12 +1,13 @@
 use Rattle.std.proofs.Common.{◌≡◌, ◌∙◌, ap, sym, subst, refl, Some, None}
 use Rattle.gt_types.specs.declared.DomId.{DomId}
-use Rattle.gt_calls.specs.Path.{path}
-use Rattle.gt_calls.specs.Rules.{CallerKnowledge, begun, knows, label_of}
-use Rattle.gt_calls.specs.declared.request.OpenRequest.TheVariants as asks
+use Rattle.gt_model.specs.Path.{path}
+use Rattle.gt_model.specs.Rules.{CallerKnowledge, begun, label_of}
+use Rattle.gt_calls.specs.Rules.{knows}
+use Rattle.gt_model.specs.declared.request.OpenRequest.TheVariants as asks
 use Rattle.std.specs.Prelude.{Result, ℕ}
 use Rattle.gt_types.specs.declared.denial.Denial.{Denial}
-use Rattle.gt_calls.specs.declared.action.CallValue.TheVariants.{Frames}
-use Rattle.gt_calls.specs.declared.action.CallResult.TheVariants.{Given}
+use Rattle.gt_model.specs.declared.action.CallValue.TheVariants.{Frames}
+use Rattle.gt_model.specs.declared.action.CallResult.TheVariants.{Given}
 use Rattle.gt_live.specs.Domains.{knowledge, verdict_of_frames}
 use Rattle.gt_live.proofs.AtOnce.{once-framed}
 use Rattle.gt_live.specs.Driving.{Knows}

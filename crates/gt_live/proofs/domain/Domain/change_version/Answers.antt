@@ -1,12 +1,12 @@
 use Rattle.std.proofs.Common.{◌≡◌, ◌∙◌, ap, sym, subst, refl, Some}
 use Rattle.gt_types.specs.declared.DomId.{DomId}
-use Rattle.gt_calls.specs.Path.{path}
-use Rattle.gt_calls.specs.Rules.{CallerKnowledge, begun}
-use Rattle.gt_calls.specs.declared.request.OpenRequest.TheVariants as asks
-use Rattle.gt_calls.specs.declared.request.Request.TheVariants as requests
+use Rattle.gt_model.specs.Path.{path}
+use Rattle.gt_model.specs.Rules.{CallerKnowledge, begun}
+use Rattle.gt_model.specs.declared.request.OpenRequest.TheVariants as asks
+use Rattle.gt_model.specs.declared.request.Request.TheVariants as requests
 use Rattle.std.specs.Prelude.{Result}
 use Rattle.gt_types.specs.declared.denial.Denial.{Denial}
-use Rattle.gt_calls.specs.declared.action.CallResult.TheVariants.{Granted}
+use Rattle.gt_model.specs.declared.action.CallResult.TheVariants.{Granted}
 use Rattle.gt_live.specs.Domains.{knowledge, verdict_of}
 use Rattle.gt_live.proofs.AtOnce.{once-done}
 use Rattle.gt_live.specs.Driving.{Knows}

@@ -5,8 +5,8 @@ use Rattle.gt_words.specs.Conditions.{IsWordOf}
 use Rattle.gt_word_history.specs.declared.view.EntryRecord.{EntryRecord}
 use Rattle.gt_calls.specs.Rules.{entry_in, own_generation}
 use Rattle.gt_calls.specs.declared.known.OwnerEntry.{OwnerEntry}
-use Rattle.gt_calls.specs.declared.action.Observation.TheVariants.{Word}
-use Rattle.gt_calls.specs.declared.action.Step.TheVariants.{LookControl}
+use Rattle.gt_model.specs.declared.action.Observation.TheVariants.{Word}
+use Rattle.gt_model.specs.declared.action.Step.TheVariants.{LookControl}
 use Rattle.gt_live.specs.Walks.{Made}
 use Rattle.gt_live.proofs.Closing.{quiet-then, valid-used}
 use Rattle.gt_live.proofs.domain.Domain.close_row.Goals as goal

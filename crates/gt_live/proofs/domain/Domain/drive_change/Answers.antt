@@ -1,7 +1,7 @@
 use Rattle.std.proofs.Common.{◌≡◌, ◌∙◌, ap, sym, subst, None, refl}
 use Rattle.gt_types.specs.declared.DomId.{DomId}
-use Rattle.gt_calls.specs.Path.{idle_word, path}
-use Rattle.gt_calls.specs.Rules.{CallerKnowledge, begun}
+use Rattle.gt_model.specs.Path.{idle_word, path}
+use Rattle.gt_model.specs.Rules.{CallerKnowledge, begun}
 use Rattle.gt_live.specs.Driving.{Knows}
 use Rattle.gt_live.specs.Domains.{knowledge, verdict_of}
 use Rattle.gt_live.specs.Owning.{asks_change}

@@ -1,6 +1,6 @@
 use Rattle.std.proofs.Common.{◌≡◌, sym, subst, None, refl}
 use Rattle.gt_types.specs.declared.DomId.{DomId}
-use Rattle.gt_calls.specs.Rules.{CallerKnowledge, copy_begun}
+use Rattle.gt_model.specs.Rules.{CallerKnowledge, copy_begun}
 use Rattle.gt_live.specs.Copies.{CopyStopsWith, filled}
 use Rattle.gt_live.specs.Driving.{Knows}
 use Rattle.gt_live.specs.Domains.{knowledge}

@@ -1,8 +1,8 @@
 use Rattle.std.proofs.Common.{◌≡◌, sym, subst, None, refl}
 use Rattle.gt_types.specs.declared.DomId.{DomId}
-use Rattle.gt_calls.specs.Path.{map_leg, path}
-use Rattle.gt_calls.specs.Rules.{CallerKnowledge, map_begun}
-use Rattle.gt_calls.specs.declared.request.OpenRequest.TheVariants as asks
+use Rattle.gt_model.specs.Path.{map_leg, path}
+use Rattle.gt_model.specs.Rules.{CallerKnowledge, map_begun}
+use Rattle.gt_model.specs.declared.request.OpenRequest.TheVariants as asks
 use Rattle.gt_live.specs.Driving.{Knows, Leaves}
 use Rattle.gt_live.specs.Domains.{knowledge}
 use Rattle.gt_live.specs.Maps.{pin_effect, pin_verdict}

@@ -2,7 +2,7 @@ use Rattle.std.proofs.Common.{◌≡◌, ◌∙◌, ◌+◌, ◌<◌, ap, sym, s
 use Rattle.gt_types.specs.declared.limits.TheConstants.{TABLE_ENTRIES}
 use Rattle.std.specs.Option.{IsSome}
 use Rattle.std.specs.Prelude.{OnSome}
-use Rattle.gt_handles.specs.declared.handles.Handle.{Handle}
+use Rattle.gt_model.specs.declared.handle.Handle.{Handle}
 use Rattle.gt_handles.specs.Handles.{HandleMap, Updates, count_of, value_of}
 use Rattle.gt_handles.specs.Listing.{IsTaken}
 use Rattle.gt_words.specs.Conditions.{HasDomain, Holds, position_at}
@@ -10,7 +10,7 @@ use Rattle.gt_words.specs.Answers.{Unpins}
 use Rattle.gt_word_history.specs.Controls.{generation_of}
 use Rattle.gt_word_history.specs.Rule.{position_in}
 use Rattle.gt_words.specs.declared.words.Pin.{Pin}
-use Rattle.gt_calls.specs.declared.held.HeldPin.{HeldPin}
+use Rattle.gt_model.specs.declared.held.HeldPin.{HeldPin}
 use Rattle.gt_live.proofs.DomainKept.{some-pins, unmapped}
 use Rattle.gt_live.proofs.Making.{still_seat}
 use Rattle.gt_live.proofs.domain.Domain.drop_mapping.Goals as goal

@@ -1,10 +1,10 @@
 use Rattle.std.proofs.Common.{ap, ◌∙◌, subst, sym}
-use Rattle.gt_calls.specs.declared.held.CallPins.{CallPins}
-use Rattle.gt_calls.specs.Holding.{last_first}
+use Rattle.gt_model.specs.declared.held.CallPins.{CallPins}
+use Rattle.gt_model.specs.Holding.{last_first}
 use Rattle.gt_calls.specs.Standing.{pins_by_call}
 use Rattle.gt_live.specs.Underway.{AreOfRun, HasTaken}
 use Rattle.gt_live.proofs.GivingBack.{gives-routes}
-use Rattle.gt_calls.specs.declared.held.HeldPin.{HeldPin}
+use Rattle.gt_model.specs.declared.held.HeldPin.{HeldPin}
 use Rattle.gt_handles.specs.Handles.{HandleMap}
 use Rattle.gt_live.proofs.DomainKept.{looked}
 use Rattle.gt_live.proofs.Making.{same_seat-then, still_seat}

@@ -1,7 +1,7 @@
 use Rattle.std.proofs.Common.{◌<◌, ◌∙◌, ℕ, arith, inr, subst}
-use Rattle.gt_entry.specs.declared.entry.Entry.{Entry}
-use Rattle.gt_entry.specs.declared.header.Header.{Header}
-use Rattle.gt_calls.specs.Rules.{size_of}
+use Rattle.gt_model.specs.declared.entry.Entry.{Entry}
+use Rattle.gt_model.specs.declared.header.Header.{Header}
+use Rattle.gt_model.specs.Rules.{size_of}
 use Rattle.gt_live.specs.Following.{IsDue, Means, entry_of}
 use Rattle.gt_live.proofs.Following.{due-leaves}
 use Rattle.gt_live.proofs.domain.Domain.follow.Goals as goal

@@ -1,10 +1,10 @@
 use Rattle.gt_audit.specs.declared.record.Hypercall.TheVariants as hypercalls
-use Rattle.gt_calls.specs.declared.request.Request.TheVariants as requests
+use Rattle.gt_model.specs.declared.request.Request.TheVariants as requests
 use Rattle.std.proofs.Common.{sym, subst}
-use Rattle.gt_calls.specs.Path.{path}
-use Rattle.gt_calls.specs.declared.action.CallResult.{CallResult}
-use Rattle.gt_calls.specs.declared.call.HeaderQuery.TheVariants.{Version}
-use Rattle.gt_calls.specs.declared.request.OpenRequest.TheVariants as asks
+use Rattle.gt_model.specs.Path.{path}
+use Rattle.gt_model.specs.declared.action.CallResult.{CallResult}
+use Rattle.gt_model.specs.declared.action.HeaderQuery.TheVariants.{Version}
+use Rattle.gt_model.specs.declared.request.OpenRequest.TheVariants as asks
 use Rattle.gt_live.specs.Domains.{knowledge, verdict_of_version}
 use Rattle.gt_live.specs.Walks.{Called}
 use Rattle.gt_live.proofs.Recorded.{recorded, recorded-stays}

@@ -1,5 +1,5 @@
 use Rattle.std.proofs.Common.{ap}
-use Rattle.gt_calls.specs.Rules.{CallerKnowledge}
+use Rattle.gt_model.specs.Rules.{CallerKnowledge}
 use Rattle.gt_live.specs.Domains.{knowledge}
 use Rattle.gt_live.proofs.AtOnce.{bytes-open, bytes-refused}
 use Rattle.gt_live.proofs.domain.Domain.judge_bytes.Goals as goal

@@ -1,6 +1,6 @@
 use Rattle.std.proofs.Common.{◌∙◌, ap}
 use Rattle.gt_types.specs.declared.DomId.{DomId}
-use Rattle.gt_calls.specs.Rules.{CallerKnowledge, copy_begun}
+use Rattle.gt_model.specs.Rules.{CallerKnowledge, copy_begun}
 use Rattle.gt_live.specs.Domains.{knowledge}
 use Rattle.gt_live.proofs.domain.Domain.judge_copy.Goals as goal
 

@@ -1,6 +1,6 @@
 use Rattle.std.proofs.Common.{◌∙◌, ap, sym}
 use Rattle.gt_types.specs.declared.DomId.{DomId}
-use Rattle.gt_calls.specs.Rules.{CallerKnowledge, label_of, map_begun}
+use Rattle.gt_model.specs.Rules.{CallerKnowledge, label_of, map_begun}
 use Rattle.gt_live.specs.Domains.{knowledge}
 use Rattle.gt_live.proofs.domain.Domain.judge_map.Goals as goal
 

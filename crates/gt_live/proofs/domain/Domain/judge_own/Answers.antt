@@ -1,5 +1,5 @@
 use Rattle.std.proofs.Common.{◌∙◌, ap, sym, subst}
-use Rattle.gt_calls.specs.Rules.{CallerKnowledge, begun}
+use Rattle.gt_model.specs.Rules.{CallerKnowledge, begun}
 use Rattle.gt_live.specs.Owning.{IsRowOf, asks_change}
 use Rattle.gt_live.proofs.domain.Domain.judge_own.Goals as goal
 

@@ -1,5 +1,5 @@
 use Rattle.std.proofs.Common.{◌∙◌, ap, sym}
-use Rattle.gt_calls.specs.Rules.{CallerKnowledge, label_of, owner_label, unmap_begun}
+use Rattle.gt_model.specs.Rules.{CallerKnowledge, label_of, owner_label, unmap_begun}
 use Rattle.gt_live.proofs.domain.Domain.judge_unmap.Goals as goal
 
 pub returns : goal.returns

@@ -2,12 +2,12 @@ use Rattle.std.proofs.Common.{◌≡◌, ◌∙◌, sym, ap, subst, refl, Some}
 use Rattle.std.specs.Prelude.{IfOk, ℕ, option_copied, IfErr}
 use Rattle.gt_frames.specs.Receipts.{Reading}
 use Rattle.gt_types.specs.declared.Dir.TheVariants as dirs
-use Rattle.gt_entry.specs.Entries.{frame_of}
-use Rattle.gt_calls.specs.declared.action.Step.TheVariants as steps
-use Rattle.gt_calls.specs.declared.held.HeldPin.{HeldPin}
-use Rattle.gt_calls.specs.declared.request.Request.TheVariants as requests
+use Rattle.gt_model.specs.Entries.{frame_of}
+use Rattle.gt_model.specs.declared.action.Step.TheVariants as steps
+use Rattle.gt_model.specs.declared.held.HeldPin.{HeldPin}
+use Rattle.gt_model.specs.declared.request.Request.TheVariants as requests
 use Rattle.gt_handles.specs.Handles.{value_of}
-use Rattle.gt_calls.specs.Rules.{load_begun}
+use Rattle.gt_model.specs.Rules.{load_begun}
 use Rattle.gt_live.specs.Accesses.{frame_named, IsIfMissing, IsReadBy, ReadsFrame}
 use Rattle.gt_live.specs.Domains.{knowledge}
 use Rattle.gt_live.proofs.Accessing.{mapped-way, none-left, one-access, refused-access, reaches-mapped}

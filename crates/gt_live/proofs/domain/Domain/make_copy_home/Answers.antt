@@ -1,14 +1,14 @@
 use Rattle.std.proofs.Common.{◌≡◌, ◌∙◌, refl, sym, ap, subst, inl}
 use Rattle.gt_types.specs.declared.DomId.{DomId}
 use Rattle.gt_types.specs.declared.places.Spot.{Spot}
-use Rattle.gt_calls.specs.declared.held.HeldPin.{HeldPin}
-use Rattle.gt_calls.specs.declared.request.Request.TheVariants as requests
-use Rattle.gt_calls.specs.Path.{path_of, place_of}
+use Rattle.gt_model.specs.declared.held.HeldPin.{HeldPin}
+use Rattle.gt_model.specs.declared.request.Request.TheVariants as requests
+use Rattle.gt_model.specs.Path.{path_of, place_of}
 use Rattle.gt_handles.specs.Handles.{HandleMap}
 use Rattle.gt_live.specs.Domains.{knowledge}
 use Rattle.std.specs.Prelude.{IfErr, IfOk}
 use Rattle.gt_frames.specs.Receipts.{Copying}
-use Rattle.gt_calls.specs.Holding.{last_first}
+use Rattle.gt_model.specs.Holding.{last_first}
 use Rattle.gt_live.specs.Accesses.{CopiesBetween, IsCopiedBy, IsIfOneMissing}
 use Rattle.gt_live.proofs.Accessing.{refused-access}
 use Rattle.gt_live.proofs.Copied.{access-dest, access-dest-range, access-may, access-source, access-source-range}

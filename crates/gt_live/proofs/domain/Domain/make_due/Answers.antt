@@ -1,6 +1,6 @@
 use Rattle.std.proofs.Common.{inl, refl, subst, sym}
 use Rattle.std.specs.Prelude.{Result, Err, Ok}
-use Rattle.gt_entry.specs.declared.change.EntryChange.TheVariants.{Withdraw}
+use Rattle.gt_model.specs.declared.change.EntryChange.TheVariants.{Withdraw}
 use Rattle.gt_types.specs.declared.denial.Denial.{Denial}
 use Rattle.gt_live.specs.Following.{Calls, Does, RefusesField}
 use Rattle.gt_live.specs.declared.domain.following.Due.{Due}

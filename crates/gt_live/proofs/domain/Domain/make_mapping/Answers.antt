@@ -3,12 +3,12 @@ use Rattle.std.specs.Prelude.{Result, Ok, Err, OnOk, IsOk, ℕ, true, false, ◌
 use Rattle.std.specs.Result.{is_err}
 use Rattle.gt_handles.specs.Handles.{HandleMap, KeepsSpent}
 use Rattle.gt_handles.specs.Listing.{IsInserted}
-use Rattle.gt_calls.specs.Asking.{begun_of}
-use Rattle.gt_calls.specs.Path.{map_leg, path}
-use Rattle.gt_calls.specs.Rules.{CallerKnowledge, map_begun}
-use Rattle.gt_calls.specs.declared.held.HeldPin.{HeldPin}
-use Rattle.gt_calls.specs.declared.request.OpenRequest.TheVariants as asks
-use Rattle.gt_calls.specs.declared.request.Request.TheVariants as requests
+use Rattle.gt_model.specs.Asking.{begun_of}
+use Rattle.gt_model.specs.Path.{map_leg, path}
+use Rattle.gt_model.specs.Rules.{CallerKnowledge, map_begun}
+use Rattle.gt_model.specs.declared.held.HeldPin.{HeldPin}
+use Rattle.gt_model.specs.declared.request.OpenRequest.TheVariants as asks
+use Rattle.gt_model.specs.declared.request.Request.TheVariants as requests
 use Rattle.gt_live.specs.declared.domain.Domain.{Domain}
 use Rattle.gt_live.specs.Domains.{knowledge}
 use Rattle.gt_live.specs.Driving.{IsSame}

@@ -1,7 +1,7 @@
 use Rattle.std.proofs.Common.{◌∙◌, ap}
 use Rattle.gt_types.specs.declared.DomId.{DomId}
-use Rattle.gt_calls.specs.Path.{map_leg}
-use Rattle.gt_calls.specs.Rules.{CallerKnowledge}
+use Rattle.gt_model.specs.Path.{map_leg}
+use Rattle.gt_model.specs.Rules.{CallerKnowledge}
 use Rattle.gt_live.specs.Domains.{knowledge}
 use Rattle.gt_live.proofs.domain.Domain.map_leg.Goals as goal
 

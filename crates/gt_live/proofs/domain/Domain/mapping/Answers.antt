@@ -1,8 +1,8 @@
 use Rattle.std.proofs.Common.{◌≡◌, ◌∙◌, sym, Option, Some, None, refl}
 use Rattle.std.specs.Prelude.{IfSome}
 use Rattle.gt_access.specs.Routes.{MayAccessBy}
-use Rattle.gt_calls.specs.declared.held.HeldPin.{HeldPin}
-use Rattle.gt_calls.specs.declared.held.AccessPath.TheVariants.{Direct}
+use Rattle.gt_model.specs.declared.held.HeldPin.{HeldPin}
+use Rattle.gt_model.specs.declared.held.AccessPath.TheVariants.{Direct}
 use Rattle.gt_live.specs.Mappings.{ReachesItsFrame}
 use Rattle.gt_live.proofs.Accessing.{reaches-its-frame}
 use Rattle.gt_live.proofs.domain.Domain.mapping.Goals as goal

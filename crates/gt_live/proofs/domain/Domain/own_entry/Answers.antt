@@ -1,5 +1,5 @@
 use Rattle.std.proofs.Common.{◌∙◌, ap}
-use Rattle.gt_calls.specs.Rules.{CallerKnowledge}
+use Rattle.gt_model.specs.Rules.{CallerKnowledge}
 use Rattle.gt_live.proofs.domain.Domain.own_entry.Goals as goal
 
 pub returns : goal.returns

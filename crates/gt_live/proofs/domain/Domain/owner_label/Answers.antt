@@ -5,8 +5,8 @@ use Rattle.gt_types.specs.declared.config.DomainConfig.{DomainConfig}
 use Rattle.gt_word_history.specs.Rule.{Layout}
 use Rattle.gt_words.specs.Conditions.{HasDomain}
 use Rattle.gt_words.specs.Laws.{domain_of_run}
-use Rattle.gt_calls.specs.Rules.{label_in, owner_label}
-use Rattle.gt_calls.specs.declared.held.HeldPin.{HeldPin}
+use Rattle.gt_model.specs.Rules.{label_in, owner_label}
+use Rattle.gt_model.specs.declared.held.HeldPin.{HeldPin}
 use Rattle.gt_handles.specs.Handles.{value_of}
 use Rattle.gt_live.proofs.domain.Domain.owner_label.Goals as goal
 

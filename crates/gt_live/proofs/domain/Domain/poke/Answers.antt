@@ -1,12 +1,12 @@
 use Rattle.std.proofs.Common.{◌≡◌, ◌∙◌, sym, ap, subst, refl, length}
 use Rattle.std.specs.Prelude.{IfOk, IfErr}
 use Rattle.gt_types.specs.declared.DomId.{DomId}
-use Rattle.gt_calls.specs.Rules.{own_access_begun}
-use Rattle.gt_calls.specs.declared.action.Step.TheVariants as steps
-use Rattle.gt_calls.specs.declared.request.Request.TheVariants as requests
+use Rattle.gt_model.specs.Rules.{own_access_begun}
+use Rattle.gt_model.specs.declared.action.Step.TheVariants as steps
+use Rattle.gt_model.specs.declared.request.Request.TheVariants as requests
 use Rattle.gt_live.specs.Accesses.{frame_named, IsIfMissing, IsWrittenBy, WritesFrame}
 use Rattle.gt_live.specs.Domains.{knowledge}
-use Rattle.gt_calls.specs.declared.held.AccessPath.TheVariants.{Own}
+use Rattle.gt_model.specs.declared.held.AccessPath.TheVariants.{Own}
 use Rattle.gt_live.proofs.Accessing.{named-route, none-left, one-access, own-way, refused-access}
 use Rattle.gt_frames.specs.Receipts.{Writing}
 use Rattle.gt_live.proofs.DomainKept.{reseated}

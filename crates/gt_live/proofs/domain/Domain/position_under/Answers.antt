@@ -2,7 +2,7 @@ use Rattle.std.proofs.Common.{◌≡◌, ◌∙◌, ℕ, ap, subst, sym, Option,
 use Rattle.std.specs.Option.{IsSome}
 use Rattle.gt_handles.specs.Handles.{value_of}
 use Rattle.gt_words.specs.Conditions.{position_at}
-use Rattle.gt_calls.specs.declared.held.HeldPin.{HeldPin}
+use Rattle.gt_model.specs.declared.held.HeldPin.{HeldPin}
 use Rattle.gt_live.proofs.Positions.{found-there, some-there}
 use Rattle.gt_live.proofs.domain.Domain.position_under.Goals as goal
 

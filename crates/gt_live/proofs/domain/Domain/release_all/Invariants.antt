@@ -1,5 +1,5 @@
 use Rattle.std.proofs.Common.{◌≡◌, List}
-use Rattle.gt_handles.specs.declared.handles.Handle.{Handle}
+use Rattle.gt_model.specs.declared.handle.Handle.{Handle}
 use Rattle.gt_handles.specs.Handles.{count_of}
 use Rattle.gt_words.specs.Conditions.{IsSameSeat}
 use Rattle.gt_live.specs.Domains.{BelongsTo, Released}

@@ -1,5 +1,5 @@
 use Rattle.gt_audit.specs.declared.record.Hypercall.TheVariants as hypercalls
-use Rattle.gt_calls.specs.declared.request.Request.TheVariants as requests
+use Rattle.gt_model.specs.declared.request.Request.TheVariants as requests
 use Rattle.gt_live.specs.Domains.{verdict_of_frames}
 use Rattle.gt_live.proofs.Recorded.{recorded, recorded-stays}
 use Rattle.gt_live.proofs.domain.Domain.setup_table.Goals as goal

@@ -2,11 +2,11 @@ use Rattle.std.proofs.Common.{◌≡◌, ◌∙◌, sym, ap, subst, refl, Some, 
 use Rattle.std.specs.Prelude.{IfOk, ℕ, option_copied, IfErr}
 use Rattle.gt_frames.specs.Receipts.{Writing}
 use Rattle.gt_types.specs.declared.Dir.TheVariants as dirs
-use Rattle.gt_entry.specs.Entries.{frame_of}
-use Rattle.gt_calls.specs.declared.action.Step.TheVariants as steps
-use Rattle.gt_calls.specs.declared.held.AccessPath.TheVariants.{Direct}
-use Rattle.gt_calls.specs.declared.held.HeldPin.{HeldPin}
-use Rattle.gt_calls.specs.declared.request.Request.TheVariants as requests
+use Rattle.gt_model.specs.Entries.{frame_of}
+use Rattle.gt_model.specs.declared.action.Step.TheVariants as steps
+use Rattle.gt_model.specs.declared.held.AccessPath.TheVariants.{Direct}
+use Rattle.gt_model.specs.declared.held.HeldPin.{HeldPin}
+use Rattle.gt_model.specs.declared.request.Request.TheVariants as requests
 use Rattle.gt_handles.specs.Handles.{value_of}
 use Rattle.gt_live.specs.Accesses.{frame_named, IsIfMissing, IsWrittenBy, WritesFrame}
 use Rattle.gt_live.specs.Domains.{knowledge}

@@ -1,13 +1,13 @@
 use Rattle.std.proofs.Common.{◌≡◌, ◌∙◌, sym, subst, refl, Some, None, Option}
 use Rattle.std.specs.Option.{IsSome}
-use Rattle.gt_calls.specs.Asking.{begun_of}
+use Rattle.gt_model.specs.Asking.{begun_of}
 use Rattle.gt_calls.specs.Opening.{opens}
-use Rattle.gt_calls.specs.Rules.{unmap_begun}
-use Rattle.gt_calls.specs.declared.action.Step.TheVariants as steps
-use Rattle.gt_calls.specs.declared.held.HeldPin.{HeldPin}
-use Rattle.gt_calls.specs.declared.request.OpenRequest.TheVariants as asks
-use Rattle.gt_calls.specs.declared.request.PinHolder.TheVariants.{Mapping as ByHandle}
-use Rattle.gt_calls.specs.declared.request.Request.TheVariants as requests
+use Rattle.gt_model.specs.Rules.{unmap_begun}
+use Rattle.gt_model.specs.declared.action.Step.TheVariants as steps
+use Rattle.gt_model.specs.declared.held.HeldPin.{HeldPin}
+use Rattle.gt_model.specs.declared.request.OpenRequest.TheVariants as asks
+use Rattle.gt_model.specs.declared.request.PinHolder.TheVariants.{Mapping as ByHandle}
+use Rattle.gt_model.specs.declared.request.Request.TheVariants as requests
 use Rattle.gt_live.specs.Domains.{knowledge}
 use Rattle.gt_live.proofs.Accessing.{mapped-way, none-left, refused-called, refuses}
 use Rattle.gt_live.proofs.Making.{same_seat-self}

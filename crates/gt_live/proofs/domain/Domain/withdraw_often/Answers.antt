@@ -1,6 +1,6 @@
 use Rattle.std.proofs.Common.{◌≡◌, ◌∙◌, ℕ, ap, arith, inl, inr, refl, subst, List}
 use Rattle.std.specs.Prelude.{slice_get}
-use Rattle.gt_entry.specs.declared.change.EntryChange.TheVariants.{Withdraw}
+use Rattle.gt_model.specs.declared.change.EntryChange.TheVariants.{Withdraw}
 use Rattle.gt_calls.specs.declared.known.OwnerEntry.{OwnerEntry}
 use Rattle.gt_live.specs.Closing.{AreRefused}
 use Rattle.gt_live.proofs.Closing.{one-more-refused, quiet-self, quiet-then}

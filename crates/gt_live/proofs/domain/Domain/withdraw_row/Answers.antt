@@ -1,13 +1,13 @@
 use Rattle.std.proofs.Common.{◌≡◌, ◌<◌, ◌∙◌, ap, arith, refl, subst, sym, length, List}
 use Rattle.std.specs.Prelude.{Result, OnOk}
 use Rattle.gt_types.specs.declared.denial.Denial.{Denial}
-use Rattle.gt_entry.specs.Changes.{changed_entry}
-use Rattle.gt_entry.specs.declared.change.EntryChange.TheVariants.{Withdraw}
-use Rattle.gt_calls.specs.Path.{path}
+use Rattle.gt_model.specs.Changes.{changed_entry}
+use Rattle.gt_model.specs.declared.change.EntryChange.TheVariants.{Withdraw}
+use Rattle.gt_model.specs.Path.{path}
 use Rattle.gt_calls.specs.Rules.{entry_in}
 use Rattle.gt_calls.specs.declared.known.OwnerEntry.{OwnerEntry}
-use Rattle.gt_calls.specs.declared.request.OpenRequest.TheVariants as asks
-use Rattle.gt_calls.specs.declared.request.Request.TheVariants as requests
+use Rattle.gt_model.specs.declared.request.OpenRequest.TheVariants as asks
+use Rattle.gt_model.specs.declared.request.Request.TheVariants as requests
 use Rattle.gt_live.specs.Domains.{knowledge, verdict_of}
 use Rattle.gt_live.specs.Following.{entry_of}
 use Rattle.gt_live.specs.Rows.{row_changed}

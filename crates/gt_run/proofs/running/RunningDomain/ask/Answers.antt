@@ -2,9 +2,9 @@ use Rattle.std.proofs.Common.{◌≡◌, ℕ, Ok, Err}
 use Rattle.std.specs.Prelude.{MatchResult, Result}
 use Rattle.gt_types.specs.declared.Size.{Size}
 use Rattle.gt_types.specs.declared.denial.Denial.{Denial}
-use Rattle.gt_handles.specs.declared.handles.Handle.{Handle}
-use Rattle.gt_core.specs.declared.trace.Answer.{Answer}
-use Rattle.gt_core.specs.declared.trace.Answer.TheVariants as answers
+use Rattle.gt_model.specs.declared.handle.Handle.{Handle}
+use Rattle.gt_model.specs.declared.trace.Answer.{Answer}
+use Rattle.gt_model.specs.declared.trace.Answer.TheVariants as answers
 use Rattle.gt_run.specs.Asking.{frames_answer, mapped_answer, size_answer, version_answer}
 use Rattle.gt_run.proofs.running.RunningDomain.ask.Goals as goal
 

@@ -1,7 +1,7 @@
 -- The kinds of entries and their parts.
 use Rattle.std.specs.Prelude.{◌^◌, ◌<◌, ℕ, Bool, true, false}
-use Rattle.gt_entry.specs.declared.entry.Entry.{Entry}
-use Rattle.gt_entry.specs.declared.entry.Entry.TheVariants.{Invalid, Page, Sub, Via}
+use Rattle.gt_model.specs.declared.entry.Entry.{Entry}
+use Rattle.gt_model.specs.declared.entry.Entry.TheVariants.{Invalid, Page, Sub, Via}
 
 -- the entry grants nothing (grant_table.h)
 abbrev pub is_invalid : Entry → Bool

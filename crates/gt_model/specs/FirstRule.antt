@@ -1,18 +1,46 @@
 -- The first rule that applies to a call at a step.
-use Rattle.std.specs.Prelude.{ℕ, Bool, true, false, ◌&&◌, not, ◌==◌, nat_lt, nat_le, if◌then◌else◌, List, [], ◌∷◌, map}
-use Rattle.std.specs.Prelude.{Option, Some, None, ◌+◌, reverse}
-use Rattle.gt_core.specs.Prelude.{option_or, option_map, denial_of, DomId, MAX_TRIES, GrantRef, Read, Write, Rule, N9}
-use Rattle.gt_core.specs.Prelude.{N18, N19, HeaderFacts, Denial, Entry, Via, header_word, pins_of, CopyArgs, OpenRequest, Map}
-use Rattle.gt_core.specs.Prelude.{Demote, Copy, HeldPin, AccessPath, Direct, Through, EntryChange, Publish, ToInvalid, ToReadOnly}
-use Rattle.gt_core.specs.Prelude.{ToWritable, ToWithdrawn, Step, LookHeader, LookControl, LookBody, PinStep, Exchange}
-use Rattle.gt_core.specs.Prelude.{Observation, Word, Taken, Missed, CallResult, Refused, Leg, Item, ItemEvent, Began, Stepped}
-use Rattle.gt_core.specs.Prelude.{CallerKnowledge, stands, first, first_look, before_pin, size_of, is_source_granted}
-use Rattle.gt_core.specs.Prelude.{is_dest_granted, via_judged, begun_of, map_leg, end_leg, second_leg, source_pair}
-use Rattle.gt_core.specs.Prelude.{dest_pair, entry_refusal}
-use Rattle.gt_calls.specs.declared.held.AccessPath.TheVariants.{Own}
-use Rattle.gt_core.specs.History.{History, Setting, entry_at, table_at, word_at, control_at, reads_at, writes_at}
-use Rattle.gt_core.specs.History.{known_at, Underway, open_call, seen_by, legs_at}
-use Rattle.gt_calls.specs.declared.request.OpenRequest.TheVariants.{Probe}
+use Rattle.std.specs.Option.{option_or, option_map}
+use Rattle.std.specs.Prelude.{ℕ, Bool, true, false, ◌&&◌, not, ◌==◌, nat_lt, nat_le, if◌then◌else◌, List, [], ◌∷◌}
+use Rattle.std.specs.Prelude.{map, Option, Some, None, ◌+◌, reverse}
+use Rattle.gt_model.specs.Asking.{begun_of}
+use Rattle.gt_model.specs.History.{History, Setting, entry_at, table_at, word_at, control_at, reads_at, writes_at}
+use Rattle.gt_model.specs.History.{known_at, Underway, open_call, seen_by, legs_at}
+use Rattle.gt_model.specs.Path.{map_leg, end_leg, second_leg, source_pair, dest_pair, entry_refusal}
+use Rattle.gt_model.specs.Rules.{CallerKnowledge, stands, first, first_look, before_pin, via_judged}
+use Rattle.gt_model.specs.Words.{header_word, pins_of, size_of}
+use Rattle.gt_model.specs.declared.action.CallResult.{CallResult}
+use Rattle.gt_model.specs.declared.action.CallResult.TheVariants.{Refused}
+use Rattle.gt_model.specs.declared.action.Observation.{Observation}
+use Rattle.gt_model.specs.declared.action.Observation.TheVariants.{Word, Taken, Missed}
+use Rattle.gt_model.specs.declared.action.Step.{Step}
+use Rattle.gt_model.specs.declared.action.Step.TheVariants.{LookHeader, LookControl, LookBody, Pin as PinStep}
+use Rattle.gt_model.specs.declared.action.Step.TheVariants.{Exchange}
+use Rattle.gt_model.specs.declared.change.EntryChange.{EntryChange}
+use Rattle.gt_model.specs.declared.change.EntryChange.TheVariants.{Publish, Revoke as ToInvalid}
+use Rattle.gt_model.specs.declared.change.EntryChange.TheVariants.{Demote as ToReadOnly, Promote as ToWritable}
+use Rattle.gt_model.specs.declared.change.EntryChange.TheVariants.{Withdraw as ToWithdrawn}
+use Rattle.gt_model.specs.declared.entry.Entry.{Entry}
+use Rattle.gt_model.specs.declared.entry.Entry.TheVariants.{Via}
+use Rattle.gt_model.specs.declared.held.AccessPath.{AccessPath}
+use Rattle.gt_model.specs.declared.held.AccessPath.TheVariants.{Direct, Through, Own}
+use Rattle.gt_model.specs.declared.held.HeldPin.{HeldPin}
+use Rattle.gt_model.specs.declared.leg.Leg.{Leg}
+use Rattle.gt_model.specs.declared.request.OpenRequest.{OpenRequest}
+use Rattle.gt_model.specs.declared.request.OpenRequest.TheVariants.{Map, Demote, Copy, Probe}
+use Rattle.gt_model.specs.declared.trace.Item.{Item}
+use Rattle.gt_model.specs.declared.trace.ItemEvent.{ItemEvent}
+use Rattle.gt_model.specs.declared.trace.ItemEvent.TheVariants.{Began, Stepped}
+use Rattle.gt_types.specs.Copies.{is_source_granted, is_dest_granted}
+use Rattle.gt_types.specs.Denial.{denial_of}
+use Rattle.gt_types.specs.declared.Dir.TheVariants.{Read, Write}
+use Rattle.gt_types.specs.declared.DomId.{DomId}
+use Rattle.gt_types.specs.declared.GrantRef.{GrantRef}
+use Rattle.gt_types.specs.declared.copies.CopyArgs.{CopyArgs}
+use Rattle.gt_types.specs.declared.denial.Denial.{Denial}
+use Rattle.gt_types.specs.declared.denial.Facts.TheVariants.{Header as HeaderFacts}
+use Rattle.gt_types.specs.declared.denial.Rule.{Rule}
+use Rattle.gt_types.specs.declared.denial.Rule.TheVariants.{N9, N18, N19}
+use Rattle.gt_types.specs.declared.limits.TheConstants.{MAX_TRIES}
 
 -- a leg that a call makes, and the pair whose right to copy a Via of it needs, by the domain that it leads to
 pub record LegNow : Type 0 where

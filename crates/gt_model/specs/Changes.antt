@@ -1,10 +1,10 @@
 -- What an owner's change makes of its entry.
 use Rattle.std.specs.Prelude.{ℕ, true, false}
-use Rattle.gt_entry.specs.declared.change.EntryChange.{EntryChange}
-use Rattle.gt_entry.specs.declared.change.EntryChange.TheVariants.{Publish, Revoke, Withdraw, Demote, Promote}
-use Rattle.gt_entry.specs.declared.entry.Entry.{Entry}
-use Rattle.gt_entry.specs.declared.entry.Entry.TheVariants.{Invalid}
-use Rattle.gt_entry.specs.Entries.{with_ro}
+use Rattle.gt_model.specs.declared.change.EntryChange.{EntryChange}
+use Rattle.gt_model.specs.declared.change.EntryChange.TheVariants.{Publish, Revoke, Withdraw, Demote, Promote}
+use Rattle.gt_model.specs.declared.entry.Entry.{Entry}
+use Rattle.gt_model.specs.declared.entry.Entry.TheVariants.{Invalid}
+use Rattle.gt_model.specs.Entries.{with_ro}
 
 -- the entry after a change: the published one, an invalid one, or the same with another readonly bit
 abbrev pub changed_entry : EntryChange → Entry → Entry

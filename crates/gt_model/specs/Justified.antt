@@ -1,13 +1,38 @@
 -- When a domain may reach bytes: what an access, and a change of an entry, requires.
 use Rattle.std.specs.Prelude.{◌≡◌, ◌≤◌, ◌⊎◌, ℕ, Bool, true, false, [], Option, Some, None, Any, ◌+◌, ◌<◌}
-use Rattle.gt_core.specs.Prelude.{resolved, IsAllowed, DomId, FRAME_SIZE, Dir, Read, Write, Use, ForMap, ForCopy}
-use Rattle.gt_core.specs.Prelude.{Invalid, permits, forwards, IsSpelled, FirstHalf, SecondHalf, ByMapping, OpenRequest, GivesUp}
-use Rattle.gt_core.specs.Prelude.{Load, Store, Copy, HeldPin, Spot, EntryChange, Publish, ToInvalid, ToReadOnly, ToWritable}
-use Rattle.gt_core.specs.Prelude.{ToWithdrawn, Step, StoreBody, Unpin, Exchange, ReadBytes, WriteBytes, CopyBytes}
-use Rattle.gt_core.specs.Prelude.{Taken, Item, ItemEvent, Stepped, rights_to_map, rights_to_copy, frame_count_of}
-use Rattle.gt_core.specs.Prelude.{is_source_granted, is_dest_granted, GivesHeld}
-use Rattle.gt_core.specs.History.{History, Setting, entry_at, body_at, reads_at, writes_at, live, Pin, known_at}
-use Rattle.gt_core.specs.History.{frame_of, mappings_at, mapping_of}
+use Rattle.gt_model.specs.Entries.{frame_of}
+use Rattle.gt_model.specs.Giving.{IsAllowed, GivesUp, GivesHeld}
+use Rattle.gt_model.specs.History.{History, Setting, entry_at, body_at, reads_at, writes_at, live, Pin, known_at}
+use Rattle.gt_model.specs.History.{mappings_at, mapping_of}
+use Rattle.gt_model.specs.Permits.{permits, forwards}
+use Rattle.gt_model.specs.Rules.{rights_to_map, rights_to_copy, frame_count_of}
+use Rattle.gt_model.specs.Spelling.{IsSpelled}
+use Rattle.gt_model.specs.declared.action.Observation.TheVariants.{Taken}
+use Rattle.gt_model.specs.declared.action.Step.{Step}
+use Rattle.gt_model.specs.declared.action.Step.TheVariants.{StoreBody, Unpin, Exchange, Read as ReadBytes}
+use Rattle.gt_model.specs.declared.action.Step.TheVariants.{Write as WriteBytes, Copy as CopyBytes}
+use Rattle.gt_model.specs.declared.change.BodyWord.TheVariants.{First as FirstHalf, Second as SecondHalf}
+use Rattle.gt_model.specs.declared.change.EntryChange.{EntryChange}
+use Rattle.gt_model.specs.declared.change.EntryChange.TheVariants.{Publish, Revoke as ToInvalid}
+use Rattle.gt_model.specs.declared.change.EntryChange.TheVariants.{Demote as ToReadOnly, Promote as ToWritable}
+use Rattle.gt_model.specs.declared.change.EntryChange.TheVariants.{Withdraw as ToWithdrawn}
+use Rattle.gt_model.specs.declared.entry.Entry.TheVariants.{Invalid}
+use Rattle.gt_model.specs.declared.held.HeldPin.{HeldPin}
+use Rattle.gt_model.specs.declared.request.OpenRequest.{OpenRequest}
+use Rattle.gt_model.specs.declared.request.OpenRequest.TheVariants.{Load, Store, Copy}
+use Rattle.gt_model.specs.declared.request.PinHolder.TheVariants.{Mapping as ByMapping}
+use Rattle.gt_model.specs.declared.trace.Item.{Item}
+use Rattle.gt_model.specs.declared.trace.ItemEvent.{ItemEvent}
+use Rattle.gt_model.specs.declared.trace.ItemEvent.TheVariants.{Stepped}
+use Rattle.gt_types.specs.Copies.{is_source_granted, is_dest_granted}
+use Rattle.gt_types.specs.Names.{resolved}
+use Rattle.gt_types.specs.declared.Dir.{Dir}
+use Rattle.gt_types.specs.declared.Dir.TheVariants.{Read, Write}
+use Rattle.gt_types.specs.declared.DomId.{DomId}
+use Rattle.gt_types.specs.declared.Use.{Use}
+use Rattle.gt_types.specs.declared.Use.TheVariants.{Map as ForMap, Copy as ForCopy}
+use Rattle.gt_types.specs.declared.limits.TheConstants.{FRAME_SIZE}
+use Rattle.gt_types.specs.declared.places.Spot.{Spot}
 
 -- The live pin lets domain d reach this range of a frame. It was taken from an entry that granted the frame and
 -- permitted the domain `judged` this direction, purpose and range. For writing it is a write pin.

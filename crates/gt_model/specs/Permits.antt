@@ -5,8 +5,8 @@ use Rattle.gt_types.specs.declared.Dir.{Dir}
 use Rattle.gt_types.specs.declared.Dir.TheVariants.{Read, Write}
 use Rattle.gt_types.specs.declared.Use.{Use}
 use Rattle.gt_types.specs.declared.Use.TheVariants.{Map as ForMap, Copy as ForCopy}
-use Rattle.gt_entry.specs.declared.entry.Entry.{Entry}
-use Rattle.gt_entry.specs.declared.entry.Entry.TheVariants.{Invalid, Page, Sub, Via}
+use Rattle.gt_model.specs.declared.entry.Entry.{Entry}
+use Rattle.gt_model.specs.declared.entry.Entry.TheVariants.{Invalid, Page, Sub, Via}
 
 -- a read-only entry refuses writing (grant_table.h)
 abbrev pub allows_direction : Bool → Dir → Bool

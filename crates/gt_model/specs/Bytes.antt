@@ -5,9 +5,9 @@ use Rattle.byteorder.specs.Endian.{little_number, little_bytes}
 use Rattle.gt_types.specs.declared.denial.Field.{Field}
 use Rattle.gt_types.specs.declared.denial.Field.TheVariants.{Length, Kind, Reading, Writing, Pwt, Pcd, Pat, SubPage}
 use Rattle.gt_types.specs.declared.denial.Field.TheVariants.{Reserved}
-use Rattle.gt_entry.specs.declared.entry.Entry.{Entry}
-use Rattle.gt_entry.specs.declared.entry.Entry.TheVariants.{Invalid, Page, Sub, Via}
-use Rattle.gt_entry.specs.Words.{flag}
+use Rattle.gt_model.specs.declared.entry.Entry.{Entry}
+use Rattle.gt_model.specs.declared.entry.Entry.TheVariants.{Invalid, Page, Sub, Via}
+use Rattle.gt_model.specs.Words.{flag}
 
 -- the number in n bytes starting at this offset, the lowest byte first (own: all numbers are little-endian)
 abbrev pub field : List ℕ → ℕ → ℕ → ℕ
