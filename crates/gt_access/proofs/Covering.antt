@@ -15,7 +15,7 @@ use Rattle.gt_words.specs.Conditions.{SeatOf}
 use Rattle.gt_model.specs.declared.held.HeldPin.{HeldPin}
 use Rattle.gt_model.specs.declared.held.AccessPath.{AccessPath}
 use Rattle.gt_model.specs.declared.held.AccessPath.TheVariants.{Own, Direct, Through}
-use Rattle.gt_model.specs.Giving.{GivesHeld}
+use Rattle.gt_model.specs.Holding.{GivesHeld}
 use Rattle.gt_types.specs.declared.places.FrameName.{FrameName}
 use Rattle.gt_frames.specs.Frames.{covers}
 use Rattle.gt_access.specs.Routes.{ReachesBy, writ_by}

@@ -1,8 +1,6 @@
 -- Names from other crates, and from the code, that these definitions use.
-pub use Rattle.gt_model.specs.Holding.{owner_by}
-pub use Rattle.gt_model.specs.Giving.{IsAllowed}
-pub use Rattle.gt_model.specs.Giving.{GivesHeld}
-pub use Rattle.gt_model.specs.Rules.{label_of, map_perms, triples}
+pub use Rattle.gt_model.specs.Holding.{owner_by, GivesHeld}
+pub use Rattle.gt_model.specs.Rules.{IsAllowed, label_of, map_perms, triples}
 pub use Rattle.gt_model.specs.declared.held.HeldPin.{HeldPin}
 pub use Rattle.gt_model.specs.declared.held.CallPins.{CallPins}
 pub use Rattle.gt_model.specs.declared.held.AccessPath.{AccessPath}

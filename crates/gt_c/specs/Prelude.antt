@@ -27,13 +27,13 @@ pub use Rattle.gt_handles.specs.Handles.{value_of}
 pub use Rattle.gt_model.specs.declared.handle.Handle.{Handle as Name}
 pub use Rattle.gt_live.specs.Closing.{LooksAtOwn, Resets}
 pub use Rattle.gt_live.specs.Domains.{Answered, AnswersQuietly, AnswersRecorded, KeepsPinned, MapAnswered}
-pub use Rattle.gt_live.specs.Domains.{mapping_reply, subject_of, record_of_result}
-pub use Rattle.gt_live.specs.Domains.{verdict_of}
+pub use Rattle.gt_live.specs.Domains.{mapping_reply, subject_of, record_of_result, verdict_of}
 pub use Rattle.gt_live.specs.Mappings.{Removes}
 pub use Rattle.gt_live.specs.declared.domain.Domain.{Domain}
 pub use Rattle.gt_attached.specs.Encoding.{encoded}
 pub use Rattle.gt_attached.specs.Recording.{no_end, record_kept}
-pub use Rattle.gt_attached.specs.Seated.{BeginsAccess, EndsAccess, LeavesSettled, Seated, Settles, StaysIdle, taken_of}
+pub use Rattle.gt_attached.specs.Seated.{BeginsAccess, EndsAccess, LeavesSettled, Seated, Settles, StaysIdle}
+pub use Rattle.gt_attached.specs.Seated.{taken_of}
 pub use Rattle.gt_attached.specs.declared.answer.EncodedAnswer.{EncodedAnswer}
 pub use Rattle.gt_attached.specs.declared.answer.AttachedOutcome.{AttachedOutcome}
 pub use Rattle.gt_attached.specs.declared.answer.Departure.{Departure}

@@ -21,8 +21,8 @@ use Rattle.gt_c.specs.Asking.{RefusesForeign, handle_named, page, spelled, sub, 
 use Rattle.gt_c.specs.Calling.{CallsGuest, CallsReporting, EncodesDone, EncodesFollowed, EncodesMapped}
 use Rattle.gt_c.specs.Calling.{EncodesRecorded, EncodesUnmapped, KeepsAtMost, Reserves, TakesAll, dom_of, ref_at}
 use Rattle.gt_c.specs.Calling.{outcome, outcome_frames, outcome_size, outcome_version}
-use Rattle.gt_c.specs.Reports.{EncodesBegun, EncodesEntry, EncodesMapping, EncodesRecord, copy_asked}
-use Rattle.gt_c.specs.Reports.{no_entry, no_mapping, no_places, no_record}
+use Rattle.gt_c.specs.Reports.{EncodesBegun, EncodesEntry, EncodesMapping, EncodesRecord, copy_asked, no_entry}
+use Rattle.gt_c.specs.Reports.{no_mapping, no_places, no_record}
 
 -- one of the domain's pages is granted
 abbrev pub GrantsPage : ℕ → ℕ → ℕ → ℕ → EncodedAnswer → Option CDomain → Option CDomain → Type 0

@@ -1,10 +1,11 @@
 -- What exports return in layouts of C: the places of a copy, a mapping, a record, an entry.
 use Rattle.std.specs.Prelude.{◌≡◌, ◌⊎◌, ℕ, Bool, true, false, Option, Some, None, Result, Ok, Err}
 use Rattle.gt_c.specs.Prelude.{slice_get, Dir, Read, Write, Denial, Kept, Spot, Mapped, CopyArgs, End, frame_of, Name}
-use Rattle.gt_c.specs.Prelude.{value_of, encoded, no_end, record_kept, BeginsAccess, EndsAccess, EncodedAnswer, AttachedOutcome}
-use Rattle.gt_c.specs.Prelude.{CopyPlaces, CopyEnd, may, Control, EntryKind, EntryStatus, GrantRef, LooksAtOwn, StaysIdle}
+use Rattle.gt_c.specs.Prelude.{value_of, encoded, no_end, record_kept, BeginsAccess, EndsAccess, EncodedAnswer}
+use Rattle.gt_c.specs.Prelude.{AttachedOutcome, CopyPlaces, CopyEnd, may, Control, EntryKind, EntryStatus, GrantRef}
+use Rattle.gt_c.specs.Prelude.{LooksAtOwn, StaysIdle, EncodedRecord, CopySettings, PlaceReport, PlacesReport}
+use Rattle.gt_c.specs.Prelude.{MappedFrame, CDomain}
 use Rattle.gt_model.specs.declared.control.EntryKind.TheVariants.{Invalid, Page, Sub, Via}
-use Rattle.gt_c.specs.Prelude.{EncodedRecord, CopySettings, PlaceReport, PlacesReport, MappedFrame, CDomain}
 use Rattle.gt_attached.specs.declared.answer.AttachedOutcome.TheVariants as outcomes
 use Rattle.gt_c.specs.Calling.{KeepsRun}
 

@@ -1,17 +1,19 @@
 -- A call before its first step: what holds for each request.
-use Rattle.gt_calls.proofs.Words.{◌≡◌, ◌≤◌, ℕ, refl, false, inl, inr, List, Observation, [], Option, Some, None, sym, ap, ◌∙◌, subst, arith, DomId}
-use Rattle.gt_calls.proofs.Words.{GrantRef, Request, bytes_of, OpenRequest, Copy, CopyArgs, CallResult, Phase, Ending}
-use Rattle.gt_calls.proofs.Words.{CallerKnowledge, begun, opens, Continuation, path, after_beginning, steps_of}
-use Rattle.gt_calls.proofs.Words.{first_phase, at_source, action_at, HasShown, held_in, steps_left, IsStepAction}
+use Rattle.gt_calls.proofs.Words.{◌≡◌, ◌≤◌, ℕ, refl, false, inl, inr, List, Observation, [], Option, Some, None, sym}
+use Rattle.gt_calls.proofs.Words.{ap, ◌∙◌, subst, arith, DomId, GrantRef, Request, bytes_of, OpenRequest, Copy}
+use Rattle.gt_calls.proofs.Words.{CopyArgs, CallResult, Phase, Ending, CallerKnowledge, begun, opens, Continuation}
+use Rattle.gt_calls.proofs.Words.{path, after_beginning, steps_of, first_phase, at_source, action_at, HasShown}
+use Rattle.gt_calls.proofs.Words.{held_in, steps_left, IsStepAction}
 use Rattle.gt_model.specs.Path.{most_steps}
-use Rattle.gt_calls.{proofs.Calls.at-source}
-use Rattle.gt_calls.proofs.Probing.{is-settled, last-quiet, settled-held, settled-left, settled-shown, unaccessed-left, wants}
+use Rattle.gt_calls.{proofs.Calls.at-source, proofs.Shown.shown-source, proofs.Holds.held-source}
+use Rattle.gt_calls.{proofs.Counts.at-source-left}
+use Rattle.gt_calls.proofs.Probing.{is-settled, last-quiet, settled-held, settled-left, settled-shown}
+use Rattle.gt_calls.proofs.Probing.{unaccessed-left, wants}
 use Rattle.gt_calls.specs.Machine.{remains_of, settled, unaccessed}
 use Rattle.gt_model.specs.Rules.{has_own_ends}
 use Rattle.gt_calls.specs.Standing.{IsSettled}
 use Rattle.gt_model.specs.declared.request.OpenRequest.TheVariants.{Probe}
 unfoldable use Rattle.gt_model.specs.Path.{without_access}
-use Rattle.gt_calls.{proofs.Shown.shown-source, proofs.Holds.held-source, proofs.Counts.at-source-left}
 use Rattle.gt_model.specs.declared.request.Request.TheVariants as requests
 
 -- the phase makes a step, whatever pins are held

@@ -1,9 +1,9 @@
 -- A probe follows the path of its copy without the access.
-use Rattle.gt_calls.proofs.Words.{◌≡◌, ◌≤◌, refl, Bool, true, false, List, [], ◌∷◌, Option, Some, None, cond, sym}
-use Rattle.gt_calls.proofs.Words.{ap, ◌∙◌, subst, inl, inr, arith, DomId, OpenRequest, Copy, CopyArgs, CallResult, Action}
-use Rattle.gt_calls.proofs.Words.{Observation, Nothing, HeldPin, AccessPath, Phase, Accessing}
-use Rattle.gt_calls.proofs.Words.{CallerKnowledge, Continuation, accesses, give_back, remains, phase_after}
-use Rattle.gt_calls.proofs.Words.{action_at, FitsAction, HoldsNext, HasShown, held_in, steps_left, last_first}
+use Rattle.gt_calls.proofs.Words.{◌≡◌, ◌≤◌, refl, Bool, true, false, List, [], ◌∷◌, Option, Some, None, cond, sym, ap}
+use Rattle.gt_calls.proofs.Words.{◌∙◌, subst, inl, inr, arith, DomId, OpenRequest, Copy, CopyArgs, CallResult, Action}
+use Rattle.gt_calls.proofs.Words.{Observation, Nothing, HeldPin, AccessPath, Phase, Accessing, CallerKnowledge}
+use Rattle.gt_calls.proofs.Words.{Continuation, accesses, give_back, remains, phase_after, action_at, FitsAction}
+use Rattle.gt_calls.proofs.Words.{HoldsNext, HasShown, held_in, steps_left, last_first}
 use Rattle.gt_model.specs.declared.request.OpenRequest.TheVariants.{Probe}
 use Rattle.gt_model.specs.declared.action.CallResult.TheVariants.{Granted}
 use Rattle.gt_model.specs.Path.{is_copy_access}

@@ -1,8 +1,8 @@
 -- What a leg has left to do, by its phase.
 use Rattle.std.specs.Prelude.{◌-◌, ◌==◌, nat_lt, if◌then◌else◌, ℕ, Option, Some, None, zero, suc}
 use Rattle.gt_calls.specs.Prelude.{Rule, N9, N18, HeaderFacts, denial_of, KindSub, control_of, header_of, FirstHalf}
-use Rattle.gt_calls.specs.Prelude.{SecondHalf, Step, LookHeader, LookControl, LookBody, Pin, Observation, Word, Taken, Missed}
-use Rattle.gt_calls.specs.Prelude.{Leg, LegPhase, Header, Look, Body, Second, Pinning, Relook, LegNext, Going}
+use Rattle.gt_calls.specs.Prelude.{SecondHalf, Step, LookHeader, LookControl, LookBody, Pin, Observation, Word, Taken}
+use Rattle.gt_calls.specs.Prelude.{Missed, Leg, LegPhase, Header, Look, Body, Second, Pinning, Relook, LegNext, Going}
 use Rattle.gt_calls.specs.Prelude.{LegRefused, Pinned, MORE_TRIES}
 use Rattle.gt_model.specs.Rules.{first_look, size_of, is_kind}
 use Rattle.gt_model.specs.Path.{rule_of_try, Continuation, AfterRefusal, AfterPin, entry_refusal, leg, tries}

@@ -1,19 +1,17 @@
 -- What holds for a call that no rule answers at its beginning.
 use Rattle.std.specs.Prelude.{◌≡◌, ◌≢◌, ◌⊎◌, ◌+◌, ◌<◌, ◌≤◌, ℕ, Bool, true, false, List, [], ◌∷◌, Some, zero, suc}
 use Rattle.std.specs.Prelude.{Option, None}
-use Rattle.gt_calls.specs.Prelude.{arith, FRAME_SIZE, LAST_GENERATION, MAX_MAPPINGS, MAX_TABLE_FRAMES, DomId, GrantRef}
-use Rattle.gt_calls.specs.Prelude.{TypeId, Write, Perms, Triple, resolved, Entry, EntryChange, ToReadOnly, ToWritable}
-use Rattle.gt_calls.specs.Prelude.{Handle, OpenRequest, Grant, Revoke, Demote, Promote, Map, Unmap, Release, Load}
-use Rattle.gt_calls.specs.Prelude.{SetVersion, SetupTable, QuerySize, GetVersion, Store, Peek, Poke, Copy, Probe, Withdraw}
-use Rattle.gt_calls.specs.Prelude.{HeldPin, CopyArgs, End, Rule, CallResult, SERIAL_LIMIT}
+use Rattle.gt_calls.specs.Prelude.{arith, FRAME_SIZE, LAST_GENERATION, MAX_MAPPINGS, MAX_TABLE_FRAMES, DomId}
+use Rattle.gt_calls.specs.Prelude.{GrantRef, TypeId, Write, Perms, Triple, resolved, Entry, EntryChange, ToReadOnly}
+use Rattle.gt_calls.specs.Prelude.{ToWritable, Handle, OpenRequest, Grant, Revoke, Demote, Promote, Map, Unmap}
+use Rattle.gt_calls.specs.Prelude.{Release, Load, SetVersion, SetupTable, QuerySize, GetVersion, Store, Peek, Poke}
+use Rattle.gt_calls.specs.Prelude.{Copy, Probe, Withdraw, HeldPin, CopyArgs, End, Rule, CallResult, SERIAL_LIMIT}
 use Rattle.gt_model.specs.Rules.{CallerKnowledge, IsOfRun, is_already, cannot_stand, frame_count_of, is_invalid}
-use Rattle.gt_model.specs.Rules.{size_of}
-use Rattle.gt_model.specs.Rules.{map_dir, rights_to_map, rights_to_unmap, rights_to_copy, rights_to_setup}
-use Rattle.gt_model.specs.Rules.{rights_to_query, begun, first, refused_when}
+use Rattle.gt_model.specs.Rules.{size_of, map_dir, rights_to_map, rights_to_unmap, rights_to_copy, rights_to_setup}
+use Rattle.gt_model.specs.Rules.{rights_to_query, begun, first, refused_when, copy_begun, granted_when, has_own_ends}
+use Rattle.gt_model.specs.Rules.{denied, has_valid, ends_named, ends_ranged, ends_owned, ends_framed, is_foreign}
+use Rattle.gt_model.specs.Rules.{is_past_frames, IsAllowed}
 use Rattle.gt_types.specs.Copies.{is_source_granted, is_dest_granted}
-use Rattle.gt_model.specs.Rules.{copy_begun, granted_when, has_own_ends, denied, has_valid, ends_named, ends_ranged, ends_owned, ends_framed, is_foreign}
-use Rattle.gt_model.specs.Rules.{is_past_frames}
-use Rattle.gt_model.specs.Giving.{IsAllowed}
 
 -- the caller's table has the reference
 abbrev pub IsInTable : CallerKnowledge → GrantRef → Type 0

@@ -20,25 +20,24 @@ pub use Rattle.gt_model.specs.declared.action.HeaderQuery.{HeaderQuery}
 pub use Rattle.gt_model.specs.declared.action.HeaderQuery.TheVariants.{Size, Version}
 pub use Rattle.gt_calls.specs.declared.call.CallStart.{CallStart}
 pub use Rattle.gt_calls.specs.declared.call.CallStart.TheVariants.{Done as StartDone, Open}
-pub use Rattle.gt_model.specs.declared.bounds.TheConstants.{MAX_STEPS}
+pub use Rattle.gt_model.specs.declared.bounds.TheConstants.{MAX_STEPS, SERIAL_LIMIT, MORE_TRIES}
 pub use Rattle.gt_calls.specs.declared.copying.PinPurpose.{PinPurpose}
 pub use Rattle.gt_calls.specs.declared.copying.PinPurpose.TheVariants.{Dest, Mapping, Source}
 pub use Rattle.gt_model.specs.declared.held.HeldPin.{HeldPin}
 pub use Rattle.gt_model.specs.declared.held.CallPins.{CallPins}
 pub use Rattle.gt_model.specs.declared.held.AccessPath.{AccessPath}
 pub use Rattle.gt_model.specs.declared.held.AccessPath.TheVariants.{Direct, Own, Through}
-pub use Rattle.gt_model.specs.declared.bounds.TheConstants.{SERIAL_LIMIT}
 pub use Rattle.gt_calls.specs.declared.known.CallerState.{CallerState}
 pub use Rattle.gt_model.specs.declared.leg.Leg.{Leg}
 pub use Rattle.gt_calls.specs.declared.leg.LegNext.{LegNext}
 pub use Rattle.gt_calls.specs.declared.leg.LegNext.TheVariants.{Going, Pinned, Refused as LegRefused}
 pub use Rattle.gt_calls.specs.declared.leg.LegPhase.{LegPhase}
 pub use Rattle.gt_calls.specs.declared.leg.LegPhase.TheVariants.{Body, Header, Look, Pinning, Relook, Second}
-pub use Rattle.gt_model.specs.declared.bounds.TheConstants.{MORE_TRIES}
 pub use Rattle.gt_model.specs.declared.request.OpenRequest.{OpenRequest}
-pub use Rattle.gt_model.specs.declared.request.OpenRequest.TheVariants.{Copy, Demote, GetVersion, Grant, Load, Map, Peek}
-pub use Rattle.gt_model.specs.declared.request.OpenRequest.TheVariants.{Poke, Promote, QuerySize, Revoke, SetVersion}
-pub use Rattle.gt_model.specs.declared.request.OpenRequest.TheVariants.{Probe, Release, SetupTable, Store, Unmap, Withdraw}
+pub use Rattle.gt_model.specs.declared.request.OpenRequest.TheVariants.{Copy, Demote, GetVersion, Grant, Load, Map}
+pub use Rattle.gt_model.specs.declared.request.OpenRequest.TheVariants.{Peek, Poke, Promote, QuerySize, Revoke}
+pub use Rattle.gt_model.specs.declared.request.OpenRequest.TheVariants.{SetVersion, Probe, Release, SetupTable, Store}
+pub use Rattle.gt_model.specs.declared.request.OpenRequest.TheVariants.{Unmap, Withdraw}
 pub use Rattle.gt_types.specs.declared.copies.CopyArgs.{CopyArgs}
 pub use Rattle.gt_types.specs.declared.copies.End.{End}
 pub use Rattle.gt_model.specs.declared.request.PinHolder.TheVariants.{Leg as ByLeg, Mapping as ByHandle}
@@ -49,8 +48,9 @@ pub use Rattle.gt_model.specs.Permits.{allows_direction, forwards, is_copying, p
 pub use Rattle.gt_model.specs.Spelling.{entry_of}
 pub use Rattle.gt_model.specs.Words.{control_of, control_word, header_of}
 pub use Rattle.gt_model.specs.declared.change.EntryChange.{EntryChange}
-pub use Rattle.gt_model.specs.declared.change.EntryChange.TheVariants.{Demote as ToReadOnly, Promote as ToWritable, Publish}
-pub use Rattle.gt_model.specs.declared.change.EntryChange.TheVariants.{Revoke as ToInvalid, Withdraw as ToWithdrawn}
+pub use Rattle.gt_model.specs.declared.change.EntryChange.TheVariants.{Demote as ToReadOnly, Promote as ToWritable}
+pub use Rattle.gt_model.specs.declared.change.EntryChange.TheVariants.{Publish, Revoke as ToInvalid}
+pub use Rattle.gt_model.specs.declared.change.EntryChange.TheVariants.{Withdraw as ToWithdrawn}
 pub use Rattle.gt_model.specs.declared.change.BodyWord.{BodyWord}
 pub use Rattle.gt_model.specs.declared.change.BodyWord.TheVariants.{First as FirstHalf, Second as SecondHalf}
 pub use Rattle.gt_model.specs.declared.control.Control.{Control}

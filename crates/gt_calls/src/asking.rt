@@ -5,18 +5,17 @@ ghost use Rattle.gt_calls.specs.Asking.{judged_as, JudgesBytes};
 ghost use Rattle.gt_model.specs.Asking.{SpellsItsEntry};
 ghost use Rattle.gt_calls.specs.Opening.{Opens};
 ghost use Rattle.gt_model.specs.Rules.{CallerKnowledge, begun, change_begun, label_of};
-ghost use Rattle.gt_calls.specs.Rules.{knows, entry_in, own_generation};
+ghost use Rattle.gt_calls.specs.Known.{knows, entry_in, own_generation};
 ghost use Rattle.gt_model.specs.Rules.{grant_begun};
 
-use gt_model::CallResult;
 use crate::judging::{
     judge_change, judge_copy, judge_grant, judge_load, judge_map, judge_own_access, judge_probe,
     judge_query, judge_release, judge_revoke, judge_setup, judge_store, judge_unmap, judge_version,
     label_of, owner_label,
 };
 use crate::known::{CallerState, OwnerEntry, own_entry};
-use gt_model::{OpenRequest, Request};
 use gt_entry::{Entry, EntryChange, Header, decode};
+use gt_model::{CallResult, OpenRequest, Request};
 use gt_types::{Allows, Denial, DomId, Facts, GrantRef, LAST_GENERATION, Rule};
 
 // Checks the beginning of a demotion or promotion by the entry's owner.

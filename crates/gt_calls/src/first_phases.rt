@@ -2,21 +2,21 @@
 ghost use Rattle.std.specs.Prelude.{◌≡◌};
 ghost use Rattle.gt_types.specs.Names.{resolved};
 ghost use Rattle.gt_handles.specs.Handles.{value_of};
-ghost use Rattle.gt_calls.specs.Rules.{knows};
+ghost use Rattle.gt_calls.specs.Known.{knows};
 ghost use Rattle.gt_model.specs.Path.{map_leg, idle_word};
 ghost use Rattle.gt_calls.specs.Machine.{ended_as, refused_as, handle_refused, publishing, first_phase, unmap_phase};
 ghost use Rattle.gt_calls.specs.Machine.{load_phase, store_phase, after_store, unaccessed};
 
-use gt_model::{CallResult, CallValue, Step};
 use crate::call::{HeaderQuery, Phase};
 use crate::copying::{EntryUse, PinPurpose, at_source, leg_to};
-use gt_model::{AccessPath, CallPins, HeldPin, NO_PINS};
 use crate::judging::{map_dir, resolve};
 use crate::known::{CallerState, own_entry};
 use crate::leg::{Leg, LegPhase, MORE_TRIES, entry_refusal};
-use gt_model::{OpenRequest, PinHolder};
 use gt_entry::{Entry, EntryChange, Header};
 use gt_handles::Handle;
+use gt_model::{
+    AccessPath, CallPins, CallResult, CallValue, HeldPin, NO_PINS, OpenRequest, PinHolder, Step,
+};
 use gt_types::{Allows, CopyArgs, Denial, DomId, Facts, GrantRef, Range, Rule, Size, Use};
 
 // Builds the end of a call that releases these pins.

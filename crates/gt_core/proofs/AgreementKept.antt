@@ -1,24 +1,20 @@
 -- What stays of a core's agreement with a history after one more item.
-use Rattle.gt_core.proofs.Words.{◌≡◌, ◌≢◌, ◌<◌, ◌+◌, ℕ, refl, Bool, true, false, List, ◌∷◌, length, Option, Some, None}
-use Rattle.gt_core.proofs.Words.{cond, sym, ap, ◌∙◌, subst, eqb-true, eq-eqb, none-some, domain_of, ◌==◌, ◌&&◌, All}
-use Rattle.gt_core.proofs.Words.{count_by, slice_get, option_map, fun_ext, DomId, Read, Write, TABLE_ENTRIES, Entry}
-use Rattle.gt_core.proofs.Words.{Header, BodyWord, IsEntry, HandleMap, HeldPin, control_with, knowledge_of, PinCounts, OpenCall}
-use Rattle.gt_core.proofs.Words.{Item, changed_at, State, state_of, changed_in, History, Setting, live, entry_at}
-use Rattle.gt_core.proofs.Words.{generation_at, body_at, table_at, reads_at, writes_at, control_at, known_at}
-use Rattle.gt_core.proofs.Words.{mappings_at, maps_answered_at, is_pin_on, open_call, underway_after, Underway}
-use Rattle.gt_core.proofs.Words.{change_at, stored_at, header_stored, stood, first_of_item, IsLawfulPin, FitsTable}
-use Rattle.gt_core.proofs.Words.{FitsWord, SlotAgrees, MappingsAgree, StateStands, StateAgrees, DomainsStand}
-use Rattle.gt_core.proofs.Words.{CallAgrees}
-use Rattle.gt_core.proofs.Words.{GivenAgrees, Dir, mapping_named, slot_after, with_slot, stood_with, MAX_PINS}
-use Rattle.gt_core.proofs.Words.{cond_both}
-use Rattle.gt_core.proofs.Words.{CountsChange, arith}
+use Rattle.gt_core.proofs.Words.{◌≡◌, ◌≢◌, ◌<◌, ◌+◌, ℕ, refl, Bool, true, false, List, ◌∷◌, length, Option, Some}
+use Rattle.gt_core.proofs.Words.{None, cond, sym, ap, ◌∙◌, subst, eqb-true, eq-eqb, none-some, domain_of, ◌==◌, ◌&&◌}
+use Rattle.gt_core.proofs.Words.{All, count_by, slice_get, option_map, fun_ext, DomId, Read, Write, TABLE_ENTRIES}
+use Rattle.gt_core.proofs.Words.{Entry, Header, BodyWord, IsEntry, HandleMap, HeldPin, control_with, knowledge_of}
+use Rattle.gt_core.proofs.Words.{PinCounts, OpenCall, Item, changed_at, State, state_of, changed_in, History, Setting}
+use Rattle.gt_core.proofs.Words.{live, entry_at, generation_at, body_at, table_at, reads_at, writes_at, control_at}
+use Rattle.gt_core.proofs.Words.{known_at, mappings_at, maps_answered_at, is_pin_on, open_call, underway_after}
+use Rattle.gt_core.proofs.Words.{Underway, change_at, stored_at, header_stored, stood, first_of_item, IsLawfulPin}
+use Rattle.gt_core.proofs.Words.{FitsTable, FitsWord, SlotAgrees, MappingsAgree, StateStands, StateAgrees}
+use Rattle.gt_core.proofs.Words.{DomainsStand, CallAgrees, GivenAgrees, Dir, mapping_named, slot_after, with_slot}
+use Rattle.gt_core.proofs.Words.{stood_with, MAX_PINS, cond_both, CountsChange, arith}
 use Rattle.gt_core.proofs.{Rows.get-changed, Rows.length-changed, Rows.state-changed, Mappings.mappings-same}
-use Rattle.gt_core.proofs.{Steps.Observers.pulled, Steps.Observers.unstored, Steps.Observers.KeepsKnown}
-use Rattle.gt_core.proofs.{Steps.Observers.KeepsAll, Steps.Observers.cond-same, Steps.Observers.kept-table}
-use Rattle.gt_core.proofs.{Steps.Observers.kept-live, Steps.Observers.answered-stays, Steps.Observers.kept-entry}
-use Rattle.gt_core.proofs.{Steps.Observers.kept-raises, Steps.Observers.other-entry, Steps.Observers.other-body}
-use Rattle.gt_core.proofs.{Steps.Observers.other-maps, Steps.Observers.other-raises, Steps.Observers.other-pins}
-use Rattle.gt_core.proofs.{Steps.Observers.other-table, Steps.Observers.other-known, CallsStand.place-stays}
+use Rattle.gt_core.proofs.{CallsStand.place-stays}
+use Rattle.gt_model.proofs.Observers.{pulled, unstored, KeepsKnown, KeepsAll, cond-same, kept-table, kept-live}
+use Rattle.gt_model.proofs.Observers.{answered-stays, kept-entry, kept-raises, other-entry, other-body, other-maps}
+use Rattle.gt_model.proofs.Observers.{other-raises, other-pins, other-table, other-known}
 
 -- what the core keeps of a domain is what the domain itself knows
 pub known-same : (s : Setting) (h : History) (d : State) → StateStands s h d

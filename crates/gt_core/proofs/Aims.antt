@@ -1,12 +1,12 @@
 -- The leg that an open call makes is the one that its pins determine.
-use Rattle.gt_core.proofs.Words.{inl, inr, ◌≡◌, ◌+◌, ℕ, refl, Bool, true, List, [], ◌∷◌, ◌++◌, map, reverse, Option, Some, None}
-use Rattle.gt_core.proofs.Words.{cond, sym, ap, ◌∙◌, false≢true, DomId, Dir, Read, Write, ForCopy, Entry, Page, Sub}
-use Rattle.gt_core.proofs.Words.{Via, permits, OpenRequest, CopyArgs, HeldPin, AccessPath, Direct, Through, PinPurpose, Mapping, Source}
-use Rattle.gt_core.proofs.Words.{Dest, Leg, last_first, pins_so_far, held_by, CallerKnowledge, is_source_granted}
-use Rattle.gt_core.proofs.Words.{is_dest_granted, source_pair, dest_pair, IsLegFor, IsToward, IsReached, IsOnFrom}
-use Rattle.gt_core.proofs.Words.{GivesHeld}
-use Rattle.gt_core.proofs.Words.{History, Setting, known_at, legs_at, LegNow, numbered, begun_route, leg_now, copy_now}
-use Rattle.gt_core.proofs.Words.{toward_source, from_source, after_source, source_now, dest_now, second_now}
+use Rattle.gt_core.proofs.Words.{inl, inr, ◌≡◌, ◌+◌, ℕ, refl, Bool, true, List, [], ◌∷◌, ◌++◌, map, reverse, Option}
+use Rattle.gt_core.proofs.Words.{Some, None, cond, sym, ap, ◌∙◌, false≢true, DomId, Dir, Read, Write, ForCopy, Entry}
+use Rattle.gt_core.proofs.Words.{Page, Sub, Via, permits, OpenRequest, CopyArgs, HeldPin, AccessPath, Direct, Through}
+use Rattle.gt_core.proofs.Words.{PinPurpose, Mapping, Source, Dest, Leg, last_first, pins_so_far, held_by}
+use Rattle.gt_core.proofs.Words.{CallerKnowledge, is_source_granted, is_dest_granted, source_pair, dest_pair}
+use Rattle.gt_core.proofs.Words.{IsLegFor, IsToward, IsReached, IsOnFrom, GivesHeld, History, Setting, known_at}
+use Rattle.gt_core.proofs.Words.{legs_at, LegNow, numbered, begun_route, leg_now, copy_now, toward_source}
+use Rattle.gt_core.proofs.Words.{from_source, after_source, source_now, dest_now, second_now}
 use Rattle.gt_core.proofs.{Legs.IsLegOf}
 use Rattle.gt_model.specs.declared.held.AccessPath.TheVariants.{Own}
 use Rattle.gt_calls.specs.Resting.{IsCopyOf}

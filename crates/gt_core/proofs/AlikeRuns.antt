@@ -2,22 +2,21 @@
 -- runs that are alike stay so.
 use Rattle.gt_core.proofs.Words.{◌≡◌, ◌≢◌, ◌⊎◌, inl, inr, ℕ, refl, Bool, List, [], ◌∷◌, ◌++◌, Option, Some, None, sym}
 use Rattle.gt_core.proofs.Words.{ap, ◌∙◌, take, drop, option_map, domain_of, DomId, DomainConfig, Denial}
-use Rattle.gt_core.proofs.Words.{MAX_TABLE_FRAMES, Header, header_word, Handle, asked, begun_of, CallerKnowledge, path}
-use Rattle.gt_core.proofs.Words.{HeldPin, Request, OpenRequest, Map, Unmap, Release, Load, Store, Peek, SetupTable, QuerySize, GetVersion}
-use Rattle.gt_core.proofs.Words.{Observation, Word, Step, LookHeader, LookControl, LookBody, PinStep, StoreHeader, Exchange}
-use Rattle.gt_core.proofs.Words.{ReadBytes, Action, Makes, CallResult, Answer, Event, Begin, Tick, ItemEvent, Began}
-use Rattle.gt_core.proofs.Words.{Stepped, Item, Element, Busy, Idle, NoDomain, Did, History, Setting, Underway}
-use Rattle.gt_core.proofs.Words.{open_call, values, known_at, seen_by, exchange_sees, table_at, maps_answered_at}
-use Rattle.gt_core.proofs.Words.{contents_at, mappings_at, mapping_of, MayDo, IsRight, StepsRight, AnsweredBy}
-use Rattle.gt_core.proofs.Words.{refusal_in, verdict_in, bare_handle, bare_request, bare_event, bare_step, keyless_answer}
-use Rattle.gt_core.proofs.Words.{keyless_item, KeylessItem, AsksKnown, IsOfKnown, IsRun, Ends, BeginsRight, grown, keyless_items}
-use Rattle.gt_core.proofs.Words.{SameHistory, HappensKnown, AreAlike, IsItemOf, SameEvent, SameElement, arith}
+use Rattle.gt_core.proofs.Words.{MAX_TABLE_FRAMES, Header, header_word, Handle, asked, begun_of, CallerKnowledge}
+use Rattle.gt_core.proofs.Words.{path, HeldPin, Request, OpenRequest, Map, Unmap, Release, Load, Store, Peek}
+use Rattle.gt_core.proofs.Words.{SetupTable, QuerySize, GetVersion, Observation, Word, Step, LookHeader, LookControl}
+use Rattle.gt_core.proofs.Words.{LookBody, PinStep, StoreHeader, Exchange, ReadBytes, Action, Makes, CallResult}
+use Rattle.gt_core.proofs.Words.{Answer, Event, Begin, Tick, ItemEvent, Began, Stepped, Item, Element, Busy, Idle}
+use Rattle.gt_core.proofs.Words.{NoDomain, Did, History, Setting, Underway, open_call, values, known_at, seen_by}
+use Rattle.gt_core.proofs.Words.{exchange_sees, table_at, maps_answered_at, contents_at, mappings_at, mapping_of}
+use Rattle.gt_core.proofs.Words.{MayDo, IsRight, StepsRight, AnsweredBy, refusal_in, verdict_in, bare_handle}
+use Rattle.gt_core.proofs.Words.{bare_request, bare_event, bare_step, keyless_answer, keyless_item, KeylessItem}
+use Rattle.gt_core.proofs.Words.{AsksKnown, IsOfKnown, IsRun, Ends, BeginsRight, grown, keyless_items, SameHistory}
+use Rattle.gt_core.proofs.Words.{HappensKnown, AreAlike, IsItemOf, SameEvent, SameElement, arith}
 use Rattle.gt_core.{proofs.Pins.word-bare, proofs.Pins.mapping-bare, proofs.Pins.known-bare, proofs.WithoutKeys.bare}
 use Rattle.gt_core.{proofs.WithoutKeys.bared, proofs.WithoutKeys.bare_asked, proofs.WithoutKeys.bare_call}
-use Rattle.gt_core.{proofs.WithoutKeys.asked-bare}
-use Rattle.gt_core.{proofs.WithoutKeys.values-bare, proofs.WithoutKeys.contents-bare, proofs.WithoutKeys.bare-same}
-use Rattle.gt_core.{proofs.HandlesGiven.CallKnown}
-use Rattle.gt_core.{proofs.HandlesGiven.open-known}
+use Rattle.gt_core.{proofs.WithoutKeys.asked-bare, proofs.WithoutKeys.values-bare, proofs.WithoutKeys.contents-bare}
+use Rattle.gt_core.{proofs.WithoutKeys.bare-same, proofs.HandlesGiven.CallKnown, proofs.HandlesGiven.open-known}
 use Rattle.gt_model.specs.declared.trace.Answer.TheVariants as answers
 use Rattle.gt_model.specs.declared.request.OpenRequest.TheVariants.{Probe}
 

@@ -2,25 +2,22 @@
 use Rattle.gt_core.proofs.Words.{arith, ◌≤◌, ◌≡◌, ◌≢◌, ◌<◌, ◌+◌, inl, ℕ, refl, true, false, List, [], ◌∷◌, length}
 use Rattle.gt_core.proofs.Words.{Option, Some, None, sym, ap, ◌∙◌, subst, get_or, set, reverse, eqb-true}
 use Rattle.gt_core.proofs.Words.{slice_get_read, position-Some, ◌==◌, is_some, position, slice_get, domain_of, DomId}
-use Rattle.gt_core.proofs.Words.{Header, HeldPin, Request, OpenRequest, Observation, CallResult, Makes, Done, Call, Phase, asked, begun_of}
-use Rattle.gt_core.proofs.Words.{bytes_given_by, CallerKnowledge, first, begun, knowledge_of, action_at, StandsAt}
-use Rattle.gt_core.proofs.Words.{held_in}
-use Rattle.gt_core.proofs.Words.{pins_at, GoesOnWith, Goes, Starts, Nothing, Step, Action, Rests, CallPins, most_steps}
-use Rattle.gt_core.proofs.Words.{steps_left, Item, Began, Answer, OpenCall, State, state_of, kept_by, with_open_call}
-use Rattle.gt_core.proofs.Words.{History}
-use Rattle.gt_core.proofs.Words.{Setting, table_at, known_at, Underway, open_call, legs_at, one_if_mapped, stood}
-use Rattle.gt_core.proofs.Words.{AnsweredBy, GivesValue, refusal_in, refusal_of, IsRight, IsClean, phase_refusal}
-use Rattle.gt_core.proofs.Words.{FitsAsked, PhaseStands, OpenAgrees, CallAgrees, FitsGiven, GivenAgrees, StateStands}
-use Rattle.gt_core.proofs.Words.{StateAgrees, DomainsStand, OpensAs, numbered, misses, ◌^◌, SpellsItsEntry, first_phase, IsAt}
+use Rattle.gt_core.proofs.Words.{Header, HeldPin, Request, OpenRequest, Observation, CallResult, Makes, Done, Call}
+use Rattle.gt_core.proofs.Words.{Phase, asked, begun_of, bytes_given_by, CallerKnowledge, first, begun, knowledge_of}
+use Rattle.gt_core.proofs.Words.{action_at, StandsAt, held_in, pins_at, GoesOnWith, Goes, Starts, Nothing, Step}
+use Rattle.gt_core.proofs.Words.{Action, Rests, CallPins, most_steps, steps_left, Item, Began, Answer, OpenCall}
+use Rattle.gt_core.proofs.Words.{State, state_of, kept_by, with_open_call, History, Setting, table_at, known_at}
+use Rattle.gt_core.proofs.Words.{Underway, open_call, legs_at, one_if_mapped, stood, AnsweredBy, GivesValue}
+use Rattle.gt_core.proofs.Words.{refusal_in, refusal_of, IsRight, IsClean, phase_refusal, FitsAsked, PhaseStands}
+use Rattle.gt_core.proofs.Words.{OpenAgrees, CallAgrees, FitsGiven, GivenAgrees, StateStands, StateAgrees}
+use Rattle.gt_core.proofs.Words.{DomainsStand, OpensAs, numbered, misses, ◌^◌, SpellsItsEntry, first_phase, IsAt}
 use Rattle.gt_core.proofs.Words.{pins_by_call, steps_to_come, asks_memory, WantsMemory, IsOpenCall, answer_of}
-use Rattle.gt_core.proofs.Words.{cond_both}
-use Rattle.gt_core.proofs.Words.{StartOpen}
+use Rattle.gt_core.proofs.Words.{cond_both, StartOpen}
 use Rattle.gt_core.{specs.Standing.IsMapping, proofs.AgreementKept.KeepsEntries, proofs.AgreementKept.known-same}
-use Rattle.gt_core.{proofs.AgreementKept.open_call-own, proofs.AgreementKept.stood-own, proofs.AgreementKept.given-none}
-use Rattle.gt_core.{proofs.AgreementKept.quiet-stands, proofs.Steps.Observers.KeepsKnown}
-use Rattle.gt_core.{proofs.Steps.Observers.kept-known}
-use Rattle.gt_core.{proofs.Steps.Observers.kept-legs, proofs.Rows.has_id, proofs.Rows.found, proofs.Rows.not-found}
-use Rattle.gt_core.{proofs.Rows.state_of-set}
+use Rattle.gt_core.{proofs.AgreementKept.open_call-own, proofs.AgreementKept.stood-own}
+use Rattle.gt_core.{proofs.AgreementKept.given-none, proofs.AgreementKept.quiet-stands, proofs.Rows.has_id}
+use Rattle.gt_core.{proofs.Rows.found, proofs.Rows.not-found, proofs.Rows.state_of-set}
+use Rattle.gt_model.proofs.Observers.{KeepsKnown, kept-known, kept-legs}
 use Rattle.gt_calls.specs.declared.asking.Judged.TheVariants as judgeds
 use Rattle.gt_model.specs.declared.request.Request.TheVariants as requests
 

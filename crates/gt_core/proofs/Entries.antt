@@ -1,16 +1,13 @@
 -- What a legal history leaves of each entry: its body words encode it.
-use Rattle.gt_core.proofs.Words.{ℕ, Bool, None, Option, Some, [], arith, cond, refl, subst, sym}
-use Rattle.gt_core.proofs.Words.{◌∷◌, ◌≡◌, eqb-true, ◌==◌}
-use Rattle.gt_core.proofs.Words.{DomId, GrantRef, EntryChange, Publish, ToInvalid, ToWithdrawn, BodyWord, FirstHalf}
-use Rattle.gt_core.proofs.Words.{SecondHalf, Entry, Invalid, first, Observation, Taken, Step, Exchange, StoreBody}
-use Rattle.gt_core.proofs.Words.{History, Setting, Underway, changed_entry_of}
-use Rattle.gt_core.proofs.Words.{IsRight, IsSafe, IsSafeChange, IsSpelled}
-use Rattle.gt_core.proofs.Words.{StepsRightIn, Answer, ItemEvent, Stepped, Item, body_at, entry_at}
-use Rattle.gt_core.proofs.Words.{open_call, IsLegalHistory}
+use Rattle.gt_core.proofs.Words.{ℕ, Bool, None, Option, Some, [], arith, cond, refl, subst, sym, ◌∷◌, ◌≡◌, eqb-true}
+use Rattle.gt_core.proofs.Words.{◌==◌, DomId, GrantRef, EntryChange, Publish, ToInvalid, ToWithdrawn, BodyWord}
+use Rattle.gt_core.proofs.Words.{FirstHalf, SecondHalf, Entry, Invalid, first, Observation, Taken, Step, Exchange}
+use Rattle.gt_core.proofs.Words.{StoreBody, History, Setting, Underway, changed_entry_of, IsRight, IsSafe}
+use Rattle.gt_core.proofs.Words.{IsSafeChange, IsSpelled, StepsRightIn, Answer, ItemEvent, Stepped, Item, body_at}
+use Rattle.gt_core.proofs.Words.{entry_at, open_call, IsLegalHistory}
 use Rattle.gt_model.specs.History.{with_ro, changed_entry}
-use Rattle.gt_core.proofs.{Steps.Observers.unstored, CallsStand.spelled-stays}
-use Rattle.gt_core.proofs.{Steps.Observers.kept-entry, Steps.Observers.stepped}
-use Rattle.gt_core.proofs.{Steps.Observers.exchanged}
+use Rattle.gt_model.proofs.Observers.{unstored, kept-entry, stepped, exchanged}
+use Rattle.gt_core.proofs.{CallsStand.spelled-stays}
 
 -- what holds for a step that was right in its call
 

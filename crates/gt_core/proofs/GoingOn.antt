@@ -1,18 +1,19 @@
 -- Every legal history can continue.
-use Rattle.gt_core.proofs.Words.{◌≡◌, ◌≢◌, ◌==◌, ℕ, refl, false, List, [], ◌∷◌, ◌++◌, length, Option, Some}
-use Rattle.gt_core.proofs.Words.{None, Bool, cond, cond_both, sym, ap, ◌∙◌, subst, reverse, same_Some, none-some}
-use Rattle.gt_core.proofs.Words.{eqb-true, position-Some, position, get_or, set, slice_get, is_some, DomId, domain_of}
-use Rattle.gt_core.proofs.Words.{Handle, HeldPin, HandleMap, Observation, Nothing, CallResult, Granted, Given, KeptPin}
+use Rattle.gt_core.proofs.Words.{◌≡◌, ◌≢◌, ◌==◌, ℕ, refl, false, List, [], ◌∷◌, ◌++◌, length, Option, Some, None}
+use Rattle.gt_core.proofs.Words.{Bool, cond, cond_both, sym, ap, ◌∙◌, subst, reverse, same_Some, none-some, eqb-true}
+use Rattle.gt_core.proofs.Words.{position-Some, position, get_or, set, slice_get, is_some, DomId, domain_of, Handle}
+use Rattle.gt_core.proofs.Words.{HeldPin, HandleMap, Observation, Nothing, CallResult, Granted, Given, KeptPin}
 use Rattle.gt_core.proofs.Words.{Refused, Step, PinStep, ReadBytes, Action, Makes, Done, Call, Phase, knowledge_of}
 use Rattle.gt_core.proofs.Words.{CallerKnowledge, path, action_at, Goes, Starts, OpenCall, Answer, AnswerDone, Mapped}
 use Rattle.gt_core.proofs.Words.{State, state_of, sees, History, Setting, known_at, seen_by, Underway, values}
 use Rattle.gt_core.proofs.Words.{open_call, DomainsStand, StateStands, CallAgrees, OpenAgrees, StateAgrees, applied}
 use Rattle.gt_core.proofs.Words.{with_underway, with_mapping, Adds, AccessedBy, FrameSet, IsRight, CoreStands}
-use Rattle.gt_core.proofs.Words.{FramesStand, core_of, Settled, Closed, answer_with, ticked_with, ticked_element, MayDo}
-use Rattle.gt_core.proofs.Words.{grown, MappingsAgree, mappings_at, maps_answered_at, begun_of, asked, SpellsItsEntry, Request}
-use Rattle.gt_core.proofs.Words.{Begin, Tick, journal_in, map, WriteBytes, CopyBytes, Denied, Did, Element}
-use Rattle.gt_core.proofs.Words.{eq-eqb, CoreState, unwrap_or, nat_lt, replicate, WriteRecord, IsTrue, all_rightful}
-use Rattle.gt_core.proofs.Words.{frames_of_all, pool_number, AreKept, all_zeros, frame_counts, first_state}
+use Rattle.gt_core.proofs.Words.{FramesStand, core_of, Settled, Closed, answer_with, ticked_with, ticked_element}
+use Rattle.gt_core.proofs.Words.{MayDo, grown, MappingsAgree, mappings_at, maps_answered_at, begun_of, asked}
+use Rattle.gt_core.proofs.Words.{SpellsItsEntry, Request, Begin, Tick, journal_in, map, WriteBytes, CopyBytes, Denied}
+use Rattle.gt_core.proofs.Words.{Did, Element, eq-eqb, CoreState, unwrap_or, nat_lt, replicate, WriteRecord, IsTrue}
+use Rattle.gt_core.proofs.Words.{all_rightful, frames_of_all, pool_number, AreKept, all_zeros, frame_counts}
+use Rattle.gt_core.proofs.Words.{first_state}
 use Rattle.gt_calls.specs.Machine.{standing_after}
 use Rattle.gt_frames.specs.declared.places.FrameCount.{FrameCount}
 use Rattle.gt_model.specs.Asking.{FitsAsked}
@@ -20,8 +21,8 @@ use Rattle.gt_calls.specs.Asking.{judged_as}
 use Rattle.gt_calls.proofs.Advancing.{continues, opens as starts-open}
 use Rattle.gt_calls.specs.declared.call.CallStart.TheVariants.{Open as StartOpen}
 use Rattle.gt_core.specs.GoingOn.{AccessAnsweredSo, AnsweredSo, CallsCanBegin, IsAccess, IsOnWords, CanBeReached}
-use Rattle.gt_core.specs.GoingOn.{OpenCallsCanAccess, OpenCallsCanGoOn, RunsStart}
-use Rattle.gt_core.specs.GoingOn.{begin_answer, beginning, step_after}
+use Rattle.gt_core.specs.GoingOn.{OpenCallsCanAccess, OpenCallsCanGoOn, RunsStart, begin_answer, beginning}
+use Rattle.gt_core.specs.GoingOn.{step_after}
 use Rattle.std.proofs.Common.{◌+◌, ◌-◌, ◌≤◌, arith, drop, length-drop, slice_range, take}
 use Rattle.std.proofs.lemmas.Bool.Decides.{nat_tests}
 use Rattle.std.proofs.lemmas.List.{length-take-le}
@@ -42,11 +43,10 @@ use Rattle.gt_core.specs.Acting.{answer_of, IsOpenCall}
 use Rattle.gt_core.specs.declared.core_state.Begun.TheVariants.{Open as BegunOpen, Done as BegunDone}
 use Rattle.gt_core.proofs.{Beginning.begin-answers, Beginning.begin-opened, Beginning.not-done, Beginning.opened}
 use Rattle.gt_core.proofs.{AgreementKept.known-same, Performing.kept-part, Performing.stepped-state}
-use Rattle.gt_core.proofs.{Playing.core-starts}
-use Rattle.gt_core.proofs.{Playing.legal-grows, Starting.get-replicate, Rows.found, Rows.has_id, Rows.not-found}
-use Rattle.gt_core.proofs.{Rows.state_of-set, Steps.Observers.stepped, Steps.Write.frames-begun}
-use Rattle.gt_core.proofs.{Stepping.Begins, Stepping.tick-does, Ticking.Ticks, Ticking.ticks}
-use Rattle.gt_core.proofs.{Values.call-ends, Beginning.place-at}
+use Rattle.gt_core.proofs.{Playing.core-starts, Playing.legal-grows, Starting.get-replicate, Rows.found, Rows.has_id}
+use Rattle.gt_core.proofs.{Rows.not-found, Rows.state_of-set, Steps.Write.frames-begun, Stepping.Begins}
+use Rattle.gt_core.proofs.{Stepping.tick-does, Ticking.Ticks, Ticking.ticks, Values.call-ends, Beginning.place-at}
+use Rattle.gt_model.proofs.Observers.{stepped}
 use Rattle.gt_core.proofs.Starting.{starts as domains-start}
 use Rattle.gt_core.proofs.Ticking.{done-from}
 

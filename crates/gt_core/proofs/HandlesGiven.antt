@@ -1,14 +1,15 @@
 -- The handles that domains were answered with: each serial once, and each mapping under one of them.
-use Rattle.gt_core.proofs.Words.{◌≡◌, ◌≤◌, ◌<◌, ◌+◌, inl, inr, ℕ, refl, Bool, true, false, List, [], ◌∷◌, Option, Some}
-use Rattle.gt_core.proofs.Words.{None, cond, sym, ap, ◌∙◌, subst, arith, ◌==◌, ◌&&◌, eqb-true, eq-eqb, DomId, Denial}
-use Rattle.gt_core.proofs.Words.{Handle, SERIAL_LIMIT, OpenRequest, PinHolder, ByMapping, ByLeg, HeldPin, Observation, Step, Unpin}
-use Rattle.gt_core.proofs.Words.{Makes, CallResult, asked, CallerKnowledge, begun, Continuation, after_beginning, steps_of}
-use Rattle.gt_core.proofs.Words.{IsMapping, Answer, ItemEvent, Began, Stepped, Item, History, Setting, Underway, Pin}
-use Rattle.gt_core.proofs.Words.{live, same_handle, pinned_by, unpinned_by, open_call, underway_after, maps_answered_at}
-use Rattle.gt_core.proofs.Words.{one_if_mapped, known_at, values, IsRight, StepsRightIn, AnsweredBy, bare_handle}
-use Rattle.gt_core.proofs.Words.{IsGiven, IsKnown, AsksKnown, HappensKnown, IsRun, cond_both, All-nil, All}
+use Rattle.gt_core.proofs.Words.{◌≡◌, ◌≤◌, ◌<◌, ◌+◌, inl, inr, ℕ, refl, Bool, true, false, List, [], ◌∷◌, Option}
+use Rattle.gt_core.proofs.Words.{Some, None, cond, sym, ap, ◌∙◌, subst, arith, ◌==◌, ◌&&◌, eqb-true, eq-eqb, DomId}
+use Rattle.gt_core.proofs.Words.{Denial, Handle, SERIAL_LIMIT, OpenRequest, PinHolder, ByMapping, ByLeg, HeldPin}
+use Rattle.gt_core.proofs.Words.{Observation, Step, Unpin, Makes, CallResult, asked, CallerKnowledge, begun}
+use Rattle.gt_core.proofs.Words.{Continuation, after_beginning, steps_of, IsMapping, Answer, ItemEvent, Began}
+use Rattle.gt_core.proofs.Words.{Stepped, Item, History, Setting, Underway, Pin, live, same_handle, pinned_by}
+use Rattle.gt_core.proofs.Words.{unpinned_by, open_call, underway_after, maps_answered_at, one_if_mapped, known_at}
+use Rattle.gt_core.proofs.Words.{values, IsRight, StepsRightIn, AnsweredBy, bare_handle, IsGiven, IsKnown, AsksKnown}
+use Rattle.gt_core.proofs.Words.{HappensKnown, IsRun, cond_both, All-nil, All}
 use Rattle.std.proofs.lemmas.List.Elements.{All-append, All-weaker}
-use Rattle.gt_core.proofs.{Steps.Observers.all-without}
+use Rattle.gt_model.proofs.Observers.{all-without}
 use Rattle.gt_model.specs.declared.trace.Answer.TheVariants as answers
 
 -- a map that is answered

@@ -23,7 +23,6 @@ pub mod Starting
 pub mod CallsStand
 pub mod Stepping
 pub mod Steps
-pub mod Swapping
 pub mod TakenBack
 pub mod Ticking
 pub mod AlikeRuns

@@ -1,11 +1,11 @@
 -- The handles of a domain, and its mappings as the history has them.
 use Rattle.gt_core.proofs.Words.{◌≡◌, ◌+◌, ℕ, zero, suc, refl, Bool, true, false, List, [], ◌∷◌, ◌++◌, length, Option}
 use Rattle.gt_core.proofs.Words.{Some, None, cond, sym, ap, ◌∙◌, arith, subst, ◌==◌, fun_ext, eqb-true, true≢false}
-use Rattle.gt_core.proofs.Words.{none-some, length-append, sum_by-cons, Handle, HandleMap, value_of, count_of, HeldPin}
-use Rattle.gt_core.proofs.Words.{mapping_of, same_handle, Adds, handle_taken, MappingsAgree, slice_index_or, slice_set}
-use Rattle.gt_core.proofs.Words.{AreMappingsApart, HandleSlot}
+use Rattle.gt_core.proofs.Words.{none-some, length-append, sum_by-cons, Handle, HandleMap, value_of, count_of}
+use Rattle.gt_core.proofs.Words.{HeldPin, mapping_of, same_handle, Adds, handle_taken, MappingsAgree, slice_index_or}
+use Rattle.gt_core.proofs.Words.{slice_set, AreMappingsApart, HandleSlot}
 use Rattle.std.{proofs.Common.is_some, proofs.Common.count_by, specs.Cmp.both_ways}
-use Rattle.gt_core.proofs.{Steps.Observers.cond-same, Steps.Observers.cond-apart}
+use Rattle.gt_model.proofs.Observers.{cond-same, cond-apart}
 
 pub same-handle : (a b : Handle) → same_handle a b ≡ true → a ≡ b
 same-handle a b e = grind arith

@@ -1,14 +1,14 @@
 -- How a call ends, and what its steps have left unchanged.
 use Rattle.gt_core.proofs.Words.{◌≡◌, ◌⊎◌, inl, inr, ℕ, refl, List, [], ◌∷◌, ◌++◌, Option, Some, None, sym, ap, subst}
-use Rattle.gt_core.proofs.Words.{All-push, All, DomId, Denial, Entry, Via, HeldPin, Direct, Through, CallPins, OpenRequest}
-use Rattle.gt_core.proofs.Words.{ByMapping, ByLeg, Observation, Nothing, CallResult, Refused, Step, Unpin, StoreHeader, ReadBytes}
-use Rattle.gt_core.proofs.Words.{WriteBytes, Makes, Done, PinPurpose, Mapping, Source, Dest, Phase, Walking, Accessing, Last}
-use Rattle.gt_core.proofs.Words.{Ending, Leg, AtHeader, LegNext, LegRefused, Pinned, last_first, pins_so_far, no_pins}
-use Rattle.gt_core.proofs.Words.{CallerKnowledge, via_judged, is_dest_granted, source_pair, dest_pair, second_leg}
-use Rattle.gt_core.proofs.Words.{end_leg, phase_after, action_at, after_leg, after_source_pin, after_dest_pin}
-use Rattle.gt_core.proofs.Words.{where_via, next_to_give, History, Setting, known_at, seen_by, StepsSoFar, LeavesAll}
-use Rattle.gt_core.proofs.Words.{refusal_in, PhaseStands, EndsAfter, IsClean, Write, cond_both, CopyArgs, AccessPath}
-use Rattle.gt_core.proofs.Words.{at_dest}
+use Rattle.gt_core.proofs.Words.{All-push, All, DomId, Denial, Entry, Via, HeldPin, Direct, Through, CallPins}
+use Rattle.gt_core.proofs.Words.{OpenRequest, ByMapping, ByLeg, Observation, Nothing, CallResult, Refused, Step}
+use Rattle.gt_core.proofs.Words.{Unpin, StoreHeader, ReadBytes, WriteBytes, Makes, Done, PinPurpose, Mapping, Source}
+use Rattle.gt_core.proofs.Words.{Dest, Phase, Walking, Accessing, Last, Ending, Leg, AtHeader, LegNext, LegRefused}
+use Rattle.gt_core.proofs.Words.{Pinned, last_first, pins_so_far, no_pins, CallerKnowledge, via_judged}
+use Rattle.gt_core.proofs.Words.{is_dest_granted, source_pair, dest_pair, second_leg, end_leg, phase_after, action_at}
+use Rattle.gt_core.proofs.Words.{after_leg, after_source_pin, after_dest_pin, where_via, next_to_give, History}
+use Rattle.gt_core.proofs.Words.{Setting, known_at, seen_by, StepsSoFar, LeavesAll, refusal_in, PhaseStands}
+use Rattle.gt_core.proofs.Words.{EndsAfter, IsClean, Write, cond_both, CopyArgs, AccessPath, at_dest}
 use Rattle.gt_core.proofs.{Phases.by-leg, Phases.makes-same, Phases.by-giving, Phases.next_of, Phases.LeavesOrEnds}
 use Rattle.gt_model.specs.declared.held.AccessPath.TheVariants.{Own}
 use Rattle.gt_model.specs.declared.action.CallResult.TheVariants.{Mapped}

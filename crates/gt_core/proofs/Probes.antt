@@ -1,10 +1,10 @@
 -- A probe where its copy would make the access: it releases its pins.
-use Rattle.gt_core.proofs.Words.{◌≡◌, inl, inr, refl, List, [], sym, ap, ◌∙◌, subst, arith}
-use Rattle.gt_core.proofs.Words.{DomId, HeldPin, CallPins, OpenRequest, CopyArgs, Observation, Taken, CallResult, Granted}
-use Rattle.gt_core.proofs.Words.{Step, Makes, Done, PinPurpose, Leg, LegPhase, LegNext, Phase, Walking, Accessing}
-use Rattle.gt_core.proofs.Words.{Ending, Pinning, Pinned, CallerKnowledge, last_first, action_at, after_leg}
-use Rattle.gt_core.proofs.Words.{leg_after, phase_after, held_in, HoldsAfter, History, Setting, StepsSoFar}
-use Rattle.gt_core.proofs.Words.{PhaseStands, IsClean, phase_refusal, Observation}
+use Rattle.gt_core.proofs.Words.{◌≡◌, inl, inr, refl, List, [], sym, ap, ◌∙◌, subst, arith, DomId, HeldPin, CallPins}
+use Rattle.gt_core.proofs.Words.{OpenRequest, CopyArgs, Observation, Taken, CallResult, Granted, Step, Makes, Done}
+use Rattle.gt_core.proofs.Words.{PinPurpose, Leg, LegPhase, LegNext, Phase, Walking, Accessing, Ending, Pinning}
+use Rattle.gt_core.proofs.Words.{Pinned, CallerKnowledge, last_first, action_at, after_leg, leg_after, phase_after}
+use Rattle.gt_core.proofs.Words.{held_in, HoldsAfter, History, Setting, StepsSoFar, PhaseStands, IsClean}
+use Rattle.gt_core.proofs.Words.{phase_refusal}
 use Rattle.gt_calls.specs.Machine.{settled}
 use Rattle.gt_calls.specs.Standing.{IsSettled}
 use Rattle.gt_model.specs.declared.request.OpenRequest.TheVariants.{Probe}

@@ -1,41 +1,40 @@
 -- What the core does for a step of an open call: it is right, and the core represents it.
 use Rattle.gt_core.proofs.Words.{slice_get, ◌≡◌, ◌≢◌, inl, inr, ℕ, refl, Bool, List, [], ◌∷◌, ◌++◌, length, Option}
 use Rattle.gt_core.proofs.Words.{Some, None, cond, sym, ap, ◌∙◌, subst, reverse, eqb-true, eq-eqb, length-reverse}
-use Rattle.gt_core.proofs.Words.{reverse_onto, same_Some, ◌==◌, DomId, GrantRef, Entry, Invalid, Handle, HeldPin, OpenRequest}
-use Rattle.gt_core.proofs.Words.{ByMapping, ByLeg, Observation, Nothing, Taken, Missed, CallResult, Granted, Given, KeptPin}
-use Rattle.gt_core.proofs.Words.{Refused, Step, PinStep, Unpin, StoreBody, StoreHeader, Exchange, ReadBytes, Action}
-use Rattle.gt_core.proofs.Words.{Makes, Done, Call, Phase, knowledge_of, path, action_at, after_store, pins_at, held_in}
-use Rattle.gt_core.proofs.Words.{Goes, OpenCall, Item, Answer, Denied, AnswerDone, Mapped, State, state_of, sees, History}
-use Rattle.gt_core.proofs.Words.{Setting, live, word_at, known_at, legs_at, mappings_at, mapping_of, seen_by, Underway}
-use Rattle.gt_core.proofs.Words.{values, open_call, underway_after, holder_after, one_if_mapped, StepsRight, GivesValue}
-use Rattle.gt_core.proofs.Words.{refusal_in, refusal_of, DomainsStand, StateStands, CallAgrees, OpenAgrees, numbered}
-use Rattle.gt_core.proofs.Words.{position, get_or, set, position-Some, domain_of, CallValue, FramesTold, BytesAnswer}
-use Rattle.gt_core.proofs.Words.{HandleMap, applied, with_underway, with_mapping, Adds, IsReadable, IsAdmitted}
-use Rattle.gt_core.proofs.Words.{AccessedBy, bytes_at, FrameSet, frame_at, contents_at, IsRight, StepsRightIn}
-use Rattle.gt_core.proofs.Words.{CoreStands, FramesStand, core_of, Settled, IsLawfulPin, IsLawfullyHeld, answer_with}
-use Rattle.gt_core.proofs.Words.{Closed, IsRoomFor, IsMapping, ticked_with, ticked_element, Element, Tick, MayDo}
-use Rattle.gt_core.proofs.Words.{DoesEvent}
-use Rattle.gt_core.proofs.Words.{Did, grown, without, RestsOnRequest, WantsMemoryNow, IsWritingNext, TickTold}
-use Rattle.gt_core.proofs.Words.{IsWriting, cond_both, CallerKnowledge, GivenAgrees, take, drop, asked, keyless_answer}
-use Rattle.gt_core.proofs.Words.{handle_taken}
-use Rattle.gt_core.proofs.Words.{IsLegalHistory}
+use Rattle.gt_core.proofs.Words.{reverse_onto, same_Some, ◌==◌, DomId, GrantRef, Entry, Invalid, Handle, HeldPin}
+use Rattle.gt_core.proofs.Words.{OpenRequest, ByMapping, ByLeg, Observation, Nothing, Taken, Missed, CallResult}
+use Rattle.gt_core.proofs.Words.{Granted, Given, KeptPin, Refused, Step, PinStep, Unpin, StoreBody, StoreHeader}
+use Rattle.gt_core.proofs.Words.{Exchange, ReadBytes, Action, Makes, Done, Call, Phase, knowledge_of, path, action_at}
+use Rattle.gt_core.proofs.Words.{after_store, pins_at, held_in, Goes, OpenCall, Item, Answer, Denied, AnswerDone}
+use Rattle.gt_core.proofs.Words.{Mapped, State, state_of, sees, History, Setting, live, word_at, known_at, legs_at}
+use Rattle.gt_core.proofs.Words.{mappings_at, mapping_of, seen_by, Underway, values, open_call, underway_after}
+use Rattle.gt_core.proofs.Words.{holder_after, one_if_mapped, StepsRight, GivesValue, refusal_in, refusal_of}
+use Rattle.gt_core.proofs.Words.{DomainsStand, StateStands, CallAgrees, OpenAgrees, numbered, position, get_or, set}
+use Rattle.gt_core.proofs.Words.{position-Some, domain_of, CallValue, FramesTold, BytesAnswer, HandleMap, applied}
+use Rattle.gt_core.proofs.Words.{with_underway, with_mapping, Adds, IsReadable, IsAdmitted, AccessedBy, bytes_at}
+use Rattle.gt_core.proofs.Words.{FrameSet, frame_at, contents_at, IsRight, StepsRightIn, CoreStands, FramesStand}
+use Rattle.gt_core.proofs.Words.{core_of, Settled, IsLawfulPin, IsLawfullyHeld, answer_with, Closed, IsRoomFor}
+use Rattle.gt_core.proofs.Words.{IsMapping, ticked_with, ticked_element, Element, Tick, MayDo, DoesEvent, Did, grown}
+use Rattle.gt_core.proofs.Words.{without, RestsOnRequest, WantsMemoryNow, IsWritingNext, TickTold, IsWriting}
+use Rattle.gt_core.proofs.Words.{cond_both, CallerKnowledge, GivenAgrees, take, drop, asked, keyless_answer}
+use Rattle.gt_core.proofs.Words.{handle_taken, IsLegalHistory}
 use Rattle.gt_calls.specs.Following.{IsLeftAlike}
 use Rattle.gt_core.proofs.{Performing.left-alike, Performing.settled-after, Performing.stepped-state}
-use Rattle.gt_core.proofs.{Performing.EndsByPin, Beginning.place-at, Values.call-ends, Steps.Observers.pins}
-use Rattle.gt_core.proofs.{Steps.Pin.map-legs, Steps.Observers.new_pin, Steps.Pin.pin-stands, Steps.Pin.map-agrees}
-use Rattle.gt_core.proofs.{Steps.Pin.leg-agrees as pin-agrees, Steps.Observers.stepped, AgreementKept.open_call-own}
-use Rattle.gt_core.proofs.{AgreementKept.quiet-stands, Steps.Store.IsStore, Phases.IsHere, Steps.Store.header-stands}
-use Rattle.gt_core.proofs.{Steps.Store.store-stands, Steps.Write.bytes-held, Steps.Write.open-admitted}
-use Rattle.gt_core.proofs.{Steps.Write.open-readable, Steps.Write.frames-stepped, Phases.next_of, Outcomes.ends-so}
-use Rattle.gt_core.proofs.{Ticking.Ticks, Ticking.ticks, Ticking.given-goes-on, Ticking.legs-after, Ticking.open-after}
-use Rattle.gt_core.proofs.{Ticking.goes-right, Ticking.ends-right, Ticking.last-fact, Ticking.LastFact}
-use Rattle.gt_core.proofs.{Steps.Store.by-storing, Ticking.seen_in, Ticking.phase_then, Ticking.history_then}
-use Rattle.gt_core.proofs.{Steps.Unpin.Loses, Steps.Unpin.unpin-stands, Steps.Unpin.becomes-unpinned}
-use Rattle.gt_core.proofs.{Steps.Unpin.loses-leg, Steps.Unpin.loses-mapping, Steps.Unpin.mapping-agrees}
-use Rattle.gt_core.proofs.{Steps.Unpin.leg-agrees as unpin-agrees, Steps.Exchange.can-change, Steps.Pin.can-pin}
-use Rattle.gt_core.proofs.{Steps.Store.header-fits, Steps.Pin.map-lawful, Steps.Pin.CanPin}
-use Rattle.gt_core.proofs.{Steps.Exchange.exchange-stands, Beginning.agrees-found, Rows.has_id, Rows.found}
-use Rattle.gt_core.proofs.{Rows.state_of-set}
+use Rattle.gt_core.proofs.{Performing.EndsByPin, Beginning.place-at, Values.call-ends, Steps.Pin.map-legs}
+use Rattle.gt_core.proofs.{Steps.Pin.pin-stands, Steps.Pin.map-agrees, Steps.Pin.leg-agrees as pin-agrees}
+use Rattle.gt_core.proofs.{AgreementKept.open_call-own, AgreementKept.quiet-stands, Steps.Store.IsStore}
+use Rattle.gt_core.proofs.{Phases.IsHere, Steps.Store.header-stands, Steps.Store.store-stands, Steps.Write.bytes-held}
+use Rattle.gt_core.proofs.{Steps.Write.open-admitted, Steps.Write.open-readable, Steps.Write.frames-stepped}
+use Rattle.gt_core.proofs.{Phases.next_of, Outcomes.ends-so, Ticking.Ticks, Ticking.ticks, Ticking.given-goes-on}
+use Rattle.gt_core.proofs.{Ticking.legs-after, Ticking.open-after, Ticking.goes-right, Ticking.ends-right}
+use Rattle.gt_core.proofs.{Ticking.last-fact, Ticking.LastFact, Steps.Store.by-storing, Ticking.seen_in}
+use Rattle.gt_core.proofs.{Ticking.phase_then, Ticking.history_then, Steps.Unpin.Loses, Steps.Unpin.unpin-stands}
+use Rattle.gt_core.proofs.{Steps.Unpin.becomes-unpinned, Steps.Unpin.loses-leg, Steps.Unpin.loses-mapping}
+use Rattle.gt_core.proofs.{Steps.Unpin.mapping-agrees, Steps.Unpin.leg-agrees as unpin-agrees}
+use Rattle.gt_core.proofs.{Steps.Exchange.can-change, Steps.Pin.can-pin, Steps.Store.header-fits}
+use Rattle.gt_core.proofs.{Steps.Pin.map-lawful, Steps.Pin.CanPin, Steps.Exchange.exchange-stands}
+use Rattle.gt_core.proofs.{Beginning.agrees-found, Rows.has_id, Rows.found, Rows.state_of-set}
+use Rattle.gt_model.proofs.Observers.{pins, new_pin, stepped}
 use Rattle.gt_model.specs.declared.trace.Bytes.{Bytes}
 use Rattle.gt_core.proofs.Ticking.{done-next}
 

@@ -1,10 +1,8 @@
 -- The steps of calls, one file for each kind: what it changes and keeps of what a core represents, what it depends
--- on, which rule it meets, and how its call continues. See has what each of them sees, and Observers what each item
--- leaves of what is observed.
+-- on, which rule it meets, and how its call continues. See has what each of them sees.
 pub mod Access
 pub mod Exchange
 pub mod Look
-pub mod Observers
 pub mod Pin
 pub mod See
 pub mod Store

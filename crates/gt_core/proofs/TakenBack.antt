@@ -1,24 +1,23 @@
 -- No earlier pin reaches what an owner has taken back.
 use Rattle.gt_core.proofs.Words.{Event, Element, LegalAfter, grown, history_after, slice_index_or, ◌≡◌, ◌≢◌, ◌+◌, ◌⊎◌}
 use Rattle.gt_core.proofs.Words.{inl, inr, ℕ, refl, Bool, true, false, List, [], ◌∷◌, ◌++◌, Option, Some, None, cond}
-use Rattle.gt_core.proofs.Words.{sym, ap, ◌∙◌, subst, arith, All, Any, count_by, sum_by-cons, eq-eqb}
-use Rattle.gt_core.proofs.Words.{false≢true, All-nil, All-cons, All-head, All-tail, DomId, Dir, Read}
-use Rattle.gt_core.proofs.Words.{Write, Entry, Page, Sub, Invalid, Via, permits, frame_of, EntryChange, Publish, ToInvalid}
-use Rattle.gt_core.proofs.Words.{ToWithdrawn, Observation, Taken, Step, Exchange, PinStep, Unpin, Spot}
-use Rattle.gt_core.proofs.Words.{ReadBytes, WriteBytes, CopyBytes, OpenRequest, Copy, ForMap, ForCopy, Answer, ItemEvent}
-use Rattle.gt_core.proofs.Words.{Stepped, Item, History, Setting, Pin, entry_at, live, pinned_by, unpinned_by}
-use Rattle.gt_core.proofs.Words.{is_pin_on, same_dir, reads_at, writes_at, IsRight, IsSafeChange, StepsRightIn}
-use Rattle.gt_core.proofs.Words.{EndIsJustified, CopyIsJustified, Justified, Forwards, IsLegalHistory, open_call}
-use Rattle.gt_core.proofs.Words.{Underway, changed_entry_of}
+use Rattle.gt_core.proofs.Words.{sym, ap, ◌∙◌, subst, arith, All, Any, count_by, sum_by-cons, eq-eqb, false≢true}
+use Rattle.gt_core.proofs.Words.{All-nil, All-cons, All-head, All-tail, DomId, Dir, Read, Write, Entry, Page, Sub}
+use Rattle.gt_core.proofs.Words.{Invalid, Via, permits, frame_of, EntryChange, Publish, ToInvalid, ToWithdrawn}
+use Rattle.gt_core.proofs.Words.{Observation, Taken, Step, Exchange, PinStep, Unpin, Spot, ReadBytes, WriteBytes}
+use Rattle.gt_core.proofs.Words.{CopyBytes, OpenRequest, Copy, ForMap, ForCopy, Answer, ItemEvent, Stepped, Item}
+use Rattle.gt_core.proofs.Words.{History, Setting, Pin, entry_at, live, pinned_by, unpinned_by, is_pin_on, same_dir}
+use Rattle.gt_core.proofs.Words.{reads_at, writes_at, IsRight, IsSafeChange, StepsRightIn, EndIsJustified}
+use Rattle.gt_core.proofs.Words.{CopyIsJustified, Justified, Forwards, IsLegalHistory, open_call, Underway}
+use Rattle.gt_core.proofs.Words.{changed_entry_of}
 use Rattle.gt_types.specs.declared.Use.{Use}
 use Rattle.gt_model.specs.Permits.{is_of_frame}
 use Rattle.gt_model.specs.History.{with_ro, changed_entry}
 use Rattle.gt_model.specs.Justified.{Reaches}
 use Rattle.gt_core.specs.TakenBack.{EndsPinsOn, Grants, IsForeignAccess, IsPinOn, IsTakenBack}
 unfoldable use Rattle.gt_core.specs.TakenBack.{IsTakenSince}
-use Rattle.gt_core.proofs.{Playing.legal-grows, Steps.Observers.all-without, Steps.Observers.stepped}
-use Rattle.gt_core.proofs.{Steps.Observers.exchanged, Steps.Observers.exchanged-live, Steps.Observers.kept-entry}
-use Rattle.gt_core.proofs.{Entries.of-safe, Entries.at-change}
+use Rattle.gt_core.proofs.{Playing.legal-grows, Entries.of-safe, Entries.at-change}
+use Rattle.gt_model.proofs.Observers.{all-without, stepped, exchanged, exchanged-live, kept-entry}
 use Rattle.std.proofs.lemmas.List.Elements.{All-append, All-weaker}
 
 -- histories

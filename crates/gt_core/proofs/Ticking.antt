@@ -2,33 +2,30 @@
 use Rattle.gt_core.proofs.Words.{◌≡◌, ◌≢◌, ◌<◌, ◌+◌, ◌⊎◌, inl, inr, ℕ, suc, refl, true, List, [], ◌∷◌, ◌++◌, length}
 use Rattle.gt_core.proofs.Words.{Option, Some, None, sym, ap, ◌∙◌, subst, reverse, arith, eqb-true, map-append}
 use Rattle.gt_core.proofs.Words.{length-append, length-reverse, reverse_onto, none-some, same_Some, ◌==◌, All, DomId}
-use Rattle.gt_core.proofs.Words.{GrantRef, Denial, EntryChange, HeldPin, CallPins, OpenRequest, ByMapping, ByLeg, Observation, Nothing, Taken}
-use Rattle.gt_core.proofs.Words.{Missed, CallResult, Granted, KeptPin, Step, PinStep, Unpin, StoreBody, StoreHeader}
-use Rattle.gt_core.proofs.Words.{Exchange, ReadBytes, WriteBytes, CopyBytes, Action, Makes, Done, Call, Phase, Ending}
-use Rattle.gt_core.proofs.Words.{last_first, no_pins, CallerKnowledge, knowledge_of, path, Rests, phase_after}
-use Rattle.gt_core.proofs.Words.{action_at, next_to_give, StandsAt, pins_at, held_in, Goes, GoesOnWith, steps_left}
-use Rattle.gt_core.proofs.Words.{OpenCall}
-use Rattle.gt_core.proofs.Words.{Answer, State, state_of, sees, History, Setting, Pin, entry_at, word_at, known_at}
-use Rattle.gt_core.proofs.Words.{legs_at, seen_by, Underway, values, open_call, underway_after, holder_after}
-use Rattle.gt_core.proofs.Words.{one_if_mapped, StepsSoFar, StepsRight, Justified, IsSafe, PinIsSound, AnsweredBy}
-use Rattle.gt_core.proofs.Words.{GivesValue, LeavesAll, gives_back, verdict_in, refusal_in, refusal_of, refusal_if}
-use Rattle.gt_core.proofs.Words.{option_or, first_of_item, first_in_call, stood, most_steps, DomainsStand, StateStands}
-use Rattle.gt_core.proofs.Words.{OpenAgrees, GivenAgrees, FitsGiven, PhaseStands, IsClean, phase_refusal, numbered}
-use Rattle.gt_core.proofs.Words.{exchange_sees, gather, by_leg, reverse-append, FitsNext, HoldsAfter, cond_both}
-use Rattle.gt_core.proofs.Words.{IsLegalHistory}
-use Rattle.gt_core.proofs.{Steps.Observers.unstored, Steps.Observers.known-as, Steps.Observers.kept-entry}
-use Rattle.gt_core.proofs.{Steps.Observers.kept-raises, Steps.Observers.kept-known, Steps.Observers.kept-legs}
-use Rattle.gt_core.proofs.{Steps.Observers.kept-table, Steps.Observers.answered-stays, Steps.Observers.stepped}
+use Rattle.gt_core.proofs.Words.{GrantRef, Denial, EntryChange, HeldPin, CallPins, OpenRequest, ByMapping, ByLeg}
+use Rattle.gt_core.proofs.Words.{Observation, Nothing, Taken, Missed, CallResult, Granted, KeptPin, Step, PinStep}
+use Rattle.gt_core.proofs.Words.{Unpin, StoreBody, StoreHeader, Exchange, ReadBytes, WriteBytes, CopyBytes, Action}
+use Rattle.gt_core.proofs.Words.{Makes, Done, Call, Phase, Ending, last_first, no_pins, CallerKnowledge, knowledge_of}
+use Rattle.gt_core.proofs.Words.{path, Rests, phase_after, action_at, next_to_give, StandsAt, pins_at, held_in, Goes}
+use Rattle.gt_core.proofs.Words.{GoesOnWith, steps_left, OpenCall, Answer, State, state_of, sees, History, Setting}
+use Rattle.gt_core.proofs.Words.{Pin, entry_at, word_at, known_at, legs_at, seen_by, Underway, values, open_call}
+use Rattle.gt_core.proofs.Words.{underway_after, holder_after, one_if_mapped, StepsSoFar, StepsRight, Justified}
+use Rattle.gt_core.proofs.Words.{IsSafe, PinIsSound, AnsweredBy, GivesValue, LeavesAll, gives_back, verdict_in}
+use Rattle.gt_core.proofs.Words.{refusal_in, refusal_of, refusal_if, option_or, first_of_item, first_in_call, stood}
+use Rattle.gt_core.proofs.Words.{most_steps, DomainsStand, StateStands, OpenAgrees, GivenAgrees, FitsGiven}
+use Rattle.gt_core.proofs.Words.{PhaseStands, IsClean, phase_refusal, numbered, exchange_sees, gather, by_leg}
+use Rattle.gt_core.proofs.Words.{reverse-append, FitsNext, HoldsAfter, cond_both, IsLegalHistory}
+use Rattle.gt_model.proofs.Observers.{unstored, known-as, kept-entry, kept-raises, kept-known, kept-legs, kept-table}
+use Rattle.gt_model.proofs.Observers.{answered-stays, stepped, unpins, pins, exchanged-live}
 use Rattle.gt_core.proofs.{AgreementKept.known-same, AgreementKept.open_call-own, AgreementKept.stood-own}
-use Rattle.gt_core.proofs.{CallsStand.place-stays}
-use Rattle.gt_core.proofs.{Phases.IsHere, Phases.seen-fits, Phases.by-giving, Phases.call-is, Steps.See.sees-agree}
-use Rattle.gt_core.proofs.{Steps.Observers.unpins, Steps.Unpin.leg-left, Steps.Unpin.leg-mappings}
-use Rattle.gt_core.proofs.{Steps.Unpin.mapping-legs, Steps.Unpin.from-zero, Steps.Observers.pins, Steps.Pin.leg-grows}
-use Rattle.gt_core.proofs.{Steps.Pin.leg-maps, Steps.Exchange.can-change, Steps.Pin.can-pin, Steps.Store.store-invalid}
-use Rattle.gt_core.proofs.{Steps.Observers.exchanged-live, Steps.Access.read-justified, Steps.Access.write-justified}
-use Rattle.gt_core.proofs.{Steps.Access.copy-justified, Phases.next_of, Outcomes.IsSingle, Outcomes.single-ends}
-use Rattle.gt_core.proofs.{Steps.Exchange.taken-ends, Outcomes.clean-next, Outcomes.ends-so, EachStep.each-step}
-use Rattle.gt_core.proofs.{EachStep.OfStep, Steps.Store.by-storing, Steps.Store.StoreLeads, Steps.Store.first-leads}
+use Rattle.gt_core.proofs.{CallsStand.place-stays, Phases.IsHere, Phases.seen-fits, Phases.by-giving, Phases.call-is}
+use Rattle.gt_core.proofs.{Steps.See.sees-agree, Steps.Unpin.leg-left, Steps.Unpin.leg-mappings}
+use Rattle.gt_core.proofs.{Steps.Unpin.mapping-legs, Steps.Unpin.from-zero, Steps.Pin.leg-grows, Steps.Pin.leg-maps}
+use Rattle.gt_core.proofs.{Steps.Exchange.can-change, Steps.Pin.can-pin, Steps.Store.store-invalid}
+use Rattle.gt_core.proofs.{Steps.Access.read-justified, Steps.Access.write-justified, Steps.Access.copy-justified}
+use Rattle.gt_core.proofs.{Phases.next_of, Outcomes.IsSingle, Outcomes.single-ends, Steps.Exchange.taken-ends}
+use Rattle.gt_core.proofs.{Outcomes.clean-next, Outcomes.ends-so, EachStep.each-step, EachStep.OfStep}
+use Rattle.gt_core.proofs.{Steps.Store.by-storing, Steps.Store.StoreLeads, Steps.Store.first-leads}
 use Rattle.gt_core.proofs.{Steps.Store.second-leads}
 use Rattle.gt_calls.specs.Following.{Advances}
 use Rattle.gt_calls.specs.Machine.{settled}

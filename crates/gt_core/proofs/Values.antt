@@ -1,19 +1,19 @@
 -- The answer of a call, by its last step.
 use Rattle.gt_core.proofs.Words.{◌≡◌, ◌⊎◌, inl, inr, ℕ, refl, Bool, true, false, List, [], ◌∷◌, length, Option, Some}
 use Rattle.gt_core.proofs.Words.{cond, sym, ap, ◌∙◌, subst, eqb-true, ◌==◌, nat_lt, DomId, GrantRef, Denial, N18, N19}
-use Rattle.gt_core.proofs.Words.{Entry, Header, EntryChange, control_of, header_of, header_word, HeldPin, OpenRequest, Map, ByLeg}
-use Rattle.gt_core.proofs.Words.{Observation, Taken, Missed, CallResult, Granted, Given, Refused, Step, LookHeader, PinStep}
-use Rattle.gt_core.proofs.Words.{Unpin, StoreBody, Exchange, ReadBytes, Action, Makes, Done, PinPurpose, Mapping, AsksSize}
-use Rattle.gt_core.proofs.Words.{AsksVersion, Phase, Storing, StoringSecond, Exchanging, Looking, Changing, Walking}
-use Rattle.gt_core.proofs.Words.{Accessing, Asking, Last, Ending, Leg, LegPhase, Pinning, Pinned, last_first}
-use Rattle.gt_core.proofs.Words.{pins_so_far, CallerKnowledge, path, held_of, is_stopped, Continuation, IsLegFor}
-use Rattle.gt_core.proofs.Words.{RestsOnWord, RestsOnRequest, phase_after, action_at, leg_after, leg_step, after_store}
-use Rattle.gt_core.proofs.Words.{refused_as, next_to_give, HasShown, IsQuiet, IsTurn, held_in, AnswerDone, State}
-use Rattle.gt_core.proofs.Words.{History, Setting, word_at, table_at, known_at, seen_by, StepsSoFar, GivesValue}
-use Rattle.gt_core.proofs.Words.{PhaseStands, EndsAfter, EndsCopy, answer_with, MAX_TABLE_FRAMES, ◌-◌, without_last}
-use Rattle.gt_core.proofs.Words.{Size, Version, cond_both, FirstHalf, SecondHalf, first_body, second_body, CopyBytes}
-use Rattle.gt_core.proofs.Words.{CopyArgs, LookControl, CallPins, LegStands, legs_at, numbered, pins_at, reverse}
-use Rattle.gt_core.proofs.Words.{arith, stands}
+use Rattle.gt_core.proofs.Words.{Entry, Header, EntryChange, control_of, header_of, header_word, HeldPin, OpenRequest}
+use Rattle.gt_core.proofs.Words.{Map, ByLeg, Observation, Taken, Missed, CallResult, Granted, Given, Refused, Step}
+use Rattle.gt_core.proofs.Words.{LookHeader, PinStep, Unpin, StoreBody, Exchange, ReadBytes, Action, Makes, Done}
+use Rattle.gt_core.proofs.Words.{PinPurpose, Mapping, AsksSize, AsksVersion, Phase, Storing, StoringSecond}
+use Rattle.gt_core.proofs.Words.{Exchanging, Looking, Changing, Walking, Accessing, Asking, Last, Ending, Leg}
+use Rattle.gt_core.proofs.Words.{LegPhase, Pinning, Pinned, last_first, pins_so_far, CallerKnowledge, path, held_of}
+use Rattle.gt_core.proofs.Words.{is_stopped, Continuation, IsLegFor, RestsOnWord, RestsOnRequest, phase_after}
+use Rattle.gt_core.proofs.Words.{action_at, leg_after, leg_step, after_store, refused_as, next_to_give, HasShown}
+use Rattle.gt_core.proofs.Words.{IsQuiet, IsTurn, held_in, AnswerDone, State, History, Setting, word_at, table_at}
+use Rattle.gt_core.proofs.Words.{known_at, seen_by, StepsSoFar, GivesValue, PhaseStands, EndsAfter, EndsCopy}
+use Rattle.gt_core.proofs.Words.{answer_with, MAX_TABLE_FRAMES, ◌-◌, without_last, Size, Version, cond_both}
+use Rattle.gt_core.proofs.Words.{FirstHalf, SecondHalf, first_body, second_body, CopyBytes, CopyArgs, LookControl}
+use Rattle.gt_core.proofs.Words.{CallPins, LegStands, legs_at, numbered, pins_at, reverse, arith, stands}
 use Rattle.gt_core.proofs.{Phases.OfAction, Phases.IsHere, Phases.makes-same, EachStep.walk-comes, Legs.ComesTo}
 use Rattle.gt_core.proofs.{Legs.IsLegOf, Legs.Words, Aims.pair_of, Aims.leg-here, Phases.words-of, Phases.next_of}
 use Rattle.gt_core.proofs.{Outcomes.walk-done, Steps.See.table-fits}

@@ -1,16 +1,14 @@
 -- What a history leaves is the same without keys.
-use Rattle.gt_core.proofs.Words.{◌≡◌, ◌+◌, ◌⊎◌, inl, inr, ℕ, refl, Bool, true, false, List, [], ◌∷◌, ◌++◌, map, Option}
-use Rattle.gt_core.proofs.Words.{Some, None, cond, sym, ap, ◌∙◌, ◌==◌, option_map, fun_ext, DomId, Entry, Header}
-use Rattle.gt_core.proofs.Words.{EntryChange, BodyWord, asked, bytes_given_by, Request, OpenRequest, Unmap, Release, Load, Store, ByMapping}
-use Rattle.gt_core.proofs.Words.{Observation}
-use Rattle.gt_core.proofs.Words.{Step, Unpin, Answer, ItemEvent, Began, Stepped, Item, Patch, written, History, Setting}
-use Rattle.gt_core.proofs.Words.{Underway, WriteMade, entry_at, changed_entry_of, change_at, change_of, raises_at}
-use Rattle.gt_core.proofs.Words.{raise_after}
-use Rattle.gt_core.proofs.Words.{body_at, or_else, stored_at, table_at, header_or, header_stored, open_call}
-use Rattle.gt_core.proofs.Words.{underway_with, underway_after, maps_answered_at, one_if_mapped, contents_at}
-use Rattle.gt_core.proofs.Words.{patches_by, patches_at, written_by, given_in, values, bare_handle, bare_request}
-use Rattle.gt_core.proofs.Words.{bare_step, bare_happened, keyless_answer, keyless_item, keyless_items, KeylessItem, SameHistory}
-use Rattle.gt_core.proofs.Words.{HeldPin}
+use Rattle.gt_core.proofs.Words.{◌≡◌, ◌+◌, ◌⊎◌, inl, inr, ℕ, refl, Bool, true, false, List, [], ◌∷◌, ◌++◌, map}
+use Rattle.gt_core.proofs.Words.{Option, Some, None, cond, sym, ap, ◌∙◌, ◌==◌, option_map, fun_ext, DomId, Entry}
+use Rattle.gt_core.proofs.Words.{Header, EntryChange, BodyWord, asked, bytes_given_by, Request, OpenRequest, Unmap}
+use Rattle.gt_core.proofs.Words.{Release, Load, Store, ByMapping, Observation, Step, Unpin, Answer, ItemEvent, Began}
+use Rattle.gt_core.proofs.Words.{Stepped, Item, Patch, written, History, Setting, Underway, WriteMade, entry_at}
+use Rattle.gt_core.proofs.Words.{changed_entry_of, change_at, change_of, raises_at, raise_after, body_at, or_else}
+use Rattle.gt_core.proofs.Words.{stored_at, table_at, header_or, header_stored, open_call, underway_with}
+use Rattle.gt_core.proofs.Words.{underway_after, maps_answered_at, one_if_mapped, contents_at, patches_by, patches_at}
+use Rattle.gt_core.proofs.Words.{written_by, given_in, values, bare_handle, bare_request, bare_step, bare_happened}
+use Rattle.gt_core.proofs.Words.{keyless_answer, keyless_item, keyless_items, KeylessItem, SameHistory, HeldPin}
 use Rattle.gt_core.proofs.Words.{Handle, arith}
 use Rattle.gt_model.specs.declared.trace.Answer.TheVariants.{Done}
 

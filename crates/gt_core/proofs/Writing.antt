@@ -1,7 +1,6 @@
 -- If a write is admitted, the frames after it exist.
-use Rattle.std.proofs.Common.{◌≡◌, ◌≢◌, ℕ, zero, suc, ◌+◌, ◌<◌, ◌≤◌, ◌==◌, ◌&&◌, Bool, true, false, IsTrue}
-use Rattle.std.proofs.Common.{List, [], ◌∷◌, length, set, get_or, Option, Some, None, sym, refl, ap, ◌∙◌, subst}
-use Rattle.std.proofs.Common.{arith, eq-eqb}
+use Rattle.std.proofs.Common.{◌≡◌, ◌≢◌, ℕ, zero, suc, ◌+◌, ◌<◌, ◌≤◌, ◌==◌, ◌&&◌, Bool, true, false, IsTrue, List, []}
+use Rattle.std.proofs.Common.{◌∷◌, length, set, get_or, Option, Some, None, sym, refl, ap, ◌∙◌, subst, arith, eq-eqb}
 use Rattle.std.proofs.lemmas.Bool.{eqb-true, and_parts}
 use Rattle.std.proofs.lemmas.Bool.Decides.{nat_tests}
 use Rattle.std.proofs.lemmas.List.{get_or-set_other, get_or-set_same}
@@ -11,8 +10,7 @@ use Rattle.gt_frames.proofs.Overlay.{laid_over}
 use Rattle.gt_frames.proofs.Placing.{length-names_of, placed}
 use Rattle.gt_frames.proofs.Writes.{all_rightful-append, replay-append}
 use Rattle.gt_model.specs.Written.{IsLaidOver, overlay, zeros}
-use Rattle.gt_frames.specs.Frames.{IsKept, contents, covers, is_rightful, recorded}
-use Rattle.gt_frames.specs.Frames.{with_write}
+use Rattle.gt_frames.specs.Frames.{IsKept, contents, covers, is_rightful, recorded, with_write}
 use Rattle.gt_frames.specs.Places.{frames_of, is_name, names_of}
 use Rattle.gt_frames.specs.Sets.{AreKept, FrameSet, WritesTo, admits, frame_at, journal_in, place_in}
 use Rattle.gt_types.specs.declared.places.FrameName.{FrameName}

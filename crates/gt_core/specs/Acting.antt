@@ -1,22 +1,22 @@
 -- What a core does when it begins a call or makes its next step, and when it may fail with Memory.
 use Rattle.std.specs.Prelude.{◌≡◌, ◌≢◌, ◌≤◌, ℕ, Bool, true, List, [], Option, Some, None}
 use Rattle.gt_core.specs.Prelude.{domain_of, DomId, TypeId, Perms, IsWithinLimits, IsFirstFault, StartFault}
-use Rattle.gt_core.specs.Prelude.{ConfigFault, NoMemory, Config, Request, OpenRequest, asked, begun_of, SpellsItsEntry, CallResult}
-use Rattle.gt_core.specs.Prelude.{Granted, Given, KeptPin, Refused, CallValue, Frames, SizeTold, VersionTold, Observation, Action}
-use Rattle.gt_core.specs.Prelude.{Makes, Ends, Call, Answer, Denied, MappedAnswer, AnswerDone, BytesAnswer}
-use Rattle.gt_core.specs.Prelude.{FramesAnswer, SizeAnswer, VersionAnswer, Handle, Step, ReadBytes, bytes_at, FrameSet}
-use Rattle.gt_core.specs.Prelude.{frame_at, HandleMap, HeldPin, set, Began, Stepped, Element, Busy, Idle, NoDomain, Did}
-use Rattle.gt_core.specs.Prelude.{OpenCall, Begun, BegunOpen, BegunDone, BegunBusy, BegunNoDomain, Ticked, TickedStep}
-use Rattle.gt_core.specs.Prelude.{TickedDone, TickedIdle, TickedNoDomain, Machine}
-use Rattle.gt_core.specs.Prelude.{CallerKnowledge, knowledge_of, begun, path, GoesOnWith, first_phase, action_at, Rests}
-use Rattle.gt_core.specs.Prelude.{IsAt, pins_by_call, most_steps, steps_to_come}
+use Rattle.gt_core.specs.Prelude.{ConfigFault, NoMemory, Config, Request, OpenRequest, asked, begun_of}
+use Rattle.gt_core.specs.Prelude.{SpellsItsEntry, CallResult, Granted, Given, KeptPin, Refused, CallValue, Frames}
+use Rattle.gt_core.specs.Prelude.{SizeTold, VersionTold, Observation, Action, Makes, Ends, Call, Answer, Denied}
+use Rattle.gt_core.specs.Prelude.{MappedAnswer, AnswerDone, BytesAnswer, FramesAnswer, SizeAnswer, VersionAnswer}
+use Rattle.gt_core.specs.Prelude.{Handle, Step, ReadBytes, bytes_at, FrameSet, frame_at, HandleMap, HeldPin, set}
+use Rattle.gt_core.specs.Prelude.{Began, Stepped, Element, Busy, Idle, NoDomain, Did, OpenCall, Begun, BegunOpen}
+use Rattle.gt_core.specs.Prelude.{BegunDone, BegunBusy, BegunNoDomain, Ticked, TickedStep, TickedDone, TickedIdle}
+use Rattle.gt_core.specs.Prelude.{TickedNoDomain, Machine, CallerKnowledge, knowledge_of, begun, path, GoesOnWith}
+use Rattle.gt_core.specs.Prelude.{first_phase, action_at, Rests, IsAt, pins_by_call, most_steps, steps_to_come}
 use Rattle.gt_calls.specs.declared.asking.Judged.{Judged}
 use Rattle.gt_calls.specs.declared.asking.Judged.TheVariants as judgeds
 use Rattle.gt_model.specs.declared.trace.Bytes.{Bytes}
 use Rattle.gt_core.specs.Effects.{with_underway, with_mapping, Adds}
 use Rattle.gt_core.specs.Accesses.{IsWriting}
 use Rattle.gt_core.specs.States.{State, CoreState, core_of, asks_memory, IsMapping}
-use Rattle.gt_model.specs.History.{History, Setting, known_at, Underway, open_call, values}
+use Rattle.gt_model.specs.History.{History, Setting, known_at, Underway, open_call, values, setting_of}
 
 -- the open call at its start: no rule applies at its beginning, and its first step is next
 pub record IsOpenCall (k : CallerKnowledge) (dom : DomId) (request : Request) (o : OpenCall) : Type 0 where
@@ -70,10 +70,6 @@ ticked_element dom TickedNoDomain = NoDomain
 abbrev pub ticked_with : Step → Observation → Option Answer → Ticked
 ticked_with step seen None = TickedStep step seen
 ticked_with step seen (Some answer) = TickedDone step seen answer
-
--- the setting of a run with this configuration and these rights
-abbrev pub setting_of : Config → (TypeId → TypeId → Perms → Bool) → Setting
-setting_of config may = record { domains = config.domains.items; first_generation = config.first_gen; may = may }
 
 -- the setting of a machine's run, if its policy allows this by its rights
 abbrev pub setting_by : {P : Type 0} → (P → TypeId → TypeId → Perms → Bool) → Machine P → Setting

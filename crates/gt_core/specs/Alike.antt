@@ -1,8 +1,8 @@
 -- Runs that are equal except for the keys of handles, which a run may choose.
 use Rattle.std.specs.Prelude.{◌≡◌, ◌≤◌, ◌⊎◌, ℕ, List, [], ◌∷◌, Option, Some}
-use Rattle.gt_core.specs.Prelude.{option_map, Bor, inl, inr, DomId, Handle, SERIAL_LIMIT, Request, OpenRequest, Unmap, Release}
-use Rattle.gt_core.specs.Prelude.{Load, Store, ByMapping, Step, Unpin, asked, Answer, Mapped, Bytes, Event, Begin, Tick}
-use Rattle.gt_core.specs.Prelude.{ItemEvent, Began, Stepped, Item, Element, Did}
+use Rattle.gt_core.specs.Prelude.{option_map, Bor, inl, inr, DomId, Handle, SERIAL_LIMIT, Request, OpenRequest, Unmap}
+use Rattle.gt_core.specs.Prelude.{Release, Load, Store, ByMapping, Step, Unpin, asked, Answer, Mapped, Bytes, Event}
+use Rattle.gt_core.specs.Prelude.{Begin, Tick, ItemEvent, Began, Stepped, Item, Element, Did}
 use Rattle.gt_model.specs.declared.request.Request.TheVariants as requests
 use Rattle.gt_model.specs.History.{History, Setting}
 use Rattle.gt_model.specs.Legal.{IsRight}

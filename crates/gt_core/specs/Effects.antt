@@ -1,13 +1,13 @@
 -- What a step does to the states of the domains: the code's own representation. It is in specs/ because private
 -- contracts cite it.
 use Rattle.std.specs.Prelude.{ℕ, List, Option, Some, None, if◌then◌else◌, ◌+◌, ◌-◌, ◌%◌, min, is_some, ◌≡◌, slice_set}
-use Rattle.gt_core.specs.Prelude.{DomId, MAX_PINS, Read, Write, Handle, PinHolder, ByMapping, ByLeg, EntryChange, Step, Pin}
-use Rattle.gt_core.specs.Prelude.{Unpin, StoreBody, StoreHeader, Exchange, Observation, Taken, HeldPin, PinCounts, CountsChange}
-use Rattle.gt_core.specs.Prelude.{FirstHalf, SecondHalf, Pinned, Unpinned, Stored, OpenCall, HandleMap, value_of, count_of}
-use Rattle.gt_core.specs.Prelude.{Updates}
+use Rattle.gt_core.specs.Prelude.{DomId, MAX_PINS, Read, Write, Handle, PinHolder, ByMapping, ByLeg, EntryChange}
+use Rattle.gt_core.specs.Prelude.{Step, Pin, Unpin, StoreBody, StoreHeader, Exchange, Observation, Taken, HeldPin}
+use Rattle.gt_core.specs.Prelude.{PinCounts, CountsChange, FirstHalf, SecondHalf, Pinned, Unpinned, Stored, OpenCall}
+use Rattle.gt_core.specs.Prelude.{HandleMap, value_of, count_of, Updates}
 use Rattle.gt_core.specs.Rows.{changed_at}
 use Rattle.gt_core.specs.States.{State, changed_in}
-pub use Rattle.gt_calls.specs.Changes.{own_after}
+pub use Rattle.gt_calls.specs.Known.{own_after}
 
 -- one pin more or less of a kind, or another body word
 abbrev pub slot_after : CountsChange → PinCounts → PinCounts

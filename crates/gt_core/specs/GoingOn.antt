@@ -1,15 +1,15 @@
 -- Every history that a core represents can continue: how a run may begin, and what each of its domains may do next.
 use Rattle.std.specs.Prelude.{◌≡◌, ◌≢◌, ◌+◌, Bool, [], ◌∷◌, Option, Some, None, slice_range}
-use Rattle.gt_core.specs.Prelude.{IsWithinLimits, domain_of, DomId, TypeId, Config, Perms, HandleMap, Handle, FitsAsked}
-use Rattle.gt_core.specs.Prelude.{SpellsItsEntry, asked, begun_of, path, Action, Makes, Ends, Step, ReadBytes, WriteBytes}
-use Rattle.gt_core.specs.Prelude.{CopyBytes, CallResult, Nothing, Granted, KeptPin, HeldPin, Request, Answer, BytesAnswer}
-use Rattle.gt_core.specs.Prelude.{AnswerDone, Mapped, Began, Stepped, Item}
+use Rattle.gt_core.specs.Prelude.{IsWithinLimits, domain_of, DomId, TypeId, Config, Perms, HandleMap, Handle}
+use Rattle.gt_core.specs.Prelude.{FitsAsked, SpellsItsEntry, asked, begun_of, path, Action, Makes, Ends, Step}
+use Rattle.gt_core.specs.Prelude.{ReadBytes, WriteBytes, CopyBytes, CallResult, Nothing, Granted, KeptPin, HeldPin}
+use Rattle.gt_core.specs.Prelude.{Request, Answer, BytesAnswer, AnswerDone, Mapped, Began, Stepped, Item}
 use Rattle.gt_core.specs.Effects.{Adds}
 use Rattle.gt_model.specs.History.{History, Setting, Underway, contents_at, known_at, mappings_at, maps_answered_at}
-use Rattle.gt_model.specs.History.{open_call, seen_by, table_at, values}
+use Rattle.gt_model.specs.History.{open_call, seen_by, table_at, values, setting_of}
 use Rattle.gt_model.specs.Legal.{IsRight, next_in}
 use Rattle.gt_core.specs.Standing.{CoreStands, MappingsAgree}
-use Rattle.gt_core.specs.Acting.{answer_of, setting_of}
+use Rattle.gt_core.specs.Acting.{answer_of}
 use Rattle.gt_core.specs.States.{CoreState}
 use Rattle.gt_model.specs.declared.trace.Bytes.{Bytes}
 pub use Rattle.gt_calls.specs.Standing.{IsAccess}

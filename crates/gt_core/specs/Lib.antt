@@ -10,6 +10,5 @@ pub mod Phases
 pub mod Standing
 pub mod States
 pub mod Subject
-pub mod Swapping
 pub mod TakenBack
 pub mod Prelude

@@ -1,13 +1,13 @@
 -- What the steps of an open call have shown in each of its phases.
 use Rattle.std.specs.Prelude.{◌≡◌, ◌≢◌, ◌<◌, ◌≤◌, ◌+◌, ◌⊎◌, ℕ, true, false, List, [], ◌∷◌, Option, Some, None, All}
-use Rattle.gt_core.specs.Prelude.{domain_of, resolved, DomId, Denial, TABLE_ENTRIES, CopyArgs, OpenRequest, CallResult, Granted}
-use Rattle.gt_core.specs.Prelude.{Given, Refused, Frames, Publish, ToInvalid, FirstHalf, SecondHalf, Observation, Step}
-use Rattle.gt_core.specs.Prelude.{StoreHeader, HeldPin, first_look, first_body, is_kind, control_with, rule_of_try}
-use Rattle.gt_core.specs.Prelude.{MORE_TRIES, entry_of, Rule, Entry, Invalid, Control, KindSub, control_of}
-use Rattle.gt_core.specs.Prelude.{SetVersion, SetupTable, QuerySize, GetVersion, last_first, HeaderQuery, AsksSize}
-use Rattle.gt_core.specs.Prelude.{AsksVersion, Leg, LegPhase, AtHeader, Look, Body, Second, Pinning, Relook, Phase}
-use Rattle.gt_core.specs.Prelude.{Storing, StoringSecond, Exchanging, Looking, Changing, Walking, Accessing, Asking}
-use Rattle.gt_core.specs.Prelude.{Last, Ending}
+use Rattle.gt_core.specs.Prelude.{domain_of, resolved, DomId, Denial, TABLE_ENTRIES, CopyArgs, OpenRequest}
+use Rattle.gt_core.specs.Prelude.{CallResult, Granted, Given, Refused, Frames, Publish, ToInvalid, FirstHalf}
+use Rattle.gt_core.specs.Prelude.{SecondHalf, Observation, Step, StoreHeader, HeldPin, first_look, first_body}
+use Rattle.gt_core.specs.Prelude.{is_kind, control_with, rule_of_try, MORE_TRIES, entry_of, Rule, Entry, Invalid}
+use Rattle.gt_core.specs.Prelude.{Control, KindSub, control_of, SetVersion, SetupTable, QuerySize, GetVersion}
+use Rattle.gt_core.specs.Prelude.{last_first, HeaderQuery, AsksSize, AsksVersion, Leg, LegPhase, AtHeader, Look, Body}
+use Rattle.gt_core.specs.Prelude.{Second, Pinning, Relook, Phase, Storing, StoringSecond, Exchanging, Looking}
+use Rattle.gt_core.specs.Prelude.{Changing, Walking, Accessing, Asking, Last, Ending}
 use Rattle.gt_model.specs.History.{History, Setting, entry_at, generation_at, body_at}
 use Rattle.gt_model.specs.Legal.{LeavesAll, IsSpelled}
 use Rattle.gt_calls.specs.Resting.{IsCopyOf}

@@ -1,21 +1,17 @@
 -- Names of other crates, and of the code, that the definitions here use.
-pub use Rattle.gt_model.specs.Asking.{FitsAsked, SpellsItsEntry, asked, begun_of, bytes_given_by}
+pub use Rattle.gt_model.specs.Asking.{FitsAsked, SpellsItsEntry, asked, begun_of, bytes_given_by, GivesUp}
 pub use Rattle.gt_calls.specs.Counting.{most_steps, steps_left, steps_to_come}
 pub use Rattle.gt_calls.specs.Following.{GoesOnWith}
-pub use Rattle.gt_model.specs.Holding.{last_first}
+pub use Rattle.gt_model.specs.Holding.{last_first, GivesHeld}
 pub use Rattle.gt_calls.specs.Machine.{action_at, first_phase}
-pub use Rattle.gt_model.specs.Giving.{IsAllowed}
+pub use Rattle.gt_model.specs.Rules.{IsAllowed, CallerKnowledge, before_pin, begun, control_with, first, first_body}
+pub use Rattle.gt_model.specs.Rules.{first_look, frame_count_of, is_kind, rights_to_copy, rights_to_map, size_of}
+pub use Rattle.gt_model.specs.Rules.{stands, via_judged}
 pub use Rattle.gt_model.specs.Path.{dest_pair, end_leg, entry_refusal, map_leg, path, rule_of_try, second_leg}
 pub use Rattle.gt_model.specs.Path.{source_pair}
-pub use Rattle.gt_model.specs.Giving.{GivesHeld, GivesUp}
 pub use Rattle.gt_calls.specs.Resting.{Rests}
-pub use Rattle.gt_model.specs.Rules.{CallerKnowledge, before_pin, begun, control_with, first, first_body}
-pub use Rattle.gt_calls.specs.Rules.{entry_in}
-pub use Rattle.gt_model.specs.Rules.{first_look, frame_count_of, is_kind}
-pub use Rattle.gt_calls.specs.Rules.{own_generation}
+pub use Rattle.gt_calls.specs.Known.{entry_in, own_generation, knowledge_of}
 pub use Rattle.gt_types.specs.Copies.{is_dest_granted, is_source_granted}
-pub use Rattle.gt_calls.specs.Rules.{knowledge_of}
-pub use Rattle.gt_model.specs.Rules.{rights_to_copy, rights_to_map, size_of, stands, via_judged}
 pub use Rattle.gt_calls.specs.Standing.{IsAt, StandsAt, held_in, pins_at, pins_by_call}
 pub use Rattle.gt_model.specs.declared.action.Action.{Action}
 pub use Rattle.gt_model.specs.declared.action.Action.TheVariants.{Done as Ends, Step as Makes}
@@ -39,15 +35,15 @@ pub use Rattle.gt_model.specs.declared.action.HeaderQuery.TheVariants.{Size as A
 pub use Rattle.gt_model.specs.declared.held.HeldPin.{HeldPin}
 pub use Rattle.gt_model.specs.declared.held.AccessPath.{AccessPath}
 pub use Rattle.gt_model.specs.declared.held.AccessPath.TheVariants.{Direct, Through}
-pub use Rattle.gt_model.specs.declared.bounds.TheConstants.{SERIAL_LIMIT}
+pub use Rattle.gt_model.specs.declared.bounds.TheConstants.{SERIAL_LIMIT, MORE_TRIES}
 pub use Rattle.gt_model.specs.declared.leg.Leg.{Leg}
 pub use Rattle.gt_calls.specs.declared.leg.LegPhase.{LegPhase}
 pub use Rattle.gt_calls.specs.declared.leg.LegPhase.TheVariants.{Body, Header as AtHeader, Look, Pinning, Relook}
 pub use Rattle.gt_calls.specs.declared.leg.LegPhase.TheVariants.{Second}
-pub use Rattle.gt_model.specs.declared.bounds.TheConstants.{MORE_TRIES}
 pub use Rattle.gt_model.specs.declared.request.OpenRequest.{OpenRequest}
-pub use Rattle.gt_model.specs.declared.request.OpenRequest.TheVariants.{Copy, Demote, GetVersion, Load, Map, Peek, Poke}
-pub use Rattle.gt_model.specs.declared.request.OpenRequest.TheVariants.{QuerySize, Release, SetVersion, SetupTable, Store, Unmap}
+pub use Rattle.gt_model.specs.declared.request.OpenRequest.TheVariants.{Copy, Demote, GetVersion, Load, Map, Peek}
+pub use Rattle.gt_model.specs.declared.request.OpenRequest.TheVariants.{Poke, QuerySize, Release, SetVersion}
+pub use Rattle.gt_model.specs.declared.request.OpenRequest.TheVariants.{SetupTable, Store, Unmap}
 pub use Rattle.gt_types.specs.declared.copies.CopyArgs.{CopyArgs}
 pub use Rattle.gt_model.specs.declared.request.PinHolder.{PinHolder}
 pub use Rattle.gt_model.specs.declared.request.PinHolder.TheVariants.{Leg as ByLeg, Mapping as ByMapping}
@@ -80,8 +76,9 @@ pub use Rattle.gt_model.specs.Permits.{forwards, permits}
 pub use Rattle.gt_model.specs.Spelling.{IsSpelled, entry_of}
 pub use Rattle.gt_model.specs.Words.{IsInRange, control_of, control_word, header_word, pins_of}
 pub use Rattle.gt_model.specs.declared.change.EntryChange.{EntryChange}
-pub use Rattle.gt_model.specs.declared.change.EntryChange.TheVariants.{Demote as ToReadOnly, Promote as ToWritable, Publish}
-pub use Rattle.gt_model.specs.declared.change.EntryChange.TheVariants.{Revoke as ToInvalid, Withdraw as ToWithdrawn}
+pub use Rattle.gt_model.specs.declared.change.EntryChange.TheVariants.{Demote as ToReadOnly, Promote as ToWritable}
+pub use Rattle.gt_model.specs.declared.change.EntryChange.TheVariants.{Publish, Revoke as ToInvalid}
+pub use Rattle.gt_model.specs.declared.change.EntryChange.TheVariants.{Withdraw as ToWithdrawn}
 pub use Rattle.gt_model.specs.declared.change.BodyWord.{BodyWord}
 pub use Rattle.gt_model.specs.declared.change.BodyWord.TheVariants.{First as FirstHalf, Second as SecondHalf}
 pub use Rattle.gt_model.specs.declared.control.Control.{Control}

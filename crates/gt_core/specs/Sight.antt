@@ -15,7 +15,7 @@ use Rattle.gt_calls.specs.declared.known.OwnerEntry.{OwnerEntry}
 use Rattle.gt_core.specs.declared.pin_counts.PinCounts.{PinCounts}
 use Rattle.gt_core.specs.States.{State}
 use Rattle.gt_model.specs.Rules.{control_with}
-use Rattle.gt_calls.specs.Rules.{entry_in, own_generation}
+use Rattle.gt_calls.specs.Known.{entry_in, own_generation}
 pub use Rattle.gt_model.specs.History.{exchange_sees}
 
 -- the read pins in a slot, 0 if there is none

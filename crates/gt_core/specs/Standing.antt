@@ -2,23 +2,23 @@
 -- counts and phases. It is in specs/ because contracts cite it, most of them private.
 use Rattle.std.specs.Prelude.{◌≡◌, ◌≢◌, ◌<◌, ◌≤◌, ◌+◌, reverse, ℕ, Bool, true, List, [], ◌∷◌, Option, Some, None}
 use Rattle.std.specs.Prelude.{slice_get, length, All}
-use Rattle.gt_core.specs.Prelude.{domain_of, DomId, Dir, TypeId, ForMap, TABLE_ENTRIES, MAX_TABLE_FRAMES, LAST_VERSION}
-use Rattle.gt_core.specs.Prelude.{FRAME_SIZE, PinHolder, ByMapping, ByLeg, Perms, Config, OpenRequest, FirstHalf, SecondHalf}
-use Rattle.gt_core.specs.Prelude.{Header, Makes, Handle, FrameName, patches, frame_counts, FrameSet, frame_at, AreKept}
-use Rattle.gt_core.specs.Prelude.{HandleMap, mapping_under, count_of, HeldPin, Event, Element, PinCounts, OpenCall, entry_in}
-use Rattle.gt_core.specs.Prelude.{own_generation, frame_count_of, GoesOnWith, action_at, Rests, StandsAt, pins_at}
-use Rattle.gt_core.specs.Prelude.{held_in, Phase}
-use Rattle.gt_core.specs.Prelude.{most_steps, steps_left, Entry, Control, IsInRange, IsEntry, permits, Store, Poke}
+use Rattle.gt_core.specs.Prelude.{domain_of, DomId, Dir, TypeId, ForMap, TABLE_ENTRIES, MAX_TABLE_FRAMES}
+use Rattle.gt_core.specs.Prelude.{LAST_VERSION, FRAME_SIZE, PinHolder, ByMapping, ByLeg, Perms, Config, OpenRequest}
+use Rattle.gt_core.specs.Prelude.{FirstHalf, SecondHalf, Header, Makes, Handle, FrameName, patches, frame_counts}
+use Rattle.gt_core.specs.Prelude.{FrameSet, frame_at, AreKept, HandleMap, mapping_under, count_of, HeldPin, Event}
+use Rattle.gt_core.specs.Prelude.{Element, PinCounts, OpenCall, entry_in, own_generation, frame_count_of, GoesOnWith}
+use Rattle.gt_core.specs.Prelude.{action_at, Rests, StandsAt, pins_at, held_in, Phase, most_steps, steps_left, Entry}
+use Rattle.gt_core.specs.Prelude.{Control, IsInRange, IsEntry, permits, Store, Poke}
 pub use Rattle.gt_model.specs.Asking.{FitsAsked}
 pub use Rattle.gt_core.specs.States.{State, CoreState, core_of, state_of, first_state, changed_in, asks_memory}
 pub use Rattle.gt_core.specs.States.{IsMapping}
 use Rattle.gt_model.specs.History.{History, Setting, Pin, live, entry_at, generation_at, body_at, table_at, reads_at}
 use Rattle.gt_model.specs.History.{writes_at, control_at, patches_at, contents_at, known_at, maps_answered_at}
 use Rattle.gt_model.specs.History.{mappings_at, mapping_of, legs_at, frame_of, Underway, open_call, values}
+use Rattle.gt_model.specs.History.{setting_of}
 use Rattle.gt_model.specs.Legal.{MayDo, IsLegalHistory, grown}
 use Rattle.gt_model.specs.Justified.{MayUse}
 use Rattle.gt_model.specs.FirstRule.{stood}
-use Rattle.gt_core.specs.Acting.{setting_of}
 use Rattle.gt_core.specs.Phases.{PhaseStands, phase_refusal, IsClean, numbered}
 
 -- an open call has the phase that its steps lead to, it holds its live pins, and the first rule that has applied is

@@ -3,12 +3,13 @@ ghost use Rattle.std.specs.Prelude.{◌≡◌, [], IfOk, IfErr, OnErr, IsOk};
 ghost use Rattle.gt_types.specs.Config.{IsWithinLimits};
 ghost use Rattle.gt_model.specs.Legal.{Legal};
 ghost use Rattle.gt_core.specs.Standing.{DoesEvent, setting_in};
-ghost use Rattle.gt_core.specs.Acting.{IsStartFaultOf, begun_element, setting_of, ticked_element};
+ghost use Rattle.gt_core.specs.Acting.{IsStartFaultOf, begun_element, ticked_element};
+ghost use Rattle.gt_model.specs.History.{setting_of};
 
 use crate::kept::Machine;
-use gt_model::{Answer, Element, Event, Item, ItemEvent, Trace};
 use gt_calls::{Handle, Observation, Request, Step};
 use gt_entry::Entry;
+use gt_model::{Answer, Element, Event, Item, ItemEvent, Trace};
 use gt_types::{Allows, Config, DomId, GrantRef, Memory, StartFault};
 use std::alloc::Global;
 use std::marker::Model;
@@ -228,7 +229,8 @@ impl<P: Allows + Drop> Core<P> {
     ghost use Rattle.gt_types.specs.Config.{IsWithinLimits};
     ghost use Rattle.gt_frames.specs.Sets.{AreKept};
     ghost use Rattle.gt_core.specs.Standing.{CoreStands};
-    ghost use Rattle.gt_core.specs.Acting.{IsStartFaultOf, setting_of};
+    ghost use Rattle.gt_core.specs.Acting.{IsStartFaultOf};
+    ghost use Rattle.gt_model.specs.History.{setting_of};
 
     /// Returns a new core: all entries are invalid and at the first generation, all frames are zero, and there is
     /// no mapping and no call.

@@ -7,8 +7,6 @@ ghost use Rattle.gt_model.specs.History.{History, Setting};
 ghost use Rattle.gt_model.specs.Legal.{MayDo, grown};
 ghost use Rattle.gt_core.specs.Shown.{shown_at};
 ghost use Rattle.gt_core.specs.Subject.{subject_at};
-ghost use Rattle.gt_core.specs.Swapping.{ApartChangePlaces, BeginningsAreApart, LookAlikeGoOn};
-ghost use Rattle.gt_core.specs.Swapping.{StepsThatTouchApartAreApart};
 ghost use Rattle.gt_core.specs.TakenBack.{LegalTracesAreHistories, PagesTakenBackAreOutOfReach, PinsAreTakenSince};
 ghost use Rattle.gt_model.specs.declared.handle.Handle.{Handle};
 ghost use Rattle.gt_model.specs.declared.trace.Event.{Event};
@@ -84,27 +82,4 @@ pub fn every_open_call_can_go_on()
 /// make it. A read returns the bytes that the range held.
 pub fn every_open_call_can_access()
     ensures { OpenCallsCanAccess }
-{}
-
-/// Proves that an item that is right after one of two histories that look the same to every domain is right after
-/// the other one too, and that they look the same after it.
-pub fn every_look_alike_goes_on()
-    ensures { LookAlikeGoOn }
-{}
-
-/// Proves that two items of different domains that do not disturb each other may come in either order.
-pub fn items_that_are_apart_change_places()
-    ensures { ApartChangePlaces }
-{}
-
-/// Proves that a beginning and an item of another domain do not disturb each other.
-pub fn every_beginning_is_apart()
-    ensures { BeginningsAreApart }
-{}
-
-/// Proves that steps of different domains do not disturb each other if they touch nothing in common: no entry, no
-/// header that one of them stores, and no frames of an owner to which one of them writes. An unpin touches the entries
-/// on which it releases a pin.
-pub fn steps_that_touch_apart_are_apart()
-    ensures { StepsThatTouchApartAreApart }
 {}

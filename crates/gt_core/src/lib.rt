@@ -31,15 +31,13 @@ pub use gt_calls::{
     CopyArgs, End, EntryChange, Handle, HeldPin, Observation, OpenRequest, PinHolder, Request,
     Spot, Step,
 };
+pub use gt_model::{Answer, Bytes, Element, Event, Item, ItemEvent, Trace};
 pub use laws::{
-    every_alike_event_does_one_thing, every_alike_run_shows_one_thing, every_beginning_is_apart,
-    every_call_can_begin, every_event_does_one_thing, every_known_handle_has_one_subject,
-    every_legal_trace_is_a_legal_history, every_look_alike_goes_on, every_open_call_can_access,
-    every_open_call_can_go_on, every_page_taken_back_is_out_of_reach, every_run_can_start,
-    items_that_are_apart_change_places, no_pin_outlives_its_record,
-    steps_that_touch_apart_are_apart,
+    every_alike_event_does_one_thing, every_alike_run_shows_one_thing, every_call_can_begin,
+    every_event_does_one_thing, every_known_handle_has_one_subject,
+    every_legal_trace_is_a_legal_history, every_open_call_can_access, every_open_call_can_go_on,
+    every_page_taken_back_is_out_of_reach, every_run_can_start, no_pin_outlives_its_record,
 };
 pub use machine::answer_of;
 pub use pin_counts::{CountsChange, PinCounts};
 pub use sight::exchange_sees;
-pub use gt_model::{Answer, Bytes, Element, Event, Item, ItemEvent, Trace};

@@ -3,7 +3,7 @@ ghost use Rattle.std.specs.Prelude.{◌≡◌, ◌<◌, [], length, slice_get, m
 ghost use Rattle.std.specs.Prelude.{Option, Some, None};
 ghost use Rattle.gt_types.specs.Config.{IsWithinLimits};
 ghost use Rattle.gt_model.specs.Rules.{CallerKnowledge};
-ghost use Rattle.gt_calls.specs.Rules.{knows};
+ghost use Rattle.gt_calls.specs.Known.{knows};
 ghost use Rattle.gt_calls.specs.Following.{Goes, IsLeftAlike};
 ghost use Rattle.gt_model.specs.Asking.{bytes_given_by};
 ghost use Rattle.gt_frames.specs.Sets.{all_zeros, AreKept};
@@ -18,7 +18,8 @@ ghost use Rattle.gt_core.specs.Acting.{OpensAs, IsStartFaultOf, Closed};
 ghost use Rattle.gt_core.specs.Standing.{DomainsStand, StandsForSome, DoesEvent, DomainsDo};
 ghost use Rattle.gt_core.specs.Acting.{Settled};
 ghost use Rattle.gt_core.specs.Acting.{IsRoomFor};
-ghost use Rattle.gt_core.specs.Acting.{WantsMemory, WantsMemoryNow, setting_of, setting_by, state_by, known_by};
+ghost use Rattle.gt_core.specs.Acting.{WantsMemory, WantsMemoryNow, setting_by, state_by, known_by};
+ghost use Rattle.gt_model.specs.History.{setting_of};
 ghost use Rattle.gt_core.specs.Acting.{begun_element, ticked_element, ticked_with, answer_with, answer_of};
 ghost use Rattle.gt_core.specs.Standing.{first_state};
 ghost use Rattle.gt_model.specs.declared.trace.Event.TheVariants.{Begin, Tick};
@@ -29,13 +30,13 @@ use crate::effects::apply;
 use crate::kept::Machine;
 use crate::sight::see;
 use crate::state::{DomainState, find};
-use gt_model::{Answer, Bytes};
 use crate::underway::OpenCall;
 use gt_calls::{
     Action, Call, CallResult, CallStart, CallValue, CallerState, Judged, Observation, Request,
     Step, asked_fits,
 };
 use gt_frames::{FrameName, Frames};
+use gt_model::{Answer, Bytes};
 use gt_roster::Roster;
 use gt_types::{Allows, Config, DomId, GrantRef, Memory, StartFault};
 use std::alloc::Global;

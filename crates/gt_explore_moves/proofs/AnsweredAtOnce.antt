@@ -1,6 +1,6 @@
 -- A domain of a state whose next line's call was answered at its beginning.
-use Rattle.std.proofs.Common.{◌≡◌, ◌+◌, ◌≤◌, ℕ, refl, Bool, false, List, [], ◌∷◌, map, Option, Some}
-use Rattle.std.proofs.Common.{None, sym, ap, ◌∙◌, arith, subst}
+use Rattle.std.proofs.Common.{◌≡◌, ◌+◌, ◌≤◌, ℕ, refl, Bool, false, List, [], ◌∷◌, map, Option, Some, None, sym, ap}
+use Rattle.std.proofs.Common.{◌∙◌, arith, subst}
 use Rattle.gt_types.specs.declared.DomId.{DomId}
 use Rattle.gt_types.specs.declared.denial.Denial.{Denial}
 use Rattle.gt_types.specs.declared.denial.Field.{Field}
@@ -16,20 +16,20 @@ use Rattle.gt_model.specs.declared.action.CallResult.{CallResult}
 use Rattle.gt_model.specs.declared.action.CallResult.TheVariants.{Given, Granted, Refused}
 use Rattle.gt_model.specs.declared.held.HeldPin.{HeldPin}
 use Rattle.gt_model.specs.declared.request.OpenRequest.{OpenRequest}
-use Rattle.gt_model.specs.declared.request.OpenRequest.TheVariants.{Copy, GetVersion, Load, Map, Peek, QuerySize, SetupTable}
-use Rattle.gt_model.specs.declared.request.OpenRequest.TheVariants.{Probe, Release, Store, Unmap}
+use Rattle.gt_model.specs.declared.request.OpenRequest.TheVariants.{Copy, GetVersion, Load, Map, Peek, QuerySize}
+use Rattle.gt_model.specs.declared.request.OpenRequest.TheVariants.{SetupTable, Probe, Release, Store, Unmap}
 use Rattle.gt_model.specs.declared.request.Request.{Request}
 use Rattle.gt_model.specs.declared.request.Request.TheVariants as requests
 use Rattle.gt_model.specs.Asking.{asked, begun_of, bytes_begun, field_refused}
 use Rattle.gt_model.specs.Rules.{CallerKnowledge, begun, denied, first, refused_when}
 use Rattle.gt_core.specs.Acting.{answer_of}
-use Rattle.gt_model.specs.History.{History, Pin, Setting, Underway, gather, known_at, mapping_named}
-use Rattle.gt_model.specs.History.{maps_answered_at, one_if_mapped, open_call, table_at}
+use Rattle.gt_model.specs.History.{History, Pin, Setting, Underway, gather, known_at, mapping_named, maps_answered_at}
+use Rattle.gt_model.specs.History.{one_if_mapped, open_call, table_at}
 use Rattle.gt_model.specs.Legal.{AnsweredBy}
 use Rattle.gt_model.specs.declared.trace.Answer.{Answer}
 use Rattle.gt_model.specs.declared.trace.ItemEvent.TheVariants.{Began}
 use Rattle.gt_model.specs.declared.trace.Item.{Item}
-use Rattle.gt_core.proofs.Steps.Observers.{KeepsKnown, answered-stays, kept-known, kept-live}
+use Rattle.gt_model.proofs.Observers.{KeepsKnown, answered-stays, kept-known, kept-live}
 use Rattle.gt_core.proofs.AgreementKept.{open_call-own}
 use Rattle.gt_script_runs.specs.Runs.{Named, handle_given, label_given, with_name}
 use Rattle.gt_script_lines.specs.declared.calls.ScriptCall.{ScriptCall}

@@ -1,6 +1,6 @@
 -- What a label names in a state, where the serials of handles are the places of mappings, and in a run.
-use Rattle.std.proofs.Common.{◌≡◌, ◌+◌, ◌⊎◌, inl, inr, ℕ, zero, suc, refl, true, false, Bool, cond, List, []}
-use Rattle.std.proofs.Common.{◌∷◌, length, Option, Some, None, sym, ap, ◌∙◌, arith}
+use Rattle.std.proofs.Common.{◌≡◌, ◌+◌, ◌⊎◌, inl, inr, ℕ, zero, suc, refl, true, false, Bool, cond, List, [], ◌∷◌}
+use Rattle.std.proofs.Common.{length, Option, Some, None, sym, ap, ◌∙◌, arith}
 use Rattle.std.specs.Prelude.{◌==◌, ◌&&◌, bytes_eq, slice_get}
 use Rattle.std.proofs.lemmas.Bool.{eq-eqb, true≢false}
 use Rattle.std.proofs.lemmas.Slice.Eq.{bytes_eq-Decides}

@@ -1,9 +1,9 @@
 -- A call of a line begins in a state as it does in the run.
-use Rattle.std.proofs.Common.{◌≡◌, ◌+◌, ◌<◌, ◌^◌, ◌-◌, ◌⊎◌, ℕ, refl, List, length, map, Option, Some, None}
-use Rattle.std.proofs.Common.{sym, ap, ◌∙◌, arith, subst}
-use Rattle.std.specs.Prelude.{slice_get}
+use Rattle.std.proofs.Common.{◌≡◌, ◌+◌, ◌<◌, ◌^◌, ◌-◌, ◌⊎◌, ℕ, refl, List, length, map, Option, Some, None, sym, ap}
+use Rattle.std.proofs.Common.{◌∙◌, arith, subst, Bor, inl, inr, ◌≤◌}
+use Rattle.std.specs.Prelude.{slice_get, unwrap_or}
 use Rattle.std.proofs.lemmas.List.{length-map}
-use Rattle.std.proofs.lemmas.Option.{slice_get_past}
+use Rattle.std.proofs.lemmas.Option.{slice_get_past, none-some}
 use Rattle.gt_types.specs.declared.DomId.{DomId}
 use Rattle.gt_handles.specs.Handles.{value_of}
 use Rattle.gt_model.specs.declared.handle.Handle.{Handle}
@@ -15,13 +15,15 @@ use Rattle.gt_model.specs.declared.bounds.TheConstants.{SERIAL_LIMIT}
 use Rattle.gt_model.specs.declared.request.OpenRequest.{OpenRequest}
 use Rattle.gt_model.specs.declared.request.Request.{Request}
 use Rattle.gt_model.specs.Asking.{asked, begun_of, bytes_of, plainly_asked}
-use Rattle.gt_model.specs.History.{History, Setting, known_at, mapping_of, mappings_at, maps_answered_at}
-use Rattle.gt_script_runs.specs.Runs.{Named, MakesRequest, handle_of, never_given}
+use Rattle.gt_model.specs.History.{History, Setting, known_at, mapping_of, mappings_at, maps_answered_at, open_call}
+use Rattle.gt_script_runs.specs.Runs.{Named, MakesRequest, handle_of, never_given, call_bytes, handle_named}
+use Rattle.gt_script_runs.specs.Runs.{request_of}
 use Rattle.gt_script_lines.specs.declared.calls.ScriptCall.{ScriptCall}
-use Rattle.gt_explore_replay.specs.Courses.{Course}
+use Rattle.gt_explore_replay.specs.Courses.{Course, resting}
 use Rattle.gt_script.specs.Lists.{RunTask}
-use Rattle.gt_explore_moves.specs.Beginnings.{BeginsAlike}
-use Rattle.gt_explore_moves.specs.Calls.{KnowsTable, SerialsRise, ShowsCalls, handles_at, known_by_place, known_in, pins_mapped_at}
+use Rattle.gt_explore_moves.specs.Beginnings.{BeginsAlike, OpensSo}
+use Rattle.gt_explore_moves.specs.Calls.{KnowsTable, SerialsRise, ShowsCalls, handles_at, known_by_place, known_in}
+use Rattle.gt_explore_moves.specs.Calls.{pins_mapped_at, AsksByPlace}
 use Rattle.gt_explore_moves.specs.Mappings.{labels_of, mapping_pins, label_bytes}
 use Rattle.gt_explore_moves.specs.Placing.{ArePlaced, CountFrom, place_names, pin_by_place}
 use Rattle.gt_explore_moves.specs.Renaming.{FindsSame, KnowAlike, asked_under}
@@ -30,28 +32,18 @@ use Rattle.gt_explore_moves.specs.declared.actor.LabelledMapping.{LabelledMappin
 use Rattle.gt_explore_moves.specs.declared.names.ActorHandles.{ActorHandles}
 use Rattle.gt_explore_moves.specs.declared.scene.SearchContext.{SearchContext}
 use Rattle.gt_explore_state.specs.declared.table.SparseTable.{SparseTable}
-use Rattle.gt_explore_moves.proofs.ByPlace.{counted, names-alike, NamesAlike, NamesNothing}
-use Rattle.gt_explore_moves.proofs.MappingFound.{count-rises, finds-alike, label_asked, listed-at, listed-gone, mapping-listed}
-use Rattle.gt_explore_moves.proofs.MappingFound.{never-listed}
-use Rattle.gt_explore_moves.proofs.MappingFound.{request-renamed, same-found}
+use Rattle.gt_explore_moves.proofs.ByPlace.{counted, names-alike, NamesAlike, NamesNothing, get-there}
+use Rattle.gt_explore_moves.proofs.MappingFound.{count-rises, finds-alike, label_asked, listed-at, listed-gone}
+use Rattle.gt_explore_moves.proofs.MappingFound.{mapping-listed, never-listed, request-renamed, same-found}
 use Rattle.gt_explore_moves.proofs.Renaming.{alike-between, asked-renamed, begins-alike, begun-of-renamed, finds-own}
 use Rattle.gt_explore_moves.proofs.Renaming.{own_handle}
-use Rattle.std.proofs.Common.{Bor, inl, inr, ◌≤◌}
-use Rattle.std.specs.Prelude.{unwrap_or}
-use Rattle.std.proofs.lemmas.Option.{none-some}
 use Rattle.gt_calls.specs.Opening.{opens}
 use Rattle.gt_model.specs.Rules.{CallerKnowledge, release_begun}
 use Rattle.gt_model.specs.declared.request.OpenRequest.TheVariants as asks-for
 use Rattle.gt_script_runs.specs.Naming.{AreNamed}
-use Rattle.gt_script_runs.specs.Runs.{call_bytes, handle_named, request_of}
 use Rattle.gt_script_lines.specs.declared.calls.ScriptCall.TheVariants as calls
-use Rattle.gt_explore_moves.specs.Beginnings.{OpensSo}
-use Rattle.gt_explore_moves.specs.Calls.{AsksByPlace}
 use Rattle.gt_model.specs.declared.request.Request.TheVariants as requests
-use Rattle.gt_model.specs.History.{open_call}
-use Rattle.gt_explore_replay.specs.Courses.{resting}
 use Rattle.gt_explore_moves.specs.Starting.{BeginsAsRun, GivesAsRun}
-use Rattle.gt_explore_moves.proofs.ByPlace.{get-there}
 use Rattle.gt_explore_moves.proofs.CallOpened.{rests}
 use Rattle.gt_explore_moves.specs.declared.calls.CallOpening.{CallOpening as Opened}
 use Rattle.gt_explore_moves.specs.declared.calls.CallOpening.TheVariants.{Open, Done}

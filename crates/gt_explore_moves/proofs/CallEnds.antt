@@ -1,7 +1,6 @@
 -- A domain of a state whose open call is over: where the run has brought it.
-use Rattle.std.proofs.Common.{◌≡◌, ◌+◌, ◌<◌, ◌≤◌, ◌⊎◌, inl, inr, ℕ, zero, suc, refl, true, false, Bool, cond, List, []}
-use Rattle.std.proofs.Common.{◌∷◌, ◌++◌, length, map, drop}
-use Rattle.std.proofs.Common.{Option, Some, None, sym, ap, ◌∙◌, arith, subst}
+use Rattle.std.proofs.Common.{◌≡◌, ◌+◌, ◌<◌, ◌≤◌, ◌⊎◌, inl, inr, ℕ, zero, suc, refl, true, false, Bool, cond, List}
+use Rattle.std.proofs.Common.{[], ◌∷◌, ◌++◌, length, map, drop, Option, Some, None, sym, ap, ◌∙◌, arith, subst}
 use Rattle.std.specs.Prelude.{◌&&◌, ◌↔◌, bytes_eq, slice_get}
 use Rattle.std.proofs.lemmas.Bool.{eq-eqb, true≢false}
 use Rattle.std.proofs.lemmas.List.{length-map, map-append}
@@ -18,14 +17,14 @@ use Rattle.gt_model.specs.declared.held.HeldPin.{HeldPin}
 use Rattle.gt_model.specs.declared.request.PinHolder.TheVariants.{Leg as ByLeg, Mapping as ByHandle}
 use Rattle.gt_core.specs.Alike.{IsRun}
 use Rattle.gt_model.specs.History.{History, Pin, Setting, Underway, entry_at, gather, holder_after, legs_at, live}
-use Rattle.gt_model.specs.History.{mapping_named, mappings_at, maps_answered_at}
-use Rattle.gt_model.specs.History.{one_if_mapped, open_call, underway_after}
+use Rattle.gt_model.specs.History.{mapping_named, mappings_at, maps_answered_at, one_if_mapped, open_call}
+use Rattle.gt_model.specs.History.{underway_after}
 use Rattle.gt_model.specs.declared.trace.Answer.{Answer}
 use Rattle.gt_model.specs.declared.trace.Answer.TheVariants.{Mapped}
 use Rattle.gt_model.specs.declared.trace.Item.{Item}
 use Rattle.gt_core.proofs.AgreementKept.{open_call-own}
-use Rattle.gt_core.proofs.Steps.Observers.{answered-stays, exchanged-live, gather-append, kept-live, new_pin}
-use Rattle.gt_core.proofs.Steps.Observers.{pinned-live, stepped}
+use Rattle.gt_model.proofs.Observers.{answered-stays, exchanged-live, gather-append, kept-live, new_pin, pinned-live}
+use Rattle.gt_model.proofs.Observers.{stepped}
 use Rattle.gt_core.proofs.Steps.Pin.{leg-maps}
 use Rattle.gt_core.proofs.Steps.Unpin.{leg-mappings}
 use Rattle.gt_script_runs.specs.Runs.{Named, handle_named, with_name}

@@ -14,11 +14,11 @@ use Rattle.gt_model.specs.Asking.{asked, bytes_given_by}
 use Rattle.gt_model.specs.Path.{path}
 use Rattle.gt_model.specs.Rules.{CallerKnowledge}
 use Rattle.gt_calls.specs.Standing.{IsAt}
-use Rattle.gt_model.specs.History.{History, Pin, Setting, Underway, gather, mapping_named}
-use Rattle.gt_model.specs.History.{maps_answered_at, open_call}
+use Rattle.gt_model.specs.History.{History, Pin, Setting, Underway, gather, mapping_named, maps_answered_at}
+use Rattle.gt_model.specs.History.{open_call}
 use Rattle.gt_model.specs.declared.trace.ItemEvent.TheVariants.{Began}
 use Rattle.gt_model.specs.declared.trace.Item.{Item}
-use Rattle.gt_core.proofs.Steps.Observers.{answered-stays, kept-known, kept-live}
+use Rattle.gt_model.proofs.Observers.{answered-stays, kept-known, kept-live}
 use Rattle.gt_core.proofs.AgreementKept.{open_call-own}
 use Rattle.gt_script_runs.specs.Runs.{MakesRequest}
 use Rattle.gt_script_lines.specs.declared.calls.ScriptCall.{ScriptCall}
@@ -27,8 +27,8 @@ use Rattle.gt_explore_replay.specs.Orders.{given_up}
 use Rattle.gt_script.specs.Lists.{RunTask}
 use Rattle.gt_script.specs.declared.tasks.RunActionBy.TheVariants.{Do}
 use Rattle.gt_explore_moves.specs.Beginnings.{OpensAsRun}
-use Rattle.gt_explore_moves.specs.Calls.{AsksByPlace, LabelsShow, SerialsRise, ShowsCalls, ShowsOpen, handles_at, known_by_place}
-use Rattle.gt_explore_moves.specs.Calls.{tasks_open}
+use Rattle.gt_explore_moves.specs.Calls.{AsksByPlace, LabelsShow, SerialsRise, ShowsCalls, ShowsOpen, handles_at}
+use Rattle.gt_explore_moves.specs.Calls.{known_by_place, tasks_open}
 use Rattle.gt_explore_moves.specs.Mappings.{labels_of}
 use Rattle.gt_explore_moves.specs.Renaming.{asked_under}
 use Rattle.gt_explore_moves.specs.declared.actor.Actor.{Actor}

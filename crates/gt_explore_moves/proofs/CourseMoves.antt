@@ -8,17 +8,16 @@ use Rattle.std.proofs.lemmas.Option.{none-some, slice_get_within}
 use Rattle.gt_model.specs.declared.handle.Handle.{Handle}
 use Rattle.gt_model.specs.declared.held.HeldPin.{HeldPin}
 use Rattle.gt_model.specs.History.{History, Setting, Underway, mappings_at, open_call}
-use Rattle.gt_explore_replay.specs.Courses.{Course, CourseEnds, CourseLeads, Opened, OpenLeads, RestLeads, calling, giving}
-use Rattle.gt_explore_replay.specs.Courses.{resting}
+use Rattle.gt_explore_replay.specs.Courses.{Course, CourseEnds, CourseLeads, Opened, OpenLeads, RestLeads, calling}
+use Rattle.gt_explore_replay.specs.Courses.{giving, resting}
 use Rattle.gt_explore_replay.specs.Orders.{Happening}
 use Rattle.gt_script.specs.Lists.{RunTask}
 use Rattle.gt_explore_moves.specs.Calls.{ShowsCalls, ShowsOpen, handles_at}
-use Rattle.gt_explore_moves.specs.Ends.{choices_at, is_done, is_ended, tasks_at}
+use Rattle.gt_explore_moves.specs.Ends.{choices_at, is_done, is_ended, tasks_at, turns_from}
 use Rattle.gt_explore_moves.specs.declared.actor.Actor.{Actor}
 use Rattle.gt_explore_moves.specs.declared.actor.LabelledMapping.{LabelledMapping}
 use Rattle.gt_explore_moves.specs.declared.actor.ActorCall.{ActorCall}
 use Rattle.gt_explore_moves.specs.declared.scene.SearchContext.{SearchContext}
-use Rattle.gt_explore_moves.specs.Ends.{turns_from}
 use Rattle.gt_explore_moves.proofs.MovesListed.{IsListed, turn-listed}
 
 nothing-left : (n : ℕ) (xs : List RunTask) → drop n xs ≡ [] → length xs ≤ n

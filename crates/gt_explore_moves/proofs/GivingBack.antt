@@ -1,6 +1,6 @@
 -- A domain of a state at the end of its list begins to give a mapping back.
-use Rattle.std.proofs.Common.{◌≡◌, ◌+◌, ◌<◌, ◌≤◌, ℕ, zero, suc, refl, Bool, false, cond, List, [], ◌∷◌, ◌++◌}
-use Rattle.std.proofs.Common.{map, take, drop, Option, Some, None, sym, ap, ◌∙◌, arith, subst}
+use Rattle.std.proofs.Common.{◌≡◌, ◌+◌, ◌<◌, ◌≤◌, ℕ, zero, suc, refl, Bool, false, cond, List, [], ◌∷◌, ◌++◌, map}
+use Rattle.std.proofs.Common.{take, drop, Option, Some, None, sym, ap, ◌∙◌, arith, subst}
 use Rattle.std.specs.Prelude.{◌==◌, not, slice_get}
 use Rattle.std.proofs.lemmas.Bool.{eq-eqb, ne_eqb}
 use Rattle.std.proofs.lemmas.Option.{none-some, same_Some}
@@ -20,7 +20,8 @@ use Rattle.gt_explore_replay.specs.Courses.{Course, Opened, giving, resting}
 use Rattle.gt_explore_replay.specs.Orders.{handles_without}
 use Rattle.gt_script.specs.Lists.{RunTask}
 use Rattle.gt_explore_moves.specs.Beginnings.{OpensAsRun}
-use Rattle.gt_explore_moves.specs.Calls.{LabelsShow, SerialsRise, ShowsCalls, ShowsOpen, handles_at, known_by_place, tasks_open}
+use Rattle.gt_explore_moves.specs.Calls.{LabelsShow, SerialsRise, ShowsCalls, ShowsOpen, handles_at, known_by_place}
+use Rattle.gt_explore_moves.specs.Calls.{tasks_open}
 use Rattle.gt_explore_moves.specs.Mappings.{labels_of}
 use Rattle.gt_explore_moves.specs.declared.actor.Actor.{Actor}
 use Rattle.gt_explore_moves.specs.Starting.{giving_actor}

@@ -10,20 +10,21 @@ use Rattle.gt_model.specs.declared.action.Step.{Step}
 use Rattle.gt_model.specs.declared.action.Step.TheVariants.{Exchange, Pin as PinStep, StoreHeader, Unpin}
 use Rattle.gt_model.specs.declared.held.HeldPin.{HeldPin}
 use Rattle.gt_model.specs.declared.request.PinHolder.TheVariants.{Leg as ByLeg, Mapping as ByHandle}
-use Rattle.gt_model.specs.History.{History, Pin, Setting, Underway, gather, mapping_named, mappings_at, maps_answered_at}
-use Rattle.gt_model.specs.History.{known_at, open_call, seen_by, underway_after}
+use Rattle.gt_model.specs.History.{History, Pin, Setting, Underway, gather, mapping_named, mappings_at}
+use Rattle.gt_model.specs.History.{maps_answered_at, known_at, open_call, seen_by, underway_after}
 use Rattle.gt_model.specs.declared.trace.ItemEvent.TheVariants.{Stepped}
 use Rattle.gt_model.specs.declared.trace.Item.{Item}
 use Rattle.gt_core.proofs.AgreementKept.{open_call-own}
 use Rattle.gt_core.proofs.Outcomes.{IsSingle}
-use Rattle.gt_core.proofs.Steps.Observers.{KeepsKnown, answered-stays, kept-entry, kept-known, kept-live, kept-raises}
-use Rattle.gt_core.proofs.Steps.Observers.{kept-table, known-as}
+use Rattle.gt_model.proofs.Observers.{KeepsKnown, answered-stays, kept-entry, kept-known, kept-live, kept-raises}
+use Rattle.gt_model.proofs.Observers.{kept-table, known-as}
 use Rattle.gt_core.proofs.Steps.Pin.{leg-maps}
 use Rattle.gt_core.proofs.Steps.Unpin.{leg-mappings}
 use Rattle.gt_explore_replay.specs.Courses.{Course, Opened, calling, giving, resting}
 use Rattle.gt_explore_replay.specs.Orders.{handles_without}
 use Rattle.gt_script.specs.Lists.{RunTask}
-use Rattle.gt_explore_moves.specs.Calls.{GoesAlong, IsOfTask, LabelsShow, SerialsRise, ShowsCalls, ShowsOpen, handles_at, tasks_open}
+use Rattle.gt_explore_moves.specs.Calls.{GoesAlong, IsOfTask, LabelsShow, SerialsRise, ShowsCalls, ShowsOpen}
+use Rattle.gt_explore_moves.specs.Calls.{handles_at, tasks_open}
 use Rattle.gt_explore_moves.specs.Continuing.{SameKnown, stepped_call}
 use Rattle.gt_explore_moves.specs.Mappings.{labels_of}
 use Rattle.gt_explore_moves.specs.declared.actor.Actor.{Actor}

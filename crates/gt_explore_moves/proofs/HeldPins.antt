@@ -1,7 +1,7 @@
 -- Along a legal history each open call holds the pins that its path took, and no pin is on a transitive entry unless a
 -- call may grant one.
-use Rattle.std.proofs.Common.{◌≡◌, ℕ, suc, refl, Bool, true, false, cond, List, [], ◌∷◌, ◌++◌, ◌+◌, length}
-use Rattle.std.proofs.Common.{Option, Some, None, sym, ap, ◌∙◌, subst, append-nil, arith, ◌⊎◌, inl, inr}
+use Rattle.std.proofs.Common.{◌≡◌, ℕ, suc, refl, Bool, true, false, cond, List, [], ◌∷◌, ◌++◌, ◌+◌, length, Option}
+use Rattle.std.proofs.Common.{Some, None, sym, ap, ◌∙◌, subst, append-nil, arith, ◌⊎◌, inl, inr}
 use Rattle.std.specs.Prelude.{◌==◌, ◌*◌, ◌%◌, ◌/◌}
 use Rattle.std.proofs.lemmas.Bool.{eqb-true, true≢false}
 use Rattle.std.proofs.lemmas.Bool.Decides.{nat_tests}
@@ -41,10 +41,10 @@ use Rattle.gt_model.specs.declared.request.OpenRequest.TheVariants.{Copy, Grant,
 use Rattle.gt_model.specs.declared.request.PinHolder.TheVariants.{Mapping as ByHandle, Leg as ByLeg}
 use Rattle.gt_model.specs.declared.request.Request.{Request}
 use Rattle.gt_model.specs.FirstRule.{refusal_in, stood}
-use Rattle.gt_model.specs.History.{History, Setting, Underway, by_leg, change_at, change_of, changed_entry_of, entry_at}
-use Rattle.gt_model.specs.History.{gather, holder_after, known_at, legs_at, live}
-use Rattle.gt_model.specs.History.{exchange_sees, generation_at, open_call, reads_at, seen_by, underway_after, values}
-use Rattle.gt_model.specs.History.{without, word_at, writes_at}
+use Rattle.gt_model.specs.History.{History, Setting, Underway, by_leg, change_at, change_of, changed_entry_of}
+use Rattle.gt_model.specs.History.{entry_at, gather, holder_after, known_at, legs_at, live, exchange_sees}
+use Rattle.gt_model.specs.History.{generation_at, open_call, reads_at, seen_by, underway_after, values, without}
+use Rattle.gt_model.specs.History.{word_at, writes_at}
 use Rattle.gt_model.specs.Legal.{AnsweredBy, GivesValue, IsLegalHistory, IsRight, StepsRight, StepsRightIn}
 use Rattle.gt_model.specs.Legal.{gives_back, next_in, refusal_of, verdict_in}
 use Rattle.gt_core.specs.Phases.{numbered}
@@ -54,10 +54,10 @@ use Rattle.gt_model.specs.declared.trace.Item.{Item}
 use Rattle.gt_model.specs.declared.trace.ItemEvent.{ItemEvent}
 use Rattle.gt_model.specs.declared.trace.ItemEvent.TheVariants.{Began, Stepped}
 use Rattle.gt_core.proofs.AgreementKept.{open_call-other, open_call-own}
-use Rattle.gt_core.proofs.Steps.Observers.{exchanged-entry, other-pins, stepped, unpinned-live}
+use Rattle.gt_model.proofs.Observers.{exchanged-entry, other-pins, stepped, unpinned-live}
 use Rattle.gt_core.proofs.Steps.Pin.{leg-grows, map-legs}
 use Rattle.gt_core.proofs.Steps.Unpin.{leg-left, loses-leg, mapping-legs}
-use Rattle.gt_core.proofs.Swapping.{Releases}
+use Rattle.gt_explore_moves.proofs.Swapping.{Releases}
 use Rattle.gt_explore_moves.specs.Transitive.{AllOfScript, BeginsOfScript, IsOfScript, is_via}
 use Rattle.gt_explore_moves.specs.declared.touches.MappingUse.{MappingUse}
 use Rattle.gt_explore_moves.proofs.PathSteps.{TakesOf, TookOf, after_action, after_step, held-more, held_along}

@@ -32,6 +32,7 @@ pub mod ShownBySame
 pub mod SpaceMoves
 pub mod StateComesOn
 pub mod StepOrEnd
+pub mod Swapping
 pub mod Touching
 pub mod Undisturbed
 pub mod Unlabelled

@@ -1,26 +1,23 @@
 -- A step of an open call after a history that is, but for keys, one that a core stands for.
-use Rattle.gt_core.proofs.Words.{◌≡◌, ◌≢◌, inl, inr, ◌++◌, ℕ, refl, Bool, List, [], ◌∷◌, Option, Some, None, cond, sym}
-use Rattle.gt_core.proofs.Words.{ap, ◌∙◌, arith, subst}
-use Rattle.gt_core.proofs.Words.{eq-eqb, none-some, same_Some, take, drop, reverse, option_map, DomId, GrantRef, Denial}
-use Rattle.gt_core.proofs.Words.{Header, header_word, Handle, HeldPin, ByMapping}
-use Rattle.gt_core.proofs.Words.{OpenRequest, Map, Load, Store, Peek, Observation, Word, Taken, Missed, Action, Makes, Done, CallResult}
-use Rattle.gt_core.proofs.Words.{Granted, Given, KeptPin, Refused, Step}
-use Rattle.gt_core.proofs.Words.{LookHeader, LookControl, LookBody, PinStep, Unpin, Exchange, ReadBytes, Phase}
-use Rattle.gt_core.proofs.Words.{Exchanging, Changing, Walking}
-use Rattle.gt_core.proofs.Words.{Last, Ending, State, state_of, History, Setting, Underway, open_call, values, known_at}
-use Rattle.gt_core.proofs.Words.{seen_by, exchange_sees, word_at, entry_at}
-use Rattle.gt_core.proofs.Words.{table_at, contents_at, maps_answered_at, path, OpenAgrees, CallAgrees, StateAgrees}
-use Rattle.gt_core.proofs.Words.{StepsRight, AnsweredBy, GivesValue}
-use Rattle.gt_core.proofs.Words.{AreAlike, IsRun, bare_step, action_at, phase_after, last_first, refusal_in, verdict_in}
-use Rattle.gt_core.proofs.Words.{stood, CallerKnowledge, HasShown}
-use Rattle.gt_core.proofs.Words.{EntryChange, IsQuiet, Poke, RestsOnRequest}
+use Rattle.gt_core.proofs.Words.{◌≡◌, ◌≢◌, inl, inr, ◌++◌, ℕ, refl, Bool, List, [], ◌∷◌, Option, Some, None, cond}
+use Rattle.gt_core.proofs.Words.{sym, ap, ◌∙◌, arith, subst, eq-eqb, none-some, same_Some, take, drop, reverse}
+use Rattle.gt_core.proofs.Words.{option_map, DomId, GrantRef, Denial, Header, header_word, Handle, HeldPin, ByMapping}
+use Rattle.gt_core.proofs.Words.{OpenRequest, Map, Load, Store, Peek, Observation, Word, Taken, Missed, Action, Makes}
+use Rattle.gt_core.proofs.Words.{Done, CallResult, Granted, Given, KeptPin, Refused, Step, LookHeader, LookControl}
+use Rattle.gt_core.proofs.Words.{LookBody, PinStep, Unpin, Exchange, ReadBytes, Phase, Exchanging, Changing, Walking}
+use Rattle.gt_core.proofs.Words.{Last, Ending, State, state_of, History, Setting, Underway, open_call, values}
+use Rattle.gt_core.proofs.Words.{known_at, seen_by, exchange_sees, word_at, entry_at, table_at, contents_at}
+use Rattle.gt_core.proofs.Words.{maps_answered_at, path, OpenAgrees, CallAgrees, StateAgrees, StepsRight, AnsweredBy}
+use Rattle.gt_core.proofs.Words.{GivesValue, AreAlike, IsRun, bare_step, action_at, phase_after, last_first}
+use Rattle.gt_core.proofs.Words.{refusal_in, verdict_in, stood, CallerKnowledge, HasShown, EntryChange, IsQuiet, Poke}
+use Rattle.gt_core.proofs.Words.{RestsOnRequest}
 use Rattle.gt_core.proofs.{Phases.makes-same, Phases.by-leg, Phases.by-giving, Phases.IsHere, Phases.next_of}
-use Rattle.gt_core.proofs.{Phases.seen-fits, Steps.See.state-there, Steps.Observers.stepped}
-use Rattle.gt_core.proofs.{WithoutKeys.bare, WithoutKeys.bared, WithoutKeys.bare-same, WithoutKeys.bare_asked}
-use Rattle.gt_core.proofs.{WithoutKeys.bare_call, WithoutKeys.values-bare, Pins.word-bare}
-use Rattle.gt_core.proofs.{HandlesGiven.open-known, HandlesGiven.CallKnown, AlikeRuns.bare_action, Outcomes.IsSingle}
-use Rattle.gt_core.proofs.{Outcomes.single-ends, Values.call-ends, Values.EndsWith}
-use Rattle.gt_core.proofs.{Steps.Pin.can-pin}
+use Rattle.gt_core.proofs.{Phases.seen-fits, Steps.See.state-there, WithoutKeys.bare, WithoutKeys.bared}
+use Rattle.gt_core.proofs.{WithoutKeys.bare-same, WithoutKeys.bare_asked, WithoutKeys.bare_call}
+use Rattle.gt_core.proofs.{WithoutKeys.values-bare, Pins.word-bare, HandlesGiven.open-known, HandlesGiven.CallKnown}
+use Rattle.gt_core.proofs.{AlikeRuns.bare_action, Outcomes.IsSingle, Outcomes.single-ends, Values.call-ends}
+use Rattle.gt_core.proofs.{Values.EndsWith, Steps.Pin.can-pin}
+use Rattle.gt_model.proofs.Observers.{stepped}
 use Rattle.gt_core.specs.Acting.{answer_with}
 use Rattle.gt_core.specs.GoingOn.{CanBeReached}
 use Rattle.gt_model.specs.Legal.{gives_back, next_in, refusal_of}
@@ -31,7 +28,7 @@ use Rattle.gt_model.specs.declared.trace.Bytes.{Bytes}
 use Rattle.gt_core.specs.declared.underway.OpenCall.{OpenCall}
 use Rattle.gt_calls.proofs.Advancing.{continues}
 use Rattle.gt_model.specs.declared.action.CallValue.{CallValue}
-use Rattle.gt_calls.specs.Following.{FitsNext}
+use Rattle.gt_calls.specs.Following.{FitsNext, Goes, HoldsAfter}
 use Rattle.gt_model.specs.Path.{Continuation}
 use Rattle.gt_explore_state.specs.Likeness.{IsLikeReached}
 use Rattle.gt_explore_state.specs.Shows.{IsInRun}
@@ -39,7 +36,6 @@ use Rattle.gt_explore_state.proofs.AlikeFitting.{path-at, same-bare}
 use Rattle.gt_explore_moves.specs.Ticking.{AnswersEnd}
 use Rattle.gt_model.specs.Holding.{no_pins}
 use Rattle.gt_calls.specs.Machine.{next_to_give, settled}
-use Rattle.gt_calls.specs.Following.{Goes, HoldsAfter}
 use Rattle.gt_calls.specs.Standing.{held_in}
 use Rattle.gt_core.proofs.Probes.{done-settled, ends-settled}
 use Rattle.gt_core.proofs.Outcomes.{ends-so}

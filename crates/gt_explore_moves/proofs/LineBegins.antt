@@ -1,7 +1,6 @@
 -- The call of a line begins in a state: where that comes to.
 use Rattle.std.proofs.Common.{◌≡◌, ◌+◌, ◌++◌, ◌<◌, ◌≤◌, ◌^◌, ℕ, zero, suc, refl, false, List, [], ◌∷◌, length, map}
-use Rattle.std.proofs.Common.{get_or, Option}
-use Rattle.std.proofs.Common.{Some, None, sym, ap, ◌∙◌, arith, subst, Vec, Bor, Global}
+use Rattle.std.proofs.Common.{get_or, Option, Some, None, sym, ap, ◌∙◌, arith, subst, Vec, Bor, Global}
 use Rattle.std.specs.Prelude.{slice_get, slice_set}
 use Rattle.std.proofs.lemmas.List.{length-map}
 use Rattle.gt_types.specs.declared.denial.Denial.{Denial}
@@ -27,9 +26,8 @@ use Rattle.gt_explore_replay.specs.Orders.{given_up}
 use Rattle.gt_script.specs.Lists.{RunTask}
 use Rattle.gt_explore_moves.specs.Calls.{ShowsCalls}
 use Rattle.gt_explore_moves.specs.Ends.{tasks_at}
-use Rattle.gt_explore_moves.specs.Starting.{BeginsAsRun, GivesAsRun, Grows, IsNextCall, MovesAsRun, PrintsLine, giving_actor}
-use Rattle.gt_explore_moves.specs.Starting.{held_but, opened_actor}
-use Rattle.gt_explore_moves.specs.Starting.{passed_actor}
+use Rattle.gt_explore_moves.specs.Starting.{BeginsAsRun, GivesAsRun, Grows, IsNextCall, MovesAsRun, PrintsLine}
+use Rattle.gt_explore_moves.specs.Starting.{giving_actor, held_but, opened_actor, passed_actor}
 use Rattle.gt_explore_moves.specs.declared.actor.Actor.{Actor}
 use Rattle.gt_explore_moves.specs.declared.calls.CallOpening.TheVariants.{Open, Done}
 use Rattle.gt_explore_search.specs.declared.spaces.TurnResult.{TurnResult}

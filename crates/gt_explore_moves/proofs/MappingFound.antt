@@ -1,17 +1,16 @@
 -- The mapping that is found by what a label names, in a state and in a run.
-use Rattle.std.proofs.Common.{◌≡◌, ◌+◌, ◌<◌, ◌≤◌, ◌^◌, ◌-◌, ◌⊎◌, inl, inr, ℕ, zero, suc, refl, true, false, Bool, cond}
-use Rattle.std.proofs.Common.{List, []}
-use Rattle.std.proofs.Common.{◌∷◌, length, map, Option, Some, None, sym, ap, ◌∙◌, arith, subst, Bor}
-use Rattle.std.specs.Prelude.{slice_get, unwrap_or}
+use Rattle.std.proofs.Common.{◌≡◌, ◌+◌, ◌<◌, ◌≤◌, ◌^◌, ◌-◌, ◌⊎◌, inl, inr, ℕ, zero, suc, refl, true, false, Bool}
+use Rattle.std.proofs.Common.{cond, List, [], ◌∷◌, length, map, Option, Some, None, sym, ap, ◌∙◌, arith, subst, Bor}
+use Rattle.std.proofs.Common.{get_or, is_some}
+use Rattle.std.specs.Prelude.{slice_get, unwrap_or, nat_lt, option_copied, IfSome}
 use Rattle.std.proofs.lemmas.Bool.{eq-eqb}
 use Rattle.gt_types.specs.declared.DomId.{DomId}
-use Rattle.gt_model.specs.Handle.{same_handle}
+use Rattle.gt_model.specs.Asking.{same_handle, asked, bytes_of, plainly_asked}
 use Rattle.gt_handles.specs.Listing.{listed}
 use Rattle.gt_model.specs.declared.handle.Handle.{Handle}
 use Rattle.gt_model.specs.declared.held.HeldPin.{HeldPin}
 use Rattle.gt_model.specs.declared.request.OpenRequest.TheVariants as asks
 use Rattle.gt_model.specs.declared.request.Request.{Request}
-use Rattle.gt_model.specs.Asking.{asked, bytes_of, plainly_asked}
 use Rattle.gt_model.specs.History.{mapping_of}
 use Rattle.gt_script_runs.specs.Runs.{Named, MakesRequest, handle_named, handle_of, never_given, request_of}
 use Rattle.gt_script_lines.specs.declared.calls.ScriptCall.{ScriptCall}
@@ -20,10 +19,7 @@ use Rattle.gt_explore_moves.specs.Calls.{SerialsRise}
 use Rattle.gt_explore_moves.specs.Placing.{CountFrom}
 use Rattle.gt_explore_moves.specs.Renaming.{FindsSame, asked_under}
 use Rattle.gt_explore_moves.proofs.ByPlace.{NamesAlike, NamesNothing}
-use Rattle.std.proofs.lemmas.Option.{none-some, same_Some}
-use Rattle.std.proofs.Common.{get_or, is_some}
-use Rattle.std.specs.Prelude.{nat_lt, option_copied, IfSome}
-use Rattle.std.proofs.lemmas.Option.{slice_get_past}
+use Rattle.std.proofs.lemmas.Option.{none-some, same_Some, slice_get_past}
 
 -- serials that rise
 

@@ -1,7 +1,7 @@
 -- The moves of a state's domains are those of the run.
 use Rattle.std.proofs.Common.{◌≡◌, ◌≢◌, ◌<◌, ◌≤◌, ◌++◌, ◌∙◌, ℕ, zero, suc, refl, true, Bool, List, [], ◌∷◌, length}
-use Rattle.std.proofs.Common.{drop, ap}
-use Rattle.std.proofs.Common.{◌⊎◌, Option, Some, None, Result, Ok, Err, IfOk, sym, subst, arith, inl, inr, get_or}
+use Rattle.std.proofs.Common.{drop, ap, ◌⊎◌, Option, Some, None, Result, Ok, Err, IfOk, sym, subst, arith, inl, inr}
+use Rattle.std.proofs.Common.{get_or}
 use Rattle.std.proofs.Math.ListN.{set}
 use Rattle.std.specs.Prelude.{nat_lt, slice_get, slice_set}
 use Rattle.std.proofs.lemmas.Bool.Decides.{nat_tests}
@@ -61,8 +61,8 @@ use Rattle.gt_explore_moves.proofs.MappingFound.{get-at}
 use Rattle.gt_explore_moves.proofs.ViaTasks.{said-of-script, task-vias}
 use Rattle.gt_explore_moves.specs.Transitive.{BeginsOfScript, IsOfScript, call_grants_via, deed_grants_via}
 use Rattle.gt_explore_replay.proofs.Whole.{raised_or}
-use Rattle.gt_explore_moves.proofs.StateComesOn.{comes-event, comes-quiet, domain-at, of-run, raised-here, raised-still, table-at, task-below}
-use Rattle.gt_explore_moves.proofs.StateComesOn.{task-own}
+use Rattle.gt_explore_moves.proofs.StateComesOn.{comes-event, comes-quiet, domain-at, of-run, raised-here}
+use Rattle.gt_explore_moves.proofs.StateComesOn.{raised-still, table-at, task-below, task-own}
 
 -- lists
 

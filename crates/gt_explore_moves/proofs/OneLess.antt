@@ -1,6 +1,6 @@
 -- Lists without the element at a place, and a domain's mappings without the one that it gives up.
-use Rattle.std.proofs.Common.{◌≡◌, ◌≤◌, ℕ, zero, suc, refl, Bool, cond, List, [], ◌∷◌, ◌++◌, map, take, drop}
-use Rattle.std.proofs.Common.{Option, Some, sym, ap, ◌∙◌, arith}
+use Rattle.std.proofs.Common.{◌≡◌, ◌≤◌, ℕ, zero, suc, refl, Bool, cond, List, [], ◌∷◌, ◌++◌, map, take, drop, Option}
+use Rattle.std.proofs.Common.{Some, sym, ap, ◌∙◌, arith}
 use Rattle.std.specs.Prelude.{slice_get}
 use Rattle.std.proofs.lemmas.Option.{none-some, same_Some}
 use Rattle.gt_types.specs.declared.DomId.{DomId}
@@ -11,7 +11,7 @@ use Rattle.gt_model.specs.declared.request.PinHolder.TheVariants.{Mapping as ByH
 use Rattle.gt_model.specs.History.{History, Pin, gather, live, mapping_named, mappings_at, same_handle, without}
 use Rattle.gt_model.specs.declared.trace.Answer.{Answer}
 use Rattle.gt_core.proofs.Mappings.{less}
-use Rattle.gt_core.proofs.Steps.Observers.{unpinned-live, unpins}
+use Rattle.gt_model.proofs.Observers.{unpinned-live, unpins}
 use Rattle.gt_script_runs.specs.Runs.{Named}
 use Rattle.gt_explore_moves.specs.Calls.{LabelsShow, SerialsRise}
 use Rattle.gt_explore_moves.proofs.MappingFound.{apart-serials, rise-from, same-self}

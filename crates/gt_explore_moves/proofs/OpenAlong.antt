@@ -1,7 +1,6 @@
 -- An open call of a state goes on along that of the run.
-use Rattle.std.proofs.Common.{◌≡◌, ◌<◌, ◌++◌, ℕ, refl, true, false, Bool, cond, List, [], ◌∷◌, map, Option, Some, None}
-use Rattle.std.proofs.Common.{sym}
-use Rattle.std.proofs.Common.{ap, ◌∙◌, arith, subst}
+use Rattle.std.proofs.Common.{◌≡◌, ◌<◌, ◌++◌, ℕ, refl, true, false, Bool, cond, List, [], ◌∷◌, map, Option, Some}
+use Rattle.std.proofs.Common.{None, sym, ap, ◌∙◌, arith, subst}
 use Rattle.std.specs.Option.{option_map}
 use Rattle.std.specs.Prelude.{◌==◌}
 use Rattle.std.proofs.lemmas.Bool.{eq-eqb, true≢false}
@@ -29,19 +28,17 @@ use Rattle.gt_model.specs.Rules.{CallerKnowledge}
 use Rattle.gt_calls.specs.Standing.{IsAt}
 use Rattle.gt_model.specs.History.{History, Setting, Underway, exchange_sees, known_at, mapping_of, mappings_at}
 use Rattle.gt_model.specs.History.{maps_answered_at, seen_by, values}
-use Rattle.gt_explore_moves.specs.Calls.{AsksByPlace, GoesAlong, SerialsRise, handles_at, known_by_place}
+use Rattle.gt_explore_moves.specs.Calls.{AsksByPlace, GoesAlong, SerialsRise, handles_at, known_by_place, known_in}
+use Rattle.gt_explore_moves.specs.Calls.{no_mappings}
 use Rattle.gt_explore_moves.specs.Placing.{pin_by_place}
 use Rattle.gt_explore_moves.specs.Renaming.{FindsSame, action_under, step_under}
 use Rattle.gt_explore_moves.specs.declared.actor.ActorCall.{ActorCall}
 use Rattle.gt_explore_moves.proofs.CallBegins.{place-alike}
 use Rattle.gt_explore_moves.proofs.MappingFound.{listed-at, mapping-listed}
-use Rattle.gt_explore_moves.specs.Continuing.{IsGranting}
+use Rattle.gt_explore_moves.specs.Continuing.{IsGranting, SameKnown, GoesOnAsRun, StillKnows}
 use Rattle.gt_explore_moves.proofs.LeftAlike.{left-alike}
 use Rattle.gt_explore_moves.proofs.Renaming.{path-renamed}
-use Rattle.gt_explore_moves.specs.Continuing.{SameKnown}
 use Rattle.gt_explore_moves.proofs.OthersStay.{same-by-place, same-handles}
-use Rattle.gt_explore_moves.specs.Calls.{known_in, no_mappings}
-use Rattle.gt_explore_moves.specs.Continuing.{GoesOnAsRun, StillKnows}
 use Rattle.gt_explore_moves.specs.declared.scene.SearchContext.{SearchContext}
 use Rattle.gt_explore_state.specs.declared.table.SparseTable.{SparseTable}
 use Rattle.gt_calls.specs.Machine.{settled}

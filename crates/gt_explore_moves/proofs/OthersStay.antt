@@ -11,15 +11,14 @@ use Rattle.gt_calls.specs.Standing.{IsAt}
 use Rattle.gt_model.specs.History.{History, Setting, Underway, known_at, maps_answered_at, open_call, values}
 use Rattle.gt_model.specs.History.{mapping_named}
 use Rattle.gt_model.specs.declared.trace.Item.{Item}
-use Rattle.gt_core.proofs.Steps.Observers.{other-known, other-maps, other-pins}
+use Rattle.gt_model.proofs.Observers.{other-known, other-maps, other-pins}
 use Rattle.gt_core.proofs.AgreementKept.{open_call-other}
 use Rattle.gt_explore_replay.specs.Courses.{Course, Opened, resting, calling, giving}
 use Rattle.gt_explore_replay.specs.Orders.{handles_without}
 use Rattle.gt_script.specs.Lists.{RunTask}
 use Rattle.gt_explore_moves.specs.Continuing.{SameKnown}
-use Rattle.gt_explore_moves.specs.Calls.{AsksByPlace, GoesAlong, LabelsShow, SerialsRise, ShowsCalls, ShowsOpen, handles_at}
-use Rattle.gt_explore_moves.specs.Calls.{known_by_place}
-use Rattle.gt_explore_moves.specs.Calls.{pins_mapped_at, tasks_open}
+use Rattle.gt_explore_moves.specs.Calls.{AsksByPlace, GoesAlong, LabelsShow, SerialsRise, ShowsCalls, ShowsOpen}
+use Rattle.gt_explore_moves.specs.Calls.{handles_at, known_by_place, pins_mapped_at, tasks_open}
 use Rattle.gt_explore_moves.specs.Mappings.{labels_of}
 use Rattle.gt_explore_moves.specs.Placing.{pin_by_place}
 use Rattle.gt_explore_moves.specs.declared.actor.Actor.{Actor}

@@ -1,6 +1,6 @@
 -- What holds for each action of a call's path, by the pins that the call holds there.
-use Rattle.std.proofs.Common.{◌≡◌, ℕ, zero, suc, refl, Bool, true, false, cond, List, [], ◌∷◌, ◌++◌, length}
-use Rattle.std.proofs.Common.{Option, Some, None, sym, subst}
+use Rattle.std.proofs.Common.{◌≡◌, ℕ, zero, suc, refl, Bool, true, false, cond, List, [], ◌∷◌, ◌++◌, length, Option}
+use Rattle.std.proofs.Common.{Some, None, sym, subst}
 use Rattle.std.specs.Prelude.{◌==◌, nat_lt}
 use Rattle.std.proofs.lemmas.Option.{none-some, same_Some}
 use Rattle.gt_types.specs.declared.DomId.{DomId}
@@ -15,10 +15,9 @@ use Rattle.gt_model.specs.declared.entry.Entry.TheVariants as entries
 use Rattle.gt_model.specs.declared.entry.Entry.{Entry as TableEntry}
 use Rattle.gt_model.specs.Words.{control_of, header_of}
 use Rattle.gt_model.specs.declared.control.EntryKind.TheVariants.{Sub as KindSub}
-use Rattle.gt_model.specs.Path.{AfterPin, AfterRefusal, Continuation, after_first, beyond}
-use Rattle.gt_model.specs.Path.{at_first_look, by_mapping}
-use Rattle.gt_model.specs.Path.{ended, exchanges, exchanges_once, give_back, grant_path, held_of, is_stopped, last_step}
-use Rattle.gt_model.specs.Path.{leg, looks, makes, reaches, reads_body, refused_holding, second_leg}
+use Rattle.gt_model.specs.Path.{AfterPin, AfterRefusal, Continuation, after_first, beyond, at_first_look, by_mapping}
+use Rattle.gt_model.specs.Path.{ended, exchanges, exchanges_once, give_back, grant_path, held_of, is_stopped}
+use Rattle.gt_model.specs.Path.{last_step, leg, looks, makes, reaches, reads_body, refused_holding, second_leg}
 use Rattle.gt_model.specs.Path.{rule_of_try, tries, try_pin, turn, turns, unless_refused}
 use Rattle.gt_model.specs.Rules.{CallerKnowledge, first_body, first_look, is_kind, size_of, via_judged}
 use Rattle.gt_model.specs.declared.action.Action.{Action}
@@ -28,8 +27,7 @@ use Rattle.gt_model.specs.declared.action.CallResult.TheVariants.{Granted, Refus
 use Rattle.gt_model.specs.declared.action.Observation.{Observation}
 use Rattle.gt_model.specs.declared.action.Observation.TheVariants.{Missed, Nothing, Taken, Word}
 use Rattle.gt_model.specs.declared.action.Step.{Step}
-use Rattle.gt_model.specs.declared.action.Step.TheVariants.{Exchange, LookBody, LookControl}
-use Rattle.gt_model.specs.declared.action.Step.TheVariants.{LookHeader}
+use Rattle.gt_model.specs.declared.action.Step.TheVariants.{Exchange, LookBody, LookControl, LookHeader}
 use Rattle.gt_model.specs.declared.action.Step.TheVariants.{Pin as PinStep, StoreBody, Unpin}
 use Rattle.gt_model.specs.declared.held.AccessPath.{AccessPath}
 use Rattle.gt_model.specs.declared.held.AccessPath.TheVariants.{Own, Direct, Through}

@@ -17,7 +17,7 @@ use Rattle.gt_model.specs.declared.request.Request.{Request}
 use Rattle.gt_model.specs.Asking.{asked, bytes_given_by}
 use Rattle.gt_model.specs.Path.{path}
 use Rattle.gt_model.specs.Rules.{CallerKnowledge}
-use Rattle.gt_calls.specs.Rules.{own_generation}
+use Rattle.gt_calls.specs.Known.{own_generation}
 use Rattle.gt_calls.specs.Standing.{IsAt}
 use Rattle.gt_model.specs.History.{History, Setting, Underway, change_at, given_in, maps_answered_at, open_call}
 use Rattle.gt_model.specs.History.{seen_by, values}
@@ -27,14 +27,14 @@ use Rattle.gt_model.specs.declared.trace.ItemEvent.{ItemEvent}
 use Rattle.gt_model.specs.declared.trace.ItemEvent.TheVariants.{Began, Stepped}
 use Rattle.gt_model.specs.declared.trace.Item.{Item}
 use Rattle.gt_core.proofs.Words.{fun_ext}
-use Rattle.gt_core.proofs.Steps.Observers.{kept-entry, kept-raises, stepped}
+use Rattle.gt_model.proofs.Observers.{kept-entry, kept-raises, stepped}
 use Rattle.gt_script_runs.specs.Runs.{Named, MakesRequest, call_bytes, request_of}
 use Rattle.gt_script_lines.specs.declared.calls.ScriptCall.{ScriptCall}
 use Rattle.gt_script_lines.specs.declared.calls.ScriptCall.TheVariants as calls
 use Rattle.gt_explore_replay.specs.Courses.{Course, Opened, calling, giving, resting}
 use Rattle.gt_script.specs.Lists.{RunTask}
-use Rattle.gt_explore_state.specs.Shows.{IsGivenTo, IsItemOfStep, IsInRun, LooksInRun, StepFits, TableShows, TablesShow}
-use Rattle.gt_explore_state.specs.Shows.{unheld}
+use Rattle.gt_explore_state.specs.Shows.{IsGivenTo, IsItemOfStep, IsInRun, LooksInRun, StepFits, TableShows}
+use Rattle.gt_explore_state.specs.Shows.{TablesShow, unheld}
 use Rattle.gt_explore_state.specs.declared.table.SparseTable.{SparseTable}
 use Rattle.gt_explore_state.proofs.AlikeFitting.{like-fits-step}
 use Rattle.gt_explore_state.proofs.Fitting.{of-place}

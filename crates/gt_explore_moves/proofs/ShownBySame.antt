@@ -1,7 +1,6 @@
 -- What one state shows is shown by one that is the same.
-use Rattle.std.proofs.Common.{◌≡◌, ◌+◌, ◌≤◌, ℕ, zero, suc, refl, List, [], ◌∷◌, length, drop}
-use Rattle.std.proofs.Common.{Option}
-use Rattle.std.proofs.Common.{Bool, Some, sym, ap, ◌∙◌, subst}
+use Rattle.std.proofs.Common.{◌≡◌, ◌+◌, ◌≤◌, ℕ, zero, suc, refl, List, [], ◌∷◌, length, drop, Option, Bool, Some, sym}
+use Rattle.std.proofs.Common.{ap, ◌∙◌, subst}
 use Rattle.std.specs.Prelude.{slice_get}
 use Rattle.std.proofs.lemmas.Option.{none-some, same_Some}
 use Rattle.gt_model.specs.History.{History, Setting, maps_answered_at, open_call}

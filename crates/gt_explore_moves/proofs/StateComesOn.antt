@@ -1,12 +1,11 @@
 -- A state that shows a run shows it with one happening more, if one of its domains comes to where that brings it.
 use Rattle.std.proofs.Common.{◌≡◌, ◌≢◌, ◌<◌, ◌++◌, ◌⊎◌, ℕ, zero, suc, refl, true, false, Bool, cond, List, [], ◌∷◌}
-use Rattle.std.proofs.Common.{length}
-use Rattle.std.proofs.Common.{map, Some, None, sym, ap, ◌∙◌, arith, subst, inl, inr, get_or}
+use Rattle.std.proofs.Common.{length, map, Some, None, sym, ap, ◌∙◌, arith, subst, inl, inr, get_or}
 use mathlib.Core.Path.{fun_ext}
 use Rattle.std.specs.Option.{option_map}
 use Rattle.std.specs.Prelude.{◌==◌, slice_get, slice_set}
 use Rattle.std.proofs.lemmas.Bool.{eqb-true, ne_eqb}
-use Rattle.std.proofs.lemmas.List.{length-set}
+use Rattle.std.proofs.lemmas.List.{length-set, length-append}
 use Rattle.std.proofs.lemmas.List.Elements.{All-filter}
 use Rattle.std.proofs.lemmas.Option.{none-some, same_Some, slice_get_within, slice_get-map, get_or_from_slice_get}
 use Rattle.gt_types.specs.Names.{domain_of}
@@ -18,7 +17,7 @@ use Rattle.gt_model.specs.Legal.{IsRight}
 use Rattle.gt_model.specs.declared.trace.Element.TheVariants.{Item as Did}
 use Rattle.gt_model.specs.declared.trace.Event.{Event}
 use Rattle.gt_model.specs.declared.trace.Item.{Item}
-use Rattle.gt_calls.specs.Rules.{own_generation}
+use Rattle.gt_calls.specs.Known.{own_generation}
 use Rattle.gt_script_runs.specs.Playing.{setting_of_script}
 use Rattle.gt_explore_replay.specs.Abreast.{history_in}
 use Rattle.gt_explore_replay.specs.Courses.{Course}
@@ -26,7 +25,6 @@ use Rattle.gt_explore_replay.specs.Orders.{Happening, IsRaisedBefore, did, raise
 use Rattle.gt_explore_replay.proofs.Alike.{held_grown, names_grown}
 use Rattle.gt_explore_replay.proofs.Coming.{IsQuiet, apart_at, domain_known, less_or, map_set, mapped_back}
 use Rattle.gt_explore_replay.proofs.Places.{get_end, get_left, get_set}
-use Rattle.std.proofs.lemmas.List.{length-append}
 use Rattle.gt_explore_replay.proofs.Whole.{history_did, history_quiet, raised_or}
 use Rattle.gt_script.specs.Lists.{RunTask}
 use Rattle.gt_script.specs.RunContents.{RunContents}

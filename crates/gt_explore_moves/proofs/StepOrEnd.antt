@@ -1,7 +1,6 @@
 -- Where a domain of a state comes to by the step of its open call.
-use Rattle.std.proofs.Common.{inl, inr}
-use Rattle.std.proofs.Common.{◌≡◌, ◌+◌, ◌≤◌, ◌++◌, ℕ, zero, suc, refl, List, [], ◌∷◌, length, take, drop, Option, Some}
-use Rattle.std.proofs.Common.{None, sym, ap, ◌∙◌, arith, subst, Result}
+use Rattle.std.proofs.Common.{inl, inr, ◌≡◌, ◌+◌, ◌≤◌, ◌++◌, ℕ, zero, suc, refl, List, [], ◌∷◌, length, take, drop}
+use Rattle.std.proofs.Common.{Option, Some, None, sym, ap, ◌∙◌, arith, subst, Result}
 use Rattle.std.specs.Prelude.{IfOk, codes, slice_get, slice_set}
 use Rattle.std.proofs.lemmas.List.{append-nil, map-append}
 use Rattle.std.proofs.lemmas.Option.{none-some}
@@ -25,9 +24,8 @@ use Rattle.gt_model.specs.declared.request.OpenRequest.TheVariants.{Unmap, Relea
 use Rattle.gt_model.specs.declared.request.PinHolder.TheVariants.{Leg as ByLeg, Mapping as ByHandle}
 use Rattle.gt_model.specs.declared.request.Request.{Request}
 use Rattle.gt_model.specs.declared.request.Request.TheVariants as requests
-use Rattle.gt_model.specs.Asking.{asked}
+use Rattle.gt_model.specs.Asking.{asked, GivesUp}
 use Rattle.gt_model.specs.Path.{after_beginning, by_mapping, path}
-use Rattle.gt_model.specs.Giving.{GivesUp}
 use Rattle.gt_model.specs.Rules.{CallerKnowledge, begun}
 use Rattle.gt_core.specs.Acting.{answer_of}
 use Rattle.gt_model.specs.History.{History, Setting, Underway, contents_at, known_at, maps_answered_at, one_if_mapped}
@@ -39,27 +37,27 @@ use Rattle.gt_model.specs.declared.trace.Answer.TheVariants as answers
 use Rattle.gt_model.specs.declared.trace.Item.{Item}
 use Rattle.gt_core.specs.Prelude.{written}
 use Rattle.gt_core.proofs.Outcomes.{IsSingle}
-use Rattle.gt_core.proofs.Steps.Observers.{stepped}
+use Rattle.gt_model.proofs.Observers.{stepped}
 use Rattle.gt_script_runs.specs.Printing.{answer_line, answer_text, bytes_text, call_text}
 use Rattle.gt_script_runs.specs.Runs.{Named, MakesRequest, handle_given, label_given, request_of, with_name}
 use Rattle.gt_script_lines.specs.declared.calls.ScriptCall.{ScriptCall}
 use Rattle.gt_script_lines.specs.declared.calls.ScriptCall.TheVariants as calls
-use Rattle.gt_explore_replay.specs.Courses.{Course, Opened, back_after, calling, course_after, course_answered, giving, resting}
+use Rattle.gt_explore_replay.specs.Courses.{Course, Opened, back_after, calling, course_after, course_answered}
+use Rattle.gt_explore_replay.specs.Courses.{giving, resting}
 use Rattle.gt_explore_replay.specs.Orders.{given_up, handles_without, held_after}
 use Rattle.gt_script.specs.Lists.{RunTask}
 use Rattle.gt_script.specs.declared.tasks.RunActionBy.TheVariants.{Do}
 use Rattle.gt_explore_state.specs.Shows.{PagesShow, TablesShow}
 use Rattle.gt_explore_state.specs.declared.ground.SparseState.{SparseState}
-use Rattle.gt_explore_moves.specs.Calls.{AsksByPlace, GoesAlong, IsOfLine, IsOfTask, LabelsShow, ShowsCalls, ShowsOpen}
-use Rattle.gt_explore_moves.specs.Calls.{handles_at, known_by_place, tasks_open}
+use Rattle.gt_explore_moves.specs.Calls.{AsksByPlace, GoesAlong, IsOfLine, IsOfTask, LabelsShow, ShowsCalls}
+use Rattle.gt_explore_moves.specs.Calls.{ShowsOpen, handles_at, known_by_place, tasks_open}
 use Rattle.gt_explore_moves.specs.Continuing.{GoesOnAsRun, SameKnown, stepped_call}
 use Rattle.gt_explore_moves.specs.Ends.{tasks_at}
 use Rattle.gt_explore_moves.specs.Mappings.{apart_from, labels_of, mapping_pins}
 use Rattle.gt_explore_moves.specs.Renaming.{asked_under, step_under}
 use Rattle.gt_explore_moves.specs.Starting.{Grows}
-use Rattle.gt_explore_moves.specs.Ticking.{Closes, ClosesBack, CallIsOver, HasStepped, IsTick, MapsSo, AnswersEnd, TickLeads}
-use Rattle.gt_explore_moves.specs.Ticking.{TicksAsRun}
-use Rattle.gt_explore_moves.specs.Ticking.{label_given_by, mappings_after}
+use Rattle.gt_explore_moves.specs.Ticking.{Closes, ClosesBack, CallIsOver, HasStepped, IsTick, MapsSo, AnswersEnd}
+use Rattle.gt_explore_moves.specs.Ticking.{TickLeads, TicksAsRun, label_given_by, mappings_after}
 use Rattle.gt_explore_moves.specs.declared.actor.Actor.{Actor}
 use Rattle.gt_explore_moves.specs.declared.actor.LabelledMapping.{LabelledMapping}
 use Rattle.gt_explore_moves.specs.declared.actor.ActorCall.{ActorCall}

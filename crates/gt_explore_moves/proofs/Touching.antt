@@ -20,8 +20,9 @@ use Rattle.gt_model.specs.Words.{control_of}
 use Rattle.gt_model.specs.declared.handle.Handle.{Handle}
 use Rattle.gt_model.specs.Asking.{asked}
 use Rattle.gt_model.specs.Holding.{frame_by, held_by, owner_by}
-use Rattle.gt_model.specs.Path.{accesses, after_beginning, asks, copies, dest_pair, end_leg, ended, give_back, gref_of}
-use Rattle.gt_model.specs.Path.{map_leg, path, place_of, refused_holding, second_leg, source_pair, steps_of, to_dest}
+use Rattle.gt_model.specs.Path.{accesses, after_beginning, asks, copies, dest_pair, end_leg, ended, give_back}
+use Rattle.gt_model.specs.Path.{gref_of, map_leg, path, place_of, refused_holding, second_leg, source_pair, steps_of}
+use Rattle.gt_model.specs.Path.{to_dest}
 use Rattle.gt_model.specs.Rules.{CallerKnowledge, begun}
 use Rattle.gt_model.specs.declared.action.Action.{Action}
 use Rattle.gt_model.specs.declared.action.Action.TheVariants.{Step as Makes, Done}
@@ -30,10 +31,8 @@ use Rattle.gt_model.specs.declared.action.CallResult.TheVariants.{Granted, Mappe
 use Rattle.gt_model.specs.declared.action.Observation.{Observation}
 use Rattle.gt_model.specs.declared.action.Step.{Step}
 use Rattle.gt_model.specs.declared.action.Step.TheVariants.{Copy as CopyBytes, Exchange, LookBody, LookControl}
-use Rattle.gt_model.specs.declared.action.Step.TheVariants.{LookHeader}
-use Rattle.gt_model.specs.declared.action.Step.TheVariants.{Pin as PinStep, Read as ReadBytes, StoreBody, StoreHeader}
-use Rattle.gt_model.specs.declared.action.Step.TheVariants.{Unpin}
-use Rattle.gt_model.specs.declared.action.Step.TheVariants.{Write as WriteBytes}
+use Rattle.gt_model.specs.declared.action.Step.TheVariants.{LookHeader, Pin as PinStep, Read as ReadBytes, StoreBody}
+use Rattle.gt_model.specs.declared.action.Step.TheVariants.{StoreHeader, Unpin, Write as WriteBytes}
 use Rattle.gt_model.specs.declared.action.HeaderQuery.{HeaderQuery}
 use Rattle.gt_model.specs.declared.action.HeaderQuery.TheVariants as queries
 use Rattle.gt_model.specs.declared.held.AccessPath.{AccessPath}
@@ -43,30 +42,28 @@ use Rattle.gt_model.specs.declared.leg.Leg.{Leg}
 use Rattle.gt_model.specs.declared.bounds.TheConstants.{MORE_TRIES}
 use Rattle.gt_model.specs.declared.request.OpenRequest.{OpenRequest}
 use Rattle.gt_model.specs.declared.request.OpenRequest.TheVariants.{Copy, Demote, GetVersion, Grant, Load, Map, Peek}
-use Rattle.gt_model.specs.declared.request.OpenRequest.TheVariants.{Poke}
-use Rattle.gt_model.specs.declared.request.OpenRequest.TheVariants.{Promote, QuerySize, Revoke, SetVersion}
-use Rattle.gt_model.specs.declared.request.OpenRequest.TheVariants.{SetupTable, Store}
-use Rattle.gt_model.specs.declared.request.OpenRequest.TheVariants.{Probe, Unmap, Release, Withdraw}
+use Rattle.gt_model.specs.declared.request.OpenRequest.TheVariants.{Poke, Promote, QuerySize, Revoke, SetVersion}
+use Rattle.gt_model.specs.declared.request.OpenRequest.TheVariants.{SetupTable, Store, Probe, Unmap, Release}
+use Rattle.gt_model.specs.declared.request.OpenRequest.TheVariants.{Withdraw}
 use Rattle.gt_model.specs.declared.request.PinHolder.TheVariants.{Mapping as ByHandle, Leg as ByLeg}
 use Rattle.gt_model.specs.declared.request.Request.{Request}
 use Rattle.gt_model.specs.Entries.{frame_of}
 use Rattle.gt_model.specs.History.{History, Setting, mapping_of, mappings_at, patches_at}
-use Rattle.gt_core.specs.Swapping.{AreApart, KeepsPins, SameLook, TouchApart, looks_header, on_entry, patches_of}
-use Rattle.gt_core.specs.Swapping.{reads_frames}
-use Rattle.gt_core.specs.Swapping.{stores_header, writes_frames}
+use Rattle.gt_explore_moves.specs.Swapping.{AreApart, KeepsPins, SameLook, TouchApart, looks_header, on_entry}
+use Rattle.gt_explore_moves.specs.Swapping.{patches_of, reads_frames, stores_header, writes_frames}
 use Rattle.gt_model.specs.declared.trace.Answer.{Answer}
 use Rattle.gt_model.specs.declared.trace.Item.{Item}
 use Rattle.gt_model.specs.declared.trace.ItemEvent.TheVariants.{Stepped}
 use Rattle.gt_core.proofs.Steps.Unpin.{loses-mapping}
-use Rattle.gt_core.proofs.Swapping.{Releases, keeps-elsewhere, steps-apart-in}
+use Rattle.gt_explore_moves.proofs.Swapping.{Releases, keeps-elsewhere, steps-apart-in}
 use Rattle.gt_script_runs.specs.Runs.{Named, MakesRequest, request_of}
 use Rattle.gt_script_lines.specs.declared.calls.ScriptCall.{ScriptCall}
 use Rattle.gt_script_lines.specs.declared.calls.ScriptCall.TheVariants as calls
 use Rattle.gt_script.specs.Lists.{RunAction, RunTask}
 use Rattle.gt_script.specs.declared.tasks.RunActionBy.TheVariants.{Await, Do, Tell}
 use Rattle.gt_explore_moves.specs.Touches.{is_access, is_load, is_on, is_store, is_write, meets, meets_bytes}
-use Rattle.gt_explore_moves.specs.Touches.{meets_call, meets_dest, meets_reads, meets_source, meets_writes}
-use Rattle.gt_explore_moves.specs.Touches.{meets_leg, meets_mapping, meets_task, next_accesses, next_writes, reads_at}
+use Rattle.gt_explore_moves.specs.Touches.{meets_call, meets_dest, meets_reads, meets_source, meets_writes, meets_leg}
+use Rattle.gt_explore_moves.specs.Touches.{meets_mapping, meets_task, next_accesses, next_writes, reads_at}
 use Rattle.gt_explore_moves.specs.Touches.{step_meets, writes_at}
 use Rattle.gt_explore_moves.specs.Transitive.{grants_via, is_via}
 use Rattle.gt_explore_moves.specs.declared.touches.MappingUse.{MappingUse}

@@ -1,7 +1,7 @@
 -- The domains of a set that no domain outside can disturb may go first: no text is lost.
-use Rattle.std.proofs.Common.{◌≡◌, ◌≢◌, ◌⊎◌, inl, inr, ◌<◌, ℕ, zero, suc, refl, Bool, true, false, cond, List, [], ◌∷◌}
-use Rattle.std.proofs.Common.{◌++◌, length, map, drop, take, get_or}
-use Rattle.std.proofs.Common.{Option, Some, None, sym, ap, ◌∙◌, subst, arith}
+use Rattle.std.proofs.Common.{◌≡◌, ◌≢◌, ◌⊎◌, inl, inr, ◌<◌, ℕ, zero, suc, refl, Bool, true, false, cond, List, []}
+use Rattle.std.proofs.Common.{◌∷◌, ◌++◌, length, map, drop, take, get_or, Option, Some, None, sym, ap, ◌∙◌, subst}
+use Rattle.std.proofs.Common.{arith}
 use Rattle.std.specs.List.{list_any}
 use Rattle.std.specs.Prelude.{◌==◌, ◌||◌, slice_get, slice_set, AllPairs}
 use Rattle.std.proofs.lemmas.Bool.{eq-eqb, eqb-true, false≢true}
@@ -23,7 +23,7 @@ use Rattle.gt_model.specs.History.{History, Setting, Underway, known_at, maps_an
 use Rattle.gt_model.specs.History.{values}
 use Rattle.gt_core.specs.Alike.{IsRun}
 use Rattle.gt_model.specs.Legal.{IsItemOf, IsLegalHistory, IsRight, MayDo, StepsRightIn, actor_of, grown}
-use Rattle.gt_core.specs.Swapping.{AreApart, SameSeen}
+use Rattle.gt_explore_moves.specs.Swapping.{AreApart, SameSeen}
 use Rattle.gt_model.specs.declared.trace.Element.{Element}
 use Rattle.gt_model.specs.declared.trace.Element.TheVariants.{Item as Did, Busy, Idle, NoDomain}
 use Rattle.gt_model.specs.declared.trace.Event.{Event}
@@ -32,14 +32,13 @@ use Rattle.gt_model.specs.declared.trace.Item.{Item}
 use Rattle.gt_model.specs.declared.trace.ItemEvent.{ItemEvent}
 use Rattle.gt_model.specs.declared.trace.ItemEvent.TheVariants.{Began, Stepped}
 use Rattle.gt_core.proofs.AgreementKept.{open_call-other}
-use Rattle.gt_core.proofs.Steps.Observers.{other-known}
-use Rattle.gt_core.proofs.Swapping.{Releases, began-apart, events-first, grown-same, may-same}
+use Rattle.gt_model.proofs.Observers.{other-known}
+use Rattle.gt_explore_moves.proofs.Swapping.{Releases, began-apart, events-first, grown-same, may-same}
 use Rattle.gt_script_runs.specs.Playing.{setting_of_script}
 use Rattle.gt_script_runs.specs.Runs.{answer_in}
 use Rattle.gt_explore_replay.specs.Abreast.{CanComeNext, history_in}
 use Rattle.gt_explore_replay.specs.Courses.{AllCoursesEnd, Course, CourseEnds, CourseLeads, ActionLeads, Opened}
-use Rattle.gt_explore_replay.specs.Courses.{OpenLeads}
-use Rattle.gt_explore_replay.specs.Courses.{RestLeads, calling, giving, resting}
+use Rattle.gt_explore_replay.specs.Courses.{OpenLeads, RestLeads, calling, giving, resting}
 use Rattle.gt_explore_replay.specs.Orders.{Happening, did, raised, passed, doer, IsRaisedBefore}
 use Rattle.gt_explore_search.specs.declared.spaces.Turn.{Turn}
 use Rattle.gt_explore_replay.proofs.Coming.{IsQuiet, tells, waits}
@@ -57,8 +56,8 @@ use Rattle.gt_explore_moves.specs.Mappings.{mapping_pins}
 use Rattle.gt_explore_moves.specs.Scenes.{IsSceneOf, SceneShows}
 use Rattle.gt_explore_moves.specs.Spaces.{Point, printed_by, scene_ways}
 use Rattle.gt_explore_moves.specs.Touches.{AreOfSet, AreToBeTried, AreUndisturbed, first_left, first_of, is_load}
-use Rattle.gt_explore_moves.specs.Touches.{is_store, may_meet, meets, meets_mapping, meets_task}
-use Rattle.gt_explore_moves.specs.Touches.{next_at_rest, next_move, step_meets, tasks_unfinished, use_of}
+use Rattle.gt_explore_moves.specs.Touches.{is_store, may_meet, meets, meets_mapping, meets_task, next_at_rest}
+use Rattle.gt_explore_moves.specs.Touches.{next_move, step_meets, tasks_unfinished, use_of}
 use Rattle.gt_explore_moves.specs.declared.touches.MappingUse.{MappingUse}
 use Rattle.gt_explore_moves.specs.declared.actor.Actor.{Actor}
 use Rattle.gt_explore_moves.specs.declared.actor.ActorCall.{ActorCall}
@@ -78,12 +77,11 @@ use Rattle.gt_explore_moves.proofs.SameStep.{along-of}
 use Rattle.gt_explore_moves.proofs.SpaceMoves.{each-turn}
 use Rattle.gt_explore_moves.proofs.StateComesOn.{raised-here, raised-still, task-own}
 use Rattle.gt_explore_moves.proofs.Touching.{DeedTouches, RequestTouches, StepTouches, TasksTouch, Unmet, meets-under}
-use Rattle.gt_explore_moves.proofs.Touching.{or-false}
-use Rattle.gt_explore_moves.proofs.Touching.{PinTouches, said-touches, steps-apart}
+use Rattle.gt_explore_moves.proofs.Touching.{or-false, PinTouches, said-touches, steps-apart, unmet-deed}
+use Rattle.gt_explore_moves.proofs.Touching.{unmet-mapping}
 use Rattle.gt_explore_moves.proofs.HeldPins.{IsSound, releases-own}
 use Rattle.gt_explore_moves.proofs.ViaTasks.{task-vias}
 use Rattle.gt_explore_moves.specs.Transitive.{grants_via}
-use Rattle.gt_explore_moves.proofs.Touching.{unmet-deed, unmet-mapping}
 use Rattle.gt_explore_moves.proofs.Within.{CallWithin, ElementTouches, Grew, HappeningTouches, ItemTouches, PinsTouch}
 use Rattle.gt_explore_moves.proofs.Within.{Within, course-within, grew-sound, happening-grew, others-within}
 use Rattle.gt_explore_search.specs.Ways.{EndsSoBy, GoesTo, HasEnoughTurns}

@@ -1,6 +1,6 @@
 -- The labels of mappings, those at the first places without one that is given to another mapping.
-use Rattle.std.proofs.Common.{◌≡◌, ◌+◌, ◌<◌, ◌≤◌, ℕ, zero, suc, refl, List, [], ◌∷◌, length, set, get_or, Option}
-use Rattle.std.proofs.Common.{sym, ap, ◌∙◌, arith, take, drop, ◌++◌}
+use Rattle.std.proofs.Common.{◌≡◌, ◌+◌, ◌<◌, ◌≤◌, ℕ, zero, suc, refl, List, [], ◌∷◌, length, set, get_or, Option, sym}
+use Rattle.std.proofs.Common.{ap, ◌∙◌, arith, take, drop, ◌++◌}
 use Rattle.std.proofs.lemmas.List.{map-set, get_or-map, length-map, take_at}
 use Rattle.std.proofs.Math.Seq.{map-set_same}
 use Rattle.gt_model.specs.declared.held.HeldPin.{HeldPin}

@@ -1,6 +1,6 @@
 -- A task of a domain's list, and what it asks, may grant a transitive entry only if a task of the script may.
-use Rattle.std.proofs.Common.{◌≡◌, ℕ, zero, suc, refl, Bool, true, false, cond, List, [], ◌∷◌, map, get_or}
-use Rattle.std.proofs.Common.{Some, sym, ap, ◌∙◌, subst}
+use Rattle.std.proofs.Common.{◌≡◌, ℕ, zero, suc, refl, Bool, true, false, cond, List, [], ◌∷◌, map, get_or, Some, sym}
+use Rattle.std.proofs.Common.{ap, ◌∙◌, subst}
 use Rattle.std.specs.List.{list_any}
 use Rattle.std.specs.Prelude.{slice_get, ◌||◌, ◌==◌}
 use Rattle.std.proofs.lemmas.Option.{none-some, same_Some}

@@ -1,6 +1,6 @@
 -- What a domain does along a run touches only what its list, its mappings and its open call name.
-use Rattle.std.proofs.Common.{◌≡◌, ℕ, refl, Bool, true, false, cond, List, [], ◌∷◌, ◌++◌}
-use Rattle.std.proofs.Common.{Option, Some, None, sym, ap, ◌∙◌, subst}
+use Rattle.std.proofs.Common.{◌≡◌, ℕ, refl, Bool, true, false, cond, List, [], ◌∷◌, ◌++◌, Option, Some, None, sym, ap}
+use Rattle.std.proofs.Common.{◌∙◌, subst}
 use Rattle.std.specs.Prelude.{◌==◌, ◌&&◌, take, drop, suc}
 use Rattle.std.proofs.lemmas.Bool.{false≢true}
 use Rattle.std.proofs.lemmas.Option.{none-some, same_Some}
@@ -9,9 +9,8 @@ use Rattle.gt_types.specs.declared.GrantRef.{GrantRef}
 use Rattle.gt_types.specs.declared.copies.CopyArgs.{CopyArgs}
 use Rattle.gt_types.specs.declared.denial.Denial.{Denial}
 use Rattle.gt_model.specs.declared.entry.Entry.TheVariants as entries
-use Rattle.gt_model.specs.Handle.{same_handle}
+use Rattle.gt_model.specs.Asking.{same_handle, asked}
 use Rattle.gt_model.specs.declared.handle.Handle.{Handle}
-use Rattle.gt_model.specs.Asking.{asked}
 use Rattle.gt_model.specs.Path.{steps_of}
 use Rattle.gt_model.specs.Rules.{begun}
 use Rattle.gt_model.specs.declared.action.Action.TheVariants.{Step as Makes}
@@ -27,9 +26,8 @@ use Rattle.gt_model.specs.declared.request.PinHolder.{PinHolder}
 use Rattle.gt_model.specs.declared.request.Request.{Request}
 use Rattle.gt_model.specs.declared.request.Request.TheVariants as requests
 use Rattle.gt_model.specs.History.{History, Setting, Pin, Underway, gather, holder_after, known_at, live}
-use Rattle.gt_model.specs.History.{mapping_named, mapping_of}
-use Rattle.gt_model.specs.History.{mappings_at, open_call, pinned_by, underway_after, unpinned_by, values, without}
-use Rattle.gt_model.specs.History.{is_holder}
+use Rattle.gt_model.specs.History.{mapping_named, mapping_of, mappings_at, open_call, pinned_by, underway_after}
+use Rattle.gt_model.specs.History.{unpinned_by, values, without, is_holder}
 use Rattle.gt_model.specs.FirstRule.{stood}
 use Rattle.gt_model.specs.Legal.{AnsweredBy, IsItemOf, IsLegalHistory, IsRight, MayDo, StepsRight, StepsRightIn}
 use Rattle.gt_model.specs.Legal.{actor_of, gives_back, grown, next_in, verdict_in}
@@ -43,13 +41,12 @@ use Rattle.gt_model.specs.declared.trace.Item.{Item}
 use Rattle.gt_model.specs.declared.trace.ItemEvent.{ItemEvent}
 use Rattle.gt_model.specs.declared.trace.ItemEvent.TheVariants.{Began, Stepped}
 use Rattle.gt_core.proofs.AgreementKept.{open_call-other, open_call-own}
-use Rattle.gt_core.proofs.Steps.Observers.{gather-append, other-pins}
+use Rattle.gt_model.proofs.Observers.{gather-append, other-pins}
 use Rattle.gt_core.proofs.Playing.{legal-grows}
-use Rattle.gt_core.proofs.Swapping.{Releases}
+use Rattle.gt_explore_moves.proofs.Swapping.{Releases}
 use Rattle.gt_explore_replay.specs.Abreast.{CanComeNext, history_in}
 use Rattle.gt_explore_replay.specs.Courses.{ActionLeads, Course, CourseLeads, OpenLeads, Opened, RestLeads}
-use Rattle.gt_explore_replay.specs.Courses.{back_after, calling}
-use Rattle.gt_explore_replay.specs.Courses.{course_after, giving, resting}
+use Rattle.gt_explore_replay.specs.Courses.{back_after, calling, course_after, giving, resting}
 use Rattle.gt_explore_replay.specs.Orders.{Happening, did, doer, given_up, passed, raised}
 use Rattle.gt_explore_replay.proofs.Coming.{IsQuiet, tells, waits}
 use Rattle.gt_explore_replay.proofs.Whole.{history_did, history_quiet}
@@ -65,9 +62,8 @@ use Rattle.gt_explore_moves.specs.declared.touches.MappingUse.{MappingUse}
 use Rattle.gt_explore_moves.specs.Transitive.{AllOfScript, BeginsOfScript, IsOfScript, is_via}
 use Rattle.gt_explore_moves.proofs.HeldPins.{IsPlain, IsSound, copy-took, is-sound, releases-own}
 use Rattle.gt_explore_moves.proofs.PathSteps.{held_along, took-any}
-use Rattle.gt_explore_moves.proofs.Touching.{BytesTouch, PinTouches, PinsBytes}
-use Rattle.gt_explore_moves.proofs.Touching.{DeedTouches, RequestTouches, StepFacts, StepTouches, TasksTouch}
-use Rattle.gt_explore_moves.proofs.Touching.{each-step, path-opened, said-touches}
+use Rattle.gt_explore_moves.proofs.Touching.{BytesTouch, PinTouches, PinsBytes, DeedTouches, RequestTouches}
+use Rattle.gt_explore_moves.proofs.Touching.{StepFacts, StepTouches, TasksTouch, each-step, path-opened, said-touches}
 
 module _ (A : Touch → Type 0) (vias : Bool) where
   -- what an item touches is such, and a call that begins is one of the script

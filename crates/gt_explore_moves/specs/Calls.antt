@@ -2,12 +2,13 @@
 -- a state their serials are the indices of mappings.
 use Rattle.std.specs.Prelude.{◌≡◌, ◌≤◌, ◌+◌, ◌↔◌, ℕ, suc, List, [], ◌∷◌, length, map, drop, Option, Some, None}
 use Rattle.std.specs.Prelude.{slice_get}
-use Rattle.gt_explore_moves.specs.Prelude.{DomId, HandleMap, Handle, Makes, HeldPin, OpenRequest, Load, Store, Request, asked}
-use Rattle.gt_explore_moves.specs.Prelude.{bytes_given_by, path, CallerKnowledge, entry_in, knowledge_of, own_generation, IsAt}
-use Rattle.gt_explore_moves.specs.Prelude.{History, Setting, Underway, entry_at, generation_at, known_at, mappings_at}
-use Rattle.gt_explore_moves.specs.Prelude.{maps_answered_at, open_call, table_at, values, may_by, Named, MakesRequest}
-use Rattle.gt_explore_moves.specs.Prelude.{handle_named, ScriptCall, Course, resting, calling, giving, given_up}
-use Rattle.gt_explore_moves.specs.Prelude.{handles_without, RunTask, Do, SparseTable}
+use Rattle.gt_explore_moves.specs.Prelude.{DomId, HandleMap, Handle, Makes, HeldPin, OpenRequest, Load, Store}
+use Rattle.gt_explore_moves.specs.Prelude.{Request, asked, bytes_given_by, path, CallerKnowledge, entry_in}
+use Rattle.gt_explore_moves.specs.Prelude.{knowledge_of, own_generation, IsAt, History, Setting, Underway, entry_at}
+use Rattle.gt_explore_moves.specs.Prelude.{generation_at, known_at, mappings_at, maps_answered_at, open_call}
+use Rattle.gt_explore_moves.specs.Prelude.{table_at, values, may_by, Named, MakesRequest, handle_named, ScriptCall}
+use Rattle.gt_explore_moves.specs.Prelude.{Course, resting, calling, giving, given_up, handles_without, RunTask, Do}
+use Rattle.gt_explore_moves.specs.Prelude.{SparseTable}
 use Rattle.gt_model.specs.declared.request.OpenRequest.TheVariants.{Unmap, Release}
 use Rattle.gt_explore_replay.specs.Courses.{Opened}
 use Rattle.gt_explore_moves.specs.Mappings.{labels_of, mapping_pins}

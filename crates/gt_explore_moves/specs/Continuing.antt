@@ -8,7 +8,7 @@ use Rattle.gt_calls.specs.declared.call.Call.{Call}
 use Rattle.gt_calls.specs.declared.call.Phase.{Phase}
 use Rattle.gt_calls.specs.declared.call.Phase.TheVariants.{Storing, StoringSecond}
 use Rattle.gt_model.specs.Path.{path}
-use Rattle.gt_calls.specs.Rules.{entry_in, own_generation}
+use Rattle.gt_calls.specs.Known.{entry_in, own_generation}
 use Rattle.gt_model.specs.History.{History, Setting, Underway, entry_at, generation_at, known_at, mappings_at}
 use Rattle.gt_model.specs.History.{maps_answered_at, seen_by, values}
 use Rattle.gt_script_runs.specs.Rights.{may_by}

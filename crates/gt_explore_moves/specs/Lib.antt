@@ -11,6 +11,7 @@ pub mod Renaming
 pub mod Scenes
 pub mod Spaces
 pub mod Starting
+pub mod Swapping
 pub mod Ticking
 pub mod Touches
 pub mod Transitive

@@ -2,7 +2,7 @@
 pub use Rattle.gt_model.specs.Asking.{asked, begun_of, bytes_given_by}
 pub use Rattle.gt_model.specs.Path.{path}
 pub use Rattle.gt_model.specs.Rules.{CallerKnowledge}
-pub use Rattle.gt_calls.specs.Rules.{entry_in, knowledge_of, own_generation}
+pub use Rattle.gt_calls.specs.Known.{entry_in, knowledge_of, own_generation}
 pub use Rattle.gt_calls.specs.Standing.{IsAt}
 pub use Rattle.gt_model.specs.declared.action.Action.TheVariants.{Step as Makes}
 pub use Rattle.gt_model.specs.declared.action.Observation.{Observation}

@@ -1,7 +1,8 @@
 -- The call of a line begins in a state as in the run.
 use Rattle.std.specs.Prelude.{◌≡◌, ◌++◌, ◌+◌, ℕ, suc, take, drop, List, ◌∷◌, Option, Some, None, slice_set}
-use Rattle.gt_explore_moves.specs.Prelude.{DomId, Handle, Step, Call, Request, asked, begun_of, History, Setting, known_at}
-use Rattle.gt_explore_moves.specs.Prelude.{ScriptCall, Course, resting, RunTask, Do, TurnResult, Answered, Nowhere, On}
+use Rattle.gt_explore_moves.specs.Prelude.{DomId, Handle, Step, Call, Request, asked, begun_of, History, Setting}
+use Rattle.gt_explore_moves.specs.Prelude.{known_at, ScriptCall, Course, resting, RunTask, Do, TurnResult, Answered}
+use Rattle.gt_explore_moves.specs.Prelude.{Nowhere, On}
 use Rattle.gt_model.specs.declared.request.Request.TheVariants.{Release}
 use Rattle.gt_explore_moves.specs.Beginnings.{OpensAsRun}
 use Rattle.gt_explore_moves.specs.Calls.{AsksByPlace, ShowsCalls, handles_at, known_by_place}

@@ -12,7 +12,7 @@ use Rattle.gt_model.specs.declared.action.Step.TheVariants.{Unpin, Read as ReadB
 use Rattle.gt_model.specs.declared.action.Step.TheVariants.{Copy as CopyBytes}
 use Rattle.gt_model.specs.declared.held.HeldPin.{HeldPin}
 use Rattle.gt_model.specs.Path.{gref_of}
-use Rattle.gt_core.specs.Swapping.{on_entry, looks_header, reads_frames, stores_header, writes_frames}
+use Rattle.gt_explore_moves.specs.Swapping.{on_entry, looks_header, reads_frames, stores_header, writes_frames}
 use Rattle.gt_model.specs.Entries.{frame_of}
 use Rattle.gt_script_lines.specs.declared.calls.ScriptCall.{ScriptCall}
 use Rattle.gt_script_lines.specs.declared.calls.ScriptCall.TheVariants as calls

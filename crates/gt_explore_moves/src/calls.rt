@@ -2,7 +2,7 @@
 ghost use Rattle.std.specs.Prelude.{◌≡◌};
 ghost use Rattle.gt_calls.specs.Following.{Goes, IsLeftAlike};
 ghost use Rattle.gt_model.specs.Rules.{CallerKnowledge};
-ghost use Rattle.gt_calls.specs.Rules.{knows};
+ghost use Rattle.gt_calls.specs.Known.{knows};
 ghost use Rattle.gt_explore_moves.specs.Beginnings.{BeginsAlike, OpensSo};
 
 use gt_calls::{Action, Call, CallResult, CallStart, CallerState, Observation, Request, Step};

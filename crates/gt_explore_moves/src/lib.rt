@@ -18,6 +18,7 @@
 mod actor;
 mod calls;
 mod digests;
+mod laws;
 mod moves;
 mod names;
 mod partial;
@@ -30,5 +31,9 @@ mod space;
 mod touches;
 
 pub use gt_explore_search::{FoundText, PartialResult, SearchFault, SearchResult};
+pub use laws::{
+    every_beginning_is_apart, every_look_alike_goes_on, items_that_are_apart_change_places,
+    steps_that_touch_apart_are_apart,
+};
 pub use partial::search_within;
 pub use searching::search;

@@ -93,7 +93,7 @@ impl<'s, 'a> SearchContext<'s, 'a> {
     ghost use Rattle.gt_explore_moves.specs.Starting.{held_but};
     ghost use Rattle.gt_calls.specs.Following.{Goes, IsLeftAlike};
     ghost use Rattle.gt_model.specs.Rules.{CallerKnowledge};
-    ghost use Rattle.gt_calls.specs.Rules.{knows};
+    ghost use Rattle.gt_calls.specs.Known.{knows};
     ghost use Rattle.gt_script_runs.specs.Rights.{may_by};
     ghost use Rattle.gt_explore_moves.specs.Beginnings.{BeginsAlike, OpensSo};
     ghost use Rattle.gt_explore_moves.specs.Calls.{GoesAlong, KnowsTable, SerialsRise, ShowsCalls, handles_at, known_in, no_mappings};

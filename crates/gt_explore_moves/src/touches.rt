@@ -3,7 +3,7 @@ ghost use Rattle.std.specs.Prelude.{◌≡◌};
 ghost use Rattle.std.specs.List.{list_any};
 ghost use Rattle.gt_explore_moves.specs.declared.actor.LabelledMapping.{LabelledMapping};
 ghost use Rattle.gt_model.specs.Path.{gref_of};
-ghost use Rattle.gt_core.specs.Swapping.{looks_header, reads_frames, stores_header, writes_frames};
+ghost use Rattle.gt_explore_moves.specs.Swapping.{looks_header, reads_frames, stores_header, writes_frames};
 ghost use Rattle.gt_explore_moves.specs.Touches.{is_access, is_load, is_on, is_store, is_write, meets, meets_bytes};
 ghost use Rattle.gt_explore_moves.specs.Touches.{meets_call, meets_dest, meets_leg, meets_mapping, meets_reads};
 ghost use Rattle.gt_explore_moves.specs.Touches.{meets_source, meets_task, meets_writes, next_accesses};

@@ -1,6 +1,6 @@
 -- A domain of a replay that is abreast of an order makes the move that the order makes next.
-use Rattle.std.proofs.Common.{◌≡◌, ◌≢◌, ◌≤◌, ℕ, suc, ◌+◌, List, ◌∷◌, ◌++◌, length, map, take, drop, Option, Some, None}
-use Rattle.std.proofs.Common.{refl, ap, sym, ◌∙◌, subst, inl, arith, Bor}
+use Rattle.std.proofs.Common.{◌≡◌, ◌≢◌, ◌≤◌, ℕ, suc, ◌+◌, List, ◌∷◌, ◌++◌, length, map, take, drop, Option, Some}
+use Rattle.std.proofs.Common.{None, refl, ap, sym, ◌∙◌, subst, inl, arith, Bor}
 use Rattle.std.proofs.lemmas.Option.{none-some, same_Some}
 use Rattle.std.specs.Option.{option_map}
 use Rattle.std.specs.Prelude.{slice_get, IsSome, codes}
@@ -33,18 +33,18 @@ use Rattle.gt_script_runs.specs.Runs.{MakesRequest, answer_in, handle_given, lab
 use Rattle.gt_script_runs.proofs.AlikeLemmas.{text-same}
 use Rattle.gt_explore_replay.specs.Orders.{Happening, did, given_up}
 use Rattle.gt_explore_replay.specs.Walking.{AnswersLine, ClosesCall, IsClosedFrom, tasks_left, tasks_left_of}
-use Rattle.gt_explore_replay.specs.Courses.{Opened, resting, calling, giving, Course, course_after, course_answered, back_after}
-use Rattle.gt_explore_replay.specs.Courses.{ActionLeads, GivesAt, RestLeads, OpenLeads, CourseLeads}
+use Rattle.gt_explore_replay.specs.Courses.{Opened, resting, calling, giving, Course, course_after, course_answered}
+use Rattle.gt_explore_replay.specs.Courses.{back_after, ActionLeads, GivesAt, RestLeads, OpenLeads, CourseLeads}
 use Rattle.gt_explore_replay.specs.Making.{IsBegunFrom, BeginsLine, IsTickedFrom, TicksOpen, IsGivenFrom, GivesBackAt}
-use Rattle.gt_explore_replay.specs.Abreast.{history_in, SameNames, SameHandles, IsDoingSo, HaveAnswered, WereAnswered, IsOpenSo}
-use Rattle.gt_explore_replay.specs.Abreast.{WalksAbreast, CanComeNext}
+use Rattle.gt_explore_replay.specs.Abreast.{history_in, SameNames, SameHandles, IsDoingSo, HaveAnswered, WereAnswered}
+use Rattle.gt_explore_replay.specs.Abreast.{IsOpenSo, WalksAbreast, CanComeNext}
 use Rattle.gt_explore_replay.specs.declared.replay.Moved.{Moved}
 use Rattle.gt_explore_replay.specs.declared.walker.OpenTask.{OpenTask}
 use Rattle.gt_explore_replay.specs.declared.walker.OpenTask.TheVariants as doing
 use Rattle.gt_explore_replay.specs.declared.walker.Walker.{Walker}
-use Rattle.gt_explore_replay.proofs.Alike.{DoAlike, asks_alike, asks_answered, begins_alike, held_alike, held_answered, held_at}
-use Rattle.gt_explore_replay.proofs.Alike.{held_grown, held_here, held_left, left_alike, names_alike, names_grown, names_more}
-use Rattle.gt_explore_replay.proofs.Alike.{ticks_alike}
+use Rattle.gt_explore_replay.proofs.Alike.{DoAlike, asks_alike, asks_answered, begins_alike, held_alike}
+use Rattle.gt_explore_replay.proofs.Alike.{held_answered, held_at, held_grown, held_here, held_left, left_alike}
+use Rattle.gt_explore_replay.proofs.Alike.{names_alike, names_grown, names_more, ticks_alike}
 use Rattle.gt_explore_replay.proofs.Moving.{left_same}
 use Rattle.gt_explore_replay.proofs.Places.{drop_all, drop_next}
 

@@ -1,7 +1,6 @@
 -- Two runs that are the same but for keys: names, handles that are held, and what is open.
 use Rattle.std.proofs.Common.{◌≡◌, ◌≢◌, ◌⊎◌, ℕ, zero, suc, Bool, true, false, cond, List, [], ◌∷◌, ◌++◌, map, take}
-use Rattle.std.proofs.Common.{drop}
-use Rattle.std.proofs.Common.{Option, Some, None, refl, ap, sym, ◌∙◌, subst, inl, inr}
+use Rattle.std.proofs.Common.{drop, Option, Some, None, refl, ap, sym, ◌∙◌, subst, inl, inr}
 use Rattle.std.proofs.lemmas.Bool.{eq-eqb, ne_eqb}
 use Rattle.std.proofs.lemmas.List.{map-append, take-map, drop-map}
 use Rattle.std.proofs.lemmas.Option.{none-some, same_Some, slice_get-map}
@@ -27,8 +26,7 @@ use Rattle.gt_script_lines.specs.declared.calls.ScriptCall.{ScriptCall}
 use Rattle.gt_script.specs.declared.actions.ScriptAction.TheVariants as actions
 use Rattle.gt_script_runs.specs.Runs.{Named, MakesRequest, answer_in, handle_given, label_given, with_name}
 use Rattle.gt_script_runs.proofs.AlikeLemmas.{bare_names, NamesGiven, AnswerGiven, asks-same, asks-known, named-same}
-use Rattle.gt_script_runs.proofs.AlikeLemmas.{named-given}
-use Rattle.gt_script_runs.proofs.AlikeLemmas.{names-after, answers-same, done-given}
+use Rattle.gt_script_runs.proofs.AlikeLemmas.{named-given, names-after, answers-same, done-given}
 use Rattle.gt_types.specs.Names.{domain_of}
 use Rattle.gt_explore_replay.specs.Orders.{held_after, handles_without}
 use Rattle.gt_explore_replay.specs.Abreast.{bare_name, SameNames, SameHandles, HaveAnswered, WereAnswered}

@@ -16,10 +16,9 @@ use Rattle.gt_explore_replay.specs.declared.replay.Moved.TheVariants as made
 use Rattle.gt_types.specs.Names.{domain_of}
 use Rattle.gt_types.specs.declared.DomId.{DomId}
 use Rattle.gt_types.specs.declared.config.DomainConfig.{DomainConfig}
-use Rattle.gt_model.specs.History.{History, Setting}
+use Rattle.gt_model.specs.History.{History, Setting, setting_of}
 use Rattle.gt_model.specs.Legal.{Legal, LegalAfter, MayDo, grown, history_after}
 use Rattle.gt_core.specs.Standing.{CoreStands, setting_in}
-use Rattle.gt_core.specs.Acting.{setting_of}
 use Rattle.gt_model.specs.declared.trace.Element.{Element}
 use Rattle.gt_model.specs.declared.trace.Event.{Event}
 use Rattle.gt_script.specs.Contents.{type_names}
@@ -28,8 +27,7 @@ use Rattle.gt_script.specs.RunScripts.{list_of}
 use Rattle.gt_script_runs.specs.Playing.{setting_of_script}
 use Rattle.gt_script_runs.specs.Rights.{may_by}
 use Rattle.gt_explore_replay.specs.Orders.{Happening, did, raised, passed, doer, own_happenings, events_in, trace_in}
-use Rattle.gt_explore_replay.specs.Orders.{IsRaisedBefore}
-use Rattle.gt_explore_replay.specs.Orders.{FlagsAreRaised, FollowsList}
+use Rattle.gt_explore_replay.specs.Orders.{IsRaisedBefore, FlagsAreRaised, FollowsList}
 use Rattle.gt_explore_replay.specs.Walking.{WalksTo, Moves, HasFollowed, HasWalked, ComesOn, IsShownBy}
 use Rattle.gt_explore_replay.specs.declared.replay.Replay.{Replay}
 use Rattle.gt_explore_replay.specs.declared.walker.Walker.{Walker}

@@ -19,7 +19,8 @@ use Rattle.gt_model.specs.declared.trace.Answer.{Answer}
 use Rattle.gt_model.specs.declared.trace.Event.TheVariants.{Begin, Tick}
 use Rattle.gt_script_lines.specs.declared.calls.ScriptCall.{ScriptCall}
 use Rattle.gt_script.specs.Lists.{RunTask}
-use Rattle.gt_explore_replay.specs.Making.{AsksFor, IsBegunFrom, BeginsLine, IsTickedFrom, TicksOpen, IsGivenFrom, GivesBackAt}
+use Rattle.gt_explore_replay.specs.Making.{AsksFor, IsBegunFrom, BeginsLine, IsTickedFrom, TicksOpen, IsGivenFrom}
+use Rattle.gt_explore_replay.specs.Making.{GivesBackAt}
 use Rattle.gt_explore_replay.specs.Orders.{given_up}
 use Rattle.gt_explore_replay.specs.Walking.{AnswersLine, ClosesCall}
 use Rattle.gt_explore_replay.specs.declared.replay.Moved.{Moved}

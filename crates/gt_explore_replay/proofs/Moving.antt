@@ -15,10 +15,10 @@ use Rattle.gt_script.specs.declared.tasks.RunActionBy.TheVariants.{Do, Tell, Awa
 use Rattle.gt_script_runs.specs.Naming.{AreNamed}
 use Rattle.gt_script_runs.specs.Printing.{answer_line}
 use Rattle.gt_script_runs.specs.Runs.{Named, MakesRequest, EndsWith, answer_in, handle_given, label_given, with_name}
-use Rattle.gt_explore_replay.specs.Orders.{Happening, did, raised, passed, CallGoesOn, CallHappens, DeedHappens, FollowsList}
-use Rattle.gt_explore_replay.specs.Orders.{GivesMappingsBack}
-use Rattle.gt_explore_replay.specs.Orders.{given_up, held_after}
-use Rattle.gt_explore_replay.specs.Walking.{tasks_left_of, tasks_left, Continues, Moves, AnswersLine, IsClosedFrom, ClosesCall}
+use Rattle.gt_explore_replay.specs.Orders.{Happening, did, raised, passed, CallGoesOn, CallHappens, DeedHappens}
+use Rattle.gt_explore_replay.specs.Orders.{FollowsList, GivesMappingsBack, given_up, held_after}
+use Rattle.gt_explore_replay.specs.Walking.{tasks_left_of, tasks_left, Continues, Moves, AnswersLine, IsClosedFrom}
+use Rattle.gt_explore_replay.specs.Walking.{ClosesCall}
 use Rattle.gt_explore_replay.specs.declared.walker.OpenTask.{OpenTask}
 use Rattle.gt_explore_replay.specs.declared.walker.OpenTask.TheVariants as doing
 use Rattle.gt_explore_replay.specs.declared.walker.Walker.{Walker}

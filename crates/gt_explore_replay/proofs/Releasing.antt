@@ -1,5 +1,6 @@
 -- The release of a mapping is answered Ok.
-use Rattle.std.proofs.Common.{◌≡◌, ◌≢◌, ◌++◌, false, List, [], ◌∷◌, Option, Some, None, refl, ap, sym, ◌∙◌, subst, arith}
+use Rattle.std.proofs.Common.{◌≡◌, ◌≢◌, ◌++◌, false, List, [], ◌∷◌, Option, Some, None, refl, ap, sym, ◌∙◌, subst}
+use Rattle.std.proofs.Common.{arith}
 use Rattle.std.specs.Prelude.{is_none}
 use Rattle.std.proofs.lemmas.Option.{none-some, same_Some}
 use Rattle.gt_types.specs.declared.DomId.{DomId}
@@ -22,8 +23,10 @@ use Rattle.gt_model.specs.declared.request.OpenRequest.TheVariants.{Release}
 use Rattle.gt_model.specs.declared.request.PinHolder.TheVariants.{Mapping as ByHandle}
 use Rattle.gt_model.specs.declared.request.Request.{Request}
 use Rattle.gt_model.specs.declared.request.Request.TheVariants as requests
-use Rattle.gt_model.specs.History.{History, Setting, Underway, known_at, mapping_of, mappings_at, open_call, seen_by, values}
-use Rattle.gt_model.specs.Legal.{AnsweredBy, GivesValue, IsRight, StepsRightIn, gives_back, next_in, refusal_of, verdict_in}
+use Rattle.gt_model.specs.History.{History, Setting, Underway, known_at, mapping_of, mappings_at, open_call, seen_by}
+use Rattle.gt_model.specs.History.{values}
+use Rattle.gt_model.specs.Legal.{AnsweredBy, GivesValue, IsRight, StepsRightIn, gives_back, next_in, refusal_of}
+use Rattle.gt_model.specs.Legal.{verdict_in}
 use Rattle.gt_model.specs.declared.trace.Answer.{Answer}
 use Rattle.gt_model.specs.declared.trace.Answer.TheVariants as answers
 use Rattle.gt_model.specs.declared.trace.ItemEvent.{ItemEvent}

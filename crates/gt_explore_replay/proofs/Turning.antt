@@ -1,6 +1,6 @@
 -- Each order has turns.
-use Rattle.std.proofs.Common.{◌≡◌, ◌≢◌, ◌⊎◌, ◌<◌, ℕ, suc, Bool, cond, List, [], ◌∷◌, ◌++◌, length, map}
-use Rattle.std.proofs.Common.{take, drop, Option, Some, None, refl, ap, sym, ◌∙◌, subst, inl, inr, arith, append_assoc}
+use Rattle.std.proofs.Common.{◌≡◌, ◌≢◌, ◌⊎◌, ◌<◌, ℕ, suc, Bool, cond, List, [], ◌∷◌, ◌++◌, length, map, take, drop}
+use Rattle.std.proofs.Common.{Option, Some, None, refl, ap, sym, ◌∙◌, subst, inl, inr, arith, append_assoc}
 use Rattle.std.proofs.lemmas.Bool.{eq-eqb, ne_eqb, cases_eq}
 use Rattle.std.proofs.lemmas.List.{append-nil}
 use Rattle.std.specs.Prelude.{slice_get, slice_set, All, AllPairs, get_or}
@@ -11,9 +11,8 @@ use Rattle.gt_model.specs.declared.trace.Answer.{Answer}
 use Rattle.gt_model.specs.declared.trace.Element.{Element}
 use Rattle.gt_model.specs.declared.trace.Event.TheVariants.{Begin, Tick}
 use Rattle.gt_script_lines.specs.declared.calls.ScriptCall.{ScriptCall}
-use Rattle.gt_script.specs.Lists.{RunAction}
+use Rattle.gt_script.specs.Lists.{RunAction, RunTask}
 use Rattle.gt_script.specs.declared.tasks.RunActionBy.TheVariants.{Do, Tell, Await}
-use Rattle.gt_script.specs.Lists.{RunTask}
 use Rattle.gt_script.specs.Contents.{type_names}
 use Rattle.gt_script.specs.RunContents.{RunContents}
 use Rattle.gt_script.specs.RunScripts.{list_of}
@@ -24,14 +23,13 @@ use Rattle.gt_script_runs.specs.Printing.{answer_line}
 use Rattle.gt_script_runs.specs.Runs.{EndsWith, AnswerNothing, answer_in, handle_given, label_given, with_name}
 use Rattle.gt_explore_search.specs.declared.spaces.Turn.{Turn}
 use Rattle.gt_explore_replay.specs.Orders.{Happening, did, doer, own_happenings, given_up, held_after, ticks_of}
-use Rattle.gt_explore_replay.specs.Orders.{CallGoesOn, CallHappens, GivesMappingsBack, FollowsList, DeedHappens, Prints}
-use Rattle.gt_explore_replay.specs.Orders.{AllFollow}
-use Rattle.gt_explore_replay.specs.Orders.{IsOrderOf}
+use Rattle.gt_explore_replay.specs.Orders.{CallGoesOn, CallHappens, GivesMappingsBack, FollowsList, DeedHappens}
+use Rattle.gt_explore_replay.specs.Orders.{Prints, AllFollow, IsOrderOf}
 use Rattle.gt_explore_replay.specs.Walking.{HaveOwnIds}
-use Rattle.gt_explore_replay.specs.Courses.{Opened, resting, calling, giving, Course, course_answered, course_after, back_after}
-use Rattle.gt_explore_replay.specs.Courses.{ActionLeads, GivesAt, RestLeads, OpenLeads, CourseLeads, CourseEnds}
-use Rattle.gt_explore_replay.specs.Courses.{TurnsLead}
-use Rattle.gt_explore_replay.specs.Courses.{AllCoursesEnd, courses_text, first_courses, IsTurnedBy}
+use Rattle.gt_explore_replay.specs.Courses.{Opened, resting, calling, giving, Course, course_answered, course_after}
+use Rattle.gt_explore_replay.specs.Courses.{back_after, ActionLeads, GivesAt, RestLeads, OpenLeads, CourseLeads}
+use Rattle.gt_explore_replay.specs.Courses.{CourseEnds, TurnsLead, AllCoursesEnd, courses_text, first_courses}
+use Rattle.gt_explore_replay.specs.Courses.{IsTurnedBy}
 
 -- one call
 

@@ -1,7 +1,7 @@
 -- A replay that is abreast of an order stays so.
 use Rattle.std.proofs.Common.{◌≡◌, ◌≢◌, ◌<◌, ◌≤◌, ◌⊎◌, ℕ, zero, suc, ◌+◌, Bool, true, false, List, [], ◌∷◌, ◌++◌}
-use Rattle.std.proofs.Common.{length}
-use Rattle.std.proofs.Common.{map, drop, Option, Some, None, refl, ap, sym, ◌∙◌, subst, inl, inr, arith, get_or, Bor}
+use Rattle.std.proofs.Common.{length, map, drop, Option, Some, None, refl, ap, sym, ◌∙◌, subst, inl, inr, arith}
+use Rattle.std.proofs.Common.{get_or, Bor}
 use Rattle.std.proofs.Math.ListN.{set}
 use Rattle.std.proofs.lemmas.List.{length-map, length-set, get_or-set_same}
 use Rattle.std.proofs.lemmas.Option.{slice_get_within, slice_get-map}
@@ -11,9 +11,8 @@ use Rattle.gt_types.specs.Names.{domain_of}
 use Rattle.gt_types.specs.declared.DomId.{DomId}
 use Rattle.gt_types.specs.declared.config.Config.{Config}
 use Rattle.gt_types.specs.declared.config.DomainConfig.{DomainConfig}
-use Rattle.gt_core.specs.Acting.{setting_of}
+use Rattle.gt_model.specs.History.{setting_of, History, Setting}
 use Rattle.gt_core.specs.Alike.{AreAlike}
-use Rattle.gt_model.specs.History.{History, Setting}
 use Rattle.gt_model.specs.Legal.{grown, history_after}
 use Rattle.gt_core.specs.Standing.{CoreStands, setting_in}
 use Rattle.gt_model.specs.declared.trace.Element.{Element}
@@ -38,8 +37,8 @@ use Rattle.gt_explore_replay.specs.declared.walker.OpenTask.TheVariants as doing
 use Rattle.gt_explore_replay.specs.declared.walker.Walker.{Walker}
 use Rattle.gt_explore_replay.proofs.Abreast.{Came, begin_came, give_came, goes_past, left_numbered, line_leads, stays}
 use Rattle.gt_explore_replay.proofs.Abreast.{tick_came}
-use Rattle.gt_explore_replay.proofs.Coming.{IsQuiet, tells, waits, apart_at, domain_known, history_one, less_or, map_set}
-use Rattle.gt_explore_replay.proofs.Coming.{mapped_back, trace_more, trace_same}
+use Rattle.gt_explore_replay.proofs.Coming.{IsQuiet, tells, waits, apart_at, domain_known, history_one, less_or}
+use Rattle.gt_explore_replay.proofs.Coming.{map_set, mapped_back, trace_more, trace_same}
 use Rattle.gt_explore_replay.proofs.Places.{get_cases, get_set}
 
 -- what happened

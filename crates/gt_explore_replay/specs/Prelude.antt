@@ -21,7 +21,8 @@ pub use Rattle.gt_script_runs.specs.Naming.{AreNamed}
 pub use Rattle.gt_script_runs.specs.Playing.{setting_of_script}
 pub use Rattle.gt_script_runs.specs.Printing.{answer_line}
 pub use Rattle.gt_script_runs.specs.Rights.{may_by}
-pub use Rattle.gt_script_runs.specs.Runs.{MakesRequest, EndsWith, Named, answer_in, handle_given, label_given, with_name}
+pub use Rattle.gt_script_runs.specs.Runs.{MakesRequest, EndsWith, Named, answer_in, handle_given, label_given}
+pub use Rattle.gt_script_runs.specs.Runs.{with_name}
 pub use Rattle.gt_script_lines.specs.declared.calls.ScriptCall.{ScriptCall}
 pub use Rattle.gt_explore_replay.specs.declared.replay.Moved.{Moved}
 pub use Rattle.gt_explore_replay.specs.declared.replay.Replay.{Replay}

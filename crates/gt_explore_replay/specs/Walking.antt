@@ -4,17 +4,16 @@ use Rattle.std.specs.Prelude.{Option, Some, None, slice_get, get_or}
 use Rattle.std.specs.Option.{option_map}
 use Rattle.gt_explore_replay.specs.Prelude.{domain_of, DomainConfig, Handle, History, Setting, Legal, MayDo, grown}
 use Rattle.gt_explore_replay.specs.Prelude.{history_after, CoreStands, setting_in, CoreState, Answer, Element, Event}
-use Rattle.gt_explore_replay.specs.Prelude.{ScriptCall, type_names, RunContents, list_of, RunTask, AreNamed, setting_of_script}
-use Rattle.gt_explore_replay.specs.Prelude.{answer_line, may_by, Named, handle_given, label_given, with_name, Replay, OpenTask}
-use Rattle.gt_explore_replay.specs.Prelude.{Nothing, Line, GivesBack, Walker}
-use Rattle.gt_explore_replay.specs.Prelude.{Begin, DomId, Moved, Request, Tick}
+use Rattle.gt_explore_replay.specs.Prelude.{ScriptCall, type_names, RunContents, list_of, RunTask, AreNamed}
+use Rattle.gt_explore_replay.specs.Prelude.{setting_of_script, answer_line, may_by, Named, handle_given, label_given}
+use Rattle.gt_explore_replay.specs.Prelude.{with_name, Replay, OpenTask, Nothing, Line, GivesBack, Walker, Begin}
+use Rattle.gt_explore_replay.specs.Prelude.{DomId, Moved, Request, Tick}
 use Rattle.gt_model.specs.declared.trace.Element.TheVariants.{Item as Did}
 use Rattle.gt_model.specs.declared.trace.ItemEvent.TheVariants.{Began as BeganCall, Stepped as SteppedCall}
 use Rattle.gt_explore_replay.specs.declared.replay.Moved.TheVariants.{Began, Passed, Raised, Stepped}
 use Rattle.gt_explore_replay.specs.Orders.{Happening, did, doer, own_happenings, events_in, trace_in, IsRaisedBefore}
-use Rattle.gt_explore_replay.specs.Orders.{passed, raised}
-use Rattle.gt_explore_replay.specs.Orders.{FlagsAreRaised}
-use Rattle.gt_explore_replay.specs.Orders.{CallGoesOn, Prints, FollowsList, held_after}
+use Rattle.gt_explore_replay.specs.Orders.{passed, raised, FlagsAreRaised, CallGoesOn, Prints, FollowsList}
+use Rattle.gt_explore_replay.specs.Orders.{held_after}
 
 -- a domain's list
 abbrev pub tasks_left_of : Walker → List RunTask

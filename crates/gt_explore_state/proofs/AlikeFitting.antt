@@ -1,34 +1,29 @@
 -- A step that is right fits too after a history that is, but for keys, one that a core stands for.
 use Rattle.gt_core.proofs.Words.{◌≡◌, ◌≢◌, ◌<◌, ◌≤◌, ◌+◌, ℕ, refl, Bool, List, [], ◌∷◌, ◌++◌, length, Option, Some}
-use Rattle.gt_core.proofs.Words.{None, cond, sym}
-use Rattle.gt_core.proofs.Words.{ap, ◌∙◌, arith, subst, ◌==◌, eqb-true, eq-eqb, none-some, same_Some, cond_both}
-use Rattle.gt_core.proofs.Words.{count_by, sum_by-cons, option_map, DomId, Dir, Handle, HeldPin, PinHolder, ByMapping, ByLeg}
-use Rattle.gt_core.proofs.Words.{Observation, Taken, Missed}
-use Rattle.gt_core.proofs.Words.{Makes, CallResult, Step, PinStep, Unpin, StoreHeader, Exchange, ReadBytes, State}
-use Rattle.gt_model.specs.declared.request.OpenRequest.TheVariants.{Probe}
-use Rattle.gt_core.proofs.Words.{inl, inr, state_of, OpenRequest, Release, Unmap}
-use Rattle.gt_core.proofs.Words.{History, Setting, Pin, Underway, live, open_call, values, word_at, seen_by, known_at}
-use Rattle.gt_core.proofs.Words.{legs_at, numbered, without}
-use Rattle.gt_core.proofs.Words.{generation_at, is_pin_on, mappings_at, mapping_of, gather, by_leg, path, begun}
-use Rattle.gt_core.proofs.Words.{after_beginning, CallerKnowledge}
+use Rattle.gt_core.proofs.Words.{None, cond, sym, ap, ◌∙◌, arith, subst, ◌==◌, eqb-true, eq-eqb, none-some, same_Some}
+use Rattle.gt_core.proofs.Words.{cond_both, count_by, sum_by-cons, option_map, DomId, Dir, Handle, HeldPin, PinHolder}
+use Rattle.gt_core.proofs.Words.{ByMapping, ByLeg, Observation, Taken, Missed, Makes, CallResult, Step, PinStep}
+use Rattle.gt_core.proofs.Words.{Unpin, StoreHeader, Exchange, ReadBytes, State, inl, inr, state_of, OpenRequest}
+use Rattle.gt_core.proofs.Words.{Release, Unmap, History, Setting, Pin, Underway, live, open_call, values, word_at}
+use Rattle.gt_core.proofs.Words.{seen_by, known_at, legs_at, numbered, without, generation_at, is_pin_on, mappings_at}
+use Rattle.gt_core.proofs.Words.{mapping_of, gather, by_leg, path, begun, after_beginning, CallerKnowledge}
 use Rattle.gt_core.proofs.Words.{OpenAgrees, CallAgrees, IsRight, StepsRightIn, StateAgrees, bare_handle, bare_step}
-use Rattle.gt_core.proofs.Words.{AsksKnown, IsRun, AreAlike}
-use Rattle.gt_core.proofs.Words.{raise_of, LAST_GENERATION, MAX_PINS, Justified, Load, Store}
+use Rattle.gt_core.proofs.Words.{AsksKnown, IsRun, AreAlike, raise_of, LAST_GENERATION, MAX_PINS, Justified, Load}
+use Rattle.gt_core.proofs.Words.{Store}
+use Rattle.gt_model.specs.declared.request.OpenRequest.TheVariants.{Probe}
 use Rattle.gt_core.proofs.{Phases.makes-same, Steps.See.state-there, Steps.Unpin.loses-leg, Steps.Unpin.loses-mapping}
-use Rattle.gt_core.proofs.{Steps.Unpin.Loses}
-use Rattle.gt_core.proofs.{Steps.Observers.stepped, WithoutKeys.bare, WithoutKeys.bared, WithoutKeys.bare-same}
-use Rattle.gt_core.proofs.{WithoutKeys.bare_asked}
-use Rattle.gt_core.proofs.{WithoutKeys.bare_call, WithoutKeys.values-bare, Pins.mapping-bare, Pins.known-bare}
-use Rattle.gt_core.proofs.{Pins.word-bare}
-use Rattle.gt_core.proofs.{Pins.live-bare, Pins.bare_pin, Pins.bare_pins, HandlesGiven.open-known}
-use Rattle.gt_core.proofs.{HandlesGiven.CallKnown, AlikeRuns.bare_action}
+use Rattle.gt_core.proofs.{Steps.Unpin.Loses, WithoutKeys.bare, WithoutKeys.bared, WithoutKeys.bare-same}
+use Rattle.gt_core.proofs.{WithoutKeys.bare_asked, WithoutKeys.bare_call, WithoutKeys.values-bare, Pins.mapping-bare}
+use Rattle.gt_core.proofs.{Pins.known-bare, Pins.word-bare, Pins.live-bare, Pins.bare_pin, Pins.bare_pins}
+use Rattle.gt_core.proofs.{HandlesGiven.open-known, HandlesGiven.CallKnown, AlikeRuns.bare_action}
+use Rattle.gt_model.proofs.Observers.{stepped}
 use Rattle.gt_core.specs.Prelude.{WriteBytes, CopyBytes}
 use Rattle.gt_core.specs.GoingOn.{CanBeReached}
 use Rattle.gt_core.specs.declared.underway.OpenCall.{OpenCall}
 use Rattle.gt_model.specs.declared.trace.ItemEvent.TheVariants.{Stepped}
 use Rattle.gt_model.specs.declared.trace.Item.{Item}
 use Rattle.gt_model.specs.Path.{by_mapping}
-use Rattle.gt_model.specs.Giving.{GivesUp}
+use Rattle.gt_model.specs.Asking.{GivesUp}
 use Rattle.gt_explore_state.specs.Shows.{IsInRun, LooksInRun, StepFits}
 use Rattle.gt_explore_state.specs.Likeness.{LikeReachedFits}
 use Rattle.gt_explore_state.proofs.Showing.{item-is}

@@ -1,14 +1,14 @@
 -- Tables and pages once more, and those at the start.
 use Rattle.std.proofs.Common.{◌≡◌, ◌≢◌, ℕ, zero, suc, ◌+◌, ◌≤◌, ◌%◌, ◌==◌, ◌&&◌, Bool, cond, List, [], ◌∷◌, ◌++◌}
-use Rattle.std.proofs.Common.{length, slice_get, Some}
-use Rattle.std.proofs.Common.{refl, sym, ap, ◌∙◌, subst, arith, ◌<◌, ◌-◌, true, false, get_or, replicate, take}
+use Rattle.std.proofs.Common.{length, slice_get, Some, refl, sym, ap, ◌∙◌, subst, arith, ◌<◌, ◌-◌, true, false}
+use Rattle.std.proofs.Common.{get_or, replicate, take}
 use Rattle.std.proofs.lemmas.List.{take_more}
 use Rattle.std.specs.Prelude.{All, AllPairs}
 use Rattle.std.proofs.lemmas.Bool.{eqb-true, eq-eqb}
 use Rattle.std.proofs.lemmas.Option.{none-some, same_Some, slice_get_within, get_or_from_slice_get}
 use Rattle.gt_types.specs.declared.DomId.{DomId}
 use Rattle.gt_types.specs.declared.config.DomainConfig.{DomainConfig}
-use Rattle.gt_calls.specs.Rules.{entry_in, own_generation}
+use Rattle.gt_calls.specs.Known.{entry_in, own_generation}
 use Rattle.gt_types.specs.Names.{domain_of}
 use Rattle.gt_types.specs.Config.{IsWithinLimits}
 use Rattle.gt_types.specs.declared.config.Config.{Config}
@@ -16,8 +16,7 @@ use Rattle.gt_types.specs.declared.limits.TheConstants.{FRAME_SIZE, LAST_GENERAT
 use Rattle.gt_model.specs.declared.header.Header.{Header}
 use Rattle.gt_model.specs.Written.{zeros, written}
 use Rattle.gt_model.specs.History.{History, Setting, header_from, table_at, entry_at, raises_at, generation_at, live}
-use Rattle.gt_model.specs.History.{body_at}
-use Rattle.gt_model.specs.History.{patches_at}
+use Rattle.gt_model.specs.History.{body_at, patches_at}
 use Rattle.gt_explore_state.specs.Pages.{kept_bytes, padded}
 use Rattle.gt_explore_state.specs.Rows.{counts_in}
 use Rattle.gt_explore_state.specs.Copies.{AreTablesOf, IsTableOf, SamePage, SamePages, SameTables}

@@ -1,25 +1,19 @@
 -- A step that is right after a history that a core stands for fits.
 use Rattle.gt_core.proofs.Words.{◌≡◌, ◌≢◌, ◌≤◌, ◌+◌, ℕ, refl, Bool, true, List, [], ◌∷◌, ◌++◌, length, Option, Some}
-use Rattle.gt_core.proofs.Words.{None, cond, sym}
-use Rattle.gt_core.proofs.Words.{ap, ◌∙◌, arith, subst, ◌==◌, eqb-true, none-some, same_Some, cond_both, reverse}
-use Rattle.gt_core.proofs.Words.{length-reverse, reverse_onto, domain_of}
-use Rattle.gt_core.proofs.Words.{DomId, HeldPin, ByMapping, ByLeg, Observation, Taken, Missed, Step, LookHeader, LookControl}
-use Rattle.gt_core.proofs.Words.{LookBody}
-use Rattle.gt_core.proofs.Words.{PinStep, Unpin, StoreHeader, Exchange, ReadBytes, State, state_of}
-use Rattle.gt_core.proofs.Words.{History, Setting, Underway, live, open_call, values, word_at, seen_by, legs_at}
-use Rattle.gt_core.proofs.Words.{numbered, without}
-use Rattle.gt_core.proofs.Words.{DomainsStand, StateAgrees, OpenAgrees, CallAgrees, IsLegalHistory, IsRight}
-use Rattle.gt_core.proofs.Words.{StepsRightIn}
+use Rattle.gt_core.proofs.Words.{None, cond, sym, ap, ◌∙◌, arith, subst, ◌==◌, eqb-true, none-some, same_Some}
+use Rattle.gt_core.proofs.Words.{cond_both, reverse, length-reverse, reverse_onto, domain_of, DomId, HeldPin}
+use Rattle.gt_core.proofs.Words.{ByMapping, ByLeg, Observation, Taken, Missed, Step, LookHeader, LookControl}
+use Rattle.gt_core.proofs.Words.{LookBody, PinStep, Unpin, StoreHeader, Exchange, ReadBytes, State, state_of, History}
+use Rattle.gt_core.proofs.Words.{Setting, Underway, live, open_call, values, word_at, seen_by, legs_at, numbered}
+use Rattle.gt_core.proofs.Words.{without, DomainsStand, StateAgrees, OpenAgrees, CallAgrees, IsLegalHistory, IsRight}
+use Rattle.gt_core.proofs.Words.{StepsRightIn, zero, suc, false, eq-eqb, false≢true, slice_get, DomainConfig}
+use Rattle.gt_core.proofs.Words.{OpenRequest, Copy, Spot, FRAME_SIZE, CopyIsJustified, Justified}
 use Rattle.gt_core.proofs.{Phases.IsHere, Phases.makes-same, EachStep.each-step, Steps.See.IsWithin}
-use Rattle.gt_core.proofs.{Steps.See.state-there, Steps.Pin.can-pin}
-use Rattle.gt_core.proofs.{Steps.Exchange.can-change, Steps.Unpin.loses-leg, Steps.Unpin.loses-mapping}
-use Rattle.gt_core.proofs.{Steps.Unpin.Loses}
-use Rattle.gt_core.proofs.{Steps.Store.header-fits}
+use Rattle.gt_core.proofs.{Steps.See.state-there, Steps.Pin.can-pin, Steps.Exchange.can-change, Steps.Unpin.loses-leg}
+use Rattle.gt_core.proofs.{Steps.Unpin.loses-mapping, Steps.Unpin.Loses, Steps.Store.header-fits}
 use Rattle.gt_core.specs.Prelude.{WriteBytes, CopyBytes}
 use Rattle.gt_core.specs.GoingOn.{CanBeReached}
-use Rattle.gt_core.proofs.Words.{zero, suc, false, eq-eqb, false≢true, slice_get, DomainConfig, OpenRequest, Copy, Spot}
-use Rattle.gt_core.proofs.Words.{FRAME_SIZE, CopyIsJustified, Justified}
-use Rattle.gt_core.proofs.Steps.Observers.{stepped}
+use Rattle.gt_model.proofs.Observers.{stepped}
 use Rattle.gt_core.specs.declared.underway.OpenCall.{OpenCall}
 use Rattle.gt_model.specs.declared.trace.ItemEvent.{ItemEvent}
 use Rattle.gt_model.specs.declared.trace.ItemEvent.TheVariants.{Began, Stepped}

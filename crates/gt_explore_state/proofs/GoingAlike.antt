@@ -1,39 +1,30 @@
 -- A history that is, but for keys, one that a core stands for is so with each right item more.
 use Rattle.gt_core.proofs.Words.{◌≡◌, ◌≢◌, ◌≤◌, ◌+◌, ◌-◌, ◌⊎◌, inl, inr, ℕ, refl, Bool, true, false, List, [], ◌∷◌}
-use Rattle.gt_core.proofs.Words.{◌++◌, length, Option}
-use Rattle.gt_core.proofs.Words.{Some, None, cond, sym, ap, ◌∙◌, arith, subst, ◌==◌, ◌&&◌, none-some, same_Some}
-use Rattle.gt_core.proofs.Words.{reverse, option_map, sum_by_push}
-use Rattle.gt_core.proofs.Words.{is_some, take, drop, get_or, ltb, eqb-true, DomId, Handle, HeldPin, HandleMap, HandleSlot}
-use Rattle.gt_core.proofs.Words.{value_of, same_handle}
-use Rattle.gt_core.proofs.Words.{Observation, Nothing, Action, Makes, Done, CallResult, Granted, KeptPin, Step, Unpin, ReadBytes}
-use Rattle.gt_core.proofs.Words.{ByMapping}
-use Rattle.gt_core.proofs.Words.{Denial, OpenRequest, Load, Peek, Phase, Storing, StoringSecond, Exchanging, Looking}
-use Rattle.gt_core.proofs.Words.{Changing, Walking, Accessing, Asking, Last, Ending}
-use Rattle.gt_core.proofs.Words.{Call, State, state_of, History, Setting, Underway, open_call, values, known_at}
-use Rattle.gt_core.proofs.Words.{seen_by, path, sees, knowledge_of}
-use Rattle.gt_core.proofs.Words.{OpenAgrees, CallAgrees, StateAgrees, StateStands, IsRight, StepsRight, StepsRightIn}
-use Rattle.gt_core.proofs.Words.{BeginsRight, AnsweredBy}
-use Rattle.gt_core.proofs.Words.{AreAlike, IsRun, AsksKnown, IsKnown, IsGiven, keyless_items, keyless_item, bare_handle}
-use Rattle.gt_core.proofs.Words.{bare_step, bare_request}
+use Rattle.gt_core.proofs.Words.{◌++◌, length, Option, Some, None, cond, sym, ap, ◌∙◌, arith, subst, ◌==◌, ◌&&◌}
+use Rattle.gt_core.proofs.Words.{none-some, same_Some, reverse, option_map, sum_by_push, is_some, take, drop, get_or}
+use Rattle.gt_core.proofs.Words.{ltb, eqb-true, DomId, Handle, HeldPin, HandleMap, HandleSlot, value_of, same_handle}
+use Rattle.gt_core.proofs.Words.{Observation, Nothing, Action, Makes, Done, CallResult, Granted, KeptPin, Step, Unpin}
+use Rattle.gt_core.proofs.Words.{ReadBytes, ByMapping, Denial, OpenRequest, Load, Peek, Phase, Storing, StoringSecond}
+use Rattle.gt_core.proofs.Words.{Exchanging, Looking, Changing, Walking, Accessing, Asking, Last, Ending, Call, State}
+use Rattle.gt_core.proofs.Words.{state_of, History, Setting, Underway, open_call, values, known_at, seen_by, path}
+use Rattle.gt_core.proofs.Words.{sees, knowledge_of, OpenAgrees, CallAgrees, StateAgrees, StateStands, IsRight}
+use Rattle.gt_core.proofs.Words.{StepsRight, StepsRightIn, BeginsRight, AnsweredBy, AreAlike, IsRun, AsksKnown}
+use Rattle.gt_core.proofs.Words.{IsKnown, IsGiven, keyless_items, keyless_item, bare_handle, bare_step, bare_request}
 use Rattle.gt_core.proofs.Words.{Adds, MayDo, Goes, action_at, phase_after, next_to_give, last_first, PhaseStands}
-use Rattle.gt_core.proofs.Words.{begun_of, asked, SpellsItsEntry}
-use Rattle.gt_core.proofs.Words.{table_at, gives_back, verdict_in, stood, position, domain_of, IsReadable, IsLoadOf}
-use Rattle.gt_core.proofs.Words.{contents_at, CallerKnowledge}
+use Rattle.gt_core.proofs.Words.{begun_of, asked, SpellsItsEntry, table_at, gives_back, verdict_in, stood, position}
+use Rattle.gt_core.proofs.Words.{domain_of, IsReadable, IsLoadOf, contents_at, CallerKnowledge, mapping_of}
+use Rattle.gt_core.proofs.Words.{mappings_at}
 use Rattle.gt_core.proofs.{Phases.makes-same, Phases.by-leg, Phases.by-giving, Steps.See.state-there}
-use Rattle.gt_core.proofs.{Steps.Observers.stepped}
 use Rattle.gt_core.proofs.{WithoutKeys.bare, WithoutKeys.bared, WithoutKeys.bare-same, WithoutKeys.bare_asked}
-use Rattle.gt_core.proofs.{WithoutKeys.bare_call}
-use Rattle.gt_core.proofs.{WithoutKeys.values-bare, WithoutKeys.contents-bare, HandlesGiven.open-known}
-use Rattle.gt_core.proofs.{HandlesGiven.CallKnown, AlikeRuns.bare_action}
+use Rattle.gt_core.proofs.{WithoutKeys.bare_call, WithoutKeys.values-bare, WithoutKeys.contents-bare}
+use Rattle.gt_core.proofs.{HandlesGiven.open-known, HandlesGiven.CallKnown, AlikeRuns.bare_action}
 use Rattle.gt_core.proofs.{AlikeRuns.does-alike, AlikeRuns.alike-grows, GoingOn.open-calls-can-go-on}
-use Rattle.gt_core.proofs.{GoingOn.open-calls-can-access}
-use Rattle.gt_core.proofs.{Ticking.Ticks, Ticking.ticks, Steps.Write.open-readable, Steps.Write.frames-begun}
-use Rattle.gt_core.proofs.{GoingOn.calls-can-begin, GoingOn.runs-start}
-use Rattle.gt_core.proofs.{Beginning.began, Beginning.begin-answers, AgreementKept.known-same, Playing.legal-grows}
-use Rattle.gt_core.proofs.{Pins.known-bare}
+use Rattle.gt_core.proofs.{GoingOn.open-calls-can-access, Ticking.Ticks, Ticking.ticks, Steps.Write.open-readable}
+use Rattle.gt_core.proofs.{Steps.Write.frames-begun, GoingOn.calls-can-begin, GoingOn.runs-start, Beginning.began}
+use Rattle.gt_core.proofs.{Beginning.begin-answers, AgreementKept.known-same, Playing.legal-grows, Pins.known-bare}
 use Rattle.gt_core.proofs.{Rows.found, Rows.not-found, Rows.has_id}
-use Rattle.gt_core.proofs.Words.{mapping_of, mappings_at}
-use Rattle.gt_core.specs.Alike.{HappensKnown}
+use Rattle.gt_model.proofs.Observers.{stepped}
+use Rattle.gt_core.specs.Alike.{HappensKnown, KeylessItem, bare_bytes, keyless_answer}
 use Rattle.gt_core.specs.declared.core_state.Begun.TheVariants.{Done as BegunDone}
 use Rattle.gt_model.specs.declared.trace.ItemEvent.{ItemEvent}
 use Rattle.gt_calls.proofs.Advancing.{continues}
@@ -43,7 +34,6 @@ use Rattle.gt_core.specs.Acting.{answer_of}
 use Rattle.gt_core.specs.GoingOn.{AccessAnsweredSo, AnsweredSo, CanBeReached, IsAccess, IsOnWords, AnswersAccess}
 use Rattle.gt_core.specs.GoingOn.{step_after}
 use Rattle.gt_model.specs.Legal.{next_in}
-use Rattle.gt_core.specs.Alike.{KeylessItem, bare_bytes, keyless_answer}
 use Rattle.gt_model.specs.Asking.{FitsAsked}
 use Rattle.gt_model.specs.declared.request.Request.{Request}
 use Rattle.gt_model.specs.declared.request.Request.TheVariants as requests

@@ -1,7 +1,6 @@
 -- What steps see in tables is what the history left.
 use Rattle.std.proofs.Common.{◌≡◌, ◌≢◌, ℕ, zero, suc, ◌<◌, ◌==◌, Bool, true, false, cond, List, [], ◌∷◌, length}
-use Rattle.std.proofs.Common.{slice_get}
-use Rattle.std.proofs.Common.{Option, Some, None, refl, sym, ap, ◌∙◌, subst, arith}
+use Rattle.std.proofs.Common.{slice_get, Option, Some, None, refl, sym, ap, ◌∙◌, subst, arith}
 use Rattle.std.proofs.lemmas.Bool.{eqb-true}
 use Rattle.std.proofs.lemmas.Option.{slice_get_within}
 use Rattle.std.specs.Option.{option_and_then}
@@ -14,15 +13,17 @@ use Rattle.gt_model.specs.declared.change.BodyWord.{BodyWord}
 use Rattle.gt_model.specs.declared.change.BodyWord.TheVariants.{First as FirstHalf, Second as SecondHalf}
 use Rattle.gt_model.specs.Words.{control_word, header_word}
 use Rattle.gt_model.specs.Spelling.{control_with}
-use Rattle.gt_calls.specs.Rules.{own_generation}
+use Rattle.gt_calls.specs.Known.{own_generation}
 use Rattle.gt_model.specs.declared.action.Step.{Step}
-use Rattle.gt_model.specs.declared.action.Step.TheVariants.{LookHeader, LookControl, LookBody, Pin as PinStep, Exchange}
+use Rattle.gt_model.specs.declared.action.Step.TheVariants.{LookHeader, LookControl, LookBody, Pin as PinStep}
+use Rattle.gt_model.specs.declared.action.Step.TheVariants.{Exchange}
 use Rattle.gt_model.specs.declared.action.Observation.TheVariants.{Word}
-use Rattle.gt_model.specs.History.{History, Setting, entry_at, generation_at, reads_at, body_at, word_at}
-use Rattle.gt_model.specs.History.{seen_by, exchange_sees}
+use Rattle.gt_model.specs.History.{History, Setting, entry_at, generation_at, reads_at, body_at, word_at, seen_by}
+use Rattle.gt_model.specs.History.{exchange_sees}
 use Rattle.gt_explore_state.specs.Rows.{counts_in, word_in}
 use Rattle.gt_explore_state.specs.Shows.{IsSettingOf, IsInRun, LooksInRun, TableShows, TablesShow}
-use Rattle.gt_explore_state.specs.Tables.{place_of_domain, table_in, header_in_table, word_seen, body_in_table, step_sees}
+use Rattle.gt_explore_state.specs.Tables.{place_of_domain, table_in, header_in_table, word_seen, body_in_table}
+use Rattle.gt_explore_state.specs.Tables.{step_sees}
 use Rattle.gt_explore_state.specs.declared.table.SparseTable.{SparseTable}
 use Rattle.gt_explore_state.proofs.Becoming.{placed}
 

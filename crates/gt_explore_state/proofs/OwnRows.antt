@@ -1,14 +1,12 @@
 -- What an owner knows of an entry, by its row or by the one that stands for all untouched entries.
 use Rattle.std.proofs.Common.{◌≡◌, ℕ, zero, suc, ◌+◌, ◌==◌, Bool, true, false, cond, List, [], ◌∷◌, get_or, refl, sym}
-use Rattle.std.proofs.Common.{ap}
-use Rattle.std.proofs.Common.{◌∙◌, min}
+use Rattle.std.proofs.Common.{ap, ◌∙◌, min}
 use Rattle.gt_types.specs.declared.limits.TheConstants.{LAST_GENERATION}
 use Rattle.gt_model.specs.declared.entry.Entry.TheVariants.{Invalid}
 use Rattle.gt_model.specs.declared.change.EntryChange.{EntryChange}
-use Rattle.gt_model.specs.Changes.{changed_entry, raise_of}
+use Rattle.gt_model.specs.Entries.{changed_entry, raise_of}
 use Rattle.gt_calls.specs.declared.known.OwnerEntry.{OwnerEntry}
-use Rattle.gt_calls.specs.Changes.{own_after}
-use Rattle.gt_calls.specs.Rules.{entry_in, own_generation}
+use Rattle.gt_calls.specs.Known.{own_after, entry_in, own_generation}
 use Rattle.gt_explore_state.specs.Rows.{OwnBecomes}
 use Rattle.std.proofs.lemmas.Bool.{eqb-true}
 

@@ -1,35 +1,29 @@
 -- Tables show what happened, with one item more.
-use Rattle.gt_core.proofs.Words.{◌≡◌, ◌≢◌, ◌<◌, ◌≤◌, ◌+◌, ℕ, refl, Bool, true, false, List, [], ◌∷◌, Option, Some, None}
-use Rattle.gt_core.proofs.Words.{◌%◌}
-use Rattle.gt_core.proofs.Words.{cond, sym, ap, ◌∙◌, arith, subst, ◌==◌, ◌&&◌, slice_get, eqb-true, eq-eqb, min, DomId}
-use Rattle.gt_core.proofs.Words.{Dir}
-use Rattle.gt_core.proofs.Words.{Read, Write, MAX_PINS, LAST_GENERATION, BodyWord, FirstHalf, SecondHalf, HeldPin, PinHolder}
-use Rattle.gt_core.proofs.Words.{Header, GrantRef}
-use Rattle.gt_core.proofs.Words.{Observation, Taken, Step, PinStep, Unpin, StoreBody, StoreHeader, Exchange}
-use Rattle.gt_core.proofs.Words.{EntryChange, History, Setting, live, entry_at}
-use Rattle.gt_core.proofs.Words.{raises_at, generation_at, body_at, table_at, is_pin_on, same_dir, without, count_by}
-use Rattle.gt_core.proofs.Words.{raise_of, raise_after, changed_entry_of, header_stored, header_or, stored_at}
-use Rattle.gt_core.proofs.Words.{DomainConfig, false≢true, Pin, pinned_by, unpinned_by, append-nil, ◌++◌, Config}
+use Rattle.gt_core.proofs.Words.{◌≡◌, ◌≢◌, ◌<◌, ◌≤◌, ◌+◌, ℕ, refl, Bool, true, false, List, [], ◌∷◌, Option, Some}
+use Rattle.gt_core.proofs.Words.{None, ◌%◌, cond, sym, ap, ◌∙◌, arith, subst, ◌==◌, ◌&&◌, slice_get, eqb-true, eq-eqb}
+use Rattle.gt_core.proofs.Words.{min, DomId, Dir, Read, Write, MAX_PINS, LAST_GENERATION, BodyWord, FirstHalf}
+use Rattle.gt_core.proofs.Words.{SecondHalf, HeldPin, PinHolder, Header, GrantRef, Observation, Taken, Step, PinStep}
+use Rattle.gt_core.proofs.Words.{Unpin, StoreBody, StoreHeader, Exchange, EntryChange, History, Setting, live}
+use Rattle.gt_core.proofs.Words.{entry_at, raises_at, generation_at, body_at, table_at, is_pin_on, same_dir, without}
+use Rattle.gt_core.proofs.Words.{count_by, raise_of, raise_after, changed_entry_of, header_stored, header_or}
+use Rattle.gt_core.proofs.Words.{stored_at, DomainConfig, false≢true, Pin, pinned_by, unpinned_by, append-nil, ◌++◌}
+use Rattle.gt_core.proofs.Words.{Config}
 use Rattle.gt_core.specs.Prelude.{Request}
 use Rattle.gt_model.specs.declared.trace.Answer.{Answer}
 use Rattle.gt_model.specs.declared.trace.ItemEvent.{ItemEvent}
 use Rattle.gt_model.specs.declared.trace.ItemEvent.TheVariants.{Began, Stepped}
 use Rattle.gt_model.specs.declared.trace.Item.{Item}
-use Rattle.gt_core.proofs.{Steps.Observers.kept-entry, Steps.Observers.kept-raises, Steps.Observers.kept-table}
-use Rattle.gt_core.proofs.{Steps.Observers.unstored}
-use Rattle.gt_core.proofs.{Steps.Observers.KeepsAll, Steps.Observers.stepped}
-use Rattle.gt_core.proofs.{Steps.Observers.pins_at, Steps.Observers.pinned-live, Steps.Observers.unpinned-live}
-use Rattle.gt_core.proofs.{Steps.Observers.new_pin}
-use Rattle.gt_core.proofs.{Steps.Observers.grown-count, Steps.Observers.exchanged-entry}
-use Rattle.gt_core.proofs.{Steps.Observers.exchanged-raises}
-use Rattle.gt_core.proofs.{Steps.Observers.exchanged-live}
-use Rattle.gt_calls.specs.Rules.{entry_in, own_generation}
-use Rattle.gt_model.specs.Changes.{changed_entry}
+use Rattle.gt_model.proofs.Observers.{kept-entry, kept-raises, kept-table, unstored, KeepsAll, stepped, pins_at}
+use Rattle.gt_model.proofs.Observers.{pinned-live, unpinned-live, new_pin, grown-count, exchanged-entry}
+use Rattle.gt_model.proofs.Observers.{exchanged-raises, exchanged-live}
+use Rattle.gt_calls.specs.Known.{entry_in, own_generation}
+use Rattle.gt_model.specs.Entries.{changed_entry}
 use Rattle.gt_core.specs.Effects.{slot_after}
 use Rattle.gt_explore_state.specs.Rows.{counts_in}
-use Rattle.gt_explore_state.specs.Shows.{CountsShow, IsItemOfStep, IsSettingOf, LosesOne, StepFits, TableShows, TablesShow}
-use Rattle.gt_explore_state.specs.Shows.{unheld}
-use Rattle.gt_explore_state.specs.Tables.{CountsChangeOf, HeaderStored, OneBecomes, OwnChangeOf, TablesAfter, place_of_domain}
+use Rattle.gt_explore_state.specs.Shows.{CountsShow, IsItemOfStep, IsSettingOf, LosesOne, StepFits, TableShows}
+use Rattle.gt_explore_state.specs.Shows.{TablesShow, unheld}
+use Rattle.gt_explore_state.specs.Tables.{CountsChangeOf, HeaderStored, OneBecomes, OwnChangeOf, TablesAfter}
+use Rattle.gt_explore_state.specs.Tables.{place_of_domain}
 use Rattle.gt_core.specs.declared.pin_counts.PinCounts.{PinCounts}
 use Rattle.gt_core.specs.declared.pin_counts.CountsChange.{CountsChange}
 use Rattle.gt_core.specs.declared.pin_counts.CountsChange.TheVariants.{Pinned, Unpinned, Stored}

@@ -2,10 +2,9 @@
 use Rattle.gt_core.proofs.Words.{◌≡◌, ℕ, refl, Bool, true, false, List, [], ◌∷◌, ◌++◌, Option, Some, cond, sym, ap}
 use Rattle.gt_core.proofs.Words.{◌∙◌, subst, ◌==◌, ◌&&◌, take, drop, append-nil, DomId, Observation, Step, Unpin}
 use Rattle.gt_core.proofs.Words.{History, Setting, Patch, overlay, replay, written, patches_by, open_call, given_in}
-use Rattle.gt_core.proofs.Steps.Observers.{stepped}
-use Rattle.gt_model.specs.History.{contents_at, patches_at}
+use Rattle.gt_model.proofs.Observers.{stepped}
+use Rattle.gt_model.specs.History.{contents_at, patches_at, WriteMade}
 use Rattle.gt_model.specs.Written.{zeros}
-use Rattle.gt_model.specs.History.{WriteMade}
 use Rattle.gt_core.specs.Prelude.{Request, WriteBytes, CopyBytes}
 use Rattle.gt_model.specs.declared.trace.Answer.{Answer}
 use Rattle.gt_model.specs.declared.trace.ItemEvent.TheVariants.{Began}

@@ -8,10 +8,9 @@ use Rattle.gt_types.specs.declared.perms.Perms.{Perms}
 use Rattle.gt_model.specs.Asking.{FitsAsked, asked}
 use Rattle.gt_model.specs.declared.action.Observation.{Observation}
 use Rattle.gt_model.specs.declared.action.Step.{Step}
-use Rattle.gt_core.specs.Acting.{setting_of}
+use Rattle.gt_model.specs.History.{setting_of, History, Setting}
 use Rattle.gt_core.specs.Alike.{AreAlike, HappensKnown}
 use Rattle.gt_core.specs.GoingOn.{CanBeReached}
-use Rattle.gt_model.specs.History.{History, Setting}
 use Rattle.gt_model.specs.Legal.{IsRight}
 use Rattle.gt_model.specs.declared.trace.ItemEvent.{ItemEvent}
 use Rattle.gt_model.specs.declared.trace.ItemEvent.TheVariants.{Began, Stepped}

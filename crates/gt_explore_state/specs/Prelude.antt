@@ -1,5 +1,5 @@
 -- Names of other crates that the definitions here use.
-pub use Rattle.gt_calls.specs.Rules.{entry_in, own_generation}
+pub use Rattle.gt_calls.specs.Known.{entry_in, own_generation}
 pub use Rattle.gt_model.specs.declared.action.Observation.{Observation}
 pub use Rattle.gt_model.specs.declared.action.Observation.TheVariants.{Taken}
 pub use Rattle.gt_model.specs.declared.action.Step.{Step}
@@ -16,7 +16,7 @@ pub use Rattle.gt_model.specs.Legal.{IsRight}
 pub use Rattle.gt_core.specs.declared.pin_counts.PinCounts.{PinCounts}
 pub use Rattle.gt_model.specs.declared.trace.ItemEvent.TheVariants.{Began, Stepped}
 pub use Rattle.gt_model.specs.declared.trace.Item.{Item}
-pub use Rattle.gt_model.specs.Changes.{raise_of}
+pub use Rattle.gt_model.specs.Entries.{raise_of}
 pub use Rattle.gt_model.specs.declared.change.BodyWord.TheVariants.{First as FirstHalf, Second as SecondHalf}
 pub use Rattle.gt_types.specs.Names.{domain_of}
 pub use Rattle.gt_types.specs.declared.Dir.{Dir}

@@ -2,11 +2,11 @@
 use Rattle.std.specs.Prelude.{◌≡◌, ◌==◌, ◌+◌, ℕ, List, Some, slice_index_or, if◌then◌else◌, min}
 use Rattle.gt_types.specs.declared.limits.TheConstants.{LAST_GENERATION}
 use Rattle.gt_model.specs.declared.change.EntryChange.{EntryChange}
-use Rattle.gt_model.specs.Changes.{changed_entry, raise_of}
+use Rattle.gt_model.specs.Entries.{changed_entry, raise_of}
 use Rattle.gt_model.specs.Words.{control_word}
 use Rattle.gt_model.specs.Spelling.{control_with}
 use Rattle.gt_calls.specs.declared.known.OwnerEntry.{OwnerEntry}
-use Rattle.gt_calls.specs.Rules.{entry_in, own_generation}
+use Rattle.gt_calls.specs.Known.{entry_in, own_generation}
 use Rattle.gt_core.specs.Sight.{slot_body}
 use Rattle.gt_model.specs.declared.change.BodyWord.{BodyWord}
 use Rattle.gt_core.specs.declared.pin_counts.PinCounts.{PinCounts}

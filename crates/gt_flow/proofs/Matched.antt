@@ -1,26 +1,28 @@
 -- Two histories that are the same except for bytes of high domains: what they leave, but for bytes, is the same.
-use Rattle.gt_core.proofs.Words.{◌≡◌, ◌+◌, ℕ, zero, suc, refl, Bool, true, false, List, [], ◌∷◌, ◌++◌, Option, Some, None, cond}
-use Rattle.gt_core.proofs.Words.{ap, sym, ◌∙◌, subst, ◌==◌, option_map, eqb-true, length, count_by, gather, by_leg, map, reverse}
-use Rattle.gt_core.proofs.Words.{DomId, TypeId, Entry, Header, EntryChange, BodyWord, Denial, asked, begun_of, bytes_given_by, CallerKnowledge}
-use Rattle.gt_core.proofs.Words.{Request, OpenRequest, Word, Taken, Step, LookHeader, LookControl, LookBody, Observation}
-use Rattle.gt_core.proofs.Words.{PinStep, Exchange, Read, Write, Control, HeldPin, StepsSoFar}
-use Rattle.gt_core.proofs.Words.{History, Setting, Underway, Pin, entry_at, changed_entry_of, change_at, change_of, raises_at}
-use Rattle.gt_core.proofs.Words.{raise_after, body_at, or_else, stored_at, table_at, header_or, header_stored, header_word}
-use Rattle.gt_core.proofs.Words.{open_call, underway_with, underway_after, maps_answered_at, one_if_mapped, live, is_pin_on}
-use Rattle.gt_core.proofs.Words.{pinned_by, unpinned_by, holder_after, mapping_named, known_at, seen_by, word_at, reads_at, control_at}
-use Rattle.gt_core.proofs.Words.{writes_at, exchange_sees, given_in, stood, stood_with, first_at, first_in_call, first_of_item, leg_at}
-use Rattle.gt_core.proofs.Words.{LegNow, leg_now, legs_at, refusal_in, take, drop, contents_at, PinHolder}
+use Rattle.gt_core.proofs.Words.{◌≡◌, ◌+◌, ℕ, zero, suc, refl, Bool, true, false, List, [], ◌∷◌, ◌++◌, Option, Some}
+use Rattle.gt_core.proofs.Words.{None, cond, ap, sym, ◌∙◌, subst, ◌==◌, option_map, eqb-true, length, count_by}
+use Rattle.gt_core.proofs.Words.{gather, by_leg, map, reverse, DomId, TypeId, Entry, Header, EntryChange, BodyWord}
+use Rattle.gt_core.proofs.Words.{Denial, asked, begun_of, bytes_given_by, CallerKnowledge, Request, OpenRequest, Word}
+use Rattle.gt_core.proofs.Words.{Taken, Step, LookHeader, LookControl, LookBody, Observation, PinStep, Exchange, Read}
+use Rattle.gt_core.proofs.Words.{Write, Control, HeldPin, StepsSoFar, History, Setting, Underway, Pin, entry_at}
+use Rattle.gt_core.proofs.Words.{changed_entry_of, change_at, change_of, raises_at, raise_after, body_at, or_else}
+use Rattle.gt_core.proofs.Words.{stored_at, table_at, header_or, header_stored, header_word, open_call, underway_with}
+use Rattle.gt_core.proofs.Words.{underway_after, maps_answered_at, one_if_mapped, live, is_pin_on, pinned_by}
+use Rattle.gt_core.proofs.Words.{unpinned_by, holder_after, mapping_named, known_at, seen_by, word_at, reads_at}
+use Rattle.gt_core.proofs.Words.{control_at, writes_at, exchange_sees, given_in, stood, stood_with, first_at}
+use Rattle.gt_core.proofs.Words.{first_in_call, first_of_item, leg_at, LegNow, leg_now, legs_at, refusal_in, take}
+use Rattle.gt_core.proofs.Words.{drop, contents_at, PinHolder}
 use Rattle.gt_model.specs.declared.trace.Answer.{Answer}
 use Rattle.gt_model.specs.declared.trace.Answer.TheVariants.{Bytes as BytesAnswer}
 use Rattle.gt_model.specs.declared.trace.Bytes.{Bytes}
 use Rattle.gt_model.specs.declared.trace.ItemEvent.{ItemEvent}
 use Rattle.gt_model.specs.declared.trace.ItemEvent.TheVariants.{Began, Stepped}
 use Rattle.gt_model.specs.declared.trace.Item.{Item}
-use Rattle.gt_core.proofs.Steps.Observers.{known-as}
-use Rattle.gt_core.specs.Prelude.{ReadBytes, GrantRef, Rule, N9, N18, N19, HeaderFacts, denial_of, size_of, stands, first, first_look}
-use Rattle.gt_core.specs.Prelude.{before_pin, pins_of, MAX_TRIES}
-use Rattle.gt_model.specs.FirstRule.{looked_at, misses, is_in_body, is_other, is_demote, at_entry, rule_at_look, rule_at_header, rule_at_pin}
-use Rattle.gt_model.specs.FirstRule.{rule_at_via, rule_at_exchange}
+use Rattle.gt_model.proofs.Observers.{known-as}
+use Rattle.gt_core.specs.Prelude.{ReadBytes, GrantRef, Rule, N9, N18, N19, HeaderFacts, denial_of, size_of, stands}
+use Rattle.gt_core.specs.Prelude.{first, first_look, before_pin, pins_of, MAX_TRIES}
+use Rattle.gt_model.specs.FirstRule.{looked_at, misses, is_in_body, is_other, is_demote, at_entry, rule_at_look}
+use Rattle.gt_model.specs.FirstRule.{rule_at_header, rule_at_pin, rule_at_via, rule_at_exchange}
 use Rattle.std.specs.Prelude.{◌&&◌, nat_lt, nat_le}
 use Rattle.gt_flow.specs.Low.{is_high}
 use Rattle.gt_flow.proofs.Frames.{hides}

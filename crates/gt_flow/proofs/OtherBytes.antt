@@ -1,24 +1,28 @@
 -- Each legal trace has another one for each choice of the bytes that high domains pass.
-use Rattle.gt_core.proofs.Words.{◌≡◌, ◌≢◌, ◌⊎◌, inl, inr, ◌+◌, ℕ, refl, Bool, true, false, List, [], ◌∷◌, ◌++◌, Option, Some, None, cond}
-use Rattle.gt_core.proofs.Words.{ap, sym, ◌∙◌, subst, ◌==◌, option_map, none-some, same_Some, length, gather, by_leg, map, take, drop}
-use Rattle.gt_core.proofs.Words.{mapping_named, DomId, TypeId, Dir, Entry, Header, EntryChange, Denial, asked, begun_of, bytes_given_by, CallerKnowledge}
-use Rattle.gt_core.proofs.Words.{Request, OpenRequest, Map, Load, Store, Peek, Poke, Copy, SetupTable, QuerySize, GetVersion, Taken, Step}
-use Rattle.gt_core.proofs.Words.{Unpin, ByMapping, LookHeader, StoreHeader, PinStep, Exchange, Observation, HeldPin, Makes, path, domain_of}
+use Rattle.gt_core.proofs.Words.{◌≡◌, ◌≢◌, ◌⊎◌, inl, inr, ◌+◌, ℕ, refl, Bool, true, false, List, [], ◌∷◌, ◌++◌}
+use Rattle.gt_core.proofs.Words.{Option, Some, None, cond, ap, sym, ◌∙◌, subst, ◌==◌, option_map, none-some}
+use Rattle.gt_core.proofs.Words.{same_Some, length, gather, by_leg, map, take, drop, mapping_named, DomId, TypeId}
+use Rattle.gt_core.proofs.Words.{Dir, Entry, Header, EntryChange, Denial, asked, begun_of, bytes_given_by}
+use Rattle.gt_core.proofs.Words.{CallerKnowledge, Request, OpenRequest, Map, Load, Store, Peek, Poke, Copy}
+use Rattle.gt_core.proofs.Words.{SetupTable, QuerySize, GetVersion, Taken, Step, Unpin, ByMapping, LookHeader}
+use Rattle.gt_core.proofs.Words.{StoreHeader, PinStep, Exchange, Observation, HeldPin, Makes, path, domain_of}
 use Rattle.gt_core.proofs.Words.{History, Setting, Underway, Pin, entry_at, table_at, open_call, known_at, body_at}
-use Rattle.gt_core.proofs.Words.{mapping_of, values, given_in, stood, leg_at, LegNow, contents_at, patches_at, patches_by, written_by, written}
-use Rattle.gt_core.proofs.Words.{Patch, Spot, ReadBytes, WriteBytes, CopyBytes, IsRight, StepsRight, StepsRightIn, BeginsRight, AnsweredBy}
-use Rattle.gt_core.proofs.Words.{GivesValue, Justified, MayAsk, MayUseMapping, EndIsJustified, CopyIsJustified, Reaches, Forwards, IsSafe}
-use Rattle.gt_core.proofs.Words.{IsSafeChange, PinIsSound, NoneStands, IsSpelled, refusal_of, refusal_if, gives_back, verdict_in, CallResult}
-use Rattle.gt_core.proofs.Words.{MayDo, LegalAfter, grown, history_after, SpellsItsEntry, MAX_TABLE_FRAMES}
+use Rattle.gt_core.proofs.Words.{mapping_of, values, given_in, stood, leg_at, LegNow, contents_at, patches_at}
+use Rattle.gt_core.proofs.Words.{patches_by, written_by, written, Patch, Spot, ReadBytes, WriteBytes, CopyBytes}
+use Rattle.gt_core.proofs.Words.{IsRight, StepsRight, StepsRightIn, BeginsRight, AnsweredBy, GivesValue, Justified}
+use Rattle.gt_core.proofs.Words.{MayAsk, MayUseMapping, EndIsJustified, CopyIsJustified, Reaches, Forwards, IsSafe}
+use Rattle.gt_core.proofs.Words.{IsSafeChange, PinIsSound, NoneStands, IsSpelled, refusal_of, refusal_if, gives_back}
+use Rattle.gt_core.proofs.Words.{verdict_in, CallResult, MayDo, LegalAfter, grown, history_after, SpellsItsEntry}
+use Rattle.gt_core.proofs.Words.{MAX_TABLE_FRAMES}
 use Rattle.gt_core.specs.Alike.{KeylessItem}
 use Rattle.gt_model.specs.Justified.{MayAccess, ReachesThrough}
 use Rattle.gt_model.specs.Legal.{Legal, actor_of}
-use Rattle.gt_core.specs.Prelude.{StoreBody, FirstHalf, SecondHalf, Publish, ToInvalid, ToReadOnly, ToWritable, ToWithdrawn, ForMap, ForCopy}
-use Rattle.gt_core.specs.Prelude.{Read, Write, resolved, is_source_granted, is_dest_granted, first_look, before_pin, pins_of, Control}
-use Rattle.std.specs.Prelude.{Any, min, ◌-◌}
+use Rattle.gt_core.specs.Prelude.{StoreBody, FirstHalf, SecondHalf, Publish, ToInvalid, ToReadOnly, ToWritable}
+use Rattle.gt_core.specs.Prelude.{ToWithdrawn, ForMap, ForCopy, Read, Write, resolved, is_source_granted}
+use Rattle.gt_core.specs.Prelude.{is_dest_granted, first_look, before_pin, pins_of, Control}
+use Rattle.std.specs.Prelude.{Any, min, ◌-◌, ◌&&◌}
 use Rattle.std.proofs.lemmas.List.{length-append, length-drop, length-map, length-take, map-append}
 use Rattle.gt_model.specs.Written.{overlay, replay, zeros}
-use Rattle.std.specs.Prelude.{◌&&◌}
 use Rattle.gt_model.specs.declared.trace.Answer.{Answer}
 use Rattle.gt_model.specs.declared.trace.Answer.TheVariants as answers
 use Rattle.gt_model.specs.declared.trace.Event.{Event}
@@ -36,8 +40,8 @@ use Rattle.gt_flow.specs.OtherBytes.{SameButHighBytes, SameButPassed, byteless_e
 use Rattle.gt_flow.proofs.Allowed.{IsReading, IsWriting, read-flows, write-flows}
 use Rattle.gt_flow.proofs.Frames.{Passes, PassesIn, copied-low, hides, low-source, open-passes, patch-same}
 use Rattle.gt_flow.proofs.Veiled.{asked-hidden, begun-hidden}
-use Rattle.gt_flow.proofs.Matched.{Matched, SameDeed, control-same, known-same, leg-same, matched-grows, reads-same, reanswered, reread, sees-same}
-use Rattle.gt_flow.proofs.Matched.{fitted, fitted-all, strip, writes-same}
+use Rattle.gt_flow.proofs.Matched.{Matched, SameDeed, control-same, known-same, leg-same, matched-grows, reads-same}
+use Rattle.gt_flow.proofs.Matched.{reanswered, reread, sees-same, fitted, fitted-all, strip, writes-same}
 
 -- the writes to frames of low domains are the same after both
 abbrev pub SameLow : Setting → (TypeId → Bool) → History → History → Type 0

@@ -22,14 +22,17 @@ use Rattle.gt_script_lines.specs.declared.calls.ScriptCall.TheVariants as calls
 use Rattle.gt_script.specs.Lists.{RunAction, RunTask}
 use Rattle.gt_script.specs.declared.tasks.RunActionBy.TheVariants.{Await, Do, Tell}
 use Rattle.gt_script_runs.specs.Printing.{answer_line}
-use Rattle.gt_script_runs.specs.Runs.{AnswerNothing, EndsWith, MakesRequest, Named, answer_in, handle_given, label_given, request_of, with_name}
-use Rattle.gt_explore_replay.specs.Orders.{Happening, did, raised, passed, doer, own_happenings, ticks_of, CallHappens, GivesMappingsBack, FollowsList}
-use Rattle.gt_explore_replay.specs.Orders.{DeedHappens, Prints, given_up, held_after}
+use Rattle.gt_script_runs.specs.Runs.{AnswerNothing, EndsWith, MakesRequest, Named, answer_in, handle_given}
+use Rattle.gt_script_runs.specs.Runs.{label_given, request_of, with_name}
+use Rattle.gt_explore_replay.specs.Orders.{Happening, did, raised, passed, doer, own_happenings, ticks_of}
+use Rattle.gt_explore_replay.specs.Orders.{CallHappens, GivesMappingsBack, FollowsList, DeedHappens, Prints, given_up}
+use Rattle.gt_explore_replay.specs.Orders.{held_after}
 use Rattle.gt_flow.specs.Low.{is_high}
 use Rattle.gt_flow.specs.OtherBytes.{unread}
 use Rattle.gt_flow.proofs.Matched.{fitted, fitted-all}
 use Rattle.gt_flow_runs.specs.Secrets.{SameAction, SameAnswers, SameButStored, SamePart, unread_line}
-use Rattle.gt_flow_runs.proofs.Redone.{IsRedone, SameIf, later, left_of, lists_after, redone_event, redone_request, with_action, with_stored}
+use Rattle.gt_flow_runs.proofs.Redone.{IsRedone, SameIf, later, left_of, lists_after, redone_event, redone_request}
+use Rattle.gt_flow_runs.proofs.Redone.{with_action, with_stored}
 
 module _ (s : Setting) (high : TypeId → Bool) where
   -- what one domain does, done again with the rest of its list

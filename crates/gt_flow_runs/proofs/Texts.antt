@@ -1,6 +1,6 @@
 -- Each text that a script may give has another one for each choice of the bytes that high domains store.
-use Rattle.std.proofs.Common.{◌≡◌, ◌≢◌, ℕ, Bool, true, false, cond, List, [], ◌∷◌, ◌++◌, Some, None}
-use Rattle.std.proofs.Common.{refl, ap, sym, ◌∙◌, subst, zero, suc}
+use Rattle.std.proofs.Common.{◌≡◌, ◌≢◌, ℕ, Bool, true, false, cond, List, [], ◌∷◌, ◌++◌, Some, None, refl, ap, sym}
+use Rattle.std.proofs.Common.{◌∙◌, subst, zero, suc}
 use Rattle.std.specs.Prelude.{◌==◌, slice_get, All}
 use Rattle.std.proofs.lemmas.List.Elements.{All-from_recursion, recursion_from_All}
 use Rattle.std.specs.List.{AllByRecursion}
@@ -15,16 +15,15 @@ use Rattle.gt_model.specs.Legal.{Legal, actor_of}
 use Rattle.gt_model.specs.declared.trace.Element.{Element}
 use Rattle.gt_model.specs.declared.trace.Event.{Event}
 use Rattle.gt_script.specs.Contents.{Contents, type_names}
-use Rattle.gt_script.specs.Lists.{RunTask}
+use Rattle.gt_script.specs.Lists.{RunTask, RunAction}
 use Rattle.gt_script.specs.RunContents.{RunContents}
 use Rattle.gt_script.specs.RunScripts.{list_of}
 use Rattle.gt_script_runs.specs.Playing.{setting_of_script}
-use Rattle.gt_explore_replay.specs.Orders.{Happening, did, raised, passed, doer, own_happenings, events_in, trace_in, AllFollow, FlagsAreRaised, FollowsList}
-use Rattle.gt_explore_replay.specs.Orders.{MayGive}
+use Rattle.gt_explore_replay.specs.Orders.{Happening, did, raised, passed, doer, own_happenings, events_in, trace_in}
+use Rattle.gt_explore_replay.specs.Orders.{AllFollow, FlagsAreRaised, FollowsList, MayGive}
 use Rattle.gt_flow.specs.Flow.{IsClosed}
 use Rattle.gt_flow.specs.Low.{is_high}
 use Rattle.gt_flow.proofs.OtherBytes.{each-has-others}
-use Rattle.gt_script.specs.Lists.{RunAction}
 use Rattle.gt_script.specs.declared.tasks.RunActionBy.TheVariants.{Await, Do, Tell}
 use Rattle.gt_script_lines.specs.declared.calls.ScriptCall.{ScriptCall}
 use Rattle.gt_script_lines.specs.declared.calls.ScriptCall.TheVariants as calls

@@ -1,10 +1,10 @@
 -- What a contract sees of handles: a finite map from serial and key to values.
-use Rattle.std.specs.Prelude.{◌≡◌, ℕ, ◌<◌, ◌==◌, ◌&&◌, Bool, List, Option, Some, None, if◌then◌else◌, is_some, count_by}
+use Rattle.std.specs.Prelude.{◌≡◌, ℕ, ◌<◌, ◌==◌, List, Option, Some, None, if◌then◌else◌, is_some, count_by}
 use Rattle.std.specs.Prelude.{slice_index_or, refl}
 use Rattle.std.specs.Coded.{Coded, code_by, coded×, coded_ℕ, coded_list, coded_option}
 use Rattle.gt_model.specs.declared.handle.Handle.{Handle}
 use Rattle.gt_handles.specs.declared.handles.HandleSlot.{HandleSlot}
-use Rattle.gt_model.specs.Handle.{same_handle}
+use Rattle.gt_model.specs.Asking.{same_handle}
 
 -- what each key holds, how many serials were given, and how many more values fit without an allocation
 pub record HandleMap (T : Type 0) : Type 0 where

@@ -2,7 +2,7 @@
 use Rattle.std.specs.Prelude.{◌≡◌, ◌+◌, ◌++◌, ◌≤◌, ℕ, Bool, false, List, [], ◌∷◌, length, Option, Some, None}
 use Rattle.std.specs.Prelude.{if◌then◌else◌, cond, count_by}
 use Rattle.gt_handles.specs.Handles.{HandleMap, Updates, count_of, value_of}
-use Rattle.gt_model.specs.Handle.{same_handle}
+use Rattle.gt_model.specs.Asking.{same_handle}
 use Rattle.gt_model.specs.declared.handle.Handle.{Handle}
 use Rattle.gt_handles.specs.declared.handles.HandleSlot.{HandleSlot}
 

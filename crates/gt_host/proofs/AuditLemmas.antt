@@ -27,8 +27,9 @@ use Rattle.gt_model.specs.declared.trace.ItemEvent.{ItemEvent}
 use Rattle.gt_model.specs.declared.trace.ItemEvent.TheVariants.{Began, Stepped}
 use Rattle.gt_model.specs.declared.trace.Item.{Item}
 use Rattle.gt_host.specs.declared.kept.PlayState.{PlayState}
-use Rattle.gt_script_runs.specs.Auditing.{before_begun, before_call, hypercall_of_request, item_hypercall, open_hypercall, record_in, record_of}
-use Rattle.gt_script_runs.specs.Auditing.{encoded_record, record_with, records_of, underway_hypercall, record_lines}
+use Rattle.gt_script_runs.specs.Auditing.{before_begun, before_call, hypercall_of_request, item_hypercall}
+use Rattle.gt_script_runs.specs.Auditing.{open_hypercall, record_in, record_of, encoded_record, record_with}
+use Rattle.gt_script_runs.specs.Auditing.{records_of, underway_hypercall, record_lines}
 use Rattle.gt_host.specs.OpenCalls.{recorded_in}
 use Rattle.gt_host.specs.Recording.{IsAudited}
 use Rattle.gt_script_runs.specs.Runs.{AnswerNothing, answer_in, call_events}

@@ -1,6 +1,6 @@
 -- What the lines of a script lead to.
-use Rattle.std.proofs.Common.{◌≡◌, ◌≢◌, ◌⊎◌, ℕ, Bool, true, false, cond, List, [], ◌∷◌, ◌++◌, length, replicate, Option}
-use Rattle.std.proofs.Common.{None, Some, refl, ap, sym, subst, ◌∙◌, inl, inr}
+use Rattle.std.proofs.Common.{◌≡◌, ◌≢◌, ◌⊎◌, ℕ, Bool, true, false, cond, List, [], ◌∷◌, ◌++◌, length, replicate}
+use Rattle.std.proofs.Common.{Option, None, Some, refl, ap, sym, subst, ◌∙◌, inl, inr}
 use Rattle.std.proofs.lemmas.List.{append-nil}
 use Rattle.std.proofs.lemmas.Bool.{eq-eqb, ne_eqb}
 use Rattle.std.specs.Prelude.{◌==◌, is_some}
@@ -35,8 +35,8 @@ use Rattle.gt_script_runs.specs.Naming.{AreNamed}
 use Rattle.gt_host.specs.OpenCalls.{call_in, recorded_in}
 use Rattle.gt_script_runs.specs.Printing.{answer_line, busy_line, idle_line}
 use Rattle.gt_script_runs.specs.Runs.{Progress, Named, DoLine, BeginLine, TickLine, ShowLine, history_of, with_events}
-use Rattle.gt_script_runs.specs.Runs.{with_line, progress_after, after_ticks, progress_begun, named_after, MakesRequest}
-use Rattle.gt_script_runs.specs.Runs.{call_events}
+use Rattle.gt_script_runs.specs.Runs.{with_line, progress_after, after_ticks, progress_begun, named_after}
+use Rattle.gt_script_runs.specs.Runs.{MakesRequest, call_events}
 use Rattle.gt_host.specs.Recording.{IsAbout}
 use Rattle.gt_script_runs.specs.Showing.{show_line}
 use Rattle.gt_host.specs.Ticking.{HasHappened, HasCalled, TicksTo, KeepsProgress, HasPlayed, IsAppended}

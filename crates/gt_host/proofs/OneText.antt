@@ -1,7 +1,7 @@
 -- Two legal runs of a script print one text.
-use Rattle.std.proofs.Common.{◌≡◌, ◌≤◌, ◌+◌, inl, inr, ℕ, zero, suc, Bool, List, [], ◌∷◌, ◌++◌, length, replicate, take}
-use Rattle.std.proofs.Common.{drop, Option, None, Some, Result, Ok, refl, cond, ap, sym, subst, ◌∙◌, append_assoc}
-use Rattle.std.proofs.Common.{length-append, arith}
+use Rattle.std.proofs.Common.{◌≡◌, ◌≤◌, ◌+◌, inl, inr, ℕ, zero, suc, Bool, List, [], ◌∷◌, ◌++◌, length, replicate}
+use Rattle.std.proofs.Common.{take, drop, Option, None, Some, Result, Ok, refl, cond, ap, sym, subst, ◌∙◌}
+use Rattle.std.proofs.Common.{append_assoc, length-append, arith}
 use Rattle.std.specs.Prelude.{◌==◌, codes}
 use Rattle.std.specs.Option.{option_map}
 use Rattle.std.proofs.lemmas.Option.{none-some, same_Some}
@@ -30,12 +30,12 @@ use Rattle.gt_text.specs.Streams.{AppendsBeginning}
 use Rattle.gt_text.specs.Laws.{begins_longer}
 use Rattle.gt_script_runs.specs.Printing.{answer_text, answer_line, call_text, busy_line, idle_line}
 use Rattle.gt_script_runs.specs.Showing.{show_line}
-use Rattle.gt_script_runs.specs.Playing.{IsLegalRunOf, setting_of_script, play_text, audited_text, BeginsRun, BeginsEvery}
-use Rattle.gt_script_runs.specs.Playing.{Played}
-use Rattle.gt_script_runs.specs.Runs.{Progress, AnswerNothing, EndsWith, EndsAsCall, TicksComeTo, answer_in, call_events}
-use Rattle.gt_script_runs.specs.Runs.{at_start, history_of, with_events, with_line, with_step_of, answered, progress_after}
-use Rattle.gt_script_runs.specs.Runs.{after_item, progress_begun, after_ticks, DoLine, BeginLine, TickLine, ShowLine}
-use Rattle.gt_script_runs.specs.Runs.{RunsLine, PlayLeadsTo, open_lines}
+use Rattle.gt_script_runs.specs.Playing.{IsLegalRunOf, setting_of_script, play_text, audited_text, BeginsRun}
+use Rattle.gt_script_runs.specs.Playing.{BeginsEvery, Played}
+use Rattle.gt_script_runs.specs.Runs.{Progress, AnswerNothing, EndsWith, EndsAsCall, TicksComeTo, answer_in}
+use Rattle.gt_script_runs.specs.Runs.{call_events, at_start, history_of, with_events, with_line, with_step_of}
+use Rattle.gt_script_runs.specs.Runs.{answered, progress_after, after_item, progress_begun, after_ticks, DoLine}
+use Rattle.gt_script_runs.specs.Runs.{BeginLine, TickLine, ShowLine, RunsLine, PlayLeadsTo, open_lines}
 use Rattle.gt_script_runs.specs.Auditing.{audit_text}
 use Rattle.gt_host.proofs.RecordLemmas.{HasOneSubject, audit-same}
 use Rattle.gt_host.proofs.RunLemmas.{history_after-append}

@@ -1,6 +1,7 @@
 -- The calls that are open, by the history.
 use Rattle.std.proofs.Common.{◌≡◌, ◌≢◌, ◌⊎◌, ◌<◌, ◌≤◌, ◌+◌, ℕ, zero, suc, Bool, cond, List, [], ◌∷◌, ◌++◌, length}
-use Rattle.std.proofs.Common.{replicate, Option, None, Some, refl, ap, sym, subst, ◌∙◌, inl, inr, arith, length-append}
+use Rattle.std.proofs.Common.{replicate, Option, None, Some, refl, ap, sym, subst, ◌∙◌, inl, inr, arith}
+use Rattle.std.proofs.Common.{length-append}
 use Rattle.std.proofs.lemmas.Bool.{eq-eqb, ne_eqb}
 use Rattle.gt_types.specs.Names.{domain_of}
 use Rattle.gt_types.specs.declared.DomId.{DomId}

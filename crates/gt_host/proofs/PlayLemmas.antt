@@ -11,9 +11,8 @@ use Rattle.gt_types.specs.Config.{is_taken}
 use Rattle.gt_types.specs.declared.TypeId.{TypeId}
 use Rattle.gt_types.specs.declared.perms.Perms.{Perms}
 use Rattle.gt_types.specs.declared.config.DomainConfig.{DomainConfig}
-use Rattle.gt_model.specs.History.{Setting, open_call}
+use Rattle.gt_model.specs.History.{Setting, open_call, setting_of}
 use Rattle.gt_core.specs.Standing.{CoreModel, CoreStands}
-use Rattle.gt_core.specs.Acting.{setting_of}
 use Rattle.gt_core.specs.States.{CoreState}
 use Rattle.gt_host.specs.declared.kept.PlayState.{PlayState}
 use Rattle.gt_script_runs.specs.declared.rights.ScriptPolicy.{ScriptPolicy}
@@ -24,7 +23,8 @@ use Rattle.gt_script_runs.specs.Playing.{StartsFor, BeginsRun, WritesRun, IsLega
 use Rattle.gt_script_runs.specs.Playing.{audited_text}
 use Rattle.gt_host.specs.Recording.{IsAudited, RecordsNothing}
 use Rattle.gt_model.specs.declared.trace.Element.{Element}
-use Rattle.gt_script_runs.specs.Runs.{Progress, PlayLeadsTo, IsRunOf, RunsLine, at_start, history_of, open_text, open_lines}
+use Rattle.gt_script_runs.specs.Runs.{Progress, PlayLeadsTo, IsRunOf, RunsLine, at_start, history_of, open_text}
+use Rattle.gt_script_runs.specs.Runs.{open_lines}
 use Rattle.gt_text.specs.Laws.{appends_both, appends_nothing, begins_after}
 use Rattle.gt_text.specs.Streams.{AppendsBeginning, Sends}
 use Rattle.gt_host.specs.Ticking.{IsReadyToCall, KeepsProgress, HasPlayed, Leads}

@@ -27,10 +27,11 @@ use Rattle.gt_model.specs.declared.trace.Element.TheVariants as elements
 use Rattle.gt_model.specs.declared.trace.ItemEvent.{ItemEvent}
 use Rattle.gt_model.specs.declared.trace.ItemEvent.TheVariants.{Began, Stepped}
 use Rattle.gt_model.specs.declared.trace.Item.{Item}
-use Rattle.gt_core.specs.Alike.{bare_handle, bare_request, bare_happened, keyless_answer, keyless_item, keyless_items, KeylessItem}
-use Rattle.gt_core.specs.Alike.{IsKnown, AsksKnown, HappensKnown, IsRun, AreAlike}
-use Rattle.gt_script_runs.specs.Auditing.{hypercall_of_request, audited_reply, record_with, before_begun, before_call, underway_hypercall}
-use Rattle.gt_script_runs.specs.Auditing.{item_hypercall, record_of, record_in, records_of, asked_lines, audit_text}
+use Rattle.gt_core.specs.Alike.{bare_handle, bare_request, bare_happened, keyless_answer, keyless_item, keyless_items}
+use Rattle.gt_core.specs.Alike.{KeylessItem, IsKnown, AsksKnown, HappensKnown, IsRun, AreAlike}
+use Rattle.gt_script_runs.specs.Auditing.{hypercall_of_request, audited_reply, record_with, before_begun, before_call}
+use Rattle.gt_script_runs.specs.Auditing.{underway_hypercall, item_hypercall, record_of, record_in, records_of}
+use Rattle.gt_script_runs.specs.Auditing.{asked_lines, audit_text}
 
 -- what the law of gt_core says of handles
 abbrev pub HasOneSubject : Type 0

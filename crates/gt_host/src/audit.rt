@@ -1,6 +1,6 @@
 //! The audit of a run: a record of each answer of an audited call.
 ghost use Rattle.std.specs.Prelude.{◌≡◌, ◌++◌, ℕ, List, [], true, OnOk, option_to_list};
-ghost use Rattle.gt_core.specs.Acting.{setting_of};
+ghost use Rattle.gt_model.specs.History.{setting_of};
 ghost use Rattle.gt_script_runs.specs.Auditing.{audited_reply, encoded_record, record_lines, asked_lines, PrintsAs};
 ghost use Rattle.gt_host.specs.Recording.{IsAbout};
 

@@ -39,8 +39,7 @@ use Rattle.gt_calls.specs.Opening.{opens}
 use Rattle.gt_model.specs.Path.{Continuation, after_beginning, by_mapping, ended, makes, path_of, steps_of}
 use Rattle.gt_model.specs.Rules.{CallerKnowledge, begun}
 use Rattle.gt_live.specs.Accesses.{Accessed, AnsweredAtAccess, ComesTo, HasCause, IsAccess, IsOfAccess, IsOfMissing}
-use Rattle.gt_live.specs.Accesses.{IsUnmade, IsWrittenBy, NamesRoute, WritesFrame}
-use Rattle.gt_live.specs.Accesses.{frame_named, onward}
+use Rattle.gt_live.specs.Accesses.{IsUnmade, IsWrittenBy, NamesRoute, WritesFrame, frame_named, onward}
 use Rattle.gt_live.specs.Domains.{IsRefused, IsRefusedWithoutMemory, AllowRelation, denial_in}
 use Rattle.gt_live.specs.Prelude.{Domain, Monitor}
 use Rattle.gt_live.specs.Ending.{IsAccessing, IsWordless}

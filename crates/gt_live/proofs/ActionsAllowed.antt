@@ -1,6 +1,7 @@
 -- What the next action of a call rests on lets its seat make it, and what it then did.
-use Rattle.std.proofs.Common.{◌≡◌, ◌≢◌, ◌⊎◌, ℕ, ◌+◌, ◌<◌, ◌==◌, ◌&&◌, not, Bool, true, false, cond, refl, sym, ap, ◌∙◌}
-use Rattle.std.proofs.Common.{subst, List, [], ◌∷◌, length, zero, suc, Some, None, inl, inr, arith, nat_lt, nat_le}
+use Rattle.std.proofs.Common.{◌≡◌, ◌≢◌, ◌⊎◌, ℕ, ◌+◌, ◌<◌, ◌==◌, ◌&&◌, not, Bool, true, false, cond, refl, sym, ap}
+use Rattle.std.proofs.Common.{◌∙◌, subst, List, [], ◌∷◌, length, zero, suc, Some, None, inl, inr, arith, nat_lt}
+use Rattle.std.proofs.Common.{nat_le}
 use Rattle.std.specs.Prelude.{unwrap_or, ◌^◌}
 use Rattle.std.specs.List.{position_or_len}
 use Rattle.std.proofs.lemmas.Bool.{eq-eqb, lt-ltb, ltb-false, not-false}
@@ -15,7 +16,7 @@ use Rattle.gt_model.specs.declared.entry.Entry.{Entry}
 use Rattle.gt_model.specs.declared.entry.Entry.TheVariants.{Invalid, Page, Sub, Via}
 use Rattle.gt_model.specs.declared.control.EntryKind.{EntryKind}
 use Rattle.gt_model.specs.declared.control.EntryKind.TheVariants.{Page as KindPage, Sub as KindSub}
-use Rattle.gt_model.specs.Entries.{is_read_only}
+use Rattle.gt_model.specs.Entries.{is_read_only, raise_of, frame_of, is_invalid}
 use Rattle.gt_model.specs.Permits.{permits}
 use Rattle.gt_model.specs.Spelling.{IsSpelled, idle_word_of, first_body, second_body}
 use Rattle.gt_model.specs.Words.{control_of, kind_of, size_of}
@@ -23,9 +24,8 @@ use Rattle.gt_words.specs.Conditions.{CanTurn, HasDomain, Holds, IsIdleOf, IsWor
 use Rattle.gt_words.specs.Answers.{Changes, Pins}
 use Rattle.gt_word_history.specs.Controls.{generation_of, pins_in}
 use Rattle.gt_word_history.specs.Rule.{IsKeptHeader, Layout, id_at, position_in}
-use Rattle.gt_word_history.specs.Views.{HasBody, is_pin, pins_like, IsAmong, LivePin, Seen as Looks, last_of, last_seen}
-use Rattle.gt_word_history.specs.Views.{own_body}
-use Rattle.gt_word_history.specs.Views.{live_pins, record_seen, seen, seen_or_none, steps_on}
+use Rattle.gt_word_history.specs.Views.{HasBody, is_pin, pins_like, IsAmong, LivePin, Seen as Looks, last_of}
+use Rattle.gt_word_history.specs.Views.{last_seen, own_body, live_pins, record_seen, seen, seen_or_none, steps_on}
 use Rattle.gt_model.specs.declared.change.BodyWord.TheVariants.{First as FirstHalf, Second as SecondHalf}
 use Rattle.gt_word_history.specs.declared.view.EntryRecord.{EntryRecord}
 use Rattle.gt_word_history.specs.History.{Moment}
@@ -33,8 +33,9 @@ use Rattle.gt_word_history.specs.declared.view.View.{View}
 use Rattle.gt_model.specs.declared.handle.Handle.{Handle}
 use Rattle.gt_model.specs.declared.action.Action.TheVariants.{Step as Makes}
 use Rattle.gt_model.specs.declared.change.EntryChange.{EntryChange}
-use Rattle.gt_model.specs.declared.change.EntryChange.TheVariants.{Publish, Revoke as ToInvalid, Withdraw as ToWithdrawn}
-use Rattle.gt_model.specs.declared.change.EntryChange.TheVariants.{Demote as ToReadOnly, Promote as ToWritable}
+use Rattle.gt_model.specs.declared.change.EntryChange.TheVariants.{Publish, Revoke as ToInvalid}
+use Rattle.gt_model.specs.declared.change.EntryChange.TheVariants.{Withdraw as ToWithdrawn, Demote as ToReadOnly}
+use Rattle.gt_model.specs.declared.change.EntryChange.TheVariants.{Promote as ToWritable}
 use Rattle.gt_model.specs.declared.action.Observation.{Observation}
 use Rattle.gt_model.specs.declared.action.Observation.TheVariants.{Nothing, Word, Taken, Missed}
 use Rattle.gt_model.specs.declared.action.Step.{Step}
@@ -49,16 +50,14 @@ use Rattle.gt_model.specs.declared.held.HeldPin.{HeldPin}
 use Rattle.gt_model.specs.declared.held.CallPins.{CallPins as HeldPins}
 use Rattle.gt_model.specs.declared.leg.Leg.{Leg}
 use Rattle.gt_model.specs.declared.request.PinHolder.TheVariants.{Mapping as ByHandle, Leg as ByLeg}
-use Rattle.gt_calls.specs.Changes.{raise_of}
 use Rattle.gt_model.specs.Holding.{last_first}
 use Rattle.gt_model.specs.Path.{Continuation, idle_word, is_stopped, path}
 use Rattle.gt_types.specs.declared.copies.CopyArgs.{CopyArgs}
-use Rattle.gt_calls.specs.Resting.{HasSeenTable, HasStored, IsLegFor, IsMapped, IsOfMap, IsOfRun as IsNamed, LookedLast}
-use Rattle.gt_calls.specs.Resting.{IsCopyOf, Rests, RestsOnGrant, RestsOnTry}
-use Rattle.gt_model.specs.Giving.{IsAllowed}
+use Rattle.gt_calls.specs.Resting.{HasSeenTable, HasStored, IsLegFor, IsMapped, IsOfMap, IsOfRun as IsNamed}
+use Rattle.gt_calls.specs.Resting.{LookedLast, IsCopyOf, Rests, RestsOnGrant, RestsOnTry}
+use Rattle.gt_model.specs.Rules.{IsAllowed, CallerKnowledge, begun, frame_count_of, is_kind, label_of, map_dir}
+use Rattle.gt_model.specs.Rules.{map_perms, triples}
 use Rattle.gt_calls.specs.Opening.{OpensGrant, OpensTurn, opens}
-use Rattle.gt_model.specs.Rules.{CallerKnowledge, begun, frame_count_of, is_kind, label_of, map_dir, map_perms, triples}
-use Rattle.gt_model.specs.Entries.{frame_of, is_invalid}
 use Rattle.gt_model.specs.declared.change.BodyWord.{BodyWord}
 use Rattle.gt_live.specs.Driving.{CanMake, ChangesBy, IsSame, Knows, Leaves, MapsBy}
 use Rattle.gt_live.specs.Effects.{effect_of}

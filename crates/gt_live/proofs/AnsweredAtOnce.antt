@@ -8,8 +8,8 @@ use Rattle.gt_types.specs.declared.TypeId.{TypeId}
 use Rattle.gt_types.specs.declared.rights.Triple.{Triple}
 use Rattle.gt_types.specs.declared.perms.Perms.{Perms}
 use Rattle.gt_types.specs.declared.denial.Rule.{Rule}
-use Rattle.gt_types.specs.declared.denial.Rule.TheVariants.{N1, N2, N3, N4, N5, N6, N7, N8, N9, N10, N16, N20, N21, N22}
-use Rattle.gt_types.specs.declared.denial.Rule.TheVariants.{N23, N24}
+use Rattle.gt_types.specs.declared.denial.Rule.TheVariants.{N1, N2, N3, N4, N5, N6, N7, N8, N9, N10, N16, N20, N21}
+use Rattle.gt_types.specs.declared.denial.Rule.TheVariants.{N22, N23, N24}
 use Rattle.gt_types.specs.declared.denial.Facts.TheVariants.{Policy}
 use Rattle.gt_types.specs.declared.limits.TheConstants.{FRAME_SIZE, LAST_GENERATION, MAX_MAPPINGS, MAX_TABLE_FRAMES}
 use Rattle.gt_types.specs.Denial.{denial_of}
@@ -19,7 +19,7 @@ use Rattle.gt_model.specs.declared.change.EntryChange.TheVariants.{Demote as ToR
 use Rattle.gt_model.specs.Words.{size_of}
 use Rattle.gt_model.specs.declared.action.CallValue.TheVariants.{Frames}
 use Rattle.gt_model.specs.declared.action.CallResult.{CallResult}
-use Rattle.gt_model.specs.declared.action.CallResult.TheVariants.{Granted, Refused}
+use Rattle.gt_model.specs.declared.action.CallResult.TheVariants.{Granted, Refused, Given, Mapped}
 use Rattle.gt_model.specs.declared.held.HeldPin.{HeldPin}
 use Rattle.gt_model.specs.declared.request.OpenRequest.{OpenRequest}
 use Rattle.gt_model.specs.declared.request.OpenRequest.TheVariants as asks
@@ -30,14 +30,13 @@ use Rattle.gt_model.specs.Bytes.{first_refused}
 use Rattle.gt_types.specs.declared.denial.Field.{Field}
 use Rattle.gt_types.specs.declared.copies.CopyArgs.{CopyArgs}
 use Rattle.gt_types.specs.declared.denial.Denial.{Denial}
-use Rattle.gt_model.specs.declared.action.CallResult.TheVariants.{Given, Mapped}
 use Rattle.gt_model.specs.Rules.{copy_begun, ends_framed, ends_named, ends_owned, ends_ranged, frame_count_of}
-use Rattle.gt_model.specs.Rules.{is_for_reading, is_foreign, is_past_frames}
+use Rattle.gt_model.specs.Rules.{is_for_reading, is_foreign, is_past_frames, own_access_begun, rights_to_copy}
+use Rattle.gt_model.specs.Rules.{via_judged, CallerKnowledge, cannot_stand, change_begun, query_begun, denied, first}
+use Rattle.gt_model.specs.Rules.{given_when, granted_when, has_valid, is_already, is_invalid, is_version, map_dir}
+use Rattle.gt_model.specs.Rules.{refused_when, rights_to_map, rights_to_query, rights_to_setup, rights_to_unmap}
+use Rattle.gt_model.specs.Rules.{unmap_denied}
 use Rattle.gt_types.specs.Copies.{is_dest_granted, is_source_granted}
-use Rattle.gt_model.specs.Rules.{own_access_begun, rights_to_copy, via_judged, CallerKnowledge, cannot_stand}
-use Rattle.gt_model.specs.Rules.{change_begun, query_begun, denied, first, given_when, granted_when, has_valid}
-use Rattle.gt_model.specs.Rules.{is_already, is_invalid, is_version, map_dir, refused_when, rights_to_map}
-use Rattle.gt_model.specs.Rules.{rights_to_query, rights_to_setup, rights_to_unmap, unmap_denied}
 use Rattle.gt_live.specs.Ending.{IsAccessing, IsAtOnce, IsOfMapping, IsWordless, WaitsForNobody}
 
 module _ (r : OpenRequest) where

@@ -1,7 +1,7 @@
 -- A domain that closes its table.
 use Rattle.std.proofs.Common.{◌≡◌, ℕ, ◌+◌, ◌<◌, ◌∙◌, Bool, true, false, refl, sym, ap, subst, List, [], ◌∷◌, ◌++◌}
-use Rattle.std.proofs.Common.{length, get_or, Option, None, inl, inr, ◌⊎◌, arith, cond, add-zero, zero-add}
-use Rattle.std.proofs.Common.{suc, add-one}
+use Rattle.std.proofs.Common.{length, get_or, Option, None, inl, inr, ◌⊎◌, arith, cond, add-zero, zero-add, suc}
+use Rattle.std.proofs.Common.{add-one}
 use Rattle.std.proofs.lemmas.List.Sums.{sum_by-append}
 use lib.ListN.{get_or-append}
 use Rattle.std.specs.List.{count_by}
@@ -19,7 +19,7 @@ use Rattle.gt_word_history.specs.History.{Moment}
 use Rattle.gt_word_history.specs.Rule.{Layout}
 use Rattle.gt_word_history.specs.declared.view.View.{View}
 use Rattle.gt_model.specs.Path.{Continuation}
-use Rattle.gt_calls.specs.Rules.{entry_in, row_entry}
+use Rattle.gt_calls.specs.Known.{entry_in, row_entry}
 use Rattle.gt_model.specs.declared.action.Observation.TheVariants.{Word}
 use Rattle.gt_model.specs.declared.action.Step.TheVariants.{LookControl}
 use Rattle.gt_model.specs.declared.action.CallResult.{CallResult}

@@ -1,7 +1,7 @@
 -- A copy at its access: what its routes reach, what the policy allows of it, and how it is answered.
 use Rattle.gt_live.proofs.Moments.{only-access, walk-moments}
-use Rattle.std.proofs.Common.{◌≡◌, ◌+◌, ◌≤◌, ℕ, Bool, true, false, cond, refl, sym, ap, ◌∙◌, subst, List, [], ◌∷◌, ◌++◌}
-use Rattle.std.proofs.Common.{Option, Some, None, inl, inr, arith}
+use Rattle.std.proofs.Common.{◌≡◌, ◌+◌, ◌≤◌, ℕ, Bool, true, false, cond, refl, sym, ap, ◌∙◌, subst, List, [], ◌∷◌}
+use Rattle.std.proofs.Common.{◌++◌, Option, Some, None, inl, inr, arith}
 use Rattle.std.specs.Prelude.{IfErr, IfOk, OnErr, Result, Ok, Err, is_none}
 use Rattle.gt_types.specs.declared.DomId.{DomId}
 use Rattle.gt_types.specs.declared.TypeId.{TypeId}
@@ -34,7 +34,8 @@ use Rattle.gt_model.specs.declared.held.AccessPath.TheVariants.{Own, Direct, Thr
 use Rattle.gt_types.specs.declared.copies.CopyArgs.{CopyArgs}
 use Rattle.gt_types.specs.declared.copies.End.{End}
 use Rattle.gt_model.specs.Holding.{frame_by, held_by, last_first, owner_by}
-use Rattle.gt_model.specs.Giving.{IsAllowed}
+use Rattle.gt_model.specs.Rules.{IsAllowed, CallerKnowledge, begun, copy_begun, denied, first, label_of, refused_when}
+use Rattle.gt_model.specs.Rules.{rights_to_copy, via_judged}
 use Rattle.gt_calls.specs.Opening.{IsOwnEnd, OpensCopy, opens}
 use Rattle.gt_model.specs.Path.{Continuation, dest_pair, give_back, path, place_of, source_pair}
 use Rattle.gt_model.specs.declared.action.Observation.TheVariants.{Nothing}
@@ -43,14 +44,11 @@ use Rattle.gt_model.specs.declared.request.OpenRequest.TheVariants as asks
 use Rattle.gt_calls.specs.declared.call.Phase.TheVariants.{Accessing}
 use Rattle.gt_live.specs.Copies.{copy_call}
 use Rattle.gt_calls.specs.Resting.{IsReached, RestsOnWays}
-use Rattle.gt_model.specs.Rules.{CallerKnowledge, begun, copy_begun, denied, first}
 use Rattle.gt_types.specs.Copies.{is_dest_granted, is_source_granted}
-use Rattle.gt_model.specs.Rules.{label_of, refused_when, rights_to_copy, via_judged}
 use Rattle.gt_calls.specs.Standing.{pins_by_call}
 use Rattle.gt_live.specs.Accesses.{Accessed, AnsweredAtAccess, CameBy, CopiesBetween, IsCopiedBy, IsIfOneMissing}
-use Rattle.gt_live.specs.Accesses.{IsOfAccess, IsUnmade}
+use Rattle.gt_live.specs.Accesses.{IsOfAccess, IsUnmade, frame_named, onward}
 use Rattle.gt_live.specs.declared.domain.Domain.{Domain}
-use Rattle.gt_live.specs.Accesses.{frame_named, onward}
 use Rattle.gt_live.specs.Driving.{IsSame}
 use Rattle.gt_live.specs.Underway.{AreOfRun, AtAccess, GivesBack, HasTaken}
 use Rattle.gt_live.specs.Walks.{Called, all_shown}

@@ -1,6 +1,6 @@
 -- A copy on its way: its next step can be made, and where it stands after it.
-use Rattle.std.proofs.Common.{◌≡◌, ◌⊎◌, ℕ, ◌-◌, ◌<◌, ◌==◌, Bool, true, false, cond, refl, sym, ap, ◌∙◌, subst, List, []}
-use Rattle.std.proofs.Common.{◌∷◌, ◌++◌, length, Option, Some, None, inl, inr, nat_lt, append_assoc}
+use Rattle.std.proofs.Common.{◌≡◌, ◌⊎◌, ℕ, ◌-◌, ◌<◌, ◌==◌, Bool, true, false, cond, refl, sym, ap, ◌∙◌, subst, List}
+use Rattle.std.proofs.Common.{[], ◌∷◌, ◌++◌, length, Option, Some, None, inl, inr, nat_lt, append_assoc}
 use Rattle.std.specs.Prelude.{IsSome}
 use Rattle.std.proofs.lemmas.Bool.{eqb-true}
 use Rattle.gt_types.specs.declared.limits.TheConstants.{TABLE_ENTRIES}
@@ -19,11 +19,12 @@ use Rattle.gt_model.specs.declared.entry.Entry.{Entry}
 use Rattle.gt_model.specs.declared.entry.Entry.TheVariants.{Invalid, Page, Sub, Via}
 use Rattle.gt_model.specs.declared.control.Control.{Control}
 use Rattle.gt_model.specs.declared.control.EntryKind.{EntryKind}
-use Rattle.gt_model.specs.declared.control.EntryKind.TheVariants.{Invalid as KindInvalid, Page as KindPage, Sub as KindSub}
-use Rattle.gt_model.specs.declared.control.EntryKind.TheVariants.{Via as KindVia}
+use Rattle.gt_model.specs.declared.control.EntryKind.TheVariants.{Invalid as KindInvalid, Page as KindPage}
+use Rattle.gt_model.specs.declared.control.EntryKind.TheVariants.{Sub as KindSub, Via as KindVia}
 use Rattle.gt_model.specs.declared.change.BodyWord.TheVariants.{First as FirstHalf, Second as SecondHalf}
-use Rattle.gt_model.specs.declared.change.EntryChange.TheVariants.{Publish, Revoke as ToInvalid, Withdraw as ToWithdrawn}
-use Rattle.gt_model.specs.declared.change.EntryChange.TheVariants.{Demote as ToReadOnly, Promote as ToWritable}
+use Rattle.gt_model.specs.declared.change.EntryChange.TheVariants.{Publish, Revoke as ToInvalid}
+use Rattle.gt_model.specs.declared.change.EntryChange.TheVariants.{Withdraw as ToWithdrawn, Demote as ToReadOnly}
+use Rattle.gt_model.specs.declared.change.EntryChange.TheVariants.{Promote as ToWritable}
 use Rattle.gt_model.specs.Permits.{forwards, permits}
 use Rattle.gt_model.specs.Spelling.{entry_of, entry_with}
 use Rattle.gt_model.specs.Words.{control_of, header_of, is_kind, kind_of, size_of}
@@ -68,16 +69,14 @@ use Rattle.gt_model.specs.declared.request.PinHolder.TheVariants.{Mapping as ByH
 use Rattle.gt_model.specs.declared.handle.Handle.{Handle}
 use Rattle.gt_model.specs.Holding.{held_by, last_first, without_last}
 use Rattle.gt_calls.specs.Holding.{pins_so_far}
-use Rattle.gt_calls.specs.Machine.{action_at, after_dest_pin, after_leg, after_pin_of}
-use Rattle.gt_calls.specs.Legs.{on_control_word, after_miss}
-use Rattle.gt_calls.specs.Machine.{after_source_pin, at_dest, next_to_give}
-use Rattle.gt_calls.specs.Legs.{after_words, leg_after, leg_step}
-use Rattle.gt_calls.specs.Machine.{phase_after, where_via}
+use Rattle.gt_calls.specs.Machine.{action_at, after_dest_pin, after_leg, after_pin_of, after_source_pin, at_dest}
+use Rattle.gt_calls.specs.Machine.{next_to_give, phase_after, where_via}
+use Rattle.gt_calls.specs.Legs.{on_control_word, after_miss, after_words, leg_after, leg_step}
 use Rattle.gt_model.specs.Path.{Continuation, dest_pair, end_leg, entry_refusal, held_of, path, place_of, rule_of_try}
 use Rattle.gt_model.specs.Path.{second_leg, source_pair}
-use Rattle.gt_calls.specs.Resting.{HasRead, HasSeenTable, IsLegFor, IsForwarded, IsMapped, IsOnFrom, IsOfRun as IsNamed}
-use Rattle.gt_model.specs.Giving.{GivesUp}
-use Rattle.gt_calls.specs.Resting.{Lets, Rests, RestsOnTry}
+use Rattle.gt_calls.specs.Resting.{HasRead, HasSeenTable, IsLegFor, IsForwarded, IsMapped, IsOnFrom}
+use Rattle.gt_calls.specs.Resting.{IsOfRun as IsNamed, Lets, Rests, RestsOnTry}
+use Rattle.gt_model.specs.Asking.{GivesUp}
 use Rattle.gt_model.specs.Rules.{CallerKnowledge, first_look, via_judged}
 use Rattle.gt_types.specs.Copies.{is_dest_granted}
 use Rattle.gt_live.specs.Driving.{CanMake, Knows}

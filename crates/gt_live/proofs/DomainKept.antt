@@ -11,26 +11,27 @@ use Rattle.gt_types.specs.declared.Dir.{Dir}
 use Rattle.gt_types.specs.declared.config.Config.{Config}
 use Rattle.gt_types.specs.declared.config.DomainConfig.{DomainConfig}
 use Rattle.gt_model.specs.declared.change.EntryChange.{EntryChange}
-use Rattle.gt_model.specs.Changes.{changed_entry, raise_of}
+use Rattle.gt_model.specs.Entries.{changed_entry, raise_of}
 use Rattle.gt_word_history.specs.Controls.{generation_of}
 use Rattle.gt_words.specs.Conditions.{Board, IsSameSeat, IsSeatOf, SeatOf}
 use Rattle.gt_words.specs.Answers.{Unpins}
 use Rattle.gt_words.specs.Keeping.{Holds, KeepsPins, held}
 use Rattle.gt_word_history.specs.Steps.{changed as becomes}
 use Rattle.gt_word_history.specs.Rule.{Layout, id_at, position_in}
-use Rattle.gt_word_history.specs.Views.{IsAmong, LivePin, is_pin, is_same_dir, last_of, live_pins, pins_like, steps_on}
+use Rattle.gt_word_history.specs.Views.{IsAmong, LivePin, is_pin, is_same_dir, last_of, live_pins, pins_like}
+use Rattle.gt_word_history.specs.Views.{steps_on}
 use Rattle.gt_word_history.specs.declared.view.EntryRecord.{EntryRecord}
 use Rattle.gt_word_history.specs.declared.view.View.{View}
 use Rattle.gt_model.specs.declared.handle.Handle.{Handle}
 use Rattle.gt_handles.specs.declared.handles.HandleSlot.{HandleSlot}
 use Rattle.gt_handles.specs.Handles.{HandleMap, count_of, under, value_of}
-use Rattle.gt_model.specs.Handle.{same_handle}
+use Rattle.gt_model.specs.Asking.{same_handle}
 use Rattle.gt_handles.specs.Laws.{counted-most, inserted-counted, taken-counted}
 use Rattle.gt_handles.specs.Listing.{IsInserted, IsTaken, has_passing}
 use Rattle.gt_model.specs.declared.held.HeldPin.{HeldPin}
 use Rattle.gt_calls.specs.declared.known.OwnerEntry.{OwnerEntry}
 use Rattle.gt_model.specs.declared.request.OpenRequest.{OpenRequest}
-use Rattle.gt_calls.specs.Rules.{entry_in, own_generation, row_entry, row_generation}
+use Rattle.gt_calls.specs.Known.{entry_in, own_generation, row_entry, row_generation}
 use Rattle.gt_live.specs.declared.domain.Domain.{Domain}
 use Rattle.gt_live.specs.Domains.{IsDomainOf, AllowRelation, knowledge}
 use Rattle.gt_live.specs.Driving.{ChangesBy, IsSame, MapsBy}

@@ -17,8 +17,9 @@ use Rattle.gt_model.specs.Words.{control_of, header_of, size_of}
 use Rattle.gt_model.specs.declared.action.Action.{Action}
 use Rattle.gt_model.specs.declared.action.Action.TheVariants.{Step as Makes, Done}
 use Rattle.gt_model.specs.declared.change.EntryChange.{EntryChange}
-use Rattle.gt_model.specs.declared.change.EntryChange.TheVariants.{Publish, Revoke as ToInvalid, Withdraw as ToWithdrawn}
-use Rattle.gt_model.specs.declared.change.EntryChange.TheVariants.{Demote as ToReadOnly, Promote as ToWritable}
+use Rattle.gt_model.specs.declared.change.EntryChange.TheVariants.{Publish, Revoke as ToInvalid}
+use Rattle.gt_model.specs.declared.change.EntryChange.TheVariants.{Withdraw as ToWithdrawn, Demote as ToReadOnly}
+use Rattle.gt_model.specs.declared.change.EntryChange.TheVariants.{Promote as ToWritable}
 use Rattle.gt_model.specs.declared.change.BodyWord.{BodyWord}
 use Rattle.gt_model.specs.declared.change.BodyWord.TheVariants.{First, Second}
 use Rattle.gt_model.specs.declared.action.Observation.{Observation}
@@ -37,12 +38,11 @@ use Rattle.gt_model.specs.declared.handle.Handle.{Handle}
 use Rattle.gt_model.specs.declared.leg.Leg.{Leg}
 use Rattle.gt_model.specs.declared.request.PinHolder.TheVariants.{Mapping as ByHandle}
 use Rattle.gt_model.specs.Rules.{CallerKnowledge, begun, first_look, is_kind, first_body, second_body}
-use Rattle.gt_model.specs.Path.{Continuation, AfterRefusal, AfterPin, after_beginning, at_first_look, by_mapping, ended}
-use Rattle.gt_model.specs.Path.{entry_refusal, exchanges, exchanges_once, grant_path, held_of, idle_word, is_stopped}
-use Rattle.gt_model.specs.Path.{last_step, leg, looks, looks_again, makes, map_leg, path, pins, publishes, reads_body}
-use Rattle.gt_model.specs.Path.{reads_second, refused_at, refused_holding, rule_of_try, steps_of, stores_second}
-use Rattle.gt_model.specs.Path.{header_value_of}
-use Rattle.gt_model.specs.Path.{tries, try_pin, turn, turns}
+use Rattle.gt_model.specs.Path.{Continuation, AfterRefusal, AfterPin, after_beginning, at_first_look, by_mapping}
+use Rattle.gt_model.specs.Path.{ended, entry_refusal, exchanges, exchanges_once, grant_path, held_of, idle_word}
+use Rattle.gt_model.specs.Path.{is_stopped, last_step, leg, looks, looks_again, makes, map_leg, path, pins, publishes}
+use Rattle.gt_model.specs.Path.{reads_body, reads_second, refused_at, refused_holding, rule_of_try, steps_of}
+use Rattle.gt_model.specs.Path.{stores_second, header_value_of, tries, try_pin, turn, turns}
 use Rattle.gt_live.specs.declared.driving.Effect.{Effect}
 use Rattle.gt_live.specs.declared.driving.Effect.TheVariants as effects
 use Rattle.gt_live.specs.Effects.{Answers, EndsSo, IsFound, IsFoundAt, effect_of}

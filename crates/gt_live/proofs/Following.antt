@@ -1,6 +1,6 @@
 -- A domain whose entries follow the bytes of its guest.
-use Rattle.std.proofs.Common.{◌≡◌, ℕ, zero, suc, ◌+◌, ◌^◌, ◌<◌, ◌≤◌, ◌∙◌, Bool, true, false, refl, sym, ap, subst, List, [], ◌∷◌}
-use Rattle.std.proofs.Common.{Option, Some, drop, inl, inr, length, arith}
+use Rattle.std.proofs.Common.{◌≡◌, ℕ, zero, suc, ◌+◌, ◌^◌, ◌<◌, ◌≤◌, ◌∙◌, Bool, true, false, refl, sym, ap, subst}
+use Rattle.std.proofs.Common.{List, [], ◌∷◌, Option, Some, drop, inl, inr, length, arith}
 use Rattle.std.specs.Prelude.{◌==◌, All, MatchBool, Result, Ok, Err, OnOk, slice_index}
 use Rattle.std.proofs.lemmas.List.{length-drop}
 use Rattle.std.proofs.lemmas.List.Elements.{All-nil, All-cons, All-drop, All-get_or}
@@ -12,23 +12,22 @@ use Rattle.gt_types.specs.declared.denial.Rule.{Rule}
 use Rattle.gt_types.specs.declared.denial.Rule.TheVariants.{N9, N10, N20, N21, N22}
 use Rattle.byteorder.specs.Endian.{little_from}
 use Rattle.gt_model.specs.Bytes.{Spells, SpellsV1, SpellsV2, field}
-use Rattle.gt_model.specs.Changes.{changed_entry}
-use Rattle.gt_model.specs.Entries.{IsEntry, is_invalid}
+use Rattle.gt_model.specs.Entries.{changed_entry, IsEntry, is_invalid}
 use Rattle.gt_model.specs.declared.change.EntryChange.{EntryChange}
 use Rattle.gt_model.specs.declared.change.EntryChange.TheVariants.{Publish, Revoke, Withdraw, Demote, Promote}
 use Rattle.gt_model.specs.declared.entry.Entry.{Entry}
 use Rattle.gt_model.specs.declared.entry.Entry.TheVariants.{Invalid, Page, Sub, Via}
 use Rattle.gt_model.specs.Path.{path, path_of}
 use Rattle.gt_model.specs.Rules.{CallerKnowledge, begun, first, granted_when, is_already, refused_when}
-use Rattle.gt_calls.specs.Rules.{entry_in, row_entry}
+use Rattle.gt_calls.specs.Known.{entry_in, row_entry}
 use Rattle.gt_model.specs.declared.action.CallResult.{CallResult}
 use Rattle.gt_model.specs.declared.action.CallResult.TheVariants.{Refused}
 use Rattle.gt_calls.specs.declared.known.OwnerEntry.{OwnerEntry}
 use Rattle.gt_words.specs.Conditions.{IsSameSeat, SeatOf}
 use Rattle.gt_word_history.specs.Views.{own_table}
 use Rattle.gt_live.specs.Domains.{AllowRelation, StaysIn, done_by}
-use Rattle.gt_live.specs.Following.{Calls, Does, FitsChange, FollowingMakesCalls, IsAsMeant, IsDue, LeavesEntry, MakesCalls}
-use Rattle.gt_live.specs.Following.{MakesChange, Means, entry_of, followed_by, request_of, result_of}
+use Rattle.gt_live.specs.Following.{Calls, Does, FitsChange, FollowingMakesCalls, IsAsMeant, IsDue, LeavesEntry}
+use Rattle.gt_live.specs.Following.{MakesCalls, MakesChange, Means, entry_of, followed_by, request_of, result_of}
 use Rattle.gt_live.specs.Owning.{asks_change}
 use Rattle.gt_live.specs.Rows.{row_changed}
 use Rattle.gt_live.specs.Unmarked.{unmarked}

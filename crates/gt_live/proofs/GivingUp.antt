@@ -1,7 +1,7 @@
 -- A call that is refused by N18 made just four tries, each of which was missed.
-use Rattle.std.proofs.Common.{◌≡◌, ◌≢◌, ◌⊎◌, inl, inr, ⊎_elim, ◌==◌, ℕ, zero, suc, Bool, true, false}
-use Rattle.std.proofs.Common.{if◌then◌else◌, not, nat_lt, refl, sym, ap, ◌∙◌, subst, List, [], ◌∷◌, ◌++◌, map, length}
-use Rattle.std.proofs.Common.{Option, Some, None, append_assoc, eq-eqb, ne_eqb, arith}
+use Rattle.std.proofs.Common.{◌≡◌, ◌≢◌, ◌⊎◌, inl, inr, ⊎_elim, ◌==◌, ℕ, zero, suc, Bool, true, false, if◌then◌else◌}
+use Rattle.std.proofs.Common.{not, nat_lt, refl, sym, ap, ◌∙◌, subst, List, [], ◌∷◌, ◌++◌, map, length, Option, Some}
+use Rattle.std.proofs.Common.{None, append_assoc, eq-eqb, ne_eqb, arith}
 use Rattle.std.specs.Prelude.{nat_le}
 use Rattle.gt_types.specs.declared.DomId.{DomId}
 use Rattle.gt_types.specs.declared.GrantRef.{GrantRef}
@@ -16,8 +16,9 @@ use Rattle.gt_types.specs.declared.denial.Rule.TheVariants.{N5, N6, N9, N18, N19
 use Rattle.gt_types.specs.declared.denial.Facts.TheVariants as facts
 use Rattle.gt_types.specs.Denial.{denial_of}
 use Rattle.gt_model.specs.declared.change.EntryChange.{EntryChange}
-use Rattle.gt_model.specs.declared.change.EntryChange.TheVariants.{Demote as ToReadOnly, Promote as ToWritable, Publish}
-use Rattle.gt_model.specs.declared.change.EntryChange.TheVariants.{Revoke as ToInvalid, Withdraw as ToWithdrawn}
+use Rattle.gt_model.specs.declared.change.EntryChange.TheVariants.{Demote as ToReadOnly, Promote as ToWritable}
+use Rattle.gt_model.specs.declared.change.EntryChange.TheVariants.{Publish, Revoke as ToInvalid}
+use Rattle.gt_model.specs.declared.change.EntryChange.TheVariants.{Withdraw as ToWithdrawn}
 use Rattle.gt_model.specs.declared.change.BodyWord.TheVariants.{First as FirstHalf, Second as SecondHalf}
 use Rattle.gt_model.specs.declared.control.Control.{Control}
 use Rattle.gt_model.specs.declared.control.EntryKind.TheVariants.{Sub as KindSub}
@@ -33,8 +34,8 @@ use Rattle.gt_word_history.specs.Steps.{on_entry, on_header}
 use Rattle.gt_word_history.specs.Views.{with_step}
 use Rattle.gt_word_history.specs.declared.view.EntryRecord.{EntryRecord}
 use Rattle.gt_word_history.specs.declared.view.EntryStep.{EntryStep}
-use Rattle.gt_word_history.specs.declared.view.EntryStep.TheVariants.{ChangeMissed, Changed, Looked, PinMissed, Pinned}
-use Rattle.gt_word_history.specs.declared.view.EntryStep.TheVariants.{ReadBody, Unpinned}
+use Rattle.gt_word_history.specs.declared.view.EntryStep.TheVariants.{ChangeMissed, Changed, Looked, PinMissed}
+use Rattle.gt_word_history.specs.declared.view.EntryStep.TheVariants.{Pinned, ReadBody, Unpinned}
 use Rattle.gt_word_history.specs.declared.view.HeaderStep.TheVariants as header
 use Rattle.gt_word_history.specs.declared.view.SeatStep.{SeatStep}
 use Rattle.gt_word_history.specs.declared.view.View.{View}
@@ -43,9 +44,9 @@ use Rattle.gt_model.specs.declared.action.Action.TheVariants.{Done, Step as Make
 use Rattle.gt_model.specs.declared.action.Observation.{Observation}
 use Rattle.gt_model.specs.declared.action.Observation.TheVariants.{Missed, Nothing, Taken, Word}
 use Rattle.gt_model.specs.declared.action.Step.{Step}
-use Rattle.gt_model.specs.declared.action.Step.TheVariants.{Exchange, LookBody, LookControl, LookHeader, Pin, StoreBody}
-use Rattle.gt_model.specs.declared.action.Step.TheVariants.{StoreHeader, Unpin, Read as ReadBytes, Write as WriteBytes}
-use Rattle.gt_model.specs.declared.action.Step.TheVariants.{Copy as CopyBytes}
+use Rattle.gt_model.specs.declared.action.Step.TheVariants.{Exchange, LookBody, LookControl, LookHeader, Pin}
+use Rattle.gt_model.specs.declared.action.Step.TheVariants.{StoreBody, StoreHeader, Unpin, Read as ReadBytes}
+use Rattle.gt_model.specs.declared.action.Step.TheVariants.{Write as WriteBytes, Copy as CopyBytes}
 use Rattle.gt_model.specs.declared.action.CallResult.{CallResult}
 use Rattle.gt_model.specs.declared.action.CallResult.TheVariants.{Granted, Mapped, Refused}
 use Rattle.gt_model.specs.declared.held.HeldPin.{HeldPin}
@@ -61,14 +62,13 @@ use Rattle.gt_model.specs.declared.request.Request.{Request}
 use Rattle.gt_model.specs.Asking.{asked, begun_by, begun_of, bytes_of, field_refused, plainly_asked}
 use Rattle.gt_model.specs.Holding.{held_by}
 use Rattle.gt_model.specs.Path.{AfterPin, AfterRefusal, Continuation, accesses, after_beginning, after_first}
-use Rattle.gt_model.specs.Path.{at_first_look, beyond, by_mapping, copies, dest_pair, end_leg, ended}
-use Rattle.gt_model.specs.Path.{entry_refusal, exchanges, exchanges_once, give_back, held_of, is_stopped}
-use Rattle.gt_model.specs.Path.{last_step, leg, looks, makes, map_leg, path_of, pins, reaches}
-use Rattle.gt_model.specs.Path.{reads_body, reads_second, refused_at, refused_holding, rule_of_try, second_leg}
-use Rattle.gt_model.specs.Path.{source_pair, steps_of, to_dest, tries, try_pin, turn, turns}
-use Rattle.gt_model.specs.Path.{unless_refused}
-use Rattle.gt_model.specs.Rules.{CallerKnowledge, before_pin, begun, denied, first, first_look}
-use Rattle.gt_model.specs.Rules.{copy_begun, granted_when, has_own_ends, refused_when, stands, via_judged, is_invalid}
+use Rattle.gt_model.specs.Path.{at_first_look, beyond, by_mapping, copies, dest_pair, end_leg, ended, entry_refusal}
+use Rattle.gt_model.specs.Path.{exchanges, exchanges_once, give_back, held_of, is_stopped, last_step, leg, looks}
+use Rattle.gt_model.specs.Path.{makes, map_leg, path_of, pins, reaches, reads_body, reads_second, refused_at}
+use Rattle.gt_model.specs.Path.{refused_holding, rule_of_try, second_leg, source_pair, steps_of, to_dest, tries}
+use Rattle.gt_model.specs.Path.{try_pin, turn, turns, unless_refused}
+use Rattle.gt_model.specs.Rules.{CallerKnowledge, before_pin, begun, denied, first, first_look, copy_begun}
+use Rattle.gt_model.specs.Rules.{granted_when, has_own_ends, refused_when, stands, via_judged, is_invalid}
 use Rattle.gt_types.specs.Copies.{is_dest_granted, is_source_granted}
 use Rattle.gt_calls.specs.Probing.{IsProbe}
 use Rattle.gt_live.specs.Tries.{AreReads, AreUnpins, BeginsTries, FourTriesWereMissed, FoundAnother, GaveUp}

@@ -20,7 +20,7 @@ use Rattle.gt_model.specs.declared.held.HeldPin.{HeldPin}
 use Rattle.gt_calls.specs.declared.known.OwnerEntry.{OwnerEntry}
 use Rattle.gt_model.specs.declared.request.OpenRequest.{OpenRequest}
 use Rattle.gt_model.specs.declared.request.OpenRequest.TheVariants as asks
-use Rattle.gt_calls.specs.Rules.{knowledge_of}
+use Rattle.gt_calls.specs.Known.{knowledge_of}
 use Rattle.gt_live.specs.declared.domain.Domain.{Domain}
 use Rattle.gt_live.specs.Domains.{IsDomainOf, AllowRelation, done_by, frames_granted, knowledge, verdict_of}
 use Rattle.gt_live.specs.Domains.{verdict_of_frames}

@@ -1,6 +1,6 @@
 -- The label of a domain stands at its place in the configuration.
-use Rattle.std.proofs.Common.{◌≡◌, ◌≢◌, ◌∙◌, ◌<◌, ℕ, zero, suc, Bool, if◌then◌else◌, List, [], ◌∷◌, length, map, get_or}
-use Rattle.std.proofs.Common.{Some, sym, ap, subst, arith}
+use Rattle.std.proofs.Common.{◌≡◌, ◌≢◌, ◌∙◌, ◌<◌, ℕ, zero, suc, Bool, if◌then◌else◌, List, [], ◌∷◌, length, map}
+use Rattle.std.proofs.Common.{get_or, Some, sym, ap, subst, arith}
 use Rattle.std.proofs.lemmas.Bool.{eq-eqb, ne_eqb}
 use Rattle.gt_types.specs.Names.{domain_of}
 use Rattle.gt_roster.specs.Frameless.{IsRunnable}

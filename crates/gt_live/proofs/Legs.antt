@@ -12,7 +12,8 @@ use Rattle.gt_model.specs.declared.control.EntryKind.{EntryKind}
 use Rattle.gt_model.specs.declared.control.EntryKind.TheVariants.{Invalid, Page, Sub, Via}
 use Rattle.gt_word_history.specs.Rule.{Layout}
 use Rattle.gt_word_history.specs.declared.view.View.{View}
-use Rattle.gt_calls.specs.Legs.{after_header, on_control_word, after_miss, after_relook, after_words, leg_after, leg_step}
+use Rattle.gt_calls.specs.Legs.{after_header, on_control_word, after_miss, after_relook, after_words, leg_after}
+use Rattle.gt_calls.specs.Legs.{leg_step}
 use Rattle.gt_model.specs.Path.{entry_refusal, held_of, rule_of_try}
 use Rattle.gt_model.specs.Rules.{first_look}
 use Rattle.gt_model.specs.declared.action.Observation.{Observation}

@@ -1,5 +1,6 @@
 -- Bytes that the hypervisor has marked as in use.
-use Rattle.std.proofs.Common.{◌≡◌, ℕ, ◌+◌, ◌*◌, ◌%◌, ◌<◌, ◌==◌, Bool, true, false, ap, sym, subst, arith, List, [], ◌∷◌, refl}
+use Rattle.std.proofs.Common.{◌≡◌, ℕ, ◌+◌, ◌*◌, ◌%◌, ◌<◌, ◌==◌, Bool, true, false, ap, sym, subst, arith, List, []}
+use Rattle.std.proofs.Common.{◌∷◌, refl}
 use Rattle.std.specs.Prelude.{MatchBool}
 use Rattle.gt_model.specs.Bytes.{IsLaidOutV1, IsLaidOutV2, Spells, SpellsV1, SpellsV2}
 use Rattle.gt_model.specs.Words.{flag}

@@ -1,6 +1,6 @@
 -- A domain at the start of a run.
-use Rattle.std.proofs.Common.{◌≡◌, ℕ, ◌<◌, refl, sym, ap, ◌∙◌, List, [], length, get_or, zero, suc, Option, Some, None}
-use Rattle.std.proofs.Common.{arith}
+use Rattle.std.proofs.Common.{◌≡◌, ℕ, ◌<◌, refl, sym, ap, ◌∙◌, List, [], length, get_or, zero, suc, Option, Some}
+use Rattle.std.proofs.Common.{None, arith}
 use Rattle.std.specs.List.{count_by}
 use Rattle.std.specs.Prelude.{replicate, slice_get}
 use Rattle.gt_types.specs.declared.limits.TheConstants.{TABLE_ENTRIES}
@@ -19,7 +19,7 @@ use Rattle.gt_handles.specs.declared.handles.HandleSlot.{HandleSlot}
 use Rattle.gt_audit.specs.Trails.{silent}
 use Rattle.gt_model.specs.declared.held.HeldPin.{HeldPin}
 use Rattle.gt_calls.specs.declared.known.OwnerEntry.{OwnerEntry}
-use Rattle.gt_calls.specs.Rules.{row_entry, row_generation}
+use Rattle.gt_calls.specs.Known.{row_entry, row_generation}
 use Rattle.gt_live.specs.Domains.{AllowRelation}
 use Rattle.gt_live.specs.Mappings.{is_mapping_of}
 use Rattle.gt_live.specs.Starting.{first_rows, IsNewDomain}

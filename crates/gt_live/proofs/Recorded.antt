@@ -11,8 +11,8 @@ use Rattle.gt_words.specs.Conditions.{Board, IsSameSeat, SeatOf}
 use Rattle.gt_types.specs.declared.config.Config.{Config}
 use Rattle.gt_live.specs.declared.domain.Domain.{Domain}
 use Rattle.gt_live.specs.declared.monitor.Monitor.{Monitor}
-use Rattle.gt_live.specs.Domains.{AllowRelation, Answered, AnswersQuietly, AnswersRecorded, IsDomainOf, KeepsPinned, StaysIn}
-use Rattle.gt_live.specs.Domains.{StaysOfRun, reply_of, record_of_result}
+use Rattle.gt_live.specs.Domains.{AllowRelation, Answered, AnswersQuietly, AnswersRecorded, IsDomainOf, KeepsPinned}
+use Rattle.gt_live.specs.Domains.{StaysIn, StaysOfRun, reply_of, record_of_result}
 use Rattle.gt_live.specs.Driving.{IsSame}
 use Rattle.gt_live.proofs.DomainKept.{looked}
 use Rattle.gt_live.proofs.Making.{still_seat}

@@ -4,7 +4,7 @@ use Rattle.std.proofs.Math.ListN.{set}
 use Rattle.std.specs.Prelude.{slice_get}
 use Rattle.gt_model.specs.declared.change.EntryChange.{EntryChange}
 use Rattle.gt_calls.specs.declared.known.OwnerEntry.{OwnerEntry}
-use Rattle.gt_calls.specs.Changes.{own_after}
+use Rattle.gt_calls.specs.Known.{own_after}
 use Rattle.gt_live.specs.Rows.{row_changed}
 
 pub row-set : (os : List OwnerEntry) (r : ℕ) (d : OwnerEntry) (ch : EntryChange) → r < length os → set os r (own_after ch (get_or os r d)) ≡ row_changed os r ch

@@ -1,6 +1,6 @@
 -- What holds where no rule stands on a try of a map.
-use Rattle.std.proofs.Common.{◌≡◌, ℕ, ◌/◌, ◌%◌, ◌<◌, ◌==◌, not, Bool, true, false, refl, sym, ap, ◌∙◌, subst, List, ◌∷◌}
-use Rattle.std.proofs.Common.{Option, Some, None, arith, nat_le}
+use Rattle.std.proofs.Common.{◌≡◌, ℕ, ◌/◌, ◌%◌, ◌<◌, ◌==◌, not, Bool, true, false, refl, sym, ap, ◌∙◌, subst, List}
+use Rattle.std.proofs.Common.{◌∷◌, Option, Some, None, arith, nat_le}
 use Rattle.std.specs.Prelude.{is_none, ◌||◌}
 use Rattle.std.proofs.lemmas.Bool.{eqb-false, not-false}
 use Rattle.gt_types.specs.declared.DomId.{DomId}
@@ -13,8 +13,8 @@ use Rattle.gt_types.specs.declared.denial.Rule.TheVariants.{N10, N11, N12, N14, 
 use Rattle.gt_model.specs.declared.entry.Entry.{Entry}
 use Rattle.gt_model.specs.declared.entry.Entry.TheVariants.{Invalid, Page, Sub, Via}
 use Rattle.gt_model.specs.declared.control.EntryKind.{EntryKind}
-use Rattle.gt_model.specs.declared.control.EntryKind.TheVariants.{Invalid as KindInvalid, Page as KindPage, Sub as KindSub}
-use Rattle.gt_model.specs.declared.control.EntryKind.TheVariants.{Via as KindVia}
+use Rattle.gt_model.specs.declared.control.EntryKind.TheVariants.{Invalid as KindInvalid, Page as KindPage}
+use Rattle.gt_model.specs.declared.control.EntryKind.TheVariants.{Sub as KindSub, Via as KindVia}
 use Rattle.gt_model.specs.Entries.{frame_of}
 use Rattle.gt_model.specs.Words.{control_of, control_word, is_kind, kind_of, pins_of}
 use Rattle.gt_model.specs.Spelling.{control_with, idle_word_of, entry_of, entry_with}

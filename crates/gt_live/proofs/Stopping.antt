@@ -35,9 +35,9 @@ use Rattle.gt_types.specs.declared.copies.CopyArgs.{CopyArgs}
 use Rattle.gt_calls.specs.Counting.{steps_to_come}
 use Rattle.gt_calls.specs.Following.{FitsNext, Goes}
 use Rattle.gt_model.specs.Holding.{last_first}
-use Rattle.gt_calls.specs.Machine.{action_at, at_dest, at_source, first_phase, next_to_give, phase_after}
+use Rattle.gt_calls.specs.Machine.{action_at, at_dest, at_source, first_phase, next_to_give, phase_after, remains_of}
+use Rattle.gt_calls.specs.Machine.{settled, standing_after}
 use Rattle.gt_calls.specs.Legs.{leg_step}
-use Rattle.gt_calls.specs.Machine.{remains_of, settled, standing_after}
 use Rattle.gt_model.specs.Path.{end_leg, give_back, path}
 use Rattle.gt_calls.specs.Resting.{Rests}
 use Rattle.gt_model.specs.Rules.{CallerKnowledge}

@@ -17,7 +17,8 @@ use Rattle.gt_calls.specs.declared.copying.PinPurpose.TheVariants.{Mapping}
 use Rattle.gt_model.specs.declared.held.HeldPin.{HeldPin}
 use Rattle.gt_model.specs.declared.leg.Leg.{Leg}
 use Rattle.gt_calls.specs.declared.leg.LegNext.{LegNext}
-use Rattle.gt_calls.specs.declared.leg.LegNext.TheVariants.{Going as GoesTo, Refused as LegRefused, Pinned as LegPinned}
+use Rattle.gt_calls.specs.declared.leg.LegNext.TheVariants.{Going as GoesTo, Refused as LegRefused}
+use Rattle.gt_calls.specs.declared.leg.LegNext.TheVariants.{Pinned as LegPinned}
 use Rattle.gt_calls.specs.declared.leg.LegPhase.{LegPhase}
 use Rattle.gt_calls.specs.declared.leg.LegPhase.TheVariants.{Header}
 use Rattle.gt_model.specs.declared.request.OpenRequest.{OpenRequest}

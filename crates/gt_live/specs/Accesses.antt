@@ -1,10 +1,10 @@
 -- Calls with an access to bytes: the path to it, the access, and the path from there to the end.
 use Rattle.std.specs.Prelude.{◌≡◌, ◌⊎◌, ℕ, List, [], ◌∷◌, ◌++◌, length, Some, Result, Ok, Err}
 use Rattle.gt_live.specs.Prelude.{DomId, Denial, N16, N26, NoFacts, denial_of, Layout, Moment, View, Copying, Reading}
-use Rattle.gt_live.specs.Prelude.{Writing, FrameName, IsReadOf, copying_at, writing_at, Makes, Observation}
-use Rattle.gt_live.specs.Prelude.{Nothing, Step, ReadBytes, WriteBytes, CopyBytes, Granted, Refused, Continuation}
-use Rattle.gt_live.specs.Prelude.{position_in, Spot, SeatOf, AccessPath, Own, Direct, ReachesBy, Dir, Use, Read, Write}
-use Rattle.gt_live.specs.Prelude.{ForMap, ForCopy, CallerKnowledge, CallPins, Copy, CopyArgs, Domain, HeldPin, Request}
+use Rattle.gt_live.specs.Prelude.{Writing, FrameName, IsReadOf, copying_at, writing_at, Makes, Observation, Nothing}
+use Rattle.gt_live.specs.Prelude.{Step, ReadBytes, WriteBytes, CopyBytes, Granted, Refused, Continuation, position_in}
+use Rattle.gt_live.specs.Prelude.{Spot, SeatOf, AccessPath, Own, Direct, ReachesBy, Dir, Use, Read, Write, ForMap}
+use Rattle.gt_live.specs.Prelude.{ForCopy, CallerKnowledge, CallPins, Copy, CopyArgs, Domain, HeldPin, Request}
 use Rattle.gt_live.specs.Prelude.{RestsOnWays, bytes_given_by, last_first, value_of}
 use Rattle.gt_model.specs.declared.request.Request.TheVariants as requests
 use Rattle.gt_word_history.specs.declared.view.FrameStep.TheVariants as frames

@@ -1,12 +1,13 @@
 -- How a domain closes its table, and what a look at one of its entries finds.
-use Rattle.std.specs.Prelude.{◌≡◌, ◌⊎◌, ◌<◌, ◌≤◌, ℕ, zero, suc, Bool, true, nat_lt, not, ◌||◌, List, [], ◌∷◌, length, count_by}
-use Rattle.std.specs.Prelude.{HoldsAt, Option, Some, None, Result, Ok, Err, slice_get}
+use Rattle.std.specs.Prelude.{◌≡◌, ◌⊎◌, ◌<◌, ◌≤◌, ℕ, zero, suc, Bool, true, nat_lt, not, ◌||◌, List, [], ◌∷◌, length}
+use Rattle.std.specs.Prelude.{count_by, HoldsAt, Option, Some, None, Result, Ok, Err, slice_get}
 use Rattle.gt_model.specs.declared.control.Control.{Control}
 use Rattle.gt_model.specs.declared.control.EntryKind.TheVariants.{Invalid as NoKind}
 use Rattle.gt_model.specs.Rules.{size_of}
 use Rattle.gt_handles.specs.Handles.{IsEmpty}
-use Rattle.gt_live.specs.Prelude.{Denial, Domain, GrantRef, Handle, Invalid, IsSameSeat, Layout, LookControl, Moment, Monitor}
-use Rattle.gt_live.specs.Prelude.{TABLE_ENTRIES, View, Withdraw, Word, control_of, entry_in, is_kind, own_table}
+use Rattle.gt_live.specs.Prelude.{Denial, Domain, GrantRef, Handle, Invalid, IsSameSeat, Layout, LookControl, Moment}
+use Rattle.gt_live.specs.Prelude.{Monitor, TABLE_ENTRIES, View, Withdraw, Word, control_of, entry_in, is_kind}
+use Rattle.gt_live.specs.Prelude.{own_table}
 use Rattle.gt_live.specs.Domains.{AllowRelation, BelongsTo, IsUnsettled, KeepsPinned, Released, StaysIn}
 use Rattle.gt_live.specs.Following.{Calls, entry_of}
 use Rattle.gt_live.specs.Walks.{Made, view_after}

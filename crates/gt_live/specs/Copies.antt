@@ -2,8 +2,8 @@
 -- is in specs/ because contracts cite it.
 use Rattle.std.specs.Prelude.{◌≡◌, List, [], ◌∷◌, Some, None, Result, Ok, Err}
 use Rattle.gt_live.specs.Prelude.{DomId, Read, Write, GrantRef, Denial, Layout, View, Nothing, Unpin, Refused, Phase}
-use Rattle.gt_live.specs.Prelude.{Accessing, Ending, Walking, PinPurpose, Source, Dest, HeldPin, CallPins, AccessPath, Leg, Header}
-use Rattle.gt_live.specs.Prelude.{CopyArgs, Copy, Call, ByLeg, last_first, no_pins, pins_so_far}
+use Rattle.gt_live.specs.Prelude.{Accessing, Ending, Walking, PinPurpose, Source, Dest, HeldPin, CallPins, AccessPath}
+use Rattle.gt_live.specs.Prelude.{Leg, Header, CopyArgs, Copy, Call, ByLeg, last_first, no_pins, pins_so_far}
 use Rattle.gt_live.specs.Prelude.{without_last, after_pin_of, at_dest, end_leg, place_of, second_leg, CallerKnowledge}
 use Rattle.gt_live.specs.Prelude.{PendingCopy}
 use Rattle.gt_model.specs.declared.held.AccessPath.TheVariants.{Own}

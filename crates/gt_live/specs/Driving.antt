@@ -4,13 +4,12 @@ use Rattle.std.specs.Prelude.{◌≡◌, ℕ, ◌+◌, ◌^◌, ◌<◌, List, [
 use Rattle.gt_live.specs.Prelude.{DomId, DomainConfig, TABLE_ENTRIES, domain_of, Invalid, View, generation_of}
 use Rattle.gt_live.specs.Prelude.{CanChange, CanPin, HasDomain, Holds, KeepsPins, SeesNoEarlier, Changes, Unpins}
 use Rattle.gt_live.specs.Prelude.{IsKeptHeader, Layout, id_at, position_in, last_seen, record_seen, last_of, Moment}
-use Rattle.gt_live.specs.Prelude.{Action, Makes, Done, EntryChange, Step, LookHeader, LookControl, LookBody, Pin, Unpin}
-use Rattle.gt_live.specs.Prelude.{StoreBody, StoreHeader, Exchange, OpenRequest, Call, HeldPin, Handle, raise_of, GoesOnWith}
-use Rattle.gt_live.specs.Prelude.{path}
-use Rattle.gt_live.specs.Prelude.{Rests, CallerKnowledge, begun, IsAt, held_by_call, pins_by_call, Effect, Pinned}
-use Rattle.gt_live.specs.Prelude.{Unpinned, Changed, Stored}
+use Rattle.gt_live.specs.Prelude.{Action, Makes, Done, EntryChange, Step, LookHeader, LookControl, LookBody, Pin}
+use Rattle.gt_live.specs.Prelude.{Unpin, StoreBody, StoreHeader, Exchange, OpenRequest, Call, HeldPin, Handle}
+use Rattle.gt_live.specs.Prelude.{raise_of, GoesOnWith, path, Rests, CallerKnowledge, begun, IsAt, held_by_call}
+use Rattle.gt_live.specs.Prelude.{pins_by_call, Effect, Pinned, Unpinned, Changed, Stored}
 use Rattle.gt_words.specs.Answers.{Pins}
-use Rattle.gt_model.specs.Giving.{GivesUp}
+use Rattle.gt_model.specs.Asking.{GivesUp}
 use Rattle.gt_live.specs.declared.driving.Effect.TheVariants.{Nothing}
 use Rattle.gt_live.specs.Walks.{IsWalk, CarriesSteps, view_after, all_shown}
 use Rattle.gt_live.specs.Effects.{Answers}

@@ -9,7 +9,8 @@ use Rattle.gt_model.specs.declared.action.Action.TheVariants.{Step as Makes, Don
 use Rattle.gt_model.specs.declared.action.Observation.{Observation}
 use Rattle.gt_model.specs.declared.action.Observation.TheVariants.{Taken, Word, Missed}
 use Rattle.gt_model.specs.declared.action.Step.{Step}
-use Rattle.gt_model.specs.declared.action.Step.TheVariants.{LookHeader, LookControl, Pin, Unpin, StoreHeader, Exchange}
+use Rattle.gt_model.specs.declared.action.Step.TheVariants.{LookHeader, LookControl, Pin, Unpin, StoreHeader}
+use Rattle.gt_model.specs.declared.action.Step.TheVariants.{Exchange}
 use Rattle.gt_model.specs.declared.action.CallResult.{CallResult}
 use Rattle.gt_model.specs.declared.action.CallResult.TheVariants.{Granted, Given, Mapped, Refused}
 use Rattle.gt_model.specs.declared.request.PinHolder.TheVariants.{Mapping as ByHandle}

@@ -1,18 +1,17 @@
 -- How one of a domain's entries follows the bytes that its guest keeps for it in its own memory.
-use Rattle.std.specs.Prelude.{◌≡◌, ◌≢◌, ◌⊎◌, ◌<◌, ◌≤◌, ◌%◌, ℕ, true, false, All, List, [], ◌∷◌, length, Some}
-use Rattle.std.specs.Prelude.{Result, Ok, Err, OnOk, OnErr}
+use Rattle.std.specs.Prelude.{◌≡◌, ◌≢◌, ◌⊎◌, ◌<◌, ◌≤◌, ◌%◌, ℕ, true, false, All, List, [], ◌∷◌, length, Some, Result}
+use Rattle.std.specs.Prelude.{Ok, Err, OnOk, OnErr}
 use Rattle.gt_types.specs.declared.denial.Field.{Field}
 use Rattle.gt_types.specs.declared.denial.Field.TheVariants.{Kind}
 use Rattle.gt_types.specs.declared.denial.Rule.TheVariants.{N9, N25}
 use Rattle.gt_types.specs.declared.denial.Facts.TheVariants.{Field as FieldFacts}
 use Rattle.gt_model.specs.Bytes.{Spells, first_refused, flags_of}
-use Rattle.gt_model.specs.Changes.{changed_entry}
-use Rattle.gt_model.specs.Entries.{IsEntry, is_invalid, is_read_only, with_ro}
+use Rattle.gt_model.specs.Entries.{changed_entry, IsEntry, is_invalid, is_read_only, with_ro}
 use Rattle.gt_model.specs.declared.entry.Entry.{Entry}
 use Rattle.gt_model.specs.Rules.{size_of}
 use Rattle.gt_model.specs.declared.request.Request.TheVariants as requests
-use Rattle.gt_live.specs.Prelude.{Denial, Domain, EntryChange, GrantRef, Invalid, Monitor, NoFacts, Request, denial_of}
-use Rattle.gt_live.specs.Prelude.{Demote, Promote, Publish, Revoke, Withdraw, entry_in, own_table}
+use Rattle.gt_live.specs.Prelude.{Denial, Domain, EntryChange, GrantRef, Invalid, Monitor, NoFacts, Request}
+use Rattle.gt_live.specs.Prelude.{denial_of, Demote, Promote, Publish, Revoke, Withdraw, entry_in, own_table}
 use Rattle.gt_live.specs.Domains.{AllowRelation, AnswersQuietly, StaysIn, verdict_of}
 use Rattle.gt_live.specs.Unmarked.{unmarked, with_marks}
 use Rattle.gt_live.specs.declared.domain.following.Followed.{Followed}

@@ -7,19 +7,16 @@ pub use Rattle.gt_audit.specs.declared.record.Hypercall.{Hypercall}
 pub use Rattle.gt_audit.specs.declared.record.Record.{Record}
 pub use Rattle.gt_audit.specs.declared.record.Reply.{Reply}
 pub use Rattle.gt_model.specs.Asking.{asked, begun_of, bytes_given_by}
-pub use Rattle.gt_calls.specs.Changes.{raise_of}
+pub use Rattle.gt_model.specs.Entries.{raise_of, frame_of}
 pub use Rattle.gt_calls.specs.Following.{GoesOnWith, IsStepAction}
 pub use Rattle.gt_model.specs.Holding.{last_first, no_pins, without_last}
 pub use Rattle.gt_calls.specs.Holding.{pins_so_far}
 pub use Rattle.gt_calls.specs.Machine.{action_at, after_pin_of, at_dest}
-pub use Rattle.gt_model.specs.Giving.{IsAllowed}
+pub use Rattle.gt_model.specs.Rules.{IsAllowed, CallerKnowledge, begun, frame_count_of, label_of, map_perms, triples}
 pub use Rattle.gt_model.specs.Path.{AfterPin, AfterRefusal, Continuation, end_leg, entry_refusal, give_back, path}
 pub use Rattle.gt_model.specs.Path.{path_of, place_of, refused_at, second_leg, tries, try_pin, turn, turns}
 pub use Rattle.gt_calls.specs.Resting.{Rests, RestsOnWays}
-pub use Rattle.gt_model.specs.Rules.{CallerKnowledge, begun, frame_count_of}
-pub use Rattle.gt_calls.specs.Rules.{entry_in, own_generation, knowledge_of}
-pub use Rattle.gt_model.specs.Rules.{label_of}
-pub use Rattle.gt_model.specs.Rules.{map_perms, triples}
+pub use Rattle.gt_calls.specs.Known.{entry_in, own_generation, knowledge_of}
 pub use Rattle.gt_calls.specs.Standing.{IsAt, IsFreshCall, held_by_call, held_in, pins_by_call}
 pub use Rattle.gt_model.specs.declared.action.Action.{Action}
 pub use Rattle.gt_model.specs.declared.action.Action.TheVariants.{Done, Step as Makes}
@@ -50,7 +47,6 @@ pub use Rattle.gt_types.specs.declared.copies.CopyArgs.{CopyArgs}
 pub use Rattle.gt_types.specs.declared.copies.End.{End}
 pub use Rattle.gt_model.specs.declared.request.PinHolder.TheVariants.{Leg as ByLeg}
 pub use Rattle.gt_model.specs.declared.request.Request.{Request}
-pub use Rattle.gt_model.specs.Entries.{frame_of}
 pub use Rattle.gt_model.specs.Permits.{permits}
 pub use Rattle.gt_model.specs.Words.{control_of, is_kind}
 pub use Rattle.gt_model.specs.declared.change.EntryChange.{EntryChange}
@@ -100,8 +96,7 @@ pub use Rattle.gt_words.specs.Keeping.{held}
 pub use Rattle.gt_word_history.specs.Rule.{IsKeptHeader, Layout, id_at, position_in}
 pub use Rattle.gt_word_history.specs.Steps.{on_entry, on_header}
 pub use Rattle.gt_word_history.specs.Views.{IsAmong, LivePin, is_same_dir, last_of, last_seen, own_table, live_pins}
-pub use Rattle.gt_word_history.specs.Views.{record_seen}
-pub use Rattle.gt_word_history.specs.Views.{steps_on, with_step}
+pub use Rattle.gt_word_history.specs.Views.{record_seen, steps_on, with_step}
 pub use Rattle.gt_word_history.specs.declared.view.EntryStep.{EntryStep}
 pub use Rattle.gt_word_history.specs.declared.view.EntryStep.TheVariants.{ChangeMissed, Looked, PinMissed, ReadBody}
 pub use Rattle.gt_word_history.specs.declared.view.EntryStep.TheVariants.{StoredBody}

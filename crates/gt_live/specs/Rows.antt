@@ -2,7 +2,7 @@
 use Rattle.std.specs.Prelude.{ℕ, List, [], ◌∷◌, zero, suc}
 use Rattle.gt_model.specs.declared.change.EntryChange.{EntryChange}
 use Rattle.gt_calls.specs.declared.known.OwnerEntry.{OwnerEntry}
-use Rattle.gt_calls.specs.Changes.{own_after}
+use Rattle.gt_calls.specs.Known.{own_after}
 
 -- the rows after a change of the row r, if there is one
 abbrev pub row_changed : List OwnerEntry → ℕ → EntryChange → List OwnerEntry

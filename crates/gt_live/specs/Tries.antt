@@ -1,9 +1,9 @@
 -- The number of tries that a call makes.
 use Rattle.std.specs.Prelude.{◌≡◌, ◌≢◌, ◌⊎◌, ℕ, List, [], ◌∷◌, ◌++◌}
-use Rattle.gt_live.specs.Prelude.{DomId, GrantRef, N18, Denial, Dir, EntryChange, BodyWord, Moment, Layout, position_in}
-use Rattle.gt_live.specs.Prelude.{on_entry, on_header, EntryStep, ChangeMissed, Looked, PinMissed, ReadBody, SeatStep}
-use Rattle.gt_live.specs.Prelude.{View, Refused, Request, Leg, MORE_TRIES, AfterPin, AfterRefusal, entry_refusal}
-use Rattle.gt_live.specs.Prelude.{path_of, refused_at, tries, try_pin, turn, turns, CallerKnowledge}
+use Rattle.gt_live.specs.Prelude.{DomId, GrantRef, N18, Denial, Dir, EntryChange, BodyWord, Moment, Layout}
+use Rattle.gt_live.specs.Prelude.{position_in, on_entry, on_header, EntryStep, ChangeMissed, Looked, PinMissed}
+use Rattle.gt_live.specs.Prelude.{ReadBody, SeatStep, View, Refused, Request, Leg, MORE_TRIES, AfterPin, AfterRefusal}
+use Rattle.gt_live.specs.Prelude.{entry_refusal, path_of, refused_at, tries, try_pin, turn, turns, CallerKnowledge}
 use Rattle.gt_word_history.specs.declared.view.EntryStep.TheVariants.{Unpinned}
 use Rattle.gt_word_history.specs.declared.view.HeaderStep.TheVariants as header
 use Rattle.gt_live.specs.Walks.{Called}

@@ -1,12 +1,11 @@
 -- A copy under way: the pins that it holds, and where it stops. The code's own representation. It is in specs/ because
 -- contracts cite it.
 use Rattle.std.specs.Prelude.{◌≡◌, ℕ, ◌<◌, List, [], ◌∷◌, ◌++◌, Some}
-use Rattle.gt_live.specs.Prelude.{Denial, TABLE_ENTRIES, HasDomain, Layout}
-use Rattle.gt_live.specs.Prelude.{Moment, View, Action, Spot, Nothing, CopyBytes, CallResult, Granted, Refused}
-use Rattle.gt_live.specs.Prelude.{Call, Phase, Accessing, Ending, Walking, Source, Dest, HeldPin, CallPins, CopyArgs, Copy}
-use Rattle.gt_live.specs.Prelude.{GoesOnWith, last_first, action_at, give_back, path, Rests, RestsOnWays}
-use Rattle.gt_live.specs.Prelude.{CallerKnowledge}
-use Rattle.gt_live.specs.Prelude.{IsAt, held_by_call, held_in, pins_by_call}
+use Rattle.gt_live.specs.Prelude.{Denial, TABLE_ENTRIES, HasDomain, Layout, Moment, View, Action, Spot, Nothing}
+use Rattle.gt_live.specs.Prelude.{CopyBytes, CallResult, Granted, Refused, Call, Phase, Accessing, Ending, Walking}
+use Rattle.gt_live.specs.Prelude.{Source, Dest, HeldPin, CallPins, CopyArgs, Copy, GoesOnWith, last_first, action_at}
+use Rattle.gt_live.specs.Prelude.{give_back, path, Rests, RestsOnWays, CallerKnowledge, IsAt, held_by_call, held_in}
+use Rattle.gt_live.specs.Prelude.{pins_by_call}
 use Rattle.gt_model.specs.declared.action.Action.TheVariants as actions
 use Rattle.gt_live.specs.Accesses.{ComesTo, onward}
 use Rattle.gt_live.specs.Driving.{IsSame}

@@ -3,7 +3,7 @@ ghost use Rattle.std.specs.Prelude.{◌≡◌, ◌≤◌, OnOk, IfOk, None, Some
 ghost use Rattle.gt_words.specs.Conditions.{IsSameSeat, IsSeatOf};
 ghost use Rattle.gt_word_history.specs.Rule.{IsKeptHeader};
 ghost use Rattle.gt_word_history.specs.Views.{own_table};
-ghost use Rattle.gt_calls.specs.Rules.{knows};
+ghost use Rattle.gt_calls.specs.Known.{knows};
 ghost use Rattle.gt_live.specs.declared.domain.Domain.{Domain};
 ghost use Rattle.gt_live.specs.Rows.{row_changed};
 ghost use Rattle.gt_live.specs.Domains.{BelongsTo};
@@ -229,7 +229,7 @@ impl Domain {
     ghost use Rattle.gt_live.specs.Owning.{IsRowOf};
     ghost use Rattle.gt_live.specs.Questions.{answer_by};
     ghost use Rattle.gt_model.specs.declared.action.HeaderQuery.{HeaderQuery};
-    ghost use Rattle.gt_calls.specs.Rules.{knows};
+    ghost use Rattle.gt_calls.specs.Known.{knows};
     ghost use Rattle.gt_model.specs.Rules.{label_of};
     ghost use Rattle.gt_live.specs.Domains.{known_on, verdict_of_frames, verdict_of_size};
     ghost use Rattle.gt_live.specs.Domains.{verdict_of_version};

@@ -1,6 +1,6 @@
 //! The steps of calls on the words, and a map driven along its path.
 ghost use Rattle.std.specs.Prelude.{◌≡◌, None, Some, [], ◌∷◌, MatchResult};
-ghost use Rattle.gt_calls.specs.Rules.{knows};
+ghost use Rattle.gt_calls.specs.Known.{knows};
 ghost use Rattle.gt_model.specs.Rules.{map_begun};
 ghost use Rattle.gt_model.specs.Path.{map_leg, path};
 ghost use Rattle.gt_words.specs.Conditions.{IsSeatOf, IsSameSeat, position_at};

@@ -2,7 +2,7 @@
 ghost use Rattle.std.specs.Prelude.{◌≡◌, ◌<◌, None};
 ghost use Rattle.gt_model.specs.Path.{path, header_value_of};
 ghost use Rattle.gt_model.specs.Rules.{begun, query_begun};
-ghost use Rattle.gt_calls.specs.Rules.{knows};
+ghost use Rattle.gt_calls.specs.Known.{knows};
 ghost use Rattle.gt_model.specs.declared.action.HeaderQuery.{HeaderQuery};
 ghost use Rattle.gt_model.specs.declared.request.OpenRequest.TheVariants as asks;
 ghost use Rattle.gt_words.specs.Conditions.{IsSeatOf, IsSameSeat};

@@ -1,7 +1,7 @@
 //! An owner's changes of its entries, each driven along its path.
 ghost use Rattle.std.specs.Prelude.{◌≡◌, None, MatchResult};
 ghost use Rattle.gt_model.specs.Rules.{begun};
-ghost use Rattle.gt_calls.specs.Rules.{knows};
+ghost use Rattle.gt_calls.specs.Known.{knows};
 ghost use Rattle.gt_model.specs.Path.{idle_word, is_stopped, path};
 ghost use Rattle.gt_model.specs.declared.request.OpenRequest.TheVariants as asks;
 ghost use Rattle.gt_model.specs.Words.{control_of};

@@ -7,7 +7,7 @@ ghost use Rattle.gt_model.specs.declared.held.AccessPath.TheVariants.{Own};
 ghost use Rattle.gt_model.specs.Holding.{held_by, last_first, no_pins};
 ghost use Rattle.gt_calls.specs.Machine.{at_dest, at_source, through_via};
 ghost use Rattle.gt_model.specs.Rules.{copy_begun};
-ghost use Rattle.gt_calls.specs.Rules.{knows};
+ghost use Rattle.gt_calls.specs.Known.{knows};
 ghost use Rattle.gt_types.specs.Copies.{is_dest_granted};
 ghost use Rattle.gt_live.specs.Copies.{CanGiveBack, IsGivenBack, IsLastOf, CopyStopsWith, dest_leg, source_leg};
 ghost use Rattle.gt_live.specs.Copies.{after_copy, after_dest, phase_after_source, after_through, filled};

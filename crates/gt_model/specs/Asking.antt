@@ -1,22 +1,23 @@
 -- Requests, as an open call keeps them.
-use Rattle.std.specs.Prelude.{◌≡◌, ℕ, Bool, ◌==◌, ◌%◌, not, nat_le, if◌then◌else◌, List, [], ◌∷◌, length, Option}
-use Rattle.std.specs.Prelude.{Some, None}
+use Rattle.std.specs.Prelude.{◌≡◌, ℕ, Bool, ◌==◌, ◌%◌, not, nat_le, if◌then◌else◌, List, [], ◌∷◌, length, Option, ◌⊎◌}
+use Rattle.std.specs.Prelude.{◌&&◌, Some, None}
 use Rattle.gt_model.specs.Bytes.{Spells, field, flags_of, is_set, first_refused}
 use Rattle.gt_model.specs.Entries.{IsEntry, is_invalid}
 use Rattle.gt_model.specs.Rules.{CallerKnowledge, first, refused_when, begun}
 use Rattle.gt_model.specs.Words.{size_of}
+use Rattle.gt_types.specs.Denial.{denial_of}
 use Rattle.gt_model.specs.declared.action.CallResult.{CallResult}
 use Rattle.gt_model.specs.declared.action.CallResult.TheVariants.{Refused}
 use Rattle.gt_model.specs.declared.entry.Entry.{Entry}
 use Rattle.gt_model.specs.declared.entry.Entry.TheVariants.{Invalid, Page, Sub, Via}
+use Rattle.gt_model.specs.declared.handle.Handle.{Handle}
 use Rattle.gt_model.specs.declared.header.Header.{Header}
 use Rattle.gt_model.specs.declared.request.OpenRequest.{OpenRequest}
 use Rattle.gt_model.specs.declared.request.OpenRequest.TheVariants.{Grant, Revoke, Demote, Promote, Map, Unmap}
-use Rattle.gt_model.specs.declared.request.OpenRequest.TheVariants.{Release, Load, SetVersion, SetupTable}
-use Rattle.gt_model.specs.declared.request.OpenRequest.TheVariants.{QuerySize, GetVersion, Store, Peek, Poke, Copy}
-use Rattle.gt_model.specs.declared.request.OpenRequest.TheVariants.{Withdraw, Probe}
+use Rattle.gt_model.specs.declared.request.OpenRequest.TheVariants.{Release, Load, SetVersion, SetupTable, QuerySize}
+use Rattle.gt_model.specs.declared.request.OpenRequest.TheVariants.{GetVersion, Store, Peek, Poke, Copy, Withdraw}
+use Rattle.gt_model.specs.declared.request.OpenRequest.TheVariants.{Probe}
 use Rattle.gt_model.specs.declared.request.Request.{Request}
-use Rattle.gt_types.specs.Denial.{denial_of}
 use Rattle.gt_types.specs.declared.DomId.{DomId}
 use Rattle.gt_types.specs.declared.GrantRef.{GrantRef}
 use Rattle.gt_types.specs.declared.denial.Facts.TheVariants.{Field as FieldFacts}
@@ -24,6 +25,10 @@ use Rattle.gt_types.specs.declared.denial.Field.{Field}
 use Rattle.gt_types.specs.declared.denial.Rule.TheVariants.{N9, N20, N22, N25}
 use Rattle.gt_types.specs.declared.limits.TheConstants.{LAST_GENERATION}
 use Rattle.gt_model.specs.declared.request.Request.TheVariants as requests
+
+-- both are the same handle
+abbrev pub same_handle : Handle → Handle → Bool
+same_handle a b = (a.serial == b.serial) && (a.key == b.key)
 
 -- the domain that these bytes of an entry name (grant_table.h)
 abbrev pub domain_said : List ℕ → DomId
@@ -125,3 +130,7 @@ begun_of k caller request = begun_by k caller request (bytes_of request)
 abbrev pub FitsAsked : OpenRequest → Type 0
 FitsAsked (Grant gref entry) = IsEntry entry
 FitsAsked request = Unit {0}
+
+-- the request drops the mapping with this handle: an unmap, or the release of a domain that leaves
+abbrev pub GivesUp : OpenRequest → Handle → Type 0
+GivesUp request handle = (request ≡ Unmap handle) ⊎ (request ≡ Release handle)

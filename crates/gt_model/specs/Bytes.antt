@@ -1,13 +1,13 @@
 -- The bytes that encode an entry, and the field that is refused of bytes that encode none.
-use Rattle.std.specs.Prelude.{◌≡◌, ℕ, ◌+◌, ◌/◌, ◌%◌, ◌<◌, Bool, ◌&&◌, ◌||◌, not, ◌==◌, nat_lt, if◌then◌else◌, List, []}
-use Rattle.std.specs.Prelude.{◌∷◌, ◌++◌, length, take, drop, All, find, Option, MatchBool}
+use Rattle.std.specs.Prelude.{◌≡◌, ℕ, ◌+◌, ◌/◌, ◌%◌, ◌<◌, Bool, ◌&&◌, ◌||◌, not, ◌==◌, nat_lt, if◌then◌else◌, List}
+use Rattle.std.specs.Prelude.{[], ◌∷◌, ◌++◌, length, take, drop, All, find, Option, MatchBool}
 use Rattle.byteorder.specs.Endian.{little_number, little_bytes}
+use Rattle.gt_model.specs.Words.{flag}
+use Rattle.gt_model.specs.declared.entry.Entry.{Entry}
+use Rattle.gt_model.specs.declared.entry.Entry.TheVariants.{Invalid, Page, Sub, Via}
 use Rattle.gt_types.specs.declared.denial.Field.{Field}
 use Rattle.gt_types.specs.declared.denial.Field.TheVariants.{Length, Kind, Reading, Writing, Pwt, Pcd, Pat, SubPage}
 use Rattle.gt_types.specs.declared.denial.Field.TheVariants.{Reserved}
-use Rattle.gt_model.specs.declared.entry.Entry.{Entry}
-use Rattle.gt_model.specs.declared.entry.Entry.TheVariants.{Invalid, Page, Sub, Via}
-use Rattle.gt_model.specs.Words.{flag}
 
 -- the number in n bytes starting at this offset, the lowest byte first (own: all numbers are little-endian)
 abbrev pub field : List ℕ → ℕ → ℕ → ℕ

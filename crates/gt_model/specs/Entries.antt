@@ -1,5 +1,7 @@
 -- The kinds of entries and their parts.
 use Rattle.std.specs.Prelude.{◌^◌, ◌<◌, ℕ, Bool, true, false}
+use Rattle.gt_model.specs.declared.change.EntryChange.{EntryChange}
+use Rattle.gt_model.specs.declared.change.EntryChange.TheVariants.{Publish, Revoke, Withdraw, Demote, Promote}
 use Rattle.gt_model.specs.declared.entry.Entry.{Entry}
 use Rattle.gt_model.specs.declared.entry.Entry.TheVariants.{Invalid, Page, Sub, Via}
 
@@ -37,3 +39,19 @@ IsEntry Invalid = Unit {0}
 IsEntry (Page dom ro frame) = (dom.0 < 65536) × (frame < 2 ^ 64)
 IsEntry (Sub dom ro frame off len) = (dom.0 < 65536) × (frame < 2 ^ 64) × (off < 65536) × (len < 65536)
 IsEntry (Via dom ro dom2 gref) = (dom.0 < 65536) × (dom2.0 < 65536) × (gref.0 < 2 ^ 32)
+
+-- the entry after a change: the published one, an invalid one, or the same with another readonly bit
+abbrev pub changed_entry : EntryChange → Entry → Entry
+changed_entry (Publish entry) old = entry
+changed_entry Revoke old = Invalid
+changed_entry Withdraw old = Invalid
+changed_entry Demote old = with_ro true old
+changed_entry Promote old = with_ro false old
+
+-- how much a change raises the generation
+abbrev pub raise_of : EntryChange → ℕ
+raise_of (Publish entry) = 1
+raise_of Revoke = 0
+raise_of Withdraw = 0
+raise_of Demote = 1
+raise_of Promote = 1

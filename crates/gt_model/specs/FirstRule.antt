@@ -8,6 +8,8 @@ use Rattle.gt_model.specs.History.{known_at, Underway, open_call, seen_by, legs_
 use Rattle.gt_model.specs.Path.{map_leg, end_leg, second_leg, source_pair, dest_pair, entry_refusal}
 use Rattle.gt_model.specs.Rules.{CallerKnowledge, stands, first, first_look, before_pin, via_judged}
 use Rattle.gt_model.specs.Words.{header_word, pins_of, size_of}
+use Rattle.gt_types.specs.Copies.{is_source_granted, is_dest_granted}
+use Rattle.gt_types.specs.Denial.{denial_of}
 use Rattle.gt_model.specs.declared.action.CallResult.{CallResult}
 use Rattle.gt_model.specs.declared.action.CallResult.TheVariants.{Refused}
 use Rattle.gt_model.specs.declared.action.Observation.{Observation}
@@ -16,9 +18,8 @@ use Rattle.gt_model.specs.declared.action.Step.{Step}
 use Rattle.gt_model.specs.declared.action.Step.TheVariants.{LookHeader, LookControl, LookBody, Pin as PinStep}
 use Rattle.gt_model.specs.declared.action.Step.TheVariants.{Exchange}
 use Rattle.gt_model.specs.declared.change.EntryChange.{EntryChange}
-use Rattle.gt_model.specs.declared.change.EntryChange.TheVariants.{Publish, Revoke as ToInvalid}
-use Rattle.gt_model.specs.declared.change.EntryChange.TheVariants.{Demote as ToReadOnly, Promote as ToWritable}
-use Rattle.gt_model.specs.declared.change.EntryChange.TheVariants.{Withdraw as ToWithdrawn}
+use Rattle.gt_model.specs.declared.change.EntryChange.TheVariants.{Publish, Revoke as ToInvalid, Demote as ToReadOnly}
+use Rattle.gt_model.specs.declared.change.EntryChange.TheVariants.{Promote as ToWritable, Withdraw as ToWithdrawn}
 use Rattle.gt_model.specs.declared.entry.Entry.{Entry}
 use Rattle.gt_model.specs.declared.entry.Entry.TheVariants.{Via}
 use Rattle.gt_model.specs.declared.held.AccessPath.{AccessPath}
@@ -30,8 +31,6 @@ use Rattle.gt_model.specs.declared.request.OpenRequest.TheVariants.{Map, Demote,
 use Rattle.gt_model.specs.declared.trace.Item.{Item}
 use Rattle.gt_model.specs.declared.trace.ItemEvent.{ItemEvent}
 use Rattle.gt_model.specs.declared.trace.ItemEvent.TheVariants.{Began, Stepped}
-use Rattle.gt_types.specs.Copies.{is_source_granted, is_dest_granted}
-use Rattle.gt_types.specs.Denial.{denial_of}
 use Rattle.gt_types.specs.declared.Dir.TheVariants.{Read, Write}
 use Rattle.gt_types.specs.declared.DomId.{DomId}
 use Rattle.gt_types.specs.declared.GrantRef.{GrantRef}

@@ -1,5 +1,7 @@
 -- Pins that are held, and the routes by them to frames.
-use Rattle.std.specs.Prelude.{ℕ, List, [], ◌∷◌, ◌++◌}
+use Rattle.std.specs.Prelude.{ℕ, List, [], ◌∷◌, ◌++◌, ◌≡◌}
+use Rattle.gt_model.specs.declared.entry.Entry.{Entry}
+use Rattle.gt_model.specs.declared.entry.Entry.TheVariants.{Via}
 use Rattle.gt_model.specs.declared.held.AccessPath.{AccessPath}
 use Rattle.gt_model.specs.declared.held.AccessPath.TheVariants.{Own, Direct, Through}
 use Rattle.gt_model.specs.declared.held.CallPins.{CallPins}
@@ -46,3 +48,8 @@ without_last pins = drop_last pins.source pins.dest
     drop_last : AccessPath → AccessPath → CallPins
     drop_last source Own = record { source = shortened source; dest = Own }
     drop_last source dest = record { source = source; dest = shortened dest }
+
+-- the entry leads to the pinned one
+abbrev pub GivesHeld : Entry → HeldPin → Type 0
+GivesHeld (Via dom ro dom2 gref) p = (p.dom ≡ dom2) × (p.gref ≡ gref)
+GivesHeld entry p = ⊥

@@ -1,21 +1,23 @@
 -- When a domain may reach bytes: what an access, and a change of an entry, requires.
 use Rattle.std.specs.Prelude.{◌≡◌, ◌≤◌, ◌⊎◌, ℕ, Bool, true, false, [], Option, Some, None, Any, ◌+◌, ◌<◌}
+use Rattle.gt_model.specs.Asking.{GivesUp}
 use Rattle.gt_model.specs.Entries.{frame_of}
-use Rattle.gt_model.specs.Giving.{IsAllowed, GivesUp, GivesHeld}
 use Rattle.gt_model.specs.History.{History, Setting, entry_at, body_at, reads_at, writes_at, live, Pin, known_at}
 use Rattle.gt_model.specs.History.{mappings_at, mapping_of}
+use Rattle.gt_model.specs.Holding.{GivesHeld}
 use Rattle.gt_model.specs.Permits.{permits, forwards}
-use Rattle.gt_model.specs.Rules.{rights_to_map, rights_to_copy, frame_count_of}
+use Rattle.gt_model.specs.Rules.{IsAllowed, rights_to_map, rights_to_copy, frame_count_of}
 use Rattle.gt_model.specs.Spelling.{IsSpelled}
+use Rattle.gt_types.specs.Copies.{is_source_granted, is_dest_granted}
+use Rattle.gt_types.specs.Names.{resolved}
 use Rattle.gt_model.specs.declared.action.Observation.TheVariants.{Taken}
 use Rattle.gt_model.specs.declared.action.Step.{Step}
 use Rattle.gt_model.specs.declared.action.Step.TheVariants.{StoreBody, Unpin, Exchange, Read as ReadBytes}
 use Rattle.gt_model.specs.declared.action.Step.TheVariants.{Write as WriteBytes, Copy as CopyBytes}
 use Rattle.gt_model.specs.declared.change.BodyWord.TheVariants.{First as FirstHalf, Second as SecondHalf}
 use Rattle.gt_model.specs.declared.change.EntryChange.{EntryChange}
-use Rattle.gt_model.specs.declared.change.EntryChange.TheVariants.{Publish, Revoke as ToInvalid}
-use Rattle.gt_model.specs.declared.change.EntryChange.TheVariants.{Demote as ToReadOnly, Promote as ToWritable}
-use Rattle.gt_model.specs.declared.change.EntryChange.TheVariants.{Withdraw as ToWithdrawn}
+use Rattle.gt_model.specs.declared.change.EntryChange.TheVariants.{Publish, Revoke as ToInvalid, Demote as ToReadOnly}
+use Rattle.gt_model.specs.declared.change.EntryChange.TheVariants.{Promote as ToWritable, Withdraw as ToWithdrawn}
 use Rattle.gt_model.specs.declared.entry.Entry.TheVariants.{Invalid}
 use Rattle.gt_model.specs.declared.held.HeldPin.{HeldPin}
 use Rattle.gt_model.specs.declared.request.OpenRequest.{OpenRequest}
@@ -24,8 +26,6 @@ use Rattle.gt_model.specs.declared.request.PinHolder.TheVariants.{Mapping as ByM
 use Rattle.gt_model.specs.declared.trace.Item.{Item}
 use Rattle.gt_model.specs.declared.trace.ItemEvent.{ItemEvent}
 use Rattle.gt_model.specs.declared.trace.ItemEvent.TheVariants.{Stepped}
-use Rattle.gt_types.specs.Copies.{is_source_granted, is_dest_granted}
-use Rattle.gt_types.specs.Names.{resolved}
 use Rattle.gt_types.specs.declared.Dir.{Dir}
 use Rattle.gt_types.specs.declared.Dir.TheVariants.{Read, Write}
 use Rattle.gt_types.specs.declared.DomId.{DomId}

@@ -6,12 +6,9 @@ pub mod Permits
 pub mod Words
 pub mod Spelling
 pub mod Bytes
-pub mod Changes
-pub mod Handle
-pub mod Asking
 pub mod Rules
+pub mod Asking
 pub mod Holding
-pub mod Giving
 pub mod Path
 pub mod Written
 pub mod History

@@ -1,12 +1,12 @@
 -- What an entry permits.
 use Rattle.std.specs.Prelude.{ℕ, Bool, true, false, ◌&&◌, not, ◌==◌, nat_le, ◌+◌}
-use Rattle.gt_types.specs.declared.DomId.{DomId}
-use Rattle.gt_types.specs.declared.Dir.{Dir}
-use Rattle.gt_types.specs.declared.Dir.TheVariants.{Read, Write}
-use Rattle.gt_types.specs.declared.Use.{Use}
-use Rattle.gt_types.specs.declared.Use.TheVariants.{Map as ForMap, Copy as ForCopy}
 use Rattle.gt_model.specs.declared.entry.Entry.{Entry}
 use Rattle.gt_model.specs.declared.entry.Entry.TheVariants.{Invalid, Page, Sub, Via}
+use Rattle.gt_types.specs.declared.Dir.{Dir}
+use Rattle.gt_types.specs.declared.Dir.TheVariants.{Read, Write}
+use Rattle.gt_types.specs.declared.DomId.{DomId}
+use Rattle.gt_types.specs.declared.Use.{Use}
+use Rattle.gt_types.specs.declared.Use.TheVariants.{Map as ForMap, Copy as ForCopy}
 
 -- a read-only entry refuses writing (grant_table.h)
 abbrev pub allows_direction : Bool → Dir → Bool

@@ -2,15 +2,17 @@
 use Rattle.std.specs.Prelude.{◌≡◌, ℕ, Bool, true, false, ◌&&◌, ◌||◌, not, ◌==◌, nat_lt, nat_le, if◌then◌else◌, List}
 use Rattle.std.specs.Prelude.{[], ◌∷◌, Option, Some, None, is_none, zero, suc, ◌+◌}
 use Rattle.gt_model.specs.Permits.{is_copying, allows_direction}
+use Rattle.gt_types.specs.Copies.{is_source_granted, is_dest_granted}
+use Rattle.gt_types.specs.Denial.{denial_of}
+use Rattle.gt_types.specs.Names.{resolved, domain_of, map_read, map_write, unmap, setup, query, copy}
 use Rattle.gt_model.specs.declared.action.CallResult.{CallResult}
 use Rattle.gt_model.specs.declared.action.CallResult.TheVariants.{Granted, Given, Refused}
 use Rattle.gt_model.specs.declared.action.CallValue.{CallValue}
 use Rattle.gt_model.specs.declared.action.CallValue.TheVariants.{Frames}
 use Rattle.gt_model.specs.declared.bounds.TheConstants.{SERIAL_LIMIT}
 use Rattle.gt_model.specs.declared.change.EntryChange.{EntryChange}
-use Rattle.gt_model.specs.declared.change.EntryChange.TheVariants.{Publish, Revoke as ToInvalid}
-use Rattle.gt_model.specs.declared.change.EntryChange.TheVariants.{Demote as ToReadOnly, Promote as ToWritable}
-use Rattle.gt_model.specs.declared.change.EntryChange.TheVariants.{Withdraw as ToWithdrawn}
+use Rattle.gt_model.specs.declared.change.EntryChange.TheVariants.{Publish, Revoke as ToInvalid, Demote as ToReadOnly}
+use Rattle.gt_model.specs.declared.change.EntryChange.TheVariants.{Promote as ToWritable, Withdraw as ToWithdrawn}
 use Rattle.gt_model.specs.declared.control.Control.{Control}
 use Rattle.gt_model.specs.declared.control.EntryKind.TheVariants.{Invalid as KindInvalid, Page as KindPage}
 use Rattle.gt_model.specs.declared.control.EntryKind.TheVariants.{Via as KindVia}
@@ -22,12 +24,9 @@ use Rattle.gt_model.specs.declared.held.HeldPin.{HeldPin}
 use Rattle.gt_model.specs.declared.leg.Leg.{Leg}
 use Rattle.gt_model.specs.declared.request.OpenRequest.{OpenRequest}
 use Rattle.gt_model.specs.declared.request.OpenRequest.TheVariants.{Grant, Revoke, Demote, Promote, Map, Unmap}
-use Rattle.gt_model.specs.declared.request.OpenRequest.TheVariants.{Release, Load, SetVersion, SetupTable}
-use Rattle.gt_model.specs.declared.request.OpenRequest.TheVariants.{QuerySize, GetVersion, Store, Peek, Poke, Copy}
-use Rattle.gt_model.specs.declared.request.OpenRequest.TheVariants.{Probe, Withdraw}
-use Rattle.gt_types.specs.Copies.{is_source_granted, is_dest_granted}
-use Rattle.gt_types.specs.Denial.{denial_of}
-use Rattle.gt_types.specs.Names.{resolved, domain_of, map_read, map_write, unmap, setup, query, copy}
+use Rattle.gt_model.specs.declared.request.OpenRequest.TheVariants.{Release, Load, SetVersion, SetupTable, QuerySize}
+use Rattle.gt_model.specs.declared.request.OpenRequest.TheVariants.{GetVersion, Store, Peek, Poke, Copy, Probe}
+use Rattle.gt_model.specs.declared.request.OpenRequest.TheVariants.{Withdraw}
 use Rattle.gt_types.specs.declared.Dir.{Dir}
 use Rattle.gt_types.specs.declared.Dir.TheVariants.{Read, Write}
 use Rattle.gt_types.specs.declared.DomId.{DomId}
@@ -43,9 +42,9 @@ use Rattle.gt_types.specs.declared.limits.TheConstants.{FRAME_SIZE, LAST_GENERAT
 use Rattle.gt_types.specs.declared.limits.TheConstants.{MAX_TABLE_FRAMES}
 use Rattle.gt_types.specs.declared.perms.Perms.{Perms}
 use Rattle.gt_types.specs.declared.rights.Triple.{Triple}
-pub use Rattle.gt_model.specs.Words.{size_of, pins_of, is_kind}
 pub use Rattle.gt_model.specs.Entries.{is_invalid, is_read_only}
 pub use Rattle.gt_model.specs.Spelling.{control_with, first_body, second_body}
+pub use Rattle.gt_model.specs.Words.{size_of, pins_of, is_kind}
 
 -- what a caller knows by itself: the run's domains and rights, its own entries by reference, its header, its mappings
 -- by handle and their number, and the number of its maps that were answered Ok
@@ -387,3 +386,8 @@ before_pin l entry pins = first (
     stands (is_outside_sub l entry) N14
     ∷ stands (is_past_owner l entry) N16
     ∷ stands (pins == MAX_PINS) N17 ∷ [])
+
+-- the policy allows each of these (XSM FLASK)
+abbrev pub IsAllowed : (TypeId → TypeId → Perms → Bool) → List Triple → Type 0
+IsAllowed may [] = Unit {0}
+IsAllowed may (t ∷ ts) = (may t.source t.target t.perm ≡ true) × IsAllowed may ts

@@ -1,12 +1,12 @@
 -- The words that encode an entry: its control word and two body words.
 use Rattle.std.specs.Prelude.{◌≡◌, ℕ, ◌+◌, ◌*◌, ◌/◌, ◌%◌, ◌^◌, false}
+use Rattle.gt_model.specs.Words.{flag}
+use Rattle.gt_model.specs.declared.control.Control.{Control}
+use Rattle.gt_model.specs.declared.control.EntryKind.{EntryKind}
+use Rattle.gt_model.specs.declared.control.EntryKind.TheVariants.{Invalid as KindInvalid, Page as KindPage}
+use Rattle.gt_model.specs.declared.control.EntryKind.TheVariants.{Sub as KindSub, Via as KindVia}
 use Rattle.gt_model.specs.declared.entry.Entry.{Entry}
 use Rattle.gt_model.specs.declared.entry.Entry.TheVariants.{Invalid, Page, Sub, Via}
-use Rattle.gt_model.specs.declared.control.EntryKind.{EntryKind}
-use Rattle.gt_model.specs.declared.control.EntryKind.TheVariants.{Invalid as KindInvalid, Page as KindPage, Sub as KindSub}
-use Rattle.gt_model.specs.declared.control.EntryKind.TheVariants.{Via as KindVia}
-use Rattle.gt_model.specs.declared.control.Control.{Control}
-use Rattle.gt_model.specs.Words.{flag}
 
 -- the low four bits of the entry's control word
 abbrev pub low_bits : Entry → ℕ

@@ -1,6 +1,5 @@
 -- Bytes laid over bytes.
-use Rattle.std.specs.Prelude.{◌≡◌, ℕ, ◌+◌, ◌<◌, ◌≤◌, List, [], ◌∷◌, ◌++◌, take, drop, length, replicate}
-use Rattle.std.specs.Prelude.{slice_index}
+use Rattle.std.specs.Prelude.{◌≡◌, ℕ, ◌+◌, ◌<◌, ◌≤◌, List, [], ◌∷◌, ◌++◌, take, drop, length, replicate, slice_index}
 use Rattle.gt_types.specs.declared.limits.TheConstants.{FRAME_SIZE}
 
 -- the list xs with ys laid over it, starting at off

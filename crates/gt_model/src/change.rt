@@ -27,7 +27,7 @@ pub enum EntryChange {
 
 impl EntryChange {
     ghost use Rattle.std.specs.Prelude.{◌≡◌};
-    ghost use Rattle.gt_model.specs.Changes.{changed_entry};
+    ghost use Rattle.gt_model.specs.Entries.{changed_entry};
 
     /// Returns the entry that the change makes of this one.
     pub fn applied(self, entry: Entry) -> Entry

@@ -1,6 +1,7 @@
 -- What an access of a call is among the steps of the history, and what items and history have written after it.
 use Rattle.std.proofs.Common.{◌≡◌, ℕ, ◌+◌, ◌-◌, ◌<◌, Bool, true, false, cond, ◌==◌, ◌&&◌, List, [], ◌∷◌, ◌++◌, length}
-use Rattle.std.proofs.Common.{Option, Some, None, sym, refl, ap, ◌∙◌, subst, arith, inl, inr, eq-eqb, ne_eqb, take, drop}
+use Rattle.std.proofs.Common.{Option, Some, None, sym, refl, ap, ◌∙◌, subst, arith, inl, inr, eq-eqb, ne_eqb, take}
+use Rattle.std.proofs.Common.{drop}
 use Rattle.std.proofs.lemmas.Bool.{cases_eq}
 use Rattle.std.specs.Prelude.{slice_range}
 use Rattle.gt_types.specs.Config.{IsWithinLimits}
@@ -26,7 +27,7 @@ use Rattle.gt_model.specs.declared.action.Step.{Step}
 use Rattle.gt_model.specs.declared.action.Step.TheVariants.{LookHeader, LookControl, LookBody, Pin, Unpin, StoreBody}
 use Rattle.gt_model.specs.declared.action.Step.TheVariants.{StoreHeader, Exchange, Read as ReadBytes}
 use Rattle.gt_model.specs.declared.action.Step.TheVariants.{Write as WriteBytes, Copy as CopyBytes}
-use Rattle.gt_core.proofs.Steps.Observers.{stepped}
+use Rattle.gt_model.proofs.Observers.{stepped}
 use Rattle.gt_core.proofs.Words.{append-nil}
 use Rattle.gt_core.specs.GoingOn.{IsAccess, IsOnWords}
 use Rattle.gt_model.specs.History.{History as Items, Setting, WriteMade, contents_at, given_in, open_call, patches_at}

@@ -1,6 +1,6 @@
 -- A call with an access is a call of a run: its access is one of its steps, if it could be made.
-use Rattle.std.proofs.Common.{◌≡◌, inr, ℕ, List, [], ◌∷◌, ◌++◌, length, Option, Some, None, refl, sym}
-use Rattle.std.proofs.Common.{ap, ◌∙◌, subst, append_assoc}
+use Rattle.std.proofs.Common.{◌≡◌, inr, ℕ, List, [], ◌∷◌, ◌++◌, length, Option, Some, None, refl, sym, ap, ◌∙◌, subst}
+use Rattle.std.proofs.Common.{append_assoc}
 use Rattle.gt_word_history.specs.History.{Moment}
 use Rattle.gt_word_history.specs.Rule.{Layout, position_in}
 use Rattle.gt_word_history.specs.Views.{with_step}

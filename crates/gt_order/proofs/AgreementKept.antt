@@ -1,6 +1,6 @@
 -- Each step keeps items and history in agreement.
-use Rattle.std.proofs.Common.{inl, inr, ◌≡◌, ℕ, ◌+◌, ◌<◌, Bool, true, false, cond, ◌==◌, ◌&&◌, List, ◌∷◌, sym, refl, ap}
-use Rattle.std.proofs.Common.{◌∙◌, subst, arith, eq-eqb, ne_eqb}
+use Rattle.std.proofs.Common.{inl, inr, ◌≡◌, ℕ, ◌+◌, ◌<◌, Bool, true, false, cond, ◌==◌, ◌&&◌, List, ◌∷◌, sym, refl}
+use Rattle.std.proofs.Common.{ap, ◌∙◌, subst, arith, eq-eqb, ne_eqb}
 use Rattle.std.proofs.lemmas.Bool.{cases_eq}
 use Rattle.gt_types.specs.Config.{IsWithinLimits}
 use Rattle.gt_types.specs.declared.DomId.{DomId}
@@ -16,13 +16,13 @@ use Rattle.gt_word_history.specs.declared.view.EntryStep.TheVariants.{StoredBody
 use Rattle.gt_word_history.specs.declared.view.HeaderStep.TheVariants as header
 use Rattle.gt_word_history.specs.declared.view.SeatStep.{SeatStep}
 use Rattle.gt_word_history.specs.declared.view.SeatStep.TheVariants.{Entry, Header}
-use Rattle.gt_core.proofs.Steps.Observers.{kept-entry, kept-raises, kept-table, other-body, other-table, stepped}
-use Rattle.gt_core.proofs.Steps.Observers.{unstored}
-use Rattle.gt_core.proofs.Words.{GrantRef, None, Option, Pin, Observation, Some, StoreBody, StoreHeader, [], append-nil}
-use Rattle.gt_core.proofs.Words.{header_or, or_else, pinned_by, unpinned_by, ◌++◌}
+use Rattle.gt_model.proofs.Observers.{kept-entry, kept-raises, kept-table, other-body, other-table, stepped, unstored}
+use Rattle.gt_core.proofs.Words.{GrantRef, None, Option, Pin, Observation, Some, StoreBody, StoreHeader, []}
+use Rattle.gt_core.proofs.Words.{append-nil, header_or, or_else, pinned_by, unpinned_by, ◌++◌}
 use Rattle.gt_word_history.specs.declared.view.EntryRecord.{EntryRecord}
-use Rattle.gt_model.specs.History.{History as Items, Setting, body_at, change_at, entry_at, generation_at, header_stored}
-use Rattle.gt_model.specs.History.{live, raises_at, reads_at, same_half, stored_at, table_at, word_at, writes_at}
+use Rattle.gt_model.specs.History.{History as Items, Setting, body_at, change_at, entry_at, generation_at}
+use Rattle.gt_model.specs.History.{header_stored, live, raises_at, reads_at, same_half, stored_at, table_at, word_at}
+use Rattle.gt_model.specs.History.{writes_at}
 use Rattle.gt_model.specs.declared.trace.Answer.{Answer}
 use Rattle.gt_model.specs.declared.trace.Item.{Item}
 use Rattle.gt_order.proofs.Places.{ChangesNothing, header-apart, headers-apart, places-apart, record-kept, test-apart}

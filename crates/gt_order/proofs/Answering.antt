@@ -1,6 +1,5 @@
 -- A call of a list that was answered is a call of a run.
-use Rattle.std.proofs.Common.{◌≡◌, ◌⊎◌, inl, inr, ℕ, List, []}
-use Rattle.std.proofs.Common.{Result, Ok, Err, refl, sym, ap, ◌∙◌, subst}
+use Rattle.std.proofs.Common.{◌≡◌, ◌⊎◌, inl, inr, ℕ, List, [], Result, Ok, Err, refl, sym, ap, ◌∙◌, subst}
 use Rattle.gt_types.specs.declared.DomId.{DomId}
 use Rattle.gt_types.specs.declared.Size.{Size}
 use Rattle.gt_types.specs.declared.denial.Denial.{Denial}
@@ -31,12 +30,10 @@ use Rattle.gt_order.proofs.Called.{map-made, plain-made, release-made, unmap-mad
 use Rattle.gt_order.proofs.Accessing.{copies-made, lost-made, reads-made, writes-made}
 use Rattle.gt_order.proofs.Probed.{lost-copies}
 use Rattle.gt_order.specs.Calling.{IsLoading, IsOutcomeOf, IsSingle, IsStoring, StaysOf, WasMade}
-use Rattle.gt_order.specs.Runs.{FitsTypes, KeepsNoPin}
-use Rattle.gt_order.specs.Runs.{CallOutcome}
+use Rattle.gt_order.specs.Runs.{FitsTypes, KeepsNoPin, CallOutcome}
 use Rattle.gt_order.specs.Runs.CallOutcome.{Told, Kept, Starved, Read, Wrote}
-use Rattle.gt_run.specs.Asking.{AnswersCall, HasBytes, IsReadAnswer, frames_answer}
-use Rattle.gt_run.specs.Asking.{mapped_answer, plain_answer, size_answer}
-use Rattle.gt_run.specs.Asking.{version_answer}
+use Rattle.gt_run.specs.Asking.{AnswersCall, HasBytes, IsReadAnswer, frames_answer, mapped_answer, plain_answer}
+use Rattle.gt_run.specs.Asking.{size_answer, version_answer}
 use Rattle.gt_order.proofs.KeptFrames.{MakesOne, never-missing}
 use Rattle.gt_order.specs.Printed.{IsAllocating}
 use Rattle.gt_order.specs.Texts.{IsLost, OutcomeGivesAnswer}

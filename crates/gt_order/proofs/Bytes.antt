@@ -13,8 +13,8 @@ use Rattle.gt_model.specs.Bytes.{is_refused, is_set, is_table_version}
 use Rattle.gt_model.specs.declared.entry.Entry.{Entry}
 use Rattle.gt_model.specs.declared.entry.Entry.TheVariants.{Page, Sub, Via}
 use Rattle.gt_model.specs.declared.header.Header.{Header}
-use Rattle.gt_model.specs.Asking.{SpellsItsEntry, SpellsEntryBy, begun_by, begun_of, bytes_begun, bytes_of, entry_spelled, said_in_v1}
-use Rattle.gt_model.specs.Asking.{said_in_v2}
+use Rattle.gt_model.specs.Asking.{SpellsItsEntry, SpellsEntryBy, begun_by, begun_of, bytes_begun, bytes_of}
+use Rattle.gt_model.specs.Asking.{entry_spelled, said_in_v1, said_in_v2}
 use Rattle.gt_model.specs.Rules.{CallerKnowledge}
 use Rattle.gt_model.specs.declared.request.Request.{Request}
 use Rattle.gt_order.specs.Runs.{AreBytesOf}

@@ -16,7 +16,7 @@ use Rattle.gt_word_history.specs.Steps.{StoodWith}
 use Rattle.gt_word_history.specs.Views.{last_of, own_header, own_table}
 use Rattle.gt_word_history.specs.declared.view.EntryRecord.{EntryRecord}
 use Rattle.gt_word_history.specs.declared.view.View.{View}
-use Rattle.gt_calls.specs.Rules.{entry_in, own_generation, row_entry, row_generation}
+use Rattle.gt_calls.specs.Known.{entry_in, own_generation, row_entry, row_generation}
 use Rattle.gt_model.specs.declared.action.Observation.TheVariants.{Word}
 use Rattle.gt_model.specs.declared.action.Step.TheVariants.{LookControl}
 use Rattle.gt_calls.specs.declared.known.OwnerEntry.{OwnerEntry}
@@ -25,7 +25,8 @@ use Rattle.gt_core.proofs.Steps.See.{table-fits}
 use Rattle.gt_live.proofs.DomainKept.{looked}
 use Rattle.gt_live.proofs.Making.{look-same, still_seat}
 use Rattle.gt_live.proofs.RowsKept.{row-there}
-use Rattle.gt_live.specs.Closing.{AreRefused, AsksWithdrawal, Closes, ClosesRow, ClosesRows, ShutsRow, most_withdrawals}
+use Rattle.gt_live.specs.Closing.{AreRefused, AsksWithdrawal, Closes, ClosesRow, ClosesRows, ShutsRow}
+use Rattle.gt_live.specs.Closing.{most_withdrawals}
 use Rattle.gt_live.specs.Domains.{AllowRelation, BelongsTo, IsDomainOf, IsUnsettled, verdict_of}
 use Rattle.gt_live.specs.Walks.{Made}
 use Rattle.gt_live.specs.declared.domain.Domain.{Domain}

@@ -1,6 +1,6 @@
 -- Pins, unpins and owners' exchanges keep items and history in agreement.
-use Rattle.std.proofs.Common.{inl, inr, ◌≡◌, ℕ, ◌+◌, ◌-◌, ◌*◌, ◌%◌, ◌^◌, ◌<◌, Bool, true, false, cond, ◌==◌, ◌&&◌, ◌∷◌}
-use Rattle.std.proofs.Common.{Option, Some, None, sym, refl, ap, ◌∙◌, subst, arith, eq-eqb, ne_eqb}
+use Rattle.std.proofs.Common.{inl, inr, ◌≡◌, ℕ, ◌+◌, ◌-◌, ◌*◌, ◌%◌, ◌^◌, ◌<◌, Bool, true, false, cond, ◌==◌, ◌&&◌}
+use Rattle.std.proofs.Common.{◌∷◌, Option, Some, None, sym, refl, ap, ◌∙◌, subst, arith, eq-eqb, ne_eqb}
 use Rattle.std.proofs.lemmas.Bool.{cases_eq}
 use Rattle.gt_types.specs.Config.{IsWithinLimits}
 use Rattle.gt_types.specs.declared.Dir.{Dir}
@@ -9,8 +9,7 @@ use Rattle.gt_types.specs.declared.DomId.{DomId}
 use Rattle.gt_types.specs.declared.GrantRef.{GrantRef}
 use Rattle.gt_types.specs.declared.config.Config.{Config}
 use Rattle.gt_types.specs.declared.limits.TheConstants.{TABLE_ENTRIES}
-use Rattle.gt_model.specs.Changes.{changed_entry, raise_of}
-use Rattle.gt_model.specs.Entries.{is_invalid, is_read_only}
+use Rattle.gt_model.specs.Entries.{changed_entry, raise_of, is_invalid, is_read_only}
 use Rattle.gt_entry.specs.Laws.{control-round}
 use Rattle.gt_model.specs.Spelling.{control_with, idle_word_of}
 use Rattle.gt_model.specs.Words.{control_of, control_word, header_word, unit_of}
@@ -33,14 +32,13 @@ use Rattle.gt_word_history.specs.declared.view.SeatStep.TheVariants.{Entry}
 use Rattle.gt_model.specs.declared.held.HeldPin.{HeldPin}
 use Rattle.gt_model.specs.declared.request.PinHolder.{PinHolder}
 use Rattle.gt_model.specs.declared.action.Observation.{Observation}
-use Rattle.gt_core.proofs.Steps.Observers.{exchanged, exchanged-live, grown-count, kept-entry, kept-raises, kept-table}
-use Rattle.gt_core.proofs.Steps.Observers.{new_pin, other-entry, other-raises, pinned-live, pins, pins_at}
-use Rattle.gt_core.proofs.Steps.Observers.{unpinned-live, unpins, unstored}
+use Rattle.gt_model.proofs.Observers.{exchanged, exchanged-live, grown-count, kept-entry, kept-raises, kept-table}
+use Rattle.gt_model.proofs.Observers.{new_pin, other-entry, other-raises, pinned-live, pins, pins_at, unpinned-live}
+use Rattle.gt_model.proofs.Observers.{unpins, unstored}
 use Rattle.gt_core.proofs.Steps.Unpin.{Loses}
 use Rattle.gt_core.proofs.Words.{count_by, is_pin_on, without}
 use Rattle.gt_model.specs.History.{History as Items, Setting, control_at, changed_entry_of, entry_at, generation_at}
-use Rattle.gt_model.specs.History.{live}
-use Rattle.gt_model.specs.History.{raise_after, raises_at, reads_at, same_dir, word_at, writes_at}
+use Rattle.gt_model.specs.History.{live, raise_after, raises_at, reads_at, same_dir, word_at, writes_at}
 use Rattle.gt_core.specs.Standing.{FitsWord}
 use Rattle.gt_model.specs.declared.trace.Answer.{Answer}
 use Rattle.gt_model.specs.declared.trace.Item.{Item}

@@ -6,20 +6,19 @@ use Rattle.std.specs.Prelude.{position}
 use Rattle.gt_calls.specs.declared.known.OwnerEntry.{OwnerEntry}
 use Rattle.gt_core.proofs.Words.{◌≡◌, ◌≢◌, ◌+◌, ◌<◌, ◌≤◌, inl, inr, ℕ, refl, false, List, ◌∷◌, length, Option, Some}
 use Rattle.gt_core.proofs.Words.{None, is_some, sym, ap, ◌∙◌, subst, same_Some, none-some, arith, fun_ext, DomId}
-use Rattle.gt_core.proofs.Words.{domain_of, Entry, Request, begun_of, CallResult, CallerKnowledge, knowledge_of, known_at}
-use Rattle.gt_core.proofs.Words.{Setting, open_call, CallAgrees, StateStands, State, state_of, IsRight, MappingsAgree}
-use Rattle.gt_core.proofs.Words.{mappings_at, maps_answered_at, entry_at, generation_at, table_at, entry_in}
-use Rattle.gt_core.proofs.Words.{own_generation, row_entry, row_generation, answer_of, TABLE_ENTRIES, slice_get}
-use Rattle.gt_core.proofs.Words.{header_stored, stored_at, BodyWord, Underway}
+use Rattle.gt_core.proofs.Words.{domain_of, Entry, Request, begun_of, CallResult, CallerKnowledge, knowledge_of}
+use Rattle.gt_core.proofs.Words.{known_at, Setting, open_call, CallAgrees, StateStands, State, state_of, IsRight}
+use Rattle.gt_core.proofs.Words.{MappingsAgree, mappings_at, maps_answered_at, entry_at, generation_at, table_at}
+use Rattle.gt_core.proofs.Words.{entry_in, own_generation, row_entry, row_generation, answer_of, TABLE_ENTRIES}
+use Rattle.gt_core.proofs.Words.{slice_get, header_stored, stored_at, BodyWord, Underway}
 use Rattle.gt_core.proofs.Beginning.{begin-answers}
 use Rattle.gt_core.proofs.AgreementKept.{known-same}
 use Rattle.gt_core.proofs.Playing.{legal-grows}
 use Rattle.gt_core.proofs.Rows.{found, has_id, not-found}
-use Rattle.gt_core.proofs.Steps.Observers.{kept-entry, kept-raises, kept-table, unstored}
+use Rattle.gt_model.proofs.Observers.{kept-entry, kept-raises, kept-table, unstored}
 use Rattle.gt_core.proofs.Steps.Write.{frames-begun}
 use Rattle.gt_core.specs.GoingOn.{CanBeReached, beginning}
-use Rattle.gt_model.specs.History.{History as Items}
-use Rattle.gt_core.specs.Acting.{setting_of}
+use Rattle.gt_model.specs.History.{History as Items, setting_of}
 use Rattle.gt_core.specs.declared.core_state.Begun.TheVariants.{Done as BegunDone}
 use Rattle.gt_model.specs.declared.trace.Element.TheVariants.{Item as Did}
 use Rattle.gt_model.specs.declared.trace.Event.TheVariants.{Begin}

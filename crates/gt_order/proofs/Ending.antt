@@ -1,6 +1,6 @@
 -- What the items make of a domain by its own next item: a call begins, goes on, or ends.
-use Rattle.std.proofs.Common.{◌≡◌, ◌≢◌, ℕ, ◌<◌, Bool, true, false, cond, ◌==◌, List, [], ◌∷◌, ◌++◌, Option, Some, None}
-use Rattle.std.proofs.Common.{sym, refl, ap, ◌∙◌, subst, append_assoc}
+use Rattle.std.proofs.Common.{◌≡◌, ◌≢◌, ℕ, ◌<◌, Bool, true, false, cond, ◌==◌, List, [], ◌∷◌, ◌++◌, Option, Some}
+use Rattle.std.proofs.Common.{None, sym, refl, ap, ◌∙◌, subst, append_assoc}
 use Rattle.std.proofs.lemmas.List.{map-append}
 use Rattle.std.proofs.lemmas.Option.{none-some}
 use Rattle.gt_types.specs.Config.{IsWithinLimits}
@@ -35,8 +35,8 @@ use Rattle.gt_calls.specs.Following.{IsStepAction as MakesFirst}
 use Rattle.gt_model.specs.Path.{FitsStep, after_beginning, path, path_of, steps_of}
 use Rattle.gt_calls.specs.Standing.{pins_at}
 use Rattle.gt_model.specs.Rules.{CallerKnowledge, begun, denied, first, map_begun, map_dir, refused_when}
-use Rattle.gt_calls.specs.Rules.{knowledge_of}
 use Rattle.gt_model.specs.Rules.{rights_to_map, rights_to_unmap, unmap_begun, unmap_denied}
+use Rattle.gt_calls.specs.Known.{knowledge_of}
 use Rattle.gt_model.specs.declared.action.Action.TheVariants.{Step as Makes, Done}
 use Rattle.gt_model.specs.declared.action.Observation.{Observation}
 use Rattle.gt_model.specs.declared.action.Step.{Step}
@@ -49,14 +49,14 @@ use Rattle.gt_model.specs.declared.request.Request.{Request}
 use Rattle.gt_core.proofs.Beginning.{plain-unmapped}
 use Rattle.gt_core.proofs.AgreementKept.{open_call-own}
 use Rattle.gt_core.proofs.Mappings.{mappings-same}
-use Rattle.gt_core.proofs.Steps.Observers.{kept-table, stepped}
+use Rattle.gt_model.proofs.Observers.{kept-table, stepped}
 use Rattle.gt_core.proofs.Steps.See.{table-fits}
 use Rattle.gt_core.specs.Effects.{Adds}
 use Rattle.gt_core.specs.GoingOn.{CanBeReached}
 use Rattle.gt_model.specs.History.{History as Items, Setting, Underway, known_at, maps_answered_at, mappings_at}
-use Rattle.gt_model.specs.History.{one_if_mapped, open_call, seen_by, table_at, underway_after, values}
+use Rattle.gt_model.specs.History.{one_if_mapped, open_call, seen_by, table_at, underway_after, values, setting_of}
 use Rattle.gt_core.specs.Standing.{MappingsAgree}
-use Rattle.gt_core.specs.Acting.{answer_of, setting_of}
+use Rattle.gt_core.specs.Acting.{answer_of}
 use Rattle.gt_model.specs.declared.trace.Answer.{Answer}
 use Rattle.gt_model.specs.declared.trace.Answer.TheVariants.{Mapped}
 use Rattle.gt_model.specs.declared.trace.ItemEvent.TheVariants.{Stepped}
@@ -77,10 +77,11 @@ use Rattle.gt_order.proofs.Stages.{SeatNow, order_now}
 use Rattle.gt_order.proofs.Stages.Stage.{Going, Resting}
 use Rattle.gt_order.proofs.Stepping.{state-there}
 use Rattle.gt_order.specs.Agreeing.{Agree, dom_at}
-use Rattle.gt_order.specs.Ordering.{RunOrder, item_of, item_of_beginning, items_by_outcome, items_of_call, items_of_steps}
-use Rattle.gt_order.specs.Ordering.{of_core, order_of_deeds, step_in, way_of}
+use Rattle.gt_order.specs.Ordering.{RunOrder, item_of, item_of_beginning, items_by_outcome, items_of_call}
+use Rattle.gt_order.specs.Ordering.{items_of_steps, of_core, order_of_deeds, step_in, way_of}
 use Rattle.gt_order.specs.Ordering.Occurrence.{OfCore}
-use Rattle.gt_order.specs.Runs.{CallMade, Deed, FlagMade, IsAtRest, IsCall, IsLook, LeavesMappings, LookMade, domain_after}
+use Rattle.gt_order.specs.Runs.{CallMade, Deed, FlagMade, IsAtRest, IsCall, IsLook, LeavesMappings, LookMade}
+use Rattle.gt_order.specs.Runs.{domain_after}
 use Rattle.gt_order.specs.Runs.Deed.{Call, Look, OnFlag}
 
 -- what answers a call at its beginning

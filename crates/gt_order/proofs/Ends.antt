@@ -1,41 +1,39 @@
 -- What a domain knows after a step of its call: the same where the call goes on, and where it ends the mappings that the
 -- domain then has.
-use Rattle.gt_model.specs.Rules.{CallerKnowledge}
+use Rattle.gt_model.specs.Rules.{CallerKnowledge, begun}
 use Rattle.std.proofs.Common.{zero, suc, slice_index_or, slice_set, is_some, count_by}
 use Rattle.std.proofs.lemmas.List.Elements.{All-pop}
 use Rattle.std.proofs.lemmas.List.Sums.{sum_by-cons}
-use Rattle.gt_core.proofs.Words.{Publish, ToInvalid, ToReadOnly, ToWithdrawn, ToWritable}
+use Rattle.gt_core.proofs.Words.{Publish, ToInvalid, ToReadOnly, ToWithdrawn, ToWritable, ◌≡◌, ◌≢◌, ◌+◌, inl, inr, ℕ}
+use Rattle.gt_core.proofs.Words.{refl, Bool, true, false, cond, ◌==◌, List, [], ◌∷◌, ◌++◌, Option, Some, None, sym}
+use Rattle.gt_core.proofs.Words.{ap, ◌∙◌, subst, reverse, same_Some, none-some, arith, eqb-true, fun_ext, All, DomId}
+use Rattle.gt_core.proofs.Words.{domain_of, HeldPin, Handle, HandleMap, ByMapping, ByLeg, value_of, count_of}
+use Rattle.gt_core.proofs.Words.{OpenRequest, Unmap, Release, Observation, Nothing, Word, Taken, Missed, Step}
+use Rattle.gt_core.proofs.Words.{LookHeader, LookControl, LookBody, PinStep, Unpin, StoreBody, StoreHeader, Exchange}
+use Rattle.gt_core.proofs.Words.{ReadBytes, WriteBytes, CopyBytes, CallResult, Granted, Given, KeptPin, Refused}
+use Rattle.gt_core.proofs.Words.{Makes, Done, Phase, Ending, path, known_at, action_at, Setting, Underway, values}
+use Rattle.gt_core.proofs.Words.{open_call, CallAgrees, IsClean, IsRight, StepsRightIn, LeavesAll, Rests, pins_at}
+use Rattle.gt_core.proofs.Words.{PhaseStands, next_to_give, mapping_of, mappings_at, maps_answered_at, MappingsAgree}
+use Rattle.gt_core.proofs.Words.{one_if_mapped, header_stored, change_at, handle_taken, gather, mapping_named}
+use Rattle.gt_core.proofs.Words.{seen_by, word_at, answer_of, FitsStep, HandleSlot, last_first, after_beginning}
+use Rattle.gt_core.proofs.Words.{same_handle, Denial, holder_after, FitsNext, eq-eqb, State}
 use Rattle.gt_model.specs.declared.held.CallPins.{CallPins}
-use Rattle.gt_core.proofs.Words.{◌≡◌, ◌≢◌, ◌+◌, inl, inr, ℕ, refl, Bool, true, false, cond, ◌==◌, List, [], ◌∷◌, ◌++◌}
-use Rattle.gt_core.proofs.Words.{Option, Some, None, sym, ap, ◌∙◌, subst, reverse, same_Some, none-some, arith}
-use Rattle.gt_core.proofs.Words.{eqb-true, fun_ext, All, DomId, domain_of, HeldPin, Handle, HandleMap, ByMapping, ByLeg}
-use Rattle.gt_core.proofs.Words.{value_of, count_of, OpenRequest, Unmap, Release, Observation, Nothing, Word, Taken, Missed, Step, LookHeader}
-use Rattle.gt_core.proofs.Words.{LookControl, LookBody, PinStep, Unpin, StoreBody, StoreHeader, Exchange, ReadBytes}
-use Rattle.gt_core.proofs.Words.{WriteBytes, CopyBytes, CallResult, Granted, Given, KeptPin, Refused, Makes, Done, Phase}
-use Rattle.gt_core.proofs.Words.{Ending, path, known_at, action_at, Setting, Underway, values, open_call, CallAgrees}
-use Rattle.gt_core.proofs.Words.{IsClean, IsRight, StepsRightIn, LeavesAll, Rests, pins_at, PhaseStands, next_to_give}
-use Rattle.gt_core.proofs.Words.{mapping_of, mappings_at, maps_answered_at, MappingsAgree, one_if_mapped, header_stored}
-use Rattle.gt_core.proofs.Words.{change_at, handle_taken, gather, mapping_named, seen_by, word_at, answer_of, FitsStep}
-use Rattle.gt_core.proofs.Words.{HandleSlot, last_first}
-use Rattle.gt_core.proofs.Words.{after_beginning, same_handle, Denial, holder_after, FitsNext, eq-eqb, State}
 use Rattle.gt_model.specs.declared.action.CallValue.TheVariants.{Frames, Size as SizeTold, Version as VersionTold}
 use Rattle.gt_model.specs.declared.action.Action.{Action}
-use Rattle.gt_model.specs.Giving.{GivesUp}
-use Rattle.gt_model.specs.Rules.{begun}
+use Rattle.gt_model.specs.Asking.{GivesUp}
 use Rattle.gt_model.specs.Path.{by_mapping as by_handle}
 use Rattle.gt_calls.proofs.Advancing.{leads-here, stands-on}
 use Rattle.gt_core.proofs.Beginning.{plain-unmapped}
 use Rattle.gt_core.proofs.Mappings.{mappings-same}
 use Rattle.gt_core.proofs.Phases.{IsHere, next_of}
-use Rattle.gt_core.proofs.Steps.Observers.{answered-stays, exchanged-live, kept-entry, kept-raises, kept-table}
-use Rattle.gt_core.proofs.Steps.Observers.{known-as, pins, stepped}
+use Rattle.gt_model.proofs.Observers.{answered-stays, exchanged-live, kept-entry, kept-raises, kept-table, known-as}
+use Rattle.gt_model.proofs.Observers.{pins, stepped}
 use Rattle.gt_core.proofs.Steps.Pin.{can-pin, leg-maps, map-agrees}
 use Rattle.gt_core.proofs.Steps.Unpin.{leg-mappings, mapping-agrees}
 use Rattle.gt_core.proofs.Values.{MapEnds, call-ends}
 use Rattle.gt_core.specs.Effects.{Adds}
-use Rattle.gt_core.specs.GoingOn.{IsOnWords, CanBeReached}
+use Rattle.gt_core.specs.GoingOn.{IsOnWords, CanBeReached, IsAccess}
 use Rattle.gt_model.specs.History.{History as Items}
-use Rattle.gt_core.specs.GoingOn.{IsAccess}
 use Rattle.gt_model.specs.declared.trace.Answer.{Answer}
 use Rattle.gt_model.specs.declared.trace.Answer.TheVariants.{Denied, Mapped}
 use Rattle.gt_model.specs.declared.trace.Item.{Item}

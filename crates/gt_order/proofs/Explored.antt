@@ -1,15 +1,14 @@
 -- What a run of a script writes is a text that it may print, and one that the script may give if no call got no memory
 -- and no gate stopped a list.
-use Rattle.std.proofs.Common.{◌≡◌, ◌≢◌, ◌<◌, ℕ, zero, suc, Bool, List, [], ◌∷◌, All, get_or, length, map, None, refl, sym, ap}
-use Rattle.std.proofs.Common.{◌∙◌, subst, arith, inl, inr}
+use Rattle.std.proofs.Common.{◌≡◌, ◌≢◌, ◌<◌, ℕ, zero, suc, Bool, List, [], ◌∷◌, All, get_or, length, map, None, refl}
+use Rattle.std.proofs.Common.{sym, ap, ◌∙◌, subst, arith, inl, inr}
 use Rattle.std.specs.Prelude.{is_some}
 use Rattle.std.proofs.lemmas.List.{get_or-map, length-map}
 use Rattle.std.proofs.lemmas.List.Elements.{All-get_or, All-head, All-tail, All-weaker}
 use Rattle.gt_types.specs.Names.{domain_of}
 use Rattle.gt_types.specs.declared.DomId.{DomId}
 use Rattle.gt_types.specs.declared.config.DomainConfig.{DomainConfig}
-use Rattle.gt_core.specs.Acting.{setting_of}
-use Rattle.gt_model.specs.History.{Setting}
+use Rattle.gt_model.specs.History.{setting_of, Setting}
 use Rattle.gt_model.specs.Legal.{Legal}
 use Rattle.gt_script_runs.specs.Playing.{setting_of_script}
 use Rattle.gt_script_runs.specs.Rights.{may_by}
@@ -20,7 +19,8 @@ use Rattle.gt_script.specs.Stuck.{IsBelow}
 use Rattle.gt_word_history.specs.Views.{IsAmong}
 use Rattle.gt_script.specs.RunContents.{RunContents}
 use Rattle.gt_script.specs.RunScripts.{list_of}
-use Rattle.gt_explore_replay.specs.Orders.{AllFollow, FollowsList, Happening, MayGive, doer, events_in, own_happenings, trace_in}
+use Rattle.gt_explore_replay.specs.Orders.{AllFollow, FollowsList, Happening, MayGive, doer, events_in}
+use Rattle.gt_explore_replay.specs.Orders.{own_happenings, trace_in}
 use Rattle.gt_live.specs.declared.monitor.Monitor.{Monitor}
 use Rattle.gt_run.specs.Printing.{AreJobsOf, AreServed, Served, ShowOneState, jobs_in, texts_in}
 use Rattle.gt_run.specs.Runs.{AreOf, IsOver}

@@ -10,9 +10,9 @@ use Rattle.gt_word_history.specs.declared.view.FlagStep.TheVariants.{Passed, Rai
 use Rattle.gt_word_history.specs.declared.view.SeatStep.{SeatStep}
 use Rattle.gt_word_history.specs.declared.view.SeatStep.TheVariants.{Entry, Flag, Frame, Header}
 use Rattle.gt_model.specs.declared.action.Step.{Step}
-use Rattle.gt_model.specs.declared.action.Step.TheVariants.{Copy as CopyBytes, Exchange, LookBody, LookControl, LookHeader}
-use Rattle.gt_model.specs.declared.action.Step.TheVariants.{Pin, Read as ReadBytes, StoreBody, StoreHeader, Unpin}
-use Rattle.gt_model.specs.declared.action.Step.TheVariants.{Write as WriteBytes}
+use Rattle.gt_model.specs.declared.action.Step.TheVariants.{Copy as CopyBytes, Exchange, LookBody, LookControl}
+use Rattle.gt_model.specs.declared.action.Step.TheVariants.{LookHeader, Pin, Read as ReadBytes, StoreBody}
+use Rattle.gt_model.specs.declared.action.Step.TheVariants.{StoreHeader, Unpin, Write as WriteBytes}
 use Rattle.gt_model.specs.History.{History as Items, Setting}
 use Rattle.gt_model.specs.declared.trace.ItemEvent.{ItemEvent}
 use Rattle.gt_model.specs.declared.trace.ItemEvent.TheVariants.{Began, Stepped}

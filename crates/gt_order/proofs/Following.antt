@@ -1,6 +1,6 @@
 -- The deeds of a list are those with which its domain follows the list in an order of the script.
-use Rattle.std.proofs.Common.{◌≡◌, ℕ, List, [], ◌∷◌, ◌++◌, Option, Some, None, inl, inr, Result, Ok, Err, append_assoc, refl, sym, ap}
-use Rattle.std.proofs.Common.{◌∙◌, subst}
+use Rattle.std.proofs.Common.{◌≡◌, ℕ, List, [], ◌∷◌, ◌++◌, Option, Some, None, inl, inr, Result, Ok, Err}
+use Rattle.std.proofs.Common.{append_assoc, refl, sym, ap, ◌∙◌, subst}
 use Rattle.gt_types.specs.declared.DomId.{DomId}
 use Rattle.gt_types.specs.declared.Size.{Size}
 use Rattle.gt_types.specs.declared.config.Config.{Config}
@@ -26,7 +26,8 @@ use Rattle.gt_live.specs.Domains.{AllowRelation}
 use Rattle.gt_live.specs.Mappings.{KeepsMappings}
 use Rattle.gt_live.specs.declared.domain.Domain.{Domain}
 use Rattle.gt_live.specs.declared.monitor.Monitor.{Monitor}
-use Rattle.gt_run.specs.Asking.{AnswersCall, HasBytes, IsReadAnswer, frames_answer, plain_answer, size_answer, version_answer}
+use Rattle.gt_run.specs.Asking.{AnswersCall, HasBytes, IsReadAnswer, frames_answer, plain_answer, size_answer}
+use Rattle.gt_run.specs.Asking.{version_answer}
 use Rattle.gt_order.proofs.Happenings.{call-happens, happenings, happenings-both, on_flag}
 use Rattle.gt_order.proofs.Held.{Keeps, keeps-less, keeps-more, keeps-same}
 use Rattle.gt_order.proofs.Answering.{IsStarvedOnly}

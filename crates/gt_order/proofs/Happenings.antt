@@ -1,6 +1,7 @@
 -- An order of a run as the happenings of an order of its script.
-use Rattle.std.proofs.Common.{◌≡◌, ◌≢◌, ◌==◌, ◌<◌, ◌⊎◌, inl, inr, ⊎_elim, ℕ, zero, suc, Bool, true, false, cond, List, []}
-use Rattle.std.proofs.Common.{◌∷◌, ◌++◌, length, All, Option, Some, None, append_assoc, refl, sym, ap, ◌∙◌, subst, arith}
+use Rattle.std.proofs.Common.{◌≡◌, ◌≢◌, ◌==◌, ◌<◌, ◌⊎◌, inl, inr, ⊎_elim, ℕ, zero, suc, Bool, true, false, cond, List}
+use Rattle.std.proofs.Common.{[], ◌∷◌, ◌++◌, length, All, Option, Some, None, append_assoc, refl, sym, ap, ◌∙◌, subst}
+use Rattle.std.proofs.Common.{arith}
 use Rattle.std.specs.Prelude.{slice_get}
 use Rattle.std.proofs.lemmas.List.{append-nil, map-append}
 use Rattle.std.proofs.lemmas.List.Elements.{All-cons, All-nil}
@@ -9,8 +10,7 @@ use Rattle.gt_types.specs.declared.DomId.{DomId}
 use Rattle.gt_types.specs.declared.config.Config.{Config}
 use Rattle.gt_model.specs.Path.{Continuation}
 use Rattle.gt_model.specs.declared.request.Request.{Request}
-use Rattle.gt_core.specs.Acting.{setting_of}
-use Rattle.gt_model.specs.History.{History as Items, Setting}
+use Rattle.gt_model.specs.History.{setting_of, History as Items, Setting}
 use Rattle.gt_model.specs.Legal.{LegalAfter, actor_of}
 use Rattle.gt_model.specs.declared.trace.Answer.{Answer}
 use Rattle.gt_model.specs.declared.trace.Element.{Element}
@@ -20,14 +20,14 @@ use Rattle.gt_model.specs.declared.trace.Item.{Item}
 use Rattle.gt_model.specs.declared.trace.ItemEvent.{ItemEvent}
 use Rattle.gt_model.specs.declared.trace.ItemEvent.TheVariants.{Began, Stepped}
 use Rattle.gt_script_runs.specs.Runs.{AnswerNothing, answer_in}
-use Rattle.gt_explore_replay.specs.Orders.{CallHappens, FlagsAreRaised, Happening, IsRaisedBefore, did, doer, events_in}
-use Rattle.gt_explore_replay.specs.Orders.{own_happenings, passed, raised, ticks_of, trace_in}
+use Rattle.gt_explore_replay.specs.Orders.{CallHappens, FlagsAreRaised, Happening, IsRaisedBefore, did, doer}
+use Rattle.gt_explore_replay.specs.Orders.{events_in, own_happenings, passed, raised, ticks_of, trace_in}
 use Rattle.gt_live.specs.Domains.{AllowRelation}
 use Rattle.gt_word_history.specs.History.{Moment}
 use Rattle.gt_word_history.specs.declared.view.FlagStep.{FlagStep}
 use Rattle.gt_word_history.specs.declared.view.FlagStep.TheVariants.{Passed, Raised}
-use Rattle.gt_order.specs.Ordering.{AreOnRaisedFlags, IsRaisedIn, RunOrder, event_in, events_of}
-use Rattle.gt_order.specs.Ordering.{item_of, item_of_beginning, items_in, items_of_call, items_of_steps, of_core, own_in}
+use Rattle.gt_order.specs.Ordering.{AreOnRaisedFlags, IsRaisedIn, RunOrder, event_in, events_of, item_of}
+use Rattle.gt_order.specs.Ordering.{item_of_beginning, items_in, items_of_call, items_of_steps, of_core, own_in}
 use Rattle.gt_order.specs.Ordering.{trace_of}
 use Rattle.gt_order.specs.Ordering.Occurrence.{OfCore, OfFlag, OfLook}
 

@@ -1,12 +1,12 @@
 -- The handles of a domain in the order of its maps, by its mappings.
-use Rattle.std.proofs.Common.{◌≡◌, ◌<◌, ◌==◌, ℕ, Bool, true, false, cond, not, List, [], ◌∷◌, ◌++◌, map, Option, Some, None}
-use Rattle.std.proofs.Common.{refl, sym, ap, ◌∙◌, subst, inl, inr, arith, ◌⊎◌, ⊎_elim, slice_index_or, ◌&&◌}
+use Rattle.std.proofs.Common.{◌≡◌, ◌<◌, ◌==◌, ℕ, Bool, true, false, cond, not, List, [], ◌∷◌, ◌++◌, map, Option, Some}
+use Rattle.std.proofs.Common.{None, refl, sym, ap, ◌∙◌, subst, inl, inr, arith, ◌⊎◌, ⊎_elim, slice_index_or, ◌&&◌}
 use Rattle.std.specs.Prelude.{count_by, is_some}
 use Rattle.std.proofs.lemmas.Bool.{eq-eqb, ne_eqb}
 use Rattle.std.proofs.lemmas.List.{map-append}
 use Rattle.std.proofs.lemmas.Option.{none-some}
 use Rattle.gt_handles.specs.Handles.{HandleMap, under, value_of}
-use Rattle.gt_model.specs.Handle.{same_handle}
+use Rattle.gt_model.specs.Asking.{same_handle}
 use Rattle.gt_handles.specs.Laws.{inserted-listed, nothing-listed, same-handle, taken-listed}
 use Rattle.gt_handles.specs.Listing.{HasJust, listed, unlisted}
 use Rattle.gt_model.specs.declared.handle.Handle.{Handle}

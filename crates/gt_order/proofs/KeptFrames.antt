@@ -1,6 +1,6 @@
 -- An access that comes next in a call is to frames of the configuration, so a table with all of them is missing none.
-use Rattle.std.proofs.Common.{◌≡◌, ◌<◌, ◌==◌, ◌+◌, ℕ, zero, suc, Bool, true, false, cond, List, [], ◌∷◌, length, map, Option, Some, None}
-use Rattle.std.proofs.Common.{refl, sym, ◌∙◌, subst, arith, nat_lt, not, get_or}
+use Rattle.std.proofs.Common.{◌≡◌, ◌<◌, ◌==◌, ◌+◌, ℕ, zero, suc, Bool, true, false, cond, List, [], ◌∷◌, length, map}
+use Rattle.std.proofs.Common.{Option, Some, None, refl, sym, ◌∙◌, subst, arith, nat_lt, not, get_or}
 use Rattle.std.specs.Prelude.{nat_le, unwrap_or}
 use Rattle.gt_words.specs.Laws.{length-ids}
 use Rattle.gt_words.specs.Prelude.{position_or_len}
@@ -31,10 +31,11 @@ use Rattle.gt_calls.proofs.Shown.{lets}
 use Rattle.gt_model.specs.Asking.{begun_of}
 use Rattle.gt_model.specs.Holding.{frame_by, frame_of, held_by, owner_by}
 use Rattle.gt_calls.specs.Opening.{OpensCopy, OpensOwn, opens}
-use Rattle.gt_model.specs.Path.{AfterPin, AfterRefusal, Continuation, accesses, after_beginning, at_first_look, beyond}
-use Rattle.gt_model.specs.Path.{by_mapping, copies, dest_pair, end_leg, ended, entry_refusal, exchanges, give_back, held_of}
-use Rattle.gt_model.specs.Path.{last_step, leg, looks, makes, path_of, place_of, reaches, reads_body, refused_holding}
-use Rattle.gt_model.specs.Path.{rule_of_try, second_leg, source_pair, to_dest, tries, try_pin, unless_refused}
+use Rattle.gt_model.specs.Path.{AfterPin, AfterRefusal, Continuation, accesses, after_beginning, at_first_look}
+use Rattle.gt_model.specs.Path.{beyond, by_mapping, copies, dest_pair, end_leg, ended, entry_refusal, exchanges}
+use Rattle.gt_model.specs.Path.{give_back, held_of, last_step, leg, looks, makes, path_of, place_of, reaches}
+use Rattle.gt_model.specs.Path.{reads_body, refused_holding, rule_of_try, second_leg, source_pair, to_dest, tries}
+use Rattle.gt_model.specs.Path.{try_pin, unless_refused}
 use Rattle.gt_calls.specs.Resting.{Lets}
 use Rattle.gt_model.specs.Rules.{CallerKnowledge, begun, first_look, frame_count_of, frames_in, is_kind, via_judged}
 use Rattle.gt_model.specs.declared.action.Action.TheVariants.{Step as Makes}

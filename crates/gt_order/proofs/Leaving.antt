@@ -1,6 +1,5 @@
 -- A domain that leaves releases each of its mappings.
-use Rattle.std.proofs.Common.{◌≡◌, List, [], ◌∷◌, Some, sym, refl, ap, ◌∙◌}
-use Rattle.std.proofs.Common.{subst}
+use Rattle.std.proofs.Common.{◌≡◌, List, [], ◌∷◌, Some, sym, refl, ap, ◌∙◌, subst}
 use Rattle.std.specs.Prelude.{is_none}
 use Rattle.gt_types.specs.declared.config.Config.{Config}
 use Rattle.gt_types.specs.declared.DomId.{DomId}

@@ -1,6 +1,7 @@
 -- The deeds of a list are deeds of a run, and the run of all lists has a legal order.
-use Rattle.std.proofs.Common.{◌≡◌, inl, inr, ◌<◌, ◌==◌, nat_lt, ℕ, zero, suc, Bool, true, false, List, []}
-use Rattle.std.proofs.Common.{◌∷◌, ◌++◌, All, None, Some, append_assoc, cond, get_or, length, map, refl, sym, ap, ◌∙◌, subst, arith}
+use Rattle.std.proofs.Common.{◌≡◌, inl, inr, ◌<◌, ◌==◌, nat_lt, ℕ, zero, suc, Bool, true, false, List, [], ◌∷◌, ◌++◌}
+use Rattle.std.proofs.Common.{All, None, Some, append_assoc, cond, get_or, length, map, refl, sym, ap, ◌∙◌, subst}
+use Rattle.std.proofs.Common.{arith, ◌⊎◌}
 use Rattle.std.proofs.Math.Seq.{take-length}
 use Rattle.std.proofs.lemmas.Grind.{flat_map-append}
 use Rattle.std.proofs.lemmas.List.{append-nil, get_or-map, length-map}
@@ -13,7 +14,7 @@ use Rattle.atomic_table.specs.Table.{State}
 use Rattle.gt_types.specs.declared.DomId.{DomId}
 use Rattle.gt_types.specs.declared.config.Config.{Config}
 use Rattle.gt_types.specs.declared.config.DomainConfig.{DomainConfig}
-use Rattle.gt_word_history.specs.History.{Layout}
+use Rattle.gt_word_history.specs.History.{Layout, Moment}
 use Rattle.gt_words.specs.Conditions.{Board, SeatOf}
 use Rattle.gt_words.specs.Laws.{length-ids, own_position}
 use Rattle.gt_word_history.specs.Rule.{Shows, id_at}
@@ -25,14 +26,14 @@ use Rattle.gt_handles.specs.Handles.{HandleMap, value_of}
 use Rattle.gt_model.specs.declared.held.HeldPin.{HeldPin}
 use Rattle.gt_model.specs.declared.handle.Handle.{Handle}
 use Rattle.gt_model.specs.declared.request.Request.{Request}
-use Rattle.gt_core.specs.Acting.{setting_of}
+use Rattle.gt_model.specs.History.{setting_of}
 use Rattle.gt_model.specs.Legal.{Legal}
 use Rattle.gt_live.specs.Domains.{AllowRelation, HasLeft, BelongsTo}
 use Rattle.gt_live.specs.Starting.{IsNewDomain}
 use Rattle.gt_live.specs.declared.domain.Domain.{Domain}
 use Rattle.gt_live.specs.declared.monitor.Monitor.{Monitor}
-use Rattle.gt_order.proofs.Following.{Follows, answered-keeps, deeds-both, follows-flag, follows-lost, follows-more, follows-none}
-use Rattle.gt_order.proofs.Following.{gives-back, lost-memory}
+use Rattle.gt_order.proofs.Following.{Follows, answered-keeps, deeds-both, follows-flag, follows-lost, follows-more}
+use Rattle.gt_order.proofs.Following.{follows-none, gives-back, lost-memory}
 use Rattle.gt_order.proofs.Deeds.{at-rest, deeds-on}
 use Rattle.gt_order.proofs.Happenings.{happenings, happenings-both, on_flag}
 use Rattle.gt_order.proofs.Held.{Keeps, keeps-new, keeps-none}
@@ -43,13 +44,14 @@ use Rattle.gt_order.proofs.Served.{Serves, gate-split}
 use Rattle.gt_order.specs.Explored.{IsStarved}
 use Rattle.gt_order.specs.Printed.{Leaves, no_memory}
 use Rattle.gt_order.specs.Leaving.{AreReleases}
-use Rattle.gt_order.specs.Ordering.{AreOnRaisedFlags, IsLegalOrder, RunOrder, events_of, items_in, order_of_deeds, own_in, trace_of}
-use Rattle.gt_order.specs.Runs.{AreDeeds, CallMade, Deed, FlagMade, IsAtRest, IsMonitorRun, IsSeatRun}
-use Rattle.gt_order.specs.Runs.{SeatRun, domain_after}
+use Rattle.gt_order.specs.Ordering.{AreOnRaisedFlags, IsLegalOrder, RunOrder, events_of, items_in, order_of_deeds}
+use Rattle.gt_order.specs.Ordering.{own_in, trace_of}
+use Rattle.gt_order.specs.Runs.{AreDeeds, CallMade, Deed, FlagMade, IsAtRest, IsMonitorRun, IsSeatRun, SeatRun}
+use Rattle.gt_order.specs.Runs.{domain_after, CallOutcome}
 use Rattle.gt_order.specs.Runs.Deed.{Call, Look, OnFlag}
 use Rattle.gt_script_lines.specs.declared.calls.ScriptCall.{ScriptCall}
 use Rattle.gt_script_runs.specs.Printing.{answer_line}
-use Rattle.gt_script_runs.specs.Runs.{Named}
+use Rattle.gt_script_runs.specs.Runs.{Named, MakesRequest, handle_given, label_given, with_name}
 use Rattle.gt_script.specs.RunScripts.{list_of}
 use Rattle.gt_explore_replay.specs.Orders.{DeedHappens, Happening, given_up, held_after, passed, raised}
 use Rattle.gt_script.specs.Lists.{RunAction, RunTask}
@@ -61,20 +63,15 @@ use Rattle.gt_run.specs.Serving.{DoesDeed, DoesWhere, EndsList, ListLeadsTo, Mak
 use Rattle.gt_run.specs.Serving.{IsRefused, answer_lines, gate_line, list_start}
 use Rattle.gt_run.specs.declared.lists.ThreadJob.{ThreadJob}
 use Rattle.gt_order.specs.Texts.{AreDeedsOf, IsDoneFor, IsFlagStepOf, AreDeedsOfList, AreOfALegalOrder, HasList}
+use Rattle.gt_order.specs.Texts.{AreOfOneOrder, HasAllFrames, IsViewOf, RunsWriteALegalOrder, TextsAreOfALegalOrder}
 use Rattle.gt_types.specs.Config.{IsWithinLimits}
-use Rattle.gt_order.specs.Texts.{AreOfOneOrder, HasAllFrames, IsViewOf, RunsWriteALegalOrder}
-use Rattle.gt_order.specs.Texts.{TextsAreOfALegalOrder}
 use Rattle.gt_order.proofs.Answering.{IsLostAs, IsMade, is-made}
 use Rattle.gt_order.specs.Calling.{WasMade}
-use Rattle.gt_order.specs.Runs.{CallOutcome}
 use Rattle.gt_order.specs.Runs.CallOutcome.{Told}
 use Rattle.gt_model.specs.declared.action.CallResult.TheVariants.{Granted}
 use Rattle.gt_model.specs.declared.request.Request.TheVariants as requests
 use Rattle.gt_model.specs.declared.trace.Answer.{Answer}
 use Rattle.gt_types.specs.declared.copies.CopyArgs.{CopyArgs}
-use Rattle.gt_script_runs.specs.Runs.{MakesRequest, handle_given, label_given, with_name}
-use Rattle.gt_word_history.specs.History.{Moment}
-use Rattle.std.proofs.Common.{◌⊎◌}
 
 module _ {A : Type 0} where
   in-left : (x : A) (xs ys : List A) → IsAmong x xs → IsAmong x (xs ++ ys)

@@ -22,12 +22,11 @@ use Rattle.gt_model.specs.declared.action.Step.{Step}
 use Rattle.gt_model.specs.declared.action.Observation.TheVariants.{Nothing}
 use Rattle.gt_model.specs.declared.action.Step.TheVariants.{Copy as CopyBytes, Read as ReadBytes, Write as WriteBytes}
 use Rattle.gt_core.proofs.GoingOn.{open-calls-can-access}
-use Rattle.gt_core.proofs.Steps.Observers.{kept-table, stepped}
+use Rattle.gt_model.proofs.Observers.{kept-table, stepped}
 use Rattle.gt_core.specs.GoingOn.{AccessAnsweredSo, IsAccess, CanBeReached}
-use Rattle.gt_model.specs.History.{History as Items, Setting, Underway, known_at, seen_by}
-use Rattle.gt_model.specs.History.{given_in, one_if_mapped, table_at, values}
+use Rattle.gt_model.specs.History.{History as Items, Setting, Underway, known_at, seen_by, given_in, one_if_mapped}
+use Rattle.gt_model.specs.History.{table_at, values, setting_of}
 use Rattle.gt_model.specs.Legal.{IsRight}
-use Rattle.gt_core.specs.Acting.{setting_of}
 use Rattle.gt_model.specs.declared.trace.Answer.{Answer}
 use Rattle.gt_live.specs.Domains.{AllowRelation, knowledge}
 use Rattle.gt_live.specs.Walks.{all_shown, seen_in_step}

@@ -27,12 +27,11 @@ use Rattle.gt_model.specs.declared.request.PinHolder.{PinHolder}
 use Rattle.gt_model.specs.declared.request.PinHolder.TheVariants.{Mapping as ByMapping, Leg as ByLeg}
 use Rattle.gt_model.specs.declared.request.Request.{Request}
 use Rattle.gt_core.proofs.GoingOn.{open-calls-can-go-on}
-use Rattle.gt_core.proofs.Steps.Observers.{stepped}
+use Rattle.gt_model.proofs.Observers.{stepped}
 use Rattle.gt_core.specs.GoingOn.{AnsweredSo, IsOnWords, CanBeReached}
 use Rattle.gt_model.specs.History.{History as Items, Setting, Underway, known_at, mapping_of, mappings_at, seen_by}
-use Rattle.gt_model.specs.History.{values}
+use Rattle.gt_model.specs.History.{values, setting_of}
 use Rattle.gt_model.specs.Legal.{IsRight}
-use Rattle.gt_core.specs.Acting.{setting_of}
 use Rattle.gt_model.specs.declared.trace.Answer.{Answer}
 use Rattle.gt_live.proofs.Making.{made-fits}
 use Rattle.gt_live.proofs.Walking.{after-position}

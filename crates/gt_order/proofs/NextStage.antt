@@ -1,9 +1,7 @@
 -- The next stage of a domain: a call begins, makes a step or ends, or the domain makes a step on a flag or a look.
-use Rattle.std.proofs.Common.{◌≡◌, ◌≢◌, ℕ, ◌<◌, Bool, cond, ◌==◌, List, [], ◌∷◌, ◌++◌}
-use Rattle.std.proofs.Common.{length, Option, Some, None, sym, refl, ap, ◌∙◌, subst, ◌⊎◌, inl, inr, eq-eqb}
-use Rattle.std.proofs.Common.{ne_eqb}
+use Rattle.std.proofs.Common.{◌≡◌, ◌≢◌, ℕ, ◌<◌, Bool, cond, ◌==◌, List, [], ◌∷◌, ◌++◌, length, Option, Some, None}
+use Rattle.std.proofs.Common.{sym, refl, ap, ◌∙◌, subst, ◌⊎◌, inl, inr, eq-eqb, ne_eqb, ⊎_elim, ◌+◌}
 use Rattle.std.proofs.lemmas.Bool.{cases_eq}
-use Rattle.std.proofs.Common.{⊎_elim, ◌+◌}
 use Rattle.std.specs.Prelude.{IsSome, slice_range}
 use Rattle.gt_types.specs.Config.{IsWithinLimits}
 use Rattle.gt_types.specs.Names.{domain_of}
@@ -37,12 +35,12 @@ use Rattle.gt_model.specs.declared.action.Step.TheVariants.{Copy as CopyBytes, L
 use Rattle.gt_model.specs.declared.action.Step.TheVariants.{Write as WriteBytes}
 use Rattle.gt_core.proofs.GoingOn.{calls-can-begin}
 use Rattle.gt_live.specs.Mappings.{KeepsMappings}
-use Rattle.gt_core.proofs.Steps.Observers.{stepped}
+use Rattle.gt_model.proofs.Observers.{stepped}
 use Rattle.gt_core.specs.GoingOn.{AnsweredSo, CanBeReached, MayBeGiven, AnswersAccess, begin_answer, beginning}
 use Rattle.gt_model.specs.History.{History as Items, Setting, contents_at, known_at, one_if_mapped, seen_by, table_at}
-use Rattle.gt_model.specs.History.{values}
+use Rattle.gt_model.specs.History.{values, setting_of}
 use Rattle.gt_model.specs.Legal.{IsRight}
-use Rattle.gt_core.specs.Acting.{answer_of, setting_of}
+use Rattle.gt_core.specs.Acting.{answer_of}
 use Rattle.gt_model.specs.declared.trace.Answer.{Answer}
 use Rattle.gt_model.specs.declared.trace.Item.{Item}
 use Rattle.gt_shared_table.specs.Bytes.{IsTrueStep}
@@ -55,9 +53,9 @@ use Rattle.gt_live.specs.declared.domain.Domain.{Domain}
 use Rattle.gt_order.proofs.Accesses.{AccessedAs, accessed-as, read-as, read-bytes, writes-by-none, writes-by-words}
 use Rattle.gt_order.proofs.Bytes.{said}
 use Rattle.gt_order.proofs.Called.{leaves}
-use Rattle.gt_order.proofs.Ending.{RefusesOnly, answered-at-once, answers, asked-refuses, begins, core-adds, ends-kept}
-use Rattle.gt_order.proofs.Ending.{ends-accessed, after-flag, after-look, ends-told, going-on, going-on-accessed, grows-last, grows-on}
-use Rattle.gt_order.proofs.Ending.{keeps-at-once, known-alike}
+use Rattle.gt_order.proofs.Ending.{RefusesOnly, answered-at-once, answers, asked-refuses, begins, core-adds}
+use Rattle.gt_order.proofs.Ending.{ends-kept, ends-accessed, after-flag, after-look, ends-told, going-on}
+use Rattle.gt_order.proofs.Ending.{going-on-accessed, grows-last, grows-on, keeps-at-once, known-alike}
 use Rattle.gt_order.proofs.Ending.{no-pin-at-once, starves}
 use Rattle.gt_order.proofs.NextAccess.{accesses-so}
 use Rattle.gt_order.proofs.NextItem.{goes-so, on-way, unanswered}
@@ -68,12 +66,12 @@ use Rattle.gt_order.proofs.Stages.{IsGoing, Ordered, SeatNow, Stage, one-more, o
 use Rattle.gt_order.proofs.Stages.Stage.{Going, Resting}
 use Rattle.gt_order.proofs.Stepping.{bounded-quiet, bounded-step}
 use Rattle.gt_order.specs.Agreeing.{IsThe, WritesAgree, dom_at}
-use Rattle.gt_order.specs.Ordering.{AreStepsOf, IsNewest, Occurrence, RunOrder, WasRaised}
-use Rattle.gt_order.specs.Ordering.{item_of_beginning, items_by_outcome, items_of_call, of_core, order_of_deeds}
-use Rattle.gt_order.specs.Ordering.{way_of}
+use Rattle.gt_order.specs.Ordering.{AreStepsOf, IsNewest, Occurrence, RunOrder, WasRaised, item_of_beginning}
+use Rattle.gt_order.specs.Ordering.{items_by_outcome, items_of_call, of_core, order_of_deeds, way_of}
 use Rattle.gt_order.specs.Ordering.Occurrence.{OfCore, OfFlag, OfLook}
-use Rattle.gt_order.specs.Runs.{AreDeeds, CallMade, CallOutcome, Deed, FlagMade, IsAnswered, IsAtRest, IsCall, IsCallWalk}
-use Rattle.gt_order.specs.Runs.{KeepsNoPin, LeavesMappings, LookMade, MakesAccess, MakesTurn, TookSteps, domain_after}
+use Rattle.gt_order.specs.Runs.{AreDeeds, CallMade, CallOutcome, Deed, FlagMade, IsAnswered, IsAtRest, IsCall}
+use Rattle.gt_order.specs.Runs.{IsCallWalk, KeepsNoPin, LeavesMappings, LookMade, MakesAccess, MakesTurn, TookSteps}
+use Rattle.gt_order.specs.Runs.{domain_after}
 use Rattle.gt_order.specs.Runs.Deed.{Call, Look, OnFlag}
 use Rattle.gt_order.specs.Runs.CallOutcome.{Told, Kept, Starved, Read, Wrote}
 

@@ -1,6 +1,6 @@
 -- Each run of the monitor has a legal order: by its history, from the newest step back.
-use Rattle.std.proofs.Common.{◌≡◌, ◌≢◌, ℕ, zero, suc, ◌<◌, ◌≤◌, Bool, cond, List, [], ◌∷◌}
-use Rattle.std.proofs.Common.{length, Some, sym, refl, ap, ◌∙◌, subst, arith, ◌⊎◌, inl, inr, eq-eqb}
+use Rattle.std.proofs.Common.{◌≡◌, ◌≢◌, ℕ, zero, suc, ◌<◌, ◌≤◌, Bool, cond, List, [], ◌∷◌, length, Some, sym, refl}
+use Rattle.std.proofs.Common.{ap, ◌∙◌, subst, arith, ◌⊎◌, inl, inr, eq-eqb}
 use Rattle.std.proofs.lemmas.Bool.{cases_eq, cases_lt}
 use Rattle.gt_types.specs.Config.{IsWithinLimits}
 use Rattle.gt_types.specs.declared.config.Config.{Config}
@@ -21,9 +21,8 @@ use Rattle.gt_model.specs.declared.action.CallResult.TheVariants.{Mapped as Kept
 use Rattle.gt_model.specs.declared.action.Step.{Step}
 use Rattle.gt_model.specs.declared.action.Step.TheVariants.{Read as ReadBytes}
 use Rattle.gt_core.specs.GoingOn.{CanBeReached}
-use Rattle.gt_model.specs.History.{History as Items}
+use Rattle.gt_model.specs.History.{History as Items, setting_of}
 use Rattle.gt_model.specs.Legal.{Legal}
-use Rattle.gt_core.specs.Acting.{setting_of}
 use Rattle.gt_live.proofs.Walking.{after-position}
 use Rattle.gt_live.specs.Domains.{AllowRelation}
 use Rattle.gt_live.specs.Starting.{IsNewDomain}
@@ -36,16 +35,14 @@ use Rattle.gt_order.proofs.Start.{ordered-first}
 use Rattle.gt_order.proofs.Walks.{as-walk}
 use Rattle.gt_order.specs.Agreeing.{WritesAgree}
 use Rattle.gt_order.specs.Laws.{RunsHaveLegalOrders}
-use Rattle.gt_order.specs.Ordering.{IsLegalOrder, RunOrder, events_of}
-use Rattle.gt_order.specs.Ordering.{trace_of}
-use Rattle.gt_order.specs.Ordering.{way_of}
-use Rattle.gt_order.specs.Runs.{AreDeeds, CallMade, CallOutcome, Deed, FlagMade, IsAnswered, IsAtRest, IsCall, IsCallWalk}
-use Rattle.gt_order.specs.Runs.{LookMade, TookSteps, domain_after}
+use Rattle.gt_order.specs.Ordering.{IsLegalOrder, RunOrder, events_of, trace_of, way_of}
+use Rattle.gt_order.specs.Runs.{AreDeeds, CallMade, CallOutcome, Deed, FlagMade, IsAnswered, IsAtRest, IsCall}
+use Rattle.gt_order.specs.Runs.{IsCallWalk, LookMade, TookSteps, domain_after}
 use Rattle.gt_order.specs.Runs.Deed.{Call, Look, OnFlag}
 use Rattle.gt_order.specs.Runs.CallOutcome.{Told, Kept, Starved, Read, Wrote}
-use Rattle.gt_order.proofs.NextStage.{begin-call, end-call, go-on, head-same, named, no-head, placed, put, put-else, put-here}
-use Rattle.gt_order.proofs.NextStage.{LastIs, LastNext, quiet-call, same-view, step-on-flag, step-on-look, step_of_look}
-use Rattle.gt_order.proofs.NextStage.{stood-of, tail-same}
+use Rattle.gt_order.proofs.NextStage.{begin-call, end-call, go-on, head-same, named, no-head, placed, put, put-else}
+use Rattle.gt_order.proofs.NextStage.{put-here, LastIs, LastNext, quiet-call, same-view, step-on-flag, step-on-look}
+use Rattle.gt_order.proofs.NextStage.{step_of_look, stood-of, tail-same}
 
 module _ (b : Board) (c : Config) (may : AllowRelation) (limits : IsWithinLimits c) (is : b.layout ≡ layout_of c) (firsts : ℕ → Domain) (new : (i : ℕ) → i < b.layout.domains → IsNewDomain b c may i (firsts i)) where
   abbrev k : Layout

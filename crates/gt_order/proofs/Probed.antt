@@ -1,6 +1,6 @@
 -- A copy that reached its access and could not make it made the steps of its probe.
-use Rattle.std.proofs.Common.{◌≡◌, ℕ, Bool, true, false, not, ◌&&◌, List, [], ◌∷◌, ◌++◌, Option, Some, None, refl, sym, ap, ◌∙◌, subst}
-use Rattle.std.proofs.Common.{append_assoc}
+use Rattle.std.proofs.Common.{◌≡◌, ℕ, Bool, true, false, not, ◌&&◌, List, [], ◌∷◌, ◌++◌, Option, Some, None, refl}
+use Rattle.std.proofs.Common.{sym, ap, ◌∙◌, subst, append_assoc}
 use Rattle.std.proofs.lemmas.Bool.{false≢true}
 use Rattle.std.proofs.lemmas.List.{append-nil}
 use Rattle.gt_types.specs.declared.places.Spot.{Spot}
@@ -15,8 +15,8 @@ use Rattle.gt_word_history.specs.History.{Moment, part_of}
 use Rattle.gt_word_history.specs.Rule.{Layout}
 use Rattle.gt_word_history.specs.Views.{with_step}
 use Rattle.gt_word_history.specs.declared.view.View.{View}
-use Rattle.gt_model.specs.Path.{Continuation, accesses, after_beginning, copies, dest_pair, end_leg, ended, is_copy_access, path_of}
-use Rattle.gt_model.specs.Path.{place_of, reaches, source_pair, to_dest}
+use Rattle.gt_model.specs.Path.{Continuation, accesses, after_beginning, copies, dest_pair, end_leg, ended}
+use Rattle.gt_model.specs.Path.{is_copy_access, path_of, place_of, reaches, source_pair, to_dest}
 unfoldable use Rattle.gt_model.specs.Path.{without_access}
 use Rattle.gt_model.specs.Holding.{held_by}
 use Rattle.gt_model.specs.Rules.{CallerKnowledge, begun, first, granted_when, has_own_ends}

@@ -19,7 +19,7 @@ use Rattle.gt_model.specs.declared.action.Step.TheVariants.{LookHeader, LookCont
 use Rattle.gt_model.specs.declared.action.Step.TheVariants.{StoreBody, StoreHeader, Exchange, Read as ReadBytes}
 use Rattle.gt_model.specs.declared.action.Step.TheVariants.{Write as WriteBytes, Copy as CopyBytes}
 use Rattle.gt_model.specs.History.{History as Items, Setting, body_at, exchange_sees, seen_by, table_at, word_at}
-use Rattle.gt_core.specs.Acting.{setting_of}
+use Rattle.gt_model.specs.History.{setting_of}
 use Rattle.gt_live.specs.Walks.{seen_in_step}
 use Rattle.gt_order.proofs.Places.{dom-there}
 use Rattle.gt_order.specs.Agreeing.{Agree, IsThe, IsWithin, dom_at}

@@ -17,9 +17,8 @@ use Rattle.gt_run.specs.Serving.{IsRefused, RefusesNone, gate_line}
 use Rattle.gt_model.specs.declared.request.Request.{Request}
 use Rattle.gt_model.specs.declared.request.Request.TheVariants as requests
 use Rattle.gt_explore_replay.specs.Orders.{AllFollow, DeedHappens, FollowsList, Happening, Prints}
-use Rattle.gt_order.specs.Printed.{AllPrint, GetsNoMemory, GivenTextsArePrinted, HasPart, Leaves, PrintedTextsAreGiven}
-use Rattle.gt_order.specs.Printed.{PrintsList, Starves, StopsAtGate}
-use Rattle.gt_order.specs.Printed.{IsUndisturbed, no_memory}
+use Rattle.gt_order.specs.Printed.{AllPrint, GetsNoMemory, GivenTextsArePrinted, HasPart, Leaves}
+use Rattle.gt_order.specs.Printed.{PrintedTextsAreGiven, PrintsList, Starves, StopsAtGate, IsUndisturbed, no_memory}
 
 -- what follows a line
 abbrev Next : Type 1

@@ -16,13 +16,12 @@ use Rattle.gt_model.specs.declared.action.Step.{Step}
 use Rattle.gt_core.proofs.AgreementKept.{open_call-other}
 use Rattle.gt_core.proofs.Mappings.{mappings-same}
 use Rattle.gt_core.proofs.Playing.{history-more, legal-more}
-use Rattle.gt_core.proofs.Steps.Observers.{other-known, other-maps, other-pins}
+use Rattle.gt_model.proofs.Observers.{other-known, other-maps, other-pins}
 use Rattle.gt_core.specs.GoingOn.{CanBeReached}
 use Rattle.gt_model.specs.History.{History as Items, Setting, Underway, mapping_named, known_at, maps_answered_at}
-use Rattle.gt_model.specs.History.{mappings_at, open_call, values}
+use Rattle.gt_model.specs.History.{mappings_at, open_call, values, setting_of}
 use Rattle.gt_model.specs.Legal.{IsRight, Legal, MayDo, history_after}
 use Rattle.gt_core.specs.Standing.{MappingsAgree}
-use Rattle.gt_core.specs.Acting.{setting_of}
 use Rattle.gt_model.specs.declared.trace.Answer.{Answer}
 use Rattle.gt_model.specs.declared.trace.Element.TheVariants.{Item as Did}
 use Rattle.gt_model.specs.declared.trace.ItemEvent.{ItemEvent}
@@ -34,10 +33,9 @@ use Rattle.gt_live.specs.declared.domain.Domain.{Domain}
 use Rattle.gt_order.proofs.Places.{test-apart}
 use Rattle.gt_order.proofs.Stepping.{AreBounded}
 use Rattle.gt_order.specs.Agreeing.{Agree, WritesAgree, dom_at}
-use Rattle.gt_order.specs.Ordering.{AreOnRaisedFlags, AreStepsOf, AreTrueLooks, Occurrence, RunOrder, actor_in, event_in}
-use Rattle.gt_order.specs.Ordering.{events_of}
-use Rattle.gt_order.specs.Ordering.{item_of_beginning, items_in, items_of_steps, of_core, order_of_deeds, own_in, trace_of}
-use Rattle.gt_order.specs.Ordering.{way_of}
+use Rattle.gt_order.specs.Ordering.{AreOnRaisedFlags, AreStepsOf, AreTrueLooks, Occurrence, RunOrder, actor_in}
+use Rattle.gt_order.specs.Ordering.{event_in, events_of, item_of_beginning, items_in, items_of_steps, of_core}
+use Rattle.gt_order.specs.Ordering.{order_of_deeds, own_in, trace_of, way_of}
 use Rattle.gt_order.specs.Ordering.Occurrence.{OfCore}
 use Rattle.gt_order.specs.Runs.{AreDeeds, CallMade, Deed, IsAtRest, IsCall, IsCallWalk, domain_after}
 

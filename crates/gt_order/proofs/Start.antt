@@ -1,9 +1,9 @@
 -- Before the first step of all: no items, and no history.
-use Rattle.std.proofs.Common.{◌≡◌, ◌≢◌, ℕ, zero, suc, ◌+◌, ◌*◌, ◌/◌, ◌%◌, ◌<◌, Bool, true, false, cond, ◌==◌, List, []}
-use Rattle.std.proofs.Common.{◌∷◌, length, map, get_or, Option, Some, None, sym, refl, ap, ◌∙◌, subst, arith, eq-eqb}
-use Rattle.std.proofs.Common.{ne_eqb}
+use Rattle.std.proofs.Common.{◌≡◌, ◌≢◌, ℕ, zero, suc, ◌+◌, ◌*◌, ◌/◌, ◌%◌, ◌<◌, Bool, true, false, cond, ◌==◌, List}
+use Rattle.std.proofs.Common.{[], ◌∷◌, length, map, get_or, Option, Some, None, sym, refl, ap, ◌∙◌, subst, arith}
+use Rattle.std.proofs.Common.{eq-eqb, ne_eqb}
 use Rattle.std.proofs.lemmas.List.Elements.{All-nil}
-use Rattle.gt_model.specs.History.{Pin}
+use Rattle.gt_model.specs.History.{Pin, Setting, generation_at, header_from, mappings_at, word_at, setting_of}
 use Rattle.gt_types.specs.Config.{IsWithinLimits}
 use Rattle.gt_types.specs.Names.{domain_of}
 use Rattle.gt_types.specs.declared.DomId.{DomId}
@@ -24,10 +24,9 @@ use Rattle.gt_core.proofs.GoingOn.{runs-start}
 use Rattle.gt_core.proofs.Mappings.{no-handles}
 use Rattle.gt_core.proofs.Steps.See.{table-fits}
 use Rattle.gt_core.specs.GoingOn.{CanBeReached}
-use Rattle.gt_model.specs.History.{Setting, generation_at, header_from, mappings_at, word_at}
-unfoldable use Rattle.gt_model.specs.History.{body_at, entry_at, gather, live, maps_answered_at, open_call, patches_at, raises_at, table_at}
+unfoldable use Rattle.gt_model.specs.History.{body_at, entry_at, gather, live, maps_answered_at, open_call}
+unfoldable use Rattle.gt_model.specs.History.{patches_at, raises_at, table_at}
 use Rattle.gt_core.specs.Standing.{MappingsAgree}
-use Rattle.gt_core.specs.Acting.{setting_of}
 use Rattle.gt_live.specs.Domains.{AllowRelation}
 use Rattle.gt_live.specs.Starting.{IsNewDomain}
 use Rattle.gt_live.specs.declared.domain.Domain.{Domain}

@@ -1,39 +1,35 @@
 -- A step of an open call keeps items and history in agreement.
-use Rattle.gt_core.proofs.Words.{live, without, ◌++◌, []}
+use Rattle.gt_core.proofs.Words.{live, without, ◌++◌, [], ◌≡◌, ◌≢◌, ◌<◌, ◌≤◌, ℕ, refl, Bool, true, false, not, List}
+use Rattle.gt_core.proofs.Words.{◌∷◌, Option, Some, None, sym, ap, ◌∙◌, subst, reverse, same_Some, none-some, arith}
+use Rattle.gt_core.proofs.Words.{DomId, GrantRef, domain_of, Entry as EntryOf, EntryChange, Publish, ToInvalid}
+use Rattle.gt_core.proofs.Words.{ToWithdrawn, ToReadOnly, ToWritable, FirstHalf, SecondHalf, HeldPin, PinHolder}
+use Rattle.gt_core.proofs.Words.{ByMapping, ByLeg, OpenRequest, Grant, Observation, Nothing, Word, Taken, Missed}
+use Rattle.gt_core.proofs.Words.{Step, LookHeader, LookControl, LookBody, PinStep, Unpin, StoreBody, StoreHeader}
+use Rattle.gt_core.proofs.Words.{Exchange, ReadBytes, WriteBytes, CopyBytes, Makes, State, state_of, Phase, path}
+use Rattle.gt_core.proofs.Words.{known_at, Setting, Underway, Rests, pins_at, DomainConfig, values, open_call}
+use Rattle.gt_core.proofs.Words.{DomainsStand, StateStands, CallAgrees, OpenAgrees, StateAgrees, CoreStands, IsClean}
+use Rattle.gt_core.proofs.Words.{IsRight, IsSafe, begun, entry_at, table_at, reads_at, writes_at, size_of}
+use Rattle.gt_core.proofs.Words.{TABLE_ENTRIES, CoreState}
 use Rattle.std.proofs.lemmas.List.{length-reverse, reverse-append}
 use Rattle.std.proofs.lemmas.List.Elements.{All-append, All-cons, All-head, All-nil, All-pop, All-push, All-tail}
-use Rattle.gt_core.proofs.Steps.Observers.{all-without, exchanged-live, new_pin, pinned-live, unpinned-live}
+use Rattle.gt_model.proofs.Observers.{all-without, exchanged-live, new_pin, pinned-live, unpinned-live, stepped, pins}
+use Rattle.gt_model.proofs.Observers.{unpins, exchanged}
 use Rattle.gt_model.specs.declared.trace.Item.{Item}
-use Rattle.std.specs.Prelude.{All, cond, length, ◌+◌, ◌==◌}
+use Rattle.std.specs.Prelude.{All, cond, length, ◌+◌, ◌==◌, IsSome}
 use Rattle.gt_calls.specs.Resting.{RestsOnLast}
-use Rattle.gt_model.specs.History.{Pin, by_leg, legs_at, gather}
+use Rattle.gt_model.specs.History.{Pin, by_leg, legs_at, gather, History as Items, setting_of}
 use Rattle.gt_core.specs.Phases.{numbered}
-use Rattle.gt_core.proofs.Steps.Unpin.{Loses, loses-leg}
-use Rattle.gt_core.proofs.Words.{◌≡◌, ◌≢◌, ◌<◌, ◌≤◌, ℕ, refl, Bool, true, false, not, List, ◌∷◌, Option, Some, None}
-use Rattle.gt_core.proofs.Words.{sym, ap, ◌∙◌, subst, reverse, same_Some, none-some, arith, DomId, GrantRef, domain_of}
-use Rattle.gt_core.proofs.Words.{Entry as EntryOf, EntryChange, Publish, ToInvalid, ToWithdrawn, ToReadOnly, ToWritable}
-use Rattle.gt_core.proofs.Words.{FirstHalf, SecondHalf, HeldPin, PinHolder, ByMapping, ByLeg, OpenRequest, Grant, Observation, Nothing}
-use Rattle.gt_core.proofs.Words.{Word, Taken, Missed, Step, LookHeader, LookControl, LookBody, PinStep, Unpin}
-use Rattle.gt_core.proofs.Words.{StoreBody, StoreHeader, Exchange, ReadBytes, WriteBytes, CopyBytes, Makes, State}
-use Rattle.gt_core.proofs.Words.{state_of, Phase, path, known_at, Setting, Underway, Rests, pins_at, DomainConfig}
-use Rattle.gt_core.proofs.Words.{values, open_call, DomainsStand, StateStands, CallAgrees, OpenAgrees, StateAgrees}
-use Rattle.gt_core.proofs.Words.{CoreStands, IsClean, IsRight, IsSafe, begun, entry_at, table_at, reads_at, writes_at}
-use Rattle.gt_core.proofs.Words.{size_of, TABLE_ENTRIES, CoreState}
-use Rattle.std.specs.Prelude.{IsSome}
+use Rattle.gt_core.proofs.Steps.Unpin.{Loses, loses-leg, loses-mapping}
 use Rattle.gt_core.proofs.Phases.{IsHere}
 use Rattle.gt_core.proofs.EachStep.{each-step}
 use Rattle.gt_core.proofs.Entries.{of-safe}
-use Rattle.gt_core.proofs.Steps.Observers.{stepped, pins, unpins, exchanged}
 use Rattle.gt_core.proofs.Steps.See.{IsWithin as InCore, table-fits}
-use Rattle.gt_core.proofs.Steps.Unpin.{loses-mapping}
 use Rattle.gt_core.specs.GoingOn.{IsOnWords, CanBeReached}
-use Rattle.gt_model.specs.History.{History as Items}
 use Rattle.gt_model.specs.declared.trace.Answer.{Answer}
 use Rattle.gt_core.specs.declared.underway.OpenCall.{OpenCall}
 use Rattle.gt_model.specs.Justified.{IsSafeChange}
 use Rattle.gt_model.specs.Entries.{is_read_only}
 use Rattle.gt_model.specs.declared.request.OpenRequest.TheVariants.{Demote, Promote}
-use Rattle.gt_core.specs.Acting.{setting_of}
 use Rattle.gt_calls.specs.Opening.{opens}
 use Rattle.gt_types.specs.Config.{IsWithinLimits}
 use Rattle.gt_types.specs.declared.config.Config.{Config}

@@ -1,11 +1,10 @@
 -- Each call of a domain is a call of a run, by the clauses of its contract.
 use Rattle.std.specs.Prelude.{◌≡◌, ℕ, List, [], Result, Ok, Err, OnOk, OnErr}
-use Rattle.gt_order.specs.Prelude.{denial_of, DomId, GrantRef, Denial, NoFacts, N26, IsSameSeat, Moment, Handle, asked}
-use Rattle.gt_order.specs.Prelude.{CallResult, Refused, HeldPin, Request, Writing, path_of, Step, Accessed, IsWrittenBy}
-use Rattle.gt_order.specs.Prelude.{Accesses, AllowRelation, Answered, BelongsTo, KeepsPinned, MapAnswered, known_on}
-use Rattle.gt_order.specs.Prelude.{verdict_of}
-use Rattle.gt_order.specs.Prelude.{IsOfMapping, Removes, Domain, Monitor}
-use Rattle.gt_order.specs.Prelude.{Bytes, Copying, IsCopiedBy, IsReadBy, IsUnmade, Reading}
+use Rattle.gt_order.specs.Prelude.{denial_of, DomId, GrantRef, Denial, NoFacts, N26, IsSameSeat, Moment, Handle}
+use Rattle.gt_order.specs.Prelude.{asked, CallResult, Refused, HeldPin, Request, Writing, path_of, Step, Accessed}
+use Rattle.gt_order.specs.Prelude.{IsWrittenBy, Accesses, AllowRelation, Answered, BelongsTo, KeepsPinned}
+use Rattle.gt_order.specs.Prelude.{MapAnswered, known_on, verdict_of, IsOfMapping, Removes, Domain, Monitor, Bytes}
+use Rattle.gt_order.specs.Prelude.{Copying, IsCopiedBy, IsReadBy, IsUnmade, Reading}
 use Rattle.gt_types.specs.declared.copies.CopyArgs.{CopyArgs}
 use Rattle.gt_model.specs.declared.action.CallResult.TheVariants.{Granted}
 use Rattle.gt_model.specs.declared.request.Request.TheVariants as requests

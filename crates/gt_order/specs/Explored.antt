@@ -1,8 +1,7 @@
 -- The text that a run writes is one that `explore` lists, if no call got no memory and no gate stopped a list.
 use Rattle.std.specs.Prelude.{◌≡◌, ◌⊎◌, ◌++◌, ℕ, Bool, All, List, Option}
 use Rattle.gt_order.specs.Prelude.{N26, NoFacts, denial_of}
-use Rattle.gt_order.specs.RunNames.{IsAmong, ThreadJob, Served, WritesAll}
-use Rattle.gt_order.specs.RunNames.{ListOutcome}
+use Rattle.gt_order.specs.RunNames.{IsAmong, ThreadJob, Served, WritesAll, ListOutcome}
 use Rattle.gt_model.specs.declared.trace.Answer.TheVariants as answers
 use Rattle.gt_script.specs.RunContents.{RunContents}
 use Rattle.gt_script_runs.specs.Rights.{may_by}

@@ -9,16 +9,18 @@ pub use Rattle.gt_model.specs.declared.action.Observation.TheVariants.{Nothing, 
 pub use Rattle.gt_model.specs.declared.action.Step.{Step}
 pub use Rattle.gt_model.specs.declared.action.Step.TheVariants.{Exchange, LookBody, LookControl, LookHeader}
 pub use Rattle.gt_model.specs.declared.action.Step.TheVariants.{Pin as PinStep, StoreBody, StoreHeader, Unpin}
-pub use Rattle.gt_model.specs.declared.action.Step.TheVariants.{Copy as CopyBytes, Read as ReadBytes, Write as WriteBytes}
+pub use Rattle.gt_model.specs.declared.action.Step.TheVariants.{Copy as CopyBytes, Read as ReadBytes}
+pub use Rattle.gt_model.specs.declared.action.Step.TheVariants.{Write as WriteBytes}
 pub use Rattle.gt_model.specs.declared.action.CallResult.{CallResult}
 pub use Rattle.gt_model.specs.declared.action.CallResult.TheVariants.{Granted, Mapped, Refused}
 pub use Rattle.gt_model.specs.declared.held.HeldPin.{HeldPin}
 pub use Rattle.gt_model.specs.declared.request.OpenRequest.{OpenRequest}
 pub use Rattle.gt_model.specs.declared.request.Request.{Request}
-pub use Rattle.gt_core.specs.Acting.{answer_of, setting_of}
+pub use Rattle.gt_core.specs.Acting.{answer_of}
+pub use Rattle.gt_model.specs.History.{setting_of, History as Items, Setting, Underway, body_at, entry_at}
+pub use Rattle.gt_model.specs.History.{generation_at, known_at, open_call, patches_at, seen_by, table_at, values}
+pub use Rattle.gt_model.specs.History.{word_at}
 pub use Rattle.gt_core.specs.GoingOn.{CanBeReached}
-pub use Rattle.gt_model.specs.History.{History as Items, Setting, Underway, body_at, entry_at, generation_at, known_at}
-pub use Rattle.gt_model.specs.History.{open_call, patches_at, seen_by, table_at, values, word_at}
 pub use Rattle.gt_model.specs.Legal.{IsRight, Legal}
 pub use Rattle.gt_model.specs.declared.trace.Answer.{Answer}
 pub use Rattle.gt_model.specs.declared.trace.Answer.TheVariants.{Bytes as BytesAnswer, Done as AnswerDone}
@@ -40,8 +42,7 @@ pub use Rattle.gt_handles.specs.Handles.{HandleMap}
 pub use Rattle.gt_model.specs.declared.handle.Handle.{Handle}
 pub use Rattle.gt_live.specs.Accesses.{Accessed, IsCopiedBy, IsReadBy, IsUnmade, IsWrittenBy}
 pub use Rattle.gt_live.specs.Domains.{Accesses, AllowRelation, Answered, IsDomainOf, BelongsTo, KeepsPinned}
-pub use Rattle.gt_live.specs.Domains.{IsUnsettled, MapAnswered}
-pub use Rattle.gt_live.specs.Domains.{knowledge, known_on, verdict_of}
+pub use Rattle.gt_live.specs.Domains.{IsUnsettled, MapAnswered, knowledge, known_on, verdict_of}
 pub use Rattle.gt_live.specs.Ending.{IsMap, IsOfMapping}
 pub use Rattle.gt_live.specs.Flags.{FlagStepped}
 pub use Rattle.gt_live.specs.Mappings.{AddsMapping, KeepsMappings, Removes}
@@ -63,15 +64,14 @@ pub use Rattle.gt_types.specs.declared.limits.TheConstants.{TABLE_ENTRIES}
 pub use Rattle.gt_words.specs.Conditions.{Board, HasDomain, IsSameSeat}
 pub use Rattle.gt_words.specs.Frames.{AccessesFrame, CopiesFrames}
 pub use Rattle.gt_word_history.specs.Controls.{generation_of}
-pub use Rattle.gt_word_history.specs.History.{StepHistory, Layout, Moment, RecordsWord, half_index, part_of, word_place_of}
-pub use Rattle.gt_word_history.specs.History.{word_after}
+pub use Rattle.gt_word_history.specs.History.{StepHistory, Layout, Moment, RecordsWord, half_index, part_of}
+pub use Rattle.gt_word_history.specs.History.{word_place_of, word_after}
 pub use Rattle.gt_word_history.specs.Rule.{Shows, header_place, id_at, layout_of, place, position_in}
 pub use Rattle.gt_word_history.specs.Steps.{changed, changed_word}
 pub use Rattle.gt_word_history.specs.Views.{entry_steps, last_record}
 pub use Rattle.gt_word_history.specs.declared.view.EntryRecord.{EntryRecord}
 pub use Rattle.gt_word_history.specs.declared.view.EntryStep.TheVariants.{ChangeMissed, Changed, Looked, PinMissed}
-pub use Rattle.gt_word_history.specs.declared.view.EntryStep.TheVariants.{Pinned}
-pub use Rattle.gt_word_history.specs.declared.view.EntryStep.TheVariants.{ReadBody, StoredBody, Unpinned}
+pub use Rattle.gt_word_history.specs.declared.view.EntryStep.TheVariants.{Pinned, ReadBody, StoredBody, Unpinned}
 pub use Rattle.gt_word_history.specs.declared.view.FlagStep.{FlagStep}
 pub use Rattle.gt_word_history.specs.declared.view.FlagStep.TheVariants.{Passed, Raised}
 pub use Rattle.gt_word_history.specs.declared.view.SeatStep.{SeatStep}

@@ -5,8 +5,7 @@ use Rattle.std.specs.Io.KnownBytes.{Appends}
 use Rattle.gt_types.specs.Names.{domain_of}
 use Rattle.gt_types.specs.declared.config.DomainConfig.{DomainConfig}
 use Rattle.gt_order.specs.Prelude.{DomId, Handle, Legal, N26, NoFacts, Request, denial_of}
-use Rattle.gt_order.specs.RunNames.{Answer, Do, Named, RunAction, RunTask, MakesRequest}
-use Rattle.gt_order.specs.RunNames.{ThreadJob, WritesAll}
+use Rattle.gt_order.specs.RunNames.{Answer, Do, Named, RunAction, RunTask, MakesRequest, ThreadJob, WritesAll}
 use Rattle.gt_model.specs.declared.request.Request.TheVariants as requests
 use Rattle.gt_model.specs.declared.trace.Answer.TheVariants as answers
 use Rattle.gt_script.specs.Contents.{type_names}
@@ -19,8 +18,8 @@ use Rattle.gt_script_runs.specs.declared.rights.ScriptPolicy.{ScriptPolicy as Sc
 use Rattle.gt_run.specs.Printing.{texts_in}
 use Rattle.gt_run.specs.Runs.{AreOf, WritesScript}
 use Rattle.gt_run.specs.Serving.{IsRefused, RefusesNone, gate_line}
-use Rattle.gt_explore_replay.specs.Orders.{CallHappens, DeedHappens, FlagsAreRaised, GivesMappingsBack, Happening, MayGive, Prints}
-use Rattle.gt_explore_replay.specs.Orders.{doer, events_in, own_happenings, trace_in}
+use Rattle.gt_explore_replay.specs.Orders.{CallHappens, DeedHappens, FlagsAreRaised, GivesMappingsBack, Happening}
+use Rattle.gt_explore_replay.specs.Orders.{MayGive, Prints, doer, events_in, own_happenings, trace_in}
 
 -- the answer of a call that got no memory
 abbrev pub no_memory : Answer

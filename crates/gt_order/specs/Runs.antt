@@ -1,15 +1,14 @@
 -- A run of the monitor: the order of all steps of all seats, and the calls that each domain made.
-use Rattle.std.specs.Prelude.{◌≡◌, ℕ, ◌<◌, All, List, [], ◌∷◌, length, Option, Some, None}
-use Rattle.gt_order.specs.Prelude.{some, get_elem?, State, IsWithinLimits, GrantRef, Config, Board, IsSameSeat, Moment}
-use Rattle.gt_order.specs.Prelude.{Shows, layout_of, View, HandleMap, Handle, FitsAsked, asked, bytes_of, Continuation}
-use Rattle.gt_order.specs.Prelude.{path_of, Makes, Done, Nothing, Step, WriteBytes, CallResult, Granted, Mapped, Refused}
-use Rattle.gt_order.specs.Prelude.{HeldPin, OpenRequest, Request, AllowRelation, IsDomainOf, knowledge, IsMap, AddsMapping}
-use Rattle.gt_order.specs.Prelude.{KeepsMappings, Removes, IsNewDomain, Called, Domain}
+use Rattle.std.specs.Prelude.{◌≡◌, ℕ, ◌<◌, All, List, [], ◌∷◌, length, Option, Some, None, ◌⊎◌}
+use Rattle.gt_order.specs.Prelude.{some, get_elem?, State, IsWithinLimits, GrantRef, Config, Board, IsSameSeat}
+use Rattle.gt_order.specs.Prelude.{Moment, Shows, layout_of, View, HandleMap, Handle, FitsAsked, asked, bytes_of}
+use Rattle.gt_order.specs.Prelude.{Continuation, path_of, Makes, Done, Nothing, Step, WriteBytes, CallResult, Granted}
+use Rattle.gt_order.specs.Prelude.{Mapped, Refused, HeldPin, OpenRequest, Request, AllowRelation, IsDomainOf}
+use Rattle.gt_order.specs.Prelude.{knowledge, IsMap, AddsMapping, KeepsMappings, Removes, IsNewDomain, Called, Domain}
 use Rattle.gt_order.specs.Prelude.{AccessesFrame, Action, Bytes, CopiesFrames, CopyBytes, DomId, Frame, Layout, Made}
 use Rattle.gt_order.specs.Prelude.{Observation, ReadBytes, Writ, all_shown, bytes_given_by, position_in, shown_by}
 use Rattle.gt_order.specs.Prelude.{FlagStep, FlagStepped, IsOfMapping, IsUnsettled, LookControl, TABLE_ENTRIES, Word}
 use Rattle.gt_order.specs.Prelude.{view_after}
-use Rattle.std.specs.Prelude.{◌⊎◌}
 use Rattle.gt_word_history.specs.declared.view.FrameStep.TheVariants as frames
 use Rattle.gt_model.specs.declared.request.OpenRequest.TheVariants as asks
 use Rattle.gt_live.specs.Parts.{mappings_of, seat_of}

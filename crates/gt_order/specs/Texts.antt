@@ -1,16 +1,12 @@
 -- The lists of a run, and the legal order whose answers they print, bytes too.
-use Rattle.std.specs.Prelude.{◌≡◌, ◌⊎◌, ℕ, Bool, ◌<◌, All, List, [], ◌∷◌, ◌++◌, length, map, Option, Some}
-use Rattle.std.specs.Prelude.{slice_get}
-use Rattle.gt_order.specs.RunNames.{some, get_elem?, State, Config, Denial, Board, StepHistory, Shows, id_at}
+use Rattle.std.specs.Prelude.{◌≡◌, ◌⊎◌, ℕ, Bool, ◌<◌, All, List, [], ◌∷◌, ◌++◌, length, map, Option, Some, slice_get}
+use Rattle.gt_order.specs.RunNames.{some, get_elem?, State, Config, Denial, Board, StepHistory, Shows, id_at, IsAmong}
+use Rattle.gt_order.specs.RunNames.{View, answer_of, Answer, AllowRelation, HasLeft, Domain, Departed, Monitor}
+use Rattle.gt_order.specs.RunNames.{AreReleases, IsLegalOrder, CallMade, Await, Call, Deed, Do, FlagMade, FlagStep}
+use Rattle.gt_order.specs.RunNames.{Look, OnFlag, Passed, Raised, RunAction, RunOrder, Tell, CallOutcome, SeatRun}
+use Rattle.gt_order.specs.RunNames.{Told, Kept, Starved, Read, Wrote, ScriptCall, RunTask, ThreadJob, Served}
+use Rattle.gt_order.specs.RunNames.{WasServed, WritesAll, MakesCall, ListProgress}
 use Rattle.gt_order.specs.Prelude.{IsWithinLimits, N26, NoFacts, denial_of}
-use Rattle.gt_order.specs.RunNames.{IsAmong}
-use Rattle.gt_order.specs.RunNames.{View, answer_of, Answer, AllowRelation, HasLeft}
-use Rattle.gt_order.specs.RunNames.{Domain, Departed, Monitor, AreReleases, IsLegalOrder, CallMade}
-use Rattle.gt_order.specs.RunNames.{Await, Call, Deed, Do, FlagMade, FlagStep, Look, OnFlag, Passed, Raised}
-use Rattle.gt_order.specs.RunNames.{RunAction, RunOrder, Tell}
-use Rattle.gt_order.specs.RunNames.{CallOutcome, SeatRun, Told, Kept, Starved, Read, Wrote, ScriptCall}
-use Rattle.gt_order.specs.RunNames.{RunTask, ThreadJob, Served, WasServed, WritesAll, MakesCall}
-use Rattle.gt_order.specs.RunNames.{ListProgress}
 use Rattle.gt_model.specs.declared.trace.Answer.TheVariants as answers
 use Rattle.gt_shared_table.specs.Words.{frames_kept}
 use Rattle.gt_types.specs.declared.denial.Rule.TheVariants.{N16}

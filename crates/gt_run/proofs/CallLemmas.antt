@@ -1,6 +1,6 @@
 -- What the call of a line comes to.
-use Rattle.std.proofs.Common.{◌≡◌, ◌++◌, ℕ, ◌+◌, ◌-◌, ◌^◌, Bool, true, false, List, [], ◌∷◌, length, map, min}
-use Rattle.std.proofs.Common.{Option, None, Some, Result, Ok, Err, IfOk, refl, sym, subst, ap, ◌∙◌, inl, inr, arith}
+use Rattle.std.proofs.Common.{◌≡◌, ◌++◌, ℕ, ◌+◌, ◌-◌, ◌^◌, Bool, true, false, List, [], ◌∷◌, length, map, min, Option}
+use Rattle.std.proofs.Common.{None, Some, Result, Ok, Err, IfOk, refl, sym, subst, ap, ◌∙◌, inl, inr, arith}
 use Rattle.std.specs.Prelude.{is_some, slice_get}
 use Rattle.std.proofs.lemmas.Grind.{flat_map-append}
 use Rattle.std.proofs.lemmas.List.{append-nil, map-append}
@@ -23,9 +23,8 @@ use Rattle.gt_run.specs.Asking.{AnswersCall, Asks}
 use Rattle.gt_types.specs.declared.GrantRef.{GrantRef}
 use Rattle.gt_model.specs.declared.entry.Entry.{Entry}
 use Rattle.gt_script_lines.specs.declared.calls.ScriptCall.TheVariants as said
-use Rattle.gt_run.specs.Serving.{Calls, FitsEntry, LogsOutcomes, Makes, ListOutcome, Records}
-use Rattle.gt_run.specs.Serving.{answer_lines}
-use Rattle.gt_run.specs.Serving.{counted, is_logged, lost_in, record_made, logged_records}
+use Rattle.gt_run.specs.Serving.{Calls, FitsEntry, LogsOutcomes, Makes, ListOutcome, Records, answer_lines, counted}
+use Rattle.gt_run.specs.Serving.{is_logged, lost_in, record_made, logged_records}
 use Rattle.gt_run.specs.Logging.{LogsNext, LogsTrail}
 use Rattle.gt_run.specs.declared.lists.ThreadJob.{ThreadJob}
 use Rattle.gt_run.specs.declared.logging.TrailLogger.{TrailLogger}

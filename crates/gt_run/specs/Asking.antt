@@ -1,11 +1,10 @@
 -- The requests of a running domain, and their answers.
 use Rattle.std.specs.Prelude.{◌≡◌, ℕ, List, MatchBool, Result, Ok, Err, OnOk, OnErr, nat_lt}
-use Rattle.gt_run.specs.Prelude.{Size, Denial, Copying, Reading, Writing, Handle, AppendsRecord, HeldPin}
-use Rattle.gt_run.specs.Prelude.{Request, Answer, Domain, Monitor, IsCopiedBy, IsReadBy, IsWrittenBy}
-use Rattle.gt_run.specs.Prelude.{Accesses, Answered, KeepsPinned, MapAnswered, AllowRelation, mapping_reply}
-use Rattle.gt_run.specs.Prelude.{subject_of, record_of_copy, record_of_result}
-use Rattle.gt_run.specs.Prelude.{verdict_of, verdict_of_frames, verdict_of_size}
-use Rattle.gt_run.specs.Prelude.{verdict_of_version, Removes}
+use Rattle.gt_run.specs.Prelude.{Size, Denial, Copying, Reading, Writing, Handle, AppendsRecord, HeldPin, Request}
+use Rattle.gt_run.specs.Prelude.{Answer, Domain, Monitor, IsCopiedBy, IsReadBy, IsWrittenBy, Accesses, Answered}
+use Rattle.gt_run.specs.Prelude.{KeepsPinned, MapAnswered, AllowRelation, mapping_reply, subject_of, record_of_copy}
+use Rattle.gt_run.specs.Prelude.{record_of_result, verdict_of, verdict_of_frames, verdict_of_size, verdict_of_version}
+use Rattle.gt_run.specs.Prelude.{Removes}
 use Rattle.gt_live.specs.Domains.{AccessesQuietly, AnswersQuietly, AnswersRecorded, StaysIn, known_on}
 use Rattle.gt_live.specs.Flags.{FlagStepped}
 use Rattle.gt_word_history.specs.declared.view.FlagStep.{FlagStep}

@@ -19,10 +19,8 @@ pub use Rattle.gt_script_runs.specs.declared.labels.Labels.{Labels}
 pub use Rattle.gt_script_lines.specs.declared.calls.ScriptCall.{ScriptCall}
 pub use Rattle.gt_live.specs.Accesses.{IsCopiedBy, IsReadBy, IsWrittenBy}
 pub use Rattle.gt_live.specs.Domains.{Accesses, AllowRelation, Answered, BelongsTo, HasLeft, KeepsPinned, MapAnswered}
-pub use Rattle.gt_live.specs.Domains.{mapping_reply}
-pub use Rattle.gt_live.specs.Domains.{subject_of, record_of_copy, record_of_result}
-pub use Rattle.gt_live.specs.Domains.{verdict_of, verdict_of_frames, verdict_of_size}
-pub use Rattle.gt_live.specs.Domains.{verdict_of_version}
+pub use Rattle.gt_live.specs.Domains.{mapping_reply, subject_of, record_of_copy, record_of_result, verdict_of}
+pub use Rattle.gt_live.specs.Domains.{verdict_of_frames, verdict_of_size, verdict_of_version}
 pub use Rattle.gt_live.specs.Mappings.{Removes}
 pub use Rattle.gt_live.specs.Starting.{IsNewDomain}
 pub use Rattle.gt_live.specs.declared.domain.Departed.{Departed}

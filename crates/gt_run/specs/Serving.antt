@@ -2,10 +2,11 @@
 use Rattle.std.specs.Prelude.{◌≡◌, ◌⊎◌, ◌++◌, ◌+◌, ◌==◌, ◌^◌, ◌-◌, ℕ, Bool, true, false, List, [], ◌∷◌, length, map}
 use Rattle.std.specs.Prelude.{min, take, codes, IsTrue, Option, None, Some, is_some, slice_get}
 use Rattle.gt_run.specs.Prelude.{AllZip, flat_map, sum_by, DomId, type_text, line_text, TrailState, Record, asked}
-use Rattle.gt_run.specs.Prelude.{Request, Answer, hypercall_of_request, encoded_record, AreNamed, answer_line, call_text, Named}
-use Rattle.gt_run.specs.Prelude.{handle_given, label_given, with_name, MakesRequest, Labels, ScriptCall, AllowRelation}
-use Rattle.gt_run.specs.Prelude.{subject_of, HasLeft, IsNewDomain, Departed, Domain, Monitor, RunAction, Do, Tell, Await, RunTask, ThreadJob, DomainPart}
-use Rattle.gt_run.specs.Prelude.{Passed, TrailLogger}
+use Rattle.gt_run.specs.Prelude.{Request, Answer, hypercall_of_request, encoded_record, AreNamed, answer_line}
+use Rattle.gt_run.specs.Prelude.{call_text, Named, handle_given, label_given, with_name, MakesRequest, Labels}
+use Rattle.gt_run.specs.Prelude.{ScriptCall, AllowRelation, subject_of, HasLeft, IsNewDomain, Departed, Domain}
+use Rattle.gt_run.specs.Prelude.{Monitor, RunAction, Do, Tell, Await, RunTask, ThreadJob, DomainPart, Passed}
+use Rattle.gt_run.specs.Prelude.{TrailLogger}
 use Rattle.gt_run.specs.Asking.{Asks, MakesFlagStep, RaisesFlag, Stand}
 use Rattle.gt_model.specs.Entries.{IsEntry}
 use Rattle.gt_script_lines.specs.declared.calls.ScriptCall.TheVariants as calls

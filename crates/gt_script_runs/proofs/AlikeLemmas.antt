@@ -24,12 +24,11 @@ use Rattle.gt_model.specs.declared.trace.Event.{Event}
 use Rattle.gt_model.specs.declared.trace.Event.TheVariants.{Begin, Tick}
 use Rattle.gt_model.specs.History.{History, Setting}
 use Rattle.gt_model.specs.Legal.{MayDo, actor_of, grown, history_after}
-use Rattle.gt_core.specs.Alike.{bare_handle, bare_bytes, bare_request, keyless_answer, KeylessItem, SameElement, IsGiven}
-use Rattle.gt_core.specs.Alike.{IsKnown}
-use Rattle.gt_core.specs.Alike.{AsksKnown}
+use Rattle.gt_core.specs.Alike.{bare_handle, bare_bytes, bare_request, keyless_answer, KeylessItem, SameElement}
+use Rattle.gt_core.specs.Alike.{IsGiven, IsKnown, AsksKnown}
 use Rattle.gt_script_runs.specs.Printing.{answer_text, bytes_text}
-use Rattle.gt_script_runs.specs.Runs.{Named, handle_named, handle_of, never_given, with_name, named_after, handle_given}
-use Rattle.gt_script_runs.specs.Runs.{label_said, request_of, MakesRequest, answer_in}
+use Rattle.gt_script_runs.specs.Runs.{Named, handle_named, handle_of, never_given, with_name, named_after}
+use Rattle.gt_script_runs.specs.Runs.{handle_given, label_said, request_of, MakesRequest, answer_in}
 
 -- names
 

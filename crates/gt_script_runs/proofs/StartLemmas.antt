@@ -11,9 +11,8 @@ use Rattle.gt_types.specs.declared.config.Config.{Config}
 use Rattle.gt_types.specs.declared.config.ConfigFault.{ConfigFault}
 use Rattle.gt_script.specs.Contents.{Contents, first_gen}
 use Rattle.gt_types.specs.declared.limits.TheConstants.{LAST_GENERATION}
-use Rattle.gt_model.specs.History.{Setting}
+use Rattle.gt_model.specs.History.{Setting, setting_of}
 use Rattle.gt_core.specs.Standing.{CoreModel, CoreStands}
-use Rattle.gt_core.specs.Acting.{setting_of}
 use Rattle.gt_script_runs.specs.declared.rights.ScriptPolicy.{ScriptPolicy}
 use Rattle.gt_script_runs.specs.Rights.{may_by, may_in}
 use Rattle.gt_script_runs.specs.Playing.{StartsFor}

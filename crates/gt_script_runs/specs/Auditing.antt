@@ -1,9 +1,9 @@
 -- The audit of a run, as a function of its trace.
 use Rattle.std.specs.Prelude.{◌≡◌, ◌==◌, ◌++◌, ℕ, Bool, true, false, List, [], ◌∷◌, Option, None, Some, if◌then◌else◌}
 use Rattle.std.specs.Prelude.{option_to_list}
-use Rattle.gt_script_runs.specs.Prelude.{DomId, GrantRef, Handle, asked, OpenRequest, type_text, line_text, reply_text}
-use Rattle.gt_script_runs.specs.Prelude.{Hypercall, Record, Reply, History, Setting, Underway, open_call, grown, subject_at}
-use Rattle.gt_script_runs.specs.Prelude.{Answer, Element, ItemEvent, Began, Stepped, Item}
+use Rattle.gt_script_runs.specs.Prelude.{DomId, GrantRef, Handle, asked, OpenRequest, type_text, line_text}
+use Rattle.gt_script_runs.specs.Prelude.{reply_text, Hypercall, Record, Reply, History, Setting, Underway, open_call}
+use Rattle.gt_script_runs.specs.Prelude.{grown, subject_at, Answer, Element, ItemEvent, Began, Stepped, Item}
 use Rattle.gt_model.specs.declared.request.OpenRequest.TheVariants as asks
 use Rattle.gt_audit.specs.declared.record.Hypercall.TheVariants as calls
 use Rattle.gt_audit.specs.declared.record.Reply.TheVariants as replies

@@ -6,8 +6,7 @@ pub use Rattle.gt_audit.specs.declared.record.Reply.{Reply}
 pub use Rattle.gt_model.specs.Asking.{asked}
 pub use Rattle.gt_model.specs.declared.request.OpenRequest.{OpenRequest}
 pub use Rattle.gt_model.specs.declared.request.Request.{Request}
-pub use Rattle.gt_core.specs.Acting.{setting_of}
-pub use Rattle.gt_model.specs.History.{History, Setting, Underway, open_call}
+pub use Rattle.gt_model.specs.History.{setting_of, History, Setting, Underway, open_call}
 pub use Rattle.gt_model.specs.Legal.{Legal, grown, history_after}
 pub use Rattle.gt_core.specs.Shown.{shown_at}
 pub use Rattle.gt_core.specs.Standing.{CoreModel, CoreStands}

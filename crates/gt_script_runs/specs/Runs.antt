@@ -1,9 +1,9 @@
 -- What a run of a script does and prints.
 use Rattle.std.specs.Prelude.{◌≡◌, ◌≤◌, ℕ, ◌+◌, ◌-◌, ◌^◌, ◌==◌, ◌&&◌, List, [], ◌∷◌, ◌++◌, length, replicate, Option}
 use Rattle.std.specs.Prelude.{Some, None, unwrap_or, is_some, if◌then◌else◌}
-use Rattle.gt_script_runs.specs.Prelude.{Bor, bytes_eq, DomId, GrantRef, DomainConfig, hex_bytes, ScriptCall, ScriptAction}
-use Rattle.gt_script_runs.specs.Prelude.{ScriptStep, Handle, Request, Answer, Mapped, Event, Begin, Tick, Item, Element}
-use Rattle.gt_script_runs.specs.Prelude.{History, Setting, open_call, history_after, shown_at}
+use Rattle.gt_script_runs.specs.Prelude.{Bor, bytes_eq, DomId, GrantRef, DomainConfig, hex_bytes, ScriptCall}
+use Rattle.gt_script_runs.specs.Prelude.{ScriptAction, ScriptStep, Handle, Request, Answer, Mapped, Event, Begin}
+use Rattle.gt_script_runs.specs.Prelude.{Tick, Item, Element, History, Setting, open_call, history_after, shown_at}
 use Rattle.gt_script_lines.specs.declared.calls.ScriptCall.TheVariants as calls
 use Rattle.gt_script.specs.declared.actions.ScriptAction.TheVariants as actions
 use Rattle.gt_model.specs.declared.request.Request.TheVariants as requests

@@ -1,15 +1,14 @@
 -- The rule at the start, and when a seat is dealt.
 use Rattle.gt_word_history.specs.declared.rule.TheConstants.{DOMAIN_WORDS, ENTRY_WORDS}
-use Rattle.std.proofs.Common.{◌≡◌, ◌≢◌, ◌⊎◌, inl, inr, ⊎_elim, ℕ, zero, suc, ◌+◌, ◌*◌, ◌/◌, ◌%◌, ◌<◌, ◌≤◌, Bool, false}
-use Rattle.std.proofs.Common.{cond, ◌==◌, List, [], ◌∷◌, ◌++◌, map, length, get_or, set, sym, refl, ap, ◌∙◌, subst}
-use Rattle.std.proofs.Common.{arith, length-append, eq-eqb, ne_eqb, All}
+use Rattle.std.proofs.Common.{◌≡◌, ◌≢◌, ◌⊎◌, inl, inr, ⊎_elim, ℕ, zero, suc, ◌+◌, ◌*◌, ◌/◌, ◌%◌, ◌<◌, ◌≤◌, Bool}
+use Rattle.std.proofs.Common.{false, cond, ◌==◌, List, [], ◌∷◌, ◌++◌, map, length, get_or, set, sym, refl, ap, ◌∙◌}
+use Rattle.std.proofs.Common.{subst, arith, length-append, eq-eqb, ne_eqb, All, length-set}
 use mathlib.Core.Option.{some, some-injective, some-ne-none}
 use mathlib.Core.List.{map-append}
 use lib.ListN.{get_elem?}
 use lib.Seq.{map-set}
 use Rattle.atomic_table.specs.Table.{opening, Splits}
 use Rattle.atomic_table.proofs.Lists.{at_set, at_snoc, set_again, at_map}
-use Rattle.std.proofs.Common.{length-set}
 use Rattle.gt_model.specs.Spelling.{word_of}
 use Rattle.gt_model.specs.Words.{header_word}
 use Rattle.gt_types.specs.declared.Dir.{Dir}
@@ -21,11 +20,9 @@ use Rattle.gt_word_history.specs.History.{initial}
 use Rattle.gt_word_history.specs.Controls.{generation_of}
 use Rattle.gt_word_history.specs.Places.{dealer_after, dealt_to, new_view}
 use Rattle.gt_word_history.specs.Rule.{HasGoneOn, IsHeader, Layout, Shows, ShowsEntry, ShowsRecord, first_header}
-use Rattle.gt_word_history.specs.Rule.{header_now}
-use Rattle.gt_word_history.specs.Rule.{header_place, owner_steps, place, total_pins, total_until}
+use Rattle.gt_word_history.specs.Rule.{header_now, header_place, owner_steps, place, total_pins, total_until}
 use Rattle.gt_word_history.specs.Views.{IsAmong, earlier_records, exchanged, last_record, own, pin_count, live_pins}
-use Rattle.gt_word_history.specs.Views.{pins_until}
-use Rattle.gt_word_history.specs.Views.{steps_on, steps_on_header, stored_body, stored_header}
+use Rattle.gt_word_history.specs.Views.{pins_until, steps_on, steps_on_header, stored_body, stored_header}
 use Rattle.gt_word_history.specs.declared.view.EntryStep.{EntryStep}
 use Rattle.gt_model.specs.declared.change.BodyWord.TheVariants.{First, Second}
 use Rattle.gt_word_history.specs.declared.view.HeaderStep.{HeaderStep}

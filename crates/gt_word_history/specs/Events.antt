@@ -1,6 +1,5 @@
 -- How each event of the core changes the state that a history of steps makes.
-use Rattle.std.specs.Prelude.{◌≡◌, ℕ, cond, ◌==◌, ◌&&◌, List, [], ◌∷◌, slice_index_or}
-use Rattle.std.specs.Prelude.{slice_set}
+use Rattle.std.specs.Prelude.{◌≡◌, ℕ, cond, ◌==◌, ◌&&◌, List, [], ◌∷◌, slice_index_or, slice_set}
 use Rattle.atomic_table.specs.Table.{State}
 use Rattle.gt_model.specs.declared.change.BodyWord.TheVariants.{First, Second}
 use Rattle.gt_word_history.specs.declared.view.EntryStep.{EntryStep}
@@ -12,9 +11,8 @@ use Rattle.gt_word_history.specs.declared.view.SeatStep.{SeatStep}
 use Rattle.gt_word_history.specs.declared.view.SeatStep.TheVariants.{Entry, Flag, Frame, Header}
 use Rattle.gt_word_history.specs.declared.view.View.{View}
 use Rattle.gt_word_history.specs.Views.{LivePin, without_pin}
-use Rattle.gt_word_history.specs.History.{EntryState, StepHistory, Moment, PinsLast, RecordsWord, entry_made, header_made}
-use Rattle.gt_word_history.specs.History.{word_place_of}
-use Rattle.gt_word_history.specs.History.{word_after}
+use Rattle.gt_word_history.specs.History.{EntryState, StepHistory, Moment, PinsLast, RecordsWord, entry_made}
+use Rattle.gt_word_history.specs.History.{header_made, word_place_of, word_after}
 pub use Rattle.gt_word_history.specs.History.{HeaderByOwner, IsByOwner}
 use Rattle.gt_word_history.specs.Rule.{Layout, Stands}
 

@@ -1,8 +1,7 @@
 -- Names from other crates, and from the code, that these definitions use.
 pub use Rattle.atomic_table.specs.Seated.{TableId}
 pub use Rattle.atomic_table.specs.Table.{Allows, Me, State, Step as TableStep}
-pub use Rattle.gt_model.specs.Changes.{changed_entry, raise_of}
-pub use Rattle.gt_model.specs.Entries.{IsEntry, is_read_only, with_ro}
+pub use Rattle.gt_model.specs.Entries.{changed_entry, raise_of, IsEntry, is_read_only, with_ro}
 pub use Rattle.gt_model.specs.Spelling.{IsSpelled, entry_of, idle_word_of, word_of}
 pub use Rattle.gt_model.specs.Words.{control_of, header_of, header_word, kind_of, unit_of}
 pub use Rattle.gt_model.specs.declared.change.EntryChange.{EntryChange}
@@ -16,13 +15,11 @@ pub use Rattle.gt_types.specs.declared.Dir.TheVariants.{Read, Write}
 pub use Rattle.gt_types.specs.declared.DomId.{DomId}
 pub use Rattle.gt_types.specs.declared.config.Config.{Config}
 pub use Rattle.gt_types.specs.declared.config.DomainConfig.{DomainConfig}
-pub use Rattle.gt_types.specs.declared.limits.TheConstants.{MAX_TABLE_FRAMES}
-pub use Rattle.gt_types.specs.declared.limits.TheConstants.{TABLE_ENTRIES}
+pub use Rattle.gt_types.specs.declared.limits.TheConstants.{MAX_TABLE_FRAMES, TABLE_ENTRIES}
 pub use Rattle.gt_word_history.specs.declared.view.EntryRecord.{EntryRecord}
 pub use Rattle.gt_word_history.specs.declared.view.EntryStep.{EntryStep}
 pub use Rattle.gt_word_history.specs.declared.view.EntryStep.TheVariants.{ChangeMissed, Changed, Looked, PinMissed}
-pub use Rattle.gt_word_history.specs.declared.view.EntryStep.TheVariants.{Pinned}
-pub use Rattle.gt_word_history.specs.declared.view.EntryStep.TheVariants.{ReadBody, StoredBody, Unpinned}
+pub use Rattle.gt_word_history.specs.declared.view.EntryStep.TheVariants.{Pinned, ReadBody, StoredBody, Unpinned}
 pub use Rattle.gt_word_history.specs.declared.view.HeaderStep.{HeaderStep}
 pub use Rattle.gt_word_history.specs.declared.view.Purpose.{Purpose}
 pub use Rattle.gt_word_history.specs.declared.view.SeatStep.{SeatStep}

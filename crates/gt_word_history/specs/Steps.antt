@@ -1,11 +1,9 @@
 -- One atomic step: what it adds to its seat's view, and the state in which it is taken.
 use Rattle.std.specs.Prelude.{◌≡◌, ℕ, ◌+◌, ◌-◌, ◌%◌, ◌^◌, cond, ◌==◌, ◌∷◌}
 use Rattle.gt_word_history.specs.Prelude.{some, get_elem?, either, State, Me, TableStep, changed_entry, raise_of}
-use Rattle.gt_word_history.specs.Prelude.{idle_word_of}
-use Rattle.gt_word_history.specs.Prelude.{unit_of, EntryChange, Dir, EntryStep, ChangeMissed, Changed, Looked, PinMissed}
-use Rattle.gt_word_history.specs.Prelude.{Pinned}
-use Rattle.gt_word_history.specs.Prelude.{ReadBody, StoredBody, Unpinned, BodyWord, HeaderStep, Purpose}
-use Rattle.gt_word_history.specs.Prelude.{EntryRecord, SeatStep, View}
+use Rattle.gt_word_history.specs.Prelude.{idle_word_of, unit_of, EntryChange, Dir, EntryStep, ChangeMissed, Changed}
+use Rattle.gt_word_history.specs.Prelude.{Looked, PinMissed, Pinned, ReadBody, StoredBody, Unpinned, BodyWord}
+use Rattle.gt_word_history.specs.Prelude.{HeaderStep, Purpose, EntryRecord, SeatStep, View}
 use Rattle.gt_word_history.specs.Controls.{demoted_word, invalid_word, promoted_word, withdrawn_word}
 use Rattle.gt_word_history.specs.Events.{Happens}
 use Rattle.gt_word_history.specs.History.{StepHistory, PinsLast, RecordsWord, word_after}

@@ -1,10 +1,10 @@
 -- What the steps of one seat imply. Lists begin with the last item.
 use Rattle.std.specs.Prelude.{◌≡◌, ◌⊎◌, ℕ, ◌+◌, Bool, true, false, cond, IsSome, ◌==◌, ◌&&◌, List, [], ◌∷◌, Option}
 use Rattle.std.specs.Prelude.{Some, None, slice_index, count_by, nat_le}
-use Rattle.gt_word_history.specs.Prelude.{Dir, Read, Write, BodyWord, First, Second, EntryRecord, EntryStep, Looked, ReadBody}
-use Rattle.gt_word_history.specs.Prelude.{Pinned, PinMissed, Unpinned, StoredBody, Changed, ChangeMissed, HeaderStep}
-use Rattle.gt_word_history.specs.Prelude.{SeatStep}
-use Rattle.gt_word_history.specs.Prelude.{View, KindSub, entry_of, control_of, header_of, kind_of, TableHeader}
+use Rattle.gt_word_history.specs.Prelude.{Dir, Read, Write, BodyWord, First, Second, EntryRecord, EntryStep, Looked}
+use Rattle.gt_word_history.specs.Prelude.{ReadBody, Pinned, PinMissed, Unpinned, StoredBody, Changed, ChangeMissed}
+use Rattle.gt_word_history.specs.Prelude.{HeaderStep, SeatStep, View, KindSub, entry_of, control_of, header_of}
+use Rattle.gt_word_history.specs.Prelude.{kind_of, TableHeader}
 use Rattle.gt_model.specs.declared.entry.Entry.TheVariants as entries
 use Rattle.gt_word_history.specs.declared.view.HeaderStep.TheVariants as header
 use Rattle.gt_word_history.specs.declared.view.SeatStep.TheVariants.{Entry, Flag, Frame, Header}

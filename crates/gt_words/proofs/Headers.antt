@@ -1,6 +1,6 @@
 -- Steps on a header word keep the rule, and take the shown state to the one that their event gives.
-use Rattle.std.proofs.Common.{◌≡◌, ◌≢◌, ◌⊎◌, inl, inr, ℕ, ◌*◌, ◌<◌, ◌≤◌, Bool, true, false, cond, ◌==◌, List}
-use Rattle.std.proofs.Common.{[], ◌∷◌, map, get_or, set, sym, refl, ap, ◌∙◌, subst, arith, length-set, get_or-set_other}
+use Rattle.std.proofs.Common.{◌≡◌, ◌≢◌, ◌⊎◌, inl, inr, ℕ, ◌*◌, ◌<◌, ◌≤◌, Bool, true, false, cond, ◌==◌, List, [], ◌∷◌}
+use Rattle.std.proofs.Common.{map, get_or, set, sym, refl, ap, ◌∙◌, subst, arith, length-set, get_or-set_other}
 use Rattle.std.proofs.Common.{get_or-set_same, eq-eqb, ne_eqb, if◌then◌else◌}
 use mathlib.Core.Option.{some, none}
 use mathlib.Core.Logic.{dite}
@@ -21,8 +21,8 @@ use Rattle.gt_words.specs.Answers.{AddsToHeader, LooksAtHeader, StepsOnHeader, S
 use Rattle.gt_word_history.specs.Events.{HeaderByOwner, header_after}
 use Rattle.gt_word_history.proofs.Order.{leads_on}
 use Rattle.gt_word_history.specs.History.{StepHistory, RecordsWord, left_by}
-use Rattle.gt_word_history.specs.Rule.{IsHeader, IsKeptHeader, Layout, Shows, HasStood, Stands, ShowsEntry, header_now}
-use Rattle.gt_word_history.specs.Rule.{header_place, place}
+use Rattle.gt_word_history.specs.Rule.{IsHeader, IsKeptHeader, Layout, Shows, HasStood, Stands, ShowsEntry}
+use Rattle.gt_word_history.specs.Rule.{header_now, header_place, place}
 use Rattle.gt_word_history.specs.Steps.{TakesStep, looking_at_header, on_header, storing_header, promises_step}
 use Rattle.gt_word_history.specs.Views.{own, own_header, steps_on, steps_on_header, stored_header, with_step}
 use Rattle.gt_word_history.specs.declared.view.EntryStep.{EntryStep}

@@ -18,8 +18,8 @@ use Rattle.gt_words.specs.Sight.{Agrees, IsSeenOf, SawRecord}
 use Rattle.gt_word_history.specs.Views.{HasBody, Seen, earlier_records, last_record, record_seen, seen, value_or_zero}
 use Rattle.gt_word_history.specs.Views.{with_body}
 use Rattle.gt_word_history.specs.declared.view.EntryStep.{EntryStep}
-use Rattle.gt_word_history.specs.declared.view.EntryStep.TheVariants.{ChangeMissed, Changed, Looked, PinMissed, Pinned}
-use Rattle.gt_word_history.specs.declared.view.EntryStep.TheVariants.{ReadBody, StoredBody, Unpinned}
+use Rattle.gt_word_history.specs.declared.view.EntryStep.TheVariants.{ChangeMissed, Changed, Looked, PinMissed}
+use Rattle.gt_word_history.specs.declared.view.EntryStep.TheVariants.{Pinned, ReadBody, StoredBody, Unpinned}
 use Rattle.gt_model.specs.declared.change.BodyWord.{BodyWord}
 use Rattle.gt_model.specs.declared.change.BodyWord.TheVariants.{First, Second}
 use Rattle.gt_word_history.specs.declared.view.EntryRecord.{EntryRecord}

@@ -22,13 +22,11 @@ use Rattle.gt_word_history.specs.Rule.{HasGoneOn, IsLawful, IsRecord, MayFollow,
 use Rattle.gt_word_history.specs.Rule.{total_pins}
 use Rattle.gt_words.specs.Sight.{IsSeenOf}
 use Rattle.gt_word_history.specs.Views.{HasBody, IsAmong, LivePin, Seen, earlier_records, exchanged, last_record}
-use Rattle.gt_word_history.specs.Views.{pin_count}
-use Rattle.gt_word_history.specs.Views.{live_pins}
-use Rattle.gt_word_history.specs.Views.{pins_until, record_seen, stored_body, weight}
+use Rattle.gt_word_history.specs.Views.{pin_count, live_pins, pins_until, record_seen, stored_body, weight}
 use Rattle.gt_model.specs.declared.change.EntryChange.{EntryChange}
 use Rattle.gt_word_history.specs.declared.view.EntryStep.{EntryStep}
-use Rattle.gt_word_history.specs.declared.view.EntryStep.TheVariants.{ChangeMissed, Changed, Looked, PinMissed, Pinned}
-use Rattle.gt_word_history.specs.declared.view.EntryStep.TheVariants.{ReadBody, StoredBody, Unpinned}
+use Rattle.gt_word_history.specs.declared.view.EntryStep.TheVariants.{ChangeMissed, Changed, Looked, PinMissed}
+use Rattle.gt_word_history.specs.declared.view.EntryStep.TheVariants.{Pinned, ReadBody, StoredBody, Unpinned}
 use Rattle.gt_model.specs.declared.change.BodyWord.{BodyWord}
 use Rattle.gt_model.specs.declared.change.BodyWord.TheVariants.{First, Second}
 use Rattle.gt_word_history.specs.declared.view.EntryRecord.{EntryRecord}

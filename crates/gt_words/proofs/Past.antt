@@ -16,8 +16,7 @@ use Rattle.gt_word_history.specs.Controls.{generation_of}
 use Rattle.gt_words.specs.Laws.{PastPinsAreRefused, PinsLeftAreCounted, WordsFollowViews}
 use Rattle.gt_word_history.specs.Rule.{ShowsEntry, header_now, owner_steps, place, total_until}
 use Rattle.gt_word_history.specs.Views.{IsAmong, LivePin, last_record, live_pins, pins_until, steps_on}
-use Rattle.gt_word_history.specs.Views.{steps_on_header}
-use Rattle.gt_word_history.specs.Views.{weight}
+use Rattle.gt_word_history.specs.Views.{steps_on_header, weight}
 use Rattle.gt_word_history.specs.declared.view.EntryRecord.{EntryRecord}
 use Rattle.gt_word_history.specs.declared.view.EntryStep.{EntryStep}
 use Rattle.gt_word_history.specs.declared.view.EntryStep.TheVariants.{Pinned}

@@ -1,6 +1,6 @@
 -- After a revocation, and after a publication, no view has a pin of the record that was there.
-use Rattle.std.proofs.Common.{◌≡◌, inl, inr, ℕ, suc, ◌<◌, ◌≤◌, Bool, true, false, cond, List, [], ◌∷◌}
-use Rattle.std.proofs.Common.{◌++◌, map, sym, refl, ap, ◌∙◌, subst, arith}
+use Rattle.std.proofs.Common.{◌≡◌, inl, inr, ℕ, suc, ◌<◌, ◌≤◌, Bool, true, false, cond, List, [], ◌∷◌, ◌++◌, map, sym}
+use Rattle.std.proofs.Common.{refl, ap, ◌∙◌, subst, arith}
 use Rattle.std.specs.Prelude.{◌==◌, ◌&&◌}
 use mathlib.Core.Option.{some}
 use lib.ListN.{get_elem?}
@@ -21,14 +21,13 @@ use Rattle.gt_words.specs.Laws.{NoPinOutlivesItsRecord}
 use Rattle.gt_word_history.specs.Rule.{Layout, Shows, owner_steps, total_pins}
 use Rattle.gt_word_history.specs.Steps.{changed, changed_word}
 use Rattle.gt_word_history.specs.Views.{IsAmong, LivePin, earlier_records, entry_steps, exchanged, last_of, pin_count}
-use Rattle.gt_word_history.specs.Views.{live_pins}
-use Rattle.gt_word_history.specs.Views.{steps_on}
+use Rattle.gt_word_history.specs.Views.{live_pins, steps_on}
 use Rattle.gt_word_history.specs.declared.view.EntryRecord.{EntryRecord}
 use Rattle.gt_word_history.specs.declared.view.EntryStep.{EntryStep}
 use Rattle.gt_word_history.specs.declared.view.EntryStep.TheVariants.{Changed}
 use Rattle.gt_word_history.specs.declared.view.SeatStep.{SeatStep}
-use Rattle.gt_word_history.specs.declared.view.SeatStep.TheVariants.{Entry as OnEntry, Flag as OnFlag, Frame as OnFrame}
-use Rattle.gt_word_history.specs.declared.view.SeatStep.TheVariants.{Header as OnHeader}
+use Rattle.gt_word_history.specs.declared.view.SeatStep.TheVariants.{Entry as OnEntry, Flag as OnFlag}
+use Rattle.gt_word_history.specs.declared.view.SeatStep.TheVariants.{Frame as OnFrame, Header as OnHeader}
 use Rattle.gt_word_history.specs.declared.view.View.{View}
 
 -- where no view has a pin, none is counted

@@ -1,7 +1,7 @@
 -- What each kind of step does to the words of one entry keeps the rule of that entry.
 use Rattle.gt_types.specs.declared.limits.TheConstants.{MAX_PINS}
-use Rattle.std.proofs.Common.{◌≡◌, ◌≢◌, ◌⊎◌, inl, inr, ⊎_elim, ℕ, zero, suc, ◌+◌, ◌-◌, ◌<◌, Bool, true, false}
-use Rattle.std.proofs.Common.{cond, ◌==◌, ◌&&◌, List, [], ◌∷◌, set, sym, refl, ap, ◌∙◌, subst, arith}
+use Rattle.std.proofs.Common.{◌≡◌, ◌≢◌, ◌⊎◌, inl, inr, ⊎_elim, ℕ, zero, suc, ◌+◌, ◌-◌, ◌<◌, Bool, true, false, cond}
+use Rattle.std.proofs.Common.{◌==◌, ◌&&◌, List, [], ◌∷◌, set, sym, refl, ap, ◌∙◌, subst, arith}
 use Rattle.std.proofs.lemmas.Grind.{common_steps}
 use mathlib.Core.Option.{some, some-injective, some-ne-none}
 use lib.ListN.{get_elem?}
@@ -15,7 +15,8 @@ use Rattle.gt_model.specs.declared.entry.Entry.TheVariants.{Invalid, Page, Sub, 
 use Rattle.gt_types.specs.declared.Dir.{Dir}
 use Rattle.gt_types.specs.declared.Dir.TheVariants.{Read, Write}
 use Rattle.gt_words.specs.Laws.{bounded}
-use Rattle.gt_word_history.specs.Rule.{IsLawful, IsNextEntry, IsRecord, IsRevocation, MayFollow, ShowsRecord, total_pins}
+use Rattle.gt_word_history.specs.Rule.{IsLawful, IsNextEntry, IsRecord, IsRevocation, MayFollow, ShowsRecord}
+use Rattle.gt_word_history.specs.Rule.{total_pins}
 use Rattle.gt_word_history.specs.Views.{IsAmong, LivePin, is_same_dir, pin_count, live_pins, weight, without_pin}
 use Rattle.gt_model.specs.declared.change.EntryChange.{EntryChange}
 use Rattle.gt_word_history.specs.declared.view.EntryStep.{EntryStep}

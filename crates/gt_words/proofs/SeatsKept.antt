@@ -1,6 +1,6 @@
 -- What a step leaves of what its seat knew.
-use Rattle.std.proofs.Common.{◌≡◌, ◌≢◌, inl, inr, ℕ, ◌+◌, ◌<◌, ◌≤◌, Bool, true, false, cond, ◌==◌, ◌&&◌, List, [], ◌∷◌}
-use Rattle.std.proofs.Common.{get_or, sym, refl, ap, ◌∙◌, subst, arith, Option, Some, None, eq-eqb, ne_eqb}
+use Rattle.std.proofs.Common.{◌≡◌, ◌≢◌, inl, inr, ℕ, ◌+◌, ◌<◌, ◌≤◌, Bool, true, false, cond, ◌==◌, ◌&&◌, List, []}
+use Rattle.std.proofs.Common.{◌∷◌, get_or, sym, refl, ap, ◌∙◌, subst, arith, Option, Some, None, eq-eqb, ne_eqb}
 use Rattle.std.proofs.lemmas.Bool.{and_parts, eqb-true}
 use Rattle.std.proofs.lemmas.List.Sums.{sum_by-cons}
 use mathlib.Core.Logic.{dite}
@@ -15,9 +15,8 @@ use Rattle.gt_word_history.specs.History.{StepHistory}
 use Rattle.gt_words.specs.Keeping.{Holds, HoldsOneMore, Keeps, KeepsOtherRows, KeepsPins, KeepsRecords, KeepsRows}
 use Rattle.gt_words.specs.Keeping.{SeesNoEarlier, generation_in, held, is_pin_of}
 use Rattle.gt_word_history.specs.Views.{IsAmong, LivePin, Seen, is_pin, is_same_dir, last_record, own, own_header}
-use Rattle.gt_word_history.specs.Views.{live_pins}
-use Rattle.gt_word_history.specs.Views.{pins_like, seen, steps_on, steps_on_header, stored_body, stored_header, with_body}
-use Rattle.gt_word_history.specs.Views.{without_pin}
+use Rattle.gt_word_history.specs.Views.{live_pins, pins_like, seen, steps_on, steps_on_header, stored_body}
+use Rattle.gt_word_history.specs.Views.{stored_header, with_body, without_pin}
 use Rattle.gt_word_history.specs.declared.view.EntryRecord.{EntryRecord}
 use Rattle.gt_word_history.specs.declared.view.EntryStep.{EntryStep}
 use Rattle.gt_word_history.specs.declared.view.EntryStep.TheVariants.{Pinned, Unpinned}

@@ -1,7 +1,7 @@
 -- What each call owes the table before its step.
 use Rattle.std.proofs.Common.{inl, inr, ◌&&◌, nat_le, ◌≡◌, ◌≢◌, ℕ, ◌+◌, ◌-◌, ◌*◌, ◌/◌, ◌%◌, ◌^◌, ◌<◌, ◌≤◌, Bool, true}
-use Rattle.std.proofs.Common.{false, not, cond, ◌==◌, List, [], ◌∷◌, map, get_or, set, sym, refl, ap, ◌∙◌, subst, arith}
-use Rattle.std.proofs.Common.{eq-eqb, ne_eqb, get_or-set_other, get_or-set_same}
+use Rattle.std.proofs.Common.{false, not, cond, ◌==◌, List, [], ◌∷◌, map, get_or, set, sym, refl, ap, ◌∙◌, subst}
+use Rattle.std.proofs.Common.{arith, eq-eqb, ne_eqb, get_or-set_other, get_or-set_same}
 use mathlib.Core.Option.{some, none}
 use mathlib.Core.Logic.{dite}
 use native.Mathlib.Decide.{ℕ_discrete}
@@ -29,18 +29,17 @@ use Rattle.gt_words.specs.Conditions.{HasLooked, Holds, IsIdleOf, MayPin}
 use Rattle.gt_model.specs.Permits.{is_copying}
 use Rattle.gt_types.specs.declared.DomId.{DomId}
 use Rattle.std.proofs.lemmas.Bool.{and_parts}
-use Rattle.gt_word_history.specs.Controls.{ForwardsPin, IsValid, PermitsPin, demoted_word, generation_of, invalid_word}
-use Rattle.gt_word_history.specs.Controls.{pins_in, promoted_word, withdrawn_word}
+use Rattle.gt_word_history.specs.Controls.{ForwardsPin, IsValid, PermitsPin, demoted_word, generation_of}
+use Rattle.gt_word_history.specs.Controls.{invalid_word, pins_in, promoted_word, withdrawn_word}
 use Rattle.gt_word_history.specs.Events.{IsByOwner}
-use Rattle.gt_word_history.specs.History.{IsOfRecord, RecordsFound, owner_steps, left_on_entry, word_place_of, word_on}
+use Rattle.gt_word_history.specs.History.{IsOfRecord, RecordsFound, owner_steps, left_on_entry, word_place_of}
+use Rattle.gt_word_history.specs.History.{word_on}
 use Rattle.gt_word_history.specs.Rule.{id_at, IsRecord, Layout, Shows, ShowsEntry, place, total_pins}
 use Rattle.gt_word_history.specs.Steps.{StepKind, TakesStep, changed, entry_kind, exchanging, half_index, looking}
 use Rattle.gt_word_history.specs.Steps.{missed, reading, storing, taken, promises_step, unpinning}
 use Rattle.gt_words.specs.Sight.{SawRecord}
 use Rattle.gt_word_history.specs.Views.{earlier_records, invalid_at, last_of, last_record, last_seen, live_pins}
-use Rattle.gt_word_history.specs.Views.{record_seen}
-use Rattle.gt_word_history.specs.Views.{seen}
-use Rattle.gt_word_history.specs.Views.{steps_on, stored_body, with_step}
+use Rattle.gt_word_history.specs.Views.{record_seen, seen, steps_on, stored_body, with_step}
 use Rattle.gt_model.specs.declared.change.EntryChange.{EntryChange}
 use Rattle.gt_word_history.specs.declared.view.EntryStep.{EntryStep}
 use Rattle.gt_word_history.specs.declared.view.EntryStep.TheVariants.{Changed, Looked, ReadBody, StoredBody, Unpinned}

@@ -29,27 +29,25 @@ use Rattle.gt_words.specs.Laws.{bounded, one_record}
 use Rattle.gt_words.proofs.Records.{legal_record, listed_record, spelled_control, spelled_parts}
 use Rattle.gt_words.proofs.Seeing.{saw_there}
 use Rattle.gt_words.proofs.Looking.{seen_is_last}
-use Rattle.gt_words.specs.Answers.{AddsToEntry, Changes, Demotes}
-use Rattle.gt_words.specs.Conditions.{CountsPins, HasLooked, HasNoPins, HasNoWritePins}
-use Rattle.gt_words.specs.Conditions.{Holds, IsBusyOf, IsIdleOf, IsNotEarlier, IsWordOf}
-use Rattle.gt_words.specs.Answers.{LooksAtBody, LooksAtControl}
-use Rattle.gt_words.specs.Conditions.{MayPin}
-use Rattle.gt_words.specs.Answers.{MissesBusy, MissesChange, MissesPin, Pins, Publishes, Revokes}
-use Rattle.gt_words.specs.Answers.{StepsOnControl, StoresBody, Unpins}
+use Rattle.gt_words.specs.Answers.{AddsToEntry, Changes, Demotes, LooksAtBody, LooksAtControl, MissesBusy}
+use Rattle.gt_words.specs.Answers.{MissesChange, MissesPin, Pins, Publishes, Revokes, StepsOnControl, StoresBody}
+use Rattle.gt_words.specs.Answers.{Unpins}
+use Rattle.gt_words.specs.Conditions.{CountsPins, HasLooked, HasNoPins, HasNoWritePins, Holds, IsBusyOf, IsIdleOf}
+use Rattle.gt_words.specs.Conditions.{IsNotEarlier, IsWordOf, MayPin}
 use Rattle.gt_word_history.specs.Controls.{IsTurnable, IsValid, generation_of, pins_in}
 use Rattle.gt_word_history.specs.History.{StepHistory, part_of}
-use Rattle.gt_word_history.specs.Rule.{IsRecord, Layout, ShowsEntry, ShowsRecord, Stands, owner_steps, place, total_pins}
+use Rattle.gt_word_history.specs.Rule.{IsRecord, Layout, ShowsEntry, ShowsRecord, Stands, owner_steps, place}
+use Rattle.gt_word_history.specs.Rule.{total_pins}
 use Rattle.gt_words.specs.Sight.{SawRecord}
 use Rattle.gt_word_history.specs.Steps.{TakesStep, changed, changed_word, exchanging, half_index, missed, on_entry}
 use Rattle.gt_word_history.specs.Steps.{taken}
 use Rattle.gt_word_history.specs.Views.{IsAmong, LivePin, Seen, earlier_records, entry_steps, is_half, last_of}
-use Rattle.gt_word_history.specs.Views.{last_record}
-use Rattle.gt_word_history.specs.Views.{last_seen, own, own_body, pin_count, live_pins, record_seen, seen, steps_on}
-use Rattle.gt_word_history.specs.Views.{steps_on_header, stored_body, with_step}
+use Rattle.gt_word_history.specs.Views.{last_record, last_seen, own, own_body, pin_count, live_pins, record_seen}
+use Rattle.gt_word_history.specs.Views.{seen, steps_on, steps_on_header, stored_body, with_step}
 use Rattle.gt_model.specs.declared.change.EntryChange.{EntryChange}
 use Rattle.gt_word_history.specs.declared.view.EntryStep.{EntryStep}
-use Rattle.gt_word_history.specs.declared.view.EntryStep.TheVariants.{ChangeMissed, Changed, Looked, PinMissed, Pinned}
-use Rattle.gt_word_history.specs.declared.view.EntryStep.TheVariants.{ReadBody, StoredBody, Unpinned}
+use Rattle.gt_word_history.specs.declared.view.EntryStep.TheVariants.{ChangeMissed, Changed, Looked, PinMissed}
+use Rattle.gt_word_history.specs.declared.view.EntryStep.TheVariants.{Pinned, ReadBody, StoredBody, Unpinned}
 use Rattle.gt_model.specs.declared.change.BodyWord.{BodyWord}
 use Rattle.gt_model.specs.declared.change.BodyWord.TheVariants.{First, Second}
 use Rattle.gt_word_history.specs.declared.view.Purpose.{Purpose}

@@ -1,18 +1,17 @@
 -- A table of words alone serves the same run.
-use Rattle.std.proofs.Common.{◌≡◌, ℕ, zero, suc, ◌<◌, ◌≤◌, List, [], ◌∷◌, map, length, sym, refl, ap, ◌∙◌, subst, arith, All}
+use Rattle.std.proofs.Common.{◌≡◌, ℕ, zero, suc, ◌<◌, ◌≤◌, List, [], ◌∷◌, map, length, sym, refl, ap, ◌∙◌, subst}
+use Rattle.std.proofs.Common.{arith, All, get_or}
 use Rattle.gt_types.specs.Config.{IsWithinLimits}
 use Rattle.gt_model.specs.Words.{header_word}
 use Rattle.gt_types.specs.declared.limits.TheConstants.{LAST_VERSION, MAX_FRAMES, MAX_TABLE_FRAMES}
 use Rattle.gt_types.specs.declared.config.Config.{Config}
 use Rattle.gt_types.specs.declared.config.DomainConfig.{DomainConfig}
-use Rattle.gt_word_history.specs.Rule.{first_header, layout_of}
+use Rattle.gt_word_history.specs.Rule.{first_header, layout_of, Layout, id_at, position_in}
 use Rattle.std.specs.Prelude.{IfOk, Result, Ok, Err}
-use Rattle.std.proofs.Common.{get_or}
 use Rattle.gt_types.specs.declared.places.FrameName.{FrameName}
 use Rattle.gt_word_history.specs.Places.{Board}
 use Rattle.std.proofs.lemmas.List.{length-map}
 use Rattle.gt_types.specs.declared.DomId.{DomId}
-use Rattle.gt_word_history.specs.Rule.{Layout, id_at, position_in}
 use Rattle.gt_words.specs.Laws.{domain_at}
 use Rattle.gt_words.specs.Conditions.{IsOfRun, position_at}
 use Rattle.gt_words.specs.Frames.{KeepsFrame}

@@ -4,8 +4,7 @@ use Rattle.gt_model.specs.declared.change.BodyWord.{BodyWord}
 use Rattle.gt_types.specs.declared.Dir.{Dir}
 use Rattle.gt_word_history.specs.Controls.{generation_of}
 use Rattle.gt_word_history.specs.Views.{IsAmong, LivePin, Seen, is_same_dir, last_of, own_body, own_header, own_list}
-use Rattle.gt_word_history.specs.Views.{live_pins}
-use Rattle.gt_word_history.specs.Views.{pins_like, seen, steps_on}
+use Rattle.gt_word_history.specs.Views.{live_pins, pins_like, seen, steps_on}
 use Rattle.gt_word_history.specs.declared.view.View.{View}
 
 -- the number of pins of this kind and generation that the view has of the entry r of the domain t

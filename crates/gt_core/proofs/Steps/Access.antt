@@ -1,18 +1,18 @@
 -- What an access to bytes depends on: it is inside a frame, and justified.
-use Rattle.gt_core.proofs.Words.{◌≡◌, ◌≢◌, ◌≤◌, ◌<◌, ◌+◌, ◌⊎◌, inl, inr, ℕ, suc, refl, Bool, true, List, [], ◌∷◌, Some}
-use Rattle.gt_core.proofs.Words.{None, sym, ap, ◌∙◌, arith, subst, reverse, eqb-true, none-some, same_Some, Any}
+use Rattle.gt_core.proofs.Words.{◌≡◌, ◌≢◌, ◌≤◌, ◌<◌, ◌+◌, ◌⊎◌, inl, inr, ℕ, suc, refl, Bool, true, List, [], ◌∷◌}
+use Rattle.gt_core.proofs.Words.{Some, None, sym, ap, ◌∙◌, arith, subst, reverse, eqb-true, none-some, same_Some, Any}
 use Rattle.gt_core.proofs.Words.{resolved, DomId, Dir, Read, Write, ForMap, ForCopy, FRAME_SIZE, Entry, frame_of}
-use Rattle.gt_core.proofs.Words.{permits, forwards, Handle, HeldPin, AccessPath, Direct, Through, CallPins, End, OpenRequest, Load, Store}
-use Rattle.gt_core.proofs.Words.{Peek, Poke, Copy, PinHolder, ByMapping, Spot, ReadBytes, WriteBytes, last_first}
-use Rattle.gt_core.proofs.Words.{CallerKnowledge, begun, frame_count_of, via_judged, rights_to_copy, is_source_granted}
-use Rattle.gt_core.proofs.Words.{is_dest_granted, source_pair, dest_pair, opens, RestsOnRequest, RestsOnWays, IsReached}
-use Rattle.gt_core.proofs.Words.{GivesHeld, State, History, Setting, Pin, live, known_at, legs_at, mappings_at}
-use Rattle.gt_core.proofs.Words.{mapping_of, gather, mapping_named, by_leg, same_handle, IsInFrame, CopyIsJustified}
-use Rattle.gt_core.proofs.Words.{Justified, IsLawfulPin, IsLawfullyHeld, DomainsStand, numbered, owner_by, IsAllowed}
-use Rattle.gt_core.proofs.Words.{IsMapped, IsPermitted, Reaches, Forwards, MayCopy, MayUseMapping, MayAsk}
-use Rattle.gt_core.proofs.Words.{EndIsJustified, cond_both}
-use Rattle.gt_core.proofs.{Phases.none-of, Steps.Observers.IsKeyed, Steps.Observers.mapping-keyed}
-use Rattle.gt_core.proofs.{Steps.Observers.leg-keyed}
+use Rattle.gt_core.proofs.Words.{permits, forwards, Handle, HeldPin, AccessPath, Direct, Through, CallPins, End}
+use Rattle.gt_core.proofs.Words.{OpenRequest, Load, Store, Peek, Poke, Copy, PinHolder, ByMapping, Spot, ReadBytes}
+use Rattle.gt_core.proofs.Words.{WriteBytes, last_first, CallerKnowledge, begun, frame_count_of, via_judged}
+use Rattle.gt_core.proofs.Words.{rights_to_copy, is_source_granted, is_dest_granted, source_pair, dest_pair, opens}
+use Rattle.gt_core.proofs.Words.{RestsOnRequest, RestsOnWays, IsReached, GivesHeld, State, History, Setting, Pin}
+use Rattle.gt_core.proofs.Words.{live, known_at, legs_at, mappings_at, mapping_of, gather, mapping_named, by_leg}
+use Rattle.gt_core.proofs.Words.{same_handle, IsInFrame, CopyIsJustified, Justified, IsLawfulPin, IsLawfullyHeld}
+use Rattle.gt_core.proofs.Words.{DomainsStand, numbered, owner_by, IsAllowed, IsMapped, IsPermitted, Reaches}
+use Rattle.gt_core.proofs.Words.{Forwards, MayCopy, MayUseMapping, MayAsk, EndIsJustified, cond_both}
+use Rattle.gt_core.proofs.{Phases.none-of}
+use Rattle.gt_model.proofs.Observers.{IsKeyed, mapping-keyed, leg-keyed}
 use Rattle.gt_model.specs.declared.held.AccessPath.TheVariants.{Own}
 use Rattle.gt_model.specs.Path.{place_of}
 use Rattle.gt_model.specs.Justified.{AccessIsJustified}

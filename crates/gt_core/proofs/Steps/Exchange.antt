@@ -3,35 +3,31 @@
 use Rattle.gt_core.proofs.Words.{◌≡◌, ◌≢◌, ◌<◌, ◌≤◌, ◌+◌, ℕ, refl, Bool, true, List, ◌∷◌, length, Option, Some, None}
 use Rattle.gt_core.proofs.Words.{cond, sym, ap, ◌∙◌, arith, subst, get_or, eqb-true, none-some, slice_get-get_or}
 use Rattle.gt_core.proofs.Words.{option_map, ◌==◌, All, slice_get, fun_ext, DomId, GrantRef, TABLE_ENTRIES}
-use Rattle.gt_core.proofs.Words.{LAST_GENERATION, Entry, Invalid, EntryChange, Publish, IsEntry, OwnerEntry, OpenCall, Item, Answer}
-use Rattle.gt_core.proofs.Words.{entry_in, own_generation, row_entry, row_generation, changed_at, State, state_of}
-use Rattle.gt_core.proofs.Words.{changed_in, with_own, own_after, History, Setting, Pin, live, entry_at, raises_at}
-use Rattle.gt_core.proofs.Words.{raise_of, generation_at, open_call, change_of, changed_entry_of, raise_after}
-use Rattle.gt_core.proofs.Words.{one_if_mapped}
-use Rattle.gt_core.proofs.Words.{IsSafeChange, IsLawfulPin, FitsTable, StateStands, DomainsStand, CallAgrees}
-use Rattle.gt_core.proofs.Words.{GivenAgrees}
-use Rattle.gt_core.proofs.Words.{gather, mapping_named, first, false, inl, suc, zero, ◌-◌, cond_both, eq-eqb}
-use Rattle.gt_core.proofs.Words.{false≢true}
-use Rattle.gt_core.proofs.Words.{lt-leb, lt-ltb, ltb-false, ltb-true, nat_le, nat_lt, N18, N19, MAX_TRIES}
-use Rattle.gt_core.proofs.Words.{is_invalid, control_of, control_word, ToReadOnly, ToWritable, ToInvalid, ToWithdrawn}
-use Rattle.gt_core.proofs.Words.{FirstHalf, SecondHalf, last_first, no_pins, action_at, phase_after, refused_as, opens}
-use Rattle.gt_core.proofs.Words.{Continuation, idle_word, path, RestsOnWord, CallerKnowledge, begun, control_with}
-use Rattle.gt_core.proofs.Words.{size_of, stands, HasShown, IsQuiet, IsTurn, Makes, Observation, Missed, Taken, Step, Exchange}
-use Rattle.gt_core.proofs.Words.{Granted, Phase, Changing, Ending, Exchanging, Last, Looking, Walking, MORE_TRIES}
-use Rattle.gt_core.proofs.Words.{OpenRequest, Demote, Grant, Promote, Revoke, Withdraw, known_at, reads_at, seen_by, word_at}
+use Rattle.gt_core.proofs.Words.{LAST_GENERATION, Entry, Invalid, EntryChange, Publish, IsEntry, OwnerEntry, OpenCall}
+use Rattle.gt_core.proofs.Words.{Item, Answer, entry_in, own_generation, row_entry, row_generation, changed_at, State}
+use Rattle.gt_core.proofs.Words.{state_of, changed_in, with_own, own_after, History, Setting, Pin, live, entry_at}
+use Rattle.gt_core.proofs.Words.{raises_at, raise_of, generation_at, open_call, change_of, changed_entry_of}
+use Rattle.gt_core.proofs.Words.{raise_after, one_if_mapped, IsSafeChange, IsLawfulPin, FitsTable, StateStands}
+use Rattle.gt_core.proofs.Words.{DomainsStand, CallAgrees, GivenAgrees, gather, mapping_named, first, false, inl, suc}
+use Rattle.gt_core.proofs.Words.{zero, ◌-◌, cond_both, eq-eqb, false≢true, lt-leb, lt-ltb, ltb-false, ltb-true}
+use Rattle.gt_core.proofs.Words.{nat_le, nat_lt, N18, N19, MAX_TRIES, is_invalid, control_of, control_word}
+use Rattle.gt_core.proofs.Words.{ToReadOnly, ToWritable, ToInvalid, ToWithdrawn, FirstHalf, SecondHalf, last_first}
+use Rattle.gt_core.proofs.Words.{no_pins, action_at, phase_after, refused_as, opens, Continuation, idle_word, path}
+use Rattle.gt_core.proofs.Words.{RestsOnWord, CallerKnowledge, begun, control_with, size_of, stands, HasShown}
+use Rattle.gt_core.proofs.Words.{IsQuiet, IsTurn, Makes, Observation, Missed, Taken, Step, Exchange, Granted, Phase}
+use Rattle.gt_core.proofs.Words.{Changing, Ending, Exchanging, Last, Looking, Walking, MORE_TRIES, OpenRequest}
+use Rattle.gt_core.proofs.Words.{Demote, Grant, Promote, Revoke, Withdraw, known_at, reads_at, seen_by, word_at}
 use Rattle.gt_core.proofs.Words.{writes_at, IsSpelled, StepsSoFar, at_entry, first_at, FitsAsked, PhaseStands}
 use Rattle.gt_core.proofs.Words.{phase_refusal, body_at, table_at, misses}
-use Rattle.gt_core.proofs.{Steps.Observers.unstored, Steps.Observers.answered-stays, Steps.Observers.kept-table}
+use Rattle.gt_model.proofs.Observers.{unstored, answered-stays, kept-table, exchanged, exchanged-entry}
+use Rattle.gt_model.proofs.Observers.{exchanged-raises, exchanged-live}
 use Rattle.gt_core.proofs.{AgreementKept.SlotsAgree, AgreementKept.same-number, AgreementKept.counts-fit}
-use Rattle.gt_core.proofs.{Rows.get-changed}
-use Rattle.gt_core.proofs.{Rows.length-changed, Mappings.mappings-same, AgreementKept.slots-kept, AgreementKept.Facts}
-use Rattle.gt_core.proofs.{AgreementKept.facts_at, AgreementKept.Fits, AgreementKept.facts-fit}
-use Rattle.gt_core.proofs.{AgreementKept.each-stays, AgreementKept.all-stand}
-use Rattle.gt_core.proofs.{AgreementKept.own-changed, Steps.Observers.exchanged, Steps.Observers.exchanged-entry}
-use Rattle.gt_core.proofs.{Steps.Observers.exchanged-raises, Steps.Observers.exchanged-live, Phases.none-of}
-use Rattle.gt_core.proofs.{Phases.IsHere, Phases.makes-same, Phases.by-leg, Phases.by-giving, Phases.Judged}
-use Rattle.gt_core.proofs.{Phases.Leads, Legs.late-last, Legs.late-more, Legs.control-parts, Steps.See.word-shows}
-use Rattle.gt_core.proofs.{Steps.See.table-fits, Steps.Look.writes-shown}
+use Rattle.gt_core.proofs.{Rows.get-changed, Rows.length-changed, Mappings.mappings-same, AgreementKept.slots-kept}
+use Rattle.gt_core.proofs.{AgreementKept.Facts, AgreementKept.facts_at, AgreementKept.Fits, AgreementKept.facts-fit}
+use Rattle.gt_core.proofs.{AgreementKept.each-stays, AgreementKept.all-stand, AgreementKept.own-changed}
+use Rattle.gt_core.proofs.{Phases.none-of, Phases.IsHere, Phases.makes-same, Phases.by-leg, Phases.by-giving}
+use Rattle.gt_core.proofs.{Phases.Judged, Phases.Leads, Legs.late-last, Legs.late-more, Legs.control-parts}
+use Rattle.gt_core.proofs.{Steps.See.word-shows, Steps.See.table-fits, Steps.Look.writes-shown}
 
 -- each number of the entry that is published fits its type
 abbrev pub FitsChange : EntryChange → Type 0

@@ -1,38 +1,38 @@
 -- A pin: what a core represents after it, what a pin that is taken depends on, and how its call continues.
 use Rattle.gt_core.proofs.Words.{◌≡◌, ◌<◌, ◌+◌, ℕ, refl, Bool, true, List, [], ◌∷◌, ◌++◌, length, Option, Some, cond}
 use Rattle.gt_core.proofs.Words.{sym, ap, ◌∙◌, arith, subst, ◌==◌, ◌&&◌, All, All-push, append-nil, DomId, Dir, Read}
-use Rattle.gt_core.proofs.Words.{Write, MAX_PINS, BodyWord, FirstHalf, SecondHalf, HandleMap, Handle, HeldPin, PinHolder, ByLeg}
-use Rattle.gt_core.proofs.Words.{PinCounts, OpenCall, Item, Answer, Mapped, State, state_of, changed_in, with_slot}
-use Rattle.gt_core.proofs.Words.{slot_after, Adds, History, Setting, Pin, live, entry_at, body_at, mappings_at}
-use Rattle.gt_core.proofs.Words.{maps_answered_at, legs_at, open_call, is_pin_on, same_dir, FitsWord, control_at}
-use Rattle.gt_core.proofs.Words.{gather, mapping_named, by_leg, holder_after, one_if_mapped, IsLawfulPin, SlotAgrees}
-use Rattle.gt_core.proofs.Words.{StateStands}
-use Rattle.gt_core.proofs.Words.{DomainsStand, CallAgrees, GivenAgrees, MappingsAgree, None, false, inl, inr, reverse}
-use Rattle.gt_core.proofs.Words.{◌≢◌, cond_both, eqb-false, false≢true, leb-false, true≢false, same_Some, is_none, not}
-use Rattle.gt_core.proofs.Words.{◌||◌, denial_of, domain_of, resolved, GrantRef, TypeId, ForMap, Policy, N1, N11, N12}
-use Rattle.gt_core.proofs.Words.{N13, N14, N15, N16, N17, N5, Perms, Triple, frame_of, allows_direction, is_copying}
-use Rattle.gt_core.proofs.Words.{permits, control_of, Entry, Invalid, Page, Sub, Via, last_first, pins_so_far}
-use Rattle.gt_core.proofs.Words.{action_at, after_dest_pin, after_pin_of, after_source_pin, at_dest, leg_after}
-use Rattle.gt_core.proofs.Words.{phase_after, where_via, holds-first, opens, dest_pair, end_leg, held_of, map_leg, path}
-use Rattle.gt_core.proofs.Words.{second_leg, source_pair, IsLegFor, IsOnFrom, Lets, RestsOnTry, CallerKnowledge, begun}
-use Rattle.gt_core.proofs.Words.{control_with, copy_denied, denied, first, first_look, frame_count_of, is_dest_granted}
-use Rattle.gt_core.proofs.Words.{is_outside_sub, is_past_owner, map_dir, pins_of, refused_when, rights_to_copy, stands}
-use Rattle.gt_core.proofs.Words.{via_judged, HasShown, IsQuiet, Makes, Observation, Missed, Taken, Step, PinStep, CallResult}
-use Rattle.gt_core.proofs.Words.{Refused, Phase, Accessing, Ending, Last, Walking, PinPurpose, Dest, Mapping, Source, CallPins}
-use Rattle.gt_core.proofs.Words.{AccessPath, Direct, Through, Leg, AtHeader, Pinning, OpenRequest, Copy, Map, CopyArgs}
-use Rattle.gt_core.proofs.Words.{generation_at, known_at, reads_at, word_at, writes_at, LegNow, MayUse, NoneStands}
-use Rattle.gt_core.proofs.Words.{StepsSoFar, leg_at, refusal_in, rule_at_pin, rule_at_via, rule_before_pin, EndsCopy}
-use Rattle.gt_core.proofs.Words.{LegHasLooked, PhaseStands, numbered, misses, IsLegalHistory}
-use Rattle.gt_core.proofs.{Steps.Observers.answered-stays, Steps.Observers.gather-append, AgreementKept.KeepsEntries}
-use Rattle.gt_core.proofs.{AgreementKept.same-body, AgreementKept.becomes-changed, AgreementKept.slots-stand}
-use Rattle.gt_core.proofs.{AgreementKept.keeps-stands}
-use Rattle.gt_core.proofs.{AgreementKept.same-number, Mappings.mappings-added, Mappings.mappings-same}
-use Rattle.gt_core.proofs.{Steps.Observers.new_pin, Steps.Observers.pinned-live, Steps.Observers.Grows}
-use Rattle.gt_core.proofs.{Steps.Observers.grown-count, Steps.Observers.at-place, Steps.Observers.pins}
-use Rattle.gt_core.proofs.{Steps.Observers.pins_at, AgreementKept.counts-fit, Phases.none-of, Phases.IsHere}
-use Rattle.gt_core.proofs.{Phases.makes-same, Phases.by-giving, Phases.of-run, Phases.words-of, Phases.Leads}
-use Rattle.gt_core.proofs.{Legs.alone, Legs.control-parts, Legs.IsAsTried, Legs.as-tried, Legs.still-judged}
-use Rattle.gt_core.proofs.{Legs.IsLegOf, Legs.ComesTo, Legs.miss-comes, Aims.pair_of, Aims.leg-here}
+use Rattle.gt_core.proofs.Words.{Write, MAX_PINS, BodyWord, FirstHalf, SecondHalf, HandleMap, Handle, HeldPin}
+use Rattle.gt_core.proofs.Words.{PinHolder, ByLeg, PinCounts, OpenCall, Item, Answer, Mapped, State, state_of}
+use Rattle.gt_core.proofs.Words.{changed_in, with_slot, slot_after, Adds, History, Setting, Pin, live, entry_at}
+use Rattle.gt_core.proofs.Words.{body_at, mappings_at, maps_answered_at, legs_at, open_call, is_pin_on, same_dir}
+use Rattle.gt_core.proofs.Words.{FitsWord, control_at, gather, mapping_named, by_leg, holder_after, one_if_mapped}
+use Rattle.gt_core.proofs.Words.{IsLawfulPin, SlotAgrees, StateStands, DomainsStand, CallAgrees, GivenAgrees}
+use Rattle.gt_core.proofs.Words.{MappingsAgree, None, false, inl, inr, reverse, ◌≢◌, cond_both, eqb-false, false≢true}
+use Rattle.gt_core.proofs.Words.{leb-false, true≢false, same_Some, is_none, not, ◌||◌, denial_of, domain_of, resolved}
+use Rattle.gt_core.proofs.Words.{GrantRef, TypeId, ForMap, Policy, N1, N11, N12, N13, N14, N15, N16, N17, N5, Perms}
+use Rattle.gt_core.proofs.Words.{Triple, frame_of, allows_direction, is_copying, permits, control_of, Entry, Invalid}
+use Rattle.gt_core.proofs.Words.{Page, Sub, Via, last_first, pins_so_far, action_at, after_dest_pin, after_pin_of}
+use Rattle.gt_core.proofs.Words.{after_source_pin, at_dest, leg_after, phase_after, where_via, holds-first, opens}
+use Rattle.gt_core.proofs.Words.{dest_pair, end_leg, held_of, map_leg, path, second_leg, source_pair, IsLegFor}
+use Rattle.gt_core.proofs.Words.{IsOnFrom, Lets, RestsOnTry, CallerKnowledge, begun, control_with, copy_denied}
+use Rattle.gt_core.proofs.Words.{denied, first, first_look, frame_count_of, is_dest_granted, is_outside_sub}
+use Rattle.gt_core.proofs.Words.{is_past_owner, map_dir, pins_of, refused_when, rights_to_copy, stands, via_judged}
+use Rattle.gt_core.proofs.Words.{HasShown, IsQuiet, Makes, Observation, Missed, Taken, Step, PinStep, CallResult}
+use Rattle.gt_core.proofs.Words.{Refused, Phase, Accessing, Ending, Last, Walking, PinPurpose, Dest, Mapping, Source}
+use Rattle.gt_core.proofs.Words.{CallPins, AccessPath, Direct, Through, Leg, AtHeader, Pinning, OpenRequest, Copy}
+use Rattle.gt_core.proofs.Words.{Map, CopyArgs, generation_at, known_at, reads_at, word_at, writes_at, LegNow, MayUse}
+use Rattle.gt_core.proofs.Words.{NoneStands, StepsSoFar, leg_at, refusal_in, rule_at_pin, rule_at_via}
+use Rattle.gt_core.proofs.Words.{rule_before_pin, EndsCopy, LegHasLooked, PhaseStands, numbered, misses}
+use Rattle.gt_core.proofs.Words.{IsLegalHistory}
+use Rattle.gt_model.proofs.Observers.{answered-stays, gather-append, new_pin, pinned-live, Grows, grown-count}
+use Rattle.gt_model.proofs.Observers.{at-place, pins, pins_at}
+use Rattle.gt_core.proofs.{AgreementKept.KeepsEntries, AgreementKept.same-body, AgreementKept.becomes-changed}
+use Rattle.gt_core.proofs.{AgreementKept.slots-stand, AgreementKept.keeps-stands, AgreementKept.same-number}
+use Rattle.gt_core.proofs.{Mappings.mappings-added, Mappings.mappings-same, AgreementKept.counts-fit, Phases.none-of}
+use Rattle.gt_core.proofs.{Phases.IsHere, Phases.makes-same, Phases.by-giving, Phases.of-run, Phases.words-of}
+use Rattle.gt_core.proofs.{Phases.Leads, Legs.alone, Legs.control-parts, Legs.IsAsTried, Legs.as-tried}
+use Rattle.gt_core.proofs.{Legs.still-judged, Legs.IsLegOf, Legs.ComesTo, Legs.miss-comes, Aims.pair_of}
+use Rattle.gt_core.proofs.{Aims.leg-here}
 use Rattle.gt_core.specs.declared.pin_counts.CountsChange.TheVariants.{Pinned}
 use Rattle.gt_model.specs.declared.held.AccessPath.TheVariants.{Own}
 use Rattle.gt_calls.specs.Resting.{IsCopyOf}

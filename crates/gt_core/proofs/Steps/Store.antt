@@ -1,25 +1,22 @@
 -- A store of a header, or of a body word of an invalid entry: what a core represents after it, what it depends on,
 -- and how its call continues.
 use Rattle.gt_core.proofs.Words.{◌≡◌, ◌%◌, ℕ, refl, Bool, true, List, ◌∷◌, Option, Some, None, cond, sym, ap, ◌∙◌}
-use Rattle.gt_core.proofs.Words.{arith, subst, ◌==◌, DomId, Header, StoreHeader, Nothing, OpenCall, Item, Answer, State}
-use Rattle.gt_core.proofs.Words.{state_of, changed_in, with_header, History, Setting, header_or, table_at}
+use Rattle.gt_core.proofs.Words.{arith, subst, ◌==◌, DomId, Header, StoreHeader, Nothing, OpenCall, Item, Answer}
+use Rattle.gt_core.proofs.Words.{State, state_of, changed_in, with_header, History, Setting, header_or, table_at}
 use Rattle.gt_core.proofs.Words.{one_if_mapped, open_call, FitsTable, StateStands, DomainsStand, CallAgrees}
-use Rattle.gt_core.proofs.Words.{GivenAgrees}
-use Rattle.gt_core.proofs.Words.{GrantRef, BodyWord, FirstHalf, SecondHalf, StoreBody, Stored, with_slot, body_at, inl, inr}
-use Rattle.gt_core.proofs.Words.{◌≤◌, ◌⊎◌, LAST_VERSION, MAX_TABLE_FRAMES, first_body, Entry, Invalid, Sub, last_first}
-use Rattle.gt_core.proofs.Words.{action_at, after_store, phase_after, opens, Continuation, path, RestsOnGrant}
-use Rattle.gt_core.proofs.Words.{RestsOnRequest, CallerKnowledge, begun, first, second_body, HasShown, Makes, Observation}
-use Rattle.gt_core.proofs.Words.{Step, Phase, Ending, Last, Storing, StoringSecond, Walking, OpenRequest, Grant, SetVersion}
-use Rattle.gt_core.proofs.Words.{SetupTable, known_at, StepsSoFar, PhaseStands, phase_refusal, entry_at}
-use Rattle.gt_core.proofs.{Steps.Observers.unstored, Steps.Observers.KeepsKnown, Steps.Observers.kept-live}
-use Rattle.gt_core.proofs.{Steps.Observers.other-table, Steps.Observers.kept-table, Steps.Observers.stepped}
+use Rattle.gt_core.proofs.Words.{GivenAgrees, GrantRef, BodyWord, FirstHalf, SecondHalf, StoreBody, Stored, with_slot}
+use Rattle.gt_core.proofs.Words.{body_at, inl, inr, ◌≤◌, ◌⊎◌, LAST_VERSION, MAX_TABLE_FRAMES, first_body, Entry}
+use Rattle.gt_core.proofs.Words.{Invalid, Sub, last_first, action_at, after_store, phase_after, opens, Continuation}
+use Rattle.gt_core.proofs.Words.{path, RestsOnGrant, RestsOnRequest, CallerKnowledge, begun, first, second_body}
+use Rattle.gt_core.proofs.Words.{HasShown, Makes, Observation, Step, Phase, Ending, Last, Storing, StoringSecond}
+use Rattle.gt_core.proofs.Words.{Walking, OpenRequest, Grant, SetVersion, SetupTable, known_at, StepsSoFar}
+use Rattle.gt_core.proofs.Words.{PhaseStands, phase_refusal, entry_at}
+use Rattle.gt_model.proofs.Observers.{unstored, KeepsKnown, kept-live, other-table, kept-table, stepped}
 use Rattle.gt_core.proofs.{AgreementKept.SlotsAgree, AgreementKept.actor-agrees, AgreementKept.kept-stands}
-use Rattle.gt_core.proofs.{AgreementKept.mappings-stay}
-use Rattle.gt_core.proofs.{AgreementKept.same-number, AgreementKept.Moves, AgreementKept.slots-kept}
-use Rattle.gt_core.proofs.{AgreementKept.each-stays}
-use Rattle.gt_core.proofs.{AgreementKept.becomes-changed, AgreementKept.own-changed, AgreementKept.slots-stand}
-use Rattle.gt_core.proofs.{Phases.none-of}
-use Rattle.gt_core.proofs.{Phases.makes-same, Phases.by-leg, Phases.by-giving, Steps.Exchange.grant-invalid}
+use Rattle.gt_core.proofs.{AgreementKept.mappings-stay, AgreementKept.same-number, AgreementKept.Moves}
+use Rattle.gt_core.proofs.{AgreementKept.slots-kept, AgreementKept.each-stays, AgreementKept.becomes-changed}
+use Rattle.gt_core.proofs.{AgreementKept.own-changed, AgreementKept.slots-stand, Phases.none-of, Phases.makes-same}
+use Rattle.gt_core.proofs.{Phases.by-leg, Phases.by-giving, Steps.Exchange.grant-invalid}
 
 -- the item of a header that is stored
 abbrev pub headed : DomId → ℕ → ℕ → Option Answer → Item

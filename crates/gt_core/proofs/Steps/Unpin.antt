@@ -1,24 +1,21 @@
 -- An unpin: what a core represents after it, and how its call continues.
-use Rattle.gt_core.proofs.Words.{◌≡◌, ◌+◌, ℕ, refl, Bool, false, List, [], ◌∷◌, ◌++◌, length, Option, Some, None, cond}
-use Rattle.gt_core.proofs.Words.{sym, ap, ◌∙◌, arith, subst, ◌==◌, ◌&&◌, All, count_by, none-some, sum_by-cons, DomId}
-use Rattle.gt_core.proofs.Words.{Dir, Read, Write, BodyWord, FirstHalf, SecondHalf, Handle, HandleMap, HeldPin, PinHolder}
-use Rattle.gt_core.proofs.Words.{ByMapping, ByLeg, Observation, PinCounts, OpenCall, Unpinned, Item, Answer, State, state_of}
-use Rattle.gt_core.proofs.Words.{changed_in, with_slot, without_holder, slot_after, handle_taken, History, Setting, Pin}
-use Rattle.gt_core.proofs.Words.{live}
-use Rattle.gt_core.proofs.Words.{body_at, mappings_at, maps_answered_at, legs_at, open_call, is_pin_on, without}
-use Rattle.gt_core.proofs.Words.{is_holder, same_handle, same_dir, gather, mapping_named, by_leg, mapping_of}
-use Rattle.gt_core.proofs.Words.{one_if_mapped, IsLawfulPin, SlotAgrees, StateStands, DomainsStand, CallAgrees}
-use Rattle.gt_core.proofs.Words.{GivenAgrees}
-use Rattle.gt_core.proofs.Words.{MappingsAgree, numbered, inl, inr, ◌⊎◌, option_or, Denial, last_first, next_to_give}
-use Rattle.gt_core.proofs.Words.{Done, Makes, Step, CallResult, Ending, CallPins, OpenRequest, CopyArgs, StepsSoFar, EndsCopy}
-use Rattle.gt_core.proofs.{Steps.Observers.answered-stays, Steps.Observers.cond-same, Steps.Observers.without-kept}
-use Rattle.gt_core.proofs.{Steps.Observers.IsKeyed, Steps.Observers.mapping-keyed, Steps.Observers.leg-keyed}
+use Rattle.gt_core.proofs.Words.{◌≡◌, ◌+◌, ℕ, refl, Bool, false, List, [], ◌∷◌, ◌++◌, length, Option, Some, None}
+use Rattle.gt_core.proofs.Words.{cond, sym, ap, ◌∙◌, arith, subst, ◌==◌, ◌&&◌, All, count_by, none-some, sum_by-cons}
+use Rattle.gt_core.proofs.Words.{DomId, Dir, Read, Write, BodyWord, FirstHalf, SecondHalf, Handle, HandleMap, HeldPin}
+use Rattle.gt_core.proofs.Words.{PinHolder, ByMapping, ByLeg, Observation, PinCounts, OpenCall, Unpinned, Item}
+use Rattle.gt_core.proofs.Words.{Answer, State, state_of, changed_in, with_slot, without_holder, slot_after}
+use Rattle.gt_core.proofs.Words.{handle_taken, History, Setting, Pin, live, body_at, mappings_at, maps_answered_at}
+use Rattle.gt_core.proofs.Words.{legs_at, open_call, is_pin_on, without, is_holder, same_handle, same_dir, gather}
+use Rattle.gt_core.proofs.Words.{mapping_named, by_leg, mapping_of, one_if_mapped, IsLawfulPin, SlotAgrees}
+use Rattle.gt_core.proofs.Words.{StateStands, DomainsStand, CallAgrees, GivenAgrees, MappingsAgree, numbered, inl}
+use Rattle.gt_core.proofs.Words.{inr, ◌⊎◌, option_or, Denial, last_first, next_to_give, Done, Makes, Step, CallResult}
+use Rattle.gt_core.proofs.Words.{Ending, CallPins, OpenRequest, CopyArgs, StepsSoFar, EndsCopy}
+use Rattle.gt_model.proofs.Observers.{answered-stays, cond-same, without-kept, IsKeyed, mapping-keyed, leg-keyed}
+use Rattle.gt_model.proofs.Observers.{pins_at, all-without, unpinned-live, unpins}
 use Rattle.gt_core.proofs.{AgreementKept.KeepsEntries, AgreementKept.same-body, AgreementKept.Becomes}
-use Rattle.gt_core.proofs.{AgreementKept.becomes-changed}
-use Rattle.gt_core.proofs.{AgreementKept.slots-stand, AgreementKept.keeps-stands, Mappings.less, Mappings.less_of}
-use Rattle.gt_core.proofs.{Mappings.mappings-taken, Mappings.mappings-same, Rows.state-changed, Steps.Observers.pins_at}
-use Rattle.gt_core.proofs.{Steps.Pin.pins-fit, Steps.Observers.all-without, Steps.Observers.unpinned-live}
-use Rattle.gt_core.proofs.{Steps.Observers.unpins, Phases.by-giving, Phases.Placed}
+use Rattle.gt_core.proofs.{AgreementKept.becomes-changed, AgreementKept.slots-stand, AgreementKept.keeps-stands}
+use Rattle.gt_core.proofs.{Mappings.less, Mappings.less_of, Mappings.mappings-taken, Mappings.mappings-same}
+use Rattle.gt_core.proofs.{Rows.state-changed, Steps.Pin.pins-fit, Phases.by-giving, Phases.Placed}
 use Rattle.gt_calls.specs.Resting.{IsCopyOf}
 
 -- what an unpin removes from the live pins

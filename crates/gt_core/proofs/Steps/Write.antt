@@ -4,22 +4,23 @@ use Rattle.gt_core.proofs.Words.{replicate, length, take, drop, Option, Some, No
 use Rattle.gt_core.proofs.Words.{eqb-true, eq-eqb, and_parts, and_from, append-nil, map-append, length-append}
 use Rattle.gt_core.proofs.Words.{length-drop, length-take-le, length-replicate, ◌==◌, ◌&&◌, nat_lt, is_some, IsTrue}
 use Rattle.gt_core.proofs.Words.{DomId, Write, ForMap, DomainConfig, FRAME_SIZE, Entry, frame_of, permits, Handle}
-use Rattle.gt_core.proofs.Words.{value_of, HeldPin, AccessPath, Direct, End, Request, OpenRequest, Store, Poke, Spot, Observation, Step}
-use Rattle.gt_core.proofs.Words.{ReadBytes, WriteBytes, CopyBytes, Makes, Call, CallerKnowledge, begun, frame_count_of}
-use Rattle.gt_core.proofs.Words.{is_dest_granted, dest_pair, opens, Rests, RestsOnRequest, RestsOnWays, IsReached}
-use Rattle.gt_core.proofs.Words.{pins_at, Patch, written, bytes_at, frame_counts, FrameSet, frame_at, has_range}
-use Rattle.gt_core.proofs.Words.{all_zeros, AreKept, OpenCall, Item, Answer, Begun, State, IsLoadOf, IsReadable, IsAdmitted}
-use Rattle.gt_core.proofs.Words.{AccessedBy, History, Setting, patches_at, patches_by, contents_at, written_by}
-use Rattle.gt_core.proofs.Words.{WriteMade}
-use Rattle.gt_core.proofs.Words.{given_in, open_call, Underway, values, known_at, IsInFrame, CopyIsJustified, grown}
-use Rattle.gt_core.proofs.Words.{DomainsStand, FramesStand, StateStands, OpenAgrees, FitsGiven, begun_element, le-leb}
-use Rattle.gt_core.proofs.Words.{unwrap_or, overlay, replay, zeros, FrameState, patch_of, patches, permits_writing}
-use Rattle.gt_core.proofs.Words.{suffices, all_rightful, pool_number, frames_of_all, is_name, has_frame, admits}
-use Rattle.gt_core.proofs.Words.{WritesTo, journal_in, basis_of, begun_route, route_of, IsWritOf, FrameName}
-use Rattle.gt_core.proofs.Words.{Writ, WriteRecord, BegunBusy, BegunNoDomain, cond_both}
-use Rattle.gt_core.proofs.{Starting.get-replicate, Steps.Observers.stepped, Phases.call-is, Phases.none-of}
-use Rattle.gt_core.proofs.{Steps.Access.permits-as, Steps.Access.mapping-pin, Steps.Access.same-held}
-use Rattle.gt_core.proofs.{Steps.Access.read-justified, Steps.Access.copy-justified}
+use Rattle.gt_core.proofs.Words.{value_of, HeldPin, AccessPath, Direct, End, Request, OpenRequest, Store, Poke, Spot}
+use Rattle.gt_core.proofs.Words.{Observation, Step, ReadBytes, WriteBytes, CopyBytes, Makes, Call, CallerKnowledge}
+use Rattle.gt_core.proofs.Words.{begun, frame_count_of, is_dest_granted, dest_pair, opens, Rests, RestsOnRequest}
+use Rattle.gt_core.proofs.Words.{RestsOnWays, IsReached, pins_at, Patch, written, bytes_at, frame_counts, FrameSet}
+use Rattle.gt_core.proofs.Words.{frame_at, has_range, all_zeros, AreKept, OpenCall, Item, Answer, Begun, State}
+use Rattle.gt_core.proofs.Words.{IsLoadOf, IsReadable, IsAdmitted, AccessedBy, History, Setting, patches_at}
+use Rattle.gt_core.proofs.Words.{patches_by, contents_at, written_by, WriteMade, given_in, open_call, Underway}
+use Rattle.gt_core.proofs.Words.{values, known_at, IsInFrame, CopyIsJustified, grown, DomainsStand, FramesStand}
+use Rattle.gt_core.proofs.Words.{StateStands, OpenAgrees, FitsGiven, begun_element, le-leb, unwrap_or, overlay}
+use Rattle.gt_core.proofs.Words.{replay, zeros, FrameState, patch_of, patches, permits_writing, suffices}
+use Rattle.gt_core.proofs.Words.{all_rightful, pool_number, frames_of_all, is_name, has_frame, admits, WritesTo}
+use Rattle.gt_core.proofs.Words.{journal_in, basis_of, begun_route, route_of, IsWritOf, FrameName, Writ, WriteRecord}
+use Rattle.gt_core.proofs.Words.{BegunBusy, BegunNoDomain, cond_both}
+use Rattle.gt_core.proofs.{Starting.get-replicate, Phases.call-is, Phases.none-of, Steps.Access.permits-as}
+use Rattle.gt_core.proofs.{Steps.Access.mapping-pin, Steps.Access.same-held, Steps.Access.read-justified}
+use Rattle.gt_core.proofs.{Steps.Access.copy-justified}
+use Rattle.gt_model.proofs.Observers.{stepped}
 use Rattle.gt_model.specs.declared.held.AccessPath.TheVariants.{Own}
 use Rattle.gt_model.specs.Path.{place_of}
 use Rattle.std.specs.Cmp.{both_ways}

@@ -1,7 +1,7 @@
 //! The closing of a domain's table before the domain leaves, and a look at one of its entries.
 ghost use Rattle.std.specs.Prelude.{◌≡◌, true};
 ghost use Rattle.gt_model.specs.declared.entry.Entry.TheVariants.{Invalid};
-ghost use Rattle.gt_calls.specs.Rules.{entry_in};
+ghost use Rattle.gt_calls.specs.Known.{entry_in};
 ghost use Rattle.gt_live.specs.Closing.{is_in_use};
 ghost use Rattle.gt_live.specs.Parts.{words_of};
 

@@ -15,7 +15,7 @@ impl Domain {
     ghost use Rattle.gt_types.specs.declared.limits.TheConstants.{TABLE_ENTRIES};
     ghost use Rattle.gt_live.specs.Domains.{BelongsTo};
     ghost use Rattle.gt_live.specs.Domains.{IsUnsettled, KeepsPinned};
-    ghost use Rattle.gt_model.specs.Changes.{changed_entry};
+    ghost use Rattle.gt_model.specs.Entries.{changed_entry};
     ghost use Rattle.gt_live.specs.Following.{entry_of};
     ghost use Rattle.gt_live.specs.Rows.{row_changed};
     ghost use Rattle.gt_live.specs.Owning.{IsRowOf, asks_change, change_effect};

@@ -1,6 +1,7 @@
-use Rattle.gt_calls.proofs.Words.{◌≡◌, refl, ◌∙◌, DomId, CallResult, CopyArgs, PinPurpose, AccessPath, CallerKnowledge}
-use Rattle.gt_calls.proofs.Words.{Leg, LegPhase, Phase, Walking, Accessing, Asking, Last, Ending, Observation, Step, CallPins}
-use Rattle.gt_calls.proofs.Words.{LegRefused, after_leg, ap, knows, leg_after, phase_after, pins_so_far, sym}
+use Rattle.gt_calls.proofs.Words.{◌≡◌, refl, ◌∙◌, DomId, CallResult, CopyArgs, PinPurpose, AccessPath}
+use Rattle.gt_calls.proofs.Words.{CallerKnowledge, Leg, LegPhase, Phase, Walking, Accessing, Asking, Last, Ending}
+use Rattle.gt_calls.proofs.Words.{Observation, Step, CallPins, LegRefused, after_leg, ap, knows, leg_after}
+use Rattle.gt_calls.proofs.Words.{phase_after, pins_so_far, sym}
 use Rattle.gt_calls.specs.Prelude.{Denial}
 use Rattle.gt_model.specs.declared.action.CallResult.TheVariants.{Refused}
 use Rattle.gt_calls.specs.Machine.{change_after}

@@ -1,6 +1,6 @@
 use Rattle.std.proofs.Common.{◌∙◌, refl, subst}
 use Rattle.gt_calls.specs.Following.{Starts}
-use Rattle.gt_calls.specs.Rules.{knows}
+use Rattle.gt_calls.specs.Known.{knows}
 use Rattle.gt_calls.specs.declared.call.CallStart.{CallStart}
 use Rattle.gt_explore_moves.proofs.Beginnings.{left-same, not-done, opened}
 use Rattle.gt_explore_moves.proofs.calls.open_call.Goals as goal

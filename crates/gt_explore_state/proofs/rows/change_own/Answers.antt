@@ -1,7 +1,7 @@
 use Rattle.std.proofs.Common.{◌==◌, ◌∙◌, ap, List, cond, get_or}
 use Rattle.std.proofs.lemmas.Result.{on_ok_weaker}
 use Rattle.gt_calls.specs.declared.known.OwnerEntry.{OwnerEntry}
-use Rattle.gt_calls.specs.Rules.{entry_in, own_generation}
+use Rattle.gt_calls.specs.Known.{entry_in, own_generation}
 use Rattle.gt_explore_state.proofs.OwnRows.{own-becomes}
 use Rattle.gt_explore_state.proofs.rows.change_own.Goals as goal
 

@@ -1,8 +1,7 @@
 use Rattle.std.proofs.Common.{refl}
 use Rattle.gt_model.specs.Asking.{asked}
 use Rattle.gt_model.specs.declared.bounds.TheConstants.{MAX_STEPS}
-use Rattle.gt_model.specs.History.{Setting}
-use Rattle.gt_core.specs.Acting.{setting_of}
+use Rattle.gt_model.specs.History.{Setting, setting_of}
 use Rattle.gt_host.proofs.OpenLemmas.{begins_open, unanswered}
 use Rattle.gt_host.proofs.RunLemmas.{call_busy, call_done, call_ticked}
 use Rattle.gt_script_runs.proofs.StartLemmas.{same_setting}

@@ -1,5 +1,5 @@
 use Rattle.std.proofs.Common.{refl}
-use Rattle.gt_core.specs.Acting.{setting_of}
+use Rattle.gt_model.specs.History.{setting_of}
 use Rattle.gt_script_runs.specs.Runs.{history_of}
 use Rattle.gt_host.proofs.LineLemmas.{do_answered, do_busy}
 use Rattle.gt_host.proofs.run.run_do.Goals as goal

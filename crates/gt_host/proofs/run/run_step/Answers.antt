@@ -1,5 +1,5 @@
 use Rattle.std.proofs.Common.{subst, sym, OnOk}
-use Rattle.gt_core.specs.Acting.{setting_of}
+use Rattle.gt_model.specs.History.{setting_of}
 use Rattle.gt_script.specs.declared.actions.ScriptAction.{ScriptAction}
 use Rattle.gt_script_runs.specs.Runs.{RunsLine}
 use Rattle.gt_host.specs.Ticking.{Leads}

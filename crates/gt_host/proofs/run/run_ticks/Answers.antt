@@ -2,7 +2,7 @@ use Rattle.std.proofs.Common.{refl, ap, sym, ◌∙◌, Option}
 use Rattle.std.specs.Option.{option_map}
 use Rattle.std.specs.Prelude.{option_and_then}
 use Rattle.gt_host.specs.declared.open_calls.Opened.{Opened}
-use Rattle.gt_core.specs.Acting.{setting_of}
+use Rattle.gt_model.specs.History.{setting_of}
 use Rattle.gt_script_runs.specs.Runs.{history_of}
 use Rattle.gt_host.proofs.LineLemmas.{ticks_answered, ticks_idle, ticks_open}
 use Rattle.gt_host.proofs.run.run_ticks.Goals as goal

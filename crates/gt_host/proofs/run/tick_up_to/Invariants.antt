@@ -1,7 +1,6 @@
 use Rattle.std.proofs.Common.{◌≡◌}
-use Rattle.gt_model.specs.History.{History}
+use Rattle.gt_model.specs.History.{History, setting_of}
 use Rattle.gt_core.specs.Standing.{CoreStands}
-use Rattle.gt_core.specs.Acting.{setting_of}
 use Rattle.gt_host.proofs.RunLemmas.{IsTicking}
 use Rattle.gt_host.proofs.run.tick_up_to.Given as goal
 

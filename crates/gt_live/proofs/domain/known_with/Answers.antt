@@ -1,7 +1,7 @@
 use Rattle.std.proofs.Common.{ap, ◌∙◌, subst}
 use Rattle.gt_model.specs.declared.header.Header.{Header}
 use Rattle.gt_model.specs.declared.held.HeldPin.{HeldPin}
-use Rattle.gt_calls.specs.Rules.{knowledge_of}
+use Rattle.gt_calls.specs.Known.{knowledge_of}
 use Rattle.gt_handles.specs.Handles.{HandleMap}
 use Rattle.gt_words.specs.Conditions.{SeatOf}
 use Rattle.gt_word_history.specs.Rule.{IsKeptHeader}

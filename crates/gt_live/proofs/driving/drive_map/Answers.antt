@@ -1,4 +1,4 @@
-use Rattle.gt_calls.specs.Rules.{knows}
+use Rattle.gt_calls.specs.Known.{knows}
 use Rattle.gt_live.proofs.Tries.{map-can-walk, map-walked, opened}
 use Rattle.gt_live.proofs.driving.drive_map.Goals as goal
 

@@ -1,7 +1,7 @@
 use Rattle.std.proofs.Common.{refl, sym, subst}
 use Rattle.gt_types.specs.Names.{resolved}
 use Rattle.gt_types.specs.declared.DomId.{DomId}
-use Rattle.gt_calls.specs.Rules.{knows}
+use Rattle.gt_calls.specs.Known.{knows}
 use Rattle.gt_model.specs.declared.action.Observation.TheVariants.{Word}
 use Rattle.gt_model.specs.declared.action.Step.TheVariants.{LookHeader}
 use Rattle.gt_calls.specs.declared.call.Phase.TheVariants.{Asking}

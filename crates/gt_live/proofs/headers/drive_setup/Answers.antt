@@ -1,5 +1,5 @@
 use Rattle.std.proofs.Common.{ℕ, refl, subst, sym}
-use Rattle.gt_calls.specs.Rules.{knows}
+use Rattle.gt_calls.specs.Known.{knows}
 use Rattle.gt_model.specs.declared.action.Observation.TheVariants.{Nothing as Unseen}
 use Rattle.gt_model.specs.declared.action.Step.TheVariants as steps
 use Rattle.gt_model.specs.declared.action.CallValue.TheVariants.{Frames}

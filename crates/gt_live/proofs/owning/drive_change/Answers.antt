@@ -1,6 +1,6 @@
 use Rattle.std.proofs.Common.{◌≡◌, refl, subst, sym}
 use Rattle.gt_model.specs.Path.{path}
-use Rattle.gt_calls.specs.Rules.{knows}
+use Rattle.gt_calls.specs.Known.{knows}
 use Rattle.gt_model.specs.declared.entry.Entry.{Entry}
 use Rattle.gt_model.specs.declared.change.EntryChange.{EntryChange}
 use Rattle.gt_model.specs.declared.change.EntryChange.TheVariants.{Publish, Revoke}

@@ -1,6 +1,7 @@
-use Rattle.gt_calls.specs.Rules.{knows}
+use Rattle.gt_calls.specs.Known.{knows}
 use Rattle.gt_live.proofs.Making.{same_seat-then, still_seat}
-use Rattle.gt_live.proofs.OwnChanges.{can-publish, can-store, can-store-second, publishes, stored-other, stored-second, stored-sub}
+use Rattle.gt_live.proofs.OwnChanges.{can-publish, can-store, can-store-second, publishes, stored-other}
+use Rattle.gt_live.proofs.OwnChanges.{stored-second, stored-sub}
 use Rattle.gt_live.proofs.owning.drive_grant.Goals as goal
 
 pub store_half-requires-clause-can : goal.store_half-requires-clause-can

@@ -1,4 +1,4 @@
-use Rattle.gt_calls.specs.Rules.{knows}
+use Rattle.gt_calls.specs.Known.{knows}
 use Rattle.gt_live.proofs.OwnChanges.{can-revoke, revokes}
 use Rattle.gt_live.proofs.owning.drive_revoke.Goals as goal
 

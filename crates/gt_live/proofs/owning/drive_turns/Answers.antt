@@ -1,5 +1,5 @@
 use Rattle.std.proofs.Common.{sym, ◌∙◌}
-use Rattle.gt_calls.specs.Rules.{knows}
+use Rattle.gt_calls.specs.Known.{knows}
 use Rattle.gt_live.proofs.Making.{same_seat-self, same_seat-then, still_seat}
 use Rattle.gt_live.proofs.OwnChanges.{can-turn, turn-given-up, turn-looked, turn-missed, turn-stopped, turn-taken}
 use Rattle.gt_live.proofs.OwnChanges.{turns-start}

@@ -1,4 +1,4 @@
-use Rattle.gt_calls.specs.Rules.{knows}
+use Rattle.gt_calls.specs.Known.{knows}
 use Rattle.gt_model.specs.declared.action.Action.TheVariants.{Step as Makes}
 use Rattle.gt_model.specs.declared.action.Step.TheVariants.{LookControl}
 use Rattle.gt_calls.specs.declared.call.Phase.TheVariants.{Looking}

@@ -1,4 +1,4 @@
-use Rattle.gt_calls.specs.Rules.{knows}
+use Rattle.gt_calls.specs.Known.{knows}
 use Rattle.gt_calls.specs.Machine.{at_source}
 use Rattle.gt_live.specs.Copies.{after_copy, filled}
 use Rattle.gt_live.proofs.Phases.{may-run, stands-first, stands-then, stops}

@@ -1,13 +1,12 @@
-use Rattle.std.proofs.Common.{◌∙◌, sym}
+use Rattle.std.proofs.Common.{◌∙◌, sym, refl}
 use Rattle.gt_calls.specs.declared.leg.LegNext.TheVariants.{Refused as LegRefused, Pinned as LegPinned}
 use Rattle.gt_calls.specs.Holding.{pins_so_far}
 use Rattle.gt_calls.specs.Machine.{through_via}
-use Rattle.gt_calls.specs.Rules.{knows}
+use Rattle.gt_calls.specs.Known.{knows}
 use Rattle.gt_live.proofs.GivingBack.{can-last, last-given}
 use Rattle.gt_live.proofs.Reaching.{refused-runs, through-can, through-runs}
 use Rattle.gt_live.specs.Domains.{denial_in}
 use Rattle.gt_live.proofs.routes.go_through.Goals as goal
-use Rattle.std.proofs.Common.{refl}
 
 pub give_pin_back-requires-clause-can : goal.give_pin_back-requires-clause-can
 give_pin_back-requires-clause-can g c =

@@ -5,7 +5,7 @@ use Rattle.gt_calls.specs.declared.copying.PinPurpose.TheVariants.{Dest}
 use Rattle.gt_model.specs.declared.held.AccessPath.TheVariants.{Through}
 use Rattle.gt_model.specs.Holding.{held_by}
 use Rattle.gt_calls.specs.Machine.{through_via}
-use Rattle.gt_calls.specs.Rules.{knows}
+use Rattle.gt_calls.specs.Known.{knows}
 use Rattle.gt_live.specs.Copies.{after_dest, dest_leg}
 use Rattle.gt_live.proofs.Phases.{can-then, runs-then}
 use Rattle.gt_live.proofs.Reaching.{no-via, dest-can, dest-reached, dest-refused, dest-via}

@@ -4,7 +4,7 @@ use Rattle.gt_types.specs.declared.DomId.{DomId}
 use Rattle.gt_calls.specs.declared.copying.PinPurpose.TheVariants.{Source}
 use Rattle.gt_model.specs.declared.held.AccessPath.TheVariants.{Through}
 use Rattle.gt_calls.specs.Machine.{through_via}
-use Rattle.gt_calls.specs.Rules.{knows}
+use Rattle.gt_calls.specs.Known.{knows}
 use Rattle.gt_live.specs.Copies.{phase_after_source, source_leg}
 use Rattle.gt_live.proofs.Phases.{can-then, runs-then}
 use Rattle.gt_live.proofs.Reaching.{no-via, source-can, source-reached, source-refused, source-via}

@@ -3,7 +3,7 @@ use Rattle.gt_model.specs.declared.held.CallPins.{CallPins}
 use Rattle.gt_model.specs.declared.held.AccessPath.{AccessPath}
 use Rattle.gt_model.specs.declared.held.AccessPath.TheVariants.{Own}
 use Rattle.gt_calls.specs.Machine.{at_dest, at_source}
-use Rattle.gt_calls.specs.Rules.{knows}
+use Rattle.gt_calls.specs.Known.{knows}
 use Rattle.gt_live.specs.Copies.{after_copy, filled, source_leg}
 use Rattle.gt_live.proofs.Phases.{can-from, can-then, runs-from, runs-then}
 use Rattle.gt_live.proofs.Reaching.{source-own, source-walked}

@@ -4,7 +4,7 @@ use Rattle.gt_model.specs.declared.action.CallResult.TheVariants.{Refused}
 use Rattle.gt_calls.specs.declared.call.Phase.TheVariants.{Accessing, Ending}
 use Rattle.gt_model.specs.declared.held.AccessPath.{AccessPath}
 use Rattle.gt_calls.specs.Machine.{at_dest}
-use Rattle.gt_calls.specs.Rules.{knows}
+use Rattle.gt_calls.specs.Known.{knows}
 use Rattle.gt_model.specs.Holding.{held_by}
 use Rattle.gt_live.specs.Copies.{CanGiveBack, IsGivenBack, after_copy, dest_leg}
 use Rattle.gt_live.specs.Phases.{Runs}

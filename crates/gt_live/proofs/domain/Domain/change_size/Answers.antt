@@ -2,7 +2,7 @@ use Rattle.std.proofs.Common.{◌≡◌, ◌∙◌, ap, sym, subst, refl, Some, 
 use Rattle.gt_types.specs.declared.DomId.{DomId}
 use Rattle.gt_model.specs.Path.{path}
 use Rattle.gt_model.specs.Rules.{CallerKnowledge, begun, label_of}
-use Rattle.gt_calls.specs.Rules.{knows}
+use Rattle.gt_calls.specs.Known.{knows}
 use Rattle.gt_model.specs.declared.request.OpenRequest.TheVariants as asks
 use Rattle.std.specs.Prelude.{Result, ℕ}
 use Rattle.gt_types.specs.declared.denial.Denial.{Denial}

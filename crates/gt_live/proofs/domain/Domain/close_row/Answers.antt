@@ -3,7 +3,7 @@ use Rattle.std.specs.Prelude.{slice_get}
 use Rattle.gt_types.specs.declared.DomId.{DomId}
 use Rattle.gt_words.specs.Conditions.{IsWordOf}
 use Rattle.gt_word_history.specs.declared.view.EntryRecord.{EntryRecord}
-use Rattle.gt_calls.specs.Rules.{entry_in, own_generation}
+use Rattle.gt_calls.specs.Known.{entry_in, own_generation}
 use Rattle.gt_calls.specs.declared.known.OwnerEntry.{OwnerEntry}
 use Rattle.gt_model.specs.declared.action.Observation.TheVariants.{Word}
 use Rattle.gt_model.specs.declared.action.Step.TheVariants.{LookControl}

@@ -9,8 +9,8 @@ use Rattle.gt_model.specs.declared.request.Request.TheVariants as requests
 use Rattle.gt_handles.specs.Handles.{value_of}
 use Rattle.gt_live.specs.Accesses.{frame_named, IsIfMissing, IsReadBy, ReadsFrame}
 use Rattle.gt_live.specs.Domains.{knowledge}
-use Rattle.gt_live.proofs.Accessing.{mapped-way, missing-access, missing-plainly, none-left, one-access, refused-access}
-use Rattle.gt_live.proofs.Accessing.{refused-plainly, reaches-mapped}
+use Rattle.gt_live.proofs.Accessing.{mapped-way, missing-access, missing-plainly, none-left, one-access}
+use Rattle.gt_live.proofs.Accessing.{refused-access, refused-plainly, reaches-mapped}
 use Rattle.gt_live.proofs.DomainKept.{reseated}
 use Rattle.gt_live.proofs.Making.{same_seat-self}
 use Rattle.gt_live.proofs.domain.Domain.load_into.Goals as goal

@@ -1,7 +1,7 @@
 use Rattle.std.proofs.Common.{◌≡◌, ◌<◌, ◌∙◌, sym, subst, arith, length}
 use Rattle.std.specs.Prelude.{Result, OnOk}
 use Rattle.gt_types.specs.declared.denial.Denial.{Denial}
-use Rattle.gt_model.specs.Changes.{changed_entry}
+use Rattle.gt_model.specs.Entries.{changed_entry}
 use Rattle.gt_model.specs.Path.{path}
 use Rattle.gt_live.specs.Domains.{knowledge, verdict_of}
 use Rattle.gt_live.specs.Following.{entry_of}

@@ -10,7 +10,8 @@ use Rattle.gt_model.specs.declared.request.Request.TheVariants as requests
 use Rattle.gt_handles.specs.Handles.{value_of}
 use Rattle.gt_live.specs.Accesses.{frame_named, IsIfMissing, IsWrittenBy, WritesFrame}
 use Rattle.gt_live.specs.Domains.{knowledge}
-use Rattle.gt_live.proofs.Accessing.{mapped-way, named-route, none-left, one-access, refused-access, reaches-mapped, writes-by}
+use Rattle.gt_live.proofs.Accessing.{mapped-way, named-route, none-left, one-access, refused-access, reaches-mapped}
+use Rattle.gt_live.proofs.Accessing.{writes-by}
 use Rattle.gt_live.proofs.DomainKept.{reseated}
 use Rattle.gt_live.proofs.Making.{same_seat-self}
 use Rattle.gt_live.proofs.domain.Domain.store.Goals as goal

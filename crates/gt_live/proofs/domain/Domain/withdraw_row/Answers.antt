@@ -1,10 +1,10 @@
 use Rattle.std.proofs.Common.{◌≡◌, ◌<◌, ◌∙◌, ap, arith, refl, subst, sym, length, List}
 use Rattle.std.specs.Prelude.{Result, OnOk}
 use Rattle.gt_types.specs.declared.denial.Denial.{Denial}
-use Rattle.gt_model.specs.Changes.{changed_entry}
+use Rattle.gt_model.specs.Entries.{changed_entry}
 use Rattle.gt_model.specs.declared.change.EntryChange.TheVariants.{Withdraw}
 use Rattle.gt_model.specs.Path.{path}
-use Rattle.gt_calls.specs.Rules.{entry_in}
+use Rattle.gt_calls.specs.Known.{entry_in}
 use Rattle.gt_calls.specs.declared.known.OwnerEntry.{OwnerEntry}
 use Rattle.gt_model.specs.declared.request.OpenRequest.TheVariants as asks
 use Rattle.gt_model.specs.declared.request.Request.TheVariants as requests

@@ -1,13 +1,33 @@
 -- What an item leaves of the entries, words, pins and mappings, and of the other domains.
-use Rattle.gt_core.proofs.Words.{◌≡◌, ◌+◌, ℕ, refl, Bool, true, false, List, [], ◌∷◌, ◌++◌, Option, None, cond, ap, ◌∙◌}
-use Rattle.gt_core.proofs.Words.{arith, ◌==◌, DomId, Header, EntryChange, Item, History, Setting, entry_at, changed_entry_of}
-use Rattle.gt_core.proofs.Words.{raises_at, raise_after, live, Pin, pinned_by, unpinned_by, change_at, change_of}
-use Rattle.gt_core.proofs.Words.{maps_answered_at, one_if_mapped, known_at, mappings_at, gather, mapping_named, legs_at}
-use Rattle.gt_core.proofs.Words.{by_leg, header_stored, header_or, table_at, append-nil, BodyWord, or_else, stored_at}
-use Rattle.gt_core.proofs.Words.{body_at, ◌&&◌, PinHolder, HeldPin, without, is_holder, cond_both, Some, Handle, ByMapping}
-use Rattle.gt_core.proofs.Words.{ByLeg, append_assoc, All-cons, All-head, All-tail, All, length, sum_by_push, count_by}
-use Rattle.gt_core.proofs.Words.{Dir, GrantRef, Observation, Taken, Step, Exchange, PinStep, Unpin, holder_after, is_pin_on}
-use Rattle.gt_core.proofs.Words.{Answer, Stepped}
+use Rattle.std.proofs.Common.{◌≡◌, ◌+◌, ℕ, refl, Bool, true, false, List, [], ◌∷◌, ◌++◌, Option, None, cond, ap, ◌∙◌}
+use Rattle.std.proofs.Common.{arith, Some, length}
+use Rattle.std.proofs.lemmas.Bool.{cond_both}
+use Rattle.std.proofs.lemmas.List.{append-nil, append_assoc}
+use Rattle.std.proofs.lemmas.List.Elements.{All-cons, All-head, All-tail}
+use Rattle.std.proofs.lemmas.List.Sums.{sum_by_push}
+use Rattle.std.specs.Prelude.{◌==◌, ◌&&◌, All, count_by}
+use Rattle.gt_model.specs.History.{History, Setting, entry_at, changed_entry_of, raises_at, raise_after, live, Pin}
+use Rattle.gt_model.specs.History.{pinned_by, unpinned_by, change_at, change_of, maps_answered_at, one_if_mapped}
+use Rattle.gt_model.specs.History.{known_at, mappings_at, gather, mapping_named, legs_at, by_leg, header_stored}
+use Rattle.gt_model.specs.History.{header_or, table_at, or_else, stored_at, body_at, without, is_holder, holder_after}
+use Rattle.gt_model.specs.History.{is_pin_on}
+use Rattle.gt_model.specs.declared.action.Observation.{Observation}
+use Rattle.gt_model.specs.declared.action.Observation.TheVariants.{Taken}
+use Rattle.gt_model.specs.declared.action.Step.{Step}
+use Rattle.gt_model.specs.declared.action.Step.TheVariants.{Exchange, Pin as PinStep, Unpin}
+use Rattle.gt_model.specs.declared.change.BodyWord.{BodyWord}
+use Rattle.gt_model.specs.declared.change.EntryChange.{EntryChange}
+use Rattle.gt_model.specs.declared.handle.Handle.{Handle}
+use Rattle.gt_model.specs.declared.header.Header.{Header}
+use Rattle.gt_model.specs.declared.held.HeldPin.{HeldPin}
+use Rattle.gt_model.specs.declared.request.PinHolder.{PinHolder}
+use Rattle.gt_model.specs.declared.request.PinHolder.TheVariants.{Mapping as ByMapping, Leg as ByLeg}
+use Rattle.gt_model.specs.declared.trace.Answer.{Answer}
+use Rattle.gt_model.specs.declared.trace.Item.{Item}
+use Rattle.gt_model.specs.declared.trace.ItemEvent.TheVariants.{Stepped}
+use Rattle.gt_types.specs.declared.Dir.{Dir}
+use Rattle.gt_types.specs.declared.DomId.{DomId}
+use Rattle.gt_types.specs.declared.GrantRef.{GrantRef}
 
 -- the item changes no entry, pin or mapping
 pub record KeepsKnown (i : Item) : Type 0 where

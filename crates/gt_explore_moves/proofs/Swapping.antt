@@ -1,47 +1,42 @@
 -- Histories that look the same, and items that change places.
-use Rattle.gt_core.proofs.Words.{◌≡◌, ◌≢◌, ◌⊎◌, inl, inr, ℕ, ◌+◌, refl, Bool, true, false, List, [], ◌∷◌, ◌++◌, Option}
-use Rattle.gt_core.proofs.Words.{Some, None, sym}
-use Rattle.gt_core.proofs.Words.{ap, ◌∙◌, subst, arith, cond, ◌==◌, append_assoc, append-nil, take, drop, map, length}
-use Rattle.gt_core.proofs.Words.{domain_of, DomId, GrantRef, Denial, Header, header_word, Handle, asked, begun_of}
-use Rattle.gt_core.proofs.Words.{CallerKnowledge, path}
-use Rattle.gt_core.proofs.Words.{HeldPin, PinHolder, Request, OpenRequest, Observation, Word, Taken, Step, LookHeader, LookControl}
-use Rattle.gt_core.proofs.Words.{LookBody, PinStep, Exchange}
-use Rattle.gt_core.proofs.Words.{ReadBytes, WriteBytes, CopyBytes, Unpin, StoreBody, StoreHeader, Makes, CallResult, Answer}
-use Rattle.gt_core.proofs.Words.{ItemEvent, Began, Stepped, Item}
-use Rattle.gt_core.proofs.Words.{History, Setting, Underway, open_call, values, known_at, seen_by, exchange_sees}
-use Rattle.gt_core.proofs.Words.{table_at, maps_answered_at}
-use Rattle.gt_core.proofs.Words.{contents_at, mapping_of, IsRight, AnsweredBy}
-use Rattle.gt_core.proofs.Words.{GivesValue}
-use Rattle.gt_core.proofs.Words.{entry_at, raises_at, raise_after, live, Pin, pinned_by, unpinned_by}
-use Rattle.gt_core.proofs.Words.{change_of, gather, mapping_named}
-use Rattle.gt_core.proofs.Words.{legs_at, by_leg, body_at, stored_at, or_else, BodyWord, without, is_holder, is_pin_on}
-use Rattle.gt_core.proofs.Words.{reads_at, writes_at, count_by}
-use Rattle.gt_core.proofs.Words.{zero, suc, eq-eqb, eqb-true, false≢true, Entry, holder_after, Any, EntryChange, Dir, Read}
-use Rattle.gt_core.proofs.Words.{Write, changed_entry_of, header_stored, header_or, one_if_mapped}
-use Rattle.gt_core.specs.Swapping.{on_entry, looks_header, stores_header, reads_frames, writes_frames, KeepsPins, LeavesFor}
-use Rattle.gt_core.specs.Swapping.{TouchApart, with_holder, own_pins, SameEntry, SameOwn}
-use Rattle.gt_core.specs.Swapping.{SameLook, SameSight, SameSeen, patches_of, AreApart}
-use Rattle.gt_core.proofs.Steps.Observers.{exchanged-entry, exchanged-raises, kept-entry, kept-raises, kept-table}
-use Rattle.gt_core.proofs.Steps.Observers.{unstored, known-as, gather-append, other-entry, other-raises, other-body}
-use Rattle.gt_core.proofs.Steps.Observers.{other-maps, other-table, other-pins, cond-same, unpinned-live}
+use Rattle.gt_core.proofs.Words.{◌≡◌, ◌≢◌, ◌⊎◌, inl, inr, ℕ, ◌+◌, refl, Bool, true, false, List, [], ◌∷◌, ◌++◌}
+use Rattle.gt_core.proofs.Words.{Option, Some, None, sym, ap, ◌∙◌, subst, arith, cond, ◌==◌, append_assoc, append-nil}
+use Rattle.gt_core.proofs.Words.{take, drop, map, length, domain_of, DomId, GrantRef, Denial, Header, header_word}
+use Rattle.gt_core.proofs.Words.{Handle, asked, begun_of, CallerKnowledge, path, HeldPin, PinHolder, Request}
+use Rattle.gt_core.proofs.Words.{OpenRequest, Observation, Word, Taken, Step, LookHeader, LookControl, LookBody}
+use Rattle.gt_core.proofs.Words.{PinStep, Exchange, ReadBytes, WriteBytes, CopyBytes, Unpin, StoreBody, StoreHeader}
+use Rattle.gt_core.proofs.Words.{Makes, CallResult, Answer, ItemEvent, Began, Stepped, Item, History, Setting}
+use Rattle.gt_core.proofs.Words.{Underway, open_call, values, known_at, seen_by, exchange_sees, table_at}
+use Rattle.gt_core.proofs.Words.{maps_answered_at, contents_at, mapping_of, IsRight, AnsweredBy, GivesValue, entry_at}
+use Rattle.gt_core.proofs.Words.{raises_at, raise_after, live, Pin, pinned_by, unpinned_by, change_of, gather}
+use Rattle.gt_core.proofs.Words.{mapping_named, legs_at, by_leg, body_at, stored_at, or_else, BodyWord, without}
+use Rattle.gt_core.proofs.Words.{is_holder, is_pin_on, reads_at, writes_at, count_by, zero, suc, eq-eqb, eqb-true}
+use Rattle.gt_core.proofs.Words.{false≢true, Entry, holder_after, Any, EntryChange, Dir, Read, Write}
+use Rattle.gt_core.proofs.Words.{changed_entry_of, header_stored, header_or, one_if_mapped, nat_lt, nat_le, reverse}
+use Rattle.gt_core.proofs.Words.{sum_by-cons, ◌&&◌}
+use Rattle.gt_explore_moves.specs.Swapping.{on_entry, looks_header, stores_header, reads_frames, writes_frames}
+use Rattle.gt_explore_moves.specs.Swapping.{KeepsPins, LeavesFor, TouchApart, with_holder, own_pins, SameEntry}
+use Rattle.gt_explore_moves.specs.Swapping.{SameOwn, SameLook, SameSight, SameSeen, patches_of, AreApart}
+use Rattle.gt_model.proofs.Observers.{exchanged-entry, exchanged-raises, kept-entry, kept-raises, kept-table}
+use Rattle.gt_model.proofs.Observers.{unstored, known-as, gather-append, other-entry, other-raises, other-body}
+use Rattle.gt_model.proofs.Observers.{other-maps, other-table, other-pins, cond-same, unpinned-live}
 use Rattle.gt_model.specs.FirstRule.{LegNow, leg_now, leg_at, StepsSoFar, looked_at, is_in_body, is_other, misses}
-use Rattle.gt_model.specs.FirstRule.{is_demote, at_entry, rule_at_exchange, rule_at_header}
-use Rattle.gt_model.specs.FirstRule.{rule_before_pin, rule_at_look, rule_at_via, rule_at_pin, first_at, first_in_call}
-use Rattle.gt_model.specs.FirstRule.{first_of_item, stood_with, stood, refusal_in}
-use Rattle.gt_model.specs.History.{control_at, word_at, same_dir, same_half}
-use Rattle.gt_core.specs.Prelude.{control_with, control_word, Leg, first_look, before_pin, pins_of, size_of, denial_of}
-use Rattle.gt_core.specs.Prelude.{N9, N18, N19, HeaderFacts, MAX_TRIES, stands, first}
-use Rattle.gt_core.proofs.Words.{nat_lt, nat_le, reverse, sum_by-cons, ◌&&◌}
-use Rattle.gt_model.specs.History.{patches_at, patches_by, written_by, given_in, WriteMade, underway_after}
-use Rattle.gt_model.specs.Justified.{Justified, AccessIsJustified, MayAccess, MayAsk, MayUseMapping, Reaches, Forwards}
-use Rattle.gt_model.specs.Justified.{ReachesThrough, EndIsJustified, CopyIsJustified, IsSafe, IsSafeChange}
-use Rattle.gt_model.specs.Legal.{StepsRightIn, PinIsSound, NoneStands, next_in, gives_back, verdict_in}
-use Rattle.gt_core.specs.Prelude.{Load, Store, Peek, Copy, Map, SetupTable, QuerySize, GetVersion, Spot, ForMap}
-use Rattle.gt_core.specs.Prelude.{ForCopy, Publish, ToInvalid, ToReadOnly, IsSpelled, FirstHalf, SecondHalf, written}
-use Rattle.gt_core.specs.Prelude.{Denied, Mapped, Bytes, MAX_TABLE_FRAMES, SpellsItsEntry}
+use Rattle.gt_model.specs.FirstRule.{is_demote, at_entry, rule_at_exchange, rule_at_header, rule_before_pin}
+use Rattle.gt_model.specs.FirstRule.{rule_at_look, rule_at_via, rule_at_pin, first_at, first_in_call, first_of_item}
+use Rattle.gt_model.specs.FirstRule.{stood_with, stood, refusal_in}
+use Rattle.gt_model.specs.History.{control_at, word_at, same_dir, same_half, patches_at, patches_by, written_by}
+use Rattle.gt_model.specs.History.{given_in, WriteMade, underway_after}
+use Rattle.gt_core.specs.Prelude.{control_with, control_word, Leg, first_look, before_pin, pins_of, size_of}
+use Rattle.gt_core.specs.Prelude.{denial_of, N9, N18, N19, HeaderFacts, MAX_TRIES, stands, first, Load, Store, Peek}
+use Rattle.gt_core.specs.Prelude.{Copy, Map, SetupTable, QuerySize, GetVersion, Spot, ForMap, ForCopy, Publish}
+use Rattle.gt_core.specs.Prelude.{ToInvalid, ToReadOnly, IsSpelled, FirstHalf, SecondHalf, written, Denied, Mapped}
+use Rattle.gt_core.specs.Prelude.{Bytes, MAX_TABLE_FRAMES, SpellsItsEntry, Event, Begin, Tick, Element, Did, Busy}
+use Rattle.gt_core.specs.Prelude.{Idle, NoDomain, Patch}
+use Rattle.gt_model.specs.Justified.{Justified, AccessIsJustified, MayAccess, MayAsk, MayUseMapping, Reaches}
+use Rattle.gt_model.specs.Justified.{Forwards, ReachesThrough, EndIsJustified, CopyIsJustified, IsSafe, IsSafeChange}
+use Rattle.gt_model.specs.Legal.{StepsRightIn, PinIsSound, NoneStands, next_in, gives_back, verdict_in, MayDo}
+use Rattle.gt_model.specs.Legal.{IsItemOf, actor_of, grown}
 use Rattle.gt_model.specs.declared.trace.Answer.TheVariants as answers
-use Rattle.gt_model.specs.Legal.{MayDo, IsItemOf, actor_of, grown}
-use Rattle.gt_core.specs.Prelude.{Event, Begin, Tick, Element, Did, Busy, Idle, NoDomain, Patch}
 use Rattle.gt_core.proofs.AgreementKept.{open_call-other}
 
 -- pins

@@ -1,11 +1,11 @@
 -- When two histories look the same, and when the items of two domains may change places.
 use Rattle.std.specs.Prelude.{◌≡◌, ◌⊎◌, ◌==◌, ◌&&◌, ℕ, Bool, true, false, List, [], ◌∷◌, count_by}
-use Rattle.gt_core.specs.Prelude.{DomId, PinHolder, HeldPin, Step, LookHeader, LookControl, LookBody, PinStep, Exchange}
-use Rattle.gt_core.specs.Prelude.{Request, Observation, StoreBody, StoreHeader, ReadBytes, WriteBytes, CopyBytes, Unpin}
-use Rattle.gt_core.specs.Prelude.{BodyWord, Item, ItemEvent, Began, Stepped, Patch, Dir}
+use Rattle.gt_core.specs.Prelude.{DomId, PinHolder, HeldPin, Step, LookHeader, LookControl, LookBody, PinStep}
+use Rattle.gt_core.specs.Prelude.{Exchange, Request, Observation, StoreBody, StoreHeader, ReadBytes, WriteBytes}
+use Rattle.gt_core.specs.Prelude.{CopyBytes, Unpin, BodyWord, Item, ItemEvent, Began, Stepped, Patch, Dir}
 use Rattle.gt_model.specs.History.{History, Setting, entry_at, raises_at, body_at, table_at, open_call, live, gather}
-use Rattle.gt_model.specs.History.{reads_at, writes_at, maps_answered_at, patches_at, patches_by, written_by, given_in}
-use Rattle.gt_model.specs.History.{contents_at, is_pin_on, without}
+use Rattle.gt_model.specs.History.{reads_at, writes_at, maps_answered_at, patches_at, patches_by, written_by}
+use Rattle.gt_model.specs.History.{given_in, contents_at, is_pin_on, without}
 use Rattle.gt_model.specs.FirstRule.{stood}
 use Rattle.gt_model.specs.Legal.{IsRight}
 
