@@ -8,10 +8,10 @@
 //! left. Another domain's byte is read or written only if a live pin reaches it and the policy allows it. A
 //! revocation of a valid entry is taken exactly if no pin on it is live. A refusal names the first rule that applied.
 //!
-//! The definitions: `specs/Legal.antt`, over histories (`specs/History.antt`) and over the rules and paths of
-//! calls, which are those of `gt_calls`. `specs/Standing.antt` defines when a core represents a history.
+//! The definitions: `gt_model` has histories and legal traces (`Legal`). Here `specs/Standing.antt` defines when a
+//! core represents a history.
 //!
-//! It uses `gt_calls`, `gt_entry`, `gt_frames`, `gt_handles`, `gt_roster` and `gt_types`.
+//! It uses `gt_model`, `gt_calls`, `gt_entry`, `gt_frames`, `gt_handles`, `gt_roster` and `gt_types`.
 #![tactic(auto)]
 
 mod accesses;

@@ -11,7 +11,8 @@
 //! fails, nothing changes. Reads do not allocate. A caller that writes passes a writ that covers the range. [`Frames`]
 //! are all frames of a run, for one thread: a write or a copy changes the frame named and no other.
 //!
-//! It uses `gt_types` (names), `gt_entry` (entries, and what they permit) and `bytes` (a lemma on lists).
+//! It uses `gt_types` (names), `gt_model` (what entries permit, what writes leave), `gt_entry` (entries) and `bytes` (a
+//! lemma on lists).
 #![tactic(auto)]
 
 mod frame;

@@ -8,7 +8,7 @@
 //! After [`Handles::reserve`] has made room, the next [`Handles::insert`] can't fail. No call but `reserve`
 //! allocates.
 //!
-//! It uses `slab`, which picks the keys, and `gt_types` (the error `Memory`).
+//! It uses `slab`, which picks the keys, `gt_model` (handles) and `gt_types` (the error `Memory`).
 #![tactic(auto)]
 
 mod handles;

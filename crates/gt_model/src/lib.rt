@@ -9,7 +9,8 @@
 //! Proved here: what the few functions on entries, words and pins compute, and in `proofs/Observers.antt` what each
 //! item of a history leaves. The crates above have the code, and prove that it does what these definitions require.
 //!
-//! It uses `gt_types` (domains, references, directions, limits) alone. Nothing here allocates.
+//! It uses `gt_types` (domains, references, directions, limits) and the definitions of `byteorder` (numbers in bytes).
+//! Nothing here allocates.
 #![tactic(auto)]
 
 mod action;

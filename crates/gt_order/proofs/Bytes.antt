@@ -7,7 +7,7 @@ use Rattle.gt_types.specs.declared.DomId.{DomId}
 use Rattle.gt_types.specs.declared.GrantRef.{GrantRef}
 use Rattle.gt_types.specs.declared.denial.Field.{Field}
 use Rattle.gt_types.specs.declared.denial.Field.TheVariants.{Length}
-use Rattle.gt_order.proofs.Spelled.{v1-read, v2-page, v2-sub, v2-via}
+use Rattle.gt_model.proofs.Decoding.{v1-read, v2-page, v2-sub, v2-via}
 use Rattle.gt_model.specs.Bytes.{Spells, SpellsV1, SpellsV2, entry_size, field, first_refused, flag_fields, flags_of}
 use Rattle.gt_model.specs.Bytes.{is_refused, is_set, is_table_version}
 use Rattle.gt_model.specs.declared.entry.Entry.{Entry}

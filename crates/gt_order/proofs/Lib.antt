@@ -29,7 +29,6 @@ pub mod Probed
 pub mod Said
 pub mod Seeing
 pub mod Served
-pub mod Spelled
 pub mod Stages
 pub mod Start
 pub mod Stepping

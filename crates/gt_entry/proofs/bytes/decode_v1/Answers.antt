@@ -1,5 +1,5 @@
 use Rattle.std.proofs.Common.{sym, ◌∙◌}
-use Rattle.gt_entry.proofs.Decoding.{are-bytes, v1-ok}
+use Rattle.gt_model.proofs.Decoding.{are-bytes, v1-ok}
 use Rattle.gt_entry.proofs.bytes.decode_v1.Goals as goal
 
 pub returns-clause-ok : goal.returns-clause-ok

@@ -1,7 +1,7 @@
 use Rattle.std.proofs.Common.{sym, ap, ◌∙◌}
 use Rattle.std.proofs.lemmas.Option.{none-some}
 use Rattle.gt_model.specs.Bytes.{refused_flag}
-use Rattle.gt_entry.proofs.Decoding.{are-bytes, v2-none, v2-page-ok, v2-sub-ok, v2-via-ok}
+use Rattle.gt_model.proofs.Decoding.{are-bytes, v2-none, v2-page-ok, v2-sub-ok, v2-via-ok}
 use Rattle.gt_entry.proofs.bytes.decode_v2.Goals as goal
 
 pub returns-in-Some-clause-taken : goal.returns-in-Some-clause-taken
