@@ -206,7 +206,7 @@ def numbers(text):
         yield f"GTHOST_{spelled(word)}", number
     for word, number in re.findall(r"Field::(\w+) => (\d+),", text):
         yield f"GTHOST_FIELD_{spelled(word)}", number
-    for word, number in re.findall(r"pub const (NO_DOMAIN|BUSY|NO_MEMORY|NO_COPY|ABSENT|NULL_POINTER): u32 = (\d+);", text):
+    for word, number in re.findall(r"pub const (NO_DOMAIN|BUSY|NO_MEMORY|NO_COPY|ABSENT): u32 = (\d+);", text):
         yield f"GTHOST_{word}", number
     for word, number in re.findall(r"(?:PolicyFaultKind|ConfigFault)::(\w+)(?:\(\w+\))? => fault_at\((\d+),", text):
         yield f"GTHOST_FAULT_{spelled(word)}", number
@@ -216,6 +216,8 @@ def numbers(text):
         yield f"GTHOST_FAULT_{word}", number
     for number in re.findall(r'(\d+) => "a pointer is null",', text):
         yield "GTHOST_FAULT_NULL_POINTER", number
+    for number in re.findall(r'(\d+) => "the pointer to the handle is null",', text):
+        yield "GTHOST_NULL_POINTER", number
     for word, number in re.findall(r"pub const (\w+): u(?:16|32|size) = (\w+);", text):
         if word in LIMITS:
             yield f"GTHOST_{word}", number.replace("_", "")
@@ -234,6 +236,14 @@ def statuses(text):
 
 def asserted(pairs):
     return "\n".join(f'_Static_assert(({name}) == ({number}), "{name}");' for name, number in pairs)
+
+
+def compare_free(said):
+    """The answer of the header alone, about a null pointer, has a number that no answer of the library has."""
+    own = said["GTHOST_NULL_POINTER"]
+    taken = [name for name in ("NO_DOMAIN", "BUSY", "NO_MEMORY", "NO_COPY", "ABSENT") if said[f"GTHOST_{name}"] == own]
+    if taken or int(own) <= 26:
+        raise SystemExit(f"header: the number of GTHOST_NULL_POINTER has another meaning: {own} {' '.join(taken)}")
 
 
 def compare_versions(header, text):
@@ -272,6 +282,7 @@ def main():
     compare_inline(header, in_front)
     compare_names("structs", set(re.findall(r"^struct (\w+) \{", header, re.M)), set(STRUCTS.values()))
     compare_names("numbers", set(re.findall(r"\b(GTHOST_\w+) =", header)), set(said) | ZEROS | set(OF_XEN))
+    compare_free(said)
     compare_versions(header, text)
     compare_rules(text)
     compare_order(header, made)

@@ -38,7 +38,7 @@ WALKS = [
             ("Script", "gt_script::script::Script::add_step"),
             ("Request", "gt_script_runs::requests::request_of"),
             ("OpenRequest", "gt_calls::asking::judge_request"),
-            ("CallStart", "gt_calls::call::Call::begin"),
+            ("Judged", "gt_calls::call::Call::begin"),
             ("Action", "gt_calls::call::Call::next"),
         ],
         [

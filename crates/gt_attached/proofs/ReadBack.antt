@@ -14,7 +14,7 @@ use Rattle.gt_types.specs.Denial.{rule_number, status_number}
 use Rattle.gt_live.specs.declared.domain.following.Followed.TheVariants as follows
 use Rattle.gt_attached.specs.declared.answer.AttachedOutcome.{AttachedOutcome}
 use Rattle.gt_attached.specs.declared.answer.AttachedOutcome.TheVariants.{Done, Mapped, Frames, Version, Size, Denied}
-use Rattle.gt_attached.specs.declared.answer.AttachedOutcome.TheVariants.{NoDomain, Busy, NoMemory, NoCopy, Absent, NullPointer}
+use Rattle.gt_attached.specs.declared.answer.AttachedOutcome.TheVariants.{NoDomain, Busy, NoMemory, NoCopy, Absent}
 use Rattle.gt_attached.specs.declared.answer.AttachedOutcome.TheVariants.{Left, Taken as TakenRecords, Followed as FollowedBytes}
 use Rattle.gt_attached.specs.Encoding.{encoded, field_number}
 use Rattle.gt_attached.specs.Decoding.{AnswersAreReadBack, decoded, field_named, rule_named, status_named}
@@ -48,7 +48,7 @@ same r s f g e = λ i. Denied (record { rule = r; status = named_status s i; fac
 denied : (r : Rule) (s : Status) (f g : Facts) (x : AttachedOutcome) → f ≡ g
     → (if rule_number r == 256 then NoDomain else if rule_number r == 257 then Busy else
     if rule_number r == 258 then NoMemory else if rule_number r == 259 then NoCopy else
-    if rule_number r == 260 then Absent else if rule_number r == 261 then NullPointer else
+    if rule_number r == 260 then Absent else
     if rule_number r == 0 then x else
     Denied (record { rule = rule_named (rule_number r); status = status_named (status_number s); facts = f }))
     ≡ Denied (record { rule = r; status = s; facts = g })
@@ -101,7 +101,6 @@ read_back Busy = refl
 read_back NoMemory = refl
 read_back NoCopy = refl
 read_back Absent = refl
-read_back NullPointer = refl
 read_back (Left remains) = refl
 read_back (TakenRecords taken) = refl
 read_back (FollowedBytes follows.Same) = refl

@@ -15,7 +15,7 @@ use Rattle.gt_attached.specs.declared.answer.EncodedAnswer.{EncodedAnswer}
 use Rattle.gt_attached.specs.declared.answer.MappingName.{MappingName}
 use Rattle.gt_attached.specs.declared.answer.AttachedOutcome.{AttachedOutcome}
 use Rattle.gt_attached.specs.declared.answer.AttachedOutcome.TheVariants.{Done, Mapped, Frames, Version, Size as SizeOf, Denied}
-use Rattle.gt_attached.specs.declared.answer.AttachedOutcome.TheVariants.{NoDomain, Busy, NoMemory, NoCopy, Absent, NullPointer}
+use Rattle.gt_attached.specs.declared.answer.AttachedOutcome.TheVariants.{NoDomain, Busy, NoMemory, NoCopy, Absent}
 use Rattle.gt_attached.specs.declared.answer.AttachedOutcome.TheVariants.{Left, Taken as TakenRecords, Followed as FollowedBytes}
 use Rattle.gt_attached.specs.Encoding.{encoded}
 
@@ -127,7 +127,6 @@ decoded a =
     if a.rule == 258 then NoMemory else
     if a.rule == 259 then NoCopy else
     if a.rule == 260 then Absent else
-    if a.rule == 261 then NullPointer else
     if a.rule == 0 then decoded_answer a else
     Denied (record { rule = rule_named a.rule; status = status_named a.status; facts = facts_in a })
 

@@ -12,7 +12,7 @@ use Rattle.gt_attached.specs.declared.answer.EncodedAnswer.{EncodedAnswer}
 use Rattle.gt_attached.specs.declared.answer.MappingName.{MappingName}
 use Rattle.gt_attached.specs.declared.answer.AttachedOutcome.{AttachedOutcome}
 use Rattle.gt_attached.specs.declared.answer.AttachedOutcome.TheVariants.{Done, Mapped, Frames, Version, Size as SizeOf, Denied}
-use Rattle.gt_attached.specs.declared.answer.AttachedOutcome.TheVariants.{NoDomain, Busy, NoMemory, NoCopy, Absent, NullPointer}
+use Rattle.gt_attached.specs.declared.answer.AttachedOutcome.TheVariants.{NoDomain, Busy, NoMemory, NoCopy, Absent}
 use Rattle.gt_attached.specs.declared.answer.AttachedOutcome.TheVariants.{Left, Taken as TakenRecords, Followed as FollowedBytes}
 
 -- the number of a field of an entry's bytes
@@ -90,7 +90,6 @@ encoded Busy = bare 257 (pos 0)
 encoded NoMemory = bare 258 (pos 0)
 encoded NoCopy = bare 259 (pos 0)
 encoded Absent = bare 260 (pos 0)
-encoded NullPointer = bare 261 (pos 0)
 encoded (Left remains) = given 9 remains.lost remains.in_use
 encoded (TakenRecords taken) = given 10 taken.records taken.lost
 encoded (FollowedBytes followed) = given 11 (followed_number followed) 0

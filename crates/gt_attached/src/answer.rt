@@ -56,8 +56,6 @@ pub enum AttachedOutcome {
     NoCopy,
     /// There is no such mapping, record or entry.
     Absent,
-    /// A pointer is null. The call was not made.
-    NullPointer,
     /// Ok: the domain has left its run or was reset, and this remains.
     Left(Departure),
     /// Ok: its records were taken.
@@ -71,7 +69,7 @@ pub enum AttachedOutcome {
 #[derive(Clone, Copy)]
 pub struct EncodedAnswer {
     /// 0 if the call is Ok; 1 to 26, the number of the rule, if it is refused; or else one of [`NO_DOMAIN`], [`BUSY`],
-    /// [`NO_MEMORY`], [`NO_COPY`], [`ABSENT`] and [`NULL_POINTER`].
+    /// [`NO_MEMORY`], [`NO_COPY`] and [`ABSENT`]. The header for C adds 261, a null pointer; no answer has it.
     pub rule: u32,
     /// The status of `grant_table.h` (`GNTST_*`): 0 or negative.
     pub status: i32,
@@ -114,9 +112,6 @@ pub const NO_COPY: u32 = 259;
 
 /// The `rule` of a question about a mapping, a record or an entry that does not exist.
 pub const ABSENT: u32 = 260;
-
-/// The `rule` of a call that was not made, since a pointer is null.
-pub const NULL_POINTER: u32 = 261;
 
 const DONE: EncodedAnswer = EncodedAnswer {
     rule: 0,
@@ -260,7 +255,6 @@ impl EncodedAnswer {
             AttachedOutcome::NoMemory => by_rule(NO_MEMORY),
             AttachedOutcome::NoCopy => by_rule(NO_COPY),
             AttachedOutcome::Absent => by_rule(ABSENT),
-            AttachedOutcome::NullPointer => by_rule(NULL_POINTER),
             AttachedOutcome::Left(remains) => given(9, remains.lost, remains.in_use),
             AttachedOutcome::Taken(taken) => given(10, taken.records, taken.lost),
             AttachedOutcome::Followed(followed) => given(11, followed_number(followed), 0),

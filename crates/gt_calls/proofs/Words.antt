@@ -61,7 +61,7 @@ pub use Rattle.gt_calls.specs.{declared.leg.LegNext.TheVariants.Refused as LegRe
 pub use Rattle.gt_calls.specs.{declared.leg.LegPhase.TheVariants.Body, declared.leg.LegPhase.TheVariants.Header}
 pub use Rattle.gt_calls.specs.{declared.leg.LegPhase.TheVariants.Look, declared.leg.LegPhase.TheVariants.Pinning}
 pub use Rattle.gt_calls.specs.{declared.leg.LegPhase.TheVariants.Relook, declared.leg.LegPhase.TheVariants.Second}
-pub use Rattle.gt_calls.specs.{declared.call.Call.Call, declared.call.CallStart.TheVariants.Done as StartDone}
+pub use Rattle.gt_calls.specs.{declared.call.Call.Call}
 pub use Rattle.gt_model.specs.Holding.{held_by, last_first, no_pins}
 pub use Rattle.gt_model.specs.Path.{AfterPin, AfterRefusal, Continuation, FitsStep, IsExchanged, IsWord, accesses}
 pub use Rattle.gt_model.specs.Path.{after_beginning, at_first_look, beyond, copies, dest_pair, end_leg, entry_refusal}

@@ -18,8 +18,6 @@ pub use Rattle.gt_calls.specs.declared.call.Phase.TheVariants.{Accessing, Asking
 pub use Rattle.gt_calls.specs.declared.call.Phase.TheVariants.{Looking, Storing, StoringSecond, Walking}
 pub use Rattle.gt_model.specs.declared.action.HeaderQuery.{HeaderQuery}
 pub use Rattle.gt_model.specs.declared.action.HeaderQuery.TheVariants.{Size, Version}
-pub use Rattle.gt_calls.specs.declared.call.CallStart.{CallStart}
-pub use Rattle.gt_calls.specs.declared.call.CallStart.TheVariants.{Done as StartDone, Open}
 pub use Rattle.gt_model.specs.declared.bounds.TheConstants.{MAX_STEPS, SERIAL_LIMIT, MORE_TRIES}
 pub use Rattle.gt_calls.specs.declared.copying.PinPurpose.{PinPurpose}
 pub use Rattle.gt_calls.specs.declared.copying.PinPurpose.TheVariants.{Dest, Mapping, Source}

@@ -12,7 +12,7 @@ use Rattle.gt_core.proofs.Words.{refusal_in, refusal_of, IsRight, IsClean, phase
 use Rattle.gt_core.proofs.Words.{OpenAgrees, CallAgrees, FitsGiven, GivenAgrees, StateStands, StateAgrees}
 use Rattle.gt_core.proofs.Words.{DomainsStand, OpensAs, numbered, misses, ◌^◌, SpellsItsEntry, first_phase, IsAt}
 use Rattle.gt_core.proofs.Words.{pins_by_call, steps_to_come, asks_memory, WantsMemory, IsOpenCall, answer_of}
-use Rattle.gt_core.proofs.Words.{cond_both, StartOpen}
+use Rattle.gt_core.proofs.Words.{cond_both}
 use Rattle.gt_core.{specs.Standing.IsMapping, proofs.AgreementKept.KeepsEntries, proofs.AgreementKept.known-same}
 use Rattle.gt_core.{proofs.AgreementKept.open_call-own, proofs.AgreementKept.stood-own}
 use Rattle.gt_core.{proofs.AgreementKept.given-none, proofs.AgreementKept.quiet-stands, proofs.Rows.has_id}
@@ -233,10 +233,10 @@ pub serial-left : (k : CallerKnowledge) (d : DomId) (request : Request) (r : Ope
 serial-left k d request r same none m = grind arith
 
 -- a call that starts and makes its first step is open
-pub opened : (k : CallerKnowledge) (dom : DomId) (request : Request) (first new : Call) (action : Action) (step : Step) → Starts k dom request (StartOpen first) → Goes k first Nothing new action → action ≡ Makes step → new.caller ≡ first.caller → new.request ≡ first.request
+pub opened : (k : CallerKnowledge) (dom : DomId) (request : Request) (first new : Call) (action : Action) (step : Step) → Starts k dom request (judgeds.Open first) → Goes k first Nothing new action → action ≡ Makes step → new.caller ≡ first.caller → new.request ≡ first.request
     → IsOpenCall k dom request (record { call = new; step = step })
 opened k dom request first new action step starts goes is by asked_as = grind arith
 
 -- it makes a step
-pub not-done : (k : CallerKnowledge) (dom : DomId) (request : Request) (first new : Call) (action : Action) (v : CallResult) → Starts k dom request (StartOpen first) → Goes k first Nothing new action → action ≡ Done v → ⊥
+pub not-done : (k : CallerKnowledge) (dom : DomId) (request : Request) (first new : Call) (action : Action) (v : CallResult) → Starts k dom request (judgeds.Open first) → Goes k first Nothing new action → action ≡ Done v → ⊥
 not-done k dom request first new action v starts goes is = grind arith

@@ -19,7 +19,7 @@ use Rattle.gt_frames.specs.declared.places.FrameCount.{FrameCount}
 use Rattle.gt_model.specs.Asking.{FitsAsked}
 use Rattle.gt_calls.specs.Asking.{judged_as}
 use Rattle.gt_calls.proofs.Advancing.{continues, opens as starts-open}
-use Rattle.gt_calls.specs.declared.call.CallStart.TheVariants.{Open as StartOpen}
+use Rattle.gt_calls.specs.declared.asking.Judged.TheVariants as judgeds
 use Rattle.gt_core.specs.GoingOn.{AccessAnsweredSo, AnsweredSo, CallsCanBegin, IsAccess, IsOnWords, CanBeReached}
 use Rattle.gt_core.specs.GoingOn.{OpenCallsCanAccess, OpenCallsCanGoOn, RunsStart, begin_answer, beginning}
 use Rattle.gt_core.specs.GoingOn.{step_after}
@@ -85,11 +85,11 @@ opens-so : (k : CallerKnowledge) (d : DomId) (request : Request) → begun_of k 
 opens-so k d request none said = let first = unstarted d request in
     let p : Phase = standing_after k d (asked request) None Nothing in
     let new : Call = record { caller = d; request = asked request; phase = Some p } in
-    let start : Starts k d request (StartOpen first) = starts-open k d request (asked request) (λ e. said) (sym (ap (judged_as (asked request)) none)) in
+    let start : Starts k d request (judgeds.Open first) = starts-open k d request (asked request) (λ e. said) (sym (ap (judged_as (asked request)) none)) in
     let goes : Goes k first Nothing new (action_at d p) = continues k d (asked request) None Nothing (Some p) (action_at d p) refl refl in
     by new (action_at d p) start goes refl refl refl
   where
-    by : (new : Call) (action : Action) → Starts k d request (StartOpen (unstarted d request)) → Goes k (unstarted d request) Nothing new action → new.caller ≡ (unstarted d request).caller → new.request ≡ (unstarted d request).request
+    by : (new : Call) (action : Action) → Starts k d request (judgeds.Open (unstarted d request)) → Goes k (unstarted d request) Nothing new action → new.caller ≡ (unstarted d request).caller → new.request ≡ (unstarted d request).request
         → action ≡ action → (o : OpenCall) × IsOpenCall k d request o
     by new (Makes step) start goes caller asks e = (record { call = new; step = step }, opened k d request (unstarted d request) new (Makes step) step start goes refl caller asks)
     by new (Done v) start goes caller asks e = absurd (not-done k d request (unstarted d request) new (Done v) v start goes refl)

@@ -31,7 +31,6 @@ pub mod GoingOn
 pub mod WithoutKeys
 pub mod Pins
 pub mod AlikeRuns
-
 -- of this crate alone
 mod Aims
 mod CallsOver

@@ -111,8 +111,8 @@ pub use Rattle.gt_calls.specs.{declared.leg.LegPhase.TheVariants.Body}
 pub use Rattle.gt_calls.specs.{declared.leg.LegPhase.TheVariants.Header as AtHeader}
 pub use Rattle.gt_calls.specs.{declared.leg.LegPhase.TheVariants.Look, declared.leg.LegPhase.TheVariants.Pinning}
 pub use Rattle.gt_calls.specs.{declared.leg.LegPhase.TheVariants.Relook, declared.leg.LegPhase.TheVariants.Second}
-pub use Rattle.gt_calls.specs.{declared.call.CallStart.TheVariants.Open as StartOpen}
-pub use Rattle.gt_calls.specs.{declared.call.CallStart.CallStart}
+pub use Rattle.gt_calls.specs.declared.asking.Judged.TheVariants as judgeds
+pub use Rattle.gt_calls.specs.declared.asking.Judged.{Judged}
 pub use Rattle.gt_model.specs.Holding.{held_by, last_first, no_pins, owner_by, without_last, GivesHeld}
 pub use Rattle.gt_model.specs.Rules.{IsAllowed, CallerKnowledge, before_pin, begun, control_with, copy_denied, denied}
 pub use Rattle.gt_model.specs.Rules.{first, first_look, frame_count_of, is_kind, is_outside_sub, is_past_owner}

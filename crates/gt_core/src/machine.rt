@@ -32,8 +32,8 @@ use crate::sight::see;
 use crate::state::{DomainState, find};
 use crate::underway::OpenCall;
 use gt_calls::{
-    Action, Call, CallResult, CallStart, CallValue, CallerState, Judged, Observation, Request,
-    Step, asked_fits,
+    Action, Call, CallResult, CallValue, CallerState, Judged, Observation, Request, Step,
+    asked_fits,
 };
 use gt_frames::{FrameName, Frames};
 use gt_model::{Answer, Bytes};
@@ -50,8 +50,8 @@ fn open_call<P: Allows>(
     ensures { OpensAs (knows P.may known.now) dom request.entry result }
 {
     match Call::begin(dom, request, known) {
-        CallStart::Done(verdict) => Judged::Answered(verdict),
-        CallStart::Open(first) => {
+        Judged::Answered(verdict) => Judged::Answered(verdict),
+        Judged::Open(first) => {
             let mut call = first;
             match call.next(known, Observation::Nothing) {
                 Action::Step(step) => Judged::Open(OpenCall { call, step }),

@@ -5,7 +5,7 @@ ghost use Rattle.gt_model.specs.Rules.{CallerKnowledge};
 ghost use Rattle.gt_calls.specs.Known.{knows};
 ghost use Rattle.gt_explore_moves.specs.Beginnings.{BeginsAlike, OpensSo};
 
-use gt_calls::{Action, Call, CallResult, CallStart, CallerState, Observation, Request, Step};
+use gt_calls::{Action, Call, CallResult, CallerState, Judged, Observation, Request, Step};
 use gt_types::{Allows, DomId};
 
 /// The start of a call: open, with its first step, or over.
@@ -26,8 +26,8 @@ pub fn open_call<P: Allows>(
         OpensSo k dom request.entry result }
 {
     match Call::begin(dom, request, known) {
-        CallStart::Done(verdict) => CallOpening::Done(verdict),
-        CallStart::Open(first) => {
+        Judged::Answered(verdict) => CallOpening::Done(verdict),
+        Judged::Open(first) => {
             let mut call = first;
             match call.next(known, Observation::Nothing) {
                 Action::Step(step) => CallOpening::Open(call, step),

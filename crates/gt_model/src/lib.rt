@@ -27,7 +27,7 @@ mod spelling;
 mod trace;
 
 pub use action::{Action, CallResult, CallValue, HeaderQuery, Observation, Step};
-pub use bounds::{MAX_STEPS, MORE_TRIES, SERIAL_LIMIT};
+pub use bounds::{MAX_STEPS, MORE_TRIES, SERIAL_LIMIT, the_limits_of_calls};
 pub use change::{BodyWord, EntryChange};
 pub use control::{Control, EntryKind, pin_unit, status_word};
 pub use entry::Entry;

@@ -1,6 +1,6 @@
 //! A call driven by a script of what its steps see.
 use gt_calls::{
-    Action, BodyWord, Call, CallResult, CallStart, CallerState, Handles, HeldPin, Observation,
+    Action, BodyWord, Call, CallResult, CallerState, Handles, HeldPin, Judged, Observation,
     OwnerEntry, PinHolder, Request, Step,
 };
 use gt_entry::{Entry, Header};
@@ -292,8 +292,8 @@ pub fn goes(
     script: &Script,
 ) -> bool {
     let mut call = match Call::begin(caller, request, known) {
-        CallStart::Open(call) => call,
-        CallStart::Done(verdict) => {
+        Judged::Open(call) => call,
+        Judged::Answered(verdict) => {
             return script.lines.len() == 1 && is_same(script.lines[0].1, Action::Done(verdict));
         }
     };
