@@ -58,7 +58,7 @@
 #include "gthost_types.h"
 
 /* The version of this header: 65,536 times the major number, plus 256 times the minor one, plus the patch number. */
-#define GTHOST_VERSION 0x010000
+#define GTHOST_VERSION 0x020000
 
 #ifdef __cplusplus
 extern "C" {

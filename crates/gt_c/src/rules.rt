@@ -11,7 +11,7 @@ pub struct RuleText {
 }
 
 /// The version of the library: 65,536 times the major number, plus 256 times the minor one, plus the patch number.
-const VERSION: u32 = 0x0001_0000;
+const VERSION: u32 = 0x0002_0000;
 
 // The lines of the rules, by number; 0 is Ok.
 const LINES: [&str; 27] = [

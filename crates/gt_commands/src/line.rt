@@ -10,7 +10,7 @@ use crate::invocation::{MODES, Mode};
 use clap::{Arg, ArgAction, Command};
 use std::alloc::{AllocError, Global};
 
-const VERSION: &str = "1.0.0
+const VERSION: &str = "2.0.0
 for rattle-kit-13f logic dac8208d650f15bf
 What a script may say:
   domains of a run          1 to 64
