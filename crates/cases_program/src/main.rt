@@ -145,7 +145,7 @@ fn words_of(alloc: Global, line: &str) -> Result<Vec<String>, AllocError> {
     Ok(words)
 }
 
-// Does what words ask for that were read, with these texts, this style and this output.
+// Runs a parsed command line on these files, with this style and this output.
 fn try_words<R: Print + AllocGlobal + Threads + Wait + Sync, T: TextSource, W: Write>(
     rt: &R,
     texts: &T,

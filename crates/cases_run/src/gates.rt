@@ -33,13 +33,13 @@ fn bit(flag: usize) -> u64 {
 // The domains that a gate lets through.
 #[derive(Clone, Copy)]
 enum Way {
-    /// None, and it returns false at once.
+    /// Lets nobody through, and returns false at once.
     Closed,
-    /// None, after all turns.
+    /// Lets nobody through, and returns false after all turns.
     Deaf,
-    /// Each that comes, whatever flag it waits for, once this number of callers are there.
+    /// Lets all callers through, whatever flag they wait for, once this number of them wait.
     Meeting(u64),
-    /// Each whose flag is raised.
+    /// Lets each caller through whose flag is raised.
     Flags,
 }
 

@@ -33,9 +33,8 @@ rule_lines =
     ++ codes "have unmapped") ∷
     (codes "N18 -12 GNTST_eagain: the entry changed during all four tries of a pin, demotion, promotion or "
     ++ codes "withdrawal; try again") ∷
-    (codes "N19 -1 GNTST_general_error: the entry to be revoked or granted has live pins, or the one to be "
-    ++ codes "demoted live write pins; try again after the other domains have unmapped; an entry to be "
-    ++ codes "revoked or demoted can be withdrawn now") ∷
+    (codes "N19 -1 GNTST_general_error: the entry is in use: it has live pins (for a demotion: live write pins); try "
+    ++ codes "again after the other domains have unmapped; an entry to be revoked or demoted can be withdrawn now") ∷
     codes "N20 -1 GNTST_general_error: the entry is valid already; revoke it first, or use another reference" ∷
     (codes "N21 -1 GNTST_general_error: the entry given is invalid, or needs a table of version 2; set version "
     ++ codes "2, or grant a whole page") ∷

@@ -7,7 +7,7 @@ ghost use Rattle.gt_commands.specs.Commands.{one_sought, sought_by};
 use crate::invocation::{Exploration, Format, Invocation, SearchOptions};
 use crate::values::{ExploreForm, formed, sought_of};
 
-// Plans what is asked for about the texts, or the question whether a given text is one of them, but not both.
+// Plans a question about all texts, or the test whether a given text is one of them. None if both are asked for.
 fn explore_for<'a>(
     sought: Option<Exploration<'a>>,
     given: Option<&'a str>,

@@ -182,8 +182,8 @@ impl<P: Allows> Machine<P> {
         Ok(seen)
     }
 
-    // Returns the call after what its last step saw, and its next action. What its domain knew before that step
-    // gives the same.
+    // Returns the call after what its last step saw, and its next action. What its domain knew before that step would
+    // lead to the same phase.
     fn advance(&self, at: usize, last: OpenCall, seen: Observation) -> (Call, Action)
         requires { at < length self.now.domains.items }
         ensures caller { result.0.caller ≡ last.call.caller }

@@ -89,8 +89,7 @@ fn distinct(
 }
 
 /// Returns texts that a script may give: all of them if the search meets at most `limit` states, and otherwise those
-/// that it found until then. That these are all presumes that the script's flags are numbered, as those of each parsed
-/// script are.
+/// that it found until then. They are complete only if the script's flags are numbered, as parsing numbers them.
 ///
 /// # Errors
 /// `Astray` if the search found an order that the core does not follow to its text, or a run that returned to a state;

@@ -68,8 +68,7 @@ impl<P: Drop> StateIndex<P> {
         Err(SearchFault::States)
     }
 
-    /// Returns the state with this number, which is the one at hand or joined from copies of its parts. Then none is at
-    /// hand.
+    /// Takes the cached state if it has this number, and otherwise rebuilds it from its parts. Empties the cache.
     ///
     /// # Errors
     /// `Memory`, or `States` if the number has no state.

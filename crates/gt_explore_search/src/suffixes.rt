@@ -154,7 +154,7 @@ impl AnswerLists {
         Ok(number)
     }
 
-    /// Returns the number of this list without the answer in front, if it has that one there. It overwrites `scratch`.
+    /// Returns the number of the list's tail if the list starts with this answer. It overwrites `scratch`.
     pub fn shorter(
         &self,
         list: u32,

@@ -109,7 +109,7 @@ static RULES: [RuleRow; 26] = [
     ),
     (
         Rule::N19,
-        "the entry to be revoked or granted has live pins, or the one to be demoted live write pins",
+        "the entry is in use: it has live pins (for a demotion: live write pins)",
         "try again after the other domains have unmapped; an entry to be revoked or demoted can be withdrawn now",
     ),
     (

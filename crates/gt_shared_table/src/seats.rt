@@ -57,8 +57,8 @@ impl SharedTable {
         self.table.shared.join_seat::<TakeIn>(&mut all.seat, seat);
     }
 
-    /// Loads one word with all gathered seats. By its contract, words and views show one state with the views of all of
-    /// them. It adds to no view.
+    /// Loads one word with all gathered seats. Afterwards a proof may use the views of all of them at one moment. No
+    /// view grows.
     pub fn learn_of_all(&self, all: &mut Gathered)
         requires { all.old.table ≡ self.now.table }
         ensures same { all.new ≡ all.old }
