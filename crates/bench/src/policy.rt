@@ -6,7 +6,8 @@
 //! and the statements are walked for each triple of a type on itself).
 use crate::line::{number_at, word_at};
 use crate::stops::Stop;
-use gt_policy::{AllowTable, Policy};
+use gt_allow::AllowTable;
+use gt_policy::Policy;
 use gt_types::{Allows, Perms, TypeId};
 use std::alloc::{AllocError, Global};
 

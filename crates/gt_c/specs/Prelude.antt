@@ -1,5 +1,5 @@
 -- Names from other crates, and from the code, that these definitions use.
-pub use Rattle.gt_policy.specs.Looking.{Table}
+pub use Rattle.gt_allow.specs.Looking.{Table}
 pub use Rattle.gt_start.specs.Beginning.{Begins, IsFaultOf, may}
 pub use Rattle.gt_start.specs.Faults.{no_fault, wrong_handles}
 pub use Rattle.gt_start.specs.declared.faults.EncodedFault.{EncodedFault}

@@ -8,8 +8,8 @@ ghost use Rattle.gt_c.specs.Starting.{StartsWith, ReportsType, domain_of_handle,
 use crate::handle::DomainHandle;
 use crate::here::CDomain;
 use crate::lending::here_mut;
+use gt_allow::AllowTable;
 use gt_attached::{AttachedDomain, AttachedOutcome, EncodedAnswer};
-use gt_policy::AllowTable;
 use gt_start::{DomainSettings, EncodedFault, HANDLES, MEMORY, NONE, begin, type_of};
 use std::alloc::{AllocError, Global};
 

@@ -1,7 +1,7 @@
 //! What a handle holds: a domain, and the number of its run.
 
+use gt_allow::AllowTable;
 use gt_attached::AttachedDomain;
-use gt_policy::AllowTable;
 
 /// A domain with the rights of a compiled policy, and the number of its run.
 #[derive(Drop)]

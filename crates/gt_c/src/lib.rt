@@ -9,8 +9,8 @@
 //! valid, a handle is zeros or what `gthost_start` wrote, and it is in one call at a time. No export takes a null
 //! pointer: the inline functions of the header test for it.
 //!
-//! It uses `gt_attached`, `gt_start` and `gt_policy` (rights), `gt_audit` (records), `gt_calls`, `gt_entry`,
-//! `gt_handles`, `gt_live` and `gt_types`.
+//! It uses `gt_attached`, `gt_start`, `gt_allow` and `gt_policy` (rights), `gt_audit` (records), `gt_calls`,
+//! `gt_entry`, `gt_handles`, `gt_live` and `gt_types`.
 #![tactic(auto)]
 
 mod beginning;

@@ -26,7 +26,7 @@ use Rattle.gt_policy.specs.Names.{Names, symbol_of}
 use Rattle.gt_policy.specs.Resolving.{known, type_in, attribute_in, element_of, elements_of, given_by, with_statement}
 use Rattle.gt_policy.specs.Resolving.{resolved_draft, granted, nothing_given}
 use Rattle.gt_policy.specs.Allowing.{was_given, stands_for, is_with, holds_type, names_itself, is_granted_by}
-use Rattle.gt_policy.specs.Allowing.{some_grants, AreWithin}
+use Rattle.gt_policy.specs.Kept.{some_grants, AreWithin}
 use Rattle.gt_policy.proofs.TextLemmas.{bind_ok}
 use Rattle.gt_policy.proofs.GrantingLemmas.{known_ok, type_ok, type_place, give_rules, allow_read, rule_of}
 use Rattle.gt_policy.proofs.SpellingLemmas.{ok_of, ok_part}

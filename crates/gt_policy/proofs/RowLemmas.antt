@@ -12,7 +12,8 @@ use Rattle.gt_types.specs.Names.{is_permission, every_permission}
 use Rattle.gt_policy.specs.declared.rules.AllowRule.{AllowRule}
 use Rattle.gt_policy.specs.declared.types.TypeSet.{TypeSet}
 use Rattle.gt_policy.specs.TypeSets.{holds}
-use Rattle.gt_policy.specs.Allowing.{lists_perm, grants, some_grants}
+use Rattle.gt_policy.specs.Allowing.{lists_perm}
+use Rattle.gt_policy.specs.Kept.{grants, some_grants}
 use Rattle.gt_policy.specs.Resolving.{union}
 use Rattle.gt_policy.specs.Rows.{Lane, lanes_reach, is_reached}
 use Rattle.gt_policy.proofs.PermLemmas.{bit, lists_union}

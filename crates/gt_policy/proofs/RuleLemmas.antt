@@ -17,7 +17,8 @@ use Rattle.std.proofs.Math.Path.{fun_ext}
 use Rattle.gt_policy.specs.TypeSets.{has_bit, holds}
 use Rattle.gt_policy.specs.Members.{no_types}
 use Rattle.gt_policy.specs.declared.rules.AllowRule.{AllowRule}
-use Rattle.gt_policy.specs.Allowing.{was_given, is_granted_by, grants, some_grants}
+use Rattle.gt_policy.specs.Allowing.{was_given, is_granted_by}
+use Rattle.gt_policy.specs.Kept.{grants, some_grants}
 use Rattle.gt_policy.proofs.BoolLemmas.{or_no, or_false}
 
 -- nothing is in the set with no type

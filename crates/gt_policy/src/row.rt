@@ -2,7 +2,8 @@
 ghost use Rattle.std.specs.Prelude.{◌≡◌, ℕ, ◌==◌, ◌||◌, ◌&&◌, Bool, false};
 ghost use Rattle.gt_types.specs.Names.{is_permission};
 ghost use Rattle.gt_types.specs.declared.perms.Perms.{Perms};
-ghost use Rattle.gt_policy.specs.Allowing.{grants, lists_perm};
+ghost use Rattle.gt_policy.specs.Kept.{grants};
+ghost use Rattle.gt_policy.specs.Allowing.{lists_perm};
 ghost use Rattle.gt_policy.specs.Rows.{lanes_reach};
 ghost use Rattle.gt_policy.specs.TypeSets.{holds};
 

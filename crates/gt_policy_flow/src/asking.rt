@@ -3,7 +3,7 @@ ghost use Rattle.std.specs.Prelude.{◌≡◌, ◌==◌, ◌&&◌, ◌++◌, [],
 ghost use Rattle.std.specs.List.{list_any, slice_split};
 ghost use Rattle.std.specs.Option.{option_map};
 ghost use Rattle.std.specs.Str.{bytes_eq};
-ghost use Rattle.gt_policy.specs.Allowing.{may_of};
+ghost use Rattle.gt_policy.specs.Kept.{may_of};
 ghost use Rattle.gt_policy.specs.Shown.{fault_shown, out_of_memory};
 ghost use Rattle.gt_policy.specs.Whole.{ReadsAs};
 ghost use Rattle.gt_policy.specs.declared.fault.TokenFault.{TokenFault};
@@ -13,9 +13,8 @@ ghost use Rattle.gt_policy_flow.specs.Flows.{AreAmong, is_among};
 
 use crate::pairs::{PairForm, push_sources};
 use crate::steps::ReadPolicy;
-use gt_policy::{
-    AllowTable, LinedStatement, Policy, PolicyFault, PolicyFaultKind, TextPiece, statements_of,
-};
+use gt_allow::AllowTable;
+use gt_policy::{LinedStatement, Policy, PolicyFault, PolicyFaultKind, TextPiece, statements_of};
 use gt_policy_check::{Member, members_of};
 use gt_types::{Allows, TypeId};
 use std::alloc::{AllocError, Global};

@@ -6,7 +6,8 @@ use Rattle.std.specs.Str.{IsUtf8}
 use Rattle.gt_text.specs.Laws.{take_whole}
 use Rattle.gt_types.specs.declared.TypeId.{TypeId}
 use Rattle.gt_types.specs.declared.perms.Perms.{Perms}
-use Rattle.gt_policy.specs.Allowing.{Meaning, KeptPolicy, Allowed, PolicyShows, may_of}
+use Rattle.gt_policy.specs.Allowing.{Meaning, Allowed}
+use Rattle.gt_policy.specs.Kept.{KeptPolicy, PolicyShows, may_of}
 use Rattle.gt_policy.specs.Grammar.{at}
 use Rattle.gt_policy.specs.Listing.{AreByName}
 use Rattle.gt_policy.specs.Shown.{fault_shown}

@@ -2,7 +2,8 @@
 use Rattle.std.specs.Prelude.{◌≡◌, ◌⊎◌, ℕ, List, Option, Some, Result, Ok, Err}
 use Rattle.std.specs.Io.KnownBytes.{Appends, Keeps}
 use Rattle.gt_types.specs.declared.TypeId.{TypeId}
-use Rattle.gt_policy.specs.Allowing.{Meaning, KeptPolicy, may_of, is_allowed}
+use Rattle.gt_policy.specs.Allowing.{Meaning, is_allowed}
+use Rattle.gt_policy.specs.Kept.{KeptPolicy, may_of}
 use Rattle.gt_policy.specs.Listing.{AreByName}
 use Rattle.gt_policy.specs.Shown.{fault_shown}
 use Rattle.gt_policy.specs.Whole.{ReadsAs}

@@ -7,7 +7,8 @@
 //! permission, and that it is whole if `policy` returns Ok. For a text with a fault nothing is written, and the error
 //! is the first fault of the text. After a failed write or allocation, a prefix of those lines has gone out.
 //!
-//! It uses `gt_policy` (what a text allows), `gt_types` (types and permissions) and `gt_text` (reads and writes).
+//! It uses `gt_policy` and `gt_allow` (what a text allows), `gt_types` (types and permissions) and `gt_text` (reads and
+//! writes).
 #![tactic(auto)]
 
 mod fault;

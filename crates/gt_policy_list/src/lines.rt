@@ -1,11 +1,12 @@
 //! The lines of triples.
 ghost use Rattle.std.specs.Prelude.{◌≡◌, ◌++◌, OnOk};
 ghost use Rattle.gt_policy.specs.Listing.{type_name_of};
-ghost use Rattle.gt_policy.specs.Looking.{looks_up};
+ghost use Rattle.gt_allow.specs.Looking.{looks_up};
 ghost use Rattle.gt_policy_list.specs.Listing.{triple_line};
 ghost use Rattle.gt_policy_list.specs.Lines.{triple_text, pair_text};
 
-use gt_policy::{AllowTable, Policy};
+use gt_allow::AllowTable;
+use gt_policy::Policy;
 use gt_text::push_text;
 use gt_types::{Allows, Perms, Triple, TypeId};
 use std::alloc::AllocError;

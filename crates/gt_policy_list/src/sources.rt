@@ -1,7 +1,7 @@
 //! The lines of all triples, source by source.
 ghost use Rattle.std.specs.Prelude.{◌≡◌, ◌++◌, ◌⊎◌, ◌<◌, length, OnOk, OnErr, IfErr};
 ghost use Rattle.std.specs.Io.KnownBytes.{Appends};
-ghost use Rattle.gt_policy.specs.Looking.{looks_up};
+ghost use Rattle.gt_allow.specs.Looking.{looks_up};
 ghost use Rattle.gt_policy_list.specs.Lines.{source_text};
 ghost use Rattle.gt_policy_list.specs.Listing.{listing};
 ghost use Rattle.gt_text.specs.Streams.{AppendsBeginning, Sends};
@@ -10,7 +10,8 @@ ghost use Rattle.gt_policy_list.specs.declared.fault.ListingFault.TheVariants as
 
 use crate::fault::ListingFault;
 use crate::lines::push_pair;
-use gt_policy::{AllowTable, Policy};
+use gt_allow::AllowTable;
+use gt_policy::Policy;
 use gt_text::{CHUNK, finish, send};
 use gt_types::TypeId;
 use std::alloc::Global;

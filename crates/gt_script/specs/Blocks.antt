@@ -3,7 +3,8 @@ use Rattle.std.specs.Prelude.{◌≡◌, ◌+◌, ℕ, suc, Bool, false, List, [
 use Rattle.std.specs.Prelude.{Ok, Err, codes, flat_map, if◌then◌else◌, ◌==◌}
 use Rattle.std.specs.Option.{option_map}
 use Rattle.std.specs.Str.{bytes_eq}
-use Rattle.gt_policy.specs.Allowing.{Meaning, KeptPolicy, Allowed, allowed_of, allowed_by}
+use Rattle.gt_policy.specs.Allowing.{Meaning, Allowed, allowed_by}
+use Rattle.gt_policy.specs.Kept.{KeptPolicy, allowed_of}
 use Rattle.gt_policy.specs.Shown.{kind_shown}
 use Rattle.gt_policy.specs.Whole.{ReadsAs}
 use Rattle.gt_policy.specs.declared.fault.TokenFault as policy

@@ -3,7 +3,8 @@ use Rattle.std.specs.Prelude.{ℕ, List, [], Option, Some, None}
 use Rattle.std.specs.Option.{unwrap_or, option_map}
 use Rattle.gt_types.specs.declared.rights.Triple.{Triple}
 use Rattle.gt_types.specs.declared.config.DomainConfig.{DomainConfig}
-use Rattle.gt_policy.specs.Allowing.{KeptPolicy, Allowed, allowed_of}
+use Rattle.gt_policy.specs.Kept.{KeptPolicy, allowed_of}
+use Rattle.gt_policy.specs.Allowing.{Allowed}
 use Rattle.gt_script.specs.declared.command.ScriptCommand.{ScriptCommand}
 use Rattle.gt_script.specs.Lists.{NamedRunTask}
 use Rattle.gt_script.specs.declared.script.ScriptStep.{ScriptStep}

@@ -117,7 +117,7 @@ impl<'a> Script<'a> {
     ghost use Rattle.std.specs.Prelude.{◌≡◌, map, ◌<◌, ◌≤◌, ◌+◌, ◌-◌, ◌^◌, length};
     ghost use Rattle.gt_script_lines.specs.Words.{words as words_in};
     ghost use Rattle.std.specs.Option.{option_map};
-    ghost use Rattle.gt_policy.specs.Allowing.{allowed_of};
+    ghost use Rattle.gt_policy.specs.Kept.{allowed_of};
     ghost use Rattle.gt_script.specs.Contents.{contents_of, empty, with_policy, without_orders, type_names};
     ghost use Rattle.gt_script.specs.Contents.{first_gen};
     ghost use Rattle.gt_script.specs.Script.{with_triple, GivesTypeNumber, with_domain, with_domain_line, with_order};

@@ -7,8 +7,8 @@
 //! The definitions of a run of a script and of its text are here (specs/Runs.antt, specs/Playing.antt), since the
 //! contracts of these three are about them. [`PlayFault`] is the fault that ends a play.
 //!
-//! It uses `gt_script` and `gt_script_lines` (scripts), `gt_core` (calls), `gt_policy` (what a policy allows),
-//! `gt_text` (texts), `gt_types` and `hex`. Its definitions also name `gt_audit`, `gt_calls`, `gt_entry` and
+//! It uses `gt_script` and `gt_script_lines` (scripts), `gt_core` (calls), `gt_allow` and `gt_policy` (what a policy
+//! allows), `gt_text` (texts), `gt_types` and `hex`. Its definitions also name `gt_audit`, `gt_calls`, `gt_entry` and
 //! `gt_handles`.
 #![tactic(auto)]
 

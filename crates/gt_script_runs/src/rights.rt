@@ -1,7 +1,7 @@
 //! The rights of a run: the compiled policy of the script, or its triples.
 ghost use Rattle.std.specs.Prelude.{◌≡◌, IfOk};
 
-use gt_policy::AllowTable;
+use gt_allow::AllowTable;
 use gt_script::Script;
 use gt_types::{Allows, Memory, Perms, Triples, TypeId};
 use std::alloc::Global;

@@ -6,7 +6,8 @@ use Rattle.gt_types.specs.declared.config.Config.{Config}
 use Rattle.gt_types.specs.declared.config.StartFault.{StartFault}
 use Rattle.gt_types.specs.declared.config.StartFault.TheVariants as starts
 use Rattle.gt_roster.specs.Frameless.{IsFramelessFault}
-use Rattle.gt_policy.specs.Allowing.{Allowed, KeptPolicy, Meaning, PolicyShows}
+use Rattle.gt_policy.specs.Allowing.{Allowed, Meaning}
+use Rattle.gt_policy.specs.Kept.{KeptPolicy, PolicyShows}
 use Rattle.gt_policy.specs.Whole.{ReadsAs}
 use Rattle.gt_policy.specs.declared.fault.TokenFault.{TokenFault}
 use Rattle.gt_start.specs.Beginning.{AreLabelled, AreTypes, IsFaultOf, IsLabelFault, IsPolicy, IsSetBy, IsTextFault}

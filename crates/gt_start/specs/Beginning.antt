@@ -11,7 +11,7 @@ use Rattle.gt_types.specs.declared.perms.Perms.{Perms}
 use Rattle.gt_policy.specs.Allowing.{Meaning, is_allowed, type_named}
 use Rattle.gt_policy.specs.Whole.{ReadsAs}
 use Rattle.gt_policy.specs.declared.fault.TokenFault.{TokenFault}
-use Rattle.gt_policy.specs.Looking.{Table, looks_up}
+use Rattle.gt_allow.specs.Looking.{Table, looks_up}
 use Rattle.gt_attached.specs.Seated.{Seated}
 use Rattle.gt_attached.specs.Starting.{AreNewGuests}
 use Rattle.gt_start.specs.declared.faults.EncodedFault.{EncodedFault}

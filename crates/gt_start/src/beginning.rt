@@ -1,12 +1,14 @@
 //! The start of a run.
 ghost use Rattle.std.specs.Prelude.{◌≡◌, length, IfOk, IfErr, Some};
-ghost use Rattle.gt_policy.specs.Allowing.{Meaning, PolicyShows, type_named};
+ghost use Rattle.gt_policy.specs.Allowing.{Meaning, type_named};
+ghost use Rattle.gt_policy.specs.Kept.{PolicyShows};
 ghost use Rattle.gt_start.specs.Beginning.{Begins, IsFaultOf, IsNameFault, IsPolicy, IsTextFault};
 
 use crate::faults::{EncodedFault, MEMORY, NO_TYPE, TEXT, config_fault, policy_fault};
 use crate::settings::{DomainSettings, configured, label_past};
+use gt_allow::AllowTable;
 use gt_attached::{AttachedDomain, start};
-use gt_policy::{AllowTable, Policy};
+use gt_policy::Policy;
 use gt_types::TypeId;
 use std::alloc::Global;
 

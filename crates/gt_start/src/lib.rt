@@ -4,7 +4,7 @@
 //! the settings as its configuration and allows exactly what the policy's text allows. If no run starts, the
 //! [`EncodedFault`] gives the reason. [`type_of`] finds the label of a type by its name.
 //!
-//! It uses `gt_attached` (attached domains), `gt_policy` (rights), `gt_roster` and `gt_types`.
+//! It uses `gt_attached` (attached domains), `gt_policy` and `gt_allow` (rights), `gt_roster` and `gt_types`.
 #![tactic(auto)]
 
 mod beginning;

@@ -1,9 +1,9 @@
 //! Whole runs, from their settings to the end of each guest.
+use gt_allow::AllowTable;
 use gt_attached::AttachedDomain;
 use gt_calls::Handle;
 use gt_entry::{Entry, EntryKind};
 use gt_live::Followed;
-use gt_policy::AllowTable;
 use gt_start::{DomainSettings, begin, type_of};
 use gt_types::{DomId, GrantRef, Rule};
 use std::alloc::{AllocError, Global};

@@ -2,7 +2,8 @@
 use crate::compare::same;
 use crate::texts::{GUESTS, TAKEN_OUT};
 use bitflags::Flags;
-use gt_policy::{AllowTable, Policy};
+use gt_allow::AllowTable;
+use gt_policy::Policy;
 use gt_types::{Allows, Perms, Triple, Triples, TypeId};
 use std::alloc::{AllocError, Global};
 

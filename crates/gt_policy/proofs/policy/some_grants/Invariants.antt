@@ -1,5 +1,5 @@
 use Rattle.std.proofs.Common.{◌≡◌, drop}
-use Rattle.gt_policy.specs.Allowing.{some_grants}
+use Rattle.gt_policy.specs.Kept.{some_grants}
 use Rattle.gt_policy.proofs.policy.some_grants.Given as goal
 
 abbrev pub invariant-loop-rule : goal.invariant-loop-rule

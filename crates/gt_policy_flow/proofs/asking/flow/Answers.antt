@@ -1,4 +1,4 @@
-use Rattle.gt_policy.specs.Looking.{looks_up}
+use Rattle.gt_allow.specs.Looking.{looks_up}
 use Rattle.gt_policy_flow.proofs.Meant.{among, flow-of}
 use Rattle.gt_policy_flow.proofs.asking.flow.Goals as goal
 

@@ -2,7 +2,7 @@ use Rattle.std.proofs.Common.{◌≡◌, ◌∙◌, List, ℕ, length, sym, arit
 use Rattle.std.proofs.lemmas.List.{append-nil}
 use Rattle.gt_types.specs.Names.{every_permission}
 use Rattle.gt_types.specs.declared.perms.Perms.{Perms}
-use Rattle.gt_policy.specs.Looking.{looks_up}
+use Rattle.gt_allow.specs.Looking.{looks_up}
 use Rattle.gt_policy_list.specs.Lines.{triple_text}
 use Rattle.gt_text.proofs.PieceLemmas.{grows, all_pieces}
 use Rattle.gt_policy_list.proofs.lines.push_pair.Goals as goal

@@ -1,6 +1,6 @@
 use Rattle.std.proofs.Common.{◌≡◌, ◌++◌, take, flat_map}
 use Rattle.gt_types.specs.Names.{every_permission}
-use Rattle.gt_policy.specs.Looking.{looks_up}
+use Rattle.gt_allow.specs.Looking.{looks_up}
 use Rattle.gt_policy_list.specs.Lines.{triple_text}
 use Rattle.gt_policy_list.proofs.lines.push_pair.Given as goal
 

@@ -1,6 +1,6 @@
 use Rattle.std.proofs.Common.{◌≡◌, ◌<◌, length, refl, arith}
 use Rattle.gt_types.specs.declared.TypeId.{TypeId}
-use Rattle.gt_policy.specs.Looking.{looks_up}
+use Rattle.gt_allow.specs.Looking.{looks_up}
 use Rattle.gt_policy_list.specs.Lines.{pair_text}
 use Rattle.gt_text.specs.Laws.{OnErr-all}
 use Rattle.gt_text.proofs.PieceLemmas.{begins_pieces, has_begun, sends_nothing, sent_all, step_begun, step_sent}

@@ -1,5 +1,5 @@
 use Rattle.std.proofs.Common.{◌≡◌, ◌<◌, [], length, refl, arith}
-use Rattle.gt_policy.specs.Looking.{looks_up}
+use Rattle.gt_allow.specs.Looking.{looks_up}
 use Rattle.gt_policy_list.specs.Lines.{source_text}
 use Rattle.gt_policy_list.proofs.LineLemmas.{begins_listing, finished}
 use Rattle.gt_text.specs.Laws.{OnErr-all}

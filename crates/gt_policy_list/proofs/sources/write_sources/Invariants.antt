@@ -1,5 +1,5 @@
 use Rattle.std.proofs.Common.{◌<◌, length, take, flat_map}
-use Rattle.gt_policy.specs.Looking.{looks_up}
+use Rattle.gt_allow.specs.Looking.{looks_up}
 use Rattle.gt_text.specs.Streams.{Sends}
 use Rattle.gt_policy_list.specs.Lines.{source_text}
 use Rattle.gt_policy_list.proofs.sources.write_sources.Given as goal

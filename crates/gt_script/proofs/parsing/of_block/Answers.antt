@@ -1,5 +1,5 @@
 use Rattle.std.proofs.Common.{sym, ◌∙◌}
-use Rattle.gt_policy.specs.Allowing.{allowed_of}
+use Rattle.gt_policy.specs.Kept.{allowed_of}
 use Rattle.gt_script.specs.Contents.{contents_of}
 use Rattle.gt_script.proofs.FaultLemmas.{block_open, block_rest, block_faulty}
 use Rattle.gt_script.proofs.ScriptLemmas.{texts}

@@ -3,7 +3,7 @@ use Rattle.std.proofs.Math.Path.{fun_ext}
 use Rattle.std.proofs.lemmas.List.{take_all}
 use Rattle.gt_types.specs.Names.{is_permission}
 use Rattle.gt_policy.specs.declared.rules.AllowRule.{AllowRule}
-use Rattle.gt_policy.specs.Allowing.{KeptPolicy, some_grants}
+use Rattle.gt_policy.specs.Kept.{KeptPolicy, some_grants}
 use Rattle.gt_policy.proofs.RowLemmas.{row_more, and_none}
 use Rattle.gt_policy.proofs.policy.Policy.row.Goals as goal
 

@@ -1,7 +1,7 @@
 use Rattle.std.proofs.Common.{◌≡◌, ◌&&◌, ℕ, take}
 use Rattle.gt_types.specs.declared.perms.Perms.{Perms}
 use Rattle.gt_types.specs.Names.{is_permission}
-use Rattle.gt_policy.specs.Allowing.{some_grants}
+use Rattle.gt_policy.specs.Kept.{some_grants}
 use Rattle.gt_policy.specs.Rows.{lanes_reach}
 use Rattle.gt_policy.proofs.policy.Policy.row.Given as goal
 

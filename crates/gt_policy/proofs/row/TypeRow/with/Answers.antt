@@ -3,7 +3,7 @@ use Rattle.gt_types.specs.Names.{is_permission}
 use Rattle.gt_types.specs.Names as names
 use Rattle.gt_types.specs.declared.perms.Perms.{Perms}
 use Rattle.gt_policy.specs.declared.types.TypeSet.{TypeSet}
-use Rattle.gt_policy.specs.Allowing.{grants}
+use Rattle.gt_policy.specs.Kept.{grants}
 use Rattle.gt_policy.specs.TypeSets.{holds}
 use Rattle.gt_policy.specs.Rows.{Lane, lanes_reach, lanes, is_reached}
 use Rattle.gt_policy.proofs.RowLemmas.{grown_row, lane_grown, nothing_grown}

@@ -3,7 +3,8 @@ use Rattle.std.specs.List.{list_any}
 use Rattle.std.proofs.lemmas.List.{take_all}
 use Rattle.gt_policy.specs.declared.resolve.DraftRule.{DraftRule}
 use Rattle.gt_policy.specs.declared.rules.AllowRule.{AllowRule}
-use Rattle.gt_policy.specs.Allowing.{is_granted_by, some_grants}
+use Rattle.gt_policy.specs.Allowing.{is_granted_by}
+use Rattle.gt_policy.specs.Kept.{some_grants}
 use Rattle.gt_policy.specs.Members.{has}
 use Rattle.gt_policy.proofs.RuleLemmas.{rule_more}
 use Rattle.gt_policy.proofs.rules.Members.rules.Goals as goal

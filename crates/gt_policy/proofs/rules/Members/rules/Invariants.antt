@@ -1,7 +1,8 @@
 use Rattle.std.proofs.Common.{◌≡◌, ℕ, take}
 use Rattle.std.specs.List.{list_any}
 use Rattle.gt_types.specs.declared.perms.Perms.{Perms}
-use Rattle.gt_policy.specs.Allowing.{is_granted_by, some_grants}
+use Rattle.gt_policy.specs.Allowing.{is_granted_by}
+use Rattle.gt_policy.specs.Kept.{some_grants}
 use Rattle.gt_policy.specs.Members.{has}
 use Rattle.gt_policy.proofs.rules.Members.rules.Given as goal
 

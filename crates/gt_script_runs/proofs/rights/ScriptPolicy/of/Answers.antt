@@ -1,8 +1,8 @@
 use Rattle.std.proofs.Common.{◌≡◌, ℕ, Bool, Option, option_map, Some, ap, ◌∙◌}
 use Rattle.gt_types.specs.declared.TypeId.{TypeId}
 use Rattle.gt_types.specs.declared.perms.Perms.{Perms}
-use Rattle.gt_policy.specs.Allowing as policies
-use Rattle.gt_policy.specs.Looking.{Table, looks_up}
+use Rattle.gt_policy.specs.Kept as policies
+use Rattle.gt_allow.specs.Looking.{Table, looks_up}
 use Rattle.gt_script.specs.Contents.{KeptContents, contents_of}
 use Rattle.gt_script_runs.specs.declared.rights.ScriptPolicy.TheVariants as rights
 use Rattle.gt_script_runs.specs.Rights.{may_by, may_with, may_in}

@@ -1,11 +1,10 @@
-//! The compiled allow table, which answers with one look.
+//! The sets of a table, and the look.
 ghost use Rattle.std.specs.Prelude.{◌≡◌, ◌++◌, List, OnOk};
 ghost use Rattle.gt_types.specs.declared.perms.Perms.{Perms};
-ghost use Rattle.gt_policy.specs.Looking.{IsRow};
+ghost use Rattle.gt_allow.specs.Looking.{IsRow};
 
-use crate::policy::Policy;
-use crate::row::TypeRow;
 use bitflags::Flags;
+use gt_policy::{Policy, TypeRow};
 use gt_types::{Allows, Memory, Perms, TypeId};
 use std::alloc::{AllocError, Global};
 use std::marker::Model;
@@ -20,7 +19,7 @@ pub struct AllowTable {
 
 impl Model for AllowTable {
     ghost use Rattle.std.specs.Prelude.{◌≡◌, ◌*◌, length};
-    ghost use Rattle.gt_policy.specs.Looking.{Table};
+    ghost use Rattle.gt_allow.specs.Looking.{Table};
 
     ghost Value = { Table };
 
@@ -42,8 +41,8 @@ fn push_row(sets: &mut Vec<Perms>, count: u16, row: &TypeRow) -> Result<(), Allo
 
 impl AllowTable {
     ghost use Rattle.std.specs.Prelude.{◌≡◌, IfOk};
-    ghost use Rattle.gt_policy.specs.Allowing.{may_of};
-    ghost use Rattle.gt_policy.specs.Looking.{looks_up};
+    ghost use Rattle.gt_policy.specs.Kept.{may_of};
+    ghost use Rattle.gt_allow.specs.Looking.{looks_up};
 
     /// Compiles a policy. The table answers every question as the policy does. The statements are walked once per type.
     /// The table has one byte for each pair of types, so at most 65,536 bytes. An Err means that an allocation failed.
@@ -61,7 +60,7 @@ impl AllowTable {
 }
 
 impl Allows for AllowTable {
-    ghost use Rattle.gt_policy.specs.Looking.{looks_up};
+    ghost use Rattle.gt_allow.specs.Looking.{looks_up};
 
     ghost may = { λ table source target perm. looks_up table source.0 target.0 perm };
 

@@ -13,7 +13,7 @@ use Rattle.gt_types.specs.declared.perms.Perms.{Perms}
 use Rattle.gt_types.specs.Names.{is_permission}
 use Rattle.gt_policy.specs.Allowing.{lists_perm}
 use Rattle.gt_policy.specs.Rows.{Lane, lanes_reach}
-use Rattle.gt_policy.specs.Looking.{holds_at, looks_up, IsRow, AreRows}
+use Rattle.gt_allow.specs.Looking.{holds_at, looks_up, IsRow, AreRows}
 use Rattle.gt_policy.specs.Resolving.{no_perms}
 
 abbrev holds_set : Perms → Perms → Bool

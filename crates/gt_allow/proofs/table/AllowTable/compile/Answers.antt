@@ -1,6 +1,6 @@
-use Rattle.gt_policy.specs.Allowing.{may_of}
-use Rattle.gt_policy.proofs.TableLemmas.{rows_more}
-use Rattle.gt_policy.proofs.allow_table.AllowTable.compile.Goals as goal
+use Rattle.gt_policy.specs.Kept.{may_of}
+use Rattle.gt_allow.proofs.TableLemmas.{rows_more}
+use Rattle.gt_allow.proofs.table.AllowTable.compile.Goals as goal
 
 pub sources-preserved : goal.sources-preserved
 sources-preserved c =

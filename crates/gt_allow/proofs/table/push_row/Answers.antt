@@ -1,9 +1,9 @@
 use Rattle.std.proofs.Common.{◌≡◌, ℕ, [], ◌∷◌, ◌++◌, List, refl, sym, ap, subst, ◌∙◌, arith, append_assoc}
 use Rattle.std.proofs.lemmas.List.{append-nil}
 use Rattle.gt_types.specs.declared.perms.Perms.{Perms}
-use Rattle.gt_policy.specs.Looking.{IsRow}
-use Rattle.gt_policy.proofs.TableLemmas.{row_more}
-use Rattle.gt_policy.proofs.allow_table.push_row.Goals as goal
+use Rattle.gt_allow.specs.Looking.{IsRow}
+use Rattle.gt_allow.proofs.TableLemmas.{row_more}
+use Rattle.gt_allow.proofs.table.push_row.Goals as goal
 
 pub targets-init : goal.targets-init
 targets-init c = ([], sym (append-nil _), (refl, λ t perm low. absurd (omega arith)))
