@@ -37,15 +37,15 @@ abbrev pub StaysIdle : {P : Type 0} → Seated P → Seated P → Type 0
 StaysIdle s t = (t.monitor ≡ s.monitor) × (t.copying ≡ None) × IsSameSeat (seat_of s.domain) (seat_of t.domain)
 
 -- the places of a copy at its access
-abbrev pub places_of : PendingCopy → CopyPlaces
-places_of h = record { from = h.from; to = h.to; len = h.len }
+abbrev pub copy_places_of : PendingCopy → CopyPlaces
+copy_places_of h = record { from = h.from; to = h.to; len = h.len }
 
 -- the result of the beginning of a copy. Ok: it reached its access, where the domain now is, and returned its places.
 -- Refused: by its path; the domain keeps its mappings and pins, is in no copy, and recorded the call
 abbrev pub BeginsAccess : {P : Type 0} → (P → AllowRelation) → Seated P → CopyArgs → Result CopyPlaces Denial → Seated P
     → Type 0
 BeginsAccess may s copy (Ok places) t =
-    (h : PendingCopy) × (t.copying ≡ Some h) × (places ≡ places_of h) × (t.monitor ≡ s.monitor)
+    (h : PendingCopy) × (t.copying ≡ Some h) × (places ≡ copy_places_of h) × (t.monitor ≡ s.monitor)
     × ComesHalfway may s.monitor s.domain copy h t.domain
 BeginsAccess may s copy (Err denial) t =
     StaysIdle s t × Answered may s.monitor s.domain (requests.Copy copy) (Refused denial) t.domain
@@ -61,7 +61,8 @@ EndsAccess s t =
 
 -- a domain released its mappings, closed its table and left its run by the seat that is given, with this many entries
 -- still in use and this many records lost; it did nothing else
-pub record Leaves {P : Type 0} (may : P → AllowRelation) (m : Monitor P) (d : Domain) (gone : LeftGuest) : Type 0 where
+pub record LeavesRun {P : Type 0} (may : P → AllowRelation) (m : Monitor P) (d : Domain) (gone : LeftGuest)
+    : Type 0 where
   pub closed : Domain
   pub resets : Resets may m d gone.remains.in_use closed
   pub leaves : HasLeft (words_of m).layout closed gone.left
@@ -75,7 +76,7 @@ Settles s t = ((s.copying ≡ None) × (t ≡ s)) ⊎ EndsAccess s t
 pub record LeavesSettled {P : Type 0} (may : P → AllowRelation) (s : Seated P) (gone : LeftGuest) : Type 0 where
   pub settled : Seated P
   pub settles : Settles s settled
-  pub leaves : Leaves may settled.monitor settled.domain gone
+  pub leaves : LeavesRun may settled.monitor settled.domain gone
 
 -- the number of records of a domain, and the number lost
 abbrev pub taken_of : TrailState → TakenCounts

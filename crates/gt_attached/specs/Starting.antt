@@ -11,8 +11,8 @@ use Rattle.gt_live.specs.declared.monitor.Monitor.{Monitor}
 use Rattle.gt_attached.specs.Seated.{Seated}
 
 -- a domain attached to a monitor, in no copy
-abbrev pub beside : {P : Type 0} → Monitor P → Domain → Seated P
-beside m d = record { monitor = m; domain = d; copying = None }
+abbrev pub attached_to : {P : Type 0} → Monitor P → Domain → Seated P
+attached_to m d = record { monitor = m; domain = d; copying = None }
 
 -- the attached domains of a new run: they share one monitor, which has this configuration and these rights and keeps no
 -- frame, and each is the new domain at its position in the configuration
@@ -23,7 +23,7 @@ pub record AreNewGuests {P : Type 0} (may : P → AllowRelation) (c : Config) (r
   pub rights_are : rights_of monitor ≡ rights
   pub no_frames : (name : FrameName) → KeepsFrame (words_of monitor) name → ⊥
   pub domains : List Domain
-  pub guests_are : guests ≡ map (beside monitor) domains
+  pub guests_are : guests ≡ map (attached_to monitor) domains
   pub count : length domains ≡ length c.domains.items
   pub new : (i : ℕ) → i < length c.domains.items
       → HoldsAt (λ d. IsNewDomain (words_of monitor) c (may rights) i d) domains i

@@ -1,7 +1,7 @@
 //! A guest, which is a domain in its run and the copy that it is in, and the calls of an attached domain.
 ghost use Rattle.std.specs.Prelude.{◌≡◌, None};
 ghost use Rattle.gt_live.specs.Domains.{BelongsTo};
-ghost use Rattle.gt_attached.specs.Seated.{Leaves, LeavesSettled, Settles, StandsBy, seated};
+ghost use Rattle.gt_attached.specs.Seated.{LeavesRun, LeavesSettled, Settles, StandsBy, seated};
 
 use crate::answer::{Departure, TakenCounts};
 use crate::attached::AttachedDomain;
@@ -49,7 +49,7 @@ fn settle<P: Allows>(monitor: &Monitor<P>, domain: &mut Domain, copying: Option<
 // Releases the domain's mappings, closes its table and leaves its run.
 fn depart<P: Allows>(monitor: &Monitor<P>, domain: Domain) -> LeftGuest
     requires { BelongsTo P.may monitor.now domain }
-    ensures { Leaves P.may monitor.now domain result }
+    ensures { LeavesRun P.may monitor.now domain result }
 {
     let mut domain = domain;
     let in_use = domain.reset(monitor) as u64;

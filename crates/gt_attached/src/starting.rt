@@ -2,7 +2,7 @@
 ghost use Rattle.std.specs.Prelude.{◌≡◌, All, length, map, IfOk, IfErr, OnOk};
 ghost use Rattle.gt_roster.specs.Frameless.{IsFramelessFault, IsRunnable};
 ghost use Rattle.gt_live.specs.Domains.{BelongsTo};
-ghost use Rattle.gt_attached.specs.Starting.{AreNewGuests, beside};
+ghost use Rattle.gt_attached.specs.Starting.{AreNewGuests, attached_to};
 ghost use Rattle.std.specs.Arc.{arc_value};
 
 use crate::attached::AttachedDomain;
@@ -29,7 +29,7 @@ fn all_guests<P: Allows + Drop>(
     domains: Vec<Domain>,
 ) -> Result<Vec<AttachedDomain<P>>, AllocError>
     requires { All (λ d. BelongsTo P.may (arc_value monitor.now) d) domains.items }
-    ensures { IfOk result (λ v. v.items ≡ map (beside (arc_value monitor.now)) domains.items) }
+    ensures { IfOk result (λ v. v.items ≡ map (attached_to (arc_value monitor.now)) domains.items) }
 {
     let count = domains.len();
     let Ok(room) = Vec::with_capacity(alloc, count) else {

@@ -8,7 +8,7 @@ use Rattle.std.proofs.lemmas.List.{replicate-append-replicate}
 use Rattle.std.proofs.Math.Seq.{get_or-append_seam}
 use Rattle.std.proofs.lemmas.Option.{get_or_from_slice_get, slice_get-get_or, slice_get_past}
 use Rattle.gt_audit.specs.declared.record.Record.{Record}
-use Rattle.gt_audit.specs.Pieces.{AreFilled, Extends, HasRoomAt, joined, room_of}
+use Rattle.gt_audit.specs.Pieces.{AreFilled, AddsEmptyPieces, HasRoomAt, joined, room_of}
 
 pub joined-fits : (at : ℕ) (ps : List (List Record)) → AreFilled at ps → length (joined ps) ≤ 256 * length ps
 joined-fits at [] f = omega arith
@@ -134,11 +134,11 @@ joined-below (suc at) (p ∷ ps) f = omega (arith, length-append p (joined ps), 
 pub same-read : (ps : List (List Record)) (k : ℕ) (d e : List Record) → k < length ps → get_or ps k e ≡ get_or ps k d
 same-read ps k d e lt = get_or_from_slice_get ps k (get_or ps k d) e (slice_get-get_or ps k d lt)
 
-pub extends-none : (ps : List (List Record)) → Extends ps ps
+pub extends-none : (ps : List (List Record)) → AddsEmptyPieces ps ps
 extends-none ps = record { records = refl; filled = λ n f. f; grows = omega arith }
 
 -- one more empty piece
-pub extends-add : (ps qs rs : List (List Record)) → Extends ps qs → rs ≡ qs ++ [] ∷ [] → Extends ps rs
+pub extends-add : (ps qs rs : List (List Record)) → AddsEmptyPieces ps qs → rs ≡ qs ++ [] ∷ [] → AddsEmptyPieces ps rs
 extends-add ps qs rs e added =
     record {
       records = ap (λ (ts : List (List Record)). joined ts) added ∙ joined-add qs ∙ e.records;
@@ -147,27 +147,27 @@ extends-add ps qs rs e added =
     }
 
 -- `n` empty pieces more
-pub extends-many : (ps : List (List Record)) (n : ℕ) → Extends ps (ps ++ replicate n [])
-extends-many ps zero = subst (λ (qs : List (List Record)). Extends ps qs) (sym (append-nil ps)) (extends-none ps)
+pub extends-many : (ps : List (List Record)) (n : ℕ) → AddsEmptyPieces ps (ps ++ replicate n [])
+extends-many ps zero = subst (λ (qs : List (List Record)). AddsEmptyPieces ps qs) (sym (append-nil ps)) (extends-none ps)
 extends-many ps (suc n) =
     let first = extends-add ps ps (ps ++ [] ∷ []) (extends-none ps) refl in
     let rest = extends-many (ps ++ [] ∷ []) n in
-    let both : Extends ps ((ps ++ [] ∷ []) ++ replicate n []) =
+    let both : AddsEmptyPieces ps ((ps ++ [] ∷ []) ++ replicate n []) =
     record {
       records = rest.records ∙ first.records;
       filled = λ k f. rest.filled k (first.filled k f);
       grows = omega (arith, rest.grows, first.grows);
     } in
-    subst (λ (qs : List (List Record)). Extends ps qs) (append_assoc ps ([] ∷ []) (replicate n [])) both
+    subst (λ (qs : List (List Record)). AddsEmptyPieces ps qs) (append_assoc ps ([] ∷ []) (replicate n [])) both
 
 pub replicate-more : (n : ℕ) (p : List Record) → replicate n p ++ p ∷ [] ≡ replicate (n + 1) p
 replicate-more n p = replicate-append-replicate n 1 p
 
 -- `n` empty pieces more, or none
 pub extends-either : {E : Type 0} (r : Result (Unit {0}) E) (ps qs : List (List Record)) (n : ℕ) → OnOk r (qs ≡ ps ++ replicate n [])
-    → OnErr r (qs ≡ ps) → Extends ps qs
-extends-either (Ok u) ps qs n added same = subst (λ (xs : List (List Record)). Extends ps xs) (sym added) (extends-many ps n)
-extends-either (Err e) ps qs n added same = subst (λ (xs : List (List Record)). Extends ps xs) (sym same) (extends-none ps)
+    → OnErr r (qs ≡ ps) → AddsEmptyPieces ps qs
+extends-either (Ok u) ps qs n added same = subst (λ (xs : List (List Record)). AddsEmptyPieces ps xs) (sym added) (extends-many ps n)
+extends-either (Err e) ps qs n added same = subst (λ (xs : List (List Record)). AddsEmptyPieces ps xs) (sym same) (extends-none ps)
 
 pub room-ahead : (at n : ℕ) (ps : List (List Record)) → AreFilled at ps → at + n / 256 + 2 ≤ length ps → n ≤ room_of ps
 room-ahead at n ps f ahead = omega (arith, joined-below at ps f, ahead)

@@ -31,7 +31,7 @@ abbrev pub HasRoomAt : ℕ → List (List Record) → Type 0
 HasRoomAt n ps = AreFilled n ps × (n < length ps) × (length (slice_index_or ps n []) < 256)
 
 -- empty pieces were added at the end
-pub record Extends (ps qs : List (List Record)) : Type 0 where
+pub record AddsEmptyPieces (ps qs : List (List Record)) : Type 0 where
   pub records : joined qs ≡ joined ps
   pub filled : (n : ℕ) → AreFilled n ps → AreFilled n qs
   pub grows : length ps ≤ length qs

@@ -22,7 +22,7 @@ use Rattle.gt_c.specs.Calling.{CallsGuest, CallsReporting, EncodesDone, EncodesF
 use Rattle.gt_c.specs.Calling.{EncodesRecorded, EncodesUnmapped, KeepsAtMost, Reserves, TakesAll, dom_of, ref_at}
 use Rattle.gt_c.specs.Calling.{outcome, outcome_frames, outcome_size, outcome_version}
 use Rattle.gt_c.specs.Reports.{EncodesBegun, EncodesEntry, EncodesMapping, EncodesRecord, copy_asked, no_entry}
-use Rattle.gt_c.specs.Reports.{no_mapping, no_places, no_record}
+use Rattle.gt_c.specs.Reports.{no_mapping, no_copy_places, no_record}
 
 -- one of the domain's pages is granted
 abbrev pub GrantsPage : ℕ → ℕ → ℕ → ℕ → EncodedAnswer → Option CDomain → Option CDomain → Type 0
@@ -46,8 +46,8 @@ GrantsBytes gref bytes answer before after =
     (s : Bor (List ℕ)) × (s.now ≡ spelled bytes) × EncodesDone (requests.GrantBytes (ref_at gref) s) answer d e)
 
 -- an entry follows the bytes that its guest keeps for it
-abbrev pub FollowsBytes : ℕ → EntryBytes → EncodedAnswer → Option CDomain → Option CDomain → Type 0
-FollowsBytes gref bytes answer before after =
+abbrev pub FollowsEntryBytes : ℕ → EntryBytes → EncodedAnswer → Option CDomain → Option CDomain → Type 0
+FollowsEntryBytes gref bytes answer before after =
     CallsGuest before after answer (EncodesFollowed (ref_at gref) (spelled bytes) answer)
 
 -- an entry is revoked, withdrawn, demoted, promoted
@@ -55,8 +55,8 @@ abbrev pub RevokesEntry : ℕ → EncodedAnswer → Option CDomain → Option CD
 RevokesEntry gref answer before after =
     CallsGuest before after answer (EncodesDone (requests.Revoke (ref_at gref)) answer)
 
-abbrev pub Withdraws : ℕ → EncodedAnswer → Option CDomain → Option CDomain → Type 0
-Withdraws gref answer before after =
+abbrev pub WithdrawsEntry : ℕ → EncodedAnswer → Option CDomain → Option CDomain → Type 0
+WithdrawsEntry gref answer before after =
     CallsGuest before after answer (EncodesDone (requests.Withdraw (ref_at gref)) answer)
 
 abbrev pub DemotesEntry : ℕ → EncodedAnswer → Option CDomain → Option CDomain → Type 0
@@ -134,5 +134,5 @@ MakesRoom records answer before after = CallsGuest before after answer (Reserves
 -- a copy begins
 abbrev pub BeginsCopy : CopySettings → BegunReport → Option CDomain → Option CDomain → Type 0
 BeginsCopy copy report before after =
-    CallsReporting before after report.answer (report.places ≡ no_places)
+    CallsReporting before after report.answer (report.places ≡ no_copy_places)
     (EncodesBegun (copy_asked copy) report.places report.answer)

@@ -26,13 +26,13 @@ abbrev pub no_place : PlaceReport
 no_place = record { frame = 0; owner = 0; off = 0 }
 
 -- the places of a copy that did not begin
-abbrev pub no_places : PlacesReport
-no_places = record { from = no_place; to = no_place; len = 0 }
+abbrev pub no_copy_places : PlacesReport
+no_copy_places = record { from = no_place; to = no_place; len = 0 }
 
 -- the places of a copy that began; zeros if it was refused
 abbrev pub places_report : Result CopyPlaces Denial → PlacesReport
 places_report (Ok p) = record { from = place_report p.from; to = place_report p.to; len = p.len }
-places_report (Err denial) = no_places
+places_report (Err denial) = no_copy_places
 
 -- the result of a copy's beginning
 abbrev pub outcome_begun : Result CopyPlaces Denial → AttachedOutcome

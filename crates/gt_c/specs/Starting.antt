@@ -3,7 +3,7 @@ use Rattle.std.specs.Prelude.{◌≡◌, ◌≢◌, ◌⊎◌, ℕ, true, List, 
 use Rattle.std.specs.List.{list_any}
 use Rattle.gt_c.specs.Prelude.{Begins, DomainSettings, EncodedFault, DomainHandle, CDomain, IsFaultOf, Seated, Table}
 use Rattle.gt_c.specs.Prelude.{no_fault, wrong_handles}
-use Rattle.gt_start.specs.Beginning.{IsNameFault, IsPolicy}
+use Rattle.gt_start.specs.Beginning.{IsNameFault, IsPolicyMeaning}
 use Rattle.gt_policy.specs.Allowing.{Meaning, type_named}
 use Rattle.gt_c.specs.declared.beginning.TypeReport.{TypeReport}
 
@@ -16,8 +16,8 @@ abbrev pub here_of : ℕ → Seated Table → CDomain
 here_of run g = record { guest = g; run = run }
 
 -- a handle has this domain
-abbrev pub holding : CDomain → Option CDomain
-holding d = Some d
+abbrev pub filled_handle : CDomain → Option CDomain
+filled_handle d = Some d
 
 -- the number of handles is not that of the domains, or one of the handles has a domain
 abbrev pub AreWrong : List DomainSettings → List DomainHandle → Type 0
@@ -25,27 +25,27 @@ AreWrong settings handles =
     (length handles ≢ length settings) ⊎ (list_any (λ h. h.is_live) handles ≡ true)
 
 -- a run with this number started, and the handle at each position has the domain at that position
-pub record Starts (settings : List DomainSettings) (first_gen run : ℕ) (policy : List ℕ) (handles : List DomainHandle)
-    : Type 0 where
+pub record StartsRun (settings : List DomainSettings) (first_gen run : ℕ) (policy : List ℕ)
+    (handles : List DomainHandle) : Type 0 where
   pub guests : List (Seated Table)
   pub begun : Begins settings first_gen policy guests
-  pub handed : map domain_of_handle handles ≡ map (λ g. holding (here_of run g)) guests
+  pub handed : map domain_of_handle handles ≡ map (λ g. filled_handle (here_of run g)) guests
 
 -- why no run started: the handles are wrong; or they are right, and the text, a label or the configuration has a fault
-abbrev pub IsStartFault : List DomainSettings → ℕ → List ℕ → List DomainHandle → EncodedFault → Type 0
-IsStartFault settings first_gen policy handles fault =
+abbrev pub IsFaultOfNewRun : List DomainSettings → ℕ → List ℕ → List DomainHandle → EncodedFault → Type 0
+IsFaultOfNewRun settings first_gen policy handles fault =
     ((fault ≡ wrong_handles) × AreWrong settings handles)
     ⊎ ((¬ AreWrong settings handles) × IsFaultOf settings first_gen policy fault)
 
 -- a run started; or none did, the fault gives the reason, and the handles are unchanged
 abbrev pub StartsWith : List DomainSettings → ℕ → ℕ → List ℕ → EncodedFault → List DomainHandle → List DomainHandle → Type 0
 StartsWith settings first_gen run policy fault old new =
-    ((fault ≡ no_fault) × Starts settings first_gen run policy new)
-    ⊎ ((new ≡ old) × IsStartFault settings first_gen policy old fault)
+    ((fault ≡ no_fault) × StartsRun settings first_gen run policy new)
+    ⊎ ((new ≡ old) × IsFaultOfNewRun settings first_gen policy old fault)
 
 -- the label of a type, if the policy's text declares a type of this name; otherwise 0 and the reason
 abbrev pub ReportsType : List ℕ → List ℕ → TypeReport → Type 0
 ReportsType policy name report =
     ((report.fault ≡ no_fault)
-    × ((m : Meaning) × IsPolicy policy m × (type_named m.types name ≡ Some (record { 0 = report.label }))))
+    × ((m : Meaning) × IsPolicyMeaning policy m × (type_named m.types name ≡ Some (record { 0 = report.label }))))
     ⊎ ((report.label ≡ 0) × IsNameFault policy name report.fault)

@@ -3,7 +3,7 @@ ghost use Rattle.std.specs.Prelude.{◌≡◌, All, length, map, IfOk, None};
 ghost use Rattle.std.specs.List.{list_any};
 ghost use Rattle.gt_c.specs.Calling.{Finishes, MakesReady, ResetsGuest};
 ghost use Rattle.gt_attached.specs.Seated.{Settles};
-ghost use Rattle.gt_c.specs.Starting.{StartsWith, ReportsType, domain_of_handle, here_of, holding};
+ghost use Rattle.gt_c.specs.Starting.{StartsWith, ReportsType, domain_of_handle, here_of, filled_handle};
 
 use crate::handle::DomainHandle;
 use crate::here::CDomain;
@@ -39,7 +39,7 @@ fn is_any_live(handles: &[DomainHandle]) -> bool
 fn hand_out(all: Vec<Box<CDomain>>, out: &mut [DomainHandle])
     requires idle { All (λ h. domain_of_handle h ≡ None) out.old }
     requires count { length all.items ≡ length out.old }
-    ensures { map domain_of_handle out.new ≡ map (λ b. holding b.value) all.items }
+    ensures { map domain_of_handle out.new ≡ map (λ b. filled_handle b.value) all.items }
 {
     let mut rest = all;
     'handles: for place in 0..out.len() {

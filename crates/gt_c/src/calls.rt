@@ -6,9 +6,9 @@ ghost use Rattle.gt_handles.specs.Handles.{value_of};
 ghost use Rattle.gt_c.specs.Asking.{handle_named, is_of_domain, page, spelled, sub, via};
 ghost use Rattle.gt_c.specs.Calling.{MayBeCalled, TurnedAway, outcome, outcome_followed, outcome_frames};
 ghost use Rattle.gt_c.specs.Calling.{outcome_mapped, outcome_size, outcome_version};
-ghost use Rattle.gt_c.specs.Promises.{AsksSize, AsksVersion, DemotesEntry, FollowsBytes, GrantsBytes, GrantsPage};
+ghost use Rattle.gt_c.specs.Promises.{AsksSize, AsksVersion, DemotesEntry, FollowsEntryBytes, GrantsBytes, GrantsPage};
 ghost use Rattle.gt_c.specs.Promises.{GrantsSub, GrantsVia};
-ghost use Rattle.gt_c.specs.Promises.{Maps, Promotes, RevokesEntry, SetsUp, SetsVersion, Unmaps, Withdraws};
+ghost use Rattle.gt_c.specs.Promises.{Maps, Promotes, RevokesEntry, SetsUp, SetsVersion, Unmaps, WithdrawsEntry};
 
 use crate::handle::DomainHandle;
 use crate::here::CDomain;
@@ -307,7 +307,7 @@ pub extern "C" fn gthost_follow_at(
     gref: u32,
     bytes: EntryBytes,
 ) -> EncodedAnswer
-    ensures { FollowsBytes gref bytes result domain.old.held.value domain.new.held.value }
+    ensures { FollowsEntryBytes gref bytes result domain.old.held.value domain.new.held.value }
 {
     if let Some(answer) = turned_away(domain) {
         return answer;
@@ -331,7 +331,7 @@ pub extern "C" fn gthost_revoke_at(domain: &mut DomainHandle, gref: u32) -> Enco
 /// Makes an entry of the caller invalid, with or without pins.
 #[unsafe(no_mangle)]
 pub extern "C" fn gthost_withdraw_at(domain: &mut DomainHandle, gref: u32) -> EncodedAnswer
-    ensures { Withdraws gref result domain.old.held.value domain.new.held.value }
+    ensures { WithdrawsEntry gref result domain.old.held.value domain.new.held.value }
 {
     if let Some(answer) = turned_away(domain) {
         return answer;

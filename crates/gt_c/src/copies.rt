@@ -1,7 +1,7 @@
 //! A copy in two halves, for a program that keeps the frames: its beginning and its end.
 ghost use Rattle.std.specs.Prelude.{◌≡◌};
 ghost use Rattle.gt_c.specs.Promises.{BeginsCopy};
-ghost use Rattle.gt_c.specs.Reports.{CopyEnds, copy_asked, end_asked, no_places, outcome_begun, place_report};
+ghost use Rattle.gt_c.specs.Reports.{CopyEnds, copy_asked, end_asked, no_copy_places, outcome_begun, place_report};
 ghost use Rattle.gt_c.specs.Reports.{places_report};
 
 use crate::calls::turned_away;
@@ -87,7 +87,7 @@ const NO_PLACE: PlaceReport = PlaceReport {
 
 // Returns the places of a copy that did not begin: zeros.
 fn no_places() -> PlacesReport
-    ensures { result ≡ no_places }
+    ensures { result ≡ no_copy_places }
 {
     PlacesReport {
         from: NO_PLACE,

@@ -15,7 +15,7 @@ use Rattle.clap.specs.Walk.{Row, Rule, Text, first_of, has_row, more_values, wit
 use Rattle.clap.specs.Simple.{filled_from, help_rule}
 use Rattle.clap.specs.declared.builder.value_parser.Reading.TheVariants as reading
 use Rattle.clap.specs.declared.parser.matches.ValueSource.TheVariants.{DefaultValue}
-use Rattle.gt_commands.specs.Usage.{Given, Usage, is_among, is_given, is_true, value_given, lacks}
+use Rattle.gt_commands.specs.Usage.{Given, Usage, lists_name, is_given, is_true, value_given, lacks}
 use Rattle.gt_commands.specs.Rules.{word_rule, flag_rule, option_rule}
 use Rattle.gt_commands.proofs.Lookups as lookups
 use Rattle.gt_commands.proofs.Lookups.{built_rules, flag_built}
@@ -143,11 +143,11 @@ module _ {X : Type 0} (F : Option Row → X) (id : Text) where
   flags_on [] rows none = refl
   flags_on (f ∷ fs) rows none = flags_on fs (with_flag rows f) none ∙ one_flag_on rows f (λ e. none f)
 
-  other_flags_on : (fs : List Text) (rows : List Row) → is_among fs id ≡ false → of (fold with_flag rows fs) ≡ of rows
+  other_flags_on : (fs : List Text) (rows : List Row) → lists_name fs id ≡ false → of (fold with_flag rows fs) ≡ of rows
   other_flags_on [] rows none = refl
   other_flags_on (f ∷ fs) rows none = by (bytes_eq f id) refl none (other_flags_on fs (with_flag rows f))
     where
-      by : (b : Bool) → bytes_eq f id ≡ b → (b || is_among fs id) ≡ false → (is_among fs id ≡ false → of (fold with_flag (with_flag rows f) fs) ≡ of (with_flag rows f))
+      by : (b : Bool) → bytes_eq f id ≡ b → (b || lists_name fs id) ≡ false → (lists_name fs id ≡ false → of (fold with_flag (with_flag rows f) fs) ≡ of (with_flag rows f))
           → of (fold with_flag (with_flag rows f) fs) ≡ of rows
       by true e none later = absurd (true≢false none)
       by false e none later = later none ∙ one_flag_on rows f (λ yes. absurd (true≢false (sym yes ∙ e)))
@@ -183,7 +183,7 @@ module _ (u : Usage) (rows : List Row) where
   is_lacking r = r.required && not (is_row_given r.id rows)
 
   abbrev name_lacking : Text → Bool
-  name_lacking name = is_among u.needed name && not (is_row_given name rows)
+  name_lacking name = lists_name u.needed name && not (is_row_given name rows)
 
   lacking_words : (ws : List Text) (i : ℕ) (rest : List Rule)
       → (j : ℕ) × (list_any is_lacking (filled_from i (map (word_rule u) ws ++ rest)) ≡ (list_any name_lacking ws || list_any is_lacking (filled_from j rest)))
@@ -232,10 +232,10 @@ module _ (u : Usage) (given : Given) where
   pub lacking_at_end : list_any (is_lacking u end) (built_rules u) ≡ lacks u given
   lacking_at_end =
       lacking_rules u end
-      ∙ any_same (name_lacking u end) (λ name. is_among u.needed name && not (is_given given name)) (u.words ++ u.options) (λ name. ap (λ (b : Bool). is_among u.needed name && not b) (row_given_at_end name))
+      ∙ any_same (name_lacking u end) (λ name. lists_name u.needed name && not (is_given given name)) (u.words ++ u.options) (λ name. ap (λ (b : Bool). lists_name u.needed name && not b) (row_given_at_end name))
 
   -- a value that is no flag's
-  pub value_at_end : (id : Text) → is_among u.flags id ≡ false → first_of id end ≡ value_given given id
+  pub value_at_end : (id : Text) → lists_name u.flags id ≡ false → first_of id end ≡ value_given given id
   value_at_end id none =
       ap (λ (rs : List Row). first_of id rs) (end_rows u given)
       ∙ other_flags_on (λ o. option_and_then (λ r. slice_get r.values 0) o) id u.flags (rows_of given) none

@@ -7,7 +7,7 @@ use Rattle.clap.specs.Faults.{check_fault, defaults_fault, level_fault}
 use Rattle.clap.specs.Walk.{Row, Rule, Text, Waiting, finished, nothing_held, rows_after}
 use Rattle.clap.specs.Walk.{with_default}
 use Rattle.clap.specs.declared.error.kind.ErrorKind.TheVariants.{MissingRequiredArgument}
-use Rattle.gt_commands.specs.Usage.{Given, Usage, line_ended, is_among, lacks, line}
+use Rattle.gt_commands.specs.Usage.{Given, Usage, line_ended, lists_name, lacks, line}
 use Rattle.gt_commands.proofs.Lookups as lookups
 use Rattle.gt_commands.proofs.Ends.{defaults_pass, lacking_at_end}
 use Rattle.gt_commands.proofs.Uses.{Settles, rows_of}
@@ -44,6 +44,6 @@ module _ (u : Usage) (name : Text) where
       → walks.Tells u name (line u words) (level_fault (leaf name R) [] nothing_held words false []) (rows_after R [] words)
   command_tells places options words =
       walks.tells u name ends
-      (λ p w ws at. (Some p, None, is_among u.needed w, at.1))
-      (λ n among. (None, Some n, is_among u.needed n, lookups.option_found u u.options n among options))
+      (λ p w ws at. (Some p, None, lists_name u.needed w, at.1))
+      (λ n among. (None, Some n, lists_name u.needed n, lookups.option_found u u.options n among options))
       words [] (walks.idle_at [] None) 1 u.words (refl, refl) places

@@ -9,7 +9,7 @@ use Rattle.clap.specs.Walk.{Rule, Text, arg_by_id, arg_by_index, arg_by_long, ar
 use Rattle.clap.specs.Simple.{filled, filled_from, help_rule}
 use Rattle.clap.specs.declared.builder.action.ArgAction.TheVariants.{Set}
 use Rattle.clap.specs.declared.builder.value_parser.ValueParser.TheVariants as vp
-use Rattle.gt_commands.specs.Usage.{Usage, is_among}
+use Rattle.gt_commands.specs.Usage.{Usage, lists_name}
 use Rattle.gt_commands.specs.Rules.{word_rule, flag_rule, option_rule, rules_of}
 
 -- a rule of one value, as the parser completes it
@@ -42,10 +42,10 @@ help_built = filled help_rule
 
 module _ (u : Usage) where
   abbrev pub option_built : Text → Rule
-  option_built name = one_rule None (Some name) (is_among u.needed name) name
+  option_built name = one_rule None (Some name) (lists_name u.needed name) name
 
   abbrev pub word_built : ℕ → Text → Rule
-  word_built i name = one_rule (Some i) None (is_among u.needed name) name
+  word_built i name = one_rule (Some i) None (lists_name u.needed name) name
 
   -- the rules of a command as the parser completes them
   abbrev pub built_rules : List Rule
@@ -60,7 +60,7 @@ module _ (u : Usage) where
 
   abbrev ByFlags : List Text → ℕ → List Rule → Text → Type 0
   ByFlags fs i rest name =
-      arg_by_long (filled_from i (map flag_rule fs ++ rest)) name ≡ cond (is_among fs name) (Some (flag_built name)) (arg_by_long (filled_from i rest) name)
+      arg_by_long (filled_from i (map flag_rule fs ++ rest)) name ≡ cond (lists_name fs name) (Some (flag_built name)) (arg_by_long (filled_from i rest) name)
 
   one_flag : (f : Text) (fs : List Text) (i : ℕ) (rest : List Rule) (name : Text) (b : Bool) → bytes_eq f name ≡ b → ByFlags fs i rest name → ByFlags (f ∷ fs) i rest name
   one_flag f fs i rest name true e later = rw e (ap (λ (n : Text). Some (flag_built n)) ((bytes_eq-Decides f name).0 e))
@@ -72,7 +72,7 @@ module _ (u : Usage) where
 
   abbrev ByOptions : List Text → ℕ → List Rule → Text → Type 0
   ByOptions os i rest name =
-      arg_by_long (filled_from i (map (option_rule u) os ++ rest)) name ≡ cond (is_among os name) (Some (option_built name)) (arg_by_long (filled_from i rest) name)
+      arg_by_long (filled_from i (map (option_rule u) os ++ rest)) name ≡ cond (lists_name os name) (Some (option_built name)) (arg_by_long (filled_from i rest) name)
 
   one_option : (o : Text) (os : List Text) (i : ℕ) (rest : List Rule) (name : Text) (b : Bool) → bytes_eq o name ≡ b → ByOptions os i rest name → ByOptions (o ∷ os) i rest name
   one_option o os i rest name true e later = rw e (ap (λ (n : Text). Some (option_built n)) ((bytes_eq-Decides o name).0 e))
@@ -91,7 +91,7 @@ module _ (u : Usage) where
 
   -- every long name: a flag, an option, help or none
   pub long_is : (name : Text) → arg_by_long built_rules name
-      ≡ cond (is_among u.flags name) (Some (flag_built name)) (cond (is_among u.options name) (Some (option_built name)) (cond (bytes_eq (codes "help") name) (Some help_built) None))
+      ≡ cond (lists_name u.flags name) (Some (flag_built name)) (cond (lists_name u.options name) (Some (option_built name)) (cond (bytes_eq (codes "help") name) (Some help_built) None))
   long_is name =
       let words = long_past_words u.words 1 ((map flag_rule u.flags ++ map (option_rule u) u.options) ++ help_rule ∷ []) name in
       let j = words.0 in
@@ -99,7 +99,7 @@ module _ (u : Usage) where
       ∙ words.1
       ∙ ap (λ (rs : List Rule). arg_by_long (filled_from j rs) name) (append_assoc (map flag_rule u.flags) (map (option_rule u) u.options) (help_rule ∷ []))
       ∙ long_of_flags u.flags j (map (option_rule u) u.options ++ help_rule ∷ []) name
-      ∙ ap (λ (r : Option Rule). cond (is_among u.flags name) (Some (flag_built name)) r) (long_of_options u.options j (help_rule ∷ []) name ∙ ap (λ (r : Option Rule). cond (is_among u.options name) (Some (option_built name)) r) (long_of_help j name))
+      ∙ ap (λ (r : Option Rule). cond (lists_name u.flags name) (Some (flag_built name)) r) (long_of_options u.options j (help_rule ∷ []) name ∙ ap (λ (r : Option Rule). cond (lists_name u.options name) (Some (option_built name)) r) (long_of_help j name))
 
   -- ---- by a short name
 
@@ -147,11 +147,11 @@ module _ (u : Usage) where
   Options [] = Unit {0}
   Options (o ∷ os) = (arg_by_id built_rules o ≡ Some (option_built o)) × Options os
 
-  one_found : (o : Text) (os : List Text) (name : Text) (b : Bool) → bytes_eq o name ≡ b → (b || is_among os name) ≡ true → Options (o ∷ os)
-      → (is_among os name ≡ true → Options os → arg_by_id built_rules name ≡ Some (option_built name)) → arg_by_id built_rules name ≡ Some (option_built name)
+  one_found : (o : Text) (os : List Text) (name : Text) (b : Bool) → bytes_eq o name ≡ b → (b || lists_name os name) ≡ true → Options (o ∷ os)
+      → (lists_name os name ≡ true → Options os → arg_by_id built_rules name ≡ Some (option_built name)) → arg_by_id built_rules name ≡ Some (option_built name)
   one_found o os name true e among found later = subst (λ (n : Text). arg_by_id built_rules n ≡ Some (option_built n)) ((bytes_eq-Decides o name).0 e) found.0
   one_found o os name false e among found later = later among found.1
 
-  pub option_found : (os : List Text) (name : Text) → is_among os name ≡ true → Options os → arg_by_id built_rules name ≡ Some (option_built name)
+  pub option_found : (os : List Text) (name : Text) → lists_name os name ≡ true → Options os → arg_by_id built_rules name ≡ Some (option_built name)
   option_found [] name among found = absurd (true≢false (sym among))
   option_found (o ∷ os) name among found = one_found o os name (bytes_eq o name) refl among found (option_found os name)

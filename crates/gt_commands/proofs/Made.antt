@@ -6,16 +6,16 @@ use Rattle.clap.specs.Words.{App, rule_of, with_rule, with_subcommand}
 use Rattle.clap.specs.declared.builder.arg.Arg.{Arg}
 use Rattle.clap.specs.declared.builder.command.Command.{Command}
 use Rattle.gt_commands.specs.Commands.{mode_app, with_mode, with_modes}
-use Rattle.gt_commands.specs.Rules.{IsCommand, part_rule, with_part, with_parts}
+use Rattle.gt_commands.specs.Rules.{IsCommand, part_rule, with_part_rule, with_part_rules}
 use Rattle.gt_commands.specs.declared.invocation.Mode.{Mode}
 use Rattle.gt_commands.specs.declared.line.Part.{Part}
 
 -- a command with one part more
-pub part_added : (old new : Command) (a : Arg) (app : App) (parts : List Part) (i : ℕ) (d : Part) → i < length parts → IsCommand old (with_parts app (take i parts))
-    → rule_of a ≡ part_rule (get_or parts i d) → a.global ≡ false → AddsArg old a new → IsCommand new (with_parts app (take (i + 1) parts))
-unfolding with_parts
+pub part_added : (old new : Command) (a : Arg) (app : App) (parts : List Part) (i : ℕ) (d : Part) → i < length parts → IsCommand old (with_part_rules app (take i parts))
+    → rule_of a ≡ part_rule (get_or parts i d) → a.global ≡ false → AddsArg old a new → IsCommand new (with_part_rules app (take (i + 1) parts))
+unfolding with_part_rules
 part_added old new a app parts i d less command rule local adds = record {
-  app = adds.shape local ∙ ap₂ with_rule command.app rule ∙ sym (fold_more with_part app parts i d less);
+  app = adds.shape local ∙ ap₂ with_rule command.app rule ∙ sym (fold_more with_part_rule app parts i d less);
   local = adds.globals ∙ ap₂ (λ (x y : Bool). x || y) command.local local;
 }
 

@@ -14,7 +14,7 @@ use Rattle.clap.specs.Walk.{plain_word, settled, settled_rows, used, value, walk
 use Rattle.clap.specs.Simple.{Shape}
 use Rattle.clap.specs.declared.error.kind.ErrorKind.TheVariants.{DisplayHelp}
 use Rattle.gt_commands.specs.Usage.{Given, Line, Usage, Word, by_kind, by_long, by_value, by_word, line_ended, gives}
-use Rattle.gt_commands.specs.Usage.{asks_help, wrong, is_among, is_given, line_after_mark, usage_line_of, long}
+use Rattle.gt_commands.specs.Usage.{asks_help, wrong, lists_name, is_given, line_after_mark, usage_line_of, long}
 use Rattle.gt_commands.specs.Usage.{mark}
 use Rattle.gt_commands.specs.Usage.{once, plain, short, usage_word}
 use Rattle.gt_commands.proofs.Lookups as lookups
@@ -92,16 +92,16 @@ module _ (u : Usage) (name : Text) where
   Settling rows pending = settle_fault R false (held rows pending)
 
   -- the rule of a long name
-  flag_found : (n : Text) → is_among u.flags n ≡ true → arg_by_long R n ≡ Some (flag_built n)
+  flag_found : (n : Text) → lists_name u.flags n ≡ true → arg_by_long R n ≡ Some (flag_built n)
   flag_found n e = lookups.long_is u n ∙ rw e refl
 
-  option_found : (n : Text) → is_among u.flags n ≡ false → is_among u.options n ≡ true → arg_by_long R n ≡ Some (lookups.option_built u n)
+  option_found : (n : Text) → lists_name u.flags n ≡ false → lists_name u.options n ≡ true → arg_by_long R n ≡ Some (lookups.option_built u n)
   option_found n e f = lookups.long_is u n ∙ rw (e, f) refl
 
-  help_found : (n : Text) → is_among u.flags n ≡ false → is_among u.options n ≡ false → bytes_eq (codes "help") n ≡ true → arg_by_long R n ≡ Some help_built
+  help_found : (n : Text) → lists_name u.flags n ≡ false → lists_name u.options n ≡ false → bytes_eq (codes "help") n ≡ true → arg_by_long R n ≡ Some help_built
   help_found n e f h = lookups.long_is u n ∙ rw (e, f, h) refl
 
-  none_found : (n : Text) → is_among u.flags n ≡ false → is_among u.options n ≡ false → bytes_eq (codes "help") n ≡ false → arg_by_long R n ≡ None
+  none_found : (n : Text) → lists_name u.flags n ≡ false → lists_name u.options n ≡ false → bytes_eq (codes "help") n ≡ false → arg_by_long R n ≡ None
   none_found n e f h = lookups.long_is u n ∙ rw (e, f, h) refl
 
   -- the fault of a long name is that of its rule
@@ -148,7 +148,7 @@ module _ (u : Usage) (name : Text) where
     is_refused : (fault : Kinds) → word_fault s [] false waiting word (held rows pending) ≡ fault → Wrong fault → Wrong (turn_fault s [] W word)
     is_refused fault is bad = wrong_first _ (subst Wrong (sym is) bad)
 
-    doomed_long : (n : Text) (v : Option Text) (a b c : Bool) → is_among u.flags n ≡ a → is_among u.options n ≡ b → bytes_eq (codes "help") n ≡ c → Meeting (long n v) → Wrong (Settling rows pending)
+    doomed_long : (n : Text) (v : Option Text) (a b c : Bool) → lists_name u.flags n ≡ a → lists_name u.options n ≡ b → bytes_eq (codes "help") n ≡ c → Meeting (long n v) → Wrong (Settling rows pending)
         → Wrong (turn_fault s [] W word)
     doomed_long n None true b c e f h met bad = is_refused _ (met.0 ∙ by_rule _ n None rows pending (flag_found n e)) (wrong_first _ bad)
     doomed_long n (Some v) true b c e f h met bad = is_refused _ (met.0 ∙ by_rule _ n (Some v) rows pending (flag_found n e)) valued
@@ -177,7 +177,7 @@ module _ (u : Usage) (name : Text) where
     where
       by : (k : Word) → Meets name R (lookups.short_is u) rows pending idle p word k → Wrong (total (At rows pending idle p false) (word ∷ rest))
       by mark met = marked rows pending idle p word met wrong rest (doomed_after_mark rest rows pending idle p left places bad)
-      by (long n v) met = refused _ word rest (doomed_long rows pending idle p word n v (is_among u.flags n) (is_among u.options n) (bytes_eq (codes "help") n) refl refl refl met bad)
+      by (long n v) met = refused _ word rest (doomed_long rows pending idle p word n v (lists_name u.flags n) (lists_name u.options n) (bytes_eq (codes "help") n) refl refl refl met bad)
       by (short letter) met = refused _ word rest (doomed_short rows pending idle p word letter (104 == letter) refl met bad)
       by plain met = refused _ word rest
           (subst Wrong (sym (ap₂ (λ (k : Kinds) (q : Held × Step). or_else k (step_fault s p q.0 q.1)) met.0 met.1)) (doomed_step rows pending idle p false left places bad))
@@ -204,7 +204,7 @@ module _ (u : Usage) (name : Text) where
   module _ (ends : (given : Given) (rows : List Row) (pending : Option (Text × List Text)) (waiting : Waiting) (p : ℕ) (trailing : Bool) → Settles R rows pending (rows_of given)
       → Tells (line_ended u given) (ended_with (At rows pending waiting p trailing)) (finished R (held rows pending)))
       (valued_words : (p : ℕ) (w : Text) (ws : List Text) → lookups.Places u p (w ∷ ws) → Valued R w)
-      (valued_options : (n : Text) → is_among u.options n ≡ true → Valued R n) where
+      (valued_options : (n : Text) → lists_name u.options n ≡ true → Valued R n) where
     finishes : (given : Given) (rows : List Row) (pending : Option (Text × List Text)) (waiting : Waiting) (p : ℕ) (trailing : Bool) → Settles R rows pending (rows_of given)
         → From (line_ended u given) (At rows pending waiting p trailing) []
     unfolding walk_fault
@@ -280,7 +280,7 @@ module _ (u : Usage) (name : Text) where
             ∙ ap (λ (x : Option Rule). after_step R word Idle (step_by x).0 (step_by x).1) found
 
       -- a flag
-      flag_tells : (n : Text) → Met (long n None) → is_among u.flags n ≡ true → From (once n (codes "true") given left (usage_line_of u rest None)) Idle (word ∷ rest)
+      flag_tells : (n : Text) → Met (long n None) → lists_name u.flags n ≡ true → From (once n (codes "true") given left (usage_line_of u rest None)) Idle (word ∷ rest)
       flag_tells n met e =
           let found = flag_found n e in
           let turn : turn_fault s [] Idle word ≡ or_else (use_fault false (flag_built n) [] (rows_of given)) [] =
@@ -298,7 +298,7 @@ module _ (u : Usage) (name : Text) where
           (later (given ++ (n, codes "true") ∷ []) (idle_at (rows_of (given ++ (n, codes "true") ∷ [])) None) p left (nothing_settles R _) places))
 
       -- an option with its value attached
-      attached_tells : (n v : Text) → Met (long n (Some v)) → is_among u.flags n ≡ false → is_among u.options n ≡ true → From (once n v given left (usage_line_of u rest None)) Idle (word ∷ rest)
+      attached_tells : (n v : Text) → Met (long n (Some v)) → lists_name u.flags n ≡ false → lists_name u.options n ≡ true → From (once n v given left (usage_line_of u rest None)) Idle (word ∷ rest)
       attached_tells n v met e f =
           let found = option_found n e f in
           let rule = lookups.option_built u n in
@@ -307,17 +307,17 @@ module _ (u : Usage) (name : Text) where
           let goes : walked R [] Idle word ≡ At (used rule (v ∷ []) (rows_of given)) None idle p false =
           long_walk n (Some v) met (Some rule) found ∙ ap (λ (rs : List Row). At (used rule (v ∷ []) rs) None idle p false) settles.1 in
           once_by n v given left (usage_line_of u rest None) Idle (word ∷ rest) (is_given given n) refl
-          (λ some. refused Idle word rest (subst Wrong (sym (turn ∙ ap (λ (k : Kinds). or_else k []) (one_repeats None (Some n) (is_among u.needed n) n v (rows_of given) (has_given given n ∙ some)))) repeated))
+          (λ some. refused Idle word rest (subst Wrong (sym (turn ∙ ap (λ (k : Kinds). or_else k []) (one_repeats None (Some n) (lists_name u.needed n) n v (rows_of given) (has_given given n ∙ some)))) repeated))
           (λ none.
           let fresh = has_given given n ∙ none in
-          let after = one_used None (Some n) (is_among u.needed n) n v (rows_of given) fresh ∙ given_more given n v in
+          let after = one_used None (Some n) (lists_name u.needed n) n v (rows_of given) fresh ∙ given_more given n v in
           forward (usage_line_of u rest None (given ++ (n, v) ∷ []) left) Idle _ word rest
-          (turn ∙ ap (λ (k : Kinds). or_else k []) (one_passes None (Some n) (is_among u.needed n) n v (rows_of given) fresh))
+          (turn ∙ ap (λ (k : Kinds). or_else k []) (one_passes None (Some n) (lists_name u.needed n) n v (rows_of given) fresh))
           (goes ∙ ap (λ (rs : List Row). At rs None idle p false) after)
           (later (given ++ (n, v) ∷ []) (idle_at (rows_of (given ++ (n, v) ∷ [])) None) p left (nothing_settles R _) places))
 
       -- an option whose value comes next
-      option_tells : (n : Text) → Met (long n None) → is_among u.flags n ≡ false → is_among u.options n ≡ true → From (usage_line_of u rest (Some n) given left) Idle (word ∷ rest)
+      option_tells : (n : Text) → Met (long n None) → lists_name u.flags n ≡ false → lists_name u.options n ≡ true → From (usage_line_of u rest (Some n) given left) Idle (word ∷ rest)
       option_tells n met e f =
           let rule = lookups.option_built u n in
           forward (usage_line_of u rest (Some n) given left) Idle _ word rest
@@ -325,7 +325,7 @@ module _ (u : Usage) (name : Text) where
           (long_walk n None met (Some rule) (option_found n e f) ∙ ap (λ (rs : List Row). At rs (Some (n, [])) (option n) p false) settles.1)
           (later given (open_at n) p left (valued_options n f) places)
 
-      tells_long : (n : Text) (v : Option Text) (a b c : Bool) → is_among u.flags n ≡ a → is_among u.options n ≡ b → bytes_eq (codes "help") n ≡ c → Met (long n v)
+      tells_long : (n : Text) (v : Option Text) (a b c : Bool) → lists_name u.flags n ≡ a → lists_name u.options n ≡ b → bytes_eq (codes "help") n ≡ c → Met (long n v)
           → From (by_long u n v given left (usage_line_of u rest)) Idle (word ∷ rest)
       tells_long n None true b c e f h met = rw e (flag_tells n met e)
       tells_long n (Some v) true b c e f h met = rw e (refused Idle word rest (subst Wrong (sym (long_turn n (Some v) met (Some (flag_built n)) (flag_found n e))) valued))
@@ -348,7 +348,7 @@ module _ (u : Usage) (name : Text) where
       tells_idle : (k : Word) → Met k → From (by_kind u k word given left (line_after_mark u rest) (usage_line_of u rest)) Idle (word ∷ rest)
       unfolding walked
       tells_idle mark met = marked rows pending idle p word met (line_after_mark u rest given left) rest (tells_after_mark rest given rows pending p left places settles)
-      tells_idle (long n v) met = tells_long n v (is_among u.flags n) (is_among u.options n) (bytes_eq (codes "help") n) refl refl refl met
+      tells_idle (long n v) met = tells_long n v (lists_name u.flags n) (lists_name u.options n) (bytes_eq (codes "help") n) refl refl refl met
       tells_idle (short letter) met = tells_short letter (104 == letter) refl met
       tells_idle plain met =
           by_word_tells word rest given rows pending p false (usage_line_of u rest None) left places settles
@@ -376,7 +376,7 @@ module _ (u : Usage) (name : Text) where
       unfolding walked
       tells_open mark met = marked (rows_of given) (Some (n, [])) (option n) p word met wrong rest (doomed_after_mark rest (rows_of given) (Some (n, [])) (option n) p left places no_value)
       tells_open (long m v) met =
-          refused Open word rest (doomed_long (rows_of given) (Some (n, [])) (option n) p word m v (is_among u.flags m) (is_among u.options m) (bytes_eq (codes "help") m) refl refl refl met no_value)
+          refused Open word rest (doomed_long (rows_of given) (Some (n, [])) (option n) p word m v (lists_name u.flags m) (lists_name u.options m) (bytes_eq (codes "help") m) refl refl refl met no_value)
       tells_open (short letter) met = refused Open word rest (doomed_short (rows_of given) (Some (n, [])) (option n) p word letter (104 == letter) refl met no_value)
       tells_open plain met =
           let passes : turn_fault s [] Open word ≡ [] = ap₂ (λ (k : Kinds) (q : Held × Step). or_else k (step_fault s p q.0 q.1)) met.0 (met.1 ∙ value_walk) in

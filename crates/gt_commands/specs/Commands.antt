@@ -7,7 +7,7 @@ use Rattle.gt_commands.specs.Prelude.{ArgumentConflict, DisplayHelp, DisplayVers
 use Rattle.gt_commands.specs.Prelude.{MissingRequiredArgument, MissingSubcommand, TooManyValues, UnknownArgument}
 use Rattle.gt_commands.specs.Prelude.{Format, Plain, Json, Invocation, Mode, Play, Run, Policy, Rules, Check, Why, Flow}
 use Rattle.gt_commands.specs.Prelude.{Entries, Explore}
-use Rattle.gt_commands.specs.Files.{names_of}
+use Rattle.gt_commands.specs.Files.{file_names_of}
 use Rattle.gt_explore_verdict.specs.declared.judging.Claim.{Claim}
 use Rattle.gt_explore_verdict.specs.declared.judging.Claim.TheVariants.{Find, Never, Always}
 use Rattle.gt_commands.specs.declared.invocation.Exploration.{Exploration}
@@ -178,9 +178,9 @@ witness_of (Some word) =
     else option_map (λ n. Some (one_script n)) (number_up_to 18446744073709551615 word)
 
 -- `--trace N`, a number of 64 bits, if it is given
-abbrev pub trace_of : Option Text → Option (Option Sought)
-trace_of None = Some None
-trace_of (Some word) = option_map (λ n. Some (one_trace n)) (number_up_to 18446744073709551615 word)
+abbrev pub trace_option : Option Text → Option (Option Sought)
+trace_option None = Some None
+trace_option (Some word) = option_map (λ n. Some (one_trace n)) (number_up_to 18446744073709551615 word)
 
 -- `--find EXPR`, `--never EXPR` or `--always EXPR`, of which only one may be given
 abbrev pub claim_of : Option Text → Option Text → Option Text → Option (Option Sought)
@@ -224,9 +224,9 @@ one_sought (Some claim) (Some witness) None = None
 one_sought (Some claim) (Some witness) (Some trace) = sought_of claim witness trace
 
 -- `--format text`, `--format json` or `--format mermaid` of `explore`; text if it is left out
-abbrev pub form_of : Option Text → Option ExploreForm
-form_of None = Some forms.Text
-form_of (Some word) = if bytes_eq word (codes "text") then Some forms.Text
+abbrev pub explore_form_of : Option Text → Option ExploreForm
+explore_form_of None = Some forms.Text
+explore_form_of (Some word) = if bytes_eq word (codes "text") then Some forms.Text
     else (if bytes_eq word (codes "json") then Some forms.Json
     else (if bytes_eq word (codes "mermaid") then Some forms.Mermaid else None))
 
@@ -312,8 +312,8 @@ read Run value = run_with (format_of (value (codes "format"))) (is_true (value (
 read Explore value = explore_with
     (formed_of
     (one_sought (claim_of (value (codes "find")) (value (codes "never")) (value (codes "always")))
-    (witness_of (value (codes "witness"))) (trace_of (value (codes "trace"))))
-    (form_of (value (codes "format")))) (value (codes "has"))
+    (witness_of (value (codes "witness"))) (trace_option (value (codes "trace"))))
+    (explore_form_of (value (codes "format")))) (value (codes "has"))
     (states_of (value (codes "states"))) (value (codes "file"))
 read Policy value = list_with (format_of (value (codes "format"))) (is_true (value (codes "verbose")))
     (value (codes "file"))
@@ -388,9 +388,9 @@ asked_by_plan (plans.ExploreHas given o) =
 asked_by_plan (plans.Policy verbose format file) = to_list verbose format (option_map (λ f. f.now) file)
 asked_by_plan (plans.Rules rule) = to_tell_rules (option_map (λ f. f.now) rule)
 asked_by_plan (plans.Check script files) =
-    to_check script files.format (option_map (λ f. f.now) files.file) (names_of files.more)
+    to_check script files.format (option_map (λ f. f.now) files.file) (file_names_of files.more)
 asked_by_plan (plans.CheckNever never files) =
-    to_check_never never.now files.format (option_map (λ f. f.now) files.file) (names_of files.more)
+    to_check_never never.now files.format (option_map (λ f. f.now) files.file) (file_names_of files.more)
 asked_by_plan (plans.Why source target permission file) = to_explain (option_map (λ f. f.now) source)
     (option_map (λ f. f.now) target) (option_map (λ f. f.now) permission) (option_map (λ f. f.now) file)
 asked_by_plan (plans.WhyEach file) = to_explain_each file.now

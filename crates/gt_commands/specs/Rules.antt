@@ -5,13 +5,13 @@ use Rattle.clap.specs.Simple.{on_top}
 use Rattle.clap.specs.declared.builder.command.Command.{Command}
 use Rattle.clap.specs.declared.builder.command.Command.TheViews.{out-Command}
 use Rattle.clap.specs.declared.builder.action.ArgAction.TheVariants.{SetTrue}
-use Rattle.gt_commands.specs.Usage.{Usage, is_among}
+use Rattle.gt_commands.specs.Usage.{Usage, lists_name}
 use Rattle.gt_commands.specs.declared.line.Part.{Part}
 use Rattle.gt_commands.specs.declared.line.Part.TheVariants.{Word, Flag, Free, Needed}
 
 -- NAME
 abbrev pub word_rule : Usage → Text → Rule
-word_rule u name = record (new_rule name) { value_names = 1; required = is_among u.needed name }
+word_rule u name = record (new_rule name) { value_names = 1; required = lists_name u.needed name }
 
 -- --NAME
 abbrev pub flag_rule : Text → Rule
@@ -19,7 +19,7 @@ flag_rule name = record (new_rule name) { long = Some name; action = Some SetTru
 
 -- --NAME VALUE
 abbrev pub option_rule : Usage → Text → Rule
-option_rule u name = record (new_rule name) { long = Some name; value_names = 1; required = is_among u.needed name }
+option_rule u name = record (new_rule name) { long = Some name; value_names = 1; required = lists_name u.needed name }
 
 -- NAME, which may be left out
 abbrev pub free_word : Text → Rule
@@ -49,12 +49,12 @@ part_rule (Flag name) = flag_rule name.now
 part_rule (Free id name) = free_option id.now
 part_rule (Needed id name) = needed_option id.now
 
-abbrev pub with_part : App → Part → App
-with_part app part = with_rule app (part_rule part)
+abbrev pub with_part_rule : App → Part → App
+with_part_rule app part = with_rule app (part_rule part)
 
 -- a command with these parts more
-unfoldable pub with_parts : App → List Part → App
-with_parts app parts = fold with_part app parts
+unfoldable pub with_part_rules : App → List Part → App
+with_part_rules app parts = fold with_part_rule app parts
 
 -- the parser takes the command for this one, and none of its arguments is global
 pub record IsCommand (c : Command) (shown : App) : Type 0 where

@@ -16,8 +16,8 @@ pub record Usage : Type 0 where
   pub words : List Text
   pub needed : List Text
 
-abbrev pub is_among : List Text → Text → Bool
-is_among names name = list_any (λ n. bytes_eq n name) names
+abbrev pub lists_name : List Text → Text → Bool
+lists_name names name = list_any (λ n. bytes_eq n name) names
 
 -- what was given so far, in order: names with their values; the value of a flag is `true`
 abbrev pub Given : Type 0
@@ -35,7 +35,7 @@ is_true value = option_map_or (λ text. bytes_eq text (codes "true")) value fals
 
 -- something needed is not given
 abbrev pub lacks : Usage → Given → Bool
-lacks u given = list_any (λ name. is_among u.needed name && not (is_given given name)) (u.words ++ u.options)
+lacks u given = list_any (λ name. lists_name u.needed name && not (is_given given name)) (u.words ++ u.options)
 
 -- the meaning of a line: it gives this, it asks for help, or it is wrong
 pub data Line : Type 0 where
@@ -91,12 +91,12 @@ line_after_mark u (word ∷ rest) given left = by_word left word given (line_aft
 -- option whose value comes next, if there is one
 abbrev pub by_long : Usage → Text → Option Text → Given → List Text → (Option Text → Next) → Line
 by_long u name None given left waiting =
-    if is_among u.flags name then once name (codes "true") given left (waiting None)
-    else (if is_among u.options name then waiting (Some name) given left
+    if lists_name u.flags name then once name (codes "true") given left (waiting None)
+    else (if lists_name u.options name then waiting (Some name) given left
     else (if bytes_eq (codes "help") name then asks_help else wrong))
 by_long u name (Some value) given left waiting =
-    if is_among u.flags name then wrong
-    else (if is_among u.options name then once name value given left (waiting None) else wrong)
+    if lists_name u.flags name then wrong
+    else (if lists_name u.options name then once name value given left (waiting None) else wrong)
 
 -- the meaning of a word, if no option waits for its value
 abbrev pub by_kind : Usage → Word → Text → Given → List Text → Next → (Option Text → Next) → Line

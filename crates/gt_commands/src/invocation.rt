@@ -110,11 +110,11 @@ pub struct MoreFiles<'a> {
 impl<'a> MoreFiles<'a> {
     ghost use Rattle.std.specs.Prelude.{◌≡◌, map};
     ghost use Rattle.std.specs.Option.{option_map};
-    ghost use Rattle.gt_commands.specs.Files.{names_of};
+    ghost use Rattle.gt_commands.specs.Files.{file_names_of};
 
     /// Returns their names.
     pub fn names(&self) -> [Option<&'a str>; 7]
-        ensures { map (option_map (λ v. v.now)) result ≡ names_of self.now }
+        ensures { map (option_map (λ v. v.now)) result ≡ file_names_of self.now }
     {
         [
             self.second,

@@ -1,7 +1,7 @@
 //! The commands for the parser of command lines.
 ghost use Rattle.std.specs.Prelude.{◌≡◌, IfOk, false};
 ghost use Rattle.clap.specs.Words.{app_of, new_app, rule_of};
-ghost use Rattle.gt_commands.specs.Rules.{IsCommand, flag_rule, free_option, free_word, needed_option, part_rule, with_parts};
+ghost use Rattle.gt_commands.specs.Rules.{IsCommand, flag_rule, free_option, free_word, needed_option, part_rule, with_part_rules};
 ghost use Rattle.gt_commands.specs.Commands.{bare_app, gthost_app, mode_app};
 ghost use Rattle.gt_commands.specs.declared.invocation.Mode.TheVariants as modes;
 
@@ -153,7 +153,7 @@ fn command_with<'a>(
     help: &'a str,
     parts: &[Part],
 ) -> Result<Command<'a>, AllocError>
-    ensures { IfOk result (λ c. IsCommand c (with_parts (new_app name.entry.now) parts.now)) }
+    ensures { IfOk result (λ c. IsCommand c (with_part_rules (new_app name.entry.now) parts.now)) }
 {
     let mut command = Command::new(alloc, name).override_help(help);
     'parts: for part in parts {
@@ -162,7 +162,7 @@ fn command_with<'a>(
     Ok(command)
 }
 
-#[tactic(auto, unfolding(crate::specs::Rules::with_parts))]
+#[tactic(auto, unfolding(crate::specs::Rules::with_part_rules))]
 fn check_command<'a>(alloc: Global) -> Result<Command<'a>, AllocError>
     ensures { IfOk result (λ c. IsCommand c (mode_app modes.Check)) }
 {
@@ -171,7 +171,7 @@ fn check_command<'a>(alloc: Global) -> Result<Command<'a>, AllocError>
 }
 
 // Makes a command of the program.
-#[tactic(auto, unfolding(crate::specs::Rules::with_parts))]
+#[tactic(auto, unfolding(crate::specs::Rules::with_part_rules))]
 fn mode_command<'a>(alloc: Global, mode: Mode) -> Result<Command<'a>, AllocError>
     ensures { IfOk result (λ c. IsCommand c (mode_app mode)) }
 {

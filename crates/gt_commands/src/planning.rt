@@ -4,7 +4,7 @@ ghost use Rattle.std.specs.Str.{bytes_eq};
 ghost use Rattle.std.specs.Option.{option_map};
 ghost use Rattle.clap.specs.Words.{subcommand_of, rows_of, found_of, first_of, kind_of};
 ghost use Rattle.clap.specs.declared.error.kind.ErrorKind.TheVariants.{InvalidValue, OutOfMemory};
-ghost use Rattle.gt_commands.specs.Files.{names_of};
+ghost use Rattle.gt_commands.specs.Files.{file_names_of};
 ghost use Rattle.gt_commands.specs.Usage.{is_true};
 ghost use Rattle.gt_commands.specs.Commands.{request_in_words, asked_by_some, asked_named, check_with, entries_with};
 ghost use Rattle.gt_commands.specs.Commands.{IsInvocationOf, IsPlanOf, gthost_app, list_with};
@@ -123,7 +123,7 @@ fn check_with<'a>(
     more: MoreFiles<'a>,
 ) -> Option<Invocation<'a>>
     ensures { asked_by_some result ≡ check_with format script (option_map (λ v. v.now) never.entry)
-        (option_map (λ v. v.now) file.entry) (names_of more.entry) }
+        (option_map (λ v. v.now) file.entry) (file_names_of more.entry) }
 {
     match (format, never, script) {
         (Some(format), None, script) => Some(Invocation::Check {
@@ -210,7 +210,7 @@ fn entries_with<'a>(
 
 // Returns the FILEs of `check` after the first.
 fn more_files<'a>(matches: &ArgMatches<'a>) -> MoreFiles<'a>
-    ensures { names_of result ≡ map (λ id. first_of id (rows_of (found_of matches.now))) more_files }
+    ensures { file_names_of result ≡ map (λ id. first_of id (rows_of (found_of matches.now))) more_files }
 {
     MoreFiles {
         second: value_of(matches, "file2"),

@@ -1,8 +1,8 @@
 //! The values of options.
 ghost use Rattle.std.specs.Prelude.{◌≡◌};
 ghost use Rattle.std.specs.Option.{option_map};
-ghost use Rattle.gt_commands.specs.Commands.{diagram_of, form_of, format_of, formed, domain_number, number_up_to, script_of, states_of, type_of};
-ghost use Rattle.gt_commands.specs.Commands.{claim_of, sought_of, sought_by, trace_of, version_of, witness_of};
+ghost use Rattle.gt_commands.specs.Commands.{diagram_of, explore_form_of, format_of, formed, domain_number, number_up_to, script_of, states_of, type_of};
+ghost use Rattle.gt_commands.specs.Commands.{claim_of, sought_of, sought_by, trace_option, version_of, witness_of};
 
 use crate::invocation::{Exploration, Format};
 use gt_explore_verdict::Claim;
@@ -30,7 +30,7 @@ pub(crate) enum ExploreForm {
 
 /// Returns the form of this name, or text if no name is given. None for any other name.
 pub(crate) fn form_of(value: Option<&str>) -> Option<ExploreForm>
-    ensures { result ≡ form_of (option_map (λ v. v.now) value.entry) }
+    ensures { result ≡ explore_form_of (option_map (λ v. v.now) value.entry) }
 {
     match value {
         None => Some(ExploreForm::Text),
@@ -137,7 +137,7 @@ pub(crate) fn witness_of<'a>(value: Option<&'a str>) -> Option<Option<Exploratio
 
 /// Returns what `--trace` asks for, if it is given. The outer result is None if the value is not a number of 64 bits.
 pub(crate) fn trace_of<'a>(value: Option<&'a str>) -> Option<Option<Exploration<'a>>>
-    ensures { option_map (option_map sought_by) result ≡ trace_of (option_map (λ v. v.now) value.entry) }
+    ensures { option_map (option_map sought_by) result ≡ trace_option (option_map (λ v. v.now) value.entry) }
 {
     match value {
         None => Some(None),

@@ -20,7 +20,7 @@ use Rattle.gt_model.specs.Asking.{FitsAsked}
 use Rattle.gt_calls.specs.Asking.{judged_as}
 use Rattle.gt_calls.proofs.Advancing.{continues, opens as starts-open}
 use Rattle.gt_calls.specs.declared.asking.Judged.TheVariants as judgeds
-use Rattle.gt_core.specs.GoingOn.{AccessAnsweredSo, AnsweredSo, CallsCanBegin, IsAccess, IsOnWords, CanBeReached}
+use Rattle.gt_core.specs.GoingOn.{AccessAnsweredSo, AnsweredSo, CallsCanBegin, IsAccess, AccessesNoBytes, CanBeReached}
 use Rattle.gt_core.specs.GoingOn.{OpenCallsCanAccess, OpenCallsCanGoOn, RunsStart, begin_answer, beginning}
 use Rattle.gt_core.specs.GoingOn.{step_after}
 use Rattle.std.proofs.Common.{◌+◌, ◌-◌, ◌≤◌, arith, drop, length-drop, slice_range, take}
@@ -144,7 +144,7 @@ runs-start config may limits = let xs = map (first_state config.first_gen) confi
 
 -- a step on words
 
-no-bytes-changed : (x : State) (call : Call) (step : Step) (fs : FrameSet) → IsOnWords step → AccessedBy x call step fs fs
+no-bytes-changed : (x : State) (call : Call) (step : Step) (fs : FrameSet) → AccessesNoBytes step → AccessedBy x call step fs fs
 no-bytes-changed x call (ReadBytes dom frame off len) fs quiet = absurd quiet
 no-bytes-changed x call (WriteBytes dom frame off len) fs quiet = absurd quiet
 no-bytes-changed x call (CopyBytes from to len) fs quiet = absurd quiet
@@ -159,7 +159,7 @@ closes : (fs : FrameSet) (xs : List State) (at : ℕ) (d : State) (step : Step) 
 closes fs xs at d (ReadBytes dom frame off len) answer told = (told.0, told.1, refl, told.2)
 closes fs xs at d step answer told = (told, refl)
 
-told-words : (fs : FrameSet) (step : Step) → IsOnWords step → IsToldBy fs step AnswerDone
+told-words : (fs : FrameSet) (step : Step) → AccessesNoBytes step → IsToldBy fs step AnswerDone
 told-words fs (ReadBytes dom frame off len) quiet = absurd quiet
 told-words fs step quiet = refl
 
@@ -251,7 +251,7 @@ rehandled s h xs x at m st place here was named a agrees = (
 same-step : (a b : Step) → Makes a ≡ Makes b → a ≡ b
 same-step a b e = cc
 
-module _ (s : Setting) (h : History) (core : CoreState) (c : Underway) (step : Step) (action : Action) (answer : Option Answer) (st : CoreStands s h core) (quiet : IsOnWords step) where
+module _ (s : Setting) (h : History) (core : CoreState) (c : Underway) (step : Step) (action : Action) (answer : Option Answer) (st : CoreStands s h core) (quiet : AccessesNoBytes step) where
   -- what the call of a domain needs to continue like this
   abbrev Needs : DomId → Type 0
   Needs d = (domain_of s.domains d ≢ None) × (open_call h d.0 ≡ Some c) × (path (known_at s h d) d c.request (values c) ≡ Some (Makes step))
@@ -260,11 +260,11 @@ module _ (s : Setting) (h : History) (core : CoreState) (c : Underway) (step : S
   goes-on-home : (x : State) → state_of core.domains x.id.0 ≡ Some x → StateStands s h x → Needs x.id → Gives s h x.id step answer
   goes-on-home x here a (named, call, way, next, so) = let u = opened-by s h x.id x.underway (open_call h x.id.0) c a.call call in let o = u.0 in
       let same : o.step ≡ step = same-step o.step step (same_Some (Makes o.step) (Makes step) (sym u.2.follows ∙ way)) in
-      let quiet' : IsOnWords o.step = subst IsOnWords (sym same) quiet in
+      let quiet' : AccessesNoBytes o.step = subst AccessesNoBytes (sym same) quiet in
       let next' = subst (λ (z : Step). path (known_at s h x.id) x.id c.request (values c ++ seen_by s h x.id z ∷ []) ≡ Some action) (sym same) next in
       subst (λ (z : Step). Gives s h x.id z answer) same (by o u.1 u.2 quiet' next' action refl so)
     where
-      by : (o : OpenCall) → x.underway ≡ Some o → OpenAgrees s h x.id o c → IsOnWords o.step → path (known_at s h x.id) x.id c.request (values c ++ seen_by s h x.id o.step ∷ []) ≡ Some action
+      by : (o : OpenCall) → x.underway ≡ Some o → OpenAgrees s h x.id o c → AccessesNoBytes o.step → path (known_at s h x.id) x.id c.request (values c ++ seen_by s h x.id o.step ∷ []) ≡ Some action
           → (z : Action) → action ≡ z → AnsweredSo h x.id z answer → Gives s h x.id o.step answer
       by o under stands quiet next (Done (KeptPin held)) e (handle, is, may) = let p = placed core.domains x.id.0 x here in
           let r = rehandled s h core.domains x p.0 may.old st.domains p.1 p.2 here named a may.agrees in

@@ -32,11 +32,11 @@ begin_answer None = None
 begin_answer (Some verdict) = Some (answer_of verdict)
 
 -- the step is on words, and reads and writes no bytes
-abbrev pub IsOnWords : Step → Type 0
-IsOnWords (ReadBytes dom frame off len) = ⊥
-IsOnWords (WriteBytes dom frame off len) = ⊥
-IsOnWords (CopyBytes from to len) = ⊥
-IsOnWords step = Unit {0}
+abbrev pub AccessesNoBytes : Step → Type 0
+AccessesNoBytes (ReadBytes dom frame off len) = ⊥
+AccessesNoBytes (WriteBytes dom frame off len) = ⊥
+AccessesNoBytes (CopyBytes from to len) = ⊥
+AccessesNoBytes step = Unit {0}
 
 -- the domain's next mapping may get this handle: some table of handles for its mappings gives it next
 pub record MayBeGiven (h : History) (d : DomId) (handle : Handle) (held : HeldPin) : Type 0 where
@@ -71,7 +71,7 @@ abbrev pub OpenCallsCanGoOn : Type 0
 OpenCallsCanGoOn =
     (s : Setting) (h : History) (d : DomId) (c : Underway) (step : Step) (action : Action) (answer : Option Answer)
     → CanBeReached s h → domain_of s.domains d ≢ None → open_call h d.0 ≡ Some c
-    → path (known_at s h d) d c.request (values c) ≡ Some (Makes step) → IsOnWords step
+    → path (known_at s h d) d c.request (values c) ≡ Some (Makes step) → AccessesNoBytes step
     → next_in s h d c (seen_by s h d step) ≡ Some action → AnsweredSo h d action answer
     → let i = step_after s h d step answer in IsRight s h i × CanBeReached s (i ∷ h)
 

@@ -18,7 +18,7 @@ use Rattle.gt_explore_verdict.specs.declared.fault.ExpressionFault.TheVariants a
 use Rattle.gt_explore_verdict.specs.declared.judging.Verdict.{Verdict}
 use Rattle.gt_explore_answers.specs.Exploring.{IsFaultAsked}
 use Rattle.gt_explore_faults.specs.Faults.{expression_fault}
-use Rattle.gt_explore.specs.Writing.{Explored, Explores, Makes}
+use Rattle.gt_explore.specs.Writing.{Explored, Explores, MakesOutput}
 use Rattle.gt_explore_answers.specs.declared.asking.ExploreOptions.{ExploreOptions}
 use Rattle.gt_explore_faults.specs.declared.fault.ExploreFault.{ExploreFault}
 use Rattle.gt_explore_faults.specs.declared.fault.ExploreFault.TheVariants.{Play, Term, Text, Number, Unfound, Texts}
@@ -47,7 +47,7 @@ pub explored_fault : (c : RunContents) (asked : ExploreOptions) (error : Express
 explored_fault c asked error fault old is same = subst (λ (f : ExploreFault). Explores c asked old old (Err f)) (sym same) (fault_asked c asked error old is)
 
 -- nothing was made for the script, and nothing went out
-pub explored_unmade : (c : RunContents) (asked : ExploreOptions) (fault : ExploreFault) (old : Option (List ℕ)) → Makes c asked (Err fault) → Explores c asked old old (Err fault)
+pub explored_unmade : (c : RunContents) (asked : ExploreOptions) (fault : ExploreFault) (old : Option (List ℕ)) → MakesOutput c asked (Err fault) → Explores c asked old old (Err fault)
 explored_unmade c asked Number old lacks = (lacks, keeps_same old)
 explored_unmade c asked Unfound old lacks = (lacks, keeps_same old)
 explored_unmade c asked (Text line fault) old refuses = (refuses, keeps_same old)

@@ -45,14 +45,14 @@ pub record RefusesText (c : RunContents) (asked : ExploreOptions) (line : ℕ) (
   pub first : refused_text c asked.request found ≡ Some (line, fault)
 
 -- the output and the verdict for a script; or no text has the number that is asked for; or the search failed
-abbrev pub Makes : RunContents → ExploreOptions → Result ExploreOutput ExploreFault → Type 0
-Makes c asked (Ok made) = IsMade c asked made.text.items made.verdict
-Makes c asked (Err Number) = LacksText c asked true
-Makes c asked (Err Unfound) = LacksText c asked false
-Makes c asked (Err (Text line fault)) = RefusesText c asked line fault
-Makes c asked (Err (Texts fault)) = Unit {0}
-Makes c asked (Err (Term number fault)) = ⊥
-Makes c asked (Err (Play fault)) = ⊥
+abbrev pub MakesOutput : RunContents → ExploreOptions → Result ExploreOutput ExploreFault → Type 0
+MakesOutput c asked (Ok made) = IsMade c asked made.text.items made.verdict
+MakesOutput c asked (Err Number) = LacksText c asked true
+MakesOutput c asked (Err Unfound) = LacksText c asked false
+MakesOutput c asked (Err (Text line fault)) = RefusesText c asked line fault
+MakesOutput c asked (Err (Texts fault)) = Unit {0}
+MakesOutput c asked (Err (Term number fault)) = ⊥
+MakesOutput c asked (Err (Play fault)) = ⊥
 
 -- what was written for a script, by the result
 abbrev pub Explores : RunContents → ExploreOptions → Option (List ℕ) → Option (List ℕ) → Result Verdict ExploreFault → Type 0

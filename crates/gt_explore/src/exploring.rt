@@ -8,7 +8,7 @@ ghost use Rattle.gt_text.specs.declared.streams.TheConstants.{READ_LIMIT};
 ghost use Rattle.gt_script.specs.Stuck.{AreNumbered};
 ghost use Rattle.gt_explore_verdict.specs.Expressions.{condition_asked};
 ghost use Rattle.gt_explore_answers.specs.Exploring.{AreAsked};
-ghost use Rattle.gt_explore.specs.Writing.{Explored, Explores, Makes};
+ghost use Rattle.gt_explore.specs.Writing.{Explored, Explores, MakesOutput};
 
 use crate::texts::texts_found;
 use gt_explore_answers::{
@@ -33,7 +33,7 @@ fn made_as(
     requires fits { CanConfigure (contents_of script.now.head) }
     requires numbered { AreNumbered script.now.flags script.now.tasks }
     requires read { AreAsked (run_contents script.now) asked.now.request (map condition_asked conditions.now) }
-    ensures { Makes (run_contents script.now) asked.now result }
+    ensures { MakesOutput (run_contents script.now) asked.now result }
 {
     let found = match texts_found(alloc, script, asked.states) {
         Ok(found) => found,

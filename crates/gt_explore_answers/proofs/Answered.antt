@@ -21,7 +21,7 @@ use Rattle.gt_explore_verdict.specs.declared.judging.Claim.TheVariants.{Find}
 use Rattle.gt_script.specs.RunContents.{RunContents}
 use Rattle.gt_explore_answers.specs.Texts.{IsTextAmong, texts_of_orders}
 use Rattle.gt_explore_answers.specs.Exploring.{AreTextsOf, MeansGiven, IsOutputBy, IsClaimOutput, IsClaimOutputBy, IsVerdictOutput}
-use Rattle.gt_explore_answers.specs.Exploring.{AreWitnessOutputs, place_of, satisfied}
+use Rattle.gt_explore_answers.specs.Exploring.{AreWitnessOutputs, index_of_text, satisfied}
 use Rattle.gt_explore_answers.specs.Outputs.{Found, counterexample_comment, found_from, witness_comment}
 use Rattle.gt_explore_answers.specs.Witness.{ShowsAfter}
 use Rattle.gt_explore_answers.specs.declared.answering.ExploreOutput.{ExploreOutput}
@@ -74,9 +74,9 @@ among_may c f given are (at, there) =
     subst (MayGive c) (get_or_from_slice_get f.texts at given given there) (are.possible at given (slice_get_within f.texts at given there))
 
 -- the verdict on a text means that the script may give it, or that it may not
-pub means_given : (c : RunContents) (f : Found) (given : List ℕ) → AreTextsOf c f → MeansGiven c given (verdict_at Find (is_some (place_of given f.texts)) f.whole)
+pub means_given : (c : RunContents) (f : Found) (given : List ℕ) → AreTextsOf c f → MeansGiven c given (verdict_at Find (is_some (index_of_text given f.texts)) f.whole)
 means_given c f given are =
-    by (place_of given f.texts) f.whole (sym (position_from-zero (λ t. bytes_eq t given) f.texts)) refl
+    by (index_of_text given f.texts) f.whole (sym (position_from-zero (λ t. bytes_eq t given) f.texts)) refl
   where
     by : (o : Option ℕ) (w : Bool) → position_from (λ t. bytes_eq t given) 0 f.texts ≡ o → f.whole ≡ w → MeansGiven c given (verdict_at Find (is_some o) w)
     by (Some k) w is whole = among_may c f given are (there_found given f.texts 0 k is)

@@ -16,7 +16,7 @@ use lib.Pointwise.{pointwise}
 use Rattle.gt_script_runs.specs.Playing.{Played}
 use Rattle.gt_script.specs.Script.{ReadsAsScript}
 use Rattle.gt_types.specs.declared.config.DomainConfig.{DomainConfig}
-use Rattle.gt_explore_answers.specs.GivingAnswers.{GivesAnswers, GoesOnWith, HaveAnswers, without_number}
+use Rattle.gt_explore_answers.specs.GivingAnswers.{GivesAnswers, ContinuesWithLines, DomainsHaveAnswers, without_number}
 
 -- the line goes on after this space
 pub after_space : (line : List ℕ) (found : Option ℕ) (at : ℕ) → found ≡ cond (nat_lt (position_or_len (λ b. b == 32) line) (length line)) (Some (position_or_len (λ b. b == 32) line)) None
@@ -54,7 +54,7 @@ each_same lines with all = λ k d there. (bytes_eq-Decides (get_or lines k d) wi
 -- lines that begin with others, and go on only with this one
 pub goes : (lines all front back : List (Bor (List ℕ))) (with : List ℕ) → front ≡ take (length lines) all → back ≡ drop (length lines) all
     → map (λ (l : Bor (List ℕ)). l.now) front ≡ map (λ (l : Bor (List ℕ)). l.now) lines → list_all (λ line. bytes_eq line with) (map (λ (l : Bor (List ℕ)). l.now) back) ≡ true
-    → GoesOnWith with (map (λ (l : Bor (List ℕ)). l.now) lines) (map (λ (l : Bor (List ℕ)). l.now) all)
+    → ContinuesWithLines with (map (λ (l : Bor (List ℕ)). l.now) lines) (map (λ (l : Bor (List ℕ)). l.now) all)
 goes lines all front back with first last same rest =
     let v = λ (l : Bor (List ℕ)). l.now in record {
       more = map v back;
@@ -64,9 +64,9 @@ goes lines all front back with first last same rest =
     }
 
 -- the same by other names
-pub carried : (w v : List ℕ) (l m a b : List (List ℕ)) → w ≡ v → l ≡ m → a ≡ b → GoesOnWith w l a → GoesOnWith v m b
+pub carried : (w v : List ℕ) (l m a b : List (List ℕ)) → w ≡ v → l ≡ m → a ≡ b → ContinuesWithLines w l a → ContinuesWithLines v m b
 carried w v l m a b with lines all goes =
-    subst (λ (x : List ℕ). GoesOnWith x m b) with (subst (λ (x : List (List ℕ)). GoesOnWith w x b) lines (subst (λ (x : List (List ℕ)). GoesOnWith w l x) all goes))
+    subst (λ (x : List ℕ). ContinuesWithLines x m b) with (subst (λ (x : List (List ℕ)). ContinuesWithLines w x b) lines (subst (λ (x : List (List ℕ)). ContinuesWithLines w l x) all goes))
 
 -- one more domain has the answers
 pub all_more : (P : DomainConfig → Type 0) (xs : List DomainConfig) (n : ℕ) (d : DomainConfig) → n < length xs → P (get_or xs n d) → All P (take n xs) → All P (take (n + 1) xs)
@@ -74,9 +74,9 @@ all_more P xs n d lt holds all = subst (All P) (sym (take_more xs n d lt)) (All-
 
 -- what was printed has the answers
 pub gives : (domains : List DomainConfig) (script text out told : List ℕ) → Played (ReadsAsScript script) false (Some []) (Some out) (Ok tt) → told ≡ out
-    → HaveAnswers domains text told → GivesAnswers domains script text
+    → DomainsHaveAnswers domains text told → GivesAnswers domains script text
 gives domains script text out told played is same = record {
   out = out;
   played = played;
-  answers = subst (λ (l : List ℕ). HaveAnswers domains text l) is same;
+  answers = subst (λ (l : List ℕ). DomainsHaveAnswers domains text l) is same;
 }

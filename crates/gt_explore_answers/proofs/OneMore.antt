@@ -11,7 +11,7 @@ use Rattle.gt_script.specs.RunContents.{RunContents}
 use Rattle.gt_explore_replay.specs.Orders.{Happening}
 use Rattle.gt_explore_answers.specs.Lines.{move_line, trace_lines}
 use Rattle.gt_explore_answers.specs.Moves.{AreMovesOf, IsMoveOf}
-use Rattle.gt_explore_answers.specs.Places.{task_of}
+use Rattle.gt_explore_answers.specs.Places.{task_of_move}
 use Rattle.gt_explore_answers.specs.declared.trace.facts.TraceForm.{TraceForm}
 use Rattle.gt_explore_answers.specs.declared.trace.moves.TracedMove.{TracedMove}
 
@@ -29,21 +29,21 @@ mover (e ∷ ds) (suc k) d x is own = mover ds k d x is own
 
 -- the lines that are left begin with that of the next move
 pub line_more : (c : RunContents) (form : TraceForm) (ms : List TracedMove) (i : ℕ) (m : TracedMove) → i < length ms → m ≡ get_or ms i m
-    → trace_lines c form (take i ms) (drop i ms) ≡ move_line form (type_names c.head) (i + 1) (task_of c (take i ms) m) m ++ trace_lines c form (take (i + 1) ms) (drop (i + 1) ms)
+    → trace_lines c form (take i ms) (drop i ms) ≡ move_line form (type_names c.head) (i + 1) (task_of_move c (take i ms) m) m ++ trace_lines c form (take (i + 1) ms) (drop (i + 1) ms)
 line_more c form ms i m lt is =
     let left : drop i ms ≡ m ∷ drop (i + 1) ms = drop_more ms i m lt ∙ ap (λ (q : TracedMove). q ∷ drop (i + 1) ms) (sym is) in
     let come : take i ms ++ m ∷ [] ≡ take (i + 1) ms = ap (λ (q : TracedMove). take i ms ++ q ∷ []) is ∙ sym (take_more ms i m lt) in
     let many : length (take i ms) ≡ i = length-take-le i ms (omega arith) in
     ap (trace_lines c form (take i ms)) left
-    ∙ ap (λ (n : ℕ). move_line form (type_names c.head) (n + 1) (task_of c (take i ms) m) m ++ trace_lines c form (take i ms ++ m ∷ []) (drop (i + 1) ms)) many
-    ∙ ap (λ (before : List TracedMove). move_line form (type_names c.head) (i + 1) (task_of c (take i ms) m) m ++ trace_lines c form before (drop (i + 1) ms)) come
+    ∙ ap (λ (n : ℕ). move_line form (type_names c.head) (n + 1) (task_of_move c (take i ms) m) m ++ trace_lines c form (take i ms ++ m ∷ []) (drop (i + 1) ms)) many
+    ∙ ap (λ (before : List TracedMove). move_line form (type_names c.head) (i + 1) (task_of_move c (take i ms) m) m ++ trace_lines c form before (drop (i + 1) ms)) come
 
 -- one line more is written
 pub told_more : (c : RunContents) (form : TraceForm) (ms : List TracedMove) (i : ℕ) (m : TracedMove) (out pushed all : List ℕ) → i < length ms → m ≡ get_or ms i m
-    → pushed ≡ out ++ move_line form (type_names c.head) (i + 1) (task_of c (take i ms) m) m
+    → pushed ≡ out ++ move_line form (type_names c.head) (i + 1) (task_of_move c (take i ms) m) m
     → out ++ trace_lines c form (take i ms) (drop i ms) ≡ all → pushed ++ trace_lines c form (take (i + 1) ms) (drop (i + 1) ms) ≡ all
 told_more c form ms i m out pushed all lt is so was =
-    let line = move_line form (type_names c.head) (i + 1) (task_of c (take i ms) m) m in
+    let line = move_line form (type_names c.head) (i + 1) (task_of_move c (take i ms) m) m in
     let rest = trace_lines c form (take (i + 1) ms) (drop (i + 1) ms) in
     ap (λ (l : List ℕ). l ++ rest) so ∙ append_assoc out line rest ∙ ap (λ (l : List ℕ). out ++ l) (sym (line_more c form ms i m lt is)) ∙ was
 

@@ -4,11 +4,11 @@ use Rattle.gt_script.specs.Contents.{Contents}
 use Rattle.gt_script.specs.RunContents.{RunContents}
 use Rattle.gt_explore_replay.specs.Orders.{MayGive}
 use Rattle.gt_explore_verdict.specs.Expressions.{Asked}
-use Rattle.gt_explore_verdict.specs.Judging.{Means, judged, verdict_at}
+use Rattle.gt_explore_verdict.specs.Judging.{VerdictMeans, judged, verdict_at}
 use Rattle.gt_explore_verdict.specs.declared.judging.Claim.{Claim}
 use Rattle.gt_explore_verdict.specs.declared.judging.Claim.TheVariants.{Find, Never, Always}
 use Rattle.gt_explore_verdict.specs.declared.judging.Verdict.{Verdict}
-use Rattle.gt_explore_answers.specs.Exploring.{GivesDiagram, MeansGiven, place_of, satisfied, verdict_of_all}
+use Rattle.gt_explore_answers.specs.Exploring.{GivesDiagram, MeansGiven, index_of_text, satisfied, verdict_of_all}
 use Rattle.gt_explore_answers.specs.Objects.{ShowsText, ShowsTexts, summary}
 use Rattle.gt_explore_answers.specs.Outputs.{Found}
 use Rattle.gt_explore_answers.specs.Tracing.{TracesText}
@@ -45,14 +45,14 @@ ShowsClaimed c claim conditions f objects =
 -- a claim on these conditions is decided
 abbrev pub ShowsClaim : RunContents → Claim → List Asked → Showing
 ShowsClaim c claim conditions f verdict objects =
-    (verdict ≡ (judged claim (satisfied conditions f) f.whole).verdict) × Means (MayGive c) claim conditions verdict
-    × ShowsClaimed c claim conditions f objects
+    (verdict ≡ (judged claim (satisfied conditions f) f.whole).verdict)
+    × VerdictMeans (MayGive c) claim conditions verdict × ShowsClaimed c claim conditions f objects
 
 -- a text that was asked about
 abbrev pub ShowsGiven : RunContents → List ℕ → Showing
 ShowsGiven c given f verdict objects =
-    (verdict ≡ verdict_at Find (is_some (place_of given f.texts)) f.whole) × MeansGiven c given verdict
-    × ShowsText c.head f false (place_of given f.texts) objects
+    (verdict ≡ verdict_at Find (is_some (index_of_text given f.texts)) f.whole) × MeansGiven c given verdict
+    × ShowsText c.head f false (index_of_text given f.texts) objects
 
 -- the text of a number, with a script for `play`
 abbrev pub ShowsWitness : RunContents → ℕ → Showing

@@ -23,8 +23,8 @@ owner_of dom (steps.Write owner frame off len) = owner
 owner_of dom (steps.Copy from to len) = to.frame.owner
 
 -- a note over this domain
-unfoldable pub note_text : DomId → List ℕ
-note_text dom = codes "    Note over D" ++ decimal dom.0 ++ codes ": "
+unfoldable pub diagram_note : DomId → List ℕ
+diagram_note dom = codes "    Note over D" ++ decimal dom.0 ++ codes ": "
 
 -- a message of this domain to the table of that one
 unfoldable pub message_text : DomId → DomId → List ℕ
@@ -32,9 +32,9 @@ message_text dom owner = codes "    D" ++ decimal dom.0 ++ codes "->>T" ++ decim
 
 -- what is before the words of a move of this domain
 abbrev pub arrow_text : DomId → Moved → List ℕ
-arrow_text dom Raised = note_text dom
-arrow_text dom Passed = note_text dom
-arrow_text dom (Began answer) = note_text dom
+arrow_text dom Raised = diagram_note dom
+arrow_text dom Passed = diagram_note dom
+arrow_text dom (Began answer) = diagram_note dom
 arrow_text dom (Stepped step seen answer) = message_text dom (owner_of dom step)
 
 -- the name of the participant of this letter and this domain, and what it is

@@ -7,8 +7,8 @@ use Rattle.gt_script.specs.Lists.{RunAction}
 use Rattle.gt_script.specs.RunContents.{RunContents}
 use Rattle.gt_script.specs.declared.tasks.RunActionBy.TheVariants.{Do, Tell, Await}
 use Rattle.gt_explore_replay.specs.Orders.{MayGive}
-use Rattle.gt_explore_verdict.specs.Expressions.{Answers, Asked, conditions_in, of_all, of_domain, of_line}
-use Rattle.gt_explore_verdict.specs.Judging.{Means, judged, verdict_at}
+use Rattle.gt_explore_verdict.specs.Expressions.{ConditionScope, Asked, conditions_in, of_all, of_domain, of_line}
+use Rattle.gt_explore_verdict.specs.Judging.{VerdictMeans, judged, verdict_at}
 use Rattle.gt_explore_verdict.specs.Satisfying.{satisfies}
 use Rattle.gt_explore_verdict.specs.declared.fault.ConditionFault.{ConditionFault}
 use Rattle.gt_explore_verdict.specs.declared.fault.ConditionFault.TheVariants.{NoCall, NoDomain}
@@ -43,13 +43,13 @@ is_call (Tell flag) = false
 is_call (Await flag) = false
 
 -- the script has a call on the line of a condition, or a domain of that number
-abbrev pub is_askable : RunContents → Answers → Bool
+abbrev pub is_askable : RunContents → ConditionScope → Bool
 is_askable c of_all = true
 is_askable c (of_line number) = list_any (λ t. is_call t.deed && bytes_eq (decimal t.line) number) c.tasks
 is_askable c (of_domain number) = list_any (λ d. bytes_eq (decimal d.id.0) number) c.head.domains
 
 -- the fault of a condition about a line or a domain that the script does not have
-abbrev pub place_fault : Answers → ConditionFault
+abbrev pub place_fault : ConditionScope → ConditionFault
 place_fault of_all = NoCall
 place_fault (of_line number) = NoCall
 place_fault (of_domain number) = NoDomain
@@ -108,8 +108,8 @@ IsClaimOutput c claim conditions f text =
     IsClaimOutputBy c claim f (satisfied conditions f) (judged claim (satisfied conditions f) f.whole) text
 
 -- the index of a text among these
-abbrev pub place_of : List ℕ → List (List ℕ) → Option ℕ
-place_of text texts = position (λ other. bytes_eq other text) texts
+abbrev pub index_of_text : List ℕ → List (List ℕ) → Option ℕ
+index_of_text text texts = position (λ other. bytes_eq other text) texts
 
 -- the output for the question whether a text is one of these: its number
 abbrev pub number_output : Found → Option ℕ → List ℕ
@@ -166,14 +166,14 @@ GivesTexts f text verdict = (text ≡ texts_output f (satisfied [] f)) × (verdi
 pub record DecidesClaim (c : RunContents) (claim : Claim) (conditions : List Asked) (f : Found) (text : List ℕ)
     (verdict : Verdict) : Type 0 where
   pub is : verdict ≡ (judged claim (satisfied conditions f) f.whole).verdict
-  pub means : Means (MayGive c) claim conditions verdict
+  pub means : VerdictMeans (MayGive c) claim conditions verdict
   pub output : IsClaimOutput c claim conditions f text
 
 -- the number of a text that the script may give
 pub record NumbersText (c : RunContents) (given : List ℕ) (f : Found) (text : List ℕ) (verdict : Verdict) : Type 0 where
-  pub is : verdict ≡ verdict_at Find (is_some (place_of given f.texts)) f.whole
+  pub is : verdict ≡ verdict_at Find (is_some (index_of_text given f.texts)) f.whole
   pub means : MeansGiven c given verdict
-  pub output : text ≡ number_output f (place_of given f.texts)
+  pub output : text ≡ number_output f (index_of_text given f.texts)
 
 -- a script for `play` that gives the answers of the text of a number, if one was found
 abbrev pub GivesWitness : RunContents → ℕ → Found → List ℕ → Verdict → Type 0

@@ -10,7 +10,7 @@ use Rattle.gt_explore_verdict.specs.Forms.{may_begin}
 use Rattle.gt_explore_verdict.specs.Satisfying.{line_words, lines_in}
 use Rattle.gt_explore_faults.specs.declared.fault.TextFault.{TextFault}
 use Rattle.gt_explore_faults.specs.declared.fault.TextFault.TheVariants.{Audit, CarriageReturn, Cut, Json, Line}
-use Rattle.gt_explore_answers.specs.Exploring.{is_call, place_of}
+use Rattle.gt_explore_answers.specs.Exploring.{is_call, index_of_text}
 use Rattle.gt_explore_answers.specs.GivingAnswers.{begins_with}
 use Rattle.gt_explore_answers.specs.Outputs.{Found}
 use Rattle.gt_explore_answers.specs.declared.asking.ExploreRequest.{ExploreRequest}
@@ -18,12 +18,12 @@ use Rattle.gt_explore_answers.specs.declared.asking.ExploreRequest.TheVariants a
 use Rattle.gt_explore_answers.specs.declared.given.AnswerPlace.{AnswerPlace}
 
 -- the place of the answer to a task: its line and its domain, if it is a call of this domain
-abbrev pub place_in : DomId → RunTask → List AnswerPlace
-place_in dom t = if (t.dom.0 == dom.0) && is_call t.deed then record { line = t.line; dom = dom } ∷ [] else []
+abbrev pub answer_places_of : DomId → RunTask → List AnswerPlace
+answer_places_of dom t = if (t.dom.0 == dom.0) && is_call t.deed then record { line = t.line; dom = dom } ∷ [] else []
 
 -- the places of all answers, in the order of a text: those of the first domain, in the order of its list, and so on
 abbrev pub answer_places : RunContents → List AnswerPlace
-answer_places c = flat_map (λ d. flat_map (place_in d.id) c.tasks) c.head.domains
+answer_places c = flat_map (λ d. flat_map (answer_places_of d.id) c.tasks) c.head.domains
 
 -- these words of a line are an answer at this place: its line, its domain, and words with which an answer can begin
 unfoldable pub is_answer_at : AnswerPlace → List (List ℕ) → Bool
@@ -79,7 +79,7 @@ first_wrong c text = wrong_from (answer_places c) (length (lines_in text)) 0 (li
 -- one of those found, or if these are not all texts.
 abbrev pub refused_text : RunContents → ExploreRequest → Found → Option (ℕ × TextFault)
 refused_text c (requests.Has given) f =
-    if f.whole && not (is_some (place_of given.now f.texts)) then first_wrong c given.now else None
+    if f.whole && not (is_some (index_of_text given.now f.texts)) then first_wrong c given.now else None
 refused_text c requests.Texts f = None
 refused_text c (requests.Decide claim expression) f = None
 refused_text c (requests.Witness number) f = None

@@ -16,8 +16,8 @@ abbrev pub without_number : List ℕ → List ℕ
 without_number line = after_first (λ b. b == 32) line
 
 -- the word with which the answers of a domain begin, after the number of the line
-abbrev pub domain_word : ℕ → List ℕ
-domain_word dom = decimal dom ++ codes " "
+abbrev pub domain_prefix : ℕ → List ℕ
+domain_prefix dom = decimal dom ++ codes " "
 
 -- a line begins with this word
 abbrev pub begins_with : List ℕ → List ℕ → Bool
@@ -29,31 +29,31 @@ is_end b = b == 10
 
 -- the answers of a domain in a text, in their order, without the numbers of their lines
 abbrev pub answers_of : ℕ → List ℕ → List (List ℕ)
-answers_of dom text = filter (begins_with (domain_word dom)) (map without_number (slice_split is_end text))
+answers_of dom text = filter (begins_with (domain_prefix dom)) (map without_number (slice_split is_end text))
 
 -- the answer of a domain to an unmap, without the number of a line
 abbrev pub ok_line : ℕ → List ℕ
-ok_line dom = domain_word dom ++ codes "ok"
+ok_line dom = domain_prefix dom ++ codes "ok"
 
 -- these lines, and after them only such lines
-pub record GoesOnWith (with : List ℕ) (lines all : List (List ℕ)) : Type 0 where
+pub record ContinuesWithLines (with : List ℕ) (lines all : List (List ℕ)) : Type 0 where
   pub more : List (List ℕ)
   pub is : all ≡ lines ++ more
   pub rest : All (λ line. line ≡ with) more
 
 -- a domain has the answers of the text, and after them `ok` for each mapping that it unmaps at the end of its list
 abbrev pub HasAnswers : ℕ → List ℕ → List ℕ → Type 0
-HasAnswers dom text out = GoesOnWith (ok_line dom) (answers_of dom text) (answers_of dom out)
+HasAnswers dom text out = ContinuesWithLines (ok_line dom) (answers_of dom text) (answers_of dom out)
 
 -- so has each of these domains
-abbrev pub HaveAnswers : List DomainConfig → List ℕ → List ℕ → Type 0
-HaveAnswers domains text out = All (λ domain. HasAnswers domain.id.0 text out) domains
+abbrev pub DomainsHaveAnswers : List DomainConfig → List ℕ → List ℕ → Type 0
+DomainsHaveAnswers domains text out = All (λ domain. HasAnswers domain.id.0 text out) domains
 
 -- the script is one for `play` that prints the answers of the text
 pub record GivesAnswers (domains : List DomainConfig) (script text : List ℕ) : Type 0 where
   pub out : List ℕ
   pub played : Played (ReadsAsScript script) false (Some []) (Some out) (Ok tt)
-  pub answers : HaveAnswers domains text out
+  pub answers : DomainsHaveAnswers domains text out
 
 -- the policy does not let a domain of this type unmap the entries of one of these domains
 abbrev pub is_forbidden : (TypeId → TypeId → Perms → Bool) → List DomainConfig → TypeId → Bool

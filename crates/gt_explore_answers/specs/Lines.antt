@@ -9,20 +9,20 @@ use Rattle.gt_script.specs.Lists.{RunTask}
 use Rattle.gt_script.specs.RunContents.{RunContents}
 use Rattle.gt_explore_replay.specs.declared.replay.Moved.{Moved}
 use Rattle.gt_explore_replay.specs.declared.replay.Moved.TheVariants.{Began, Passed, Raised, Stepped}
-use Rattle.gt_explore_answers.specs.Diagram.{arrow_text, note_text}
+use Rattle.gt_explore_answers.specs.Diagram.{arrow_text, diagram_note}
 use Rattle.gt_explore_answers.specs.Facts.{move_part, value_part}
-use Rattle.gt_explore_answers.specs.Places.{begun_name, task_of}
+use Rattle.gt_explore_answers.specs.Places.{begun_name, task_of_move}
 use Rattle.gt_explore_answers.specs.Steps.{seen_part, step_text}
 use Rattle.gt_explore_answers.specs.declared.trace.facts.TraceForm.{TraceForm}
 use Rattle.gt_explore_answers.specs.declared.trace.facts.TraceForm.TheVariants.{Json, Mermaid, Text}
 use Rattle.gt_explore_answers.specs.declared.trace.moves.TracedMove.{TracedMove}
 
 -- the answer of the call that ended by a move, if one did
-abbrev pub answer_of : Moved → Option Answer
-answer_of Raised = None
-answer_of Passed = None
-answer_of (Began answer) = answer
-answer_of (Stepped step seen answer) = answer
+abbrev pub answer_of_move : Moved → Option Answer
+answer_of_move Raised = None
+answer_of_move Passed = None
+answer_of_move (Began answer) = answer
+answer_of_move (Stepped step seen answer) = answer
 
 -- the answer of a call that has ended
 abbrev pub answer_part : List (List ℕ) → Option Answer → List ℕ
@@ -66,24 +66,24 @@ step_members number task m =
 -- `STEP ID LINE MOVE : ANSWER`
 abbrev pub text_line : List (List ℕ) → ℕ → Option RunTask → TracedMove → List ℕ
 text_line names number task m =
-    step_words Text number task m ++ answer_part names (answer_of m.moved) ++ codes "\n"
+    step_words Text number task m ++ answer_part names (answer_of_move m.moved) ++ codes "\n"
 
 -- the same as a JSON object
 abbrev pub json_line : List (List ℕ) → ℕ → Option RunTask → TracedMove → List ℕ
 json_line names number task m =
-    step_members number task m ++ answer_member names (answer_of m.moved) ++ codes "}\n"
+    step_members number task m ++ answer_member names (answer_of_move m.moved) ++ codes "}\n"
 
 -- a note of the answer of a call that has ended, in a sequence diagram
 unfoldable pub answer_note : List (List ℕ) → DomId → Option RunTask → Option Answer → List ℕ
 answer_note names dom task None = []
 answer_note names dom task (Some answer) =
-    note_text dom ++ line_word task ++ codes " " ++ answer_text names answer ++ codes "\n"
+    diagram_note dom ++ line_word task ++ codes " " ++ answer_text names answer ++ codes "\n"
 
 -- a message or a note of a sequence diagram, and the note of the answer
 abbrev pub diagram_line : List (List ℕ) → ℕ → Option RunTask → TracedMove → List ℕ
 diagram_line names number task m =
     arrow_text m.dom m.moved ++ step_words Mermaid number task m ++ codes "\n"
-    ++ answer_note names m.dom task (answer_of m.moved)
+    ++ answer_note names m.dom task (answer_of_move m.moved)
 
 -- the line of the move of this number
 abbrev pub move_line : TraceForm → List (List ℕ) → ℕ → Option RunTask → TracedMove → List ℕ
@@ -95,7 +95,7 @@ move_line Mermaid names number task m = diagram_line names number task m
 abbrev pub trace_lines : RunContents → TraceForm → List TracedMove → List TracedMove → List ℕ
 trace_lines c form before [] = []
 trace_lines c form before (m ∷ moves) =
-    move_line form (type_names c.head) (length before + 1) (task_of c before m) m
+    move_line form (type_names c.head) (length before + 1) (task_of_move c before m) m
     ++ trace_lines c form (before ++ m ∷ []) moves
 
 -- the lines of the moves of an order

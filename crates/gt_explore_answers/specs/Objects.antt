@@ -10,12 +10,12 @@ use Rattle.gt_explore_answers.specs.Outputs.{Found}
 use Rattle.gt_explore_answers.specs.Witness.{ShowsAfter}
 
 -- a line is not empty
-abbrev pub is_nonempty : List ℕ → Bool
-is_nonempty line = not (length line == 0)
+abbrev pub is_nonempty_line : List ℕ → Bool
+is_nonempty_line line = not (length line == 0)
 
 -- the lines of a text
 abbrev pub text_lines : List ℕ → List (List ℕ)
-text_lines text = filter is_nonempty (slice_split (λ b. b == 10) text)
+text_lines text = filter is_nonempty_line (slice_split (λ b. b == 10) text)
 
 -- what is before an item of an array
 abbrev pub comma : Bool → List ℕ

@@ -29,8 +29,8 @@ abbrev pub index_after : ℕ → Moved → ℕ
 index_after begun moved = if is_beginning moved then begun else begun - 1
 
 -- the line that a move belongs to, after these moves; none for a release at the end of the list
-abbrev pub task_of : RunContents → List TracedMove → TracedMove → Option RunTask
-task_of c before m =
+abbrev pub task_of_move : RunContents → List TracedMove → TracedMove → Option RunTask
+task_of_move c before m =
     slice_get (list_of c.tasks m.dom) (index_after (count_by (begins_own m.dom) before) m.moved)
 
 -- the word of a script for a call

@@ -87,8 +87,8 @@ header_text form dom version frames =
     ++ number_part form (codes "version") (decimal version) ++ number_part form (codes "frames") (decimal frames)
 
 -- a copy of bytes
-unfoldable pub copy_text : TraceForm → Spot → Spot → ℕ → List ℕ
-copy_text form from to len =
+unfoldable pub copy_step_text : TraceForm → Spot → Spot → ℕ → List ℕ
+copy_step_text form from to len =
     access_start form (codes "copy") ++ from_part form from ++ to_part form to
     ++ number_part form (codes "len") (decimal len)
 
@@ -108,7 +108,7 @@ step_text form dom (steps.Read owner frame off len) =
     access_start form (codes "read") ++ range_part form owner frame off len
 step_text form dom (steps.Write owner frame off len) =
     access_start form (codes "write") ++ range_part form owner frame off len
-step_text form dom (steps.Copy from to len) = copy_text form from to len
+step_text form dom (steps.Copy from to len) = copy_step_text form from to len
 
 -- that an exchange was taken
 abbrev pub taken_part : TraceForm → List ℕ

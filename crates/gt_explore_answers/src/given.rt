@@ -3,9 +3,9 @@ ghost use Rattle.std.specs.Prelude.{◌≡◌, ◌++◌, ◌<◌, IfOk, OnOk, is
 ghost use Rattle.std.specs.List.{flat_map};
 ghost use Rattle.gt_script.specs.RunContents.{run_contents};
 ghost use Rattle.gt_explore_verdict.specs.Satisfying.{line_words};
-ghost use Rattle.gt_explore_answers.specs.Exploring.{place_of};
+ghost use Rattle.gt_explore_answers.specs.Exploring.{index_of_text};
 ghost use Rattle.gt_explore_answers.specs.Given.{answer_places, ends_in_cr, fault_by, first_wrong, is_answer_at};
-ghost use Rattle.gt_explore_answers.specs.Given.{is_right_at, line_fault, place_in, refused_text, wrong_from};
+ghost use Rattle.gt_explore_answers.specs.Given.{is_right_at, line_fault, answer_places_of, refused_text, wrong_from};
 ghost use Rattle.gt_explore_answers.specs.Outputs.{found_from};
 
 use crate::answering::place_of;
@@ -31,7 +31,7 @@ fn push_places(
     tasks: &[RunTask],
     dom: DomId,
 ) -> Result<(), AllocError>
-    ensures { OnOk result (places.new.items ≡ places.old.items ++ flat_map (place_in dom) tasks.now) }
+    ensures { OnOk result (places.new.items ≡ places.old.items ++ flat_map (answer_places_of dom) tasks.now) }
 {
     'tasks: for task in tasks {
         if task.dom.0 == dom.0 && is_call(&task.deed) {
@@ -171,7 +171,7 @@ fn first_wrong(
 
 // Returns whether a text is one of those found.
 fn is_found(found: &FoundTexts, text: &[u8]) -> bool
-    ensures { result ≡ is_some (place_of text.now (found_from found.now).texts) }
+    ensures { result ≡ is_some (index_of_text text.now (found_from found.now).texts) }
 {
     match place_of(found.texts.as_slice(), text) {
         Some(_) => true,

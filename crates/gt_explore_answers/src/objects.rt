@@ -1,6 +1,6 @@
 //! The output as JSON: an object for each text that is shown, and one with the verdict at the end.
 ghost use Rattle.std.specs.Prelude.{◌≡◌, ◌++◌, IfOk, OnOk, codes, map, true};
-ghost use Rattle.gt_explore_answers.specs.Objects.{bool_name, comma, depth_member, is_nonempty, items_from, lines_member};
+ghost use Rattle.gt_explore_answers.specs.Objects.{bool_name, comma, depth_member, is_nonempty_line, items_from, lines_member};
 ghost use Rattle.gt_explore_answers.specs.Objects.{object_start, search_members, summary, text_lines, text_object, verdict_name};
 ghost use Rattle.gt_explore_answers.specs.Objects.{witness_member, witness_object};
 ghost use Rattle.gt_explore_answers.specs.Outputs.{found_from};
@@ -15,7 +15,7 @@ use std::alloc::{AllocError, Global};
 
 // Returns whether a line is not empty.
 fn is_nonempty(line: &[u8]) -> bool
-    ensures { result ≡ is_nonempty line.now }
+    ensures { result ≡ is_nonempty_line line.now }
 {
     !line.is_empty()
 }

@@ -7,7 +7,7 @@ use Rattle.std.proofs.lemmas.Slice.Eq.{bytes_eq-Decides}
 use Rattle.std.proofs.lemmas.Option.{none-some, same_Some}
 use Rattle.gt_types.specs.declared.DomId.{DomId}
 use Rattle.gt_model.specs.declared.handle.Handle.{Handle}
-use Rattle.gt_script_runs.specs.Runs.{Named, handle_named, with_name}
+use Rattle.gt_script_runs.specs.Runs.{Named, handle_labelled, with_name}
 use Rattle.gt_explore_moves.specs.Calls.{LabelsShow}
 use Rattle.gt_explore_moves.specs.Placing.{CountFrom, place_names, place_names_after}
 
@@ -17,21 +17,21 @@ record NamesPlace (named : List Named) (d : DomId) (handles : List Handle) (labe
   pub handle : Handle
   pub there : slice_get handles at ≡ Some handle
   pub has : slice_get labels at ≡ Some (Some label)
-  pub names : handle_named named d.0 label ≡ Some handle
+  pub names : handle_labelled named d.0 label ≡ Some handle
 
 -- the label is one of no mapping, and names what it named before
 record NamesNone (named before : List Named) (d : DomId) (labels : List (Option (List ℕ))) (label : List ℕ) : Type 0 where
   pub none : (at : ℕ) → slice_get labels at ≡ Some (Some label) → ⊥
-  pub names : handle_named named d.0 label ≡ handle_named before d.0 label
+  pub names : handle_labelled named d.0 label ≡ handle_labelled before d.0 label
 
 -- a label that was given to a mapping now
-named-now : (named : List Named) (d : DomId) (handle : Handle) (label : List ℕ) → handle_named (record { dom = d; label = label; handle = handle } ∷ named) d.0 label ≡ Some handle
+named-now : (named : List Named) (d : DomId) (handle : Handle) (label : List ℕ) → handle_labelled (record { dom = d; label = label; handle = handle } ∷ named) d.0 label ≡ Some handle
 named-now named d handle label = by (d.0 == d.0) (bytes_eq label label) (eq-eqb d.0 d.0 refl) ((bytes_eq-Decides label label).1 refl)
   where
-    by : (x y : Bool) → x ≡ true → y ≡ true → cond (x && y) (Some handle) (handle_named named d.0 label) ≡ Some handle
+    by : (x y : Bool) → x ≡ true → y ≡ true → cond (x && y) (Some handle) (handle_labelled named d.0 label) ≡ Some handle
     by x y e f = rw e (rw f refl)
 
-named-else : (named : List Named) (d : DomId) (handle : Handle) (given label : List ℕ) → bytes_eq given label ≡ false → handle_named (record { dom = d; label = given; handle = handle } ∷ named) d.0 label ≡ handle_named named d.0 label
+named-else : (named : List Named) (d : DomId) (handle : Handle) (given label : List ℕ) → bytes_eq given label ≡ false → handle_labelled (record { dom = d; label = given; handle = handle } ∷ named) d.0 label ≡ handle_labelled named d.0 label
 named-else named d handle given label e = grind arith
 
 -- what a label names, if this is the label of the first mapping and these are the others
@@ -57,7 +57,7 @@ last-named d (handle ∷ handles) (given ∷ labels) before label e =
 
     here : (g : List ℕ) (b : Bool) → bytes_eq g label ≡ b → NamesNone (place_names_after d handles labels (with_name before d (Some g) (Some handle))) (with_name before d (Some g) (Some handle)) d labels label → Found d handle handles labels before label (Some g)
     here g true is n = let same : g ≡ label = (bytes_eq-Decides g label).0 is in
-        inl (record { at = 0; handle = handle; there = refl; has = ap (λ (l : List ℕ). Some (Some l)) same; names = n.names ∙ ap (λ (l : List ℕ). handle_named (record { dom = d; label = l; handle = handle } ∷ before) d.0 label) same ∙ named-now before d handle label })
+        inl (record { at = 0; handle = handle; there = refl; has = ap (λ (l : List ℕ). Some (Some l)) same; names = n.names ∙ ap (λ (l : List ℕ). handle_labelled (record { dom = d; label = l; handle = handle } ∷ before) d.0 label) same ∙ named-now before d handle label })
     here g false is n = inr (record {
       none = none-at (Some g) (λ same. true≢false (sym ((bytes_eq-Decides g label).1 (same_Some g label same)) ∙ is)) n.none;
       names = n.names ∙ named-else before d handle g label is;
@@ -83,12 +83,12 @@ pub record NamesAlike (named : List Named) (names : List Named) (d : DomId) (han
   pub there : slice_get handles at ≡ Some handle
   pub here : slice_get places at ≡ Some place
   pub serial : place.serial ≡ at
-  pub named_is : handle_named named d.0 label ≡ Some handle
-  pub names_is : handle_named names d.0 label ≡ Some place
+  pub named_is : handle_labelled named d.0 label ≡ Some handle
+  pub names_is : handle_labelled names d.0 label ≡ Some place
 
 pub record NamesNothing (named : List Named) (names : List Named) (d : DomId) (handles : List Handle) (label : List ℕ) : Type 0 where
-  pub gone : (at : ℕ) (handle : Handle) → slice_get handles at ≡ Some handle → handle_named named d.0 label ≡ Some handle → ⊥
-  pub none : handle_named names d.0 label ≡ None
+  pub gone : (at : ℕ) (handle : Handle) → slice_get handles at ≡ Some handle → handle_labelled named d.0 label ≡ Some handle → ⊥
+  pub none : handle_labelled names d.0 label ≡ None
 
 pub get-there : {A B : Type 0} (xs : List A) (ys : List B) (at : ℕ) (x : A) → length xs ≡ length ys → slice_get xs at ≡ Some x → (y : B) × (slice_get ys at ≡ Some y)
 get-there [] ys at x e h = absurd (none-some x h)

@@ -16,7 +16,7 @@ use Rattle.gt_model.specs.declared.request.OpenRequest.{OpenRequest}
 use Rattle.gt_model.specs.declared.request.Request.{Request}
 use Rattle.gt_model.specs.Asking.{asked, begun_of, bytes_of, plainly_asked}
 use Rattle.gt_model.specs.History.{History, Setting, known_at, mapping_of, mappings_at, maps_answered_at, open_call}
-use Rattle.gt_script_runs.specs.Runs.{Named, MakesRequest, handle_of, never_given, call_bytes, handle_named}
+use Rattle.gt_script_runs.specs.Runs.{Named, MakesRequest, handle_of, never_given, call_bytes, handle_labelled}
 use Rattle.gt_script_runs.specs.Runs.{request_of}
 use Rattle.gt_script_lines.specs.declared.calls.ScriptCall.{ScriptCall}
 use Rattle.gt_explore_replay.specs.Courses.{Course, resting}
@@ -132,7 +132,7 @@ module _ (s : Setting) (h : History) (tasks : List RunTask) (k : Course) (scene 
   place-of : (label : List ℕ) (m : HeldPin) → mapping_of (mappings_at h k.dom.0) (handle_of k.named k.dom label) ≡ Some m
       → slice_get (handles_at h k.dom) (handle_of names k.dom label).serial ≡ Some (handle_of k.named k.dom label)
   place-of label m found = by (named-so label) where
-    none : NamesNothing k.named names k.dom (handles_at h k.dom) label → (o : Option Handle) → handle_named k.named k.dom.0 label ≡ o → mapping_of (mappings_at h k.dom.0) (unwrap_or o never_given) ≡ None
+    none : NamesNothing k.named names k.dom (handles_at h k.dom) label → (o : Option Handle) → handle_labelled k.named k.dom.0 label ≡ o → mapping_of (mappings_at h k.dom.0) (unwrap_or o never_given) ≡ None
     none n None e = no-run
     none n (Some handle) e = gone-run handle (λ at there. n.gone at handle there e)
 
@@ -141,7 +141,7 @@ module _ (s : Setting) (h : History) (tasks : List RunTask) (k : Course) (scene 
     by (inl x) =
         ap (λ (o : Option Handle). slice_get (handles_at h k.dom) (unwrap_or o never_given).serial) x.names_is ∙ ap (slice_get (handles_at h k.dom)) x.serial
         ∙ x.there ∙ sym (ap (λ (o : Option Handle). Some (unwrap_or o never_given)) x.named_is)
-    by (inr x) = absurd (none-some m (sym (none x (handle_named k.named k.dom.0 label) refl) ∙ found))
+    by (inr x) = absurd (none-some m (sym (none x (handle_labelled k.named k.dom.0 label) refl) ∙ found))
 
   in-place-by : (call : ScriptCall) (bytes : Bor (List ℕ)) → begun_of (known_at s h k.dom) k.dom (request_of k.named k.dom bytes call) ≡ None
       → AsksByPlace (handles_at h k.dom) (handle_of names k.dom (label_asked call)) (asked (request_of k.named k.dom bytes call))

@@ -27,7 +27,7 @@ use Rattle.gt_model.proofs.Observers.{answered-stays, exchanged-live, gather-app
 use Rattle.gt_model.proofs.Observers.{stepped}
 use Rattle.gt_core.proofs.Steps.Pin.{leg-maps}
 use Rattle.gt_core.proofs.Steps.Unpin.{leg-mappings}
-use Rattle.gt_script_runs.specs.Runs.{Named, handle_named, with_name}
+use Rattle.gt_script_runs.specs.Runs.{Named, handle_labelled, with_name}
 use Rattle.gt_explore_replay.specs.Abreast.{HaveAnswered}
 use Rattle.gt_explore_replay.specs.Courses.{Course, resting}
 use Rattle.gt_explore_replay.specs.Orders.{handles_without}
@@ -144,12 +144,12 @@ at-map f (x ∷ xs) (suc at) y e = at-map f xs at y e
 
 -- what a label names once this handle was given to that label
 named-now : (named : List Named) (d : DomId) (given label : List ℕ) (handle : Handle) (b : Bool) → bytes_eq given label ≡ b
-    → handle_named (record { dom = d; label = given; handle = handle } ∷ named) d.0 label ≡ cond b (Some handle) (handle_named named d.0 label)
-named-now named d given label handle b e = ap (λ (x : Bool). cond (x && bytes_eq given label) (Some handle) (handle_named named d.0 label)) (eq-eqb d.0 d.0 refl) ∙ ap (λ (y : Bool). cond y (Some handle) (handle_named named d.0 label)) e
+    → handle_labelled (record { dom = d; label = given; handle = handle } ∷ named) d.0 label ≡ cond b (Some handle) (handle_labelled named d.0 label)
+named-now named d given label handle b e = ap (λ (x : Bool). cond (x && bytes_eq given label) (Some handle) (handle_labelled named d.0 label)) (eq-eqb d.0 d.0 refl) ∙ ap (λ (y : Bool). cond y (Some handle) (handle_labelled named d.0 label)) e
 
 -- an older mapping has another handle, and not that label any more
-old-label : (named : List Named) (d : DomId) (given label : List ℕ) (handle old : Handle) (was now : Option (List ℕ)) → old.serial < handle.serial → unless_given (Some given) was ≡ now → ((was ≡ Some label) ↔ (handle_named named d.0 label ≡ Some old))
-    → (now ≡ Some label) ↔ (handle_named (record { dom = d; label = given; handle = handle } ∷ named) d.0 label ≡ Some old)
+old-label : (named : List Named) (d : DomId) (given label : List ℕ) (handle old : Handle) (was now : Option (List ℕ)) → old.serial < handle.serial → unless_given (Some given) was ≡ now → ((was ≡ Some label) ↔ (handle_labelled named d.0 label ≡ Some old))
+    → (now ≡ Some label) ↔ (handle_labelled (record { dom = d; label = given; handle = handle } ∷ named) d.0 label ≡ Some old)
 old-label named d given label handle old was now lt is before = by (bytes_eq given label) refl where
   apart : bytes_eq given label ≡ true → (w : Option (List ℕ)) → unless_given (Some given) w ≡ Some label → ⊥
   apart e None f = none-some label f
@@ -168,7 +168,7 @@ old-label named d given label handle old was now lt is before = by (bytes_eq giv
     )
     go false g = (λ f. f, λ f. f)
 
-  by : (b : Bool) → bytes_eq given label ≡ b → (now ≡ Some label) ↔ (handle_named (record { dom = d; label = given; handle = handle } ∷ named) d.0 label ≡ Some old)
+  by : (b : Bool) → bytes_eq given label ≡ b → (now ≡ Some label) ↔ (handle_labelled (record { dom = d; label = given; handle = handle } ∷ named) d.0 label ≡ Some old)
   by true e = (
     λ f. absurd (apart e was (is ∙ f)),
     λ f. let same-handle : handle ≡ old = same_Some handle old (sym (named-now named d given label handle true e) ∙ f) in
@@ -180,31 +180,31 @@ old-label named d given label handle old was now lt is before = by (bytes_eq giv
   )
 
 -- the new mapping has that label, which names its handle
-new-label : (named : List Named) (d : DomId) (given label : List ℕ) (handle : Handle) → ((l : List ℕ) → handle_named named d.0 l ≡ Some handle → ⊥)
-    → (◌≡◌ {A = Option (List ℕ)} (Some given) (Some label)) ↔ (handle_named (record { dom = d; label = given; handle = handle } ∷ named) d.0 label ≡ Some handle)
+new-label : (named : List Named) (d : DomId) (given label : List ℕ) (handle : Handle) → ((l : List ℕ) → handle_labelled named d.0 l ≡ Some handle → ⊥)
+    → (◌≡◌ {A = Option (List ℕ)} (Some given) (Some label)) ↔ (handle_labelled (record { dom = d; label = given; handle = handle } ∷ named) d.0 label ≡ Some handle)
 new-label named d given label handle fresh = by (bytes_eq given label) refl where
-  by : (b : Bool) → bytes_eq given label ≡ b → (◌≡◌ {A = Option (List ℕ)} (Some given) (Some label)) ↔ (handle_named (record { dom = d; label = given; handle = handle } ∷ named) d.0 label ≡ Some handle)
+  by : (b : Bool) → bytes_eq given label ≡ b → (◌≡◌ {A = Option (List ℕ)} (Some given) (Some label)) ↔ (handle_labelled (record { dom = d; label = given; handle = handle } ∷ named) d.0 label ≡ Some handle)
   by true e = (λ f. named-now named d given label handle true e, λ f. ap (λ (l : List ℕ). Some l) ((bytes_eq-Decides given label).0 e))
   by false e = (
     λ f. absurd (true≢false (sym ((bytes_eq-Decides given label).1 (same_Some given label f)) ∙ e)),
     λ f. absurd (fresh label (sym (named-now named d given label handle false e) ∙ f)),
   )
 
-labels-push : (named : List Named) (d : DomId) (hs : List Handle) (labels : List (Option (List ℕ))) (high : ℕ) (given : List ℕ) (handle : Handle) → length hs ≡ length labels → SerialsRise 0 hs high → handle.serial ≡ high → ((l : List ℕ) → handle_named named d.0 l ≡ Some handle → ⊥)
+labels-push : (named : List Named) (d : DomId) (hs : List Handle) (labels : List (Option (List ℕ))) (high : ℕ) (given : List ℕ) (handle : Handle) → length hs ≡ length labels → SerialsRise 0 hs high → handle.serial ≡ high → ((l : List ℕ) → handle_labelled named d.0 l ≡ Some handle → ⊥)
     → LabelsShow named d hs labels → LabelsShow (record { dom = d; label = given; handle = handle } ∷ named) d (hs ++ handle ∷ []) (apart_from (Some given) labels ++ Some given ∷ [])
 labels-push named d hs labels high given handle long rise serial fresh show at old has label there is =
     by (at-push hs handle at old there) (at-push (apart_from (Some given) labels) (Some given) at has is) where
       many : length (apart_from (Some given) labels) ≡ length labels
       many = length-map labels (unless_given (Some given))
 
-      by : AtPush hs handle at old → AtPush (apart_from (Some given) labels) (Some given) at has → (has ≡ Some label) ↔ (handle_named (record { dom = d; label = given; handle = handle } ∷ named) d.0 label ≡ Some old)
+      by : AtPush hs handle at old → AtPush (apart_from (Some given) labels) (Some given) at has → (has ≡ Some label) ↔ (handle_labelled (record { dom = d; label = given; handle = handle } ∷ named) d.0 label ≡ Some old)
       by (inl f) (inl g) = let m = at-map (unless_given (Some given)) labels at has g in
           let lt = rise-below 0 hs high at old rise f in
           old-label named d given label handle old m.0 has (omega arith) m.2 (show at old m.0 label f m.1)
       by (inl f) (inr g) = absurd (let lt = slice_get_within hs at old f in let here : at ≡ length (apart_from (Some given) labels) = g.0 in omega (arith, many))
       by (inr f) (inl g) = absurd (let lt = slice_get_within (apart_from (Some given) labels) at has g in let here : at ≡ length hs = f.0 in omega (arith, many))
-      by (inr f) (inr g) = subst (λ (z : Handle). (has ≡ Some label) ↔ (handle_named (record { dom = d; label = given; handle = handle } ∷ named) d.0 label ≡ Some z)) f.1
-          (subst (λ (z : Option (List ℕ)). (z ≡ Some label) ↔ (handle_named (record { dom = d; label = given; handle = handle } ∷ named) d.0 label ≡ Some handle)) g.1 (new-label named d given label handle fresh))
+      by (inr f) (inr g) = subst (λ (z : Handle). (has ≡ Some label) ↔ (handle_labelled (record { dom = d; label = given; handle = handle } ∷ named) d.0 label ≡ Some z)) f.1
+          (subst (λ (z : Option (List ℕ)). (z ≡ Some label) ↔ (handle_labelled (record { dom = d; label = given; handle = handle } ∷ named) d.0 label ≡ Some handle)) g.1 (new-label named d given label handle fresh))
 
 gather-one : (h : History) (d : DomId) (p : HeldPin) (handle : Handle) → gather mapping_named d.0 (new_pin h d p (Some (Mapped handle)) ∷ []) ≡ (handle, record p { entry = entry_at h p.dom.0 p.gref.0 }) ∷ []
 unfolding gather

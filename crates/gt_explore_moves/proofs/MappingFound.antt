@@ -12,7 +12,7 @@ use Rattle.gt_model.specs.declared.held.HeldPin.{HeldPin}
 use Rattle.gt_model.specs.declared.request.OpenRequest.TheVariants as asks
 use Rattle.gt_model.specs.declared.request.Request.{Request}
 use Rattle.gt_model.specs.History.{mapping_of}
-use Rattle.gt_script_runs.specs.Runs.{Named, MakesRequest, handle_named, handle_of, never_given, request_of}
+use Rattle.gt_script_runs.specs.Runs.{Named, MakesRequest, handle_labelled, handle_of, never_given, request_of}
 use Rattle.gt_script_lines.specs.declared.calls.ScriptCall.{ScriptCall}
 use Rattle.gt_script_lines.specs.declared.calls.ScriptCall.TheVariants as calls
 use Rattle.gt_explore_moves.specs.Calls.{SerialsRise}
@@ -92,9 +92,9 @@ same-found found mapping named names d handles places label same gone no-place n
     ap (λ (o : Option Handle). found (unwrap_or o never_given)) n.names_is ∙ same n.at n.handle n.place n.there n.here
     ∙ sym (ap (λ (o : Option Handle). mapping (unwrap_or o never_given)) n.named_is)
 same-found found mapping named names d handles places label same gone no-place no-handle (inr n) =
-    ap (λ (o : Option Handle). found (unwrap_or o never_given)) n.none ∙ no-place ∙ sym (by (handle_named named d.0 label) refl)
+    ap (λ (o : Option Handle). found (unwrap_or o never_given)) n.none ∙ no-place ∙ sym (by (handle_labelled named d.0 label) refl)
   where
-    by : (o : Option Handle) → handle_named named d.0 label ≡ o → mapping (handle_of named d label) ≡ None
+    by : (o : Option Handle) → handle_labelled named d.0 label ≡ o → mapping (handle_of named d label) ≡ None
     by None e = ap (λ (z : Option Handle). mapping (unwrap_or z never_given)) e ∙ no-handle
     by (Some handle) e = ap (λ (z : Option Handle). mapping (unwrap_or z never_given)) e ∙ gone handle (λ at h. n.gone at handle h e)
 

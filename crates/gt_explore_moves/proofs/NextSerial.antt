@@ -20,7 +20,7 @@ use Rattle.gt_model.specs.declared.trace.Answer.TheVariants.{Mapped}
 use Rattle.gt_model.specs.declared.trace.ItemEvent.{ItemEvent}
 use Rattle.gt_model.specs.declared.trace.ItemEvent.TheVariants.{Began, Stepped}
 use Rattle.gt_model.specs.declared.trace.Item.{Item}
-use Rattle.gt_script_runs.specs.Runs.{Named, handle_named}
+use Rattle.gt_script_runs.specs.Runs.{Named, handle_labelled}
 use Rattle.gt_explore_replay.specs.Abreast.{HaveAnswered}
 
 answered-next : (s : Setting) (h : History) (d : DomId) (r : OpenRequest) (step : Step) (giving : Bool) (v : Option CallResult) (a : Option Answer) (against : Option Denial) (handle : Handle)
@@ -62,10 +62,10 @@ given-below s (i ∷ h) d handle run (inr g) =
     let le : maps_answered_at h d ≤ maps_answered_at (i ∷ h) d = maps-grow i h d in omega arith
 
 -- the handle that a label names is below
-pub named-below : (s : Setting) (h : History) (d : ℕ) (named : List Named) (label : List ℕ) (handle : Handle) → IsRun s h → HaveAnswered h named → handle_named named d label ≡ Some handle → handle.serial < maps_answered_at h d
+pub named-below : (s : Setting) (h : History) (d : ℕ) (named : List Named) (label : List ℕ) (handle : Handle) → IsRun s h → HaveAnswered h named → handle_labelled named d label ≡ Some handle → handle.serial < maps_answered_at h d
 named-below s h d [] label handle run given e = absurd (none-some handle e)
 named-below s h d (n ∷ more) label handle run given e = by (n.dom.0 == d) refl (bytes_eq n.label label) e (λ f. named-below s h d more label handle run given.1 f) where
-  by : (x : Bool) → (n.dom.0 == d) ≡ x → (y : Bool) → cond (x && y) (Some n.handle) (handle_named more d label) ≡ Some handle → (handle_named more d label ≡ Some handle → handle.serial < maps_answered_at h d) → handle.serial < maps_answered_at h d
+  by : (x : Bool) → (n.dom.0 == d) ≡ x → (y : Bool) → cond (x && y) (Some n.handle) (handle_labelled more d label) ≡ Some handle → (handle_labelled more d label ≡ Some handle → handle.serial < maps_answered_at h d) → handle.serial < maps_answered_at h d
   by true is true f rest = subst (λ (z : Handle). z.serial < maps_answered_at h d) (same_Some n.handle handle f)
       (given-below s h d n.handle run (subst (λ (m : ℕ). IsGiven h m n.handle) (eqb-true n.dom.0 d is) given.0))
   by true is false f rest = rest f

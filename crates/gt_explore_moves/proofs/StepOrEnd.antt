@@ -56,7 +56,8 @@ use Rattle.gt_explore_moves.specs.Ends.{tasks_at}
 use Rattle.gt_explore_moves.specs.Mappings.{apart_from, labels_of, mapping_pins}
 use Rattle.gt_explore_moves.specs.Renaming.{asked_under, step_under}
 use Rattle.gt_explore_moves.specs.Starting.{Grows}
-use Rattle.gt_explore_moves.specs.Ticking.{Closes, ClosesBack, CallIsOver, HasStepped, IsTick, MapsSo, AnswersEnd}
+use Rattle.gt_explore_moves.specs.Ticking.{EndsCallOfTask, ClosesBack, CallIsOver, HasStepped, IsTick, MapsSo}
+use Rattle.gt_explore_moves.specs.Ticking.{AnswersEnd}
 use Rattle.gt_explore_moves.specs.Ticking.{TickLeads, TicksAsRun, label_given_by, mappings_after}
 use Rattle.gt_explore_moves.specs.declared.actor.Actor.{Actor}
 use Rattle.gt_explore_moves.specs.declared.actor.LabelledMapping.{LabelledMapping}
@@ -444,7 +445,7 @@ module _ (s : Setting) (h : History) (scene : SearchContext) (before : SearchSta
       becomes-then b e = e ∙ ap (λ (xs : List Actor). slice_set xs at b) set ∙ set-again old.actors.items at m b
 
       line-ends : (line : ℕ) (call : ScriptCall) (lost : Option Handle) → IsOfTask tasks a.next k.dom line call o.task → IsOfLine k.dom call lost c → k.held ≡ handles_at h k.dom → maps_answered_at h k.dom.0 + 1 ≤ a.next
-          → j ≡ course_after types line call lost k i.answer → (t : RunTask) → t.dom ≡ k.dom → t.line ≡ line → t.deed ≡ Do call → Closes (i ∷ h) types t o.step v m mid new at led → TicksAsRun s (i ∷ h) tasks k j old new at led
+          → j ≡ course_after types line call lost k i.answer → (t : RunTask) → t.dom ≡ k.dom → t.line ≡ line → t.deed ≡ Do call → EndsCallOfTask (i ∷ h) types t o.step v m mid new at led → TicksAsRun s (i ∷ h) tasks k j old new at led
       line-ends line call lost task said all few leads t dom line-is deed x =
           let j-is : j ≡ course_answered types line call lost k ended.0 = leads ∙ ap (course_after types line call lost k) ended.1 in
           let tells : AnswersEnd (stepped k.dom z saw (Some ended.0) ∷ h) z v x.answer = subst (λ (y : Item). AnswersEnd (y ∷ h) z v x.answer) item-over
@@ -480,7 +481,7 @@ module _ (s : Setting) (h : History) (scene : SearchContext) (before : SearchSta
   -- by whatever is open
   pub call-over : (types : List (List ℕ)) (j : Course) (seen : Observation) (old mid new : SearchState) (result : Result TurnResult SearchFault) (v : CallResult) (m : Actor) → next_in s h k.dom c saw ≡ Some (Done v) → m.next ≡ a.next → m.mappings.items ≡ mappings_after o.step a.mappings.items
       → HasStepped s h k i o seen old.ground.tables.items old.ground.pages.items → mid.actors.items ≡ slice_set old.actors.items at m → mid.ground ≡ old.ground → mid.told ≡ old.told → TickLeads types k k.opened i j
-      → ((place : ℕ) (t : RunTask) → o.task ≡ Some place → slice_get tasks place ≡ Some t → IfOk result (Closes (i ∷ h) types t o.step v m mid new at))
+      → ((place : ℕ) (t : RunTask) → o.task ≡ Some place → slice_get tasks place ≡ Some t → IfOk result (EndsCallOfTask (i ∷ h) types t o.step v m mid new at))
       → (o.task ≡ None → IfOk result (ClosesBack m mid new at)) → IfOk result (TicksAsRun s (i ∷ h) tasks k j old new at)
   call-over types j seen old mid new result v m ends next_m maps_m made set ground told leads line back = by k.opened refl here.shows leads where
     by : (opened : Opened) → k.opened ≡ opened → ShowsOpen s h tasks k a.next opened (Some c) (Some o) → TickLeads types k opened i j → IfOk result (TicksAsRun s (i ∷ h) tasks k j old new at)

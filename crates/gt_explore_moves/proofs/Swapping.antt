@@ -14,8 +14,8 @@ use Rattle.gt_core.proofs.Words.{is_holder, is_pin_on, reads_at, writes_at, coun
 use Rattle.gt_core.proofs.Words.{false≢true, Entry, holder_after, Any, EntryChange, Dir, Read, Write}
 use Rattle.gt_core.proofs.Words.{changed_entry_of, header_stored, header_or, one_if_mapped, nat_lt, nat_le, reverse}
 use Rattle.gt_core.proofs.Words.{sum_by-cons, ◌&&◌}
-use Rattle.gt_explore_moves.specs.Swapping.{on_entry, looks_header, stores_header, reads_frames, writes_frames}
-use Rattle.gt_explore_moves.specs.Swapping.{KeepsPins, LeavesFor, TouchApart, with_holder, own_pins, SameEntry}
+use Rattle.gt_explore_moves.specs.Swapping.{touches_entry, looks_header, stores_header, reads_frames, writes_frames}
+use Rattle.gt_explore_moves.specs.Swapping.{ReleasesNoPinOn, LeavesFor, TouchApart, with_holder, own_pins, SameEntry}
 use Rattle.gt_explore_moves.specs.Swapping.{SameOwn, SameLook, SameSight, SameSeen, patches_of, AreApart}
 use Rattle.gt_model.proofs.Observers.{exchanged-entry, exchanged-raises, kept-entry, kept-raises, kept-table}
 use Rattle.gt_model.proofs.Observers.{unstored, known-as, gather-append, other-entry, other-raises, other-body}
@@ -1092,7 +1092,7 @@ exchange-off h d gref looked change seen a t r off = (
   changes v = cond-same (d.0 == t) None
 
 unpin-off : (h : History) (d : DomId) (p : HeldPin) (holder : PinHolder) (seen : Observation) (a : Option Answer)
-    (t r : ℕ) → KeepsPins h d (Unpin p holder) t r → LeavesWord h (made_step d (Unpin p holder) seen a) t r
+    (t r : ℕ) → ReleasesNoPinOn h d (Unpin p holder) t r → LeavesWord h (made_step d (Unpin p holder) seen a) t r
 unpin-off h d p holder seen a t r keeps = (
   leaves-entry h (made_step d (Unpin p holder) seen a) t r (cond-same (d.0 == t) None)
       (λ k. ap (λ ps. count_by (is_pin_on t r k) ps) (unpinned-live h d p holder seen a) ∙ keeps k),
@@ -1100,7 +1100,7 @@ unpin-off h d p holder seen a t r keeps = (
 )
 
 word-left : (h : History) (d : DomId) (z : Step) (seen : Observation) (a : Option Answer) (t r : ℕ)
-    → on_entry d z t r ≡ false → KeepsPins h d z t r → LeavesWord h (made_step d z seen a) t r
+    → touches_entry d z t r ≡ false → ReleasesNoPinOn h d z t r → LeavesWord h (made_step d z seen a) t r
 word-left h d (PinStep p) seen a t r off keeps = pin-off h d p seen a t r off
 word-left h d (Unpin p holder) seen a t r off keeps = unpin-off h d p holder seen a t r keeps
 word-left h d (Exchange gref looked change) seen a t r off keeps = exchange-off h d gref looked change seen a t r off
@@ -1151,9 +1151,9 @@ not-true false none = refl
 step-look : (s : Setting) (h : History) (d : DomId) (y : Step) (v : Observation) (a : Option Answer) (e : DomId) (z : Step)
     → LeavesFor h d y e z → SameLook s (made_step d y v a ∷ h) h e z
 step-look s h d y v a e z leaves = by z leaves where
-  word : (x : Step) (t r : ℕ) → LeavesFor h d y e x → on_entry e x t r ≡ true
+  word : (x : Step) (t r : ℕ) → LeavesFor h d y e x → touches_entry e x t r ≡ true
       → LeavesWord h (made_step d y v a) t r
-  word x t r l on = word-left h d y v a t r (not-true (on_entry d y t r) (λ yes. l.words t r yes on)) (l.pins t r on)
+  word x t r l on = word-left h d y v a t r (not-true (touches_entry d y t r) (λ yes. l.words t r yes on)) (l.pins t r on)
 
   table : (x : Step) (t : DomId) → LeavesFor h d y e x → looks_header x t.0 ≡ true
       → table_at s (made_step d y v a ∷ h) t ≡ table_at s h t
@@ -1215,7 +1215,7 @@ releases-still h i d z apart releases = tt
 
 -- so it releases none elsewhere
 pub keeps-elsewhere : (h : History) (d : DomId) (p : HeldPin) (holder : PinHolder) (t r : ℕ)
-    → Releases h d (Unpin p holder) → ((p.dom.0 == t) && (p.gref.0 == r)) ≡ false → KeepsPins h d (Unpin p holder) t r
+    → Releases h d (Unpin p holder) → ((p.dom.0 == t) && (p.gref.0 == r)) ≡ false → ReleasesNoPinOn h d (Unpin p holder) t r
 keeps-elsewhere h d p holder t r releases off k =
     let this = releases t r k in
     let none = off-count ((p.dom.0 == t) && (p.gref.0 == r)) (same_dir p.dir k) off in

@@ -49,7 +49,8 @@ use Rattle.gt_model.specs.declared.request.PinHolder.TheVariants.{Mapping as ByH
 use Rattle.gt_model.specs.declared.request.Request.{Request}
 use Rattle.gt_model.specs.Entries.{frame_of}
 use Rattle.gt_model.specs.History.{History, Setting, mapping_of, mappings_at, patches_at}
-use Rattle.gt_explore_moves.specs.Swapping.{AreApart, KeepsPins, SameLook, TouchApart, looks_header, on_entry}
+use Rattle.gt_explore_moves.specs.Swapping.{AreApart, ReleasesNoPinOn, SameLook, TouchApart, looks_header}
+use Rattle.gt_explore_moves.specs.Swapping.{touches_entry}
 use Rattle.gt_explore_moves.specs.Swapping.{patches_of, reads_frames, stores_header, writes_frames}
 use Rattle.gt_model.specs.declared.trace.Answer.{Answer}
 use Rattle.gt_model.specs.declared.trace.Item.{Item}
@@ -61,10 +62,10 @@ use Rattle.gt_script_lines.specs.declared.calls.ScriptCall.{ScriptCall}
 use Rattle.gt_script_lines.specs.declared.calls.ScriptCall.TheVariants as calls
 use Rattle.gt_script.specs.Lists.{RunAction, RunTask}
 use Rattle.gt_script.specs.declared.tasks.RunActionBy.TheVariants.{Await, Do, Tell}
-use Rattle.gt_explore_moves.specs.Touches.{is_access, is_load, is_on, is_store, is_write, meets, meets_bytes}
+use Rattle.gt_explore_moves.specs.Touches.{is_access_step, is_load, is_on, is_store, is_write, meets, meets_bytes}
 use Rattle.gt_explore_moves.specs.Touches.{meets_call, meets_dest, meets_reads, meets_source, meets_writes, meets_leg}
-use Rattle.gt_explore_moves.specs.Touches.{meets_mapping, meets_task, next_accesses, next_writes, reads_at}
-use Rattle.gt_explore_moves.specs.Touches.{step_meets, writes_at}
+use Rattle.gt_explore_moves.specs.Touches.{meets_mapping, meets_task, next_accesses, next_writes, reads_frame_at}
+use Rattle.gt_explore_moves.specs.Touches.{step_meets, writes_frame_at}
 use Rattle.gt_explore_moves.specs.Transitive.{grants_via, is_via}
 use Rattle.gt_explore_moves.specs.declared.touches.MappingUse.{MappingUse}
 use Rattle.gt_explore_moves.specs.Renaming.{step_under}
@@ -428,12 +429,12 @@ or-parts false false e = (refl, refl)
 or-parts true b e = absurd (false≢true (sym e))
 or-parts false true e = absurd (false≢true (sym e))
 
-no-write : (z : Step) (t f : ℕ) → is_write z ≡ false → writes_at z t f ≡ false
+no-write : (z : Step) (t f : ℕ) → is_write z ≡ false → writes_frame_at z t f ≡ false
 no-write (WriteBytes dom frame off len) t f e = absurd (false≢true (sym e))
 no-write (CopyBytes from to len) t f e = absurd (false≢true (sym e))
 no-write z t f e = refl
 
-no-access : (z : Step) (t f : ℕ) → is_access z ≡ false → (reads_at z t f || writes_at z t f) ≡ false
+no-access : (z : Step) (t f : ℕ) → is_access_step z ≡ false → (reads_frame_at z t f || writes_frame_at z t f) ≡ false
 no-access (ReadBytes dom frame off len) t f e = absurd (false≢true (sym e))
 no-access (WriteBytes dom frame off len) t f e = absurd (false≢true (sym e))
 no-access (CopyBytes from to len) t f e = absurd (false≢true (sym e))
@@ -472,12 +473,12 @@ unmet-mapping uses move p e =
       (λ is. if-used uses.stores (meets move (Writes p.dom (frame_of p.entry))) both.1 is),
     )
 
-no-frame-written : (z : Step) (t f : ℕ) → writes_frames z t ≡ false → writes_at z t f ≡ false
+no-frame-written : (z : Step) (t f : ℕ) → writes_frames z t ≡ false → writes_frame_at z t f ≡ false
 no-frame-written (WriteBytes dom frame off len) t f e = ap (λ x. x && (frame == f)) e
 no-frame-written (CopyBytes from to len) t f e = ap (λ x. x && (to.frame.number == f)) e
 no-frame-written z t f e = refl
 
-no-frame-read : (z : Step) (t f : ℕ) → reads_frames z t ≡ false → reads_at z t f ≡ false
+no-frame-read : (z : Step) (t f : ℕ) → reads_frames z t ≡ false → reads_frame_at z t f ≡ false
 no-frame-read (ReadBytes dom frame off len) t f e = ap (λ x. x && (frame == f)) e
 no-frame-read (CopyBytes from to len) t f e = ap (λ x. x && (from.frame.number == f)) e
 no-frame-read z t f e = refl
@@ -494,7 +495,7 @@ unmet-frames-written : (move : NextMove) (t : DomId) → meets_writes move t ≡
     → Unmet move (Writes t f)
 unmet-frames-written (next.Makes d z) t e f =
     let both = or-parts (reads_frames z t.0) (writes_frames z t.0) e in
-    both-false (reads_at z t.0 f) (writes_at z t.0 f) (no-frame-read z t.0 f both.0) (no-frame-written z t.0 f both.1)
+    both-false (reads_frame_at z t.0 f) (writes_frame_at z t.0 f) (no-frame-read z t.0 f both.0) (no-frame-written z t.0 f both.1)
 unmet-frames-written (next.Awaits flag) t e f = refl
 unmet-frames-written next.Free t e f = refl
 
@@ -610,16 +611,16 @@ off-entry : (e : DomId) (z : Step) (dom : DomId) (gref : GrantRef) (t r : ℕ) �
 off-entry e z dom gref t r off at = let same = at-place dom.0 gref.0 t r at in
     subst (λ x. is_on e z x r ≡ false) same.0 (subst (λ x. is_on e z dom.0 x ≡ false) same.1 off)
 
-on-is : (e : DomId) (z : Step) (t r : ℕ) → on_entry e z t r ≡ true → is_on e z t r ≡ true
+on-is : (e : DomId) (z : Step) (t r : ℕ) → touches_entry e z t r ≡ true → is_on e z t r ≡ true
 on-is e (Unpin p holder) t r on = absurd (false≢true on)
 on-is e z t r on = on
 
-reads-access : (z : Step) (t : ℕ) → reads_frames z t ≡ true → is_access z ≡ true
+reads-access : (z : Step) (t : ℕ) → reads_frames z t ≡ true → is_access_step z ≡ true
 reads-access (ReadBytes dom frame off len) t on = refl
 reads-access (CopyBytes from to len) t on = refl
 reads-access z t on = absurd (false≢true on)
 
-writes-access : (z : Step) (t : ℕ) → writes_frames z t ≡ true → is_access z ≡ true
+writes-access : (z : Step) (t : ℕ) → writes_frames z t ≡ true → is_access_step z ≡ true
 writes-access (WriteBytes dom frame off len) t on = refl
 writes-access (CopyBytes from to len) t on = refl
 writes-access z t on = absurd (false≢true on)
@@ -630,7 +631,7 @@ no-patch : {X : Type 0} (b : Bool) (xs : List X) → b ≡ false → cond b xs [
 no-patch b xs none = ap (λ (x : Bool). cond x xs []) none
 
 none-patched : (h : History) (d : DomId) (z : Step) (seen : Observation) (a : Option Answer) (t f : ℕ)
-    → writes_at z t f ≡ false
+    → writes_frame_at z t f ≡ false
     → patches_of h (record { actor = d; happened = Stepped z seen; answer = a }) t f ≡ []
 none-patched h d (WriteBytes dom frame off len) seen a t f none = no-patch ((dom.0 == t) && (frame == f)) _ none
 none-patched h d (CopyBytes from to len) seen a t f none =
@@ -643,9 +644,9 @@ patches-kept h i t f none = ap (λ l. patches_at h t f ++ l) none ∙ append-nil
 
 module _ (d e : DomId) (y z : Step) (unmet : StepTouches (λ touch. step_meets e z touch ≡ false) d y) where
   -- an entry that the one step is on
-  words-off : (t r : ℕ) → on_entry d y t r ≡ true → is_on e z t r ≡ false
+  words-off : (t r : ℕ) → touches_entry d y t r ≡ true → is_on e z t r ≡ false
   words-off t r on = by y unmet on where
-    by : (x : Step) → StepTouches (λ touch. step_meets e z touch ≡ false) d x → on_entry d x t r ≡ true
+    by : (x : Step) → StepTouches (λ touch. step_meets e z touch ≡ false) d x → touches_entry d x t r ≡ true
         → is_on e z t r ≡ false
     by (LookControl dom gref) u on = off-entry e z dom gref t r u on
     by (LookBody dom gref half) u on = off-entry e z dom gref t r u on
@@ -654,23 +655,23 @@ module _ (d e : DomId) (y z : Step) (unmet : StepTouches (λ touch. step_meets e
     by (Exchange gref looked change) u on = off-entry e z d gref t r u on
     by x u on = absurd (false≢true on)
 
-  apart-words : (t r : ℕ) → on_entry d y t r ≡ true → on_entry e z t r ≡ true → ⊥
+  apart-words : (t r : ℕ) → touches_entry d y t r ≡ true → touches_entry e z t r ≡ true → ⊥
   apart-words t r one other = false≢true (sym (words-off t r one) ∙ on-is e z t r other)
 
   module _ (h : History) (mine : Releases h d y)
       (theirs : Releases h e z)
-      (quiet : (is_access y && is_access z) ≡ false) where
-    pins-first : (t r : ℕ) → on_entry e z t r ≡ true → KeepsPins h d y t r
+      (quiet : (is_access_step y && is_access_step z) ≡ false) where
+    pins-first : (t r : ℕ) → touches_entry e z t r ≡ true → ReleasesNoPinOn h d y t r
     pins-first t r on = by y unmet mine where
-      by : (x : Step) → StepTouches (λ touch. step_meets e z touch ≡ false) d x → Releases h d x → KeepsPins h d x t r
+      by : (x : Step) → StepTouches (λ touch. step_meets e z touch ≡ false) d x → Releases h d x → ReleasesNoPinOn h d x t r
       by (Unpin p holder) u releases = keeps-elsewhere h d p holder t r releases
           (not-true ((p.dom.0 == t) && (p.gref.0 == r)) (λ at. false≢true
           (sym (off-entry e z p.dom p.gref t r u at) ∙ on-is e z t r on)))
       by x u releases = tt
 
-    pins-second : (t r : ℕ) → on_entry d y t r ≡ true → KeepsPins h e z t r
+    pins-second : (t r : ℕ) → touches_entry d y t r ≡ true → ReleasesNoPinOn h e z t r
     pins-second t r on = by z theirs (words-off t r on) where
-      by : (x : Step) → Releases h e x → is_on e x t r ≡ false → KeepsPins h e x t r
+      by : (x : Step) → Releases h e x → is_on e x t r ≡ false → ReleasesNoPinOn h e x t r
       by (Unpin p holder) releases off = keeps-elsewhere h e p holder t r releases off
       by x releases off = tt
 
@@ -689,8 +690,8 @@ module _ (d e : DomId) (y z : Step) (unmet : StepTouches (λ touch. step_meets e
       by x u on = false≢true on
 
     -- at most one of them is on bytes
-    not-both : is_access y ≡ true → is_access z ≡ true → ⊥
-    not-both one other = false≢true (sym quiet ∙ and-of (is_access y) (is_access z) one other) where
+    not-both : is_access_step y ≡ true → is_access_step z ≡ true → ⊥
+    not-both one other = false≢true (sym quiet ∙ and-of (is_access_step y) (is_access_step z) one other) where
       and-of : (a b : Bool) → a ≡ true → b ≡ true → (a && b) ≡ true
       and-of a b x y = grind arith
 
@@ -713,28 +714,28 @@ module _ (d e : DomId) (y z : Step) (unmet : StepTouches (λ touch. step_meets e
     }
 
 module _ (d e : DomId) (y z : Step) (unmet : StepTouches (λ touch. step_meets e z touch ≡ false) d y)
-    (both : (is_access y && is_access z) ≡ true) where
-  is : (is_access y ≡ true) × (is_access z ≡ true)
-  is = and_parts (is_access y) (is_access z) both
+    (both : (is_access_step y && is_access_step z) ≡ true) where
+  is : (is_access_step y ≡ true) × (is_access_step z ≡ true)
+  is = and_parts (is_access_step y) (is_access_step z) both
 
   -- where the one writes, the other does nothing
-  writes-off : (t f : ℕ) → writes_at y t f ≡ true → (reads_at z t f ≡ false) × (writes_at z t f ≡ false)
+  writes-off : (t f : ℕ) → writes_frame_at y t f ≡ true → (reads_frame_at z t f ≡ false) × (writes_frame_at z t f ≡ false)
   writes-off t f on = by y unmet on where
-    from-frame : (a b : ℕ) → (reads_at z a b || writes_at z a b) ≡ false → ((a == t) && (b == f)) ≡ true
-        → (reads_at z t f ≡ false) × (writes_at z t f ≡ false)
-    from-frame a b u at = let same = at-place a b t f at in or-parts (reads_at z t f) (writes_at z t f)
-        (subst (λ x. (reads_at z x f || writes_at z x f) ≡ false) same.0
-        (subst (λ x. (reads_at z a x || writes_at z a x) ≡ false) same.1 u))
+    from-frame : (a b : ℕ) → (reads_frame_at z a b || writes_frame_at z a b) ≡ false → ((a == t) && (b == f)) ≡ true
+        → (reads_frame_at z t f ≡ false) × (writes_frame_at z t f ≡ false)
+    from-frame a b u at = let same = at-place a b t f at in or-parts (reads_frame_at z t f) (writes_frame_at z t f)
+        (subst (λ x. (reads_frame_at z x f || writes_frame_at z x f) ≡ false) same.0
+        (subst (λ x. (reads_frame_at z a x || writes_frame_at z a x) ≡ false) same.1 u))
 
-    by : (x : Step) → StepTouches (λ touch. step_meets e z touch ≡ false) d x → writes_at x t f ≡ true
-        → (reads_at z t f ≡ false) × (writes_at z t f ≡ false)
+    by : (x : Step) → StepTouches (λ touch. step_meets e z touch ≡ false) d x → writes_frame_at x t f ≡ true
+        → (reads_frame_at z t f ≡ false) × (writes_frame_at z t f ≡ false)
     by (WriteBytes dom frame off len) u at = from-frame dom.0 frame u at
     by (CopyBytes from to len) u at = from-frame to.frame.owner.0 to.frame.number u.1 at
     by x u at = absurd (false≢true at)
 
   -- what the one reads, the other does not write
-  reads-off : (t f : ℕ) → reads_at z t f ≡ true → writes_at y t f ≡ false
-  reads-off t f on = not-true (writes_at y t f) (λ at. false≢true (sym (writes-off t f at).0 ∙ on))
+  reads-off : (t f : ℕ) → reads_frame_at z t f ≡ true → writes_frame_at y t f ≡ false
+  reads-off t f on = not-true (writes_frame_at y t f) (λ at. false≢true (sym (writes-off t f at).0 ∙ on))
 
   at-itself : (m n : ℕ) → ((m == m) && (n == n)) ≡ true
   at-itself m n = grind arith
@@ -746,22 +747,22 @@ module _ (d e : DomId) (y z : Step) (unmet : StepTouches (λ touch. step_meets e
     actors = actors;
     first = first y unmet is.0;
     second = second z reads-off is.1;
-    frames = λ t f. frames t f (writes_at y t f) refl;
+    frames = λ t f. frames t f (writes_frame_at y t f) refl;
   } where
-    kept : (c : DomId) (x : Step) (seen : Observation) (answer : Option Answer) (t f : ℕ) → writes_at x t f ≡ false
+    kept : (c : DomId) (x : Step) (seen : Observation) (answer : Option Answer) (t f : ℕ) → writes_frame_at x t f ≡ false
         → patches_at (record { actor = c; happened = Stepped x seen; answer = answer } ∷ h) t f ≡ patches_at h t f
     kept c x seen answer t f none = patches-kept h
         (record { actor = c; happened = Stepped x seen; answer = answer }) t f
         (none-patched h c x seen answer t f none)
 
-    first : (x : Step) → StepTouches (λ touch. step_meets e z touch ≡ false) d x → is_access x ≡ true
+    first : (x : Step) → StepTouches (λ touch. step_meets e z touch ≡ false) d x → is_access_step x ≡ true
         → SameLook s (record { actor = e; happened = Stepped z w; answer = b } ∷ h) h d x
     first (ReadBytes dom frame off len) u on = kept e z w b dom.0 frame u
     first (CopyBytes from to len) u on = kept e z w b from.frame.owner.0 from.frame.number u.0
     first (WriteBytes dom frame off len) u on = tt
     first x u on = absurd (false≢true on)
 
-    second : (x : Step) → ((t f : ℕ) → reads_at x t f ≡ true → writes_at y t f ≡ false) → is_access x ≡ true
+    second : (x : Step) → ((t f : ℕ) → reads_frame_at x t f ≡ true → writes_frame_at y t f ≡ false) → is_access_step x ≡ true
         → SameLook s (record { actor = d; happened = Stepped y v; answer = a } ∷ h) h e x
     second (ReadBytes dom frame off len) none on = kept d y v a dom.0 frame (none dom.0 frame (at-itself dom.0 frame))
     second (CopyBytes from to len) none on = kept d y v a from.frame.owner.0 from.frame.number
@@ -769,7 +770,7 @@ module _ (d e : DomId) (y z : Step) (unmet : StepTouches (λ touch. step_meets e
     second (WriteBytes dom frame off len) none on = tt
     second x none on = absurd (false≢true on)
 
-    frames : (t f : ℕ) (x : Bool) → writes_at y t f ≡ x
+    frames : (t f : ℕ) (x : Bool) → writes_frame_at y t f ≡ x
         → (patches_of h (record { actor = d; happened = Stepped y v; answer = a }) t f ≡ [])
         ⊎ (patches_of h (record { actor = e; happened = Stepped z w; answer = b }) t f ≡ [])
     frames t f false off = inl (none-patched h d y v a t f off)
@@ -780,8 +781,8 @@ pub steps-apart : (s : Setting) (h : History) (i j : Item) (y z : Step) (v w : O
     → (i.actor.0 == j.actor.0) ≡ false → StepTouches (λ touch. step_meets j.actor z touch ≡ false) i.actor y
     → Releases h i.actor y → Releases h j.actor z
     → i.happened ≡ Stepped y v → j.happened ≡ Stepped z w → AreApart s h i j
-steps-apart s h i j y z v w actors unmet mine theirs one other = by (is_access y && is_access z) refl where
-  by : (b : Bool) → (is_access y && is_access z) ≡ b → AreApart s h i j
+steps-apart s h i j y z v w actors unmet mine theirs one other = by (is_access_step y && is_access_step z) refl where
+  by : (b : Bool) → (is_access_step y && is_access_step z) ≡ b → AreApart s h i j
   by false quiet = steps-apart-in s h i j y z v w
       (touch-apart-of i.actor j.actor y z unmet h mine theirs quiet actors) one other
   by true both =

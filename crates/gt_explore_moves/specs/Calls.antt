@@ -6,7 +6,7 @@ use Rattle.gt_explore_moves.specs.Prelude.{DomId, HandleMap, Handle, Makes, Held
 use Rattle.gt_explore_moves.specs.Prelude.{Request, asked, bytes_given_by, path, CallerKnowledge, entry_in}
 use Rattle.gt_explore_moves.specs.Prelude.{knowledge_of, own_generation, IsAt, History, Setting, Underway, entry_at}
 use Rattle.gt_explore_moves.specs.Prelude.{generation_at, known_at, mappings_at, maps_answered_at, open_call}
-use Rattle.gt_explore_moves.specs.Prelude.{table_at, values, may_by, Named, MakesRequest, handle_named, ScriptCall}
+use Rattle.gt_explore_moves.specs.Prelude.{table_at, values, may_by, Named, MakesRequest, handle_labelled, ScriptCall}
 use Rattle.gt_explore_moves.specs.Prelude.{Course, resting, calling, giving, given_up, handles_without, RunTask, Do}
 use Rattle.gt_explore_moves.specs.Prelude.{SparseTable}
 use Rattle.gt_model.specs.declared.request.OpenRequest.TheVariants.{Unmap, Release}
@@ -53,7 +53,7 @@ SerialsRise low (handle ∷ more) high = (low ≤ handle.serial) × SerialsRise 
 abbrev pub LabelsShow : List Named → DomId → List Handle → List (Option (List ℕ)) → Type 0
 LabelsShow named d handles labels =
     (at : ℕ) (handle : Handle) (given : Option (List ℕ)) (label : List ℕ) → slice_get handles at ≡ Some handle
-    → slice_get labels at ≡ Some given → (given ≡ Some label) ↔ (handle_named named d.0 label ≡ Some handle)
+    → slice_get labels at ≡ Some given → (given ≡ Some label) ↔ (handle_labelled named d.0 label ≡ Some handle)
 
 -- calls
 

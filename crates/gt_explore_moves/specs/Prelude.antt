@@ -29,7 +29,7 @@ pub use Rattle.gt_model.specs.declared.handle.Handle.{Handle}
 pub use Rattle.gt_script_runs.specs.Playing.{setting_of_script}
 pub use Rattle.gt_script_runs.specs.Printing.{answer_line}
 pub use Rattle.gt_script_runs.specs.Rights.{may_by, may_in}
-pub use Rattle.gt_script_runs.specs.Runs.{Named, MakesRequest, call_bytes, handle_named, label_given}
+pub use Rattle.gt_script_runs.specs.Runs.{Named, MakesRequest, call_bytes, handle_labelled, label_given}
 pub use Rattle.gt_script_lines.specs.declared.calls.ScriptCall.{ScriptCall}
 pub use Rattle.gt_explore_replay.specs.Abreast.{CanComeNext, HaveAnswered, WereAnswered, history_in}
 pub use Rattle.gt_explore_replay.specs.Courses.{Course, CourseLeads, back_after, calling, course_after, giving}

@@ -96,13 +96,13 @@ BeginningsAreApart =
     → i.happened ≡ Began request → AreApart s h i j
 
 -- what the step of domain d reads or changes of the words of an entry, except an unpin: entry r of domain t
-abbrev pub on_entry : DomId → Step → ℕ → ℕ → Bool
-on_entry d (LookControl dom gref) t r = (dom.0 == t) && (gref.0 == r)
-on_entry d (LookBody dom gref half) t r = (dom.0 == t) && (gref.0 == r)
-on_entry d (StoreBody gref half word) t r = (d.0 == t) && (gref.0 == r)
-on_entry d (PinStep p) t r = (p.dom.0 == t) && (p.gref.0 == r)
-on_entry d (Exchange gref looked change) t r = (d.0 == t) && (gref.0 == r)
-on_entry d step t r = false
+abbrev pub touches_entry : DomId → Step → ℕ → ℕ → Bool
+touches_entry d (LookControl dom gref) t r = (dom.0 == t) && (gref.0 == r)
+touches_entry d (LookBody dom gref half) t r = (dom.0 == t) && (gref.0 == r)
+touches_entry d (StoreBody gref half word) t r = (d.0 == t) && (gref.0 == r)
+touches_entry d (PinStep p) t r = (p.dom.0 == t) && (p.gref.0 == r)
+touches_entry d (Exchange gref looked change) t r = (d.0 == t) && (gref.0 == r)
+touches_entry d step t r = false
 
 -- the step looks at the header of domain t
 abbrev pub looks_header : Step → ℕ → Bool
@@ -127,15 +127,15 @@ writes_frames (CopyBytes from to len) t = to.frame.owner.0 == t
 writes_frames step t = false
 
 -- the step of domain d releases no pin on entry r of domain t
-abbrev pub KeepsPins : History → DomId → Step → ℕ → ℕ → Type 0
-KeepsPins h d (Unpin p holder) t r =
+abbrev pub ReleasesNoPinOn : History → DomId → Step → ℕ → ℕ → Type 0
+ReleasesNoPinOn h d (Unpin p holder) t r =
     (k : Dir) → count_by (is_pin_on t r k) (without d.0 holder (live h)) ≡ count_by (is_pin_on t r k) (live h)
-KeepsPins h d step t r = Unit {0}
+ReleasesNoPinOn h d step t r = Unit {0}
 
 -- a step of domain d leaves what one of domain e looks at: the words of entries with their pins, headers, and bytes
 pub record LeavesFor (h : History) (d : DomId) (y : Step) (e : DomId) (z : Step) : Type 0 where
-  pub words : (t r : ℕ) → on_entry d y t r ≡ true → on_entry e z t r ≡ true → ⊥
-  pub pins : (t r : ℕ) → on_entry e z t r ≡ true → KeepsPins h d y t r
+  pub words : (t r : ℕ) → touches_entry d y t r ≡ true → touches_entry e z t r ≡ true → ⊥
+  pub pins : (t r : ℕ) → touches_entry e z t r ≡ true → ReleasesNoPinOn h d y t r
   pub header : (t : ℕ) → stores_header d y t ≡ true → looks_header z t ≡ true → ⊥
   pub bytes : (t : ℕ) → writes_frames y t ≡ true → reads_frames z t ≡ true → ⊥
 

@@ -122,8 +122,8 @@ pub record CallIsOver (label : Option (List ℕ)) (verdict : CallResult) (a b : 
   pub maps : MapsSo label verdict a.mappings.items b.mappings.items
 
 -- the call of this task is over with this verdict, and printed its answer
-pub record Closes (h : History) (types : List (List ℕ)) (t : RunTask) (last : Step) (verdict : CallResult) (a : Actor)
-    (old new : SearchState) (at : ℕ) (led : TurnResult) : Type 0 where
+pub record EndsCallOfTask (h : History) (types : List (List ℕ)) (t : RunTask) (last : Step) (verdict : CallResult)
+    (a : Actor) (old new : SearchState) (at : ℕ) (led : TurnResult) : Type 0 where
   pub answer : Answer
   pub answers : AnswersEnd h last verdict answer
   pub prints : PrintsLine led (answer_line types t.line t.dom answer)

@@ -12,7 +12,7 @@ use Rattle.gt_model.specs.declared.action.Step.TheVariants.{Unpin, Read as ReadB
 use Rattle.gt_model.specs.declared.action.Step.TheVariants.{Copy as CopyBytes}
 use Rattle.gt_model.specs.declared.held.HeldPin.{HeldPin}
 use Rattle.gt_model.specs.Path.{gref_of}
-use Rattle.gt_explore_moves.specs.Swapping.{on_entry, looks_header, reads_frames, stores_header, writes_frames}
+use Rattle.gt_explore_moves.specs.Swapping.{touches_entry, looks_header, reads_frames, stores_header, writes_frames}
 use Rattle.gt_model.specs.Entries.{frame_of}
 use Rattle.gt_script_lines.specs.declared.calls.ScriptCall.{ScriptCall}
 use Rattle.gt_script_lines.specs.declared.calls.ScriptCall.TheVariants as calls
@@ -37,14 +37,14 @@ use Rattle.gt_explore_moves.specs.declared.touches.NextMove.TheVariants.{Makes, 
 -- the step of domain d reads or changes the words of entry r of domain t
 abbrev pub is_on : DomId → Step → ℕ → ℕ → Bool
 is_on d (Unpin p holder) t r = (p.dom.0 == t) && (p.gref.0 == r)
-is_on d step t r = on_entry d step t r
+is_on d step t r = touches_entry d step t r
 
 -- the step reads or writes bytes; it writes bytes
-abbrev pub is_access : Step → Bool
-is_access (ReadBytes dom frame off len) = true
-is_access (WriteBytes dom frame off len) = true
-is_access (CopyBytes from to len) = true
-is_access step = false
+abbrev pub is_access_step : Step → Bool
+is_access_step (ReadBytes dom frame off len) = true
+is_access_step (WriteBytes dom frame off len) = true
+is_access_step (CopyBytes from to len) = true
+is_access_step step = false
 
 abbrev pub is_write : Step → Bool
 is_write (WriteBytes dom frame off len) = true
@@ -52,24 +52,24 @@ is_write (CopyBytes from to len) = true
 is_write step = false
 
 -- the step reads this frame of domain t
-abbrev pub reads_at : Step → ℕ → ℕ → Bool
-reads_at (ReadBytes dom frame off len) t f = (dom.0 == t) && (frame == f)
-reads_at (CopyBytes from to len) t f = (from.frame.owner.0 == t) && (from.frame.number == f)
-reads_at step t f = false
+abbrev pub reads_frame_at : Step → ℕ → ℕ → Bool
+reads_frame_at (ReadBytes dom frame off len) t f = (dom.0 == t) && (frame == f)
+reads_frame_at (CopyBytes from to len) t f = (from.frame.owner.0 == t) && (from.frame.number == f)
+reads_frame_at step t f = false
 
 -- the step writes to this frame of domain t
-abbrev pub writes_at : Step → ℕ → ℕ → Bool
-writes_at (WriteBytes dom frame off len) t f = (dom.0 == t) && (frame == f)
-writes_at (CopyBytes from to len) t f = (to.frame.owner.0 == t) && (to.frame.number == f)
-writes_at step t f = false
+abbrev pub writes_frame_at : Step → ℕ → ℕ → Bool
+writes_frame_at (WriteBytes dom frame off len) t f = (dom.0 == t) && (frame == f)
+writes_frame_at (CopyBytes from to len) t f = (to.frame.owner.0 == t) && (to.frame.number == f)
+writes_frame_at step t f = false
 
 -- the step of domain d conflicts with this touch of another domain: both are of the same part, and one changes it
 abbrev pub step_meets : DomId → Step → Touch → Bool
 step_meets d z (Entry dom gref) = is_on d z dom.0 gref.0
 step_meets d z (LooksHeader dom) = stores_header d z dom.0
 step_meets d z (StoresHeader dom) = looks_header z dom.0
-step_meets d z (Reads dom frame) = writes_at z dom.0 frame
-step_meets d z (Writes dom frame) = reads_at z dom.0 frame || writes_at z dom.0 frame
+step_meets d z (Reads dom frame) = writes_frame_at z dom.0 frame
+step_meets d z (Writes dom frame) = reads_frame_at z dom.0 frame || writes_frame_at z dom.0 frame
 step_meets d z (Raises flag) = false
 
 -- what a domain does next meets a touch of another domain: it conflicts with the touch, or awaits the flag that is
@@ -95,7 +95,7 @@ next_writes (Makes d z) = is_write z
 next_writes next = false
 
 abbrev pub next_accesses : NextMove → Bool
-next_accesses (Makes d z) = is_access z
+next_accesses (Makes d z) = is_access_step z
 next_accesses next = false
 
 -- mappings

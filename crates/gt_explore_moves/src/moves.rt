@@ -102,7 +102,8 @@ impl<'s, 'a> SearchContext<'s, 'a> {
     ghost use Rattle.gt_model.specs.declared.trace.Event.TheVariants.{Tick};
     ghost use Rattle.gt_model.specs.declared.trace.Item.{Item};
     ghost use Rattle.gt_explore_moves.specs.Scenes.{MovesAlong};
-    ghost use Rattle.gt_explore_moves.specs.Ticking.{AnswersEnd, Closes, ClosesBack, HasStepped, IsTick, ReadsInFrame};
+    ghost use Rattle.gt_explore_moves.specs.Ticking.{AnswersEnd, EndsCallOfTask, ClosesBack, HasStepped, IsTick};
+    ghost use Rattle.gt_explore_moves.specs.Ticking.{ReadsInFrame};
     ghost use Rattle.gt_explore_moves.specs.Ticking.{ShowsAt};
     ghost use Rattle.gt_explore_moves.specs.Ticking.{TickLeads, TicksAsRun, bytes_by, task_in};
     ghost use Rattle.gt_explore_moves.specs.declared.scene.SearchState.{SearchState};
@@ -346,7 +347,7 @@ impl<'s, 'a> SearchContext<'s, 'a> {
     ) -> Result<TurnResult, SearchFault>
         ensures { (h : History) (a : Actor) → slice_get world.old.actors.items at ≡ Some a →
             PagesShow h world.old.ground.pages.items → ReadsInFrame last →
-            IfOk result (Closes h self.now.types.items task.now last verdict a world.old world.new at) }
+            IfOk result (EndsCallOfTask h self.now.types.items task.now last verdict a world.old world.new at) }
     {
         let answer = self.answer(&world.ground, last, verdict)?;
         let Some(actor) = world.actors.get_mut(at) else {
@@ -379,7 +380,7 @@ impl<'s, 'a> SearchContext<'s, 'a> {
         ensures line { (h : History) (a : Actor) (place : ℕ) (t : RunTask) →
             slice_get world.old.actors.items at ≡ Some a → PagesShow h world.old.ground.pages.items →
             ReadsInFrame «open».step → «open».task ≡ Some place → slice_get (tasks_at self.now at) place ≡ Some t →
-            IfOk result (Closes h self.now.types.items t «open».step verdict a world.old world.new at) }
+            IfOk result (EndsCallOfTask h self.now.types.items t «open».step verdict a world.old world.new at) }
         ensures back { (a : Actor) → slice_get world.old.actors.items at ≡ Some a → «open».task ≡ None →
             IfOk result (ClosesBack a world.old world.new at) }
     {

@@ -4,10 +4,11 @@ ghost use Rattle.std.specs.List.{list_any};
 ghost use Rattle.gt_explore_moves.specs.declared.actor.LabelledMapping.{LabelledMapping};
 ghost use Rattle.gt_model.specs.Path.{gref_of};
 ghost use Rattle.gt_explore_moves.specs.Swapping.{looks_header, reads_frames, stores_header, writes_frames};
-ghost use Rattle.gt_explore_moves.specs.Touches.{is_access, is_load, is_on, is_store, is_write, meets, meets_bytes};
+ghost use Rattle.gt_explore_moves.specs.Touches.{is_access_step, is_load, is_on, is_store, is_write, meets};
+ghost use Rattle.gt_explore_moves.specs.Touches.{meets_bytes};
 ghost use Rattle.gt_explore_moves.specs.Touches.{meets_call, meets_dest, meets_leg, meets_mapping, meets_reads};
 ghost use Rattle.gt_explore_moves.specs.Touches.{meets_source, meets_task, meets_writes, next_accesses};
-ghost use Rattle.gt_explore_moves.specs.Touches.{next_writes, reads_at, step_meets, writes_at};
+ghost use Rattle.gt_explore_moves.specs.Touches.{next_writes, reads_frame_at, step_meets, writes_frame_at};
 ghost use Rattle.gt_explore_moves.specs.Transitive.{call_grants_via, grants_via, is_via};
 
 use crate::actor::LabelledMapping;
@@ -98,7 +99,7 @@ fn stores_header(dom: DomId, step: Step, owner: DomId) -> bool
 
 // Returns whether a step reads this frame of a domain.
 fn reads_at(step: Step, owner: DomId, number: u64) -> bool
-    ensures { result ≡ reads_at step owner.0 number }
+    ensures { result ≡ reads_frame_at step owner.0 number }
 {
     match step {
         Step::Read { dom, frame, .. } => dom.0 == owner.0 && frame == number,
@@ -109,7 +110,7 @@ fn reads_at(step: Step, owner: DomId, number: u64) -> bool
 
 // Returns whether a step writes to this frame of a domain.
 fn writes_at(step: Step, owner: DomId, number: u64) -> bool
-    ensures { result ≡ writes_at step owner.0 number }
+    ensures { result ≡ writes_frame_at step owner.0 number }
 {
     match step {
         Step::Write { dom, frame, .. } => dom.0 == owner.0 && frame == number,

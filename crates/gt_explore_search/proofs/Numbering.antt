@@ -5,7 +5,7 @@ use Rattle.std.proofs.lemmas.List.{append-nil, take_more}
 use Rattle.std.proofs.lemmas.Option.{same_Some, slice_get_within}
 use Rattle.gt_explore_search.specs.declared.spaces.Turn.{Turn}
 use Rattle.gt_explore_search.specs.Exploring.{IsNumbered}
-use Rattle.gt_explore_search.specs.Parts.{Extends, HandHolds, HasNumber, HasNumberAt, HasNumbers, HasPart, IsCopyOf, IsJoined, IsStateAt}
+use Rattle.gt_explore_search.specs.Parts.{Extends, HandHolds, HasNumber, HasNumberAt, HasNumbers, HasPart, RepeatsPart, IsJoined, IsStateAt}
 use Rattle.gt_explore_search.specs.Parts.{Pairwise, Splitting, by_numbers}
 use Rattle.gt_explore_search.specs.Ways.{Ways, HasEnoughTurns, IsShownSo, LedFits, MayEnd, MovesTo, ShowsFirst}
 use Rattle.gt_explore_search.specs.declared.spaces.TurnResult.{TurnResult}
@@ -77,12 +77,12 @@ numbers-all parts kept w ns i all each = subst (λ l. Pairwise (HasNumber parts 
     whole (x ∷ xs) (suc n) le = ap (λ l. x ∷ l) (whole xs n (omega (arith, le)))
 
 -- a copy of the part with a number is the same as each part with this number
-one-copied : {W P : Type 0} (parts : Splitting W P) (old all : List P) (p : P) (n : ℕ) (s : P) → Extends old all → HasNumber parts all p n → IsCopyOf parts old n s → parts.same p s
+one-copied : {W P : Type 0} (parts : Splitting W P) (old all : List P) (p : P) (n : ℕ) (s : P) → Extends old all → HasNumber parts all p n → RepeatsPart parts old n s → parts.same p s
 one-copied parts old all p n s more (q, there, same) (r, here, like) =
     let is : q ≡ r = same_Some q r (sym there ∙ get_grown old all n r more here) in
     parts.same_on p q s same (subst (λ x. parts.same x s) (sym is) like)
 
-copied : {W P : Type 0} (parts : Splitting W P) (old all ps : List P) (ns : List ℕ) (qs : List P) → Extends old all → Pairwise (HasNumber parts all) ps ns → Pairwise (IsCopyOf parts old) ns qs → Pairwise parts.same ps qs
+copied : {W P : Type 0} (parts : Splitting W P) (old all ps : List P) (ns : List ℕ) (qs : List P) → Extends old all → Pairwise (HasNumber parts all) ps ns → Pairwise (RepeatsPart parts old) ns qs → Pairwise parts.same ps qs
 copied parts old all [] [] [] more a b = tt
 copied parts old all (p ∷ ps) (n ∷ ns) (q ∷ qs) more a b = (one-copied parts old all p n q more a.0 b.0, copied parts old all ps ns qs more a.1 b.1)
 copied parts old all [] [] (q ∷ qs) more a b = absurd b
@@ -105,7 +105,7 @@ kept-last parts old new w at q n last is (p, here, same) = (
 
 -- the state with this number is made of copies of its parts
 pub state-at : {W P : Type 0} (ways : Ways W) (parts : Splitting W P) (old all : List P) (states : List (List ℕ)) (n : ℕ) (k : List ℕ) (made : List P) (v : W) → slice_get states n ≡ Some k → Extends old all
-    → Pairwise (IsCopyOf parts old) k made → ((w : W) → Pairwise parts.same (parts.of w) made → IsShownSo ways w v) → IsStateAt ways parts all states n v
+    → Pairwise (RepeatsPart parts old) k made → ((w : W) → Pairwise parts.same (parts.of w) made → IsShownSo ways w v) → IsStateAt ways parts all states n v
 state-at ways parts old all states n k made v at more copies joins = (
   k,
   at,

@@ -4,7 +4,7 @@ use Rattle.std.proofs.Common.{append_assoc}
 use Rattle.std.proofs.lemmas.List.{flat_map_more, get_or_append_left, length-map, map-append}
 use Rattle.std.proofs.lemmas.Option.{get_or_from_slice_get, slice_get-map}
 use Rattle.std.specs.Option.{option_map}
-use Rattle.gt_explore_search.specs.Numbers.{AllBelow, EachBelow, IsKeptAs, unpacked}
+use Rattle.gt_explore_search.specs.Numbers.{AllBelow, EachBelow, IsKeptAs, list_of_pieces}
 use Rattle.gt_explore_search.specs.Parts.{Extends}
 use Rattle.gt_explore_search.proofs.Keeping.{below_more, kept_more, kept_there, kept_within}
 
@@ -28,28 +28,28 @@ each_kept count old l n new (inr (next, more)) has also = subst (EachBelow count
 
 -- more pieces
 
-unpacked_kept : (old new : List (List ℕ)) (ns : List ℕ) → Extends old new → AllBelow (length old) ns → unpacked new ns ≡ unpacked old ns
+unpacked_kept : (old new : List (List ℕ)) (ns : List ℕ) → Extends old new → AllBelow (length old) ns → list_of_pieces new ns ≡ list_of_pieces old ns
 unpacked_kept old new [] grows has = refl
 unpacked_kept old new (n ∷ ns) grows has =
-    ap (λ (l : List ℕ). l ++ unpacked new ns) (ap (λ (ls : List (List ℕ)). get_or ls n []) grows.1 ∙ get_or_append_left old grows.0 [] n has.0)
+    ap (λ (l : List ℕ). l ++ list_of_pieces new ns) (ap (λ (ls : List (List ℕ)). get_or ls n []) grows.1 ∙ get_or_append_left old grows.0 [] n has.0)
     ∙ ap (λ (l : List ℕ). get_or old n [] ++ l) (unpacked_kept old new ns grows has.1)
 
-pub all_kept : (old new ls : List (List ℕ)) → Extends old new → EachBelow (length old) ls → map (unpacked new) ls ≡ map (unpacked old) ls
+pub all_kept : (old new ls : List (List ℕ)) → Extends old new → EachBelow (length old) ls → map (list_of_pieces new) ls ≡ map (list_of_pieces old) ls
 all_kept old new [] grows has = refl
 all_kept old new (l ∷ ls) grows has =
-    ap (λ (x : List ℕ). x ∷ map (unpacked new) ls) (unpacked_kept old new l grows has.0)
-    ∙ ap (λ (xs : List (List ℕ)). unpacked old l ∷ xs) (all_kept old new ls grows has.1)
+    ap (λ (x : List ℕ). x ∷ map (list_of_pieces new) ls) (unpacked_kept old new l grows has.0)
+    ∙ ap (λ (xs : List (List ℕ)). list_of_pieces old l ∷ xs) (all_kept old new ls grows has.1)
 
 -- one piece more was packed
-pub pack_step : (old new : List (List ℕ)) (out more rest piece later list : List ℕ) (n : ℕ) → IsKeptAs old piece n new → AllBelow (length old) out → unpacked old out ++ rest ≡ list → piece ++ later ≡ rest → more ≡ out ++ n ∷ []
-    → unpacked new more ++ later ≡ list
+pub pack_step : (old new : List (List ℕ)) (out more rest piece later list : List ℕ) (n : ℕ) → IsKeptAs old piece n new → AllBelow (length old) out → list_of_pieces old out ++ rest ≡ list → piece ++ later ≡ rest → more ≡ out ++ n ∷ []
+    → list_of_pieces new more ++ later ≡ list
 pack_step old new out more rest piece later list n kept below whole parts is =
-    ap (λ (l : List ℕ). unpacked new l ++ later) is
+    ap (λ (l : List ℕ). list_of_pieces new l ++ later) is
     ∙ ap (λ (l : List ℕ). l ++ later) (sym (flat_map_more (λ (k : ℕ). get_or new k []) [] out n))
     ∙ ap (λ (l : List ℕ). (l ++ get_or new n []) ++ later) (unpacked_kept old new out (kept_more old piece n new kept) below)
-    ∙ ap (λ (l : List ℕ). (unpacked old out ++ l) ++ later) (get_or_from_slice_get new n piece [] (kept_there old piece n new kept))
-    ∙ append_assoc (unpacked old out) piece later
-    ∙ ap (λ (l : List ℕ). unpacked old out ++ l) parts
+    ∙ ap (λ (l : List ℕ). (list_of_pieces old out ++ l) ++ later) (get_or_from_slice_get new n piece [] (kept_there old piece n new kept))
+    ∙ append_assoc (list_of_pieces old out) piece later
+    ∙ ap (λ (l : List ℕ). list_of_pieces old out ++ l) parts
     ∙ whole
 
 pub pack_below : (old new : List (List ℕ)) (out more piece : List ℕ) (n : ℕ) → IsKeptAs old piece n new → length old ≤ length new → AllBelow (length old) out → more ≡ out ++ n ∷ [] → AllBelow (length new) more
@@ -57,16 +57,16 @@ pack_below old new out more piece n kept le below is =
     subst (AllBelow (length new)) (sym is) (below_push (length new) out n (below_more (length old) (length new) out le below) (kept_within old piece n new kept))
 
 -- one piece more was unpacked
-pub unpack_step : (pieces : List (List ℕ)) (list done out more : List ℕ) (n : ℕ) → out ≡ unpacked pieces done → list ≡ done ++ n ∷ [] → more ≡ out ++ get_or pieces n [] → more ≡ unpacked pieces list
+pub unpack_step : (pieces : List (List ℕ)) (list done out more : List ℕ) (n : ℕ) → out ≡ list_of_pieces pieces done → list ≡ done ++ n ∷ [] → more ≡ out ++ get_or pieces n [] → more ≡ list_of_pieces pieces list
 unpack_step pieces list done out more n was is so =
-    so ∙ ap (λ (l : List ℕ). l ++ get_or pieces n []) was ∙ flat_map_more (λ (k : ℕ). get_or pieces k []) [] done n ∙ ap (unpacked pieces) (sym is)
+    so ∙ ap (λ (l : List ℕ). l ++ get_or pieces n []) was ∙ flat_map_more (λ (k : ℕ). get_or pieces k []) [] done n ∙ ap (list_of_pieces pieces) (sym is)
 
 -- the number of the pieces is that of the list
-pub kept_unpacked : (pieces old new : List (List ℕ)) (packed list : List ℕ) (n : ℕ) → IsKeptAs old packed n new → unpacked pieces packed ≡ list
-    → IsKeptAs (map (unpacked pieces) old) list n (map (unpacked pieces) new)
+pub kept_unpacked : (pieces old new : List (List ℕ)) (packed list : List ℕ) (n : ℕ) → IsKeptAs old packed n new → list_of_pieces pieces packed ≡ list
+    → IsKeptAs (map (list_of_pieces pieces) old) list n (map (list_of_pieces pieces) new)
 kept_unpacked pieces old new packed list n (inl (same, there)) is =
-    inl (ap (map (unpacked pieces)) same, slice_get-map (unpacked pieces) old n ∙ ap (option_map (unpacked pieces)) there ∙ ap (λ (l : List ℕ). Some l) is)
+    inl (ap (map (list_of_pieces pieces)) same, slice_get-map (list_of_pieces pieces) old n ∙ ap (option_map (list_of_pieces pieces)) there ∙ ap (λ (l : List ℕ). Some l) is)
 kept_unpacked pieces old new packed list n (inr (next, more)) is = inr (
-  next ∙ sym (length-map old (unpacked pieces)),
-  ap (map (unpacked pieces)) more ∙ map-append (unpacked pieces) old (packed ∷ []) ∙ ap (λ (l : List ℕ). map (unpacked pieces) old ++ l ∷ []) is,
+  next ∙ sym (length-map old (list_of_pieces pieces)),
+  ap (map (list_of_pieces pieces)) more ∙ map-append (list_of_pieces pieces) old (packed ∷ []) ∙ ap (λ (l : List ℕ). map (list_of_pieces pieces) old ++ l ∷ []) is,
 )

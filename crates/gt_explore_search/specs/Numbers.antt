@@ -28,5 +28,5 @@ EachBelow count [] = Unit {0}
 EachBelow count (l ∷ ls) = AllBelow count l × EachBelow count ls
 
 -- the list that has the pieces with these numbers
-abbrev pub unpacked : List (List ℕ) → List ℕ → List ℕ
-unpacked pieces list = flat_map (λ n. slice_index_or pieces n []) list
+abbrev pub list_of_pieces : List (List ℕ) → List ℕ → List ℕ
+list_of_pieces pieces list = flat_map (λ n. slice_index_or pieces n []) list

@@ -28,8 +28,8 @@ abbrev pub HasNumber : {W P : Type 0} → Splitting W P → List P → P → ℕ
 HasNumber {W} {P} parts all p n = (q : P) × (slice_get all n ≡ Some q) × parts.same p q
 
 -- the part is the same as the one with the number before it
-abbrev pub IsCopyOf : {W P : Type 0} → Splitting W P → List P → ℕ → P → Type 0
-IsCopyOf {W} {P} parts all n p = (q : P) × (slice_get all n ≡ Some q) × parts.same q p
+abbrev pub RepeatsPart : {W P : Type 0} → Splitting W P → List P → ℕ → P → Type 0
+RepeatsPart {W} {P} parts all n p = (q : P) × (slice_get all n ≡ Some q) × parts.same q p
 
 -- the new list is the old one with more at its end
 abbrev pub Extends : {X : Type 0} → List X → List X → Type 0

@@ -1,6 +1,6 @@
 //! Lists of numbers in pieces, each piece kept once.
 ghost use Rattle.std.specs.Prelude.{◌≡◌, ◌++◌, [], IfOk, IsTrue, OnOk, length, slice_get, slice_index_or, Some};
-ghost use Rattle.gt_explore_search.specs.Numbers.{AllBelow, IsKeptAs, unpacked};
+ghost use Rattle.gt_explore_search.specs.Numbers.{AllBelow, IsKeptAs, list_of_pieces};
 ghost use Rattle.gt_explore_search.specs.Parts.{Extends};
 
 use crate::fault::SearchFault;
@@ -22,11 +22,11 @@ pub struct PackedLists {
 
 impl Model for PackedLists {
     ghost use Rattle.std.specs.Prelude.{List, ℕ, length, map};
-    ghost use Rattle.gt_explore_search.specs.Numbers.{EachBelow, unpacked};
+    ghost use Rattle.gt_explore_search.specs.Numbers.{EachBelow, list_of_pieces};
 
     ghost Value = { List (List ℕ) };
 
-    ghost view = { λ a. map (unpacked a.pieces) a.lists };
+    ghost view = { λ a. map (list_of_pieces a.pieces) a.lists };
 
     ghost invariant = { λ a. EachBelow (length a.pieces) a.lists };
 }
@@ -47,7 +47,7 @@ fn pack(
 ) -> Result<(), SearchFault>
     ensures grows { Extends pieces.old pieces.new }
     ensures below { OnOk result (AllBelow (length pieces.new) out.new.items) }
-    ensures packs { OnOk result (unpacked pieces.new out.new.items ≡ list.now) }
+    ensures packs { OnOk result (list_of_pieces pieces.new out.new.items ≡ list.now) }
 {
     out.clear();
     let mut rest = list;
@@ -75,7 +75,7 @@ fn piece_at(pieces: &NumberLists, number: u32) -> &[u32]
 
 // Makes `out` the list with these pieces.
 fn unpack(pieces: &NumberLists, list: &[u32], out: &mut Vec<u32>) -> Result<(), AllocError>
-    ensures { OnOk result (out.new.items ≡ unpacked pieces.now list.now) }
+    ensures { OnOk result (out.new.items ≡ list_of_pieces pieces.now list.now) }
 {
     out.clear();
     'pieces: for piece in list {

@@ -1,7 +1,7 @@
 //! The parts of the states that a search has met, each kept once.
 ghost use Rattle.std.specs.Prelude.{◌≡◌, slice_get, IfOk, IfSome, IsTrue, OnOk};
 ghost use Rattle.std.specs.Option.{option_map};
-ghost use Rattle.gt_explore_search.specs.Parts.{Extends, HasNumberAt, HasNumbers, IsCopyOf, Pairwise};
+ghost use Rattle.gt_explore_search.specs.Parts.{Extends, HasNumberAt, HasNumbers, RepeatsPart, Pairwise};
 
 use crate::fault::SearchFault;
 use crate::spaces::TransitionSystem;
@@ -157,7 +157,7 @@ impl<P: Drop> PartIndex<P> {
         numbers: &[u32],
     ) -> Result<Vec<P>, SearchFault>
         ensures { IfOk result (λ made.
-            Pairwise (IsCopyOf (S.parts space.now) self.now.kept.items) numbers.now made.items) }
+            Pairwise (RepeatsPart (S.parts space.now) self.now.kept.items) numbers.now made.items) }
     {
         let mut made = Vec::with_capacity(self.alloc, numbers.len())?;
         'numbers: for number in numbers {

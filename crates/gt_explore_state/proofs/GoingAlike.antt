@@ -31,7 +31,7 @@ use Rattle.gt_calls.proofs.Advancing.{continues}
 use Rattle.gt_calls.specs.Machine.{standing_after}
 use Rattle.gt_core.specs.Prelude.{WriteBytes, CopyBytes}
 use Rattle.gt_core.specs.Acting.{answer_of}
-use Rattle.gt_core.specs.GoingOn.{AccessAnsweredSo, AnsweredSo, CanBeReached, IsAccess, IsOnWords, AnswersAccess}
+use Rattle.gt_core.specs.GoingOn.{AccessAnsweredSo, AnsweredSo, CanBeReached, IsAccess, AccessesNoBytes, AnswersAccess}
 use Rattle.gt_core.specs.GoingOn.{step_after}
 use Rattle.gt_model.specs.Legal.{next_in}
 use Rattle.gt_model.specs.Asking.{FitsAsked}
@@ -105,7 +105,7 @@ can-add old m = record {
 
 -- a step on words
 
-words-or-access : (z : Step) → IsOnWords z ⊎ IsAccess z
+words-or-access : (z : Step) → AccessesNoBytes z ⊎ IsAccess z
 words-or-access (ReadBytes dom frame off len) = inr tt
 words-or-access (WriteBytes dom frame off len) = inr tt
 words-or-access (CopyBytes from to len) = inr tt
@@ -223,7 +223,7 @@ module _ (s : Setting) (h g : History) (alike : AreAlike s h g) (reached : CanBe
       let n : MayDo s g e (Did j) = (named, (refl, tt), r.0) in
       (j, alike-grows s h g e e (Did (stepped x.id z seen answer)) (Did j) alike tt tt m n (does-alike s h g e e (Did (stepped x.id z seen answer)) (Did j) alike refl tt tt m n), r.1)
 
-  on-words : IsOnWords o.step → GoesOnLike s h g (stepped x.id z seen answer)
+  on-words : AccessesNoBytes o.step → GoesOnLike s h g (stepped x.id z seen answer)
   on-words quiet = let so = answered-so s g x a (action_then s reached.0.domains x o) in
       joined so.0 (open-calls-can-go-on s g x.id w o.step (action_then s reached.0.domains x o) so.0 reached named call_g b.follows quiet next so.1)
 
@@ -276,7 +276,7 @@ module _ (s : Setting) (h g : History) (alike : AreAlike s h g) (reached : CanBe
 
   goes-on : GoesOnLike s h g (stepped x.id z seen answer)
   goes-on = by (words-or-access o.step) where
-    by : IsOnWords o.step ⊎ IsAccess o.step → GoesOnLike s h g (stepped x.id z seen answer)
+    by : AccessesNoBytes o.step ⊎ IsAccess o.step → GoesOnLike s h g (stepped x.id z seen answer)
     by (inl quiet) = on-words quiet
     by (inr access) = on-access access
 

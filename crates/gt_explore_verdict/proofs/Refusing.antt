@@ -6,10 +6,11 @@ use Rattle.std.proofs.lemmas.Option.{none-some, same_Some}
 use Rattle.std.proofs.lemmas.Slice.Eq.{bytes_eq-Decides}
 use Rattle.std.specs.List.{list_any}
 use Rattle.std.specs.Str.{bytes_eq}
-use Rattle.gt_explore_verdict.specs.Expressions.{Asked, Answers, agree, excludes_at, may_be, of_all, of_domain, of_line}
+use Rattle.gt_explore_verdict.specs.Expressions.{Asked, ConditionScope, agree, excludes_at, may_be, of_all, of_domain}
+use Rattle.gt_explore_verdict.specs.Expressions.{of_line}
 use Rattle.gt_explore_verdict.specs.Forms.{begins_form, fits, fits_from, has_place, is_of_some, kind_at, may_begin, may_have}
 use Rattle.gt_explore_verdict.specs.Refusing.{AreNeverBothMet, HasAnswer, IsForm, IsNeverMet, HasItsWords}
-use Rattle.gt_explore_verdict.specs.Satisfying.{begins, is_asked, is_met_by, is_met_in, line_words, lines_in}
+use Rattle.gt_explore_verdict.specs.Satisfying.{begins, is_asked_answer, is_met_by, is_met_in, line_words, lines_in}
 use Rattle.gt_explore_verdict.specs.declared.forms.AnswerForm.{AnswerForm}
 use Rattle.gt_explore_verdict.specs.declared.forms.TheConstants.{EVERY_FORM}
 use Rattle.gt_explore_verdict.specs.declared.forms.WordKind.{WordKind}
@@ -132,9 +133,9 @@ place_of form k w is = at_0 (k == 0) refl
     at_0 false e = at_1 e (k == 1) refl
 
 -- a line with an answer of a form does not meet the condition
-fails : (place : Answers) (asked_words : List (List ℕ)) (line dom : List ℕ) (answer : List (List ℕ)) (form : AnswerForm)
+fails : (place : ConditionScope) (asked_words : List (List ℕ)) (line dom : List ℕ) (answer : List (List ℕ)) (form : AnswerForm)
     → IsForm form → HasItsWords place asked_words → may_be place asked_words ≡ false → begins_form form answer ≡ true
-    → is_asked place asked_words line dom answer ≡ false
+    → is_asked_answer place asked_words line dom answer ≡ false
 unfolding may_begin may_have
 fails place [] line dom answer form listed one never fit = absurd one
 fails of_all (word ∷ other ∷ more) line dom answer form listed one never fit = absurd one
@@ -150,7 +151,7 @@ fails (of_domain number) (w ∷ ws) line dom answer form listed one never fit =
     no_form (λ f. begins_form f (w ∷ ws)) form listed never (begins_fits form 0 answer (w ∷ ws) fit is)))
 
 -- no line with an answer meets the condition
-line_fails : (place : Answers) (asked_words : List (List ℕ)) (words : List (List ℕ)) → HasItsWords place asked_words
+line_fails : (place : ConditionScope) (asked_words : List (List ℕ)) (words : List (List ℕ)) → HasItsWords place asked_words
     → may_be place asked_words ≡ false → HasAnswer words
     → is_met_by (record { place = place; words = asked_words }) words ≡ false
 unfolding is_met_by HasAnswer
@@ -187,9 +188,9 @@ not_agreed true p q = clash p
 not_agreed false p q = clash q
 
 -- one answer meets both only if they agree
-both_asked : (one other : Answers) (words others : List (List ℕ)) (line dom : List ℕ) (answer : List (List ℕ))
-    → excludes_at one other words others ≡ true → is_asked one words line dom answer ≡ true
-    → is_asked other others line dom answer ≡ true → ⊥
+both_asked : (one other : ConditionScope) (words others : List (List ℕ)) (line dom : List ℕ) (answer : List (List ℕ))
+    → excludes_at one other words others ≡ true → is_asked_answer one words line dom answer ≡ true
+    → is_asked_answer other others line dom answer ≡ true → ⊥
 both_asked (of_line n) (of_line m) words others line dom answer e p q =
     not_agreed (agree words others) (both (bytes_eq n m) (not (agree words others)) e).1
     (begins_agree answer words others (both (bytes_eq line n) (begins answer words) p).1
@@ -204,5 +205,5 @@ unfolding is_met_by
 never_both one other e [] p = absurd (clash p)
 never_both one other e (line ∷ []) p = absurd (clash p)
 never_both one other e (line ∷ dom ∷ answer) p =
-    is_false (is_asked other.place other.words line dom answer)
+    is_false (is_asked_answer other.place other.words line dom answer)
     (λ q. both_asked one.place other.place one.words other.words line dom answer e p q)

@@ -4,7 +4,7 @@ use Rattle.std.specs.Prelude.{length, map, codes, Option, Some, None, Result, Ok
 use Rattle.std.specs.List.{list_any, slice_split}
 use Rattle.std.specs.Str.{bytes_eq}
 use Rattle.gt_explore_verdict.specs.Forms.{may_begin, may_have}
-use Rattle.gt_explore_verdict.specs.Rules.{at_mark, is_number, is_rule, is_wrong_rule}
+use Rattle.gt_explore_verdict.specs.Rules.{at_mark, is_decimal_number, is_rule, is_wrong_rule}
 use Rattle.gt_explore_verdict.specs.declared.conditions.Condition.{Condition}
 use Rattle.gt_explore_verdict.specs.declared.conditions.Place.{Place}
 use Rattle.gt_explore_verdict.specs.declared.conditions.Place.TheVariants.{Anywhere, Line, Domain}
@@ -14,18 +14,18 @@ use Rattle.gt_explore_verdict.specs.declared.fault.ExpressionFault.{ExpressionFa
 use Rattle.gt_explore_verdict.specs.declared.fault.ExpressionFault.TheVariants.{Memory, Term}
 
 -- the answers that a condition is about: all answers, the answer to a line, or those of a domain, by their numbers
-pub data Answers : Type 0 where
-  of_all : Answers
-  of_line : List ℕ → Answers
-  of_domain : List ℕ → Answers
+pub data ConditionScope : Type 0 where
+  of_all : ConditionScope
+  of_line : List ℕ → ConditionScope
+  of_domain : List ℕ → ConditionScope
 
 -- a condition on a text: of all answers, some answer has the word; of a line or a domain, one of its answers begins
 -- with the words
 pub record Asked : Type 0 where
-  pub place : Answers
+  pub place : ConditionScope
   pub words : List (List ℕ)
 
-abbrev pub place_asked : Place → Answers
+abbrev pub place_asked : Place → ConditionScope
 place_asked Anywhere = of_all
 place_asked (Line number) = of_line number.now
 place_asked (Domain number) = of_domain number.now
@@ -40,43 +40,43 @@ term_asked (Err fault) = Err fault
 -- the number before the first such mark, and the bytes after it
 abbrev pub number_only : Option (List ℕ × List ℕ) → Option (List ℕ × List ℕ)
 number_only None = None
-number_only (Some parts) = if is_number parts.0 then Some parts else None
+number_only (Some parts) = if is_decimal_number parts.0 then Some parts else None
 
-abbrev pub numbered : ℕ → List ℕ → Option (List ℕ × List ℕ)
-numbered mark word = number_only (at_mark mark word)
+abbrev pub number_after_mark : ℕ → List ℕ → Option (List ℕ × List ℕ)
+number_after_mark mark word = number_only (at_mark mark word)
 
 -- the place that the first word of a term names, `LINE=` or `ID:`, and the rest of the word
-abbrev pub placed_by : Option (List ℕ × List ℕ) → Option (List ℕ × List ℕ) → List ℕ → Answers × List ℕ
+abbrev pub placed_by : Option (List ℕ × List ℕ) → Option (List ℕ × List ℕ) → List ℕ → ConditionScope × List ℕ
 placed_by (Some line) colon word = (of_line line.0, line.1)
 placed_by None (Some dom) word = (of_domain dom.0, dom.1)
 placed_by None None word = (of_all, word)
 
-abbrev pub placed : List ℕ → Answers × List ℕ
-placed word = placed_by (numbered 61 word) (numbered 58 word) word
+abbrev pub placed : List ℕ → ConditionScope × List ℕ
+placed word = placed_by (number_after_mark 61 word) (number_after_mark 58 word) word
 
 -- an answer may begin with this word
 abbrev pub is_answer_word : List ℕ → Bool
 is_answer_word word = bytes_eq word (codes "ok") || is_rule word
 
 -- some answer can be one that a condition with these words is about
-abbrev pub may_be_by : Answers → List ℕ → List (List ℕ) → Bool
+abbrev pub may_be_by : ConditionScope → List ℕ → List (List ℕ) → Bool
 may_be_by of_all first [] = may_have first
 may_be_by of_all first (word ∷ more) = false
 may_be_by (of_line number) first more = may_begin (first ∷ more)
 may_be_by (of_domain number) first more = may_begin (first ∷ more)
 
-abbrev pub may_be : Answers → List (List ℕ) → Bool
+abbrev pub may_be : ConditionScope → List (List ℕ) → Bool
 may_be place [] = false
 may_be place (first ∷ more) = may_be_by place first more
 
 -- why no answer can be such a one
-abbrev pub reason_by : Answers → List ℕ → List (List ℕ) → ConditionFault
+abbrev pub reason_by : ConditionScope → List ℕ → List (List ℕ) → ConditionFault
 reason_by of_all first [] = faults.Word
 reason_by of_all first (word ∷ more) = faults.Words
 reason_by (of_line number) first more = if is_answer_word first then faults.Beginning else faults.Answer
 reason_by (of_domain number) first more = if is_answer_word first then faults.Beginning else faults.Answer
 
-abbrev pub reason : Answers → List (List ℕ) → ConditionFault
+abbrev pub reason : ConditionScope → List (List ℕ) → ConditionFault
 reason place [] = faults.Empty
 reason place (first ∷ more) = if is_wrong_rule first then faults.Rule else reason_by place first more
 
@@ -85,21 +85,21 @@ abbrev pub if_possible : Asked → Result Asked ConditionFault
 if_possible asked = if may_be asked.place asked.words then Ok asked else Err (reason asked.place asked.words)
 
 -- the condition that the words of a term name
-abbrev pub named_by : List ℕ → List (List ℕ) → Asked
-named_by word more = record { place = (placed word).0; words = (placed word).1 ∷ more }
+abbrev pub condition_of_words : List ℕ → List (List ℕ) → Asked
+condition_of_words word more = record { place = (placed word).0; words = (placed word).1 ∷ more }
 
 -- the words of a term as a condition, if some answer can be one that it is about
 abbrev pub read_term : List (List ℕ) → Result Asked ConditionFault
 read_term [] = Err faults.Empty
-read_term (word ∷ more) = if_possible (named_by word more)
+read_term (word ∷ more) = if_possible (condition_of_words word more)
 
 -- a word is not empty
-abbrev pub is_nonempty : List ℕ → Bool
-is_nonempty word = not (length word == 0)
+abbrev pub is_nonempty_word : List ℕ → Bool
+is_nonempty_word word = not (length word == 0)
 
 -- the words of a term: what is between its spaces
 abbrev pub words_in : List ℕ → List (List ℕ)
-words_in term = filter is_nonempty (slice_split (λ b. b == 32) term)
+words_in term = filter is_nonempty_word (slice_split (λ b. b == 32) term)
 
 -- the terms of an expression: what is between its marks `&`
 abbrev pub terms_in : List ℕ → List (List ℕ)
@@ -112,7 +112,7 @@ agree (word ∷ words) [] = true
 agree (word ∷ words) (other ∷ others) = bytes_eq word other && agree words others
 
 -- both are conditions on the answer to one line, and no answer begins with the words of both
-abbrev pub excludes_at : Answers → Answers → List (List ℕ) → List (List ℕ) → Bool
+abbrev pub excludes_at : ConditionScope → ConditionScope → List (List ℕ) → List (List ℕ) → Bool
 excludes_at (of_line line) (of_line same) words others = bytes_eq line same && not (agree words others)
 excludes_at _ _ words others = false
 
@@ -139,6 +139,6 @@ abbrev pub conditions_in : List ℕ → Result (List Asked) (ℕ × ConditionFau
 conditions_in text = read_terms [] 1 (terms_in text)
 
 -- the fault is that of the first term that is not a condition, or an allocation failed
-abbrev pub IsFaultOf : Result (List Asked) (ℕ × ConditionFault) → ExpressionFault → Type 0
-IsFaultOf r Memory = Unit {0}
-IsFaultOf r (Term number fault) = r ≡ Err (number, fault)
+abbrev pub IsFaultOfTerms : Result (List Asked) (ℕ × ConditionFault) → ExpressionFault → Type 0
+IsFaultOfTerms r Memory = Unit {0}
+IsFaultOfTerms r (Term number fault) = r ≡ Err (number, fault)

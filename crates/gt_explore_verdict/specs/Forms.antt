@@ -10,7 +10,7 @@ use Rattle.gt_types.specs.declared.denial.Rule.TheVariants.{N1, N2, N3, N4, N5, 
 use Rattle.gt_types.specs.declared.denial.Rule.TheVariants.{N15, N16, N17, N18, N19, N20, N21, N22, N23, N24, N25, N26}
 use Rattle.gt_types.specs.declared.denial.Status.{Status}
 use Rattle.gt_types.specs.declared.denial.Status.TheVariants as statuses
-use Rattle.gt_explore_verdict.specs.Rules.{at_mark, is_number}
+use Rattle.gt_explore_verdict.specs.Rules.{at_mark, is_decimal_number}
 use Rattle.gt_explore_verdict.specs.declared.forms.AnswerForm.{AnswerForm}
 use Rattle.gt_explore_verdict.specs.declared.forms.AnswerForm.TheVariants as forms
 use Rattle.gt_explore_verdict.specs.declared.forms.WordKind.{WordKind}
@@ -81,8 +81,8 @@ abbrev pub passes : (List ℕ → Bool) → Option (List ℕ) → Bool
 passes test None = false
 passes test (Some value) = test value
 
-abbrev pub is_named : List ℕ → (List ℕ → Bool) → List ℕ → Bool
-is_named name test word = passes test (value_named name word)
+abbrev pub is_named_value : List ℕ → (List ℕ → Bool) → List ℕ → Bool
+is_named_value name test word = passes test (value_named name word)
 
 -- a word is the name of a permission
 abbrev pub is_permission_name : List ℕ → Bool
@@ -93,18 +93,18 @@ abbrev pub is_field_name : List ℕ → Bool
 is_field_name word = list_any (λ f. bytes_eq (field_name f) word) EVERY_FIELD
 
 -- a word is one of this kind
-abbrev pub is_of : WordKind → List ℕ → Bool
-is_of kinds.Ok word = bytes_eq word (codes "ok")
-is_of kinds.Bytes word = is_bytes word
-is_of kinds.Frames word = is_named (codes "frames") is_number word
-is_of kinds.Max word = is_named (codes "max") is_number word
-is_of kinds.Version word = is_named (codes "version") is_number word
-is_of (kinds.Rule rule) word = bytes_eq word (rule_word rule)
-is_of (kinds.Status rule) word = is_status (status_of rule) word
-is_of kinds.Source word = is_some (value_named (codes "source") word)
-is_of kinds.Target word = is_some (value_named (codes "target") word)
-is_of kinds.Permission word = is_named (codes "perm") is_permission_name word
-is_of kinds.Field word = is_named (codes "field") is_field_name word
+abbrev pub is_of_word_kind : WordKind → List ℕ → Bool
+is_of_word_kind kinds.Ok word = bytes_eq word (codes "ok")
+is_of_word_kind kinds.Bytes word = is_bytes word
+is_of_word_kind kinds.Frames word = is_named_value (codes "frames") is_decimal_number word
+is_of_word_kind kinds.Max word = is_named_value (codes "max") is_decimal_number word
+is_of_word_kind kinds.Version word = is_named_value (codes "version") is_decimal_number word
+is_of_word_kind (kinds.Rule rule) word = bytes_eq word (rule_word rule)
+is_of_word_kind (kinds.Status rule) word = is_status (status_of rule) word
+is_of_word_kind kinds.Source word = is_some (value_named (codes "source") word)
+is_of_word_kind kinds.Target word = is_some (value_named (codes "target") word)
+is_of_word_kind kinds.Permission word = is_named_value (codes "perm") is_permission_name word
+is_of_word_kind kinds.Field word = is_named_value (codes "field") is_field_name word
 
 -- the kinds of the words of an answer: a refusal has its rule and its status, and then the facts of N5 and N25
 abbrev pub first_kind : AnswerForm → WordKind
@@ -146,7 +146,7 @@ kind_at form at =
 -- an answer of this form can have the word at this index
 abbrev pub is_of_some : Option WordKind → List ℕ → Bool
 is_of_some None word = false
-is_of_some (Some kind) word = is_of kind word
+is_of_some (Some kind) word = is_of_word_kind kind word
 
 unfoldable pub fits : AnswerForm → ℕ → List ℕ → Bool
 fits form at word = is_of_some (kind_at form at) word

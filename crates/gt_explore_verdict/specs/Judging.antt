@@ -27,14 +27,14 @@ Each_text May P = (text : List ℕ) → May text → P text
 -- What a verdict means for the texts that may be given. A claim that some text satisfies the conditions holds if one
 -- does, and fails if each violates them. A claim that none does, or that each does, is the other way round. A claim
 -- that is not decided may hold or fail.
-abbrev pub Means : (List ℕ → Type 0) → Claim → List Asked → Verdict → Type 0
-Means May Find conditions Holds = Some_text May (Satisfies conditions)
-Means May Find conditions Fails = Each_text May (Violates conditions)
-Means May Never conditions Holds = Each_text May (Violates conditions)
-Means May Never conditions Fails = Some_text May (Satisfies conditions)
-Means May Always conditions Holds = Each_text May (Satisfies conditions)
-Means May Always conditions Fails = Some_text May (Violates conditions)
-Means May claim conditions Undecided = Unit {0}
+abbrev pub VerdictMeans : (List ℕ → Type 0) → Claim → List Asked → Verdict → Type 0
+VerdictMeans May Find conditions Holds = Some_text May (Satisfies conditions)
+VerdictMeans May Find conditions Fails = Each_text May (Violates conditions)
+VerdictMeans May Never conditions Holds = Each_text May (Violates conditions)
+VerdictMeans May Never conditions Fails = Some_text May (Satisfies conditions)
+VerdictMeans May Always conditions Holds = Each_text May (Satisfies conditions)
+VerdictMeans May Always conditions Fails = Some_text May (Violates conditions)
+VerdictMeans May claim conditions Undecided = Unit {0}
 
 -- a text decides a claim, by whether it satisfies the conditions
 abbrev pub shows : Claim → Bool → Bool

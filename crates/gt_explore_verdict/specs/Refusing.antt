@@ -1,6 +1,6 @@
 -- Conditions that no answer meets.
 use Rattle.std.specs.Prelude.{◌≡◌, ℕ, true, false, List, [], ◌∷◌, Some, slice_get}
-use Rattle.gt_explore_verdict.specs.Expressions.{Answers, Asked, excludes, may_be, of_all, of_domain, of_line}
+use Rattle.gt_explore_verdict.specs.Expressions.{ConditionScope, Asked, excludes, may_be, of_all, of_domain, of_line}
 use Rattle.gt_explore_verdict.specs.Forms.{begins_form}
 use Rattle.gt_explore_verdict.specs.Satisfying.{is_met_by, line_words, lines_in, satisfies}
 use Rattle.gt_explore_verdict.specs.declared.forms.AnswerForm.{AnswerForm}
@@ -21,7 +21,7 @@ abbrev pub HaveAnswers : List ℕ → Type 0
 HaveAnswers text = (at : ℕ) (line : List ℕ) → slice_get (lines_in text) at ≡ Some line → HasAnswer (line_words line)
 
 -- a condition has words, and one on all answers has one only
-abbrev pub HasItsWords : Answers → List (List ℕ) → Type 0
+abbrev pub HasItsWords : ConditionScope → List (List ℕ) → Type 0
 HasItsWords place [] = ⊥
 HasItsWords of_all (word ∷ []) = Unit {0}
 HasItsWords of_all (word ∷ other ∷ more) = ⊥

@@ -6,9 +6,9 @@ use Rattle.std.specs.Char.{is_ascii_digit}
 use Rattle.std.specs.List.{list_all}
 
 -- a word is a number: digits only, and at least one
-unfoldable pub is_number : List ℕ → Bool
-is_number [] = false
-is_number (b ∷ bs) = list_all is_ascii_digit (b ∷ bs)
+unfoldable pub is_decimal_number : List ℕ → Bool
+is_decimal_number [] = false
+is_decimal_number (b ∷ bs) = list_all is_ascii_digit (b ∷ bs)
 
 -- a word is one of N1 to N26
 unfoldable pub is_rule : List ℕ → Bool
@@ -22,7 +22,7 @@ is_rule (letter ∷ ten ∷ digit ∷ more ∷ rest) = false
 -- a word is written as a rule: the letter N, in either case, and a number
 unfoldable pub looks_like_rule : List ℕ → Bool
 looks_like_rule [] = false
-looks_like_rule (letter ∷ number) = ((letter == 78) || (letter == 110)) && is_number number
+looks_like_rule (letter ∷ number) = ((letter == 78) || (letter == 110)) && is_decimal_number number
 
 -- a word is written as a rule, and is none
 abbrev pub is_wrong_rule : List ℕ → Bool

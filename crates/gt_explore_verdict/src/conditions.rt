@@ -1,10 +1,11 @@
 //! Expressions: conditions joined by `&`.
 ghost use Rattle.std.specs.Prelude.{◌≡◌, [], ◌∷◌, IfErr, IfOk, map};
 ghost use Rattle.std.specs.Option.{option_map};
-ghost use Rattle.gt_explore_verdict.specs.Expressions.{conditions_in, is_answer_word, is_nonempty};
+ghost use Rattle.gt_explore_verdict.specs.Expressions.{conditions_in, is_answer_word, is_nonempty_word};
 ghost use Rattle.gt_explore_verdict.specs.Expressions.{agree, condition_asked, excludes, is_excluded, may_be};
-ghost use Rattle.gt_explore_verdict.specs.Expressions.{numbered, place_asked, placed, read_term, read_terms, reason};
-ghost use Rattle.gt_explore_verdict.specs.Expressions.{term_asked, terms_in, words_in, IsFaultOf};
+ghost use Rattle.gt_explore_verdict.specs.Expressions.{number_after_mark, place_asked, placed, read_term, read_terms};
+ghost use Rattle.gt_explore_verdict.specs.Expressions.{reason};
+ghost use Rattle.gt_explore_verdict.specs.Expressions.{term_asked, terms_in, words_in, IsFaultOfTerms};
 
 use crate::fault::{ConditionFault, ExpressionFault};
 use crate::forms::{may_begin, may_have};
@@ -32,7 +33,7 @@ pub struct Condition<'e> {
 
 // Splits a word at the first mark of this kind, if a number is before it.
 fn numbered<'e>(mark: u8, word: &'e [u8]) -> Option<(&'e [u8], &'e [u8])>
-    ensures { option_map (λ parts. (parts.0.now, parts.1.now)) result ≡ numbered mark word.entry.now }
+    ensures { option_map (λ parts. (parts.0.now, parts.1.now)) result ≡ number_after_mark mark word.entry.now }
 {
     match at_mark(mark, word) {
         Some((number, answer)) => {
@@ -103,7 +104,7 @@ fn reason(place: Place<'_>, first: &[u8], more: &[&[u8]]) -> ConditionFault
 
 // Returns whether a word is not empty.
 fn is_nonempty(word: &[u8]) -> bool
-    ensures { result ≡ is_nonempty word.now }
+    ensures { result ≡ is_nonempty_word word.now }
 {
     !word.is_empty()
 }
@@ -191,7 +192,7 @@ fn is_excluded(conditions: &[Condition<'_>], condition: &Condition<'_>) -> bool
 // Reads each of these terms.
 fn read_terms<'e>(alloc: Global, terms: &[&'e [u8]]) -> Result<Vec<Condition<'e>>, ExpressionFault>
     ensures ok { IfOk result (λ cs. read_terms [] 1 (map (λ t. t.now) terms.now) ≡ Ok (map condition_asked cs.items)) }
-    ensures fault { IfErr result (IsFaultOf (read_terms [] 1 (map (λ t. t.now) terms.now))) }
+    ensures fault { IfErr result (IsFaultOfTerms (read_terms [] 1 (map (λ t. t.now) terms.now))) }
 {
     let mut conditions = Vec::new(alloc);
     let mut number = 1;
@@ -228,7 +229,7 @@ pub fn conditions_of<'e>(
     text: &'e str,
 ) -> Result<Vec<Condition<'e>>, ExpressionFault>
     ensures ok { IfOk result (λ cs. conditions_in text.entry.now ≡ Ok (map condition_asked cs.items)) }
-    ensures fault { IfErr result (IsFaultOf (conditions_in text.entry.now)) }
+    ensures fault { IfErr result (IsFaultOfTerms (conditions_in text.entry.now)) }
 {
     let Ok(terms) = terms_in(alloc, text.as_bytes()) else {
         return Err(ExpressionFault::Memory);

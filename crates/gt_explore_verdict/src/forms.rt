@@ -2,7 +2,7 @@
 ghost use Rattle.std.specs.Prelude.{◌≡◌};
 ghost use Rattle.std.specs.List.{list_all, list_any};
 ghost use Rattle.gt_explore_verdict.specs.Forms.{begins_form, fifth_kind, first_kind, fits, fits_from, fourth_kind};
-ghost use Rattle.gt_explore_verdict.specs.Forms.{has_place, is_bytes, is_field_name, is_lower_digit, is_of};
+ghost use Rattle.gt_explore_verdict.specs.Forms.{has_place, is_bytes, is_field_name, is_lower_digit, is_of_word_kind};
 ghost use Rattle.gt_explore_verdict.specs.Forms.{is_permission_name, is_status, kind_at, may_begin, may_have};
 ghost use Rattle.gt_explore_verdict.specs.Forms.{rule_word, second_kind, third_kind, value_named};
 ghost use Rattle.std.specs.Option.{option_map};
@@ -189,7 +189,7 @@ fn is_field_name(word: &[u8]) -> bool
 
 // Returns whether the word is one of this kind.
 fn is_of(kind: WordKind, word: &[u8]) -> bool
-    ensures { result ≡ is_of kind word.now }
+    ensures { result ≡ is_of_word_kind kind word.now }
 {
     match kind {
         WordKind::Ok => word == b"ok".as_slice(),

@@ -3,7 +3,7 @@ ghost use Rattle.std.specs.Prelude.{◌≡◌};
 ghost use Rattle.std.specs.Option.{option_map};
 ghost use Rattle.std.specs.List.{list_all};
 ghost use Rattle.std.specs.Char.{is_ascii_digit};
-ghost use Rattle.gt_explore_verdict.specs.Rules.{at_mark, is_number, is_rule, is_wrong_rule, looks_like_rule};
+ghost use Rattle.gt_explore_verdict.specs.Rules.{at_mark, is_decimal_number, is_rule, is_wrong_rule, looks_like_rule};
 
 fn are_digits(bytes: &[u8]) -> bool
     ensures { result ≡ list_all is_ascii_digit bytes.now }
@@ -12,9 +12,9 @@ fn are_digits(bytes: &[u8]) -> bool
 }
 
 /// Returns whether the word has digits only, and at least one.
-#[tactic(auto, unfolding(crate::specs::Rules::is_number))]
+#[tactic(auto, unfolding(crate::specs::Rules::is_decimal_number))]
 pub fn is_number(word: &[u8]) -> bool
-    ensures { result ≡ is_number word.now }
+    ensures { result ≡ is_decimal_number word.now }
 {
     match word {
         [] => false,

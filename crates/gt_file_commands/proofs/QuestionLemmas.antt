@@ -3,7 +3,8 @@ use Rattle.std.proofs.Common.{◌≡◌, ℕ, List, [], ◌∷◌, Option, map, 
 use Rattle.std.specs.Str.Lines.{lines}
 use Rattle.gt_script_lines.specs.Words.{words}
 use Rattle.gt_text.specs.Laws.{keeps_same}
-use Rattle.gt_file_commands.specs.Working.{AnswersLine, AnswersLines, AnswersWords, Asks, OrNothing, worse}
+use Rattle.gt_file_commands.specs.Working.{AnswersInputLine, AnswersLines, AnswersWords, AnswersUnderHeading, OrNothing}
+use Rattle.gt_file_commands.specs.Working.{worse}
 use Rattle.gt_file_commands.specs.declared.outcome.Outcome.{Outcome}
 use Rattle.gt_file_commands.specs.declared.outcome.Outcome.TheVariants.{No, Unknown, Yes}
 
@@ -33,7 +34,7 @@ goes_first file known all rest old same = λ new other h. subst (λ (l : List (L
 
 -- after one more line
 pub goes_next : (file : List ℕ) (known : Option (List ℕ)) (all here rest : List (List ℕ)) (line : List ℕ) (old now next : Option (List ℕ)) (so_far one after : Outcome) → GoesOn file known all here old now so_far
-    → here ≡ line ∷ rest → AnswersLine file known line now next one → after ≡ worse so_far one → GoesOn file known all rest old next after
+    → here ≡ line ∷ rest → AnswersInputLine file known line now next one → after ≡ worse so_far one → GoesOn file known all rest old next after
 goes_next file known all here rest line old now next so_far one after goes same answers is = λ new other h.
     let through : AnswersLines file known (line ∷ rest) now new (worse one other) = (next, one, other, answers, h, refl) in
     let from_here : AnswersLines file known here now new (worse one other) = subst (λ (l : List (List ℕ)). AnswersLines file known l now new (worse one other)) (sym same) through in
@@ -48,16 +49,16 @@ goes_last file known all rest old now so_far goes none =
 -- ---- the parts of a question, a line and a text
 
 -- the question was asked with these words
-pub asks_same : (file : List ℕ) (known : Option (List ℕ)) (s t p s' t' p' : List ℕ) (old new : Option (List ℕ)) (outcome : Outcome) → s ≡ s' → t ≡ t' → p ≡ p' → Asks file known s t p old new outcome
-    → OrNothing (Asks file known s' t' p') old new outcome
+pub asks_same : (file : List ℕ) (known : Option (List ℕ)) (s t p s' t' p' : List ℕ) (old new : Option (List ℕ)) (outcome : Outcome) → s ≡ s' → t ≡ t' → p ≡ p' → AnswersUnderHeading file known s t p old new outcome
+    → OrNothing (AnswersUnderHeading file known s' t' p') old new outcome
 asks_same file known s t p s' t' p' old new outcome es et ep asks =
-    let one = subst (λ (x : List ℕ). Asks file known x t p old new outcome) es asks in
-    let two = subst (λ (x : List ℕ). Asks file known s' x p old new outcome) et one in
-    inl (subst (λ (x : List ℕ). Asks file known s' t' x old new outcome) ep two)
+    let one = subst (λ (x : List ℕ). AnswersUnderHeading file known x t p old new outcome) es asks in
+    let two = subst (λ (x : List ℕ). AnswersUnderHeading file known s' x p old new outcome) et one in
+    inl (subst (λ (x : List ℕ). AnswersUnderHeading file known s' t' x old new outcome) ep two)
 
 -- the words of a line were answered
 pub answers_line : (file : List ℕ) (known : Option (List ℕ)) (ws : List (List ℕ)) (line : List ℕ) (old new : Option (List ℕ)) (outcome : Outcome) → ws ≡ words line → OrNothing (AnswersWords file known ws) old new outcome
-    → AnswersLine file known line old new outcome
+    → AnswersInputLine file known line old new outcome
 answers_line file known ws line old new outcome same answers = subst (λ (l : List (List ℕ)). OrNothing (AnswersWords file known l) old new outcome) same answers
 
 -- the lines of a text were answered
@@ -76,5 +77,5 @@ none_asked X f file known ws old none = subst (λ (l : List X). OrNothing (Answe
 
 -- the three words of a line were asked
 pub three_asked : (X : Type 0) (f : X → List ℕ) (file : List ℕ) (known : Option (List ℕ)) (ws : List X) (s t p : X) (old new : Option (List ℕ)) (outcome : Outcome) → ws ≡ s ∷ t ∷ p ∷ []
-    → OrNothing (Asks file known (f s) (f t) (f p)) old new outcome → OrNothing (AnswersWords file known (map f ws)) old new outcome
+    → OrNothing (AnswersUnderHeading file known (f s) (f t) (f p)) old new outcome → OrNothing (AnswersWords file known (map f ws)) old new outcome
 three_asked X f file known ws s t p old new outcome same asks = subst (λ (l : List X). OrNothing (AnswersWords file known (map f l)) old new outcome) (sym same) asks

@@ -10,33 +10,34 @@ use Rattle.gt_policy_check.specs.declared.report.ReportForm.{ReportForm}
 use Rattle.gt_file_commands.specs.Formats.{IsFormOf}
 use Rattle.gt_file_commands.specs.Laws.{worked}
 use Rattle.gt_file_commands.specs.Working.{AnswersFlow, IsFlowQuestion, ShowsFlow}
-use Rattle.gt_file_commands.specs.Working.{AnswersDump, AnswersEntries, AnswersQuestion, Answers, Checks, ChecksAll, ChecksAs}
-use Rattle.gt_file_commands.specs.Working.{ChecksFiles, ChecksIn, ChecksNever, Does, Doing, Ending, Explains, IsAsked, IsQuestion}
-use Rattle.gt_file_commands.specs.Working.{OrNothing, Performs, Works, answer_of, kind_checked, outcome_of}
+use Rattle.gt_file_commands.specs.Working.{AnswersDump, AnswersEntries, AnswersQuestion, AnswersYesOrNo, Checks, ChecksAll, ChecksAs}
+use Rattle.gt_file_commands.specs.Working.{ChecksFiles, ChecksIn, ChecksNever, DoesOnFile, Doing, Ending, Explains, IsAsked, IsQuestion}
+use Rattle.gt_file_commands.specs.Working.{OrNothing, Performs, Works, outcome_of_answer, kind_checked}
+use Rattle.gt_file_commands.specs.Working.{outcome_of_command}
 use Rattle.gt_file_commands.specs.declared.checking.CheckKind.{CheckKind}
 use Rattle.gt_file_commands.specs.declared.commands.Work.{Work}
 use Rattle.gt_file_commands.specs.declared.outcome.Outcome.{Outcome}
 use Rattle.gt_file_commands.specs.declared.outcome.Outcome.TheVariants.{Unknown}
 
 -- the same for an equal outcome of a failure
-pub worked_as : (P : Doing) (failed same : Outcome) (name known old new : Option (List ℕ)) (r : Ending) (outcome : Outcome) → failed ≡ same → IfSome known (λ bytes. Does P name bytes old new r) → outcome ≡ outcome_of failed r
+pub worked_as : (P : Doing) (failed same : Outcome) (name known old new : Option (List ℕ)) (r : Ending) (outcome : Outcome) → failed ≡ same → IfSome known (λ bytes. DoesOnFile P name bytes old new r) → outcome ≡ outcome_of_command failed r
     → Works P same name known old new outcome
 worked_as P failed same name known old new r outcome is does of = subst (λ (f : Outcome). Works P f name known old new outcome) is (worked P failed name known old new r outcome does of)
 
 -- an answer of yes or no
-answered_one : {F : Type 0} (Wrote : Result Bool F → Type 0) (answer : Bool) → Wrote (Ok answer) → Answers Wrote (answer_of answer)
+answered_one : {F : Type 0} (Wrote : Result Bool F → Type 0) (answer : Bool) → Wrote (Ok answer) → AnswersYesOrNo Wrote (outcome_of_answer answer)
 answered_one Wrote true wrote = wrote
 answered_one Wrote false wrote = wrote
 
 -- the same for the input
-pub answered_input : {F : Type 0} (known : Option (List ℕ)) (Wrote : List ℕ → Result Bool F → Type 0) (answer : Bool) (outcome : Outcome) → outcome ≡ answer_of answer → OfInput known (λ input. Wrote input (Ok answer))
-    → OfInput known (λ input. Answers (Wrote input) outcome)
-answered_input None Wrote answer outcome is (input, few, wrote) = (input, few, subst (λ (o : Outcome). Answers (Wrote input) o) (sym is) (answered_one (Wrote input) answer wrote))
-answered_input (Some all) Wrote answer outcome is wrote = subst (λ (o : Outcome). Answers (Wrote all) o) (sym is) (answered_one (Wrote all) answer wrote)
+pub answered_input : {F : Type 0} (known : Option (List ℕ)) (Wrote : List ℕ → Result Bool F → Type 0) (answer : Bool) (outcome : Outcome) → outcome ≡ outcome_of_answer answer → OfInput known (λ input. Wrote input (Ok answer))
+    → OfInput known (λ input. AnswersYesOrNo (Wrote input) outcome)
+answered_input None Wrote answer outcome is (input, few, wrote) = (input, few, subst (λ (o : Outcome). AnswersYesOrNo (Wrote input) o) (sym is) (answered_one (Wrote input) answer wrote))
+answered_input (Some all) Wrote answer outcome is wrote = subst (λ (o : Outcome). AnswersYesOrNo (Wrote all) o) (sym is) (answered_one (Wrote all) answer wrote)
 
 -- the report has a form of the format, and the name that was shown
-checks_in : (P : ReportForm → List ℕ → Doing) (format : Format) (form : ReportForm) (file : List ℕ) (name : Option (List ℕ)) (input : List ℕ) (old new : Option (List ℕ)) (r : Ending) → IsFormOf format form → Does (P form file) name input old new r
-    → Does (ChecksIn P format file) name input old new r
+checks_in : (P : ReportForm → List ℕ → Doing) (format : Format) (form : ReportForm) (file : List ℕ) (name : Option (List ℕ)) (input : List ℕ) (old new : Option (List ℕ)) (r : Ending) → IsFormOf format form → DoesOnFile (P form file) name input old new r
+    → DoesOnFile (ChecksIn P format file) name input old new r
 checks_in P format form file name input old new r fits (inl does) = inl (form, fits, does)
 checks_in P format form file name input old new r fits (inr unopened) = inr unopened
 
@@ -74,7 +75,7 @@ for_kind known old new form file kind other r is does = subst (λ (k : CheckKind
 
 -- a question of these names was answered
 explains_names : (file : List ℕ) (q : WhyQuestion) (source target permission : Option (List ℕ)) (name : Option (List ℕ)) (input : List ℕ) (old new : Option (List ℕ)) (r : Ending) → IsQuestion source target permission q
-    → Does (Explains file q) name input old new r → Does (AnswersQuestion file source target permission) name input old new r
+    → DoesOnFile (Explains file q) name input old new r → DoesOnFile (AnswersQuestion file source target permission) name input old new r
 explains_names file q source target permission name input old new r is (inl does) = inl (q, is, does)
 explains_names file q source target permission name input old new r is (inr unopened) = inr unopened
 
@@ -91,7 +92,7 @@ answered file same q source target permission name known old new outcome shown a
 
 -- a question about flows was answered as it was asked
 flow_asked : (q : FlowQuestion) (source target trusted : Option (List ℕ)) (name : Option (List ℕ)) (input : List ℕ) (old new : Option (List ℕ)) (r : Ending) → IsFlowQuestion source target trusted q
-    → Does (ShowsFlow q) name input old new r → Does (AnswersFlow source target trusted) name input old new r
+    → DoesOnFile (ShowsFlow q) name input old new r → DoesOnFile (AnswersFlow source target trusted) name input old new r
 flow_asked q source target trusted name input old new r is (inl does) = inl (q, is, does)
 flow_asked q source target trusted name input old new r is (inr unopened) = inr unopened
 
@@ -103,7 +104,7 @@ flow_answered q source target trusted name (Some bytes) old new outcome asks (r,
 
 -- a dump was told as it was asked
 tells_asked : (asked : DumpOptions) (version : ℕ) (hex every : Bool) (script : Option ℕ) (format : Format) (name : Option (List ℕ)) (input : List ℕ) (old new : Option (List ℕ)) (r : Ending) → IsAsked version hex every script asked
-    → Does (AnswersEntries format asked) name input old new r → Does (AnswersDump version hex every script format) name input old new r
+    → DoesOnFile (AnswersEntries format asked) name input old new r → DoesOnFile (AnswersDump version hex every script format) name input old new r
 tells_asked asked version hex every script format name input old new r is (inl does) = inl (asked, is, does)
 tells_asked asked version hex every script format name input old new r is (inr unopened) = inr unopened
 

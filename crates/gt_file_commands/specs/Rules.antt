@@ -45,8 +45,8 @@ rule_line (rule, reason, remedy) = rule_head rule ++ codes ": " ++ reason ++ cod
 -- ---- lines of a width
 
 -- what is between the spaces of a line
-abbrev pub words_in : List ℕ → List (List ℕ)
-words_in line = slice_split (λ b. b == 32) line
+abbrev pub spaced_words : List ℕ → List (List ℕ)
+spaced_words line = slice_split (λ b. b == 32) line
 
 -- words, each after a space if there is room for both on the line, and otherwise on a new line that is indented by four
 abbrev pub more_words : ℕ → ℕ → List (List ℕ) → List ℕ
@@ -63,7 +63,7 @@ wrapped width (word ∷ words) = word ++ more_words width (width - length word) 
 -- a line with its end, in lines of at most the width, if one is given
 abbrev pub styled : Option ℕ → List ℕ → List ℕ
 styled None line = line ++ codes "\n"
-styled (Some width) line = wrapped width (words_in line) ++ codes "\n"
+styled (Some width) line = wrapped width (spaced_words line) ++ codes "\n"
 
 -- ---- the name of a rule
 
@@ -73,15 +73,15 @@ digits_in [] = []
 digits_in (b ∷ digits) = if (b == 78) || (b == 110) then digits else b ∷ digits
 
 -- the digits in the name are the number of the rule; each is asked for if no name is given
-abbrev pub is_asked : Option (List ℕ) → Rule → Bool
-is_asked None rule = true
-is_asked (Some name) rule = bytes_eq (digits_in name) (decimal (rule_number rule))
+abbrev pub is_asked_rule : Option (List ℕ) → Rule → Bool
+is_asked_rule None rule = true
+is_asked_rule (Some name) rule = bytes_eq (digits_in name) (decimal (rule_number rule))
 
 -- ---- the text
 
 -- those of these rules that are asked for
 abbrev pub asked_among : Option (List ℕ) → List RuleRow → List RuleRow
-asked_among name rows = filter (λ row. is_asked name row.0) rows
+asked_among name rows = filter (λ row. is_asked_rule name row.0) rows
 
 -- the lines of rules
 abbrev pub rules_text : Option ℕ → List RuleRow → List ℕ

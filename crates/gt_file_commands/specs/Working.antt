@@ -40,18 +40,18 @@ exit_status_of No = 1
 exit_status_of Unknown = 2
 
 -- the outcome of an answer
-abbrev pub answer_of : Bool → Outcome
-answer_of true = Yes
-answer_of false = No
+abbrev pub outcome_of_answer : Bool → Outcome
+outcome_of_answer true = Yes
+outcome_of_answer false = No
 
 -- the result of a command: its outcome, or a failure
 abbrev pub Ending : Type 0
 Ending = Result Outcome Failure
 
 -- the outcome of a command line by the result of its command, and by the outcome of a failure
-abbrev pub outcome_of : Outcome → Ending → Outcome
-outcome_of failed (Ok outcome) = outcome
-outcome_of failed (Err failure) = failed
+abbrev pub outcome_of_command : Outcome → Ending → Outcome
+outcome_of_command failed (Ok outcome) = outcome
+outcome_of_command failed (Err failure) = failed
 
 -- what a command wrote, by the bytes of its text and by its result
 abbrev pub Doing : Type 1
@@ -64,10 +64,10 @@ Plays format audited input old new (Err (failures.Play fault)) = PlayedAs format
 Plays format audited input old new (Err failure) = ⊥
 
 -- what was written for an answer of yes or no
-abbrev pub Answers : {F : Type 0} → (Result Bool F → Type 0) → Outcome → Type 0
-Answers Wrote Yes = Wrote (Ok true)
-Answers Wrote No = Wrote (Ok false)
-Answers Wrote Unknown = ⊥
+abbrev pub AnswersYesOrNo : {F : Type 0} → (Result Bool F → Type 0) → Outcome → Type 0
+AnswersYesOrNo Wrote Yes = Wrote (Ok true)
+AnswersYesOrNo Wrote No = Wrote (Ok false)
+AnswersYesOrNo Wrote Unknown = ⊥
 
 abbrev pub Lists : Format → Doing
 Lists format input old new (Ok Yes) = ListedAs format input old new (Ok tt)
@@ -77,7 +77,7 @@ Lists format input old new (Err failure) = ⊥
 
 -- the answer is whether the text is a policy, or a script; the report has this form and this name
 abbrev pub ChecksAs : Bool → ReportForm → List ℕ → Doing
-ChecksAs script form file input old new (Ok outcome) = Answers (CheckedAs script form file input old new) outcome
+ChecksAs script form file input old new (Ok outcome) = AnswersYesOrNo (CheckedAs script form file input old new) outcome
 ChecksAs script form file input old new (Err (failures.List fault)) =
     CheckedAs script form file input old new (Err fault)
 ChecksAs script form file input old new (Err failure) = ⊥
@@ -85,7 +85,7 @@ ChecksAs script form file input old new (Err failure) = ⊥
 -- the answer is whether no statement of the policy breaks one of these neverallow statements, of a text with a name
 abbrev pub ChecksNever : List ℕ → List ℕ → ReportForm → List ℕ → Doing
 ChecksNever never given form file input old new (Ok outcome) =
-    Answers (CheckedNever form never given file input old new) outcome
+    AnswersYesOrNo (CheckedNever form never given file input old new) outcome
 ChecksNever never given form file input old new (Err (failures.Breach fault)) =
     CheckedNever form never given file input old new (Err fault)
 ChecksNever never given form file input old new (Err failure) = ⊥
@@ -107,13 +107,13 @@ ChecksIn P format file input old new r = (form : ReportForm) × IsFormOf format 
 
 -- the answer is whether it is allowed
 abbrev pub Explains : List ℕ → WhyQuestion → Doing
-Explains file q input old new (Ok outcome) = Answers (Explained file q input old new) outcome
+Explains file q input old new (Ok outcome) = AnswersYesOrNo (Explained file q input old new) outcome
 Explains file q input old new (Err (failures.Why fault)) = Explained file q input old new (Err fault)
 Explains file q input old new (Err failure) = ⊥
 
 -- the answer is whether there is a path
 abbrev pub ShowsFlow : FlowQuestion → Doing
-ShowsFlow q input old new (Ok outcome) = Answers (Flowed q input old new) outcome
+ShowsFlow q input old new (Ok outcome) = AnswersYesOrNo (Flowed q input old new) outcome
 ShowsFlow q input old new (Err (failures.Flow fault)) = Flowed q input old new (Err fault)
 ShowsFlow q input old new (Err failure) = ⊥
 
@@ -149,8 +149,8 @@ IsUnopened None old new r = ⊥
 
 -- it was done to these bytes of the named file, or of the standard input if none is named, or the named file could not
 -- be opened
-abbrev pub Does : Doing → Option (List ℕ) → Doing
-Does P name input old new r = P input old new r ⊎ IsUnopened name old new r
+abbrev pub DoesOnFile : Doing → Option (List ℕ) → Doing
+DoesOnFile P name input old new r = P input old new r ⊎ IsUnopened name old new r
 
 -- the known bytes of the named file, or of the standard input if none is named
 abbrev pub known_text : (List ℕ → Option (List ℕ)) → Option (List ℕ) → Option (List ℕ) → Option (List ℕ)
@@ -167,8 +167,8 @@ abbrev pub Works : Doing → Outcome → Option (List ℕ) → Option (List ℕ)
     → Type 0
 Works P failed name known old new outcome =
     IfSome known
-    (λ bytes. (r : Ending) × (outcome ≡ outcome_of failed r)
-    × (Does P name bytes old new r ⊎ ((r ≡ Err failures.Memory) × Keeps old new)))
+    (λ bytes. (r : Ending) × (outcome ≡ outcome_of_command failed r)
+    × (DoesOnFile P name bytes old new r ⊎ ((r ≡ Err failures.Memory) × Keeps old new)))
 
 -- the question has these names
 abbrev pub IsQuestion : Option (List ℕ) → Option (List ℕ) → Option (List ℕ) → WhyQuestion → Type 0
@@ -211,25 +211,25 @@ worse No Unknown = Unknown
 worse Unknown other = Unknown
 
 -- what is done to the output, with an outcome
-abbrev pub Deed : Type 1
-Deed = Option (List ℕ) → Option (List ℕ) → Outcome → Type 0
+abbrev pub OutputEffect : Type 1
+OutputEffect = Option (List ℕ) → Option (List ℕ) → Outcome → Type 0
 
 -- one deed is done after the other, and the outcome is the worse one
-abbrev pub OneAfterOther : Deed → Deed → Deed
+abbrev pub OneAfterOther : OutputEffect → OutputEffect → OutputEffect
 OneAfterOther One Other old new outcome =
     (middle : Option (List ℕ)) × (one : Outcome) × (other : Outcome) × One old middle one × Other middle new other
     × (outcome ≡ worse one other)
 
 -- this is done, or nothing, and then there is no answer
-abbrev pub OrNothing : Deed → Deed
+abbrev pub OrNothing : OutputEffect → OutputEffect
 OrNothing D old new outcome = D old new outcome ⊎ ((outcome ≡ Unknown) × Keeps old new)
 
 -- this is done with the bytes of a further text, if they are known; or nothing, if that text can't be read
-abbrev pub WithFile : Option (List ℕ) → (List ℕ → Deed) → Deed
+abbrev pub WithFile : Option (List ℕ) → (List ℕ → OutputEffect) → OutputEffect
 WithFile known D old new outcome = IfSome known (λ bytes. OrNothing (D bytes) old new outcome)
 
 -- the files of these names are checked one after the other, each with its name
-abbrev pub ChecksFiles : (List ℕ → Doing) → (List ℕ → Option (List ℕ)) → List (Option (List ℕ)) → Deed
+abbrev pub ChecksFiles : (List ℕ → Doing) → (List ℕ → Option (List ℕ)) → List (Option (List ℕ)) → OutputEffect
 ChecksFiles P file [] old new outcome = Keeps old new × (outcome ≡ Yes)
 ChecksFiles P file (None ∷ more) old new outcome = ChecksFiles P file more old new outcome
 ChecksFiles P file (Some name ∷ more) old new outcome =
@@ -237,58 +237,58 @@ ChecksFiles P file (Some name ∷ more) old new outcome =
 
 -- the named file is checked, or the standard input, and then the others
 abbrev pub ChecksAll : (List ℕ → Doing) → (List ℕ → Option (List ℕ)) → Option (List ℕ) → Option (List ℕ)
-    → List (Option (List ℕ)) → Deed
+    → List (Option (List ℕ)) → OutputEffect
 ChecksAll P file input name more =
     OneAfterOther (Works (P (shown_name name)) Unknown name (known_text file input name)) (ChecksFiles P file more)
 
 -- ---- questions, one on each line of the standard input
 
 -- the line before an answer
-abbrev pub heading : List ℕ → List ℕ → List ℕ → List ℕ
-heading source target permission =
+abbrev pub question_heading : List ℕ → List ℕ → List ℕ → List ℕ
+question_heading source target permission =
     codes "# " ++ source ++ codes " " ++ target ++ codes " " ++ permission ++ codes "\n"
 
 -- the line went out, and then the question was answered about the policy of a file; or a prefix of the line went out
-abbrev pub Asks : List ℕ → Option (List ℕ) → List ℕ → List ℕ → List ℕ → Deed
-Asks file known source target permission old new outcome =
-    ((middle : Option (List ℕ)) × Appends old middle (heading source target permission)
+abbrev pub AnswersUnderHeading : List ℕ → Option (List ℕ) → List ℕ → List ℕ → List ℕ → OutputEffect
+AnswersUnderHeading file known source target permission old new outcome =
+    ((middle : Option (List ℕ)) × Appends old middle (question_heading source target permission)
     × Works (AnswersQuestion file (type_of (Some source)) (type_of (Some target)) (type_of (Some permission))) Unknown
     None known middle new outcome)
-    ⊎ (AppendsBeginning old new (heading source target permission) × (outcome ≡ Unknown))
+    ⊎ (AppendsBeginning old new (question_heading source target permission) × (outcome ≡ Unknown))
 
 -- a line of three words is a question, one without words is skipped, and any other has no answer
-abbrev pub AnswersWords : List ℕ → Option (List ℕ) → List (List ℕ) → Deed
+abbrev pub AnswersWords : List ℕ → Option (List ℕ) → List (List ℕ) → OutputEffect
 AnswersWords file known [] old new outcome = Keeps old new × (outcome ≡ Yes)
 AnswersWords file known (source ∷ []) old new outcome = Keeps old new × (outcome ≡ Unknown)
 AnswersWords file known (source ∷ target ∷ []) old new outcome = Keeps old new × (outcome ≡ Unknown)
 AnswersWords file known (source ∷ target ∷ permission ∷ []) old new outcome =
-    Asks file known source target permission old new outcome
+    AnswersUnderHeading file known source target permission old new outcome
 AnswersWords file known (source ∷ target ∷ permission ∷ word ∷ more) old new outcome =
     Keeps old new × (outcome ≡ Unknown)
 
-abbrev pub AnswersLine : List ℕ → Option (List ℕ) → List ℕ → Deed
-AnswersLine file known line = OrNothing (AnswersWords file known (words line))
+abbrev pub AnswersInputLine : List ℕ → Option (List ℕ) → List ℕ → OutputEffect
+AnswersInputLine file known line = OrNothing (AnswersWords file known (words line))
 
 -- the questions of the lines are answered one after the other
-abbrev pub AnswersLines : List ℕ → Option (List ℕ) → List (List ℕ) → Deed
+abbrev pub AnswersLines : List ℕ → Option (List ℕ) → List (List ℕ) → OutputEffect
 AnswersLines file known [] old new outcome = Keeps old new × (outcome ≡ Yes)
 AnswersLines file known (line ∷ more) old new outcome =
-    OneAfterOther (AnswersLine file known line) (AnswersLines file known more) old new outcome
+    OneAfterOther (AnswersInputLine file known line) (AnswersLines file known more) old new outcome
 
 -- ---- the policy of a file
 
 -- the text is a policy
-abbrev pub IsPolicy : List ℕ → Type 0
-IsPolicy text = (m : Meaning) × ReadsAs text (Ok m)
+abbrev pub IsPolicyText : List ℕ → Type 0
+IsPolicyText text = (m : Meaning) × ReadsAs text (Ok m)
 
 -- the questions of the input are answered about this policy; if it is none, nothing is answered
-abbrev pub AnswersAbout : List ℕ → List ℕ → Option (List ℕ) → Deed
+abbrev pub AnswersAbout : List ℕ → List ℕ → Option (List ℕ) → OutputEffect
 AnswersAbout file policy input old new outcome =
-    (IsPolicy policy × WithFile input (λ asked. AnswersLines file (Some policy) (lines asked)) old new outcome)
+    (IsPolicyText policy × WithFile input (λ asked. AnswersLines file (Some policy) (lines asked)) old new outcome)
     ⊎ ((outcome ≡ Unknown) × Keeps old new)
 
 -- the same about the text of the file, whose bytes may be known; if the file can't be read, nothing is answered
-abbrev pub AnswersEach : List ℕ → Option (List ℕ) → Option (List ℕ) → Deed
-AnswersEach file known input old new outcome =
+abbrev pub AnswersAboutFile : List ℕ → Option (List ℕ) → Option (List ℕ) → OutputEffect
+AnswersAboutFile file known input old new outcome =
     ((policy : List ℕ) × IfSome known (λ all. policy ≡ all) × AnswersAbout file policy input old new outcome)
     ⊎ ((outcome ≡ Unknown) × Keeps old new)

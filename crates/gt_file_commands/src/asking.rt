@@ -1,7 +1,7 @@
 //! Commands by the options of a command line.
 ghost use Rattle.std.specs.Prelude.{◌≡◌};
 ghost use Rattle.std.specs.Option.{option_map};
-ghost use Rattle.gt_commands.specs.Files.{name_of};
+ghost use Rattle.gt_commands.specs.Files.{file_name_of};
 ghost use Rattle.gt_file_commands.specs.Names.{shown_name};
 ghost use Rattle.gt_file_commands.specs.Working.{known_input, AnswersDump, AnswersFlow, AnswersQuestion, Lists, Plays, Works};
 
@@ -23,7 +23,7 @@ pub fn play<R, T: TextSource, W: Write, E: Eprint>(
     out: &mut W,
     reasons: &mut Reasons,
 ) -> Outcome
-    ensures { Works (Plays options.entry.format options.entry.audit) Outcome.No (name_of options.entry.file)
+    ensures { Works (Plays options.entry.format options.entry.audit) Outcome.No (file_name_of options.entry.file)
         (known_input (T.file context.now.texts.now) (T.input context.now.texts.now) options.entry.file)
         (W.contents out.old) (W.contents out.new) result }
 {
@@ -43,7 +43,7 @@ pub fn list<R, T: TextSource, W: Write, E: Eprint>(
     out: &mut W,
     reasons: &mut Reasons,
 ) -> Outcome
-    ensures { Works (Lists format) Outcome.No (name_of file.entry)
+    ensures { Works (Lists format) Outcome.No (file_name_of file.entry)
         (known_input (T.file context.now.texts.now) (T.input context.now.texts.now) file.entry)
         (W.contents out.old) (W.contents out.new) result }
 {
@@ -59,9 +59,9 @@ pub fn answer<'a, R, T: TextSource, W: Write, E: Eprint>(
     out: &mut W,
     reasons: &mut Reasons<'a>,
 ) -> Outcome
-    ensures { Works (AnswersQuestion (shown_name (name_of file.entry))
+    ensures { Works (AnswersQuestion (shown_name (file_name_of file.entry))
         (option_map (λ a. a.now) question.entry.source) (option_map (λ a. a.now) question.entry.target)
-        (option_map (λ a. a.now) question.entry.perm)) Outcome.Unknown (name_of file.entry)
+        (option_map (λ a. a.now) question.entry.perm)) Outcome.Unknown (file_name_of file.entry)
         (known_input (T.file context.now.texts.now) (T.input context.now.texts.now) file.entry)
         (W.contents out.old) (W.contents out.new) result }
 {
@@ -84,7 +84,7 @@ pub fn show_flow<R, T: TextSource, W: Write, E: Eprint>(
 ) -> Outcome
     ensures { Works (AnswersFlow (option_map (λ a. a.now) question.entry.source)
         (option_map (λ a. a.now) question.entry.target) (option_map (λ a. a.now) question.entry.trusted)) Outcome.Unknown
-        (name_of file.entry)
+        (file_name_of file.entry)
         (known_input (T.file context.now.texts.now) (T.input context.now.texts.now) file.entry)
         (W.contents out.old) (W.contents out.new) result }
 {
@@ -111,7 +111,8 @@ pub fn show_entries<R, T: TextSource, W: Write, E: Eprint>(
     out: &mut W,
     reasons: &mut Reasons,
 ) -> Outcome
-    ensures { Works (AnswersDump dump.version dump.hex dump.all dump.script format) Outcome.Unknown (name_of file.entry)
+    ensures { Works (AnswersDump dump.version dump.hex dump.all dump.script format) Outcome.Unknown
+        (file_name_of file.entry)
         (known_input (T.file context.now.texts.now) (T.input context.now.texts.now) file.entry)
         (W.contents out.old) (W.contents out.new) result }
 {

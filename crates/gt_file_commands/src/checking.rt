@@ -2,7 +2,7 @@
 ghost use Rattle.std.specs.Prelude.{◌≡◌, map};
 ghost use Rattle.std.specs.Option.{option_map};
 ghost use Rattle.gt_text.specs.Streams.{OfInput};
-ghost use Rattle.gt_commands.specs.Files.{name_of, names_of};
+ghost use Rattle.gt_commands.specs.Files.{file_name_of, file_names_of};
 ghost use Rattle.gt_file_commands.specs.Formats.{IsFormOf};
 ghost use Rattle.gt_file_commands.specs.Names.{shown_name};
 ghost use Rattle.gt_file_commands.specs.Working.{known_input, kind_checked, Checks, ChecksAll, ChecksAs, ChecksFiles};
@@ -126,7 +126,7 @@ fn check_one<'a, R, T: TextSource, W: Write, E: Eprint>(
     reasons: &mut Reasons<'a>,
 ) -> Outcome
     ensures { Works (ChecksIn (Checks kind.entry) format (shown_name (option_map (λ f. f.now) file.entry)))
-        Outcome.Unknown (name_of file.entry)
+        Outcome.Unknown (file_name_of file.entry)
         (known_input (T.file context.now.texts.now) (T.input context.now.texts.now) file.entry)
         (W.contents out.old) (W.contents out.new) result }
 {
@@ -170,7 +170,7 @@ fn check_all<'a, R, T: TextSource, W: Write, E: Eprint>(
     reasons: &mut Reasons<'a>,
 ) -> Outcome
     ensures { ChecksAll (ChecksIn (Checks kind.entry) files.now.format) (T.file context.now.texts.now)
-        (T.input context.now.texts.now) (name_of files.now.file) (names_of files.now.more)
+        (T.input context.now.texts.now) (file_name_of files.now.file) (file_names_of files.now.more)
         (W.contents out.old) (W.contents out.new) result }
 {
     let one = check_one(context, kind, files.format, files.file, out, reasons);
@@ -189,7 +189,7 @@ pub fn check_files<'a, R, T: TextSource, W: Write, E: Eprint>(
     reasons: &mut Reasons<'a>,
 ) -> Outcome
     ensures { ChecksAll (ChecksIn (ChecksAs script) files.now.format) (T.file context.now.texts.now)
-        (T.input context.now.texts.now) (name_of files.now.file) (names_of files.now.more)
+        (T.input context.now.texts.now) (file_name_of files.now.file) (file_names_of files.now.more)
         (W.contents out.old) (W.contents out.new) result }
 {
     let kind = kind_of(script);
@@ -207,7 +207,7 @@ fn check_never_bytes<'a, R, T: TextSource, W: Write, E: Eprint>(
 ) -> Outcome
     ensures { OrNothing (ChecksAll (ChecksIn (ChecksNever never.entry.now bytes.now) files.now.format)
         (T.file context.now.texts.now) (T.input context.now.texts.now)
-        (name_of files.now.file) (names_of files.now.more)) (W.contents out.old) (W.contents out.new) result }
+        (file_name_of files.now.file) (file_names_of files.now.more)) (W.contents out.old) (W.contents out.new) result }
 {
     match policy_text(bytes) {
         Ok(text) => {
@@ -232,7 +232,7 @@ pub fn check_never_files<'a, R, T: TextSource, W: Write, E: Eprint>(
 ) -> Outcome
     ensures { WithFile (T.file context.now.texts.now never.entry.now) (λ given.
         ChecksAll (ChecksIn (ChecksNever never.entry.now given) files.now.format) (T.file context.now.texts.now)
-        (T.input context.now.texts.now) (name_of files.now.file) (names_of files.now.more))
+        (T.input context.now.texts.now) (file_name_of files.now.file) (file_names_of files.now.more))
         (W.contents out.old) (W.contents out.new) result }
 {
     match read_given(context, never, reasons) {

@@ -1,8 +1,8 @@
 //! The execution of each command, with the text that it names.
 ghost use Rattle.std.specs.Prelude.{◌≡◌, IfSome};
 ghost use Rattle.gt_text.specs.Streams.{OfInput};
-ghost use Rattle.gt_commands.specs.Files.{name_of};
-ghost use Rattle.gt_file_commands.specs.Working.{failed_work, known_input, Does, Performs, Works};
+ghost use Rattle.gt_commands.specs.Files.{file_name_of};
+ghost use Rattle.gt_file_commands.specs.Working.{failed_work, known_input, DoesOnFile, Performs, Works};
 
 use crate::checking::{CheckKind, perform_check};
 use crate::explained::{
@@ -130,8 +130,8 @@ fn perform_on<R, T: TextSource, W: Write, E>(
     reasons: &mut Reasons,
 ) -> Result<Outcome, Failure>
     ensures { IfSome (known_input (T.file context.now.texts.now) (T.input context.now.texts.now) name.entry)
-        (λ input. Does (Performs work.entry) (name_of name.entry) input (W.contents out.old) (W.contents out.new)
-        result) }
+        (λ input. DoesOnFile (Performs work.entry) (file_name_of name.entry) input (W.contents out.old)
+        (W.contents out.new) result) }
 {
     let alloc = context.alloc;
     let Some(name) = name else {
@@ -154,7 +154,7 @@ pub(crate) fn work_asked<R, T: TextSource, W: Write, E: Eprint>(
     out: &mut W,
     reasons: &mut Reasons,
 ) -> Outcome
-    ensures { Works (Performs work.entry) (failed_work work.entry) (name_of file.entry)
+    ensures { Works (Performs work.entry) (failed_work work.entry) (file_name_of file.entry)
         (known_input (T.file context.now.texts.now) (T.input context.now.texts.now) file.entry)
         (W.contents out.old) (W.contents out.new) result }
 {

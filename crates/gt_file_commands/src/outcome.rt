@@ -1,6 +1,6 @@
 //! The outcome of a command line.
 ghost use Rattle.std.specs.Prelude.{◌≡◌};
-ghost use Rattle.gt_file_commands.specs.Working.{answer_of, exit_status_of, outcome_of, worse};
+ghost use Rattle.gt_file_commands.specs.Working.{outcome_of_answer, exit_status_of, outcome_of_command, worse};
 
 use crate::failure::Failure;
 
@@ -29,7 +29,7 @@ impl Outcome {
 
     /// Returns the outcome of an answer.
     pub(crate) fn of_answer(is_yes: bool) -> Outcome
-        ensures { result ≡ answer_of is_yes }
+        ensures { result ≡ outcome_of_answer is_yes }
     {
         if is_yes { Outcome::Yes } else { Outcome::No }
     }
@@ -48,7 +48,7 @@ pub(crate) fn worse(one: Outcome, other: Outcome) -> Outcome
 
 /// Returns the outcome of a command with this result: `failed` after a failure.
 pub fn outcome_of(failed: Outcome, ending: &Result<Outcome, Failure>) -> Outcome
-    ensures { result ≡ outcome_of failed ending.now }
+    ensures { result ≡ outcome_of_command failed ending.now }
 {
     match ending {
         Ok(outcome) => *outcome,

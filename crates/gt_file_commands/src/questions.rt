@@ -5,9 +5,10 @@ ghost use Rattle.std.specs.Str.Lines.{lines as lines_in};
 ghost use Rattle.std.specs.Io.KnownBytes.{Appends};
 ghost use Rattle.gt_text.specs.Streams.{AppendsBeginning};
 ghost use Rattle.gt_commands.specs.Commands.{type_of};
-ghost use Rattle.gt_file_commands.specs.Working.{AnswersAbout, AnswersEach, AnswersLine, AnswersLines};
-ghost use Rattle.gt_file_commands.specs.Working.{AnswersQuestion, AnswersWords, Asks, IsPolicy, OrNothing, WithFile};
-ghost use Rattle.gt_file_commands.specs.Working.{Works, heading};
+ghost use Rattle.gt_file_commands.specs.Working.{AnswersAbout, AnswersAboutFile, AnswersInputLine, AnswersLines};
+ghost use Rattle.gt_file_commands.specs.Working.{AnswersQuestion, AnswersWords, AnswersUnderHeading, IsPolicyText};
+ghost use Rattle.gt_file_commands.specs.Working.{OrNothing, WithFile};
+ghost use Rattle.gt_file_commands.specs.Working.{Works, question_heading};
 ghost use Rattle.gt_file_commands.specs.declared.outcome.Outcome.TheVariants.{Unknown};
 
 use crate::commands::{Context, Work, perform};
@@ -79,7 +80,7 @@ fn named<'n>(name: &'n str) -> Option<&'n str>
 // Makes the line that is printed before an answer.
 fn heading(alloc: Global, words: &AskedWords) -> Result<Vec<u8>, AllocError>
     ensures { IfOk result (λ line. line.items
-        ≡ heading words.now.source.now words.now.target.now words.now.perm.now) }
+        ≡ question_heading words.now.source.now words.now.target.now words.now.perm.now) }
 {
     let mut line = Vec::new(alloc);
     push_text(&mut line, "# ")?;
@@ -99,9 +100,9 @@ fn write_heading<W: Write>(
     out: &mut W,
 ) -> Result<(), ListingFault>
     ensures whole { OnOk result (Appends (W.contents out.old) (W.contents out.new)
-        (heading words.now.source.now words.now.target.now words.now.perm.now)) }
+        (question_heading words.now.source.now words.now.target.now words.now.perm.now)) }
     ensures beginning { AppendsBeginning (W.contents out.old) (W.contents out.new)
-        (heading words.now.source.now words.now.target.now words.now.perm.now) }
+        (question_heading words.now.source.now words.now.target.now words.now.perm.now) }
 {
     let Ok(line) = heading(alloc, words) else {
         return Err(ListingFault::Memory);
@@ -147,7 +148,7 @@ fn ask<'a, R, T, W: Write, E: Eprint>(
     out: &mut W,
     reasons: &mut Reasons<'a>,
 ) -> Outcome
-    ensures { Asks policy.entry.file.now (Some policy.entry.bytes.now) words.now.source.now
+    ensures { AnswersUnderHeading policy.entry.file.now (Some policy.entry.bytes.now) words.now.source.now
         words.now.target.now words.now.perm.now (W.contents out.old) (W.contents out.new) result }
 {
     match write_heading(context.alloc, words, out) {
@@ -164,7 +165,7 @@ fn ask_words<'a, R, T, W: Write, E: Eprint>(
     out: &mut W,
     reasons: &mut Reasons<'a>,
 ) -> Outcome
-    ensures { OrNothing (Asks policy.entry.file.now (Some policy.entry.bytes.now) words.entry.source.now
+    ensures { OrNothing (AnswersUnderHeading policy.entry.file.now (Some policy.entry.bytes.now) words.entry.source.now
         words.entry.target.now words.entry.perm.now) (W.contents out.old) (W.contents out.new) result }
 {
     match asked_words(words) {
@@ -222,7 +223,7 @@ fn answer_line<'a, R, T, W: Write, E: Eprint>(
     out: &mut W,
     reasons: &mut Reasons<'a>,
 ) -> Outcome
-    ensures { AnswersLine policy.entry.file.now (Some policy.entry.bytes.now) line.now
+    ensures { AnswersInputLine policy.entry.file.now (Some policy.entry.bytes.now) line.now
         (W.contents out.old) (W.contents out.new) result }
 {
     match line_words(context.alloc, line) {
@@ -292,7 +293,7 @@ fn answer_bytes<'a, R, T, W: Write, E: Eprint>(
 
 // Reads bytes as a policy.
 fn read_policy(alloc: Global, bytes: &[u8]) -> Result<(), ListingFault>
-    ensures { OnOk result (IsPolicy bytes.now) }
+    ensures { OnOk result (IsPolicyText bytes.now) }
 {
     let text = policy_text(bytes)?;
     match Policy::parse(alloc, text) {
@@ -347,7 +348,7 @@ pub fn answer_each<'a, R, T: TextSource, W: Write, E: Eprint>(
     out: &mut W,
     reasons: &mut Reasons<'a>,
 ) -> Outcome
-    ensures { AnswersEach file.entry.now (T.file context.now.texts.now file.entry.now)
+    ensures { AnswersAboutFile file.entry.now (T.file context.now.texts.now file.entry.now)
         (T.input context.now.texts.now) (W.contents out.old) (W.contents out.new) result }
 {
     match read_given(context, file, reasons) {

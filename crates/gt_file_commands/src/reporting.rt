@@ -1,6 +1,6 @@
 //! Reports of failures.
 ghost use Rattle.std.specs.Prelude.{◌≡◌};
-ghost use Rattle.gt_file_commands.specs.Working.{outcome_of};
+ghost use Rattle.gt_file_commands.specs.Working.{outcome_of_command};
 
 use crate::commands::Context;
 use crate::failure::Failure;
@@ -10,7 +10,7 @@ use crate::reasons::Reasons;
 /// Reports the failure of a command, if it failed, and returns the outcome: `failed` after a failure. A failed write of
 /// the report is not reported.
 pub fn report<E: Eprint>(err: &E, ending: Result<Outcome, Failure>, failed: Outcome) -> Outcome
-    ensures { result ≡ outcome_of failed ending }
+    ensures { result ≡ outcome_of_command failed ending }
 {
     let outcome = outcome_of(failed, &ending);
     if let Err(failure) = ending {
@@ -27,7 +27,7 @@ pub fn finish<R, T, E: Eprint>(
     failed: Outcome,
     reasons: &mut Reasons,
 ) -> Outcome
-    ensures { result ≡ outcome_of failed ending }
+    ensures { result ≡ outcome_of_command failed ending }
 {
     if ending.is_err() && reasons.print_line(context.err) {
         return outcome_of(failed, &ending);

@@ -1,8 +1,9 @@
 //! The rules by which calls are refused, a line each.
 ghost use Rattle.std.specs.Prelude.{◌≡◌, ◌++◌, IfOk, OnOk, map};
 ghost use Rattle.std.specs.Option.{option_map};
-ghost use Rattle.gt_file_commands.specs.Rules.{asked_among, digits_in, header_name, is_asked, more_words, rule_head};
-ghost use Rattle.gt_file_commands.specs.Rules.{rule_line, rules_text, styled, words_in, wrapped, PrintsRules};
+ghost use Rattle.gt_file_commands.specs.Rules.{asked_among, digits_in, header_name, is_asked_rule, more_words};
+ghost use Rattle.gt_file_commands.specs.Rules.{rule_head};
+ghost use Rattle.gt_file_commands.specs.Rules.{rule_line, rules_text, styled, spaced_words, wrapped, PrintsRules};
 
 use crate::failure::Failure;
 use crate::outcome::Outcome;
@@ -189,7 +190,7 @@ fn rule_line(alloc: Global, row: &RuleRow) -> Result<Vec<u8>, AllocError>
 
 // Returns what is between the spaces of a line.
 fn words_in<'l>(alloc: Global, line: &'l [u8]) -> Result<Vec<&'l [u8]>, AllocError>
-    ensures { IfOk result (λ v. map (λ w. w.now) v.items ≡ words_in line.entry.now) }
+    ensures { IfOk result (λ v. map (λ w. w.now) v.items ≡ spaced_words line.entry.now) }
 {
     line.split(|b| *b == b' ').collect(alloc)
 }
@@ -263,7 +264,7 @@ fn digits_in<'n>(name: &'n str) -> &'n str
 
 // Returns whether the name is the rule's, or no name is given.
 fn is_asked(alloc: Global, rule: Rule, name: Option<&str>) -> Result<bool, AllocError>
-    ensures { IfOk result (λ asked. asked ≡ is_asked (option_map (λ n. n.now) name.entry) rule) }
+    ensures { IfOk result (λ asked. asked ≡ is_asked_rule (option_map (λ n. n.now) name.entry) rule) }
 {
     let Some(name) = name else {
         return Ok(true);

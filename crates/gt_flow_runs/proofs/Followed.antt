@@ -30,7 +30,7 @@ use Rattle.gt_explore_replay.specs.Orders.{held_after}
 use Rattle.gt_flow.specs.Low.{is_high}
 use Rattle.gt_flow.specs.OtherBytes.{unread}
 use Rattle.gt_flow.proofs.Matched.{fitted, fitted-all}
-use Rattle.gt_flow_runs.specs.Secrets.{SameAction, SameAnswers, SameButStored, SamePart, unread_line}
+use Rattle.gt_flow_runs.specs.Secrets.{SameAction, SameAnswers, SameButStored, SameAnswerLines, unread_line}
 use Rattle.gt_flow_runs.proofs.Redone.{IsRedone, SameIf, later, left_of, lists_after, redone_event, redone_request}
 use Rattle.gt_flow_runs.proofs.Redone.{with_action, with_stored}
 
@@ -254,23 +254,23 @@ module _ (s : Setting) (high : TypeId → Bool) where
     -- the rest can be done again
     abbrev Goes : List RunTask → After → After → Type 0
     Goes us Next New = (named : List Named) (held : List Handle) (more less : List Happening) (rest : List ℕ) → Next named held more rest → IsOwn b us more less
-        → (new : List ℕ) × New named held less new × SamePart b types dom rest new
+        → (new : List ℕ) × New named held less new × SameAnswerLines b types dom rest new
 
     pull : (q : Request) (P : List ℕ → Answer → List Happening → Type 0) (Q : List ℕ → Type 0) (ks : List Happening) → CallHappens dom q (λ c less. (new : List ℕ) × P new c less × Q new) ks
         → (new : List ℕ) × CallHappens dom q (P new) ks × Q new
     pull q P Q ks (first, trace, a, more, is, ends, rest) = (rest.0, (first, trace, a, more, is, ends, rest.1), rest.2)
 
     line-too : (deed : RunAction) (u : RunTask) (us : List RunTask) (line : ℕ) (named : List Named) (held : List Handle) (Next New : After) (hs ks : List Happening) (text : List ℕ) → SameAction b deed u.deed
-        → DeedHappens types dom named held line deed Next hs text → IsOwn b (u ∷ us) hs ks → Goes us Next New → (new : List ℕ) × DeedHappens types dom named held line u.deed New ks new × SamePart b types dom text new
+        → DeedHappens types dom named held line deed Next hs text → IsOwn b (u ∷ us) hs ks → Goes us Next New → (new : List ℕ) × DeedHappens types dom named held line u.deed New ks new × SameAnswerLines b types dom text new
     line-too (Tell flag) u us line named held Next New hs ks text same (more, is, next) own goes = by ks (subst (λ (l : List Happening). IsOwn b (u ∷ us) l ks) is own) where
-      by : (ks : List Happening) → IsOwn b (u ∷ us) (raised dom flag ∷ more) ks → (new : List ℕ) × DeedHappens types dom named held line u.deed New ks new × SamePart b types dom text new
+      by : (ks : List Happening) → IsOwn b (u ∷ us) (raised dom flag ∷ more) ks → (new : List ℕ) × DeedHappens types dom named held line u.deed New ks new × SameAnswerLines b types dom text new
       by [] o = absurd o
       by (did f y ∷ ks) o = absurd o
       by (passed k other ∷ ks) o = absurd o
       by (raised k other ∷ ks) o = let (new, rest, part) = goes named held more ks text next o.1 in
           (new, subst (λ (z : RunAction). DeedHappens types dom named held line z New (raised k other ∷ ks) new) (tell-same b flag u.deed same) (ks, ap (λ (z : Happening). z ∷ ks) (sym o.0), rest), part)
     line-too (Await flag) u us line named held Next New hs ks text same (more, is, next) own goes = by ks (subst (λ (l : List Happening). IsOwn b (u ∷ us) l ks) is own) where
-      by : (ks : List Happening) → IsOwn b (u ∷ us) (passed dom flag ∷ more) ks → (new : List ℕ) × DeedHappens types dom named held line u.deed New ks new × SamePart b types dom text new
+      by : (ks : List Happening) → IsOwn b (u ∷ us) (passed dom flag ∷ more) ks → (new : List ℕ) × DeedHappens types dom named held line u.deed New ks new × SameAnswerLines b types dom text new
       by [] o = absurd o
       by (did f y ∷ ks) o = absurd o
       by (raised k other ∷ ks) o = absurd o
@@ -281,14 +281,14 @@ module _ (s : Setting) (high : TypeId → Bool) where
         let P : List ℕ → Answer → List Happening → Type 0 = λ new c less. Prints (answer_line types line dom c) (New (with_name named dom (label_given other) (handle_given c)) (held_after held (given_up r) c) less) new in
         let again = call-too b (u ∷ us) dom q
         (λ answer more. Prints (answer_line types line dom answer) (Next (with_name named dom (label_given call) (handle_given answer)) (held_after held (given_up q) answer) more) text)
-        (λ c less. (new : List ℕ) × P new c less × SamePart b types dom text new) hs ks happens own
+        (λ c less. (new : List ℕ) × P new c less × SameAnswerLines b types dom text new) hs ks happens own
         (λ a c more less so rest after. answered a c more less so rest after asks) in
-        let (new, call-again, part) = pull r P (SamePart b types dom text) ks again in
+        let (new, call-again, part) = pull r P (SameAnswerLines b types dom text) ks again in
         (new, subst (λ (z : RunAction). DeedHappens types dom named held line z New ks new) (sym is) (r, asks.makes, call-again), part)
       where
         answered : {other : ScriptCall} {r : Request} (a c : Answer) (more less : List Happening) → SameAnswer b a c → IsOwn b us more less
             → Prints (answer_line types line dom a) (Next (with_name named dom (label_given call) (handle_given a)) (held_after held (given_up q) a) more) text → Asks named dom q call other r
-            → (new : List ℕ) × Prints (answer_line types line dom c) (New (with_name named dom (label_given other) (handle_given c)) (held_after held (given_up r) c) less) new × SamePart b types dom text new
+            → (new : List ℕ) × Prints (answer_line types line dom c) (New (with_name named dom (label_given other) (handle_given c)) (held_after held (given_up r) c) less) new × SameAnswerLines b types dom text new
         answered {other = other} {r = r} a c more less so rest (tail, told, next) asks =
             let names : with_name named dom (label_given call) (handle_given a) ≡ with_name named dom (label_given other) (handle_given c) =
             ap (λ (l : Option (List ℕ)). with_name named dom l (handle_given a)) (sym asks.labels) ∙ ap (with_name named dom (label_given other)) (same-given b a c so) in
@@ -310,10 +310,10 @@ module _ (s : Setting) (high : TypeId → Bool) where
     no-answers false = refl
 
     pub follows-too : (ts us : List RunTask) (named : List Named) (held : List Handle) (hs ks : List Happening) (text : List ℕ) → SameList ts us → FollowsList types dom named held ts hs text → IsOwn b us hs ks
-        → (new : List ℕ) × FollowsList types dom named held us ks new × SamePart b types dom text new
+        → (new : List ℕ) × FollowsList types dom named held us ks new × SameAnswerLines b types dom text new
     follows-too [] [] named held hs ks text same (order, gives, is) own = ([], (order, back-too b dom order held hs ks gives own, refl), ([], [], is, refl, no-answers b))
     follows-too (t ∷ ts) (u ∷ us) named held hs ks text same follows own =
-        subst (λ (n : ℕ). (new : List ℕ) × DeedHappens types dom named held n u.deed (λ names holds more rest. FollowsList types dom names holds us more rest) ks new × SamePart b types dom text new) same.0
+        subst (λ (n : ℕ). (new : List ℕ) × DeedHappens types dom named held n u.deed (λ names holds more rest. FollowsList types dom names holds us more rest) ks new × SameAnswerLines b types dom text new) same.0
         (line-too t.deed u us t.line named held (λ names holds more rest. FollowsList types dom names holds ts more rest) (λ names holds more rest. FollowsList types dom names holds us more rest) hs ks text same.1 follows own
         (λ names holds more less rest next rest-own. follows-too ts us names holds more less rest same.2 next rest-own))
     follows-too [] (u ∷ us) named held hs ks text same follows own = absurd same

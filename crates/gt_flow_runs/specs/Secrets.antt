@@ -50,9 +50,9 @@ pub record SameButHigh (high : TypeId → Bool) (one other : RunContents) : Type
 -- texts
 
 -- the lines of these answers, each with the number of its line
-abbrev pub lines_of : List (List ℕ) → DomId → List (ℕ × Answer) → List ℕ
-lines_of types dom [] = []
-lines_of types dom (l ∷ ls) = answer_line types l.0 dom l.1 ++ lines_of types dom ls
+abbrev pub lines_of_answers : List (List ℕ) → DomId → List (ℕ × Answer) → List ℕ
+lines_of_answers types dom [] = []
+lines_of_answers types dom (l ∷ ls) = answer_line types l.0 dom l.1 ++ lines_of_answers types dom ls
 
 -- the answer of a line without the bytes that were read
 abbrev pub unread_line : ℕ × Answer → ℕ × (Answer ⊎ List ℕ)
@@ -65,10 +65,10 @@ SameAnswers false ls ks = ls ≡ ks
 
 -- both are lines of answers of the domain: the same if it is low, and otherwise the same except for bytes that were
 -- read
-abbrev pub SamePart : Bool → List (List ℕ) → DomId → List ℕ → List ℕ → Type 0
-SamePart high types dom one other =
+abbrev pub SameAnswerLines : Bool → List (List ℕ) → DomId → List ℕ → List ℕ → Type 0
+SameAnswerLines high types dom one other =
     (ls : List (ℕ × Answer)) × (ks : List (ℕ × Answer))
-    × (one ≡ lines_of types dom ls) × (other ≡ lines_of types dom ks) × SameAnswers high ls ks
+    × (one ≡ lines_of_answers types dom ls) × (other ≡ lines_of_answers types dom ks) × SameAnswers high ls ks
 
 -- both texts have a part of each of the domains, in their order, which are the same so
 abbrev pub SameForLow : Setting → (TypeId → Bool) → List (List ℕ) → List DomainConfig → List ℕ → List ℕ → Type 0
@@ -76,7 +76,7 @@ SameForLow s high types [] one other = (one ≡ []) × (other ≡ [])
 SameForLow s high types (d ∷ ds) one other =
     (part : List ℕ) × (rest : List ℕ) × (piece : List ℕ) × (more : List ℕ)
     × (one ≡ part ++ rest) × (other ≡ piece ++ more)
-    × SamePart (is_high s high d.id) types d.id part piece × SameForLow s high types ds rest more
+    × SameAnswerLines (is_high s high d.id) types d.id part piece × SameForLow s high types ds rest more
 
 -- Noninterference of scripts. By the policy of the script no access brings bytes from high types to others. Then for
 -- each text that the script may give, a script that is the same except for the bytes that high domains store and poke

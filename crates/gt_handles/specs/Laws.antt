@@ -11,7 +11,7 @@ use Rattle.gt_model.specs.declared.handle.Handle.{Handle}
 use Rattle.gt_handles.specs.declared.handles.HandleSlot.{HandleSlot}
 use Rattle.gt_handles.specs.Handles.{HandleMap, Updates, value_of, count_of, under}
 use Rattle.gt_model.specs.Asking.{same_handle}
-use Rattle.gt_handles.specs.Listing.{AreApart, HasJust, IsInserted, IsTaken, count_passing, has_passing, listed}
+use Rattle.gt_handles.specs.Listing.{HandlesDiffer, HasJust, IsInserted, IsTaken, count_passing, has_passing, listed}
 use Rattle.gt_handles.specs.Listing.{unlisted}
 
 pub same-handle : (a b : Handle) → same_handle a b ≡ true → a ≡ b
@@ -72,8 +72,8 @@ module _ {T : Type 0} where
           sym (ap (λ (c : Bool). cond c (Some m) (Some x.1)) off)
       by false is rest = rest
 
-  apart-push : (ms : List (Handle × T)) (handle : Handle) (m : T) → AreApart ms → listed ms handle ≡ None
-      → AreApart (ms ++ (handle, m) ∷ [])
+  apart-push : (ms : List (Handle × T)) (handle : Handle) (m : T) → HandlesDiffer ms → listed ms handle ≡ None
+      → HandlesDiffer (ms ++ (handle, m) ∷ [])
   apart-push [] handle m a none = (refl, tt)
   apart-push (x ∷ ms) handle m a none =
       let n = none-of x ms handle none in (
@@ -83,7 +83,7 @@ module _ {T : Type 0} where
 
   -- a list of values with one less
 
-  unlisted-of : (ms : List (Handle × T)) (handle other : Handle) → AreApart ms
+  unlisted-of : (ms : List (Handle × T)) (handle other : Handle) → HandlesDiffer ms
       → listed (unlisted handle ms) other ≡ cond (same_handle other handle) None (listed ms other)
   unlisted-of [] handle other a = sym (none-both (same_handle other handle))
   unlisted-of (x ∷ ms) handle other a = by (same_handle x.0 handle) refl (unlisted-of ms handle other a.1)
@@ -137,11 +137,11 @@ module _ {T : Type 0} where
       by true off none rest = none
       by false off none rest = ap (λ (c : Bool). cond c (Some x.1) (listed (unlisted handle ms) other)) off ∙ rest
 
-  apart-unlisted : (ms : List (Handle × T)) (handle : Handle) → AreApart ms → AreApart (unlisted handle ms)
+  apart-unlisted : (ms : List (Handle × T)) (handle : Handle) → HandlesDiffer ms → HandlesDiffer (unlisted handle ms)
   apart-unlisted [] handle a = tt
   apart-unlisted (x ∷ ms) handle a = by (same_handle x.0 handle) (apart-unlisted ms handle a.1)
     where
-      by : (b : Bool) → AreApart (unlisted handle ms) → AreApart (cond b ms (x ∷ unlisted handle ms))
+      by : (b : Bool) → HandlesDiffer (unlisted handle ms) → HandlesDiffer (cond b ms (x ∷ unlisted handle ms))
       by true rest = a.1
       by false rest = (unlisted-none ms handle x.0 a.0, rest)
 
@@ -315,9 +315,9 @@ module _ {T : Type 0} where
         omega (arith, count, w)
 
     -- a removal subtracts one from the count of a test if its value passes
-    pub taken : (old new : HandleMap T) (h : Handle) (v : T) → value_of old h ≡ Some v → Updates old new h None
-        → count_by p new.slots + cond (q v) 1 0 ≡ count_by p old.slots
-    taken old new h v has updates =
+    pub counts-one-less : (old new : HandleMap T) (h : Handle) (v : T) → value_of old h ≡ Some v
+        → Updates old new h None → count_by p new.slots + cond (q v) 1 0 ≡ count_by p old.slots
+    counts-one-less old new h v has updates =
         let self : same_handle h h ≡ true =
         ap (λ (b : Bool). b && (h.key == h.key)) (eq-eqb h.serial h.serial refl) ∙ eq-eqb h.key h.key refl in
         let gone : value_of new h ≡ None = updates h ∙ ap (λ (b : Bool). cond b None (value_of old h)) self in
@@ -342,7 +342,7 @@ module _ {T : Type 0} where
   pub taken-counted : (passes : T → Bool) (old new : HandleMap T) (h : Handle) (v : T) → IsTaken old new h v
       → count_passing passes new + cond (passes v) 1 0 ≡ count_passing passes old
   taken-counted passes old new h v out =
-      taken (has_passing passes) passes refl (λ s. refl) old new h v out.value out.updates
+      counts-one-less (has_passing passes) passes refl (λ s. refl) old new h v out.value out.updates
 
   fewer : (passes : T → Bool) (slots : List (Option (HandleSlot T)))
       → count_by (has_passing passes) slots ≤ count_by is_some slots

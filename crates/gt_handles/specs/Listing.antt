@@ -18,16 +18,16 @@ module _ {T : Type 0} where
   unlisted handle (m ∷ ms) = if same_handle m.0 handle then ms else m ∷ unlisted handle ms
 
   -- no two values of the list have the same handle
-  abbrev pub AreApart : List (Handle × T) → Type 0
-  AreApart [] = Unit {0}
-  AreApart (m ∷ ms) = (listed ms m.0 ≡ None) × AreApart ms
+  abbrev pub HandlesDiffer : List (Handle × T) → Type 0
+  HandlesDiffer [] = Unit {0}
+  HandlesDiffer (m ∷ ms) = (listed ms m.0 ≡ None) × HandlesDiffer ms
 
   -- the map has exactly the values of this list, and has given this number of serials
   pub record HasJust (kept : HandleMap T) (ms : List (Handle × T)) (given : ℕ) : Type 0 where
     pub named : value_of kept ≡ listed ms
     pub count : count_of kept ≡ length ms
     pub given_is : kept.given ≡ given
-    pub apart : AreApart ms
+    pub apart : HandlesDiffer ms
 
   -- the slot has a value that passes the test
   abbrev pub has_passing : (T → Bool) → Option (HandleSlot T) → Bool

@@ -23,7 +23,7 @@ use Rattle.gt_script_runs.specs.Playing.{StartsFor, BeginsRun, WritesRun, IsLega
 use Rattle.gt_script_runs.specs.Playing.{audited_text}
 use Rattle.gt_host.specs.Recording.{IsAudited, RecordsNothing}
 use Rattle.gt_model.specs.declared.trace.Element.{Element}
-use Rattle.gt_script_runs.specs.Runs.{Progress, PlayLeadsTo, IsRunOf, RunsLine, at_start, history_of, open_text}
+use Rattle.gt_script_runs.specs.Runs.{Progress, PlayLeadsTo, ScriptLeadsTo, RunsLine, at_start, history_of, open_text}
 use Rattle.gt_script_runs.specs.Runs.{open_lines}
 use Rattle.gt_text.specs.Laws.{appends_both, appends_nothing, begins_after}
 use Rattle.gt_text.specs.Streams.{AppendsBeginning, Sends}
@@ -33,7 +33,7 @@ use Rattle.gt_script_runs.proofs.StartLemmas.{taken_known}
 -- how far a run has come: it stands where these steps led, and of its text some went out and the rest waits
 pub record IsUnderway (c : Contents) (audit : Bool) (steps : List ScriptStep) (domains : CoreState) (kept : PlayState) (waiting : List ℕ) (old now : Option (List ℕ)) : Type 0 where
   pub progress : Progress
-  pub run : IsRunOf (setting_of_script c) (type_names c) steps progress
+  pub run : ScriptLeadsTo (setting_of_script c) (type_names c) steps progress
   pub come : HasPlayed (setting_of_script c) audit progress domains kept
   pub sent : List ℕ
   pub parts : progress.text ≡ sent ++ waiting
@@ -92,7 +92,7 @@ begins c audit steps n domains kept waiting old mid new all u h =
     inl (
       n,
       u.progress,
-      (subst (λ (l : List ScriptStep). IsRunOf (setting_of_script c) (type_names c) (take n l) u.progress) all u.run, u.come.legal, u.come.knows),
+      (subst (λ (l : List ScriptStep). ScriptLeadsTo (setting_of_script c) (type_names c) (take n l) u.progress) all u.run, u.come.legal, u.come.knows),
       subst (λ (l : List ℕ). AppendsBeginning old new l) (sym u.parts) (begins_after old mid new u.sent waiting u.went h),
     )
 
@@ -113,7 +113,7 @@ goes_on c audit t known steps i s domains next kept later w more rest old mid no
     let first : take (i + 1) steps ≡ take i steps ++ s ∷ [] = rw add-one (take-suc steps i s within ∙ ap (λ (x : ScriptStep). take i steps ++ x ∷ []) (sym is)) in
     record {
       progress = step.0;
-      run = subst (λ (l : List ScriptStep). IsRunOf (setting_of_script c) (type_names c) l step.0) (sym first) (LeadsTo-append (setting_of_script c) (type_names c) at_start u.progress step.0 (take i steps) s u.run step.1);
+      run = subst (λ (l : List ScriptStep). ScriptLeadsTo (setting_of_script c) (type_names c) l step.0) (sym first) (LeadsTo-append (setting_of_script c) (type_names c) at_start u.progress step.0 (take i steps) s u.run step.1);
       come = step.2;
       sent = u.sent ++ sent;
       parts = step.3.1 ∙ ap (λ (l : List ℕ). l ++ step.3.0) u.parts ∙ append_assoc u.sent w step.3.0 ∙ ap (λ (l : List ℕ). u.sent ++ l) (sym step.3.2 ∙ split) ∙ sym (append_assoc u.sent sent rest);
@@ -170,7 +170,7 @@ is_run : (c : Contents) (audit : Bool) (steps : List ScriptStep) (n : ℕ) (doma
     → steps ≡ c.steps → n ≡ length steps → (u : IsUnderway c audit (take n steps) domains kept waiting old mid) → IsLegalRunOf c c.steps u.progress
 is_run c audit steps n domains kept waiting old mid all made u =
     let whole : take n steps ≡ c.steps = ap (λ (k : ℕ). take k steps) made ∙ take-length steps ∙ all in
-    (subst (λ (l : List ScriptStep). IsRunOf (setting_of_script c) (type_names c) l u.progress) whole u.run, u.come.legal, u.come.knows)
+    (subst (λ (l : List ScriptStep). ScriptLeadsTo (setting_of_script c) (type_names c) l u.progress) whole u.run, u.come.legal, u.come.knows)
 
 -- the last lines went out
 pub ends : (c : Contents) (audit : Bool) (steps : List ScriptStep) (n : ℕ) (domains : CoreState) (kept : PlayState) (ds : List DomainConfig) (names : List (List ℕ)) (waiting more last : List ℕ) (old mid new : Option (List ℕ))

@@ -1,6 +1,7 @@
 //! The lines that show an entry.
 ghost use Rattle.std.specs.Prelude.{◌≡◌, ◌++◌, OnOk, codes};
-ghost use Rattle.gt_script_runs.specs.Showing.{part_text, entry_text, counts_text, status_text, shown_text, show_line};
+ghost use Rattle.gt_script_runs.specs.Showing.{part_text, entry_text, counts_text, status_text, entry_view_text};
+ghost use Rattle.gt_script_runs.specs.Showing.{show_line};
 
 use gt_core::EntryView;
 use gt_entry::{Control, status_word};
@@ -29,7 +30,7 @@ fn push_counts(
 }
 
 fn push_shown(alloc: Global, out: &mut Vec<u8>, shown: Option<EntryView>) -> Result<(), AllocError>
-    ensures { OnOk result (out.new.items ≡ out.old.items ++ shown_text shown) }
+    ensures { OnOk result (out.new.items ≡ out.old.items ++ entry_view_text shown) }
 {
     let Some(
         EntryView {

@@ -1,7 +1,7 @@
 -- The meaning of the words of a line, by their positions (own; the lines are those that the commands print).
 use Rattle.std.specs.Prelude.{ℕ, ◌&&◌, ◌||◌, not, Bool, true, false, List, codes, if◌then◌else◌}
 use Rattle.std.specs.Str.{bytes_eq}
-use Rattle.gt_json.specs.Words.{is_rule}
+use Rattle.gt_json.specs.Words.{begins_as_rule}
 use Rattle.gt_json.specs.declared.places.PrintedText.{PrintedText}
 use Rattle.gt_json.specs.declared.places.PrintedText.TheVariants.{Run, Policy, Entries}
 use Rattle.gt_json.specs.declared.places.WordPlace.{WordPlace}
@@ -48,7 +48,7 @@ after_call w = if bytes_eq w (codes "copy") then place.FromKind
 abbrev pub next_place : WordPlace → List ℕ → WordPlace
 next_place place.Line w = after_line w
 next_place place.Caller w = if bytes_eq w (codes "show") then place.Shown else place.Answer
-next_place place.Answer w = if is_rule w then place.Status else place.Fact
+next_place place.Answer w = if begins_as_rule w then place.Status else place.Fact
 next_place place.Status w = place.Fact
 next_place place.Fact w = place.Fact
 next_place place.Shown w = place.Entry
@@ -86,7 +86,7 @@ next p w = if is_mark p w then place.Answer else next_place p w
 unfoldable pub name_at : WordPlace → List ℕ → List ℕ
 name_at place.Line w = if bytes_eq w (codes "audit") || bytes_eq w (codes "lost") then codes "type" else codes "line"
 name_at place.Caller w = if bytes_eq w (codes "show") then codes "type" else codes "domain"
-name_at place.Answer w = if is_rule w then codes "rule" else codes "answer"
+name_at place.Answer w = if begins_as_rule w then codes "rule" else codes "answer"
 name_at place.Status w = codes "status"
 name_at place.Fact w = codes "bytes"
 name_at place.Shown w = codes "domain"

@@ -5,9 +5,9 @@ use Rattle.std.specs.List.{list_all}
 use Rattle.std.specs.Option.{option_map}
 
 -- the word is a rule: it begins with `N`
-unfoldable pub is_rule : List ℕ → Bool
-is_rule [] = false
-is_rule (b ∷ bs) = b == 78
+unfoldable pub begins_as_rule : List ℕ → Bool
+begins_as_rule [] = false
+begins_as_rule (b ∷ bs) = b == 78
 
 -- the word is a natural number: one digit, or more of which the first is not 0 (RFC 8259, section 6)
 unfoldable pub is_natural : List ℕ → Bool

@@ -4,7 +4,7 @@ ghost use Rattle.std.specs.Option.{option_map};
 ghost use Rattle.std.specs.Str.{bytes_eq};
 ghost use Rattle.std.specs.List.{list_all};
 ghost use Rattle.std.specs.Char.{is_ascii_digit};
-ghost use Rattle.gt_json.specs.Words.{at_equals, is_natural, is_number, is_rule};
+ghost use Rattle.gt_json.specs.Words.{at_equals, is_natural, is_number, begins_as_rule};
 
 /// Returns whether the word is this text.
 pub fn is_word(word: &[u8], text: &str) -> bool
@@ -14,9 +14,9 @@ pub fn is_word(word: &[u8], text: &str) -> bool
 }
 
 /// Returns whether the word is a rule: it begins with `N`.
-#[tactic(auto, unfolding(crate::specs::Words::is_rule))]
+#[tactic(auto, unfolding(crate::specs::Words::begins_as_rule))]
 pub fn is_rule(word: &[u8]) -> bool
-    ensures { result ≡ is_rule word.now }
+    ensures { result ≡ begins_as_rule word.now }
 {
     match word {
         [first, ..] => *first == b'N',

@@ -38,7 +38,8 @@ use Rattle.gt_model.specs.Asking.{asked, begun_of, bytes_given_by}
 use Rattle.gt_calls.specs.Opening.{opens}
 use Rattle.gt_model.specs.Path.{Continuation, after_beginning, by_mapping, ended, makes, path_of, steps_of}
 use Rattle.gt_model.specs.Rules.{CallerKnowledge, begun}
-use Rattle.gt_live.specs.Accesses.{Accessed, AnsweredAtAccess, ComesTo, HasCause, IsAccess, IsOfAccess, IsOfMissing}
+use Rattle.gt_live.specs.Accesses.{EndsAfterAccess, AnsweredAtAccess, ComesTo, HasCause, IsAccess, IsOfAccess}
+use Rattle.gt_live.specs.Accesses.{IsOfMissing}
 use Rattle.gt_live.specs.Accesses.{IsUnmade, IsWrittenBy, NamesRoute, WritesFrame, frame_named, onward}
 use Rattle.gt_live.specs.Domains.{IsRefused, IsRefusedWithoutMemory, AllowRelation, denial_in}
 use Rattle.gt_live.specs.Prelude.{Domain, Monitor}
@@ -171,7 +172,7 @@ missing-plainly may m d request (Ok r) is = tt
 missing-plainly may m d request (Err denial) is = inr is
 
 -- a call of one access
-whole : (k : Layout) (way : Continuation) (access : Step) (does : View → View → Type 0) (v w : View) → IsAccess access → way ≡ makes access (ended Granted) → does v w → Accessed k way access does v w
+whole : (k : Layout) (way : Continuation) (access : Step) (does : View → View → Type 0) (v w : View) → IsAccess access → way ≡ makes access (ended Granted) → does v w → EndsAfterAccess k way access does v w
 whole k way access does v w is e did =
     let comes : ComesTo k way access v v = record { steps = []; view = refl; walked = tt; moments = tt; next = ap (λ (w : Continuation). w []) e; is_access = is } in
     let ends : Called k (onward way (Nothing ∷ [])) Granted w w = record { steps = []; view = refl; walked = tt; moments = tt; answered = ap (λ (w : Continuation). w (Nothing ∷ [])) e; carried = tt } in

@@ -53,7 +53,7 @@ use Rattle.gt_model.specs.declared.request.PinHolder.TheVariants.{Mapping as ByH
 use Rattle.gt_model.specs.Holding.{last_first}
 use Rattle.gt_model.specs.Path.{Continuation, idle_word, is_stopped, path}
 use Rattle.gt_types.specs.declared.copies.CopyArgs.{CopyArgs}
-use Rattle.gt_calls.specs.Resting.{HasSeenTable, HasStored, IsLegFor, IsMapped, IsOfMap, IsOfRun as IsNamed}
+use Rattle.gt_calls.specs.Resting.{HasSeenTable, HasStored, IsLegFor, IsMapped, IsOfMap, IsOfRun}
 use Rattle.gt_calls.specs.Resting.{LookedLast, IsCopyOf, Rests, RestsOnGrant, RestsOnTry}
 use Rattle.gt_model.specs.Rules.{IsAllowed, CallerKnowledge, begun, frame_count_of, is_kind, label_of, map_dir}
 use Rattle.gt_model.specs.Rules.{map_perms, triples}
@@ -136,7 +136,7 @@ no-copy request copy (inl is) waits = subst (λ (x : OpenRequest). WaitsForNobod
 no-copy request copy (inr is) waits = subst (λ (x : OpenRequest). WaitsForNobody x) is waits
 
 module _ (c : CallerKnowledge) (k : Layout) (caller : DomId) (v : View) (knows : Knows c k caller v) where
-  pub named-run : (d : DomId) → IsNamed c d → HasDomain k d
+  pub named-run : (d : DomId) → IsOfRun c d → HasDomain k d
   named-run d is = let there = is-there (domain_of c.domains d) is in knows.run d there.0 there.1
 
   pub in-own : (q : ℕ) → q < size_of c.header → q < TABLE_ENTRIES
@@ -303,7 +303,7 @@ module _ (c : CallerKnowledge) (k : Layout) (caller : DomId) (v : View) (knows :
   can-make request held steps (LookHeader d) waits walk same free r = named-run d r.1
   can-make request held steps (LookControl d q) waits walk same free r = by r.1
     where
-      by : (IsNamed c d × HasSeenTable (path c caller request) d q (all_shown steps)) ⊎ ((d ≡ caller) × (q.0 < size_of c.header)) → HasDomain k d × (q.0 < TABLE_ENTRIES)
+      by : (IsOfRun c d × HasSeenTable (path c caller request) d q (all_shown steps)) ⊎ ((d ≡ caller) × (q.0 < size_of c.header)) → HasDomain k d × (q.0 < TABLE_ENTRIES)
       by (inl x) = (named-run d x.0, in-seen-table k (path c caller request) v steps d q walk x.1)
       by (inr x) = (own-of-run k v caller d knows.named knows.inside x.0, in-own q.0 x.1)
   can-make request held steps (LookBody d q half) waits walk same free r = (named-run d r.1.0, in-seen-table k (path c caller request) v steps d q walk r.1.1)

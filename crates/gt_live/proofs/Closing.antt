@@ -27,7 +27,8 @@ use Rattle.gt_model.specs.declared.action.CallResult.TheVariants.{Granted, Given
 use Rattle.gt_model.specs.declared.held.HeldPin.{HeldPin}
 use Rattle.gt_calls.specs.declared.known.OwnerEntry.{OwnerEntry}
 use Rattle.gt_model.specs.declared.request.OpenRequest.TheVariants as asks
-use Rattle.gt_live.specs.Closing.{AreRefused, AsksWithdrawal, ClosesRow, ClosesRows, GoesOn, IsCounted, StaysQuiet}
+use Rattle.gt_live.specs.Closing.{AreRefused, AsksWithdrawal, ClosesRow, ClosesRows, GoesOn, IsInvalidOrInUse}
+use Rattle.gt_live.specs.Closing.{StaysQuiet}
 use Rattle.gt_live.specs.Closing.{is_in_use, is_used}
 use Rattle.gt_live.specs.Domains.{AllowRelation, IsUnsettled, done_by}
 use Rattle.gt_live.specs.Ending.{IsAtOnce}
@@ -170,19 +171,19 @@ count-no p xs x n e is =
 -- the entries that were counted so far, and the next one
 pub counted-more : (e f : Domain) (words : List ℕ) (at word : ℕ) → length words ≡ at
     → ((q : ℕ) → (at ≡ q → ⊥) → slice_get f.own.items q ≡ slice_get e.own.items q)
-    → ((r : ℕ) → r < at → HoldsAt (IsCounted e r) words r) → IsCounted f at word
-    → (r : ℕ) → r < at + 1 → HoldsAt (IsCounted f r) (words ++ word ∷ []) r
+    → ((r : ℕ) → r < at → HoldsAt (IsInvalidOrInUse e r) words r) → IsInvalidOrInUse f at word
+    → (r : ℕ) → r < at + 1 → HoldsAt (IsInvalidOrInUse f r) (words ++ word ∷ []) r
 counted-more e f words at word len others rows new r lt default =
     elim (cases_eq r at) [
       | inl same ↦
           let here : get_or (words ++ word ∷ []) r default ≡ word =
           ap (λ (n : ℕ). get_or (words ++ word ∷ []) n default) (same ∙ sym len) ∙ last-word words word default in
-          subst (λ (w : ℕ). IsCounted f r w) (sym here) (subst (λ (n : ℕ). IsCounted f n word) (sym same) new)
+          subst (λ (w : ℕ). IsInvalidOrInUse f r w) (sym here) (subst (λ (n : ℕ). IsInvalidOrInUse f n word) (sym same) new)
       | inr ne ↦
           let low : r < at = omega (arith, lt, ne) in
           let here : get_or (words ++ word ∷ []) r default ≡ get_or words r default =
           get_or-append words (word ∷ []) default r (omega (arith, low, len)) in
           let entry : entry_in f.own.items r ≡ entry_in e.own.items r = ap row_entry (others r (λ e. ne (sym e))) in
-          subst (λ (w : ℕ). IsCounted f r w) (sym here)
+          subst (λ (w : ℕ). IsInvalidOrInUse f r w) (sym here)
           (elim (rows r low default) [ inl none ↦ inl (entry ∙ none) | inr used ↦ inr used ])
     ]

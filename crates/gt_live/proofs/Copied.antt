@@ -46,7 +46,7 @@ use Rattle.gt_live.specs.Copies.{copy_call}
 use Rattle.gt_calls.specs.Resting.{IsReached, RestsOnWays}
 use Rattle.gt_types.specs.Copies.{is_dest_granted, is_source_granted}
 use Rattle.gt_calls.specs.Standing.{pins_by_call}
-use Rattle.gt_live.specs.Accesses.{Accessed, AnsweredAtAccess, CameBy, CopiesBetween, IsCopiedBy, IsIfOneMissing}
+use Rattle.gt_live.specs.Accesses.{EndsAfterAccess, AnsweredAtAccess, CameBy, CopiesBetween, IsCopiedBy, IsIfOneMissing}
 use Rattle.gt_live.specs.Accesses.{IsOfAccess, IsUnmade, frame_named, onward}
 use Rattle.gt_live.specs.declared.domain.Domain.{Domain}
 use Rattle.gt_live.specs.Driving.{IsSame}
@@ -144,7 +144,7 @@ may-copy c caller a pins opens source dest =
 
 -- a copy that came to its access and gave its pins back is whole
 pub copy-whole : (c : CallerKnowledge) (k : Layout) (call : Call) (from to : Spot) (len : ℕ) (does : View → View → Type 0) (v at mid w : View) → AtAccess c k call from to len v at → does at mid → GivesBack k (pins_by_call call) mid w
-    → Accessed k (path c call.caller call.request) (CopyBytes from to len) does v w
+    → EndsAfterAccess k (path c call.caller call.request) (CopyBytes from to len) does v w
 copy-whole c k call from to len does v at mid w a did g =
     let way = path c call.caller call.request in
     let ends : Called k (onward way (all_shown a.comes.steps ++ Nothing ∷ [])) Granted mid w =
@@ -154,7 +154,7 @@ copy-whole c k call from to len does v at mid w a did g =
 
 -- a copy in two halves is whole
 pub whole-copy : (c : CallerKnowledge) (k : Layout) (call : Call) (from to : Spot) (len : ℕ) (v mid w : View) → AtAccess c k call from to len v mid → GivesBack k (pins_by_call call) mid w
-    → Accessed k (path c call.caller call.request) (CopyBytes from to len) IsUnmade v w × KeepsPins v w
+    → EndsAfterAccess k (path c call.caller call.request) (CopyBytes from to len) IsUnmade v w × KeepsPins v w
 whole-copy c k call from to len v mid w a g = (copy-whole c k call from to len IsUnmade v mid mid w a refl g, (g.back v a.taken).pins)
 
 -- a copy of this caller at its access, with these pins

@@ -75,7 +75,7 @@ use Rattle.gt_calls.specs.Legs.{on_control_word, after_miss, after_words, leg_af
 use Rattle.gt_model.specs.Path.{Continuation, dest_pair, end_leg, entry_refusal, held_of, path, place_of, rule_of_try}
 use Rattle.gt_model.specs.Path.{second_leg, source_pair}
 use Rattle.gt_calls.specs.Resting.{HasRead, HasSeenTable, IsLegFor, IsForwarded, IsMapped, IsOnFrom}
-use Rattle.gt_calls.specs.Resting.{IsOfRun as IsNamed, Lets, Rests, RestsOnTry}
+use Rattle.gt_calls.specs.Resting.{IsOfRun, Lets, Rests, RestsOnTry}
 use Rattle.gt_model.specs.Asking.{GivesUp}
 use Rattle.gt_model.specs.Rules.{CallerKnowledge, first_look, via_judged}
 use Rattle.gt_types.specs.Copies.{is_dest_granted}
@@ -268,7 +268,7 @@ module _ (c : CallerKnowledge) (k : Layout) (caller : DomId) (v : View) (knows :
   can-walk request copies held steps (LookHeader d) walk x all r other = named-run c k caller v knows d r.1
   can-walk request copies held steps (LookControl d q) walk x all r other = by r.1
     where
-      by : (IsNamed c d × HasSeenTable (path c caller request) d q (all_shown steps)) ⊎ ((d ≡ caller) × (q.0 < size_of c.header)) → HasDomain k d × (q.0 < TABLE_ENTRIES)
+      by : (IsOfRun c d × HasSeenTable (path c caller request) d q (all_shown steps)) ⊎ ((d ≡ caller) × (q.0 < size_of c.header)) → HasDomain k d × (q.0 < TABLE_ENTRIES)
       by (inl y) = (named-run c k caller v knows d y.0, in-seen-table k (path c caller request) v steps d q walk y.1)
       by (inr y) = (own-of-run k v caller d knows.named knows.inside y.0, in-own c k caller v knows q.0 y.1)
   can-walk request copies held steps (LookBody d q half) walk x all r other = (named-run c k caller v knows d r.1.0, in-seen-table k (path c caller request) v steps d q walk r.1.1)

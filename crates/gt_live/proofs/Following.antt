@@ -27,7 +27,8 @@ use Rattle.gt_words.specs.Conditions.{IsSameSeat, SeatOf}
 use Rattle.gt_word_history.specs.Views.{own_table}
 use Rattle.gt_live.specs.Domains.{AllowRelation, StaysIn, done_by}
 use Rattle.gt_live.specs.Following.{Calls, Does, FitsChange, FollowingMakesCalls, IsAsMeant, IsDue, LeavesEntry}
-use Rattle.gt_live.specs.Following.{MakesCalls, MakesChange, Means, entry_of, followed_by, request_of, result_of}
+use Rattle.gt_live.specs.Following.{MakesCalls, MakesChange, Means, own_entry_at, followed_by, request_of_change}
+use Rattle.gt_live.specs.Following.{result_of}
 use Rattle.gt_live.specs.Owning.{asks_change}
 use Rattle.gt_live.specs.Rows.{row_changed}
 use Rattle.gt_live.specs.Unmarked.{unmarked}
@@ -113,7 +114,7 @@ on-ok (Err e) P Q f p = tt
 
 -- a change is called by the request of its name
 pub same-path : (c : CallerKnowledge) (caller : DomId) (gref : GrantRef) (change : EntryChange)
-    → path c caller (asks_change gref change) ≡ path_of c caller (request_of gref change)
+    → path c caller (asks_change gref change) ≡ path_of c caller (request_of_change gref change)
 same-path c caller gref (Publish entry) = refl
 same-path c caller gref Revoke = refl
 same-path c caller gref Withdraw = refl
@@ -139,41 +140,41 @@ module _ {P : Type 0} (may : P → AllowRelation) (m : Monitor P) where
 
   -- a change that makes the entry what the bytes mean
   change-leaves : (d : Domain) (gref : GrantRef) (meaning : Meaning) (change : EntryChange) (result : Result Followed Denial) (e : Domain)
-      → IsAsMeant meaning (changed_entry change (entry_of d gref)) → MakesChange may m d gref change result e
-      → LeavesEntry meaning (entry_of d gref) (entry_of e gref) result
+      → IsAsMeant meaning (changed_entry change (own_entry_at d gref)) → MakesChange may m d gref change result e
+      → LeavesEntry meaning (own_entry_at d gref) (own_entry_at e gref) result
   change-leaves d gref meaning change result e meant makes =
-      subst (λ (r : Result Followed Denial). LeavesEntry meaning (entry_of d gref) (entry_of e gref) r) (sym makes.result_is)
+      subst (λ (r : Result Followed Denial). LeavesEntry meaning (own_entry_at d gref) (own_entry_at e gref) r) (sym makes.result_is)
       (by makes.done makes.calls)
     where
       by : (done : Result (Unit {0}) Denial) → Calls may m d gref change done e
-          → LeavesEntry meaning (entry_of d gref) (entry_of e gref) (result_of (followed_by change) done)
+          → LeavesEntry meaning (own_entry_at d gref) (own_entry_at e gref) (result_of (followed_by change) done)
       by (Ok u) calls = subst (λ (x : Entry). IsAsMeant meaning x) (sym calls.changed) meant
       by (Err denial) calls = inl calls.same
 
   -- the same after the entry was withdrawn
   publish-leaves : (mid : Domain) (gref : GrantRef) (old entry : Entry) (result : Result Followed Denial) (e : Domain)
-      → entry_of mid gref ≡ Invalid → MakesChange may m mid gref (Publish entry) result e
-      → LeavesEntry (Grants entry) old (entry_of e gref) result
+      → own_entry_at mid gref ≡ Invalid → MakesChange may m mid gref (Publish entry) result e
+      → LeavesEntry (Grants entry) old (own_entry_at e gref) result
   publish-leaves mid gref old entry result e none makes =
-      subst (λ (r : Result Followed Denial). LeavesEntry (Grants entry) old (entry_of e gref) r) (sym makes.result_is)
+      subst (λ (r : Result Followed Denial). LeavesEntry (Grants entry) old (own_entry_at e gref) r) (sym makes.result_is)
       (by makes.done makes.calls)
     where
       by : (done : Result (Unit {0}) Denial) → Calls may m mid gref (Publish entry) done e
-          → LeavesEntry (Grants entry) old (entry_of e gref) (result_of (followed_by (Publish entry)) done)
+          → LeavesEntry (Grants entry) old (own_entry_at e gref) (result_of (followed_by (Publish entry)) done)
       by (Ok u) calls = calls.changed
       by (Err denial) calls = inr (calls.same ∙ none)
 
   -- what was due leaves the entry as the bytes mean; or as it was or Invalid, if it was refused
   pub due-leaves : (d : Domain) (gref : GrantRef) (meaning : Meaning) (due : Due) (result : Result Followed Denial) (e : Domain)
-      → IsDue (entry_of d gref) meaning due → Does may m d gref due result e
-      → LeavesEntry meaning (entry_of d gref) (entry_of e gref) result
+      → IsDue (own_entry_at d gref) meaning due → Does may m d gref due result e
+      → LeavesEntry meaning (own_entry_at d gref) (own_entry_at e gref) result
   due-leaves d gref Ended Nothing result e is does =
-      subst (λ (r : Result Followed Denial). LeavesEntry Ended (entry_of d gref) (entry_of e gref) r) (sym does.0)
-      (ap (λ (x : Domain). entry_of x gref) does.1 ∙ invalid-is (entry_of d gref) is)
+      subst (λ (r : Result Followed Denial). LeavesEntry Ended (own_entry_at d gref) (own_entry_at e gref) r) (sym does.0)
+      (ap (λ (x : Domain). own_entry_at x gref) does.1 ∙ invalid-is (own_entry_at d gref) is)
   due-leaves d gref Ended (Change Withdraw) result e is does = change-leaves d gref Ended Withdraw result e refl does
   due-leaves d gref (Grants entry) Nothing result e is does =
-      subst (λ (r : Result Followed Denial). LeavesEntry (Grants entry) (entry_of d gref) (entry_of e gref) r) (sym does.0)
-      (ap (λ (x : Domain). entry_of x gref) does.1 ∙ is)
+      subst (λ (r : Result Followed Denial). LeavesEntry (Grants entry) (own_entry_at d gref) (own_entry_at e gref) r) (sym does.0)
+      (ap (λ (x : Domain). own_entry_at x gref) does.1 ∙ is)
   due-leaves d gref (Grants entry) (Change Demote) result e is does =
       change-leaves d gref (Grants entry) Demote result e is.1 does
   due-leaves d gref (Grants entry) (Change Promote) result e is does =
@@ -181,20 +182,20 @@ module _ {P : Type 0} (may : P → AllowRelation) (m : Monitor P) where
   due-leaves d gref (Grants entry) (Change (Publish new)) result e is does =
       change-leaves d gref (Grants entry) (Publish new) result e is.1 does
   due-leaves d gref (Grants entry) (Replace new) result e is (inl then) =
-      publish-leaves then.0 gref (entry_of d gref) entry result e then.1.changed
+      publish-leaves then.0 gref (own_entry_at d gref) entry result e then.1.changed
       (subst (λ (x : Entry). MakesChange may m then.0 gref (Publish x) result e) is.2 then.3)
   due-leaves d gref (Grants entry) (Replace new) result e is (inr refused) =
-      subst (λ (r : Result Followed Denial). LeavesEntry (Grants entry) (entry_of d gref) (entry_of e gref) r) (sym refused.2)
+      subst (λ (r : Result Followed Denial). LeavesEntry (Grants entry) (own_entry_at d gref) (own_entry_at e gref) r) (sym refused.2)
       (inl refused.1.same)
   due-leaves d gref (NoEntry field) (Close other) result e is (inl then) =
-      subst (λ (r : Result Followed Denial). LeavesEntry (NoEntry field) (entry_of d gref) (entry_of e gref) r) (sym then.3.0)
-      (inr (ap (λ (x : Domain). entry_of x gref) then.3.1 ∙ then.1.changed))
+      subst (λ (r : Result Followed Denial). LeavesEntry (NoEntry field) (own_entry_at d gref) (own_entry_at e gref) r) (sym then.3.0)
+      (inr (ap (λ (x : Domain). own_entry_at x gref) then.3.1 ∙ then.1.changed))
   due-leaves d gref (NoEntry field) (Close other) result e is (inr refused) =
-      subst (λ (r : Result Followed Denial). LeavesEntry (NoEntry field) (entry_of d gref) (entry_of e gref) r) (sym refused.2)
+      subst (λ (r : Result Followed Denial). LeavesEntry (NoEntry field) (own_entry_at d gref) (own_entry_at e gref) r) (sym refused.2)
       (inl refused.1.same)
   due-leaves d gref (NoEntry field) (Refuse other) result e is does =
-      subst (λ (r : Result Followed Denial). LeavesEntry (NoEntry field) (entry_of d gref) (entry_of e gref) r) (sym does.0)
-      (inl (ap (λ (x : Domain). entry_of x gref) does.1))
+      subst (λ (r : Result Followed Denial). LeavesEntry (NoEntry field) (own_entry_at d gref) (own_entry_at e gref) r) (sym does.0)
+      (inl (ap (λ (x : Domain). own_entry_at x gref) does.1))
   due-leaves _ _ _ _ _ _ is does = absurd is
 
 -- a number in bytes is below the power of their count
@@ -276,7 +277,7 @@ module _ {P : Type 0} (may : P → AllowRelation) (m : Monitor P) where
   one-call d e gref change done fits calls stays = (change ∷ [], omega arith, All-cons FitsChange change [] fits (All-nil FitsChange), (e, done, calls, stays, refl))
 
   due-by-calls : (d e : Domain) (gref : GrantRef) (meaning : Meaning) (due : Due) (result : Result Followed Denial)
-      → ((entry : Entry) → meaning ≡ Grants entry → IsEntry entry) → StaysIn may m d e → IsDue (entry_of d gref) meaning due
+      → ((entry : Entry) → meaning ≡ Grants entry → IsEntry entry) → StaysIn may m d e → IsDue (own_entry_at d gref) meaning due
       → Does may m d gref due result e → IsByCalls d gref e
   due-by-calls d e gref meaning Nothing result fits stays is does = no-call d e gref does.1
   due-by-calls d e gref Ended (Change Withdraw) result fits stays is does = one-call d e gref Withdraw does.done tt does.calls stays

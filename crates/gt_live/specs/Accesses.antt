@@ -38,7 +38,7 @@ IsOnlyAccess way before whole =
 -- a call with this access was made whole: it reached the access, which did this to its seat's view and shows nothing,
 -- and continued from there to its end, where its path is Ok. The access comes after the steps on the words that led to
 -- it and before the steps to the end, and the call made no other access
-pub record Accessed (k : Layout) (way : Continuation) (access : Step) (does : View → View → Type 0) (v w : View)
+pub record EndsAfterAccess (k : Layout) (way : Continuation) (access : Step) (does : View → View → Type 0) (v w : View)
     : Type 0 where
   pub at : View
   pub after : View
@@ -84,10 +84,11 @@ HasCause b step denial = Unit {0}
 abbrev pub AnsweredAtAccess : {R : Type 0} → Board → Continuation → (Step → R → View → View → Type 0)
     → Result R Denial → View → View
     → Type 0
-AnsweredAtAccess b way makes (Ok r) v w = (access : Step) × Accessed b.layout way access (makes access r) v w
+AnsweredAtAccess b way makes (Ok r) v w = (access : Step) × EndsAfterAccess b.layout way access (makes access r) v w
 AnsweredAtAccess b way makes (Err denial) v w =
     Called b.layout way (Refused denial) v w
-    ⊎ ((access : Step) × Accessed b.layout way access IsUnmade v w × IsOfAccess denial × HasCause b access denial)
+    ⊎ ((access : Step) × EndsAfterAccess b.layout way access IsUnmade v w × IsOfAccess denial
+    × HasCause b access denial)
 
 -- the seat read this many bytes of the frame, as one step of the history: the receipt has the bytes of that step
 abbrev pub ReadsFrame : Layout → FrameName → ℕ → ℕ → Reading → View → View → Type 0
@@ -127,9 +128,9 @@ IsReadBy k (ReadBytes dom frame off len) r v w = ReadsFrame k (frame_named dom f
 IsReadBy k step r v w = ⊥
 
 -- if the read was made, the caller's buffer has the bytes read; if it was refused, the buffer is unchanged
-abbrev pub Fills : Result Reading Denial → List ℕ → List ℕ → Type 0
-Fills (Ok r) old new = new ≡ r.bytes
-Fills (Err denial) old new = new ≡ old
+abbrev pub FillsBuffer : Result Reading Denial → List ℕ → List ℕ → Type 0
+FillsBuffer (Ok r) old new = new ≡ r.bytes
+FillsBuffer (Err denial) old new = new ≡ old
 
 -- the route that a request to write names: a store names the pin of the mapping under its handle, and a poke a frame
 -- that the domain owns

@@ -9,7 +9,7 @@ use Rattle.gt_live.specs.Prelude.{Denial, Domain, GrantRef, Handle, Invalid, IsS
 use Rattle.gt_live.specs.Prelude.{Monitor, TABLE_ENTRIES, View, Withdraw, Word, control_of, entry_in, is_kind}
 use Rattle.gt_live.specs.Prelude.{own_table}
 use Rattle.gt_live.specs.Domains.{AllowRelation, BelongsTo, IsUnsettled, KeepsPinned, Released, StaysIn}
-use Rattle.gt_live.specs.Following.{Calls, entry_of}
+use Rattle.gt_live.specs.Following.{Calls, own_entry_at}
 use Rattle.gt_live.specs.Walks.{Made, view_after}
 
 -- the view w is the view v with some more steps
@@ -62,7 +62,7 @@ pub record IsWithdrawn {P : Type 0} (may : P → AllowRelation) (m : Monitor P) 
 -- an entry was shut: it was Invalid and nothing was done, or it was withdrawn, or the most withdrawals were refused
 abbrev pub ShutsRow : {P : Type 0} → (P → AllowRelation) → Monitor P → Domain → GrantRef → Domain → Type 0
 ShutsRow may m d gref e =
-    ((entry_of d gref ≡ Invalid) × (e ≡ d))
+    ((own_entry_at d gref ≡ Invalid) × (e ≡ d))
     ⊎ (IsWithdrawn may m d gref e ⊎ AreRefused may m d gref most_withdrawals e)
 
 -- an entry was closed: it was shut, a look at it then found this word, and nothing else was done; the other entries are
@@ -82,8 +82,8 @@ ClosesRows may m d r (word ∷ words) e =
     (c : Domain) × ClosesRow may m d (record { 0 = r }) word c × ClosesRows may m c (suc r) words e
 
 -- the domain's entry is Invalid, or this word shows it as in use
-abbrev pub IsCounted : Domain → ℕ → ℕ → Type 0
-IsCounted e r word = (entry_in e.own.items r ≡ Invalid) ⊎ (is_in_use word ≡ true)
+abbrev pub IsInvalidOrInUse : Domain → ℕ → ℕ → Type 0
+IsInvalidOrInUse e r word = (entry_in e.own.items r ≡ Invalid) ⊎ (is_in_use word ≡ true)
 
 -- each entry of the domain was closed, and nothing else was done; left of the entries are still in use: by the words
 -- that were found, they have pins or could not be withdrawn
@@ -93,7 +93,7 @@ pub record Closes {P : Type 0} (may : P → AllowRelation) (m : Monitor P) (d : 
   pub all : length words ≡ TABLE_ENTRIES
   pub left_is : left ≡ count_by is_in_use words
   pub rows : ClosesRows may m d 0 words e
-  pub counted : (r : ℕ) → r < TABLE_ENTRIES → HoldsAt (IsCounted e r) words r
+  pub counted : (r : ℕ) → r < TABLE_ENTRIES → HoldsAt (IsInvalidOrInUse e r) words r
 
 -- the domain released each of its mappings, and then each of its entries was closed, of which left are still in use;
 -- nothing else was done

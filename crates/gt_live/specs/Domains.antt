@@ -52,9 +52,9 @@ Answered may m d request verdict e =
     Called m.words.layout (path_of (known_on may m d) d.seat.dom request) verdict d.seat.view e.seat.view
 
 -- the same for a call with an access, which makes this of the seat's view with its value
-abbrev pub Accesses : {P R : Type 0} → (P → AllowRelation) → Monitor P → Domain → Request
+abbrev pub AnswersWithAccess : {P R : Type 0} → (P → AllowRelation) → Monitor P → Domain → Request
     → (Step → R → View → View → Type 0) → Result R Denial → Domain → Type 0
-Accesses may m d request makes result e =
+AnswersWithAccess may m d request makes result e =
     AnsweredAtAccess m.words (path_of (known_on may m d) d.seat.dom request) makes result d.seat.view e.seat.view
 
 -- the domain has the same mappings and pins as before
@@ -212,7 +212,7 @@ AnswersRecorded may m d request call verdict e =
 abbrev pub AccessesQuietly : {P R : Type 0} → (P → AllowRelation) → Monitor P → Domain → Request
     → (Step → R → View → View → Type 0) → Result R Denial → Domain → Type 0
 AccessesQuietly may m d request makes result e =
-    Accesses may m d request makes result e × KeepsPinned d e × (e.trail ≡ d.trail)
+    AnswersWithAccess may m d request makes result e × KeepsPinned d e × (e.trail ≡ d.trail)
 
 -- the domain still belongs to this monitor's run, with the same seat
 abbrev pub StaysIn : {P : Type 0} → (P → AllowRelation) → Monitor P → Domain → Domain → Type 0

@@ -46,16 +46,16 @@ IsDue old (NoEntry field) (Close refused) = (is_invalid old ≡ false) × (refus
 IsDue old meaning due = ⊥
 
 -- the entry that a domain has under this reference, Invalid if it has none
-abbrev pub entry_of : Domain → GrantRef → Entry
-entry_of d gref = entry_in d.own.items gref.0
+abbrev pub own_entry_at : Domain → GrantRef → Entry
+own_entry_at d gref = entry_in d.own.items gref.0
 
 -- the request of the call that makes this change
-abbrev pub request_of : GrantRef → EntryChange → Request
-request_of gref (Publish entry) = requests.Grant gref entry
-request_of gref Revoke = requests.Revoke gref
-request_of gref Withdraw = requests.Withdraw gref
-request_of gref Demote = requests.Demote gref
-request_of gref Promote = requests.Promote gref
+abbrev pub request_of_change : GrantRef → EntryChange → Request
+request_of_change gref (Publish entry) = requests.Grant gref entry
+request_of_change gref Revoke = requests.Revoke gref
+request_of_change gref Withdraw = requests.Withdraw gref
+request_of_change gref Demote = requests.Demote gref
+request_of_change gref Promote = requests.Promote gref
 
 -- what this change does
 abbrev pub followed_by : EntryChange → Followed
@@ -68,9 +68,9 @@ followed_by Promote = Promoted
 -- the domain's call of this change had this result, and changed the entry if it is Ok, and only then
 pub record Calls {P : Type 0} (may : P → AllowRelation) (m : Monitor P) (d : Domain) (gref : GrantRef)
     (change : EntryChange) (done : Result (Unit {0}) Denial) (e : Domain) : Type 0 where
-  pub answers : AnswersQuietly may m d (request_of gref change) (verdict_of done) e
-  pub changed : OnOk done (entry_of e gref ≡ changed_entry change (entry_of d gref))
-  pub same : OnErr done (entry_of e gref ≡ entry_of d gref)
+  pub answers : AnswersQuietly may m d (request_of_change gref change) (verdict_of done) e
+  pub changed : OnOk done (own_entry_at e gref ≡ changed_entry change (own_entry_at d gref))
+  pub same : OnErr done (own_entry_at e gref ≡ own_entry_at d gref)
 
 -- what was done, or the refusal
 abbrev pub result_of : Followed → Result (Unit {0}) Denial → Result Followed Denial
@@ -123,9 +123,9 @@ pub record FollowsBytes {P : Type 0} (may : P → AllowRelation) (m : Monitor P)
   pub meaning : Meaning
   pub means : Means (own_table d.seat.view).version bytes meaning
   pub due : Due
-  pub is_due : IsDue (entry_of d gref) meaning due
+  pub is_due : IsDue (own_entry_at d gref) meaning due
   pub does : Does may m d gref due result e
-  pub leaves : LeavesEntry meaning (entry_of d gref) (entry_of e gref) result
+  pub leaves : LeavesEntry meaning (own_entry_at d gref) (own_entry_at e gref) result
 
 -- the same for any reference: one that the table does not have is refused with N9, and nothing is done
 abbrev pub Follows : {P : Type 0} → (P → AllowRelation) → Monitor P → Domain → GrantRef → List ℕ

@@ -6,7 +6,7 @@ use Rattle.gt_live.specs.Prelude.{pins_by_call, Domain, PendingCopy, Monitor}
 use Rattle.gt_audit.specs.declared.record.Hypercall.TheVariants as hypercalls
 use Rattle.gt_audit.specs.declared.record.Reply.TheVariants as replies
 use Rattle.gt_model.specs.declared.request.Request.TheVariants as requests
-use Rattle.gt_live.specs.Accesses.{Accessed, IsUnmade}
+use Rattle.gt_live.specs.Accesses.{EndsAfterAccess, IsUnmade}
 use Rattle.gt_live.specs.Domains.{AllowRelation, BelongsTo, IsUnsettled, known_on}
 use Rattle.gt_live.specs.Underway.{AtAccess, GivesBack}
 
@@ -54,4 +54,4 @@ abbrev pub TwoHalvesMakeACopy : Type 0
 TwoHalvesMakeACopy =
     (c : CallerKnowledge) (k : Layout) (call : Call) (from to : Spot) (len : ℕ) (v mid w : View)
     → AtAccess c k call from to len v mid → GivesBack k (pins_by_call call) mid w
-    → Accessed k (path c call.caller call.request) (CopyBytes from to len) IsUnmade v w × KeepsPins v w
+    → EndsAfterAccess k (path c call.caller call.request) (CopyBytes from to len) IsUnmade v w × KeepsPins v w

@@ -40,5 +40,5 @@ abbrev pub trail_left : Departed → TrailState
 trail_left l = l.trail
 
 -- the copy that is at its access
-abbrev pub copy_of : PendingCopy → CopyArgs
-copy_of h = h.copy
+abbrev pub copy_at_access : PendingCopy → CopyArgs
+copy_at_access h = h.copy

@@ -31,7 +31,7 @@ use Rattle.gt_policy_check.proofs.CheckLemmas.{filter_all}
 use Rattle.gt_policy_check.proofs.GrantLemmas.{any_and, any_asked, any_never, any_same, by_names, held}
 use Rattle.gt_neverallow.specs.Breaking.{breaks, breaks_by, breaks_some, breaks_with, broken, broken_by, example_text}
 use Rattle.gt_neverallow.specs.Breaking.{chooses_self, chosen_by, forbids, forbids_source, forbids_target, is_chosen, is_example}
-use Rattle.gt_neverallow.specs.Breaking.{pairs_if, shows_by, shows_some, shows_with, Adds, AreBroken, AreUnknown, IsBreach, IsBrokenOn, Shows}
+use Rattle.gt_neverallow.specs.Breaking.{pairs_if, shows_by, shows_some, shows_with, AddsBreaches, AreBroken, AreUnknown, IsBreach, IsBrokenOn, BreachIsShown}
 use Rattle.gt_neverallow.specs.declared.breaking.Breach.{Breach}
 use Rattle.gt_neverallow.specs.declared.statement.Neverallow.{Neverallow}
 use Rattle.gt_neverallow.specs.declared.statement.TypeChoice.{TypeChoice}
@@ -148,17 +148,17 @@ all_same all ns [] = refl
 all_same all ns (x ∷ xs) = ap₂ (λ (k l : List (LinedStatement × Neverallow)). k ++ l) (one_broken all ns x) (all_same all ns xs)
 
 -- the breaches of pairs of statements
-all_shown : (xs : List LinedStatement) (pairs : List (LinedStatement × Neverallow)) (found : List Breach) → AllZip (Shows (members_of xs None)) pairs found → AllZip (IsBreach xs) pairs found
+all_shown : (xs : List LinedStatement) (pairs : List (LinedStatement × Neverallow)) (found : List Breach) → AllZip (BreachIsShown (members_of xs None)) pairs found → AllZip (IsBreach xs) pairs found
 all_shown xs [] [] shown = shown
 all_shown xs [] (b ∷ found) shown = shown
 all_shown xs (p ∷ pairs) [] shown = shown
 all_shown xs (p ∷ pairs) (b ∷ found) ((one, other, names), shown) =
     ((one, other, sym (shown_same xs p.1 p.0.statement b.example.items) ∙ names), all_shown xs pairs found shown)
 
-pub broken_of : (xs : List LinedStatement) (ns : List Neverallow) (ms : List Member) (found : List Breach) → ms ≡ members_of xs None → Adds ms (flat_map (λ x. broken_by ms ns x) xs) [] found → AreBroken xs ns found
-broken_of xs ns ms found same adds = of_members (subst (λ (m : List Member). Adds m (flat_map (λ x. broken_by m ns x) xs) [] found) same adds)
+pub broken_of : (xs : List LinedStatement) (ns : List Neverallow) (ms : List Member) (found : List Breach) → ms ≡ members_of xs None → AddsBreaches ms (flat_map (λ x. broken_by ms ns x) xs) [] found → AreBroken xs ns found
+broken_of xs ns ms found same adds = of_members (subst (λ (m : List Member). AddsBreaches m (flat_map (λ x. broken_by m ns x) xs) [] found) same adds)
   where
-    of_members : Adds (members_of xs None) (flat_map (λ x. broken_by (members_of xs None) ns x) xs) [] found → AreBroken xs ns found
+    of_members : AddsBreaches (members_of xs None) (flat_map (λ x. broken_by (members_of xs None) ns x) xs) [] found → AreBroken xs ns found
     of_members (more, is, shown) =
         subst (λ (l : List Breach). AllZip (IsBreach xs) (broken xs ns) l) (sym is)
         (subst (λ (ps : List (LinedStatement × Neverallow)). AllZip (IsBreach xs) ps more) (all_same xs ns xs) (all_shown xs (flat_map (λ x. broken_by (members_of xs None) ns x) xs) more shown))
@@ -176,20 +176,20 @@ zip_both R [] us (y ∷ ys) vs none zipped = absurd none
 zip_both R (x ∷ xs) us [] vs none zipped = absurd none
 zip_both R (x ∷ xs) us (y ∷ ys) vs (first, more) zipped = (first, zip_both R xs us ys vs more zipped)
 
-pub adds_none : (ms : List Member) (old new : List Breach) → new ≡ old → Adds ms [] old new
+pub adds_none : (ms : List Member) (old new : List Breach) → new ≡ old → AddsBreaches ms [] old new
 adds_none ms old new same = ([], same ∙ sym (append-nil old), tt)
 
-pub adds_one : (ms : List Member) (x : LinedStatement) (n : Neverallow) (b : Bool) (one : Breach) (old new : List Breach) → b ≡ true → new ≡ old ++ one ∷ [] → Shows ms (x, n) one → Adds ms (pairs_if b x n) old new
+pub adds_one : (ms : List Member) (x : LinedStatement) (n : Neverallow) (b : Bool) (one : Breach) (old new : List Breach) → b ≡ true → new ≡ old ++ one ∷ [] → BreachIsShown ms (x, n) one → AddsBreaches ms (pairs_if b x n) old new
 adds_one ms x n true one old new breaks is shows = (one ∷ [], is, (shows, tt))
 adds_one ms x n false one old new breaks is shows = absurd (true≢false (sym breaks))
 
-pub adds_nothing : (ms : List Member) (x : LinedStatement) (n : Neverallow) (b : Bool) (old new : List Breach) → b ≡ false → new ≡ old → Adds ms (pairs_if b x n) old new
+pub adds_nothing : (ms : List Member) (x : LinedStatement) (n : Neverallow) (b : Bool) (old new : List Breach) → b ≡ false → new ≡ old → AddsBreaches ms (pairs_if b x n) old new
 adds_nothing ms x n false old new breaks same = adds_none ms old new same
 adds_nothing ms x n true old new breaks same = absurd (true≢false breaks)
 
-pub adds_both : (ms : List Member) (ps qs all : List (LinedStatement × Neverallow)) (old mid new : List Breach) → all ≡ ps ++ qs → Adds ms ps old mid → Adds ms qs mid new → Adds ms all old new
+pub adds_both : (ms : List Member) (ps qs all : List (LinedStatement × Neverallow)) (old mid new : List Breach) → all ≡ ps ++ qs → AddsBreaches ms ps old mid → AddsBreaches ms qs mid new → AddsBreaches ms all old new
 adds_both ms ps qs all old mid new is (xs, first, shown) (ys, second, told) =
-    (xs ++ ys, second ∙ ap (λ (l : List Breach). l ++ ys) first ∙ append_assoc old xs ys, subst (λ (l : List (LinedStatement × Neverallow)). AllZip (Shows ms) l (xs ++ ys)) (sym is) (zip_both (Shows ms) ps qs xs ys shown told))
+    (xs ++ ys, second ∙ ap (λ (l : List Breach). l ++ ys) first ∙ append_assoc old xs ys, subst (λ (l : List (LinedStatement × Neverallow)). AllZip (BreachIsShown ms) l (xs ++ ys)) (sym is) (zip_both (BreachIsShown ms) ps qs xs ys shown told))
 
 -- ---- an example
 
@@ -209,8 +209,8 @@ shown_by text w ms n a s t (among, sees, meets) is =
     (both_true (reaches_by s t a && forbids_target s t n) (bytes_eq text (example_text s.name w t.name)) meets ((bytes_eq-Decides text (example_text s.name w t.name)).1 is)))
 
 -- breaches are added for one more item of a list
-pub adds_more : {X : Type 0} (ms : List Member) (f : X → List (LinedStatement × Neverallow)) (xs : List X) (i : ℕ) (x : X) (old mid new : List Breach) → i < length xs → x ≡ get_or xs i x → Adds ms (flat_map f (take i xs)) old mid → Adds ms (f x) mid new
-    → Adds ms (flat_map f (take (i + 1) xs)) old new
+pub adds_more : {X : Type 0} (ms : List Member) (f : X → List (LinedStatement × Neverallow)) (xs : List X) (i : ℕ) (x : X) (old mid new : List Breach) → i < length xs → x ≡ get_or xs i x → AddsBreaches ms (flat_map f (take i xs)) old mid → AddsBreaches ms (f x) mid new
+    → AddsBreaches ms (flat_map f (take (i + 1) xs)) old new
 adds_more ms f xs i x old mid new within is before added = adds_both ms (flat_map f (take i xs)) (f x) (flat_map f (take (i + 1) xs)) old mid new (one_more f xs i x within is) before added
 
 -- ---- words that nothing knows

@@ -14,41 +14,41 @@ use Rattle.gt_policy.specs.declared.lined.LinedStatement.{LinedStatement}
 use Rattle.gt_policy.specs.declared.parse.PolicyFault.{PolicyFault}
 use Rattle.gt_policy.specs.declared.statements.Mention.{Mention}
 use Rattle.gt_policy_text.specs.Lexing.{lexemes_of}
-use Rattle.gt_neverallow.specs.Naming.{ReadsAsNever, is_declared, named_with, names_of, too_long, undeclared, read, faulty}
-use Rattle.gt_neverallow.specs.Reading.{Follows, ReadsTo, fault_in, fault_kind}
+use Rattle.gt_neverallow.specs.Naming.{ReadsAsNever, is_declared_in, named_with, mentions_of, too_long, undeclared, read, faulty}
+use Rattle.gt_neverallow.specs.Reading.{GivesNeverallows, ReadsTo, parse_fault_in, fault_kind}
 use Rattle.gt_neverallow.specs.declared.fault.ParseError.{ParseError}
 use Rattle.gt_neverallow.specs.declared.fault.ParseError.TheVariants as errors
 use Rattle.gt_neverallow.specs.declared.statement.Neverallow.{Neverallow}
 
 -- the first name of two lists is that of the first list, or else of the second
 pub found_first : (xs : List LinedStatement) (one rest : List Mention) (m : Mention) → Some m ≡ undeclared xs one → undeclared xs (one ++ rest) ≡ Some m
-found_first xs one rest m is = find-append (λ n. not (is_declared xs n.name)) one rest ∙ ap (λ (o : Option Mention). option_or o (undeclared xs rest)) (sym is)
+found_first xs one rest m is = find-append (λ n. not (is_declared_in xs n.name)) one rest ∙ ap (λ (o : Option Mention). option_or o (undeclared xs rest)) (sym is)
 
 pub found_later : (xs : List LinedStatement) (one rest : List Mention) → None ≡ undeclared xs one → undeclared xs (one ++ rest) ≡ undeclared xs rest
-found_later xs one rest is = find-append (λ n. not (is_declared xs n.name)) one rest ∙ ap (λ (o : Option Mention). option_or o (undeclared xs rest)) (sym is)
+found_later xs one rest is = find-append (λ n. not (is_declared_in xs n.name)) one rest ∙ ap (λ (o : Option Mention). option_or o (undeclared xs rest)) (sym is)
 
 -- one statement more
 pub first_at : (xs : List LinedStatement) (ns : List Neverallow) (i : ℕ) (n : Neverallow) → i < length ns → n ≡ get_or ns i n
-    → undeclared xs (flat_map names_of (drop i ns)) ≡ undeclared xs (names_of n ++ flat_map names_of (drop (i + 1) ns))
+    → undeclared xs (flat_map mentions_of (drop i ns)) ≡ undeclared xs (mentions_of n ++ flat_map mentions_of (drop (i + 1) ns))
 first_at xs ns i n within is =
-    at_drop_more (λ (l : List Neverallow). undeclared xs (flat_map names_of l)) ns i n within
-    ∙ ap (λ (x : Neverallow). undeclared xs (flat_map names_of (x ∷ drop (i + 1) ns))) (sym is)
+    at_drop_more (λ (l : List Neverallow). undeclared xs (flat_map mentions_of l)) ns i n within
+    ∙ ap (λ (x : Neverallow). undeclared xs (flat_map mentions_of (x ∷ drop (i + 1) ns))) (sym is)
 
 -- what was read of a text
-pub says_read : (xs : List LinedStatement) (text bytes : List ℕ) (ns : List Neverallow) (said : Result (List Neverallow) TokenFault) → bytes ≡ text → length text ≤ 1048576 → Follows [] (lexemes_of bytes) (Ok ns)
-    → named_with ns (undeclared xs (flat_map names_of ns)) ≡ said → ReadsAsNever xs text said
+pub says_read : (xs : List LinedStatement) (text bytes : List ℕ) (ns : List Neverallow) (said : Result (List Neverallow) TokenFault) → bytes ≡ text → length text ≤ 1048576 → GivesNeverallows [] (lexemes_of bytes) (Ok ns)
+    → named_with ns (undeclared xs (flat_map mentions_of ns)) ≡ said → ReadsAsNever xs text said
 says_read xs text bytes ns said same few follows is =
-    let follows_text : Follows [] (lexemes_of text) (Ok ns) = subst (λ (l : List ℕ). Follows [] (lexemes_of l) (Ok ns)) same follows in
+    let follows_text : GivesNeverallows [] (lexemes_of text) (Ok ns) = subst (λ (l : List ℕ). GivesNeverallows [] (lexemes_of l) (Ok ns)) same follows in
     subst (λ (r : Result (List Neverallow) TokenFault). ReadsAsNever xs text r) is (read text ns few follows_text)
 
 -- a fault of the text
-of_error : (xs : List LinedStatement) (text : List ℕ) (e : ParseError) (f : TokenFault) → length text ≤ 1048576 → ReadsTo (Err e) (lexemes_of text) → fault_in e ≡ Some f → ReadsAsNever xs text (Err f)
+of_error : (xs : List LinedStatement) (text : List ℕ) (e : ParseError) (f : TokenFault) → length text ≤ 1048576 → ReadsTo (Err e) (lexemes_of text) → parse_fault_in e ≡ Some f → ReadsAsNever xs text (Err f)
 of_error xs text errors.Memory f few reads is = absurd (cc is)
 of_error xs text (errors.Fault line kind) f few reads is =
     let same : at line (fault_kind kind) ≡ f = cc is in
     subst (λ (g : TokenFault). ReadsAsNever xs text (Err g)) same (faulty text (at line (fault_kind kind)) few reads)
 
-pub says_faulty : (xs : List LinedStatement) (text bytes : List ℕ) (e : ParseError) (f : TokenFault) → bytes ≡ text → length text ≤ 1048576 → ReadsTo (Err e) (lexemes_of bytes) → fault_in e ≡ Some f → ReadsAsNever xs text (Err f)
+pub says_faulty : (xs : List LinedStatement) (text bytes : List ℕ) (e : ParseError) (f : TokenFault) → bytes ≡ text → length text ≤ 1048576 → ReadsTo (Err e) (lexemes_of bytes) → parse_fault_in e ≡ Some f → ReadsAsNever xs text (Err f)
 says_faulty xs text bytes e f same few reads is = of_error xs text e f few (subst (λ (l : List ℕ). ReadsTo (Err e) (lexemes_of l)) same reads) is
 
 pub says_long : (xs : List LinedStatement) (text : List ℕ) (f : TokenFault) → 1048576 < length text → Some (at 1 Limit) ≡ Some f → ReadsAsNever xs text (Err f)

@@ -5,7 +5,7 @@ use Rattle.gt_policy_text.specs.Lexing.{behind}
 use Rattle.gt_policy_text.specs.declared.lexer.Token.{Token}
 use Rattle.gt_policy_text.specs.declared.lexer.Token.TheVariants.{End, Star, Tilde}
 use Rattle.gt_policy.specs.declared.fault.TokenFault.{TokenFault}
-use Rattle.gt_neverallow.specs.Reading.{Follows, Reads, ReadsNext, ReadsTo, as_choice, ended, fault_kind, more, next_statement}
+use Rattle.gt_neverallow.specs.Reading.{GivesNeverallows, Reads, ReadsNext, ReadsTo, as_choice, ended, fault_kind, more, next_statement}
 use Rattle.gt_neverallow.specs.Reading.{types_of, wrong}
 use Rattle.gt_neverallow.specs.declared.statement.TypeChoice.TheVariants.{Of}
 use Rattle.gt_neverallow.specs.declared.fault.ParseError.{ParseError}
@@ -19,7 +19,7 @@ reads_err (errors.Fault line kind) r r' part whole h step = step (at line (fault
 
 -- whatever follows these statements follows none
 abbrev pub Goes : List Neverallow → Lexemes → Lexemes → Type 0
-Goes read ls all = (said : Result (List Neverallow) TokenFault) → Follows read ls said → Follows [] all said
+Goes read ls all = (said : Result (List Neverallow) TokenFault) → GivesNeverallows read ls said → GivesNeverallows [] all said
 
 pub to_err : (e : ParseError) (read : List Neverallow) (all ls rest : Lexemes) → Goes read ls all → ReadsNext (Err e) rest (next_statement ls) → ReadsTo (Err e) all
 to_err errors.Memory read all ls rest goes h = tt
@@ -27,9 +27,9 @@ to_err (errors.Fault line kind) read all ls rest goes h = goes (Err (at line (fa
 
 pub goes_more : (read pushed : List Neverallow) (x : Neverallow) (all ls rest : Lexemes) → Goes read ls all → next_statement ls ≡ Ok (Some x, rest) → pushed ≡ read ++ x ∷ [] → Goes pushed rest all
 goes_more read pushed x all ls rest goes taken push = λ said h.
-    goes said (more read x ls rest said taken (subst (λ (ns : List Neverallow). Follows ns rest said) push h))
+    goes said (more read x ls rest said taken (subst (λ (ns : List Neverallow). GivesNeverallows ns rest said) push h))
 
-pub to_end : (read : List Neverallow) (all ls : Lexemes) → Goes read ls all → next_statement ls ≡ Ok (None, []) → Follows [] all (Ok read)
+pub to_end : (read : List Neverallow) (all ls : Lexemes) → Goes read ls all → next_statement ls ≡ Ok (None, []) → GivesNeverallows [] all (Ok read)
 to_end read all ls goes over = goes (Ok read) (ended read ls [] over)
 
 -- ---- sets and types

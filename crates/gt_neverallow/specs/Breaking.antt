@@ -183,10 +183,11 @@ abbrev pub broken_by : List Member → List Neverallow → LinedStatement → Li
 broken_by members ns x = flat_map (λ n. pairs_if (breaks_with members n x.statement) x n) ns
 
 -- the breach has the lines of these two statements, and an example
-abbrev pub Shows : List Member → LinedStatement × Neverallow → Breach → Type 0
-Shows members p b =
+abbrev pub BreachIsShown : List Member → LinedStatement × Neverallow → Breach → Type 0
+BreachIsShown members p b =
     (b.allowed ≡ p.0.line) × (b.forbidden ≡ p.1.line) × (shows_with b.example.items members p.1 p.0.statement ≡ true)
 
 -- a breach is added for each of these pairs
-abbrev pub Adds : List Member → List (LinedStatement × Neverallow) → List Breach → List Breach → Type 0
-Adds members pairs old new = (more : List Breach) × (new ≡ old ++ more) × AllZip (Shows members) pairs more
+abbrev pub AddsBreaches : List Member → List (LinedStatement × Neverallow) → List Breach → List Breach → Type 0
+AddsBreaches members pairs old new = (more : List Breach) × (new ≡ old ++ more)
+    × AllZip (BreachIsShown members) pairs more

@@ -16,7 +16,7 @@ use Rattle.gt_policy.specs.declared.statements.Statement.{Statement}
 use Rattle.gt_policy.specs.declared.statements.Statement.TheVariants.{DeclareType, DeclareAttribute, GiveAttributes}
 use Rattle.gt_policy.specs.declared.statements.Statement.TheVariants.{Allow}
 use Rattle.gt_policy_text.specs.Lexing.{lexemes_of}
-use Rattle.gt_neverallow.specs.Reading.{Follows}
+use Rattle.gt_neverallow.specs.Reading.{GivesNeverallows}
 use Rattle.gt_neverallow.specs.declared.statement.Neverallow.{Neverallow}
 use Rattle.gt_neverallow.specs.declared.statement.TypeChoice.{TypeChoice}
 use Rattle.gt_neverallow.specs.declared.statement.TypeChoice.TheVariants.{But, Every, Of}
@@ -29,28 +29,28 @@ declares w (GiveAttributes m ms) = false
 declares w (Allow a) = false
 
 -- some statement declares the name
-abbrev pub is_declared : List LinedStatement → List ℕ → Bool
-is_declared xs w = list_any (λ x. declares w x.statement) xs
+abbrev pub is_declared_in : List LinedStatement → List ℕ → Bool
+is_declared_in xs w = list_any (λ x. declares w x.statement) xs
 
 -- the name that an item has, after `-` too
-abbrev pub names_in : SetElement → List Mention
-names_in (With m) = m ∷ []
-names_in (Without m) = m ∷ []
-names_in Itself = []
+abbrev pub mentions_in : SetElement → List Mention
+mentions_in (With m) = m ∷ []
+mentions_in (Without m) = m ∷ []
+mentions_in Itself = []
 
 -- the names of a choice of types
 abbrev pub names_chosen : TypeChoice → List Mention
 names_chosen Every = []
-names_chosen (Of items) = flat_map names_in items
-names_chosen (But items) = flat_map names_in items
+names_chosen (Of items) = flat_map mentions_in items
+names_chosen (But items) = flat_map mentions_in items
 
 -- the names of the sets of a statement, in the order of the text
-abbrev pub names_of : Neverallow → List Mention
-names_of n = names_chosen n.source ++ names_chosen n.target
+abbrev pub mentions_of : Neverallow → List Mention
+mentions_of n = names_chosen n.source ++ names_chosen n.target
 
 -- the first of these names that the policy does not declare
 abbrev pub undeclared : List LinedStatement → List Mention → Option Mention
-undeclared xs ms = find (λ m. not (is_declared xs m.name)) ms
+undeclared xs ms = find (λ m. not (is_declared_in xs m.name)) ms
 
 -- the statements, or the fault of their first name that the policy does not declare
 abbrev pub named_with : List Neverallow → Option Mention → Result (List Neverallow) TokenFault
@@ -61,7 +61,8 @@ named_with ns (Some m) = Err (at m.line (Unknown m.name))
 -- is a fault only of a text without another fault. (SELinux policy language; faults and the limit own)
 pub data ReadsAsNever (xs : List LinedStatement) : List ℕ → Result (List Neverallow) TokenFault → Type 0 where
   too_long : (text : List ℕ) → LONGEST_TEXT < length text → ReadsAsNever xs text (Err (at 1 Limit))
-  read : (text : List ℕ) (ns : List Neverallow) → length text ≤ LONGEST_TEXT → Follows [] (lexemes_of text) (Ok ns)
-      → ReadsAsNever xs text (named_with ns (undeclared xs (flat_map names_of ns)))
-  faulty : (text : List ℕ) (f : TokenFault) → length text ≤ LONGEST_TEXT → Follows [] (lexemes_of text) (Err f)
+  read : (text : List ℕ) (ns : List Neverallow) → length text ≤ LONGEST_TEXT
+      → GivesNeverallows [] (lexemes_of text) (Ok ns)
+      → ReadsAsNever xs text (named_with ns (undeclared xs (flat_map mentions_of ns)))
+  faulty : (text : List ℕ) (f : TokenFault) → length text ≤ LONGEST_TEXT → GivesNeverallows [] (lexemes_of text) (Err f)
       → ReadsAsNever xs text (Err f)

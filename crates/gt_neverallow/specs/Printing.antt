@@ -1,6 +1,6 @@
 -- What is printed of the findings about neverallow statements.
 use Rattle.std.specs.Prelude.{◌≡◌, ℕ, List, [], ◌∷◌, ◌++◌, codes}
-use Rattle.gt_policy_check.specs.Report.{AreTexts, IsReport}
+use Rattle.gt_policy_check.specs.Report.{IsTextOfAll, IsReport}
 use Rattle.gt_policy_check.specs.declared.findings.Finding.{Finding}
 use Rattle.gt_policy_check.specs.declared.findings.FindingKind.TheVariants.{Fault, Note}
 use Rattle.gt_policy_check.specs.declared.report.ReportForm.{ReportForm}
@@ -30,7 +30,7 @@ IsBreachText form file never b text =
 
 -- the report of breaches: each once, in their order
 abbrev pub IsBreachReport : ReportForm → List ℕ → List ℕ → List Breach → List ℕ → Type 0
-IsBreachReport form file never found report = AreTexts (IsBreachText form file never) found report
+IsBreachReport form file never found report = IsTextOfAll (IsBreachText form file never) found report
 
 -- the report of a check: the words that are unknown, with the name of the text that has them, and then the breaches
 abbrev pub IsNeverReport : ReportForm → List ℕ → List ℕ → NeverFindings → List ℕ → Type 0

@@ -30,17 +30,17 @@ fault_kind (tokens.Outside w) = kinds.Outside w
 fault_kind tokens.Limit = kinds.Limit
 
 -- the fault of an error; none if an allocation failed
-abbrev pub fault_in : ParseError → Option TokenFault
-fault_in Memory = None
-fault_in (Fault line kind) = Some (at line (fault_kind kind))
+abbrev pub parse_fault_in : ParseError → Option TokenFault
+parse_fault_in Memory = None
+parse_fault_in (Fault line kind) = Some (at line (fault_kind kind))
 
 -- The value and the tokens left are those of the grammar, unless an allocation failed.
 abbrev pub Reads : {X : Type 0} → Result X ParseError → Lexemes → LexerState X → Type 0
-Reads r rest said = UnlessMemory fault_in r (λ found. said ≡ with_rest (λ x. (x, rest)) found)
+Reads r rest said = UnlessMemory parse_fault_in r (λ found. said ≡ with_rest (λ x. (x, rest)) found)
 
 -- A mark was read and the tokens left are those of the grammar, unless an allocation failed.
 abbrev pub ReadsNothing : Result (Unit {0}) ParseError → Lexemes → Result Lexemes TokenFault → Type 0
-ReadsNothing r rest said = UnlessMemory fault_in r (λ found. said ≡ with_rest (λ x. rest) found)
+ReadsNothing r rest said = UnlessMemory parse_fault_in r (λ found. said ≡ with_rest (λ x. rest) found)
 
 -- a set as a choice of its types, or of all others
 abbrev pub as_choice : (List SetElement → TypeChoice) → LexerState (List SetElement) → LexerState TypeChoice
@@ -80,35 +80,37 @@ misfit_statement (Name w) = kinds.Outside w
 misfit_statement token = misfit false token
 
 -- a statement as the next one
-abbrev pub next_one : LexerState Neverallow → LexerState (Option Neverallow)
-next_one (Ok s) = Ok (Some s.0, s.1)
-next_one (Err f) = Err f
+abbrev pub next_neverallow : LexerState Neverallow → LexerState (Option Neverallow)
+next_neverallow (Ok s) = Ok (Some s.0, s.1)
+next_neverallow (Err f) = Err f
 
 -- the next statement, or none at the end of the text; no other statement may come (faults own)
 unfoldable pub next_statement : Lexemes → LexerState (Option Neverallow)
 next_statement [] = Err (at 0 kinds.Syntax)
 next_statement ((End, n) ∷ ls) = Ok (None, [])
-next_statement ((token, n) ∷ ls) = if begins_statement token then next_one (never_statement n ls)
+next_statement ((token, n) ∷ ls) = if begins_statement token then next_neverallow (never_statement n ls)
     else Err (at n (misfit_statement token))
 
 -- the next statement; at the end of the text none
-abbrev pub IsNext : Result (Option Neverallow) TokenFault → Lexemes → LexerState (Option Neverallow) → Type 0
-IsNext (Ok (Some x)) rest said = said ≡ Ok (Some x, rest)
-IsNext (Ok None) rest said = said ≡ Ok (None, [])
-IsNext (Err f) rest said = said ≡ Err f
+abbrev pub IsNextNeverallow : Result (Option Neverallow) TokenFault → Lexemes → LexerState (Option Neverallow) → Type 0
+IsNextNeverallow (Ok (Some x)) rest said = said ≡ Ok (Some x, rest)
+IsNextNeverallow (Ok None) rest said = said ≡ Ok (None, [])
+IsNextNeverallow (Err f) rest said = said ≡ Err f
 
 -- the same, unless an allocation failed
 abbrev pub ReadsNext : Result (Option Neverallow) ParseError → Lexemes → LexerState (Option Neverallow) → Type 0
-ReadsNext r rest said = UnlessMemory fault_in r (λ found. IsNext found rest said)
+ReadsNext r rest said = UnlessMemory parse_fault_in r (λ found. IsNextNeverallow found rest said)
 
 -- after some statements, the tokens give these in all, or the first fault
-pub data Follows : List Neverallow → Lexemes → Result (List Neverallow) TokenFault → Type 0 where
-  ended : (read : List Neverallow) (ls rest : Lexemes) → next_statement ls ≡ Ok (None, rest) → Follows read ls (Ok read)
+pub data GivesNeverallows : List Neverallow → Lexemes → Result (List Neverallow) TokenFault → Type 0 where
+  ended : (read : List Neverallow) (ls rest : Lexemes) → next_statement ls ≡ Ok (None, rest)
+      → GivesNeverallows read ls (Ok read)
   more : (read : List Neverallow) (x : Neverallow) (ls rest : Lexemes) (said : Result (List Neverallow) TokenFault)
-      → next_statement ls ≡ Ok (Some x, rest) → Follows (read ++ x ∷ []) rest said → Follows read ls said
+      → next_statement ls ≡ Ok (Some x, rest) → GivesNeverallows (read ++ x ∷ []) rest said
+      → GivesNeverallows read ls said
   wrong : (read : List Neverallow) (ls : Lexemes) (f : TokenFault) → next_statement ls ≡ Err f
-      → Follows read ls (Err f)
+      → GivesNeverallows read ls (Err f)
 
 -- the statements or the fault are those of the tokens, unless an allocation failed
 abbrev pub ReadsTo : Result (List Neverallow) ParseError → Lexemes → Type 0
-ReadsTo r ls = UnlessMemory fault_in r (λ found. Follows [] ls found)
+ReadsTo r ls = UnlessMemory parse_fault_in r (λ found. GivesNeverallows [] ls found)

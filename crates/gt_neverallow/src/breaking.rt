@@ -1,7 +1,8 @@
 //! Which allow statements of a policy break which `neverallow` statements.
 ghost use Rattle.std.specs.Prelude.{[], IfOk, IfErr, OnOk};
 ghost use Rattle.std.specs.List.{flat_map};
-ghost use Rattle.gt_neverallow.specs.Breaking.{Adds, AreBreaches, AreBroken, AreUnknown, IsNeverFault, breaks_with};
+ghost use Rattle.gt_neverallow.specs.Breaking.{AddsBreaches, AreBreaches, AreBroken, AreUnknown, IsNeverFault};
+ghost use Rattle.gt_neverallow.specs.Breaking.{breaks_with};
 ghost use Rattle.gt_neverallow.specs.Breaking.{broken_by, pairs_if};
 
 use crate::example::breach_example;
@@ -42,7 +43,7 @@ fn push_if_broken(
     stated: &LinedStatement,
     members: &[Member],
 ) -> Result<(), AllocError>
-    ensures { OnOk result (Adds members.now
+    ensures { OnOk result (AddsBreaches members.now
         (pairs_if (breaks_with members.now never.now stated.now.statement) stated.now never.now)
         found.old.items found.new.items) }
 {
@@ -64,7 +65,7 @@ fn push_broken(
     stated: &LinedStatement,
     members: &[Member],
 ) -> Result<(), AllocError>
-    ensures { OnOk result (Adds members.now (broken_by members.now nevers.now stated.now)
+    ensures { OnOk result (AddsBreaches members.now (broken_by members.now nevers.now stated.now)
         found.old.items found.new.items) }
 {
     'nevers: for never in nevers {
@@ -80,8 +81,8 @@ fn all_broken(
     nevers: &[Neverallow],
     members: &[Member],
 ) -> Result<Vec<Breach>, AllocError>
-    ensures { IfOk result (λ found. Adds members.now (flat_map (λ x. broken_by members.now nevers.now x) statements.now)
-        [] found.items) }
+    ensures { IfOk result (λ found. AddsBreaches members.now
+        (flat_map (λ x. broken_by members.now nevers.now x) statements.now) [] found.items) }
 {
     let mut found = Vec::new(alloc);
     'statements: for stated in statements {

@@ -2,7 +2,7 @@
 ghost use Rattle.std.specs.Prelude.{◌≡◌, Some, None, IfOk};
 ghost use Rattle.gt_policy.specs.Shown.{fault_shown, kind_shown, out_of_memory};
 ghost use Rattle.gt_policy.specs.declared.fault.TokenFault.{TokenFault};
-ghost use Rattle.gt_neverallow.specs.Reading.{fault_in, fault_kind};
+ghost use Rattle.gt_neverallow.specs.Reading.{parse_fault_in, fault_kind};
 
 use gt_policy::{PolicyFault, PolicyFaultKind, TextPiece};
 use std::alloc::{AllocError, Global};
@@ -69,7 +69,7 @@ fn kind_of<'a>(alloc: Global, kind: TokenKind<'a>) -> Result<PolicyFaultKind, Al
 
 /// Returns the fault of an error, with its words.
 pub(crate) fn fault_of<'a>(alloc: Global, error: ParseError<'a>) -> PolicyFault
-    ensures fault { (f : TokenFault) → fault_shown result ≡ Some f → fault_in error.entry ≡ Some f }
+    ensures fault { (f : TokenFault) → fault_shown result ≡ Some f → parse_fault_in error.entry ≡ Some f }
     ensures memory { fault_shown result ≡ None → result ≡ out_of_memory }
 {
     let ParseError::Fault(line, kind) = error else {

@@ -2,7 +2,7 @@
 ghost use Rattle.std.specs.Prelude.{◌≡◌, ◌∷◌, []};
 ghost use Rattle.std.specs.List.{flat_map};
 ghost use Rattle.std.specs.Option.{option_map};
-ghost use Rattle.gt_neverallow.specs.Naming.{declares, is_declared, names_chosen, names_in, names_of};
+ghost use Rattle.gt_neverallow.specs.Naming.{declares, is_declared_in, names_chosen, mentions_in, mentions_of};
 ghost use Rattle.gt_neverallow.specs.Naming.{undeclared as first_undeclared};
 
 use crate::statement::{Neverallow, TypeChoice};
@@ -21,7 +21,7 @@ fn declares(statement: &Statement, name: &TextPiece) -> bool
 }
 
 fn is_declared(statements: &[LinedStatement], name: &TextPiece) -> bool
-    ensures { result ≡ is_declared statements.now name.now }
+    ensures { result ≡ is_declared_in statements.now name.now }
 {
     'statements: for stated in statements {
         if declares(&stated.statement, name) {
@@ -49,7 +49,7 @@ fn undeclared_in<'s, 'a>(
     statements: &[LinedStatement],
     item: &'s SetElement<'a>,
 ) -> Option<&'s Mention<'a>>
-    ensures { option_map (λ m. m.now) result ≡ first_undeclared statements.now (names_in item.entry.now) }
+    ensures { option_map (λ m. m.now) result ≡ first_undeclared statements.now (mentions_in item.entry.now) }
 {
     match item {
         SetElement::With(mention) => if_undeclared(statements, mention),
@@ -62,7 +62,7 @@ fn undeclared_among<'s, 'a>(
     statements: &[LinedStatement],
     items: &'s [SetElement<'a>],
 ) -> Option<&'s Mention<'a>>
-    ensures { option_map (λ m. m.now) result ≡ first_undeclared statements.now (flat_map names_in items.entry.now) }
+    ensures { option_map (λ m. m.now) result ≡ first_undeclared statements.now (flat_map mentions_in items.entry.now) }
 {
     'items: for item in items {
         if let Some(mention) = undeclared_in(statements, item) {
@@ -89,7 +89,7 @@ fn undeclared_of<'s, 'a>(
     statements: &[LinedStatement],
     never: &'s Neverallow<'a>,
 ) -> Option<&'s Mention<'a>>
-    ensures { option_map (λ m. m.now) result ≡ first_undeclared statements.now (names_of never.entry.now) }
+    ensures { option_map (λ m. m.now) result ≡ first_undeclared statements.now (mentions_of never.entry.now) }
 {
     match undeclared_choice(statements, &never.source) {
         Some(mention) => Some(mention),
@@ -102,7 +102,7 @@ pub(crate) fn undeclared<'s, 'a>(
     statements: &[LinedStatement],
     nevers: &'s [Neverallow<'a>],
 ) -> Option<&'s Mention<'a>>
-    ensures { option_map (λ m. m.now) result ≡ first_undeclared statements.now (flat_map names_of nevers.entry.now) }
+    ensures { option_map (λ m. m.now) result ≡ first_undeclared statements.now (flat_map mentions_of nevers.entry.now) }
 {
     'nevers: for never in nevers {
         if let Some(mention) = undeclared_of(statements, never) {

@@ -3,7 +3,7 @@ ghost use Rattle.std.specs.Prelude.{◌≡◌, ◌∷◌, ◌<◌, ◌≤◌, le
 ghost use Rattle.gt_policy.specs.Grammar.{at, classes_in_braces, classes_of, is_grant, is_grant_alone, is_refused_word};
 ghost use Rattle.gt_policy.specs.Grammar.{colon, misfit, misfit_name, perms_in_braces, perms_of, semicolon, set_in_braces};
 ghost use Rattle.gt_policy.specs.Grammar.{set_of, type_name};
-ghost use Rattle.gt_neverallow.specs.Reading.{Reads, ReadsNext, ReadsNothing, ReadsTo, fault_in, fault_kind};
+ghost use Rattle.gt_neverallow.specs.Reading.{Reads, ReadsNext, ReadsNothing, ReadsTo, parse_fault_in, fault_kind};
 ghost use Rattle.gt_neverallow.specs.Reading.{begins_statement, misfit_statement, never_statement, next_statement, types_of};
 
 use crate::fault::{ParseError, TokenKind};
@@ -15,7 +15,7 @@ use std::alloc::Global;
 
 // Makes the error for a fault on a line.
 fn fault_at<'a>(line: u32, kind: TokenKind<'a>) -> ParseError<'a>
-    ensures { fault_in result ≡ Some (at line (fault_kind kind.entry)) }
+    ensures { parse_fault_in result ≡ Some (at line (fault_kind kind.entry)) }
 {
     ParseError::Fault(line, kind)
 }

@@ -3,7 +3,7 @@ ghost use Rattle.std.specs.Prelude.{◌≡◌, ◌≤◌, length, IfOk, IfErr, I
 ghost use Rattle.gt_policy.specs.Shown.{fault_shown, out_of_memory};
 ghost use Rattle.gt_policy.specs.declared.fault.TokenFault.{TokenFault};
 ghost use Rattle.gt_policy_text.specs.Lexing.{lexemes_of};
-ghost use Rattle.gt_neverallow.specs.Naming.{ReadsAsNever, named_with, names_of, undeclared};
+ghost use Rattle.gt_neverallow.specs.Naming.{ReadsAsNever, named_with, mentions_of, undeclared};
 ghost use Rattle.gt_neverallow.specs.Reading.{ReadsTo};
 ghost use Rattle.std.specs.List.{flat_map};
 
@@ -30,9 +30,9 @@ fn fault_of_name(
     policy: &[LinedStatement],
     nevers: &[Neverallow],
 ) -> Option<PolicyFault>
-    ensures none { result ≡ None → undeclared policy.now (flat_map names_of nevers.now) ≡ None }
+    ensures none { result ≡ None → undeclared policy.now (flat_map mentions_of nevers.now) ≡ None }
     ensures fault { IfSome result (λ e. (f : TokenFault) → fault_shown e ≡ Some f →
-        named_with nevers.now (undeclared policy.now (flat_map names_of nevers.now)) ≡ Err f) }
+        named_with nevers.now (undeclared policy.now (flat_map mentions_of nevers.now)) ≡ Err f) }
     ensures memory { IfSome result (λ e. fault_shown e ≡ None → e ≡ out_of_memory) }
 {
     let mention = undeclared(policy, nevers)?;
@@ -47,9 +47,9 @@ fn named<'a>(
     nevers: Items<Neverallow<'a>>,
 ) -> Result<Items<Neverallow<'a>>, PolicyFault>
     ensures ok { IfOk result (λ ns.
-        named_with nevers.entry (undeclared policy.now (flat_map names_of nevers.entry)) ≡ Ok ns) }
+        named_with nevers.entry (undeclared policy.now (flat_map mentions_of nevers.entry)) ≡ Ok ns) }
     ensures fault { IfErr result (λ e. (f : TokenFault) → fault_shown e ≡ Some f →
-        named_with nevers.entry (undeclared policy.now (flat_map names_of nevers.entry)) ≡ Err f) }
+        named_with nevers.entry (undeclared policy.now (flat_map mentions_of nevers.entry)) ≡ Err f) }
     ensures memory { IfErr result (λ e. fault_shown e ≡ None → e ≡ out_of_memory) }
 {
     match fault_of_name(alloc, policy, nevers.as_slice()) {

@@ -29,7 +29,7 @@ use Rattle.gt_model.specs.declared.action.Step.TheVariants.{StoreHeader, Exchang
 use Rattle.gt_model.specs.declared.action.Step.TheVariants.{Write as WriteBytes, Copy as CopyBytes}
 use Rattle.gt_model.proofs.Observers.{stepped}
 use Rattle.gt_core.proofs.Words.{append-nil}
-use Rattle.gt_core.specs.GoingOn.{IsAccess, IsOnWords}
+use Rattle.gt_core.specs.GoingOn.{IsAccess, AccessesNoBytes}
 use Rattle.gt_model.specs.History.{History as Items, Setting, WriteMade, contents_at, given_in, open_call, patches_at}
 use Rattle.gt_model.specs.History.{patches_by, seen_by, written_by}
 use Rattle.gt_model.specs.declared.trace.Answer.{Answer}
@@ -133,7 +133,7 @@ patches-none : (g : Items) (item : Item) (t f : ℕ) → made_by g item ≡ None
 patches-none g item t f e = patches-more g item t f ∙ (ap (λ (o : Option WriteMade). patches_at g t f ++ patches_by o t f) e ∙ append-nil (patches_at g t f))
 
 -- a step on words writes no frame
-writes-none : (g : Items) (d : DomId) (step : Step) (seen : Observation) (answer : Option Answer) → IsOnWords step → made_by g (stepped d step seen answer) ≡ None
+writes-none : (g : Items) (d : DomId) (step : Step) (seen : Observation) (answer : Option Answer) → AccessesNoBytes step → made_by g (stepped d step seen answer) ≡ None
 writes-none g d (LookHeader dom) seen answer q = refl
 writes-none g d (LookControl dom gref) seen answer q = refl
 writes-none g d (LookBody dom gref half) seen answer q = refl
@@ -146,7 +146,7 @@ writes-none g d (ReadBytes dom frame off len) seen answer q = absurd q
 writes-none g d (WriteBytes dom frame off len) seen answer q = absurd q
 writes-none g d (CopyBytes from to len) seen answer q = absurd q
 
-not-frame : (k : Layout) (i : ℕ) (step : Step) (t q : ℕ) (m : FrameStep) → IsOnWords step → IsThe k i step (Frame t q m) → ⊥
+not-frame : (k : Layout) (i : ℕ) (step : Step) (t q : ℕ) (m : FrameStep) → AccessesNoBytes step → IsThe k i step (Frame t q m) → ⊥
 not-frame k i (LookHeader dom) t q m quiet the = the
 not-frame k i (LookControl dom gref) t q m quiet the = the
 not-frame k i (LookBody dom gref half) t q m quiet the = the
@@ -160,7 +160,7 @@ not-frame k i (WriteBytes dom frame off len) t q m quiet the = absurd quiet
 not-frame k i (CopyBytes from to len) t q m quiet the = absurd quiet
 
 -- after a step on words
-pub writes-by-words : (k : Layout) (g : Items) (h : StepHistory) (i : ℕ) (d : DomId) (step : Step) (x : SeatStep) (seen : Observation) (answer : Option Answer) → IsOnWords step → IsThe k i step x → WritesAgree k g h
+pub writes-by-words : (k : Layout) (g : Items) (h : StepHistory) (i : ℕ) (d : DomId) (step : Step) (x : SeatStep) (seen : Observation) (answer : Option Answer) → AccessesNoBytes step → IsThe k i step x → WritesAgree k g h
     → WritesAgree k (stepped d step seen answer ∷ g) ((i, x) ∷ h)
 writes-by-words k g h i d step x seen answer quiet the agree t f l =
     patches-none g (stepped d step seen answer) (dom_at k t).0 f (writes-none g d step seen answer quiet) ∙ (agree t f l ∙ sym (ap patches (same x the)))

@@ -20,7 +20,8 @@ use Rattle.gt_model.specs.declared.action.CallResult.TheVariants.{Granted}
 use Rattle.gt_model.specs.declared.held.HeldPin.{HeldPin}
 use Rattle.gt_model.specs.declared.request.Request.{Request}
 use Rattle.gt_model.specs.declared.request.Request.TheVariants as requests
-use Rattle.gt_live.specs.Accesses.{Accessed, IsAccess, IsCopiedBy, IsReadBy, IsUnmade, IsWrittenBy, onward, writ_by}
+use Rattle.gt_live.specs.Accesses.{EndsAfterAccess, IsAccess, IsCopiedBy, IsReadBy, IsUnmade, IsWrittenBy, onward}
+use Rattle.gt_live.specs.Accesses.{writ_by}
 use Rattle.gt_live.specs.Domains.{AllowRelation, knowledge}
 use Rattle.gt_live.specs.Ending.{IsOfMapping}
 use Rattle.gt_live.specs.Walks.{IsWalk, Made, MakesStep, all_shown, shown_by, view_after}
@@ -28,7 +29,7 @@ use Rattle.gt_live.specs.declared.domain.Domain.{Domain}
 use Rattle.gt_live.specs.declared.monitor.Monitor.{Monitor}
 use Rattle.gt_words.specs.Frames.{AccessesFrame}
 use Rattle.gt_order.proofs.Walks.{as-turn, as-walk}
-use Rattle.gt_order.specs.Calling.{CopiesAreMade, IsLoading, IsSingle, IsStoring, LostAccessesAreMade, ReadsAreMade}
+use Rattle.gt_order.specs.Calling.{CopiesAreMade, IsLoadOrPeek, IsSingle, IsStoring, LostAccessesAreMade, ReadsAreMade}
 use Rattle.gt_order.specs.Calling.{WasMade, WritesAreMade}
 use Rattle.gt_order.specs.Runs.{FitsTypes, IsCallWalk, MakesAccess, MakesTurn}
 use Rattle.gt_order.specs.Runs.CallOutcome.{Read, Wrote}
@@ -68,7 +69,7 @@ record IsMoment (k : Layout) (given : List ℕ) (access : Step) (v w : View) (x 
   shows : shown_by x ≡ Nothing
 
 -- a call whose access was made, and which went on to its end
-whole : (k : Layout) (given : List ℕ) (way : Continuation) (access : Step) (does : View → View → Type 0) (v w : View) (a : Accessed k way access does v w) (x : Moment) → IsMoment k given access a.at a.after x
+whole : (k : Layout) (given : List ℕ) (way : Continuation) (access : Step) (does : View → View → Type 0) (v w : View) (a : EndsAfterAccess k way access does v w) (x : Moment) → IsMoment k given access a.at a.after x
     → (steps : List Moment) × (last : Moment) × (before : List Moment) × (steps ≡ last ∷ before) × (w ≡ view_after steps v) × IsCallWalk k given way v steps × (way (all_shown steps) ≡ Some (Done Granted))
 whole k given way access does v w a x m =
     let ys = x ∷ a.comes.steps in
@@ -110,7 +111,7 @@ writes-made may m d e request r stays is answered kept = by answered.0 answered.
     plain (requests.Poke frame off bytes) is a = a
     plain q is a = absurd is
 
-    by : (access : Step) → Accessed k way access (IsWrittenBy k d request access r) d.seat.view e.seat.view → (steps : List Moment) × WasMade may m request Wrote steps d e
+    by : (access : Step) → EndsAfterAccess k way access (IsWrittenBy k d request access r) d.seat.view e.seat.view → (steps : List Moment) × WasMade may m request Wrote steps d e
     by (WriteBytes dom frame off len) a =
         let u = writ_by d.seat.dom a.did.0 in let f = a.did.2.2 in
         let x : Moment = (f.past, Frame (position_in k.ids dom) frame (frames.Wrote (record { writ = u; off = off; bytes = bytes_given_by request }))) in
@@ -136,7 +137,7 @@ copies-made may m d e args r stays fits answered kept = by answered.0 answered.1
     way : Continuation
     way = path_of (knowledge m.config (may m.rights) d) d.seat.dom (requests.Copy args)
 
-    by : (access : Step) → Accessed k way access (IsCopiedBy (knowledge m.config (may m.rights) d) k d args access r) d.seat.view e.seat.view → (steps : List Moment) × WasMade may m (requests.Copy args) Wrote steps d e
+    by : (access : Step) → EndsAfterAccess k way access (IsCopiedBy (knowledge m.config (may m.rights) d) k d args access r) d.seat.view e.seat.view → (steps : List Moment) × WasMade may m (requests.Copy args) Wrote steps d e
     by (CopyBytes from to len) a =
         let u = writ_by d.seat.dom a.did.0.dest in let c = a.did.2.3 in
         let x : Moment = (
@@ -213,13 +214,13 @@ fits-single (requests.Peek frame off len) is = (tt, tt)
 fits-single request is = absurd is
 
 -- a call of one access made no step on the words
-pub record IsAlone (k : Layout) (way : Continuation) (access : Step) (does : View → View → Type 0) (v w : View) (a : Accessed k way access does v w) : Type 0 where
+pub record IsAlone (k : Layout) (way : Continuation) (access : Step) (does : View → View → Type 0) (v w : View) (a : EndsAfterAccess k way access does v w) : Type 0 where
   pub first : a.comes.steps ≡ []
   pub last : a.ends.steps ≡ []
   pub at : a.at ≡ v
   pub end : w ≡ a.after
 
-pub alone : (k : Layout) (way : Continuation) (access : Step) (does : View → View → Type 0) (v w : View) → IsOneAccess k way → (a : Accessed k way access does v w) → IsAlone k way access does v w a
+pub alone : (k : Layout) (way : Continuation) (access : Step) (does : View → View → Type 0) (v w : View) → IsOneAccess k way → (a : EndsAfterAccess k way access does v w) → IsAlone k way access does v w a
 alone k way access does v w one a =
     let first = no-walk k way v a.comes.steps one.0 a.comes.walked in
     let none : MakesNone k (onward way (all_shown a.comes.steps ++ Nothing ∷ [])) [] =
@@ -242,12 +243,12 @@ reads-made may m d e request r bytes stays is same answered kept = by answered.0
     way : Continuation
     way = path_of (knowledge m.config (may m.rights) d) d.seat.dom request
 
-    single : (q : Request) → IsLoading q → IsSingle q
+    single : (q : Request) → IsLoadOrPeek q → IsSingle q
     single (requests.Load handle off len) is = tt
     single (requests.Peek frame off len) is = tt
     single q is = absurd is
 
-    by : (access : Step) → Accessed k way access (IsReadBy k access r) d.seat.view e.seat.view → (steps : List Moment) × WasMade may m request (Read bytes) steps d e
+    by : (access : Step) → EndsAfterAccess k way access (IsReadBy k access r) d.seat.view e.seat.view → (steps : List Moment) × WasMade may m request (Read bytes) steps d e
     by (ReadBytes dom frame off len) a =
         let u = alone k way (ReadBytes dom frame off len) _ d.seat.view e.seat.view (single-way may m d request (single request is)) a in
         let f : AccessesFrame k (position_in k.ids dom) frame (frames.Read off bytes.bytes.items) d.seat.view e.seat.view =

@@ -20,8 +20,8 @@ use Rattle.gt_model.specs.Path.{path_of}
 use Rattle.gt_model.specs.declared.action.Step.{Step}
 use Rattle.gt_types.specs.declared.GrantRef.{GrantRef}
 use Rattle.gt_word_history.specs.declared.view.View.{View}
-use Rattle.gt_live.specs.Accesses.{Accessed, HasCause, IsCopiedBy, IsOfAccess, IsReadBy, IsUnmade, IsWrittenBy}
-use Rattle.gt_live.specs.Domains.{Accesses, AllowRelation, Answered, KeepsPinned, known_on, verdict_of}
+use Rattle.gt_live.specs.Accesses.{EndsAfterAccess, HasCause, IsCopiedBy, IsOfAccess, IsReadBy, IsUnmade, IsWrittenBy}
+use Rattle.gt_live.specs.Domains.{AnswersWithAccess, AllowRelation, Answered, KeepsPinned, known_on, verdict_of}
 use Rattle.gt_live.specs.Domains.{verdict_of_frames, verdict_of_size, verdict_of_version}
 use Rattle.gt_live.specs.Ending.{IsOfMapping}
 use Rattle.gt_live.specs.declared.domain.Domain.{Domain}
@@ -29,14 +29,14 @@ use Rattle.gt_live.specs.declared.monitor.Monitor.{Monitor}
 use Rattle.gt_order.proofs.Called.{map-made, plain-made, release-made, unmap-made}
 use Rattle.gt_order.proofs.Accessing.{copies-made, lost-made, reads-made, writes-made}
 use Rattle.gt_order.proofs.Probed.{lost-copies}
-use Rattle.gt_order.specs.Calling.{IsLoading, IsOutcomeOf, IsSingle, IsStoring, StaysOf, WasMade}
+use Rattle.gt_order.specs.Calling.{IsLoadOrPeek, IsOutcomeOf, IsSingle, IsStoring, StaysOf, WasMade}
 use Rattle.gt_order.specs.Runs.{FitsTypes, KeepsNoPin, CallOutcome}
 use Rattle.gt_order.specs.Runs.CallOutcome.{Told, Kept, Starved, Read, Wrote}
 use Rattle.gt_run.specs.Asking.{AnswersCall, HasBytes, IsReadAnswer, frames_answer, mapped_answer, plain_answer}
 use Rattle.gt_run.specs.Asking.{size_answer, version_answer}
 use Rattle.gt_order.proofs.KeptFrames.{MakesOne, never-missing}
 use Rattle.gt_order.specs.Printed.{IsAllocating}
-use Rattle.gt_order.specs.Texts.{IsLost, OutcomeGivesAnswer}
+use Rattle.gt_order.specs.Texts.{IsMemoryRefusal, OutcomeGivesAnswer}
 
 -- what is printed is what the call answered
 
@@ -118,7 +118,7 @@ module _ {P : Type 0} (may : P → AllowRelation) (m : Monitor P) where
   -- a copy that was answered so could not make its access, and its probe is a call of a run
   abbrev pub IsLostAs : Request → Answer → Domain → Domain → Type 0
   IsLostAs request answer d e =
-      (args : CopyArgs) × (request ≡ requests.Copy args) × (denial : Denial) × (answer ≡ answers.Denied denial) × IsLost m denial
+      (args : CopyArgs) × (request ≡ requests.Copy args) × (denial : Denial) × (answer ≡ answers.Denied denial) × IsMemoryRefusal m denial
       × ((steps : List Moment) × WasMade may m (requests.Probe args) (Told Granted) steps d e)
 
   abbrev IsNoCopy : Request → Type 0
@@ -127,8 +127,8 @@ module _ {P : Type 0} (may : P → AllowRelation) (m : Monitor P) where
 
   module _ (d e : Domain) (stays : StaysOf may m d e) where
     -- an access that could not be made was refused with N26, or a frame is missing
-    lost-is : (request : Request) → MakesOne request → (access : Step) (denial : Denial) (v w : View) → Accessed m.words.layout (path_of (known_on may m d) d.seat.dom request) access IsUnmade v w → HasCause m.words access denial
-        → IsOfAccess denial → IsLost m denial
+    lost-is : (request : Request) → MakesOne request → (access : Step) (denial : Denial) (v w : View) → EndsAfterAccess m.words.layout (path_of (known_on may m d) d.seat.dom request) access IsUnmade v w → HasCause m.words access denial
+        → IsOfAccess denial → IsMemoryRefusal m denial
     lost-is request one access denial v w a cause (inl e) = inl e
     lost-is request one access denial v w a cause (inr e) = inr (e, λ all. never-missing may m all d stays.before request one access denial v w a cause e)
 
@@ -138,7 +138,7 @@ module _ {P : Type 0} (may : P → AllowRelation) (m : Monitor P) where
 
     -- a store or a poke: it wrote, a rule refused it, or its access could not be made
     storing : (request : Request) → IsStoring request → IsSingle request → (IsOfMapping (asked request) → ⊥) → FitsTypes request → (answer : Answer) (r : Result Writing Denial) → answer ≡ plain_answer r
-        → Accesses may m d request (IsWrittenBy m.words.layout d request) r e → KeepsPinned d e → IsMade request answer d e
+        → AnswersWithAccess may m d request (IsWrittenBy m.words.layout d request) r e → KeepsPinned d e → IsMade request answer d e
     storing request is one other fits answer (Ok w) told accessed kept = let z = writes-made may m d e request w stays is accessed kept in (Wrote, z.0, told, z.1, tt)
     storing request is one other fits answer (Err denial) told (inl called) kept = plain request (Refused denial) (answers.Denied denial) answer other fits tt refl told called kept
     storing request is one other fits answer (Err denial) told (inr lost) kept = (Starved, [], (denial, told, lost-is request (single-one request one) lost.0 denial _ _ lost.1 lost.3 lost.2), lost-made may m d e request lost.0 stays one lost.1 kept, single-allocates request one)
@@ -148,8 +148,8 @@ module _ {P : Type 0} (may : P → AllowRelation) (m : Monitor P) where
     bytes-in ys answer h = absurd h
 
     -- a load or a peek
-    loading : (request : Request) → IsLoading request → IsSingle request → (IsOfMapping (asked request) → ⊥) → FitsTypes request → (answer : Answer) (r : Result Reading Denial) → IsReadAnswer r answer
-        → Accesses may m d request (IsReadBy m.words.layout) r e → KeepsPinned d e → IsMade request answer d e
+    loading : (request : Request) → IsLoadOrPeek request → IsSingle request → (IsOfMapping (asked request) → ⊥) → FitsTypes request → (answer : Answer) (r : Result Reading Denial) → IsReadAnswer r answer
+        → AnswersWithAccess may m d request (IsReadBy m.words.layout) r e → KeepsPinned d e → IsMade request answer d e
     loading request is one other fits answer (Ok r) told accessed kept =
         let b = bytes-in r.bytes answer told in let z = reads-made may m d e request r b.0 stays is b.2 accessed kept in (Read b.0, z.0, b.1, z.1, tt)
     loading request is one other fits answer (Err denial) told (inl called) kept = plain request (Refused denial) (answers.Denied denial) answer other fits tt refl told called kept
@@ -157,7 +157,7 @@ module _ {P : Type 0} (may : P → AllowRelation) (m : Monitor P) where
 
     -- a copy
     copying : (args : CopyArgs) (answer : Answer) → FitsTypes (requests.Copy args) → (r : Result Copying Denial) → answer ≡ plain_answer r
-        → Accesses may m d (requests.Copy args) (IsCopiedBy (known_on may m d) m.words.layout d args) r e → KeepsPinned d e → IsMade (requests.Copy args) answer d e ⊎ IsLostAs (requests.Copy args) answer d e
+        → AnswersWithAccess may m d (requests.Copy args) (IsCopiedBy (known_on may m d) m.words.layout d args) r e → KeepsPinned d e → IsMade (requests.Copy args) answer d e ⊎ IsLostAs (requests.Copy args) answer d e
     copying args answer fits (Ok r) told accessed kept = let z = copies-made may m d e args r stays fits accessed kept in inl (Wrote, z.0, told, z.1, tt)
     copying args answer fits (Err denial) told (inl called) kept = inl (plain (requests.Copy args) (Refused denial) (answers.Denied denial) answer (λ q. q) fits tt refl told called kept)
     copying args answer fits (Err denial) told (inr lost) kept =

@@ -37,8 +37,8 @@ use Rattle.gt_order.proofs.Leaving.{releases-each, with_rest}
 use Rattle.gt_order.proofs.Making.{header-is}
 use Rattle.gt_order.proofs.Places.{as-many}
 use Rattle.gt_order.specs.Closing.{AreClosing, ClosingIsWithdrawing, ResettingIsReleasing, StatusIsLooking}
-use Rattle.gt_order.specs.Runs.{AreDeeds, CallMade, Deed, IsAtRest, LookMade, domain_after}
-use Rattle.gt_order.specs.Runs.Deed.{Call, Look}
+use Rattle.gt_order.specs.Runs.{AreDeeds, CallMade, DomainAct, IsAtRest, LookMade, domain_after}
+use Rattle.gt_order.specs.Runs.DomainAct.{Call, Look}
 use Rattle.gt_order.specs.Runs.CallOutcome.{Told}
 
 -- the deeds with which a domain closes its table
@@ -46,7 +46,7 @@ use Rattle.gt_order.specs.Runs.CallOutcome.{Told}
 module _ {P : Type 0} (may : P → AllowRelation) (m : Monitor P) (start : Domain) where
   -- the deeds so far, and the domain after them
   record Came (e : Domain) : Type 0 where
-    deeds : List Deed
+    deeds : List DomainAct
     made : AreDeeds m.words m.config (may m.rights) start deeds
     closing : AreClosing deeds
     now : domain_after start deeds ≡ e

@@ -80,9 +80,9 @@ use Rattle.gt_order.specs.Agreeing.{Agree, dom_at}
 use Rattle.gt_order.specs.Ordering.{RunOrder, item_of, item_of_beginning, items_by_outcome, items_of_call}
 use Rattle.gt_order.specs.Ordering.{items_of_steps, of_core, order_of_deeds, step_in, way_of}
 use Rattle.gt_order.specs.Ordering.Occurrence.{OfCore}
-use Rattle.gt_order.specs.Runs.{CallMade, Deed, FlagMade, IsAtRest, IsCall, IsLook, LeavesMappings, LookMade}
+use Rattle.gt_order.specs.Runs.{CallMade, DomainAct, FlagMade, IsAtRest, IsCall, IsLook, LeavesMappings, LookMade}
 use Rattle.gt_order.specs.Runs.{domain_after}
-use Rattle.gt_order.specs.Runs.Deed.{Call, Look, OnFlag}
+use Rattle.gt_order.specs.Runs.DomainAct.{Call, Look, OnFlag}
 
 -- what answers a call at its beginning
 
@@ -193,7 +193,7 @@ module _ (b : Board) (c : Config) (may : AllowRelation) (limits : IsWithinLimits
   known-alike D E r = λ j. knowledge_of c.domains.items c.first_gen may (r.own j) (own_table (r.seat j).view) (r.mappings j)
 
   -- the step goes on
-  pub going-on : (g : Items) (ms : List Deed) (m : CallMade) (xs : List Moment) (x : Moment) (v w : View) (call : IsCall b c may m) (seat : SeatNow c may g d first (Going ms m xs))
+  pub going-on : (g : Items) (ms : List DomainAct) (m : CallMade) (xs : List Moment) (x : Moment) (v w : View) (call : IsCall b c may m) (seat : SeatNow c may g d first (Going ms m xs))
       → (r : GoesSo c may k g i seat.call.0 (all_shown xs) (way_of c may m) x v w None) → SeatNow c may (stepped d r.step (seen_in_step x.1) None ∷ g) d first (Going ms m (x ∷ xs))
   going-on g ms m xs x v w call seat r = record {
     maps = mappings-same m.old.mappings _ _ _ _ (sym keeps.mappings) (sym keeps.answered) seat.maps;
@@ -251,18 +251,18 @@ module _ (b : Board) (c : Config) (may : AllowRelation) (limits : IsWithinLimits
   item-same : (m : CallMade) (xs : List Moment) (x : Moment) (step : Step) (a : Option Answer) → way_of c may m (all_shown xs) ≡ Some (Makes step) → stepped d step (seen_in_step x.1) a ≡ item_of d (way_of c may m) (all_shown xs) x a
   item-same m xs x step a e = λ j. record { actor = d; happened = Stepped (step_in (sym e j)) (shown_by x); answer = a }
 
-  pub grows-on : (ms : List Deed) (m : CallMade) (xs : List Moment) (x : Moment) (step : Step) → way_of c may m (all_shown xs) ≡ Some (Makes step)
+  pub grows-on : (ms : List DomainAct) (m : CallMade) (xs : List Moment) (x : Moment) (step : Step) → way_of c may m (all_shown xs) ≡ Some (Makes step)
       → OfCore (stepped d step (seen_in_step x.1) None) ∷ order_now c may d (Going ms m xs) ≡ order_now c may d (Going ms m (x ∷ xs))
   grows-on ms m xs x step e = ap (λ (z : Item). OfCore z ∷ order_now c may d (Going ms m xs)) (item-same m xs x step None e)
 
-  pub grows-last : (ms : List Deed) (m : CallMade) (xs : List Moment) (x : Moment) (step : Step) (a : Option Answer) → way_of c may m (all_shown xs) ≡ Some (Makes step) → items_by_outcome d (way_of c may m) m.request m.outcome m.steps ≡ items_of_call d (way_of c may m) m.request a (x ∷ xs)
+  pub grows-last : (ms : List DomainAct) (m : CallMade) (xs : List Moment) (x : Moment) (step : Step) (a : Option Answer) → way_of c may m (all_shown xs) ≡ Some (Makes step) → items_by_outcome d (way_of c may m) m.request m.outcome m.steps ≡ items_of_call d (way_of c may m) m.request a (x ∷ xs)
       → OfCore (stepped d step (seen_in_step x.1) a) ∷ order_now c may d (Going ms m xs) ≡ order_now c may d (Resting (Call m ∷ ms))
   grows-last ms m xs x step a e out = ap (λ (z : Item). OfCore z ∷ order_now c may d (Going ms m xs)) (item-same m xs x step a e)
       ∙ (one-call m xs x a (order_of_deeds c may d ms) ∙ ap (λ (z : List Item). of_core z ++ order_of_deeds c may d ms) (sym out))
 
   -- the step ends the call
 
-  pub ends-told : (g : Items) (ms : List Deed) (m : CallMade) (xs : List Moment) (x : Moment) (v w : View) (verdict : CallResult) (call : IsCall b c may m) (seat : SeatNow c may g d first (Going ms m xs))
+  pub ends-told : (g : Items) (ms : List DomainAct) (m : CallMade) (xs : List Moment) (x : Moment) (v w : View) (verdict : CallResult) (call : IsCall b c may m) (seat : SeatNow c may g d first (Going ms m xs))
       → (r : GoesSo c may k g i seat.call.0 (all_shown xs) (way_of c may m) x v w (Some (answer_of verdict))) → LeavesMappings (asked m.request) verdict m.old.mappings m.new.mappings
       → v.position ≡ i → w.position ≡ i → m.new.seat.view ≡ w → m.new.seat.view.steps ≡ part_of i ((i, x.1) ∷ x.0) → SeatNow c may (stepped d r.step (seen_in_step x.1) (Some (answer_of verdict)) ∷ g) d first (Resting (Call m ∷ ms))
   ends-told g ms m xs x v w verdict call seat r leaves at-v at-w view steps = record {
@@ -284,7 +284,7 @@ module _ (b : Board) (c : Config) (may : AllowRelation) (limits : IsWithinLimits
   pub core-adds : (old new : HandleMap HeldPin) (handle : Handle) (p : HeldPin) → KeepsOneMore old new handle p → Adds old new handle p
   core-adds old new handle p a = record { serial = a.serial; fresh = a.inserted.fresh; given = a.inserted.given; updates = a.inserted.updates; count = a.inserted.count }
 
-  pub ends-kept : (g : Items) (ms : List Deed) (m : CallMade) (xs : List Moment) (x : Moment) (v w : View) (handle : Handle) (p : HeldPin) (call : IsCall b c may m) (seat : SeatNow c may g d first (Going ms m xs))
+  pub ends-kept : (g : Items) (ms : List DomainAct) (m : CallMade) (xs : List Moment) (x : Moment) (v w : View) (handle : Handle) (p : HeldPin) (call : IsCall b c may m) (seat : SeatNow c may g d first (Going ms m xs))
       → (r : GoesSo c may k g i seat.call.0 (all_shown xs) (way_of c may m) x v w (Some (Mapped handle))) → path (known_at s g d) d seat.call.0.request (values seat.call.0 ++ seen_by s g d r.step ∷ []) ≡ Some (Done (KeptPin p)) → KeepsOneMore m.old.mappings m.new.mappings handle p
       → v.position ≡ i → w.position ≡ i → m.new.seat.view ≡ w → m.new.seat.view.steps ≡ part_of i ((i, x.1) ∷ x.0) → SeatNow c may (stepped d r.step (seen_in_step x.1) (Some (Mapped handle)) ∷ g) d first (Resting (Call m ∷ ms))
   ends-kept g ms m xs x v w handle p call seat r last adds at-v at-w view steps = record {
@@ -308,7 +308,7 @@ module _ (b : Board) (c : Config) (may : AllowRelation) (limits : IsWithinLimits
   began-keeps : (g : Items) (request : Request) (a : Option Answer) → one_if_mapped a ≡ 0 → KeepsOwn s g d (item_of_beginning d request a)
   began-keeps g request a e = keeps-own s g d (item_of_beginning d request a) (λ r. refl) refl e (maps-quiet g d _ (record { changes = λ z. refl; pins = λ before ps. refl; unpins = λ ps. refl }))
 
-  pub begins : (g : Items) (ms : List Deed) (m : CallMade) → IsAtRest (domain_after first ms) m.old → SeatNow c may g d first (Resting ms) → SeatNow c may (item_of_beginning d m.request None ∷ g) d first (Going ms m [])
+  pub begins : (g : Items) (ms : List DomainAct) (m : CallMade) → IsAtRest (domain_after first ms) m.old → SeatNow c may g d first (Resting ms) → SeatNow c may (item_of_beginning d m.request None ∷ g) d first (Going ms m [])
   begins g ms m rest seat =
       let keeps = began-keeps g m.request None refl in record {
         maps = subst (λ (z : HandleMap HeldPin). MappingsAgree z (mappings_at (item_of_beginning d m.request None ∷ g) d.0) (maps_answered_at (item_of_beginning d m.request None ∷ g) d.0)) (sym rest.mappings)
@@ -328,7 +328,7 @@ module _ (b : Board) (c : Config) (may : AllowRelation) (limits : IsWithinLimits
       (table ∙ (ap (λ (z : CallerKnowledge). z.header) known ∙ ap (λ (z : View). own_table z) (sym view))) maps
 
   -- it was refused for want of memory, and is no item
-  pub starves : (g : Items) (h : StepHistory) (ms : List Deed) (m : CallMade) → CanBeReached s g → Agree s k g h → IsCall b c may m → IsAtRest (domain_after first ms) m.old → m.new.seat.view ≡ m.old.seat.view → KeepsMappings m.old.mappings m.new.mappings
+  pub starves : (g : Items) (h : StepHistory) (ms : List DomainAct) (m : CallMade) → CanBeReached s g → Agree s k g h → IsCall b c may m → IsAtRest (domain_after first ms) m.old → m.new.seat.view ≡ m.old.seat.view → KeepsMappings m.old.mappings m.new.mappings
       → (domain_after first ms).seat.view.position ≡ i → (domain_after first ms).seat.view.first ≡ k.first → (domain_after first ms).seat.view.steps ≡ part_of i h → SeatNow c may g d first (Resting ms) → SeatNow c may g d first (Resting (Call m ∷ ms))
   starves g h ms m reached agree call rest view keeps at first-is steps seat =
       let D = domain_after first ms in
@@ -339,7 +339,7 @@ module _ (b : Board) (c : Config) (may : AllowRelation) (limits : IsWithinLimits
       }
 
   -- it was answered at its beginning
-  pub answers : (g : Items) (h : StepHistory) (ms : List Deed) (m : CallMade) (verdict : CallResult) → CanBeReached s (item_of_beginning d m.request (Some (answer_of verdict)) ∷ g) → Agree s k (item_of_beginning d m.request (Some (answer_of verdict)) ∷ g) h
+  pub answers : (g : Items) (h : StepHistory) (ms : List DomainAct) (m : CallMade) (verdict : CallResult) → CanBeReached s (item_of_beginning d m.request (Some (answer_of verdict)) ∷ g) → Agree s k (item_of_beginning d m.request (Some (answer_of verdict)) ∷ g) h
       → IsCall b c may m → IsAtRest (domain_after first ms) m.old → m.new.seat.view ≡ m.old.seat.view → KeepsMappings m.old.mappings m.new.mappings
       → (domain_after first ms).seat.view.position ≡ i → (domain_after first ms).seat.view.first ≡ k.first → (domain_after first ms).seat.view.steps ≡ part_of i h → SeatNow c may g d first (Resting ms)
       → SeatNow c may (item_of_beginning d m.request (Some (answer_of verdict)) ∷ g) d first (Resting (Call m ∷ ms))
@@ -354,7 +354,7 @@ module _ (b : Board) (c : Config) (may : AllowRelation) (limits : IsWithinLimits
       }
 
   -- a step of its seat that leaves all that the domain knows, and is no item
-  after-quiet : (g : Items) (ms : List Deed) (D E : Domain) → IsUnsettled D E → own_header E.seat.view ≡ own_header D.seat.view → IsAtRest (domain_after first ms) D → SeatNow c may g d first (Resting ms)
+  after-quiet : (g : Items) (ms : List DomainAct) (D E : Domain) → IsUnsettled D E → own_header E.seat.view ≡ own_header D.seat.view → IsAtRest (domain_after first ms) D → SeatNow c may g d first (Resting ms)
       → MappingsAgree E.mappings (mappings_at g d.0) (maps_answered_at g d.0) × (known_at s g d ≡ knowledge c may E)
   after-quiet g ms D E kept header rest seat =
       let maps : E.mappings ≡ (domain_after first ms).mappings = kept.mappings ∙ rest.mappings in
@@ -365,17 +365,17 @@ module _ (b : Board) (c : Config) (may : AllowRelation) (limits : IsWithinLimits
       )
 
   -- on a flag
-  pub after-flag : (g : Items) (ms : List Deed) (x : FlagMade) → FlagStepped k x.flag x.step x.old x.new → IsAtRest (domain_after first ms) x.old → SeatNow c may g d first (Resting ms) → SeatNow c may g d first (Resting (OnFlag x ∷ ms))
+  pub after-flag : (g : Items) (ms : List DomainAct) (x : FlagMade) → FlagStepped k x.flag x.step x.old x.new → IsAtRest (domain_after first ms) x.old → SeatNow c may g d first (Resting ms) → SeatNow c may g d first (Resting (OnFlag x ∷ ms))
   after-flag g ms x stepped rest seat = let y = after-quiet g ms x.old x.new stepped.kept stepped.step.keeps.header rest seat in record { maps = y.0; known = y.1; call = seat.call }
 
   -- a look
-  pub after-look : (g : Items) (ms : List Deed) (x : LookMade) → IsLook k x → IsAtRest (domain_after first ms) x.old → SeatNow c may g d first (Resting ms) → SeatNow c may g d first (Resting (Look x ∷ ms))
+  pub after-look : (g : Items) (ms : List DomainAct) (x : LookMade) → IsLook k x → IsAtRest (domain_after first ms) x.old → SeatNow c may g d first (Resting ms) → SeatNow c may g d first (Resting (Look x ∷ ms))
   after-look g ms x look rest seat = let y = after-quiet g ms x.old x.new look.kept look.found.0.keeps.header rest seat in record { maps = y.0; known = y.1; call = seat.call }
 
   -- an access
 
   -- the call goes on after it
-  pub going-on-accessed : (g : Items) (ms : List Deed) (m : CallMade) (xs : List Moment) (x : Moment) (v w : View) (seat : SeatNow c may g d first (Going ms m xs))
+  pub going-on-accessed : (g : Items) (ms : List DomainAct) (m : CallMade) (xs : List Moment) (x : Moment) (v w : View) (seat : SeatNow c may g d first (Going ms m xs))
       → (r : AccessesSo c may k g i (all_shown xs) (way_of c may m) x v w None) → SeatNow c may (stepped d r.step (seen_in_step x.1) None ∷ g) d first (Going ms m (x ∷ xs))
   going-on-accessed g ms m xs x v w seat r = record {
     maps = mappings-same m.old.mappings _ _ _ _ (sym r.keeps.mappings) (sym r.keeps.answered) seat.maps;
@@ -396,7 +396,7 @@ module _ (b : Board) (c : Config) (may : AllowRelation) (limits : IsWithinLimits
       open-then = open_call-own item g ∙ ap (underway_after item) seat.call.1
 
   -- it ends the call
-  pub ends-accessed : (g : Items) (ms : List Deed) (m : CallMade) (xs : List Moment) (x : Moment) (v w : View) (answer : Answer) (call : IsCall b c may m) (seat : SeatNow c may g d first (Going ms m xs))
+  pub ends-accessed : (g : Items) (ms : List DomainAct) (m : CallMade) (xs : List Moment) (x : Moment) (v w : View) (answer : Answer) (call : IsCall b c may m) (seat : SeatNow c may g d first (Going ms m xs))
       → (r : AccessesSo c may k g i (all_shown xs) (way_of c may m) x v w (Some answer))
       → KeepsMappings m.old.mappings m.new.mappings → v.position ≡ i → w.position ≡ i → m.new.seat.view ≡ w → m.new.seat.view.steps ≡ part_of i ((i, x.1) ∷ x.0)
       → SeatNow c may (stepped d r.step (seen_in_step x.1) (Some answer) ∷ g) d first (Resting (Call m ∷ ms))

@@ -32,7 +32,7 @@ use Rattle.gt_core.proofs.Steps.Pin.{can-pin, leg-maps, map-agrees}
 use Rattle.gt_core.proofs.Steps.Unpin.{leg-mappings, mapping-agrees}
 use Rattle.gt_core.proofs.Values.{MapEnds, call-ends}
 use Rattle.gt_core.specs.Effects.{Adds}
-use Rattle.gt_core.specs.GoingOn.{IsOnWords, CanBeReached, IsAccess}
+use Rattle.gt_core.specs.GoingOn.{AccessesNoBytes, CanBeReached, IsAccess}
 use Rattle.gt_model.specs.History.{History as Items}
 use Rattle.gt_model.specs.declared.trace.Answer.{Answer}
 use Rattle.gt_model.specs.declared.trace.Answer.TheVariants.{Denied, Mapped}
@@ -93,7 +93,7 @@ pub last-leaves : (xs : List (Step × Observation)) (x : Step × Observation) �
 last-leaves xs x a = (All-pop LeavesAll (xs ++ x ∷ []) xs (Some x) refl a).1
 
 -- so a step of a call that goes on leaves all as it was: only a call without accesses makes a step that might not
-pub leaves-of : (k : CallerKnowledge) (d : DomId) (request : OpenRequest) (pins : CallPins) (vs : List Observation) (step : Step) (seen : Observation) → IsOnWords step → Rests k d request pins vs (Makes step) → (WaitsForNobody request → LeavesAll (step, seen)) → LeavesAll (step, seen)
+pub leaves-of : (k : CallerKnowledge) (d : DomId) (request : OpenRequest) (pins : CallPins) (vs : List Observation) (step : Step) (seen : Observation) → AccessesNoBytes step → Rests k d request pins vs (Makes step) → (WaitsForNobody request → LeavesAll (step, seen)) → LeavesAll (step, seen)
 leaves-of k d request pins vs (LookHeader dom) seen q r f = tt
 leaves-of k d request pins vs (LookControl dom gref) seen q r f = tt
 leaves-of k d request pins vs (LookBody dom gref half) seen q r f = tt
@@ -268,7 +268,7 @@ module _ (s : Setting) (g : Items) (d : DomId) (cl : Underway) (vs : List Observ
       by (Refused denial) l ok t = absurd (refused denial ok)
       by v l ok t = handles-less old new handle p l.0 _ _ l.1 has t
 
-  pub told-maps : (xs : List State) (phase : Phase) (step : Step) → IsHere s g xs d cl.request (values cl) (reverse cl.steps) phase step → IsOnWords step → path (known_at s g d) d cl.request vs ≡ Some (Makes step) → IsRight s g (item step)
+  pub told-maps : (xs : List State) (phase : Phase) (step : Step) → IsHere s g xs d cl.request (values cl) (reverse cl.steps) phase step → AccessesNoBytes step → path (known_at s g d) d cl.request vs ≡ Some (Makes step) → IsRight s g (item step)
       → MappingsAgree new (mappings_at (item step ∷ g) d.0) (maps_answered_at (item step ∷ g) d.0)
   told-maps xs phase step here quiet next right = by step refl here.rests next right
     where
@@ -299,9 +299,9 @@ module _ (s : Setting) (g : Items) (d : DomId) (cl : Underway) (vs : List Observ
           turned : (v : Observation) → mappings_at (stepped d (Exchange gref looked change) v (Some (answer_of verdict)) ∷ g) d.0 ≡ mappings_at g d.0
           turned Taken = ap (gather mapping_named d.0) (exchanged-live g d gref looked change (Some (answer_of verdict)))
           turned v = maps-quiet g d _ (record { changes = λ z. refl; pins = λ before ps. refl; unpins = λ ps. refl })
-      by (ReadBytes dom frame off len) e r n ok = absurd (subst IsOnWords e quiet)
-      by (WriteBytes dom frame off len) e r n ok = absurd (subst IsOnWords e quiet)
-      by (CopyBytes from to len) e r n ok = absurd (subst IsOnWords e quiet)
+      by (ReadBytes dom frame off len) e r n ok = absurd (subst AccessesNoBytes e quiet)
+      by (WriteBytes dom frame off len) e r n ok = absurd (subst AccessesNoBytes e quiet)
+      by (CopyBytes from to len) e r n ok = absurd (subst AccessesNoBytes e quiet)
 
 -- no probe keeps a pin
 kept-settled : (d : DomId) (request : OpenRequest) (p : Phase) (held : HeldPin) → action_at d (settled request p) ≡ Done (KeptPin held) → action_at d p ≡ Done (KeptPin held)

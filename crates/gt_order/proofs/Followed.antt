@@ -10,24 +10,24 @@ use Rattle.gt_model.specs.Asking.{asked}
 use Rattle.gt_live.proofs.Following.{by-calls}
 use Rattle.gt_live.specs.Domains.{AllowRelation, BelongsTo, StaysIn, verdict_of}
 use Rattle.gt_live.specs.Ending.{IsOfMapping}
-use Rattle.gt_live.specs.Following.{Calls, FitsChange, MakesCalls, request_of}
+use Rattle.gt_live.specs.Following.{Calls, FitsChange, MakesCalls, request_of_change}
 use Rattle.gt_live.specs.declared.domain.Domain.{Domain}
 use Rattle.gt_live.specs.declared.monitor.Monitor.{Monitor}
 use Rattle.gt_order.proofs.Called.{no-pin, plain-made}
 use Rattle.gt_order.proofs.Deeds.{at-rest}
 use Rattle.gt_order.specs.Following.{AreChanges, FollowingIsCalling}
-use Rattle.gt_order.specs.Runs.{AreDeeds, CallMade, Deed, FitsTypes, domain_after}
-use Rattle.gt_order.specs.Runs.Deed.{Call}
+use Rattle.gt_order.specs.Runs.{AreDeeds, CallMade, DomainAct, FitsTypes, domain_after}
+use Rattle.gt_order.specs.Runs.DomainAct.{Call}
 use Rattle.gt_order.specs.Runs.CallOutcome.{Told}
 
-no-mapping : (gref : GrantRef) (change : EntryChange) → IsOfMapping (asked (request_of gref change)) → ⊥
+no-mapping : (gref : GrantRef) (change : EntryChange) → IsOfMapping (asked (request_of_change gref change)) → ⊥
 no-mapping gref (Publish entry) is = is
 no-mapping gref Revoke is = is
 no-mapping gref Withdraw is = is
 no-mapping gref Demote is = is
 no-mapping gref Promote is = is
 
-fits-types : (gref : GrantRef) (change : EntryChange) → FitsChange change → FitsTypes (request_of gref change)
+fits-types : (gref : GrantRef) (change : EntryChange) → FitsChange change → FitsTypes (request_of_change gref change)
 fits-types gref (Publish entry) fits = (fits, tt)
 fits-types gref Revoke fits = (tt, tt)
 fits-types gref Withdraw fits = (tt, tt)
@@ -37,7 +37,7 @@ fits-types gref Promote fits = (tt, tt)
 module _ {P : Type 0} (may : P → AllowRelation) (m : Monitor P) (start : Domain) (gref : GrantRef) where
   -- the calls so far, and the domain after them
   record Came (e : Domain) : Type 0 where
-    deeds : List Deed
+    deeds : List DomainAct
     made : AreDeeds m.words m.config (may m.rights) start deeds
     changes : AreChanges gref deeds
     now : domain_after start deeds ≡ e
@@ -46,7 +46,7 @@ module _ {P : Type 0} (may : P → AllowRelation) (m : Monitor P) (start : Domai
   one-call : (d e : Domain) (change : EntryChange) (done : Result (Unit {0}) Denial) → FitsChange change → (was : Came d) → Calls may m d gref change done e → StaysIn may m d e
       → (x : Came e) × (length x.deeds ≡ suc (length was.deeds))
   one-call d e change done fits was called stays =
-      let request = request_of gref change in
+      let request = request_of_change gref change in
       let one = plain-made may m d e request (verdict_of done) (record { before = was.mine; afterwards = stays.0; seat = stays.1 }) (no-mapping gref change) (fits-types gref change fits) (no-pin done) called.answers.0 called.answers.1 in
       let call : CallMade = record { request = request; outcome = Told (verdict_of done); steps = one.0; old = d; new = e } in (
         record {

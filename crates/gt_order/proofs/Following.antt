@@ -33,16 +33,16 @@ use Rattle.gt_order.proofs.Held.{Keeps, keeps-less, keeps-more, keeps-same}
 use Rattle.gt_order.proofs.Answering.{IsStarvedOnly}
 use Rattle.gt_order.proofs.Served.{Serves}
 use Rattle.gt_types.specs.declared.copies.CopyArgs.{CopyArgs}
-use Rattle.gt_order.specs.Printed.{GetsNoMemory, IsAllocating, Starves, no_memory}
-use Rattle.gt_order.specs.Texts.{HasAllFrames, IsLost, OutcomeGivesAnswer}
+use Rattle.gt_order.specs.Printed.{GetsNoMemory, IsAllocating, Starves, no_memory_answer}
+use Rattle.gt_order.specs.Texts.{HasAllFrames, IsMemoryRefusal, OutcomeGivesAnswer}
 use Rattle.gt_types.specs.Denial.{denial_of}
 use Rattle.gt_types.specs.declared.denial.Facts.TheVariants.{None as NoFacts}
 use Rattle.gt_types.specs.declared.denial.Rule.TheVariants.{N26}
 use Rattle.gt_order.specs.Leaving.{AreReleases}
 use Rattle.gt_order.specs.Ordering.{RunOrder, items_by_outcome, items_of_call, of_core, order_of_deeds, way_of}
 use Rattle.gt_order.specs.Ordering.Occurrence.{OfFlag, OfLook}
-use Rattle.gt_order.specs.Runs.{AreDeeds, CallMade, CallOutcome, Deed, FlagMade, IsAnswered, domain_after}
-use Rattle.gt_order.specs.Runs.Deed.{Call, Look, OnFlag}
+use Rattle.gt_order.specs.Runs.{AreDeeds, CallMade, CallOutcome, DomainAct, FlagMade, IsAnswered, domain_after}
+use Rattle.gt_order.specs.Runs.DomainAct.{Call, Look, OnFlag}
 use Rattle.gt_order.specs.Runs.CallOutcome.{Told, Kept, Starved, Read, Wrote}
 
 -- the handles after an answer
@@ -125,17 +125,17 @@ starves-plainly dom request Rest hs is rest = (is, rest)
 
 module _ {P : Type 0} (m : Monitor P) (all : HasAllFrames m) where
   -- what was lost was refused with N26
-  pub lost-memory : (answer : Answer) (denial : Denial) → answer ≡ answers.Denied denial → IsLost m denial → answer ≡ no_memory
+  pub lost-memory : (answer : Answer) (denial : Denial) → answer ≡ answers.Denied denial → IsMemoryRefusal m denial → answer ≡ no_memory_answer
   lost-memory answer denial is (inl e) = is ∙ ap (λ (d : Denial). answers.Denied d) e
   lost-memory answer denial is (inr e) = absurd (e.1 all)
 
   -- a call without memory answered N26
-  pub starved-answer : (answer : Answer) → OutcomeGivesAnswer m Starved answer → answer ≡ no_memory
+  pub starved-answer : (answer : Answer) → OutcomeGivesAnswer m Starved answer → answer ≡ no_memory_answer
   starved-answer answer (denial, is, lost) = lost-memory answer denial is lost
 
 module _ (Lost : Type 0) (Stopped : RunAction → Type 0) (c : Config) (may : AllowRelation) (types : List (List ℕ)) (dom : DomId) where
   -- whatever follows these deeds follows the lines of the list that did them
-  abbrev pub Follows : List Named → List Handle → List RunTask → List Deed → List ℕ → Type 0
+  abbrev pub Follows : List Named → List Handle → List RunTask → List DomainAct → List ℕ → Type 0
   Follows named held done made printed =
       (rest : List RunTask) (more : List Happening) (text : List ℕ) → Serves Lost Stopped types dom named held rest more text
       → Serves Lost Stopped types dom [] [] (done ++ rest) (happenings (order_of_deeds c may dom made) ++ more) (printed ++ text)
@@ -144,7 +144,7 @@ module _ (Lost : Type 0) (Stopped : RunAction → Type 0) (c : Config) (may : Al
   follows-none rest more text f = f
 
   -- the items of one more deed, and its line
-  follows-on : (done : List RunTask) (made : List Deed) (printed : List ℕ) (task : RunTask) (mine : RunOrder) (line : List ℕ) (rest : List RunTask) (more : List Happening) (text : List ℕ)
+  follows-on : (done : List RunTask) (made : List DomainAct) (printed : List ℕ) (task : RunTask) (mine : RunOrder) (line : List ℕ) (rest : List RunTask) (more : List Happening) (text : List ℕ)
       → Serves Lost Stopped types dom [] [] (done ++ task ∷ rest) (happenings (order_of_deeds c may dom made) ++ (happenings mine ++ more)) (printed ++ (line ++ text))
       → Serves Lost Stopped types dom [] [] ((done ++ task ∷ []) ++ rest) (happenings (mine ++ order_of_deeds c may dom made) ++ more) ((printed ++ line) ++ text)
   follows-on done made printed task mine line rest more text f =
@@ -158,7 +158,7 @@ module _ (Lost : Type 0) (Stopped : RunAction → Type 0) (c : Config) (may : Al
   HasItems m out answer = items_by_outcome dom (way_of c may m) m.request out m.steps ≡ items_of_call dom (way_of c may m) m.request (Some answer) m.steps
 
   -- a call that had memory
-  follows-answered : (named : List Named) (held : List Handle) (done : List RunTask) (made : List Deed) (printed : List ℕ) (task : RunTask) (call : ScriptCall) (m : CallMade) (out : CallOutcome) (answer : Answer)
+  follows-answered : (named : List Named) (held : List Handle) (done : List RunTask) (made : List DomainAct) (printed : List ℕ) (task : RunTask) (call : ScriptCall) (m : CallMade) (out : CallOutcome) (answer : Answer)
       → Follows named held done made printed → task.deed ≡ Do call → MakesRequest named dom call m.request → HasItems m out answer
       → (rest : List RunTask) (more : List Happening) (text : List ℕ) → Serves Lost Stopped types dom (with_name named dom (label_given call) (handle_given answer)) (held_after held (given_up m.request) answer) rest more text
       → Serves Lost Stopped types dom [] [] ((done ++ task ∷ []) ++ rest) (happenings (of_core (items_by_outcome dom (way_of c may m) m.request out m.steps) ++ order_of_deeds c may dom made) ++ more) ((printed ++ answer_line types task.line dom answer) ++ text)
@@ -184,15 +184,15 @@ module _ (Lost : Type 0) (Stopped : RunAction → Type 0) (c : Config) (may : Al
       deed = subst (λ (x : RunAction). DeedHappens types dom named held task.line x NextOf (happenings mine ++ more) (line ++ text)) (sym is) (m.request, says, happens)
 
   -- a call that got no memory
-  follows-starved : (named : List Named) (held : List Handle) (done : List RunTask) (made : List Deed) (printed : List ℕ) (task : RunTask) (call : ScriptCall) (m : CallMade)
+  follows-starved : (named : List Named) (held : List Handle) (done : List RunTask) (made : List DomainAct) (printed : List ℕ) (task : RunTask) (call : ScriptCall) (m : CallMade)
       → Follows named held done made printed → task.deed ≡ Do call → MakesRequest named dom call m.request → IsAllocating m.request → Lost
-      → (rest : List RunTask) (more : List Happening) (text : List ℕ) → Serves Lost Stopped types dom (with_name named dom (label_given call) None) (held_after held (given_up m.request) no_memory) rest more text
-      → Serves Lost Stopped types dom [] [] ((done ++ task ∷ []) ++ rest) (happenings (order_of_deeds c may dom made) ++ more) ((printed ++ answer_line types task.line dom no_memory) ++ text)
+      → (rest : List RunTask) (more : List Happening) (text : List ℕ) → Serves Lost Stopped types dom (with_name named dom (label_given call) None) (held_after held (given_up m.request) no_memory_answer) rest more text
+      → Serves Lost Stopped types dom [] [] ((done ++ task ∷ []) ++ rest) (happenings (order_of_deeds c may dom made) ++ more) ((printed ++ answer_line types task.line dom no_memory_answer) ++ text)
   follows-starved named held done made printed task call m before is says allocates lost rest more text f =
       follows-on done made printed task [] line rest more text (before (task ∷ rest) more (line ++ text) (inr (inl (lost, gets))))
     where
       line : List ℕ
-      line = answer_line types task.line dom no_memory
+      line = answer_line types task.line dom no_memory_answer
 
       NextOf : List Named → List Handle → List Happening → List ℕ → Type 0
       NextOf names holds hs left = Serves Lost Stopped types dom names holds rest hs left
@@ -204,9 +204,9 @@ module _ (Lost : Type 0) (Stopped : RunAction → Type 0) (c : Config) (may : Al
       gets = subst (λ (x : RunAction). GetsNoMemory types dom named held task.line x NextOf more (line ++ text)) (sym is) (m.request, says, starves-plainly dom m.request (λ hs. Prints line (NextOf named held hs) (line ++ text)) more allocates (text, refl, then))
 
   -- a copy that got no memory at its access
-  pub follows-lost : (named : List Named) (held : List Handle) (done : List RunTask) (made : List Deed) (printed : List ℕ) (task : RunTask) (call : ScriptCall) (m : CallMade) (args : CopyArgs)
+  pub follows-lost : (named : List Named) (held : List Handle) (done : List RunTask) (made : List DomainAct) (printed : List ℕ) (task : RunTask) (call : ScriptCall) (m : CallMade) (args : CopyArgs)
       → Follows named held done made printed → task.deed ≡ Do call → MakesRequest named dom call (requests.Copy args) → m.request ≡ requests.Probe args → m.outcome ≡ Told Granted → Lost
-      → Follows (with_name named dom (label_given call) None) held (done ++ task ∷ []) (Call m ∷ made) (printed ++ answer_line types task.line dom no_memory)
+      → Follows (with_name named dom (label_given call) None) held (done ++ task ∷ []) (Call m ∷ made) (printed ++ answer_line types task.line dom no_memory_answer)
   follows-lost named held done made printed task call m args before is says probe outcome lost rest more text f =
       follows-on done made printed task mine line rest more text (before (task ∷ rest) (happenings mine ++ more) (line ++ text) (inr (inl (lost, gets))))
     where
@@ -214,7 +214,7 @@ module _ (Lost : Type 0) (Stopped : RunAction → Type 0) (c : Config) (may : Al
       mine = of_core (items_by_outcome dom (way_of c may m) m.request m.outcome m.steps)
 
       line : List ℕ
-      line = answer_line types task.line dom no_memory
+      line = answer_line types task.line dom no_memory_answer
 
       NextOf : List Named → List Handle → List Happening → List ℕ → Type 0
       NextOf names holds hs left = Serves Lost Stopped types dom names holds rest hs left
@@ -236,15 +236,15 @@ module _ (Lost : Type 0) (Stopped : RunAction → Type 0) (c : Config) (may : Al
       gets = subst (λ (x : RunAction). GetsNoMemory types dom named held task.line x NextOf (happenings mine ++ more) (line ++ text)) (sym is) (requests.Copy args, says, happens)
 
   module _ {P : Type 0} (mon : Monitor P) (all : HasAllFrames mon) where
-    pub follows-more : (named : List Named) (held : List Handle) (done : List RunTask) (made : List Deed) (printed : List ℕ) (task : RunTask) (call : ScriptCall) (m : CallMade) (answer : Answer)
-        → Follows named held done made printed → task.deed ≡ Do call → MakesRequest named dom call m.request → OutcomeGivesAnswer mon m.outcome answer → IsStarvedOnly m.outcome m.request → (answer ≡ no_memory → Lost)
+    pub follows-more : (named : List Named) (held : List Handle) (done : List RunTask) (made : List DomainAct) (printed : List ℕ) (task : RunTask) (call : ScriptCall) (m : CallMade) (answer : Answer)
+        → Follows named held done made printed → task.deed ≡ Do call → MakesRequest named dom call m.request → OutcomeGivesAnswer mon m.outcome answer → IsStarvedOnly m.outcome m.request → (answer ≡ no_memory_answer → Lost)
         → Follows (with_name named dom (label_given call) (handle_given answer)) (held_after held (given_up m.request) answer) (done ++ task ∷ []) (Call m ∷ made) (printed ++ answer_line types task.line dom answer)
     follows-more named held done made printed task call m answer before is says gives only lost rest more text f = by m.outcome gives only
       where
         by : (out : CallOutcome) → OutcomeGivesAnswer mon out answer → IsStarvedOnly out m.request
             → Serves Lost Stopped types dom [] [] ((done ++ task ∷ []) ++ rest) (happenings (of_core (items_by_outcome dom (way_of c may m) m.request out m.steps) ++ order_of_deeds c may dom made) ++ more) ((printed ++ answer_line types task.line dom answer) ++ text)
         by Starved g o =
-            let e : answer ≡ no_memory = starved-answer mon all answer g in
+            let e : answer ≡ no_memory_answer = starved-answer mon all answer g in
             subst (λ (a : Answer). Serves Lost Stopped types dom [] [] ((done ++ task ∷ []) ++ rest) (happenings (order_of_deeds c may dom made) ++ more) ((printed ++ answer_line types task.line dom a) ++ text)) (sym e)
             (follows-starved named held done made printed task call m before is says o (lost e) rest more text
             (subst (λ (a : Answer). Serves Lost Stopped types dom (with_name named dom (label_given call) (handle_given a)) (held_after held (given_up m.request) a) rest more text) e f))
@@ -254,7 +254,7 @@ module _ (Lost : Type 0) (Stopped : RunAction → Type 0) (c : Config) (may : Al
         by Wrote g o = follows-answered named held done made printed task call m Wrote answer before is says (ap (λ (a : Answer). items_of_call dom (way_of c may m) m.request (Some a) m.steps) (sym g)) rest more text f
 
   -- a line that raises or awaits a flag
-  pub follows-flag : (named : List Named) (held : List Handle) (done : List RunTask) (made : List Deed) (printed : List ℕ) (task : RunTask) (x : FlagMade) → Follows named held done made printed
+  pub follows-flag : (named : List Named) (held : List Handle) (done : List RunTask) (made : List DomainAct) (printed : List ℕ) (task : RunTask) (x : FlagMade) → Follows named held done made printed
       → ((Next : List Named → List Handle → List Happening → List ℕ → Type 0) (more : List Happening) (text : List ℕ) → Next named held more text → DeedHappens types dom named held task.line task.deed Next (on_flag dom x.flag x.step ∷ more) text)
       → Follows named held (done ++ task ∷ []) (OnFlag x ∷ made) printed
   follows-flag named held done made printed task x before happens rest more text f =
@@ -265,13 +265,13 @@ module _ (Lost : Type 0) (Stopped : RunAction → Type 0) (c : Config) (may : Al
 
 module _ (c : Config) (may : AllowRelation) (types : List (List ℕ)) (dom : DomId) where
   -- the releases with which a domain leaves
-  pub record GivesBack (held : List Handle) (us : List Deed) (after : Domain) : Type 0 where
+  pub record GivesBack (held : List Handle) (us : List DomainAct) (after : Domain) : Type 0 where
     pub order : List Handle
     pub held' : List Handle
     pub keeps : Keeps after.mappings held'
     pub back : (last : List Handle) (more : List Happening) → GivesMappingsBack dom last held' more → GivesMappingsBack dom (order ++ last) held (happenings (order_of_deeds c may dom us) ++ more)
 
-  pub gives-back : (b : Board) (d : Domain) (us : List Deed) (held : List Handle) → AreDeeds b c may d us → AreReleases us → Keeps d.mappings held → GivesBack held us (domain_after d us)
+  pub gives-back : (b : Board) (d : Domain) (us : List DomainAct) (held : List Handle) → AreDeeds b c may d us → AreReleases us → Keeps d.mappings held → GivesBack held us (domain_after d us)
   gives-back b d [] held calls releases k = record { order = []; held' = held; keeps = k; back = λ last more g. g }
   gives-back b d (OnFlag x ∷ us) held calls releases k = absurd releases
   gives-back b d (Look x ∷ us) held calls releases k = absurd releases
@@ -301,7 +301,7 @@ module _ (c : Config) (may : AllowRelation) (types : List (List ℕ)) (dom : Dom
       }
 
   -- the deeds of a list, and the releases behind them
-  pub deeds-both : (us ms : List Deed) → order_of_deeds c may dom (us ++ ms) ≡ order_of_deeds c may dom us ++ order_of_deeds c may dom ms
+  pub deeds-both : (us ms : List DomainAct) → order_of_deeds c may dom (us ++ ms) ≡ order_of_deeds c may dom us ++ order_of_deeds c may dom ms
   deeds-both [] ms = refl
   deeds-both (Call u ∷ us) ms =
       let mine = of_core (items_by_outcome dom (way_of c may u) u.request u.outcome u.steps) in

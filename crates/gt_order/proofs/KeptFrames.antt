@@ -59,7 +59,7 @@ use Rattle.gt_shared_table.specs.Words.{frames_kept}
 use Rattle.gt_word_history.specs.Rule.{Layout, layout_of, position_in}
 use Rattle.gt_word_history.specs.declared.view.View.{View}
 use Rattle.gt_words.specs.Frames.{KeepsFrame}
-use Rattle.gt_live.specs.Accesses.{Accessed, HasCause, IsAccess, IsUnmade, frame_named}
+use Rattle.gt_live.specs.Accesses.{EndsAfterAccess, HasCause, IsAccess, IsUnmade, frame_named}
 use Rattle.gt_live.specs.Domains.{AllowRelation, BelongsTo, known_on}
 use Rattle.gt_live.specs.Walks.{all_shown}
 use Rattle.gt_live.specs.declared.domain.Domain.{Domain}
@@ -298,7 +298,7 @@ module _ {P : Type 0} (may : P → AllowRelation) (m : Monitor P) (all : m.words
     path-so request one = absurd one
 
     -- an access of the domain's call that was not made was not refused with N16, since the table has all frames
-    pub never-missing : (request : Request) → MakesOne request → (access : Step) (denial : Denial) (v w : View) (a : Accessed m.words.layout (path_of know d.seat.dom request) access IsUnmade v w) → HasCause m.words access denial
+    pub never-missing : (request : Request) → MakesOne request → (access : Step) (denial : Denial) (v w : View) (a : EndsAfterAccess m.words.layout (path_of know d.seat.dom request) access IsUnmade v w) → HasCause m.words access denial
         → denial ≡ denial_of N16 NoFacts → ⊥
     never-missing request one access denial v w a cause is =
         not-missing know refl access denial ((path-so request one).each (all_shown a.comes.steps) access a.comes.next) cause is a.comes.is_access

@@ -21,8 +21,8 @@ use Rattle.gt_live.proofs.OneStep.{one-step}
 use Rattle.gt_live.specs.Domains.{AllowRelation, IsDomainOf, Released, knowledge}
 use Rattle.gt_live.specs.declared.domain.Domain.{Domain}
 use Rattle.gt_order.specs.Leaving.{AreReleases, LeavingIsReleasing}
-use Rattle.gt_order.specs.Runs.{AreDeeds, CallMade, Deed, domain_after}
-use Rattle.gt_order.specs.Runs.Deed.{Call}
+use Rattle.gt_order.specs.Runs.{AreDeeds, CallMade, DomainAct, domain_after}
+use Rattle.gt_order.specs.Runs.DomainAct.{Call}
 use Rattle.gt_order.specs.Runs.CallOutcome.{Told}
 
 -- a release of a mapping gives its pin back, and is Ok
@@ -36,7 +36,7 @@ with_rest d w rest = record d { seat = record d.seat { view = w }; mappings = re
 
 module _ (b : Board) (c : Config) (may : AllowRelation) (d : Domain) (mine : IsDomainOf b c may d) where
   pub record ReleasedSo (w : View) (rest : HandleMap HeldPin) : Type 0 where
-    pub deeds : List Deed
+    pub deeds : List DomainAct
     pub made : AreDeeds b c may d deeds
     pub releases : AreReleases deeds
     pub now : domain_after d deeds ≡ with_rest d w rest

@@ -42,13 +42,13 @@ use Rattle.gt_order.proofs.Order.{runs-have-legal-orders}
 use Rattle.gt_order.proofs.Said.{said-fits}
 use Rattle.gt_order.proofs.Served.{Serves, gate-split}
 use Rattle.gt_order.specs.Explored.{IsStarved}
-use Rattle.gt_order.specs.Printed.{Leaves, no_memory}
+use Rattle.gt_order.specs.Printed.{ReleasesMappings, no_memory_answer}
 use Rattle.gt_order.specs.Leaving.{AreReleases}
 use Rattle.gt_order.specs.Ordering.{AreOnRaisedFlags, IsLegalOrder, RunOrder, events_of, items_in, order_of_deeds}
 use Rattle.gt_order.specs.Ordering.{own_in, trace_of}
-use Rattle.gt_order.specs.Runs.{AreDeeds, CallMade, Deed, FlagMade, IsAtRest, IsMonitorRun, IsSeatRun, SeatRun}
+use Rattle.gt_order.specs.Runs.{AreDeeds, CallMade, DomainAct, FlagMade, IsAtRest, IsMonitorRun, IsSeatRun, SeatRun}
 use Rattle.gt_order.specs.Runs.{domain_after, CallOutcome}
-use Rattle.gt_order.specs.Runs.Deed.{Call, Look, OnFlag}
+use Rattle.gt_order.specs.Runs.DomainAct.{Call, Look, OnFlag}
 use Rattle.gt_script_lines.specs.declared.calls.ScriptCall.{ScriptCall}
 use Rattle.gt_script_runs.specs.Printing.{answer_line}
 use Rattle.gt_script_runs.specs.Runs.{Named, MakesRequest, handle_given, label_given, with_name}
@@ -60,7 +60,7 @@ use Rattle.gt_script.specs.declared.tasks.RunActionBy.TheVariants.{Await, Do, Te
 use Rattle.gt_run.specs.Asking.{Asks, MakesFlagStep, RaisesFlag}
 use Rattle.gt_run.specs.Printing.{AreServed, HasViewIn, Served, ShowOneState, WasServed, jobs_in}
 use Rattle.gt_run.specs.Serving.{DoesDeed, DoesWhere, EndsList, ListLeadsTo, MakesCall, ListOutcome, ListProgress}
-use Rattle.gt_run.specs.Serving.{IsRefused, answer_lines, gate_line, list_start}
+use Rattle.gt_run.specs.Serving.{AwaitsRefusedFlag, answer_lines, gate_line, list_start}
 use Rattle.gt_run.specs.declared.lists.ThreadJob.{ThreadJob}
 use Rattle.gt_order.specs.Texts.{AreDeedsOf, IsDoneFor, IsFlagStepOf, AreDeedsOfList, AreOfALegalOrder, HasList}
 use Rattle.gt_order.specs.Texts.{AreOfOneOrder, HasAllFrames, IsViewOf, RunsWriteALegalOrder, TextsAreOfALegalOrder}
@@ -93,7 +93,7 @@ HasStarved outcomes = (o : ListOutcome) × IsAmong o outcomes × IsStarved o
 
 -- the list was stopped by its gate, which may refuse the flag of this line
 abbrev pub IsStopped : {P : Type 0} → (ℕ → Bool) → Served P → RunAction → Type 0
-IsStopped refuses s deed = IsRefused refuses deed × ((before : List ℕ) × (line : ℕ) × (s.text ≡ before ++ gate_line line s.job.part.dom))
+IsStopped refuses s deed = AwaitsRefusedFlag refuses deed × ((before : List ℕ) × (line : ℕ) × (s.text ≡ before ++ gate_line line s.job.part.dom))
 
 not-below : (i n : ℕ) → nat_lt i n ≡ false → i < n → ⊥
 not-below i n e l = grind (arith, nat_tests)
@@ -127,7 +127,7 @@ module _ {P : Type 0} (may : P → AllowRelation) (refuses : ℕ → Bool) (m : 
     IsFollowed = AreFlagsOf m job.part.tasks.now × HasAllFrames m
 
     record Come (done : List RunTask) (p : ListProgress) : Type 0 where
-      made : List Deed
+      made : List DomainAct
       deeds_are : AreDeeds m.words m.config (may m.rights) first made
       now : domain_after first made ≡ p.domain
       lines : AreDeedsOf may job made p
@@ -165,7 +165,7 @@ module _ {P : Type 0} (may : P → AllowRelation) (refuses : ℕ → Bool) (m : 
         }
 
     one-call : (task : RunTask) → IsAmong task job.part.tasks.now → (call : ScriptCall) (done : List RunTask) (p q : ListProgress) → task.deed ≡ Do call
-        → (x : MakesCall may job task.line call p q) → (x.answer ≡ no_memory → HasStarved final) → Come done p → Come (done ++ task ∷ []) q
+        → (x : MakesCall may job task.line call p q) → (x.answer ≡ no_memory_answer → HasStarved final) → Come done p → Come (done ++ task ∷ []) q
     one-call task is-in call done p q deed x starves come = by (is-made may m p.domain q.domain (record { before = come.mine; afterwards = asks.2.0; seat = asks.2.1 }) x.request x.answer (said-fits call p.named job.part.dom x.request x.fits x.makes) asks.1)
       where
         asks : Asks may m p.domain x.request x.answer q.domain
@@ -178,8 +178,8 @@ module _ {P : Type 0} (may : P → AllowRelation) (refuses : ℕ → Bool) (m : 
         dom = job.part.dom
 
         -- the handles and the line of an answer without memory
-        without : (answer : Answer) (request : Request) (args : CopyArgs) (m' : CallMade) → answer ≡ no_memory → request ≡ requests.Copy args
-            → Follows (HasStarved final) Stopped m.config (may m.rights) types dom (with_name p.named dom (label_given call) None) come.held (done ++ task ∷ []) (Call m' ∷ come.made) (answer_lines types dom p.outcomes ++ answer_line types task.line dom no_memory)
+        without : (answer : Answer) (request : Request) (args : CopyArgs) (m' : CallMade) → answer ≡ no_memory_answer → request ≡ requests.Copy args
+            → Follows (HasStarved final) Stopped m.config (may m.rights) types dom (with_name p.named dom (label_given call) None) come.held (done ++ task ∷ []) (Call m' ∷ come.made) (answer_lines types dom p.outcomes ++ answer_line types task.line dom no_memory_answer)
             → Follows (HasStarved final) Stopped m.config (may m.rights) types dom (with_name p.named dom (label_given call) (handle_given answer)) (held_after come.held (given_up request) answer) (done ++ task ∷ []) (Call m' ∷ come.made) (answer_lines types dom p.outcomes ++ answer_line types task.line dom answer)
         without answer request args m' is copy f =
             subst (λ (q : Answer × Request). Follows (HasStarved final) Stopped m.config (may m.rights) types dom (with_name p.named dom (label_given call) (handle_given q.0)) (held_after come.held (given_up q.1) q.0) (done ++ task ∷ []) (Call m' ∷ come.made) (answer_lines types dom p.outcomes ++ answer_line types task.line dom q.0))
@@ -195,7 +195,7 @@ module _ {P : Type 0} (may : P → AllowRelation) (refuses : ℕ → Bool) (m : 
             call-comes task is-in call deed done p q x come (requests.Probe args) (Told Granted) steps made
             (inr (record { args = args; copy = copy; probe = refl; outcome = refl; denial = denial; refused = refused; lost = lost }))
             (λ followed.
-            let none : x.answer ≡ no_memory = lost-memory m followed.1 x.answer denial refused lost in
+            let none : x.answer ≡ no_memory_answer = lost-memory m followed.1 x.answer denial refused lost in
             without x.answer x.request args m' none copy
             (follows-lost (HasStarved final) Stopped m.config (may m.rights) types dom p.named come.held done come.made (answer_lines types dom p.outcomes) task call m' args
             (come.follows followed) deed (subst (MakesRequest p.named dom call) copy x.makes) refl refl (starves none)))
@@ -277,8 +277,8 @@ module _ {P : Type 0} (may : P → AllowRelation) (refuses : ℕ → Bool) (m : 
   take-in (suc n) (y ∷ ys) x (inr is) = inr (take-in n ys x is)
 
   -- unmaps behind the calls of a list
-  module _ (first d : Domain) (ms : List Deed) (now : domain_after first ms ≡ d) where
-    after-on : (us : List Deed) → domain_after first (us ++ ms) ≡ domain_after d us
+  module _ (first d : Domain) (ms : List DomainAct) (now : domain_after first ms ≡ d) where
+    after-on : (us : List DomainAct) → domain_after first (us ++ ms) ≡ domain_after d us
     after-on [] = now
     after-on (Call u ∷ us) = refl
     after-on (OnFlag x ∷ us) = refl
@@ -290,7 +290,7 @@ module _ {P : Type 0} (may : P → AllowRelation) (refuses : ℕ → Bool) (m : 
   IsGone d v (inr g) = Unit {0}
 
   -- what these deeds did follows the list
-  abbrev DidFollow : Served P → List Deed → Type 0
+  abbrev DidFollow : Served P → List DomainAct → Type 0
   DidFollow s made = AreFlagsOf m s.job.part.tasks.now → HasAllFrames m
       → Serves (HasStarved s.outcomes) (IsStopped refuses s) s.job.part.types.now s.job.part.dom [] [] (list_of s.job.part.tasks.now s.job.part.dom) (happenings (order_of_deeds m.config (may m.rights) s.job.part.dom made)) s.text
 
@@ -298,7 +298,7 @@ module _ {P : Type 0} (may : P → AllowRelation) (refuses : ℕ → Bool) (m : 
   record Finished (i : ℕ) (s : Served P) (v : View) (gone : Type 0) : Type 0 where
     first : Domain
     starts : IsNewDomain m.words m.config (may m.rights) i first
-    made : List Deed
+    made : List DomainAct
     deeds_are : AreDeeds m.words m.config (may m.rights) first made
     view : (domain_after first made).seat.view ≡ v
     of_list : AreDeedsOfList may s made
@@ -334,7 +334,7 @@ module _ {P : Type 0} (may : P → AllowRelation) (refuses : ℕ → Bool) (m : 
         })
 
     -- the calls and the releases behind them follow the list
-    followed : (us : List Deed) → AreDeeds m.words m.config (may m.rights) l.served.left.domain us → AreReleases us → ((h : Handle) → value_of (domain_after l.served.left.domain us).mappings h ≡ None) → DidFollow s (us ++ come.made)
+    followed : (us : List DomainAct) → AreDeeds m.words m.config (may m.rights) l.served.left.domain us → AreReleases us → ((h : Handle) → value_of (domain_after l.served.left.domain us).mappings h ≡ None) → DidFollow s (us ++ come.made)
     followed us calls unmaps none numbered all = by l.served.ends
       where
         types : List (List ℕ)
@@ -352,7 +352,7 @@ module _ {P : Type 0} (may : P → AllowRelation) (refuses : ℕ → Bool) (m : 
         listed : RunOrder
         listed = order_of_deeds m.config (may m.rights) dom come.made
 
-        leaves : Leaves dom come.held (happenings left ++ [])
+        leaves : ReleasesMappings dom come.held (happenings left ++ [])
         leaves =
             let behind = gives-back m.config (may m.rights) types dom m.words l.served.left.domain us come.held calls unmaps come.keeps in
             let empty : behind.held' ≡ [] = keeps-none (domain_after l.served.left.domain us).mappings behind.held' none behind.keeps in
@@ -449,7 +449,7 @@ found [] i x d e = cc
 found (y ∷ ys) zero x d e = cc
 found (y ∷ ys) (suc i) x d e = found ys i x d e
 
-stays-at : (b : Board) (c : Config) (may : AllowRelation) (i : ℕ) (first : Domain) (ms : List Deed) → first.seat.view.position ≡ i → AreDeeds b c may first ms → (domain_after first ms).seat.view.position ≡ i
+stays-at : (b : Board) (c : Config) (may : AllowRelation) (i : ℕ) (first : Domain) (ms : List DomainAct) → first.seat.view.position ≡ i → AreDeeds b c may first ms → (domain_after first ms).seat.view.position ≡ i
 stays-at b c may i first [] at calls = at
 stays-at b c may i first (Call u ∷ us) at calls = calls.0.seat.position ∙ (ap (λ (z : SeatOf). z.view.position) calls.1.seat ∙ stays-at b c may i first us at calls.2)
 stays-at b c may i first (OnFlag x ∷ us) at calls = calls.0.kept.seat.position ∙ (ap (λ (z : SeatOf). z.view.position) calls.1.seat ∙ stays-at b c may i first us at calls.2)

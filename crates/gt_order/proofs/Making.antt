@@ -18,7 +18,7 @@ use Rattle.gt_model.specs.declared.action.Step.{Step}
 use Rattle.gt_model.specs.declared.action.Step.TheVariants.{LookHeader, LookControl, LookBody, Pin, Unpin, StoreBody}
 use Rattle.gt_model.specs.declared.action.Step.TheVariants.{StoreHeader, Exchange, Read as ReadBytes}
 use Rattle.gt_model.specs.declared.action.Step.TheVariants.{Write as WriteBytes, Copy as CopyBytes}
-use Rattle.gt_core.specs.GoingOn.{IsOnWords}
+use Rattle.gt_core.specs.GoingOn.{AccessesNoBytes}
 use Rattle.gt_live.specs.Walks.{Made, seen_in_step}
 use Rattle.gt_order.specs.Agreeing.{IsThe, StoresChange, last_at}
 
@@ -80,7 +80,7 @@ module _ (k : Layout) (i : ℕ) (v w : View) (at : v.position ≡ i) where
   made-as _ _ m = absurd m
 
 -- a step that was made is on words
-pub on-words : (k : Layout) (step : Step) (seen : Observation) (v w : View) → Made k step seen v w → IsOnWords step
+pub on-words : (k : Layout) (step : Step) (seen : Observation) (v w : View) → Made k step seen v w → AccessesNoBytes step
 on-words k (LookHeader d) seen v w m = tt
 on-words k (LookControl d q) seen v w m = tt
 on-words k (LookBody d q half) seen v w m = tt

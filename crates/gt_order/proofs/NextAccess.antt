@@ -40,7 +40,7 @@ use Rattle.gt_order.proofs.Stages.Stage.{Going}
 use Rattle.gt_order.proofs.Stepping.{AreBounded, bounded-quiet}
 use Rattle.gt_order.specs.Agreeing.{Agree, IsThe, WritesAgree, dom_at}
 use Rattle.gt_order.specs.Ordering.{way_of}
-use Rattle.gt_order.specs.Runs.{CallMade, Deed, IsCall}
+use Rattle.gt_order.specs.Runs.{CallMade, DomainAct, IsCall}
 use Rattle.gt_order.proofs.NextItem.{same-way, unanswered}
 
 -- an access of a call, and its item
@@ -83,7 +83,7 @@ access-table s g d (WriteBytes dom frame off len) seen answer a = kept-table s _
 access-table s g d (CopyBytes from to len) seen answer a = kept-table s _ g d refl
 access-table s g d step seen answer a = absurd a
 
-module _ (b : Board) (c : Config) (may : AllowRelation) (limits : IsWithinLimits c) (is : b.layout ≡ layout_of c) (g : Items) (i : ℕ) (inside : i < b.layout.domains) (m : CallMade) (ms : List Deed) (first : Domain)
+module _ (b : Board) (c : Config) (may : AllowRelation) (limits : IsWithinLimits c) (is : b.layout ≡ layout_of c) (g : Items) (i : ℕ) (inside : i < b.layout.domains) (m : CallMade) (ms : List DomainAct) (first : Domain)
     (xs : List Moment) (x : Moment) (call : IsCall b c may m) (at : m.old.seat.view.position ≡ i) (named : domain_of c.domains.items (dom_at b.layout i) ≢ None) (reached : CanBeReached (setting_of c may) g)
     (agree : Agree (setting_of c may) b.layout g x.0) (writes : WritesAgree b.layout g x.0) (seat : SeatNow c may g (dom_at b.layout i) first (Going ms m xs))
     (bounded : AreBounded b.layout g) where

@@ -28,7 +28,7 @@ use Rattle.gt_model.specs.declared.request.PinHolder.TheVariants.{Mapping as ByM
 use Rattle.gt_model.specs.declared.request.Request.{Request}
 use Rattle.gt_core.proofs.GoingOn.{open-calls-can-go-on}
 use Rattle.gt_model.proofs.Observers.{stepped}
-use Rattle.gt_core.specs.GoingOn.{AnsweredSo, IsOnWords, CanBeReached}
+use Rattle.gt_core.specs.GoingOn.{AnsweredSo, AccessesNoBytes, CanBeReached}
 use Rattle.gt_model.specs.History.{History as Items, Setting, Underway, known_at, mapping_of, mappings_at, seen_by}
 use Rattle.gt_model.specs.History.{values, setting_of}
 use Rattle.gt_model.specs.Legal.{IsRight}
@@ -46,7 +46,7 @@ use Rattle.gt_order.proofs.Stages.Stage.{Going}
 use Rattle.gt_order.proofs.Stepping.{AreBounded, IsBounded, StandsHere, leg-all, stands-here, step-kept, within}
 use Rattle.gt_order.specs.Agreeing.{Agree, IsThe, IsWithin, dom_at}
 use Rattle.gt_order.specs.Ordering.{way_of}
-use Rattle.gt_order.specs.Runs.{CallMade, Deed, IsCall}
+use Rattle.gt_order.specs.Runs.{CallMade, DomainAct, IsCall}
 
 -- a way that goes on with a step was not answered at its beginning
 pub unanswered : (o : Option CallResult) (goes : Continuation) (vs : List Observation) (step : Step) → after_beginning o goes vs ≡ Some (Makes step) → o ≡ None
@@ -70,14 +70,14 @@ pub record GoesSo (c : Config) (may : AllowRelation) (k : Layout) (g : Items) (i
   pub agree : Agree (setting_of c may) k (stepped (dom_at k i) step (seen_in_step x.1) answer ∷ g) ((i, x.1) ∷ x.0)
   pub inner : IsWithin k step
   pub here : StandsHere (setting_of c may) g (dom_at k i) cl step
-  pub quiet : IsOnWords step
+  pub quiet : AccessesNoBytes step
   pub sees : seen_by (setting_of c may) g (dom_at k i) step ≡ seen_in_step x.1
   pub fits : FitsStep step (seen_in_step x.1)
   pub on_path : path (known_at (setting_of c may) g (dom_at k i)) (dom_at k i) cl.request (values cl) ≡ Some (Makes step)
   pub stood : StoodWith (Unit {0}) k x.0 v
   pub stands : StoodWith (Unit {0}) k ((v.position, x.1) ∷ x.0) w
 
-module _ (b : Board) (c : Config) (may : AllowRelation) (limits : IsWithinLimits c) (is : b.layout ≡ layout_of c) (g : Items) (i : ℕ) (inside : i < b.layout.domains) (m : CallMade) (ms : List Deed) (first : Domain)
+module _ (b : Board) (c : Config) (may : AllowRelation) (limits : IsWithinLimits c) (is : b.layout ≡ layout_of c) (g : Items) (i : ℕ) (inside : i < b.layout.domains) (m : CallMade) (ms : List DomainAct) (first : Domain)
     (xs : List Moment) (x : Moment) (call : IsCall b c may m) (at : m.old.seat.view.position ≡ i) (named : domain_of c.domains.items (dom_at b.layout i) ≢ None) (reached : CanBeReached (setting_of c may) g)
     (agree : Agree (setting_of c may) b.layout g x.0) (seat : SeatNow c may g (dom_at b.layout i) first (Going ms m xs))
     (bounded : AreBounded b.layout g) (walk : MakesStep b.layout (way_of c may m (all_shown xs)) (shown_by x) (view_after xs m.old.seat.view) (view_after (x ∷ xs) m.old.seat.view)) where
@@ -121,7 +121,7 @@ module _ (b : Board) (c : Config) (may : AllowRelation) (limits : IsWithinLimits
 
   goes-with : (step : Step) → way (all_shown xs) ≡ Some (Makes step) → Made k step (shown_by x) v w → (action : Action) (answer : Option Answer) → way (all_shown (x ∷ xs)) ≡ Some action → AnsweredSo g d action answer → GoesSo c may k g i cl (all_shown xs) way x v w answer
   goes-with step next made action answer then answered =
-      let quiet : IsOnWords step = on-words k step (shown_by x) v w made in
+      let quiet : AccessesNoBytes step = on-words k step (shown_by x) v w made in
       let y = made-as k i v w stood-at step (shown_by x) made in
       let same : x ≡ y.0 = one-moment x y.0 v y.1.view in
       let so : MadeAs k i step (shown_by x) v w x = subst (MadeAs k i step (shown_by x) v w) (sym same) y.1 in

@@ -69,10 +69,10 @@ use Rattle.gt_order.specs.Agreeing.{IsThe, WritesAgree, dom_at}
 use Rattle.gt_order.specs.Ordering.{AreStepsOf, IsNewest, Occurrence, RunOrder, WasRaised, item_of_beginning}
 use Rattle.gt_order.specs.Ordering.{items_by_outcome, items_of_call, of_core, order_of_deeds, way_of}
 use Rattle.gt_order.specs.Ordering.Occurrence.{OfCore, OfFlag, OfLook}
-use Rattle.gt_order.specs.Runs.{AreDeeds, CallMade, CallOutcome, Deed, FlagMade, IsAnswered, IsAtRest, IsCall}
+use Rattle.gt_order.specs.Runs.{AreDeeds, CallMade, CallOutcome, DomainAct, FlagMade, IsAnswered, IsAtRest, IsCall}
 use Rattle.gt_order.specs.Runs.{IsCallWalk, KeepsNoPin, LeavesMappings, LookMade, MakesAccess, MakesTurn, TookSteps}
 use Rattle.gt_order.specs.Runs.{domain_after}
-use Rattle.gt_order.specs.Runs.Deed.{Call, Look, OnFlag}
+use Rattle.gt_order.specs.Runs.DomainAct.{Call, Look, OnFlag}
 use Rattle.gt_order.specs.Runs.CallOutcome.{Told, Kept, Starved, Read, Wrote}
 
 -- a stage in the place of another
@@ -180,7 +180,7 @@ module _ (b : Board) (c : Config) (may : AllowRelation) (limits : IsWithinLimits
   abbrev pub IsPlaced : ℕ → Domain → Type 0
   IsPlaced i D = (D.seat.view.position ≡ i) × (D.seat.view.first ≡ k.first)
 
-  pub placed : (i : ℕ) → i < k.domains → (ms : List Deed) → AreDeeds b c may (firsts i) ms → IsPlaced i (domain_after (firsts i) ms)
+  pub placed : (i : ℕ) → i < k.domains → (ms : List DomainAct) → AreDeeds b c may (firsts i) ms → IsPlaced i (domain_after (firsts i) ms)
   placed i l [] calls = ((new i l).seat.position, (new i l).seat.first)
   placed i l (Call m ∷ ms) calls =
       let p = placed i l ms calls.2 in
@@ -193,7 +193,7 @@ module _ (b : Board) (c : Config) (may : AllowRelation) (limits : IsWithinLimits
       (kept.position ∙ (ap (λ (z : SeatOf). z.view.position) calls.1.seat ∙ p.0), kept.first ∙ (ap (λ (z : SeatOf). z.view.first) calls.1.seat ∙ p.1))
 
   -- and is that of the domain there
-  same-dom : (i : ℕ) → i < k.domains → (ms : List Deed) → AreDeeds b c may (firsts i) ms → (domain_after (firsts i) ms).seat.dom ≡ dom_at k i
+  same-dom : (i : ℕ) → i < k.domains → (ms : List DomainAct) → AreDeeds b c may (firsts i) ms → (domain_after (firsts i) ms).seat.dom ≡ dom_at k i
   same-dom i l [] calls = let n = new i l in sym (ap (dom_at k) (sym n.seat.position) ∙ n.domain.seat.named)
   same-dom i l (Call m ∷ ms) calls = calls.0.seat.dom ∙ (ap (λ (z : SeatOf). z.dom) calls.1.seat ∙ same-dom i l ms calls.2)
   same-dom i l (OnFlag x ∷ ms) calls = calls.0.kept.seat.dom ∙ (ap (λ (z : SeatOf). z.dom) calls.1.seat ∙ same-dom i l ms calls.2)
@@ -227,7 +227,7 @@ module _ (b : Board) (c : Config) (may : AllowRelation) (limits : IsWithinLimits
 
   -- the beginning of a call that is to make a step
 
-  pub begin-call : (h : StepHistory) (i : ℕ) (l : i < k.domains) (m : CallMade) (ms : List Deed) (stages : ℕ → Stage) → stages i ≡ Going ms m [] → IsGoing b c may (firsts i) ms m [] → Ordered b c may h firsts (put i (Resting ms) stages) → Ordered b c may h firsts stages
+  pub begin-call : (h : StepHistory) (i : ℕ) (l : i < k.domains) (m : CallMade) (ms : List DomainAct) (stages : ℕ → Stage) → stages i ≡ Going ms m [] → IsGoing b c may (firsts i) ms m [] → Ordered b c may h firsts (put i (Resting ms) stages) → Ordered b c may h firsts stages
   begin-call h i l m ms stages e going o =
       let d = dom_at k i in let call = going.call in let rest = going.rests in let at = placed i l ms going.deeds in
       let seat = subst (SeatNow c may o.g d (firsts i)) (put-here i (Resting ms) stages) (o.each i l) in
@@ -247,7 +247,7 @@ module _ (b : Board) (c : Config) (may : AllowRelation) (limits : IsWithinLimits
 
   -- a call without a step, after those before it
 
-  pub quiet-call : (h : StepHistory) (i : ℕ) (l : i < k.domains) (m : CallMade) (ms : List Deed) (stages : ℕ → Stage) → stages i ≡ Resting (Call m ∷ ms) → m.steps ≡ [] → AreDeeds b c may (firsts i) (Call m ∷ ms)
+  pub quiet-call : (h : StepHistory) (i : ℕ) (l : i < k.domains) (m : CallMade) (ms : List DomainAct) (stages : ℕ → Stage) → stages i ≡ Resting (Call m ∷ ms) → m.steps ≡ [] → AreDeeds b c may (firsts i) (Call m ∷ ms)
       → (domain_after (firsts i) ms).seat.view.steps ≡ part_of i h → Ordered b c may h firsts (put i (Resting ms) stages) → Ordered b c may h firsts stages
   quiet-call h i l m ms stages e none calls steps o = by m.outcome refl calls.0.answered
     where
@@ -322,7 +322,7 @@ module _ (b : Board) (c : Config) (may : AllowRelation) (limits : IsWithinLimits
 
   -- a step of a call that goes on
 
-  pub go-on : (i : ℕ) (l : i < k.domains) (ms : List Deed) (m : CallMade) (xs : List Moment) (x : Moment) (stages : ℕ → Stage) → stages i ≡ Going ms m (x ∷ xs) → IsGoing b c may (firsts i) ms m (x ∷ xs) → Ordered b c may x.0 firsts (put i (Going ms m xs) stages)
+  pub go-on : (i : ℕ) (l : i < k.domains) (ms : List DomainAct) (m : CallMade) (xs : List Moment) (x : Moment) (stages : ℕ → Stage) → stages i ≡ Going ms m (x ∷ xs) → IsGoing b c may (firsts i) ms m (x ∷ xs) → Ordered b c may x.0 firsts (put i (Going ms m xs) stages)
       → Ordered b c may ((i, x.1) ∷ x.0) firsts stages
   go-on i l ms m xs x stages e going o =
       let d = dom_at k i in let call = going.call in let at = placed i l ms going.deeds in
@@ -356,7 +356,7 @@ module _ (b : Board) (c : Config) (may : AllowRelation) (limits : IsWithinLimits
 
   -- the last step of a call
 
-  pub end-call : (i : ℕ) (l : i < k.domains) (ms : List Deed) (m : CallMade) (xs : List Moment) (x : Moment) (stages : ℕ → Stage) → stages i ≡ Resting (Call m ∷ ms) → m.steps ≡ x ∷ xs → AreDeeds b c may (firsts i) (Call m ∷ ms) → m.new.seat.view.steps ≡ part_of i ((i, x.1) ∷ x.0)
+  pub end-call : (i : ℕ) (l : i < k.domains) (ms : List DomainAct) (m : CallMade) (xs : List Moment) (x : Moment) (stages : ℕ → Stage) → stages i ≡ Resting (Call m ∷ ms) → m.steps ≡ x ∷ xs → AreDeeds b c may (firsts i) (Call m ∷ ms) → m.new.seat.view.steps ≡ part_of i ((i, x.1) ∷ x.0)
       → Ordered b c may x.0 firsts (put i (Going ms m xs) stages) → Ordered b c may ((i, x.1) ∷ x.0) firsts stages
   end-call i l ms m xs x stages e made calls steps o = by m.outcome refl calls.0.answered
     where
@@ -470,7 +470,7 @@ module _ (b : Board) (c : Config) (may : AllowRelation) (limits : IsWithinLimits
   was-raised h order flag Raised steps says = tt
   was-raised h order flag Passed steps says = raised-in k order h flag steps says
 
-  pub step-on-flag : (h : StepHistory) (i : ℕ) (l : i < k.domains) (ms : List Deed) (x : FlagMade) (stages : ℕ → Stage) → stages i ≡ Resting (OnFlag x ∷ ms) → AreDeeds b c may (firsts i) (OnFlag x ∷ ms) → IsTrueStep k h (Flag x.flag x.step) → Ordered b c may h firsts (put i (Resting ms) stages)
+  pub step-on-flag : (h : StepHistory) (i : ℕ) (l : i < k.domains) (ms : List DomainAct) (x : FlagMade) (stages : ℕ → Stage) → stages i ≡ Resting (OnFlag x ∷ ms) → AreDeeds b c may (firsts i) (OnFlag x ∷ ms) → IsTrueStep k h (Flag x.flag x.step) → Ordered b c may h firsts (put i (Resting ms) stages)
       → Ordered b c may ((i, Flag x.flag x.step) ∷ h) firsts stages
   step-on-flag h i l ms x stages e deeds says o =
       let d = dom_at k i in let y : Occurrence = OfFlag d x.flag x.step in
@@ -500,7 +500,7 @@ module _ (b : Board) (c : Config) (may : AllowRelation) (limits : IsWithinLimits
   abbrev pub step_of_look : LookMade → SeatStep
   step_of_look x = Entry (position_in k.ids x.old.seat.dom) x.gref.0 (Looked x.word)
 
-  pub step-on-look : (h : StepHistory) (i : ℕ) (l : i < k.domains) (ms : List Deed) (x : LookMade) (stages : ℕ → Stage) → stages i ≡ Resting (Look x ∷ ms) → AreDeeds b c may (firsts i) (Look x ∷ ms) → word_after k h (place (position_in k.ids x.old.seat.dom) x.gref.0 0) ≡ x.word
+  pub step-on-look : (h : StepHistory) (i : ℕ) (l : i < k.domains) (ms : List DomainAct) (x : LookMade) (stages : ℕ → Stage) → stages i ≡ Resting (Look x ∷ ms) → AreDeeds b c may (firsts i) (Look x ∷ ms) → word_after k h (place (position_in k.ids x.old.seat.dom) x.gref.0 0) ≡ x.word
       → Ordered b c may h firsts (put i (Resting ms) stages) → Ordered b c may ((i, step_of_look x) ∷ h) firsts stages
   step-on-look h i l ms x stages e deeds there o =
       let d = dom_at k i in let y : Occurrence = OfLook d x.gref x.word in let n = new i l in

@@ -36,9 +36,9 @@ use Rattle.gt_order.proofs.Walks.{as-walk}
 use Rattle.gt_order.specs.Agreeing.{WritesAgree}
 use Rattle.gt_order.specs.Laws.{RunsHaveLegalOrders}
 use Rattle.gt_order.specs.Ordering.{IsLegalOrder, RunOrder, events_of, trace_of, way_of}
-use Rattle.gt_order.specs.Runs.{AreDeeds, CallMade, CallOutcome, Deed, FlagMade, IsAnswered, IsAtRest, IsCall}
+use Rattle.gt_order.specs.Runs.{AreDeeds, CallMade, CallOutcome, DomainAct, FlagMade, IsAnswered, IsAtRest, IsCall}
 use Rattle.gt_order.specs.Runs.{IsCallWalk, LookMade, TookSteps, domain_after}
-use Rattle.gt_order.specs.Runs.Deed.{Call, Look, OnFlag}
+use Rattle.gt_order.specs.Runs.DomainAct.{Call, Look, OnFlag}
 use Rattle.gt_order.specs.Runs.CallOutcome.{Told, Kept, Starved, Read, Wrote}
 use Rattle.gt_order.proofs.NextStage.{begin-call, end-call, go-on, head-same, named, no-head, placed, put, put-else}
 use Rattle.gt_order.proofs.NextStage.{put-here, LastIs, LastNext, quiet-call, same-view, step-on-flag, step-on-look}
@@ -66,7 +66,7 @@ module _ (b : Board) (c : Config) (may : AllowRelation) (limits : IsWithinLimits
       (tail-same _ _ _ _ all, ap (λ (q : ℕ × SeatStep). q.1) (head-same _ _ _ _ all))
 
   -- the call goes back by one step
-  back : (h : StepHistory) (p : ℕ × SeatStep) (i : ℕ) (ms : List Deed) (m : CallMade) (xs : List Moment) (x : Moment) → p.0 ≡ i → AreDeeds b c may (firsts i) ms → IsAtRest (domain_after (firsts i) ms) m.old → IsCall b c may m → m.old.seat.view.position ≡ i
+  back : (h : StepHistory) (p : ℕ × SeatStep) (i : ℕ) (ms : List DomainAct) (m : CallMade) (xs : List Moment) (x : Moment) → p.0 ≡ i → AreDeeds b c may (firsts i) ms → IsAtRest (domain_after (firsts i) ms) m.old → IsCall b c may m → m.old.seat.view.position ≡ i
       → (z : Step) × (way_of c may m (all_shown xs) ≡ Some (Makes z)) × StoodWith (Unit {0}) k x.0 (view_after xs m.old.seat.view) → IsCallWalk k (bytes_given_by m.request) (way_of c may m) m.old.seat.view xs
       → (view_after (x ∷ xs) m.old.seat.view).steps ≡ part_of i (p ∷ h) → (view_after (x ∷ xs) m.old.seat.view).past ≡ up_to i (p ∷ h)
       → ((x.0 ≡ h) × (x.1 ≡ p.1)) × Fits b c may h i (firsts i) (Going ms m xs)
@@ -86,11 +86,11 @@ module _ (b : Board) (c : Config) (may : AllowRelation) (limits : IsWithinLimits
   -- back over the calls without a step
 
   strip : (h : StepHistory) (i : ℕ) (l : i < k.domains) (orig : ℕ → Stage)
-      → ((ms : List Deed) (m : CallMade) (xs : List Moment) (x : Moment) (stages : ℕ → Stage) → stages i ≡ Resting (Call m ∷ ms) → m.steps ≡ x ∷ xs → FitAll h stages → Ordered b c may h firsts stages)
-      → ((ms : List Deed) (x : FlagMade) (stages : ℕ → Stage) → stages i ≡ Resting (OnFlag x ∷ ms) → FitAll h stages → Ordered b c may h firsts stages)
-      → ((ms : List Deed) (x : LookMade) (stages : ℕ → Stage) → stages i ≡ Resting (Look x ∷ ms) → FitAll h stages → Ordered b c may h firsts stages)
+      → ((ms : List DomainAct) (m : CallMade) (xs : List Moment) (x : Moment) (stages : ℕ → Stage) → stages i ≡ Resting (Call m ∷ ms) → m.steps ≡ x ∷ xs → FitAll h stages → Ordered b c may h firsts stages)
+      → ((ms : List DomainAct) (x : FlagMade) (stages : ℕ → Stage) → stages i ≡ Resting (OnFlag x ∷ ms) → FitAll h stages → Ordered b c may h firsts stages)
+      → ((ms : List DomainAct) (x : LookMade) (stages : ℕ → Stage) → stages i ≡ Resting (Look x ∷ ms) → FitAll h stages → Ordered b c may h firsts stages)
       → ((stages : ℕ → Stage) → stages i ≡ Resting [] → ((j : ℕ) → i ≢ j → stages j ≡ orig j) → FitAll h stages → Ordered b c may h firsts stages)
-      → (ms : List Deed) (stages : ℕ → Stage) → stages i ≡ Resting ms → ((j : ℕ) → i ≢ j → stages j ≡ orig j) → FitAll h stages → Ordered b c may h firsts stages
+      → (ms : List DomainAct) (stages : ℕ → Stage) → stages i ≡ Resting ms → ((j : ℕ) → i ≢ j → stages j ≡ orig j) → FitAll h stages → Ordered b c may h firsts stages
   strip h i l orig on-step on-flag on-look on-empty [] stages e same fits = on-empty stages e same fits
   strip h i l orig on-step on-flag on-look on-empty (OnFlag x ∷ ms) stages e same fits = on-flag ms x stages e fits
   strip h i l orig on-step on-flag on-look on-empty (Look x ∷ ms) stages e same fits = on-look ms x stages e fits
@@ -117,7 +117,7 @@ module _ (b : Board) (c : Config) (may : AllowRelation) (limits : IsWithinLimits
       l : n < k.domains
       l = omega arith
 
-      no-steps : (ms : List Deed) (m : CallMade) (xs : List Moment) (x : Moment) (st : ℕ → Stage) → st n ≡ Resting (Call m ∷ ms) → m.steps ≡ x ∷ xs → FitAll [] st → Ordered b c may [] firsts st
+      no-steps : (ms : List DomainAct) (m : CallMade) (xs : List Moment) (x : Moment) (st : ℕ → Stage) → st n ≡ Resting (Call m ∷ ms) → m.steps ≡ x ∷ xs → FitAll [] st → Ordered b c may [] firsts st
       no-steps ms m xs x st e made f =
           let fit = subst (Fits b c may [] n (firsts n)) e (f n l) in
           absurd (some-steps m.outcome fit.is.0.answered)
@@ -132,12 +132,12 @@ module _ (b : Board) (c : Config) (may : AllowRelation) (limits : IsWithinLimits
           some-steps (Told verdict) a = view-then verdict a.1 ((subst (Fits b c may [] n (firsts n)) e (f n l)).steps)
           some-steps (Kept handle p) a = view-then (KeptPin p) a.1 ((subst (Fits b c may [] n (firsts n)) e (f n l)).steps)
 
-      no-flags : (ms : List Deed) (x : FlagMade) (st : ℕ → Stage) → st n ≡ Resting (OnFlag x ∷ ms) → FitAll [] st → Ordered b c may [] firsts st
+      no-flags : (ms : List DomainAct) (x : FlagMade) (st : ℕ → Stage) → st n ≡ Resting (OnFlag x ∷ ms) → FitAll [] st → Ordered b c may [] firsts st
       no-flags ms x st e f =
           let fit = subst (Fits b c may [] n (firsts n)) e (f n l) in
           absurd (no-head _ _ (ap (λ (q : View). q.steps) (sym fit.is.0.step.view) ∙ fit.steps))
 
-      no-looks : (ms : List Deed) (x : LookMade) (st : ℕ → Stage) → st n ≡ Resting (Look x ∷ ms) → FitAll [] st → Ordered b c may [] firsts st
+      no-looks : (ms : List DomainAct) (x : LookMade) (st : ℕ → Stage) → st n ≡ Resting (Look x ∷ ms) → FitAll [] st → Ordered b c may [] firsts st
       no-looks ms x st e f =
           let fit = subst (Fits b c may [] n (firsts n)) e (f n l) in
           absurd (no-head _ _ (ap (λ (q : View). q.steps) (sym fit.is.0.found.0.steps.adds.view) ∙ fit.steps))
@@ -180,7 +180,7 @@ module _ (b : Board) (c : Config) (may : AllowRelation) (limits : IsWithinLimits
       to-here : (x : Moment) (st : ℕ → Stage) → x.0 ≡ h → x.1 ≡ p.1 → Ordered b c may ((i, x.1) ∷ x.0) firsts st → Ordered b c may (p ∷ h) firsts st
       to-here x st a e o = subst (λ (q : StepHistory). Ordered b c may q firsts st) (λ j. (i, e j) ∷ a j) o
 
-      module-step : (i < k.domains) → ((st : ℕ → Stage) → FitAll h st → Ordered b c may h firsts st) → (ms : List Deed) (m : CallMade) (xs : List Moment) (x : Moment) (st : ℕ → Stage) → st i ≡ Resting (Call m ∷ ms) → m.steps ≡ x ∷ xs → FitAll (p ∷ h) st → Ordered b c may (p ∷ h) firsts st
+      module-step : (i < k.domains) → ((st : ℕ → Stage) → FitAll h st → Ordered b c may h firsts st) → (ms : List DomainAct) (m : CallMade) (xs : List Moment) (x : Moment) (st : ℕ → Stage) → st i ≡ Resting (Call m ∷ ms) → m.steps ≡ x ∷ xs → FitAll (p ∷ h) st → Ordered b c may (p ∷ h) firsts st
       module-step l rec ms m xs x st e made f = go m.outcome fit.is.0.answered
         where
           fit : Fits b c may (p ∷ h) i (firsts i) (Resting (Call m ∷ ms))
@@ -221,7 +221,7 @@ module _ (b : Board) (c : Config) (may : AllowRelation) (limits : IsWithinLimits
           go (Told verdict) a = took verdict a.1
           go (Kept handle q) a = took (KeptPin q) a.1
 
-      flag-step : (i < k.domains) → ((st : ℕ → Stage) → FitAll h st → Ordered b c may h firsts st) → (ms : List Deed) (x : FlagMade) (st : ℕ → Stage) → st i ≡ Resting (OnFlag x ∷ ms) → FitAll (p ∷ h) st → Ordered b c may (p ∷ h) firsts st
+      flag-step : (i < k.domains) → ((st : ℕ → Stage) → FitAll h st → Ordered b c may h firsts st) → (ms : List DomainAct) (x : FlagMade) (st : ℕ → Stage) → st i ≡ Resting (OnFlag x ∷ ms) → FitAll (p ∷ h) st → Ordered b c may (p ∷ h) firsts st
       flag-step l rec ms x st e f =
           let fit = subst (Fits b c may (p ∷ h) i (firsts i)) e (f i l) in
           let made = fit.is.0.step in let v = x.old.seat.view in
@@ -235,7 +235,7 @@ module _ (b : Board) (c : Config) (may : AllowRelation) (limits : IsWithinLimits
           let o = rec (put i (Resting ms) st) (refit h (p ∷ h) st i (Resting ms) f others (record { is = fit.is.2; steps = ap (λ (q : View). q.steps) seat ∙ before; past = ap (λ (q : View). q.past) seat ∙ past })) in
           to-here moment st same.0 same.1 (step-on-flag b c may limits is firsts new made.past i l ms x st e fit.is made.access.recorded (subst (λ (q : StepHistory). Ordered b c may q firsts (put i (Resting ms) st)) (sym same.0) o))
 
-      look-step : (i < k.domains) → ((st : ℕ → Stage) → FitAll h st → Ordered b c may h firsts st) → (ms : List Deed) (x : LookMade) (st : ℕ → Stage) → st i ≡ Resting (Look x ∷ ms) → FitAll (p ∷ h) st → Ordered b c may (p ∷ h) firsts st
+      look-step : (i < k.domains) → ((st : ℕ → Stage) → FitAll h st → Ordered b c may h firsts st) → (ms : List DomainAct) (x : LookMade) (st : ℕ → Stage) → st i ≡ Resting (Look x ∷ ms) → FitAll (p ∷ h) st → Ordered b c may (p ∷ h) firsts st
       look-step l rec ms x st e f =
           let fit = subst (Fits b c may (p ∷ h) i (firsts i)) e (f i l) in
           let found = fit.is.0.found.0.steps in let v = x.old.seat.view in

@@ -32,7 +32,7 @@ use Rattle.gt_model.specs.declared.held.AccessPath.TheVariants.{Own}
 use Rattle.gt_model.specs.declared.held.HeldPin.{HeldPin}
 use Rattle.gt_model.specs.declared.request.Request.TheVariants as requests
 use Rattle.gt_calls.proofs.Probing.{here, on, past, same}
-use Rattle.gt_live.specs.Accesses.{Accessed, IsAccess, IsUnmade, onward}
+use Rattle.gt_live.specs.Accesses.{EndsAfterAccess, IsAccess, IsUnmade, onward}
 use Rattle.gt_live.specs.Domains.{AllowRelation, knowledge}
 use Rattle.gt_live.specs.Walks.{AreMoments, Called, IsWalk, MakesStep, all_shown, shown_by, view_after}
 use Rattle.gt_live.specs.declared.monitor.Monitor.{Monitor}
@@ -104,7 +104,7 @@ module _ (k : Layout) (way : Continuation) (v : View) where
   )
 
   -- a copy whose access could not be made
-  pub probed : (from to : Spot) (len : ℕ) (w : View) → Accessed k way (CopyBytes from to len) IsUnmade v w → Called k (without_access way) Granted v w
+  pub probed : (from to : Spot) (len : ℕ) (w : View) → EndsAfterAccess k way (CopyBytes from to len) IsUnmade v w → Called k (without_access way) Granted v w
   probed from to len w a =
       let access : is_copy_access (way (all_shown a.comes.steps)) ≡ true = ap is_copy_access a.comes.next in
       let mid : a.after ≡ view_after a.comes.steps v = a.did ∙ a.comes.view in
@@ -137,7 +137,7 @@ no-end verdict (v ∷ vs) s e = cc
 
 -- by whether a rule, or that there is nothing to pin, answers the probe at its beginning
 module _ (c : CallerKnowledge) (k : Layout) (caller : DomId) (args : CopyArgs) (v w : View) where
-  granted : (from to : Spot) (len : ℕ) (b : Bool) → has_own_ends args ≡ b → Accessed k (copies c caller args) (CopyBytes from to len) IsUnmade v w
+  granted : (from to : Spot) (len : ℕ) (b : Bool) → has_own_ends args ≡ b → EndsAfterAccess k (copies c caller args) (CopyBytes from to len) IsUnmade v w
       → Called k (after_beginning (first (None ∷ granted_when b ∷ [])) (without_access (copies c caller args))) Granted v w
   granted from to len false is a = probed k (copies c caller args) v from to len w a
   granted from to len true is a =
@@ -146,14 +146,14 @@ module _ (c : CallerKnowledge) (k : Layout) (caller : DomId) (args : CopyArgs) (
       record { steps = []; view = u.end ∙ (a.did ∙ u.at); walked = tt; moments = tt; answered = refl; carried = tt }
 
   -- the only access of a copy is a copy
-  by-access : (access : Step) → IsToFrames c false access → IsAccess access → Accessed k (copies c caller args) access IsUnmade v w
+  by-access : (access : Step) → IsToFrames c false access → IsAccess access → EndsAfterAccess k (copies c caller args) access IsUnmade v w
       → Called k (after_beginning (first (None ∷ granted_when (has_own_ends args) ∷ [])) (without_access (copies c caller args))) Granted v w
   by-access (CopyBytes from to len) frames is a = granted from to len (has_own_ends args) refl a
   by-access (ReadBytes dom frame off len) frames is a = absurd (false≢true frames.0)
   by-access (WriteBytes dom frame off len) frames is a = absurd (false≢true frames.0)
   by-access access frames is a = absurd is
 
-  by-rules : (access : Step) (o : Option CallResult) → begun c caller (asks.Copy args) ≡ o → Accessed k (after_beginning o (copies c caller args)) access IsUnmade v w
+  by-rules : (access : Step) (o : Option CallResult) → begun c caller (asks.Copy args) ≡ o → EndsAfterAccess k (after_beginning o (copies c caller args)) access IsUnmade v w
       → Called k (after_beginning (first (o ∷ granted_when (has_own_ends args) ∷ [])) (without_access (copies c caller args))) Granted v w
   by-rules access None is a = by-access access ((copies-so c false caller args is).each (all_shown a.comes.steps) access a.comes.next) a.comes.is_access a
   by-rules access (Some verdict) is a = absurd (no-end verdict (all_shown a.comes.steps) access a.comes.next)
@@ -169,8 +169,8 @@ pub halves-made : {P : Type 0} (may : P → AllowRelation) (m : Monitor P) → H
 halves-made may m d mid e args h before comes ends afterwards =
     let c = knowledge m.config (may m.rights) d in let k = m.words.layout in let access = CopyBytes h.from h.to h.len in
     let whole = whole-copy c k h.call h.from h.to h.len d.seat.view mid.seat.view e.seat.view comes.access ends.gives in
-    let way : Accessed k (path_of c d.seat.dom (requests.Copy args)) access IsUnmade d.seat.view e.seat.view =
-    subst (λ (y : Continuation). Accessed k y access IsUnmade d.seat.view e.seat.view) (sym comes.way) whole.0 in
+    let way : EndsAfterAccess k (path_of c d.seat.dom (requests.Copy args)) access IsUnmade d.seat.view e.seat.view =
+    subst (λ (y : Continuation). EndsAfterAccess k y access IsUnmade d.seat.view e.seat.view) (sym comes.way) whole.0 in
     let mappings : e.mappings ≡ d.mappings = ends.mappings ∙ comes.kept.mappings in
     let seat = same_seat-then d.seat mid.seat e.seat comes.kept.seat ends.seat in
     lost-copies may m d e args access (record { before = before; afterwards = afterwards; seat = seat }) way

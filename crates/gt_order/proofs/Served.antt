@@ -13,12 +13,13 @@ use Rattle.gt_script.specs.Lists.{RunAction, RunTask}
 use Rattle.gt_script.specs.RunContents.{RunContents}
 use Rattle.gt_script.specs.RunScripts.{list_of}
 use Rattle.gt_script.specs.declared.tasks.RunActionBy.TheVariants.{Await, Do, Tell}
-use Rattle.gt_run.specs.Serving.{IsRefused, RefusesNone, gate_line}
+use Rattle.gt_run.specs.Serving.{AwaitsRefusedFlag, RefusesNone, gate_line}
 use Rattle.gt_model.specs.declared.request.Request.{Request}
 use Rattle.gt_model.specs.declared.request.Request.TheVariants as requests
 use Rattle.gt_explore_replay.specs.Orders.{AllFollow, DeedHappens, FollowsList, Happening, Prints}
-use Rattle.gt_order.specs.Printed.{AllPrint, GetsNoMemory, GivenTextsArePrinted, HasPart, Leaves}
-use Rattle.gt_order.specs.Printed.{PrintedTextsAreGiven, PrintsList, Starves, StopsAtGate, IsUndisturbed, no_memory}
+use Rattle.gt_order.specs.Printed.{AllPrint, GetsNoMemory, GivenTextsArePrinted, ContainsText, ReleasesMappings}
+use Rattle.gt_order.specs.Printed.{PrintedTextsAreGiven, PrintsList, Starves, StopsAtGate, IsUndisturbed}
+use Rattle.gt_order.specs.Printed.{no_memory_answer}
 
 -- what follows a line
 abbrev Next : Type 1
@@ -27,11 +28,11 @@ Next = List Named → List Handle → List Happening → List ℕ → Type 0
 -- a domain serves its list; a call may get no memory if Lost, and a gate may stop the list at a line of which Stopped
 -- holds
 abbrev pub Serves : Type 0 → (RunAction → Type 0) → List (List ℕ) → DomId → List Named → List Handle → List RunTask → List Happening → List ℕ → Type 0
-Serves Lost Stopped types dom named held [] hs text = Leaves dom held hs × (text ≡ [])
+Serves Lost Stopped types dom named held [] hs text = ReleasesMappings dom held hs × (text ≡ [])
 Serves Lost Stopped types dom named held (t ∷ ts) hs text =
     DeedHappens types dom named held t.line t.deed (λ names holds more rest. Serves Lost Stopped types dom names holds ts more rest) hs text
     ⊎ ((Lost × GetsNoMemory types dom named held t.line t.deed (λ names holds more rest. Serves Lost Stopped types dom names holds ts more rest) hs text)
-    ⊎ (Stopped t.deed × Leaves dom held hs × (text ≡ gate_line t.line dom)))
+    ⊎ (Stopped t.deed × ReleasesMappings dom held hs × (text ≡ gate_line t.line dom)))
 
 abbrev IsEndOf : List ℕ → List ℕ → Type 0
 IsEndOf rest text = (before : List ℕ) × (text ≡ before ++ rest)
@@ -64,7 +65,7 @@ lost-map types dom named held line (Do call) N M hs text f (request, says, starv
 
 module _ (Lost : Type 0) (Stopped : RunAction → Type 0) (types : List (List ℕ)) (dom : DomId) where
   -- the list is one that a run may print
-  pub prints-list : (refuses : ℕ → Bool) → ((deed : RunAction) → Stopped deed → IsRefused refuses deed) → (ts : List RunTask) (named : List Named) (held : List Handle) (hs : List Happening) (text : List ℕ) → Serves Lost Stopped types dom named held ts hs text → PrintsList refuses types dom named held ts hs text
+  pub prints-list : (refuses : ℕ → Bool) → ((deed : RunAction) → Stopped deed → AwaitsRefusedFlag refuses deed) → (ts : List RunTask) (named : List Named) (held : List Handle) (hs : List Happening) (text : List ℕ) → Serves Lost Stopped types dom named held ts hs text → PrintsList refuses types dom named held ts hs text
   prints-list refuses refused [] named held hs text s = s
   prints-list refuses refused (t ∷ ts) named held hs text (inl d) = inl (deed-map types dom named held t.line t.deed _ _ hs text (λ names holds more rest end s. prints-list refuses refused ts names holds more rest s) d)
   prints-list refuses refused (t ∷ ts) named held hs text (inr (inl (lost, d))) = inr (inl (lost-map types dom named held t.line t.deed _ _ hs text (λ names holds more rest s. prints-list refuses refused ts names holds more rest s) d))
@@ -79,50 +80,50 @@ module _ (Lost : Type 0) (Stopped : RunAction → Type 0) (types : List (List �
 
 -- texts without such lines
 
-pub end-part : (part rest text : List ℕ) → IsEndOf rest text → HasPart part rest → HasPart part text
+pub end-part : (part rest text : List ℕ) → IsEndOf rest text → ContainsText part rest → ContainsText part text
 end-part part rest text (before, is) (b, r, e) = (before ++ b, r, is ∙ (ap (λ (l : List ℕ). before ++ l) e ∙ sym (append_assoc before b (part ++ r))))
 
-pub start-part : (part one rest text : List ℕ) → text ≡ one ++ rest → HasPart part one → HasPart part text
+pub start-part : (part one rest text : List ℕ) → text ≡ one ++ rest → ContainsText part one → ContainsText part text
 start-part part one rest text is (b, r, e) =
     (b, r ++ rest, is ∙ (ap (λ (l : List ℕ). l ++ rest) e ∙ (append_assoc b (part ++ r) rest ∙ ap (λ (l : List ℕ). b ++ l) (append_assoc part r rest))))
 
 -- a part of a part
-pub part-in : (part one text : List ℕ) → HasPart part one → HasPart one text → HasPart part text
+pub part-in : (part one text : List ℕ) → ContainsText part one → ContainsText one text → ContainsText part text
 part-in part one text p (b, r, e) = end-part part (one ++ r) text (b, e) (start-part part one r (one ++ r) refl p)
 
 -- no line of a gate is in the text, unless the gate refuses no flag anyway
 abbrev HasNoGate : (ℕ → Bool) → List ℕ → Type 0
-HasNoGate refuses text = RefusesNone refuses ⊎ ((line : ℕ) (dom : DomId) → HasPart (gate_line line dom) text → ⊥)
+HasNoGate refuses text = RefusesNone refuses ⊎ ((line : ℕ) (dom : DomId) → ContainsText (gate_line line dom) text → ⊥)
 
-no-gate-in : (refuses : ℕ → Bool) (one text : List ℕ) → ((line : ℕ) (dom : DomId) → HasPart (gate_line line dom) one → HasPart (gate_line line dom) text) → HasNoGate refuses text → HasNoGate refuses one
+no-gate-in : (refuses : ℕ → Bool) (one text : List ℕ) → ((line : ℕ) (dom : DomId) → ContainsText (gate_line line dom) one → ContainsText (gate_line line dom) text) → HasNoGate refuses text → HasNoGate refuses one
 no-gate-in refuses one text f (inl none) = inl none
 no-gate-in refuses one text f (inr none) = inr (λ line dom part. none line dom (f line dom part))
 
 end-tells : (refuses : ℕ → Bool) (types : List (List ℕ)) (rest text : List ℕ) → IsEndOf rest text → IsUndisturbed refuses types text → IsUndisturbed refuses types rest
 end-tells refuses types rest text end none = record {
-  memory = λ line dom part. none.memory line dom (end-part (answer_line types line dom no_memory) rest text end part);
+  memory = λ line dom part. none.memory line dom (end-part (answer_line types line dom no_memory_answer) rest text end part);
   gates = no-gate-in refuses rest text (λ line dom part. end-part (gate_line line dom) rest text end part) none.gates;
 }
 
 start-tells : (refuses : ℕ → Bool) (types : List (List ℕ)) (one rest text : List ℕ) → text ≡ one ++ rest → IsUndisturbed refuses types text → IsUndisturbed refuses types one
 start-tells refuses types one rest text is none = record {
-  memory = λ line dom part. none.memory line dom (start-part (answer_line types line dom no_memory) one rest text is part);
+  memory = λ line dom part. none.memory line dom (start-part (answer_line types line dom no_memory_answer) one rest text is part);
   gates = no-gate-in refuses one text (λ line dom part. start-part (gate_line line dom) one rest text is part) none.gates;
 }
 
-lost-line : (types : List (List ℕ)) (dom : DomId) (named : List Named) (held : List Handle) (line : ℕ) (action : RunAction) (N : Next) (hs : List Happening) (text : List ℕ) → GetsNoMemory types dom named held line action N hs text → HasPart (answer_line types line dom no_memory) text
+lost-line : (types : List (List ℕ)) (dom : DomId) (named : List Named) (held : List Handle) (line : ℕ) (action : RunAction) (N : Next) (hs : List Happening) (text : List ℕ) → GetsNoMemory types dom named held line action N hs text → ContainsText (answer_line types line dom no_memory_answer) text
 lost-line types dom named held line (Tell flag) N hs text d = absurd d
 lost-line types dom named held line (Await flag) N hs text d = absurd d
 lost-line types dom named held line (Do call) N hs text (request, says, starves) =
-    let s = starves-rest dom request (λ more. Prints (answer_line types line dom no_memory) (N named held more) text) hs starves in ([], s.1.0, s.1.1)
+    let s = starves-rest dom request (λ more. Prints (answer_line types line dom no_memory_answer) (N named held more) text) hs starves in ([], s.1.0, s.1.1)
 
 append-none : (xs : List ℕ) → xs ++ [] ≡ xs
 append-none [] = refl
 append-none (x ∷ xs) = ap (λ (l : List ℕ). x ∷ l) (append-none xs)
 
 -- a gate that refuses no flag stops no list
-pub none-refused : (refuses : ℕ → Bool) (deed : RunAction) → RefusesNone refuses → IsRefused refuses deed → ⊥
-unfolding IsRefused
+pub none-refused : (refuses : ℕ → Bool) (deed : RunAction) → RefusesNone refuses → AwaitsRefusedFlag refuses deed → ⊥
+unfolding AwaitsRefusedFlag
 none-refused refuses (Do call) none refused = refused
 none-refused refuses (Tell flag) none refused = refused
 none-refused refuses (Await flag) none refused = false≢true (sym (none flag) ∙ refused)

@@ -37,12 +37,12 @@ use Rattle.gt_order.specs.Ordering.{AreOnRaisedFlags, AreStepsOf, AreTrueLooks, 
 use Rattle.gt_order.specs.Ordering.{event_in, events_of, item_of_beginning, items_in, items_of_steps, of_core}
 use Rattle.gt_order.specs.Ordering.{order_of_deeds, own_in, trace_of, way_of}
 use Rattle.gt_order.specs.Ordering.Occurrence.{OfCore}
-use Rattle.gt_order.specs.Runs.{AreDeeds, CallMade, Deed, IsAtRest, IsCall, IsCallWalk, domain_after}
+use Rattle.gt_order.specs.Runs.{AreDeeds, CallMade, DomainAct, IsAtRest, IsCall, IsCallWalk, domain_after}
 
 -- where a domain is: between two deeds, after these; or after these in a call that has made these steps
 pub data Stage : Type 0 where
-  Resting : List Deed → Stage
-  Going : List Deed → CallMade → List Moment → Stage
+  Resting : List DomainAct → Stage
+  Going : List DomainAct → CallMade → List Moment → Stage
 
 -- the domain as it was at rest last, and its view now
 abbrev pub domain_now : Domain → Stage → Domain
@@ -59,7 +59,7 @@ order_now c may d (Resting ms) = order_of_deeds c may d ms
 order_now c may d (Going ms m xs) = of_core (items_of_steps d (way_of c may m) None xs) ++ OfCore (item_of_beginning d m.request None) ∷ order_of_deeds c may d ms
 
 -- the call was begun, made these steps and is to make one more
-pub record IsGoing (b : Board) (c : Config) (may : AllowRelation) (first : Domain) (ms : List Deed) (m : CallMade) (xs : List Moment) : Type 0 where
+pub record IsGoing (b : Board) (c : Config) (may : AllowRelation) (first : Domain) (ms : List DomainAct) (m : CallMade) (xs : List Moment) : Type 0 where
   pub deeds : AreDeeds b c may first ms
   pub rests : IsAtRest (domain_after first ms) m.old
   pub call : IsCall b c may m

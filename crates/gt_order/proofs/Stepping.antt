@@ -24,7 +24,7 @@ use Rattle.gt_core.proofs.Phases.{IsHere}
 use Rattle.gt_core.proofs.EachStep.{each-step}
 use Rattle.gt_core.proofs.Entries.{of-safe}
 use Rattle.gt_core.proofs.Steps.See.{IsWithin as InCore, table-fits}
-use Rattle.gt_core.specs.GoingOn.{IsOnWords, CanBeReached}
+use Rattle.gt_core.specs.GoingOn.{AccessesNoBytes, CanBeReached}
 use Rattle.gt_model.specs.declared.trace.Answer.{Answer}
 use Rattle.gt_core.specs.declared.underway.OpenCall.{OpenCall}
 use Rattle.gt_model.specs.Justified.{IsSafeChange}
@@ -150,7 +150,7 @@ leg-all P s g xs d r vs so_far phase step p n i rests a =
     (All-pop (λ (x : ℕ × HeldPin). P x.1) (numbered 0 l.0 ++ (0 + length l.0, p) ∷ []) (numbered 0 l.0) (Some (0 + length l.0, p)) refl
     (subst (All (λ (x : ℕ × HeldPin). P x.1)) (l.1 ∙ numbered-last 0 l.0 p) (legs-all P d.0 (live g) a))).1
 
-pub within : (c : Config) (may : AllowRelation) (k : Layout) (g : Items) (d : DomId) (cl : Underway) (step : Step) → k ≡ layout_of c → StandsHere (setting_of c may) g d cl step → IsOnWords step
+pub within : (c : Config) (may : AllowRelation) (k : Layout) (g : Items) (d : DomId) (cl : Underway) (step : Step) → k ≡ layout_of c → StandsHere (setting_of c may) g d cl step → AccessesNoBytes step
     → ((p : HeldPin) (holder : PinHolder) → step ≡ Unpin p holder → HasDomain k p.dom × (p.gref.0 < TABLE_ENTRIES)) → IsWithin k step
 within c may k g d cl step is here quiet unpinned = by step refl (each-step s g xs d cl.request (values cl) (reverse cl.steps) here.phase step here.here).0 here.here.rests
   where
@@ -177,9 +177,9 @@ within c may k g d cl step is here quiet unpinned = by step refl (each-step s g 
     by (StoreBody gref SecondHalf word) e w r = granted gref r.1.0 r.1.1 r.0
     by (StoreHeader version frames) e w r = tt
     by (Exchange gref looked change) e w r = w.1
-    by (ReadBytes dom frame off len) e w r = absurd (subst IsOnWords e quiet)
-    by (WriteBytes dom frame off len) e w r = absurd (subst IsOnWords e quiet)
-    by (CopyBytes from to len) e w r = absurd (subst IsOnWords e quiet)
+    by (ReadBytes dom frame off len) e w r = absurd (subst AccessesNoBytes e quiet)
+    by (WriteBytes dom frame off len) e w r = absurd (subst AccessesNoBytes e quiet)
+    by (CopyBytes from to len) e w r = absurd (subst AccessesNoBytes e quiet)
 
 -- the step and its item
 

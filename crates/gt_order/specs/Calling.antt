@@ -1,8 +1,9 @@
 -- Each call of a domain is a call of a run, by the clauses of its contract.
 use Rattle.std.specs.Prelude.{◌≡◌, ℕ, List, [], Result, Ok, Err, OnOk, OnErr}
 use Rattle.gt_order.specs.Prelude.{denial_of, DomId, GrantRef, Denial, NoFacts, N26, IsSameSeat, Moment, Handle}
-use Rattle.gt_order.specs.Prelude.{asked, CallResult, Refused, HeldPin, Request, Writing, path_of, Step, Accessed}
-use Rattle.gt_order.specs.Prelude.{IsWrittenBy, Accesses, AllowRelation, Answered, BelongsTo, KeepsPinned}
+use Rattle.gt_order.specs.Prelude.{asked, CallResult, Refused, HeldPin, Request, Writing, path_of, Step}
+use Rattle.gt_order.specs.Prelude.{EndsAfterAccess}
+use Rattle.gt_order.specs.Prelude.{IsWrittenBy, AnswersWithAccess, AllowRelation, Answered, BelongsTo, KeepsPinned}
 use Rattle.gt_order.specs.Prelude.{MapAnswered, known_on, verdict_of, IsOfMapping, Removes, Domain, Monitor, Bytes}
 use Rattle.gt_order.specs.Prelude.{Copying, IsCopiedBy, IsReadBy, IsUnmade, Reading}
 use Rattle.gt_types.specs.declared.copies.CopyArgs.{CopyArgs}
@@ -74,10 +75,10 @@ IsStoring (requests.Poke frame off bytes) = Unit {0}
 IsStoring request = ⊥
 
 -- the request is a load or a peek
-abbrev pub IsLoading : Request → Type 0
-IsLoading (requests.Load handle off len) = Unit {0}
-IsLoading (requests.Peek frame off len) = Unit {0}
-IsLoading request = ⊥
+abbrev pub IsLoadOrPeek : Request → Type 0
+IsLoadOrPeek (requests.Load handle off len) = Unit {0}
+IsLoadOrPeek (requests.Peek frame off len) = Unit {0}
+IsLoadOrPeek request = ⊥
 
 -- the request makes one access, and no step on the words
 abbrev pub IsSingle : Request → Type 0
@@ -91,29 +92,29 @@ IsSingle request = ⊥
 abbrev pub WritesAreMade : {P : Type 0} → (P → AllowRelation) → Monitor P → Type 0
 WritesAreMade may m =
     (d e : Domain) (request : Request) (r : Writing) → StaysOf may m d e → IsStoring request
-    → Accesses may m d request (IsWrittenBy (words_of m).layout d request) (Ok r) e
+    → AnswersWithAccess may m d request (IsWrittenBy (words_of m).layout d request) (Ok r) e
     → KeepsPinned d e → (steps : List Moment) × WasMade may m request Wrote steps d e
 
 -- a copy that is Ok
 abbrev pub CopiesAreMade : {P : Type 0} → (P → AllowRelation) → Monitor P → Type 0
 CopiesAreMade may m =
     (d e : Domain) (args : CopyArgs) (r : Copying) → StaysOf may m d e → FitsTypes (requests.Copy args)
-    → Accesses may m d (requests.Copy args) (IsCopiedBy (known_on may m d) (words_of m).layout d args) (Ok r) e
+    → AnswersWithAccess may m d (requests.Copy args) (IsCopiedBy (known_on may m d) (words_of m).layout d args) (Ok r) e
     → KeepsPinned d e → (steps : List Moment) × WasMade may m (requests.Copy args) Wrote steps d e
 
 -- a load or a peek that is Ok, with the bytes that it read
 abbrev pub ReadsAreMade : {P : Type 0} → (P → AllowRelation) → Monitor P → Type 0
 ReadsAreMade may m =
-    (d e : Domain) (request : Request) (r : Reading) (bytes : Bytes) → StaysOf may m d e → IsLoading request
-    → bytes.bytes.items ≡ r.bytes → Accesses may m d request (IsReadBy (words_of m).layout) (Ok r) e → KeepsPinned d e
-    → (steps : List Moment) × WasMade may m request (Read bytes) steps d e
+    (d e : Domain) (request : Request) (r : Reading) (bytes : Bytes) → StaysOf may m d e → IsLoadOrPeek request
+    → bytes.bytes.items ≡ r.bytes → AnswersWithAccess may m d request (IsReadBy (words_of m).layout) (Ok r) e
+    → KeepsPinned d e → (steps : List Moment) × WasMade may m request (Read bytes) steps d e
 
 -- a copy that reached its access and could not make it: it made the steps of its probe, and counts as the probe
 abbrev pub LostCopiesAreMade : {P : Type 0} → (P → AllowRelation) → Monitor P → Type 0
 LostCopiesAreMade may m =
     (d e : Domain) (args : CopyArgs) (access : Step) → StaysOf may m d e
-    → Accessed (words_of m).layout (path_of (known_on may m d) (seat_of d).dom (requests.Copy args)) access IsUnmade
-    (seat_of d).view (seat_of e).view
+    → EndsAfterAccess (words_of m).layout (path_of (known_on may m d) (seat_of d).dom (requests.Copy args)) access
+    IsUnmade (seat_of d).view (seat_of e).view
     → KeepsPinned d e → (steps : List Moment) × WasMade may m (requests.Probe args) (Told Granted) steps d e
 
 -- a copy in two halves, whose access its caller makes: it made the steps of its probe, and counts as the probe
@@ -128,6 +129,6 @@ HalvesAreMade may m =
 abbrev pub LostAccessesAreMade : {P : Type 0} → (P → AllowRelation) → Monitor P → Type 0
 LostAccessesAreMade may m =
     (d e : Domain) (request : Request) (access : Step) → StaysOf may m d e → IsSingle request
-    → Accessed (words_of m).layout (path_of (known_on may m d) (seat_of d).dom request) access IsUnmade
+    → EndsAfterAccess (words_of m).layout (path_of (known_on may m d) (seat_of d).dom request) access IsUnmade
     (seat_of d).view (seat_of e).view
     → KeepsPinned d e → WasMade may m request Starved [] d e

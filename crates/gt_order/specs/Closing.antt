@@ -9,18 +9,18 @@ use Rattle.gt_live.specs.Domains.{AllowRelation, BelongsTo}
 use Rattle.gt_live.specs.declared.domain.Domain.{Domain}
 use Rattle.gt_live.specs.declared.monitor.Monitor.{Monitor}
 use Rattle.gt_order.specs.Leaving.{AreReleases}
-use Rattle.gt_order.specs.Runs.{AreDeeds, Deed, IsAtRest, LookMade, domain_after}
-use Rattle.gt_order.specs.Runs.Deed.{Call, Look, OnFlag}
+use Rattle.gt_order.specs.Runs.{AreDeeds, DomainAct, IsAtRest, LookMade, domain_after}
+use Rattle.gt_order.specs.Runs.DomainAct.{Call, Look, OnFlag}
 use Rattle.gt_live.specs.Parts.{config_of, rights_of, words_of}
 
 -- the domain d did these deeds, the last one first, and is then e, between two deeds
-pub record LeadTo {P : Type 0} (may : P → AllowRelation) (m : Monitor P) (d : Domain) (deeds : List Deed) (e : Domain)
-    : Type 0 where
+pub record LeadTo {P : Type 0} (may : P → AllowRelation) (m : Monitor P) (d : Domain) (deeds : List DomainAct)
+    (e : Domain) : Type 0 where
   pub made : AreDeeds (words_of m) (config_of m) (may (rights_of m)) d deeds
   pub now : IsAtRest (domain_after d deeds) e
 
 -- each of these deeds is a withdrawal of an entry, or a look at one
-abbrev pub AreClosing : List Deed → Type 0
+abbrev pub AreClosing : List DomainAct → Type 0
 AreClosing [] = Unit {0}
 AreClosing (Call m ∷ ms) = ((gref : GrantRef) × (m.request ≡ requests.Withdraw gref)) × AreClosing ms
 AreClosing (OnFlag x ∷ ms) = ⊥
@@ -30,17 +30,17 @@ AreClosing (Look x ∷ ms) = AreClosing ms
 abbrev pub ClosingIsWithdrawing : {P : Type 0} → (P → AllowRelation) → Monitor P → Type 0
 ClosingIsWithdrawing may m =
     (d e : Domain) (left : ℕ) → BelongsTo may m d → Closes may m d left e
-    → (deeds : List Deed) × LeadTo may m d deeds e × AreClosing deeds
+    → (deeds : List DomainAct) × LeadTo may m d deeds e × AreClosing deeds
 
 -- what `reset` does is releases, each Ok, and then withdrawals and looks
 abbrev pub ResettingIsReleasing : {P : Type 0} → (P → AllowRelation) → Monitor P → Type 0
 ResettingIsReleasing may m =
     (d e : Domain) (left : ℕ) → BelongsTo may m d → Resets may m d left e
-    → (closing releases : List Deed)
+    → (closing releases : List DomainAct)
     × LeadTo may m d (closing ++ releases) e × AreClosing closing × AreReleases releases
 
 -- a look at this entry that found this control; none if there is no control
-abbrev pub IsStatus : GrantRef → Option Control → List Deed → Type 0
+abbrev pub IsStatus : GrantRef → Option Control → List DomainAct → Type 0
 IsStatus gref None deeds = deeds ≡ []
 IsStatus gref (Some control) deeds =
     (x : LookMade) × (deeds ≡ Look x ∷ []) × (x.gref ≡ gref) × (control ≡ control_of x.word)
@@ -50,4 +50,4 @@ abbrev pub StatusIsLooking : {P : Type 0} → (P → AllowRelation) → Monitor 
 StatusIsLooking may m =
     (d e : Domain) (gref : GrantRef) (found : Option Control) → BelongsTo may m d
     → LooksAtOwn (words_of m).layout d gref found e
-    → (deeds : List Deed) × LeadTo may m d deeds e × IsStatus gref found deeds
+    → (deeds : List DomainAct) × LeadTo may m d deeds e × IsStatus gref found deeds

@@ -4,18 +4,19 @@ use Rattle.gt_types.specs.declared.GrantRef.{GrantRef}
 use Rattle.gt_types.specs.declared.denial.Denial.{Denial}
 use Rattle.gt_model.specs.declared.change.EntryChange.{EntryChange}
 use Rattle.gt_live.specs.Domains.{AllowRelation, BelongsTo, StaysIn}
-use Rattle.gt_live.specs.Following.{Follows, request_of}
+use Rattle.gt_live.specs.Following.{Follows, request_of_change}
 use Rattle.gt_live.specs.declared.domain.Domain.{Domain}
 use Rattle.gt_live.specs.declared.domain.following.Followed.{Followed}
 use Rattle.gt_live.specs.declared.monitor.Monitor.{Monitor}
 use Rattle.gt_order.specs.Closing.{LeadTo}
-use Rattle.gt_order.specs.Runs.{Deed}
-use Rattle.gt_order.specs.Runs.Deed.{Call, Look, OnFlag}
+use Rattle.gt_order.specs.Runs.{DomainAct}
+use Rattle.gt_order.specs.Runs.DomainAct.{Call, Look, OnFlag}
 
 -- each of these deeds is a call that changes this entry
-abbrev pub AreChanges : GrantRef → List Deed → Type 0
+abbrev pub AreChanges : GrantRef → List DomainAct → Type 0
 AreChanges gref [] = Unit {0}
-AreChanges gref (Call m ∷ ms) = ((change : EntryChange) × (m.request ≡ request_of gref change)) × AreChanges gref ms
+AreChanges gref (Call m ∷ ms) = ((change : EntryChange) × (m.request ≡ request_of_change gref change))
+    × AreChanges gref ms
 AreChanges gref (OnFlag x ∷ ms) = ⊥
 AreChanges gref (Look x ∷ ms) = ⊥
 
@@ -24,4 +25,4 @@ abbrev pub FollowingIsCalling : {P : Type 0} → (P → AllowRelation) → Monit
 FollowingIsCalling may m =
     (d e : Domain) (gref : GrantRef) (bytes : List ℕ) (result : Result Followed Denial)
     → BelongsTo may m d → StaysIn may m d e → Follows may m d gref bytes result e
-    → (deeds : List Deed) × (length deeds ≤ 2) × LeadTo may m d deeds e × AreChanges gref deeds
+    → (deeds : List DomainAct) × (length deeds ≤ 2) × LeadTo may m d deeds e × AreChanges gref deeds

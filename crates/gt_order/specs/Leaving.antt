@@ -9,13 +9,13 @@ use Rattle.gt_model.specs.declared.request.Request.TheVariants as requests
 use Rattle.gt_live.specs.Domains.{AllowRelation, HasLeft, IsDomainOf}
 use Rattle.gt_live.specs.declared.domain.Domain.{Domain}
 use Rattle.gt_live.specs.declared.domain.Departed.{Departed}
-use Rattle.gt_order.specs.Runs.{AreDeeds, Deed, domain_after}
+use Rattle.gt_order.specs.Runs.{AreDeeds, DomainAct, domain_after}
 use Rattle.gt_order.specs.Runs.CallOutcome.{Told}
-use Rattle.gt_order.specs.Runs.Deed.{Call, Look, OnFlag}
+use Rattle.gt_order.specs.Runs.DomainAct.{Call, Look, OnFlag}
 use Rattle.gt_live.specs.Parts.{mappings_of, seat_left, seat_of}
 
 -- each of these deeds is a release that is Ok
-abbrev pub AreReleases : List Deed → Type 0
+abbrev pub AreReleases : List DomainAct → Type 0
 AreReleases [] = Unit {0}
 AreReleases (Call m ∷ ms) =
     ((handle : Handle) × (m.request ≡ requests.Release handle) × (m.outcome ≡ Told Granted)) × AreReleases ms
@@ -28,6 +28,6 @@ abbrev pub LeavingIsReleasing : Type 0
 LeavingIsReleasing =
     (b : Board) (c : Config) (may : AllowRelation) (d : Domain) (l : Departed) → IsDomainOf b c may d
     → HasLeft b.layout d l
-    → (releases : List Deed) × AreDeeds b c may d releases × AreReleases releases
+    → (releases : List DomainAct) × AreDeeds b c may d releases × AreReleases releases
     × ((seat_of (domain_after d releases)).view ≡ (seat_left l).view)
     × ((h : Handle) → value_of (mappings_of (domain_after d releases)) h ≡ None)

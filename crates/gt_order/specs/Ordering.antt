@@ -8,8 +8,8 @@ use Rattle.gt_order.specs.Prelude.{setting_of, Answer, AnswerDone, BytesAnswer, 
 use Rattle.gt_order.specs.Prelude.{ItemEvent, Began, Stepped, Item, AllowRelation, knowledge, all_shown, shown_by}
 use Rattle.gt_order.specs.Prelude.{Flag, FlagStep, Passed, Raised, domain_of, seen_in_step}
 use Rattle.gt_order.specs.Agreeing.{IsThe, WritesAgree, dom_at}
-use Rattle.gt_order.specs.Runs.{CallMade, CallOutcome, Deed, SeatRun}
-use Rattle.gt_order.specs.Runs.Deed.{Call, Look, OnFlag}
+use Rattle.gt_order.specs.Runs.{CallMade, CallOutcome, DomainAct, SeatRun}
+use Rattle.gt_order.specs.Runs.DomainAct.{Call, Look, OnFlag}
 use Rattle.gt_order.specs.Runs.CallOutcome.{Told, Kept, Starved, Read, Wrote}
 use Rattle.gt_live.specs.Parts.{seat_of}
 
@@ -134,7 +134,7 @@ of_core items = map (λ i. OfCore i) items
 
 -- what the deeds of the domain d are in an order, the last one first: the items of its calls, its steps on flags, and
 -- its looks
-abbrev pub order_of_deeds : Config → AllowRelation → DomId → List Deed → RunOrder
+abbrev pub order_of_deeds : Config → AllowRelation → DomId → List DomainAct → RunOrder
 order_of_deeds c may d [] = []
 order_of_deeds c may d (Call m ∷ ms) =
     of_core (items_by_outcome d (way_of c may m) m.request m.outcome m.steps) ++ order_of_deeds c may d ms

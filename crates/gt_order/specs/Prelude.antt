@@ -40,8 +40,8 @@ pub use Rattle.gt_frames.specs.Receipts.{Copying, Reading, Writing}
 pub use Rattle.gt_frames.specs.declared.writ.Writ.{Writ}
 pub use Rattle.gt_handles.specs.Handles.{HandleMap}
 pub use Rattle.gt_model.specs.declared.handle.Handle.{Handle}
-pub use Rattle.gt_live.specs.Accesses.{Accessed, IsCopiedBy, IsReadBy, IsUnmade, IsWrittenBy}
-pub use Rattle.gt_live.specs.Domains.{Accesses, AllowRelation, Answered, IsDomainOf, BelongsTo, KeepsPinned}
+pub use Rattle.gt_live.specs.Accesses.{EndsAfterAccess, IsCopiedBy, IsReadBy, IsUnmade, IsWrittenBy}
+pub use Rattle.gt_live.specs.Domains.{AnswersWithAccess, AllowRelation, Answered, IsDomainOf, BelongsTo, KeepsPinned}
 pub use Rattle.gt_live.specs.Domains.{IsUnsettled, MapAnswered, knowledge, known_on, verdict_of}
 pub use Rattle.gt_live.specs.Ending.{IsMap, IsOfMapping}
 pub use Rattle.gt_live.specs.Flags.{FlagStepped}

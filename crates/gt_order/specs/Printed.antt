@@ -17,13 +17,13 @@ use Rattle.gt_script_runs.specs.Rights.{may_by}
 use Rattle.gt_script_runs.specs.declared.rights.ScriptPolicy.{ScriptPolicy as ScriptRights}
 use Rattle.gt_run.specs.Printing.{texts_in}
 use Rattle.gt_run.specs.Runs.{AreOf, WritesScript}
-use Rattle.gt_run.specs.Serving.{IsRefused, RefusesNone, gate_line}
+use Rattle.gt_run.specs.Serving.{AwaitsRefusedFlag, RefusesNone, gate_line}
 use Rattle.gt_explore_replay.specs.Orders.{CallHappens, DeedHappens, FlagsAreRaised, GivesMappingsBack, Happening}
 use Rattle.gt_explore_replay.specs.Orders.{MayGive, Prints, doer, events_in, own_happenings, trace_in}
 
 -- the answer of a call that got no memory
-abbrev pub no_memory : Answer
-no_memory = answers.Denied (denial_of N26 NoFacts)
+abbrev pub no_memory_answer : Answer
+no_memory_answer = answers.Denied (denial_of N26 NoFacts)
 
 -- a call that makes no step before it has the memory that it needs: a map, or a call whose only step is an access
 abbrev pub IsAllocating : Request → Type 0
@@ -46,23 +46,23 @@ abbrev pub GetsNoMemory : List (List ℕ) → DomId → List Named → List Hand
     → (List Named → List Handle → List Happening → List ℕ → Type 0) → List Happening → List ℕ → Type 0
 GetsNoMemory types dom named held line (Do call) Next hs text =
     (request : Request) × MakesRequest named dom call request
-    × Starves dom request (λ more. Prints (answer_line types line dom no_memory) (Next named held more) text) hs
+    × Starves dom request (λ more. Prints (answer_line types line dom no_memory_answer) (Next named held more) text) hs
 GetsNoMemory types dom named held line action Next hs text = ⊥
 
 -- a domain at the end of its list releases all its mappings
-abbrev pub Leaves : DomId → List Handle → List Happening → Type 0
-Leaves dom held hs = (order : List Handle) × GivesMappingsBack dom order held hs
+abbrev pub ReleasesMappings : DomId → List Handle → List Happening → Type 0
+ReleasesMappings dom held hs = (order : List Handle) × GivesMappingsBack dom order held hs
 
 -- the gate refused the domain at this line: the domain prints the gate's line, serves no line more, and leaves
 abbrev pub StopsAtGate : (ℕ → Bool) → DomId → List Handle → RunTask → List Happening → List ℕ → Type 0
 StopsAtGate refuses dom held t hs text =
-    IsRefused refuses t.deed × Leaves dom held hs × (text ≡ gate_line t.line dom)
+    AwaitsRefusedFlag refuses t.deed × ReleasesMappings dom held hs × (text ≡ gate_line t.line dom)
 
 -- a domain serves its list, line by line, and then leaves; a call may get no memory, and a gate may stop the list at a
 -- flag that it refuses; this is what it prints
 abbrev pub PrintsList : (ℕ → Bool) → List (List ℕ) → DomId → List Named → List Handle → List RunTask
     → List Happening → List ℕ → Type 0
-PrintsList refuses types dom named held [] hs text = Leaves dom held hs × (text ≡ [])
+PrintsList refuses types dom named held [] hs text = ReleasesMappings dom held hs × (text ≡ [])
 PrintsList refuses types dom named held (t ∷ ts) hs text =
     DeedHappens types dom named held t.line t.deed
     (λ names holds more rest. PrintsList refuses types dom names holds ts more rest) hs text
@@ -108,13 +108,13 @@ GivenTextsArePrinted =
     (refuses : ℕ → Bool) (c : RunContents) (text : List ℕ) → MayGive c text → MayPrint refuses c text
 
 -- this part is in the text
-abbrev pub HasPart : List ℕ → List ℕ → Type 0
-HasPart part text = (before : List ℕ) × (rest : List ℕ) × (text ≡ before ++ (part ++ rest))
+abbrev pub ContainsText : List ℕ → List ℕ → Type 0
+ContainsText part text = (before : List ℕ) × (rest : List ℕ) × (text ≡ before ++ (part ++ rest))
 
 -- no line of a call that got no memory is in the text; and no line of a gate is, if the gate may refuse some flag
 pub record IsUndisturbed (refuses : ℕ → Bool) (types : List (List ℕ)) (text : List ℕ) : Type 0 where
-  pub memory : (line : ℕ) (dom : DomId) → HasPart (answer_line types line dom no_memory) text → ⊥
-  pub gates : RefusesNone refuses ⊎ ((line : ℕ) (dom : DomId) → HasPart (gate_line line dom) text → ⊥)
+  pub memory : (line : ℕ) (dom : DomId) → ContainsText (answer_line types line dom no_memory_answer) text → ⊥
+  pub gates : RefusesNone refuses ⊎ ((line : ℕ) (dom : DomId) → ContainsText (gate_line line dom) text → ⊥)
 
 -- a text that a run may print is one that `explore` lists, if it has no line with N26, and if it has no line of a gate
 -- or the gate refuses no flag

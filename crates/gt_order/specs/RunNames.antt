@@ -11,8 +11,8 @@ pub use Rattle.gt_live.specs.declared.domain.Departed.{Departed}
 pub use Rattle.gt_live.specs.declared.monitor.Monitor.{Monitor}
 pub use Rattle.gt_order.specs.Leaving.{AreReleases}
 pub use Rattle.gt_order.specs.Ordering.{IsLegalOrder, RunOrder}
-pub use Rattle.gt_order.specs.Runs.{CallMade, CallOutcome, Deed, FitsTypes, FlagMade, SeatRun}
-pub use Rattle.gt_order.specs.Runs.Deed.{Call, Look, OnFlag}
+pub use Rattle.gt_order.specs.Runs.{CallMade, CallOutcome, DomainAct, FitsTypes, FlagMade, SeatRun}
+pub use Rattle.gt_order.specs.Runs.DomainAct.{Call, Look, OnFlag}
 pub use Rattle.gt_order.specs.Runs.CallOutcome.{Kept, Read, Starved, Told, Wrote}
 pub use Rattle.gt_run.specs.Printing.{Served, WasServed, WritesAll}
 pub use Rattle.gt_run.specs.Serving.{MakesCall, ListOutcome, ListProgress}

@@ -155,10 +155,10 @@ pub record IsLook (k : Layout) (x : LookMade) : Type 0 where
   pub kept : IsUnsettled x.old x.new
 
 -- what a domain does: a call, a step on a flag, or a look
-pub data Deed : Type 0 where
-  Call : CallMade → Deed
-  OnFlag : FlagMade → Deed
-  Look : LookMade → Deed
+pub data DomainAct : Type 0 where
+  Call : CallMade → DomainAct
+  OnFlag : FlagMade → DomainAct
+  Look : LookMade → DomainAct
 
 -- between two deeds the domain changed only its records
 pub record IsAtRest (d e : Domain) : Type 0 where
@@ -169,17 +169,17 @@ pub record IsAtRest (d e : Domain) : Type 0 where
 -- what a domain did: the domain as it came with the monitor, and its deeds, the last one first
 pub record SeatRun : Type 0 where
   pub first : Domain
-  pub deeds : List Deed
+  pub deeds : List DomainAct
 
 -- the domain after these deeds
-abbrev pub domain_after : Domain → List Deed → Domain
+abbrev pub domain_after : Domain → List DomainAct → Domain
 domain_after first [] = first
 domain_after first (Call m ∷ ms) = m.new
 domain_after first (OnFlag x ∷ ms) = x.new
 domain_after first (Look x ∷ ms) = x.new
 
 -- these deeds were done one after another, the last one first
-abbrev pub AreDeeds : Board → Config → AllowRelation → Domain → List Deed → Type 0
+abbrev pub AreDeeds : Board → Config → AllowRelation → Domain → List DomainAct → Type 0
 AreDeeds b c may first [] = Unit {0}
 AreDeeds b c may first (Call m ∷ ms) =
     IsCall b c may m × IsAtRest (domain_after first ms) m.old × AreDeeds b c may first ms

@@ -2,7 +2,7 @@
 use Rattle.std.specs.Prelude.{◌≡◌, ◌⊎◌, ℕ, Bool, ◌<◌, All, List, [], ◌∷◌, ◌++◌, length, map, Option, Some, slice_get}
 use Rattle.gt_order.specs.RunNames.{some, get_elem?, State, Config, Denial, Board, StepHistory, Shows, id_at, IsAmong}
 use Rattle.gt_order.specs.RunNames.{View, answer_of, Answer, AllowRelation, HasLeft, Domain, Departed, Monitor}
-use Rattle.gt_order.specs.RunNames.{AreReleases, IsLegalOrder, CallMade, Await, Call, Deed, Do, FlagMade, FlagStep}
+use Rattle.gt_order.specs.RunNames.{AreReleases, IsLegalOrder, CallMade, Await, Call, DomainAct, Do, FlagMade, FlagStep}
 use Rattle.gt_order.specs.RunNames.{Look, OnFlag, Passed, Raised, RunAction, RunOrder, Tell, CallOutcome, SeatRun}
 use Rattle.gt_order.specs.RunNames.{Told, Kept, Starved, Read, Wrote, ScriptCall, RunTask, ThreadJob, Served}
 use Rattle.gt_order.specs.RunNames.{WasServed, WritesAll, MakesCall, ListProgress}
@@ -21,15 +21,15 @@ abbrev pub HasAllFrames : {P : Type 0} → Monitor P → Type 0
 HasAllFrames m = (words_of m).frames ≡ frames_kept (config_of m)
 
 -- the refusal of an allocation, or of an access to a frame that is missing, which no table with all frames gives
-abbrev pub IsLost : {P : Type 0} → Monitor P → Denial → Type 0
-IsLost m denial =
+abbrev pub IsMemoryRefusal : {P : Type 0} → Monitor P → Denial → Type 0
+IsMemoryRefusal m denial =
     (denial ≡ denial_of N26 NoFacts) ⊎ ((denial ≡ denial_of N16 NoFacts) × (HasAllFrames m → ⊥))
 
 -- a call with this outcome has this answer
 abbrev pub OutcomeGivesAnswer : {P : Type 0} → Monitor P → CallOutcome → Answer → Type 0
 OutcomeGivesAnswer m (Told verdict) answer = answer ≡ answer_of verdict
 OutcomeGivesAnswer m (Kept handle p) answer = answer ≡ answers.Mapped handle
-OutcomeGivesAnswer m Starved answer = (denial : Denial) × (answer ≡ answers.Denied denial) × IsLost m denial
+OutcomeGivesAnswer m Starved answer = (denial : Denial) × (answer ≡ answers.Denied denial) × IsMemoryRefusal m denial
 OutcomeGivesAnswer m (Read bytes) answer = answer ≡ answers.Bytes bytes
 OutcomeGivesAnswer m Wrote answer = answer ≡ answers.Done
 
@@ -42,7 +42,7 @@ pub record IsLostCopy {P : Type 0} (monitor : Monitor P) (m : CallMade) (request
   pub outcome : m.outcome ≡ Told Granted
   pub denial : Denial
   pub refused : answer ≡ answers.Denied denial
-  pub lost : IsLost monitor denial
+  pub lost : IsMemoryRefusal monitor denial
 
 -- the call m of a run is what the domain did for this request, which got this answer
 abbrev pub IsDoneFor : {P : Type 0} → Monitor P → CallMade → Request → Answer → Type 0
@@ -74,7 +74,7 @@ IsOfFlagLine job x = (task : RunTask) × IsAmong task job.part.tasks.now × IsFl
 
 -- these deeds, the last one first, are those of lines of the job's list, and lead to q: calls with their outcomes, and
 -- steps on flags
-abbrev pub AreDeedsOf : {P : Type 0} → (P → AllowRelation) → ThreadJob P → List Deed → ListProgress → Type 0
+abbrev pub AreDeedsOf : {P : Type 0} → (P → AllowRelation) → ThreadJob P → List DomainAct → ListProgress → Type 0
 AreDeedsOf may job [] q = (q.named ≡ []) × (q.outcomes ≡ [])
 AreDeedsOf may job (Call m ∷ ms) q = (p : ListProgress) × IsCallOf may job m p q × AreDeedsOf may job ms p
 AreDeedsOf may job (OnFlag x ∷ ms) q =
@@ -94,9 +94,9 @@ IsViewOf b c may d v =
     (v ≡ (seat_of d).view) ⊎ ((l : Departed) × HasLeft b.layout d l × (v ≡ (seat_left l).view))
 
 -- each of a domain's deeds is one of its list, or a release with which it left
-pub record AreDeedsOfList {P : Type 0} (may : P → AllowRelation) (s : Served P) (made : List Deed) : Type 0 where
-  pub leaving : List Deed
-  pub listed : List Deed
+pub record AreDeedsOfList {P : Type 0} (may : P → AllowRelation) (s : Served P) (made : List DomainAct) : Type 0 where
+  pub leaving : List DomainAct
+  pub listed : List DomainAct
   pub all : made ≡ leaving ++ listed
   pub releases : AreReleases leaving
   pub left : ListProgress

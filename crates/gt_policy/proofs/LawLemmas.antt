@@ -11,7 +11,7 @@ use Rattle.gt_policy.specs.Grammar.{Lexemes, statement, at, ◌>>=◌}
 use Rattle.gt_policy.specs.Spelling.{declared_names}
 use Rattle.gt_policy.specs.Allowing.{Meaning}
 use Rattle.gt_policy.specs.Resolving.{resolved_draft, nothing_given}
-use Rattle.gt_policy.specs.Whole.{Follows, ended, more, wrong, ReadsAs, too_long, clean, faulty, meaning_of}
+use Rattle.gt_policy.specs.Whole.{GivesStatements, ended, more, wrong, ReadsAs, too_long, clean, faulty, meaning_of}
 use Rattle.gt_policy.specs.Undeclared.{IsFirstUndeclared, uses_of}
 use Rattle.gt_policy.specs.Accepting.{IsWritten, IsBroken, SpellsFront, front_end, front_more, meant_by}
 use Rattle.gt_policy.proofs.TextLemmas.{added, all_added, bind_ok, statement_read, statement_spelled, text_read}
@@ -22,7 +22,7 @@ use Rattle.gt_policy.proofs.UndeclaredLemmas.{meant_undeclared, undeclared_meant
 abbrev says : List ℕ → Type 0
 says text = (said : Result Meaning TokenFault) × ReadsAs text said
 
-said_by : (text : List ℕ) → length text ≤ 1048576 → (said : Result (Names × List Statement) TokenFault) → Follows no_names [] (lexemes_of text) said → says text
+said_by : (text : List ℕ) → length text ≤ 1048576 → (said : Result (Names × List Statement) TokenFault) → GivesStatements no_names [] (lexemes_of text) said → says text
 said_by text short (Ok (names, ss)) h = (meaning_of names (resolved_draft names nothing_given ss), clean text names ss short h)
 said_by text short (Err f) h = (Err f, faulty text f short h)
 
@@ -37,14 +37,14 @@ says_some text = go (nat_lt 1048576 (length text)) refl
         said_by text short r.0 r.1
 
 -- a text that is written so follows so
-written_follows : (text : List ℕ) (ss : List Statement) → IsWritten text ss → Follows no_names [] (lexemes_of text) (Ok (declared_names ss, ss))
+written_follows : (text : List ℕ) (ss : List Statement) → IsWritten text ss → GivesStatements no_names [] (lexemes_of text) (Ok (declared_names ss, ss))
 written_follows text ss w = text_spelled ss (lexemes_of text) w.spelled no_names (declared_names ss) [] (clean_added ss w.clean)
 
 pub written_says : (text : List ℕ) (ss : List Statement) → IsWritten text ss → ReadsAs text (meant_by ss)
 written_says text ss w = clean text (declared_names ss) ss w.short (written_follows text ss w)
 
 -- and the other way round
-pub follows_written : (text : List ℕ) (names : Names) (ss : List Statement) → length text ≤ 1048576 → Follows no_names [] (lexemes_of text) (Ok (names, ss)) → IsWritten text ss × (declared_names ss ≡ names)
+pub follows_written : (text : List ℕ) (names : Names) (ss : List Statement) → length text ≤ 1048576 → GivesStatements no_names [] (lexemes_of text) (Ok (names, ss)) → IsWritten text ss × (declared_names ss ≡ names)
 follows_written text names ss short h =
     let r = text_read no_names [] (lexemes_of text) (Ok (names, ss)) h names ss refl in
     let c = added_clean r.0 names r.3 in
@@ -59,7 +59,7 @@ says_written text said (clean _ names ss short h) m e =
 says_written text said (faulty _ f short h) m e = absurd (cc)
 
 -- the statements in front of a fault
-follows_broken : (seen : Names) (ss : List Statement) (ls : Lexemes) (said : Result (Names × List Statement) TokenFault) → Follows seen ss ls said → (f : TokenFault) → said ≡ Err f
+follows_broken : (seen : Names) (ss : List Statement) (ls : Lexemes) (said : Result (Names × List Statement) TokenFault) → GivesStatements seen ss ls said → (f : TokenFault) → said ≡ Err f
     → (names : Names) × (front : List Statement) × (rest : Lexemes) × SpellsFront front ls rest × (all_added seen front ≡ Ok names) × (statement names rest ≡ Err f)
 follows_broken seen ss ls said (ended _ _ _ rest e) f is = absurd (cc)
 follows_broken seen ss ls said (more _ next _ s _ rest _ e h) f is =
@@ -68,7 +68,7 @@ follows_broken seen ss ls said (more _ next _ s _ rest _ e h) f is =
     (r.0, s ∷ r.1, r.2, front_more s r.1 ls rest r.2 found.0 r.3, ap (λ (q : Result Names TokenFault). q >>= λ after. all_added after r.1) found.1 ∙ r.4, r.5)
 follows_broken seen ss ls said (wrong _ _ _ g e) f is = (seen, [], ls, front_end ls, refl, e ∙ cc)
 
-broken_follows : (front : List Statement) (ls rest : Lexemes) → SpellsFront front ls rest → (seen names : Names) (ss : List Statement) (f : TokenFault) → all_added seen front ≡ Ok names → statement names rest ≡ Err f → Follows seen ss ls (Err f)
+broken_follows : (front : List Statement) (ls rest : Lexemes) → SpellsFront front ls rest → (seen names : Names) (ss : List Statement) (f : TokenFault) → all_added seen front ≡ Ok names → statement names rest ≡ Err f → GivesStatements seen ss ls (Err f)
 broken_follows front ls rest (front_end _) seen names ss f fits e =
     let same : seen ≡ names = cc in
     wrong seen ss rest f (ap (λ q. statement q rest) same ∙ e)

@@ -16,7 +16,7 @@ use Rattle.gt_policy.specs.Lined.{SpellsLined, lined_end, lined_more, statements
 use Rattle.gt_policy.specs.Names.{Names, no_names}
 use Rattle.gt_policy.specs.Spelling.{SpellsStatement, type_of, attribute_of, attributes_of, allow_of, SpellsText}
 use Rattle.gt_policy.specs.Spelling.{text_end, statement_of}
-use Rattle.gt_policy.specs.Whole.{Follows, ended, more, wrong, faulty}
+use Rattle.gt_policy.specs.Whole.{GivesStatements, ended, more, wrong, faulty}
 use Rattle.gt_policy.proofs.TextLemmas.{statement_read, end_read}
 use Rattle.gt_policy.proofs.LawLemmas.{follows_written}
 
@@ -60,7 +60,7 @@ continues_end xs seen ls rest all e so_far =
 
 -- the statements that follow, and their lines
 abbrev pub Goes : Names → List Statement → Lexemes → Names → Lexemes → Type 0
-Goes seen ss ls start all = (said : Result (Names × List Statement) TokenFault) → Follows seen ss ls said → Follows start [] all said
+Goes seen ss ls start all = (said : Result (Names × List Statement) TokenFault) → GivesStatements seen ss ls said → GivesStatements start [] all said
 
 statements_push : (xs : List LinedStatement) (x : LinedStatement) → statements_in (xs ++ x ∷ []) ≡ statements_in xs ++ x.statement ∷ []
 statements_push [] x = refl
@@ -70,22 +70,22 @@ pub goes_more : (xs pushed : List LinedStatement) (x : LinedStatement) (start se
     → pushed ≡ xs ++ x ∷ [] → Goes seen (statements_in xs) ls start all → Goes next (statements_in pushed) rest start all
 goes_more xs pushed x start seen next ls rest all taken is so_far = λ said h.
     so_far said (more seen next (statements_in xs) x.statement ls rest said taken
-    (subst (λ (ss : List Statement). Follows next ss rest said) (ap statements_in is ∙ statements_push xs x) h))
+    (subst (λ (ss : List Statement). GivesStatements next ss rest said) (ap statements_in is ∙ statements_push xs x) h))
 
 pub heeds_lined_err : (e : ReadError) (start seen next after : Names) (ss : List Statement) (all ls rest : Lexemes) → Goes seen ss ls start all → GivesNext (Err e) seen next rest (statement seen ls) → HeedsLined (Err e) after start all
 heeds_lined_err read.Memory start seen next after ss all ls rest so_far h = tt
 heeds_lined_err (read.Fault f) start seen next after ss all ls rest so_far h = so_far (Err f) (wrong seen ss ls f h)
 
 pub lined_ok : (xs : List LinedStatement) (start seen next : Names) (all ls rest : Lexemes) → Goes seen (statements_in xs) ls start all → Continues xs ls all
-    → GivesNext (Ok None) seen next rest (statement seen ls) → Follows start [] all (Ok (next, statements_in xs)) × SpellsLined xs all
+    → GivesNext (Ok None) seen next rest (statement seen ls) → GivesStatements start [] all (Ok (next, statements_in xs)) × SpellsLined xs all
 lined_ok xs start seen next all ls rest so_far lines h = (
-  subst (λ (n : Names). Follows start [] all (Ok (n, statements_in xs))) (sym h.1) (so_far (Ok (seen, statements_in xs)) (ended seen (statements_in xs) ls [] h.0)),
+  subst (λ (n : Names). GivesStatements start [] all (Ok (n, statements_in xs))) (sym h.1) (so_far (Ok (seen, statements_in xs)) (ended seen (statements_in xs) ls [] h.0)),
   continues_end xs seen ls [] all h.0 lines,
 )
 
-started : (text : List ℕ) (names : Names) (ls : Lexemes) (said : Result (Names × List Statement) TokenFault) → names ≡ no_names → ls ≡ lexemes_of text → Follows names [] ls said → Follows no_names [] (lexemes_of text) said
+started : (text : List ℕ) (names : Names) (ls : Lexemes) (said : Result (Names × List Statement) TokenFault) → names ≡ no_names → ls ≡ lexemes_of text → GivesStatements names [] ls said → GivesStatements no_names [] (lexemes_of text) said
 started text names ls said en el h =
-    subst (λ (l : Lexemes). Follows no_names [] l said) el (subst (λ (n : Names). Follows n [] ls said) en h)
+    subst (λ (l : Lexemes). GivesStatements no_names [] l said) el (subst (λ (n : Names). GivesStatements n [] ls said) en h)
 
 pub lined_is : (r : Result (List LinedStatement) ReadError) (text : List ℕ) (names seen : Names) (ls : Lexemes) → length text ≤ 1048576 → names ≡ no_names → ls ≡ lexemes_of text → HeedsLined r seen names ls → LinedIs r text
 lined_is (Ok xs) text names seen ls few en el h = record {

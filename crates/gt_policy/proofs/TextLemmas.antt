@@ -21,7 +21,7 @@ use Rattle.gt_policy.specs.Grammar.{typeattribute_statement, type_statement, att
 use Rattle.gt_policy.specs.Grammar.{statement}
 use Rattle.gt_policy.specs.Spelling.{SpellsSet, SpellsPerms, SpellsStatement, type_of, attribute_of, attributes_of}
 use Rattle.gt_policy.specs.Spelling.{allow_of, SpellsText, text_end, statement_of}
-use Rattle.gt_policy.specs.Whole.{Follows, ended, more, wrong}
+use Rattle.gt_policy.specs.Whole.{GivesStatements, ended, more, wrong}
 use Rattle.gt_policy.proofs.SpellingLemmas.{ok_of, ok_part, names_read, names_spelled, names_shorter, set_read}
 use Rattle.gt_policy.proofs.SpellingLemmas.{set_spelled, set_shorter, classes_read, classes_spelled, list_shorter}
 use Rattle.gt_policy.proofs.SpellingLemmas.{perms_read, perms_spelled, perms_shorter}
@@ -276,7 +276,7 @@ abbrev pub all_added : Names → List Statement → Result Names TokenFault
 all_added seen [] = Ok seen
 all_added seen (s ∷ ss) = added seen s >>= λ next. all_added next ss
 
-pub text_read : (seen : Names) (ss : List Statement) (ls : Lexemes) (said : Result (Names × List Statement) TokenFault) → Follows seen ss ls said → (names : Names) (all : List Statement) → said ≡ Ok (names, all)
+pub text_read : (seen : Names) (ss : List Statement) (ls : Lexemes) (said : Result (Names × List Statement) TokenFault) → GivesStatements seen ss ls said → (names : Names) (all : List Statement) → said ≡ Ok (names, all)
     → (others : List Statement) × (all ≡ ss ++ others) × SpellsText others ls × (all_added seen others ≡ Ok names)
 text_read seen ss ls said (ended _ _ _ rest e) names all is =
     let same = ok_part (seen, ss) (names, all) is in
@@ -287,28 +287,28 @@ text_read seen ss ls said (more _ next _ s _ rest _ e h) names all is =
     (s ∷ r.0, r.1 ∙ append_assoc ss (s ∷ []) r.0, statement_of s r.0 ls rest found.0 r.2, ap (λ (q : Result Names TokenFault). q >>= λ after. all_added after r.0) found.1 ∙ r.3)
 text_read seen ss ls said (wrong _ _ _ f e) names all is = absurd (cc)
 
-pub text_spelled : (others : List Statement) (ls : Lexemes) → SpellsText others ls → (seen names : Names) (ss : List Statement) → all_added seen others ≡ Ok names → Follows seen ss ls (Ok (names, ss ++ others))
+pub text_spelled : (others : List Statement) (ls : Lexemes) → SpellsText others ls → (seen names : Names) (ss : List Statement) → all_added seen others ≡ Ok names → GivesStatements seen ss ls (Ok (names, ss ++ others))
 unfolding statement
 text_spelled others ls (text_end n behind) seen names ss fits =
-    subst (λ (q : Names). Follows seen ss ((End, n) ∷ behind) (Ok (q, ss ++ []))) (ok_part seen names fits)
-    (subst (λ (xs : List Statement). Follows seen ss ((End, n) ∷ behind) (Ok (seen, xs))) (sym (append-nil ss)) (ended seen ss ((End, n) ∷ behind) [] refl))
+    subst (λ (q : Names). GivesStatements seen ss ((End, n) ∷ behind) (Ok (q, ss ++ []))) (ok_part seen names fits)
+    (subst (λ (xs : List Statement). GivesStatements seen ss ((End, n) ∷ behind) (Ok (seen, xs))) (sym (append-nil ss)) (ended seen ss ((End, n) ∷ behind) [] refl))
 text_spelled others ls (statement_of s after _ rest h t) seen names ss fits =
     let b = bind_ok (added seen s) (λ next. all_added next after) names fits in
     more seen b.0 ss s ls rest (Ok (names, ss ++ s ∷ after)) (statement_spelled seen b.0 s ls rest h b.1)
-    (subst (λ (xs : List Statement). Follows b.0 (ss ++ s ∷ []) rest (Ok (names, xs))) (append_assoc ss (s ∷ []) after) (text_spelled after rest t b.0 names (ss ++ s ∷ []) b.2))
+    (subst (λ (xs : List Statement). GivesStatements b.0 (ss ++ s ∷ []) rest (Ok (names, xs))) (append_assoc ss (s ∷ []) after) (text_spelled after rest t b.0 names (ss ++ s ∷ []) b.2))
 
 -- tokens say something
-pub follows_some : (n : ℕ) (seen : Names) (ss : List Statement) (ls : Lexemes) → length ls ≤ n → (said : Result (Names × List Statement) TokenFault) × Follows seen ss ls said
+pub follows_some : (n : ℕ) (seen : Names) (ss : List Statement) (ls : Lexemes) → length ls ≤ n → (said : Result (Names × List Statement) TokenFault) × GivesStatements seen ss ls said
 follows_some zero seen ss ls few = go (statement seen ls) refl
   where
-    go : (r : LexerState (Option (Statement × Names))) → statement seen ls ≡ r → (said : Result (Names × List Statement) TokenFault) × Follows seen ss ls said
+    go : (r : LexerState (Option (Statement × Names))) → statement seen ls ≡ r → (said : Result (Names × List Statement) TokenFault) × GivesStatements seen ss ls said
     go (Err f) e = (Err f, wrong seen ss ls f e)
     go (Ok (None, rest)) e = (Ok (seen, ss), ended seen ss ls rest e)
     go (Ok (Some (s, next), rest)) e = let less = statement_shorter s ls rest (statement_read seen ls s next rest e).0 in absurd (omega arith)
 follows_some (suc n) seen ss ls few = go (statement seen ls) refl (follows_some n)
   where
-    go : (r : LexerState (Option (Statement × Names))) → statement seen ls ≡ r → ((next : Names) (xs : List Statement) (rest : Lexemes) → length rest ≤ n → (said : Result (Names × List Statement) TokenFault) × Follows next xs rest said)
-        → (said : Result (Names × List Statement) TokenFault) × Follows seen ss ls said
+    go : (r : LexerState (Option (Statement × Names))) → statement seen ls ≡ r → ((next : Names) (xs : List Statement) (rest : Lexemes) → length rest ≤ n → (said : Result (Names × List Statement) TokenFault) × GivesStatements next xs rest said)
+        → (said : Result (Names × List Statement) TokenFault) × GivesStatements seen ss ls said
     go (Err f) e ih = (Err f, wrong seen ss ls f e)
     go (Ok (None, rest)) e ih = (Ok (seen, ss), ended seen ss ls rest e)
     go (Ok (Some (s, next), rest)) e ih =

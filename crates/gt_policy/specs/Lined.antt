@@ -13,7 +13,7 @@ use Rattle.gt_policy.specs.Grammar.{Lexemes}
 use Rattle.gt_policy_text.specs.Lexing.{lexemes_of}
 use Rattle.gt_policy.specs.Names.{Names}
 use Rattle.gt_policy.specs.Spelling.{SpellsStatement}
-use Rattle.gt_policy.specs.Whole.{Follows, ReadsAs}
+use Rattle.gt_policy.specs.Whole.{GivesStatements, ReadsAs}
 
 -- the statements without their lines
 abbrev pub statements_in : List LinedStatement → List Statement
@@ -34,8 +34,8 @@ pub record IsLined (text : List ℕ) (xs : List LinedStatement) : Type 0 where
 
 -- after these names, the tokens are these statements with their lines, or have this fault
 abbrev pub FollowsLined : Names → Names → Lexemes → Result (List LinedStatement) TokenFault → Type 0
-FollowsLined seen before ls (Ok xs) = Follows before [] ls (Ok (seen, statements_in xs)) × SpellsLined xs ls
-FollowsLined seen before ls (Err f) = Follows before [] ls (Err f)
+FollowsLined seen before ls (Ok xs) = GivesStatements before [] ls (Ok (seen, statements_in xs)) × SpellsLined xs ls
+FollowsLined seen before ls (Err f) = GivesStatements before [] ls (Err f)
 
 -- the same, unless an allocation failed
 abbrev pub HeedsLined : Result (List LinedStatement) ReadError → Names → Names → Lexemes → Type 0

@@ -10,5 +10,5 @@ abbrev pub no_types : TypeSet
 no_types = record { low = 0; high = 0 }
 
 -- type n has the attribute a
-abbrev pub has : Members → ℕ → ℕ → Bool
-has members a n = holds (slice_index_or members.sets a no_types) n
+abbrev pub has_attribute : Members → ℕ → ℕ → Bool
+has_attribute members a n = holds (slice_index_or members.sets a no_types) n

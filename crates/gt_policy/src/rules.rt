@@ -5,7 +5,7 @@ ghost use Rattle.gt_types.specs.declared.perms.Perms.{Perms};
 ghost use Rattle.gt_policy.specs.Allowing.{was_given, stands_for, is_with, is_without, holds_type, names_itself};
 ghost use Rattle.gt_policy.specs.Allowing.{is_granted_by};
 ghost use Rattle.gt_policy.specs.Kept.{grants, some_grants};
-ghost use Rattle.gt_policy.specs.Members.{has};
+ghost use Rattle.gt_policy.specs.Members.{has_attribute};
 ghost use Rattle.gt_policy.specs.Rows.{is_reached};
 ghost use Rattle.gt_policy.specs.TypeSets.{holds};
 
@@ -71,7 +71,7 @@ pub struct Members {
 impl Members {
     /// Collects the types that have each attribute.
     pub(crate) fn new(given: &[TypeAttribute]) -> Members
-        ensures { (a n : ℕ) → has result a n ≡ was_given given.now a n }
+        ensures { (a n : ℕ) → has_attribute result a n ≡ was_given given.now a n }
     {
         let mut sets = [TypeSet::empty(); 256];
         for g in given {
@@ -83,7 +83,7 @@ impl Members {
 
     // Returns the types that a name denotes.
     fn named(&self, symbol: Symbol) -> TypeSet
-        ensures { (n : ℕ) → holds result n ≡ stands_for (has self.now) symbol n }
+        ensures { (n : ℕ) → holds result n ≡ stands_for (has_attribute self.now) symbol n }
     {
         match symbol {
             Symbol::IsType(id) => TypeSet::empty().with(id),
@@ -93,7 +93,7 @@ impl Members {
 
     // Returns the types that an item adds to its set.
     fn included(&self, element: DraftElement) -> TypeSet
-        ensures { (n : ℕ) → holds result n ≡ is_with (has self.now) element n }
+        ensures { (n : ℕ) → holds result n ≡ is_with (has_attribute self.now) element n }
     {
         match element {
             DraftElement::With(symbol) => self.named(symbol),
@@ -104,7 +104,7 @@ impl Members {
 
     // Returns the types that an item removes from its set.
     fn excluded(&self, element: DraftElement) -> TypeSet
-        ensures { (n : ℕ) → holds result n ≡ is_without (has self.now) element n }
+        ensures { (n : ℕ) → holds result n ≡ is_without (has_attribute self.now) element n }
     {
         match element {
             DraftElement::With(_) => TypeSet::empty(),
@@ -115,7 +115,7 @@ impl Members {
 
     // Returns the types of a set. Excluded types are removed at the end, so the order of the items doesn't matter.
     fn types_of(&self, set: &[DraftElement]) -> TypeSet
-        ensures { (n : ℕ) → holds result n ≡ holds_type (has self.now) set.now n }
+        ensures { (n : ℕ) → holds result n ≡ holds_type (has_attribute self.now) set.now n }
     {
         let mut with = TypeSet::empty();
         let mut without = TypeSet::empty();
@@ -128,7 +128,7 @@ impl Members {
 
     fn rule(&self, draft: &DraftRule) -> AllowRule
         ensures { (s t : ℕ) (perm : Perms) →
-            grants result s t perm ≡ is_granted_by (has self.now) s t perm draft.now }
+            grants result s t perm ≡ is_granted_by (has_attribute self.now) s t perm draft.now }
     {
         AllowRule {
             source: self.types_of(draft.source.as_slice()),
@@ -146,7 +146,7 @@ impl Members {
     ) -> Result<Vec<AllowRule>, AllocError>
         ensures { IfOk result (λ rules. (s t : ℕ) (perm : Perms) →
             some_grants rules.items s t perm
-            ≡ list_any (λ draft. is_granted_by (has self.now) s t perm draft) drafts.now) }
+            ≡ list_any (λ draft. is_granted_by (has_attribute self.now) s t perm draft) drafts.now) }
     {
         let mut rules = Vec::new(alloc);
         for draft in drafts {

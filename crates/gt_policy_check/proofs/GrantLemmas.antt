@@ -31,7 +31,7 @@ use Rattle.gt_policy_check.specs.Members.{names_given, names_in_lines, membershi
 use Rattle.gt_policy_check.specs.Texts.{report_entry_text}
 use Rattle.gt_policy_check.specs.Why.{types_asked, source_asked, target_asked, perm_asked, grants_asked, is_near, entry_if, entries_if}
 use Rattle.gt_policy_check.specs.Why.{grants_of, grants_word, is_meant, is_unknown}
-use Rattle.gt_policy_check.specs.Why.{answer_by, why_answer, lines_with, lines_of, IsExplained}
+use Rattle.gt_policy_check.specs.Why.{answer_to_why, why_answer, lines_with, lines_of, IsExplained}
 
 -- bytes are compared either way round
 swap : (v w : List ℕ) → bytes_eq v w ≡ bytes_eq w v
@@ -177,7 +177,7 @@ gives_asked : (xs : List LinedStatement) (q : WhyQuestion) (x : Statement) → g
 gives_asked xs q x = gives_by_word xs q x (perm_asked q)
 
 -- the answer
-pub answers : (xs : List LinedStatement) (q : WhyQuestion) → answer_by (perm_asked q) (members_of xs (source_asked q)) (members_of xs (target_asked q)) xs ≡ why_answer xs q
+pub answers : (xs : List LinedStatement) (q : WhyQuestion) → answer_to_why (perm_asked q) (members_of xs (source_asked q)) (members_of xs (target_asked q)) xs ≡ why_answer xs q
 answers xs q =
     ap (λ (b : Bool). if is_unknown (perm_asked q) then NoPermission else (if b then NoSource else (if length (members_of xs (target_asked q)) == 0 then NoTarget
     else (if list_any (λ x. gives_of (perm_asked q) (members_of xs (source_asked q)) (members_of xs (target_asked q)) x.statement) xs then Allowed else Denied)))) (none_asked xs (source_asked q))
@@ -213,11 +213,11 @@ all_lines NoPermission file xs q = refl
 -- what is answered by the members answers the question
 pub explained_so : {E : Type 0} (file : List ℕ) (xs : List LinedStatement) (q : WhyQuestion) (sources targets : List Member) (r : Result Explanation E)
     → sources ≡ members_of xs (source_asked q) → targets ≡ members_of xs (target_asked q)
-    → IfOk r (λ e. e.answer ≡ answer_by (perm_asked q) sources targets xs) → IfOk r (λ e. e.lines.items ≡ lines_with e.answer file (perm_asked q) sources targets xs)
+    → IfOk r (λ e. e.answer ≡ answer_to_why (perm_asked q) sources targets xs) → IfOk r (λ e. e.lines.items ≡ lines_with e.answer file (perm_asked q) sources targets xs)
     → IfOk r (λ e. IsExplained file q xs e)
 explained_so file xs q sources targets (Err fault) s t answer lines = tt
 explained_so file xs q sources targets (Ok e) s t answer lines = (
-  answer ∙ ap (λ (m : List Member). answer_by (perm_asked q) m targets xs) s ∙ ap (λ (m : List Member). answer_by (perm_asked q) (members_of xs (source_asked q)) m xs) t ∙ answers xs q,
+  answer ∙ ap (λ (m : List Member). answer_to_why (perm_asked q) m targets xs) s ∙ ap (λ (m : List Member). answer_to_why (perm_asked q) (members_of xs (source_asked q)) m xs) t ∙ answers xs q,
   lines ∙ ap (λ (m : List Member). lines_with e.answer file (perm_asked q) m targets xs) s
       ∙ ap (λ (m : List Member). lines_with e.answer file (perm_asked q) (members_of xs (source_asked q)) m xs) t ∙ all_lines e.answer file xs q,
 )

@@ -5,8 +5,8 @@ use Rattle.std.proofs.lemmas.List.{append-nil, take_more}
 use Rattle.std.proofs.lemmas.List.Elements.{All-append}
 use Rattle.std.proofs.lemmas.Slice.Zip.{all_zipped_more}
 use Rattle.std.specs.List.{AllPass, concat, flat_map}
-use Rattle.gt_policy_check.specs.Report.{AddsText, AreTexts, IsExcerpt, IsReport, IsShown, object_text, caret_text, excerpt_text, heading_text}
-use Rattle.gt_policy_check.specs.Report.{is_blank, shown_text}
+use Rattle.gt_policy_check.specs.Report.{AddsText, IsTextOfAll, IsExcerpt, IsReport, IsFindingText, object_text, caret_text, excerpt_text, heading_text}
+use Rattle.gt_policy_check.specs.Report.{is_space_or_tab, shown_text}
 use Rattle.gt_policy_check.specs.declared.findings.Finding.{Finding}
 use Rattle.gt_policy_check.specs.declared.findings.FindingKind.{FindingKind}
 use Rattle.gt_policy_check.specs.declared.report.ReportForm.{ReportForm}
@@ -24,15 +24,15 @@ concat_more [] text = append-nil text
 concat_more (t ∷ texts) text = ap (λ (l : List ℕ). t ++ l) (concat_more texts text) ∙ sym (append_assoc t (concat texts) text)
 
 -- one more text
-joined : {A : Type 0} (R : A → List ℕ → Type 0) (xs : List A) (x : A) (a b : List ℕ) → AreTexts R xs a → R x b → AreTexts R (xs ++ x ∷ []) (a ++ b)
+joined : {A : Type 0} (R : A → List ℕ → Type 0) (xs : List A) (x : A) (a b : List ℕ) → IsTextOfAll R xs a → R x b → IsTextOfAll R (xs ++ x ∷ []) (a ++ b)
 joined R xs x a b (texts, zipped, is) one =
     (texts ++ b ∷ [], all_zipped_more R xs texts x b zipped one, ap (λ (l : List ℕ). l ++ b) is ∙ sym (concat_more texts b))
 
-pub texts_more : {A : Type 0} (R : A → List ℕ → Type 0) (xs : List A) (i : ℕ) (x : A) (old mid new : List ℕ) → i < length xs → x ≡ get_or xs i x → AddsText (AreTexts R (take i xs)) old mid → AddsText (R x) mid new
-    → AddsText (AreTexts R (take (i + 1) xs)) old new
+pub texts_more : {A : Type 0} (R : A → List ℕ → Type 0) (xs : List A) (i : ℕ) (x : A) (old mid new : List ℕ) → i < length xs → x ≡ get_or xs i x → AddsText (IsTextOfAll R (take i xs)) old mid → AddsText (R x) mid new
+    → AddsText (IsTextOfAll R (take (i + 1) xs)) old new
 texts_more R xs i x old mid new within is before added =
-    adds_both (AreTexts R (take i xs)) (R x) (AreTexts R (take (i + 1) xs)) old mid new
-    (λ a b p q. subst (λ (l : List _). AreTexts R l (a ++ b)) (sym (take_more xs i x within ∙ ap (λ (y : _). take i xs ++ y ∷ []) (sym is))) (joined R (take i xs) x a b p q)) before added
+    adds_both (IsTextOfAll R (take i xs)) (R x) (IsTextOfAll R (take (i + 1) xs)) old mid new
+    (λ a b p q. subst (λ (l : List _). IsTextOfAll R l (a ++ b)) (sym (take_more xs i x within ∙ ap (λ (y : _). take i xs ++ y ∷ []) (sym is))) (joined R (take i xs) x a b p q)) before added
 
 -- ---- the parts of a finding
 
@@ -41,12 +41,12 @@ pub on_ok : {T E P Q : Type 0} (r : Result T E) → (P → Q) → OnOk r P → O
 on_ok (Ok x) turns holds = turns holds
 on_ok (Err e) turns holds = tt
 
-pub more_blanks : (old mid new : List ℕ) → AddsText (AllPass is_blank) old mid → AddsText (AllPass is_blank) mid new → AddsText (AllPass is_blank) old new
+pub more_blanks : (old mid new : List ℕ) → AddsText (AllPass is_space_or_tab) old mid → AddsText (AllPass is_space_or_tab) mid new → AddsText (AllPass is_space_or_tab) old new
 more_blanks old mid new before added =
-    adds_both (AllPass is_blank) (AllPass is_blank) (AllPass is_blank) old mid new (λ a b p q. All-append (λ x. is_blank x ≡ true) a b p q) before added
+    adds_both (AllPass is_space_or_tab) (AllPass is_space_or_tab) (AllPass is_space_or_tab) old mid new (λ a b p q. All-append (λ x. is_space_or_tab x ≡ true) a b p q) before added
 
 -- a line, a line end, blanks and a caret are an excerpt
-pub excerpt_added : (form : ReportForm) (kind : FindingKind) (letters caret old line start mid new : List ℕ) → line ≡ old ++ shown_text letters → start ≡ line ++ codes "\n" → AddsText (AllPass is_blank) start mid
+pub excerpt_added : (form : ReportForm) (kind : FindingKind) (letters caret old line start mid new : List ℕ) → line ≡ old ++ shown_text letters → start ≡ line ++ codes "\n" → AddsText (AllPass is_space_or_tab) start mid
     → caret ≡ caret_text form kind → new ≡ mid ++ caret → AddsText (IsExcerpt form kind) old new
 unfolding excerpt_text
 excerpt_added form kind letters caret old line start mid new shown ended (blanks, blank, is) same put =
@@ -55,7 +55,7 @@ excerpt_added form kind letters caret old line start mid new shown ended (blanks
     (excerpt_text form kind letters blanks, inr (letters, blanks, blank, refl), whole)
 
 -- a heading and an excerpt are a finding
-pub finding_added : (form : ReportForm) (file : List ℕ) (x : Finding) (old mid new : List ℕ) → mid ≡ old ++ heading_text file x → AddsText (IsExcerpt form x.kind) mid new → AddsText (IsShown form file x) old new
+pub finding_added : (form : ReportForm) (file : List ℕ) (x : Finding) (old mid new : List ℕ) → mid ≡ old ++ heading_text file x → AddsText (IsExcerpt form x.kind) mid new → AddsText (IsFindingText form file x) old new
 finding_added form file x old mid new headed (excerpt, is, put) =
     (heading_text file x ++ excerpt, (excerpt, is, refl), put ∙ ap (λ (l : List ℕ). l ++ excerpt) headed ∙ append_assoc old (heading_text file x) excerpt)
 
@@ -66,7 +66,7 @@ as_json Json file found old new is put = (flat_map (object_text file) found, ref
 as_json Text file found old new is put = absurd (cc is)
 as_json Colored file found old new is put = absurd (cc is)
 
-pub as_text : (form : ReportForm) (file : List ℕ) (found : List Finding) (old new : List ℕ) → (form ≡ Text) ⊎ (form ≡ Colored) → AddsText (AreTexts (IsShown form file) found) old new → AddsText (IsReport form file found) old new
+pub as_text : (form : ReportForm) (file : List ℕ) (found : List Finding) (old new : List ℕ) → (form ≡ Text) ⊎ (form ≡ Colored) → AddsText (IsTextOfAll (IsFindingText form file) found) old new → AddsText (IsReport form file found) old new
 as_text Text file found old new is adds = adds
 as_text Colored file found old new is adds = adds
 as_text Json file found old new (inl is) adds = absurd (cc is)

@@ -55,8 +55,8 @@ abbrev pub shown_text : List ℕ → List ℕ
 shown_text letters = flat_map (λ c. encode_utf8 (shown_letter c)) letters
 
 -- a space or a tab
-abbrev pub is_blank : ℕ → Bool
-is_blank byte = (byte == 32) || (byte == 9)
+abbrev pub is_space_or_tab : ℕ → Bool
+is_space_or_tab byte = (byte == 32) || (byte == 9)
 
 -- the colour of a caret (ECMA-48)
 abbrev pub caret_color : FindingKind → List ℕ
@@ -78,21 +78,22 @@ excerpt_text form kind letters blanks = shown_text letters ++ codes "\n" ++ blan
 abbrev pub IsExcerpt : ReportForm → FindingKind → List ℕ → Type 0
 IsExcerpt form kind excerpt =
     (excerpt ≡ [])
-    ⊎ ((letters blanks : List ℕ) × AllPass is_blank blanks × (excerpt ≡ excerpt_text form kind letters blanks))
+    ⊎ ((letters blanks : List ℕ) × AllPass is_space_or_tab blanks × (excerpt ≡ excerpt_text form kind letters blanks))
 
 -- a finding in the layout of compilers: its heading and an excerpt
-abbrev pub IsShown : ReportForm → List ℕ → Finding → List ℕ → Type 0
-IsShown form file x text = (excerpt : List ℕ) × IsExcerpt form x.kind excerpt × (text ≡ heading_text file x ++ excerpt)
+abbrev pub IsFindingText : ReportForm → List ℕ → Finding → List ℕ → Type 0
+IsFindingText form file x text = (excerpt : List ℕ) × IsExcerpt form x.kind excerpt
+    × (text ≡ heading_text file x ++ excerpt)
 
 -- the texts of these, one for each, in their order
-abbrev pub AreTexts : {A : Type 0} → (A → List ℕ → Type 0) → List A → List ℕ → Type 0
-AreTexts R xs all = (texts : List (List ℕ)) × AllZip R xs texts × (all ≡ concat texts)
+abbrev pub IsTextOfAll : {A : Type 0} → (A → List ℕ → Type 0) → List A → List ℕ → Type 0
+IsTextOfAll R xs all = (texts : List (List ℕ)) × AllZip R xs texts × (all ≡ concat texts)
 
 -- the report of findings in a form: each once, in their order
 abbrev pub IsReport : ReportForm → List ℕ → List Finding → List ℕ → Type 0
 IsReport Json file found report = report ≡ flat_map (object_text file) found
-IsReport Text file found report = AreTexts (IsShown Text file) found report
-IsReport Colored file found report = AreTexts (IsShown Colored file) found report
+IsReport Text file found report = IsTextOfAll (IsFindingText Text file) found report
+IsReport Colored file found report = IsTextOfAll (IsFindingText Colored file) found report
 
 -- such a text was appended
 abbrev pub AddsText : (List ℕ → Type 0) → List ℕ → List ℕ → Type 0

@@ -71,8 +71,8 @@ abbrev pub entries_if : (Statement → Bool) → List ℕ → List Member → Li
 entries_if test file sources targets xs = flat_map (λ x. entry_if test file sources targets x) xs
 
 -- the answer of these statements for these sources and targets
-abbrev pub answer_by : Option (List ℕ) → List Member → List Member → List LinedStatement → WhyAnswer
-answer_by perm sources targets xs = if is_unknown perm then NoPermission
+abbrev pub answer_to_why : Option (List ℕ) → List Member → List Member → List LinedStatement → WhyAnswer
+answer_to_why perm sources targets xs = if is_unknown perm then NoPermission
     else (if length sources == 0 then NoSource
     else (if length targets == 0 then NoTarget
     else (if list_any (λ x. gives_of perm sources targets x.statement) xs then Allowed else Denied)))

@@ -10,7 +10,7 @@ ghost use Rattle.gt_policy.specs.declared.fault.TokenFault.{TokenFault};
 ghost use Rattle.gt_policy.specs.declared.lined.LinedStatement.{LinedStatement};
 ghost use Rattle.gt_policy_check.specs.Granting.{gives_of};
 ghost use Rattle.gt_policy_check.specs.Members.{members_of};
-ghost use Rattle.gt_policy_check.specs.Why.{entries_if, is_listed_under, is_unknown, answer_by, lines_with};
+ghost use Rattle.gt_policy_check.specs.Why.{entries_if, is_listed_under, is_unknown, answer_to_why, lines_with};
 ghost use Rattle.gt_policy_check.specs.Why.{IsExplained};
 
 use crate::granting::{gives_of, near_of};
@@ -86,7 +86,7 @@ fn is_unknown(perm: Option<&str>) -> bool
 }
 
 fn answer_with(statements: &[LinedStatement], asked: &Asked) -> WhyAnswer
-    ensures { result ≡ answer_by (option_map (λ p. p.now) asked.now.perm) asked.now.sources.now asked.now.targets.now statements.now }
+    ensures { result ≡ answer_to_why (option_map (λ p. p.now) asked.now.perm) asked.now.sources.now asked.now.targets.now statements.now }
 {
     if is_unknown(asked.perm) {
         WhyAnswer::NoPermission
@@ -159,7 +159,7 @@ fn answered(
     asked: &Asked,
 ) -> Result<Explanation, AllocError>
     ensures answer { IfOk result (λ e. e.answer
-        ≡ answer_by (option_map (λ p. p.now) asked.now.perm) asked.now.sources.now asked.now.targets.now statements.now) }
+        ≡ answer_to_why (option_map (λ p. p.now) asked.now.perm) asked.now.sources.now asked.now.targets.now statements.now) }
     ensures lines { IfOk result (λ e. e.lines.items ≡ lines_with e.answer
         file.now (option_map (λ p. p.now) asked.now.perm) asked.now.sources.now asked.now.targets.now statements.now) }
 {

@@ -3,8 +3,9 @@ ghost use Rattle.std.specs.Prelude.{◌≡◌, ◌++◌, chars, codes, encode_ut
 ghost use Rattle.std.specs.List.{flat_map, AllPass};
 ghost use Rattle.gt_json.specs.Strings.{quoted};
 ghost use Rattle.gt_policy_check.specs.Report.{heading_text, object_text, position_text, said_text, severity_text};
-ghost use Rattle.gt_policy_check.specs.Report.{caret_text, is_blank, shown_letter, shown_text, AddsText, AreTexts};
-ghost use Rattle.gt_policy_check.specs.Report.{IsExcerpt, IsReport, IsShown};
+ghost use Rattle.gt_policy_check.specs.Report.{caret_text, is_space_or_tab, shown_letter, shown_text, AddsText};
+ghost use Rattle.gt_policy_check.specs.Report.{IsTextOfAll};
+ghost use Rattle.gt_policy_check.specs.Report.{IsExcerpt, IsReport, IsFindingText};
 
 use crate::findings::{Finding, FindingKind};
 use crate::places::{bytes_of, line_span};
@@ -76,7 +77,7 @@ pub(crate) fn push_shown(out: &mut Vec<u8>, letter: char) -> Result<(), AllocErr
 
 // Appends blanks as wide as a character of a line. A tab stays a tab, so that the caret is right for any tab width.
 fn push_blank(out: &mut Vec<u8>, letter: char) -> Result<(), AllocError>
-    ensures { OnOk result (AddsText (AllPass is_blank) out.old.items out.new.items) }
+    ensures { OnOk result (AddsText (AllPass is_space_or_tab) out.old.items out.new.items) }
 {
     if letter == '\t' {
         return push_text(out, "\t");
@@ -107,7 +108,7 @@ pub(crate) fn push_all_shown(out: &mut Vec<u8>, line: &str) -> Result<(), AllocE
 
 // Appends blanks as wide as the characters of a line before a column.
 fn push_blanks(out: &mut Vec<u8>, line: &str, column: u32) -> Result<(), AllocError>
-    ensures { OnOk result (AddsText (AllPass is_blank) out.old.items out.new.items) }
+    ensures { OnOk result (AddsText (AllPass is_space_or_tab) out.old.items out.new.items) }
 {
     'letters: for (place, letter) in line.char_indices() {
         if place + 1 >= column as usize {
@@ -168,7 +169,7 @@ fn push_finding(
     finding: &Finding,
     form: ReportForm,
 ) -> Result<(), AllocError>
-    ensures { OnOk result (AddsText (IsShown form file.now finding.now) out.old.items out.new.items) }
+    ensures { OnOk result (AddsText (IsFindingText form file.now finding.now) out.old.items out.new.items) }
 {
     push_heading(out, file, finding)?;
     push_excerpt(out, text, finding, form)
@@ -183,7 +184,7 @@ pub fn push_report(
     found: &[Finding],
     form: ReportForm,
 ) -> Result<(), AllocError>
-    ensures { OnOk result (AddsText (AreTexts (IsShown form file.now) found.now) out.old.items out.new.items) }
+    ensures { OnOk result (AddsText (IsTextOfAll (IsFindingText form file.now) found.now) out.old.items out.new.items) }
 {
     'found: for finding in found {
         push_finding(out, file, text, finding, form)?;

@@ -3,8 +3,8 @@ use Rattle.std.proofs.Common.{◌≡◌, ℕ, ◌<◌, ◌≤◌, List, length, 
 use Rattle.std.proofs.Common.{refl, sym, subst, ◌∙◌, inl, inr, arith}
 use Rattle.std.specs.Io.KnownBytes.{Appends}
 use Rattle.std.specs.Str.{IsUtf8}
-use Rattle.gt_policy_flow.specs.Answering.{Flowed, FlowsOf, HasAnswer, WritesFlow}
-use Rattle.gt_policy_flow.specs.Asking.{answer_of}
+use Rattle.gt_policy_flow.specs.Answering.{Flowed, FlowsOf, PolicyHasAnswer, WritesFlow}
+use Rattle.gt_policy_flow.specs.Asking.{flow_answer}
 use Rattle.gt_policy_flow.specs.declared.asking.FlowQuestion.{FlowQuestion}
 use Rattle.gt_policy_flow.specs.declared.asking.FlowReport.{FlowReport}
 use Rattle.gt_policy_flow.specs.declared.fault.FlowFault.{FlowFault}
@@ -27,11 +27,11 @@ use Rattle.gt_text.specs.declared.fault.ReadFault.TheVariants as reads
 
 -- the lines of an answer went out
 pub flow-lines : (text lines : List ℕ) (q : FlowQuestion) (report : FlowReport) (has : Bool) (old new : Option (List ℕ))
-    (r : Result Bool FlowFault) → lines ≡ report.lines.items → HasAnswer text q (answer_of has) report
+    (r : Result Bool FlowFault) → lines ≡ report.lines.items → PolicyHasAnswer text q (flow_answer has) report
     → WritesFlow lines has old new r → FlowsOf q text old new r
 flow-lines text lines q report has old new (Ok answer) same is (of, went) = (
   report,
-  subst (λ (b : Bool). HasAnswer text q (answer_of b) report) (sym of) is,
+  subst (λ (b : Bool). PolicyHasAnswer text q (flow_answer b) report) (sym of) is,
   subst (λ (l : List ℕ). Appends old new l) same went,
 )
 flow-lines text lines q report has old new (Err NoSource) same is w = absurd w

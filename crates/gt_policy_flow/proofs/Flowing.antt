@@ -2,7 +2,7 @@
 use Rattle.std.proofs.Common.{◌≡◌, ◌⊎◌, ◌<◌, ℕ, Bool, true, false, inl, inr, refl, ◌&&◌, ◌||◌, not}
 use Rattle.gt_types.specs.Names.{copy, map_read, map_write}
 use Rattle.gt_types.specs.declared.TypeId.{TypeId}
-use Rattle.gt_flow.specs.Flow.{AllowRelation}
+use Rattle.gt_flow.specs.Flow.{FlowPolicy}
 use Rattle.gt_policy_flow.specs.Flows.{AreAmong, MayFlowPast, flows}
 
 -- one of these: a load, a copy, or a store of a type that is not trusted
@@ -28,7 +28,7 @@ to-question false false false false w (inr (inl k)) = absurd (cc)
 to-question false false false true false (inr (inl k)) = absurd (cc)
 
 -- what the question finds is an access
-pub is-flow : (may : AllowRelation) (trusted : TypeId → Bool) (x y : TypeId) → flows may (trusted x) x y ≡ true
+pub is-flow : (may : FlowPolicy) (trusted : TypeId → Bool) (x y : TypeId) → flows may (trusted x) x y ≡ true
     → MayFlowPast may trusted x y
 is-flow may trusted x y h =
     elim (from-question (may y x map_read) (may x y copy) (trusted x) (may x y map_read) (may x y map_write) h) [
@@ -38,7 +38,7 @@ is-flow may trusted x y h =
     ]
 
 -- an access between two types is found
-pub is-found : (may : AllowRelation) (trusted : TypeId → Bool) (x y : TypeId) → MayFlowPast may trusted x y
+pub is-found : (may : FlowPolicy) (trusted : TypeId → Bool) (x y : TypeId) → MayFlowPast may trusted x y
     → (x ≡ y) ⊎ (flows may (trusted x) x y ≡ true)
 is-found may trusted x y (inl same) = inl same
 is-found may trusted x y (inr (inl l)) =
@@ -51,7 +51,7 @@ is-found may trusted x y (inr (inr (inr c))) =
     (inr (inr c.0)))
 
 -- the second type is one of the policy
-pub is-declared : (may : AllowRelation) (count : ℕ) (b : Bool) (x y : TypeId) → AreAmong count may
+pub is-declared : (may : FlowPolicy) (count : ℕ) (b : Bool) (x y : TypeId) → AreAmong count may
     → flows may b x y ≡ true → y.0 < count
 is-declared may count b x y among h =
     elim (from-question (may y x map_read) (may x y copy) b (may x y map_read) (may x y map_write) h) [

@@ -4,14 +4,14 @@ use Rattle.std.proofs.Common.{length, map, filter, Some, refl, slice_get, ap, ar
 use Rattle.std.proofs.lemmas.Bool.{eqb-false, eqb-true}
 use Rattle.std.proofs.lemmas.Option.{slice_get-map, slice_get_read}
 use Rattle.gt_types.specs.declared.TypeId.{TypeId}
-use Rattle.gt_flow.specs.Flow.{AllowRelation}
+use Rattle.gt_flow.specs.Flow.{FlowPolicy}
 use Rattle.gt_policy_flow.specs.Flows.{AreAmong, flows, is_among}
 use Rattle.gt_policy_flow.specs.Paths.{AreBackward, IsFoundWithin, IsHop, IsSearched, hop_from}
 use Rattle.gt_policy_flow.specs.declared.searching.Reach.{Reach}
 use Rattle.gt_policy_flow.proofs.Flowing.{is-declared, is-flow, is-found}
 use Rattle.gt_policy_flow.proofs.Places.{append-cases, append-left, append-right, kept, passes, placed, within}
 
-module _ (may : AllowRelation) (trusted : TypeId → Bool) (source : TypeId) (count : ℕ) where
+module _ (may : FlowPolicy) (trusted : TypeId → Bool) (source : TypeId) (count : ℕ) where
   -- the types before this place were looked at, and those of `left` are not reached yet
   pub record IsUnder (at : ℕ) (found : List Reach) (left : List TypeId) : Type 0 where
     pub first : slice_get found 0 ≡ Some (record { id = source; from = 0; distance = 0 })

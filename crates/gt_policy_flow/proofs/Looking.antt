@@ -5,8 +5,8 @@ use Rattle.std.proofs.lemmas.List.{append-nil, append_assoc, length-map, map-app
 use Rattle.std.proofs.lemmas.List.Elements.{filter_more}
 use Rattle.std.proofs.lemmas.List.Filters.{length-filter_both}
 use Rattle.gt_types.specs.declared.TypeId.{TypeId}
-use Rattle.gt_flow.specs.Flow.{AllowRelation}
-use Rattle.gt_policy_flow.specs.Flows.{access_of, copies, flows, loads, stores}
+use Rattle.gt_flow.specs.Flow.{FlowPolicy}
+use Rattle.gt_policy_flow.specs.Flows.{allowed_access, may_copy, flows, may_load, may_store}
 use Rattle.gt_policy_flow.specs.declared.flows.Access.{Access}
 use Rattle.gt_policy_flow.specs.declared.flows.Access.TheVariants as accesses
 use Rattle.gt_policy_flow.specs.declared.searching.Reach.{Reach}
@@ -50,9 +50,9 @@ asks false true s = refl
 asks false false true = refl
 asks false false false = refl
 
-pub asked : (may : AllowRelation) (b : Bool) (x y : TypeId) (o : Option Access) (r v : Bool) → o ≡ access_of may b x y
+pub asked : (may : FlowPolicy) (b : Bool) (x y : TypeId) (o : Option Access) (r v : Bool) → o ≡ allowed_access may b x y
     → r ≡ is_some o → r ≡ v → flows may b x y ≡ v
-asked may b x y o r v e f g = sym (asks (loads may x y) (copies may x y) (not b && stores may x y))
+asked may b x y o r v e f g = sym (asks (may_load may x y) (may_copy may x y) (not b && may_store may x y))
     ∙ ap (λ q. is_some q) (sym e) ∙ sym f ∙ g
 
 -- each look leaves less to do

@@ -6,7 +6,7 @@ use Rattle.gt_policy.specs.Kept.{KeptPolicy, PolicyShows, may_of}
 use Rattle.gt_policy.specs.Lined.{IsLined}
 use Rattle.gt_policy.specs.Whole.{ReadsAs}
 use Rattle.gt_policy.specs.declared.lined.LinedStatement.{LinedStatement}
-use Rattle.gt_policy_flow.specs.Asking.{IsFlowOf, IsReport}
+use Rattle.gt_policy_flow.specs.Asking.{IsFlowOf, IsFlowReport}
 use Rattle.gt_policy_flow.specs.Flows.{AreAmong}
 use Rattle.gt_policy_flow.specs.declared.asking.FlowQuestion.{FlowQuestion}
 use Rattle.gt_policy_flow.specs.declared.asking.FlowReport.{FlowReport}
@@ -23,15 +23,15 @@ module _ (looks : ℕ → ℕ → Perms → Bool) (policy : KeptPolicy) (same : 
   -- an answer by the table is one by the meaning
   pub flow-of : (text : List ℕ) (m : Meaning) (xs ys : List LinedStatement) (q : FlowQuestion) (report : FlowReport)
       → ReadsAs text (Ok m) → PolicyShows policy m → IsLined text ys → xs ≡ ys
-      → IsReport (λ s t perm. looks s.0 t.0 perm) count xs q report → IsFlowOf text q report
+      → IsFlowReport (λ s t perm. looks s.0 t.0 perm) count xs q report → IsFlowOf text q report
   flow-of text m xs ys q report reads shows lined e is = (
     m,
     ys,
     reads,
     lined,
-    subst (λ (f : ℕ → ℕ → Perms → Bool). IsReport (λ s t perm. f s.0 t.0 perm) (length m.types) ys q report)
+    subst (λ (f : ℕ → ℕ → Perms → Bool). IsFlowReport (λ s t perm. f s.0 t.0 perm) (length m.types) ys q report)
         (same ∙ ap (λ (a : Allowed). a.may) shows)
-        (subst (λ n. IsReport (λ s t perm. looks s.0 t.0 perm) n ys q report)
+        (subst (λ n. IsFlowReport (λ s t perm. looks s.0 t.0 perm) n ys q report)
         (all ∙ ap (λ (a : Allowed). length a.types) shows)
-        (subst (λ zs. IsReport (λ s t perm. looks s.0 t.0 perm) count zs q report) e is)),
+        (subst (λ zs. IsFlowReport (λ s t perm. looks s.0 t.0 perm) count zs q report) e is)),
   )

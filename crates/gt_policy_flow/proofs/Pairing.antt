@@ -4,11 +4,12 @@ use Rattle.std.proofs.Common.{ap, subst, sym, ◌∙◌, arith}
 use Rattle.std.proofs.Math.Seq.{take-length}
 use Rattle.std.proofs.lemmas.List.{append-nil, append_assoc}
 use Rattle.gt_types.specs.declared.TypeId.{TypeId}
-use Rattle.gt_flow.specs.Flow.{AllowRelation}
+use Rattle.gt_flow.specs.Flow.{FlowPolicy}
 use Rattle.gt_policy.specs.declared.lined.LinedStatement.{LinedStatement}
 use Rattle.gt_policy_check.specs.declared.members.Member.{Member}
 use Rattle.gt_policy_flow.specs.Paths.{HasPath}
-use Rattle.gt_policy_flow.specs.Pairs.{Answers, AnswersAll, AnswersEach, answered, block_text, leaves_out, left_out}
+use Rattle.gt_policy_flow.specs.Pairs.{AnswersPair, AnswersAll, AnswersEach, answered, pair_answer_text, leaves_out}
+use Rattle.gt_policy_flow.specs.Pairs.{left_out}
 use Rattle.gt_policy_flow.specs.Pairs.{more_sources, more_targets, no_source, no_target}
 use Rattle.gt_policy_flow.specs.declared.pairs.PairForm.{PairForm}
 
@@ -26,31 +27,31 @@ first-has a b h = h ∙ ap (λ c. c || b) (sym h)
 pub other-has : (a b : Bool) → a ≡ false → b ≡ (a || b)
 other-has a b h = ap (λ c. c || b) (sym h)
 
-module _ (may : AllowRelation) (trusted : TypeId → Bool) (xs : List LinedStatement) (members : List Member)
+module _ (may : FlowPolicy) (trusted : TypeId → Bool) (xs : List LinedStatement) (members : List Member)
     (form : PairForm) where
   abbrev pub Appends : (List ℕ → Bool → Type 0) → List ℕ → List ℕ → Bool → Type 0
   Appends Are old new has = (text : List ℕ) × Are text has × (new ≡ old ++ text)
 
   pub left : (source target : TypeId) (old : List ℕ) → leaves_out form source target ≡ true
-      → Appends (Answers may trusted xs members form source target) old old false
+      → Appends (AnswersPair may trusted xs members form source target) old old false
   left source target old h = ([], left_out h, sym (append-nil old))
 
   pub with-path : (source target : TypeId) (o : Option (List TypeId)) (p q : List TypeId) (old new : List ℕ)
       → leaves_out form source target ≡ false → HasPath may trusted source target o → o ≡ Some p → q ≡ p
-      → new ≡ old ++ block_text may trusted xs members form source target (Some q)
-      → Appends (Answers may trusted xs members form source target) old new true
+      → new ≡ old ++ pair_answer_text may trusted xs members form source target (Some q)
+      → Appends (AnswersPair may trusted xs members form source target) old new true
   with-path source target o p q old new kept has is same e = (
-    block_text may trusted xs members form source target (Some p),
+    pair_answer_text may trusted xs members form source target (Some p),
     answered kept (Some p) (subst (λ v. HasPath may trusted source target v) is has),
-    e ∙ ap (λ v. old ++ block_text may trusted xs members form source target (Some v)) same,
+    e ∙ ap (λ v. old ++ pair_answer_text may trusted xs members form source target (Some v)) same,
   )
 
   pub without-path : (source target : TypeId) (o : Option (List TypeId)) (old new : List ℕ)
       → leaves_out form source target ≡ false → HasPath may trusted source target o → o ≡ None
-      → new ≡ old ++ block_text may trusted xs members form source target None
-      → Appends (Answers may trusted xs members form source target) old new false
+      → new ≡ old ++ pair_answer_text may trusted xs members form source target None
+      → Appends (AnswersPair may trusted xs members form source target) old new false
   without-path source target o old new kept has is e = (
-    block_text may trusted xs members form source target None,
+    pair_answer_text may trusted xs members form source target None,
     answered kept None (subst (λ v. HasPath may trusted source target v) is has),
     e,
   )
@@ -61,7 +62,7 @@ module _ (may : AllowRelation) (trusted : TypeId → Bool) (xs : List LinedState
   no-targets source (t ∷ targets) old few = absurd (omega (arith, few))
 
   pub one-target : (source : TypeId) (targets : List TypeId) (d : TypeId) (old mid new : List ℕ) (a b has : Bool)
-      → 1 ≤ length targets → Appends (Answers may trusted xs members form source (get_or targets 0 d)) old mid a
+      → 1 ≤ length targets → Appends (AnswersPair may trusted xs members form source (get_or targets 0 d)) old mid a
       → Appends (AnswersEach may trusted xs members form source (after-first targets)) mid new b → has ≡ (a || b)
       → Appends (AnswersEach may trusted xs members form source targets) old new has
   one-target source [] d old mid new a b has some first rest e = absurd (omega (arith, some))

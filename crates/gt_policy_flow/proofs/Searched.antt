@@ -3,14 +3,14 @@ use Rattle.std.proofs.Common.{◌≡◌, ℕ, zero, suc, ◌+◌, ◌≤◌, ◌
 use Rattle.std.proofs.Common.{[], ◌∷◌, ◌++◌, length, Some, refl, slice_get, ap, arith, subst, sym, ◌∙◌, length-append}
 use Rattle.std.proofs.lemmas.Bool.{eq-eqb, eqb-true}
 use Rattle.gt_types.specs.declared.TypeId.{TypeId}
-use Rattle.gt_flow.specs.Flow.{AllowRelation}
+use Rattle.gt_flow.specs.Flow.{FlowPolicy}
 use Rattle.gt_flow.specs.Trusted.{IsClosedButTrusted}
 use Rattle.gt_policy_flow.specs.Flows.{MayFlowPast}
 use Rattle.gt_policy_flow.specs.Laws.{EachIsReached, EachPathLeadsWithin, EveryPathIsFound, WhatIsReachedIsClosed, has_reached}
 use Rattle.gt_policy_flow.specs.Paths.{IsFoundWithin, IsHop, IsPathPast, IsSearched}
 use Rattle.gt_policy_flow.specs.declared.searching.Reach.{Reach}
 
-module _ (may : AllowRelation) (trusted : TypeId → Bool) (source : TypeId) (found : List Reach)
+module _ (may : FlowPolicy) (trusted : TypeId → Bool) (source : TypeId) (found : List Reach)
     (is : IsSearched may trusted source found) where
   -- a type that is found from one that is one step further
   further : (y z : TypeId) (d : ℕ) (zs : List TypeId) (next : IsFoundWithin found z (d + 1))
@@ -101,7 +101,7 @@ found-at (x ∷ found) y h = by (λ k. found-at found y k) (x.id.0 == y.0) refl 
     by more true e k = (0, x, refl, ap (λ n. record { 0 = n }) (eqb-true x.id.0 y.0 e))
     by more false e k = (suc (more k).0, (more k).1, (more k).2, (more k).3)
 
-module _ (may : AllowRelation) (trusted : TypeId → Bool) (source : TypeId) (found : List Reach)
+module _ (may : FlowPolicy) (trusted : TypeId → Bool) (source : TypeId) (found : List Reach)
     (is : IsSearched may trusted source found) where
   onward : (x y : TypeId) → MayFlowPast may trusted x y → has_reached found x ≡ true → has_reached found y ≡ true
   onward x y flow h =

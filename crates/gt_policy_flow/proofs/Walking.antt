@@ -6,7 +6,7 @@ use Rattle.std.specs.List.{position_or_len}
 use Rattle.std.proofs.lemmas.List.Quantifiers.{position-Some}
 use Rattle.std.proofs.lemmas.Option.{slice_get-get_or}
 use Rattle.gt_types.specs.declared.TypeId.{TypeId}
-use Rattle.gt_flow.specs.Flow.{AllowRelation}
+use Rattle.gt_flow.specs.Flow.{FlowPolicy}
 use Rattle.gt_policy_flow.specs.Flows.{MayFlowPast}
 use Rattle.gt_policy_flow.specs.Paths.{AreBackward, IsHop, IsPathPast, IsSearched, IsShortestPath}
 use Rattle.gt_policy_flow.specs.declared.searching.Reach.{Reach}
@@ -16,7 +16,7 @@ use Rattle.gt_policy_flow.proofs.Searched.{each-path}
 
 -- the path leads from the type at the second place to the one at the first
 abbrev pub LeadsOn : List Reach → ℕ → ℕ → List TypeId → Type 0
-LeadsOn found place at path = (may : AllowRelation) (trusted : TypeId → Bool) (source : TypeId) (r last : Reach)
+LeadsOn found place at path = (may : FlowPolicy) (trusted : TypeId → Bool) (source : TypeId) (r last : Reach)
     → IsSearched may trusted source found → slice_get found at ≡ Some r → slice_get found place ≡ Some last
     → IsPathPast may trusted r.id path last.id × (r.distance + length path ≡ last.distance)
 
@@ -137,7 +137,7 @@ module _ (found : List Reach) (target : TypeId) where
   )
 
   -- no path leads to a type that the search lacks
-  pub no-path : position is-target found ≡ None → (may : AllowRelation) (trusted : TypeId → Bool) (source : TypeId)
+  pub no-path : position is-target found ≡ None → (may : FlowPolicy) (trusted : TypeId → Bool) (source : TypeId)
       → IsSearched may trusted source found → (zs : List TypeId) → IsPathPast may trusted source zs target → ⊥
   no-path none may trusted source is zs path =
       let at = each-path may trusted source found is target zs path in
@@ -145,7 +145,7 @@ module _ (found : List Reach) (target : TypeId) where
 
   -- the way back has arrived
   pub arrived : (place at : ℕ) (path : List TypeId) → position is-target found ≡ Some place → at ≤ 0
-      → IsWalked found place at path → (may : AllowRelation) (trusted : TypeId → Bool) (source : TypeId)
+      → IsWalked found place at path → (may : FlowPolicy) (trusted : TypeId → Bool) (source : TypeId)
       → IsSearched may trusted source found → IsShortestPath may trusted source target path
   arrived place at path h zero-at w may trusted source is =
       let last = placed-first place h in

@@ -8,7 +8,7 @@ use Rattle.gt_policy.specs.declared.fault.TokenFault.{TokenFault}
 use Rattle.gt_policy_list.specs.Reading.{IsFaulty, IsNotUtf8At}
 use Rattle.gt_policy_list.specs.declared.fault.ListingFault.TheVariants.{Memory, Policy, Read, Utf8, Write}
 use Rattle.gt_text.specs.Streams.{AppendsBeginning}
-use Rattle.gt_policy_flow.specs.Asking.{IsFlowOf, answer_of}
+use Rattle.gt_policy_flow.specs.Asking.{IsFlowOf, flow_answer}
 use Rattle.gt_policy_flow.specs.declared.asking.FlowAnswer.{FlowAnswer}
 use Rattle.gt_policy_flow.specs.declared.asking.FlowAnswer.TheVariants as answers
 use Rattle.gt_policy_flow.specs.declared.asking.FlowQuestion.{FlowQuestion}
@@ -17,8 +17,8 @@ use Rattle.gt_policy_flow.specs.declared.fault.FlowFault.{FlowFault}
 use Rattle.gt_policy_flow.specs.declared.fault.FlowFault.TheVariants.{NoSource, NoTarget, NoTrusted, Text}
 
 -- the policy of the text has this answer to the question
-abbrev pub HasAnswer : List ℕ → FlowQuestion → FlowAnswer → FlowReport → Type 0
-HasAnswer text q answer report = IsFlowOf text q report × (report.answer ≡ answer)
+abbrev pub PolicyHasAnswer : List ℕ → FlowQuestion → FlowAnswer → FlowReport → Type 0
+PolicyHasAnswer text q answer report = IsFlowOf text q report × (report.answer ≡ answer)
 
 -- the lines went out, or a prefix of them
 abbrev pub WritesFlow : List ℕ → Bool → Option (List ℕ) → Option (List ℕ) → Result Bool FlowFault → Type 0
@@ -36,13 +36,13 @@ WritesFlow lines has old new (Err (Text (Policy shown))) = ⊥
 -- nothing if a name of the question is unknown.
 abbrev pub FlowsOf : FlowQuestion → List ℕ → Option (List ℕ) → Option (List ℕ) → Result Bool FlowFault → Type 0
 FlowsOf q text old new (Ok has) =
-    (report : FlowReport) × HasAnswer text q (answer_of has) report × Appends old new report.lines.items
-FlowsOf q text old new (Err NoSource) = ((report : FlowReport) × HasAnswer text q answers.NoSource report) × Keeps old new
-FlowsOf q text old new (Err NoTarget) = ((report : FlowReport) × HasAnswer text q answers.NoTarget report) × Keeps old new
+    (report : FlowReport) × PolicyHasAnswer text q (flow_answer has) report × Appends old new report.lines.items
+FlowsOf q text old new (Err NoSource) = ((report : FlowReport) × PolicyHasAnswer text q answers.NoSource report) × Keeps old new
+FlowsOf q text old new (Err NoTarget) = ((report : FlowReport) × PolicyHasAnswer text q answers.NoTarget report) × Keeps old new
 FlowsOf q text old new (Err NoTrusted) =
-    ((report : FlowReport) × HasAnswer text q answers.NoTrusted report) × Keeps old new
+    ((report : FlowReport) × PolicyHasAnswer text q answers.NoTrusted report) × Keeps old new
 FlowsOf q text old new (Err (Text Write)) =
-    (has : Bool) × (report : FlowReport) × HasAnswer text q (answer_of has) report
+    (has : Bool) × (report : FlowReport) × PolicyHasAnswer text q (flow_answer has) report
     × AppendsBeginning old new report.lines.items
 FlowsOf q text old new (Err (Text Memory)) = Keeps old new
 FlowsOf q text old new (Err (Text Read)) = ⊥

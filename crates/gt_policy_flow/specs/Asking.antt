@@ -4,7 +4,7 @@ use Rattle.std.specs.Prelude.{Option, Some, None, is_some, if◌then◌else◌, 
 use Rattle.std.specs.List.{flat_map, list_all, slice_get, slice_split}
 use Rattle.std.specs.Option.{option_map}
 use Rattle.gt_types.specs.declared.TypeId.{TypeId}
-use Rattle.gt_flow.specs.Flow.{AllowRelation}
+use Rattle.gt_flow.specs.Flow.{FlowPolicy}
 use Rattle.gt_policy.specs.Allowing.{Meaning, is_allowed}
 use Rattle.gt_policy.specs.Lined.{IsLined}
 use Rattle.gt_policy.specs.Whole.{ReadsAs}
@@ -21,12 +21,12 @@ use Rattle.gt_policy_flow.specs.declared.pairs.PairForm.{PairForm}
 use Rattle.gt_policy_flow.specs.declared.pairs.PairForm.TheVariants as forms
 
 -- a type is asked for, by its number
-abbrev pub asked_by : Option Member → Option (List ℕ) → Bool
-asked_by None asked = false
-asked_by (Some member) asked = is_asked asked member.names
+abbrev pub is_member_asked : Option Member → Option (List ℕ) → Bool
+is_member_asked None asked = false
+is_member_asked (Some member) asked = is_asked asked member.names
 
 abbrev pub asked_at : List Member → Option (List ℕ) → ℕ → Bool
-asked_at members asked id = asked_by (slice_get members id) asked
+asked_at members asked id = is_member_asked (slice_get members id) asked
 
 -- a type, if it is asked for
 abbrev pub id_if : Bool → ℕ → List TypeId
@@ -57,16 +57,16 @@ form_of false sources targets = forms.Reached
 form_of true sources targets = if (sources == 1) && (targets == 1) then forms.Steps else forms.Pairs
 
 -- the answer, by whether there is a path
-abbrev pub answer_of : Bool → FlowAnswer
-answer_of true = answers.Path
-answer_of false = answers.NoPath
+abbrev pub flow_answer : Bool → FlowAnswer
+flow_answer true = answers.Path
+flow_answer false = answers.NoPath
 
 -- the lines are those of all pairs, and the answer is whether one of them has a path
-abbrev pub Reports : AllowRelation → (TypeId → Bool) → List LinedStatement → List Member → PairForm → List TypeId
+abbrev pub Reports : FlowPolicy → (TypeId → Bool) → List LinedStatement → List Member → PairForm → List TypeId
     → List TypeId → FlowReport → Type 0
 Reports may trusted xs members form sources targets report =
     (has : Bool) × AnswersAll may trusted xs members form targets sources report.lines.items has
-    × (report.answer ≡ answer_of has)
+    × (report.answer ≡ flow_answer has)
 
 -- an answer without lines
 abbrev pub IsBare : FlowAnswer → FlowReport → Type 0
@@ -80,8 +80,8 @@ ReportsBy true (suc n) zero Answered report = IsBare answers.NoTarget report
 ReportsBy true (suc n) (suc k) Answered report = Answered report
 
 -- the answer to a question, for a policy with this number of types
-abbrev pub IsReport : AllowRelation → ℕ → List LinedStatement → FlowQuestion → FlowReport → Type 0
-IsReport may count xs q report =
+abbrev pub IsFlowReport : FlowPolicy → ℕ → List LinedStatement → FlowQuestion → FlowReport → Type 0
+IsFlowReport may count xs q report =
     let members = members_of xs None in
     let sources = ids_asked members (option_map (λ a. a.now) q.source) count in
     let targets = ids_asked members (option_map (λ a. a.now) q.target) count in
@@ -91,11 +91,11 @@ IsReport may count xs q report =
     (form_of (is_some q.source && is_some q.target) (length sources) (length targets)) sources targets) report
 
 -- what the types of a policy may do, by their numbers
-abbrev pub relation_of : Meaning → AllowRelation
+abbrev pub relation_of : Meaning → FlowPolicy
 relation_of m source target perm = is_allowed m source.0 target.0 perm
 
 -- the answer to a question about a text
 abbrev pub IsFlowOf : List ℕ → FlowQuestion → FlowReport → Type 0
 IsFlowOf text q report =
     (m : Meaning) × (xs : List LinedStatement) × ReadsAs text (Ok m) × IsLined text xs
-    × IsReport (relation_of m) (length m.types) xs q report
+    × IsFlowReport (relation_of m) (length m.types) xs q report

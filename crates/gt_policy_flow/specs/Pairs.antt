@@ -2,11 +2,11 @@
 use Rattle.std.specs.Prelude.{◌≡◌, ℕ, ◌==◌, ◌||◌, Bool, true, false, List, [], ◌∷◌, ◌++◌, codes, decimal, length}
 use Rattle.std.specs.Prelude.{Option, Some, None, is_some, Result, Ok, Err}
 use Rattle.gt_types.specs.declared.TypeId.{TypeId}
-use Rattle.gt_flow.specs.Flow.{AllowRelation}
+use Rattle.gt_flow.specs.Flow.{FlowPolicy}
 use Rattle.gt_policy.specs.declared.lined.LinedStatement.{LinedStatement}
 use Rattle.gt_policy_check.specs.declared.members.Member.{Member}
 use Rattle.gt_policy_flow.specs.Paths.{HasPath}
-use Rattle.gt_policy_flow.specs.Steps.{pair_text, path_text}
+use Rattle.gt_policy_flow.specs.Steps.{type_pair_text, path_text}
 use Rattle.gt_policy_flow.specs.declared.pairs.PairForm.{PairForm}
 use Rattle.gt_policy_flow.specs.declared.pairs.PairForm.TheVariants.{Steps, Pairs, Reached}
 
@@ -16,7 +16,7 @@ leaves_out Steps source target = false
 leaves_out Pairs source target = source.0 == target.0
 leaves_out Reached source target = source.0 == target.0
 
-module _ (may : AllowRelation) (trusted : TypeId → Bool) (xs : List LinedStatement) (members : List Member) where
+module _ (may : FlowPolicy) (trusted : TypeId → Bool) (xs : List LinedStatement) (members : List Member) where
   -- the steps of a path, in the form that has them
   abbrev pub steps_text : PairForm → TypeId → List TypeId → List ℕ
   steps_text Steps source path = path_text may trusted xs members source path
@@ -25,28 +25,28 @@ module _ (may : AllowRelation) (trusted : TypeId → Bool) (xs : List LinedState
 
   -- the answer for a pair with no path
   abbrev pub none_text : PairForm → TypeId → TypeId → List ℕ
-  none_text Steps source target = pair_text members source target ++ codes "none\n"
-  none_text Pairs source target = pair_text members source target ++ codes "none\n"
+  none_text Steps source target = type_pair_text members source target ++ codes "none\n"
+  none_text Pairs source target = type_pair_text members source target ++ codes "none\n"
   none_text Reached source target = []
 
   -- the answer for a pair, by its path
-  abbrev pub block_text : PairForm → TypeId → TypeId → Option (List TypeId) → List ℕ
-  block_text form source target None = none_text form source target
-  block_text form source target (Some path) =
-      pair_text members source target ++ decimal (length path) ++ codes "\n" ++ steps_text form source path
+  abbrev pub pair_answer_text : PairForm → TypeId → TypeId → Option (List TypeId) → List ℕ
+  pair_answer_text form source target None = none_text form source target
+  pair_answer_text form source target (Some path) =
+      type_pair_text members source target ++ decimal (length path) ++ codes "\n" ++ steps_text form source path
 
   -- a pair was answered: by a shortest path, or since there is none; or it is left out
-  pub data Answers (form : PairForm) (source target : TypeId) : List ℕ → Bool → Type 0 where
-    left_out : leaves_out form source target ≡ true → Answers form source target [] false
+  pub data AnswersPair (form : PairForm) (source target : TypeId) : List ℕ → Bool → Type 0 where
+    left_out : leaves_out form source target ≡ true → AnswersPair form source target [] false
     answered : leaves_out form source target ≡ false → (path : Option (List TypeId))
         → HasPath may trusted source target path
-        → Answers form source target (block_text form source target path) (is_some path)
+        → AnswersPair form source target (pair_answer_text form source target path) (is_some path)
 
   -- the answers for a source and these targets, one after another, and whether there is a path to one of them
   pub data AnswersEach (form : PairForm) (source : TypeId) : List TypeId → List ℕ → Bool → Type 0 where
     no_target : AnswersEach form source [] [] false
     more_targets : (target : TypeId) (targets : List TypeId) (text rest : List ℕ) (first others : Bool)
-        → Answers form source target text first → AnswersEach form source targets rest others
+        → AnswersPair form source target text first → AnswersEach form source targets rest others
         → AnswersEach form source (target ∷ targets) (text ++ rest) (first || others)
 
   -- the same for these sources
@@ -58,7 +58,7 @@ module _ (may : AllowRelation) (trusted : TypeId → Bool) (xs : List LinedState
 
   abbrev pub AppendsBlock : {E : Type 0} → PairForm → TypeId → TypeId → List ℕ → List ℕ → Result Bool E → Type 0
   AppendsBlock form source target old new (Ok has) =
-      (text : List ℕ) × Answers form source target text has × (new ≡ old ++ text)
+      (text : List ℕ) × AnswersPair form source target text has × (new ≡ old ++ text)
   AppendsBlock form source target old new (Err fault) = Unit {0}
 
   abbrev pub AppendsTargets : {E : Type 0} → PairForm → TypeId → List TypeId → List ℕ → List ℕ → Result Bool E → Type 0

@@ -2,23 +2,23 @@
 use Rattle.std.specs.Prelude.{◌≡◌, ◌⊎◌, ◌<◌, ◌≤◌, ◌+◌, ℕ, Bool, true, List, [], ◌∷◌, length, Option, Some, None}
 use Rattle.std.specs.List.{slice_get}
 use Rattle.gt_types.specs.declared.TypeId.{TypeId}
-use Rattle.gt_flow.specs.Flow.{AllowRelation}
+use Rattle.gt_flow.specs.Flow.{FlowPolicy}
 use Rattle.gt_policy_flow.specs.Flows.{MayFlowPast, is_among}
 use Rattle.gt_policy_flow.specs.declared.searching.Reach.{Reach}
 
 -- accesses one after another may bring bytes from type x, through the types of the list, to type y, its last
-abbrev pub IsPathPast : AllowRelation → (TypeId → Bool) → TypeId → List TypeId → TypeId → Type 0
+abbrev pub IsPathPast : FlowPolicy → (TypeId → Bool) → TypeId → List TypeId → TypeId → Type 0
 IsPathPast may trusted x [] y = x ≡ y
 IsPathPast may trusted x (z ∷ zs) y = MayFlowPast may trusted x z × IsPathPast may trusted z zs y
 
 -- the list is a path, and none is shorter
-pub record IsShortestPath (may : AllowRelation) (trusted : TypeId → Bool) (x y : TypeId) (zs : List TypeId) : Type 0
+pub record IsShortestPath (may : FlowPolicy) (trusted : TypeId → Bool) (x y : TypeId) (zs : List TypeId) : Type 0
   where
     pub path : IsPathPast may trusted x zs y
     pub least : (others : List TypeId) → IsPathPast may trusted x others y → length zs ≤ length others
 
 -- a path that is asked for: a shortest one, or none if there is none
-abbrev pub HasPath : AllowRelation → (TypeId → Bool) → TypeId → TypeId → Option (List TypeId) → Type 0
+abbrev pub HasPath : FlowPolicy → (TypeId → Bool) → TypeId → TypeId → Option (List TypeId) → Type 0
 HasPath may trusted x y (Some path) = IsShortestPath may trusted x y path
 HasPath may trusted x y None = (zs : List TypeId) → IsPathPast may trusted x zs y → ⊥
 
@@ -35,7 +35,7 @@ abbrev pub AreBackward : List Reach → Type 0
 AreBackward found = (i : ℕ) (r : Reach) → slice_get found (i + 1) ≡ Some r → r.from ≤ i
 
 -- a type was reached by one access from the type at the place that it names
-pub record IsHop (may : AllowRelation) (trusted : TypeId → Bool) (found : List Reach) (r : Reach) : Type 0 where
+pub record IsHop (may : FlowPolicy) (trusted : TypeId → Bool) (found : List Reach) (r : Reach) : Type 0 where
   pub before : Reach
   pub place : slice_get found r.from ≡ Some before
   pub distance : r.distance ≡ before.distance + 1
@@ -52,7 +52,7 @@ pub record IsFoundWithin (found : List Reach) (y : TypeId) (most : ℕ) : Type 0
 -- The list is that of the types that bytes of the source reach. The first is the source. Each other one is reached by
 -- an access from an earlier one. They are in the order of their distances. And each access from one of them leads to
 -- one of them, at most one step further.
-pub record IsSearched (may : AllowRelation) (trusted : TypeId → Bool) (source : TypeId) (found : List Reach) : Type 0
+pub record IsSearched (may : FlowPolicy) (trusted : TypeId → Bool) (source : TypeId) (found : List Reach) : Type 0
   where
     pub first : slice_get found 0 ≡ Some (record { id = source; from = 0; distance = 0 })
     pub backward : AreBackward found

@@ -8,7 +8,7 @@ ghost use Rattle.gt_policy.specs.Shown.{fault_shown, out_of_memory};
 ghost use Rattle.gt_policy.specs.Whole.{ReadsAs};
 ghost use Rattle.gt_policy.specs.declared.fault.TokenFault.{TokenFault};
 ghost use Rattle.gt_policy_check.specs.Members.{is_asked, members_of};
-ghost use Rattle.gt_policy_flow.specs.Asking.{IsFlowOf, IsReport, Reports, are_known, asked_at, form_of, ids_asked, names_in, trusted_by};
+ghost use Rattle.gt_policy_flow.specs.Asking.{IsFlowOf, IsFlowReport, Reports, are_known, asked_at, form_of, ids_asked, names_in, trusted_by};
 ghost use Rattle.gt_policy_flow.specs.Flows.{AreAmong, is_among};
 
 use crate::pairs::{PairForm, push_sources};
@@ -200,7 +200,7 @@ fn report<P: Allows>(
     question: &FlowQuestion,
 ) -> Result<FlowReport, AllocError>
     requires { AreAmong count (P.may policy.now) }
-    ensures { IfOk result (λ report. IsReport (P.may policy.now) count statements.now question.now report) }
+    ensures { IfOk result (λ report. IsFlowReport (P.may policy.now) count statements.now question.now report) }
 {
     let members = members_of(alloc, statements, None)?;
     let sources = ids_asked(alloc, members.as_slice(), count, bytes_of(question.source))?;

@@ -1,7 +1,7 @@
 //! Whether one access may bring bytes of one type to another.
 ghost use Rattle.std.specs.Prelude.{◌≡◌};
 ghost use Rattle.std.specs.List.{list_any};
-ghost use Rattle.gt_policy_flow.specs.Flows.{access_of, copies, flows, loads, stores, is_among};
+ghost use Rattle.gt_policy_flow.specs.Flows.{allowed_access, may_copy, flows, may_load, may_store, is_among};
 
 use gt_types::{Allows, Perms, TypeId};
 
@@ -16,21 +16,21 @@ pub enum Access {
 
 // Returns whether a domain of type y may load bytes of one of type x.
 fn loads<P: Allows>(policy: &P, x: TypeId, y: TypeId) -> bool
-    ensures { result ≡ loads (P.may policy.now) x y }
+    ensures { result ≡ may_load (P.may policy.now) x y }
 {
     policy.allows(y, x, Perms::MAP_READ)
 }
 
 // Returns whether bytes of a domain of type x may be copied to frames of one of type y.
 fn copies<P: Allows>(policy: &P, x: TypeId, y: TypeId) -> bool
-    ensures { result ≡ copies (P.may policy.now) x y }
+    ensures { result ≡ may_copy (P.may policy.now) x y }
 {
     policy.allows(x, y, Perms::COPY)
 }
 
 // Returns whether a domain of type x may store bytes in frames of one of type y.
 fn stores<P: Allows>(policy: &P, x: TypeId, y: TypeId) -> bool
-    ensures { result ≡ stores (P.may policy.now) x y }
+    ensures { result ≡ may_store (P.may policy.now) x y }
 {
     policy.allows(x, y, Perms::MAP_READ) && policy.allows(x, y, Perms::MAP_WRITE)
 }
@@ -50,7 +50,7 @@ pub fn access_between<P: Allows>(
     x: TypeId,
     y: TypeId,
 ) -> Option<Access>
-    ensures { result ≡ access_of (P.may policy.now) is_trusted x y }
+    ensures { result ≡ allowed_access (P.may policy.now) is_trusted x y }
 {
     if loads(policy, x, y) {
         Some(Access::Load)

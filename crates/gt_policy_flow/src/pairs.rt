@@ -2,7 +2,8 @@
 ghost use Rattle.std.specs.Prelude.{◌≡◌, ◌++◌, OnOk};
 ghost use Rattle.std.specs.Option.{option_map};
 ghost use Rattle.gt_policy_flow.specs.Flows.{AreAmong, is_among};
-ghost use Rattle.gt_policy_flow.specs.Pairs.{AppendsBlock, AppendsSources, AppendsTargets, block_text, leaves_out};
+ghost use Rattle.gt_policy_flow.specs.Pairs.{AppendsBlock, AppendsSources, AppendsTargets, pair_answer_text};
+ghost use Rattle.gt_policy_flow.specs.Pairs.{leaves_out};
 ghost use Rattle.gt_policy_flow.specs.Paths.{IsSearched};
 
 use crate::searching::{ReachedTypes, search};
@@ -31,7 +32,7 @@ fn push_block<P: Allows>(
     target: TypeId,
     path: Option<&[TypeId]>,
 ) -> Result<(), AllocError>
-    ensures { OnOk result (out.new.items ≡ out.old.items ++ block_text (P.may read.now.policy.now)
+    ensures { OnOk result (out.new.items ≡ out.old.items ++ pair_answer_text (P.may read.now.policy.now)
         (is_among read.now.trusted.now) read.now.statements.now read.now.members.now form source target
         (option_map (λ p. p.now) path.entry)) }
 {

@@ -120,7 +120,7 @@ impl ReachedTypes {
     ghost use Rattle.std.specs.Prelude.{◌≡◌, ◌==◌, ◌<◌, ℕ, Bool, length, IfOk, Option, position};
     ghost use Rattle.std.specs.Option.{option_map};
     ghost use Rattle.gt_types.specs.declared.TypeId.{TypeId};
-    ghost use Rattle.gt_flow.specs.Flow.{AllowRelation};
+    ghost use Rattle.gt_flow.specs.Flow.{FlowPolicy};
     ghost use Rattle.gt_policy_flow.specs.Paths.{HasPath, IsSearched};
 
     /// Returns the types that are reached, with their distances.
@@ -143,7 +143,7 @@ impl ReachedTypes {
     /// # Errors
     /// `AllocError`.
     pub fn path_to(&self, alloc: Global, target: TypeId) -> Result<Option<Vec<TypeId>>, AllocError>
-        ensures { (may : AllowRelation) (trusted : TypeId → Bool) (source : TypeId)
+        ensures { (may : FlowPolicy) (trusted : TypeId → Bool) (source : TypeId)
             → IsSearched may trusted source self.now → IfOk result (λ path. HasPath may trusted source target (option_map (λ p. p.items) path)) }
     {
         let Some(place) = self.place_of(target) else {

@@ -2,7 +2,7 @@
 ghost use Rattle.std.specs.Prelude.{◌≡◌, ◌++◌, codes, OnOk, find};
 ghost use Rattle.gt_policy_check.specs.Granting.{gives_one};
 ghost use Rattle.gt_policy_flow.specs.Flows.{is_among};
-ghost use Rattle.gt_policy_flow.specs.Steps.{access_text, first_line, line_between, name_in, pair_text, path_text, permission_text, step_text};
+ghost use Rattle.gt_policy_flow.specs.Steps.{access_text, first_granting_line, line_between, type_name_in, type_pair_text, path_text, permission_text, path_line_text};
 
 use crate::flows::{Access, access_between, is_among};
 use gt_policy::{LinedStatement, Statement};
@@ -23,7 +23,7 @@ pub(crate) struct ReadPolicy<'t, 'a, P> {
 
 // Returns the name of a type.
 fn name_in<'t>(members: &'t [Member<'_>], id: TypeId) -> &'t str
-    ensures { result.now ≡ name_in members.entry.now id }
+    ensures { result.now ≡ type_name_in members.entry.now id }
 {
     match members.get(id.0 as usize) {
         Some(member) => member.name.as_str(),
@@ -45,7 +45,7 @@ fn grants(statement: &Statement, source: &Member, target: &Member, perm: &str) -
 
 // Returns the line of the first statement that grants the permission, or 0.
 fn first_line(statements: &[LinedStatement], source: &Member, target: &Member, perm: &str) -> u32
-    ensures { result ≡ first_line statements.now source.now target.now perm.now }
+    ensures { result ≡ first_granting_line statements.now source.now target.now perm.now }
 {
     'statements: for stated in statements {
         if grants(&stated.statement, source, target, perm) {
@@ -81,7 +81,7 @@ pub(crate) fn push_pair(
     x: TypeId,
     y: TypeId,
 ) -> Result<(), AllocError>
-    ensures { OnOk result (out.new.items ≡ out.old.items ++ pair_text members.now x y) }
+    ensures { OnOk result (out.new.items ≡ out.old.items ++ type_pair_text members.now x y) }
 {
     push_text(out, name_in(members, x))?;
     push_text(out, " -> ")?;
@@ -139,7 +139,7 @@ fn push_step<P: Allows>(
     x: TypeId,
     y: TypeId,
 ) -> Result<(), AllocError>
-    ensures { OnOk result (out.new.items ≡ out.old.items ++ step_text (P.may read.now.policy.now)
+    ensures { OnOk result (out.new.items ≡ out.old.items ++ path_line_text (P.may read.now.policy.now)
         (is_among read.now.trusted.now) read.now.statements.now read.now.members.now x y) }
 {
     push_text(out, "  ")?;

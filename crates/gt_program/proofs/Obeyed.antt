@@ -38,14 +38,16 @@ use Rattle.gt_file_commands.specs.Names.{shown_name}
 use Rattle.gt_explore_verdict.specs.declared.judging.Verdict.{Verdict}
 use Rattle.gt_explore_verdict.specs.declared.judging.Verdict.TheVariants.{Holds, Fails, Undecided}
 use Rattle.gt_explore_answers.specs.declared.asking.ExploreOptions.{ExploreOptions as Searched}
-use Rattle.gt_file_commands.specs.Laws.{no_memory, nothing_done}
+use Rattle.gt_file_commands.specs.Laws.{nothing_without_memory, nothing_done}
 use Rattle.gt_file_commands.specs.Rules.{PrintsRules}
 use Rattle.gt_file_commands.specs.Working.{AnswersDump, AnswersFlow, AnswersQuestion, ChecksAll, ChecksAs, ChecksFiles}
-use Rattle.gt_file_commands.specs.Working.{ChecksIn, ChecksNever, Does, Doing, Ending, Lists, Plays, Works, known_text}
+use Rattle.gt_file_commands.specs.Working.{ChecksIn, ChecksNever, DoesOnFile, Doing, Ending, Lists, Plays, Works}
+use Rattle.gt_file_commands.specs.Working.{known_text}
 use Rattle.gt_file_commands.specs.declared.outcome.Outcome.{Outcome}
 use Rattle.gt_file_commands.specs.declared.outcome.Outcome.TheVariants.{No, Unknown, Yes}
 use Rattle.gt_program.specs.Runs.{RunsDomains}
-use Rattle.gt_program.specs.Obeying.{AnswersVerdict, FitsKind, IsGiven, IsHelped, IsSearched, Obeys, Searches, Seeks}
+use Rattle.gt_program.specs.Obeying.{AnswersVerdict, FitsKind, AsksAboutText, IsHelped, AreSearchOptions, Obeys}
+use Rattle.gt_program.specs.Obeying.{Searches, Seeks}
 use Rattle.gt_program.specs.Obeying.{SeeksText, explore_format, failed_command, failed_mode, failed_word, first_word}
 use Rattle.gt_program.specs.Obeying.{verdict_outcome}
 
@@ -66,13 +68,13 @@ pub as_planned : (p same : Invocation) (failed : Outcome) (width : Option ℕ) (
 as_planned p same failed width file input old new outcome is obeys = subst (λ (q : Invocation). Obeys (asked_by_plan q) failed width file input old new outcome) (sym is) obeys
 
 -- a text was sought among those of a script
-seeks_given : (asked : Searched) (text : List ℕ) (format : Format) (states : ℕ) (name : Option (List ℕ)) (input : List ℕ) (old new : Option (List ℕ)) (r : Ending) → IsGiven text asked.request
+seeks_given : (asked : Searched) (text : List ℕ) (format : Format) (states : ℕ) (name : Option (List ℕ)) (input : List ℕ) (old new : Option (List ℕ)) (r : Ending) → AsksAboutText text asked.request
     → asked.format ≡ explore_format format → asked.states ≡ states
-    → Does (Searches asked) name input old new r → Does (SeeksText text format states) name input old new r
+    → DoesOnFile (Searches asked) name input old new r → DoesOnFile (SeeksText text format states) name input old new r
 seeks_given asked text format states name input old new r given form same (inl does) = inl (asked, given, form, same, does)
 seeks_given asked text format states name input old new r given form same (inr unopened) = inr unopened
 
-pub found_so : (asked : Searched) (text : List ℕ) (format : Format) (states : ℕ) (name known old new : Option (List ℕ)) (outcome : Outcome) → IsGiven text asked.request
+pub found_so : (asked : Searched) (text : List ℕ) (format : Format) (states : ℕ) (name known old new : Option (List ℕ)) (outcome : Outcome) → AsksAboutText text asked.request
     → asked.format ≡ explore_format format → asked.states ≡ states
     → Works (Searches asked) Unknown name known old new outcome → Works (SeeksText text format states) Unknown name known old new outcome
 found_so asked text format states name None old new outcome given form same works = tt
@@ -120,7 +122,7 @@ unread_files P file [] here = (Yes, (keeps_same here, refl))
 unread_files P file (None ∷ more) here = unread_files P file more here
 unread_files P file (Some name ∷ more) here =
     let others = unread_files P file more here in
-    (Unknown, (here, Unknown, others.0, no_memory (P name) Unknown (Some name) (file name) here here Unknown refl (keeps_same here), others.1, refl))
+    (Unknown, (here, Unknown, others.0, nothing_without_memory (P name) Unknown (Some name) (file name) here here Unknown refl (keeps_same here), others.1, refl))
 
 appends_none : (old new : Option (List ℕ)) → Keeps old new → Appends old new []
 appends_none None new kept = tt
@@ -135,25 +137,25 @@ rules_unprinted width name old new outcome is kept =
 
 out_of_memory : (request : Request) (failed : Outcome) (width : Option ℕ) (file : List ℕ → Option (List ℕ)) (input old new : Option (List ℕ)) (outcome : Outcome) → FailedFor request failed → outcome ≡ failed → Keeps old new
     → Obeys request failed width file input old new outcome
-out_of_memory (to_play audited verbose format name) failed width file input old new outcome for is kept = no_memory (Plays format audited) No name (known_text file input name) old new outcome (is ∙ for) kept
-out_of_memory (to_run audited verbose format name) failed width file input old new outcome for is kept = no_memory (RunsDomains format audited) No name (known_text file input name) old new outcome (is ∙ for) kept
-out_of_memory (to_explore sought format states name) failed width file input old new outcome for is kept = no_memory (Seeks sought format states) Unknown name (known_text file input name) old new outcome (is ∙ for) kept
+out_of_memory (to_play audited verbose format name) failed width file input old new outcome for is kept = nothing_without_memory (Plays format audited) No name (known_text file input name) old new outcome (is ∙ for) kept
+out_of_memory (to_run audited verbose format name) failed width file input old new outcome for is kept = nothing_without_memory (RunsDomains format audited) No name (known_text file input name) old new outcome (is ∙ for) kept
+out_of_memory (to_explore sought format states name) failed width file input old new outcome for is kept = nothing_without_memory (Seeks sought format states) Unknown name (known_text file input name) old new outcome (is ∙ for) kept
 out_of_memory (to_find_text given format states name) failed width file input old new outcome for is kept =
     nothing_done (file given) (λ text. Works (SeeksText text format states) Unknown name (known_text file input name)) old new outcome (is ∙ for) kept
-out_of_memory (to_list verbose format name) failed width file input old new outcome for is kept = no_memory (Lists format) No name (known_text file input name) old new outcome (is ∙ for) kept
+out_of_memory (to_list verbose format name) failed width file input old new outcome for is kept = nothing_without_memory (Lists format) No name (known_text file input name) old new outcome (is ∙ for) kept
 out_of_memory (to_tell_rules name) failed width file input old new outcome for is kept = rules_unprinted width name old new outcome (is ∙ for) kept
 out_of_memory (to_check script format name more) failed width file input old new outcome for is kept =
     let others = unread_files (ChecksIn (ChecksAs script) format) file more new in
-    (new, Unknown, others.0, no_memory (ChecksIn (ChecksAs script) format (shown_name name)) Unknown name (known_text file input name) old new Unknown refl kept, others.1, is ∙ for)
+    (new, Unknown, others.0, nothing_without_memory (ChecksIn (ChecksAs script) format (shown_name name)) Unknown name (known_text file input name) old new Unknown refl kept, others.1, is ∙ for)
 out_of_memory (to_check_never never format name more) failed width file input old new outcome for is kept =
     nothing_done (file never) (λ given. ChecksAll (ChecksIn (ChecksNever never given) format) file input name more) old new outcome (is ∙ for) kept
 out_of_memory (to_explain source target permission name) failed width file input old new outcome for is kept =
-    no_memory (AnswersQuestion (shown_name name) source target permission) Unknown name (known_text file input name) old new outcome (is ∙ for) kept
+    nothing_without_memory (AnswersQuestion (shown_name name) source target permission) Unknown name (known_text file input name) old new outcome (is ∙ for) kept
 out_of_memory (to_explain_each name) failed width file input old new outcome for is kept = inr (is ∙ for, kept)
 out_of_memory (to_show_flow source target trusted name) failed width file input old new outcome for is kept =
-    no_memory (AnswersFlow source target trusted) Unknown name (known_text file input name) old new outcome (is ∙ for) kept
+    nothing_without_memory (AnswersFlow source target trusted) Unknown name (known_text file input name) old new outcome (is ∙ for) kept
 out_of_memory (to_tell_entries version hex every script format name) failed width file input old new outcome for is kept =
-    no_memory (AnswersDump version hex every script format) Unknown name (known_text file input name) old new outcome (is ∙ for) kept
+    nothing_without_memory (AnswersDump version hex every script format) Unknown name (known_text file input name) old new outcome (is ∙ for) kept
 out_of_memory for_help failed width file input old new outcome for is kept = helpless failed outcome old new for is kept
 out_of_memory for_version failed width file input old new outcome for is kept = helpless failed outcome old new for is kept
 out_of_memory nothing failed width file input old new outcome for is kept = (inr is, kept)
@@ -379,12 +381,12 @@ pub refused_words : (words : List (List ℕ)) (width : Option ℕ) (file : List 
 refused_words words width file input old new error failed outcome is has fits = refused (request_in_words words) width file input old new error failed outcome (failed_in_words words failed is) has fits
 
 -- a script was explored as it was asked
-seeks_asked : (asked : Searched) (sought : Sought) (format : Format) (states : ℕ) (name : Option (List ℕ)) (input : List ℕ) (old new : Option (List ℕ)) (r : Ending) → IsSearched sought format states asked
-    → Does (Searches asked) name input old new r → Does (Seeks sought format states) name input old new r
+seeks_asked : (asked : Searched) (sought : Sought) (format : Format) (states : ℕ) (name : Option (List ℕ)) (input : List ℕ) (old new : Option (List ℕ)) (r : Ending) → AreSearchOptions sought format states asked
+    → DoesOnFile (Searches asked) name input old new r → DoesOnFile (Seeks sought format states) name input old new r
 seeks_asked asked sought format states name input old new r is (inl does) = inl (asked, is, does)
 seeks_asked asked sought format states name input old new r is (inr unopened) = inr unopened
 
-pub sought_so : (asked : Searched) (sought : Sought) (format : Format) (states : ℕ) (name known old new : Option (List ℕ)) (outcome : Outcome) → IsSearched sought format states asked
+pub sought_so : (asked : Searched) (sought : Sought) (format : Format) (states : ℕ) (name known old new : Option (List ℕ)) (outcome : Outcome) → AreSearchOptions sought format states asked
     → Works (Searches asked) Unknown name known old new outcome → Works (Seeks sought format states) Unknown name known old new outcome
 sought_so asked sought format states name None old new outcome asks works = tt
 sought_so asked sought format states name (Some bytes) old new outcome asks (r, is, inl does) = (r, is, inl (seeks_asked asked sought format states name bytes old new r asks does))

@@ -10,8 +10,9 @@ use Rattle.gt_program.specs.Prelude.{Explored, ReadsAsRun, Searched, ExploreForm
 use Rattle.gt_program.specs.Prelude.{Holds, Fails, Undecided, Outcome, No, Unknown, Yes}
 use Rattle.gt_file_commands.specs.Names.{shown_name}
 use Rattle.gt_file_commands.specs.Rules.{PrintsRules}
-use Rattle.gt_file_commands.specs.Working.{AnswersDump, AnswersEach, AnswersFlow, AnswersQuestion, ChecksAll, ChecksAs}
-use Rattle.gt_file_commands.specs.Working.{ChecksIn, ChecksNever, Deed, Doing, Lists, Plays, WithFile, Works, known_text}
+use Rattle.gt_file_commands.specs.Working.{AnswersDump, AnswersAboutFile, AnswersFlow, AnswersQuestion, ChecksAll}
+use Rattle.gt_file_commands.specs.Working.{ChecksAs}
+use Rattle.gt_file_commands.specs.Working.{ChecksIn, ChecksNever, OutputEffect, Doing, Lists, Plays, WithFile, Works, known_text}
 use Rattle.gt_file_commands.specs.declared.failure.Failure.TheVariants as failures
 use Rattle.gt_program.specs.Runs.{RunsDomains}
 use Rattle.gt_commands.specs.declared.invocation.Format.TheVariants.{Text, Json}
@@ -102,33 +103,34 @@ explore_format Text = explored.Text
 explore_format Json = explored.Json
 
 -- the options for the texts of a script
-abbrev pub IsSearched : Sought → Format → ℕ → Searched → Type 0
-IsSearched sought format states asked =
+abbrev pub AreSearchOptions : Sought → Format → ℕ → Searched → Type 0
+AreSearchOptions sought format states asked =
     IsRequestFor sought asked.request × (asked.format ≡ explore_format format) × (asked.states ≡ states)
 
 -- a script is explored with these options
 abbrev pub Seeks : Sought → Format → ℕ → Doing
 Seeks sought format states input old new r =
-    (asked : Searched) × IsSearched sought format states asked × Searches asked input old new r
+    (asked : Searched) × AreSearchOptions sought format states asked × Searches asked input old new r
 
 -- the request is whether this text is one of those of a script
-abbrev pub IsGiven : List ℕ → ExploreRequest → Type 0
-IsGiven text requests.Texts = ⊥
-IsGiven text (requests.Decide claim expression) = ⊥
-IsGiven text (requests.Has given) = given.now ≡ text
-IsGiven text (requests.Witness number) = ⊥
-IsGiven text requests.Witnesses = ⊥
-IsGiven text (requests.Trace number) = ⊥
-IsGiven text (requests.Diagram number) = ⊥
+abbrev pub AsksAboutText : List ℕ → ExploreRequest → Type 0
+AsksAboutText text requests.Texts = ⊥
+AsksAboutText text (requests.Decide claim expression) = ⊥
+AsksAboutText text (requests.Has given) = given.now ≡ text
+AsksAboutText text (requests.Witness number) = ⊥
+AsksAboutText text requests.Witnesses = ⊥
+AsksAboutText text (requests.Trace number) = ⊥
+AsksAboutText text (requests.Diagram number) = ⊥
 
 -- a text is sought among those of a script, up to this number of states
 abbrev pub SeeksText : List ℕ → Format → ℕ → Doing
 SeeksText text format states input old new r =
-    (asked : Searched) × IsGiven text asked.request × (asked.format ≡ explore_format format) × (asked.states ≡ states)
-    × Searches asked input old new r
+    (asked : Searched) × AsksAboutText text asked.request × (asked.format ≡ explore_format format)
+    × (asked.states ≡ states) × Searches asked input old new r
 
 -- the text of a file is sought among those of a script
-abbrev pub FindsText : List ℕ → Format → ℕ → (List ℕ → Option (List ℕ)) → Option (List ℕ) → Option (List ℕ) → Deed
+abbrev pub FindsText : List ℕ → Format → ℕ → (List ℕ → Option (List ℕ)) → Option (List ℕ) → Option (List ℕ)
+    → OutputEffect
 FindsText given format states file input name =
     WithFile (file given) (λ text. Works (SeeksText text format states) Unknown name (known_text file input name))
 
@@ -161,7 +163,7 @@ Obeys (to_explain source target permission name) failed width file input old new
     Works (AnswersQuestion (shown_name name) source target permission) Unknown name (known_text file input name)
     old new outcome
 Obeys (to_explain_each name) failed width file input old new outcome =
-    AnswersEach name (file name) input old new outcome
+    AnswersAboutFile name (file name) input old new outcome
 Obeys (to_show_flow source target trusted name) failed width file input old new outcome =
     Works (AnswersFlow source target trusted) Unknown name (known_text file input name) old new outcome
 Obeys (to_tell_entries version hex every script format name) failed width file input old new outcome =

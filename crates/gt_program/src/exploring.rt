@@ -5,8 +5,8 @@ ghost use Rattle.gt_text.specs.Streams.{OfInput};
 ghost use Rattle.gt_script.specs.RunScripts.{ReadsAsRun};
 ghost use Rattle.gt_commands.specs.Commands.{sought_by};
 ghost use Rattle.gt_explore.specs.Writing.{Explored};
-ghost use Rattle.gt_commands.specs.Files.{name_of};
-ghost use Rattle.gt_file_commands.specs.Working.{known_input, Does, Works};
+ghost use Rattle.gt_commands.specs.Files.{file_name_of};
+ghost use Rattle.gt_file_commands.specs.Working.{known_input, DoesOnFile, Works};
 ghost use Rattle.gt_file_commands.specs.declared.outcome.Outcome.TheVariants.{Unknown};
 ghost use Rattle.gt_program.specs.Obeying.{explore_format, verdict_outcome, FindsText, IsRequestFor, Searches, Seeks};
 ghost use Rattle.gt_program.specs.Obeying.{SeeksText};
@@ -102,8 +102,8 @@ fn search_on<R, T: TextSource, W: Write, E>(
     reasons: &mut Reasons,
 ) -> Result<Outcome, Failure>
     ensures { IfSome (known_input (T.file context.now.texts.now) (T.input context.now.texts.now) name.entry)
-        (λ input. Does (Searches asked.now) (name_of name.entry) input (W.contents out.old) (W.contents out.new)
-        result) }
+        (λ input. DoesOnFile (Searches asked.now) (file_name_of name.entry) input (W.contents out.old)
+        (W.contents out.new) result) }
 {
     let Some(name) = name else {
         return search(
@@ -131,7 +131,7 @@ fn search_asked<R, T: TextSource, W: Write, E: Eprint>(
     out: &mut W,
     reasons: &mut Reasons,
 ) -> Outcome
-    ensures { Works (Searches asked.now) Unknown (name_of file.entry)
+    ensures { Works (Searches asked.now) Unknown (file_name_of file.entry)
         (known_input (T.file context.now.texts.now) (T.input context.now.texts.now) file.entry)
         (W.contents out.old) (W.contents out.new) result }
 {
@@ -148,7 +148,7 @@ pub(crate) fn explore<'a, R, T: TextSource, W: Write, E: Eprint>(
     reasons: &mut Reasons<'a>,
 ) -> Outcome
     ensures { Works (Seeks (sought_by asked.entry) options.entry.format options.entry.states) Outcome.Unknown
-        (name_of options.entry.file)
+        (file_name_of options.entry.file)
         (known_input (T.file context.now.texts.now) (T.input context.now.texts.now) options.entry.file)
         (W.contents out.old) (W.contents out.new) result }
 {
@@ -168,7 +168,8 @@ fn find_bytes<'a, R, T: TextSource, W: Write, E: Eprint>(
     out: &mut W,
     reasons: &mut Reasons<'a>,
 ) -> Outcome
-    ensures { Works (SeeksText text.now options.entry.format options.entry.states) Unknown (name_of options.entry.file)
+    ensures { Works (SeeksText text.now options.entry.format options.entry.states) Unknown
+        (file_name_of options.entry.file)
         (known_input (T.file context.now.texts.now) (T.input context.now.texts.now) options.entry.file)
         (W.contents out.old) (W.contents out.new) result }
 {

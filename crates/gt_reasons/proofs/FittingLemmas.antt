@@ -18,7 +18,7 @@ use Rattle.gt_script_lines.specs.Hexadecimal.{hex_word}
 use Rattle.gt_script_lines.specs.Numbers.{decimal_number}
 use Rattle.gt_script_lines.specs.Words.{words as words_in}
 use Rattle.gt_reasons.specs.declared.forms.TheConstants.{FORMS}
-use Rattle.gt_reasons.specs.Fitting.{example_of, example_word, examples, fits, FitMost, IsFitting, IsMisfit}
+use Rattle.gt_reasons.specs.Fitting.{example_of, example_word, examples, fits_example, FitMost, IsFitting, IsMisfit}
 
 clash : (b : Bool) → b ≡ true → b ≡ false → ⊥
 clash b is isnt = cc
@@ -26,7 +26,7 @@ clash b is isnt = cc
 -- no two counts fit the same example
 further : (words example : List (List ℕ)) (one other : ℕ) → IsFitting words example one → IsFitting words example other → other < one → ⊥
 further words example one other p q more =
-    clash (fits words example (other + 1)) (p.fit other more) (q.no_more (omega (arith, p.within.0, more)) (omega (arith, p.within.1, more)))
+    clash (fits_example words example (other + 1)) (p.fit other more) (q.no_more (omega (arith, p.within.0, more)) (omega (arith, p.within.1, more)))
 
 unique : (words example : List (List ℕ)) (one other : ℕ) → IsFitting words example one → IsFitting words example other → one ≤ other
 unique words example one other p q = by (cases_lt other one)
@@ -151,7 +151,7 @@ map_drop now (suc n) [] = refl
 map_drop now (suc n) (x ∷ xs) = map_drop now n xs
 
 pub fitted : {X : Type 0} (now : X → List ℕ) (line words example : List X) (n : ℕ) → line ≡ take n words ++ drop n example
-    → is_some (line_of (map now line)) ≡ fits (map now words) (map now example) n
+    → is_some (line_of (map now line)) ≡ fits_example (map now words) (map now example) n
 fitted {X = X} now line words example n is =
     let front : map now (take n words) ++ map now (drop n example) ≡ take n (map now words) ++ map now (drop n example) =
     ap (λ (l : List (List ℕ)). l ++ map now (drop n example)) (map_take now n words) in

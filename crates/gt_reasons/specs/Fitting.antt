@@ -35,15 +35,15 @@ IsExample example = (at : ℕ) × (slice_get examples at ≡ Some example)
 -- ---- the words of a line
 
 -- the first `count` words, continued by the rest of the example, are a line that can be read
-abbrev pub fits : List (List ℕ) → List (List ℕ) → ℕ → Bool
-fits words example count = is_some (line_of (take count words ++ drop count example))
+abbrev pub fits_example : List (List ℕ) → List (List ℕ) → ℕ → Bool
+fits_example words example count = is_some (line_of (take count words ++ drop count example))
 
 -- The first `count` words fit, each in turn, and no more: with the next one no line can be read, if both the line and
 -- the example have one.
 pub record IsFitting (words example : List (List ℕ)) (count : ℕ) : Type 0 where
   pub within : (count ≤ length words) × (count ≤ length example)
-  pub fit : (k : ℕ) → k < count → fits words example (k + 1) ≡ true
-  pub no_more : count < length words → count < length example → fits words example (count + 1) ≡ false
+  pub fit : (k : ℕ) → k < count → fits_example words example (k + 1) ≡ true
+  pub no_more : count < length words → count < length example → fits_example words example (count + 1) ≡ false
 
 -- Of these examples, `most` words fit one, and no more fit another. It is 0 if there are none.
 pub record FitMost (among : List (List (List ℕ))) (words : List (List ℕ)) (most : ℕ) : Type 0 where

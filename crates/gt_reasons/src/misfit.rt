@@ -1,6 +1,6 @@
 //! The number of words of a line that fit a form.
 ghost use Rattle.std.specs.Prelude.{◌≡◌, ◌≤◌, IfOk, length, map};
-ghost use Rattle.gt_reasons.specs.Fitting.{fits, IsFitting};
+ghost use Rattle.gt_reasons.specs.Fitting.{fits_example, IsFitting};
 
 use gt_script_lines::read_line;
 use std::alloc::{AllocError, Global};
@@ -14,7 +14,7 @@ fn fits<'w>(
 ) -> Result<bool, AllocError>
     requires words { count ≤ length words.now }
     requires example { count ≤ length example.now }
-    ensures { IfOk result (λ b. b ≡ fits (map (λ w. w.now) words.now) (map (λ w. w.now) example.now) count) }
+    ensures { IfOk result (λ b. b ≡ fits_example (map (λ w. w.now) words.now) (map (λ w. w.now) example.now) count) }
 {
     let mut line = Vec::from_slice(alloc, &words[..count])?;
     line.extend_from_slice(&example[count..])?;

@@ -23,7 +23,8 @@ use Rattle.gt_run.specs.Asking.{AnswersCall, Asks}
 use Rattle.gt_types.specs.declared.GrantRef.{GrantRef}
 use Rattle.gt_model.specs.declared.entry.Entry.{Entry}
 use Rattle.gt_script_lines.specs.declared.calls.ScriptCall.TheVariants as said
-use Rattle.gt_run.specs.Serving.{Calls, FitsEntry, LogsOutcomes, Makes, ListOutcome, Records, answer_lines, counted}
+use Rattle.gt_run.specs.Serving.{ServesCall, FitsEntry, LogsOutcomes, MakesScriptCall, ListOutcome, Records}
+use Rattle.gt_run.specs.Serving.{answer_lines, counted}
 use Rattle.gt_run.specs.Serving.{is_logged, lost_in, record_made, logged_records}
 use Rattle.gt_run.specs.Logging.{LogsNext, LogsTrail}
 use Rattle.gt_run.specs.declared.lists.ThreadJob.{ThreadJob}
@@ -217,8 +218,8 @@ fits_other call other = tt
 
 -- the call of a line was made, its record was pushed, and its answer is printed
 pub calls : {P : Type 0} (may : P → AllowRelation) (job : ThreadJob P) (line : ℕ) (call : ScriptCall) (d e : Domain) (before after : Labels) (t u : Option TrailLogger) (answer : Answer) (text : List ℕ)
-    → Makes may job call d e before after answer → LogsTrail e.trail t u → text ≡ answer_line job.part.types.now line job.part.dom answer
-    → Calls may job line call d e before after t u text
+    → MakesScriptCall may job call d e before after answer → LogsTrail e.trail t u → text ≡ answer_line job.part.types.now line job.part.dom answer
+    → ServesCall may job line call d e before after t u text
 calls may job line call d e before after t u answer text makes tells is = λ p kept.
     let made = makes.1 p.named kept.names in
     let own : AddsRecord (record_made job.part.dom d made.0 answer) d.trail e.trail =
@@ -244,8 +245,8 @@ calls may job line call d e before after t u answer text makes tells is = λ p k
 
 -- the same of a call that may have had no memory, and had it
 pub calls_of : {P E : Type 0} (may : P → AllowRelation) (job : ThreadJob P) (line : ℕ) (call : ScriptCall) (d e : Domain) (before after : Labels) (t u : Option TrailLogger) (r : Result Answer E) (answer : Answer) (none text : List ℕ)
-    → r ≡ Ok answer → IfOk r (Makes may job call d e before after) → LogsTrail e.trail t u → none ≡ [] → text ≡ none ++ answer_line job.part.types.now line job.part.dom answer
-    → Calls may job line call d e before after t u text
+    → r ≡ Ok answer → IfOk r (MakesScriptCall may job call d e before after) → LogsTrail e.trail t u → none ≡ [] → text ≡ none ++ answer_line job.part.types.now line job.part.dom answer
+    → ServesCall may job line call d e before after t u text
 calls_of may job line call d e before after t u r answer none text was made tells empty is =
-    calls may job line call d e before after t u answer text (subst (λ (q : Result Answer _). IfOk q (Makes may job call d e before after)) was made) tells
+    calls may job line call d e before after t u answer text (subst (λ (q : Result Answer _). IfOk q (MakesScriptCall may job call d e before after)) was made) tells
     (is ∙ ap (λ (l : List ℕ). l ++ answer_line job.part.types.now line job.part.dom answer) empty)

@@ -42,7 +42,7 @@ use Rattle.gt_run.specs.Asking.{Stand}
 use Rattle.gt_run.specs.Faults.{run_out_of_memory}
 use Rattle.gt_run.specs.Joining.{AreGathered, AreOfThisRun, AreOnRun, BeginsFirst, IsLate, IsOfThisRun, IsTakenIn}
 use Rattle.gt_run.specs.Joining.{JoinsWhere, MayTakeIn, ShowTogether, WritesNext, WroteStarted, views_in}
-use Rattle.gt_run.specs.Printing.{AreAtGate, AreJobsOf, BeginsLists, BeginsRunText, CameBy, HasViewIn, LeavesSeat, PrintsOn, Served}
+use Rattle.gt_run.specs.Printing.{AreAtGate, AreJobsOf, BeginsLists, BeginsRunText, IsOutputOfJob, HasViewIn, LeavesSeat, PrintsOn, Served}
 use Rattle.gt_run.specs.Printing.{ShowOneState, WasServed, WritesLists}
 use Rattle.gt_run.specs.Printing.{all_lost, audits_in, jobs_in, promised, texts_in}
 use Rattle.gt_run.specs.Runs.{Wrote, WroteLists}
@@ -89,7 +89,7 @@ if_ok_as (Err e) P Q f p = tt
 
 -- a list was served without a log
 pub came_plain : {P : Type 0} (may : P → AllowRelation) (refuses : ℕ → Bool) (job : ThreadJob P) (s : Stand P) (e : Domain) (whole : Bool) (t : Option TrailLogger) (o : Output) → IsReady may job.monitor.now job.part.dom s
-    → t ≡ None → HasLeft job.monitor.now.words.layout e o.left → Serves may refuses job s.domain whole o.text.items e t → IfOk o.audit (λ a. a.items ≡ []) → o.lost ≡ 0 → CameBy whole may refuses job o
+    → t ≡ None → HasLeft job.monitor.now.words.layout e o.left → Serves may refuses job s.domain whole o.text.items e t → IfOk o.audit (λ a. a.items ≡ []) → o.lost ≡ 0 → IsOutputOfJob whole may refuses job o
 came_plain may refuses job s e false t o ready none leaves serves audit lost = begun may job s.domain o.text.items ready.1 serves
 came_plain may refuses job s e true (Some t) o ready none leaves serves audit lost = let e : Some t ≡ None = none in cc
 came_plain may refuses job s e true None o ready none leaves serves audit lost = (
@@ -103,7 +103,7 @@ came_plain may refuses job s e true None o ready none leaves serves audit lost =
 pub came_told : {P : Type 0} (may : P → AllowRelation) (refuses : ℕ → Bool) (job : ThreadJob P) (s : Stand P) (e : Domain) (trail : TrailState) (whole : Bool) (t : Option TrailLogger) (u : TrailLogger) (o : Output)
     → IsReady may job.monitor.now job.part.dom s → t ≡ Some u → trail ≡ e.trail → HasLeft job.monitor.now.words.layout e o.left → Serves may refuses job s.domain whole o.text.items e t
     → IfOk o.audit (λ a. a.items ≡ flat_map (line_text (type_text (λ name. name) job.part.types.now)) (map (λ x. x.1) u.log.recorded))
-    → o.lost ≡ counted (trail.lost + u.log.lost) → CameBy whole may refuses job o
+    → o.lost ≡ counted (trail.lost + u.log.lost) → IsOutputOfJob whole may refuses job o
 came_told may refuses job s e trail false t u o ready given same leaves serves audit lost = begun may job s.domain o.text.items ready.1 serves
 came_told may refuses job s e trail true None u o ready given same leaves serves audit lost = let e : None ≡ Some u = given in cc
 came_told may refuses job s e trail true (Some t) u o ready given same leaves serves audit lost =
@@ -266,7 +266,7 @@ begins_next may refuses all d text ds old now new (same, are, out) is more = (
 
 -- a list that was joined, of which a beginning went out
 begins_one : {P : Type 0} (may : P → AllowRelation) (refuses : ℕ → Bool) (all : List (Served P)) (d : ThreadJob P) (whole : Bool) (o : Output) (ds : List (ThreadJob P)) (old now new : Option (List ℕ)) → WritesLists may refuses ds all old now
-    → CameBy whole may refuses d o → AppendsBeginning now new o.text.items → BeginsLists may refuses (ds ++ d ∷ []) old new
+    → IsOutputOfJob whole may refuses d o → AppendsBeginning now new o.text.items → BeginsLists may refuses (ds ++ d ∷ []) old new
 begins_one may refuses all d true o ds old now new lists came out =
     begins_served may refuses all (record { job = d; outcomes = came.0; text = o.text.items; departed = o.left }) ds old now new lists came.1 out
 begins_one may refuses all d false o ds old now new lists came out = begins_next may refuses all d o.text.items ds old now new lists came out
@@ -287,7 +287,7 @@ count_more most a b l0 lost l1 is before more = omega (arith, is, before, more)
 joins_well : {P : Type 0} (Q Q' : List (Served P) → Type 0) (may : P → AllowRelation) (refuses : ℕ → Bool) (ds : List (ThreadJob P)) (d : ThreadJob P) (o : Output) (a0 a1 : List ℕ) (l0 l1 : ℕ) (old now new : Option (List ℕ))
     → ((all : List (Served P)) (s : Served P) → s.departed ≡ o.left → Q all → Q' (all ++ s ∷ []))
     → JoinsWhere Q may refuses ds a0 l0 old now (Ok tt) → Appends now new o.text.items → IfOk o.audit (λ more. a1 ≡ a0 ++ more.items) → IsOk o.audit
-    → l1 ≡ counted (l0 + o.lost) → CameBy true may refuses d o → JoinsWhere Q' may refuses (ds ++ d ∷ []) a1 l1 old new (Ok tt)
+    → l1 ≡ counted (l0 + o.lost) → IsOutputOfJob true may refuses d o → JoinsWhere Q' may refuses (ds ++ d ∷ []) a1 l1 old new (Ok tt)
 joins_well {P} Q Q' may refuses ds d o a0 a1 l0 l1 old now new grows (all, lists, audit, count, q) out more ok lost came =
     let s : Served P = record { job = d; outcomes = came.0; text = o.text.items; departed = o.left } in
     let both = both_ok o.audit (λ a. a1 ≡ a0 ++ a.items) (λ a. a.items ≡ audit_lines d.part.types.now came.0) ok more came.2 in (
@@ -306,7 +306,7 @@ joins_on : {P : Type 0} (Q Q' : List (Served P) → Type 0) (may : P → AllowRe
     → WritesNext r0 whole o.text.items now new r1
     → OnOk r2 (IsOk r1 × IfOk o.audit (λ more. a1 ≡ a0 ++ more.items) × IsOk o.audit)
     → IfErr r2 (λ e. (r1 ≡ Err e) ⊎ (e ≡ run_out_of_memory))
-    → l1 ≡ counted (l0 + o.lost) → CameBy whole may refuses d o
+    → l1 ≡ counted (l0 + o.lost) → IsOutputOfJob whole may refuses d o
     → JoinsWhere Q' may refuses (ds ++ d ∷ []) a1 l1 old new r2
 joins_on Q Q' may refuses ds d whole o a0 a1 l0 l1 r0 (Err f) (Ok x) old now new grows i w k e lost came = absurd (not_ok f k.0)
 joins_on Q Q' may refuses ds d whole o a0 a1 l0 l1 (Err f) (Ok c) (Ok x) old now new grows i w k e lost came = absurd (ok_not_err c f w.0)
@@ -418,12 +418,12 @@ pub joins_next : {P G : Type 0} (may : P → AllowRelation) (refuses : G → ℕ
     → WritesNext r0 o.whole o.text.items now new r1
     → OnOk r2 (IsOk r1 × IfOk o.audit (λ more. a1 ≡ a0 ++ more.items) × IsOk o.audit)
     → IfErr r2 (λ e. (r1 ≡ Err e) ⊎ (e ≡ run_out_of_memory))
-    → l1 ≡ counted (l0 + o.lost) → CameBy o.whole may (refuses h.promise.gate.now) h.promise.job o
+    → l1 ≡ counted (l0 + o.lost) → IsOutputOfJob o.whole may (refuses h.promise.gate.now) h.promise.job o
     → JoinsWhere (AreGathered g1.views) may (refuses gate) (promised (hs ++ h ∷ [])) a1 l1 old new r2
 joins_next {P} {G} may refuses gate b hs h o a0 a1 l0 l1 r0 r1 r2 old now new g0 g1 here taken i w k e lost came =
     subst (λ l. JoinsWhere (AreGathered g1.views) may (refuses gate) l a1 l1 old new r2) (sym (promised_more hs h))
     (joins_on (AreGathered (views_in g0)) (AreGathered g1.views) may (refuses gate) (promised hs) h.promise.job o.whole o a0 a1 l0 l1 r0 r1 r2 old now new
-    (λ all s is are. gathered_more b g0 o.left g1 all s taken is are) i w k e lost (subst (λ (x : G). CameBy o.whole may (refuses x) h.promise.job o) here came))
+    (λ all s is are. gathered_more b g0 o.left g1 all s taken is are) i w k e lost (subst (λ (x : G). IsOutputOfJob o.whole may (refuses x) h.promise.job o) here came))
 
 -- before the first thread is joined
 pub joins_none : {P : Type 0} (may : P → AllowRelation) (refuses : ℕ → Bool) (old : Option (List ℕ)) (audit : List ℕ) → audit ≡ [] → JoinsWhere (AreGathered []) may refuses [] audit 0 old old (Ok tt)

@@ -20,10 +20,10 @@ use Rattle.gt_word_history.specs.declared.view.FlagStep.{FlagStep}
 use Rattle.gt_word_history.specs.declared.view.FlagStep.TheVariants.{Passed, Raised}
 use Rattle.gt_script.specs.Lists.{RunAction, RunTask}
 use Rattle.gt_script.specs.declared.tasks.RunActionBy.TheVariants.{Do, Tell, Await}
-use Rattle.gt_run.specs.Serving.{Calls, DoesDeed, DoesWhere, HasCome, IsKeptAt, IsReady, LogsOutcomes}
+use Rattle.gt_run.specs.Serving.{ServesCall, DoesDeed, DoesWhere, HasCome, IsKeptAt, IsReady, LogsOutcomes}
 use Rattle.gt_run.specs.Serving.{ListLeadsTo}
 use Rattle.gt_run.specs.Serving.{ListProgress, Serves, ServesSome, StartsLogged, answer_lines, list_start, counted}
-use Rattle.gt_run.specs.Serving.{IsRefused, gate_line}
+use Rattle.gt_run.specs.Serving.{AwaitsRefusedFlag, gate_line}
 use Rattle.gt_run.specs.Asking.{MakesFlagStep, RaisesFlag, Stand}
 use Rattle.gt_run.specs.declared.lists.ThreadJob.{ThreadJob}
 use Rattle.gt_run.specs.declared.logging.TrailLogger.{TrailLogger}
@@ -115,7 +115,7 @@ breaks_off may job d false i old new e labels t come same = subst (λ (l : List 
 pub do_more : {P V E : Type 0} (may : P → AllowRelation) (items : V → List ℕ) (job : ThreadJob P) (d : Domain) (whole r : Bool) (i : ℕ) (l : RunTask) (line : Result V E) (old new : List ℕ) (e f : Domain)
     (before after : Labels) (t u : Option TrailLogger) (call : ScriptCall)
     → i < length job.part.tasks.now → l ≡ get_or job.part.tasks.now i l → (l.dom.0 == job.part.dom.0) ≡ true → l.deed ≡ Do call
-    → IfOk line (λ v. Calls may job l.line call e f before after t u (items v)) → HasCome may job d whole i old e before t
+    → IfOk line (λ v. ServesCall may job l.line call e f before after t u (items v)) → HasCome may job d whole i old e before t
     → (IsTrue r → IsTrue whole × IsOk line × IfOk line (λ v. new ≡ old ++ items v)) → (r ≡ false → new ≡ old) → HasCome may job d r (i + 1) new f after u
 unfolding DoesDeed
 do_more may items job d true true i l (Ok v) old new e f before after t u call within is own does calls (q, leads, kept, prints) more same =
@@ -136,7 +136,7 @@ pub gate_stops : {P V E : Type 0} (may : P → AllowRelation) (refuses : ℕ →
     → i < length job.part.tasks.now → l ≡ get_or job.part.tasks.now i l → (l.dom.0 == job.part.dom.0) ≡ true → l.deed ≡ Await flag → IsTrue (refuses flag)
     → IfOk line (λ v. items v ≡ gate_line l.line job.part.dom) → HasCome may job d whole i old e labels t
     → (IsTrue r → IsTrue whole × IsOk line × IfOk line (λ v. new ≡ old ++ items v)) → (r ≡ false → new ≡ old) → Serves may refuses job d r new e t
-unfolding IsRefused
+unfolding AwaitsRefusedFlag
 gate_stops may refuses items job d true true i l (Ok v) old new e labels t flag within is own awaits refused line_is (q, leads, kept, prints) more same =
     record {
       left = q;
@@ -148,7 +148,7 @@ gate_stops may refuses items job d true true i l (Ok v) old new e labels t flag 
         at = l;
         own = own;
         stands = slice_get_read job.part.tasks.now (length job.part.tasks.now) i l refl within is;
-        refused = subst (IsRefused refuses) (sym awaits) refused;
+        refused = subst (AwaitsRefusedFlag refuses) (sym awaits) refused;
         last_is = refl;
       });
       prints = (more refl).2 ∙ cc (prints, line_is);

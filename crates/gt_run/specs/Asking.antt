@@ -1,7 +1,8 @@
 -- The requests of a running domain, and their answers.
 use Rattle.std.specs.Prelude.{◌≡◌, ℕ, List, MatchBool, Result, Ok, Err, OnOk, OnErr, nat_lt}
 use Rattle.gt_run.specs.Prelude.{Size, Denial, Copying, Reading, Writing, Handle, AppendsRecord, HeldPin, Request}
-use Rattle.gt_run.specs.Prelude.{Answer, Domain, Monitor, IsCopiedBy, IsReadBy, IsWrittenBy, Accesses, Answered}
+use Rattle.gt_run.specs.Prelude.{Answer, Domain, Monitor, IsCopiedBy, IsReadBy, IsWrittenBy, AnswersWithAccess}
+use Rattle.gt_run.specs.Prelude.{Answered}
 use Rattle.gt_run.specs.Prelude.{KeepsPinned, MapAnswered, AllowRelation, mapping_reply, subject_of, record_of_copy}
 use Rattle.gt_run.specs.Prelude.{record_of_result, verdict_of, verdict_of_frames, verdict_of_size, verdict_of_version}
 use Rattle.gt_run.specs.Prelude.{Removes}
@@ -113,7 +114,7 @@ AnswersCall may m d (requests.Poke frame off bytes) answer e =
     (IsWrittenBy (words_of m).layout d (requests.Poke frame off bytes)) r e
 AnswersCall may m d (requests.Copy args) answer e =
     (r : Result Copying Denial) × (answer ≡ plain_answer r)
-    × Accesses may m d (requests.Copy args) (IsCopiedBy (known_on may m d) (words_of m).layout d args) r e
+    × AnswersWithAccess may m d (requests.Copy args) (IsCopiedBy (known_on may m d) (words_of m).layout d args) r e
     × KeepsPinned d e × AppendsRecord (trail_of d) (record_of_copy d args r) (trail_of e)
 AnswersCall may m d request answer e =
     (r : Result (Unit {0}) Denial) × (answer ≡ plain_answer r) × AnswersQuietly may m d request (verdict_of r) e

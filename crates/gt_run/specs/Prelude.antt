@@ -18,7 +18,8 @@ pub use Rattle.gt_script_runs.specs.Runs.{MakesRequest, Named, handle_given, lab
 pub use Rattle.gt_script_runs.specs.declared.labels.Labels.{Labels}
 pub use Rattle.gt_script_lines.specs.declared.calls.ScriptCall.{ScriptCall}
 pub use Rattle.gt_live.specs.Accesses.{IsCopiedBy, IsReadBy, IsWrittenBy}
-pub use Rattle.gt_live.specs.Domains.{Accesses, AllowRelation, Answered, BelongsTo, HasLeft, KeepsPinned, MapAnswered}
+pub use Rattle.gt_live.specs.Domains.{AnswersWithAccess, AllowRelation, Answered, BelongsTo, HasLeft, KeepsPinned}
+pub use Rattle.gt_live.specs.Domains.{MapAnswered}
 pub use Rattle.gt_live.specs.Domains.{mapping_reply, subject_of, record_of_copy, record_of_result, verdict_of}
 pub use Rattle.gt_live.specs.Domains.{verdict_of_frames, verdict_of_size, verdict_of_version}
 pub use Rattle.gt_live.specs.Mappings.{Removes}

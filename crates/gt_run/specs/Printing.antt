@@ -69,19 +69,19 @@ run_text all = texts_in all ++ (audits_in all ++ lost_text (counted (all_lost al
 
 -- the output of a job whose list printed all or did not: its text, its audit lines and its number of lost records are
 -- those of the outcomes of its calls; or its text is that of some first lines
-abbrev pub CameBy : {P : Type 0} → Bool → (P → AllowRelation) → (ℕ → Bool) → ThreadJob P → Output → Type 0
-CameBy true may refuses job o =
+abbrev pub IsOutputOfJob : {P : Type 0} → Bool → (P → AllowRelation) → (ℕ → Bool) → ThreadJob P → Output → Type 0
+IsOutputOfJob true may refuses job o =
     (outcomes : List ListOutcome) × IsServed may refuses job outcomes o.text.items o.left
     × IfOk o.audit (λ audit. audit.items ≡ audit_lines job.part.types.now outcomes)
     × (o.lost ≡ counted (lost_in outcomes))
-CameBy false may refuses job o = IsBegun may job o.text.items
+IsOutputOfJob false may refuses job o = IsBegun may job o.text.items
 
 -- the job's domain left this seat
 abbrev pub LeavesSeat : {P : Type 0} → ThreadJob P → Departed → Type 0
 LeavesSeat job l = IsSeatOf (words_of job.monitor.now) (seat_left l) × ((seat_left l).dom ≡ job.part.dom)
 
 abbrev pub IsOutputOf : {P : Type 0} → (P → AllowRelation) → (ℕ → Bool) → ThreadJob P → Output → Type 0
-IsOutputOf may refuses job o = CameBy o.whole may refuses job o × LeavesSeat job o.left
+IsOutputOf may refuses job o = IsOutputOfJob o.whole may refuses job o × LeavesSeat job o.left
 
 -- the jobs of these parts, in their order, all over this monitor, and with a log or without
 abbrev pub AreJobsOf : {P : Type 0} → Monitor P → Bool → List DomainPart → List (ThreadJob P) → Type 0

@@ -130,10 +130,10 @@ abbrev pub RefusesNone : (ℕ → Bool) → Type 0
 RefusesNone refuses = (flag : ℕ) → refuses flag ≡ false
 
 -- the line awaits a flag, which the gate may refuse
-unfoldable pub IsRefused : (ℕ → Bool) → RunAction → Type 0
-IsRefused refuses (Do call) = ⊥
-IsRefused refuses (Tell flag) = ⊥
-IsRefused refuses (Await flag) = IsTrue (refuses flag)
+unfoldable pub AwaitsRefusedFlag : (ℕ → Bool) → RunAction → Type 0
+AwaitsRefusedFlag refuses (Do call) = ⊥
+AwaitsRefusedFlag refuses (Tell flag) = ⊥
+AwaitsRefusedFlag refuses (Await flag) = IsTrue (refuses flag)
 
 -- `LINE ID gate`: the gate answered false at that line
 abbrev pub gate_line : ℕ → DomId → List ℕ
@@ -146,7 +146,7 @@ pub record Stops (refuses : ℕ → Bool) (dom : DomId) (tasks : List RunTask) (
   pub at : RunTask
   pub own : (at.dom.0 == dom.0) ≡ true
   pub stands : slice_get tasks number ≡ Some at
-  pub refused : IsRefused refuses at.deed
+  pub refused : AwaitsRefusedFlag refuses at.deed
   pub last_is : last ≡ gate_line at.line dom
 
 -- a list ends after this number of lines: they are all, and nothing more is printed; or it stops there
@@ -199,9 +199,9 @@ pub record IsKeptAt {P : Type 0} (job : ThreadJob P) (p : ListProgress) (d : Dom
   pub recorded : LogsOutcomes (trail_of d) logger p.outcomes
 
 -- from each point with such a state, the call of this line leads to a next one, and prints this
-abbrev pub Calls : {P : Type 0} → (P → AllowRelation) → ThreadJob P → ℕ → ScriptCall → Domain → Domain → Labels → Labels
-    → Option TrailLogger → Option TrailLogger → List ℕ → Type 0
-Calls may job line call d e before after t u text =
+abbrev pub ServesCall : {P : Type 0} → (P → AllowRelation) → ThreadJob P → ℕ → ScriptCall → Domain → Domain → Labels
+    → Labels → Option TrailLogger → Option TrailLogger → List ℕ → Type 0
+ServesCall may job line call d e before after t u text =
     (p : ListProgress) → IsKeptAt job p d before t
     → (q : ListProgress) × MakesCall may job line call p q × IsKeptAt job q e after u
     × (answer_lines job.part.types.now job.part.dom q.outcomes
@@ -209,9 +209,9 @@ Calls may job line call d e before after t u text =
 
 -- the domain made the call of a line: it got the request that the line makes, by what the labels named before, gave
 -- this answer, and afterwards the labels name what they then should
-abbrev pub Makes : {P : Type 0} → (P → AllowRelation) → ThreadJob P → ScriptCall → Domain → Domain → Labels → Labels → Answer
+abbrev pub MakesScriptCall : {P : Type 0} → (P → AllowRelation) → ThreadJob P → ScriptCall → Domain → Domain → Labels → Labels → Answer
     → Type 0
-Makes may job call d e before after answer =
+MakesScriptCall may job call d e before after answer =
     FitsEntry call
     × ((named : List Named) → AreNamed before named
     → (request : Request) × MakesRequest named job.part.dom call request × Asks may job.monitor.now d request answer e

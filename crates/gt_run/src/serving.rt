@@ -4,7 +4,8 @@ ghost use Rattle.gt_word_history.specs.declared.view.FlagStep.TheVariants.{Passe
 ghost use Rattle.gt_model.specs.Entries.{IsEntry};
 ghost use Rattle.gt_run.specs.Asking.{IsSameStand, MakesFlagStep};
 ghost use Rattle.gt_run.specs.Printing.{IsOutputOf};
-ghost use Rattle.gt_run.specs.Serving.{gate_line, Calls, FitsEntry, IsReady, Makes, Serves, StartsLogged};
+ghost use Rattle.gt_run.specs.Serving.{gate_line, ServesCall, FitsEntry, IsReady, MakesScriptCall, Serves};
+ghost use Rattle.gt_run.specs.Serving.{StartsLogged};
 
 use crate::gate::Gate;
 use crate::lists::ThreadJob;
@@ -62,7 +63,7 @@ fn make_call<'a, R: Wait, P: Allows>(
     requires { domain.old.monitor ≡ job.now.monitor.now }
     ensures same { IsSameStand domain.old domain.new }
     ensures made { IfOk result
-        (Makes P.may job.now call.now domain.old.domain domain.new.domain labels.old labels.new) }
+        (MakesScriptCall P.may job.now call.now domain.old.domain domain.new.domain labels.old labels.new) }
 {
     granted_fits(call);
     let bytes = call_bytes(job.alloc, call)?;
@@ -90,7 +91,7 @@ fn call_line<'a, R: Wait, P: Allows>(
 ) -> Result<Vec<u8>, AllocError>
     requires { domain.old.monitor ≡ job.now.monitor.now }
     ensures same { IsSameStand domain.old domain.new }
-    ensures calls { IfOk result (λ text. Calls P.may job.now at.entry.line at.entry.call.now
+    ensures calls { IfOk result (λ text. ServesCall P.may job.now at.entry.line at.entry.call.now
         domain.old.domain domain.new.domain labels.old labels.new logger.old logger.new text.items) }
 {
     let answer = make_call(rt, domain, labels, job, at.call);

@@ -20,16 +20,17 @@ use Rattle.gt_policy.specs.declared.parse.PolicyFaultKind as kinds
 use Rattle.gt_policy.specs.declared.parse.PolicyFaultKind.TheVariants as kind
 use Rattle.gt_script_lines.specs.Words.{words}
 use Rattle.gt_script.specs.Faults.{error_in_block}
-use Rattle.gt_script.specs.Blocks.{opening, closing, block_text, Means, IsFaultyBlock, IsPolicyOf}
+use Rattle.gt_script.specs.Blocks.{opening, closing, block_text, BlockMeans, IsFaultyBlock, IsPolicyOf}
 use Rattle.gt_script.specs.Contents.{contents_of, Contents, empty, with_policy, type_names_with}
-use Rattle.gt_script.specs.Script.{is_empty, has_no_rights, with_words, with_lines, completed, completed_if_ok, whole}
+use Rattle.gt_script.specs.Script.{is_empty, has_no_rights, with_words, with_lines, completed, completed_if_ok}
+use Rattle.gt_script.specs.Script.{whole_script}
 use Rattle.gt_script.specs.Script.{in_result, in_script, in_policy, ClosedReads, BlockReads, LinesRead, TextReads, ReadsFor}
 use Rattle.gt_script.specs.Script.{Wrong}
 use Rattle.gt_script.specs.Laws.{lines_said, domain_in, step_on, order_on, is_for, GiveParts, IsTripleScript}
 use Rattle.gt_script.specs.Laws.{IsPolicyScript}
 use Rattle.gt_script.specs.Laws.{IsScriptFor, HasBlock, lines_before, IsOpen, IsFaultOfLine, IsFaultOfEnd}
 use Rattle.gt_script.specs.Laws.{IsFirstScriptFault}
-use Rattle.gt_script.specs.Laws.{IsFaultBehind, IsFaultOfLines, IsUnread, IsFaultOf, IsFaultOfBlock, StandsFor}
+use Rattle.gt_script.specs.Laws.{IsFaultBehind, IsFaultOfLines, IsUnread, IsFaultOfScript, IsFaultOfBlock, StandsFor}
 use Rattle.gt_script.specs.Outcomes.{AnswersScript, GivesScript}
 use Rattle.gt_script.specs.declared.command.ScriptCommand.{ScriptCommand}
 use Rattle.gt_script.specs.declared.script.Script.{Script}
@@ -242,7 +243,7 @@ number-behind ls first end b =
     let same : first + end + 1 + 1 ≡ first + end + 2 = omega arith in
     same ∙ sym (ap (λ (k : ℕ). k + length (take end (drop first ls)) + 2) b.before ∙ ap (λ (k : ℕ). first + k + 2) b.many)
 
-policy_script : (command : ScriptCommand) (ls : List (List ℕ)) (first end : ℕ) (p : Allowed) (s : Contents) → Block ls first end → Means (take end (drop first ls)) p
+policy_script : (command : ScriptCommand) (ls : List (List ℕ)) (first end : ℕ) (p : Allowed) (s : Contents) → Block ls first end → BlockMeans (take end (drop first ls)) p
     → Whole (first + end + 1 + 1) (drop (end + 1) (drop first ls)) (with_policy command p) s → IsPolicyScript command ls s
 policy_script command ls first end p s b means w =
     let x = with_lines-Extends (first + end + 1 + 1) (drop (end + 1) (drop first ls)) (with_policy command p) s w.made in
@@ -337,7 +338,7 @@ tells-Ok command bytes s (inl (long, e)) = absurd cc
 tells-Ok command bytes s (inr (inl (short, bad, e))) = absurd cc
 tells-Ok command bytes s (inr (inr (short, text, says))) = lines-Ok command (lines_in bytes) (opening (lines_in bytes)) s refl says
 
-tells-script : (command : ScriptCommand) (bytes : List ℕ) (f : ScriptFault) → ReadsFor command bytes (Err (in_script f)) → IsFaultOf command bytes f
+tells-script : (command : ScriptCommand) (bytes : List ℕ) (f : ScriptFault) → ReadsFor command bytes (Err (in_script f)) → IsFaultOfScript command bytes f
 tells-script command bytes f (inl (long, e)) = inl (inl (long, cc))
 tells-script command bytes f (inr (inl (short, bad, e))) = inl (inr (short, bad, cc))
 tells-script command bytes f (inr (inr (short, text, says))) = inr (short, text, lines-script command (lines_in bytes) (opening (lines_in bytes)) f refl says)
@@ -418,15 +419,15 @@ block_open command count first lines o closes none =
     subst (λ (q : Option ℕ). BlockReads command count first lines q (Err (in_script (record { line = count + 1; kind = Syntax })))) (sym none ∙ closes) refl
 
 -- a line closes it, and the lines behind it say the rest
-pub block_rest : (command : ScriptCommand) (count first end : ℕ) (lines : List (Bor (List ℕ))) (p : Allowed) (c : Contents) (r : Result Script ScriptError) → Some end ≡ closing (texts lines) → Means (texts (take end lines)) p → c ≡ with_policy command p
-    → GivesScript r (whole count c (first + end + 1 + 1) (texts (take (length lines - (end + 1)) (drop (end + 1) lines)))) → AnswersScript r (BlockReads command count first (texts lines) (closing (texts lines)))
+pub block_rest : (command : ScriptCommand) (count first end : ℕ) (lines : List (Bor (List ℕ))) (p : Allowed) (c : Contents) (r : Result Script ScriptError) → Some end ≡ closing (texts lines) → BlockMeans (texts (take end lines)) p → c ≡ with_policy command p
+    → GivesScript r (whole_script count c (first + end + 1 + 1) (texts (take (length lines - (end + 1)) (drop (end + 1) lines)))) → AnswersScript r (BlockReads command count first (texts lines) (closing (texts lines)))
 block_rest command count first end lines p c r closes means starts h =
-    let lines_said : GivesScript r (whole count (with_policy command p) (first + end + 1 + 1) (drop (end + 1) (texts lines))) =
-    subst (λ (l : List (List ℕ)). GivesScript r (whole count (with_policy command p) (first + end + 1 + 1) l)) (ap texts (take_rest (end + 1) lines) ∙ texts-drop (end + 1) lines)
-    (subst (λ (k : Contents). GivesScript r (whole count k (first + end + 1 + 1) (texts (take (length lines - (end + 1)) (drop (end + 1) lines))))) starts h) in
-    let meant : Means (take end (texts lines)) p = subst (λ (l : List (List ℕ)). Means l p) (texts-take end lines) means in
+    let lines_said : GivesScript r (whole_script count (with_policy command p) (first + end + 1 + 1) (drop (end + 1) (texts lines))) =
+    subst (λ (l : List (List ℕ)). GivesScript r (whole_script count (with_policy command p) (first + end + 1 + 1) l)) (ap texts (take_rest (end + 1) lines) ∙ texts-drop (end + 1) lines)
+    (subst (λ (k : Contents). GivesScript r (whole_script count k (first + end + 1 + 1) (texts (take (length lines - (end + 1)) (drop (end + 1) lines))))) starts h) in
+    let meant : BlockMeans (take end (texts lines)) p = subst (λ (l : List (List ℕ)). BlockMeans l p) (texts-take end lines) means in
     subst (λ (q : Option ℕ). AnswersScript r (BlockReads command count first (texts lines) q)) closes
-    (answers-weaker r (λ w. w ≡ in_result (whole count (with_policy command p) (first + end + 1 + 1) (drop (end + 1) (texts lines)))) (ClosedReads command count first (texts lines) end) (λ w e. inl (p, meant, e)) (answers-lines r _ lines_said))
+    (answers-weaker r (λ w. w ≡ in_result (whole_script count (with_policy command p) (first + end + 1 + 1) (drop (end + 1) (texts lines)))) (ClosedReads command count first (texts lines) end) (λ w e. inl (p, meant, e)) (answers-lines r _ lines_said))
 
 block-fault : (command : ScriptCommand) (count first end : ℕ) (lines : List (List ℕ)) (error : ScriptError) → IsPolicyOf first (take end lines) (Err error) → AnswersScript (Err error) (ClosedReads command count first lines end)
 block-fault command count first end lines errors.Memory h = tt
@@ -449,11 +450,11 @@ lines_block command lines place r opens h =
 
 -- lines without one
 pub lines_none : (command : ScriptCommand) (lines : List (Bor (List ℕ))) (c : Contents) (o : Option ℕ) (r : Result Script ScriptError) → o ≡ opening (texts lines) → o ≡ None → c ≡ (empty command)
-    → GivesScript r (whole (length lines) c (0 + 1) (texts lines)) → AnswersScript r (LinesRead command (texts lines) (opening (texts lines)))
+    → GivesScript r (whole_script (length lines) c (0 + 1) (texts lines)) → AnswersScript r (LinesRead command (texts lines) (opening (texts lines)))
 lines_none command lines c o r opens none starts h =
-    let lines_said : GivesScript r (whole (length (texts lines)) (empty command) 1 (texts lines)) =
-    subst (λ (k : ℕ). GivesScript r (whole k (empty command) 1 (texts lines))) (sym (texts-length lines)) (subst (λ (k : Contents). GivesScript r (whole (length lines) k 1 (texts lines))) starts h) in
-    subst (λ (q : Option ℕ). AnswersScript r (LinesRead command (texts lines) q)) (sym none ∙ opens) (answers-lines r (whole (length (texts lines)) (empty command) 1 (texts lines)) lines_said)
+    let lines_said : GivesScript r (whole_script (length (texts lines)) (empty command) 1 (texts lines)) =
+    subst (λ (k : ℕ). GivesScript r (whole_script k (empty command) 1 (texts lines))) (sym (texts-length lines)) (subst (λ (k : Contents). GivesScript r (whole_script (length lines) k 1 (texts lines))) starts h) in
+    subst (λ (q : Option ℕ). AnswersScript r (LinesRead command (texts lines) q)) (sym none ∙ opens) (answers-lines r (whole_script (length (texts lines)) (empty command) 1 (texts lines)) lines_said)
 
 -- the policy of a block's text
 

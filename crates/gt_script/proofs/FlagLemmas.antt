@@ -9,38 +9,38 @@ use Rattle.std.proofs.lemmas.List.Elements.{All-nil, All-cons, All-map, All-tail
 use Rattle.std.proofs.lemmas.List.Folds.{list_any-append}
 use Rattle.std.proofs.lemmas.List.Sums.{fold-append}
 use Rattle.gt_types.specs.declared.DomId.{DomId}
-use Rattle.gt_script.specs.Flags.{names_in, with_flag, with_flag_of, flag_in, flag_names_of, flag_number}
+use Rattle.gt_script.specs.Flags.{borrowed_names, with_flag, with_flag_of, flag_in, flag_names_of, flag_number}
 use Rattle.gt_script.specs.Stuck.{IsBelow, AreNumbered}
 use Rattle.gt_script.specs.Tasks.{deed_of, task_of, tasks_for}
 use Rattle.gt_script.specs.Lists.{NamedRunTask, NamedRunAction, RunAction, RunTask}
 use Rattle.gt_script.specs.declared.tasks.RunActionBy.TheVariants as runs
 use Rattle.gt_script.proofs.TypeLemmas.{same_bytes}
 
-any-names : (keys : List (Bor (List ℕ))) (name : List ℕ) → list_any (λ k. bytes_eq name k.now) keys ≡ list_any (bytes_eq name) (names_in keys)
+any-names : (keys : List (Bor (List ℕ))) (name : List ℕ) → list_any (λ k. bytes_eq name k.now) keys ≡ list_any (bytes_eq name) (borrowed_names keys)
 any-names [] name = refl
 any-names (k ∷ ks) name = ap (λ (b : Bool). bytes_eq name k.now || b) (any-names ks name)
 
-names-push : (keys : List (Bor (List ℕ))) (key : Bor (List ℕ)) → names_in (keys ++ key ∷ []) ≡ names_in keys ++ key.now ∷ []
+names-push : (keys : List (Bor (List ℕ))) (key : Bor (List ℕ)) → borrowed_names (keys ++ key ∷ []) ≡ borrowed_names keys ++ key.now ∷ []
 names-push [] key = refl
 names-push (k ∷ ks) key = ap (λ (l : List (List ℕ)). k.now ∷ l) (names-push ks key)
 
-add-by : (keys : List (Bor (List ℕ))) (key : Bor (List ℕ)) (b : Bool) → names_in (cond b keys (keys ++ key ∷ [])) ≡ cond b (names_in keys) (names_in keys ++ key.now ∷ [])
+add-by : (keys : List (Bor (List ℕ))) (key : Bor (List ℕ)) (b : Bool) → borrowed_names (cond b keys (keys ++ key ∷ [])) ≡ cond b (borrowed_names keys) (borrowed_names keys ++ key.now ∷ [])
 add-by keys key true = refl
 add-by keys key false = names-push keys key
 
 -- a set of names that took one more
-pub add-names : (keys new : List (Bor (List ℕ))) (key : Bor (List ℕ)) → new ≡ cond (list_any (λ k. bytes_eq key.now k.now) keys) keys (keys ++ key ∷ []) → names_in new ≡ with_flag (names_in keys) key.now
+pub add-names : (keys new : List (Bor (List ℕ))) (key : Bor (List ℕ)) → new ≡ cond (list_any (λ k. bytes_eq key.now k.now) keys) keys (keys ++ key ∷ []) → borrowed_names new ≡ with_flag (borrowed_names keys) key.now
 unfolding with_flag
 add-names keys new key e =
-    ap names_in e ∙ add-by keys key (list_any (λ k. bytes_eq key.now k.now) keys)
-    ∙ ap (λ (b : Bool). cond b (names_in keys) (names_in keys ++ key.now ∷ [])) (any-names keys key.now)
+    ap borrowed_names e ∙ add-by keys key (list_any (λ k. bytes_eq key.now k.now) keys)
+    ∙ ap (λ (b : Bool). cond b (borrowed_names keys) (borrowed_names keys ++ key.now ∷ [])) (any-names keys key.now)
 
-position-names : (keys : List (Bor (List ℕ))) (name : List ℕ) → position_or_len (λ k. bytes_eq name k.now) keys ≡ position_or_len (bytes_eq name) (names_in keys)
+position-names : (keys : List (Bor (List ℕ))) (name : List ℕ) → position_or_len (λ k. bytes_eq name k.now) keys ≡ position_or_len (bytes_eq name) (borrowed_names keys)
 position-names [] name = refl
 position-names (k ∷ ks) name = ap (λ (n : ℕ). cond (not (bytes_eq name k.now)) (1 + n) 0) (position-names ks name)
 
 -- the number of a name in the set, which is that of a name that is added
-pub number-names : (keys : List (Bor (List ℕ))) (name : List ℕ) (n : ℕ) → n ≡ position_or_len (λ k. bytes_eq name k.now) keys → n ≡ flag_number (names_in keys) name
+pub number-names : (keys : List (Bor (List ℕ))) (name : List ℕ) (n : ℕ) → n ≡ position_or_len (λ k. bytes_eq name k.now) keys → n ≡ flag_number (borrowed_names keys) name
 unfolding flag_number
 number-names keys name n is = is ∙ position-names keys name
 

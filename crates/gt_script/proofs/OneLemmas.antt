@@ -5,10 +5,11 @@ use Rattle.std.specs.Str.Lines.{lines as lines_in}
 use Rattle.gt_policy.specs.Allowing.{Allowed, Meaning, allowed_by}
 use Rattle.gt_policy.specs.Whole.{ReadsAs}
 use Rattle.gt_policy.specs.declared.fault.TokenFault as policy
-use Rattle.gt_script.specs.Blocks.{Means, IsFaultyBlock, fault_in_block, block_text, opening, closing}
+use Rattle.gt_script.specs.Blocks.{BlockMeans, IsFaultyBlock, fault_in_block, block_text, opening, closing}
 use Rattle.gt_script.specs.Contents.{Contents, with_policy}
 use Rattle.gt_script.specs.declared.command.ScriptCommand.{ScriptCommand}
-use Rattle.gt_script.specs.Script.{Wrong, in_policy, in_result, whole, ClosedReads, BlockReads, LinesRead, ReadsFor}
+use Rattle.gt_script.specs.Script.{Wrong, in_policy, in_result, whole_script, ClosedReads, BlockReads, LinesRead}
+use Rattle.gt_script.specs.Script.{ReadsFor}
 
 -- a text of a policy says one thing alone
 abbrev pub OneMeaning : Type 0
@@ -23,18 +24,18 @@ same_fault f g e = cc
 never_both : (m : Meaning) (f : policy.TokenFault) → (let x : Result Meaning policy.TokenFault = Ok m in x ≡ Err f) → ⊥
 never_both m f e = cc
 
-means_one : OneMeaning → (lines : List (List ℕ)) (a b : Allowed) → Means lines a → Means lines b → a ≡ b
+means_one : OneMeaning → (lines : List (List ℕ)) (a b : Allowed) → BlockMeans lines a → BlockMeans lines b → a ≡ b
 means_one one lines a b (m, says, is) (n, said, other) = is ∙ ap allowed_by (same_meaning m n (one (block_text lines) (Ok m) (Ok n) says said)) ∙ sym other
 
 faulty_one : OneMeaning → (before : ℕ) (lines : List (List ℕ)) (f g : policy.TokenFault) → IsFaultyBlock before lines f → IsFaultyBlock before lines g → f ≡ g
 faulty_one one before lines f g (k, says, is) (l, said, other) = is ∙ ap (fault_in_block before) (same_fault k l (one (block_text lines) (Err k) (Err l) says said)) ∙ sym other
 
-means_or_faulty : OneMeaning → (before : ℕ) (lines : List (List ℕ)) (a : Allowed) (g : policy.TokenFault) → Means lines a → IsFaultyBlock before lines g → ⊥
+means_or_faulty : OneMeaning → (before : ℕ) (lines : List (List ℕ)) (a : Allowed) (g : policy.TokenFault) → BlockMeans lines a → IsFaultyBlock before lines g → ⊥
 means_or_faulty one before lines a g (m, says, is) (f, said, other) = never_both m f (one (block_text lines) (Ok m) (Err f) says said)
 
 closed_one : (command : ScriptCommand) → OneMeaning → (count first : ℕ) (lines : List (List ℕ)) (end : ℕ) (x y : Result Contents Wrong) → ClosedReads command count first lines end x → ClosedReads command count first lines end y → x ≡ y
 closed_one command one count first lines end x y (inl (a, means, is)) (inl (b, meant, other)) =
-    is ∙ ap (λ (p : Allowed). in_result (whole count (with_policy command p) (first + end + 1 + 1) (drop (end + 1) lines))) (means_one one (take end lines) a b means meant) ∙ sym other
+    is ∙ ap (λ (p : Allowed). in_result (whole_script count (with_policy command p) (first + end + 1 + 1) (drop (end + 1) lines))) (means_one one (take end lines) a b means meant) ∙ sym other
 closed_one command one count first lines end x y (inl (a, means, is)) (inr (g, faulty, other)) = absurd (means_or_faulty one first (take end lines) a g means faulty)
 closed_one command one count first lines end x y (inr (g, faulty, is)) (inl (a, means, other)) = absurd (means_or_faulty one first (take end lines) a g means faulty)
 closed_one command one count first lines end x y (inr (f, faulty, is)) (inr (g, also, other)) =

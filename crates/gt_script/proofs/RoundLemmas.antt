@@ -17,11 +17,12 @@ use Rattle.std.proofs.lemmas.List.Sums.{sum_by-set}
 use Rattle.std.proofs.lemmas.Option.{slice_get_within, slice_get-get_or, get_or_from_slice_get}
 use Rattle.gt_types.specs.declared.DomId.{DomId}
 use Rattle.gt_types.specs.declared.config.DomainConfig.{DomainConfig}
-use Rattle.gt_script.specs.Stuck.{IsBelow, AreNumbered, IsPassed, PassesAll, IsClosed, IsRaisable, WaitsAt, AllEnd}
+use Rattle.gt_script.specs.Stuck.{IsBelow, AreNumbered, IsPassed, PassesAll, IsClosedFlagSet, IsRaisable, WaitsAt}
+use Rattle.gt_script.specs.Stuck.{AllEnd}
 use Rattle.gt_script.specs.Stuck.{IsJudged}
 use Rattle.gt_script.specs.Rounds.{flag_holds, HasFlag, Within, is_unraised, unraised_count, IsDone, is_waiting, raised_after}
 use Rattle.gt_script.specs.Rounds.{is_new}
-use Rattle.gt_script.specs.Rounds.{Comes, WayTo, WaitsFor, TurnGoesOn, HaveCome, Turning, WaitsIn}
+use Rattle.gt_script.specs.Rounds.{Comes, WayTo, WaitsFor, TurnGoesOn, HaveCome, Turning, WaitsOrEnds}
 use Rattle.gt_script.specs.Lists.{RunAction, RunTask}
 use Rattle.gt_script.specs.declared.tasks.RunActionBy.TheVariants.{Do, Tell, Await}
 
@@ -269,8 +270,8 @@ pub numbered-more : (tasks : List RunTask) (old new : List Bool) → AreNumbered
 numbered-more tasks old new numbered same = subst (λ (k : ℕ). AreNumbered k tasks) (sym same) numbered
 
 -- a turn leads from told flags that each closed set has to such flags
-pub sound-more : (tasks : List RunTask) (old new : List Bool) → ((set : ℕ → Bool) → IsClosed tasks set → Within old set → Within new set) → ((set : ℕ → Bool) → IsClosed tasks set → Within old set)
-    → (set : ℕ → Bool) → IsClosed tasks set → Within new set
+pub sound-more : (tasks : List RunTask) (old new : List Bool) → ((set : ℕ → Bool) → IsClosedFlagSet tasks set → Within old set → Within new set) → ((set : ℕ → Bool) → IsClosedFlagSet tasks set → Within old set)
+    → (set : ℕ → Bool) → IsClosedFlagSet tasks set → Within new set
 sound-more tasks old new step so_far set closed = step set closed (so_far set closed)
 
 -- before the first turn
@@ -344,7 +345,7 @@ closed-at tasks domains places told have rest i at d task flag known own there d
 ]
 
 pub closed-told : (tasks : List RunTask) (domains : List DomainConfig) (places : List ℕ) (old told : List Bool) (news : Bool) → All (λ (t : RunTask). IsTrue (is_taken domains t.dom)) tasks
-    → Turning tasks domains places old told (length domains) news → news ≡ false → IsClosed tasks (flag_holds told)
+    → Turning tasks domains places old told (length domains) news → news ≡ false → IsClosedFlagSet tasks (flag_holds told)
 closed-told tasks domains places old told news known t e at task flag there deed before =
     let within : at < length tasks = slice_get_within tasks at task there in
     let is : get_or tasks at task ≡ task = get_or_from_slice_get tasks at task task there in
@@ -355,7 +356,7 @@ closed-told tasks domains places old told news known t e at task flag there deed
 
 -- flags that are told in the least closed set
 
-pub told-is : (tasks : List RunTask) (told : List Bool) → IsClosed tasks (flag_holds told) → ((set : ℕ → Bool) → IsClosed tasks set → Within told set) → (flag : ℕ) → HasFlag told flag ↔ IsRaisable tasks flag
+pub told-is : (tasks : List RunTask) (told : List Bool) → IsClosedFlagSet tasks (flag_holds told) → ((set : ℕ → Bool) → IsClosedFlagSet tasks set → Within told set) → (flag : ℕ) → HasFlag told flag ↔ IsRaisable tasks flag
 told-is tasks told closed least flag = (λ h set c. least set c flag h, λ h. h (flag_holds told) closed)
 
 passed-as : (A B : ℕ → Type 0) → ((f : ℕ) → A f → B f) → (d : RunAction) → IsPassed A d → IsPassed B d
@@ -403,26 +404,26 @@ all-end-more told tasks domains i x so_far within here =
     (All-push (λ (d : DomainConfig). PassesAll (HasFlag told) d.id tasks) (take i domains) (get_or domains i x) so_far here)
 
 none-by : (told : List Bool) (tasks : List RunTask) (domains : List DomainConfig) (i : ℕ) (x : DomainConfig) (o : Option ℕ) → AllEnd (HasFlag told) tasks (take i domains) → i < length domains
-    → WaitsIn told tasks (get_or domains i x).id o → is_some o ≡ false → AllEnd (HasFlag told) tasks (take (i + 1) domains)
+    → WaitsOrEnds told tasks (get_or domains i x).id o → is_some o ≡ false → AllEnd (HasFlag told) tasks (take (i + 1) domains)
 none-by told tasks domains i x None so_far within here e = all-end-more told tasks domains i x so_far within here
 none-by told tasks domains i x (Some line) so_far within here e = absurd cc
 
 one-by : (told : List Bool) (tasks : List RunTask) (domains : List DomainConfig) (i : ℕ) (x : DomainConfig) (o : Option ℕ) → ((f : ℕ) → HasFlag told f ↔ IsRaisable tasks f) → AllEnd (HasFlag told) tasks (take i domains)
-    → i < length domains → WaitsIn told tasks (get_or domains i x).id o → is_some o ≡ true → IsJudged (IsRaisable tasks) tasks domains o
+    → i < length domains → WaitsOrEnds told tasks (get_or domains i x).id o → is_some o ≡ true → IsJudged (IsRaisable tasks) tasks domains o
 one-by told tasks domains i x None to so_far within here e = absurd cc
 one-by told tasks domains i x (Some line) to so_far within here e =
     judged-as (HasFlag told) (IsRaisable tasks) to tasks domains (Some line)
     (record { place = i; domain = get_or domains i x; there = slice_get-get_or domains i x within; others = so_far; waits = here })
 
 pub none-waits : (told now : List Bool) (tasks : List RunTask) (domains : List DomainConfig) (i : ℕ) (x : DomainConfig) (o : Option ℕ) → AllEnd (HasFlag told) tasks (take i domains) → i < length domains → now ≡ told
-    → WaitsIn now tasks (get_or domains i x).id o → is_some o ≡ false → AllEnd (HasFlag told) tasks (take (i + 1) domains)
+    → WaitsOrEnds now tasks (get_or domains i x).id o → is_some o ≡ false → AllEnd (HasFlag told) tasks (take (i + 1) domains)
 none-waits told now tasks domains i x o so_far within same here e =
-    none-by told tasks domains i x o so_far within (subst (λ (l : List Bool). WaitsIn l tasks (get_or domains i x).id o) same here) e
+    none-by told tasks domains i x o so_far within (subst (λ (l : List Bool). WaitsOrEnds l tasks (get_or domains i x).id o) same here) e
 
 pub one-waits : (told now : List Bool) (tasks : List RunTask) (domains : List DomainConfig) (i : ℕ) (x : DomainConfig) (o : Option ℕ) → ((f : ℕ) → HasFlag told f ↔ IsRaisable tasks f)
-    → AllEnd (HasFlag told) tasks (take i domains) → i < length domains → now ≡ told → WaitsIn now tasks (get_or domains i x).id o → is_some o ≡ true → IsJudged (IsRaisable tasks) tasks domains o
+    → AllEnd (HasFlag told) tasks (take i domains) → i < length domains → now ≡ told → WaitsOrEnds now tasks (get_or domains i x).id o → is_some o ≡ true → IsJudged (IsRaisable tasks) tasks domains o
 one-waits told now tasks domains i x o to so_far within same here e =
-    one-by told tasks domains i x o to so_far within (subst (λ (l : List Bool). WaitsIn l tasks (get_or domains i x).id o) same here) e
+    one-by told tasks domains i x o to so_far within (subst (λ (l : List Bool). WaitsOrEnds l tasks (get_or domains i x).id o) same here) e
 
 pub nobody-waits : (told : List Bool) (tasks : List RunTask) (domains : List DomainConfig) (i : ℕ) → ((f : ℕ) → HasFlag told f ↔ IsRaisable tasks f) → AllEnd (HasFlag told) tasks (take i domains) → length domains ≤ i
     → IsJudged (IsRaisable tasks) tasks domains None

@@ -15,12 +15,14 @@ use Rattle.gt_types.specs.declared.rights.Triple.{Triple}
 use Rattle.gt_policy.specs.Allowing.{Allowed}
 use Rattle.gt_policy.specs.declared.fault.TokenFault as policy
 use Rattle.gt_script_lines.specs.Words.{words}
-use Rattle.gt_script.specs.Blocks.{is_just, opening, closing, Means, IsFaultyBlock}
+use Rattle.gt_script.specs.Blocks.{is_just, opening, closing, BlockMeans, IsFaultyBlock}
 use Rattle.gt_script.specs.declared.command.ScriptCommand.{ScriptCommand}
 use Rattle.gt_script.specs.Contents.{Contents, empty, with_policy}
-use Rattle.gt_script.specs.Script.{is_empty, has_no_rights, with_words, with_lines, completed, completed_if_ok, whole}
+use Rattle.gt_script.specs.Script.{is_empty, has_no_rights, with_words, with_lines, completed, completed_if_ok}
+use Rattle.gt_script.specs.Script.{whole_script}
 use Rattle.gt_script.specs.Script.{in_result, in_script, in_policy, BlockReads, LinesRead, ReadsFor, Wrong}
-use Rattle.gt_script.specs.Laws.{HasBlock, lines_before, IsFirstScriptFault, IsFaultOfLines, IsFaultOf, IsFaultOfBlock}
+use Rattle.gt_script.specs.Laws.{HasBlock, lines_before, IsFirstScriptFault, IsFaultOfLines, IsFaultOfScript}
+use Rattle.gt_script.specs.Laws.{IsFaultOfBlock}
 use Rattle.gt_script.specs.declared.faults.ScriptFaultKind.{ScriptFaultKind}
 use Rattle.gt_script.specs.declared.faults.ScriptFaultKind.TheVariants.{Syntax, Config}
 use Rattle.gt_script.specs.declared.faults.ScriptFault.{ScriptFault}
@@ -68,7 +70,7 @@ end-fault count c f number (inr (some, none, kind)) =
     let domains : is_empty c.domains ≡ true = λ i. is_empty (none i) in
     ap (λ (b : Bool). at_end count c b (is_empty c.domains)) (some-rights c.policy c.triples some) ∙ ap (at_end count c false) domains ∙ ap Err (made (count + 1) Config f number kind)
 
-first-fault : (count : ℕ) (c : Contents) (n : ℕ) (ls : List (List ℕ)) (f : ScriptFault) → IsFirstScriptFault count c n ls f → whole count c n ls ≡ Err f
+first-fault : (count : ℕ) (c : Contents) (n : ℕ) (ls : List (List ℕ)) (f : ScriptFault) → IsFirstScriptFault count c n ls f → whole_script count c n ls ≡ Err f
 first-fault count c n ls f (inl x) = ap (completed_if_ok count) (line-fault n ls c f x.place x.line x.before x.number x.there x.earlier x.here)
 first-fault count c n ls f (inr x) = ap (completed_if_ok count) x.earlier ∙ end-fault count x.all f x.number x.lacks
 
@@ -120,13 +122,13 @@ opened-say command lines front opener tail said parts nothing opens says =
 
 -- what lines with a block say
 block-say : (command : ScriptCommand) (lines block rest : List (List ℕ)) (b : HasBlock lines block rest) (said : Result Contents Wrong)
-    → (((p : Allowed) × Means block p × (said ≡ in_result (whole (length lines) (with_policy command p) (length b.front + 1 + length block + 1 + 1) rest)))
+    → (((p : Allowed) × BlockMeans block p × (said ≡ in_result (whole_script (length lines) (with_policy command p) (length b.front + 1 + length block + 1 + 1) rest)))
     ⊎ ((g : policy.TokenFault) × IsFaultyBlock (length b.front + 1) block g × (said ≡ Err (in_policy g)))) → LinesRead command lines (opening lines) said
 block-say command lines block rest b said says =
     let tail : List (List ℕ) = block ++ b.closer ∷ rest in
     opened-say command lines b.front b.opener tail said b.parts b.nothing b.opens
     (subst (λ (o : Option ℕ). BlockReads command (length lines) (length b.front + 1) tail o said) (sym (closing-at block b.closer rest b.inside b.closes))
-    (subst (λ (u : List (List ℕ) × List (List ℕ)). ((p : Allowed) × Means u.0 p × (said ≡ in_result (whole (length lines) (with_policy command p) (length b.front + 1 + length block + 1 + 1) u.1)))
+    (subst (λ (u : List (List ℕ) × List (List ℕ)). ((p : Allowed) × BlockMeans u.0 p × (said ≡ in_result (whole_script (length lines) (with_policy command p) (length b.front + 1 + length block + 1 + 1) u.1)))
     ⊎ ((g : policy.TokenFault) × IsFaultyBlock (length b.front + 1) u.0 g × (said ≡ Err (in_policy g))))
     (λ i. (sym (take-append_seam block (b.closer ∷ rest)) i, sym (drop-append-add block (b.closer ∷ rest) 1) i)) says))
 
@@ -142,7 +144,7 @@ fault-of-lines command lines f (inr (inr x)) =
     block-say command lines x.block x.rest x.has (Err (in_script f)) (inl (x.rights, x.means, sym (ap in_result (first-fault (length lines) (with_policy command x.rights) (length x.has.front + 1 + length x.block + 1 + 1) x.rest f first))))
 
 -- a fault that stands is told
-pub fault-told : (command : ScriptCommand) (bytes : List ℕ) (f : ScriptFault) → IsFaultOf command bytes f → ReadsFor command bytes (Err (in_script f))
+pub fault-told : (command : ScriptCommand) (bytes : List ℕ) (f : ScriptFault) → IsFaultOfScript command bytes f → ReadsFor command bytes (Err (in_script f))
 fault-told command bytes f (inl (inl (long, is))) = inl (long, ap (λ (g : ScriptFault). Err (in_script g)) is)
 fault-told command bytes f (inl (inr (short, bad, is))) = inr (inl (short, bad, ap (λ (g : ScriptFault). Err (in_script g)) is))
 fault-told command bytes f (inr (short, text, x)) = inr (inr (short, text, fault-of-lines command (lines_in bytes) f x))

@@ -47,8 +47,8 @@ abbrev pub block_fault_shown : BlockFault → Option policy.TokenFault
 block_fault_shown e = option_map (λ k. record { line = e.line; kind = k }) (kind_shown e.kind)
 
 -- the block means these types and what they may do to one another
-abbrev pub Means : List (List ℕ) → Allowed → Type 0
-Means lines a = (m : Meaning) × ReadsAs (block_text lines) (Ok m) × (a ≡ allowed_by m)
+abbrev pub BlockMeans : List (List ℕ) → Allowed → Type 0
+BlockMeans lines a = (m : Meaning) × ReadsAs (block_text lines) (Ok m) × (a ≡ allowed_by m)
 
 -- the block, after this number of lines, has this first fault
 abbrev pub IsFaultyBlock : ℕ → List (List ℕ) → policy.TokenFault → Type 0
@@ -57,7 +57,7 @@ IsFaultyBlock before lines g =
 
 -- the policy of a block or its fault, unless an allocation failed
 abbrev pub IsPolicyOf : ℕ → List (List ℕ) → Result KeptPolicy ScriptError → Type 0
-IsPolicyOf before lines (Ok p) = Means lines (allowed_of p)
+IsPolicyOf before lines (Ok p) = BlockMeans lines (allowed_of p)
 IsPolicyOf before lines (Err errors.Memory) = Unit {0}
 IsPolicyOf before lines (Err (errors.Fault f)) = ⊥
 IsPolicyOf before lines (Err (errors.Policy e)) =

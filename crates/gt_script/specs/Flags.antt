@@ -7,8 +7,8 @@ use Rattle.gt_script.specs.Lists.{NamedRunTask, NamedRunAction}
 use Rattle.gt_script.specs.declared.tasks.RunActionBy.TheVariants as runs
 
 -- the names behind the references
-abbrev pub names_in : List (Bor (List ℕ)) → List (List ℕ)
-names_in keys = map (λ key. key.now) keys
+abbrev pub borrowed_names : List (Bor (List ℕ)) → List (List ℕ)
+borrowed_names keys = map (λ key. key.now) keys
 
 -- the names with this one, which is appended if it is new
 unfoldable pub with_flag : List (List ℕ) → List ℕ → List (List ℕ)

@@ -7,7 +7,7 @@ use Rattle.gt_script.specs.Prelude.{Triple, DomainConfig, Allowed, type_named, w
 use Rattle.gt_script.specs.Prelude.{ScriptLine, Number, BodyLine, ScriptCommand, Play, Run, NamedRunTask, ScriptStep, ScriptFault, Limit}
 use Rattle.gt_script.specs.Prelude.{Utf8, Syntax, Config, ScriptError, Memory}
 use Rattle.gt_policy.specs.declared.fault.TokenFault as policy
-use Rattle.gt_script.specs.Blocks.{Means, IsFaultyBlock, block_fault_shown}
+use Rattle.gt_script.specs.Blocks.{BlockMeans, IsFaultyBlock, block_fault_shown}
 use Rattle.gt_script.specs.Contents.{Contents, empty, with_policy, type_names, first_gen}
 use Rattle.gt_script.specs.Script.{domain_written, play_action_in, run_action_in, with_words, with_lines}
 use Rattle.gt_script_lines.specs.declared.lines.ScriptLine.TheVariants as line
@@ -139,7 +139,7 @@ pub record IsPolicyScript (command : ScriptCommand) (lines : List (List ℕ)) (c
   pub rest : List (List ℕ)
   pub has : HasBlock lines block rest
   pub rights : Allowed
-  pub means : Means block rights
+  pub means : BlockMeans block rights
   pub policy : c.policy ≡ Some rights
   pub parts : GiveParts (lines_before has + length block + 2) rest c
   pub no_triples : c.triples ≡ []
@@ -201,7 +201,7 @@ pub record IsFaultBehind (command : ScriptCommand) (lines : List (List ℕ)) (f 
   pub rest : List (List ℕ)
   pub has : HasBlock lines block rest
   pub rights : Allowed
-  pub means : Means block rights
+  pub means : BlockMeans block rights
   pub first : IsFirstScriptFault (length lines) (with_policy command rights)
       (lines_before has + length block + 2) rest f
 
@@ -220,8 +220,8 @@ IsUnread bytes f =
     × (f ≡ record { line = line_after (take (utf8_valid_len bytes) bytes); kind = Utf8 }))
 
 -- the first fault of the bytes, if it is not one of a policy: too many, not UTF-8, or the first fault of the lines
-abbrev pub IsFaultOf : ScriptCommand → List ℕ → ScriptFault → Type 0
-IsFaultOf command bytes f =
+abbrev pub IsFaultOfScript : ScriptCommand → List ℕ → ScriptFault → Type 0
+IsFaultOfScript command bytes f =
     IsUnread bytes f ⊎ ((length bytes ≤ LONGEST_TEXT) × IsUtf8 bytes × IsFaultOfLines command (lines_in bytes) f)
 
 -- the first fault of the bytes is that of their policy block, with its line in the script
@@ -236,7 +236,7 @@ pub record IsFaultOfBlock (bytes : List ℕ) (g : policy.TokenFault) : Type 0 wh
 -- an allocation failed, or this is the first fault of a script for the command
 abbrev pub StandsFor : ScriptCommand → List ℕ → ScriptError → Type 0
 StandsFor command bytes Memory = Unit {0}
-StandsFor command bytes (errors.Fault f) = IsFaultOf command bytes f
+StandsFor command bytes (errors.Fault f) = IsFaultOfScript command bytes f
 StandsFor command bytes (errors.Policy e) =
     (g : policy.TokenFault) × (block_fault_shown e ≡ Some g) × IsFaultOfBlock bytes g
 

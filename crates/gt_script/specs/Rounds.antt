@@ -4,7 +4,7 @@ use Rattle.std.specs.Prelude.{slice_get, slice_set, get_or, All, IsTrue}
 use Rattle.std.specs.List.{sum_by}
 use Rattle.gt_types.specs.declared.DomId.{DomId}
 use Rattle.gt_types.specs.declared.config.DomainConfig.{DomainConfig}
-use Rattle.gt_script.specs.Stuck.{IsClosed, PassesAll, WaitsAt}
+use Rattle.gt_script.specs.Stuck.{IsClosedFlagSet, PassesAll, WaitsAt}
 use Rattle.gt_script.specs.Lists.{RunAction, RunTask}
 use Rattle.gt_script.specs.declared.tasks.RunActionBy.TheVariants.{Do, Tell, Await}
 
@@ -61,7 +61,7 @@ Comes tasks dom place told = All (λ t. t.dom.0 ≡ dom.0 → IsDone told t.deed
 pub record WayTo (tasks : List RunTask) (dom : DomId) (old new : List Bool) (place : ℕ) (is_news : Bool) : Type 0 where
   pub comes : Comes tasks dom place new
   pub grown : (flag : ℕ) → HasFlag old flag → HasFlag new flag
-  pub sound : (set : ℕ → Bool) → IsClosed tasks set → Within old set → Within new set
+  pub sound : (set : ℕ → Bool) → IsClosedFlagSet tasks set → Within old set → Within new set
   pub many : length new ≡ length old
   pub quiet : is_news ≡ false → new ≡ old
   pub loud : is_news ≡ true → unraised_count new < unraised_count old
@@ -85,7 +85,7 @@ HaveCome tasks domains places told = (i : ℕ) (d : DomainConfig) → slice_get 
 pub record Turning (tasks : List RunTask) (domains : List DomainConfig) (places : List ℕ) (old new : List Bool) (upto : ℕ)
     (is_news : Bool) : Type 0 where
   pub have : HaveCome tasks domains places new
-  pub sound : (set : ℕ → Bool) → IsClosed tasks set → Within old set → Within new set
+  pub sound : (set : ℕ → Bool) → IsClosedFlagSet tasks set → Within old set → Within new set
   pub many : length new ≡ length old
   pub quiet : is_news ≡ false → new ≡ old
   pub loud : is_news ≡ true → unraised_count new < unraised_count old
@@ -93,6 +93,6 @@ pub record Turning (tasks : List RunTask) (domains : List DomainConfig) (places 
       → WaitsFor tasks d.id (get_or places i 0) new
 
 -- the line where a domain waits, if these flags are raised; none if it comes to its end
-abbrev pub WaitsIn : List Bool → List RunTask → DomId → Option ℕ → Type 0
-WaitsIn told tasks dom None = PassesAll (HasFlag told) dom tasks
-WaitsIn told tasks dom (Some line) = WaitsAt (HasFlag told) tasks dom line
+abbrev pub WaitsOrEnds : List Bool → List RunTask → DomId → Option ℕ → Type 0
+WaitsOrEnds told tasks dom None = PassesAll (HasFlag told) dom tasks
+WaitsOrEnds told tasks dom (Some line) = WaitsAt (HasFlag told) tasks dom line

@@ -7,7 +7,7 @@ use Rattle.gt_script.specs.Prelude.{◌>>=◌, line_of, Number, ScriptAction, Bo
 use Rattle.gt_script.specs.Prelude.{TripleLine, DomainLine, ScriptLine, ScriptFaultKind, Limit, Utf8, Syntax, Config, Mode}
 use Rattle.gt_script.specs.Prelude.{ScriptFault}
 use Rattle.gt_policy.specs.declared.fault.TokenFault as policy
-use Rattle.gt_script.specs.Blocks.{opening, closing, Means, IsFaultyBlock}
+use Rattle.gt_script.specs.Blocks.{opening, closing, BlockMeans, IsFaultyBlock}
 use Rattle.gt_script.specs.Types.{with_type_name}
 use Rattle.gt_script.specs.Contents.{Contents, empty, with_policy}
 use Rattle.gt_script.specs.declared.actions.ScriptAction.TheVariants as actions
@@ -173,8 +173,8 @@ completed_if_ok count (Ok c) = completed count c
 completed_if_ok count (Err f) = Err f
 
 -- the script with lines numbered from n, after which the whole of `count` lines ends
-abbrev pub whole : ℕ → Contents → ℕ → List (List ℕ) → Result Contents ScriptFault
-whole count c n lines = completed_if_ok count (with_lines c n lines)
+abbrev pub whole_script : ℕ → Contents → ℕ → List (List ℕ) → Result Contents ScriptFault
+whole_script count c n lines = completed_if_ok count (with_lines c n lines)
 
 -- a fault: of the script, or of its policy block
 pub data Wrong : Type 0 where
@@ -190,8 +190,8 @@ in_result (Err f) = Err (in_script f)
 -- the block: the rest of a script of `count` lines with the policy of the block, or the fault of the block.
 abbrev pub ClosedReads : ScriptCommand → ℕ → ℕ → List (List ℕ) → ℕ → Result Contents Wrong → Type 0
 ClosedReads command count first lines end said =
-    ((p : Allowed) × Means (take end lines) p
-    × (said ≡ in_result (whole count (with_policy command p) (first + end + 1 + 1) (drop (end + 1) lines))))
+    ((p : Allowed) × BlockMeans (take end lines) p
+    × (said ≡ in_result (whole_script count (with_policy command p) (first + end + 1 + 1) (drop (end + 1) lines))))
     ⊎ ((g : policy.TokenFault) × IsFaultyBlock first (take end lines) g × (said ≡ Err (in_policy g)))
 
 -- the same, if a line `end` may be missing
@@ -201,7 +201,7 @@ BlockReads command count first lines (Some end) said = ClosedReads command count
 
 -- the meaning of lines, which begin with a policy block or have none
 abbrev pub LinesRead : ScriptCommand → List (List ℕ) → Option ℕ → Result Contents Wrong → Type 0
-LinesRead command lines None said = said ≡ in_result (whole (length lines) (empty command) 1 lines)
+LinesRead command lines None said = said ≡ in_result (whole_script (length lines) (empty command) 1 lines)
 LinesRead command lines (Some place) said =
     BlockReads command (length lines) (place + 1) (drop (place + 1) lines) (closing (drop (place + 1) lines)) said
 

@@ -28,13 +28,13 @@ PassesAll Told dom tasks = All (λ t. t.dom.0 ≡ dom.0 → IsPassed Told t.deed
 
 -- A set of flags is closed: it has each flag that a task raises, if the
 -- domain gets beyond all its tasks before that one.
-abbrev pub IsClosed : List RunTask → (ℕ → Bool) → Type 0
-IsClosed tasks set = (at : ℕ) (task : RunTask) (flag : ℕ) → slice_get tasks at ≡ Some task → task.deed ≡ Tell flag
-    → PassesAll (λ f. IsTrue (set f)) task.dom (take at tasks) → IsTrue (set flag)
+abbrev pub IsClosedFlagSet : List RunTask → (ℕ → Bool) → Type 0
+IsClosedFlagSet tasks set = (at : ℕ) (task : RunTask) (flag : ℕ) → slice_get tasks at ≡ Some task
+    → task.deed ≡ Tell flag → PassesAll (λ f. IsTrue (set f)) task.dom (take at tasks) → IsTrue (set flag)
 
 -- a flag comes to be raised: it is in each closed set, so in the least one
 abbrev pub IsRaisable : List RunTask → ℕ → Type 0
-IsRaisable tasks flag = (set : ℕ → Bool) → IsClosed tasks set → IsTrue (set flag)
+IsRaisable tasks flag = (set : ℕ → Bool) → IsClosedFlagSet tasks set → IsTrue (set flag)
 
 -- a domain comes to the end of its list, if these flags are raised
 abbrev pub CanEnd : (ℕ → Type 0) → List RunTask → DomId → Type 0

@@ -13,11 +13,11 @@ pub struct FlagNames<'a> {
 
 impl<'a> Model for FlagNames<'a> {
     ghost use Rattle.std.specs.Prelude.{ℕ, List};
-    ghost use Rattle.gt_script.specs.Flags.{names_in};
+    ghost use Rattle.gt_script.specs.Flags.{borrowed_names};
 
     ghost Value = { List (List ℕ) };
 
-    ghost view = { λ flags. names_in flags.names.keys };
+    ghost view = { λ flags. borrowed_names flags.names.keys };
 }
 
 impl<'a> FlagNames<'a> {

@@ -3,7 +3,7 @@ ghost use Rattle.std.specs.Prelude.{◌≡◌, ℕ, List, Result, Err};
 ghost use Rattle.gt_script.specs.Contents.{Contents};
 ghost use Rattle.gt_script.specs.RunContents.{RunContents};
 ghost use Rattle.gt_script.specs.RunScripts.{ReadsAsRun};
-ghost use Rattle.gt_script.specs.Laws.{IsFaultOf, IsFaultOfBlock};
+ghost use Rattle.gt_script.specs.Laws.{IsFaultOfScript, IsFaultOfBlock};
 ghost use Rattle.gt_script.specs.Script.{ReadsAsScript, ReadsFor, Wrong, in_policy, in_script};
 ghost use Rattle.gt_script.specs.declared.command.ScriptCommand.{ScriptCommand};
 ghost use Rattle.gt_script.specs.declared.faults.ScriptFault.{ScriptFault};
@@ -23,7 +23,7 @@ pub fn every_text_has_one_meaning()
 /// A law: a fault that is the first of the bytes, or of their policy block, is what they mean. So there is no other.
 pub fn every_fault_is_reported()
     ensures script { (command : ScriptCommand) (bytes : List ℕ) (f : ScriptFault) →
-        IsFaultOf command bytes f → ReadsFor command bytes (Err (in_script f)) }
+        IsFaultOfScript command bytes f → ReadsFor command bytes (Err (in_script f)) }
     ensures block { (command : ScriptCommand) (bytes : List ℕ) (g : policy.TokenFault) →
         IsFaultOfBlock bytes g → ReadsFor command bytes (Err (in_policy g)) }
 {}

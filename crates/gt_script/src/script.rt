@@ -122,7 +122,7 @@ impl<'a> Script<'a> {
     ghost use Rattle.gt_script.specs.Contents.{first_gen};
     ghost use Rattle.gt_script.specs.Script.{with_triple, GivesTypeNumber, with_domain, with_domain_line, with_order};
     ghost use Rattle.gt_script.specs.Script.{with_body_line, with_script_line, with_words};
-    ghost use Rattle.gt_script.specs.Script.{completed, whole};
+    ghost use Rattle.gt_script.specs.Script.{completed, whole_script};
     ghost use Rattle.gt_script.specs.Script.{has_no_rights, has_body, is_misplaced};
     ghost use Rattle.gt_script.specs.Outcomes.{AddsLine, AddsLines, GivesScript};
 
@@ -380,7 +380,7 @@ impl<'a> Script<'a> {
         lines: &[&'a str],
     ) -> Result<(), ScriptError>
         requires { (before + length lines.now ≤ count) × (count < 2 ^ 64 - 1) }
-        ensures { AddsLines result (contents_of self.new) (whole count (contents_of self.old) (before + 1)
+        ensures { AddsLines result (contents_of self.new) (whole_script count (contents_of self.old) (before + 1)
             (map (λ line. line.now) lines.now)) }
     {
         for (i, line) in lines.iter().enumerate() {
@@ -401,7 +401,7 @@ impl<'a> Script<'a> {
         lines: &[&'a str],
     ) -> Result<Script<'a>, ScriptError>
         requires { (before + length lines.now ≤ count) × (count < 2 ^ 64 - 1) }
-        ensures { GivesScript result (whole count (contents_of self.entry) (before + 1)
+        ensures { GivesScript result (whole_script count (contents_of self.entry) (before + 1)
             (map (λ line. line.now) lines.now)) }
     {
         match self.add_rest(alloc, before, count, lines) {

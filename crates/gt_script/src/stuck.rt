@@ -3,9 +3,9 @@
 //! The domains move in turn, each as far as the raised flags let it, until a whole turn raises no new flag.
 ghost use Rattle.std.specs.Prelude.{◌≡◌, ◌≤◌, ◌↔◌, ℕ, Bool, IfOk, All, IsTrue, length};
 ghost use Rattle.gt_types.specs.Config.{is_taken};
-ghost use Rattle.gt_script.specs.Stuck.{IsBelow, AreNumbered, IsClosed, IsRaisable, IsJudged};
+ghost use Rattle.gt_script.specs.Stuck.{IsBelow, AreNumbered, IsClosedFlagSet, IsRaisable, IsJudged};
 ghost use Rattle.gt_script.specs.Rounds.{flag_holds, is_waiting, raised_after, is_new, Within, TurnGoesOn, Comes};
-ghost use Rattle.gt_script.specs.Rounds.{HaveCome, Turning, WaitsIn};
+ghost use Rattle.gt_script.specs.Rounds.{HaveCome, Turning, WaitsOrEnds};
 
 use crate::tasks::{RunAction, RunTask};
 use gt_types::{DomId, DomainConfig};
@@ -119,8 +119,8 @@ fn raised_flags(
     requires numbered { AreNumbered flags tasks.now }
     requires known { All (λ t. IsTrue (is_taken domains.now t.dom)) tasks.now }
     ensures many { IfOk result (λ told. length told.items ≡ flags) }
-    ensures closed { IfOk result (λ told. IsClosed tasks.now (flag_holds told.items)) }
-    ensures least { IfOk result (λ told. (set : ℕ → Bool) → IsClosed tasks.now set → Within told.items set) }
+    ensures closed { IfOk result (λ told. IsClosedFlagSet tasks.now (flag_holds told.items)) }
+    ensures least { IfOk result (λ told. (set : ℕ → Bool) → IsClosedFlagSet tasks.now set → Within told.items set) }
 {
     let mut turns = ListPositions {
         places: vec![in alloc; 0; domains.len()]?,
@@ -136,7 +136,7 @@ fn raised_flags(
 // Finds the line where a domain waits if these flags are raised.
 fn waiting_line(tasks: &[RunTask], dom: DomId, told: &[bool]) -> Option<usize>
     requires { AreNumbered (length told.now) tasks.now }
-    ensures { WaitsIn told.now tasks.now dom result }
+    ensures { WaitsOrEnds told.now tasks.now dom result }
 {
     'tasks: for task in tasks {
         if task.dom == dom {

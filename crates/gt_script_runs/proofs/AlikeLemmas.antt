@@ -27,7 +27,7 @@ use Rattle.gt_model.specs.Legal.{MayDo, actor_of, grown, history_after}
 use Rattle.gt_core.specs.Alike.{bare_handle, bare_bytes, bare_request, keyless_answer, KeylessItem, SameElement}
 use Rattle.gt_core.specs.Alike.{IsGiven, IsKnown, AsksKnown}
 use Rattle.gt_script_runs.specs.Printing.{answer_text, bytes_text}
-use Rattle.gt_script_runs.specs.Runs.{Named, handle_named, handle_of, never_given, with_name, named_after}
+use Rattle.gt_script_runs.specs.Runs.{Named, handle_labelled, handle_of, never_given, with_name, named_after}
 use Rattle.gt_script_runs.specs.Runs.{handle_given, label_said, request_of, MakesRequest, answer_in}
 
 -- names
@@ -41,12 +41,12 @@ abbrev pub NamesGiven : History → List Named → Type 0
 NamesGiven h [] = Unit {0}
 NamesGiven h (n ∷ more) = IsGiven h n.dom.0 n.handle × NamesGiven h more
 
-named-bare : (named : List Named) (d : ℕ) (label : List ℕ) → handle_named (bare_names named) d label ≡ option_map bare_handle (handle_named named d label)
+named-bare : (named : List Named) (d : ℕ) (label : List ℕ) → handle_labelled (bare_names named) d label ≡ option_map bare_handle (handle_labelled named d label)
 named-bare [] d label = refl
 named-bare (n ∷ more) d label = by ((n.dom.0 == d) && bytes_eq n.label label) (named-bare more d label)
   where
-    by : (b : Bool) → handle_named (bare_names more) d label ≡ option_map bare_handle (handle_named more d label)
-        → cond b (Some (bare_handle n.handle)) (handle_named (bare_names more) d label) ≡ option_map bare_handle (cond b (Some n.handle) (handle_named more d label))
+    by : (b : Bool) → handle_labelled (bare_names more) d label ≡ option_map bare_handle (handle_labelled more d label)
+        → cond b (Some (bare_handle n.handle)) (handle_labelled (bare_names more) d label) ≡ option_map bare_handle (cond b (Some n.handle) (handle_labelled more d label))
     by true rest = refl
     by false rest = rest
 
@@ -56,16 +56,16 @@ or-never (Some handle) = refl
 
 pub handle-same : (one other : List Named) (dom : DomId) (label : List ℕ) → bare_names one ≡ bare_names other → bare_handle (handle_of one dom label) ≡ bare_handle (handle_of other dom label)
 handle-same one other dom label same =
-    or-never (handle_named one dom.0 label)
+    or-never (handle_labelled one dom.0 label)
     ∙ ap (λ (o : Option Handle). unwrap_or o never_given)
-    (sym (named-bare one dom.0 label) ∙ ap (λ (l : List Named). handle_named l dom.0 label) same ∙ named-bare other dom.0 label)
-    ∙ sym (or-never (handle_named other dom.0 label))
+    (sym (named-bare one dom.0 label) ∙ ap (λ (l : List Named). handle_labelled l dom.0 label) same ∙ named-bare other dom.0 label)
+    ∙ sym (or-never (handle_labelled other dom.0 label))
 
-found-given : (h : History) (named : List Named) (d : ℕ) (label : List ℕ) → NamesGiven h named → IsKnown h d (unwrap_or (handle_named named d label) never_given)
+found-given : (h : History) (named : List Named) (d : ℕ) (label : List ℕ) → NamesGiven h named → IsKnown h d (unwrap_or (handle_labelled named d label) never_given)
 found-given h [] d label g = inr (omega arith)
 found-given h (n ∷ more) d label g = by (n.dom.0 == d) (bytes_eq n.label label) refl (found-given h more d label g.1)
   where
-    by : (b e : Bool) → (n.dom.0 == d) ≡ b → IsKnown h d (unwrap_or (handle_named more d label) never_given) → IsKnown h d (unwrap_or (cond (b && e) (Some n.handle) (handle_named more d label)) never_given)
+    by : (b e : Bool) → (n.dom.0 == d) ≡ b → IsKnown h d (unwrap_or (handle_labelled more d label) never_given) → IsKnown h d (unwrap_or (cond (b && e) (Some n.handle) (handle_labelled more d label)) never_given)
     by true true own rest = inl (subst (λ (m : ℕ). IsGiven h m n.handle) (eqb-true n.dom.0 d own) g.0)
     by true false own rest = rest
     by false e own rest = rest

@@ -8,7 +8,7 @@ use Rattle.gt_script_runs.specs.Prelude.{ScriptPolicy, AppendsBeginning}
 use Rattle.gt_policy.specs.declared.fault.TokenFault as policy
 use Rattle.gt_script_runs.specs.Auditing.{audit_text}
 use Rattle.gt_script_runs.specs.Rights.{may_by, may_in}
-use Rattle.gt_script_runs.specs.Runs.{Progress, IsRunOf, KnowsOpen, open_lines}
+use Rattle.gt_script_runs.specs.Runs.{Progress, ScriptLeadsTo, KnowsOpen, open_lines}
 
 -- The domains of the script and its first generation are within the limits
 -- of a run, and each step is one of its domains.
@@ -34,7 +34,8 @@ pub record StartsFor (c : Contents) (core : CoreModel ScriptPolicy) : Type 0 whe
 -- earlier ones too, since a legal trace begins and answers calls one at a time.
 abbrev pub IsLegalRunOf : Contents → List ScriptStep → Progress → Type 0
 IsLegalRunOf c steps p =
-    IsRunOf (setting_of_script c) (type_names c) steps p × Legal (setting_of_script c) p.events p.trace × KnowsOpen p
+    ScriptLeadsTo (setting_of_script c) (type_names c) steps p × Legal (setting_of_script c) p.events p.trace
+    × KnowsOpen p
 
 -- the text of a run that came to the end of the script: the lines of
 -- its steps, and those of the open calls

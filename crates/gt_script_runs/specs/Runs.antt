@@ -20,10 +20,10 @@ pub record Named : Type 0 where
   pub handle : Handle
 
 -- the handle of a domain's label: that of its last map that was answered Ok, which is first in the list
-abbrev pub handle_named : List Named → ℕ → List ℕ → Option Handle
-handle_named [] dom label = None
-handle_named (n ∷ more) dom label =
-    if (n.dom.0 == dom) && bytes_eq n.label label then Some n.handle else handle_named more dom label
+abbrev pub handle_labelled : List Named → ℕ → List ℕ → Option Handle
+handle_labelled [] dom label = None
+handle_labelled (n ∷ more) dom label =
+    if (n.dom.0 == dom) && bytes_eq n.label label then Some n.handle else handle_labelled more dom label
 
 -- the handle that no map returns
 abbrev pub never_given : Handle
@@ -31,7 +31,7 @@ never_given = record { serial = 2 ^ 64 - 1; key = 0 }
 
 -- the handle of a label; if it has none, the one that no map returns
 abbrev pub handle_of : List Named → DomId → List ℕ → Handle
-handle_of named dom label = unwrap_or (handle_named named dom.0 label) never_given
+handle_of named dom label = unwrap_or (handle_labelled named dom.0 label) never_given
 
 -- calls
 
@@ -269,8 +269,8 @@ PlayLeadsTo t types p [] q = p ≡ q
 PlayLeadsTo t types p (s ∷ steps) q = (r : Progress) × RunsLine t types s s.action p r × PlayLeadsTo t types r steps q
 
 -- the steps of a script lead here
-abbrev pub IsRunOf : Setting → List (List ℕ) → List ScriptStep → Progress → Type 0
-IsRunOf t types steps p = PlayLeadsTo t types at_start steps p
+abbrev pub ScriptLeadsTo : Setting → List (List ℕ) → List ScriptStep → Progress → Type 0
+ScriptLeadsTo t types steps p = PlayLeadsTo t types at_start steps p
 
 -- a domain has a line's call open exactly if it has one open by the history
 abbrev pub KnowsOpen : Progress → Type 0

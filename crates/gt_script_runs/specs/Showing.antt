@@ -21,9 +21,9 @@ counts_text generation reads writes =
 
 -- what a line shows of an entry: the entry, its generation, its live pins of each
 -- kind, and its status word; or that there is none
-abbrev pub shown_text : Option EntryView → List ℕ
-shown_text None = codes "none"
-shown_text (Some shown) =
+abbrev pub entry_view_text : Option EntryView → List ℕ
+entry_view_text None = codes "none"
+entry_view_text (Some shown) =
     entry_text shown.entry ++ counts_text shown.generation shown.reads shown.writes
     ++ codes " status="
     ++ status_text (status_bits_of (control_with shown.entry shown.generation shown.reads shown.writes))
@@ -31,5 +31,5 @@ shown_text (Some shown) =
 -- `LINE show ID REF SHOWN`
 abbrev pub show_line : ℕ → DomId → GrantRef → Option EntryView → List ℕ
 show_line line dom gref shown =
-    decimal line ++ codes " show " ++ decimal dom.0 ++ codes " " ++ decimal gref.0 ++ codes " " ++ shown_text shown
+    decimal line ++ codes " show " ++ decimal dom.0 ++ codes " " ++ decimal gref.0 ++ codes " " ++ entry_view_text shown
     ++ codes "\n"

@@ -10,11 +10,11 @@ use Rattle.gt_frames.specs.declared.writ.Writ.{Writ}
 use Rattle.gt_word_history.specs.Views.{IsAmong}
 use Rattle.gt_word_history.specs.declared.view.FrameStep.TheVariants.{Copied}
 use Rattle.gt_shared_table.specs.declared.rule.FrameHolder.{FrameHolder}
-use Rattle.gt_shared_table.specs.Rule.{Cell, HoldsAll, IsSlotOf, Places, name_of}
+use Rattle.gt_shared_table.specs.Rule.{Cell, HoldsAll, IsSlotOf, Places, slot_frame}
 use Rattle.gt_shared_table.specs.declared.rule.FrameSlot.{FrameSlot}
 use Rattle.atomic_table.specs.Seated.{TableId}
 use Rattle.gt_shared_table.specs.Recording.{Accessed, Frees, IsByHeld, IsOut, OnlyLocked, Returns, Took, held_first}
-use Rattle.gt_shared_table.specs.Recording.{holding, left_by, rest_held}
+use Rattle.gt_shared_table.specs.Recording.{holding, without_taken_frame, rest_held}
 use Rattle.gt_shared_table.specs.Bytes.{journal_by}
 use Rattle.gt_word_history.specs.History.{Layout}
 use Rattle.gt_word_history.specs.declared.view.FrameStep.{FrameStep}
@@ -53,27 +53,27 @@ with_frame s frame me = (me.0, (s.index, Some frame) ∷ rest me.1)
 -- a frame that is out may be given back by this access
 pub frees_out : (b : Places) (slots id : ℕ) (z : TableId) (s : FrameSlot) (last : Bool) (x frame : FrameState) (me : Me Cell FrameHolder) → IsSlotOf b z s → IsOut b.layout s last x me
     → (m : FrameStep) → frame ≡ record x { journal = journal_by m x.journal } → IsByHeld b me.0.held x m → me.0.own.gone ≡ false
-    → Allows (HoldsAll b) slots id (with_frame s frame me) s.lock (λ _. 0) (λ _ m'. Frees b (name_of s) m (left_by last me.0.held) (with_frame s frame me) m')
+    → Allows (HoldsAll b) slots id (with_frame s frame me) s.lock (λ _. 0) (λ _ m'. Frees b (slot_frame s) m (without_taken_frame last me.0.held) (with_frame s frame me) m')
 frees_out b slots id z s last x frame me of out m is by_held here =
-    subst (λ (i : ℕ). Allows (HoldsAll b) slots id (with_frame s frame me) i (λ _. 0) (λ _ m'. Frees b (name_of s) m (left_by last me.0.held) (with_frame s frame me) m')) (sym of.0)
-    (frees b slots id (with_frame s frame me) s.index (name_of s) of.2 x (left_by last me.0.held) out.left frame (rest me.1) refl m is by_held here)
+    subst (λ (i : ℕ). Allows (HoldsAll b) slots id (with_frame s frame me) i (λ _. 0) (λ _ m'. Frees b (slot_frame s) m (without_taken_frame last me.0.held) (with_frame s frame me) m')) (sym of.0)
+    (frees b slots id (with_frame s frame me) s.index (slot_frame s) of.2 x (without_taken_frame last me.0.held) out.left frame (rest me.1) refl m is by_held here)
 
 -- or as it was taken
 pub returns_out : (b : Places) (slots id : ℕ) (z : TableId) (s : FrameSlot) (last : Bool) (x frame : FrameState) (me : Me Cell FrameHolder) → IsSlotOf b z s → IsOut b.layout s last x me → frame ≡ x
-    → Allows (HoldsAll b) slots id (with_frame s frame me) s.lock (λ _. 0) (λ _ m'. Returns (left_by last me.0.held) (with_frame s frame me) m')
+    → Allows (HoldsAll b) slots id (with_frame s frame me) s.lock (λ _. 0) (λ _ m'. Returns (without_taken_frame last me.0.held) (with_frame s frame me) m')
 returns_out b slots id z s last x frame me of out is =
-    subst (λ (i : ℕ). Allows (HoldsAll b) slots id (with_frame s frame me) i (λ _. 0) (λ _ m'. Returns (left_by last me.0.held) (with_frame s frame me) m')) (sym of.0)
-    (returns b slots id (with_frame s frame me) s.index (name_of s) of.2 x (left_by last me.0.held) out.left (rest me.1) (ap (λ (y : FrameState). (s.index, Some y) ∷ rest me.1) is))
+    subst (λ (i : ℕ). Allows (HoldsAll b) slots id (with_frame s frame me) i (λ _. 0) (λ _ m'. Returns (without_taken_frame last me.0.held) (with_frame s frame me) m')) (sym of.0)
+    (returns b slots id (with_frame s frame me) s.index (slot_frame s) of.2 x (without_taken_frame last me.0.held) out.left (rest me.1) (ap (λ (y : FrameState). (s.index, Some y) ∷ rest me.1) is))
 
 -- a frame that was taken and freed by an access: the seat did nothing else, and took its lock
-pub accessed : (b : Places) (s : FrameSlot) (m : FrameStep) (me m1 m' : Me Cell FrameHolder) → Took b s me m1 → Frees b (name_of s) m (left_by true m1.0.held) m1 m' → Accessed b.layout (name_of s) m (name_of s ∷ me.0.locks) me m'
+pub accessed : (b : Places) (s : FrameSlot) (m : FrameStep) (me m1 m' : Me Cell FrameHolder) → Took b s me m1 → Frees b (slot_frame s) m (without_taken_frame true m1.0.held) m1 m' → Accessed b.layout (slot_frame s) m (slot_frame s ∷ me.0.locks) me m'
 accessed b s m me m1 m' t freed =
-    let f : Frees b (name_of s) m me.0.held (holding (name_of s) s.index t.0 me.0, (s.index, Some t.0) ∷ me.1) m' = subst (λ (z : Me Cell FrameHolder). Frees b (name_of s) m (left_by true z.0.held) z m') t.1 freed in
+    let f : Frees b (slot_frame s) m me.0.held (holding (slot_frame s) s.index t.0 me.0, (s.index, Some t.0) ∷ me.1) m' = subst (λ (z : Me Cell FrameHolder). Frees b (slot_frame s) m (without_taken_frame true z.0.held) z m') t.1 freed in
     (f.0, f.1, f.2)
 
 -- a frame that was taken and returned: its lock was taken, and nothing else changed
-pub unchanged : (b : Places) (s : FrameSlot) (me m1 m' : Me Cell FrameHolder) → Took b s me m1 → Returns (left_by true m1.0.held) m1 m' → OnlyLocked (name_of s ∷ me.0.locks) me m'
-unchanged b s me m1 m' t back = subst (λ (z : Me Cell FrameHolder). Returns (left_by true z.0.held) z m') t.1 back
+pub unchanged : (b : Places) (s : FrameSlot) (me m1 m' : Me Cell FrameHolder) → Took b s me m1 → Returns (without_taken_frame true m1.0.held) m1 m' → OnlyLocked (slot_frame s ∷ me.0.locks) me m'
+unchanged b s me m1 m' t back = subst (λ (z : Me Cell FrameHolder). Returns (without_taken_frame true z.0.held) z m') t.1 back
 
 pub no_bytes_at : (x : FrameState) (off : ℕ) → [] ≡ bytes_at x off (length {A = ℕ} [])
 no_bytes_at x off = let e : off + 0 - off ≡ 0 = omega arith in ap (λ (n : ℕ). take n (drop off (contents x))) (sym e)
@@ -110,20 +110,20 @@ is_right x frame w off ys is kept = last_right x.owner x.number x.journal (recor
 pub frees_within : (b : Places) (slots id : ℕ) (z : TableId) (s : FrameSlot) (me0 me : Me Cell FrameHolder) (t : Took b s me0 me) → IsSlotOf b z s → (x frame : FrameState) → IsOut b.layout s true x me
     → (w : Writ) (off len to : ℕ) → length (contents x) ≡ FRAME_SIZE → off + len ≤ FRAME_SIZE
     → frame ≡ record x { journal = recorded x.journal w to (bytes_at x off len) } → IsKept frame → me.0.own.gone ≡ false
-    → Allows (HoldsAll b) slots id (with_frame s frame me) s.lock (λ _. 0) (λ _ m'. Frees b (name_of s) (Copied s.owner s.number off (record { writ = w; off = to; bytes = bytes_at (held_first me.0.held) off len })) (left_by true me.0.held) (with_frame s frame me) m')
+    → Allows (HoldsAll b) slots id (with_frame s frame me) s.lock (λ _. 0) (λ _ m'. Frees b (slot_frame s) (Copied s.owner s.number off (record { writ = w; off = to; bytes = bytes_at (held_first me.0.held) off len })) (without_taken_frame true me.0.held) (with_frame s frame me) m')
 frees_within b slots id z s me0 me t of x frame out w off len to size inside is kept here =
     let x_is : t.0 ≡ x = took_is b s me0 me t x out.carried in
     let held_is : me.0.held ≡ (s.index, x) ∷ me0.0.held = ap (λ (z : Me Cell FrameHolder). z.0.held) t.1 ∙ ap (λ (y : FrameState). (s.index, y) ∷ me0.0.held) x_is in
-    subst (λ (y : FrameState). Allows (HoldsAll b) slots id (with_frame s frame me) s.lock (λ _. 0) (λ _ m'. Frees b (name_of s) (Copied s.owner s.number off (record { writ = w; off = to; bytes = bytes_at y off len })) (left_by true me.0.held) (with_frame s frame me) m')) (sym (ap held_first held_is))
+    subst (λ (y : FrameState). Allows (HoldsAll b) slots id (with_frame s frame me) s.lock (λ _. 0) (λ _ m'. Frees b (slot_frame s) (Copied s.owner s.number off (record { writ = w; off = to; bytes = bytes_at y off len })) (without_taken_frame true me.0.held) (with_frame s frame me) m')) (sym (ap held_first held_is))
     (frees_out b slots id z s true x frame me of out (Copied s.owner s.number off (record { writ = w; off = to; bytes = bytes_at x off len })) is
     ((s.index, x), subst (IsAmong (s.index, x)) (sym held_is) (inl refl), of.2, bytes_again x off len size inside, is_right x frame w to (bytes_at x off len) is kept) here)
 
 -- the one frame that a seat has may go back as it was taken
 pub returned_last : (b : Places) (slots id : ℕ) (z : TableId) (s : FrameSlot) (x : FrameState) (me m2 : Me Cell FrameHolder) → IsSlotOf b z s → me.0.held ≡ (s.index, x) ∷ []
-    → m2 ≡ (me.0, (s.index, Some x) ∷ rest me.1) → Allows (HoldsAll b) slots id m2 s.lock (λ _. 0) (λ _ m'. Returns (left_by true m2.0.held) m2 m')
+    → m2 ≡ (me.0, (s.index, Some x) ∷ rest me.1) → Allows (HoldsAll b) slots id m2 s.lock (λ _. 0) (λ _ m'. Returns (without_taken_frame true m2.0.held) m2 m')
 returned_last b slots id z s x me m2 of held e =
     let held_is : m2.0.held ≡ (s.index, x) ∷ [] = ap (λ (z : Me Cell FrameHolder). z.0.held) e ∙ held in
-    subst (λ (i : ℕ). Allows (HoldsAll b) slots id m2 i (λ _. 0) (λ _ m'. Returns (left_by true m2.0.held) m2 m')) (sym of.0)
-    (returns b slots id m2 s.index (name_of s) of.2 x (left_by true m2.0.held)
+    subst (λ (i : ℕ). Allows (HoldsAll b) slots id m2 i (λ _. 0) (λ _ m'. Returns (without_taken_frame true m2.0.held) m2 m')) (sym of.0)
+    (returns b slots id m2 s.index (slot_frame s) of.2 x (without_taken_frame true m2.0.held)
     (inl (held_is ∙ ap (λ (hs : List (ℕ × FrameState)). (s.index, x) ∷ rest_held hs) (sym held_is)))
     (rest me.1) (ap (λ (z : Me Cell FrameHolder). z.1) e))

@@ -12,11 +12,11 @@ use Rattle.gt_frames.specs.declared.places.FrameCount.{FrameCount}
 use Rattle.gt_types.specs.declared.DomId.{DomId}
 use Rattle.gt_types.specs.declared.config.DomainConfig.{DomainConfig}
 use Rattle.gt_word_history.specs.Rule.{id_at}
-use Rattle.gt_shared_table.specs.Rule.{Cell, FrameAt, frame_at, names_from}
+use Rattle.gt_shared_table.specs.Rule.{Cell, FrameAt, frame_of_owner, names_from}
 use Rattle.gt_shared_table.specs.Words.{first_slots}
 
 abbrev row : ℕ → ℕ → ℕ → List FrameAt → List FrameAt
-row t f n xs = map (frame_at t) (range_with_len f n) ++ xs
+row t f n xs = map (frame_of_owner t) (range_with_len f n) ++ xs
 
 in_row : (t a n f : ℕ) (xs : List FrameAt) → f < n → get_elem? (row t a n xs) f ≡ some (t, a + f)
 in_row t a zero f xs l = absurd (omega arith)

@@ -30,8 +30,8 @@ use Rattle.gt_shared_table.specs.declared.rule.FrameHolder.{FrameHolder}
 use Rattle.gt_shared_table.specs.Bytes.{IsAside, IsOnWords, IsTrueStep, journal_by}
 use Rattle.gt_shared_table.specs.Rule.{Cell, FrameAt, HoldsAll, IsNamed, FramesAreKept, Places, hidden, inner, lock_place, made}
 use Rattle.gt_shared_table.specs.Rule.{flag_place, own_of}
-use Rattle.gt_shared_table.specs.Recording.{Accesses, AddsStep, IsByHeld, TookAt, AreLeft, holder_after, holding, outlook_after}
-use Rattle.gt_shared_table.specs.Laws.{FlagsArePassed, FlagsAreRaised, FramesAreAwaited, FramesAreFreed, FramesAreLocked}
+use Rattle.gt_shared_table.specs.Recording.{Accesses, AddsStep, IsByHeld, TookAt, AreLeft, frame_holder_after, holding, outlook_after}
+use Rattle.gt_shared_table.specs.Laws.{FlagsArePassed, FlagsMayBeRaised, FramesAreAwaited, FramesAreFreed, FramesAreLocked}
 use Rattle.gt_shared_table.specs.Laws.{FramesAreReturned}
 use Rattle.gt_shared_table.specs.Laws.{WordsAreStepped}
 use Rattle.gt_shared_table.proofs.OneStep.{access_stands, history_goes_on, holds_access, own_place, seen_there}
@@ -195,7 +195,7 @@ module _ (b : Places) (s : State Cell FrameHolder) (holds : HoldsAll b s) (id : 
     )
 
     abbrev pub w : FrameHolder
-    w = holder_after h a_step hs v
+    w = frame_holder_after h a_step hs v
 
     w_held : w.held ≡ hs
     w_held = refl
@@ -320,10 +320,10 @@ awaits b slots id me q n named lt s holds many at bound = awaits_by b s holds id
 
 pub frees : FramesAreFreed
 frees b slots id me q n named x hs has y c out m is by_held here s holds many at bound = (
-  holder_after holds.words.shown.history (Frame n.0 n.1 m) hs me.0,
+  frame_holder_after holds.words.shown.history (Frame n.0 n.1 m) hs me.0,
   gives,
   tt,
-  subst (λ (z : List (ℕ × Cell)). HoldsAll b (stepped s (lock_place b q) 0 id z (holder_after holds.words.shown.history (Frame n.0 n.1 m) hs me.0) gives)) (sym out)
+  subst (λ (z : List (ℕ × Cell)). HoldsAll b (stepped s (lock_place b q) 0 id z (frame_holder_after holds.words.shown.history (Frame n.0 n.1 m) hs me.0) gives)) (sym out)
       (frees_all b s holds id me.0 at q n named x hs has m y is by_held here c),
   (holds.words.shown.history, refl, accesses_frame b s holds id me.0 at q n named x hs has m y is by_held here c, λ x' q' among a nm. holds.frames.values id me.0 (q', x') a at among nm),
 )
@@ -356,7 +356,7 @@ returns b slots id me q n named x hs has c out s holds many at bound = (
   refl,
 )
 
-pub raises : FlagsAreRaised
+pub raises : FlagsMayBeRaised
 raises b slots id me f here s holds many at bound = let x : SeatStep = Flag f Raised in (
   record me.0 { own = outlook_after holds.words.shown.history x me.0.own },
   keeps,

@@ -11,7 +11,7 @@ use Rattle.gt_word_history.specs.Views.{IsAmong}
 use Rattle.gt_shared_table.specs.declared.rule.FrameHolder.{FrameHolder}
 use Rattle.gt_shared_table.specs.Recording.{CopiedBy, OnlyLocked}
 use Rattle.gt_shared_table.specs.Rule.{Cell, FrameAt}
-use Rattle.gt_shared_table.specs.Locking.{AreBelow, Ascends, CopiesLockUpwards, FormRing, IsLower, IsLowerThanAll, LeadsTo}
+use Rattle.gt_shared_table.specs.Locking.{AreBelow, Ascends, CopiesLockUpwards, FormRing, IsLower, IsLowerThanAll, IsWaitingChain}
 use Rattle.gt_shared_table.specs.Locking.{SeatsFormNoRing, Waiting, WaitsUpwards}
 
 pub lower_trans : (a b c : FrameAt) → IsLower a b → IsLower b c → IsLower a c
@@ -36,7 +36,7 @@ lower_before (x ∷ before) w after ascends a (inr among) = lower_before before 
 waits_above : (s : Waiting) → WaitsUpwards s → (a : FrameAt) → IsAmong a s.holds → IsLower a s.wants
 waits_above s up a among = let i = up.2 in lower_before i.before s.wants i.after (subst Ascends i.is up.1) a (i.holds a among)
 
-climbs : (s : Waiting) (seats : List Waiting) (last : Waiting) → WaitsUpwards last → ((t : Waiting) → IsAmong t seats → WaitsUpwards t) → LeadsTo s seats last → IsLower s.wants last.wants
+climbs : (s : Waiting) (seats : List Waiting) (last : Waiting) → WaitsUpwards last → ((t : Waiting) → IsAmong t seats → WaitsUpwards t) → IsWaitingChain s seats last → IsLower s.wants last.wants
 climbs s [] last up each leads = waits_above last up s.wants leads
 climbs s (t ∷ seats) last up each leads =
     lower_trans s.wants t.wants last.wants (waits_above t (each t (inl refl)) s.wants leads.0)

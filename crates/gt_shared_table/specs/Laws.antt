@@ -101,8 +101,8 @@ FramesOpen =
     → HoldsAll b (opening ws xs (newcomer o))
 
 -- a seat may raise a flag at any time
-abbrev pub FlagsAreRaised : Type 0
-FlagsAreRaised =
+abbrev pub FlagsMayBeRaised : Type 0
+FlagsMayBeRaised =
     (b : Places) (slots id : ℕ) (me : Me Cell FrameHolder) (f : ℕ) → me.0.own.gone ≡ false
     → Allows (HoldsAll b) slots id me (flag_place b f) (λ _. 1) (λ _ m. AddsStep b.layout (Flag f Raised) me m)
 
@@ -120,9 +120,9 @@ FramesAreReturned =
     → Allows (HoldsAll b) slots id me (lock_place b q) (λ _. 0) (λ _ m'. m' ≡ (record me.0 { held = hs }, rest me.1))
 
 -- no name is at two positions of the list
-abbrev pub AreApart : List FrameAt → Type 0
-AreApart xs = (i j : ℕ) (m : FrameAt) → get_elem? xs i ≡ some m → get_elem? xs j ≡ some m → i ≡ j
+abbrev pub AreDistinctFrames : List FrameAt → Type 0
+AreDistinctFrames xs = (i j : ℕ) (m : FrameAt) → get_elem? xs i ≡ some m → get_elem? xs j ≡ some m → i ≡ j
 
 -- no frame of a configuration has two slots
 abbrev pub FramesHaveOneSlot : Type 0
-FramesHaveOneSlot = (c : Config) → AreApart (places_of c).names
+FramesHaveOneSlot = (c : Config) → AreDistinctFrames (places_of c).names

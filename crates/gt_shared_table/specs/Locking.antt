@@ -61,14 +61,14 @@ abbrev pub WaitsUpwards : Waiting → Type 0
 WaitsUpwards s = (order : List FrameAt) × Ascends order × WaitsIn order s
 
 -- each seat waits for a frame that the next one holds, from the first through the list to the last
-abbrev pub LeadsTo : Waiting → List Waiting → Waiting → Type 0
-LeadsTo first [] last = IsAmong first.wants last.holds
-LeadsTo first (s ∷ seats) last = IsAmong first.wants s.holds × LeadsTo s seats last
+abbrev pub IsWaitingChain : Waiting → List Waiting → Waiting → Type 0
+IsWaitingChain first [] last = IsAmong first.wants last.holds
+IsWaitingChain first (s ∷ seats) last = IsAmong first.wants s.holds × IsWaitingChain s seats last
 
 -- each of the seats waits for a frame that the next one holds, and the last for one that the first holds
 abbrev pub FormRing : List Waiting → Type 0
 FormRing [] = ⊥
-FormRing (s ∷ seats) = LeadsTo s seats s
+FormRing (s ∷ seats) = IsWaitingChain s seats s
 
 -- seats that wait in calls which take their locks upwards never form a ring
 abbrev pub SeatsFormNoRing : Type 0

@@ -18,7 +18,7 @@ use Rattle.gt_word_history.specs.declared.view.Outlook.{Outlook}
 use Rattle.gt_word_history.specs.declared.view.View.{View}
 use Rattle.gt_shared_table.specs.declared.rule.FrameHolder.{FrameHolder}
 use Rattle.gt_shared_table.specs.Bytes.{AreTrueSteps, IsTrueStep, frame_made}
-use Rattle.gt_shared_table.specs.Rule.{Cell, FrameAt, IsNamed, Places, name_of}
+use Rattle.gt_shared_table.specs.Rule.{Cell, FrameAt, IsNamed, Places, slot_frame}
 use Rattle.gt_shared_table.specs.declared.rule.FrameSlot.{FrameSlot}
 use Rattle.gt_frames.specs.declared.writ.Writ.{Writ}
 use Rattle.gt_types.specs.declared.Range.{Range}
@@ -35,7 +35,7 @@ TookAt b a q m m' =
 
 -- the seat took the frame of this slot
 abbrev pub Took : Places → FrameSlot → Me Cell FrameHolder → Me Cell FrameHolder → Type 0
-Took b s m m' = TookAt b (name_of s) s.index m m'
+Took b s m m' = TookAt b (slot_frame s) s.index m m'
 
 -- the frame of the slot was taken, or another seat has it
 abbrev pub Locks : Places → FrameAt → ℕ → Me Cell FrameHolder → ℕ → Me Cell FrameHolder → Type 0
@@ -46,18 +46,18 @@ rest_held [] = []
 rest_held (p ∷ ps) = ps
 
 -- the frames held, without the one taken last, or without the one before that
-abbrev pub left_by : Bool → List (ℕ × FrameState) → List (ℕ × FrameState)
-left_by true held = rest_held held
-left_by false [] = []
-left_by false (p ∷ ps) = p ∷ rest_held ps
+abbrev pub without_taken_frame : Bool → List (ℕ × FrameState) → List (ℕ × FrameState)
+without_taken_frame true held = rest_held held
+without_taken_frame false [] = []
+without_taken_frame false (p ∷ ps) = p ∷ rest_held ps
 
 -- the view after one more step
 abbrev pub outlook_after : StepHistory → SeatStep → Outlook → Outlook
 outlook_after past x o = record o { own = with_step past x o.own }
 
 -- what a seat knows after an access, with these frames left
-abbrev pub holder_after : StepHistory → SeatStep → List (ℕ × FrameState) → FrameHolder → FrameHolder
-holder_after past x hs v = record { own = outlook_after past x v.own; held = hs; locks = v.locks }
+abbrev pub frame_holder_after : StepHistory → SeatStep → List (ℕ × FrameState) → FrameHolder → FrameHolder
+frame_holder_after past x hs v = record { own = outlook_after past x v.own; held = hs; locks = v.locks }
 
 -- these are left of the frames held without the one of this slot, which was taken last or just before the last
 abbrev pub AreLeft : ℕ → FrameState → List (ℕ × FrameState) → List (ℕ × FrameState) → Type 0
@@ -77,7 +77,7 @@ pub record Accesses (k : Layout) (v : View) (past : StepHistory) (x : SeatStep) 
 -- a frame was freed by this access, and these are left
 abbrev pub Frees : Places → FrameAt → FrameStep → List (ℕ × FrameState) → Me Cell FrameHolder → Me Cell FrameHolder → Type 0
 Frees b n m hs me me' =
-    (past : StepHistory) × (me' ≡ (holder_after past (Frame n.0 n.1 m) hs me.0, rest me.1))
+    (past : StepHistory) × (me' ≡ (frame_holder_after past (Frame n.0 n.1 m) hs me.0, rest me.1))
     × Accesses b.layout me.0.own.own past (Frame n.0 n.1 m)
     × ((x : FrameState) (q : ℕ) → IsAmong (q, x) me.0.held → (a : FrameAt) → IsNamed b q a
     → x ≡ frame_made b.layout a.0 a.1 past)
@@ -90,7 +90,7 @@ Returns hs me me' = me' ≡ (record me.0 { held = hs }, rest me.1)
 -- last
 pub record IsOut (k : Layout) (s : FrameSlot) (last : Bool) (x : FrameState) (me : Me Cell FrameHolder) : Type 0 where
   pub carried : me.1 ≡ (s.index, Some x) ∷ rest me.1
-  pub left : AreLeft s.index x me.0.held (left_by last me.0.held)
+  pub left : AreLeft s.index x me.0.held (without_taken_frame last me.0.held)
   pub owner : x.owner ≡ id_at k.ids s.owner
   pub number : x.number ≡ s.number
 
@@ -138,8 +138,8 @@ OnlyLocked locks me me' = me' ≡ (record me.0 { locks = locks }, me.1)
 
 -- the locks of two frames, after these: that of the lower slot was taken first
 abbrev pub both_locks : Bool → FrameSlot → FrameSlot → List FrameAt → List FrameAt
-both_locks true source dest ns = name_of dest ∷ name_of source ∷ ns
-both_locks false source dest ns = name_of source ∷ name_of dest ∷ ns
+both_locks true source dest ns = slot_frame dest ∷ slot_frame source ∷ ns
+both_locks false source dest ns = slot_frame source ∷ slot_frame dest ∷ ns
 
 -- the two frames held, the one taken last first
 abbrev pub both_held : Bool → FrameSlot → FrameState → FrameSlot → FrameState → List (ℕ × FrameState)

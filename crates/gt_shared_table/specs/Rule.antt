@@ -23,8 +23,8 @@ use Rattle.gt_shared_table.specs.Bytes.{AreTrueSteps, frame_made}
 abbrev pub FrameAt : Type 0
 FrameAt = ℕ × ℕ
 
-abbrev pub frame_at : ℕ → ℕ → FrameAt
-frame_at t f = (t, f)
+abbrev pub frame_of_owner : ℕ → ℕ → FrameAt
+frame_of_owner t f = (t, f)
 
 -- the run, and the frame of each slot
 pub record Places : Type 0 where
@@ -56,12 +56,12 @@ abbrev pub IsNamed : Places → ℕ → FrameAt → Type 0
 IsNamed b q n = get_elem? b.names q ≡ some n
 
 -- the frame of a slot
-abbrev pub name_of : FrameSlot → FrameAt
-name_of s = (s.owner, s.number)
+abbrev pub slot_frame : FrameSlot → FrameAt
+slot_frame s = (s.owner, s.number)
 
 -- a slot of the table: its lock is at its index, and it has the frame of this name
 abbrev pub IsSlotOf : Places → TableId → FrameSlot → Type 0
-IsSlotOf b z s = (s.lock ≡ lock_place b s.index) × (s.lock < z.words) × IsNamed b s.index (name_of s)
+IsSlotOf b z s = (s.lock ≡ lock_place b s.index) × (s.lock < z.words) × IsNamed b s.index (slot_frame s)
 
 -- the frame that a history makes
 abbrev pub made : Places → StepHistory → FrameAt → FrameState
@@ -117,7 +117,7 @@ newcomer o = record { own = o; held = []; locks = [] }
 -- the frames of these domains, of which the first is at this position
 abbrev pub names_from : ℕ → List DomainConfig → List FrameAt
 names_from t [] = []
-names_from t (d ∷ ds) = map (frame_at t) (range_with_len 0 d.frames) ++ names_from (t + 1) ds
+names_from t (d ∷ ds) = map (frame_of_owner t) (range_with_len 0 d.frames) ++ names_from (t + 1) ds
 
 -- the run of a configuration, with its frames
 abbrev pub places_of : Config → Places

@@ -52,8 +52,8 @@ first_slots at [] = []
 first_slots at (d ∷ ds) = at ∷ first_slots (at + d.frames) ds
 
 -- the table has the words and locks of this run, and then this number of flags
-abbrev pub HasRoom : TableId → Places → ℕ → Type 0
-HasRoom z b flags =
+abbrev pub HasWordsAndFlags : TableId → Places → ℕ → Type 0
+HasWordsAndFlags z b flags =
     (flag_place b 0 ≤ z.words) × (z.words ≡ flag_place b 0 + flags) × (flags < 2 ^ 32)
     × (b.layout.domains ≤ MAX_DOMAINS)
 

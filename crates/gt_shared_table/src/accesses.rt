@@ -9,9 +9,9 @@ ghost use Rattle.gt_word_history.specs.Rule.{layout_of, id_at};
 ghost use Rattle.gt_word_history.specs.Views.{IsAmong};
 ghost use Rattle.gt_word_history.specs.declared.view.FrameStep.TheVariants as access;
 ghost use Rattle.gt_shared_table.specs.Accesses.{IsReadIn, copied_in, written_in};
-ghost use Rattle.gt_shared_table.specs.Rule.{HoldsAll, IsNamed, IsSlotOf, name_of, places_of};
+ghost use Rattle.gt_shared_table.specs.Rule.{HoldsAll, IsNamed, IsSlotOf, slot_frame, places_of};
 ghost use Rattle.gt_shared_table.specs.Recording.{CopiedBy, Frees, HasBoth, IsOut, OnlyLocked, Returns, both_locks};
-ghost use Rattle.gt_shared_table.specs.Recording.{left_by};
+ghost use Rattle.gt_shared_table.specs.Recording.{without_taken_frame};
 
 use crate::locks::{free_lock, lock, return_lock};
 use crate::rule::{CellSeat, Cells, FrameSlot, OfAccess};
@@ -136,10 +136,10 @@ pub(crate) fn read_out(
     requires out { (x : FrameState) × IsOut (layout_of cells.now.key) slot true x seat.old.me }
     requires range { off + length out.old ≤ FRAME_SIZE }
     ensures seat { (seat.new.table_id ≡ seat.old.table_id) × (seat.new.id ≡ seat.old.id) }
-    ensures read { Frees (places_of cells.now.key) (name_of slot) (access.Read off result.bytes)
-        (left_by true seat.old.me.0.held) seat.old.me seat.new.me }
+    ensures read { Frees (places_of cells.now.key) (slot_frame slot) (access.Read off result.bytes)
+        (without_taken_frame true seat.old.me.0.held) seat.old.me seat.new.me }
     ensures filled { (out.new ≡ result.bytes) × (length result.bytes ≡ length out.old) }
-    ensures receipt { IsReadIn (layout_of cells.now.key) (name_of slot) off result }
+    ensures receipt { IsReadIn (layout_of cells.now.key) (slot_frame slot) off result }
 {
     let filled = match seat.slot_mut(cells, slot.index) {
         Some(frame) => frame.read_into(off, out),
@@ -164,12 +164,12 @@ pub(crate) fn write_out<'a>(
     requires right { IsTrue (covers write.writ.now (id_at (layout_of cells.now.key).ids slot.owner) slot.number
         write.off (length write.bytes.now)) }
     ensures seat { (seat.new.table_id ≡ seat.old.table_id) × (seat.new.id ≡ seat.old.id) }
-    ensures wrote { OnOk result (Frees (places_of cells.now.key) (name_of slot)
+    ensures wrote { OnOk result (Frees (places_of cells.now.key) (slot_frame slot)
         (access.Wrote (record { writ = write.entry.writ.now; off = write.entry.off; bytes = write.entry.bytes.now }))
-        (left_by true seat.old.me.0.held) seat.old.me seat.new.me) }
-    ensures receipt { IfOk result (λ r. r ≡ written_in (layout_of cells.now.key) (name_of slot)
+        (without_taken_frame true seat.old.me.0.held) seat.old.me seat.new.me) }
+    ensures receipt { IfOk result (λ r. r ≡ written_in (layout_of cells.now.key) (slot_frame slot)
         write.entry.writ.now write.entry.off write.entry.bytes.now) }
-    ensures refused { OnErr result (Returns (left_by true seat.old.me.0.held) seat.old.me seat.new.me) }
+    ensures refused { OnErr result (Returns (without_taken_frame true seat.old.me.0.held) seat.old.me seat.new.me) }
 {
     let written = match seat.slot_mut(cells, slot.index) {
         Some(frame) => frame.write(write.writ, write.off, write.bytes),
@@ -203,7 +203,7 @@ fn copy_out(
     requires out { (x : FrameState) × IsOut (layout_of cells.now.key) slot
         (nat_lt source.index slot.index) x seat.old.me }
     requires source { IsAmong (source.index, from.now) seat.old.me.0.held
-        × IsNamed (places_of cells.now.key) source.index (name_of source) }
+        × IsNamed (places_of cells.now.key) source.index (slot_frame source) }
     requires named { (from.now.owner ≡ id_at (layout_of cells.now.key).ids source.owner)
         × (from.now.number ≡ source.number) }
     requires ranges { (copy.range.off + copy.range.len ≤ FRAME_SIZE)
@@ -211,16 +211,16 @@ fn copy_out(
     requires right { IsTrue (covers copy.writ.now (id_at (layout_of cells.now.key).ids slot.owner) slot.number
         copy.to_off copy.range.len) }
     ensures seat { (seat.new.table_id ≡ seat.old.table_id) × (seat.new.id ≡ seat.old.id) }
-    ensures copied { OnOk result (Frees (places_of cells.now.key) (name_of slot)
+    ensures copied { OnOk result (Frees (places_of cells.now.key) (slot_frame slot)
         (access.Copied source.owner source.number copy.entry.range.off (record {
           writ = copy.entry.writ.now;
           off = copy.entry.to_off;
           bytes = bytes_at from.now copy.entry.range.off copy.entry.range.len;
         }))
-        (left_by (nat_lt source.index slot.index) seat.old.me.0.held) seat.old.me seat.new.me) }
-    ensures receipt { IfOk result (λ r. r ≡ copied_in (layout_of cells.now.key) (name_of source) (name_of slot)
+        (without_taken_frame (nat_lt source.index slot.index) seat.old.me.0.held) seat.old.me seat.new.me) }
+    ensures receipt { IfOk result (λ r. r ≡ copied_in (layout_of cells.now.key) (slot_frame source) (slot_frame slot)
         copy.entry.writ.now copy.entry.range copy.entry.to_off) }
-    ensures refused { OnErr result (Returns (left_by (nat_lt source.index slot.index) seat.old.me.0.held)
+    ensures refused { OnErr result (Returns (without_taken_frame (nat_lt source.index slot.index) seat.old.me.0.held)
         seat.old.me seat.new.me) }
 {
     let _owner = from.owner();
@@ -306,10 +306,10 @@ pub(crate) fn copy<R: Wait>(
     requires right { IsTrue (covers copy.writ.now (id_at (layout_of cells.now.key).ids dest.owner) dest.number
         copy.to_off copy.range.len) }
     ensures seat { (seat.new.table_id ≡ seat.old.table_id) × (seat.new.id ≡ seat.old.id) }
-    ensures copied { OnOk result (CopiedBy (layout_of cells.now.key) (name_of source) (name_of dest) copy.entry.writ.now
-        copy.entry.range copy.entry.to_off
+    ensures copied { OnOk result (CopiedBy (layout_of cells.now.key) (slot_frame source) (slot_frame dest)
+        copy.entry.writ.now copy.entry.range copy.entry.to_off
         (both_locks (nat_lt source.index dest.index) source dest seat.old.me.0.locks) seat.old.me seat.new.me) }
-    ensures receipt { IfOk result (λ r. r ≡ copied_in (layout_of cells.now.key) (name_of source) (name_of dest)
+    ensures receipt { IfOk result (λ r. r ≡ copied_in (layout_of cells.now.key) (slot_frame source) (slot_frame dest)
         copy.entry.writ.now copy.entry.range copy.entry.to_off) }
     ensures refused { OnErr result (OnlyLocked
         (both_locks (nat_lt source.index dest.index) source dest seat.old.me.0.locks) seat.old.me seat.new.me) }
@@ -356,11 +356,12 @@ pub(crate) fn copy_within<R: Wait>(
     requires right { IsTrue (covers copy.writ.now (id_at (layout_of cells.now.key).ids slot.owner) slot.number
         copy.to_off copy.range.len) }
     ensures seat { (seat.new.table_id ≡ seat.old.table_id) × (seat.new.id ≡ seat.old.id) }
-    ensures copied { OnOk result (CopiedBy (layout_of cells.now.key) (name_of slot) (name_of slot) copy.entry.writ.now
-        copy.entry.range copy.entry.to_off (name_of slot ∷ seat.old.me.0.locks) seat.old.me seat.new.me) }
-    ensures receipt { IfOk result (λ r. r ≡ copied_in (layout_of cells.now.key) (name_of slot) (name_of slot)
+    ensures copied { OnOk result (CopiedBy (layout_of cells.now.key) (slot_frame slot) (slot_frame slot)
+        copy.entry.writ.now
+        copy.entry.range copy.entry.to_off (slot_frame slot ∷ seat.old.me.0.locks) seat.old.me seat.new.me) }
+    ensures receipt { IfOk result (λ r. r ≡ copied_in (layout_of cells.now.key) (slot_frame slot) (slot_frame slot)
         copy.entry.writ.now copy.entry.range copy.entry.to_off) }
-    ensures refused { OnErr result (OnlyLocked (name_of slot ∷ seat.old.me.0.locks) seat.old.me seat.new.me) }
+    ensures refused { OnErr result (OnlyLocked (slot_frame slot ∷ seat.old.me.0.locks) seat.old.me seat.new.me) }
 {
     lock(rt, cells, seat, slot);
     let copied = match seat.slot_mut(cells, slot.index) {

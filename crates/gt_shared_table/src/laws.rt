@@ -2,7 +2,7 @@
 ghost use Rattle.gt_shared_table.specs.Laws.{AccessesGoOn, FramesAreTaken, FramesComeBack, FramesStay};
 ghost use Rattle.gt_shared_table.specs.Laws.{FramesAreAwaited, FramesAreFreed, FramesAreLocked, FramesAreReturned};
 ghost use Rattle.gt_shared_table.specs.Laws.{FramesHaveOneSlot};
-ghost use Rattle.gt_shared_table.specs.Laws.{FlagsArePassed, FlagsAreRaised, FramesOpen, WordsAreStepped};
+ghost use Rattle.gt_shared_table.specs.Laws.{FlagsArePassed, FlagsMayBeRaised, FramesOpen, WordsAreStepped};
 ghost use Rattle.gt_shared_table.specs.Locking.{CopiesLockUpwards, SeatsFormNoRing, SlotsAreInOrder};
 ghost use Rattle.gt_shared_table.specs.Seats.{SeatsAreDealt, SeatsAreTakenIn};
 
@@ -25,7 +25,7 @@ pub fn every_step_is_allowed()
     ensures awaits { FramesAreAwaited }
     ensures frees { FramesAreFreed }
     ensures returned { FramesAreReturned }
-    ensures raises { FlagsAreRaised }
+    ensures raises { FlagsMayBeRaised }
     ensures passes { FlagsArePassed }
 {}
 

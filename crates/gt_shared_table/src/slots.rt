@@ -1,6 +1,6 @@
 //! The slots of the frames, in the order of their domains.
 ghost use Rattle.std.specs.Prelude.{◌≡◌, ◌≤◌, ◌<◌, length, map, slice_index, IfOk, Some};
-ghost use Rattle.gt_shared_table.specs.Rule.{IsSlotOf, flag_place, name_of, places_of};
+ghost use Rattle.gt_shared_table.specs.Rule.{IsSlotOf, flag_place, slot_frame, places_of};
 ghost use Rattle.gt_shared_table.specs.Words.{HasTable, first_slots, frames_kept, named_at};
 
 use crate::rule::{Cells, FrameSlot};
@@ -20,7 +20,7 @@ pub(crate) fn slot_at(cells: &Cells, firsts: &[usize], frame: FrameIndex) -> Fra
     requires inside { (frame.position < length cells.now.key.domains.items)
         × (frame.number < slice_index (frames_kept cells.now.key) frame.position) }
     ensures slot { IsSlotOf (places_of cells.now.key) cells.now.table_id result }
-    ensures name { name_of result ≡ named_at frame }
+    ensures name { slot_frame result ≡ named_at frame }
 {
     let index = firsts[frame.position] + frame.number as usize;
     FrameSlot {

@@ -6,7 +6,7 @@ ghost use Rattle.gt_word_history.specs.Rule.{header_place, layout_of, place};
 ghost use Rattle.gt_word_history.specs.Steps.{exchanging, half_index, looking, looking_at_header, reading, storing};
 ghost use Rattle.gt_word_history.specs.Steps.{storing_header, unpinning};
 ghost use Rattle.gt_shared_table.specs.Rule.{flag_place, places_of};
-ghost use Rattle.gt_shared_table.specs.Words.{HasRoom, HasTable, IsAlone, first_slots, frames_kept};
+ghost use Rattle.gt_shared_table.specs.Words.{HasWordsAndFlags, HasTable, IsAlone, first_slots, frames_kept};
 
 use crate::raw::{
     exchange_word, load_body_word, load_control_word, load_header_word, store_body_word,
@@ -45,7 +45,7 @@ impl Model for SharedTable {
       flags = w.flags;
     } };
 
-    ghost invariant = { λ w. HasRoom w.table.shared.table_id (places_of w.table.shared.key) w.flags
+    ghost invariant = { λ w. HasWordsAndFlags w.table.shared.table_id (places_of w.table.shared.key) w.flags
         × (w.first_flag ≡ flag_place (places_of w.table.shared.key) 0)
         × HasTable w.table.shared.key × (w.firsts.items ≡ first_slots 0 w.table.shared.key.domains.items)
         × (w.frames.items ≡ frames_kept w.table.shared.key) };

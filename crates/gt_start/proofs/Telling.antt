@@ -10,7 +10,8 @@ use Rattle.gt_policy.specs.Allowing.{Allowed, Meaning}
 use Rattle.gt_policy.specs.Kept.{KeptPolicy, PolicyShows}
 use Rattle.gt_policy.specs.Whole.{ReadsAs}
 use Rattle.gt_policy.specs.declared.fault.TokenFault.{TokenFault}
-use Rattle.gt_start.specs.Beginning.{AreLabelled, AreTypes, IsFaultOf, IsLabelFault, IsPolicy, IsSetBy, IsTextFault}
+use Rattle.gt_start.specs.Beginning.{AreLabelled, AreTypes, IsFaultOf, IsLabelFault, IsPolicyMeaning, IsSetBy}
+use Rattle.gt_start.specs.Beginning.{IsTextFault}
 use Rattle.gt_start.specs.Faults.{encoded_config, encoded_policy}
 use Rattle.gt_start.specs.declared.faults.EncodedFault.{EncodedFault}
 use Rattle.gt_start.specs.declared.settings.DomainSettings.{DomainSettings}
@@ -40,7 +41,7 @@ of-types settings p m types shows count are = subst (λ (n : ℕ). AreTypes n se
 
 -- the fault of a label is one of the settings
 pub of-label : (settings : List DomainSettings) (first_gen : ℕ) (text : List ℕ) (p : KeptPolicy) (m : Meaning) (types : ℕ) (fault : EncodedFault)
-    → IsPolicy text m → PolicyShows p m → types ≡ length p.types → IsLabelFault types settings fault
+    → IsPolicyMeaning text m → PolicyShows p m → types ≡ length p.types → IsLabelFault types settings fault
     → IsFaultOf settings first_gen text fault
 of-label settings first_gen text p m types fault is shows count past =
     inr (inl (m, is, subst (λ (n : ℕ). IsLabelFault n settings fault) (count ∙ same-count p m shows) past))

@@ -46,8 +46,8 @@ abbrev pub AreTypes : ℕ → List DomainSettings → Type 0
 AreTypes types settings = position (is_past types) settings ≡ None
 
 -- the text is UTF-8, and a policy with this meaning
-abbrev pub IsPolicy : List ℕ → Meaning → Type 0
-IsPolicy text m = IsUtf8 text × ReadsAs text (Ok m)
+abbrev pub IsPolicyMeaning : List ℕ → Meaning → Type 0
+IsPolicyMeaning text m = IsUtf8 text × ReadsAs text (Ok m)
 
 -- a run started with these settings under this text: the attached domains are those of a new run of the settings'
 -- domains, whose labels are types of the policy, and whose rights are those of the text
@@ -56,7 +56,7 @@ pub record Begins (settings : List DomainSettings) (first_gen : ℕ) (text : Lis
   pub config : Config
   pub set : IsSetBy settings first_gen config
   pub meaning : Meaning
-  pub reads : IsPolicy text meaning
+  pub reads : IsPolicyMeaning text meaning
   pub labels : AreTypes (length meaning.types) settings
   pub rights : Table
   pub allows : looks_up rights ≡ is_allowed meaning
@@ -77,11 +77,11 @@ IsLabelFault types settings fault =
 
 -- the text is a policy, and the fault is that of the first label that is not one of its types
 abbrev pub IsUnlabelled : List DomainSettings → List ℕ → EncodedFault → Type 0
-IsUnlabelled settings text fault = (m : Meaning) × IsPolicy text m × IsLabelFault (length m.types) settings fault
+IsUnlabelled settings text fault = (m : Meaning) × IsPolicyMeaning text m × IsLabelFault (length m.types) settings fault
 
 -- the text is a policy, and each label is one of its types
 abbrev pub AreLabelled : List DomainSettings → List ℕ → Type 0
-AreLabelled settings text = (m : Meaning) × IsPolicy text m × AreTypes (length m.types) settings
+AreLabelled settings text = (m : Meaning) × IsPolicyMeaning text m × AreTypes (length m.types) settings
 
 -- the fault is the first one of the configuration with these settings, where no number of frames is too large
 abbrev pub IsLimitFault : List DomainSettings → ℕ → EncodedFault → Type 0
@@ -101,4 +101,4 @@ IsFaultOf settings first_gen text fault =
 abbrev pub IsNameFault : List ℕ → List ℕ → EncodedFault → Type 0
 IsNameFault text name fault =
     IsTextFault text fault
-    ⊎ ((m : Meaning) × IsPolicy text m × (type_named m.types name ≡ None) × (fault ≡ no_type))
+    ⊎ ((m : Meaning) × IsPolicyMeaning text m × (type_named m.types name ≡ None) × (fault ≡ no_type))

@@ -2,7 +2,7 @@
 ghost use Rattle.std.specs.Prelude.{◌≡◌, length, IfOk, IfErr, Some};
 ghost use Rattle.gt_policy.specs.Allowing.{Meaning, type_named};
 ghost use Rattle.gt_policy.specs.Kept.{PolicyShows};
-ghost use Rattle.gt_start.specs.Beginning.{Begins, IsFaultOf, IsNameFault, IsPolicy, IsTextFault};
+ghost use Rattle.gt_start.specs.Beginning.{Begins, IsFaultOf, IsNameFault, IsPolicyMeaning, IsTextFault};
 
 use crate::faults::{EncodedFault, MEMORY, NO_TYPE, TEXT, config_fault, policy_fault};
 use crate::settings::{DomainSettings, configured, label_past};
@@ -14,7 +14,7 @@ use std::alloc::Global;
 
 // Parses the text of a policy.
 fn policy_of(alloc: Global, text: &[u8]) -> Result<Policy, EncodedFault>
-    ensures policy { IfOk result (λ policy. (m : Meaning) × IsPolicy text.now m × PolicyShows policy m) }
+    ensures policy { IfOk result (λ policy. (m : Meaning) × IsPolicyMeaning text.now m × PolicyShows policy m) }
     ensures fault { IfErr result (IsTextFault text.now) }
 {
     let Ok(text) = str::from_utf8(text) else {
@@ -67,7 +67,7 @@ pub fn begin(
 /// The first fault of the text; or that it declares no type of this name; or `memory`.
 pub fn type_of(alloc: Global, policy: &[u8], name: &[u8]) -> Result<TypeId, EncodedFault>
     ensures named { IfOk result (λ id.
-        (m : Meaning) × IsPolicy policy.now m × (type_named m.types name.now ≡ Some id)) }
+        (m : Meaning) × IsPolicyMeaning policy.now m × (type_named m.types name.now ≡ Some id)) }
     ensures fault { IfErr result (IsNameFault policy.now name.now) }
 {
     let policy = match policy_of(alloc, policy) {

@@ -13,7 +13,7 @@ use Rattle.gt_word_history.specs.Places.{Board}
 use Rattle.std.proofs.lemmas.List.{length-map}
 use Rattle.gt_types.specs.declared.DomId.{DomId}
 use Rattle.gt_words.specs.Laws.{domain_at}
-use Rattle.gt_words.specs.Conditions.{IsOfRun, position_at}
+use Rattle.gt_words.specs.Conditions.{IsLayoutWithinLimits, position_at}
 use Rattle.gt_words.specs.Frames.{KeepsFrame}
 use Rattle.gt_shared_table.specs.Words.{HasTable, frames_kept}
 use Rattle.gt_words.specs.Frameless.{IsFrameless, frameless}
@@ -61,7 +61,7 @@ keeps_none c e less (Ok r) same = λ (name : FrameName) (there : KeepsFrame r.0 
 keeps_none c e less (Err x) same = same
 
 -- a domain whose position is one of the run is the one there
-pub named_there : (k : Layout) (d : DomId) → IsOfRun k → position_in k.ids d < k.domains → id_at k.ids (position_in k.ids d) ≡ d
+pub named_there : (k : Layout) (d : DomId) → IsLayoutWithinLimits k → position_in k.ids d < k.domains → id_at k.ids (position_in k.ids d) ≡ d
 named_there k d is inside = domain_at k d (let c = is.0 in let e : length k.ids ≡ k.domains = ap (λ (j : Layout). length j.ids) is.2 ∙ (length-map c.domains.items (λ (x : DomainConfig). x.id) ∙ sym (ap (λ (j : Layout). j.domains) is.2)) in omega arith)
 
 -- the table of a configuration within the limits

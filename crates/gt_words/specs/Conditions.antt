@@ -30,8 +30,8 @@ pub record IsSeatOf (b : Board) (s : SeatOf) : Type 0 where
   pub ids : s.view.ids ≡ b.layout.ids
 
 -- the run has a configuration within the limits
-abbrev pub IsOfRun : Layout → Type 0
-IsOfRun k = (c : Config) × IsWithinLimits c × (k ≡ layout_of c)
+abbrev pub IsLayoutWithinLimits : Layout → Type 0
+IsLayoutWithinLimits k = (c : Config) × IsWithinLimits c × (k ≡ layout_of c)
 
 -- the position of the domain in the run
 abbrev pub position_at : Board → DomId → ℕ

@@ -49,13 +49,13 @@ CopiesAt k a b w range to_off u v =
     × AccessesFrame k b.0 b.1 (Copied a.0 a.1 range.off (record { writ = w; off = to_off; bytes = bytes })) u v
 
 -- the frame of this name, by the position of its owner
-abbrev pub frame_at : Layout → FrameName → FrameAt
-frame_at k name = (position_in k.ids name.owner, name.number)
+abbrev pub frame_in : Layout → FrameName → FrameAt
+frame_in k name = (position_in k.ids name.owner, name.number)
 
 -- the seat copied len bytes from one place to the other by this writ, as one step
 abbrev pub CopiesFrames : Layout → Spot → Spot → ℕ → Writ → View → View → Type 0
 CopiesFrames k from to len w u v =
-    CopiesAt k (frame_at k from.frame) (frame_at k to.frame) w (record { off = from.off; len = len }) to.off u v
+    CopiesAt k (frame_in k from.frame) (frame_in k to.frame) w (record { off = from.off; len = len }) to.off u v
 
 -- the receipt of a read of this many bytes of the frame, starting at off
 pub record IsReadOf (r : Reading) (name : FrameName) (off len : ℕ) : Type 0 where

@@ -198,12 +198,12 @@ found_at xs d None is inside = absurd (omega arith)
 found_at xs d (Some i) is inside =
     let passes = (position-Some (λ (x : DomId). x.0 == d.0) xs i (record { 0 = 0 }) is).1 in grind (arith, nat_tests)
 
-abbrev numbered : ℕ → DomId
-numbered n = record { 0 = n }
+abbrev domain_numbered : ℕ → DomId
+domain_numbered n = record { 0 = n }
 
 -- a domain of the run is at its position
 pub domain_at : DomainsStandThere
-domain_at k d inside = ap numbered (found_at k.ids d (position (λ (x : DomId). x.0 == d.0) k.ids) refl inside)
+domain_at k d inside = ap domain_numbered (found_at k.ids d (position (λ (x : DomId). x.0 == d.0) k.ids) refl inside)
 
 id_of : DomainConfig → DomId
 id_of x = x.id

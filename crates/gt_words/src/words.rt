@@ -7,7 +7,7 @@ ghost use Rattle.gt_model.specs.Entries.{IsEntry};
 ghost use Rattle.gt_word_history.specs.Controls.{generation_of};
 ghost use Rattle.gt_word_history.specs.Views.{own_header, own_table, last_of};
 ghost use Rattle.gt_word_history.specs.Rule.{layout_of, position_in, IsKeptHeader};
-ghost use Rattle.gt_words.specs.Conditions.{Board, SeatOf, IsOfRun, IsSeatOf, IsSameSeat, HasDomain};
+ghost use Rattle.gt_words.specs.Conditions.{Board, SeatOf, IsLayoutWithinLimits, IsSeatOf, IsSameSeat, HasDomain};
 ghost use Rattle.gt_words.specs.Answers.{IsNewSeat, IsStartFault};
 ghost use Rattle.gt_shared_table.specs.Words.{frames_kept};
 ghost use Rattle.gt_types.specs.declared.places.FrameName.{FrameName};
@@ -93,7 +93,7 @@ impl Model for Words {
 
     ghost view = { λ w. w.words };
 
-    ghost invariant = { λ w. (w.ids ≡ w.words.layout.ids) × IsOfRun w.words.layout };
+    ghost invariant = { λ w. (w.ids ≡ w.words.layout.ids) × IsLayoutWithinLimits w.words.layout };
 }
 
 /// A pin that a seat holds: its entry, the control word before the pin was added, and its kind.

@@ -3,7 +3,7 @@ ghost use Rattle.std.specs.Prelude.{◌≡◌, ◌≢◌, ◌+◌, ◌<◌, [], 
 ghost use Rattle.gt_word_history.specs.Views.{last_of, last_seen, record_seen};
 ghost use Rattle.gt_word_history.specs.Rule.{layout_of};
 ghost use Rattle.test_words.specs.Pinned.{IsPinned};
-ghost use Rattle.test_words.specs.Rows.{HasRow, HasRowStill, IsRowOf};
+ghost use Rattle.test_words.specs.Rows.{HasRow, HasRowStill, IsOnlyEntry};
 ghost use Rattle.gt_words.specs.Conditions.{KeepsPins, IsSeatOf, IsSameSeat, HasLooked, HasDomain, IsEntryOf};
 ghost use Rattle.gt_words.specs.Conditions.{position_at};
 
@@ -181,7 +181,7 @@ pub(crate) fn revoke_pinned(
     requires owner { IsSeatOf words.now owner.old }
     requires other { IsSeatOf words.now other.old }
     requires entry { IsEntryOf words.now owner.old.dom ENTRY }
-    requires row { IsRowOf row.old.generation row.old.entry owner.old.view }
+    requires row { IsOnlyEntry row.old.generation row.old.entry owner.old.view }
     ensures owner { HasRowStill owner.old owner.new row.new.generation row.new.entry }
     ensures other { IsSameSeat other.old other.new }
 {
@@ -204,7 +204,7 @@ fn withdraw_and_grant(
 ) -> (u64, Result<(), u64>)
     requires owner { IsSeatOf words.now owner.old }
     requires entry { IsEntryOf words.now owner.old.dom ENTRY }
-    requires row { IsRowOf row.old.generation row.old.entry owner.old.view }
+    requires row { IsOnlyEntry row.old.generation row.old.entry owner.old.view }
     requires given { entry ≢ Entry.Invalid }
     ensures owner { HasRowStill owner.old owner.new row.new.generation row.new.entry }
 {
@@ -227,7 +227,7 @@ pub(crate) fn withdraw_pinned(
     requires owner { IsSeatOf words.now owner.old }
     requires other { IsSeatOf words.now other.old }
     requires entry { IsEntryOf words.now owner.old.dom ENTRY }
-    requires row { IsRowOf row.old.generation row.old.entry owner.old.view }
+    requires row { IsOnlyEntry row.old.generation row.old.entry owner.old.view }
     requires given { entry ≢ Entry.Invalid }
     ensures owner { HasRowStill owner.old owner.new row.new.generation row.new.entry }
     ensures other { IsSameSeat other.old other.new }

@@ -1,6 +1,6 @@
 //! Worked runs of two domains, and what each of them saw.
 ghost use Rattle.gt_words.specs.Conditions.{HasDomain, IsSeatOf};
-ghost use Rattle.test_words.specs.Rows.{IsBegun};
+ghost use Rattle.test_words.specs.Rows.{BeginsWorkedRun};
 
 use crate::calls::{
     ENTRY, Row, look, page, pin_twice, publish, revoke, revoke_pinned, try_pin, turn,
@@ -86,7 +86,7 @@ fn of_try(answer: Option<Result<(), u64>>) -> Sign {
 }
 
 fn anew(words: &Words, owner: &mut Seat, other: &mut Seat, row: &mut Row) -> Signs
-    requires { IsBegun words.now owner.old other.old row.old.generation row.old.entry }
+    requires { BeginsWorkedRun words.now owner.old other.old row.old.generation row.old.entry }
 {
     let sight = look(words, other, OWNER, ENTRY);
     let _ = revoke(words, owner, row);
@@ -97,7 +97,7 @@ fn anew(words: &Words, owner: &mut Seat, other: &mut Seat, row: &mut Row) -> Sig
 }
 
 fn pinned(words: &Words, owner: &mut Seat, other: &mut Seat, row: &mut Row) -> Signs
-    requires { IsBegun words.now owner.old other.old row.old.generation row.old.entry }
+    requires { BeginsWorkedRun words.now owner.old other.old row.old.generation row.old.entry }
 {
     let read = revoke_pinned(words, owner, other, row, Dir::Read);
     let write = revoke_pinned(words, owner, other, row, Dir::Write);
@@ -114,7 +114,7 @@ fn pinned(words: &Words, owner: &mut Seat, other: &mut Seat, row: &mut Row) -> S
 }
 
 fn withdrawn(words: &Words, owner: &mut Seat, other: &mut Seat, row: &mut Row) -> Signs
-    requires { IsBegun words.now owner.old other.old row.old.generation row.old.entry }
+    requires { BeginsWorkedRun words.now owner.old other.old row.old.generation row.old.entry }
 {
     let done = withdraw_pinned(words, owner, other, row, page(6));
     let word = words.load_control(owner, OWNER, ENTRY);
@@ -143,7 +143,7 @@ fn twice(words: &Words, owner: &mut Seat, other: &mut Seat) -> Signs
 }
 
 fn turned(words: &Words, owner: &mut Seat, other: &mut Seat, row: &mut Row) -> Signs
-    requires { IsBegun words.now owner.old other.old row.old.generation row.old.entry }
+    requires { BeginsWorkedRun words.now owner.old other.old row.old.generation row.old.entry }
 {
     let demoted = turn(words, owner, row, true);
     let read_only = look(words, other, OWNER, ENTRY).word;
@@ -169,7 +169,7 @@ pub(crate) fn seen(
     other: &mut Seat,
     row: &mut Row,
 ) -> Signs
-    requires { IsBegun words.now owner.old other.old row.old.generation row.old.entry }
+    requires { BeginsWorkedRun words.now owner.old other.old row.old.generation row.old.entry }
 {
     match case {
         Case::Anew => anew(words, owner, other, row),

@@ -1,7 +1,7 @@
 //! The answers of calls.
 ghost use Rattle.std.specs.Prelude.{◌≡◌, ◌++◌, OnOk};
 ghost use Rattle.std.specs.Option.{option_map};
-ghost use Rattle.gt_explore_answers.specs.Lines.{answer_member, answer_of, answer_part};
+ghost use Rattle.gt_explore_answers.specs.Lines.{answer_member, answer_of_move, answer_part};
 
 use gt_core::Answer;
 use gt_explore_replay::Moved;
@@ -13,7 +13,7 @@ use std::alloc::{AllocError, Global};
 
 /// Returns the answer of the call that ended by a move, if one did.
 pub fn answer_of(moved: &Moved) -> Option<&Answer>
-    ensures { option_map (λ a. a.now) result ≡ answer_of moved.now }
+    ensures { option_map (λ a. a.now) result ≡ answer_of_move moved.now }
 {
     match moved {
         Moved::Raised | Moved::Passed => None,

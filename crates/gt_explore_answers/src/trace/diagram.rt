@@ -1,7 +1,7 @@
 //! Sequence diagrams of mermaid.
 ghost use Rattle.std.specs.Prelude.{◌≡◌, ◌++◌, OnOk};
 ghost use Rattle.std.specs.List.{flat_map};
-ghost use Rattle.gt_explore_answers.specs.Diagram.{arrow_text, message_text, note_text, one_participant, owner_of};
+ghost use Rattle.gt_explore_answers.specs.Diagram.{arrow_text, message_text, diagram_note, one_participant, owner_of};
 ghost use Rattle.gt_explore_answers.specs.Diagram.{participant_kind, participant_name};
 ghost use Rattle.gt_explore_answers.specs.Diagram.{participant_text, participants_text};
 
@@ -26,9 +26,9 @@ fn owner_of(dom: DomId, step: Step) -> DomId
 }
 
 /// Appends the beginning of a note over a domain.
-#[tactic(auto, unfolding(crate::specs::Diagram::note_text))]
+#[tactic(auto, unfolding(crate::specs::Diagram::diagram_note))]
 pub fn push_note(out: &mut Vec<u8>, dom: DomId) -> Result<(), AllocError>
-    ensures { OnOk result (out.new.items ≡ out.old.items ++ note_text dom) }
+    ensures { OnOk result (out.new.items ≡ out.old.items ++ diagram_note dom) }
 {
     push_text(out, "    Note over D")?;
     push_number(out, dom.0)?;

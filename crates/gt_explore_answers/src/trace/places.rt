@@ -2,7 +2,7 @@
 ghost use Rattle.std.specs.Prelude.{◌≡◌, IfOk, count_by};
 ghost use Rattle.std.specs.Option.{option_map};
 ghost use Rattle.gt_script.specs.RunContents.{run_contents};
-ghost use Rattle.gt_explore_answers.specs.Places.{begins_own, index_after, is_beginning, task_of};
+ghost use Rattle.gt_explore_answers.specs.Places.{begins_own, index_after, is_beginning, task_of_move};
 
 use crate::trace::moves::TracedMove;
 use gt_explore_replay::Moved;
@@ -56,7 +56,7 @@ pub fn task_of<'s, 'a>(
     traced: &TracedMove,
 ) -> Result<Option<&'s RunTask<'a>>, AllocError>
     ensures { IfOk result (λ t. option_map (λ u. u.now) t
-        ≡ task_of (run_contents script.entry.now) before.now traced.now) }
+        ≡ task_of_move (run_contents script.entry.now) before.now traced.now) }
 {
     let list = script.list_of(alloc, traced.dom)?;
     let index = index_after(begun_by(traced.dom, before), &traced.moved);

@@ -1,6 +1,6 @@
 //! The facts of a step of a call, and of what it saw.
 ghost use Rattle.std.specs.Prelude.{◌≡◌, ◌++◌, OnOk, codes};
-ghost use Rattle.gt_explore_answers.specs.Steps.{access_start, change_name, copy_text, dir_name, entry_part};
+ghost use Rattle.gt_explore_answers.specs.Steps.{access_start, change_name, copy_step_text, dir_name, entry_part};
 ghost use Rattle.gt_explore_answers.specs.Steps.{exchange_text, from_part, header_text, look_letters, look_text};
 ghost use Rattle.gt_explore_answers.specs.Steps.{pin_text, range_part, seen_part};
 ghost use Rattle.gt_explore_answers.specs.Steps.{step_text, store_letters, taken_part, to_part};
@@ -177,7 +177,7 @@ fn push_header(
 }
 
 // Appends a copy of bytes.
-#[tactic(auto, unfolding(crate::specs::Steps::copy_text))]
+#[tactic(auto, unfolding(crate::specs::Steps::copy_step_text))]
 fn push_copy(
     out: &mut Vec<u8>,
     form: TraceForm,
@@ -185,7 +185,7 @@ fn push_copy(
     to: Spot,
     len: u16,
 ) -> Result<(), AllocError>
-    ensures { OnOk result (out.new.items ≡ out.old.items ++ copy_text form from to len) }
+    ensures { OnOk result (out.new.items ≡ out.old.items ++ copy_step_text form from to len) }
 {
     push_access(out, form, "copy")?;
     push_from(out, form, from)?;

@@ -4,9 +4,10 @@ ghost use Rattle.std.specs.List.{list_all};
 ghost use Rattle.std.specs.Str.{bytes_eq};
 ghost use Rattle.gt_script.specs.Script.{ReadsAsScript};
 ghost use Rattle.gt_script_runs.specs.Playing.{Played};
-ghost use Rattle.gt_explore_answers.specs.GivingAnswers.{answers_of, begins_with, domain_word, is_end};
+ghost use Rattle.gt_explore_answers.specs.GivingAnswers.{answers_of, begins_with, domain_prefix, is_end};
 ghost use Rattle.gt_explore_answers.specs.GivingAnswers.{ok_line, without_number};
-ghost use Rattle.gt_explore_answers.specs.GivingAnswers.{GivesAnswers, GoesOnWith, HasAnswers, HaveAnswers};
+ghost use Rattle.gt_explore_answers.specs.GivingAnswers.{GivesAnswers, ContinuesWithLines, HasAnswers};
+ghost use Rattle.gt_explore_answers.specs.GivingAnswers.{DomainsHaveAnswers};
 
 use gt_explore_faults::TextsFault;
 use gt_host::play;
@@ -46,7 +47,7 @@ fn without_number<'t>(line: &'t [u8]) -> &'t [u8]
 
 // Returns the word with which the answers of a domain begin.
 fn domain_word(alloc: Global, dom: DomId) -> Result<Vec<u8>, AllocError>
-    ensures { IfOk result (λ word. word.items ≡ domain_word dom.0) }
+    ensures { IfOk result (λ word. word.items ≡ domain_prefix dom.0) }
 {
     let mut word = Vec::new(alloc);
     push_number(&mut word, dom.0)?;
@@ -107,7 +108,7 @@ fn are_same(lines: &[&[u8]], others: &[&[u8]]) -> bool
 // Returns whether the lines `all` begin with these, and go on only with this one.
 fn goes_on_with(lines: &[&[u8]], all: &[&[u8]], with: &[u8]) -> bool
     ensures { IsTrue result →
-        GoesOnWith with.now (map (λ l. l.now) lines.now) (map (λ l. l.now) all.now) }
+        ContinuesWithLines with.now (map (λ l. l.now) lines.now) (map (λ l. l.now) all.now) }
 {
     if all.len() < lines.len() {
         return false;
@@ -137,7 +138,7 @@ fn have_answers(
     text: &[u8],
     out: &[u8],
 ) -> Result<bool, AllocError>
-    ensures { IfOk result (λ b. IsTrue b → HaveAnswers domains.now text.now out.now) }
+    ensures { IfOk result (λ b. IsTrue b → DomainsHaveAnswers domains.now text.now out.now) }
 {
     'domains: for domain in domains {
         if !has_answers(alloc, domain.id, text, out)? {

@@ -5,7 +5,7 @@ ghost use Rattle.gt_types.specs.declared.Use.TheVariants as uses;
 ghost use Rattle.gt_words.specs.Conditions.{IsSameSeat, IsSeatOf};
 ghost use Rattle.gt_access.specs.Routes.{MayAccessBy, ReachesBy};
 ghost use Rattle.gt_model.specs.declared.request.Request.TheVariants as requests;
-ghost use Rattle.gt_live.specs.Accesses.{Fills, IsIfMissing, IsOfAccess, IsOfMissing, IsReadBy, IsWrittenBy};
+ghost use Rattle.gt_live.specs.Accesses.{FillsBuffer, IsIfMissing, IsOfAccess, IsOfMissing, IsReadBy, IsWrittenBy};
 ghost use Rattle.gt_live.specs.Accesses.{ReadsFrame, WritesFrame};
 ghost use Rattle.gt_live.specs.Domains.{AccessesQuietly, BelongsTo, IsRefusedWithoutMemory, StaysIn, not_made};
 ghost use Rattle.gt_live.specs.Driving.{IsSame};
@@ -67,7 +67,7 @@ fn fill_through<R: Wait, P: Allows>(
     ensures cause { IfErr result (IsIfMissing monitor.now.words access.now.at.frame) }
     ensures unmade { OnErr result (seat.new.view ≡ seat.old.view) }
     ensures same { IsSame seat.old.view seat.new.view }
-    ensures filled { Fills result out.old out.new }
+    ensures filled { FillsBuffer result out.old out.new }
 {
     let run = run_of(monitor);
     match read_under(rt, &run, seat, access, out) {
@@ -191,7 +191,7 @@ impl Domain {
             (requests.Load handle off (length buffer.old)) (IsReadBy (words_of monitor.now).layout) result self.new }
         ensures refused { IfErr result (IsRefusedWithoutMemory P.may monitor.now self.old
             (requests.Load handle off (length buffer.old))) }
-        ensures filled { Fills result buffer.old buffer.new }
+        ensures filled { FillsBuffer result buffer.old buffer.new }
     {
         if let Some(verdict) = judge_load(&self.mappings, handle, off, buffer.len()) {
             return Err(refusal_of(verdict));
@@ -261,7 +261,7 @@ impl Domain {
             (requests.Peek frame off (length buffer.old)) (IsReadBy (words_of monitor.now).layout) result self.new }
         ensures refused { IfErr result (IsRefusedWithoutMemory P.may monitor.now self.old
             (requests.Peek frame off (length buffer.old))) }
-        ensures filled { Fills result buffer.old buffer.new }
+        ensures filled { FillsBuffer result buffer.old buffer.new }
     {
         let caller = self.seat.dom();
         let config = &monitor.config;

@@ -37,7 +37,7 @@ impl Domain {
     ghost use Rattle.gt_model.specs.declared.change.EntryChange.TheVariants.{Withdraw};
     ghost use Rattle.gt_types.specs.declared.limits.TheConstants.{TABLE_ENTRIES};
     ghost use Rattle.gt_live.specs.Domains.{BelongsTo, StaysIn};
-    ghost use Rattle.gt_live.specs.Closing.{AsksWithdrawal, Closes, ClosesRow, IsCounted, LooksAtOwn, Resets};
+    ghost use Rattle.gt_live.specs.Closing.{AsksWithdrawal, Closes, ClosesRow, IsInvalidOrInUse, LooksAtOwn, Resets};
     ghost use Rattle.gt_live.specs.Closing.{ShutsRow, StaysQuiet};
     ghost use Rattle.gt_live.specs.Rows.{row_changed};
     ghost use Rattle.gt_live.specs.Domains.{IsUnsettled};
@@ -111,7 +111,7 @@ impl Domain {
         ensures mine { BelongsTo P.may monitor.now self.new }
         ensures quiet { StaysQuiet self.old self.new }
         ensures closed { ClosesRow P.may monitor.now self.old gref result self.new }
-        ensures counted { IsCounted self.new gref.0 result }
+        ensures counted { IsInvalidOrInUse self.new gref.0 result }
     {
         self.withdraw_often(monitor, gref);
         self.look(monitor, gref)

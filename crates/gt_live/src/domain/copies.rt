@@ -13,13 +13,13 @@ ghost use Rattle.gt_model.specs.Holding.{last_first, no_pins};
 ghost use Rattle.gt_model.specs.Rules.{copy_begun};
 ghost use Rattle.gt_live.specs.Accesses.{CopiesBetween, IsCopiedBy, IsIfOneMissing, IsOfAccess};
 ghost use Rattle.gt_live.specs.Driving.{IsSame};
-ghost use Rattle.gt_live.specs.Domains.{Accesses, Answered, BelongsTo, IsUnsettled, KeepsPinned, known_on};
+ghost use Rattle.gt_live.specs.Domains.{AnswersWithAccess, Answered, BelongsTo, IsUnsettled, KeepsPinned, known_on};
 ghost use Rattle.gt_live.specs.Domains.{record_of_copy};
 ghost use Rattle.gt_live.specs.Halves.{copy_hypercall};
 ghost use Rattle.gt_live.specs.Copies.{CopyStopsWith, filled, halfway_with};
 ghost use Rattle.gt_live.specs.Halves.{ComesHalfway, EndsHalfway, IsHalfway, done_copy};
 ghost use Rattle.gt_live.specs.Underway.{AreOfRun, GivesBack, HasTaken};
-ghost use Rattle.gt_live.specs.Parts.{copy_of, seat_of, trail_of, words_of};
+ghost use Rattle.gt_live.specs.Parts.{copy_at_access, seat_of, trail_of, words_of};
 
 use super::bytes::{not_made, run_of};
 use super::{Domain, known_with, record_done, record_refusal, refusal_of};
@@ -191,7 +191,7 @@ impl Domain {
         requires mine { BelongsTo P.may monitor.now self.old }
         ensures mine { BelongsTo P.may monitor.now self.new }
         ensures seat { IsSameSeat self.old.seat self.new.seat }
-        ensures answered { Accesses P.may monitor.now self.old (requests.Copy copy.now)
+        ensures answered { AnswersWithAccess P.may monitor.now self.old (requests.Copy copy.now)
             (IsCopiedBy (known_on P.may monitor.now self.old) monitor.now.words.layout self.old copy.now)
             result self.new }
         ensures kept { KeepsPinned self.old self.new }
@@ -231,7 +231,7 @@ impl Domain {
         requires mine { BelongsTo P.may monitor.now self.old }
         ensures mine { BelongsTo P.may monitor.now self.new }
         ensures seat { IsSameSeat self.old.seat self.new.seat }
-        ensures answered { Accesses P.may monitor.now self.old (requests.Copy copy.now)
+        ensures answered { AnswersWithAccess P.may monitor.now self.old (requests.Copy copy.now)
             (IsCopiedBy (known_on P.may monitor.now self.old) monitor.now.words.layout self.old copy.now)
             result self.new }
         ensures kept { KeepsPinned self.old self.new }
@@ -269,7 +269,7 @@ impl Domain {
         requires mine { BelongsTo P.may monitor.now self.old }
         ensures mine { BelongsTo P.may monitor.now self.new }
         ensures seat { IsSameSeat self.old.seat self.new.seat }
-        ensures answered { Accesses P.may monitor.now self.old (requests.Copy copy.now)
+        ensures answered { AnswersWithAccess P.may monitor.now self.old (requests.Copy copy.now)
             (IsCopiedBy (known_on P.may monitor.now self.old) monitor.now.words.layout self.old copy.now)
             result self.new }
         ensures kept { KeepsPinned self.old self.new }
@@ -297,7 +297,7 @@ impl Domain {
         requires mine { BelongsTo P.may monitor.now self.old }
         ensures mine { BelongsTo P.may monitor.now self.new }
         ensures seat { IsSameSeat (seat_of self.old) (seat_of self.new) }
-        ensures answered { Accesses P.may monitor.now self.old (requests.Copy copy.now)
+        ensures answered { AnswersWithAccess P.may monitor.now self.old (requests.Copy copy.now)
             (IsCopiedBy (known_on P.may monitor.now self.old) (words_of monitor.now).layout self.old copy.now)
             result self.new }
         ensures kept { KeepsPinned self.old self.new }
@@ -395,7 +395,7 @@ impl Domain {
         ensures mine { BelongsTo P.may monitor.now self.new }
         ensures ends { EndsHalfway (words_of monitor.now).layout halfway self.old self.new }
         ensures recorded { AppendsRecord (trail_of self.old)
-            (done_copy self.old (copy_of halfway)) (trail_of self.new) }
+            (done_copy self.old (copy_at_access halfway)) (trail_of self.new) }
     {
         let copy = halfway.copy;
         self.end_halfway(monitor, halfway);

@@ -16,7 +16,7 @@ impl Domain {
     ghost use Rattle.gt_live.specs.Domains.{BelongsTo};
     ghost use Rattle.gt_live.specs.Domains.{IsUnsettled, KeepsPinned};
     ghost use Rattle.gt_model.specs.Entries.{changed_entry};
-    ghost use Rattle.gt_live.specs.Following.{entry_of};
+    ghost use Rattle.gt_live.specs.Following.{own_entry_at};
     ghost use Rattle.gt_live.specs.Rows.{row_changed};
     ghost use Rattle.gt_live.specs.Owning.{IsRowOf, asks_change, change_effect};
     ghost use Rattle.gt_model.specs.Asking.{asked, begun_of};
@@ -117,8 +117,8 @@ impl Domain {
         ensures kept { KeepsPinned self.old self.new }
         ensures silent { self.new.trail ≡ self.old.trail }
         ensures changed { gref.0 < TABLE_ENTRIES →
-            OnOk result (entry_of self.new gref ≡ changed_entry change (entry_of self.old gref)) }
-        ensures same { OnErr result (entry_of self.new gref ≡ entry_of self.old gref) }
+            OnOk result (own_entry_at self.new gref ≡ changed_entry change (own_entry_at self.old gref)) }
+        ensures same { OnErr result (own_entry_at self.new gref ≡ own_entry_at self.old gref) }
     {
         let own = self.own_entry(monitor, gref);
         if let Some(verdict) = self.judge_own(monitor, own, gref, change) {

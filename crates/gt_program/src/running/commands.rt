@@ -1,8 +1,8 @@
 //! The command `run`, with the text that it names.
 ghost use Rattle.std.specs.Prelude.{◌≡◌, ℕ, Bool, IfSome, List, Option, is_some};
 ghost use Rattle.gt_text.specs.Streams.{OfInput};
-ghost use Rattle.gt_commands.specs.Files.{name_of};
-ghost use Rattle.gt_file_commands.specs.Working.{known_input, Does, Works};
+ghost use Rattle.gt_commands.specs.Files.{file_name_of};
+ghost use Rattle.gt_file_commands.specs.Working.{known_input, DoesOnFile, Works};
 ghost use Rattle.gt_file_commands.specs.declared.outcome.Outcome.TheVariants.{No};
 ghost use Rattle.gt_commands.specs.declared.invocation.Format.{Format};
 ghost use Rattle.gt_program.specs.Runs.{RanAs, RunsDomains, no_flag};
@@ -76,8 +76,8 @@ fn run_on<R: Threads + Wait + Sync, T: TextSource, W: Write, E>(
     reasons: &mut Reasons,
 ) -> Result<Outcome, Failure>
     ensures { IfSome (known_input (T.file context.now.texts.now) (T.input context.now.texts.now) name.entry)
-        (λ input. Does (RunsDomains format audit) (name_of name.entry) input (W.contents out.old) (W.contents out.new)
-        result) }
+        (λ input. DoesOnFile (RunsDomains format audit) (file_name_of name.entry) input (W.contents out.old)
+        (W.contents out.new) result) }
 {
     let Some(name) = name else {
         let mut input = context.texts.input();
@@ -100,7 +100,7 @@ pub(crate) fn run_asked<R: Threads + Wait + Sync, T: TextSource, W: Write, E: Ep
     out: &mut W,
     reasons: &mut Reasons,
 ) -> Outcome
-    ensures { Works (RunsDomains options.entry.format options.entry.audit) No (name_of options.entry.file)
+    ensures { Works (RunsDomains options.entry.format options.entry.audit) No (file_name_of options.entry.file)
         (known_input (T.file context.now.texts.now) (T.input context.now.texts.now) options.entry.file)
         (W.contents out.old) (W.contents out.new) result }
 {

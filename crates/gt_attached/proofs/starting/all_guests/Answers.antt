@@ -6,7 +6,7 @@ use Rattle.gt_live.specs.Domains.{BelongsTo}
 use Rattle.gt_live.specs.declared.domain.Domain.{Domain}
 use Rattle.gt_live.specs.declared.monitor.Monitor.{Monitor}
 use Rattle.gt_attached.specs.Seated.{Seated}
-use Rattle.gt_attached.specs.Starting.{beside}
+use Rattle.gt_attached.specs.Starting.{attached_to}
 use Rattle.gt_attached.proofs.starting.all_guests.Goals as goal
 
 -- one more guest at the end, and one domain fewer to come
@@ -43,11 +43,11 @@ rest-preserved-in-Ok-try_clone g c =
       room = omega (arith, room, c.in-Some.ensures.len, c.push_reserved.ensures.len, c.push_reserved.ensures.capacity);
       few = omega (arith, few, c.in-Some.ensures.len, c.push_reserved.ensures.len);
       made = λ full.
-          moved-over (beside m) c.rest.all.items c.push_reserved.new.self.items c.in-Some.domain (into_iter_items c.next.new.self)
+          moved-over (attached_to m) c.rest.all.items c.push_reserved.new.self.items c.in-Some.domain (into_iter_items c.next.new.self)
           (into_iter_items c.rest.rest)
           (c.push_reserved.ensures.items
           ∙ ap (λ (s : Seated g.row.P.Denot). c.rest.all.items ++ s ∷ [])
-          (c.new.ensures ∙ ap (λ (n : Monitor g.row.P.Denot). beside n c.in-Some.domain) c.in-Ok-try_clone.ensures))
+          (c.new.ensures ∙ ap (λ (n : Monitor g.row.P.Denot). attached_to n c.in-Some.domain) c.in-Ok-try_clone.ensures))
           c.in-Some.ensures.items
           ∙ inv.made (omega (arith, full, c.in-Some.ensures.len, c.push_reserved.ensures.len));
     }

@@ -1,6 +1,6 @@
 use Rattle.std.proofs.Common.{◌∙◌, ap, map}
 use Rattle.gt_live.specs.declared.monitor.Monitor.{Monitor}
-use Rattle.gt_attached.specs.Starting.{beside}
+use Rattle.gt_attached.specs.Starting.{attached_to}
 use Rattle.gt_attached.proofs.starting.start.Goals as goal
 
 pub returns-in-Ok-all_guests-clause-guests : goal.returns-in-Ok-all_guests-clause-guests
@@ -13,7 +13,7 @@ returns-in-Ok-all_guests-clause-guests g c =
       no_frames = c.in-Ok.ensures.frames;
       domains = made.1.items;
       guests_are = c.in-Ok-all_guests.ensures
-          ∙ ap (λ (m : Monitor g.row.P.Denot). map (beside m) made.1.items) c.in-Ok-new.ensures.ok;
+          ∙ ap (λ (m : Monitor g.row.P.Denot). map (attached_to m) made.1.items) c.in-Ok-new.ensures.ok;
       count = c.in-Ok.ensures.count;
       new = c.in-Ok.ensures.domains;
     }

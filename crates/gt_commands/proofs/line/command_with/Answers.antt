@@ -1,11 +1,11 @@
 use Rattle.std.proofs.Common.{rules}
 use Rattle.clap.specs.Words.{new_app}
-use Rattle.gt_commands.specs.Rules.{with_parts}
+use Rattle.gt_commands.specs.Rules.{with_part_rules}
 use Rattle.gt_commands.proofs.Made.{part_added}
 use Rattle.gt_commands.proofs.line.command_with.Goals as goal
 
 pub parts-init : goal.parts-init
-unfolding with_parts
+unfolding with_part_rules
 parts-init c = record { app = search rules; local = search rules }
 
 pub parts-preserved : goal.parts-preserved

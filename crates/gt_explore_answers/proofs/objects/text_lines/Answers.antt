@@ -2,13 +2,13 @@ use Rattle.std.specs.Prelude.{◌==◌}
 use Rattle.std.proofs.Common.{rules, tests}
 use Rattle.std.proofs.lemmas.Iterator.Consumers.{map_from_collect, YieldsList-from_filter, YieldsList-at}
 use Rattle.std.proofs.lemmas.Iterator.Splits.{YieldsList-from_slice_split}
-use Rattle.gt_explore_answers.specs.Objects.{is_nonempty}
+use Rattle.gt_explore_answers.specs.Objects.{is_nonempty_line}
 use Rattle.gt_explore_answers.proofs.objects.text_lines.Goals as goal
 
 pub returns : goal.returns
 returns c =
     map_from_collect _ c.collect.ensures.ran
-    (YieldsList-from_filter _ is_nonempty
+    (YieldsList-from_filter _ is_nonempty_line
     (YieldsList-at c.filter.ensures.source
     (YieldsList-from_slice_split _ (λ b. b == 10) c.args.text.now c.split.ensures.rest
     c.split.ensures.done c.split.ensures.closure (λ x r q k. search (rules, tests))))

@@ -2,13 +2,13 @@ use Rattle.std.specs.Prelude.{◌==◌}
 use Rattle.std.proofs.Common.{rules, tests}
 use Rattle.std.proofs.lemmas.Iterator.Consumers.{map_from_collect, YieldsList-from_filter, YieldsList-at}
 use Rattle.std.proofs.lemmas.Iterator.Splits.{YieldsList-from_slice_split}
-use Rattle.gt_explore_verdict.specs.Expressions.{is_nonempty}
+use Rattle.gt_explore_verdict.specs.Expressions.{is_nonempty_word}
 use Rattle.gt_explore_verdict.proofs.conditions.words_in.Goals as goal
 
 pub returns : goal.returns
 returns c =
     map_from_collect _ c.collect.ensures.ran
-    (YieldsList-from_filter _ is_nonempty
+    (YieldsList-from_filter _ is_nonempty_word
     (YieldsList-at c.filter.ensures.source
     (YieldsList-from_slice_split _ (λ b. b == 32) c.args.term.now c.split.ensures.rest
     c.split.ensures.done c.split.ensures.closure (λ x r q k. search (rules, tests))))

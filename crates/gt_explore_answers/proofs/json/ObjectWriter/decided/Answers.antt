@@ -4,7 +4,7 @@ use Rattle.gt_script.specs.Contents.{contents_of}
 use Rattle.gt_explore_replay.specs.Orders.{MayGive}
 use Rattle.gt_explore_verdict.proofs.Judged.{judged_means}
 use Rattle.gt_explore_verdict.specs.Expressions.{condition_asked}
-use Rattle.gt_explore_verdict.specs.Judging.{Means, judged}
+use Rattle.gt_explore_verdict.specs.Judging.{VerdictMeans, judged}
 use Rattle.gt_explore_verdict.specs.declared.judging.Judgement.{Judgement}
 use Rattle.gt_explore_verdict.specs.declared.judging.Verdict.{Verdict}
 use Rattle.gt_explore_answers.specs.AsObjects.{ShowsClaim, ShowsClaimedBy}
@@ -27,7 +27,7 @@ returns c =
     let shown = c.in_ok-push_claimed.ensures in
     ended_so c.args.limit (ShowsClaim run c.args.claim cs) f c.ended.result _ shown.0 _ c.judge-judgement.result.verdict c.new-text.ensures.items shown.1 (
       verdict,
-      subst (λ (v : Verdict). Means (MayGive run) c.args.claim cs v) (sym verdict) (judged_means (MayGive run) c.args.claim cs f.texts f.whole are.possible are.whole),
+      subst (λ (v : Verdict). VerdictMeans (MayGive run) c.args.claim cs v) (sym verdict) (judged_means (MayGive run) c.args.claim cs f.texts f.whole are.possible are.whole),
       subst (λ (s : Option ℕ). ShowsClaimedBy head c.args.claim (satisfied cs f) f s shown.0) (ap (λ (k : Judgement). k.shown_by) j)
           (subst (λ (m : List Bool). ShowsClaimedBy head c.args.claim m f c.judge-judgement.result.shown_by shown.0) (c.as_slice-3.ensures.value ∙ met) shown.2),
     ) c.ended.ensures

@@ -2,13 +2,13 @@ use Rattle.std.proofs.Common.{rules, tests}
 use Rattle.std.proofs.lemmas.Iterator.{YieldsList-from_map_by}
 use Rattle.std.proofs.lemmas.Iterator.Consumers.{map_from_collect, YieldsList-from_filter, YieldsList-at}
 use Rattle.std.proofs.lemmas.Iterator.Splits.{YieldsList-from_slice_split}
-use Rattle.gt_explore_answers.specs.GivingAnswers.{begins_with, domain_word, is_end, without_number}
+use Rattle.gt_explore_answers.specs.GivingAnswers.{begins_with, domain_prefix, is_end, without_number}
 use Rattle.gt_explore_answers.proofs.witness.checked.answers.Goals as goal
 
 pub returns : goal.returns
 returns c =
     map_from_collect _ c.collect.ensures.ran
-    (YieldsList-from_filter _ (begins_with (domain_word c.args.dom.0))
+    (YieldsList-from_filter _ (begins_with (domain_prefix c.args.dom.0))
     (YieldsList-at c.filter.ensures.source
     (YieldsList-from_map_by _ (λ r. r.now) without_number
     (YieldsList-at c.map.ensures.source

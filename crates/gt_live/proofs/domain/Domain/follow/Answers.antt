@@ -2,7 +2,7 @@ use Rattle.std.proofs.Common.{◌<◌, ◌∙◌, ℕ, arith, inr, subst}
 use Rattle.gt_model.specs.declared.entry.Entry.{Entry}
 use Rattle.gt_model.specs.declared.header.Header.{Header}
 use Rattle.gt_model.specs.Rules.{size_of}
-use Rattle.gt_live.specs.Following.{IsDue, Means, entry_of}
+use Rattle.gt_live.specs.Following.{IsDue, Means, own_entry_at}
 use Rattle.gt_live.proofs.Following.{due-leaves}
 use Rattle.gt_live.proofs.domain.Domain.follow.Goals as goal
 
@@ -11,7 +11,7 @@ returns-clause-follows g c =
     let m = c.args.monitor.now in let d = c.args.self.now in let e = c.make_due.new.self in
     let gref = c.args.gref in let meaning = c.meaning_of.result in let due = c.due_for-due.result in
     let inside : gref.0 < c.entries.result = omega arith in
-    let is_due : IsDue (entry_of d gref) meaning due =
+    let is_due : IsDue (own_entry_at d gref) meaning due =
     subst (λ (x : Entry). IsDue x meaning due) (c.entry-old.ensures ∙ c.own_entry.ensures.entry) c.due_for-due.ensures in
     inr (
       subst (λ (h : Header). gref.0 < size_of h) c.header-header.ensures.value

@@ -4,7 +4,7 @@ use Rattle.gt_types.specs.declared.denial.Denial.{Denial}
 use Rattle.gt_model.specs.Entries.{changed_entry}
 use Rattle.gt_model.specs.Path.{path}
 use Rattle.gt_live.specs.Domains.{knowledge, verdict_of}
-use Rattle.gt_live.specs.Following.{entry_of}
+use Rattle.gt_live.specs.Following.{own_entry_at}
 use Rattle.gt_live.specs.Owning.{asks_change}
 use Rattle.gt_live.specs.Walks.{Called}
 use Rattle.gt_live.proofs.AtOnce.{begun-called}
@@ -22,7 +22,7 @@ returns-in-Some-clause-called g c =
 pub returns-in-Some-clause-changed : goal.returns-in-Some-clause-changed
 returns-in-Some-clause-changed g c =
     let m = c.args.monitor.now in let d = c.args.self.now in let k = knowledge m.config (g.P.Allows.may m.rights) d in
-    let here = entry_of d c.args.gref in
+    let here = own_entry_at d c.args.gref in
     λ lt. subst (λ (r : Result (Unit {0}) Denial). OnOk r (here ≡ changed_entry c.args.change here)) (sym c.done.ensures)
     (once-changed k d.seat.dom c.args.gref c.args.change c.in-Some.verdict (sym c.judge_own.ensures ∙ c.in-Some.is))
 

@@ -9,7 +9,7 @@ use Rattle.gt_calls.specs.declared.known.OwnerEntry.{OwnerEntry}
 use Rattle.gt_model.specs.declared.request.OpenRequest.TheVariants as asks
 use Rattle.gt_model.specs.declared.request.Request.TheVariants as requests
 use Rattle.gt_live.specs.Domains.{knowledge, verdict_of}
-use Rattle.gt_live.specs.Following.{entry_of}
+use Rattle.gt_live.specs.Following.{own_entry_at}
 use Rattle.gt_live.specs.Rows.{row_changed}
 use Rattle.gt_live.specs.Walks.{Called}
 use Rattle.gt_live.proofs.AnsweredAtOnce.{answered-once}
@@ -21,7 +21,7 @@ use Rattle.gt_live.proofs.domain.Domain.withdraw_row.Goals as goal
 pub returns-in-Some : goal.returns-in-Some
 returns-in-Some g c =
     let m = c.args.monitor.now in let d = c.args.self.now in let k = knowledge m.config (g.P.Allows.may m.rights) d in
-    let way = path k d.seat.dom (asks.Withdraw c.args.gref) in let here = entry_of d c.args.gref in
+    let way = path k d.seat.dom (asks.Withdraw c.args.gref) in let here = own_entry_at d c.args.gref in
     let begun = sym c.judge_own.ensures ∙ c.in-Some.is in
     let once = answered-once k d.seat.dom (requests.Withdraw c.args.gref) c.in-Some.verdict tt begun in
     let quiet = quiet-self d in

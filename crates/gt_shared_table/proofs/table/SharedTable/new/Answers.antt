@@ -19,7 +19,7 @@ use Rattle.gt_word_history.specs.Rule.{IsHeader, Shows, layout_of}
 use Rattle.gt_word_history.proofs.Joining.{opens_same, opens_so}
 use Rattle.gt_word_history.proofs.Opens.{headers_ok, opens, opens_empty}
 use Rattle.gt_shared_table.specs.Rule.{Cell, HoldsAll, flag_place, newcomer, places_of}
-use Rattle.gt_shared_table.specs.Words.{HasRoom, HasTable, first_slots, frames_kept}
+use Rattle.gt_shared_table.specs.Words.{HasWordsAndFlags, HasTable, first_slots, frames_kept}
 use Rattle.gt_shared_table.proofs.Names.{one_slot}
 use Rattle.gt_shared_table.proofs.Opens.{opens_all}
 use Rattle.gt_shared_table.proofs.Placed.{few_frames, id_here, names_len, zeros_at}
@@ -87,9 +87,9 @@ module _ (c : Config) (is : HasTable c) (ws : List ℕ) (fs : List FrameState) (
       (λ q l. omega (arith, all_slots)) (λ q l. omega (arith, all_slots, many)) unraised
 
 has_room : (z : TableId) (key c : Config) → key ≡ c → (flags at : ℕ) → flag_place (places_of c) 0 ≤ z.words → z.words ≡ flag_place (places_of c) 0 + flags → flags < 2 ^ 32 → at ≡ flag_place (places_of c) 0 → HasTable c → (firsts counts : List ℕ) → firsts ≡ first_slots 0 c.domains.items → counts ≡ frames_kept c
-    → HasRoom z (places_of key) flags × (at ≡ flag_place (places_of key) 0) × HasTable key × (firsts ≡ first_slots 0 key.domains.items) × (counts ≡ frames_kept key)
+    → HasWordsAndFlags z (places_of key) flags × (at ≡ flag_place (places_of key) 0) × HasTable key × (firsts ≡ first_slots 0 key.domains.items) × (counts ≡ frames_kept key)
 has_room z key c same flags at long words small first_at is firsts counts first kept =
-    subst (λ (k : Config). HasRoom z (places_of k) flags × (at ≡ flag_place (places_of k) 0) × HasTable k × (firsts ≡ first_slots 0 k.domains.items) × (counts ≡ frames_kept k)) (sym same) ((long, words, small, is.few), first_at, is, first, kept)
+    subst (λ (k : Config). HasWordsAndFlags z (places_of k) flags × (at ≡ flag_place (places_of k) 0) × HasTable k × (firsts ≡ first_slots 0 k.domains.items) × (counts ≡ frames_kept k)) (sym same) ((long, words, small, is.few), first_at, is, first, kept)
 
 pub first_words-requires-clause-frames : goal.first_words-requires-clause-frames
 first_words-requires-clause-frames c = let n = slots_are c.args.config.now c.in_ok-frames_of_zeros.field-0.items c.in_ok-slots.slots.items (c.in_ok-frames_of_zeros.ensures ∙ ap (λ l. flat_map zero_frames l) (c.deref.ensures.value ∙ c.in_ok-counts.ensures)) c.in_ok-slots.ensures in
