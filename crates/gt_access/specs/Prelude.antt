@@ -15,7 +15,6 @@ pub use Rattle.gt_types.specs.declared.Dir.TheVariants.{Read, Write}
 pub use Rattle.gt_types.specs.declared.DomId.{DomId}
 pub use Rattle.gt_types.specs.declared.TypeId.{TypeId}
 pub use Rattle.gt_types.specs.declared.Use.{Use}
-pub use Rattle.gt_types.specs.declared.Use.TheVariants.{Copy as ForCopy}
 pub use Rattle.gt_types.specs.declared.config.DomainConfig.{DomainConfig}
 pub use Rattle.gt_types.specs.declared.limits.TheConstants.{TABLE_ENTRIES}
 pub use Rattle.gt_types.specs.declared.perms.Perms.{Perms}

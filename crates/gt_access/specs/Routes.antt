@@ -1,11 +1,11 @@
 -- The routes by which a domain reaches a frame: the pins that justify an access, by what its seat knows.
 use Rattle.std.specs.Prelude.{◌≡◌, ℕ, ◌<◌, Bool, true, List, [], ◌∷◌, ◌++◌}
-use Rattle.gt_access.specs.Prelude.{DomId, Dir, Read, Write, Use, ForCopy, TypeId, Perms, DomainConfig, TABLE_ENTRIES}
-use Rattle.gt_access.specs.Prelude.{copy, permits, forwards, is_of_frame, generation_of, Layout, position_in, SeatOf}
-use Rattle.gt_access.specs.Prelude.{HasDomain, IsAmong, live_pins, steps_on, EntryRecord, View, HeldPin, CallPins, AccessPath, Own}
-use Rattle.gt_access.specs.Prelude.{Direct}
-use Rattle.gt_access.specs.Prelude.{Through, owner_by, IsAllowed, GivesHeld, label_of, map_perms, triples, FrameName}
-use Rattle.gt_access.specs.Prelude.{Writ, Owned, Granted, Forwarded}
+use Rattle.gt_access.specs.Prelude.{DomId, Dir, Read, Write, Use, TypeId, Perms, DomainConfig, TABLE_ENTRIES, copy}
+use Rattle.gt_access.specs.Prelude.{permits, forwards, is_of_frame, generation_of, Layout, position_in, SeatOf}
+use Rattle.gt_access.specs.Prelude.{HasDomain, IsAmong, live_pins, steps_on, EntryRecord, View, HeldPin, CallPins}
+use Rattle.gt_access.specs.Prelude.{AccessPath, Own, Direct, Through, owner_by, IsAllowed, GivesHeld, label_of}
+use Rattle.gt_access.specs.Prelude.{map_perms, triples, FrameName, Writ, Owned, Granted, Forwarded}
+use Rattle.gt_types.specs.declared.Use.TheVariants as uses
 
 -- pins
 
@@ -48,7 +48,7 @@ abbrev pub ReachesBy : Layout → SeatOf → Dir → Use → FrameName → ℕ �
 ReachesBy k s dir purpose name off len Own = s.dom ≡ name.owner
 ReachesBy k s dir purpose name off len (Direct p) = IsPinnedFor k s s.dom dir purpose name off len p
 ReachesBy k s dir purpose name off len (Through via p) =
-    (purpose ≡ ForCopy) × IsPinnedOn k s dir via p × IsPinnedFor k s via.dom dir purpose name off len p
+    (purpose ≡ uses.Copy) × IsPinnedOn k s dir via p × IsPinnedFor k s via.dom dir purpose name off len p
 
 -- rights
 

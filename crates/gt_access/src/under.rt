@@ -2,7 +2,7 @@
 ghost use Rattle.std.specs.Prelude.{◌≡◌, ◌+◌, ◌≤◌, length, IfErr, IfNone, IfOk, IfSome, OnErr, OnOk};
 ghost use Rattle.gt_types.specs.declared.Dir.TheVariants as dirs;
 ghost use Rattle.gt_types.specs.declared.Use.TheVariants as uses;
-ghost use Rattle.gt_word_history.specs.declared.view.FrameStep.TheVariants as steps;
+ghost use Rattle.gt_word_history.specs.declared.view.FrameStep.TheVariants as frame_steps;
 ghost use Rattle.gt_words.specs.Conditions.{IsSameSeat, IsSeatOf, position_at};
 ghost use Rattle.gt_words.specs.Frames.{AccessesFrame, CopiesFrames, IsCopyFault, IsFaultAt, IsReadOf, KeepsFrame};
 ghost use Rattle.gt_words.specs.Frames.{copying_at, writing_at};
@@ -87,7 +87,7 @@ pub fn read_under<R: Wait, P: Allows>(
     ensures fits { IsSeatOf run.now.words.now seat.new }
     ensures step { IfSome result (λ r. AccessesFrame run.now.words.now.layout
         (position_at run.now.words.now access.now.at.frame.owner) access.now.at.frame.number
-        (steps.Read access.now.at.off r.bytes) seat.old.view seat.new.view) }
+        (frame_steps.Read access.now.at.off r.bytes) seat.old.view seat.new.view) }
     ensures receipt { IfSome result (λ r. IsReadOf r access.now.at.frame access.now.at.off (length out.old)) }
     ensures filled { IfSome result (λ r. out.new ≡ r.bytes) }
     ensures none { IfNone result (KeepsFrame run.now.words.now access.now.at.frame → ⊥) }
@@ -121,7 +121,7 @@ pub fn write_under<'a, R: Wait, P: Allows>(
     ensures fits { IsSeatOf run.now.words.now seat.new }
     ensures step { OnOk result (AccessesFrame run.now.words.now.layout
         (position_at run.now.words.now access.now.at.frame.owner) access.now.at.frame.number
-        (steps.Wrote (record {
+        (frame_steps.Wrote (record {
           writ = writ_by seat.old.dom access.now.route.now;
           off = access.now.at.off;
           bytes = bytes.now;

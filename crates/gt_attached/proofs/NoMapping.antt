@@ -4,7 +4,7 @@ use Rattle.std.specs.Prelude.{is_none}
 use Rattle.gt_types.specs.Denial.{denial_of}
 use Rattle.gt_types.specs.declared.DomId.{DomId}
 use Rattle.gt_types.specs.declared.denial.Denial.{Denial}
-use Rattle.gt_types.specs.declared.denial.Facts.TheVariants.{None as NoFacts}
+use Rattle.gt_types.specs.declared.denial.Facts.TheVariants as facts
 use Rattle.gt_types.specs.declared.denial.Rule.TheVariants.{N6}
 use Rattle.gt_model.specs.declared.handle.Handle.{Handle}
 use Rattle.gt_model.specs.Path.{after_beginning, ended, path_of, steps_of}
@@ -21,7 +21,7 @@ use Rattle.gt_live.specs.Prelude.{Layout, View}
 use Rattle.gt_live.specs.Walks.{Called, all_shown}
 
 abbrev n6 : Denial
-n6 = denial_of N6 NoFacts
+n6 = denial_of N6 facts.None
 
 -- the result of a call that is answered at its beginning
 ends-with : (verdict said : CallResult) (seen : List Observation) → ended verdict seen ≡ Some (Done said) → said ≡ verdict
@@ -48,6 +48,6 @@ is-refused (Err denial) e = cc
 
 pub refused-by-n6 : (k : Layout) (n : CallerKnowledge) (caller : DomId) (h : Handle) (result : Result (Unit {0}) Denial) (v w : View)
     → n.mapping h ≡ None → Called k (path_of n caller (requests.Unmap h)) (verdict_of result) v w
-    → result ≡ Err (denial_of N6 NoFacts)
+    → result ≡ Err (denial_of N6 facts.None)
 refused-by-n6 k n caller h result v w e called =
     is-refused result (no-mapping k n caller h (verdict_of result) v w e called)

@@ -15,7 +15,8 @@ use Rattle.gt_live.specs.declared.domain.following.Followed.TheVariants as follo
 use Rattle.gt_attached.specs.declared.answer.AttachedOutcome.{AttachedOutcome}
 use Rattle.gt_attached.specs.declared.answer.AttachedOutcome.TheVariants.{Done, Mapped, Frames, Version, Size, Denied}
 use Rattle.gt_attached.specs.declared.answer.AttachedOutcome.TheVariants.{NoDomain, Busy, NoMemory, NoCopy, Absent}
-use Rattle.gt_attached.specs.declared.answer.AttachedOutcome.TheVariants.{Left, Taken as TakenRecords, Followed as FollowedBytes}
+use Rattle.gt_attached.specs.declared.answer.AttachedOutcome.TheVariants.{Left}
+use Rattle.gt_attached.specs.declared.answer.AttachedOutcome.TheVariants as outcomes
 use Rattle.gt_attached.specs.Encoding.{encoded, field_number}
 use Rattle.gt_attached.specs.Decoding.{AnswersAreReadBack, decoded, field_named, rule_named, status_named}
 
@@ -102,9 +103,9 @@ read_back NoMemory = refl
 read_back NoCopy = refl
 read_back Absent = refl
 read_back (Left remains) = refl
-read_back (TakenRecords taken) = refl
-read_back (FollowedBytes follows.Same) = refl
-read_back (FollowedBytes follows.Demoted) = refl
-read_back (FollowedBytes follows.Promoted) = refl
-read_back (FollowedBytes follows.Withdrawn) = refl
-read_back (FollowedBytes follows.Granted) = refl
+read_back (outcomes.Taken taken) = refl
+read_back (outcomes.Followed follows.Same) = refl
+read_back (outcomes.Followed follows.Demoted) = refl
+read_back (outcomes.Followed follows.Promoted) = refl
+read_back (outcomes.Followed follows.Withdrawn) = refl
+read_back (outcomes.Followed follows.Granted) = refl

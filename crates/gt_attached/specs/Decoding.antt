@@ -14,9 +14,10 @@ use Rattle.gt_live.specs.declared.domain.following.Followed.TheVariants as follo
 use Rattle.gt_attached.specs.declared.answer.EncodedAnswer.{EncodedAnswer}
 use Rattle.gt_attached.specs.declared.answer.MappingName.{MappingName}
 use Rattle.gt_attached.specs.declared.answer.AttachedOutcome.{AttachedOutcome}
-use Rattle.gt_attached.specs.declared.answer.AttachedOutcome.TheVariants.{Done, Mapped, Frames, Version, Size as SizeOf, Denied}
+use Rattle.gt_attached.specs.declared.answer.AttachedOutcome.TheVariants.{Done, Mapped, Frames, Version, Denied}
 use Rattle.gt_attached.specs.declared.answer.AttachedOutcome.TheVariants.{NoDomain, Busy, NoMemory, NoCopy, Absent}
-use Rattle.gt_attached.specs.declared.answer.AttachedOutcome.TheVariants.{Left, Taken as TakenRecords, Followed as FollowedBytes}
+use Rattle.gt_attached.specs.declared.answer.AttachedOutcome.TheVariants.{Left}
+use Rattle.gt_attached.specs.declared.answer.AttachedOutcome.TheVariants as outcomes
 use Rattle.gt_attached.specs.Encoding.{encoded}
 
 -- the rule with this number, or the last one if there is none
@@ -113,10 +114,10 @@ decoded_answer a =
     if a.kind == 1 then Mapped (named a) else
     if a.kind == 2 then Frames a.value else
     if a.kind == 3 then Version a.value else
-    if a.kind == 4 then SizeOf (record { frames = a.value; max = a.more }) else
+    if a.kind == 4 then outcomes.Size (record { frames = a.value; max = a.more }) else
     if a.kind == 9 then Left (record { lost = a.value; in_use = a.more }) else
-    if a.kind == 10 then TakenRecords (record { records = a.value; lost = a.more }) else
-    if a.kind == 11 then FollowedBytes (followed_named a.value) else
+    if a.kind == 10 then outcomes.Taken (record { records = a.value; lost = a.more }) else
+    if a.kind == 11 then outcomes.Followed (followed_named a.value) else
     Done
 
 -- the result that is encoded

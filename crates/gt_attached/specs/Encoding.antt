@@ -11,9 +11,10 @@ use Rattle.gt_live.specs.declared.domain.following.Followed.TheVariants as follo
 use Rattle.gt_attached.specs.declared.answer.EncodedAnswer.{EncodedAnswer}
 use Rattle.gt_attached.specs.declared.answer.MappingName.{MappingName}
 use Rattle.gt_attached.specs.declared.answer.AttachedOutcome.{AttachedOutcome}
-use Rattle.gt_attached.specs.declared.answer.AttachedOutcome.TheVariants.{Done, Mapped, Frames, Version, Size as SizeOf, Denied}
+use Rattle.gt_attached.specs.declared.answer.AttachedOutcome.TheVariants.{Done, Mapped, Frames, Version, Denied}
 use Rattle.gt_attached.specs.declared.answer.AttachedOutcome.TheVariants.{NoDomain, Busy, NoMemory, NoCopy, Absent}
-use Rattle.gt_attached.specs.declared.answer.AttachedOutcome.TheVariants.{Left, Taken as TakenRecords, Followed as FollowedBytes}
+use Rattle.gt_attached.specs.declared.answer.AttachedOutcome.TheVariants.{Left}
+use Rattle.gt_attached.specs.declared.answer.AttachedOutcome.TheVariants as outcomes
 
 -- the number of a field of an entry's bytes
 abbrev pub field_number : Field → ℕ
@@ -83,7 +84,7 @@ encoded Done = bare 0 (pos 0)
 encoded (Mapped name) = mapped name
 encoded (Frames frames) = given 2 frames 0
 encoded (Version version) = given 3 version 0
-encoded (SizeOf size) = given 4 size.frames size.max
+encoded (outcomes.Size size) = given 4 size.frames size.max
 encoded (Denied denial) = refusal denial
 encoded NoDomain = bare 256 (pos 0)
 encoded Busy = bare 257 (pos 0)
@@ -91,5 +92,5 @@ encoded NoMemory = bare 258 (pos 0)
 encoded NoCopy = bare 259 (pos 0)
 encoded Absent = bare 260 (pos 0)
 encoded (Left remains) = given 9 remains.lost remains.in_use
-encoded (TakenRecords taken) = given 10 taken.records taken.lost
-encoded (FollowedBytes followed) = given 11 (followed_number followed) 0
+encoded (outcomes.Taken taken) = given 10 taken.records taken.lost
+encoded (outcomes.Followed followed) = given 11 (followed_number followed) 0

@@ -1,8 +1,8 @@
 -- How an audit record is encoded for C.
 use Rattle.std.specs.Prelude.{Some, None}
 use Rattle.gt_audit.specs.declared.record.Hypercall.{Hypercall}
-use Rattle.gt_audit.specs.declared.record.Hypercall.TheVariants as calls
-use Rattle.gt_audit.specs.declared.record.Record.{Record as Kept}
+use Rattle.gt_audit.specs.declared.record.Hypercall.TheVariants as hypercalls
+use Rattle.gt_audit.specs.declared.record.Record.{Record}
 use Rattle.gt_audit.specs.declared.record.Reply.{Reply}
 use Rattle.gt_audit.specs.declared.record.Reply.TheVariants as replies
 use Rattle.gt_types.specs.declared.copies.End.{End}
@@ -29,7 +29,7 @@ abbrev pub no_end : CopyEnd
 no_end = record { ptr = 0; dom = 0; off = 0 }
 
 -- a record with only its caller and its reply
-abbrev pub plainly : Kept → EncodedRecord
+abbrev pub plainly : Record → EncodedRecord
 plainly r =
     record {
       call = 0;
@@ -45,16 +45,16 @@ plainly r =
 
 -- a record with its call
 abbrev pub with_call : Hypercall → EncodedRecord → EncodedRecord
-with_call (calls.Map dom gref flags) r = record r { call = 1; dom = dom.0; gref = gref.0; flags = flags }
-with_call (calls.Unmap (Some (dom, gref))) r = record r { call = 2; dom = dom.0; gref = gref.0 }
-with_call (calls.Unmap None) r = record r { call = 3 }
-with_call (calls.Copy source dest len flags) r =
+with_call (hypercalls.Map dom gref flags) r = record r { call = 1; dom = dom.0; gref = gref.0; flags = flags }
+with_call (hypercalls.Unmap (Some (dom, gref))) r = record r { call = 2; dom = dom.0; gref = gref.0 }
+with_call (hypercalls.Unmap None) r = record r { call = 3 }
+with_call (hypercalls.Copy source dest len flags) r =
     record r { call = 4; flags = flags; len = len; source = end_recorded source; dest = end_recorded dest }
-with_call (calls.QuerySize dom) r = record r { call = 5; dom = dom.0 }
-with_call (calls.GetVersion dom) r = record r { call = 6; dom = dom.0 }
-with_call (calls.SetVersion version) r = record r { call = 7; flags = version }
-with_call (calls.SetupTable frames) r = record r { call = 8; flags = frames }
+with_call (hypercalls.QuerySize dom) r = record r { call = 5; dom = dom.0 }
+with_call (hypercalls.GetVersion dom) r = record r { call = 6; dom = dom.0 }
+with_call (hypercalls.SetVersion version) r = record r { call = 7; flags = version }
+with_call (hypercalls.SetupTable frames) r = record r { call = 8; flags = frames }
 
 -- the encoding of a record
-abbrev pub record_kept : Kept → EncodedRecord
+abbrev pub record_kept : Record → EncodedRecord
 record_kept r = with_call r.call (plainly r)

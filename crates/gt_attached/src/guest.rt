@@ -89,9 +89,9 @@ impl<P: Allows + Drop> AttachedDomain<P> {
     ghost use Rattle.std.specs.Prelude.{◌≡◌, ◌≤◌, Err, IsSome, None, OnOk, OnErr, is_some};
     ghost use Rattle.gt_audit.specs.Trails.{HasNone, AppendsRecord, KeepsRoom};
     ghost use Rattle.gt_audit.specs.declared.pieces.TheConstants.{MOST_RESERVED};
-    ghost use Rattle.gt_audit.specs.declared.record.Hypercall.TheVariants as Hypercall;
+    ghost use Rattle.gt_audit.specs.declared.record.Hypercall.TheVariants as hypercalls;
     ghost use Rattle.gt_model.specs.declared.held.HeldPin.{HeldPin as Mapping};
-    ghost use Rattle.gt_model.specs.declared.request.Request.TheVariants as Request;
+    ghost use Rattle.gt_model.specs.declared.request.Request.TheVariants as requests;
     ghost use Rattle.gt_live.specs.Domains.{Answered, AnswersQuietly, AnswersRecorded};
     ghost use Rattle.gt_live.specs.Closing.{LooksAtOwn, Resets};
     ghost use Rattle.gt_live.specs.Following.{Follows};
@@ -101,7 +101,7 @@ impl<P: Allows + Drop> AttachedDomain<P> {
     ghost use Rattle.gt_live.specs.Mappings.{Removes, unused_handle};
     ghost use Rattle.gt_live.specs.Parts.{mappings_of, seat_of, trail_of, with_trail, words_of};
     ghost use Rattle.gt_types.specs.Denial.{denial_of};
-    ghost use Rattle.gt_types.specs.declared.denial.Facts.TheVariants.{None as NoFacts};
+    ghost use Rattle.gt_types.specs.declared.denial.Facts.TheVariants as facts;
     ghost use Rattle.gt_types.specs.declared.denial.Rule.TheVariants.{N6};
     ghost use Rattle.gt_handles.specs.Handles.{value_of};
     ghost use Rattle.gt_attached.specs.Seated.{BeginsAccess, EndsAccess, StaysIdle, taken_of};
@@ -117,7 +117,7 @@ impl<P: Allows + Drop> AttachedDomain<P> {
         requires idle { self.old.copying ≡ None }
         ensures stays { StaysIdle self.old self.new }
         ensures answers { AnswersQuietly P.may self.old.monitor self.old.domain
-            (Request.Grant gref entry.now) (verdict_of result) self.new.domain }
+            (requests.Grant gref entry.now) (verdict_of result) self.new.domain }
     {
         self.guest.domain.grant(&self.monitor, gref, entry)
     }
@@ -130,7 +130,7 @@ impl<P: Allows + Drop> AttachedDomain<P> {
         requires idle { self.old.copying ≡ None }
         ensures stays { StaysIdle self.old self.new }
         ensures answers { AnswersQuietly P.may self.old.monitor self.old.domain
-            (Request.GrantBytes gref bytes.entry) (verdict_of result) self.new.domain }
+            (requests.GrantBytes gref bytes.entry) (verdict_of result) self.new.domain }
     {
         self.guest.domain.grant_bytes(&self.monitor, gref, bytes)
     }
@@ -143,7 +143,7 @@ impl<P: Allows + Drop> AttachedDomain<P> {
         requires idle { self.old.copying ≡ None }
         ensures stays { StaysIdle self.old self.new }
         ensures answers { AnswersQuietly P.may self.old.monitor self.old.domain
-            (Request.Revoke gref) (verdict_of result) self.new.domain }
+            (requests.Revoke gref) (verdict_of result) self.new.domain }
     {
         self.guest.domain.revoke(&self.monitor, gref)
     }
@@ -156,7 +156,7 @@ impl<P: Allows + Drop> AttachedDomain<P> {
         requires idle { self.old.copying ≡ None }
         ensures stays { StaysIdle self.old self.new }
         ensures answers { AnswersQuietly P.may self.old.monitor self.old.domain
-            (Request.Withdraw gref) (verdict_of result) self.new.domain }
+            (requests.Withdraw gref) (verdict_of result) self.new.domain }
     {
         self.guest.domain.withdraw(&self.monitor, gref)
     }
@@ -169,7 +169,7 @@ impl<P: Allows + Drop> AttachedDomain<P> {
         requires idle { self.old.copying ≡ None }
         ensures stays { StaysIdle self.old self.new }
         ensures answers { AnswersQuietly P.may self.old.monitor self.old.domain
-            (Request.Demote gref) (verdict_of result) self.new.domain }
+            (requests.Demote gref) (verdict_of result) self.new.domain }
     {
         self.guest.domain.demote(&self.monitor, gref)
     }
@@ -182,7 +182,7 @@ impl<P: Allows + Drop> AttachedDomain<P> {
         requires idle { self.old.copying ≡ None }
         ensures stays { StaysIdle self.old self.new }
         ensures answers { AnswersQuietly P.may self.old.monitor self.old.domain
-            (Request.Promote gref) (verdict_of result) self.new.domain }
+            (requests.Promote gref) (verdict_of result) self.new.domain }
     {
         self.guest.domain.promote(&self.monitor, gref)
     }
@@ -209,7 +209,7 @@ impl<P: Allows + Drop> AttachedDomain<P> {
         requires idle { self.old.copying ≡ None }
         ensures stays { StaysIdle self.old self.new }
         ensures answers { AnswersRecorded P.may self.old.monitor self.old.domain
-            (Request.SetVersion version) (Hypercall.SetVersion version) (verdict_of result) self.new.domain }
+            (requests.SetVersion version) (hypercalls.SetVersion version) (verdict_of result) self.new.domain }
     {
         self.guest.domain.set_version(&self.monitor, version)
     }
@@ -222,7 +222,7 @@ impl<P: Allows + Drop> AttachedDomain<P> {
         requires idle { self.old.copying ≡ None }
         ensures stays { StaysIdle self.old self.new }
         ensures answers { AnswersRecorded P.may self.old.monitor self.old.domain
-            (Request.SetupTable frames) (Hypercall.SetupTable frames) (verdict_of_frames result) self.new.domain }
+            (requests.SetupTable frames) (hypercalls.SetupTable frames) (verdict_of_frames result) self.new.domain }
     {
         self.guest.domain.setup_table(&self.monitor, frames)
     }
@@ -235,7 +235,7 @@ impl<P: Allows + Drop> AttachedDomain<P> {
         requires idle { self.old.copying ≡ None }
         ensures stays { StaysIdle self.old self.new }
         ensures answers { AnswersRecorded P.may self.old.monitor self.old.domain
-            (Request.QuerySize dom) (Hypercall.QuerySize dom) (verdict_of_size result) self.new.domain }
+            (requests.QuerySize dom) (hypercalls.QuerySize dom) (verdict_of_size result) self.new.domain }
     {
         self.guest.domain.query_size(&self.monitor, dom)
     }
@@ -248,7 +248,7 @@ impl<P: Allows + Drop> AttachedDomain<P> {
         requires idle { self.old.copying ≡ None }
         ensures stays { StaysIdle self.old self.new }
         ensures answers { AnswersRecorded P.may self.old.monitor self.old.domain
-            (Request.GetVersion dom) (Hypercall.GetVersion dom) (verdict_of_version result) self.new.domain }
+            (requests.GetVersion dom) (hypercalls.GetVersion dom) (verdict_of_version result) self.new.domain }
     {
         self.guest.domain.get_version(&self.monitor, dom)
     }
@@ -262,11 +262,11 @@ impl<P: Allows + Drop> AttachedDomain<P> {
         requires idle { self.old.copying ≡ None }
         ensures stays { StaysIdle self.old self.new }
         ensures answered { MapAnswered P.may self.old.monitor self.old.domain
-            (Request.Map dom gref flags) result self.new.domain }
+            (requests.Map dom gref flags) result self.new.domain }
         ensures recorded { AppendsRecord (trail_of self.old.domain)
             (record {
               dom = (seat_of self.old.domain).dom;
-              call = Hypercall.Map dom gref flags;
+              call = hypercalls.Map dom gref flags;
               reply = mapping_reply result;
             })
             (trail_of self.new.domain) }
@@ -282,13 +282,14 @@ impl<P: Allows + Drop> AttachedDomain<P> {
         requires idle { self.old.copying ≡ None }
         ensures stays { StaysIdle self.old self.new }
         ensures answered { Answered P.may self.old.monitor self.old.domain
-            (Request.Unmap handle) (verdict_of result) self.new.domain }
+            (requests.Unmap handle) (verdict_of result) self.new.domain }
         ensures removed { OnOk result ((p : Mapping)
             × Removes (mappings_of self.old.domain) (mappings_of self.new.domain) handle p) }
         ensures refused { OnErr result (KeepsPinned self.old.domain self.new.domain) }
-        ensures absent { value_of (mappings_of self.old.domain) handle ≡ None → result ≡ Err (denial_of N6 NoFacts) }
+        ensures absent { value_of (mappings_of self.old.domain) handle ≡ None → result ≡ Err (denial_of N6 facts.None) }
         ensures recorded { AppendsRecord (trail_of self.old.domain)
-            (record_of_result self.old.domain (Hypercall.Unmap (subject_of self.old.domain handle)) (verdict_of result))
+            (record_of_result self.old.domain
+            (hypercalls.Unmap (subject_of self.old.domain handle)) (verdict_of result))
             (trail_of self.new.domain) }
     {
         self.guest.domain.unmap(&self.monitor, handle)

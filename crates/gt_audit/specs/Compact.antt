@@ -8,14 +8,14 @@ use Rattle.gt_types.specs.declared.denial.Facts.TheVariants as facts
 use Rattle.gt_types.specs.declared.denial.Field.{Field}
 use Rattle.gt_types.specs.declared.denial.Field.TheVariants as fields
 use Rattle.gt_audit.specs.declared.record.Hypercall.{Hypercall}
-use Rattle.gt_audit.specs.declared.record.Hypercall.TheVariants as calls
+use Rattle.gt_audit.specs.declared.record.Hypercall.TheVariants as hypercalls
 use Rattle.gt_audit.specs.declared.record.Record.{Record}
 use Rattle.gt_audit.specs.declared.record.Reply.{Reply}
 use Rattle.gt_audit.specs.declared.record.Reply.TheVariants as replies
 use Rattle.gt_audit.specs.declared.compact.CallKind.{CallKind}
-use Rattle.gt_audit.specs.declared.compact.CallKind.TheVariants as asks
+use Rattle.gt_audit.specs.declared.compact.CallKind.TheVariants as call_kinds
 use Rattle.gt_audit.specs.declared.compact.ReplyKind.{ReplyKind}
-use Rattle.gt_audit.specs.declared.compact.ReplyKind.TheVariants as answers
+use Rattle.gt_audit.specs.declared.compact.ReplyKind.TheVariants as reply_kinds
 use Rattle.gt_audit.specs.declared.compact.Packed.{Packed}
 
 -- the field with this number
@@ -45,34 +45,34 @@ type_at n = record { 0 = n }
 
 -- the request
 abbrev pub called : CallKind → Packed → Hypercall
-called asks.Map p = calls.Map (domain_kept p.dom) (reference_at p.source) p.dest
-called asks.Unmap p = calls.Unmap (Some (domain_kept p.dom, reference_at p.source))
-called asks.UnmapOfNothing p = calls.Unmap None
-called asks.Copy p =
-    calls.Copy
+called call_kinds.Map p = hypercalls.Map (domain_kept p.dom) (reference_at p.source) p.dest
+called call_kinds.Unmap p = hypercalls.Unmap (Some (domain_kept p.dom, reference_at p.source))
+called call_kinds.UnmapOfNothing p = hypercalls.Unmap None
+called call_kinds.Copy p =
+    hypercalls.Copy
     (record { ptr = p.source; domid = domain_kept p.dom; offset = p.source_off })
     (record { ptr = p.dest; domid = domain_kept p.dest_dom; offset = p.dest_off })
     p.len
     p.flags
-called asks.QuerySize p = calls.QuerySize (domain_kept p.dom)
-called asks.GetVersion p = calls.GetVersion (domain_kept p.dom)
-called asks.SetVersion p = calls.SetVersion p.source
-called asks.SetupTable p = calls.SetupTable p.source
+called call_kinds.QuerySize p = hypercalls.QuerySize (domain_kept p.dom)
+called call_kinds.GetVersion p = hypercalls.GetVersion (domain_kept p.dom)
+called call_kinds.SetVersion p = hypercalls.SetVersion p.source
+called call_kinds.SetupTable p = hypercalls.SetupTable p.source
 
 -- the facts of a refusal
 abbrev pub facts_of : ReplyKind → Packed → Facts
-facts_of answers.ByPolicy p = facts.Policy (type_at p.of) (type_at p.found) (record { 0 = p.word })
-facts_of answers.ForField p = facts.Field (field_at p.word)
-facts_of answers.ForHeader p = facts.Header (domain_kept p.of) p.word
-facts_of answers.ForEntry p = facts.Entry (domain_kept p.of) (reference_at p.found) p.word
+facts_of reply_kinds.ByPolicy p = facts.Policy (type_at p.of) (type_at p.found) (record { 0 = p.word })
+facts_of reply_kinds.ForField p = facts.Field (field_at p.word)
+facts_of reply_kinds.ForHeader p = facts.Header (domain_kept p.of) p.word
+facts_of reply_kinds.ForEntry p = facts.Entry (domain_kept p.of) (reference_at p.found) p.word
 facts_of answered p = facts.None
 
 -- the answer
 abbrev pub replied : ReplyKind → Packed → Reply
-replied answers.Done p = replies.Done
-replied answers.Frames p = replies.Frames p.word
-replied answers.Size p = replies.Size (record { frames = p.found; max = p.word })
-replied answers.Version p = replies.Version p.word
+replied reply_kinds.Done p = replies.Done
+replied reply_kinds.Frames p = replies.Frames p.word
+replied reply_kinds.Size p = replies.Size (record { frames = p.found; max = p.word })
+replied reply_kinds.Version p = replies.Version p.word
 replied answered p = replies.Denied (record { rule = p.rule; status = p.status; facts = facts_of answered p })
 
 -- the record of these parts
@@ -81,15 +81,15 @@ unpacked p = record { dom = domain_kept p.caller; call = called p.asked p; reply
 
 -- the numbers of a call other than a copy have 32 bits
 abbrev pub FitsCall : CallKind → Packed → Type 0
-FitsCall asks.Copy p = Unit {0}
+FitsCall call_kinds.Copy p = Unit {0}
 FitsCall asked p = (p.source < 2 ^ 32) × (p.dest < 2 ^ 32)
 
 -- the numbers of an answer fit their types
 abbrev pub FitsReply : ReplyKind → Packed → Type 0
-FitsReply answers.ByPolicy p = (p.found < 2 ^ 16) × (p.word < 2 ^ 8)
-FitsReply answers.Frames p = p.word < 2 ^ 32
-FitsReply answers.Size p = p.word < 2 ^ 32
-FitsReply answers.Version p = p.word < 2 ^ 32
+FitsReply reply_kinds.ByPolicy p = (p.found < 2 ^ 16) × (p.word < 2 ^ 8)
+FitsReply reply_kinds.Frames p = p.word < 2 ^ 32
+FitsReply reply_kinds.Size p = p.word < 2 ^ 32
+FitsReply reply_kinds.Version p = p.word < 2 ^ 32
 FitsReply answered p = Unit {0}
 
 -- the numbers fit the types of the record

@@ -2,7 +2,7 @@
 use Rattle.std.specs.Prelude.{◌≡◌, ℕ, Bool, true, false, ◌&&◌, List, [], take, ◌==◌, if◌then◌else◌}
 use Rattle.gt_model.specs.declared.entry.Entry.{Entry}
 use Rattle.gt_model.specs.declared.entry.Entry.TheVariants.{Page, Sub, Via}
-use Rattle.gt_model.specs.declared.handle.Handle.{Handle as Name}
+use Rattle.gt_model.specs.declared.handle.Handle.{Handle}
 use Rattle.gt_live.specs.Mappings.{unused_handle}
 use Rattle.gt_attached.specs.Encoding.{encoded}
 use Rattle.gt_attached.specs.declared.answer.AttachedOutcome.{AttachedOutcome}
@@ -17,7 +17,7 @@ is_of_domain d name = (name.run == d.run) && (name.dom == d.guest.domain.seat.do
 
 -- the handle that a name gives in a call of this domain: if the name is of another domain or run, one under which the
 -- domain has no mapping
-abbrev pub handle_named : CDomain → MapHandle → Name
+abbrev pub handle_named : CDomain → MapHandle → Handle
 handle_named d name =
     if is_of_domain d name then record { serial = name.serial; key = name.key } else unused_handle d.guest.domain
 

@@ -1,12 +1,10 @@
 -- The answer of an export, for the call that it made.
 use Rattle.std.specs.Prelude.{◌≡◌, ◌≤◌, ◌⊎◌, ℕ, List, Option, Some, None, IsSome, Result, Ok, Err, OnOk, OnErr}
-use Rattle.gt_c.specs.Prelude.{GrantRef, DomId, Memory, Size, Denial, Table, may, Hypercall, Kept}
-use Rattle.gt_c.specs.Prelude.{HasNone, AppendsRecord, KeepsRoom, CallResult, Mapped, Request, Name, Domain}
-use Rattle.gt_c.specs.Prelude.{Answered, AnswersQuietly}
-use Rattle.gt_c.specs.Prelude.{AnswersRecorded, KeepsPinned, LeavesSettled, Settles, Departure, LeftGuest, Resets}
-use Rattle.gt_c.specs.Prelude.{taken_of}
-use Rattle.gt_c.specs.Prelude.{MapAnswered, mapping_reply, subject_of, record_of_result, verdict_of, Removes, encoded}
-use Rattle.gt_c.specs.Prelude.{Seated, StaysIdle, EncodedAnswer, AttachedOutcome, CDomain}
+use Rattle.gt_c.specs.Prelude.{GrantRef, DomId, Memory, Size, Denial, Table, may, Hypercall, Record, HasNone}
+use Rattle.gt_c.specs.Prelude.{AppendsRecord, KeepsRoom, CallResult, HeldPin, Request, Handle, Domain, Answered}
+use Rattle.gt_c.specs.Prelude.{AnswersQuietly, AnswersRecorded, KeepsPinned, LeavesSettled, Settles, Departure}
+use Rattle.gt_c.specs.Prelude.{LeftGuest, Resets, taken_of, MapAnswered, mapping_reply, subject_of, record_of_result}
+use Rattle.gt_c.specs.Prelude.{verdict_of, Removes, encoded, Seated, StaysIdle, EncodedAnswer, AttachedOutcome, CDomain}
 use Rattle.gt_attached.specs.declared.answer.AttachedOutcome.TheVariants as outcomes
 use Rattle.gt_audit.specs.declared.pieces.TheConstants.{MOST_RESERVED}
 use Rattle.gt_live.specs.Following.{Follows}
@@ -53,7 +51,7 @@ abbrev pub outcome : Result (Unit {0}) Denial → AttachedOutcome
 outcome (Ok done) = outcomes.Done
 outcome (Err denial) = outcomes.Denied denial
 
-abbrev pub outcome_mapped : DomId → ℕ → Result Name Denial → AttachedOutcome
+abbrev pub outcome_mapped : DomId → ℕ → Result Handle Denial → AttachedOutcome
 outcome_mapped dom run (Ok handle) = outcomes.Mapped (record { handle = handle; dom = dom; run = run })
 outcome_mapped dom run (Err denial) = outcomes.Denied denial
 
@@ -101,7 +99,7 @@ EncodesRecorded said verdict request call answer d e =
     answer d e
 
 -- the record of a map
-abbrev pub record_of_map : Domain → Hypercall → Result Name Denial → Kept
+abbrev pub record_of_map : Domain → Hypercall → Result Handle Denial → Record
 record_of_map d call r = record { dom = d.seat.dom; call = call; reply = mapping_reply r }
 
 -- the same for a map, whose mapping is kept, and is named by its domain and run
@@ -112,11 +110,11 @@ EncodesMapped request call answer d e =
     × AppendsRecord d.guest.domain.trail (record_of_map d.guest.domain call r) e.guest.domain.trail) answer d e
 
 -- the same for an unmap, whose mapping is removed
-abbrev pub EncodesUnmapped : Request → (Option (DomId × GrantRef) → Hypercall) → Name → EncodedAnswer → CDomain
+abbrev pub EncodesUnmapped : Request → (Option (DomId × GrantRef) → Hypercall) → Handle → EncodedAnswer → CDomain
     → CDomain → Type 0
 EncodesUnmapped request call name answer d e =
     EncodesResult outcome (λ r. Answered may d.guest.monitor d.guest.domain request (verdict_of r) e.guest.domain
-    × OnOk r ((p : Mapped) × Removes d.guest.domain.mappings e.guest.domain.mappings name p)
+    × OnOk r ((p : HeldPin) × Removes d.guest.domain.mappings e.guest.domain.mappings name p)
     × OnErr r (KeepsPinned d.guest.domain e.guest.domain)
     × AppendsRecord d.guest.domain.trail
     (record_of_result d.guest.domain (call (subject_of d.guest.domain name)) (verdict_of r))

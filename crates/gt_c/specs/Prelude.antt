@@ -6,7 +6,7 @@ pub use Rattle.gt_start.specs.declared.faults.EncodedFault.{EncodedFault}
 pub use Rattle.gt_start.specs.declared.settings.DomainSettings.{DomainSettings}
 pub use Rattle.gt_audit.specs.Trails.{HasNone, AppendsRecord, KeepsRoom}
 pub use Rattle.gt_audit.specs.declared.record.Hypercall.{Hypercall}
-pub use Rattle.gt_audit.specs.declared.record.Record.{Record as Kept}
+pub use Rattle.gt_audit.specs.declared.record.Record.{Record}
 pub use Rattle.gt_c.specs.declared.copies.CopySettings.{CopySettings}
 pub use Rattle.gt_c.specs.declared.copies.PlaceReport.{PlaceReport}
 pub use Rattle.gt_c.specs.declared.copies.PlacesReport.{PlacesReport}
@@ -16,7 +16,7 @@ pub use Rattle.gt_c.specs.declared.reports.EntryStatus.{EntryStatus}
 pub use Rattle.gt_c.specs.declared.reports.MappedFrame.{MappedFrame}
 pub use Rattle.gt_types.specs.declared.places.Spot.{Spot}
 pub use Rattle.gt_model.specs.declared.action.CallResult.{CallResult}
-pub use Rattle.gt_model.specs.declared.held.HeldPin.{HeldPin as Mapped}
+pub use Rattle.gt_model.specs.declared.held.HeldPin.{HeldPin}
 pub use Rattle.gt_types.specs.declared.copies.CopyArgs.{CopyArgs}
 pub use Rattle.gt_types.specs.declared.copies.End.{End}
 pub use Rattle.gt_model.specs.declared.request.Request.{Request}
@@ -24,7 +24,7 @@ pub use Rattle.gt_model.specs.Entries.{frame_of}
 pub use Rattle.gt_model.specs.declared.control.Control.{Control}
 pub use Rattle.gt_model.specs.declared.control.EntryKind.{EntryKind}
 pub use Rattle.gt_handles.specs.Handles.{value_of}
-pub use Rattle.gt_model.specs.declared.handle.Handle.{Handle as Name}
+pub use Rattle.gt_model.specs.declared.handle.Handle.{Handle}
 pub use Rattle.gt_live.specs.Closing.{LooksAtOwn, Resets}
 pub use Rattle.gt_live.specs.Domains.{Answered, AnswersQuietly, AnswersRecorded, KeepsPinned, MapAnswered}
 pub use Rattle.gt_live.specs.Domains.{mapping_reply, subject_of, record_of_result, verdict_of}

@@ -1,7 +1,7 @@
 -- What each call promises about the domain of a handle, before and after.
 use Rattle.std.specs.Prelude.{◌≡◌, ℕ, List, Option}
 use Rattle.std.specs.Borrow.{Bor}
-use Rattle.gt_audit.specs.declared.record.Hypercall.TheVariants as calls
+use Rattle.gt_audit.specs.declared.record.Hypercall.TheVariants as hypercalls
 use Rattle.gt_model.specs.declared.request.Request.TheVariants as requests
 use Rattle.gt_live.specs.Domains.{verdict_of, verdict_of_frames, verdict_of_size, verdict_of_version}
 use Rattle.gt_attached.specs.declared.answer.EncodedAnswer.{EncodedAnswer}
@@ -14,7 +14,7 @@ use Rattle.gt_c.specs.declared.reports.EntryReport.{EntryReport}
 use Rattle.gt_c.specs.declared.reports.MappingReport.{MappingReport}
 use Rattle.gt_c.specs.declared.reports.RecordReport.{RecordReport}
 use Rattle.gt_types.specs.Denial.{denial_of}
-use Rattle.gt_types.specs.declared.denial.Facts.TheVariants.{None as NoFacts}
+use Rattle.gt_types.specs.declared.denial.Facts.TheVariants as facts
 use Rattle.gt_types.specs.declared.denial.Rule.TheVariants.{N6}
 use Rattle.gt_attached.specs.declared.answer.AttachedOutcome.TheVariants as outcomes
 use Rattle.gt_c.specs.Asking.{RefusesForeign, handle_named, page, spelled, sub, via}
@@ -70,38 +70,40 @@ Promotes gref answer before after = CallsGuest before after answer (EncodesDone 
 abbrev pub Maps : ℕ → ℕ → ℕ → EncodedAnswer → Option CDomain → Option CDomain → Type 0
 Maps dom gref flags answer before after =
     CallsGuest before after answer
-    (EncodesMapped (requests.Map (dom_of dom) (ref_at gref) flags) (calls.Map (dom_of dom) (ref_at gref) flags) answer)
+    (EncodesMapped (requests.Map (dom_of dom) (ref_at gref) flags)
+    (hypercalls.Map (dom_of dom) (ref_at gref) flags) answer)
 
 -- a mapping is unmapped; by the name of another domain or run none is, and the answer is N6
 abbrev pub Unmaps : MapHandle → EncodedAnswer → Option CDomain → Option CDomain → Type 0
 Unmaps name answer before after =
     CallsGuest before after answer (λ d e.
-    EncodesUnmapped (requests.Unmap (handle_named d name)) calls.Unmap (handle_named d name) answer d e
-    × RefusesForeign d name (outcomes.Denied (denial_of N6 NoFacts)) answer)
+    EncodesUnmapped (requests.Unmap (handle_named d name)) hypercalls.Unmap (handle_named d name) answer d e
+    × RefusesForeign d name (outcomes.Denied (denial_of N6 facts.None)) answer)
 
 -- the table gets a version, or more frames
 abbrev pub SetsVersion : ℕ → EncodedAnswer → Option CDomain → Option CDomain → Type 0
 SetsVersion version answer before after =
     CallsGuest before after answer
-    (EncodesRecorded outcome verdict_of (requests.SetVersion version) (calls.SetVersion version) answer)
+    (EncodesRecorded outcome verdict_of (requests.SetVersion version) (hypercalls.SetVersion version) answer)
 
 abbrev pub SetsUp : ℕ → EncodedAnswer → Option CDomain → Option CDomain → Type 0
 SetsUp frames answer before after =
     CallsGuest before after answer
-    (EncodesRecorded outcome_frames verdict_of_frames (requests.SetupTable frames) (calls.SetupTable frames) answer)
+    (EncodesRecorded outcome_frames verdict_of_frames (requests.SetupTable frames)
+    (hypercalls.SetupTable frames) answer)
 
 -- the table of a domain is queried
 abbrev pub AsksSize : ℕ → EncodedAnswer → Option CDomain → Option CDomain → Type 0
 AsksSize dom answer before after =
     CallsGuest before after answer
-    (EncodesRecorded outcome_size verdict_of_size (requests.QuerySize (dom_of dom)) (calls.QuerySize (dom_of dom))
+    (EncodesRecorded outcome_size verdict_of_size (requests.QuerySize (dom_of dom)) (hypercalls.QuerySize (dom_of dom))
     answer)
 
 abbrev pub AsksVersion : ℕ → EncodedAnswer → Option CDomain → Option CDomain → Type 0
 AsksVersion dom answer before after =
     CallsGuest before after answer
     (EncodesRecorded outcome_version verdict_of_version (requests.GetVersion (dom_of dom))
-    (calls.GetVersion (dom_of dom)) answer)
+    (hypercalls.GetVersion (dom_of dom)) answer)
 
 -- a mapping, or a record, is returned; none is by the name of another domain or run
 abbrev pub ReportsMapping : MapHandle → MappingReport → Option CDomain → Option CDomain → Type 0

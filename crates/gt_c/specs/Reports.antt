@@ -1,7 +1,7 @@
 -- What exports return in layouts of C: the places of a copy, a mapping, a record, an entry.
 use Rattle.std.specs.Prelude.{◌≡◌, ◌⊎◌, ℕ, Bool, true, false, Option, Some, None, Result, Ok, Err}
-use Rattle.gt_c.specs.Prelude.{slice_get, Dir, Read, Write, Denial, Kept, Spot, Mapped, CopyArgs, End, frame_of, Name}
-use Rattle.gt_c.specs.Prelude.{value_of, encoded, no_end, record_kept, BeginsAccess, EndsAccess, EncodedAnswer}
+use Rattle.gt_c.specs.Prelude.{slice_get, Dir, Read, Write, Denial, Record, Spot, HeldPin, CopyArgs, End, frame_of}
+use Rattle.gt_c.specs.Prelude.{Handle, value_of, encoded, no_end, record_kept, BeginsAccess, EndsAccess, EncodedAnswer}
 use Rattle.gt_c.specs.Prelude.{AttachedOutcome, CopyPlaces, CopyEnd, may, Control, EntryKind, EntryStatus, GrantRef}
 use Rattle.gt_c.specs.Prelude.{LooksAtOwn, StaysIdle, EncodedRecord, CopySettings, PlaceReport, PlacesReport}
 use Rattle.gt_c.specs.Prelude.{MappedFrame, CDomain}
@@ -64,7 +64,7 @@ abbrev pub no_mapping : MappedFrame
 no_mapping = record { frame = 0; gref = 0; owner = 0; writes = 0 }
 
 -- a mapping as C reads it
-abbrev pub mapping_report : Option Mapped → MappedFrame
+abbrev pub mapping_report : Option HeldPin → MappedFrame
 mapping_report None = no_mapping
 mapping_report (Some p) =
     record { frame = frame_of p.entry; gref = p.gref.0; owner = p.dom.0; writes = writes p.dir }
@@ -75,7 +75,7 @@ outcome_present None = outcomes.Absent
 outcome_present (Some a) = outcomes.Done
 
 -- these are the mapping under this handle, if there is one, and the answer; nothing changed
-abbrev pub EncodesMapping : Name → MappedFrame → EncodedAnswer → CDomain → CDomain → Type 0
+abbrev pub EncodesMapping : Handle → MappedFrame → EncodedAnswer → CDomain → CDomain → Type 0
 EncodesMapping name mapping answer d e =
     (answer ≡ encoded (outcome_present (value_of d.guest.domain.mappings name)))
     × (mapping ≡ mapping_report (value_of d.guest.domain.mappings name)) × (e ≡ d)
@@ -96,7 +96,7 @@ no_record =
     }
 
 -- a record as C reads it
-abbrev pub kept_record : Option Kept → EncodedRecord
+abbrev pub kept_record : Option Record → EncodedRecord
 kept_record None = no_record
 kept_record (Some r) = record_kept r
 

@@ -12,20 +12,18 @@ pub use Rattle.std.{specs.Prelude.MatchBool, specs.Prelude.nat_le, specs.Prelude
 pub use Rattle.std.{specs.Prelude.◌==◌, specs.Option.option_or}
 pub use Rattle.gt_types.specs.{Names.domain_of, Names.resolved, declared.Dir.TheVariants.Read}
 pub use Rattle.gt_types.specs.{declared.Dir.TheVariants.Write, declared.DomId.DomId, declared.GrantRef.GrantRef}
-pub use Rattle.gt_types.specs.{declared.Use.TheVariants.Copy as ForCopy, declared.denial.Rule.Rule}
-pub use Rattle.gt_types.specs.{declared.denial.Rule.TheVariants.N19, declared.limits.TheConstants.LAST_GENERATION}
-pub use Rattle.gt_types.specs.{declared.limits.TheConstants.MAX_TRIES, declared.Dir.Dir, declared.copies.End.End}
-pub use Rattle.gt_types.specs.{declared.copies.CopyArgs.CopyArgs, Copies.is_dest_granted, Copies.is_source_granted}
+pub use Rattle.gt_types.specs.{declared.denial.Rule.Rule, declared.denial.Rule.TheVariants.N19}
+pub use Rattle.gt_types.specs.{declared.limits.TheConstants.LAST_GENERATION, declared.limits.TheConstants.MAX_TRIES}
+pub use Rattle.gt_types.specs.{declared.Dir.Dir, declared.copies.End.End, declared.copies.CopyArgs.CopyArgs}
+pub use Rattle.gt_types.specs.{Copies.is_dest_granted, Copies.is_source_granted}
 pub use Rattle.gt_model.specs.Bytes.{IsLaidOutV2, Spells, SpellsV1, SpellsV2, field, first_refused, flags_of, is_set}
 pub use Rattle.gt_model.specs.Spelling.{entry_of, entry_with}
 pub use Rattle.gt_model.specs.Words.{control_of, header_of}
 pub use Rattle.gt_model.specs.declared.change.EntryChange.{EntryChange}
 pub use Rattle.gt_model.specs.declared.control.Control.{Control}
 pub use Rattle.gt_model.specs.declared.control.EntryKind.{EntryKind}
-pub use Rattle.gt_model.specs.declared.control.EntryKind.TheVariants.{Sub as KindSub}
 pub use Rattle.gt_model.specs.declared.entry.Entry.{Entry}
 pub use Rattle.gt_model.specs.declared.entry.Entry.TheVariants.{Invalid, Page, Sub, Via}
-pub use Rattle.gt_model.specs.declared.change.BodyWord.TheVariants.{First as FirstHalf, Second as SecondHalf}
 pub use Rattle.gt_model.specs.Asking.{SpellsItsEntry, asked, begun_of, bytes_begun, bytes_of, entry_spelled}
 pub use Rattle.gt_model.specs.Asking.{plainly_asked}
 pub use Rattle.gt_model.specs.Rules.{grant_begun, CallerKnowledge, before_pin, begun, cannot_stand, copy_denied}
@@ -57,11 +55,10 @@ pub use Rattle.gt_calls.specs.{declared.copying.PinPurpose.PinPurpose, declared.
 pub use Rattle.gt_calls.specs.{declared.copying.PinPurpose.TheVariants.Mapping}
 pub use Rattle.gt_calls.specs.{declared.copying.PinPurpose.TheVariants.Source, declared.leg.LegNext.LegNext}
 pub use Rattle.gt_calls.specs.{declared.leg.LegNext.TheVariants.Going, declared.leg.LegNext.TheVariants.Pinned}
-pub use Rattle.gt_calls.specs.{declared.leg.LegNext.TheVariants.Refused as LegRefused, declared.leg.LegPhase.LegPhase}
-pub use Rattle.gt_calls.specs.{declared.leg.LegPhase.TheVariants.Body, declared.leg.LegPhase.TheVariants.Header}
-pub use Rattle.gt_calls.specs.{declared.leg.LegPhase.TheVariants.Look, declared.leg.LegPhase.TheVariants.Pinning}
-pub use Rattle.gt_calls.specs.{declared.leg.LegPhase.TheVariants.Relook, declared.leg.LegPhase.TheVariants.Second}
-pub use Rattle.gt_calls.specs.{declared.call.Call.Call}
+pub use Rattle.gt_calls.specs.{declared.leg.LegPhase.LegPhase, declared.leg.LegPhase.TheVariants.Body}
+pub use Rattle.gt_calls.specs.{declared.leg.LegPhase.TheVariants.Header, declared.leg.LegPhase.TheVariants.Look}
+pub use Rattle.gt_calls.specs.{declared.leg.LegPhase.TheVariants.Pinning, declared.leg.LegPhase.TheVariants.Relook}
+pub use Rattle.gt_calls.specs.{declared.leg.LegPhase.TheVariants.Second, declared.call.Call.Call}
 pub use Rattle.gt_model.specs.Holding.{held_by, last_first, no_pins}
 pub use Rattle.gt_model.specs.Path.{AfterPin, AfterRefusal, Continuation, FitsStep, IsExchanged, IsWord, accesses}
 pub use Rattle.gt_model.specs.Path.{after_beginning, at_first_look, beyond, copies, dest_pair, end_leg, entry_refusal}
@@ -70,7 +67,7 @@ pub use Rattle.gt_model.specs.Path.{reads_second, refused_holding, rule_of_try, 
 pub use Rattle.gt_model.specs.Path.{to_dest, try_pin, turn, unless_refused}
 pub use Rattle.gt_calls.specs.Known.{entry_in, knows}
 pub use Rattle.gt_model.specs.declared.action.Action.{Action}
-pub use Rattle.gt_model.specs.declared.action.Action.TheVariants.{Done, Step as Makes}
+pub use Rattle.gt_model.specs.declared.action.Action.TheVariants.{Done}
 pub use Rattle.gt_model.specs.declared.action.Observation.{Observation}
 pub use Rattle.gt_model.specs.declared.action.Observation.TheVariants.{Missed, Nothing, Taken, Word}
 pub use Rattle.gt_model.specs.declared.action.Step.{Step}

@@ -1,11 +1,12 @@
 -- What holds for a call that no rule answers at its beginning.
 use Rattle.std.specs.Prelude.{◌≡◌, ◌≢◌, ◌⊎◌, ◌+◌, ◌<◌, ◌≤◌, ℕ, Bool, true, false, List, [], ◌∷◌, Some, zero, suc}
 use Rattle.std.specs.Prelude.{Option, None}
-use Rattle.gt_calls.specs.Prelude.{arith, FRAME_SIZE, LAST_GENERATION, MAX_MAPPINGS, MAX_TABLE_FRAMES, DomId}
-use Rattle.gt_calls.specs.Prelude.{GrantRef, TypeId, Write, Perms, Triple, resolved, Entry, EntryChange, ToReadOnly}
-use Rattle.gt_calls.specs.Prelude.{ToWritable, Handle, OpenRequest, Grant, Revoke, Demote, Promote, Map, Unmap}
-use Rattle.gt_calls.specs.Prelude.{Release, Load, SetVersion, SetupTable, QuerySize, GetVersion, Store, Peek, Poke}
-use Rattle.gt_calls.specs.Prelude.{Copy, Probe, Withdraw, HeldPin, CopyArgs, End, Rule, CallResult, SERIAL_LIMIT}
+use Rattle.gt_calls.specs.Prelude.{arith, FRAME_SIZE, LAST_GENERATION, MAX_MAPPINGS, MAX_TABLE_FRAMES, DomId, GrantRef}
+use Rattle.gt_calls.specs.Prelude.{TypeId, Write, Perms, Triple, resolved, Entry, EntryChange, Handle, OpenRequest}
+use Rattle.gt_calls.specs.Prelude.{Grant, Revoke, Demote, Promote, Map, Unmap, Release, Load, SetVersion, SetupTable}
+use Rattle.gt_calls.specs.Prelude.{QuerySize, GetVersion, Store, Peek, Poke, Copy, Probe, Withdraw, HeldPin, CopyArgs}
+use Rattle.gt_calls.specs.Prelude.{End, Rule, CallResult, SERIAL_LIMIT}
+use Rattle.gt_model.specs.declared.change.EntryChange.TheVariants as changes
 use Rattle.gt_model.specs.Rules.{CallerKnowledge, IsOfRun, is_already, cannot_stand, frame_count_of, is_invalid}
 use Rattle.gt_model.specs.Rules.{size_of, map_dir, rights_to_map, rights_to_unmap, rights_to_copy, rights_to_setup}
 use Rattle.gt_model.specs.Rules.{rights_to_query, begun, first, refused_when, copy_begun, granted_when, has_own_ends}
@@ -118,8 +119,8 @@ abbrev pub Opens : CallerKnowledge → DomId → OpenRequest → Type 0
 Opens k caller (Grant gref entry) = OpensGrant k gref entry
 Opens k caller (Revoke gref) = OpensRevoke k gref
 Opens k caller (Withdraw gref) = OpensRevoke k gref
-Opens k caller (Demote gref) = OpensTurn k ToReadOnly gref
-Opens k caller (Promote gref) = OpensTurn k ToWritable gref
+Opens k caller (Demote gref) = OpensTurn k changes.Demote gref
+Opens k caller (Promote gref) = OpensTurn k changes.Promote gref
 Opens k caller (Map dom gref flags) = OpensMap k caller dom flags
 Opens k caller (Unmap handle) = OpensUnmap k caller handle
 Opens k caller (Release handle) = OpensRelease k handle

@@ -1,15 +1,14 @@
 -- Names of other crates, and of the code, that the definitions here use.
 pub use Rattle.gt_model.specs.declared.action.Action.{Action}
-pub use Rattle.gt_model.specs.declared.action.Action.TheVariants.{Done, Step as Makes}
+pub use Rattle.gt_model.specs.declared.action.Action.TheVariants.{Done}
 pub use Rattle.gt_types.specs.declared.places.Spot.{Spot}
 pub use Rattle.gt_model.specs.declared.action.Observation.{Observation}
 pub use Rattle.gt_model.specs.declared.action.Observation.TheVariants.{Missed, Nothing, Taken, Word}
 pub use Rattle.gt_model.specs.declared.action.Step.{Step}
-pub use Rattle.gt_model.specs.declared.action.Step.TheVariants.{Copy as CopyBytes, Exchange, LookBody, LookControl}
-pub use Rattle.gt_model.specs.declared.action.Step.TheVariants.{LookHeader, Pin, Read as ReadBytes, StoreBody}
-pub use Rattle.gt_model.specs.declared.action.Step.TheVariants.{StoreHeader, Unpin, Write as WriteBytes}
+pub use Rattle.gt_model.specs.declared.action.Step.TheVariants.{Exchange, LookBody, LookControl, LookHeader, Pin}
+pub use Rattle.gt_model.specs.declared.action.Step.TheVariants.{StoreBody, StoreHeader, Unpin}
 pub use Rattle.gt_model.specs.declared.action.CallValue.{CallValue}
-pub use Rattle.gt_model.specs.declared.action.CallValue.TheVariants.{Frames, Size as SizeTold, Version as VersionTold}
+pub use Rattle.gt_model.specs.declared.action.CallValue.TheVariants.{Frames}
 pub use Rattle.gt_model.specs.declared.action.CallResult.{CallResult}
 pub use Rattle.gt_model.specs.declared.action.CallResult.TheVariants.{Given, Granted, Mapped, Refused}
 pub use Rattle.gt_calls.specs.declared.call.Call.{Call}
@@ -28,7 +27,7 @@ pub use Rattle.gt_model.specs.declared.held.AccessPath.TheVariants.{Direct, Own,
 pub use Rattle.gt_calls.specs.declared.known.CallerState.{CallerState}
 pub use Rattle.gt_model.specs.declared.leg.Leg.{Leg}
 pub use Rattle.gt_calls.specs.declared.leg.LegNext.{LegNext}
-pub use Rattle.gt_calls.specs.declared.leg.LegNext.TheVariants.{Going, Pinned, Refused as LegRefused}
+pub use Rattle.gt_calls.specs.declared.leg.LegNext.TheVariants.{Going, Pinned}
 pub use Rattle.gt_calls.specs.declared.leg.LegPhase.{LegPhase}
 pub use Rattle.gt_calls.specs.declared.leg.LegPhase.TheVariants.{Body, Header, Look, Pinning, Relook, Second}
 pub use Rattle.gt_model.specs.declared.request.OpenRequest.{OpenRequest}
@@ -38,7 +37,6 @@ pub use Rattle.gt_model.specs.declared.request.OpenRequest.TheVariants.{SetVersi
 pub use Rattle.gt_model.specs.declared.request.OpenRequest.TheVariants.{Unmap, Withdraw}
 pub use Rattle.gt_types.specs.declared.copies.CopyArgs.{CopyArgs}
 pub use Rattle.gt_types.specs.declared.copies.End.{End}
-pub use Rattle.gt_model.specs.declared.request.PinHolder.TheVariants.{Leg as ByLeg, Mapping as ByHandle}
 pub use Rattle.gt_model.specs.declared.request.Request.{Request}
 pub use Rattle.gt_model.specs.Bytes.{Spells, field, first_refused, flags_of, is_set}
 pub use Rattle.gt_model.specs.Entries.{IsEntry, frame_of}
@@ -46,14 +44,9 @@ pub use Rattle.gt_model.specs.Permits.{allows_direction, forwards, is_copying, p
 pub use Rattle.gt_model.specs.Spelling.{entry_of}
 pub use Rattle.gt_model.specs.Words.{control_of, control_word, header_of}
 pub use Rattle.gt_model.specs.declared.change.EntryChange.{EntryChange}
-pub use Rattle.gt_model.specs.declared.change.EntryChange.TheVariants.{Demote as ToReadOnly, Promote as ToWritable}
-pub use Rattle.gt_model.specs.declared.change.EntryChange.TheVariants.{Publish, Revoke as ToInvalid}
-pub use Rattle.gt_model.specs.declared.change.EntryChange.TheVariants.{Withdraw as ToWithdrawn}
+pub use Rattle.gt_model.specs.declared.change.EntryChange.TheVariants.{Publish}
 pub use Rattle.gt_model.specs.declared.change.BodyWord.{BodyWord}
-pub use Rattle.gt_model.specs.declared.change.BodyWord.TheVariants.{First as FirstHalf, Second as SecondHalf}
 pub use Rattle.gt_model.specs.declared.control.Control.{Control}
-pub use Rattle.gt_model.specs.declared.control.EntryKind.TheVariants.{Invalid as KindInvalid, Page as KindPage}
-pub use Rattle.gt_model.specs.declared.control.EntryKind.TheVariants.{Sub as KindSub, Via as KindVia}
 pub use Rattle.gt_model.specs.declared.entry.Entry.{Entry}
 pub use Rattle.gt_model.specs.declared.entry.Entry.TheVariants.{Invalid, Page, Sub, Via}
 pub use Rattle.gt_handles.specs.Handles.{HandleMap, count_of, value_of}
@@ -66,11 +59,9 @@ pub use Rattle.gt_types.specs.declared.DomId.{DomId}
 pub use Rattle.gt_types.specs.declared.GrantRef.{GrantRef}
 pub use Rattle.gt_types.specs.declared.TypeId.{TypeId}
 pub use Rattle.gt_types.specs.declared.Use.{Use}
-pub use Rattle.gt_types.specs.declared.Use.TheVariants.{Copy as ForCopy, Map as ForMap}
 pub use Rattle.gt_types.specs.declared.config.DomainConfig.{DomainConfig}
 pub use Rattle.gt_types.specs.declared.denial.Denial.{Denial}
-pub use Rattle.gt_types.specs.declared.denial.Facts.TheVariants.{Entry as EntryFacts, Field as FieldFacts}
-pub use Rattle.gt_types.specs.declared.denial.Facts.TheVariants.{Header as HeaderFacts, None as NoFacts, Policy}
+pub use Rattle.gt_types.specs.declared.denial.Facts.TheVariants.{Policy}
 pub use Rattle.gt_types.specs.declared.denial.Field.{Field}
 pub use Rattle.gt_types.specs.declared.denial.Rule.{Rule}
 pub use Rattle.gt_types.specs.declared.denial.Rule.TheVariants.{N1, N10, N11, N12, N13, N14, N15, N16, N17, N18, N19}

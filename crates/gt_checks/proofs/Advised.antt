@@ -17,18 +17,18 @@ use Rattle.gt_checks.specs.declared.fault.WhyFault.TheVariants.{Text, NoSource, 
 use Rattle.gt_policy_list.specs.Faults.{listing_fault_of, listing_read_fault}
 use Rattle.gt_policy_list.specs.Reading.{IsNoText}
 use Rattle.gt_policy_list.specs.declared.fault.ListingFault.{ListingFault}
-use Rattle.gt_policy_list.specs.declared.fault.ListingFault.TheVariants as faults
+use Rattle.gt_policy_list.specs.declared.fault.ListingFault.TheVariants as listing_faults
 use Rattle.gt_policy.specs.Grammar.{at}
 use Rattle.gt_policy.specs.Shown.{fault_shown}
 use Rattle.gt_policy.specs.Whole.{ReadsAs, too_long}
 use Rattle.gt_policy.specs.declared.fault.TokenFault.{TokenFault}
 use Rattle.gt_policy.specs.declared.fault.TokenFaultKind.TheVariants.{Limit}
 use Rattle.gt_policy.specs.declared.parse.PolicyFaultKind.{PolicyFaultKind}
-use Rattle.gt_policy.specs.declared.parse.PolicyFaultKind.TheVariants as kinds
+use Rattle.gt_policy.specs.declared.parse.PolicyFaultKind.TheVariants as policy_fault_kinds
 use Rattle.gt_text.specs.Laws.{keeps_same, of_any_input, take_whole}
 use Rattle.gt_text.specs.Streams.{AppendsBeginning, OfInput}
 use Rattle.gt_text.specs.declared.fault.ReadFault.{ReadFault}
-use Rattle.gt_text.specs.declared.fault.ReadFault.TheVariants as reads
+use Rattle.gt_text.specs.declared.fault.ReadFault.TheVariants as read_faults
 
 -- ---- a report that is written
 
@@ -65,11 +65,11 @@ clean text found (sound m xs _ says lined none _ _) = rw (no_error found none) (
 
 told : (form : ReportForm) (file text : List ℕ) (found : List Finding) (old new : Option (List ℕ)) (r : Result Bool ListingFault) → Judges text found → WritesFindings form file found old new r → CheckedText form file text old new r
 told form file text found old new (Ok answer) judges (is, (report, printed, went)) = (report, (found, judges, printed), subst (IsCleanText text) (sym is) (clean text found judges), went)
-told form file text found old new (Err faults.Write) judges (report, printed, began) = (report, (found, judges, printed), began)
-told form file text found old new (Err faults.Memory) judges t = t
-told form file text found old new (Err faults.Read) judges t = absurd t
-told form file text found old new (Err (faults.Utf8 line)) judges t = absurd t
-told form file text found old new (Err (faults.Policy shown)) judges t = absurd t
+told form file text found old new (Err listing_faults.Write) judges (report, printed, began) = (report, (found, judges, printed), began)
+told form file text found old new (Err listing_faults.Memory) judges t = t
+told form file text found old new (Err listing_faults.Read) judges t = absurd t
+told form file text found old new (Err (listing_faults.Utf8 line)) judges t = absurd t
+told form file text found old new (Err (listing_faults.Policy shown)) judges t = absurd t
 
 -- the findings went out
 pub checked_text : (form : ReportForm) (file text : List ℕ) (found given : List Finding) (old new : Option (List ℕ)) (r : Result Bool ListingFault) → Judges text found → given ≡ found → WritesFindings form file given old new r
@@ -81,11 +81,11 @@ take_shorter n xs = rw length-take (omega arith)
 
 from_text : (form : ReportForm) (file bytes : List ℕ) (old new : Option (List ℕ)) (r : Result Bool ListingFault) → IsUtf8 bytes → CheckedText form file bytes old new r → Checked form file bytes old new r
 from_text form file bytes old new (Ok answer) utf8 c = (utf8, c)
-from_text form file bytes old new (Err faults.Write) utf8 c = (utf8, c)
-from_text form file bytes old new (Err faults.Memory) utf8 c = c
-from_text form file bytes old new (Err faults.Read) utf8 c = absurd c
-from_text form file bytes old new (Err (faults.Utf8 line)) utf8 c = absurd c
-from_text form file bytes old new (Err (faults.Policy shown)) utf8 c = absurd c
+from_text form file bytes old new (Err listing_faults.Write) utf8 c = (utf8, c)
+from_text form file bytes old new (Err listing_faults.Memory) utf8 c = c
+from_text form file bytes old new (Err listing_faults.Read) utf8 c = absurd c
+from_text form file bytes old new (Err (listing_faults.Utf8 line)) utf8 c = absurd c
+from_text form file bytes old new (Err (listing_faults.Policy shown)) utf8 c = absurd c
 
 pub whole_read : (all bytes : List ℕ) → bytes ≡ take 1048577 all → length bytes ≤ 1048576 → bytes ≡ all
 whole_read all bytes read short =
@@ -103,16 +103,16 @@ too_many all bytes read long =
     omega (arith, many, take_shorter 1048577 all)
 
 pub checked_no : (form : ReportForm) (file all bytes : List ℕ) (fault : ListingFault) (old : Option (List ℕ)) → bytes ≡ take 1048577 all → IsNoText bytes fault → Checked form file all old old (Err fault)
-checked_no form file all bytes (faults.Utf8 line) old read h = subst (λ (l : List ℕ). Checked form file l old old (Err (faults.Utf8 line))) (whole_read all bytes read h.0) (h, keeps_same old)
-checked_no form file all bytes (faults.Policy shown) old read h =
+checked_no form file all bytes (listing_faults.Utf8 line) old read h = subst (λ (l : List ℕ). Checked form file l old old (Err (listing_faults.Utf8 line))) (whole_read all bytes read h.0) (h, keeps_same old)
+checked_no form file all bytes (listing_faults.Policy shown) old read h =
     let long = too_many all bytes read h.0 in (at 1 Limit, h.1, (inl long, too_long all long), keeps_same old)
-checked_no form file all bytes faults.Memory old read h = absurd h
-checked_no form file all bytes faults.Read old read h = absurd h
-checked_no form file all bytes faults.Write old read h = absurd h
+checked_no form file all bytes listing_faults.Memory old read h = absurd h
+checked_no form file all bytes listing_faults.Read old read h = absurd h
+checked_no form file all bytes listing_faults.Write old read h = absurd h
 
 unread : (form : ReportForm) (file all : List ℕ) (old : Option (List ℕ)) (error : ReadFault) → Checked form file all old old (Err (listing_read_fault error))
-unread form file all old reads.Memory = keeps_same old
-unread form file all old reads.Read = keeps_same old
+unread form file all old read_faults.Memory = keeps_same old
+unread form file all old read_faults.Read = keeps_same old
 
 pub checked_unread : (form : ReportForm) (file : List ℕ) (known old : Option (List ℕ)) (error : ReadFault) (fault : ListingFault) → fault ≡ listing_read_fault error → OfInput known (λ input. Checked form file input old old (Err fault))
 checked_unread form file known old error fault is =
@@ -129,23 +129,23 @@ asked_lines file text lines q e allowed old new (Ok answer) same is (of, went) =
 asked_lines file text lines q e allowed old new (Err NoSource) same is w = absurd w
 asked_lines file text lines q e allowed old new (Err NoTarget) same is w = absurd w
 asked_lines file text lines q e allowed old new (Err NoPermission) same is w = absurd w
-asked_lines file text lines q e allowed old new (Err (Text faults.Write)) same is w =
+asked_lines file text lines q e allowed old new (Err (Text listing_faults.Write)) same is w =
     (allowed, e, is, subst (λ (l : List ℕ). AppendsBeginning old new l) same w)
-asked_lines file text lines q e allowed old new (Err (Text faults.Memory)) same is w = absurd w
-asked_lines file text lines q e allowed old new (Err (Text faults.Read)) same is w = absurd w
-asked_lines file text lines q e allowed old new (Err (Text (faults.Utf8 line))) same is w = absurd w
-asked_lines file text lines q e allowed old new (Err (Text (faults.Policy shown))) same is w = absurd w
+asked_lines file text lines q e allowed old new (Err (Text listing_faults.Memory)) same is w = absurd w
+asked_lines file text lines q e allowed old new (Err (Text listing_faults.Read)) same is w = absurd w
+asked_lines file text lines q e allowed old new (Err (Text (listing_faults.Utf8 line))) same is w = absurd w
+asked_lines file text lines q e allowed old new (Err (Text (listing_faults.Policy shown))) same is w = absurd w
 
 -- the text is not a policy
 refused : (file text : List ℕ) (q : WhyQuestion) (line : ℕ) (kind : PolicyFaultKind) (old : Option (List ℕ)) → ((f : TokenFault) → fault_shown (record { line = line; kind = kind }) ≡ Some f → ReadsAs text (Err f))
     → AskedOf file q text old old (Err (Text (listing_fault_of line kind)))
-refused file text q line kinds.Memory old says = keeps_same old
-refused file text q line kinds.Syntax old says = (_, refl, says _ refl, keeps_same old)
-refused file text q line (kinds.Unknown name) old says = (_, refl, says _ refl, keeps_same old)
-refused file text q line (kinds.Twice name) old says = (_, refl, says _ refl, keeps_same old)
-refused file text q line (kinds.Permission name) old says = (_, refl, says _ refl, keeps_same old)
-refused file text q line (kinds.Outside word) old says = (_, refl, says _ refl, keeps_same old)
-refused file text q line kinds.Limit old says = (_, refl, says _ refl, keeps_same old)
+refused file text q line policy_fault_kinds.Memory old says = keeps_same old
+refused file text q line policy_fault_kinds.Syntax old says = (_, refl, says _ refl, keeps_same old)
+refused file text q line (policy_fault_kinds.Unknown name) old says = (_, refl, says _ refl, keeps_same old)
+refused file text q line (policy_fault_kinds.Twice name) old says = (_, refl, says _ refl, keeps_same old)
+refused file text q line (policy_fault_kinds.Permission name) old says = (_, refl, says _ refl, keeps_same old)
+refused file text q line (policy_fault_kinds.Outside word) old says = (_, refl, says _ refl, keeps_same old)
+refused file text q line policy_fault_kinds.Limit old says = (_, refl, says _ refl, keeps_same old)
 
 pub asked_no : (file text : List ℕ) (q : WhyQuestion) (line : ℕ) (kind : PolicyFaultKind) (fault : ListingFault) (old : Option (List ℕ)) → fault ≡ listing_fault_of line kind
     → ((f : TokenFault) → fault_shown (record { line = line; kind = kind }) ≡ Some f → ReadsAs text (Err f)) → AskedOf file q text old old (Err (Text fault))
@@ -156,11 +156,11 @@ answered_from file bytes q old new (Ok answer) utf8 c = (utf8, c)
 answered_from file bytes q old new (Err NoSource) utf8 c = (utf8, c)
 answered_from file bytes q old new (Err NoTarget) utf8 c = (utf8, c)
 answered_from file bytes q old new (Err NoPermission) utf8 c = (utf8, c)
-answered_from file bytes q old new (Err (Text faults.Write)) utf8 c = (utf8, c)
-answered_from file bytes q old new (Err (Text faults.Memory)) utf8 c = c
-answered_from file bytes q old new (Err (Text faults.Read)) utf8 c = absurd c
-answered_from file bytes q old new (Err (Text (faults.Utf8 line))) utf8 c = absurd c
-answered_from file bytes q old new (Err (Text (faults.Policy shown))) utf8 c = (c.0, c.1, (inr utf8, c.2), c.3)
+answered_from file bytes q old new (Err (Text listing_faults.Write)) utf8 c = (utf8, c)
+answered_from file bytes q old new (Err (Text listing_faults.Memory)) utf8 c = c
+answered_from file bytes q old new (Err (Text listing_faults.Read)) utf8 c = absurd c
+answered_from file bytes q old new (Err (Text (listing_faults.Utf8 line))) utf8 c = absurd c
+answered_from file bytes q old new (Err (Text (listing_faults.Policy shown))) utf8 c = (c.0, c.1, (inr utf8, c.2), c.3)
 
 pub explained_bytes : (file all bytes text : List ℕ) (q : WhyQuestion) (old new : Option (List ℕ)) (r : Result Bool WhyFault) → bytes ≡ take 1048577 all → text ≡ bytes → length bytes ≤ 1048576 → IsUtf8 bytes
     → AskedOf file q text old new r → Explained file q all old new r
@@ -168,16 +168,16 @@ explained_bytes file all bytes text q old new r read same short utf8 c =
     subst (λ (l : List ℕ). Explained file q l old new r) (whole_read all bytes read short) (answered_from file bytes q old new r utf8 (subst (λ (l : List ℕ). AskedOf file q l old new r) same c))
 
 pub explained_no : (file all bytes : List ℕ) (q : WhyQuestion) (fault : ListingFault) (old : Option (List ℕ)) → bytes ≡ take 1048577 all → IsNoText bytes fault → Explained file q all old old (Err (Text fault))
-explained_no file all bytes q (faults.Utf8 line) old read h = subst (λ (l : List ℕ). Explained file q l old old (Err (Text (faults.Utf8 line)))) (whole_read all bytes read h.0) (h, keeps_same old)
-explained_no file all bytes q (faults.Policy shown) old read h =
+explained_no file all bytes q (listing_faults.Utf8 line) old read h = subst (λ (l : List ℕ). Explained file q l old old (Err (Text (listing_faults.Utf8 line)))) (whole_read all bytes read h.0) (h, keeps_same old)
+explained_no file all bytes q (listing_faults.Policy shown) old read h =
     let long = too_many all bytes read h.0 in (at 1 Limit, h.1, (inl long, too_long all long), keeps_same old)
-explained_no file all bytes q faults.Memory old read h = absurd h
-explained_no file all bytes q faults.Read old read h = absurd h
-explained_no file all bytes q faults.Write old read h = absurd h
+explained_no file all bytes q listing_faults.Memory old read h = absurd h
+explained_no file all bytes q listing_faults.Read old read h = absurd h
+explained_no file all bytes q listing_faults.Write old read h = absurd h
 
 unasked : (file all : List ℕ) (q : WhyQuestion) (old : Option (List ℕ)) (error : ReadFault) → Explained file q all old old (Err (Text (listing_read_fault error)))
-unasked file all q old reads.Memory = keeps_same old
-unasked file all q old reads.Read = keeps_same old
+unasked file all q old read_faults.Memory = keeps_same old
+unasked file all q old read_faults.Read = keeps_same old
 
 pub explained_unread : (file : List ℕ) (q : WhyQuestion) (known old : Option (List ℕ)) (error : ReadFault) (fault : ListingFault) → fault ≡ listing_read_fault error → OfInput known (λ input. Explained file q input old old (Err (Text fault)))
 explained_unread file q known old error fault is =

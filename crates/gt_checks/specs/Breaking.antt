@@ -6,11 +6,11 @@ use Rattle.gt_policy.specs.Shown.{fault_shown}
 use Rattle.gt_policy.specs.Whole.{ReadsAs}
 use Rattle.gt_policy.specs.declared.fault.TokenFault.{TokenFault}
 use Rattle.gt_policy_check.specs.declared.report.ReportForm.{ReportForm}
-use Rattle.gt_policy_list.specs.declared.fault.ListingFault.TheVariants as listing
+use Rattle.gt_policy_list.specs.declared.fault.ListingFault.TheVariants as listing_faults
 use Rattle.gt_neverallow.specs.Breaking.{AreBreaches, IsNeverFault}
 use Rattle.gt_neverallow.specs.Printing.{IsNeverReport}
 use Rattle.gt_neverallow.specs.declared.breaking.NeverFindings.{NeverFindings}
-use Rattle.gt_neverallow.specs.declared.fault.NeverFault.TheVariants as nevers
+use Rattle.gt_neverallow.specs.declared.fault.NeverFault.TheVariants as never_faults
 use Rattle.gt_text.specs.Streams.{AppendsBeginning}
 use Rattle.gt_checks.specs.Checking.{Checked}
 use Rattle.gt_checks.specs.declared.fault.BreachFault.{BreachFault}
@@ -22,12 +22,12 @@ abbrev pub WritesBreaches : ReportForm → List ℕ → List ℕ → NeverFindin
 WritesBreaches form file never found old new (Ok clean) =
     (clean ≡ (vec_len found.breaches == 0))
     × ((report : List ℕ) × IsNeverReport form file never found report × Appends old new report)
-WritesBreaches form file never found old new (Err (Policy listing.Write)) =
+WritesBreaches form file never found old new (Err (Policy listing_faults.Write)) =
     (report : List ℕ) × IsNeverReport form file never found report × AppendsBeginning old new report
-WritesBreaches form file never found old new (Err (Policy listing.Memory)) = Keeps old new
-WritesBreaches form file never found old new (Err (Policy listing.Read)) = ⊥
-WritesBreaches form file never found old new (Err (Policy (listing.Utf8 line))) = ⊥
-WritesBreaches form file never found old new (Err (Policy (listing.Policy shown))) = ⊥
+WritesBreaches form file never found old new (Err (Policy listing_faults.Memory)) = Keeps old new
+WritesBreaches form file never found old new (Err (Policy listing_faults.Read)) = ⊥
+WritesBreaches form file never found old new (Err (Policy (listing_faults.Utf8 line))) = ⊥
+WritesBreaches form file never found old new (Err (Policy (listing_faults.Policy shown))) = ⊥
 WritesBreaches form file never found old new (Err (Statements shown)) = ⊥
 WritesBreaches form file never found old new (Err (ForbidsNothing line)) = ⊥
 
@@ -39,26 +39,26 @@ abbrev pub CheckedNeverText : ReportForm → List ℕ → List ℕ → List ℕ 
 CheckedNeverText form never given file text old new (Ok clean) =
     (found : NeverFindings) × (report : List ℕ) × AreBreaches text given found
     × (clean ≡ (vec_len found.breaches == 0)) × IsNeverReport form file never found report × Appends old new report
-CheckedNeverText form never given file text old new (Err (Policy listing.Write)) =
+CheckedNeverText form never given file text old new (Err (Policy listing_faults.Write)) =
     (found : NeverFindings) × (report : List ℕ) × AreBreaches text given found
     × IsNeverReport form file never found report × AppendsBeginning old new report
-CheckedNeverText form never given file text old new (Err (Policy listing.Memory)) = Keeps old new
-CheckedNeverText form never given file text old new (Err (Policy listing.Read)) = ⊥
-CheckedNeverText form never given file text old new (Err (Policy (listing.Utf8 line))) = ⊥
-CheckedNeverText form never given file text old new (Err (Policy (listing.Policy shown))) =
+CheckedNeverText form never given file text old new (Err (Policy listing_faults.Memory)) = Keeps old new
+CheckedNeverText form never given file text old new (Err (Policy listing_faults.Read)) = ⊥
+CheckedNeverText form never given file text old new (Err (Policy (listing_faults.Utf8 line))) = ⊥
+CheckedNeverText form never given file text old new (Err (Policy (listing_faults.Policy shown))) =
     (f : TokenFault) × (fault_shown shown ≡ Some f) × ReadsAs text (Err f) × Keeps old new
 CheckedNeverText form never given file text old new (Err (Statements shown)) =
-    IsNeverFault text given (nevers.Statements shown) × Keeps old new
+    IsNeverFault text given (never_faults.Statements shown) × Keeps old new
 CheckedNeverText form never given file text old new (Err (ForbidsNothing line)) =
-    IsNeverFault text given (nevers.ForbidsNothing line) × Keeps old new
+    IsNeverFault text given (never_faults.ForbidsNothing line) × Keeps old new
 
 -- the same for bytes; a fault of the policy is one of a check
 abbrev pub CheckedNever : ReportForm → List ℕ → List ℕ → List ℕ → List ℕ → Option (List ℕ) → Option (List ℕ)
     → Result Bool BreachFault → Type 0
 CheckedNever form never given file bytes old new (Ok clean) =
     IsUtf8 bytes × CheckedNeverText form never given file bytes old new (Ok clean)
-CheckedNever form never given file bytes old new (Err (Policy listing.Write)) =
-    IsUtf8 bytes × CheckedNeverText form never given file bytes old new (Err (Policy listing.Write))
+CheckedNever form never given file bytes old new (Err (Policy listing_faults.Write)) =
+    IsUtf8 bytes × CheckedNeverText form never given file bytes old new (Err (Policy listing_faults.Write))
 CheckedNever form never given file bytes old new (Err (Policy fault)) = Checked form file bytes old new (Err fault)
 CheckedNever form never given file bytes old new (Err (Statements shown)) =
     IsUtf8 bytes × CheckedNeverText form never given file bytes old new (Err (Statements shown))

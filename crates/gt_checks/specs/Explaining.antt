@@ -4,7 +4,7 @@ use Rattle.std.specs.Io.KnownBytes.{Appends, Keeps}
 use Rattle.std.specs.Str.{IsUtf8}
 use Rattle.gt_policy_check.specs.Why.{IsExplained}
 use Rattle.gt_policy_check.specs.declared.asking.WhyAnswer.{WhyAnswer}
-use Rattle.gt_policy_check.specs.declared.asking.WhyAnswer.TheVariants as answers
+use Rattle.gt_policy_check.specs.declared.asking.WhyAnswer.TheVariants as why_answers
 use Rattle.gt_policy_check.specs.declared.asking.Explanation.{Explanation}
 use Rattle.gt_policy_check.specs.declared.asking.WhyQuestion.{WhyQuestion}
 use Rattle.gt_checks.specs.declared.fault.WhyFault.{WhyFault}
@@ -26,8 +26,8 @@ AnswersWhy file text q answer e =
     × (e.answer ≡ answer)
 
 abbrev pub answer_for : Bool → WhyAnswer
-answer_for true = answers.Allowed
-answer_for false = answers.Denied
+answer_for true = why_answers.Allowed
+answer_for false = why_answers.Denied
 
 -- the lines went out, or a prefix of them
 abbrev pub WritesLines : List ℕ → Bool → Option (List ℕ) → Option (List ℕ) → Result Bool WhyFault → Type 0
@@ -47,11 +47,11 @@ abbrev pub AskedOf : List ℕ → WhyQuestion → List ℕ → Option (List ℕ)
 AskedOf file q text old new (Ok allowed) =
     (e : Explanation) × AnswersWhy file text q (answer_for allowed) e × Appends old new e.lines.items
 AskedOf file q text old new (Err NoSource) =
-    ((e : Explanation) × AnswersWhy file text q answers.NoSource e) × Keeps old new
+    ((e : Explanation) × AnswersWhy file text q why_answers.NoSource e) × Keeps old new
 AskedOf file q text old new (Err NoTarget) =
-    ((e : Explanation) × AnswersWhy file text q answers.NoTarget e) × Keeps old new
+    ((e : Explanation) × AnswersWhy file text q why_answers.NoTarget e) × Keeps old new
 AskedOf file q text old new (Err NoPermission) =
-    ((e : Explanation) × AnswersWhy file text q answers.NoPermission e) × Keeps old new
+    ((e : Explanation) × AnswersWhy file text q why_answers.NoPermission e) × Keeps old new
 AskedOf file q text old new (Err (Text Write)) =
     (allowed : Bool) × (e : Explanation) × AnswersWhy file text q (answer_for allowed) e
     × AppendsBeginning old new e.lines.items

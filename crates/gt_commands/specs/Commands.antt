@@ -5,19 +5,20 @@ use Rattle.gt_commands.specs.Prelude.{bytes_eq, digits_value, without_leading_pl
 use Rattle.gt_commands.specs.Prelude.{is_unsigned_in, App, Row, Text, first_of, new_app, with_subcommand, Error}
 use Rattle.gt_commands.specs.Prelude.{ArgumentConflict, DisplayHelp, DisplayVersion, InvalidSubcommand, InvalidValue}
 use Rattle.gt_commands.specs.Prelude.{MissingRequiredArgument, MissingSubcommand, TooManyValues, UnknownArgument}
-use Rattle.gt_commands.specs.Prelude.{Format, Plain, Json, Invocation, Mode, Play, Run, Policy, Rules, Check, Why, Flow}
+use Rattle.gt_commands.specs.Prelude.{Format, Json, Invocation, Mode, Play, Run, Policy, Rules, Check, Why, Flow}
 use Rattle.gt_commands.specs.Prelude.{Entries, Explore}
+use Rattle.gt_commands.specs.declared.invocation.Format.TheVariants as formats
 use Rattle.gt_commands.specs.Files.{file_names_of}
 use Rattle.gt_explore_verdict.specs.declared.judging.Claim.{Claim}
 use Rattle.gt_explore_verdict.specs.declared.judging.Claim.TheVariants.{Find, Never, Always}
 use Rattle.gt_commands.specs.declared.invocation.Exploration.{Exploration}
-use Rattle.gt_commands.specs.declared.invocation.Exploration.TheVariants as explores
+use Rattle.gt_commands.specs.declared.invocation.Exploration.TheVariants as explorations
 use Rattle.gt_commands.specs.Rules.{command_app}
 use Rattle.gt_commands.specs.Usage.{Usage, Line, gives, asks_help, wrong, Word, mark, long, short, plain}
 use Rattle.gt_commands.specs.Usage.{usage_word, line, is_true, value_given}
-use Rattle.gt_commands.specs.declared.invocation.Invocation.TheVariants as plans
+use Rattle.gt_commands.specs.declared.invocation.Invocation.TheVariants as invocations
 use Rattle.gt_commands.specs.declared.values.ExploreForm.{ExploreForm}
-use Rattle.gt_commands.specs.declared.values.ExploreForm.TheVariants as forms
+use Rattle.gt_commands.specs.declared.values.ExploreForm.TheVariants as explore_forms
 
 -- ---- the commands
 
@@ -142,8 +143,8 @@ pub data Request : Type 0 where
 
 -- `--format text` or `--format json`; text if it is left out
 abbrev pub format_of : Option Text → Option Format
-format_of None = Some Plain
-format_of (Some word) = if bytes_eq word (codes "text") then Some Plain
+format_of None = Some formats.Text
+format_of (Some word) = if bytes_eq word (codes "text") then Some formats.Text
     else (if bytes_eq word (codes "json") then Some Json else None)
 
 -- a type or a permission by its name; `-` is any
@@ -225,14 +226,14 @@ one_sought (Some claim) (Some witness) (Some trace) = sought_of claim witness tr
 
 -- `--format text`, `--format json` or `--format mermaid` of `explore`; text if it is left out
 abbrev pub explore_form_of : Option Text → Option ExploreForm
-explore_form_of None = Some forms.Text
-explore_form_of (Some word) = if bytes_eq word (codes "text") then Some forms.Text
-    else (if bytes_eq word (codes "json") then Some forms.Json
-    else (if bytes_eq word (codes "mermaid") then Some forms.Mermaid else None))
+explore_form_of None = Some explore_forms.Text
+explore_form_of (Some word) = if bytes_eq word (codes "text") then Some explore_forms.Text
+    else (if bytes_eq word (codes "json") then Some explore_forms.Json
+    else (if bytes_eq word (codes "mermaid") then Some explore_forms.Mermaid else None))
 
 -- a trace as a diagram; nothing else is one
 abbrev pub diagram_of : Option Sought → Option (Option Sought × Format)
-diagram_of (Some (one_trace number)) = Some (Some (one_diagram number), Plain)
+diagram_of (Some (one_trace number)) = Some (Some (one_diagram number), formats.Text)
 diagram_of None = None
 diagram_of (Some all_texts) = None
 diagram_of (Some (a_claim claim expression)) = None
@@ -242,9 +243,9 @@ diagram_of (Some (one_diagram number)) = None
 
 -- what is sought in a form, with its format
 abbrev pub formed : ExploreForm → Option Sought → Option (Option Sought × Format)
-formed forms.Text sought = Some (sought, Plain)
-formed forms.Json sought = Some (sought, Json)
-formed forms.Mermaid sought = diagram_of sought
+formed explore_forms.Text sought = Some (sought, formats.Text)
+formed explore_forms.Json sought = Some (sought, Json)
+formed explore_forms.Mermaid sought = diagram_of sought
 
 -- the same by the values of the options; nothing if an option does not take its value
 abbrev pub formed_of : Option (Option Sought) → Option ExploreForm → Option (Option Sought × Format)
@@ -299,8 +300,8 @@ entries_with (Some version) None format hex every file = nothing
 entries_with (Some version) (Some script) None hex every file = nothing
 entries_with (Some version) (Some None) (Some format) hex every file =
     to_tell_entries version hex every None format file
-entries_with (Some version) (Some (Some dom)) (Some Plain) hex every file =
-    to_tell_entries version hex every (Some dom) Plain file
+entries_with (Some version) (Some (Some dom)) (Some formats.Text) hex every file =
+    to_tell_entries version hex every (Some dom) formats.Text file
 entries_with (Some version) (Some (Some dom)) (Some Json) hex every file = nothing
 
 -- what a command asks for, by the values that were given: nothing if it does not take one of them
@@ -370,33 +371,33 @@ refusals _ = []
 
 -- what is sought by an exploration
 abbrev pub sought_by : Exploration → Sought
-sought_by explores.Texts = all_texts
-sought_by (explores.Decide claim expression) = a_claim claim expression.now
-sought_by (explores.Witness number) = one_script number
-sought_by explores.Witnesses = all_scripts
-sought_by (explores.Trace number) = one_trace number
-sought_by (explores.Diagram number) = one_diagram number
+sought_by explorations.Texts = all_texts
+sought_by (explorations.Decide claim expression) = a_claim claim expression.now
+sought_by (explorations.Witness number) = one_script number
+sought_by explorations.Witnesses = all_scripts
+sought_by (explorations.Trace number) = one_trace number
+sought_by (explorations.Diagram number) = one_diagram number
 
 -- what a plan asks for
 abbrev pub asked_by_plan : Invocation → Request
-asked_by_plan (plans.Play o) = to_play o.audit o.verbose o.format (option_map (λ f. f.now) o.file)
-asked_by_plan (plans.Run o) = to_run o.audit o.verbose o.format (option_map (λ f. f.now) o.file)
-asked_by_plan (plans.Explore asked o) =
+asked_by_plan (invocations.Play o) = to_play o.audit o.verbose o.format (option_map (λ f. f.now) o.file)
+asked_by_plan (invocations.Run o) = to_run o.audit o.verbose o.format (option_map (λ f. f.now) o.file)
+asked_by_plan (invocations.Explore asked o) =
     to_explore (sought_by asked) o.format o.states (option_map (λ f. f.now) o.file)
-asked_by_plan (plans.ExploreHas given o) =
+asked_by_plan (invocations.ExploreHas given o) =
     to_find_text given.now o.format o.states (option_map (λ f. f.now) o.file)
-asked_by_plan (plans.Policy verbose format file) = to_list verbose format (option_map (λ f. f.now) file)
-asked_by_plan (plans.Rules rule) = to_tell_rules (option_map (λ f. f.now) rule)
-asked_by_plan (plans.Check script files) =
+asked_by_plan (invocations.Policy verbose format file) = to_list verbose format (option_map (λ f. f.now) file)
+asked_by_plan (invocations.Rules rule) = to_tell_rules (option_map (λ f. f.now) rule)
+asked_by_plan (invocations.Check script files) =
     to_check script files.format (option_map (λ f. f.now) files.file) (file_names_of files.more)
-asked_by_plan (plans.CheckNever never files) =
+asked_by_plan (invocations.CheckNever never files) =
     to_check_never never.now files.format (option_map (λ f. f.now) files.file) (file_names_of files.more)
-asked_by_plan (plans.Why source target permission file) = to_explain (option_map (λ f. f.now) source)
+asked_by_plan (invocations.Why source target permission file) = to_explain (option_map (λ f. f.now) source)
     (option_map (λ f. f.now) target) (option_map (λ f. f.now) permission) (option_map (λ f. f.now) file)
-asked_by_plan (plans.WhyEach file) = to_explain_each file.now
-asked_by_plan (plans.Flow source target trusted file) = to_show_flow (option_map (λ f. f.now) source)
+asked_by_plan (invocations.WhyEach file) = to_explain_each file.now
+asked_by_plan (invocations.Flow source target trusted file) = to_show_flow (option_map (λ f. f.now) source)
     (option_map (λ f. f.now) target) (option_map (λ f. f.now) trusted) (option_map (λ f. f.now) file)
-asked_by_plan (plans.Entries dump format file) =
+asked_by_plan (invocations.Entries dump format file) =
     to_tell_entries dump.version dump.hex dump.all dump.script format (option_map (λ f. f.now) file)
 
 -- what a plan asks for, or nothing if there is none

@@ -9,7 +9,7 @@ pub use Rattle.clap.specs.declared.error.kind.ErrorKind.TheVariants.{InvalidSubc
 pub use Rattle.clap.specs.declared.error.kind.ErrorKind.TheVariants.{MissingRequiredArgument, MissingSubcommand}
 pub use Rattle.clap.specs.declared.error.kind.ErrorKind.TheVariants.{TooManyValues, UnknownArgument}
 pub use Rattle.gt_commands.specs.declared.invocation.Format.{Format}
-pub use Rattle.gt_commands.specs.declared.invocation.Format.TheVariants.{Json, Text as Plain}
+pub use Rattle.gt_commands.specs.declared.invocation.Format.TheVariants.{Json}
 pub use Rattle.gt_commands.specs.declared.invocation.Invocation.{Invocation}
 pub use Rattle.gt_commands.specs.declared.invocation.Mode.{Mode}
 pub use Rattle.gt_commands.specs.declared.invocation.Mode.TheVariants.{Check, Entries, Explore, Flow, Play, Policy, Rules}

@@ -1,12 +1,13 @@
 -- The leg that an open call makes is the one that its pins determine.
 use Rattle.gt_core.proofs.Words.{inl, inr, ◌≡◌, ◌+◌, ℕ, refl, Bool, true, List, [], ◌∷◌, ◌++◌, map, reverse, Option}
-use Rattle.gt_core.proofs.Words.{Some, None, cond, sym, ap, ◌∙◌, false≢true, DomId, Dir, Read, Write, ForCopy, Entry}
-use Rattle.gt_core.proofs.Words.{Page, Sub, Via, permits, OpenRequest, CopyArgs, HeldPin, AccessPath, Direct, Through}
-use Rattle.gt_core.proofs.Words.{PinPurpose, Mapping, Source, Dest, Leg, last_first, pins_so_far, held_by}
-use Rattle.gt_core.proofs.Words.{CallerKnowledge, is_source_granted, is_dest_granted, source_pair, dest_pair}
-use Rattle.gt_core.proofs.Words.{IsLegFor, IsToward, IsReached, IsOnFrom, GivesHeld, History, Setting, known_at}
-use Rattle.gt_core.proofs.Words.{legs_at, LegNow, numbered, begun_route, leg_now, copy_now, toward_source}
-use Rattle.gt_core.proofs.Words.{from_source, after_source, source_now, dest_now, second_now}
+use Rattle.gt_core.proofs.Words.{Some, None, cond, sym, ap, ◌∙◌, false≢true, DomId, Dir, Read, Write, Entry, Page, Sub}
+use Rattle.gt_core.proofs.Words.{Via, permits, OpenRequest, CopyArgs, HeldPin, AccessPath, Direct, Through, PinPurpose}
+use Rattle.gt_core.proofs.Words.{Mapping, Source, Dest, Leg, last_first, pins_so_far, held_by, CallerKnowledge}
+use Rattle.gt_core.proofs.Words.{is_source_granted, is_dest_granted, source_pair, dest_pair, IsLegFor, IsToward}
+use Rattle.gt_core.proofs.Words.{IsReached, IsOnFrom, GivesHeld, History, Setting, known_at, legs_at, LegNow, numbered}
+use Rattle.gt_core.proofs.Words.{begun_route, leg_now, copy_now, toward_source, from_source, after_source, source_now}
+use Rattle.gt_core.proofs.Words.{dest_now, second_now}
+use Rattle.gt_types.specs.declared.Use.TheVariants as uses
 use Rattle.gt_core.proofs.{Legs.IsLegOf}
 use Rattle.gt_model.specs.declared.held.AccessPath.TheVariants.{Own}
 use Rattle.gt_calls.specs.Resting.{IsCopyOf}
@@ -33,7 +34,7 @@ past-via : (k : CallerKnowledge) (d : DomId) (c : CopyArgs) (p q : HeldPin) (e :
 past-via k d c p q (Via dom ro dom2 gref) more leads = refl
 past-via k d c p q e more leads = absurd leads
 
-past-direct : (k : CallerKnowledge) (d judged : DomId) (dir : Dir) (off len : ℕ) (c : CopyArgs) (p : HeldPin) (e : Entry) (more : List HeldPin) → permits e judged dir ForCopy off len ≡ true
+past-direct : (k : CallerKnowledge) (d judged : DomId) (dir : Dir) (off len : ℕ) (c : CopyArgs) (p : HeldPin) (e : Entry) (more : List HeldPin) → permits e judged dir uses.Copy off len ≡ true
     → from_source k d c p e more ≡ after_source k d c (Direct p) more
 past-direct k d judged dir off len c p (Page dom ro frame) more may = refl
 past-direct k d judged dir off len c p (Sub dom ro frame start size) more may = refl

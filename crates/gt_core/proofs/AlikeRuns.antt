@@ -2,17 +2,20 @@
 -- runs that are alike stay so.
 use Rattle.gt_core.proofs.Words.{◌≡◌, ◌≢◌, ◌⊎◌, inl, inr, ℕ, refl, Bool, List, [], ◌∷◌, ◌++◌, Option, Some, None, sym}
 use Rattle.gt_core.proofs.Words.{ap, ◌∙◌, take, drop, option_map, domain_of, DomId, DomainConfig, Denial}
-use Rattle.gt_core.proofs.Words.{MAX_TABLE_FRAMES, Header, header_word, Handle, asked, begun_of, CallerKnowledge}
-use Rattle.gt_core.proofs.Words.{path, HeldPin, Request, OpenRequest, Map, Unmap, Release, Load, Store, Peek}
-use Rattle.gt_core.proofs.Words.{SetupTable, QuerySize, GetVersion, Observation, Word, Step, LookHeader, LookControl}
-use Rattle.gt_core.proofs.Words.{LookBody, PinStep, StoreHeader, Exchange, ReadBytes, Action, Makes, CallResult}
-use Rattle.gt_core.proofs.Words.{Answer, Event, Begin, Tick, ItemEvent, Began, Stepped, Item, Element, Busy, Idle}
-use Rattle.gt_core.proofs.Words.{NoDomain, Did, History, Setting, Underway, open_call, values, known_at, seen_by}
-use Rattle.gt_core.proofs.Words.{exchange_sees, table_at, maps_answered_at, contents_at, mappings_at, mapping_of}
-use Rattle.gt_core.proofs.Words.{MayDo, IsRight, StepsRight, AnsweredBy, refusal_in, verdict_in, bare_handle}
-use Rattle.gt_core.proofs.Words.{bare_request, bare_event, bare_step, keyless_answer, keyless_item, KeylessItem}
-use Rattle.gt_core.proofs.Words.{AsksKnown, IsOfKnown, IsRun, Ends, BeginsRight, grown, keyless_items, SameHistory}
-use Rattle.gt_core.proofs.Words.{HappensKnown, AreAlike, IsItemOf, SameEvent, SameElement, arith}
+use Rattle.gt_core.proofs.Words.{MAX_TABLE_FRAMES, Header, header_word, Handle, asked, begun_of, CallerKnowledge, path}
+use Rattle.gt_core.proofs.Words.{HeldPin, Request, OpenRequest, Map, Unmap, Release, Load, Store, Peek, SetupTable}
+use Rattle.gt_core.proofs.Words.{QuerySize, GetVersion, Observation, Word, Step, LookHeader, LookControl, LookBody}
+use Rattle.gt_core.proofs.Words.{StoreHeader, Exchange, Action, CallResult, Answer, Event, Begin, Tick, ItemEvent}
+use Rattle.gt_core.proofs.Words.{Began, Stepped, Item, Element, Busy, Idle, NoDomain, History, Setting, Underway}
+use Rattle.gt_core.proofs.Words.{open_call, values, known_at, seen_by, exchange_sees, table_at, maps_answered_at}
+use Rattle.gt_core.proofs.Words.{contents_at, mappings_at, mapping_of, MayDo, IsRight, StepsRight, AnsweredBy}
+use Rattle.gt_core.proofs.Words.{refusal_in, verdict_in, bare_handle, bare_request, bare_event, bare_step}
+use Rattle.gt_core.proofs.Words.{keyless_answer, keyless_item, KeylessItem, AsksKnown, IsOfKnown, IsRun, BeginsRight}
+use Rattle.gt_core.proofs.Words.{grown, keyless_items, SameHistory, HappensKnown, AreAlike, IsItemOf, SameEvent}
+use Rattle.gt_core.proofs.Words.{SameElement, arith}
+use Rattle.gt_model.specs.declared.action.Action.TheVariants as actions
+use Rattle.gt_model.specs.declared.action.Step.TheVariants as call_steps
+use Rattle.gt_model.specs.declared.trace.Element.TheVariants as elements
 use Rattle.gt_core.{proofs.Pins.word-bare, proofs.Pins.mapping-bare, proofs.Pins.known-bare, proofs.WithoutKeys.bare}
 use Rattle.gt_core.{proofs.WithoutKeys.bared, proofs.WithoutKeys.bare_asked, proofs.WithoutKeys.bare_call}
 use Rattle.gt_core.{proofs.WithoutKeys.asked-bare, proofs.WithoutKeys.values-bare, proofs.WithoutKeys.contents-bare}
@@ -23,8 +26,8 @@ use Rattle.gt_model.specs.declared.request.OpenRequest.TheVariants.{Probe}
 -- paths
 
 abbrev pub bare_action : Action → Action
-bare_action (Makes step) = Makes (bare_step step)
-bare_action (Ends verdict) = Ends verdict
+bare_action (actions.Step step) = actions.Step (bare_step step)
+bare_action (actions.Done verdict) = actions.Done verdict
 
 -- the handle that is named finds the same mapping without its key
 abbrev FindsSame : (Handle → Option HeldPin) → (Handle → Option HeldPin) → OpenRequest → Type 0
@@ -58,7 +61,7 @@ seen-at : (s : Setting) (h : History) (d : DomId) (step : Step) → IsRun s h �
 seen-at s h d (LookHeader dom) run = ap (λ (x : Header). Word (header_word x)) ((bared h).table s dom)
 seen-at s h d (LookControl dom gref) run = ap (λ (w : ℕ). Word w) (word-bare s h dom.0 gref.0 run)
 seen-at s h d (LookBody dom gref half) run = ap (λ (w : ℕ). Word w) ((bared h).body dom.0 gref.0 half)
-seen-at s h d (PinStep p) run = ap (λ (w : ℕ). exchange_sees w p.word) (word-bare s h p.dom.0 p.gref.0 run)
+seen-at s h d (call_steps.Pin p) run = ap (λ (w : ℕ). exchange_sees w p.word) (word-bare s h p.dom.0 p.gref.0 run)
 seen-at s h d (Exchange gref looked change) run = ap (λ (w : ℕ). exchange_sees w looked) (word-bare s h d.0 gref.0 run)
 seen-at s h d step run = refl
 
@@ -66,9 +69,9 @@ seen-at s h d step run = refl
 
 -- the value of a call that is answered Ok after this step, or at its beginning
 abbrev value_told : Setting → History → DomId → OpenRequest → Option Step → Option (Answer ⊎ List ℕ)
-value_told s h d (Map dom gref flags) (Some (PinStep p)) = Some (inl (answers.Mapped (record { serial = maps_answered_at h d.0; key = 0 })))
-value_told s h d (Load a off len) (Some (ReadBytes t frame o n)) = Some (inr (take n (drop o (contents_at h t.0 frame))))
-value_told s h d (Peek f off len) (Some (ReadBytes t frame o n)) = Some (inr (take n (drop o (contents_at h t.0 frame))))
+value_told s h d (Map dom gref flags) (Some (call_steps.Pin p)) = Some (inl (answers.Mapped (record { serial = maps_answered_at h d.0; key = 0 })))
+value_told s h d (Load a off len) (Some (call_steps.Read t frame o n)) = Some (inr (take n (drop o (contents_at h t.0 frame))))
+value_told s h d (Peek f off len) (Some (call_steps.Read t frame o n)) = Some (inr (take n (drop o (contents_at h t.0 frame))))
 value_told s h d (SetupTable frames) None = Some (inl (answers.Frames (table_at s h d).frames))
 value_told s h d (SetupTable frames) (Some (StoreHeader version stored)) = Some (inl (answers.Frames stored))
 value_told s h d (QuerySize dom) (Some (LookHeader t)) = Some (inl (answers.Size (record { frames = (table_at s h t).frames; max = MAX_TABLE_FRAMES })))
@@ -76,9 +79,9 @@ value_told s h d (GetVersion dom) (Some (LookHeader t)) = Some (inl (answers.Ver
 value_told s h d r step = Some (inl answers.Done)
 
 value-at : (s : Setting) (h : History) (d : DomId) (r : OpenRequest) (step : Option Step) → value_told s (bare h) d (bare_asked r) step ≡ value_told s h d r step
-value-at s h d (Map dom gref flags) (Some (PinStep p)) = ap (λ (n : ℕ). Some (inl (answers.Mapped (record { serial = n; key = 0 })))) ((bared h).maps d.0)
-value-at s h d (Load a off len) (Some (ReadBytes t frame o n)) = ap (λ (l : List ℕ). Some (inr (take n (drop o l)))) (contents-bare h t.0 frame)
-value-at s h d (Peek f off len) (Some (ReadBytes t frame o n)) = ap (λ (l : List ℕ). Some (inr (take n (drop o l)))) (contents-bare h t.0 frame)
+value-at s h d (Map dom gref flags) (Some (call_steps.Pin p)) = ap (λ (n : ℕ). Some (inl (answers.Mapped (record { serial = n; key = 0 })))) ((bared h).maps d.0)
+value-at s h d (Load a off len) (Some (call_steps.Read t frame o n)) = ap (λ (l : List ℕ). Some (inr (take n (drop o l)))) (contents-bare h t.0 frame)
+value-at s h d (Peek f off len) (Some (call_steps.Read t frame o n)) = ap (λ (l : List ℕ). Some (inr (take n (drop o l)))) (contents-bare h t.0 frame)
 value-at s h d (SetupTable frames) None = ap (λ (x : Header). Some (inl (answers.Frames x.frames))) ((bared h).table s d)
 value-at s h d (QuerySize dom) (Some (LookHeader t)) = ap (λ (x : Header). Some (inl (answers.Size (record { frames = x.frames; max = MAX_TABLE_FRAMES })))) ((bared h).table s t)
 value-at s h d (GetVersion dom) (Some (LookHeader t)) = ap (λ (x : Header). Some (inl (answers.Version x.version))) ((bared h).table s t)
@@ -129,11 +132,11 @@ stepped-at s h d r vs step run k = grind (arith, seen-at, path-at, answer-at)
 -- elements
 
 abbrev pub element_told : Element → Element ⊎ KeylessItem
-element_told (Did i) = inr (keyless_item i)
+element_told (elements.Item i) = inr (keyless_item i)
 element_told x = inl x
 
 abbrev stepped_told : Setting → History → DomId → Underway → Option Action → Element ⊎ KeylessItem
-stepped_told s h d c (Some (Makes step)) = inr (step_told s h d c.request (values c) step)
+stepped_told s h d c (Some (actions.Step step)) = inr (step_told s h d c.request (values c) step)
 stepped_told s h d c o = inl Idle
 
 abbrev tick_told : Setting → History → DomId → Option Underway → Element ⊎ KeylessItem
@@ -160,11 +163,11 @@ is-busy : (s : Setting) (h : History) (d : DomId) (q : Request) (c : Option Unde
 is-busy s h d q c some = grind arith
 
 begin-item : (s : Setting) (h : History) (d : DomId) (q : Request) (actor : DomId) (x : ItemEvent) (a : Option Answer) → actor ≡ d → x ≡ Began q → IsRight s h (record { actor = actor; happened = x; answer = a })
-    → element_told (Did (record { actor = actor; happened = x; answer = a })) ≡ begin_told s h d q (open_call h d.0)
+    → element_told (elements.Item (record { actor = actor; happened = x; answer = a })) ≡ begin_told s h d q (open_call h d.0)
 begin-item s h d q actor x a own is right = grind (arith, is-began)
 
-tick-item : (s : Setting) (h : History) (d : DomId) (actor : DomId) (x : ItemEvent) (a : Option Answer) → MayDo s h (Tick d) (Did (record { actor = actor; happened = x; answer = a }))
-    → element_told (Did (record { actor = actor; happened = x; answer = a })) ≡ tick_told s h d (open_call h d.0)
+tick-item : (s : Setting) (h : History) (d : DomId) (actor : DomId) (x : ItemEvent) (a : Option Answer) → MayDo s h (Tick d) (elements.Item (record { actor = actor; happened = x; answer = a }))
+    → element_told (elements.Item (record { actor = actor; happened = x; answer = a })) ≡ tick_told s h d (open_call h d.0)
 tick-item s h d actor x a m = grind (arith, is-stepped)
 
 -- an event does what this function gives
@@ -173,9 +176,9 @@ does s h (Begin d q) NoDomain m = ap (λ (o : Option DomainConfig). within o (be
 does s h (Tick d) NoDomain m = ap (λ (o : Option DomainConfig). within o (tick_told s h d (open_call h d.0))) (sym m)
 does s h (Begin d q) Busy m = is-within (domain_of s.domains d) (inl Busy) (begin_told s h d q (open_call h d.0)) m.0 (is-busy s h d q (open_call h d.0) m.1)
 does s h (Tick d) Idle m = is-within (domain_of s.domains d) (inl Idle) (tick_told s h d (open_call h d.0)) m.0 (ap (tick_told s h d) (sym m.1))
-does s h (Begin d q) (Did i) m =
+does s h (Begin d q) (elements.Item i) m =
     is-within (domain_of s.domains d) (inr (keyless_item i)) (begin_told s h d q (open_call h d.0)) m.0 (begin-item s h d q i.actor i.happened i.answer m.1.0 m.1.1 m.2)
-does s h (Tick d) (Did i) m =
+does s h (Tick d) (elements.Item i) m =
     is-within (domain_of s.domains d) (inr (keyless_item i)) (tick_told s h d (open_call h d.0)) m.0 (tick-item s h d i.actor i.happened i.answer m)
 does s h e x m = absurd m
 
@@ -207,10 +210,10 @@ does-alike s g h e f one other alike same j k m n = same-element one other
 item-known : (h : History) (e : Event) (actor : DomId) (x : ItemEvent) (a : Option Answer) → IsOfKnown h e → IsItemOf e (record { actor = actor; happened = x; answer = a }) → HappensKnown h (record { actor = actor; happened = x; answer = a })
 item-known h e actor x a k is = grind arith
 
-done-right : (s : Setting) (h : History) (e : Event) (i : Item) → MayDo s h e (Did i) → IsItemOf e i × IsRight s h i
+done-right : (s : Setting) (h : History) (e : Event) (i : Item) → MayDo s h e (elements.Item i) → IsItemOf e i × IsRight s h i
 done-right s h e i m = grind arith
 
-run-grows : (s : Setting) (h : History) (e : Event) (i : Item) → IsRun s h → IsOfKnown h e → MayDo s h e (Did i) → IsRun s (i ∷ h)
+run-grows : (s : Setting) (h : History) (e : Event) (i : Item) → IsRun s h → IsOfKnown h e → MayDo s h e (elements.Item i) → IsRun s (i ∷ h)
 unfolding IsRun
 run-grows s h e i run k m = let r = done-right s h e i m in (r.1, item-known h e i.actor i.happened i.answer k r.0, run)
 

@@ -2,23 +2,23 @@
 use Rattle.gt_core.proofs.Words.{arith, ◌≤◌, ◌≡◌, ◌≢◌, ◌<◌, ◌+◌, inl, ℕ, refl, true, false, List, [], ◌∷◌, length}
 use Rattle.gt_core.proofs.Words.{Option, Some, None, sym, ap, ◌∙◌, subst, get_or, set, reverse, eqb-true}
 use Rattle.gt_core.proofs.Words.{slice_get_read, position-Some, ◌==◌, is_some, position, slice_get, domain_of, DomId}
-use Rattle.gt_core.proofs.Words.{Header, HeldPin, Request, OpenRequest, Observation, CallResult, Makes, Done, Call}
-use Rattle.gt_core.proofs.Words.{Phase, asked, begun_of, bytes_given_by, CallerKnowledge, first, begun, knowledge_of}
-use Rattle.gt_core.proofs.Words.{action_at, StandsAt, held_in, pins_at, GoesOnWith, Goes, Starts, Nothing, Step}
-use Rattle.gt_core.proofs.Words.{Action, Rests, CallPins, most_steps, steps_left, Item, Began, Answer, OpenCall}
-use Rattle.gt_core.proofs.Words.{State, state_of, kept_by, with_open_call, History, Setting, table_at, known_at}
-use Rattle.gt_core.proofs.Words.{Underway, open_call, legs_at, one_if_mapped, stood, AnsweredBy, GivesValue}
-use Rattle.gt_core.proofs.Words.{refusal_in, refusal_of, IsRight, IsClean, phase_refusal, FitsAsked, PhaseStands}
-use Rattle.gt_core.proofs.Words.{OpenAgrees, CallAgrees, FitsGiven, GivenAgrees, StateStands, StateAgrees}
-use Rattle.gt_core.proofs.Words.{DomainsStand, OpensAs, numbered, misses, ◌^◌, SpellsItsEntry, first_phase, IsAt}
-use Rattle.gt_core.proofs.Words.{pins_by_call, steps_to_come, asks_memory, WantsMemory, IsOpenCall, answer_of}
-use Rattle.gt_core.proofs.Words.{cond_both}
+use Rattle.gt_core.proofs.Words.{Header, HeldPin, Request, OpenRequest, Observation, CallResult, Done, Call, Phase}
+use Rattle.gt_core.proofs.Words.{asked, begun_of, bytes_given_by, CallerKnowledge, first, begun, knowledge_of}
+use Rattle.gt_core.proofs.Words.{action_at, StandsAt, held_in, pins_at, GoesOnWith, Goes, Starts, Nothing, Step, Action}
+use Rattle.gt_core.proofs.Words.{Rests, CallPins, most_steps, steps_left, Item, Began, Answer, OpenCall, State}
+use Rattle.gt_core.proofs.Words.{state_of, kept_by, with_open_call, History, Setting, table_at, known_at, Underway}
+use Rattle.gt_core.proofs.Words.{open_call, legs_at, one_if_mapped, stood, AnsweredBy, GivesValue, refusal_in}
+use Rattle.gt_core.proofs.Words.{refusal_of, IsRight, IsClean, phase_refusal, FitsAsked, PhaseStands, OpenAgrees}
+use Rattle.gt_core.proofs.Words.{CallAgrees, FitsGiven, GivenAgrees, StateStands, StateAgrees, DomainsStand, OpensAs}
+use Rattle.gt_core.proofs.Words.{numbered, misses, ◌^◌, SpellsItsEntry, first_phase, IsAt, pins_by_call, steps_to_come}
+use Rattle.gt_core.proofs.Words.{asks_memory, WantsMemory, IsOpenCall, answer_of, cond_both}
+use Rattle.gt_model.specs.declared.action.Action.TheVariants as actions
 use Rattle.gt_core.{specs.Standing.IsMapping, proofs.AgreementKept.KeepsEntries, proofs.AgreementKept.known-same}
 use Rattle.gt_core.{proofs.AgreementKept.open_call-own, proofs.AgreementKept.stood-own}
 use Rattle.gt_core.{proofs.AgreementKept.given-none, proofs.AgreementKept.quiet-stands, proofs.Rows.has_id}
 use Rattle.gt_core.{proofs.Rows.found, proofs.Rows.not-found, proofs.Rows.state_of-set}
 use Rattle.gt_model.proofs.Observers.{KeepsKnown, kept-known, kept-legs}
-use Rattle.gt_calls.specs.declared.asking.Judged.TheVariants as judgeds
+use Rattle.gt_calls.specs.declared.asking.Judged.TheVariants as judgements
 use Rattle.gt_model.specs.declared.request.Request.TheVariants as requests
 
 -- beginnings
@@ -98,8 +98,8 @@ begin-opens s h d request o fits a closed op = let i = began d.id request None i
       here = here;
       at = subst (λ (z : DomId). StandsAt k z r [] (first_phase k d.id r)) op.caller (subst (λ (z : OpenRequest). StandsAt k o.call.caller z [] (first_phase k d.id r)) op.asks stands);
       acts = ap (λ (k : CallerKnowledge). action_at d.id (first_phase k d.id r)) (sym still) ∙ op.acts;
-      follows = subst (λ (k : CallerKnowledge). GoesOnWith k d.id r [] (Makes o.step)) still op.follows;
-      rests = subst (λ (z : CallPins). Rests k d.id r z [] (Makes o.step)) (pins-there o.call (first_phase k d.id r) here) (subst (λ (k : CallerKnowledge). Rests k d.id r (pins_by_call o.call) [] (Makes o.step)) still op.rests);
+      follows = subst (λ (k : CallerKnowledge). GoesOnWith k d.id r [] (actions.Step o.step)) still op.follows;
+      rests = subst (λ (z : CallPins). Rests k d.id r z [] (actions.Step o.step)) (pins-there o.call (first_phase k d.id r) here) (subst (λ (k : CallerKnowledge). Rests k d.id r (pins_by_call o.call) [] (actions.Step o.step)) still op.rests);
       place = first-place s (i ∷ h) d.id r none;
       fair = fair ∙ sym (first-fine k d.id r none).1;
       fits = subst FitsAsked op.asks fits;
@@ -192,13 +192,13 @@ begin-answers s h domains dom at x request v y e p here idle op st = let a = agr
 
 pub begin-opened : (s : Setting) (h : History) (domains : List State) (dom : DomId) (at : ℕ) (x : State) (request : Request) (o : OpenCall)
     → FitsAsked o.call.request → position (has_id dom.0) domains ≡ Some at → x ≡ get_or domains at x → is_some x.underway ≡ false
-    → OpensAs (knowledge_of s.domains s.first_generation s.may x.own x.header x.mappings) dom request (judgeds.Open o) → DomainsStand s h domains
+    → OpensAs (knowledge_of s.domains s.first_generation s.may x.own x.header x.mappings) dom request (judgements.Open o) → DomainsStand s h domains
     → (domain_of s.domains dom ≢ None) × IsRight s h (began dom request None) × DomainsStand s (began dom request None ∷ h) (set domains at (with_open_call o (kept_by o.call.request (bytes_given_by request)) x))
 begin-opened s h domains dom at x request o fits p here idle op st =
     let a = agrees-found s h domains dom at x p here st in
     let f = found domains dom.0 at x p ∙ ap (λ (y : State). Some y) (sym here) in
     let places = position-Some (has_id dom.0) domains at x p in
-    let both = subst (λ (d : DomId). OpensAs (knowledge_of s.domains s.first_generation s.may x.own x.header x.mappings) d request (judgeds.Open o) → state_of domains d.0 ≡ Some x
+    let both = subst (λ (d : DomId). OpensAs (knowledge_of s.domains s.first_generation s.may x.own x.header x.mappings) d request (judgements.Open o) → state_of domains d.0 ≡ Some x
     → ((k : ℕ) → k < at → has_id d.0 (get_or domains k x) ≡ false)
     → IsRight s h (began d request None) × DomainsStand s (began d request None ∷ h) (set domains at (with_open_call o (kept_by o.call.request (bytes_given_by request)) x))) a.1
     (λ op g apart. let b = begin-opens s h x request o fits a.2 (closed-from x.underway idle) op in (
@@ -219,7 +219,7 @@ tick-idle s h domains dom at x p here closed st = let a = agrees-found s h domai
 -- a beginning that may fail with Memory
 pub begin-wants : (s : Setting) (h : History) (domains : List State) (dom : DomId) (at : ℕ) (x : State) (request : Request) (o : OpenCall)
     → asks_memory o.call.request ≡ true → position (has_id dom.0) domains ≡ Some at → x ≡ get_or domains at x → is_some x.underway ≡ false
-    → OpensAs (knowledge_of s.domains s.first_generation s.may x.own x.header x.mappings) dom request (judgeds.Open o) → DomainsStand s h domains → WantsMemory s h dom request
+    → OpensAs (knowledge_of s.domains s.first_generation s.may x.own x.header x.mappings) dom request (judgements.Open o) → DomainsStand s h domains → WantsMemory s h dom request
 begin-wants s h domains dom at x request o asks p here idle op st =
     let a = agrees-found s h domains dom at x p here st in (
       ap asks_memory (sym op.asks) ∙ asks,
@@ -233,10 +233,10 @@ pub serial-left : (k : CallerKnowledge) (d : DomId) (request : Request) (r : Ope
 serial-left k d request r same none m = grind arith
 
 -- a call that starts and makes its first step is open
-pub opened : (k : CallerKnowledge) (dom : DomId) (request : Request) (first new : Call) (action : Action) (step : Step) → Starts k dom request (judgeds.Open first) → Goes k first Nothing new action → action ≡ Makes step → new.caller ≡ first.caller → new.request ≡ first.request
+pub opened : (k : CallerKnowledge) (dom : DomId) (request : Request) (first new : Call) (action : Action) (step : Step) → Starts k dom request (judgements.Open first) → Goes k first Nothing new action → action ≡ actions.Step step → new.caller ≡ first.caller → new.request ≡ first.request
     → IsOpenCall k dom request (record { call = new; step = step })
 opened k dom request first new action step starts goes is by asked_as = grind arith
 
 -- it makes a step
-pub not-done : (k : CallerKnowledge) (dom : DomId) (request : Request) (first new : Call) (action : Action) (v : CallResult) → Starts k dom request (judgeds.Open first) → Goes k first Nothing new action → action ≡ Done v → ⊥
+pub not-done : (k : CallerKnowledge) (dom : DomId) (request : Request) (first new : Call) (action : Action) (v : CallResult) → Starts k dom request (judgements.Open first) → Goes k first Nothing new action → action ≡ Done v → ⊥
 not-done k dom request first new action v starts goes is = grind arith

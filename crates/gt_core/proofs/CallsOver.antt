@@ -1,16 +1,19 @@
 -- The end of a call that no rule refused, and the number of states after a step.
-use Rattle.gt_core.proofs.Words.{◌≡◌, ◌++◌, ℕ, refl, List, length, take, ap, ◌∙◌, DomId, Step, PinStep, Unpin}
-use Rattle.gt_core.proofs.Words.{StoreBody, StoreHeader, Exchange, Observation, Taken, Unpinned, Stored, State, changed_in}
+use Rattle.gt_core.proofs.Words.{◌≡◌, ◌++◌, ℕ, refl, List, length, take, ap, ◌∙◌, DomId, Step, Unpin, StoreBody}
+use Rattle.gt_core.proofs.Words.{StoreHeader, Exchange, Observation, Taken, Unpinned, Stored, State, changed_in}
 use Rattle.gt_core.proofs.Words.{applied, with_slot, with_own, with_header, without_holder, take_more, map-append, ◌<◌}
 use Rattle.gt_core.proofs.Words.{◌+◌, ◌%◌, map, get_or, [], ◌∷◌, Some, None, sym, set, replicate, min, HandleMap}
-use Rattle.gt_core.proofs.Words.{DomainConfig, Invalid, ENTRIES, LAST_GENERATION, OwnerEntry, HeldPin, PinCounts, OpenRequest, Load}
-use Rattle.gt_core.proofs.Words.{Peek, ReadBytes, first_state, IsLoading, with_underway, AnswerDone, Closed, IsLoadOf}
-use Rattle.gt_core.proofs.Words.{FrameSet, Answer, Call, Ends, CallResult, Granted, KeptPin, Given, Refused, answer_of}
-use Rattle.gt_core.proofs.Words.{Settled}
+use Rattle.gt_core.proofs.Words.{DomainConfig, Invalid, ENTRIES, LAST_GENERATION, OwnerEntry, HeldPin, PinCounts}
+use Rattle.gt_core.proofs.Words.{OpenRequest, Load, Peek, first_state, IsLoading, with_underway, Closed, IsLoadOf}
+use Rattle.gt_core.proofs.Words.{FrameSet, Answer, Call, CallResult, Granted, Given, Refused, answer_of, Settled}
+use Rattle.gt_model.specs.declared.action.Action.TheVariants as actions
+use Rattle.gt_model.specs.declared.trace.Answer.TheVariants as answers
+use Rattle.gt_model.specs.declared.action.Step.TheVariants as call_steps
+use Rattle.gt_model.specs.declared.action.CallResult.TheVariants as results
 use Rattle.gt_core.{specs.declared.pin_counts.CountsChange.TheVariants.Pinned, proofs.Rows.length-changed_in}
 
 pub length-applied : (d : DomId) (step : Step) (seen : Observation) (xs : List State) → length (applied d step seen xs) ≡ length xs
-length-applied d (PinStep p) Taken xs = length-changed_in xs p.dom.0 (with_slot p.gref.0 (Pinned p.dir))
+length-applied d (call_steps.Pin p) Taken xs = length-changed_in xs p.dom.0 (with_slot p.gref.0 (Pinned p.dir))
 length-applied d (Exchange gref looked change) Taken xs = length-changed_in xs d.0 (with_own gref.0 change)
 length-applied d (Unpin p holder) seen xs =
     length-changed_in (changed_in p.dom.0 (with_slot p.gref.0 (Unpinned p.dir)) xs) d.0 (without_holder holder) ∙ length-changed_in xs p.dom.0 (with_slot p.gref.0 (Unpinned p.dir))
@@ -40,16 +43,16 @@ rest-more first_gen items i d old new x within so_far made pushed =
 
 -- the end of a call that reads no bytes
 pub closed-plain : (fs : FrameSet) (xs new : List State) (at : ℕ) (d : State) (step : Step)
-    → ((dom : DomId) (frame off len : ℕ) → step ≡ ReadBytes dom frame off len → ⊥)
-    → new ≡ set xs at (with_underway None d) → Closed fs xs at d step AnswerDone new
-closed-plain fs xs new at d (ReadBytes dom frame off len) r e = absurd (r dom frame off len refl)
+    → ((dom : DomId) (frame off len : ℕ) → step ≡ call_steps.Read dom frame off len → ⊥)
+    → new ≡ set xs at (with_underway None d) → Closed fs xs at d step answers.Done new
+closed-plain fs xs new at d (call_steps.Read dom frame off len) r e = absurd (r dom frame off len refl)
 closed-plain fs xs new at d step r e = (refl, e)
 
 -- the end of a call that gives no bytes and no mapping
 pub ended-plain : (fs : FrameSet) (xs new : List State) (at : ℕ) (d : State) (step : Step) (call : Call) (v : CallResult) (a : Answer)
-    → (v ≡ Granted → ⊥) → ((p : HeldPin) → v ≡ KeptPin p → ⊥) → a ≡ answer_of v
-    → new ≡ set xs at (with_underway None d) → Settled fs xs at d step call (Ends v) (Some a) new
+    → (v ≡ Granted → ⊥) → ((p : HeldPin) → v ≡ results.Mapped p → ⊥) → a ≡ answer_of v
+    → new ≡ set xs at (with_underway None d) → Settled fs xs at d step call (actions.Done v) (Some a) new
 ended-plain fs xs new at d step call Granted a r k e after = absurd (r refl)
-ended-plain fs xs new at d step call (KeptPin p) a r k e after = absurd (k p refl)
+ended-plain fs xs new at d step call (results.Mapped p) a r k e after = absurd (k p refl)
 ended-plain fs xs new at d step call (Given value) a r k e after = (a, refl, (e, after))
 ended-plain fs xs new at d step call (Refused denial) a r k e after = (a, refl, (e, after))

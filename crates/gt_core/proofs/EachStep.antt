@@ -1,13 +1,16 @@
 -- What holds for each step of an open call: a line for each phase, from the file of the step that it makes.
 use Rattle.gt_core.proofs.Words.{◌≡◌, ◌≢◌, ◌⊎◌, inl, inr, ℕ, refl, false, List, [], ◌∷◌, Option, Some, None, sym, ap}
-use Rattle.gt_core.proofs.Words.{subst, ◌==◌, domain_of, DomId, GrantRef, EntryChange, control_of, OpenRequest, CopyArgs}
-use Rattle.gt_core.proofs.Words.{Step, Exchange, Observation, Taken, Missed, Makes, PinPurpose, Mapping, Source, Dest, Phase, Storing}
-use Rattle.gt_core.proofs.Words.{StoringSecond, Exchanging, Looking, Changing, Walking, Accessing, Asking, Last, Ending}
-use Rattle.gt_core.proofs.Words.{Leg, LegPhase, Pinning, LegNext, Going, LegRefused, Pinned, last_first, pins_so_far}
-use Rattle.gt_core.proofs.Words.{CallerKnowledge, begun, path, is_stopped, IsLegFor, phase_after, action_at, after_leg}
-use Rattle.gt_core.proofs.Words.{leg_after, leg_step, HasShown, State, History, Setting, word_at, known_at, seen_by}
-use Rattle.gt_core.proofs.Words.{StepsSoFar, PhaseStands, cond_both, Denial, legs_at, numbered, pins_at, reverse}
-use Rattle.gt_core.proofs.Words.{refusal_in, IsClean, LeavesAll, first_at, is_demote, LegStands, Bool, true, eqb-true}
+use Rattle.gt_core.proofs.Words.{subst, ◌==◌, domain_of, DomId, GrantRef, EntryChange, control_of, OpenRequest}
+use Rattle.gt_core.proofs.Words.{CopyArgs, Step, Exchange, Observation, Taken, Missed, PinPurpose, Mapping, Source}
+use Rattle.gt_core.proofs.Words.{Dest, Phase, Storing, StoringSecond, Exchanging, Looking, Changing, Walking, Accessing}
+use Rattle.gt_core.proofs.Words.{Asking, Last, Ending, Leg, LegPhase, Pinning, LegNext, Going, Pinned, last_first}
+use Rattle.gt_core.proofs.Words.{pins_so_far, CallerKnowledge, begun, path, is_stopped, IsLegFor, phase_after}
+use Rattle.gt_core.proofs.Words.{action_at, after_leg, leg_after, leg_step, HasShown, State, History, Setting, word_at}
+use Rattle.gt_core.proofs.Words.{known_at, seen_by, StepsSoFar, PhaseStands, cond_both, Denial, legs_at, numbered}
+use Rattle.gt_core.proofs.Words.{pins_at, reverse, refusal_in, IsClean, LeavesAll, first_at, is_demote, LegStands, Bool}
+use Rattle.gt_core.proofs.Words.{true, eqb-true}
+use Rattle.gt_model.specs.declared.action.Action.TheVariants as actions
+use Rattle.gt_calls.specs.declared.leg.LegNext.TheVariants as leg_outcomes
 use Rattle.gt_calls.specs.Resting.{IsCopyOf}
 use Rattle.gt_core.proofs.{Phases.OfAction, Phases.IsHere, Phases.words-of, Phases.by-quiet, Legs.Words, Legs.ComesTo}
 use Rattle.gt_core.proofs.{Legs.IsLegOf, Aims.pair_of, Aims.leg-here, Legs.as-tried, Phases.Judged}
@@ -52,7 +55,7 @@ module _ (s : Setting) (h : History) (d : DomId) (r : OpenRequest) where
   leg-leads : (aim : PinPurpose) (l : Leg) (now : StepsSoFar) (rule : Option Denial) (next : LegNext) → IsLegFor (known_at s h d) d r aim l → domain_of s.domains l.dom ≢ None → ComesTo s h l now rule next
       → Leads s h d r now rule (after_leg (known_at s h d) d aim l next)
   leg-leads aim l now rule (Going phase) is some a = (sym a.0, (some, a.1))
-  leg-leads aim l now rule (LegRefused denial) is some a = (sym a, walk-over (known_at s h d) d r aim l is)
+  leg-leads aim l now rule (leg_outcomes.Refused denial) is some a = (sym a, walk-over (known_at s h d) d r aim l is)
   leg-leads aim l now rule (Pinned p) is some a = absurd a
 
   -- each step of a walk
@@ -88,7 +91,7 @@ each-step s h xs d r shown so_far phase step i = subst (OfAction (Led phase)) i.
     exchanged p gref looked change clean = cond_both (word_at s h d.0 gref.0 == looked) Taken (Missed (word_at s h d.0 gref.0))
         (λ v. LeavesAll (Exchange gref looked change, v) ⊎ ((steps : List (Step × Observation)) → IsClean (phase_after k d p v) steps)) (λ is. inr clean) (λ is. inl tt)
 
-    by : (p : Phase) → HasShown k (path k d r) d r shown p → PhaseStands s h d r so_far p → action_at d p ≡ Makes step → legs_at h d.0 ≡ numbered 0 (reverse (last_first (pins_at p))) → OfAction (Led p) (action_at d p)
+    by : (p : Phase) → HasShown k (path k d r) d r shown p → PhaseStands s h d r so_far p → action_at d p ≡ actions.Step step → legs_at h d.0 ≡ numbered 0 (reverse (last_first (pins_at p))) → OfAction (Led p) (action_at d p)
     by (Storing gref entry) a b e held = (tt, inl tt, stored-refusal k gref entry, λ quiet. absurd (quiet tt))
     by (StoringSecond gref entry) a b e held = (tt, inl tt, refl, λ quiet. absurd (quiet tt))
     by (Exchanging gref looked change) a b e held = (

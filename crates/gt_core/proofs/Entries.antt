@@ -1,10 +1,11 @@
 -- What a legal history leaves of each entry: its body words encode it.
 use Rattle.gt_core.proofs.Words.{ℕ, Bool, None, Option, Some, [], arith, cond, refl, subst, sym, ◌∷◌, ◌≡◌, eqb-true}
-use Rattle.gt_core.proofs.Words.{◌==◌, DomId, GrantRef, EntryChange, Publish, ToInvalid, ToWithdrawn, BodyWord}
-use Rattle.gt_core.proofs.Words.{FirstHalf, SecondHalf, Entry, Invalid, first, Observation, Taken, Step, Exchange}
-use Rattle.gt_core.proofs.Words.{StoreBody, History, Setting, Underway, changed_entry_of, IsRight, IsSafe}
-use Rattle.gt_core.proofs.Words.{IsSafeChange, IsSpelled, StepsRightIn, Answer, ItemEvent, Stepped, Item, body_at}
-use Rattle.gt_core.proofs.Words.{entry_at, open_call, IsLegalHistory}
+use Rattle.gt_core.proofs.Words.{◌==◌, DomId, GrantRef, EntryChange, Publish, BodyWord, Entry, Invalid, first}
+use Rattle.gt_core.proofs.Words.{Observation, Taken, Step, Exchange, StoreBody, History, Setting, Underway}
+use Rattle.gt_core.proofs.Words.{changed_entry_of, IsRight, IsSafe, IsSafeChange, IsSpelled, StepsRightIn, Answer}
+use Rattle.gt_core.proofs.Words.{ItemEvent, Stepped, Item, body_at, entry_at, open_call, IsLegalHistory}
+use Rattle.gt_model.specs.declared.change.BodyWord.TheVariants as body_words
+use Rattle.gt_model.specs.declared.change.EntryChange.TheVariants as changes
 use Rattle.gt_model.specs.History.{with_ro, changed_entry}
 use Rattle.gt_model.proofs.Observers.{unstored, kept-entry, stepped, exchanged}
 use Rattle.gt_core.proofs.{CallsStand.spelled-stays}
@@ -22,15 +23,15 @@ at-change P u g change t r here other = grind (arith, eqb-true)
 -- body words
 
 abbrev Spells : History → ℕ → ℕ → Entry → Type 0
-Spells h t r e = IsSpelled e (body_at h t r FirstHalf) (body_at h t r SecondHalf)
+Spells h t r e = IsSpelled e (body_at h t r body_words.First) (body_at h t r body_words.Second)
 
 ro-spelled : (ro : Bool) (e : Entry) (first second : ℕ) → IsSpelled e first second → IsSpelled (with_ro ro e) first second
 ro-spelled ro e first second a = grind arith
 
 change-spells : (h : History) (u g : ℕ) (change : EntryChange) → IsSafeChange h u g change → Spells h u g (entry_at h u g) → Spells h u g (changed_entry change (entry_at h u g))
 change-spells h u g (Publish entry) safe was = safe.1
-change-spells h u g ToInvalid safe was = tt
-change-spells h u g ToWithdrawn safe was = tt
+change-spells h u g changes.Revoke safe was = tt
+change-spells h u g changes.Withdraw safe was = tt
 change-spells h u g change safe was = ro-spelled _ (entry_at h u g) _ _ was
 
 -- a body word is stored on an invalid entry
@@ -52,7 +53,7 @@ spelled-after s h d x a t r right was = let i : Item = record { actor = d; happe
     subst (Spells (i ∷ h) t r) (sym (kept-entry i h t r (λ r. refl))) (spelled-stays i h t r (entry_at h t r) (λ r which. unstored i h t r which refl) (was t r))
 
 -- the body words of an entry encode it
-pub spelled : (s : Setting) (h : History) (t r : ℕ) → IsLegalHistory s h → IsSpelled (entry_at h t r) (body_at h t r FirstHalf) (body_at h t r SecondHalf)
+pub spelled : (s : Setting) (h : History) (t r : ℕ) → IsLegalHistory s h → IsSpelled (entry_at h t r) (body_at h t r body_words.First) (body_at h t r body_words.Second)
 unfolding IsLegalHistory entry_at
 spelled s [] t r legal = tt
 spelled s (i ∷ h) t r legal = spelled-after s h i.actor i.happened i.answer t r legal.0 (λ u g. spelled s h u g legal.1)

@@ -1,25 +1,29 @@
 -- Every legal history can continue.
-use Rattle.gt_core.proofs.Words.{◌≡◌, ◌≢◌, ◌==◌, ℕ, refl, false, List, [], ◌∷◌, ◌++◌, length, Option, Some, None}
-use Rattle.gt_core.proofs.Words.{Bool, cond, cond_both, sym, ap, ◌∙◌, subst, reverse, same_Some, none-some, eqb-true}
+use Rattle.gt_core.proofs.Words.{◌≡◌, ◌≢◌, ◌==◌, ℕ, refl, false, List, [], ◌∷◌, ◌++◌, length, Option, Some, None, Bool}
+use Rattle.gt_core.proofs.Words.{cond, cond_both, sym, ap, ◌∙◌, subst, reverse, same_Some, none-some, eqb-true}
 use Rattle.gt_core.proofs.Words.{position-Some, position, get_or, set, slice_get, is_some, DomId, domain_of, Handle}
-use Rattle.gt_core.proofs.Words.{HeldPin, HandleMap, Observation, Nothing, CallResult, Granted, Given, KeptPin}
-use Rattle.gt_core.proofs.Words.{Refused, Step, PinStep, ReadBytes, Action, Makes, Done, Call, Phase, knowledge_of}
-use Rattle.gt_core.proofs.Words.{CallerKnowledge, path, action_at, Goes, Starts, OpenCall, Answer, AnswerDone, Mapped}
-use Rattle.gt_core.proofs.Words.{State, state_of, sees, History, Setting, known_at, seen_by, Underway, values}
-use Rattle.gt_core.proofs.Words.{open_call, DomainsStand, StateStands, CallAgrees, OpenAgrees, StateAgrees, applied}
-use Rattle.gt_core.proofs.Words.{with_underway, with_mapping, Adds, AccessedBy, FrameSet, IsRight, CoreStands}
-use Rattle.gt_core.proofs.Words.{FramesStand, core_of, Settled, Closed, answer_with, ticked_with, ticked_element}
-use Rattle.gt_core.proofs.Words.{MayDo, grown, MappingsAgree, mappings_at, maps_answered_at, begun_of, asked}
-use Rattle.gt_core.proofs.Words.{SpellsItsEntry, Request, Begin, Tick, journal_in, map, WriteBytes, CopyBytes, Denied}
-use Rattle.gt_core.proofs.Words.{Did, Element, eq-eqb, CoreState, unwrap_or, nat_lt, replicate, WriteRecord, IsTrue}
-use Rattle.gt_core.proofs.Words.{all_rightful, frames_of_all, pool_number, AreKept, all_zeros, frame_counts}
+use Rattle.gt_core.proofs.Words.{HeldPin, HandleMap, Observation, Nothing, CallResult, Granted, Given, Refused, Step}
+use Rattle.gt_core.proofs.Words.{Action, Done, Call, Phase, knowledge_of, CallerKnowledge, path, action_at, Goes}
+use Rattle.gt_core.proofs.Words.{Starts, OpenCall, Answer, Mapped, State, state_of, sees, History, Setting, known_at}
+use Rattle.gt_core.proofs.Words.{seen_by, Underway, values, open_call, DomainsStand, StateStands, CallAgrees}
+use Rattle.gt_core.proofs.Words.{OpenAgrees, StateAgrees, applied, with_underway, with_mapping, Adds, AccessedBy}
+use Rattle.gt_core.proofs.Words.{FrameSet, IsRight, CoreStands, FramesStand, core_of, Settled, Closed, answer_with}
+use Rattle.gt_core.proofs.Words.{ticked_with, ticked_element, MayDo, grown, MappingsAgree, mappings_at}
+use Rattle.gt_core.proofs.Words.{maps_answered_at, begun_of, asked, SpellsItsEntry, Request, Begin, Tick, journal_in}
+use Rattle.gt_core.proofs.Words.{map, Denied, Element, eq-eqb, CoreState, unwrap_or, nat_lt, replicate, WriteRecord}
+use Rattle.gt_core.proofs.Words.{IsTrue, all_rightful, frames_of, pool_number, AreKept, all_zeros, frame_counts}
 use Rattle.gt_core.proofs.Words.{first_state}
+use Rattle.gt_model.specs.declared.action.Action.TheVariants as actions
+use Rattle.gt_model.specs.declared.trace.Answer.TheVariants as answers
+use Rattle.gt_model.specs.declared.action.Step.TheVariants as call_steps
+use Rattle.gt_model.specs.declared.trace.Element.TheVariants as elements
+use Rattle.gt_model.specs.declared.action.CallResult.TheVariants as results
 use Rattle.gt_calls.specs.Machine.{standing_after}
 use Rattle.gt_frames.specs.declared.places.FrameCount.{FrameCount}
 use Rattle.gt_model.specs.Asking.{FitsAsked}
 use Rattle.gt_calls.specs.Asking.{judged_as}
 use Rattle.gt_calls.proofs.Advancing.{continues, opens as starts-open}
-use Rattle.gt_calls.specs.declared.asking.Judged.TheVariants as judgeds
+use Rattle.gt_calls.specs.declared.asking.Judged.TheVariants as judgements
 use Rattle.gt_core.specs.GoingOn.{AccessAnsweredSo, AnsweredSo, CallsCanBegin, IsAccess, AccessesNoBytes, CanBeReached}
 use Rattle.gt_core.specs.GoingOn.{OpenCallsCanAccess, OpenCallsCanGoOn, RunsStart, begin_answer, beginning}
 use Rattle.gt_core.specs.GoingOn.{step_after}
@@ -37,10 +41,9 @@ use Rattle.gt_core.proofs.Steps.Write.{open-admitted}
 use Rattle.gt_core.proofs.Writing.{can-write}
 use Rattle.gt_core.specs.Accesses.{IsAdmitted, basis_of, route_of}
 use Rattle.gt_model.specs.History.{contents_at}
-use Rattle.gt_model.specs.declared.trace.Answer.TheVariants.{Bytes as BytesAnswer}
 use Rattle.gt_model.specs.declared.trace.Bytes.{Bytes}
 use Rattle.gt_core.specs.Acting.{answer_of, IsOpenCall}
-use Rattle.gt_core.specs.declared.core_state.Begun.TheVariants.{Open as BegunOpen, Done as BegunDone}
+use Rattle.gt_core.specs.declared.core_state.Begun.TheVariants as beginnings
 use Rattle.gt_core.proofs.{Beginning.begin-answers, Beginning.begin-opened, Beginning.not-done, Beginning.opened}
 use Rattle.gt_core.proofs.{AgreementKept.known-same, Performing.kept-part, Performing.stepped-state}
 use Rattle.gt_core.proofs.{Playing.core-starts, Playing.legal-grows, Starting.get-replicate, Rows.found, Rows.has_id}
@@ -85,13 +88,13 @@ opens-so : (k : CallerKnowledge) (d : DomId) (request : Request) → begun_of k 
 opens-so k d request none said = let first = unstarted d request in
     let p : Phase = standing_after k d (asked request) None Nothing in
     let new : Call = record { caller = d; request = asked request; phase = Some p } in
-    let start : Starts k d request (judgeds.Open first) = starts-open k d request (asked request) (λ e. said) (sym (ap (judged_as (asked request)) none)) in
+    let start : Starts k d request (judgements.Open first) = starts-open k d request (asked request) (λ e. said) (sym (ap (judged_as (asked request)) none)) in
     let goes : Goes k first Nothing new (action_at d p) = continues k d (asked request) None Nothing (Some p) (action_at d p) refl refl in
     by new (action_at d p) start goes refl refl refl
   where
-    by : (new : Call) (action : Action) → Starts k d request (judgeds.Open (unstarted d request)) → Goes k (unstarted d request) Nothing new action → new.caller ≡ (unstarted d request).caller → new.request ≡ (unstarted d request).request
+    by : (new : Call) (action : Action) → Starts k d request (judgements.Open (unstarted d request)) → Goes k (unstarted d request) Nothing new action → new.caller ≡ (unstarted d request).caller → new.request ≡ (unstarted d request).request
         → action ≡ action → (o : OpenCall) × IsOpenCall k d request o
-    by new (Makes step) start goes caller asks e = (record { call = new; step = step }, opened k d request (unstarted d request) new (Makes step) step start goes refl caller asks)
+    by new (actions.Step step) start goes caller asks e = (record { call = new; step = step }, opened k d request (unstarted d request) new (actions.Step step) step start goes refl caller asks)
     by new (Done v) start goes caller asks e = absurd (not-done k d request (unstarted d request) new (Done v) v start goes refl)
 
 pub calls-can-begin : CallsCanBegin
@@ -112,9 +115,9 @@ calls-can-begin s h d request (core, st) named closed fits said =
       (
         core,
         record {
-          legal = legal-grows s h (Begin d request) (Did (beginning d request (Some (answer_of v)))) (named, (refl, refl), b.1) st.legal;
+          legal = legal-grows s h (Begin d request) (elements.Item (beginning d request (Some (answer_of v)))) (named, (refl, refl), b.1) st.legal;
           domains = b.2;
-          frames = frames-begun s h core.frames d request (BegunDone (answer_of v)) st.frames;
+          frames = frames-begun s h core.frames d request (beginnings.Done (answer_of v)) st.frames;
         },
       ),
     )
@@ -124,9 +127,9 @@ calls-can-begin s h d request (core, st) named closed fits said =
           (
             core_of _ core.frames,
             record {
-              legal = legal-grows s h (Begin d request) (Did (beginning d request None)) (named, (refl, refl), b.1) st.legal;
+              legal = legal-grows s h (Begin d request) (elements.Item (beginning d request None)) (named, (refl, refl), b.1) st.legal;
               domains = b.2;
-              frames = frames-begun s h core.frames d request BegunOpen st.frames;
+              frames = frames-begun s h core.frames d request beginnings.Open st.frames;
             },
           ),
         )
@@ -136,7 +139,7 @@ empty-journal n None = refl
 empty-journal n (Some i) = ap (λ (o : Option (List WriteRecord)). unwrap_or o []) (get-replicate n i []) ∙ cond_both (nat_lt i n) (Some []) None (λ (o : Option (List WriteRecord)). unwrap_or o [] ≡ []) (λ e. refl) (λ e. refl)
 
 kept-zeros : (counts : List FrameCount) → AreKept (all_zeros counts)
-kept-zeros counts name = subst (λ (journal : List WriteRecord). IsTrue (all_rightful name.owner name.number journal)) (sym (empty-journal (frames_of_all counts) (pool_number counts name.owner name.number 0))) refl
+kept-zeros counts name = subst (λ (journal : List WriteRecord). IsTrue (all_rightful name.owner name.number journal)) (sym (empty-journal (frames_of counts) (pool_number counts name.owner name.number 0))) refl
 
 pub runs-start : RunsStart
 runs-start config may limits = let xs = map (first_state config.first_gen) config.domains.items in let fs = all_zeros (frame_counts config.domains.items) in
@@ -145,28 +148,28 @@ runs-start config may limits = let xs = map (first_state config.first_gen) confi
 -- a step on words
 
 no-bytes-changed : (x : State) (call : Call) (step : Step) (fs : FrameSet) → AccessesNoBytes step → AccessedBy x call step fs fs
-no-bytes-changed x call (ReadBytes dom frame off len) fs quiet = absurd quiet
-no-bytes-changed x call (WriteBytes dom frame off len) fs quiet = absurd quiet
-no-bytes-changed x call (CopyBytes from to len) fs quiet = absurd quiet
+no-bytes-changed x call (call_steps.Read dom frame off len) fs quiet = absurd quiet
+no-bytes-changed x call (call_steps.Write dom frame off len) fs quiet = absurd quiet
+no-bytes-changed x call (call_steps.Copy from to len) fs quiet = absurd quiet
 no-bytes-changed x call step fs quiet = refl
 
 -- the answer in these frames of a call that ends with this step
 abbrev IsToldBy : FrameSet → Step → Answer → Type 0
-IsToldBy fs (ReadBytes dom frame off len) answer = (b : Bytes) × (answer ≡ BytesAnswer b) × (b.bytes.items ≡ bytes_at (frame_at fs (record { owner = dom; number = frame })) off len)
-IsToldBy fs step answer = answer ≡ AnswerDone
+IsToldBy fs (call_steps.Read dom frame off len) answer = (b : Bytes) × (answer ≡ answers.Bytes b) × (b.bytes.items ≡ bytes_at (frame_at fs (record { owner = dom; number = frame })) off len)
+IsToldBy fs step answer = answer ≡ answers.Done
 
 closes : (fs : FrameSet) (xs : List State) (at : ℕ) (d : State) (step : Step) (answer : Answer) → IsToldBy fs step answer → Closed fs xs at d step answer (set xs at (with_underway None d))
-closes fs xs at d (ReadBytes dom frame off len) answer told = (told.0, told.1, refl, told.2)
+closes fs xs at d (call_steps.Read dom frame off len) answer told = (told.0, told.1, refl, told.2)
 closes fs xs at d step answer told = (told, refl)
 
-told-words : (fs : FrameSet) (step : Step) → AccessesNoBytes step → IsToldBy fs step AnswerDone
-told-words fs (ReadBytes dom frame off len) quiet = absurd quiet
+told-words : (fs : FrameSet) (step : Step) → AccessesNoBytes step → IsToldBy fs step answers.Done
+told-words fs (call_steps.Read dom frame off len) quiet = absurd quiet
 told-words fs step quiet = refl
 
 -- the answer of the call in a state with these mappings
 abbrev EndsIn : FrameSet → Step → State → Action → Option Answer → Type 0
-EndsIn fs step x (Makes next) answer = answer ≡ None
-EndsIn fs step x (Done (KeptPin held)) answer = (handle : Handle) × (answer ≡ Some (Mapped handle)) × ((new : HandleMap HeldPin) × Adds x.mappings new handle held)
+EndsIn fs step x (actions.Step next) answer = answer ≡ None
+EndsIn fs step x (Done (results.Mapped held)) answer = (handle : Handle) × (answer ≡ Some (Mapped handle)) × ((new : HandleMap HeldPin) × Adds x.mappings new handle held)
 EndsIn fs step x (Done Granted) answer = (z : Answer) × (answer ≡ Some z) × IsToldBy fs step z
 EndsIn fs step x (Done verdict) answer = answer ≡ Some (answer_of verdict)
 
@@ -200,17 +203,17 @@ module _ (s : Setting) (h : History) (xs : List State) (fs : FrameSet) (x : Stat
   -- what the step leaves of the states
   left-by : (at : ℕ) (y : State) → slice_get xs at ≡ Some x → slice_get (applied x.id o.step (sees xs x.id o.step) xs) at ≡ Some y → (z : Action) → action_then s xs x o ≡ z → EndsIn gs o.step x z answer
       → (ys : List State) × Settled gs (applied x.id o.step (sees xs x.id o.step) xs) at y o.step (call_then s xs x o) z answer ys
-  left-by at y was now (Makes z) e end = (set (applied x.id o.step (sees xs x.id o.step) xs) at (with_underway (Some (record { call = call_then s xs x o; step = z })) y), (end, refl))
+  left-by at y was now (actions.Step z) e end = (set (applied x.id o.step (sees xs x.id o.step) xs) at (with_underway (Some (record { call = call_then s xs x o; step = z })) y), (end, refl))
   left-by at y was now (Done Granted) e (z, is, told) = (set (applied x.id o.step (sees xs x.id o.step) xs) at (with_underway None y), (z, is, closes gs (applied x.id o.step (sees xs x.id o.step) xs) at y o.step z told))
-  left-by at y was now (Done (KeptPin held)) e (handle, is, (new, adds)) =
-      let pin : o.step ≡ PinStep held = (call-ends s h xs x.id c.request (values c) (reverse c.steps) ticked.1.stands.phase o.step ticked.1.i (KeptPin held) (done-from ticked.1 (KeptPin held) e)).is in
-      let same : y.mappings ≡ x.mappings = kept-part (λ (z : State). z.mappings) x.id (PinStep held) (sees xs x.id o.step) xs at x y (λ z r n. refl) was
+  left-by at y was now (Done (results.Mapped held)) e (handle, is, (new, adds)) =
+      let pin : o.step ≡ call_steps.Pin held = (call-ends s h xs x.id c.request (values c) (reverse c.steps) ticked.1.stands.phase o.step ticked.1.i (results.Mapped held) (done-from ticked.1 (results.Mapped held) e)).is in
+      let same : y.mappings ≡ x.mappings = kept-part (λ (z : State). z.mappings) x.id (call_steps.Pin held) (sees xs x.id o.step) xs at x y (λ z r n. refl) was
       (subst (λ (z : Step). slice_get (applied x.id z (sees xs x.id o.step) xs) at ≡ Some y) pin now) in
       (set (applied x.id o.step (sees xs x.id o.step) xs) at (with_mapping new y), (Mapped handle, is, (handle, new, refl, subst (λ (m : HandleMap HeldPin). Adds m new handle held) (sym same) adds, refl)))
   left-by at y was now (Done (Given value)) e end = (set (applied x.id o.step (sees xs x.id o.step) xs) at (with_underway None y), (answer_with value, end, (refl, refl)))
   left-by at y was now (Done (Refused denial)) e end = (set (applied x.id o.step (sees xs x.id o.step) xs) at (with_underway None y), (Denied denial, end, (refl, refl)))
 
-  element-of : (seen : Observation) (z : Option Answer) → ticked_element x.id (ticked_with o.step seen z) ≡ Did (stepped x.id o.step seen z)
+  element-of : (seen : Observation) (z : Option Answer) → ticked_element x.id (ticked_with o.step seen z) ≡ elements.Item (stepped x.id o.step seen z)
   element-of seen None = refl
   element-of seen (Some z) = refl
 
@@ -248,30 +251,30 @@ rehandled s h xs x at m st place here was named a agrees = (
   each dom = subst (StateAgrees s h dom) (sym (becomes dom.0)) (cond_both (x.id.0 == dom.0) (Some (record x { mappings = m })) (state_of xs dom.0) (StateAgrees s h dom)
       (λ is. let e : x.id ≡ dom = ap (λ (n : ℕ). record { 0 = n }) (eqb-true x.id.0 dom.0 is) in (subst (λ (d : DomId). domain_of s.domains d ≢ None) e named, e, now)) (λ is. st.each dom))
 
-same-step : (a b : Step) → Makes a ≡ Makes b → a ≡ b
+same-step : (a b : Step) → actions.Step a ≡ actions.Step b → a ≡ b
 same-step a b e = cc
 
 module _ (s : Setting) (h : History) (core : CoreState) (c : Underway) (step : Step) (action : Action) (answer : Option Answer) (st : CoreStands s h core) (quiet : AccessesNoBytes step) where
   -- what the call of a domain needs to continue like this
   abbrev Needs : DomId → Type 0
-  Needs d = (domain_of s.domains d ≢ None) × (open_call h d.0 ≡ Some c) × (path (known_at s h d) d c.request (values c) ≡ Some (Makes step))
+  Needs d = (domain_of s.domains d ≢ None) × (open_call h d.0 ≡ Some c) × (path (known_at s h d) d c.request (values c) ≡ Some (actions.Step step))
       × (path (known_at s h d) d c.request (values c ++ seen_by s h d step ∷ []) ≡ Some action) × AnsweredSo h d action answer
 
   goes-on-home : (x : State) → state_of core.domains x.id.0 ≡ Some x → StateStands s h x → Needs x.id → Gives s h x.id step answer
   goes-on-home x here a (named, call, way, next, so) = let u = opened-by s h x.id x.underway (open_call h x.id.0) c a.call call in let o = u.0 in
-      let same : o.step ≡ step = same-step o.step step (same_Some (Makes o.step) (Makes step) (sym u.2.follows ∙ way)) in
+      let same : o.step ≡ step = same-step o.step step (same_Some (actions.Step o.step) (actions.Step step) (sym u.2.follows ∙ way)) in
       let quiet' : AccessesNoBytes o.step = subst AccessesNoBytes (sym same) quiet in
       let next' = subst (λ (z : Step). path (known_at s h x.id) x.id c.request (values c ++ seen_by s h x.id z ∷ []) ≡ Some action) (sym same) next in
       subst (λ (z : Step). Gives s h x.id z answer) same (by o u.1 u.2 quiet' next' action refl so)
     where
       by : (o : OpenCall) → x.underway ≡ Some o → OpenAgrees s h x.id o c → AccessesNoBytes o.step → path (known_at s h x.id) x.id c.request (values c ++ seen_by s h x.id o.step ∷ []) ≡ Some action
           → (z : Action) → action ≡ z → AnsweredSo h x.id z answer → Gives s h x.id o.step answer
-      by o under stands quiet next (Done (KeptPin held)) e (handle, is, may) = let p = placed core.domains x.id.0 x here in
+      by o under stands quiet next (Done (results.Mapped held)) e (handle, is, may) = let p = placed core.domains x.id.0 x here in
           let r = rehandled s h core.domains x p.0 may.old st.domains p.1 p.2 here named a may.agrees in
           goes-on-at s h (set core.domains p.0 (record x { mappings = may.old })) core.frames (record x { mappings = may.old }) o c action answer (record { legal = st.legal; domains = r.0; frames = st.frames })
           named r.1 r.2 under call stands core.frames (no-bytes-changed (record x { mappings = may.old }) o.call o.step core.frames quiet) next (subst (λ (w : Action). EndsIn core.frames o.step (record x { mappings = may.old }) w answer) (sym e) (handle, is, (may.new, may.adds)))
-      by o under stands quiet next (Makes z) e end = goes-on-at s h core.domains core.frames x o c action answer st named here a under call stands core.frames (no-bytes-changed x o.call o.step core.frames quiet) next (subst (λ (w : Action). EndsIn core.frames o.step x w answer) (sym e) end)
-      by o under stands quiet next (Done Granted) e end = goes-on-at s h core.domains core.frames x o c action answer st named here a under call stands core.frames (no-bytes-changed x o.call o.step core.frames quiet) next (subst (λ (w : Action). EndsIn core.frames o.step x w answer) (sym e) (AnswerDone, end, told-words core.frames o.step quiet))
+      by o under stands quiet next (actions.Step z) e end = goes-on-at s h core.domains core.frames x o c action answer st named here a under call stands core.frames (no-bytes-changed x o.call o.step core.frames quiet) next (subst (λ (w : Action). EndsIn core.frames o.step x w answer) (sym e) end)
+      by o under stands quiet next (Done Granted) e end = goes-on-at s h core.domains core.frames x o c action answer st named here a under call stands core.frames (no-bytes-changed x o.call o.step core.frames quiet) next (subst (λ (w : Action). EndsIn core.frames o.step x w answer) (sym e) (answers.Done, end, told-words core.frames o.step quiet))
       by o under stands quiet next (Done (Given value)) e end = goes-on-at s h core.domains core.frames x o c action answer st named here a under call stands core.frames (no-bytes-changed x o.call o.step core.frames quiet) next (subst (λ (w : Action). EndsIn core.frames o.step x w answer) (sym e) end)
       by o under stands quiet next (Done (Refused denial)) e end = goes-on-at s h core.domains core.frames x o c action answer st named here a under call stands core.frames (no-bytes-changed x o.call o.step core.frames quiet) next (subst (λ (w : Action). EndsIn core.frames o.step x w answer) (sym e) end)
 
@@ -286,9 +289,9 @@ abbrev writ_of : State → Call → Writ
 writ_of x call = record { writer = call.caller; basis = basis_of (route_of x.mappings call) }
 
 seen-nothing : (s : Setting) (h : History) (d : DomId) (step : Step) → IsAccess step → seen_by s h d step ≡ Nothing
-seen-nothing s h d (ReadBytes dom frame off len) is = refl
-seen-nothing s h d (WriteBytes dom frame off len) is = refl
-seen-nothing s h d (CopyBytes from to len) is = refl
+seen-nothing s h d (call_steps.Read dom frame off len) is = refl
+seen-nothing s h d (call_steps.Write dom frame off len) is = refl
+seen-nothing s h d (call_steps.Copy from to len) is = refl
 seen-nothing s h d step is = absurd is
 
 module _ (s : Setting) (h : History) (fs : FrameSet) (fr : FramesStand s h fs) where
@@ -304,25 +307,25 @@ module _ (s : Setting) (h : History) (fs : FrameSet) (fr : FramesStand s h fs) w
     abbrev Made : Step → Action → Option Answer → Type 0
     Made step action answer = (gs : FrameSet) × AccessedBy x call step fs gs × EndsIn gs step x action answer
 
-    read-ends : (dom : DomId) (frame off len : ℕ) (action : Action) (answer : Option Answer) → AccessAnsweredSo h (ReadBytes dom frame off len) action answer → EndsIn fs (ReadBytes dom frame off len) x action answer
-    read-ends dom frame off len (Makes next) answer so = so
+    read-ends : (dom : DomId) (frame off len : ℕ) (action : Action) (answer : Option Answer) → AccessAnsweredSo h (call_steps.Read dom frame off len) action answer → EndsIn fs (call_steps.Read dom frame off len) x action answer
+    read-ends dom frame off len (actions.Step next) answer so = so
     read-ends dom frame off len (Done Granted) answer (z, is, told) = (z, is, (told.0, told.1, told.2 ∙ ap (λ (bytes : List ℕ). slice_range bytes off (off + len)) (sym (holds (record { owner = dom; number = frame })))))
     read-ends dom frame off len (Done (Given value)) answer so = absurd so
-    read-ends dom frame off len (Done (KeptPin held)) answer so = absurd so
+    read-ends dom frame off len (Done (results.Mapped held)) answer so = absurd so
     read-ends dom frame off len (Done (Refused denial)) answer so = absurd so
 
-    write-ends : (gs : FrameSet) (dom : DomId) (frame off len : ℕ) (action : Action) (answer : Option Answer) → AccessAnsweredSo h (WriteBytes dom frame off len) action answer → EndsIn gs (WriteBytes dom frame off len) x action answer
-    write-ends gs dom frame off len (Makes next) answer so = so
+    write-ends : (gs : FrameSet) (dom : DomId) (frame off len : ℕ) (action : Action) (answer : Option Answer) → AccessAnsweredSo h (call_steps.Write dom frame off len) action answer → EndsIn gs (call_steps.Write dom frame off len) x action answer
+    write-ends gs dom frame off len (actions.Step next) answer so = so
     write-ends gs dom frame off len (Done Granted) answer so = so
     write-ends gs dom frame off len (Done (Given value)) answer so = absurd so
-    write-ends gs dom frame off len (Done (KeptPin held)) answer so = absurd so
+    write-ends gs dom frame off len (Done (results.Mapped held)) answer so = absurd so
     write-ends gs dom frame off len (Done (Refused denial)) answer so = absurd so
 
-    copy-ends : (gs : FrameSet) (from to : Spot) (len : ℕ) (action : Action) (answer : Option Answer) → AccessAnsweredSo h (CopyBytes from to len) action answer → EndsIn gs (CopyBytes from to len) x action answer
-    copy-ends gs from to len (Makes next) answer so = so
+    copy-ends : (gs : FrameSet) (from to : Spot) (len : ℕ) (action : Action) (answer : Option Answer) → AccessAnsweredSo h (call_steps.Copy from to len) action answer → EndsIn gs (call_steps.Copy from to len) x action answer
+    copy-ends gs from to len (actions.Step next) answer so = so
     copy-ends gs from to len (Done Granted) answer so = so
     copy-ends gs from to len (Done (Given value)) answer so = absurd so
-    copy-ends gs from to len (Done (KeptPin held)) answer so = absurd so
+    copy-ends gs from to len (Done (results.Mapped held)) answer so = absurd so
     copy-ends gs from to len (Done (Refused denial)) answer so = absurd so
 
     -- the bytes of a range that exists are as many as its length
@@ -333,12 +336,12 @@ module _ (s : Setting) (h : History) (fs : FrameSet) (fr : FramesStand s h fs) w
         ap (λ (n : ℕ). length (take n (drop from.off xs))) e ∙ length-take-le len (drop from.off xs) (omega (arith, full, left, fits))
 
     can-access : (step : Step) (action : Action) (answer : Option Answer) → IsAccess step → IsAdmitted fs x call step → AccessAnsweredSo h step action answer → Made step action answer
-    can-access (ReadBytes dom frame off len) action answer is may so = (fs, refl, read-ends dom frame off len action answer so)
-    can-access (WriteBytes dom frame off len) action answer is may so =
+    can-access (call_steps.Read dom frame off len) action answer is may so = (fs, refl, read-ends dom frame off len action answer so)
+    can-access (call_steps.Write dom frame off len) action answer is may so =
         let name : FrameName = record { owner = dom; number = frame } in let w : Writ = writ_of x call in
         let z = can-write fs name w off x.given (may w (refl, refl)) fr.kept (filled name) in
         (z.0, (w, (refl, refl), z.1, z.2), write-ends z.0 dom frame off len action answer so)
-    can-access (CopyBytes from to len) action answer is may so =
+    can-access (call_steps.Copy from to len) action answer is may so =
         let w : Writ = writ_of x call in let ys : List ℕ = bytes_at (frame_at fs from.frame) from.off len in
         let here : IsTrue (admits fs to.frame w to.off (length ys)) = subst (λ (n : ℕ). IsTrue (admits fs to.frame w to.off n)) (sym (long from len may.0)) (may.1 w (refl, refl)) in
         let z = can-write fs to.frame w to.off ys here fr.kept (filled to.frame) in
@@ -348,12 +351,12 @@ module _ (s : Setting) (h : History) (fs : FrameSet) (fr : FramesStand s h fs) w
 module _ (s : Setting) (h : History) (core : CoreState) (c : Underway) (step : Step) (action : Action) (answer : Option Answer) (st : CoreStands s h core) (access : IsAccess step) where
   -- what the call of a domain needs to make its access like this
   abbrev Comes : DomId → Type 0
-  Comes d = (domain_of s.domains d ≢ None) × (open_call h d.0 ≡ Some c) × (path (known_at s h d) d c.request (values c) ≡ Some (Makes step))
+  Comes d = (domain_of s.domains d ≢ None) × (open_call h d.0 ≡ Some c) × (path (known_at s h d) d c.request (values c) ≡ Some (actions.Step step))
       × (path (known_at s h d) d c.request (values c ++ Nothing ∷ []) ≡ Some action) × AccessAnsweredSo h step action answer
 
   accesses-home : (x : State) → state_of core.domains x.id.0 ≡ Some x → StateStands s h x → Comes x.id → Gives s h x.id step answer
   accesses-home x here a (named, call, way, next, so) = let u = opened-by s h x.id x.underway (open_call h x.id.0) c a.call call in let o = u.0 in
-      let same : o.step ≡ step = same-step o.step step (same_Some (Makes o.step) (Makes step) (sym u.2.follows ∙ way)) in
+      let same : o.step ≡ step = same-step o.step step (same_Some (actions.Step o.step) (actions.Step step) (sym u.2.follows ∙ way)) in
       let admitted : IsAdmitted core.frames x o.call o.step = open-admitted s h core.domains core.frames x o c st.domains st.frames a call u.2 in
       let m = can-access s h core.frames st.frames x o.call o.step action answer (subst IsAccess (sym same) access) admitted (subst (λ (z : Step). AccessAnsweredSo h z action answer) (sym same) so) in
       let next' : path (known_at s h x.id) x.id c.request (values c ++ seen_by s h x.id o.step ∷ []) ≡ Some action =

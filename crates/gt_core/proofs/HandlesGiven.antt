@@ -1,13 +1,14 @@
 -- The handles that domains were answered with: each serial once, and each mapping under one of them.
-use Rattle.gt_core.proofs.Words.{◌≡◌, ◌≤◌, ◌<◌, ◌+◌, inl, inr, ℕ, refl, Bool, true, false, List, [], ◌∷◌, Option}
-use Rattle.gt_core.proofs.Words.{Some, None, cond, sym, ap, ◌∙◌, subst, arith, ◌==◌, ◌&&◌, eqb-true, eq-eqb, DomId}
-use Rattle.gt_core.proofs.Words.{Denial, Handle, SERIAL_LIMIT, OpenRequest, PinHolder, ByMapping, ByLeg, HeldPin}
-use Rattle.gt_core.proofs.Words.{Observation, Step, Unpin, Makes, CallResult, asked, CallerKnowledge, begun}
-use Rattle.gt_core.proofs.Words.{Continuation, after_beginning, steps_of, IsMapping, Answer, ItemEvent, Began}
-use Rattle.gt_core.proofs.Words.{Stepped, Item, History, Setting, Underway, Pin, live, same_handle, pinned_by}
-use Rattle.gt_core.proofs.Words.{unpinned_by, open_call, underway_after, maps_answered_at, one_if_mapped, known_at}
-use Rattle.gt_core.proofs.Words.{values, IsRight, StepsRightIn, AnsweredBy, bare_handle, IsGiven, IsKnown, AsksKnown}
-use Rattle.gt_core.proofs.Words.{HappensKnown, IsRun, cond_both, All-nil, All}
+use Rattle.gt_core.proofs.Words.{◌≡◌, ◌≤◌, ◌<◌, ◌+◌, inl, inr, ℕ, refl, Bool, true, false, List, [], ◌∷◌, Option, Some}
+use Rattle.gt_core.proofs.Words.{None, cond, sym, ap, ◌∙◌, subst, arith, ◌==◌, ◌&&◌, eqb-true, eq-eqb, DomId, Denial}
+use Rattle.gt_core.proofs.Words.{Handle, SERIAL_LIMIT, OpenRequest, PinHolder, HeldPin, Observation, Step, Unpin}
+use Rattle.gt_core.proofs.Words.{CallResult, asked, CallerKnowledge, begun, Continuation, after_beginning, steps_of}
+use Rattle.gt_core.proofs.Words.{IsMapping, Answer, ItemEvent, Began, Stepped, Item, History, Setting, Underway, Pin}
+use Rattle.gt_core.proofs.Words.{live, same_handle, pinned_by, unpinned_by, open_call, underway_after, maps_answered_at}
+use Rattle.gt_core.proofs.Words.{one_if_mapped, known_at, values, IsRight, StepsRightIn, AnsweredBy, bare_handle}
+use Rattle.gt_core.proofs.Words.{IsGiven, IsKnown, AsksKnown, HappensKnown, IsRun, cond_both, All-nil, All}
+use Rattle.gt_model.specs.declared.action.Action.TheVariants as actions
+use Rattle.gt_model.specs.declared.request.PinHolder.TheVariants as holders
 use Rattle.std.proofs.lemmas.List.Elements.{All-append, All-weaker}
 use Rattle.gt_model.proofs.Observers.{all-without}
 use Rattle.gt_model.specs.declared.trace.Answer.TheVariants as answers
@@ -23,7 +24,7 @@ answered-next : (s : Setting) (h : History) (d : DomId) (r : OpenRequest) (step 
     → AnsweredBy s h d r step giving v a against → a ≡ Some (answers.Mapped handle) → IsNext h d r step handle
 answered-next s h d r step giving v a against handle is e = grind arith
 
-none-begun : (v : Option CallResult) (c : Continuation) (vs : List Observation) (step : Step) → after_beginning v c vs ≡ Some (Makes step) → v ≡ None
+none-begun : (v : Option CallResult) (c : Continuation) (vs : List Observation) (step : Step) → after_beginning v c vs ≡ Some (actions.Step step) → v ≡ None
 none-begun v c vs step e = grind arith
 
 few-answered : (k : CallerKnowledge) (d : DomId) (r : OpenRequest) → begun k d r ≡ None → IsMapping (Some r) → k.maps_answered < SERIAL_LIMIT
@@ -99,8 +100,8 @@ known-tells s h d a b run g k = by (b.serial == a.serial) refl where
 -- pins
 
 abbrev pub HeldGiven : History → ℕ → PinHolder → Type 0
-HeldGiven h d (ByMapping handle) = IsGiven h d handle
-HeldGiven h d (ByLeg number) = Unit {0}
+HeldGiven h d (holders.Mapping handle) = IsGiven h d handle
+HeldGiven h d (holders.Leg number) = Unit {0}
 
 -- each mapping has a handle that its domain was answered with
 abbrev pub PinsGiven : History → List Pin → Type 0
@@ -150,10 +151,10 @@ open-known s (i ∷ h) d run = cond_both (i.actor.0 == d) (underway_after i (ope
     (after-known i h (open_call h i.actor.0) run.1 (subst (λ (n : ℕ). CallKnown h n (open_call h n)) (sym (eqb-true i.actor.0 d e)) (open-known s h d run.2))))
     (λ e. call-later i h d (open_call h d) (open-known s h d run.2))
 
-unpin-in : (s : Setting) (h : History) (i : Item) (p : HeldPin) (handle : Handle) (seen : Observation) (c : Option Underway) → StepsRightIn s h i (Unpin p (ByMapping handle)) seen c → CallKnown h i.actor.0 c → IsKnown h i.actor.0 handle
+unpin-in : (s : Setting) (h : History) (i : Item) (p : HeldPin) (handle : Handle) (seen : Observation) (c : Option Underway) → StepsRightIn s h i (Unpin p (holders.Mapping handle)) seen c → CallKnown h i.actor.0 c → IsKnown h i.actor.0 handle
 unpin-in s h i p handle seen c right k = grind arith
 
 -- a mapping that is dropped has a known handle
-pub unpin-known : (s : Setting) (h : History) (i : Item) (p : HeldPin) (handle : Handle) (seen : Observation) → i.happened ≡ Stepped (Unpin p (ByMapping handle)) seen → IsRight s h i → IsRun s h → IsKnown h i.actor.0 handle
+pub unpin-known : (s : Setting) (h : History) (i : Item) (p : HeldPin) (handle : Handle) (seen : Observation) → i.happened ≡ Stepped (Unpin p (holders.Mapping handle)) seen → IsRight s h i → IsRun s h → IsKnown h i.actor.0 handle
 unpin-known s h i p handle seen e right run =
-    unpin-in s h (record i { happened = Stepped (Unpin p (ByMapping handle)) seen }) p handle seen (open_call h i.actor.0) (subst (λ (x : ItemEvent). IsRight s h (record i { happened = x })) e right) (open-known s h i.actor.0 run)
+    unpin-in s h (record i { happened = Stepped (Unpin p (holders.Mapping handle)) seen }) p handle seen (open_call h i.actor.0) (subst (λ (x : ItemEvent). IsRight s h (record i { happened = x })) e right) (open-known s h i.actor.0 run)

@@ -1,14 +1,18 @@
 -- How a call ends, and what its steps have left unchanged.
 use Rattle.gt_core.proofs.Words.{◌≡◌, ◌⊎◌, inl, inr, ℕ, refl, List, [], ◌∷◌, ◌++◌, Option, Some, None, sym, ap, subst}
 use Rattle.gt_core.proofs.Words.{All-push, All, DomId, Denial, Entry, Via, HeldPin, Direct, Through, CallPins}
-use Rattle.gt_core.proofs.Words.{OpenRequest, ByMapping, ByLeg, Observation, Nothing, CallResult, Refused, Step}
-use Rattle.gt_core.proofs.Words.{Unpin, StoreHeader, ReadBytes, WriteBytes, Makes, Done, PinPurpose, Mapping, Source}
-use Rattle.gt_core.proofs.Words.{Dest, Phase, Walking, Accessing, Last, Ending, Leg, AtHeader, LegNext, LegRefused}
-use Rattle.gt_core.proofs.Words.{Pinned, last_first, pins_so_far, no_pins, CallerKnowledge, via_judged}
+use Rattle.gt_core.proofs.Words.{OpenRequest, Observation, Nothing, CallResult, Refused, Step, Unpin, StoreHeader, Done}
+use Rattle.gt_core.proofs.Words.{PinPurpose, Mapping, Source, Dest, Phase, Walking, Accessing, Last, Ending, Leg}
+use Rattle.gt_core.proofs.Words.{LegNext, Pinned, last_first, pins_so_far, no_pins, CallerKnowledge, via_judged}
 use Rattle.gt_core.proofs.Words.{is_dest_granted, source_pair, dest_pair, second_leg, end_leg, phase_after, action_at}
-use Rattle.gt_core.proofs.Words.{after_leg, after_source_pin, after_dest_pin, where_via, next_to_give, History}
-use Rattle.gt_core.proofs.Words.{Setting, known_at, seen_by, StepsSoFar, LeavesAll, refusal_in, PhaseStands}
-use Rattle.gt_core.proofs.Words.{EndsAfter, IsClean, Write, cond_both, CopyArgs, AccessPath, at_dest}
+use Rattle.gt_core.proofs.Words.{after_leg, after_source_pin, after_dest_pin, where_via, next_to_give, History, Setting}
+use Rattle.gt_core.proofs.Words.{known_at, seen_by, StepsSoFar, LeavesAll, refusal_in, PhaseStands, EndsAfter, IsClean}
+use Rattle.gt_core.proofs.Words.{Write, cond_both, CopyArgs, AccessPath, at_dest}
+use Rattle.gt_model.specs.declared.action.Action.TheVariants as actions
+use Rattle.gt_model.specs.declared.action.Step.TheVariants as call_steps
+use Rattle.gt_model.specs.declared.request.PinHolder.TheVariants as holders
+use Rattle.gt_calls.specs.declared.leg.LegNext.TheVariants as leg_outcomes
+use Rattle.gt_calls.specs.declared.leg.LegPhase.TheVariants as leg_phases
 use Rattle.gt_core.proofs.{Phases.by-leg, Phases.makes-same, Phases.by-giving, Phases.next_of, Phases.LeavesOrEnds}
 use Rattle.gt_model.specs.declared.held.AccessPath.TheVariants.{Own}
 use Rattle.gt_model.specs.declared.action.CallResult.TheVariants.{Mapped}
@@ -17,21 +21,21 @@ use Rattle.gt_model.specs.declared.action.CallResult.TheVariants.{Mapped}
 
 abbrev pub IsSingle : Step → Type 0
 IsSingle (StoreHeader version frames) = Unit {0}
-IsSingle (ReadBytes dom frame off len) = Unit {0}
-IsSingle (WriteBytes dom frame off len) = Unit {0}
-IsSingle (Unpin p (ByMapping handle)) = Unit {0}
+IsSingle (call_steps.Read dom frame off len) = Unit {0}
+IsSingle (call_steps.Write dom frame off len) = Unit {0}
+IsSingle (Unpin p (holders.Mapping handle)) = Unit {0}
 IsSingle step = ⊥
 
 single-sees : (s : Setting) (h : History) (d : DomId) (step : Step) → IsSingle step → seen_by s h d step ≡ Nothing
 single-sees s h d (StoreHeader version frames) a = refl
-single-sees s h d (ReadBytes dom frame off len) a = refl
-single-sees s h d (WriteBytes dom frame off len) a = refl
-single-sees s h d (Unpin p (ByMapping handle)) a = refl
-single-sees s h d (Unpin p (ByLeg n)) a = refl
+single-sees s h d (call_steps.Read dom frame off len) a = refl
+single-sees s h d (call_steps.Write dom frame off len) a = refl
+single-sees s h d (Unpin p (holders.Mapping handle)) a = refl
+single-sees s h d (Unpin p (holders.Leg n)) a = refl
 single-sees s h d step a = absurd a
 
 -- the call ends after it
-pub single-ends : (s : Setting) (h : History) (d : DomId) (r : OpenRequest) (so_far : StepsSoFar) (phase : Phase) (step : Step) → action_at d phase ≡ Makes step → PhaseStands s h d r so_far phase → IsSingle step
+pub single-ends : (s : Setting) (h : History) (d : DomId) (r : OpenRequest) (so_far : StepsSoFar) (phase : Phase) (step : Step) → action_at d phase ≡ actions.Step step → PhaseStands s h d r so_far phase → IsSingle step
     → (verdict : CallResult) × (next_of s h d phase step ≡ Ending no_pins verdict) × EndsAfter r step verdict
 single-ends s h d r so_far (Walking aim l at) step e b a = absurd (by-leg (λ (z : Step). IsSingle z → ⊥) (λ dom n. n) (λ dom gref n. n) (λ dom gref half n. n) (λ p n. n) l at (subst IsSingle (sym (makes-same _ _ e)) a))
 single-ends s h d r so_far (Last last verdict) step e b a =
@@ -52,13 +56,13 @@ clean-all (Ending pins verdict) steps a = inr a
 clean-all p steps a = a
 
 -- the steps with this one have too, if the step leaves everything unchanged or ends its call
-pub clean-next : (s : Setting) (h : History) (d : DomId) (phase : Phase) (step : Step) (steps : List (Step × Observation)) → action_at d phase ≡ Makes step → LeavesOrEnds s h d phase step → IsClean phase steps
+pub clean-next : (s : Setting) (h : History) (d : DomId) (phase : Phase) (step : Step) (steps : List (Step × Observation)) → action_at d phase ≡ actions.Step step → LeavesOrEnds s h d phase step → IsClean phase steps
     → IsClean (next_of s h d phase step) (steps ++ (step, seen_by s h d step) ∷ [])
 clean-next s h d (Ending pins verdict) step steps e x clean = by-giving (λ (z : Step). IsClean (next_of s h d (Ending pins verdict) z) (steps ++ (z, seen_by s h d z) ∷ [])) (λ p n. by p n clean) (last_first pins) verdict step e
   where
-    by : (p : HeldPin) (n : ℕ) → (refusal_in (Some verdict) ≡ None) ⊎ All LeavesAll steps → (refusal_in (Some verdict) ≡ None) ⊎ All LeavesAll (steps ++ (Unpin p (ByLeg n), Nothing) ∷ [])
+    by : (p : HeldPin) (n : ℕ) → (refusal_in (Some verdict) ≡ None) ⊎ All LeavesAll steps → (refusal_in (Some verdict) ≡ None) ⊎ All LeavesAll (steps ++ (Unpin p (holders.Leg n), Nothing) ∷ [])
     by p n (inl none) = inl none
-    by p n (inr all) = inr (All-push LeavesAll steps (Unpin p (ByLeg n), Nothing) all tt)
+    by p n (inr all) = inr (All-push LeavesAll steps (Unpin p (holders.Leg n), Nothing) all tt)
 clean-next s h d phase step steps e (inl leaves) all =
     clean-all (next_of s h d phase step) (steps ++ (step, seen_by s h d step) ∷ []) (All-push LeavesAll steps (step, seen_by s h d step) all leaves)
 clean-next s h d phase step steps e (inr ends) all = ends (steps ++ (step, seen_by s h d step) ∷ [])
@@ -76,7 +80,7 @@ ends-so d p v e = cc
 -- a call that continues to its destination has not ended
 dest-not : (k : CallerKnowledge) (d : DomId) (c : CopyArgs) (source : AccessPath) (v : CallResult) → action_at d (at_dest k d c source) ≡ Done v → ⊥
 dest-not k d c source v e =
-    cond_both (is_dest_granted c) (Walking (Dest c source None) (end_leg k d c.dest Write c.len) AtHeader) (Accessing c source Own) (λ p. action_at d p ≡ Done v → ⊥) (λ b f. cc) (λ b f. cc) e
+    cond_both (is_dest_granted c) (Walking (Dest c source None) (end_leg k d c.dest Write c.len) leg_phases.Header) (Accessing c source Own) (λ p. action_at d p ≡ Done v → ⊥) (λ b f. cc) (λ b f. cc) e
 
 -- nor has one that is checked after a Via
 where-not : (d : DomId) (o : Option CallResult) (aim : PinPurpose) (second : Leg) (v : CallResult) → ((w : CallResult) → next_to_give (last_first (pins_so_far aim)) w ≡ Done v → ⊥) → action_at d (where_via o aim second) ≡ Done v → ⊥
@@ -86,8 +90,8 @@ where-not d (Some w) aim second v held e = held w e
 -- the end of a leg: a refusal, or the pin of a map
 pub walk-done : (k : CallerKnowledge) (d : DomId) (aim : PinPurpose) (l : Leg) (next : LegNext) (v : CallResult) → action_at d (after_leg k d aim l next) ≡ Done v
     → ((denial : Denial) × (v ≡ Refused denial)) ⊎ ((p : HeldPin) × (v ≡ Mapped p) × (next ≡ Pinned p) × (aim ≡ Mapping))
-walk-done k d aim l (LegRefused denial) v e = by (last_first (pins_so_far aim)) e where
-  by : (held : List HeldPin) → next_to_give held (Refused denial) ≡ Done v → ((denial : Denial) × (v ≡ Refused denial)) ⊎ ((p : HeldPin) × (v ≡ Mapped p) × (LegRefused denial ≡ Pinned p) × (aim ≡ Mapping))
+walk-done k d aim l (leg_outcomes.Refused denial) v e = by (last_first (pins_so_far aim)) e where
+  by : (held : List HeldPin) → next_to_give held (Refused denial) ≡ Done v → ((denial : Denial) × (v ≡ Refused denial)) ⊎ ((p : HeldPin) × (v ≡ Mapped p) × (leg_outcomes.Refused denial ≡ Pinned p) × (aim ≡ Mapping))
   by [] f = let w : v ≡ Refused denial = cc in inl (denial, w)
   by (q ∷ qs) f = cc
 walk-done k d Mapping l (Pinned p) v e = let w : v ≡ Mapped p = cc in inr (p, w, refl, refl)

@@ -2,19 +2,26 @@
 -- the step would leave after it.
 use Rattle.gt_core.proofs.Words.{◌≡◌, ◌<◌, ◌==◌, ℕ, zero, suc, refl, Bool, List, [], ◌∷◌, length, Option, Some, None}
 use Rattle.gt_core.proofs.Words.{cond, ltb, sym, ap, ◌∙◌, subst, arith, same_Some, slice_get, get_or, set, position}
-use Rattle.gt_core.proofs.Words.{position_or_len, DomId, DomainConfig, TypeId, Perms, OwnerEntry, Header, HandleMap, HeldPin}
-use Rattle.gt_core.proofs.Words.{Entry, Via, CopyArgs, AccessPath, Observation, Taken, Granted, Given, KeptPin, Refused, Step}
-use Rattle.gt_core.proofs.Words.{PinStep, Unpin, StoreBody, StoreHeader, Exchange, ReadBytes, Action, Makes, Done, Call}
-use Rattle.gt_core.proofs.Words.{Phase, Storing, StoringSecond, Walking, PinPurpose, Mapping, Source, Dest, Leg, LegNext}
-use Rattle.gt_core.proofs.Words.{Going, LegRefused, Pinned, CallerKnowledge, knowledge_of, phase_after, after_leg}
-use Rattle.gt_core.proofs.Words.{after_source_pin, after_dest_pin, leg_after, action_at, OpenCall, Answer, State}
-use Rattle.gt_core.proofs.Words.{changed_in, applied, with_slot, with_own, with_header, without_holder, with_underway}
-use Rattle.gt_core.proofs.Words.{with_mapping, Settled, Closed, FrameSet, Adds, History, Setting, Underway, OpenAgrees}
-use Rattle.gt_core.proofs.Words.{Unpinned, Stored, PinHolder, ByMapping, ByLeg, GrantRef, BodyWord, FirstHalf, SecondHalf}
-use Rattle.gt_core.proofs.Words.{first_body, second_body, AnswerDone, cond_both, position-Some, slice_get-get_or}
+use Rattle.gt_core.proofs.Words.{position_or_len, DomId, DomainConfig, TypeId, Perms, OwnerEntry, Header, HandleMap}
+use Rattle.gt_core.proofs.Words.{HeldPin, Entry, Via, CopyArgs, AccessPath, Observation, Taken, Granted, Given, Refused}
+use Rattle.gt_core.proofs.Words.{Step, Unpin, StoreBody, StoreHeader, Exchange, Action, Done, Call, Phase, Storing}
+use Rattle.gt_core.proofs.Words.{StoringSecond, Walking, PinPurpose, Mapping, Source, Dest, Leg, LegNext, Going, Pinned}
+use Rattle.gt_core.proofs.Words.{CallerKnowledge, knowledge_of, phase_after, after_leg, after_source_pin}
+use Rattle.gt_core.proofs.Words.{after_dest_pin, leg_after, action_at, OpenCall, Answer, State, changed_in, applied}
+use Rattle.gt_core.proofs.Words.{with_slot, with_own, with_header, without_holder, with_underway, with_mapping, Settled}
+use Rattle.gt_core.proofs.Words.{Closed, FrameSet, Adds, History, Setting, Underway, OpenAgrees, Unpinned, Stored}
+use Rattle.gt_core.proofs.Words.{PinHolder, GrantRef, BodyWord, first_body, second_body, cond_both, position-Some}
+use Rattle.gt_core.proofs.Words.{slice_get-get_or}
+use Rattle.gt_model.specs.declared.action.Action.TheVariants as actions
+use Rattle.gt_model.specs.declared.trace.Answer.TheVariants as answers
+use Rattle.gt_model.specs.declared.change.BodyWord.TheVariants as body_words
+use Rattle.gt_model.specs.declared.action.Step.TheVariants as call_steps
+use Rattle.gt_model.specs.declared.request.PinHolder.TheVariants as holders
+use Rattle.gt_calls.specs.declared.leg.LegNext.TheVariants as leg_outcomes
+use Rattle.gt_model.specs.declared.action.CallResult.TheVariants as results
 use Rattle.gt_calls.specs.Following.{IsLeftAlike}
 use Rattle.gt_core.specs.declared.pin_counts.CountsChange.{CountsChange}
-use Rattle.gt_core.specs.declared.pin_counts.CountsChange.TheVariants.{Pinned as PinnedCount}
+use Rattle.gt_core.specs.declared.pin_counts.CountsChange.TheVariants as counts_changes
 use Rattle.gt_core.proofs.{Rows.has_id, Rows.set-state, CallsOver.length-applied, Phases.makes-same}
 use Rattle.gt_calls.specs.Machine.{settled}
 
@@ -26,27 +33,27 @@ changed-swap [] d t f g a b c = refl
 changed-swap (z ∷ zs) d t f g a b c = grind (arith, changed-swap zs d t f g a b c, a z, b z, c z)
 
 pub kept-id : (holder : PinHolder) (x : State) → (without_holder holder x).id ≡ x.id
-kept-id (ByMapping handle) x = refl
-kept-id (ByLeg n) x = refl
+kept-id (holders.Mapping handle) x = refl
+kept-id (holders.Leg n) x = refl
 
 -- a change of the actor's state that no step makes can be made before a step or after it
 applied-swap : (d : DomId) (step : Step) (seen : Observation) (u : Option OpenCall) (xs : List State) → changed_in d.0 (with_underway u) (applied d step seen xs) ≡ applied d step seen (changed_in d.0 (with_underway u) xs)
-applied-swap d (PinStep p) Taken u xs = changed-swap xs d.0 p.dom.0 (with_underway u) (with_slot p.gref.0 (PinnedCount p.dir)) (λ x. refl) (λ x. refl) (λ x. refl)
+applied-swap d (call_steps.Pin p) Taken u xs = changed-swap xs d.0 p.dom.0 (with_underway u) (with_slot p.gref.0 (counts_changes.Pinned p.dir)) (λ x. refl) (λ x. refl) (λ x. refl)
 applied-swap d (Exchange gref looked change) Taken u xs = changed-swap xs d.0 d.0 (with_underway u) (with_own gref.0 change) (λ x. refl) (λ x. refl) (λ x. refl)
 applied-swap d (Unpin p holder) seen u xs =
     changed-swap (changed_in p.dom.0 (with_slot p.gref.0 (Unpinned p.dir)) xs) d.0 d.0 (with_underway u) (without_holder holder) (λ x. refl) (kept-id holder) (swapped holder)
     ∙ ap (changed_in d.0 (without_holder holder)) (changed-swap xs d.0 p.dom.0 (with_underway u) (with_slot p.gref.0 (Unpinned p.dir)) (λ x. refl) (λ x. refl) (λ x. refl))
   where
     swapped : (h : PinHolder) (x : State) → with_underway u (without_holder h x) ≡ without_holder h (with_underway u x)
-    swapped (ByMapping handle) x = refl
-    swapped (ByLeg n) x = refl
+    swapped (holders.Mapping handle) x = refl
+    swapped (holders.Leg n) x = refl
 applied-swap d (StoreBody gref half word) seen u xs = changed-swap xs d.0 d.0 (with_underway u) (with_slot gref.0 (Stored half word)) (λ x. refl) (λ x. refl) (λ x. refl)
 applied-swap d (StoreHeader version frames) seen u xs = changed-swap xs d.0 d.0 (with_underway u) (with_header version frames) (λ x. refl) (λ x. refl) (λ x. refl)
 applied-swap d step seen u xs = refl
 
 -- and so can that of a map that keeps its pin
-mapped-swap : (d : DomId) (p : HeldPin) (seen : Observation) (kept : HandleMap HeldPin) (xs : List State) → changed_in d.0 (with_mapping kept) (applied d (PinStep p) seen xs) ≡ applied d (PinStep p) seen (changed_in d.0 (with_mapping kept) xs)
-mapped-swap d p Taken kept xs = changed-swap xs d.0 p.dom.0 (with_mapping kept) (with_slot p.gref.0 (PinnedCount p.dir)) (λ x. refl) (λ x. refl) (λ x. refl)
+mapped-swap : (d : DomId) (p : HeldPin) (seen : Observation) (kept : HandleMap HeldPin) (xs : List State) → changed_in d.0 (with_mapping kept) (applied d (call_steps.Pin p) seen xs) ≡ applied d (call_steps.Pin p) seen (changed_in d.0 (with_mapping kept) xs)
+mapped-swap d p Taken kept xs = changed-swap xs d.0 p.dom.0 (with_mapping kept) (with_slot p.gref.0 (counts_changes.Pinned p.dir)) (λ x. refl) (λ x. refl) (λ x. refl)
 mapped-swap d p seen kept xs = refl
 
 -- the indices of domains
@@ -56,7 +63,7 @@ place-changed [] d t g keeps = refl
 place-changed (z ∷ zs) d t g keeps = grind (arith, place-changed zs d t g keeps, keeps z)
 
 place-applied : (d : DomId) (step : Step) (seen : Observation) (xs : List State) → position_or_len (has_id d.0) (applied d step seen xs) ≡ position_or_len (has_id d.0) xs
-place-applied d (PinStep p) Taken xs = place-changed xs d.0 p.dom.0 (with_slot p.gref.0 (PinnedCount p.dir)) (λ x. refl)
+place-applied d (call_steps.Pin p) Taken xs = place-changed xs d.0 p.dom.0 (with_slot p.gref.0 (counts_changes.Pinned p.dir)) (λ x. refl)
 place-applied d (Exchange gref looked change) Taken xs = place-changed xs d.0 d.0 (with_own gref.0 change) (λ x. refl)
 place-applied d (Unpin p holder) seen xs = place-changed (changed_in p.dom.0 (with_slot p.gref.0 (Unpinned p.dir)) xs) d.0 d.0 (without_holder holder) (kept-id holder)
     ∙ place-changed xs d.0 p.dom.0 (with_slot p.gref.0 (Unpinned p.dir)) (λ x. refl)
@@ -90,7 +97,7 @@ changed-keeps field t g (z ∷ zs) (suc k) y keeps e = cond_both (z.id.0 == t) (
 
 -- no change of the step touches this part
 abbrev Untouched : {A : Type 0} → (State → A) → Step → Type 0
-Untouched field (PinStep p) = (z : State) (r : ℕ) (c : CountsChange) → field (with_slot r c z) ≡ field z
+Untouched field (call_steps.Pin p) = (z : State) (r : ℕ) (c : CountsChange) → field (with_slot r c z) ≡ field z
 Untouched field (Unpin p holder) = ((z : State) (r : ℕ) (c : CountsChange) → field (with_slot r c z) ≡ field z) × ((z : State) → field (without_holder holder z) ≡ field z)
 Untouched field (StoreBody gref half word) = (z : State) (r : ℕ) (c : CountsChange) → field (with_slot r c z) ≡ field z
 Untouched field (StoreHeader version frames) = (z : State) → field (with_header version frames z) ≡ field z
@@ -98,7 +105,7 @@ Untouched field (Exchange gref looked change) = (z : State) → field (with_own 
 Untouched field step = Unit {0}
 
 applied-keeps : {A : Type 0} (field : State → A) (d : DomId) (step : Step) (seen : Observation) (xs : List State) (k : ℕ) (y : State) → Untouched field step → slice_get (applied d step seen xs) k ≡ Some y → (x : State) × (slice_get xs k ≡ Some x) × (field y ≡ field x)
-applied-keeps field d (PinStep p) Taken xs k y keeps e = changed-keeps field p.dom.0 (with_slot p.gref.0 (PinnedCount p.dir)) xs k y (λ z. keeps z p.gref.0 (PinnedCount p.dir)) e
+applied-keeps field d (call_steps.Pin p) Taken xs k y keeps e = changed-keeps field p.dom.0 (with_slot p.gref.0 (counts_changes.Pinned p.dir)) xs k y (λ z. keeps z p.gref.0 (counts_changes.Pinned p.dir)) e
 applied-keeps field d (Exchange gref looked change) Taken xs k y keeps e = changed-keeps field d.0 (with_own gref.0 change) xs k y keeps e
 applied-keeps field d (Unpin p holder) seen xs k y keeps e =
     let a = changed-keeps field d.0 (without_holder holder) (changed_in p.dom.0 (with_slot p.gref.0 (Unpinned p.dir)) xs) k y keeps.1 e in
@@ -115,11 +122,11 @@ kept-part field d step seen xs k x y keeps here there = let a = applied-keeps fi
 pub still-underway : (d : DomId) (step : Step) (seen : Observation) (xs : List State) (k : ℕ) (x y : State) → slice_get xs k ≡ Some x → slice_get (applied d step seen xs) k ≡ Some y → y.underway ≡ x.underway
 still-underway d step seen xs k x y = kept-part (λ z. z.underway) d step seen xs k x y (by step) where
   gone : (holder : PinHolder) (z : State) → (without_holder holder z).underway ≡ z.underway
-  gone (ByMapping handle) z = refl
-  gone (ByLeg n) z = refl
+  gone (holders.Mapping handle) z = refl
+  gone (holders.Leg n) z = refl
 
   by : (step : Step) → Untouched (λ z. z.underway) step
-  by (PinStep p) = λ z r c. refl
+  by (call_steps.Pin p) = λ z r c. refl
   by (Unpin p holder) = (λ z r c. refl, gone holder)
   by (StoreBody gref half word) = λ z r c. refl
   by (StoreHeader version frames) = λ z. refl
@@ -151,7 +158,7 @@ module _ (domains : List DomainConfig) (first : ℕ) (may : TypeId → TypeId �
   leg-alike d (Dest c source None) l (Pinned p) = dest-alike d c source l p p.entry
   leg-alike d (Dest c source (Some via)) l (Pinned p) = refl
   leg-alike d aim l (Going phase) = refl
-  leg-alike d aim l (LegRefused denial) = refl
+  leg-alike d aim l (leg_outcomes.Refused denial) = refl
 
   -- the next step of a grant is a store of a body word
   abbrev pub IsStoring : Phase → Type 0
@@ -178,9 +185,9 @@ left-alike s h xs k d x y o c seen a here there = rw a.here (ap (settled o.call.
       let header : y.header ≡ x.header = kept-part (λ z. z.header) d step seen xs k x y (λ z r c. refl) here at in
       let mappings : y.mappings ≡ x.mappings = kept-part (λ z. z.mappings) d step seen xs k x y (λ z r c. refl) here at in rw (own, header, mappings) refl
 
-  by : (p : Phase) → action_at x.id p ≡ Makes o.step → Alike p
-  by (Storing gref entry) e = stored gref FirstHalf (first_body entry) (Storing gref entry) (makes-same _ _ e)
-  by (StoringSecond gref entry) e = stored gref SecondHalf (second_body entry) (StoringSecond gref entry) (makes-same _ _ e)
+  by : (p : Phase) → action_at x.id p ≡ actions.Step o.step → Alike p
+  by (Storing gref entry) e = stored gref body_words.First (first_body entry) (Storing gref entry) (makes-same _ _ e)
+  by (StoringSecond gref entry) e = stored gref body_words.Second (second_body entry) (StoringSecond gref entry) (makes-same _ _ e)
   by p e = phase-alike s.domains s.first_generation s.may x.own y.own x.header y.header x.mappings y.mappings o.call.caller p seen (λ n. n)
 
 -- how the domain's call continues
@@ -193,7 +200,7 @@ set-after d step seen f xs at x y swap place here there = set-state (applied d s
 
 -- a map's call ends with its pin
 abbrev pub EndsByPin : Step → Action → Type 0
-EndsByPin step (Done (KeptPin held)) = (p : HeldPin) × (step ≡ PinStep p)
+EndsByPin step (Done (results.Mapped held)) = (p : HeldPin) × (step ≡ call_steps.Pin p)
 EndsByPin step action = Unit {0}
 
 -- the call leaves the same states whether the step is applied before or after it
@@ -207,19 +214,19 @@ settled-after fs xs ys at d x y step seen call action answer place here there fo
   over : List State
   over = set xs at (with_underway None x)
 
-  plain : (a : Answer) → (a ≡ AnswerDone) × (ys ≡ set (applied d step seen xs) at (with_underway None y)) → ((a ≡ AnswerDone) × (over ≡ over)) × (ys ≡ applied d step seen over)
+  plain : (a : Answer) → (a ≡ answers.Done) × (ys ≡ set (applied d step seen xs) at (with_underway None y)) → ((a ≡ answers.Done) × (over ≡ over)) × (ys ≡ applied d step seen over)
   plain a (is, left) = ((is, refl), left ∙ rests None)
 
   closed : (z : Step) (a : Answer) → Closed fs (applied d step seen xs) at y z a ys → Closed fs xs at x z a over × (ys ≡ applied d step seen over)
-  closed (ReadBytes dom frame off len) a (b, is, left, gives) = ((b, is, refl, gives), left ∙ rests None)
+  closed (call_steps.Read dom frame off len) a (b, is, left, gives) = ((b, is, refl, gives), left ∙ rests None)
   closed z a c = plain a c
 
   by : (act : Action) → EndsByPin step act → Settled fs (applied d step seen xs) at y step call act answer ys → (zs : List State) × Settled fs xs at x step call act answer zs × (ys ≡ applied d step seen zs)
-  by (Makes next) e (none, left) = (set xs at (with_underway (Some (record { call = call; step = next })) x), (none, refl), left ∙ rests (Some (record { call = call; step = next })))
+  by (actions.Step next) e (none, left) = (set xs at (with_underway (Some (record { call = call; step = next })) x), (none, refl), left ∙ rests (Some (record { call = call; step = next })))
   by (Done Granted) e (a, is, c) = let r = closed step a c in (over, (a, is, r.0), r.1)
-  by (Done (KeptPin held)) (p, pins) (a, is, (handle, mappings, gives, adds, left)) =
+  by (Done (results.Mapped held)) (p, pins) (a, is, (handle, mappings, gives, adds, left)) =
       let at-pin = subst (λ (z : Step). slice_get (applied d z seen xs) at ≡ Some y) pins kept in
-      let same : y.mappings ≡ x.mappings = kept-part (λ z. z.mappings) d (PinStep p) seen xs at x y (λ z r c. refl) found at-pin in
+      let same : y.mappings ≡ x.mappings = kept-part (λ z. z.mappings) d (call_steps.Pin p) seen xs at x y (λ z r c. refl) found at-pin in
       let swap = subst (λ (z : Step). changed_in d.0 (with_mapping mappings) (applied d z seen xs) ≡ applied d z seen (changed_in d.0 (with_mapping mappings) xs)) (sym pins) (mapped-swap d p seen mappings xs) in
       (set xs at (with_mapping mappings x), (a, is, (handle, mappings, gives, subst (λ (m : HandleMap HeldPin). Adds m mappings handle held) same adds, refl)), left ∙ set-after d step seen (with_mapping mappings) xs at x y swap place here there)
   by (Done (Given value)) e (a, is, (gives, left)) = (over, (a, is, (gives, refl)), left ∙ rests None)

@@ -1,15 +1,19 @@
 -- An open call by its phase: which steps it may make, and what has to be shown of each (EachStep does).
-use Rattle.gt_core.proofs.Words.{◌≡◌, ◌≢◌, ℕ, refl, false, List, [], ◌∷◌, Option, Some, None, cond, sym, ap, ◌∙◌}
-use Rattle.gt_core.proofs.Words.{subst, reverse, ◌==◌, is_none, eq-eqb, true≢false, none-some, domain_of, DomId}
-use Rattle.gt_core.proofs.Words.{GrantRef, DomainConfig, HeldPin, OpenRequest, CallResult, Step, LookHeader, LookControl}
-use Rattle.gt_core.proofs.Words.{LookBody, PinStep, Unpin, StoreBody, StoreHeader, Exchange, ReadBytes, WriteBytes}
-use Rattle.gt_core.proofs.Words.{Observation, Taken, Missed, Action, Makes, Done, Phase, Leg, LegPhase, AtHeader, Look, Body}
-use Rattle.gt_core.proofs.Words.{last_first, begun, FitsStep, action_at, leg_step, next_to_give, IsQuiet, StandsAt}
-use Rattle.gt_core.proofs.Words.{State, state_of, History, Setting, word_at, known_at, seen_by, legs_at, StepsSoFar}
-use Rattle.gt_core.proofs.Words.{DomainsStand, StateAgrees, PhaseStands, numbered, pins_at, Rests, FitsAsked, length}
-use Rattle.gt_core.proofs.Words.{ByLeg, IsExchanged, CallerKnowledge, Handle, ByMapping, BodyWord, Call, FirstHalf}
-use Rattle.gt_core.proofs.Words.{SecondHalf, Second, Pinning, Relook, held_of, cond_both, IsLegalHistory, ◌⊎◌}
+use Rattle.gt_core.proofs.Words.{◌≡◌, ◌≢◌, ℕ, refl, false, List, [], ◌∷◌, Option, Some, None, cond, sym, ap, ◌∙◌, subst}
+use Rattle.gt_core.proofs.Words.{reverse, ◌==◌, is_none, eq-eqb, true≢false, none-some, domain_of, DomId, GrantRef}
+use Rattle.gt_core.proofs.Words.{DomainConfig, HeldPin, OpenRequest, CallResult, Step, LookHeader, LookControl}
+use Rattle.gt_core.proofs.Words.{LookBody, Unpin, StoreBody, StoreHeader, Exchange, Observation, Taken, Missed, Action}
+use Rattle.gt_core.proofs.Words.{Done, Phase, Leg, LegPhase, Look, Body, last_first, begun, FitsStep, action_at}
+use Rattle.gt_core.proofs.Words.{leg_step, next_to_give, IsQuiet, StandsAt, State, state_of, History, Setting, word_at}
+use Rattle.gt_core.proofs.Words.{known_at, seen_by, legs_at, StepsSoFar, DomainsStand, StateAgrees, PhaseStands}
+use Rattle.gt_core.proofs.Words.{numbered, pins_at, Rests, FitsAsked, length, IsExchanged, CallerKnowledge, Handle}
+use Rattle.gt_core.proofs.Words.{BodyWord, Call, Second, Pinning, Relook, held_of, cond_both, IsLegalHistory, ◌⊎◌}
 use Rattle.gt_core.proofs.Words.{option_or, Denial, phase_after, LeavesAll, first_at, IsClean, phase_refusal}
+use Rattle.gt_model.specs.declared.action.Action.TheVariants as actions
+use Rattle.gt_model.specs.declared.change.BodyWord.TheVariants as body_words
+use Rattle.gt_model.specs.declared.action.Step.TheVariants as call_steps
+use Rattle.gt_model.specs.declared.request.PinHolder.TheVariants as holders
+use Rattle.gt_calls.specs.declared.leg.LegPhase.TheVariants as leg_phases
 use Rattle.gt_core.proofs.{Steps.See.word-shows, Steps.See.table-fits, Legs.Words, Entries.spelled}
 
 pub none-of : (k : CallerKnowledge) (d : DomId) (r q : OpenRequest) → r ≡ q → begun k d r ≡ None → begun k d q ≡ None
@@ -27,33 +31,33 @@ pub record IsHere (s : Setting) (h : History) (xs : List State) (d : DomId) (r :
   pub st : DomainsStand s h xs
   pub own : state_of xs d.0 ≢ None
   pub at : StandsAt (known_at s h d) d r shown phase
-  pub acts : action_at d phase ≡ Makes step
+  pub acts : action_at d phase ≡ actions.Step step
   pub place : PhaseStands s h d r so_far phase
   pub held : legs_at h d.0 ≡ numbered 0 (reverse (last_first (pins_at phase)))
-  pub rests : Rests (known_at s h d) d r (pins_at phase) shown (Makes step)
+  pub rests : Rests (known_at s h d) d r (pins_at phase) shown (actions.Step step)
   pub fits : FitsAsked r
 
-pub makes-same : (a b : Step) → Makes a ≡ Makes b → a ≡ b
+pub makes-same : (a b : Step) → actions.Step a ≡ actions.Step b → a ≡ b
 makes-same a b e = cc
 
 -- what holds for the step of an action
 abbrev pub OfAction : (Step → Type 0) → Action → Type 0
-OfAction P (Makes z) = P z
+OfAction P (actions.Step z) = P z
 OfAction P (Done v) = Unit {0}
 
 -- a leg looks, or pins
 pub by-leg : (P : Step → Type 0) → ((dom : DomId) → P (LookHeader dom)) → ((dom : DomId) (gref : GrantRef) → P (LookControl dom gref)) → ((dom : DomId) (gref : GrantRef) (half : BodyWord) → P (LookBody dom gref half))
-    → ((p : HeldPin) → P (PinStep p)) → (l : Leg) (at : LegPhase) → P (leg_step l at)
-by-leg P headers looks bodies pins l AtHeader = headers l.dom
+    → ((p : HeldPin) → P (call_steps.Pin p)) → (l : Leg) (at : LegPhase) → P (leg_step l at)
+by-leg P headers looks bodies pins l leg_phases.Header = headers l.dom
 by-leg P headers looks bodies pins l (Look more) = looks l.dom l.gref
-by-leg P headers looks bodies pins l (Body more word) = bodies l.dom l.gref FirstHalf
-by-leg P headers looks bodies pins l (Second more word body) = bodies l.dom l.gref SecondHalf
+by-leg P headers looks bodies pins l (Body more word) = bodies l.dom l.gref body_words.First
+by-leg P headers looks bodies pins l (Second more word body) = bodies l.dom l.gref body_words.Second
 by-leg P headers looks bodies pins l (Pinning more word body second) = pins (held_of l word body second)
 by-leg P headers looks bodies pins l (Relook more word rule) = looks l.dom l.gref
 
 -- a call that releases its pins makes a step that releases one by its position
-pub by-giving : (P : Step → Type 0) → ((p : HeldPin) (n : ℕ) → P (Unpin p (ByLeg n))) → (held : List HeldPin) (verdict : CallResult) (step : Step) → next_to_give held verdict ≡ Makes step → P step
-by-giving P each [] verdict step e = absurd (let f : Done verdict ≡ Makes step = e in cc)
+pub by-giving : (P : Step → Type 0) → ((p : HeldPin) (n : ℕ) → P (Unpin p (holders.Leg n))) → (held : List HeldPin) (verdict : CallResult) (step : Step) → next_to_give held verdict ≡ actions.Step step → P step
+by-giving P each [] verdict step e = absurd (let f : Done verdict ≡ actions.Step step = e in cc)
 by-giving P each (p ∷ ps) verdict step e = subst P (makes-same _ _ e) (each p (length ps))
 
 pub state-some : (s : Setting) (h : History) (xs : List State) (dom : DomId) → DomainsStand s h xs → domain_of s.domains dom ≢ None → state_of xs dom.0 ≢ None
@@ -73,13 +77,13 @@ words-of s h xs l legal st = record {
 }
 
 -- what holds for each step that is a call's only one
-pub by-quiet : (P : Step → Type 0) → ((p : HeldPin) (handle : Handle) → P (Unpin p (ByMapping handle))) → ((gref : GrantRef) (half : BodyWord) (word : ℕ) → P (StoreBody gref half word)) → ((version frames : ℕ) → P (StoreHeader version frames))
-    → ((dom : DomId) (frame off len : ℕ) → P (ReadBytes dom frame off len) × P (WriteBytes dom frame off len)) → (step : Step) → IsQuiet step → P step
-by-quiet P unpins bodies headers accesses (Unpin p (ByMapping handle)) q = unpins p handle
+pub by-quiet : (P : Step → Type 0) → ((p : HeldPin) (handle : Handle) → P (Unpin p (holders.Mapping handle))) → ((gref : GrantRef) (half : BodyWord) (word : ℕ) → P (StoreBody gref half word)) → ((version frames : ℕ) → P (StoreHeader version frames))
+    → ((dom : DomId) (frame off len : ℕ) → P (call_steps.Read dom frame off len) × P (call_steps.Write dom frame off len)) → (step : Step) → IsQuiet step → P step
+by-quiet P unpins bodies headers accesses (Unpin p (holders.Mapping handle)) q = unpins p handle
 by-quiet P unpins bodies headers accesses (StoreBody gref half word) q = bodies gref half word
 by-quiet P unpins bodies headers accesses (StoreHeader version frames) q = headers version frames
-by-quiet P unpins bodies headers accesses (ReadBytes dom frame off len) q = (accesses dom frame off len).0
-by-quiet P unpins bodies headers accesses (WriteBytes dom frame off len) q = (accesses dom frame off len).1
+by-quiet P unpins bodies headers accesses (call_steps.Read dom frame off len) q = (accesses dom frame off len).0
+by-quiet P unpins bodies headers accesses (call_steps.Write dom frame off len) q = (accesses dom frame off len).1
 by-quiet P unpins bodies headers accesses step q = absurd q
 
 -- what a step sees fits it
@@ -91,7 +95,7 @@ pub seen-fits : (s : Setting) (h : History) (d : DomId) (step : Step) → FitsSt
 seen-fits s h d (LookHeader dom) = tt
 seen-fits s h d (LookControl dom gref) = tt
 seen-fits s h d (LookBody dom gref half) = tt
-seen-fits s h d (PinStep q) = exchanged-fits q.word (word_at s h q.dom.0 q.gref.0)
+seen-fits s h d (call_steps.Pin q) = exchanged-fits q.word (word_at s h q.dom.0 q.gref.0)
 seen-fits s h d (Exchange gref looked change) = exchanged-fits looked (word_at s h d.0 gref.0)
 seen-fits s h d step = refl
 

@@ -1,21 +1,22 @@
 -- The live pins and the mappings are the same without keys, if the serial of each handle that is named identifies it.
 use Rattle.gt_core.proofs.Words.{◌≡◌, ◌+◌, ℕ, refl, Bool, true, List, [], ◌∷◌, ◌++◌, length, Option, Some, cond, sym}
 use Rattle.gt_core.proofs.Words.{ap, ◌∙◌, subst, ◌==◌, count_by, option_map, eqb-true, sum_by-cons, fun_ext, DomId, Dir}
-use Rattle.gt_core.proofs.Words.{Read, Write, Entry, Handle, PinHolder, ByMapping, ByLeg, HeldPin, Observation, Taken, PinStep}
-use Rattle.gt_core.proofs.Words.{Unpin, Answer, ItemEvent, Stepped, History, Setting, Pin, live, without, is_holder}
-use Rattle.gt_core.proofs.Words.{same_handle, holder_after, gather, by_leg, mapping_named, pinned_by, unpinned_by}
-use Rattle.gt_core.proofs.Words.{is_pin_on, reads_at, writes_at, mappings_at, mapping_of, entry_at, generation_at}
-use Rattle.gt_core.proofs.Words.{word_at, known_at, shown_at, subject_at, bare_handle, bare_happened, keyless_answer}
-use Rattle.gt_core.proofs.Words.{IsGiven}
+use Rattle.gt_core.proofs.Words.{Read, Write, Entry, Handle, PinHolder, HeldPin, Observation, Taken, Unpin, Answer}
+use Rattle.gt_core.proofs.Words.{ItemEvent, Stepped, History, Setting, Pin, live, without, is_holder, same_handle}
+use Rattle.gt_core.proofs.Words.{holder_after, gather, by_leg, mapping_named, pinned_by, unpinned_by, is_pin_on}
+use Rattle.gt_core.proofs.Words.{reads_at, writes_at, mappings_at, mapping_of, entry_at, generation_at, word_at}
+use Rattle.gt_core.proofs.Words.{known_at, shown_at, subject_at, bare_handle, bare_happened, keyless_answer, IsGiven}
 use Rattle.gt_core.proofs.Words.{IsKnown, IsRun, AreAlike, map, map-append, length-map, All-head, All-tail, All, arith}
+use Rattle.gt_model.specs.declared.action.Step.TheVariants as call_steps
+use Rattle.gt_model.specs.declared.request.PinHolder.TheVariants as holders
 use Rattle.gt_core.proofs.{WithoutKeys.bare-same, WithoutKeys.answer_from, WithoutKeys.bare, WithoutKeys.bared}
 use Rattle.gt_core.proofs.{HandlesGiven.HeldGiven, HandlesGiven.PinsGiven}
 use Rattle.gt_core.proofs.{HandlesGiven.pins-given, HandlesGiven.known-tells, HandlesGiven.unpin-known}
 use Rattle.std.proofs.lemmas.List.Elements.{All-weaker}
 
 abbrev pub bare_holder : PinHolder → PinHolder
-bare_holder (ByMapping handle) = ByMapping (bare_handle handle)
-bare_holder (ByLeg number) = ByLeg number
+bare_holder (holders.Mapping handle) = holders.Mapping (bare_handle handle)
+bare_holder (holders.Leg number) = holders.Leg number
 
 abbrev pub bare_pin : Pin → Pin
 bare_pin p = record { actor = p.actor; holder = bare_holder p.holder; held = p.held }
@@ -34,16 +35,16 @@ unfolding without
 without-bare d holder [] t = refl
 without-bare d holder (p ∷ ps) t = grind (arith, without-bare d holder ps (All-tail (Tells d holder) p ps t), All-tail, All-head, eqb-true)
 
-leg-tells : (d n : ℕ) (ps : List Pin) → All (Tells d (ByLeg n)) ps
+leg-tells : (d n : ℕ) (ps : List Pin) → All (Tells d (holders.Leg n)) ps
 leg-tells d n ps = grind arith
 
-mapping-tells : (s : Setting) (h : History) (d : ℕ) (a : Handle) (ps : List Pin) → IsRun s h → IsKnown h d a → PinsGiven h ps → All (Tells d (ByMapping a)) ps
+mapping-tells : (s : Setting) (h : History) (d : ℕ) (a : Handle) (ps : List Pin) → IsRun s h → IsKnown h d a → PinsGiven h ps → All (Tells d (holders.Mapping a)) ps
 mapping-tells s h d a ps run k g = grind (arith, All-weaker, known-tells)
 
-unpinned-bare : (s : Setting) (h : History) (d : DomId) (x : ItemEvent) (ps : List Pin) → IsRun s h → ((p : HeldPin) (a : Handle) (seen : Observation) → x ≡ Stepped (Unpin p (ByMapping a)) seen → IsKnown h d.0 a) → PinsGiven h ps
+unpinned-bare : (s : Setting) (h : History) (d : DomId) (x : ItemEvent) (ps : List Pin) → IsRun s h → ((p : HeldPin) (a : Handle) (seen : Observation) → x ≡ Stepped (Unpin p (holders.Mapping a)) seen → IsKnown h d.0 a) → PinsGiven h ps
     → unpinned_by d (bare_happened x) (bare_pins ps) ≡ bare_pins (unpinned_by d x ps)
-unpinned-bare s h d (Stepped (Unpin p (ByMapping a)) seen) ps run k g = without-bare d.0 (ByMapping a) ps (mapping-tells s h d.0 a ps run (k p a seen refl) g)
-unpinned-bare s h d (Stepped (Unpin p (ByLeg n)) seen) ps run k g = without-bare d.0 (ByLeg n) ps (leg-tells d.0 n ps)
+unpinned-bare s h d (Stepped (Unpin p (holders.Mapping a)) seen) ps run k g = without-bare d.0 (holders.Mapping a) ps (mapping-tells s h d.0 a ps run (k p a seen refl) g)
+unpinned-bare s h d (Stepped (Unpin p (holders.Leg n)) seen) ps run k g = without-bare d.0 (holders.Leg n) ps (leg-tells d.0 n ps)
 unpinned-bare s h d x ps run k g = refl
 
 -- pins that are taken
@@ -58,9 +59,9 @@ holder-bare a n = grind arith
 
 pinned-bare : (d : DomId) (x : ItemEvent) (a : Option Answer) (h : History) (ps : List Pin)
     → pinned_by d (bare_happened x) (option_map answer_from (option_map keyless_answer a)) (bare h) (bare_pins ps) ≡ bare_pins (pinned_by d x a h ps)
-pinned-bare d (Stepped (PinStep p) Taken) a h ps =
+pinned-bare d (Stepped (call_steps.Pin p) Taken) a h ps =
     let l = legs-bare d.0 ps in let b = holder-bare a (length (gather by_leg d.0 ps)) in let e = (bared h).entry p.dom.0 p.gref.0 in cc
-pinned-bare d (Stepped (Unpin p (ByMapping b)) seen) a h ps = refl
+pinned-bare d (Stepped (Unpin p (holders.Mapping b)) seen) a h ps = refl
 pinned-bare d x a h ps = refl
 
 -- the live pins
@@ -112,7 +113,7 @@ found-bare s h d a [] run k g = refl
 found-bare s h d a (p ∷ ps) run k g = let P : Pin → Type 0 = λ q. HeldGiven h q.actor q.holder in by (p.actor == d) refl p.holder (All-head P p ps g) (found-bare s h d a ps run k (All-tail P p ps g)) where
   by : (b : Bool) → (p.actor == d) ≡ b → (x : PinHolder) → HeldGiven h p.actor x → mapping_of (gather mapping_named d (bare_pins ps)) (bare_handle a) ≡ mapping_of (gather mapping_named d ps) a
       → mapping_of (cond b (mapping_named (bare_holder x) p.held) [] ++ gather mapping_named d (bare_pins ps)) (bare_handle a) ≡ mapping_of (cond b (mapping_named x p.held) [] ++ gather mapping_named d ps) a
-  by true own (ByMapping m) given rest = ap (λ (b : Bool). cond b (Some p.held) (mapping_of (gather mapping_named d (bare_pins ps)) (bare_handle a))) (known-tells s h d a m run (subst (λ (n : ℕ). IsGiven h n m) (eqb-true p.actor d own) given) k)
+  by true own (holders.Mapping m) given rest = ap (λ (b : Bool). cond b (Some p.held) (mapping_of (gather mapping_named d (bare_pins ps)) (bare_handle a))) (known-tells s h d a m run (subst (λ (n : ℕ). IsGiven h n m) (eqb-true p.actor d own) given) k)
       ∙ ap (cond (same_handle m a) (Some p.held)) rest
   by b own x given rest = rest
 

@@ -1,12 +1,13 @@
 -- The indices of the domains by their numbers, and what is seen of the domain at an index.
-use Rattle.gt_core.proofs.Words.{◌≡◌, ◌==◌, ℕ, zero, suc, refl, Bool, true, false, List, [], ◌∷◌, length, map}
-use Rattle.gt_core.proofs.Words.{Some, None, cond, ltb, sym, ap, ◌∙◌, arith, get_or, set, position, position_or_len}
-use Rattle.gt_core.proofs.Words.{length-map, DomId, DomainConfig, Step, PinStep, Unpin, StoreBody, StoreHeader}
-use Rattle.gt_core.proofs.Words.{Exchange, Observation, Taken, State, state_of, changed_in, applied, with_slot, with_own}
-use Rattle.gt_core.proofs.Words.{with_header, without_holder, Unpinned, Stored, first_state, Result, Ok}
-use Rattle.gt_core.proofs.Words.{Err, OnErr, take, drop, ◌++◌, drop_all, append-nil, take_all}
+use Rattle.gt_core.proofs.Words.{◌≡◌, ◌==◌, ℕ, zero, suc, refl, Bool, true, false, List, [], ◌∷◌, length, map, Some}
+use Rattle.gt_core.proofs.Words.{None, cond, ltb, sym, ap, ◌∙◌, arith, get_or, set, position, position_or_len}
+use Rattle.gt_core.proofs.Words.{length-map, DomId, DomainConfig, Step, Unpin, StoreBody, StoreHeader, Exchange}
+use Rattle.gt_core.proofs.Words.{Observation, Taken, State, state_of, changed_in, applied, with_slot, with_own}
+use Rattle.gt_core.proofs.Words.{with_header, without_holder, Unpinned, Stored, first_state, Result, Ok, Err, OnErr}
+use Rattle.gt_core.proofs.Words.{take, drop, ◌++◌, drop_all, append-nil, take_all}
+use Rattle.gt_model.specs.declared.action.Step.TheVariants as call_steps
 use Rattle.std.specs.Prelude.{OnOk}
-use Rattle.gt_core.specs.declared.pin_counts.CountsChange.TheVariants.{Pinned as PinnedCount}
+use Rattle.gt_core.specs.declared.pin_counts.CountsChange.TheVariants as counts_changes
 use Rattle.gt_core.proofs.{Rows.has_id, Rows.found, Rows.not-found, Performing.kept-id, Steps.See.seen-state}
 
 abbrev pub ids_in : List State → List DomId
@@ -46,7 +47,7 @@ ids-changed (z ∷ zs) t g keeps = grind (arith, ids-changed zs t g keeps, keeps
 
 -- and so does a step
 pub ids-applied : (d : DomId) (step : Step) (seen : Observation) (xs : List State) → ids_in (applied d step seen xs) ≡ ids_in xs
-ids-applied d (PinStep p) Taken xs = ids-changed xs p.dom.0 (with_slot p.gref.0 (PinnedCount p.dir)) (λ x. refl)
+ids-applied d (call_steps.Pin p) Taken xs = ids-changed xs p.dom.0 (with_slot p.gref.0 (counts_changes.Pinned p.dir)) (λ x. refl)
 ids-applied d (Exchange gref looked change) Taken xs = ids-changed xs d.0 (with_own gref.0 change) (λ x. refl)
 ids-applied d (Unpin p holder) seen xs = ids-changed (changed_in p.dom.0 (with_slot p.gref.0 (Unpinned p.dir)) xs) d.0 (without_holder holder) (kept-id holder)
     ∙ ids-changed xs p.dom.0 (with_slot p.gref.0 (Unpinned p.dir)) (λ x. refl)

@@ -4,7 +4,8 @@ use Rattle.gt_core.proofs.Words.{take_more, Event, Element, Result, OnErr, DomId
 use Rattle.gt_core.proofs.Words.{frame_counts, FrameSet, all_zeros, AreKept, Begin, Tick, Begun, State, DomainsStand}
 use Rattle.gt_core.proofs.Words.{CoreStands, DoesEvent, setting_of, begun_element, ticked_element, History, Setting}
 use Rattle.gt_core.proofs.Words.{LegalAfter, MayDo, grown, history_after, IfOk, Ok, Err, Ticked, CoreState}
-use Rattle.gt_core.proofs.Words.{StandsForSome, DomainsDo, Memory, Bool, zeros, stands, Did, IsLegalHistory}
+use Rattle.gt_core.proofs.Words.{StandsForSome, DomainsDo, Memory, Bool, zeros, stands, IsLegalHistory}
+use Rattle.gt_model.specs.declared.trace.Element.TheVariants as elements
 use Rattle.gt_core.proofs.{Steps.Write.frames-begun, Steps.Write.frames-start}
 use Rattle.gt_core.specs.States.{core_of}
 
@@ -39,8 +40,8 @@ plays-on s s' es i e trace trace' old new x was within at pushed same turn =
 -- a legal history grows by what an event may do
 pub legal-grows : (s : Setting) (h : History) (e : Event) (x : Element) → MayDo s h e x → IsLegalHistory s h → IsLegalHistory s (grown h x)
 unfolding IsLegalHistory
-legal-grows s h (Begin d request) (Did i) m legal = (m.2, legal)
-legal-grows s h (Tick d) (Did i) m legal = (m.2, legal)
+legal-grows s h (Begin d request) (elements.Item i) m legal = (m.2, legal)
+legal-grows s h (Tick d) (elements.Item i) m legal = (m.2, legal)
 legal-grows s h e x m legal = legal
 
 -- a new core represents the empty history

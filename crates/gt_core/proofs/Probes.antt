@@ -1,10 +1,10 @@
 -- A probe where its copy would make the access: it releases its pins.
 use Rattle.gt_core.proofs.Words.{◌≡◌, inl, inr, refl, List, [], sym, ap, ◌∙◌, subst, arith, DomId, HeldPin, CallPins}
-use Rattle.gt_core.proofs.Words.{OpenRequest, CopyArgs, Observation, Taken, CallResult, Granted, Step, Makes, Done}
-use Rattle.gt_core.proofs.Words.{PinPurpose, Leg, LegPhase, LegNext, Phase, Walking, Accessing, Ending, Pinning}
-use Rattle.gt_core.proofs.Words.{Pinned, CallerKnowledge, last_first, action_at, after_leg, leg_after, phase_after}
-use Rattle.gt_core.proofs.Words.{held_in, HoldsAfter, History, Setting, StepsSoFar, PhaseStands, IsClean}
-use Rattle.gt_core.proofs.Words.{phase_refusal}
+use Rattle.gt_core.proofs.Words.{OpenRequest, CopyArgs, Observation, Taken, CallResult, Granted, Step, Done, PinPurpose}
+use Rattle.gt_core.proofs.Words.{Leg, LegPhase, LegNext, Phase, Walking, Accessing, Ending, Pinning, Pinned}
+use Rattle.gt_core.proofs.Words.{CallerKnowledge, last_first, action_at, after_leg, leg_after, phase_after, held_in}
+use Rattle.gt_core.proofs.Words.{HoldsAfter, History, Setting, StepsSoFar, PhaseStands, IsClean, phase_refusal}
+use Rattle.gt_model.specs.declared.action.Action.TheVariants as actions
 use Rattle.gt_calls.specs.Machine.{settled}
 use Rattle.gt_calls.specs.Standing.{IsSettled}
 use Rattle.gt_model.specs.declared.request.OpenRequest.TheVariants.{Probe}
@@ -65,12 +65,12 @@ from-pin k d c (Accessing b source dest) seen s a = s
 from-pin k d c phase seen s a = grind arith
 
 -- so a probe there holds pins
-holds-there : (d : DomId) (phase : Phase) (seen : Observation) (step : Step) (old new : List HeldPin) (v : CallResult) → ComesFromPin phase seen → action_at d phase ≡ Makes step → HoldsAfter step seen old new (Done v)
+holds-there : (d : DomId) (phase : Phase) (seen : Observation) (step : Step) (old new : List HeldPin) (v : CallResult) → ComesFromPin phase seen → action_at d phase ≡ actions.Step step → HoldsAfter step seen old new (Done v)
     → new ≡ [] → v ≡ Granted → ⊥
 holds-there d phase seen step old new v from acts holds none is = grind arith
 
 -- and its next action is no end
-pub done-settled : (k : CallerKnowledge) (d : DomId) (r : OpenRequest) (phase : Phase) (seen : Observation) (step : Step) (old : List HeldPin) (v : CallResult) → IsSettled r phase → action_at d phase ≡ Makes step
+pub done-settled : (k : CallerKnowledge) (d : DomId) (r : OpenRequest) (phase : Phase) (seen : Observation) (step : Step) (old : List HeldPin) (v : CallResult) → IsSettled r phase → action_at d phase ≡ actions.Step step
     → HoldsAfter step seen old (held_in (settled r (phase_after k d phase seen))) (Done v) → Done v ≡ action_at d (settled r (phase_after k d phase seen)) → Done v ≡ action_at d (phase_after k d phase seen)
 done-settled k d r phase seen step old v s acts holds e = by r (phase_after k d phase seen) refl s holds e where
   there : (c a : CopyArgs) (source dest : _) → phase_after k d phase seen ≡ Accessing a source dest → IsSettled (Probe c) phase → HoldsAfter step seen old (last_first (record { source = source; dest = dest })) (Done v)

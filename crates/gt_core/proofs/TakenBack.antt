@@ -3,13 +3,14 @@ use Rattle.gt_core.proofs.Words.{Event, Element, LegalAfter, grown, history_afte
 use Rattle.gt_core.proofs.Words.{inl, inr, ℕ, refl, Bool, true, false, List, [], ◌∷◌, ◌++◌, Option, Some, None, cond}
 use Rattle.gt_core.proofs.Words.{sym, ap, ◌∙◌, subst, arith, All, Any, count_by, sum_by-cons, eq-eqb, false≢true}
 use Rattle.gt_core.proofs.Words.{All-nil, All-cons, All-head, All-tail, DomId, Dir, Read, Write, Entry, Page, Sub}
-use Rattle.gt_core.proofs.Words.{Invalid, Via, permits, frame_of, EntryChange, Publish, ToInvalid, ToWithdrawn}
-use Rattle.gt_core.proofs.Words.{Observation, Taken, Step, Exchange, PinStep, Unpin, Spot, ReadBytes, WriteBytes}
-use Rattle.gt_core.proofs.Words.{CopyBytes, OpenRequest, Copy, ForMap, ForCopy, Answer, ItemEvent, Stepped, Item}
-use Rattle.gt_core.proofs.Words.{History, Setting, Pin, entry_at, live, pinned_by, unpinned_by, is_pin_on, same_dir}
-use Rattle.gt_core.proofs.Words.{reads_at, writes_at, IsRight, IsSafeChange, StepsRightIn, EndIsJustified}
-use Rattle.gt_core.proofs.Words.{CopyIsJustified, Justified, Forwards, IsLegalHistory, open_call, Underway}
-use Rattle.gt_core.proofs.Words.{changed_entry_of}
+use Rattle.gt_core.proofs.Words.{Invalid, Via, permits, frame_of, EntryChange, Publish, Observation, Taken, Step}
+use Rattle.gt_core.proofs.Words.{Exchange, Unpin, Spot, OpenRequest, Copy, Answer, ItemEvent, Stepped, Item, History}
+use Rattle.gt_core.proofs.Words.{Setting, Pin, entry_at, live, pinned_by, unpinned_by, is_pin_on, same_dir, reads_at}
+use Rattle.gt_core.proofs.Words.{writes_at, IsRight, IsSafeChange, StepsRightIn, EndIsJustified, CopyIsJustified}
+use Rattle.gt_core.proofs.Words.{Justified, Forwards, IsLegalHistory, open_call, Underway, changed_entry_of}
+use Rattle.gt_model.specs.declared.action.Step.TheVariants as call_steps
+use Rattle.gt_model.specs.declared.change.EntryChange.TheVariants as changes
+use Rattle.gt_types.specs.declared.Use.TheVariants as uses
 use Rattle.gt_types.specs.declared.Use.{Use}
 use Rattle.gt_model.specs.Permits.{is_of_frame}
 use Rattle.gt_model.specs.History.{with_ro, changed_entry}
@@ -55,7 +56,7 @@ unpinned-all P d x ps a = a
 
 -- an event takes at most one pin
 pinned-one : (d : DomId) (x : ItemEvent) (a : Option Answer) (h : History) (ps : List Pin) → All (λ p. pinned_by d x a h ps ≡ p ∷ []) (pinned_by d x a h ps)
-pinned-one d (Stepped (PinStep p) Taken) a h ps = let qs = pinned_by d (Stepped (PinStep p) Taken) a h ps in All-cons (λ q. qs ≡ q ∷ []) _ [] refl (All-nil (λ q. qs ≡ q ∷ []))
+pinned-one d (Stepped (call_steps.Pin p) Taken) a h ps = let qs = pinned_by d (Stepped (call_steps.Pin p) Taken) a h ps in All-cons (λ q. qs ≡ q ∷ []) _ [] refl (All-nil (λ q. qs ≡ q ∷ []))
 pinned-one d x a h ps = All-nil (λ q. [] ≡ q ∷ [])
 
 -- the pins after one more item
@@ -94,8 +95,8 @@ none-on h t r reads writes = λ k d lt.
 -- at a revocation and at a publication no pin is live
 ended-by : (s : Setting) (h : History) (d : DomId) (x : ItemEvent) (a : Option Answer) (t r : ℕ) → let i : Item = record { actor = d; happened = x; answer = a } in
     IsRight s h i → EndsPinsOn t r i → (reads_at h t r ≡ 0) × (writes_at h t r ≡ 0)
-ended-by s h d (Stepped (Exchange gref looked ToInvalid) Taken) a t r right ends =
-    let safe = of-safe s h (exchanged d gref looked ToInvalid a) _ _ (open_call h d.0) right in
+ended-by s h d (Stepped (Exchange gref looked changes.Revoke) Taken) a t r right ends =
+    let safe = of-safe s h (exchanged d gref looked changes.Revoke a) _ _ (open_call h d.0) right in
     subst (λ (u : ℕ). (reads_at h u r ≡ 0) × (writes_at h u r ≡ 0)) ends.0 (subst (λ (g : ℕ). (reads_at h d.0 g ≡ 0) × (writes_at h d.0 g ≡ 0)) ends.1 safe)
 ended-by s h d (Stepped (Exchange gref looked (Publish entry)) Taken) a t r right ends =
     let safe = of-safe s h (exchanged d gref looked (Publish entry) a) _ _ (open_call h d.0) right in
@@ -104,7 +105,7 @@ ended-by s h d x a t r right ends = absurd ends.1
 
 -- nor does it take one
 ended-live : (d : DomId) (x : ItemEvent) (a : Option Answer) (h : History) (t r : ℕ) → let i : Item = record { actor = d; happened = x; answer = a } in EndsPinsOn t r i → live (i ∷ h) ≡ live h
-ended-live d (Stepped (Exchange gref looked ToInvalid) Taken) a h t r ends = exchanged-live h d gref looked ToInvalid a
+ended-live d (Stepped (Exchange gref looked changes.Revoke) Taken) a h t r ends = exchanged-live h d gref looked changes.Revoke a
 ended-live d (Stepped (Exchange gref looked (Publish entry)) Taken) a h t r ends = exchanged-live h d gref looked (Publish entry) a
 ended-live d x a h t r ends = absurd ends.1
 
@@ -145,8 +146,8 @@ Fits h p = IsOfEntry p (entry_at h p.held.dom.0 p.held.gref.0)
 change-fits : (h : History) (u g : ℕ) (change : EntryChange) (p : Pin) → IsSafeChange h u g change → (reads_at h u g ≡ 0 → writes_at h u g ≡ 0 → IsPinOn u g p → ⊥) → IsPinOn u g p
     → IsOfEntry p (entry_at h u g) → IsOfEntry p (changed_entry change (entry_at h u g))
 change-fits h u g (Publish entry) p safe none on was = λ valid f. absurd (none safe.2 safe.3 on)
-change-fits h u g ToInvalid p safe none on was = λ valid f. absurd (valid refl)
-change-fits h u g ToWithdrawn p safe none on was = λ valid f. absurd (valid refl)
+change-fits h u g changes.Revoke p safe none on was = λ valid f. absurd (valid refl)
+change-fits h u g changes.Withdraw p safe none on was = λ valid f. absurd (valid refl)
 change-fits h u g change p safe none on was = λ valid f. was (ro-valid _ (entry_at h u g) valid) f ∙ sym (ro-frame _ (entry_at h u g) f)
 
 kept-fits : (s : Setting) (h : History) (d : DomId) (x : ItemEvent) (a : Option Answer) → let i : Item = record { actor = d; happened = x; answer = a } in IsRight s h i
@@ -162,7 +163,7 @@ kept-fits s h d x a right was = let i : Item = record { actor = d; happened = x;
 
 -- a new pin is on the present entry
 new-fits : (d : DomId) (x : ItemEvent) (a : Option Answer) (h : History) → let i : Item = record { actor = d; happened = x; answer = a } in All (Fits (i ∷ h)) (pinned_by d x a h (live h))
-new-fits d (Stepped (PinStep p) Taken) a h = let i : Item = record { actor = d; happened = Stepped (PinStep p) Taken; answer = a } in
+new-fits d (Stepped (call_steps.Pin p) Taken) a h = let i : Item = record { actor = d; happened = Stepped (call_steps.Pin p) Taken; answer = a } in
     All-cons (Fits (i ∷ h)) _ [] (λ valid f. ap (λ (e : Entry). is_of_frame e f) (sym (kept-entry i h p.dom.0 p.gref.0 (λ r. refl)))) (All-nil (Fits (i ∷ h)))
 new-fits d x a h = let i : Item = record { actor = d; happened = x; answer = a } in All-nil (Fits (i ∷ h))
 
@@ -199,8 +200,8 @@ not-true false n = refl
 
 change-out : (change : EntryChange) (e : Entry) (f : ℕ) → ((entry : Entry) → change ≡ Publish entry → is_of_frame entry f ≡ false) → is_of_frame e f ≡ false → is_of_frame (changed_entry change e) f ≡ false
 change-out (Publish entry) e f silent was = silent entry refl
-change-out ToInvalid e f silent was = refl
-change-out ToWithdrawn e f silent was = refl
+change-out changes.Revoke e f silent was = refl
+change-out changes.Withdraw e f silent was = refl
 change-out change e f silent was = ro-frame _ e f ∙ was
 
 -- no entry grants the frame after one more item
@@ -218,7 +219,7 @@ entries-out d x a h t f r silent was = let i : Item = record { actor = d; happen
     ap (λ (e : Entry). is_of_frame e f) (kept-entry i h t r (λ r. refl)) ∙ was r
 
 new-out : (d : DomId) (x : ItemEvent) (a : Option Answer) (h : History) (t f : ℕ) → ((r : ℕ) → is_of_frame (entry_at h t r) f ≡ false) → All (IsApart t f) (pinned_by d x a h (live h))
-new-out d (Stepped (PinStep p) Taken) a h t f was = All-cons (IsApart t f) _ [] (λ is. subst (λ (u : ℕ). is_of_frame (entry_at h u p.gref.0) f ≡ false) (sym is) (was p.gref.0)) (All-nil (IsApart t f))
+new-out d (Stepped (call_steps.Pin p) Taken) a h t f was = All-cons (IsApart t f) _ [] (λ is. subst (λ (u : ℕ). is_of_frame (entry_at h u p.gref.0) f ≡ false) (sym is) (was p.gref.0)) (All-nil (IsApart t f))
 new-out d x a h t f was = All-nil (IsApart t f)
 
 stays-out : (later before : History) (t f : ℕ) → All (λ j. Grants t f j → ⊥) later → IsOut before t f → IsOut (later ++ before) t f
@@ -249,10 +250,10 @@ end-out : (s : Setting) (h : History) (d : DomId) (granted : Bool) (dir : Dir) (
     → IsOut h t f → d.0 ≢ t → at.frame.owner.0 ≡ t → at.frame.number ≡ f → EndIsJustified s h d granted dir at len named owners → ⊥
 end-out s h d granted dir at len named owners t f out other own is (inl e) = other (sym (ap (λ (d : DomId). d.0) e.1) ∙ own)
 end-out s h d granted dir at len named owners t f out other own is (inr (inl e)) =
-    all-none (IsApart t f) (Reaches d d dir ForCopy at len) (live h) out.pins (λ p. no-reach d d dir ForCopy at len t f p own is) e.2
+    all-none (IsApart t f) (Reaches d d dir uses.Copy at len) (live h) out.pins (λ p. no-reach d d dir uses.Copy at len t f p own is) e.2
 end-out s h d granted dir at len named owners t f out other own is (inr (inr e)) =
-    all-none (IsApart t f) (λ p. Any (λ via. Forwards d dir named p via × Reaches d named dir ForCopy at len p) (live h)) (live h) out.pins
-    (λ p apart any. no-reach d named dir ForCopy at len t f p own is apart any.4.1) e.1
+    all-none (IsApart t f) (λ p. Any (λ via. Forwards d dir named p via × Reaches d named dir uses.Copy at len p) (live h)) (live h) out.pins
+    (λ p apart any. no-reach d named dir uses.Copy at len t f p own is apart any.4.1) e.1
 
 copy-out : (s : Setting) (h : History) (d : DomId) (request : OpenRequest) (from to : Spot) (len t f : ℕ) → IsOut h t f → d.0 ≢ t → CopyIsJustified s h d request from to len
     → ((from.frame.owner.0 ≡ t) × (from.frame.number ≡ f)) ⊎ ((to.frame.owner.0 ≡ t) × (to.frame.number ≡ f)) → ⊥
@@ -260,14 +261,14 @@ copy-out s h d (Copy c) from to len t f out other just (inl e) = end-out s h d _
 copy-out s h d (Copy c) from to len t f out other just (inr e) = end-out s h d _ Write to len _ _ t f out other e.0 e.1 just.4
 copy-out s h d request from to len t f out other just touched = absurd just
 
-range-out : (h : History) (d : DomId) (dir : Dir) (at : Spot) (len t f : ℕ) → IsOut h t f → d.0 ≢ t → at.frame.owner.0 ≡ t → at.frame.number ≡ f → (at.frame.owner.0 ≡ d.0) ⊎ Any (Reaches d d dir ForMap at len) (live h) → ⊥
+range-out : (h : History) (d : DomId) (dir : Dir) (at : Spot) (len t f : ℕ) → IsOut h t f → d.0 ≢ t → at.frame.owner.0 ≡ t → at.frame.number ≡ f → (at.frame.owner.0 ≡ d.0) ⊎ Any (Reaches d d dir uses.Map at len) (live h) → ⊥
 range-out h d dir at len t f out other own is (inl e) = other (sym e ∙ own)
-range-out h d dir at len t f out other own is (inr e) = all-none (IsApart t f) (Reaches d d dir ForMap at len) (live h) out.pins (λ p. no-reach d d dir ForMap at len t f p own is) e
+range-out h d dir at len t f out other own is (inr e) = all-none (IsApart t f) (Reaches d d dir uses.Map at len) (live h) out.pins (λ p. no-reach d d dir uses.Map at len t f p own is) e
 
 just-out : (s : Setting) (h : History) (d : DomId) (request : OpenRequest) (step : Step) (seen : Observation) (a : Option Answer) (t f : ℕ) → IsOut h t f → Justified s h d request step → IsForeignAccess t f (stepped d step seen a) → ⊥
-just-out s h d request (ReadBytes dom frame off len) seen a t f out just foreign = range-out h d Read (record { frame = record { owner = dom; number = frame }; off = off }) len t f out foreign.0 foreign.1.0 foreign.1.1 just.1
-just-out s h d request (WriteBytes dom frame off len) seen a t f out just foreign = range-out h d Write (record { frame = record { owner = dom; number = frame }; off = off }) len t f out foreign.0 foreign.1.0 foreign.1.1 just.1
-just-out s h d request (CopyBytes from to len) seen a t f out just foreign = copy-out s h d request from to len t f out foreign.0 just foreign.1
+just-out s h d request (call_steps.Read dom frame off len) seen a t f out just foreign = range-out h d Read (record { frame = record { owner = dom; number = frame }; off = off }) len t f out foreign.0 foreign.1.0 foreign.1.1 just.1
+just-out s h d request (call_steps.Write dom frame off len) seen a t f out just foreign = range-out h d Write (record { frame = record { owner = dom; number = frame }; off = off }) len t f out foreign.0 foreign.1.0 foreign.1.1 just.1
+just-out s h d request (call_steps.Copy from to len) seen a t f out just foreign = copy-out s h d request from to len t f out foreign.0 just foreign.1
 just-out s h d request step seen a t f out just foreign = absurd foreign.1
 
 step-out : (s : Setting) (h : History) (d : DomId) (step : Step) (seen : Observation) (a : Option Answer) (t f : ℕ) (c : Option Underway) → IsOut h t f → StepsRightIn s h (stepped d step seen a) step seen c → IsForeignAccess t f (stepped d step seen a) → ⊥

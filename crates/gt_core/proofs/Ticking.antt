@@ -2,19 +2,22 @@
 use Rattle.gt_core.proofs.Words.{◌≡◌, ◌≢◌, ◌<◌, ◌+◌, ◌⊎◌, inl, inr, ℕ, suc, refl, true, List, [], ◌∷◌, ◌++◌, length}
 use Rattle.gt_core.proofs.Words.{Option, Some, None, sym, ap, ◌∙◌, subst, reverse, arith, eqb-true, map-append}
 use Rattle.gt_core.proofs.Words.{length-append, length-reverse, reverse_onto, none-some, same_Some, ◌==◌, All, DomId}
-use Rattle.gt_core.proofs.Words.{GrantRef, Denial, EntryChange, HeldPin, CallPins, OpenRequest, ByMapping, ByLeg}
-use Rattle.gt_core.proofs.Words.{Observation, Nothing, Taken, Missed, CallResult, Granted, KeptPin, Step, PinStep}
-use Rattle.gt_core.proofs.Words.{Unpin, StoreBody, StoreHeader, Exchange, ReadBytes, WriteBytes, CopyBytes, Action}
-use Rattle.gt_core.proofs.Words.{Makes, Done, Call, Phase, Ending, last_first, no_pins, CallerKnowledge, knowledge_of}
+use Rattle.gt_core.proofs.Words.{GrantRef, Denial, EntryChange, HeldPin, CallPins, OpenRequest, Observation, Nothing}
+use Rattle.gt_core.proofs.Words.{Taken, Missed, CallResult, Granted, Step, Unpin, StoreBody, StoreHeader, Exchange}
+use Rattle.gt_core.proofs.Words.{Action, Done, Call, Phase, Ending, last_first, no_pins, CallerKnowledge, knowledge_of}
 use Rattle.gt_core.proofs.Words.{path, Rests, phase_after, action_at, next_to_give, StandsAt, pins_at, held_in, Goes}
-use Rattle.gt_core.proofs.Words.{GoesOnWith, steps_left, OpenCall, Answer, State, state_of, sees, History, Setting}
-use Rattle.gt_core.proofs.Words.{Pin, entry_at, word_at, known_at, legs_at, seen_by, Underway, values, open_call}
-use Rattle.gt_core.proofs.Words.{underway_after, holder_after, one_if_mapped, StepsSoFar, StepsRight, Justified}
-use Rattle.gt_core.proofs.Words.{IsSafe, PinIsSound, AnsweredBy, GivesValue, LeavesAll, gives_back, verdict_in}
-use Rattle.gt_core.proofs.Words.{refusal_in, refusal_of, refusal_if, option_or, first_of_item, first_in_call, stood}
-use Rattle.gt_core.proofs.Words.{most_steps, DomainsStand, StateStands, OpenAgrees, GivenAgrees, FitsGiven}
-use Rattle.gt_core.proofs.Words.{PhaseStands, IsClean, phase_refusal, numbered, exchange_sees, gather, by_leg}
-use Rattle.gt_core.proofs.Words.{reverse-append, FitsNext, HoldsAfter, cond_both, IsLegalHistory}
+use Rattle.gt_core.proofs.Words.{GoesOnWith, steps_left, OpenCall, Answer, State, state_of, sees, History, Setting, Pin}
+use Rattle.gt_core.proofs.Words.{entry_at, word_at, known_at, legs_at, seen_by, Underway, values, open_call}
+use Rattle.gt_core.proofs.Words.{underway_after, holder_after, one_if_mapped, StepsSoFar, StepsRight, Justified, IsSafe}
+use Rattle.gt_core.proofs.Words.{PinIsSound, AnsweredBy, GivesValue, LeavesAll, gives_back, verdict_in, refusal_in}
+use Rattle.gt_core.proofs.Words.{refusal_of, refusal_if, option_or, first_of_item, first_in_call, stood, most_steps}
+use Rattle.gt_core.proofs.Words.{DomainsStand, StateStands, OpenAgrees, GivenAgrees, FitsGiven, PhaseStands, IsClean}
+use Rattle.gt_core.proofs.Words.{phase_refusal, numbered, exchange_sees, gather, by_leg, reverse-append, FitsNext}
+use Rattle.gt_core.proofs.Words.{HoldsAfter, cond_both, IsLegalHistory}
+use Rattle.gt_model.specs.declared.action.Action.TheVariants as actions
+use Rattle.gt_model.specs.declared.action.Step.TheVariants as call_steps
+use Rattle.gt_model.specs.declared.request.PinHolder.TheVariants as holders
+use Rattle.gt_model.specs.declared.action.CallResult.TheVariants as results
 use Rattle.gt_model.proofs.Observers.{unstored, known-as, kept-entry, kept-raises, kept-known, kept-legs, kept-table}
 use Rattle.gt_model.proofs.Observers.{answered-stays, stepped, unpins, pins, exchanged-live}
 use Rattle.gt_core.proofs.{AgreementKept.known-same, AgreementKept.open_call-own, AgreementKept.stood-own}
@@ -65,7 +68,7 @@ ticks s h xs x o c seen new action legal st here agrees call a saw caller asks g
     let fits : FitsNext (path k x.id c.request (values c)) (seen_by s h x.id step) = subst (λ (z : Option Action). FitsNext z (seen_by s h x.id step)) (sym a.follows) (seen-fits s h x.id step) in
     let g2 : Goes k old (seen_by s h x.id step) (call_at x.id c.request next) action = subst (λ (z : Call). Goes k old (seen_by s h x.id step) z action) moved g in
     let l = g2.later (values c) a.at fits in
-    (same, record { here = here; agrees = agrees; call = call; stands = a; i = i; new_is = moved; on = l.0; fewer = l.2; acts = g.acts; holds = l.1 (Makes step) a.follows })
+    (same, record { here = here; agrees = agrees; call = call; stands = a; i = i; new_is = moved; on = l.0; fewer = l.2; acts = g.acts; holds = l.1 (actions.Step step) a.follows })
 
 -- the call with one more step
 
@@ -90,16 +93,16 @@ length-numbered n (p ∷ ps) = let e = length-numbered (n + 1) ps in omega arith
 
 -- the pin that is taken is on the present entry
 abbrev PinFact : History → Step → Observation → Type 0
-PinFact h step seen = (p : HeldPin) → step ≡ PinStep p → seen ≡ Taken → record p { entry = entry_at h p.dom.0 p.gref.0 } ≡ p
+PinFact h step seen = (p : HeldPin) → step ≡ call_steps.Pin p → seen ≡ Taken → record p { entry = entry_at h p.dom.0 p.gref.0 } ≡ p
 
 -- the pin that is released is the last one held
 abbrev pub LastFact : List HeldPin → Step → Type 0
-LastFact old step = (p : HeldPin) (place : ℕ) → step ≡ Unpin p (ByLeg place) → (others : List HeldPin) × (old ≡ p ∷ others) × (place ≡ length others)
+LastFact old step = (p : HeldPin) (place : ℕ) → step ≡ Unpin p (holders.Leg place) → (others : List HeldPin) × (old ≡ p ∷ others) × (place ≡ length others)
 
-legs-by : (h : History) (d : DomId) (answer : Option Answer) (old new : List HeldPin) (action : Action) (step : Step) (seen : Observation) → one_if_mapped answer ≡ 0 → ((n : ℕ) → holder_after answer n ≡ ByLeg n) → ((m : HeldPin) → action ≡ Done (KeptPin m) → ⊥)
+legs-by : (h : History) (d : DomId) (answer : Option Answer) (old new : List HeldPin) (action : Action) (step : Step) (seen : Observation) → one_if_mapped answer ≡ 0 → ((n : ℕ) → holder_after answer n ≡ holders.Leg n) → ((m : HeldPin) → action ≡ Done (results.Mapped m) → ⊥)
     → legs_at h d.0 ≡ numbered 0 (reverse old) → HoldsAfter step seen old new action → PinFact h step seen → LastFact old step → legs_at (stepped d step seen answer ∷ h) d.0 ≡ numbered 0 (reverse new)
 legs-by h d answer old new action step seen m leg unmapped held holds pinned last = by step seen holds pinned last where
-  pin : (p : HeldPin) → (new ≡ p ∷ old) ⊎ ((action ≡ Done (KeptPin p)) × (new ≡ old)) → record p { entry = entry_at h p.dom.0 p.gref.0 } ≡ p → legs_at (pins d p answer ∷ h) d.0 ≡ numbered 0 (reverse new)
+  pin : (p : HeldPin) → (new ≡ p ∷ old) ⊎ ((action ≡ Done (results.Mapped p)) × (new ≡ old)) → record p { entry = entry_at h p.dom.0 p.gref.0 } ≡ p → legs_at (pins d p answer ∷ h) d.0 ≡ numbered 0 (reverse new)
   pin p (inr b) is = absurd (unmapped p b.0)
   pin p (inl b) is =
       let n : length (legs_at h d.0) ≡ 0 + length (reverse old) = ap (λ (l : List (ℕ × HeldPin)). length l) held ∙ length-numbered 0 (reverse old) ∙ sym (from-zero (length (reverse old))) in
@@ -107,32 +110,32 @@ legs-by h d answer old new action step seen m leg unmapped held holds pinned las
       ∙ ap (λ (l : List (ℕ × HeldPin)). l ++ (0 + length (reverse old), p) ∷ []) held
       ∙ sym (numbered-push 0 (reverse old) p) ∙ ap (numbered 0) (sym (reverse_onto old p [])) ∙ ap (λ (l : List HeldPin). numbered 0 (reverse l)) (sym b)
 
-  give : (p : HeldPin) (place : ℕ) (v : Observation) → old ≡ p ∷ new → (others : List HeldPin) × (old ≡ p ∷ others) × (place ≡ length others) → legs_at (unpins d p (ByLeg place) v answer ∷ h) d.0 ≡ numbered 0 (reverse new)
+  give : (p : HeldPin) (place : ℕ) (v : Observation) → old ≡ p ∷ new → (others : List HeldPin) × (old ≡ p ∷ others) × (place ≡ length others) → legs_at (unpins d p (holders.Leg place) v answer ∷ h) d.0 ≡ numbered 0 (reverse new)
   give p place v e (others, is, at) = let same : others ≡ new = cc in
       let legs : legs_at h d.0 ≡ numbered 0 (reverse new ++ p ∷ []) = held ∙ ap (λ (l : List HeldPin). numbered 0 (reverse l)) e ∙ ap (numbered 0) (reverse_onto new p []) in
-      ap (λ (k : ℕ). legs_at (unpins d p (ByLeg k) v answer ∷ h) d.0) (at ∙ ap (λ (l : List HeldPin). length l) same ∙ sym (length-reverse new)) ∙ leg-left h d (reverse new) p v answer legs
+      ap (λ (k : ℕ). legs_at (unpins d p (holders.Leg k) v answer ∷ h) d.0) (at ∙ ap (λ (l : List HeldPin). length l) same ∙ sym (length-reverse new)) ∙ leg-left h d (reverse new) p v answer legs
 
   by : (z : Step) (v : Observation) → HoldsAfter z v old new action → PinFact h z v → LastFact old z → legs_at (stepped d z v answer ∷ h) d.0 ≡ numbered 0 (reverse new)
-  by (PinStep p) Taken e f g = pin p e (f p refl refl)
-  by (Unpin p (ByLeg place)) v e f g = give p place v e (g p place refl)
-  by (Unpin p (ByMapping handle)) v e f g = mapping-legs h d p handle v answer ∙ rw e held
+  by (call_steps.Pin p) Taken e f g = pin p e (f p refl refl)
+  by (Unpin p (holders.Leg place)) v e f g = give p place v e (g p place refl)
+  by (Unpin p (holders.Mapping handle)) v e f g = mapping-legs h d p handle v answer ∙ rw e held
   by (Exchange gref looked change) Taken e f g = ap (λ (ps : List Pin). gather by_leg d.0 ps) (exchanged-live h d gref looked change answer) ∙ rw e held
   by z v e f g = kept-legs (stepped d z v answer) h d.0 (record { changes = λ r. refl; pins = λ before ps. refl; unpins = λ pins. refl; maps = m }) ∙ rw e held
 
 -- what the domain knows stays if its call continues
 known-by : (s : Setting) (h : History) (d : DomId) (step : Step) (seen : Observation) → (IsSingle step → ⊥) → ((gref : GrantRef) (looked : ℕ) (change : EntryChange) → step ≡ Exchange gref looked change → seen ≡ Taken → ⊥)
     → known_at s (stepped d step seen None ∷ h) d ≡ known_at s h d
-known-by s h d (PinStep p) Taken single exchange = let i = pins d p None in
+known-by s h d (call_steps.Pin p) Taken single exchange = let i = pins d p None in
     known-as s h (i ∷ h) d (λ r. kept-entry i h d.0 r (λ r. refl)) (λ r. kept-raises i h d.0 r (λ r. refl)) (kept-table s i h d refl) (leg-maps h d p None refl) (answered-stays h i d.0 refl)
-known-by s h d (Unpin p (ByLeg place)) v single exchange = let i = unpins d p (ByLeg place) v None in
+known-by s h d (Unpin p (holders.Leg place)) v single exchange = let i = unpins d p (holders.Leg place) v None in
     known-as s h (i ∷ h) d (λ r. kept-entry i h d.0 r (λ r. refl)) (λ r. kept-raises i h d.0 r (λ r. refl)) (kept-table s i h d refl) (leg-mappings h d p place v None) (answered-stays h i d.0 refl)
-known-by s h d (Unpin p (ByMapping handle)) v single exchange = absurd (single tt)
+known-by s h d (Unpin p (holders.Mapping handle)) v single exchange = absurd (single tt)
 known-by s h d (StoreHeader version frames) v single exchange = absurd (single tt)
 known-by s h d (Exchange gref looked change) Taken single exchange = absurd (exchange gref looked change refl refl)
 known-by s h d z v single exchange = kept-known s (stepped d z v None) h d (record { changes = λ r. refl; pins = λ before ps. refl; unpins = λ pins. refl; maps = refl }) refl
 
-goes-not : (d : DomId) (z : Step) (p : Phase) (pins : CallPins) (v : CallResult) → last_first pins ≡ [] → Makes z ≡ action_at d p → p ≡ Ending pins v → ⊥
-goes-not d z p pins v none e is = let f : Makes z ≡ Done v = e ∙ ap (action_at d) is ∙ ap (λ (l : List HeldPin). next_to_give l v) none in cc
+goes-not : (d : DomId) (z : Step) (p : Phase) (pins : CallPins) (v : CallResult) → last_first pins ≡ [] → actions.Step z ≡ action_at d p → p ≡ Ending pins v → ⊥
+goes-not d z p pins v none e is = let f : actions.Step z ≡ Done v = e ∙ ap (action_at d) is ∙ ap (λ (l : List HeldPin). next_to_give l v) none in cc
 
 -- a step of a call, which saw what the history left
 module _ {s : Setting} {h : History} {xs : List State} {x : State} {o : OpenCall} {c : Underway} {new : Call} {action : Action} (t : Ticks s h xs x o c new action) where
@@ -161,11 +164,11 @@ module _ {s : Setting} {h : History} {xs : List State} {x : State} {o : OpenCall
       (can-pin s h xs x.id c.request (values c) (reverse c.steps) t.stands.phase p i (taken-word (word_at s h p.dom.0 p.gref.0) p.word (subst (λ (z : Step). seen_by s h x.id z ≡ Taken) is saw))).is
 
   pub last-fact : LastFact (held_in t.stands.phase) o.step
-  last-fact p place is = let r = (subst (λ (z : Step). Rests (known_at s h x.id) x.id c.request (pins_at t.stands.phase) (values c) (Makes z)) is t.stands.rests).1 in
+  last-fact p place is = let r = (subst (λ (z : Step). Rests (known_at s h x.id) x.id c.request (pins_at t.stands.phase) (values c) (actions.Step z)) is t.stands.rests).1 in
       (r.others, r.held, r.place_is)
 
   -- the pins that the call then holds are those of its next phase
-  pub legs-after : (answer : Option Answer) → one_if_mapped answer ≡ 0 → ((n : ℕ) → holder_after answer n ≡ ByLeg n) → ((m : HeldPin) → action ≡ Done (KeptPin m) → ⊥) → legs_at (history_then answer) x.id.0 ≡ numbered 0 (reverse (held_in phase_then))
+  pub legs-after : (answer : Option Answer) → one_if_mapped answer ≡ 0 → ((n : ℕ) → holder_after answer n ≡ holders.Leg n) → ((m : HeldPin) → action ≡ Done (results.Mapped m) → ⊥) → legs_at (history_then answer) x.id.0 ≡ numbered 0 (reverse (held_in phase_then))
   legs-after answer m leg unmapped = legs-by h x.id answer (held_in t.stands.phase) (held_in phase_then) action o.step seen_in m leg unmapped t.stands.held t.holds pin-fact last-fact
 
   place-after : PhaseStands s (history_then None) x.id c.request ((o.step, seen_in) ∷ reverse c.steps) phase_then
@@ -177,7 +180,7 @@ module _ {s : Setting} {h : History} {xs : List State} {x : State} {o : OpenCall
     by (StoreBody gref half word) is = let now : StepsSoFar = (StoreBody gref half word, Nothing) ∷ reverse c.steps in
         by-storing s h x.id c.request (path k x.id c.request) (values c) (StoreLeads s h x.id c.request (values c) (reverse c.steps) now)
         (first-leads s h x.id c.request (values c) (reverse c.steps) now) (second-leads s h x.id c.request (values c) (reverse c.steps) now) t.stands.phase
-        (StoreBody gref half word) t.stands.at.has_shown (t.stands.acts ∙ ap Makes is) tt t.stands.at.has_shown t.stands.place
+        (StoreBody gref half word) t.stands.at.has_shown (t.stands.acts ∙ ap actions.Step is) tt t.stands.at.has_shown t.stands.place
     by step is = place-stays s (stepped x.id step (seen_by s h x.id step) None) h x.id c.request ((step, seen_by s h x.id step) ∷ reverse c.steps) (next_of s h x.id t.stands.phase step)
         (λ r which. unstored (stepped x.id step (seen_by s h x.id step) None) h x.id.0 r which refl) ((subst (OfStep s h xs x.id c.request (reverse c.steps) t.stands.phase) is each).3 (λ n. n))
 
@@ -194,12 +197,12 @@ pub done-next : {s : Setting} {h : History} {xs : List State} {x : State} {o : O
 done-next {s} {h} {xs} {x} {o} {c} {new} {v} t = done-from t v refl
 
 -- a call that continues
-module _ {s : Setting} {h : History} {xs : List State} {x : State} {o : OpenCall} {c : Underway} {new : Call} {z : Step} (t : Ticks s h xs x o c new (Makes z)) where
+module _ {s : Setting} {h : History} {xs : List State} {x : State} {o : OpenCall} {c : Underway} {new : Call} {z : Step} (t : Ticks s h xs x o c new (actions.Step z)) where
   known-after : known_at s (history_then t None) x.id ≡ known_at s h x.id
   known-after = known-by s h x.id o.step (seen_in t)
       (λ single. let e = single-ends s h x.id c.request (reverse c.steps) t.stands.phase o.step t.stands.acts t.stands.place single in goes-not x.id z _ no_pins e.0 refl t.acts (ends-settled c.request _ no_pins e.0 e.1))
       (λ gref looked change is saw.
-      let e = taken-ends (known_at s h x.id) (path (known_at s h x.id) x.id c.request) x.id c.request (values c) t.stands.phase gref looked change t.stands.at.has_shown (t.stands.acts ∙ ap Makes is) in
+      let e = taken-ends (known_at s h x.id) (path (known_at s h x.id) x.id c.request) x.id c.request (values c) t.stands.phase gref looked change t.stands.at.has_shown (t.stands.acts ∙ ap actions.Step is) in
       goes-not x.id z _ no_pins Granted refl t.acts (ends-settled c.request _ no_pins Granted (ap (phase_after (known_at s h x.id) x.id t.stands.phase) saw ∙ e)))
 
   -- it has the phase that this step led to
@@ -214,9 +217,9 @@ module _ {s : Setting} {h : History} {xs : List State} {x : State} {o : OpenCall
         here = ap (λ (z : Call). z.phase) t.new_is;
         at = subst (λ (k : CallerKnowledge). StandsAt k x.id c.request (values u) (phase_then t)) (sym known-after) (subst (λ (vs : List Observation). StandsAt (known_at s h x.id) x.id c.request vs (phase_then t)) shown t.on.at);
         acts = sym t.acts;
-        follows = subst (λ (k : CallerKnowledge). GoesOnWith k x.id c.request (values u) (Makes z)) (sym known-after) (subst (λ (vs : List Observation). GoesOnWith (known_at s h x.id) x.id c.request vs (Makes z)) shown t.on.follows);
-        rests = subst (λ (k : CallerKnowledge). Rests k x.id c.request (pins_at (phase_then t)) (values u) (Makes z)) (sym known-after)
-            (subst (λ (vs : List Observation). Rests (known_at s h x.id) x.id c.request (pins_at (phase_then t)) vs (Makes z)) shown t.on.rests);
+        follows = subst (λ (k : CallerKnowledge). GoesOnWith k x.id c.request (values u) (actions.Step z)) (sym known-after) (subst (λ (vs : List Observation). GoesOnWith (known_at s h x.id) x.id c.request vs (actions.Step z)) shown t.on.follows);
+        rests = subst (λ (k : CallerKnowledge). Rests k x.id c.request (pins_at (phase_then t)) (values u) (actions.Step z)) (sym known-after)
+            (subst (λ (vs : List Observation). Rests (known_at s h x.id) x.id c.request (pins_at (phase_then t)) vs (actions.Step z)) shown t.on.rests);
         place = subst (λ (so_far : StepsSoFar). PhaseStands s (history_then t None) x.id c.request so_far (phase_then t)) (sym (reverse-append c.steps ((o.step, seen_in t) ∷ []))) (place-after t);
         fair = stood-after t None;
         fits = t.stands.fits;
@@ -230,10 +233,10 @@ module _ {s : Setting} {h : History} {xs : List State} {x : State} {o : OpenCall
 
 module _ (s : Setting) (h : History) (xs : List State) (d : DomId) (r : OpenRequest) (shown : List Observation) (so_far : StepsSoFar) (phase : Phase) where
   step-justified : (step : Step) → IsHere s h xs d r shown so_far phase step → Justified s h d r step
-  step-justified (ReadBytes dom frame off len) i = read-justified s h xs d r dom frame off len i.st i.rests.0 i.rests.1
-  step-justified (WriteBytes dom frame off len) i = write-justified s h xs d r dom frame off len i.st i.rests.0 i.rests.1
-  step-justified (CopyBytes from to len) i = copy-justified s h d r (pins_at phase) from to len i.rests.0 i.held i.rests.1
-  step-justified (Unpin p (ByMapping handle)) i = i.rests.1.0
+  step-justified (call_steps.Read dom frame off len) i = read-justified s h xs d r dom frame off len i.st i.rests.0 i.rests.1
+  step-justified (call_steps.Write dom frame off len) i = write-justified s h xs d r dom frame off len i.st i.rests.0 i.rests.1
+  step-justified (call_steps.Copy from to len) i = copy-justified s h d r (pins_at phase) from to len i.rests.0 i.held i.rests.1
+  step-justified (Unpin p (holders.Mapping handle)) i = i.rests.1.0
   step-justified step i = tt
 
   step-safe : (step : Step) (answer : Option Answer) → IsHere s h xs d r shown so_far phase step → IsSafe s h (stepped d step (seen_by s h d step) answer)
@@ -241,18 +244,18 @@ module _ (s : Setting) (h : History) (xs : List State) (d : DomId) (r : OpenRequ
       cond_both (word_at s h d.0 gref.0 == looked) Taken (Missed (word_at s h d.0 gref.0)) (λ v. IsSafe s h (stepped d (Exchange gref looked change) v answer))
       (λ is. (can-change s h xs d r shown so_far phase gref looked change i (eqb-true (word_at s h d.0 gref.0) looked is)).safe) (λ is. tt)
   step-safe (StoreBody gref half word) answer i = store-invalid s h d r gref half word i.rests.0 i.rests.1
-  step-safe (PinStep p) answer i =
-      cond_both (word_at s h p.dom.0 p.gref.0 == p.word) Taken (Missed (word_at s h p.dom.0 p.gref.0)) (λ v. IsSafe s h (stepped d (PinStep p) v answer)) (λ is. tt) (λ is. tt)
+  step-safe (call_steps.Pin p) answer i =
+      cond_both (word_at s h p.dom.0 p.gref.0 == p.word) Taken (Missed (word_at s h p.dom.0 p.gref.0)) (λ v. IsSafe s h (stepped d (call_steps.Pin p) v answer)) (λ is. tt) (λ is. tt)
   step-safe step answer i = tt
 
   step-sound : (step : Step) → IsHere s h xs d r shown so_far phase step → PinIsSound s h d r step (seen_by s h d step)
-  step-sound (PinStep p) i = cond_both (word_at s h p.dom.0 p.gref.0 == p.word) Taken (Missed (word_at s h p.dom.0 p.gref.0)) (PinIsSound s h d r (PinStep p))
+  step-sound (call_steps.Pin p) i = cond_both (word_at s h p.dom.0 p.gref.0 == p.word) Taken (Missed (word_at s h p.dom.0 p.gref.0)) (PinIsSound s h d r (call_steps.Pin p))
       (λ is. (can-pin s h xs d r shown so_far phase p i (eqb-true (word_at s h p.dom.0 p.gref.0) p.word is)).sound) (λ is. tt)
   step-sound step i = tt
 
 -- a call that continues releases pins, or no rule has applied to it
-goes-fair : (d : DomId) (p : Phase) (z : Step) → action_at d p ≡ Makes z → (phase_refusal p ≡ None) ⊎ (gives_back (Some (Makes z)) ≡ true)
-goes-fair d (Ending pins verdict) z e = inr (by-giving (λ (y : Step). gives_back (Some (Makes y)) ≡ true) (λ p n. refl) (last_first pins) verdict z e)
+goes-fair : (d : DomId) (p : Phase) (z : Step) → action_at d p ≡ actions.Step z → (phase_refusal p ≡ None) ⊎ (gives_back (Some (actions.Step z)) ≡ true)
+goes-fair d (Ending pins verdict) z e = inr (by-giving (λ (y : Step). gives_back (Some (actions.Step y)) ≡ true) (λ p n. refl) (last_first pins) verdict z e)
 goes-fair d p z e = inl refl
 
 module _ {s : Setting} {h : History} {xs : List State} {x : State} {o : OpenCall} {c : Underway} {new : Call} {action : Action} (t : Ticks s h xs x o c new action) where
@@ -269,10 +272,10 @@ module _ {s : Setting} {h : History} {xs : List State} {x : State} {o : OpenCall
     answered = subst (λ (a : Option Action). AnsweredBy s h x.id c.request (Some o.step) (gives_back a) (verdict_in a) answer (stood s (history_then t answer) x.id.0)) (sym t.on.follows) answered;
   }
 
-pub goes-right : {s : Setting} {h : History} {xs : List State} {x : State} {o : OpenCall} {c : Underway} {new : Call} {z : Step} (t : Ticks s h xs x o c new (Makes z)) → StepsRight s h (stepped x.id o.step (seen_in t) None) o.step (seen_in t) c
+pub goes-right : {s : Setting} {h : History} {xs : List State} {x : State} {o : OpenCall} {c : Underway} {new : Call} {z : Step} (t : Ticks s h xs x o c new (actions.Step z)) → StepsRight s h (stepped x.id o.step (seen_in t) None) o.step (seen_in t) c
 goes-right {s} {h} {xs} {x} {o} {c} {new} {z} t = let few = t.stands.few in let fewer = t.fewer in let counted = t.on.counted in
     right t None (λ none. (omega arith)) (λ some. absurd (some refl)) (fair (goes-fair x.id (phase_then t) z (sym t.acts))) where
-      fair : (phase_refusal (phase_then t) ≡ None) ⊎ (gives_back (Some (Makes z)) ≡ true) → (stood s (history_then t None) x.id.0 ≡ None) ⊎ (gives_back (Some (Makes z)) ≡ true)
+      fair : (phase_refusal (phase_then t) ≡ None) ⊎ (gives_back (Some (actions.Step z)) ≡ true) → (stood s (history_then t None) x.id.0 ≡ None) ⊎ (gives_back (Some (actions.Step z)) ≡ true)
       fair (inl e) = inl (stood-after t None ∙ e)
       fair (inr e) = inr e
 

@@ -2,18 +2,23 @@
 use Rattle.gt_core.proofs.Words.{◌≡◌, ◌⊎◌, inl, inr, ℕ, refl, Bool, true, false, List, [], ◌∷◌, length, Option, Some}
 use Rattle.gt_core.proofs.Words.{cond, sym, ap, ◌∙◌, subst, eqb-true, ◌==◌, nat_lt, DomId, GrantRef, Denial, N18, N19}
 use Rattle.gt_core.proofs.Words.{Entry, Header, EntryChange, control_of, header_of, header_word, HeldPin, OpenRequest}
-use Rattle.gt_core.proofs.Words.{Map, ByLeg, Observation, Taken, Missed, CallResult, Granted, Given, Refused, Step}
-use Rattle.gt_core.proofs.Words.{LookHeader, PinStep, Unpin, StoreBody, Exchange, ReadBytes, Action, Makes, Done}
-use Rattle.gt_core.proofs.Words.{PinPurpose, Mapping, AsksSize, AsksVersion, Phase, Storing, StoringSecond}
-use Rattle.gt_core.proofs.Words.{Exchanging, Looking, Changing, Walking, Accessing, Asking, Last, Ending, Leg}
-use Rattle.gt_core.proofs.Words.{LegPhase, Pinning, Pinned, last_first, pins_so_far, CallerKnowledge, path, held_of}
-use Rattle.gt_core.proofs.Words.{is_stopped, Continuation, IsLegFor, RestsOnWord, RestsOnRequest, phase_after}
+use Rattle.gt_core.proofs.Words.{Map, Observation, Taken, Missed, CallResult, Granted, Given, Refused, Step, LookHeader}
+use Rattle.gt_core.proofs.Words.{Unpin, StoreBody, Exchange, Action, Done, PinPurpose, Mapping, Phase, Storing}
+use Rattle.gt_core.proofs.Words.{StoringSecond, Exchanging, Looking, Changing, Walking, Accessing, Asking, Last, Ending}
+use Rattle.gt_core.proofs.Words.{Leg, LegPhase, Pinning, Pinned, last_first, pins_so_far, CallerKnowledge, path}
+use Rattle.gt_core.proofs.Words.{held_of, is_stopped, Continuation, IsLegFor, RestsOnWord, RestsOnRequest, phase_after}
 use Rattle.gt_core.proofs.Words.{action_at, leg_after, leg_step, after_store, refused_as, next_to_give, HasShown}
-use Rattle.gt_core.proofs.Words.{IsQuiet, IsTurn, held_in, AnswerDone, State, History, Setting, word_at, table_at}
-use Rattle.gt_core.proofs.Words.{known_at, seen_by, StepsSoFar, GivesValue, PhaseStands, EndsAfter, EndsCopy}
-use Rattle.gt_core.proofs.Words.{answer_with, MAX_TABLE_FRAMES, ◌-◌, without_last, Size, Version, cond_both}
-use Rattle.gt_core.proofs.Words.{FirstHalf, SecondHalf, first_body, second_body, CopyBytes, CopyArgs, LookControl}
-use Rattle.gt_core.proofs.Words.{CallPins, LegStands, legs_at, numbered, pins_at, reverse, arith, stands}
+use Rattle.gt_core.proofs.Words.{IsQuiet, IsTurn, held_in, State, History, Setting, word_at, table_at, known_at}
+use Rattle.gt_core.proofs.Words.{seen_by, StepsSoFar, GivesValue, PhaseStands, EndsAfter, EndsCopy, answer_with}
+use Rattle.gt_core.proofs.Words.{MAX_TABLE_FRAMES, ◌-◌, without_last, Size, Version, cond_both, first_body, second_body}
+use Rattle.gt_core.proofs.Words.{CopyArgs, LookControl, CallPins, LegStands, legs_at, numbered, pins_at, reverse, arith}
+use Rattle.gt_core.proofs.Words.{stands}
+use Rattle.gt_model.specs.declared.action.Action.TheVariants as actions
+use Rattle.gt_model.specs.declared.trace.Answer.TheVariants as answers
+use Rattle.gt_model.specs.declared.change.BodyWord.TheVariants as body_words
+use Rattle.gt_model.specs.declared.action.Step.TheVariants as call_steps
+use Rattle.gt_model.specs.declared.request.PinHolder.TheVariants as holders
+use Rattle.gt_model.specs.declared.action.HeaderQuery.TheVariants as queries
 use Rattle.gt_core.proofs.{Phases.OfAction, Phases.IsHere, Phases.makes-same, EachStep.walk-comes, Legs.ComesTo}
 use Rattle.gt_core.proofs.{Legs.IsLegOf, Legs.Words, Aims.pair_of, Aims.leg-here, Phases.words-of, Phases.next_of}
 use Rattle.gt_core.proofs.{Outcomes.walk-done, Steps.See.table-fits}
@@ -27,7 +32,7 @@ Next s h d p step v = action_at d (next_of s h d p step) ≡ Done v
 
 -- a map ends with the pin that it took
 pub record MapEnds (s : Setting) (h : History) (d : DomId) (r : OpenRequest) (phase : Phase) (step : Step) (m : HeldPin) : Type 0 where
-  pub is : step ≡ PinStep m
+  pub is : step ≡ call_steps.Pin m
   pub taken : word_at s h m.dom.0 m.gref.0 ≡ m.word
   pub dom : DomId
   pub gref : GrantRef
@@ -37,15 +42,15 @@ pub record MapEnds (s : Setting) (h : History) (d : DomId) (r : OpenRequest) (ph
 
 -- what holds for a call that ends with this result
 abbrev pub EndsWith : Setting → History → DomId → OpenRequest → Phase → Step → CallResult → Type 0
-EndsWith s h d r phase step Granted = ((dom : DomId) (frame off len : ℕ) → step ≡ ReadBytes dom frame off len → ⊥) → GivesValue s h d r (Some step) AnswerDone
+EndsWith s h d r phase step Granted = ((dom : DomId) (frame off len : ℕ) → step ≡ call_steps.Read dom frame off len → ⊥) → GivesValue s h d r (Some step) answers.Done
 EndsWith s h d r phase step (Given value) = GivesValue s h d r (Some step) (answer_with value)
 EndsWith s h d r phase step (Mapped m) = MapEnds s h d r phase step m
 EndsWith s h d r phase step (Refused denial) = Unit {0}
 
-granted : (s : Setting) (h : History) (d : DomId) (r q : OpenRequest) (step : Step) → r ≡ q → GivesValue s h d q (Some step) AnswerDone → GivesValue s h d r (Some step) AnswerDone
-granted s h d r q step is g = subst (λ (z : OpenRequest). GivesValue s h d z (Some step) AnswerDone) (sym is) g
+granted : (s : Setting) (h : History) (d : DomId) (r q : OpenRequest) (step : Step) → r ≡ q → GivesValue s h d q (Some step) answers.Done → GivesValue s h d r (Some step) answers.Done
+granted s h d r q step is g = subst (λ (z : OpenRequest). GivesValue s h d z (Some step) answers.Done) (sym is) g
 
-copied : (s : Setting) (h : History) (d : DomId) (r : OpenRequest) (c : CopyArgs) (step : Step) → IsCopyOf r c → GivesValue s h d r (Some step) AnswerDone
+copied : (s : Setting) (h : History) (d : DomId) (r : OpenRequest) (c : CopyArgs) (step : Step) → IsCopyOf r c → GivesValue s h d r (Some step) answers.Done
 copied s h d r c step (inl is) = granted s h d r _ step is refl
 copied s h d r c step (inr is) = granted s h d r _ step is refl
 
@@ -56,16 +61,16 @@ last-ends s h d r phase last verdict q a b = grind arith
 last-next : (s : Setting) (h : History) (d : DomId) (last : Step) (verdict v : CallResult) → IsQuiet last → Next s h d (Last last verdict) last v → verdict ≡ v
 last-next s h d last verdict v q = grind arith
 
-turn-value : (s : Setting) (h : History) (d : DomId) (r : OpenRequest) (gref : GrantRef) (change : EntryChange) (step : Option Step) → IsTurn r gref change → GivesValue s h d r step AnswerDone
+turn-value : (s : Setting) (h : History) (d : DomId) (r : OpenRequest) (gref : GrantRef) (change : EntryChange) (step : Option Step) → IsTurn r gref change → GivesValue s h d r step answers.Done
 turn-value s h d r gref change step a = grind arith
 
 once-value : (s : Setting) (h : History) (way : Continuation) (d : DomId) (r : OpenRequest) (shown : List Observation) (so_far : StepsSoFar) (gref : GrantRef) (looked : ℕ) (change : EntryChange) (step : Option Step) → RestsOnWord (known_at s h d) way d r shown gref looked change
-    → PhaseStands s h d r so_far (Exchanging gref looked change) → GivesValue s h d r step AnswerDone
+    → PhaseStands s h d r so_far (Exchanging gref looked change) → GivesValue s h d r step answers.Done
 once-value s h way d r shown so_far gref looked change step a b = grind arith
 
 -- what holds for the end in a phase, if it is one
 abbrev AtEnd : (CallResult → Type 0) → Action → Type 0
-AtEnd Q (Makes step) = Unit {0}
+AtEnd Q (actions.Step step) = Unit {0}
 AtEnd Q (Done v) = Q v
 
 -- an end by Ok or by a refusal
@@ -85,16 +90,16 @@ copy-end : (Q : CallResult → Type 0) (v : CallResult) → EndsCopy v → Plain
 copy-end Q v e plain = grind arith
 
 pinned-leg : (s : Setting) (h : History) (d : DomId) (r : OpenRequest) (so_far : StepsSoFar) (aim : PinPurpose) (l : Leg) (at : LegPhase) (m : HeldPin) → Words s h l → IsLegFor (known_at s h d) d r aim l → IsLegOf s h d r l (pair_of d aim) → LegStands s h l so_far at
-    → leg_after l at (seen_by s h d (leg_step l at)) ≡ Pinned m → (leg_step l at ≡ PinStep m) × (word_at s h m.dom.0 m.gref.0 ≡ m.word)
+    → leg_after l at (seen_by s h d (leg_step l at)) ≡ Pinned m → (leg_step l at ≡ call_steps.Pin m) × (word_at s h m.dom.0 m.gref.0 ≡ m.word)
 pinned-leg s h d r so_far aim l (Pinning more word body second) m ws is leg a e = by (word_at s h l.dom.0 l.gref.0 == word) refl where
   q : HeldPin
   q = held_of l word body second
 
-  by : (b : Bool) → (word_at s h l.dom.0 l.gref.0 == word) ≡ b → (PinStep q ≡ PinStep m) × (word_at s h m.dom.0 m.gref.0 ≡ m.word)
+  by : (b : Bool) → (word_at s h l.dom.0 l.gref.0 == word) ≡ b → (call_steps.Pin q ≡ call_steps.Pin m) × (word_at s h m.dom.0 m.gref.0 ≡ m.word)
   by true same =
       let f : Pinned q ≡ Pinned m = sym (ap (λ (b : Bool). leg_after l (Pinning more word body second) (cond b Taken (Missed (word_at s h l.dom.0 l.gref.0)))) same) ∙ e in
       let p : q ≡ m = cc in
-      (ap PinStep p, subst (λ (z : HeldPin). word_at s h z.dom.0 z.gref.0 ≡ z.word) p (eqb-true (word_at s h l.dom.0 l.gref.0) word same))
+      (ap call_steps.Pin p, subst (λ (z : HeldPin). word_at s h z.dom.0 z.gref.0 ≡ z.word) p (eqb-true (word_at s h l.dom.0 l.gref.0) word same))
   by false same = absurd (subst (ComesTo s h l _ _) e (walk-comes s h d r so_far aim l (Pinning more word body second) ws is leg a same))
 pinned-leg s h d r so_far aim l at m ws is leg a e = absurd (subst (ComesTo s h l _ _) e (walk-comes s h d r so_far aim l at ws is leg a tt))
 
@@ -123,14 +128,14 @@ call-ends s h xs d r shown so_far phase step i = subst (OfAction (Led phase)) i.
   walked aim l at v is leg stands (inr x) = let g = pinned-leg s h d r so_far aim l at x.0 (words-of s h xs l i.legal i.st) is leg stands x.2 in let map = of-map k d r aim l is x.3 in subst (EndsWith s h d r (Walking aim l at) (leg_step l at)) (sym x.1)
       (record { is = g.0; taken = g.1; dom = map.0; gref = map.1; flags = map.2; of_map = map.3; none = ap (λ (z : PinPurpose). last_first (pins_so_far z)) x.3 })
 
-  ending : (pins : CallPins) (verdict : CallResult) (held : List HeldPin) → next_to_give held verdict ≡ Makes step → (copy : CopyArgs) × IsCopyOf r copy × EndsCopy verdict → Led (Ending pins verdict) step
+  ending : (pins : CallPins) (verdict : CallResult) (held : List HeldPin) → next_to_give held verdict ≡ actions.Step step → (copy : CopyArgs) × IsCopyOf r copy × EndsCopy verdict → Led (Ending pins verdict) step
   ending pins verdict [] f c = cc
-  ending pins verdict (q ∷ qs) f c = let z = Unpin q (ByLeg (length qs)) in let Q = EndsWith s h d r (Ending pins verdict) z in subst (Led (Ending pins verdict)) (makes-same z step f)
+  ending pins verdict (q ∷ qs) f c = let z = Unpin q (holders.Leg (length qs)) in let Q = EndsWith s h d r (Ending pins verdict) z in subst (Led (Ending pins verdict)) (makes-same z step f)
       (led (Ending pins verdict) z (give-end Q (last_first (without_last pins)) verdict (copy-end Q verdict c.2 (λ read. copied s h d r c.0 z c.1, λ denial. tt))))
 
-  by : (p : Phase) → HasShown k (path k d r) d r shown p → PhaseStands s h d r so_far p → action_at d p ≡ Makes step → legs_at h d.0 ≡ numbered 0 (reverse (last_first (pins_at p))) → OfAction (Led p) (action_at d p)
-  by (Storing gref entry) a b e held = led (Storing gref entry) (StoreBody gref FirstHalf (first_body entry)) (store-end _ k d gref entry)
-  by (StoringSecond gref entry) a b e held = led (StoringSecond gref entry) (StoreBody gref SecondHalf (second_body entry)) tt
+  by : (p : Phase) → HasShown k (path k d r) d r shown p → PhaseStands s h d r so_far p → action_at d p ≡ actions.Step step → legs_at h d.0 ≡ numbered 0 (reverse (last_first (pins_at p))) → OfAction (Led p) (action_at d p)
+  by (Storing gref entry) a b e held = led (Storing gref entry) (StoreBody gref body_words.First (first_body entry)) (store-end _ k d gref entry)
+  by (StoringSecond gref entry) a b e held = led (StoringSecond gref entry) (StoreBody gref body_words.Second (second_body entry)) tt
   by (Exchanging gref looked change) a b e held = let z = Exchange gref looked change in let Q = EndsWith s h d r (Exchanging gref looked change) z in led (Exchanging gref looked change) z
       (cond_both (w gref == looked) Taken (Missed (w gref)) (λ v. AtEnd Q (action_at d (phase_after k d (Exchanging gref looked change) v))) (λ y read. once-value s h (path k d r) d r shown so_far gref looked change (Some z) a b) (λ y. tt))
   by (Looking gref change more) a b e held = let Q = EndsWith s h d r (Looking gref change more) (LookControl d gref) in led (Looking gref change more) (LookControl d gref)
@@ -139,13 +144,13 @@ call-ends s h xs d r shown so_far phase step i = subst (OfAction (Led phase)) i.
       (cond_both (w gref == looked) Taken (Missed (w gref)) (λ v. AtEnd Q (action_at d (phase_after k d (Changing gref change more looked) v))) (λ y read. turn-value s h d r gref change (Some z) a.1)
       (λ y. cond_both (nat_lt 0 more) (Looking gref change (more - 1)) (refused_as d gref N18 (w gref)) (λ p. AtEnd Q (action_at d p)) (λ x. tt) (λ x. tt)))
   by (Walking aim l at) a b e held = λ v n. walked aim l at v a.1 (leg-here s h d r aim l a.1 held) b.1 (walk-done k d aim l (leg_after l at (seen_by s h d (leg_step l at))) v n)
-  by (Accessing c source dest) a b e held = let z = CopyBytes (place_of d c.source source) (place_of d c.dest dest) c.len in
+  by (Accessing c source dest) a b e held = let z = call_steps.Copy (place_of d c.source source) (place_of d c.dest dest) c.len in
       led (Accessing c source dest) z (give-end (EndsWith s h d r (Accessing c source dest) z) (last_first (record { source = source; dest = dest })) Granted (λ read. copied s h d r c z a.0))
-  by (Asking dom AsksSize) a b e held = let t = header_of (header_word (table_at s h dom)) in led (Asking dom AsksSize) (LookHeader dom)
+  by (Asking dom queries.Size) a b e held = let t = header_of (header_word (table_at s h dom)) in led (Asking dom queries.Size) (LookHeader dom)
       (subst (λ (z : OpenRequest). GivesValue s h d z (Some (LookHeader dom)) (Size (record { frames = t.frames; max = MAX_TABLE_FRAMES }))) (sym b.1)
       (ap (λ (x : Header). Size (record { frames = x.frames; max = MAX_TABLE_FRAMES })) (table-fits _ (i.st.tables dom)).1))
-  by (Asking dom AsksVersion) a b e held = let t = header_of (header_word (table_at s h dom)) in led (Asking dom AsksVersion) (LookHeader dom)
+  by (Asking dom queries.Version) a b e held = let t = header_of (header_word (table_at s h dom)) in led (Asking dom queries.Version) (LookHeader dom)
       (subst (λ (z : OpenRequest). GivesValue s h d z (Some (LookHeader dom)) (Version t.version)) (sym b.1) (ap (λ (x : Header). Version x.version) (table-fits _ (i.st.tables dom)).1))
   by (Last last verdict) a b e held = λ v n. subst (EndsWith s h d r (Last last verdict) last) (last-next s h d last verdict v a.0 n) (last-ends s h d r (Last last verdict) last verdict a.0 a.1 b)
-  by (Ending pins verdict) a (inl none) e held = absurd (let f : Done verdict ≡ Makes step = sym (ap (λ (l : List HeldPin). next_to_give l verdict) none) ∙ e in cc)
+  by (Ending pins verdict) a (inl none) e held = absurd (let f : Done verdict ≡ actions.Step step = sym (ap (λ (l : List HeldPin). next_to_give l verdict) none) ∙ e in cc)
   by (Ending pins verdict) a (inr c) e held = subst (OfAction (Led (Ending pins verdict))) (sym e) (ending pins verdict (last_first pins) e c)

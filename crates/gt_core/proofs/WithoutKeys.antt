@@ -1,15 +1,15 @@
 -- What a history leaves is the same without keys.
-use Rattle.gt_core.proofs.Words.{◌≡◌, ◌+◌, ◌⊎◌, inl, inr, ℕ, refl, Bool, true, false, List, [], ◌∷◌, ◌++◌, map}
-use Rattle.gt_core.proofs.Words.{Option, Some, None, cond, sym, ap, ◌∙◌, ◌==◌, option_map, fun_ext, DomId, Entry}
-use Rattle.gt_core.proofs.Words.{Header, EntryChange, BodyWord, asked, bytes_given_by, Request, OpenRequest, Unmap}
-use Rattle.gt_core.proofs.Words.{Release, Load, Store, ByMapping, Observation, Step, Unpin, Answer, ItemEvent, Began}
-use Rattle.gt_core.proofs.Words.{Stepped, Item, Patch, written, History, Setting, Underway, WriteMade, entry_at}
-use Rattle.gt_core.proofs.Words.{changed_entry_of, change_at, change_of, raises_at, raise_after, body_at, or_else}
-use Rattle.gt_core.proofs.Words.{stored_at, table_at, header_or, header_stored, open_call, underway_with}
-use Rattle.gt_core.proofs.Words.{underway_after, maps_answered_at, one_if_mapped, contents_at, patches_by, patches_at}
-use Rattle.gt_core.proofs.Words.{written_by, given_in, values, bare_handle, bare_request, bare_step, bare_happened}
-use Rattle.gt_core.proofs.Words.{keyless_answer, keyless_item, keyless_items, KeylessItem, SameHistory, HeldPin}
-use Rattle.gt_core.proofs.Words.{Handle, arith}
+use Rattle.gt_core.proofs.Words.{◌≡◌, ◌+◌, ◌⊎◌, inl, inr, ℕ, refl, Bool, true, false, List, [], ◌∷◌, ◌++◌, map, Option}
+use Rattle.gt_core.proofs.Words.{Some, None, cond, sym, ap, ◌∙◌, ◌==◌, option_map, fun_ext, DomId, Entry, Header}
+use Rattle.gt_core.proofs.Words.{EntryChange, BodyWord, asked, bytes_given_by, Request, OpenRequest, Unmap, Release}
+use Rattle.gt_core.proofs.Words.{Load, Store, Observation, Step, Unpin, Answer, ItemEvent, Began, Stepped, Item, Patch}
+use Rattle.gt_core.proofs.Words.{written, History, Setting, Underway, WriteMade, entry_at, changed_entry_of, change_at}
+use Rattle.gt_core.proofs.Words.{change_of, raises_at, raise_after, body_at, or_else, stored_at, table_at, header_or}
+use Rattle.gt_core.proofs.Words.{header_stored, open_call, underway_with, underway_after, maps_answered_at}
+use Rattle.gt_core.proofs.Words.{one_if_mapped, contents_at, patches_by, patches_at, written_by, given_in, values}
+use Rattle.gt_core.proofs.Words.{bare_handle, bare_request, bare_step, bare_happened, keyless_answer, keyless_item}
+use Rattle.gt_core.proofs.Words.{keyless_items, KeylessItem, SameHistory, HeldPin, Handle, arith}
+use Rattle.gt_model.specs.declared.request.PinHolder.TheVariants as holders
 use Rattle.gt_model.specs.declared.trace.Answer.TheVariants.{Done}
 
 -- an answer with this value, whatever its bytes are
@@ -41,7 +41,7 @@ bare-same g h same = bare-told g ∙ ap items_from same ∙ sym (bare-told h)
 -- entries and tables
 
 -- what distinguishes neither requests nor handles is the same for the event without its key
-happened-bare : {A : Type 0} (f : ItemEvent → A) → ((p : HeldPin) (a b : Handle) (seen : Observation) → f (Stepped (Unpin p (ByMapping a)) seen) ≡ f (Stepped (Unpin p (ByMapping b)) seen)) → ((q r : Request) → f (Began q) ≡ f (Began r))
+happened-bare : {A : Type 0} (f : ItemEvent → A) → ((p : HeldPin) (a b : Handle) (seen : Observation) → f (Stepped (Unpin p (holders.Mapping a)) seen) ≡ f (Stepped (Unpin p (holders.Mapping b)) seen)) → ((q r : Request) → f (Began q) ≡ f (Began r))
     → (x : ItemEvent) → f (bare_happened x) ≡ f x
 happened-bare f steps begins x = grind arith
 

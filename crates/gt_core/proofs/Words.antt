@@ -36,10 +36,8 @@ pub use Rattle.std.{specs.Prelude.unwrap_or, specs.Prelude.vec_len, specs.Prelud
 pub use Rattle.std.{specs.Prelude.◌^◌, specs.Prelude.◌||◌, proofs.lemmas.List.Folds.find_at}
 pub use Rattle.gt_types.specs.{Denial.denial_of, Names.domain_of, Names.resolved, declared.Dir.Dir}
 pub use Rattle.gt_types.specs.{declared.Dir.TheVariants.Read, declared.Dir.TheVariants.Write, declared.DomId.DomId}
-pub use Rattle.gt_types.specs.{declared.GrantRef.GrantRef, declared.TypeId.TypeId}
-pub use Rattle.gt_types.specs.{declared.Use.TheVariants.Copy as ForCopy, declared.Use.TheVariants.Map as ForMap}
-pub use Rattle.gt_types.specs.{declared.config.Config.Config, declared.config.DomainConfig.DomainConfig}
-pub use Rattle.gt_types.specs.{declared.denial.Denial.Denial, declared.denial.Facts.TheVariants.Header as HeaderFacts}
+pub use Rattle.gt_types.specs.{declared.GrantRef.GrantRef, declared.TypeId.TypeId, declared.config.Config.Config}
+pub use Rattle.gt_types.specs.{declared.config.DomainConfig.DomainConfig, declared.denial.Denial.Denial}
 pub use Rattle.gt_types.specs.{declared.denial.Facts.TheVariants.Policy, declared.denial.Rule.Rule}
 pub use Rattle.gt_types.specs.{declared.denial.Rule.TheVariants.N1, declared.denial.Rule.TheVariants.N11}
 pub use Rattle.gt_types.specs.{declared.denial.Rule.TheVariants.N12, declared.denial.Rule.TheVariants.N13}
@@ -61,13 +59,9 @@ pub use Rattle.gt_model.specs.Permits.{allows_direction, forwards, is_copying, p
 pub use Rattle.gt_model.specs.Spelling.{entry_of, first_body}
 pub use Rattle.gt_model.specs.Words.{control_of, control_word, header_of, header_word}
 pub use Rattle.gt_model.specs.declared.change.EntryChange.{EntryChange}
-pub use Rattle.gt_model.specs.declared.change.EntryChange.TheVariants.{Demote as ToReadOnly, Promote as ToWritable}
-pub use Rattle.gt_model.specs.declared.change.EntryChange.TheVariants.{Publish, Revoke as ToInvalid}
-pub use Rattle.gt_model.specs.declared.change.EntryChange.TheVariants.{Withdraw as ToWithdrawn}
+pub use Rattle.gt_model.specs.declared.change.EntryChange.TheVariants.{Publish}
 pub use Rattle.gt_model.specs.declared.change.BodyWord.{BodyWord}
-pub use Rattle.gt_model.specs.declared.change.BodyWord.TheVariants.{First as FirstHalf, Second as SecondHalf}
 pub use Rattle.gt_model.specs.declared.control.Control.{Control}
-pub use Rattle.gt_model.specs.declared.control.EntryKind.TheVariants.{Sub as KindSub}
 pub use Rattle.gt_model.specs.declared.entry.Entry.{Entry}
 pub use Rattle.gt_model.specs.declared.entry.Entry.TheVariants.{Invalid, Page, Sub, Via}
 pub use Rattle.gt_model.specs.declared.header.Header.{Header}
@@ -77,9 +71,9 @@ pub use Rattle.gt_model.specs.declared.handle.Handle.{Handle}
 pub use Rattle.gt_model.specs.Written.{Patch, overlay, replay, written}
 pub use Rattle.gt_frames.specs.{Frames.FrameState, Frames.all_rightful, Frames.bytes_at, Frames.patch_of}
 pub use Rattle.gt_frames.specs.{Frames.patches, Frames.permits_writing, Frames.suffices, Places.frame_counts}
-pub use Rattle.gt_frames.specs.{Places.frames_of as frames_of_all, Places.is_name, Places.pool_number, Sets.AreKept}
-pub use Rattle.gt_frames.specs.{Sets.FrameSet, Sets.WritesTo, Sets.admits, Sets.all_zeros, Sets.frame_at}
-pub use Rattle.gt_frames.specs.{Sets.has_frame, Sets.has_range, Sets.journal_in, declared.writ.Writ.Writ}
+pub use Rattle.gt_frames.specs.{Places.frames_of, Places.is_name, Places.pool_number, Sets.AreKept, Sets.FrameSet}
+pub use Rattle.gt_frames.specs.{Sets.WritesTo, Sets.admits, Sets.all_zeros, Sets.frame_at, Sets.has_frame}
+pub use Rattle.gt_frames.specs.{Sets.has_range, Sets.journal_in, declared.writ.Writ.Writ}
 pub use Rattle.gt_frames.specs.{declared.writ.WriteRecord.WriteRecord}
 unfoldable pub use Rattle.gt_model.specs.Written.{zeros}
 pub use Rattle.gt_model.specs.Asking.{SpellsItsEntry, asked, begun_of, bytes_given_by}
@@ -90,28 +84,26 @@ pub use Rattle.gt_calls.specs.{Machine.after_leg, Legs.on_control_word, Legs.aft
 pub use Rattle.gt_calls.specs.{Machine.after_source_pin, Machine.after_store, Legs.after_words, Machine.at_dest}
 pub use Rattle.gt_calls.specs.{Machine.first_phase, Legs.leg_after, Legs.leg_step, Machine.next_to_give}
 pub use Rattle.gt_calls.specs.{Machine.phase_after, Machine.refused_as, Machine.where_via, Opening.holds-first}
-pub use Rattle.gt_calls.specs.{Opening.opens, Resting.IsLegFor, Resting.IsMapped, Resting.IsOnFrom}
-pub use Rattle.gt_calls.specs.{Resting.IsPermitted, Resting.IsReached, Resting.IsToward, Resting.Lets, Resting.Rests}
-pub use Rattle.gt_calls.specs.{Resting.RestsOnGrant, Resting.RestsOnRequest, Resting.RestsOnTry, Resting.RestsOnWays}
-pub use Rattle.gt_calls.specs.{Resting.RestsOnWord, Standing.HasShown, Standing.IsAt, Standing.IsQuiet}
-pub use Rattle.gt_calls.specs.{Standing.IsTurn, Standing.StandsAt, Standing.held_in, Standing.pins_at}
-pub use Rattle.gt_calls.specs.{Standing.pins_by_call, declared.call.Call.Call, declared.call.Phase.Phase}
-pub use Rattle.gt_calls.specs.{declared.call.Phase.TheVariants.Accessing, declared.call.Phase.TheVariants.Asking}
-pub use Rattle.gt_calls.specs.{declared.call.Phase.TheVariants.Changing, declared.call.Phase.TheVariants.Ending}
-pub use Rattle.gt_calls.specs.{declared.call.Phase.TheVariants.Exchanging, declared.call.Phase.TheVariants.Last}
-pub use Rattle.gt_calls.specs.{declared.call.Phase.TheVariants.Looking, declared.call.Phase.TheVariants.Storing}
-pub use Rattle.gt_calls.specs.{declared.call.Phase.TheVariants.StoringSecond, declared.call.Phase.TheVariants.Walking}
-pub use Rattle.gt_calls.specs.{declared.copying.PinPurpose.PinPurpose, declared.copying.PinPurpose.TheVariants.Dest}
+pub use Rattle.gt_calls.specs.{Opening.opens, Resting.IsLegFor, Resting.IsMapped, Resting.IsOnFrom, Resting.IsPermitted}
+pub use Rattle.gt_calls.specs.{Resting.IsReached, Resting.IsToward, Resting.Lets, Resting.Rests, Resting.RestsOnGrant}
+pub use Rattle.gt_calls.specs.{Resting.RestsOnRequest, Resting.RestsOnTry, Resting.RestsOnWays, Resting.RestsOnWord}
+pub use Rattle.gt_calls.specs.{Standing.HasShown, Standing.IsAt, Standing.IsQuiet, Standing.IsTurn, Standing.StandsAt}
+pub use Rattle.gt_calls.specs.{Standing.held_in, Standing.pins_at, Standing.pins_by_call, declared.call.Call.Call}
+pub use Rattle.gt_calls.specs.{declared.call.Phase.Phase, declared.call.Phase.TheVariants.Accessing}
+pub use Rattle.gt_calls.specs.{declared.call.Phase.TheVariants.Asking, declared.call.Phase.TheVariants.Changing}
+pub use Rattle.gt_calls.specs.{declared.call.Phase.TheVariants.Ending, declared.call.Phase.TheVariants.Exchanging}
+pub use Rattle.gt_calls.specs.{declared.call.Phase.TheVariants.Last, declared.call.Phase.TheVariants.Looking}
+pub use Rattle.gt_calls.specs.{declared.call.Phase.TheVariants.Storing, declared.call.Phase.TheVariants.StoringSecond}
+pub use Rattle.gt_calls.specs.{declared.call.Phase.TheVariants.Walking, declared.copying.PinPurpose.PinPurpose}
+pub use Rattle.gt_calls.specs.{declared.copying.PinPurpose.TheVariants.Dest}
 pub use Rattle.gt_calls.specs.{declared.copying.PinPurpose.TheVariants.Mapping}
 pub use Rattle.gt_calls.specs.{declared.copying.PinPurpose.TheVariants.Source, declared.known.OwnerEntry.OwnerEntry}
 pub use Rattle.gt_calls.specs.{declared.known.TheConstants.ENTRIES, declared.leg.LegNext.LegNext}
 pub use Rattle.gt_calls.specs.{declared.leg.LegNext.TheVariants.Going, declared.leg.LegNext.TheVariants.Pinned}
-pub use Rattle.gt_calls.specs.{declared.leg.LegNext.TheVariants.Refused as LegRefused, declared.leg.LegPhase.LegPhase}
-pub use Rattle.gt_calls.specs.{declared.leg.LegPhase.TheVariants.Body}
-pub use Rattle.gt_calls.specs.{declared.leg.LegPhase.TheVariants.Header as AtHeader}
+pub use Rattle.gt_calls.specs.{declared.leg.LegPhase.LegPhase, declared.leg.LegPhase.TheVariants.Body}
 pub use Rattle.gt_calls.specs.{declared.leg.LegPhase.TheVariants.Look, declared.leg.LegPhase.TheVariants.Pinning}
 pub use Rattle.gt_calls.specs.{declared.leg.LegPhase.TheVariants.Relook, declared.leg.LegPhase.TheVariants.Second}
-pub use Rattle.gt_calls.specs.declared.asking.Judged.TheVariants as judgeds
+pub use Rattle.gt_calls.specs.declared.asking.Judged.TheVariants as judgements
 pub use Rattle.gt_calls.specs.declared.asking.Judged.{Judged}
 pub use Rattle.gt_model.specs.Holding.{held_by, last_first, no_pins, owner_by, without_last, GivesHeld}
 pub use Rattle.gt_model.specs.Rules.{IsAllowed, CallerKnowledge, before_pin, begun, control_with, copy_denied, denied}
@@ -123,19 +115,16 @@ pub use Rattle.gt_model.specs.Path.{entry_refusal, held_of, idle_word, is_stoppe
 pub use Rattle.gt_model.specs.Path.{second_leg, source_pair, steps_of}
 pub use Rattle.gt_calls.specs.Known.{entry_in, own_generation, knowledge_of, knows, row_entry, row_generation}
 pub use Rattle.gt_model.specs.declared.action.Action.{Action}
-pub use Rattle.gt_model.specs.declared.action.Action.TheVariants.{Done, Done as Ends, Step as Makes}
+pub use Rattle.gt_model.specs.declared.action.Action.TheVariants.{Done}
 pub use Rattle.gt_model.specs.declared.action.Observation.{Observation}
 pub use Rattle.gt_model.specs.declared.action.Observation.TheVariants.{Missed, Nothing, Taken, Word}
 pub use Rattle.gt_model.specs.declared.action.Step.{Step}
-pub use Rattle.gt_model.specs.declared.action.Step.TheVariants.{Copy as CopyBytes, Exchange, LookBody, LookControl}
-pub use Rattle.gt_model.specs.declared.action.Step.TheVariants.{LookHeader, Pin as PinStep, Read as ReadBytes}
-pub use Rattle.gt_model.specs.declared.action.Step.TheVariants.{StoreBody, StoreHeader, Unpin, Write as WriteBytes}
+pub use Rattle.gt_model.specs.declared.action.Step.TheVariants.{Exchange, LookBody, LookControl, LookHeader, StoreBody}
+pub use Rattle.gt_model.specs.declared.action.Step.TheVariants.{StoreHeader, Unpin}
 pub use Rattle.gt_model.specs.declared.action.CallValue.{CallValue}
-pub use Rattle.gt_model.specs.declared.action.CallValue.TheVariants.{Frames as FramesTold}
 pub use Rattle.gt_model.specs.declared.action.CallResult.{CallResult}
-pub use Rattle.gt_model.specs.declared.action.CallResult.TheVariants.{Given, Granted, Mapped as KeptPin, Refused}
+pub use Rattle.gt_model.specs.declared.action.CallResult.TheVariants.{Given, Granted, Refused}
 pub use Rattle.gt_model.specs.declared.action.HeaderQuery.{HeaderQuery}
-pub use Rattle.gt_model.specs.declared.action.HeaderQuery.TheVariants.{Size as AsksSize, Version as AsksVersion}
 pub use Rattle.gt_model.specs.declared.held.HeldPin.{HeldPin}
 pub use Rattle.gt_model.specs.declared.held.CallPins.{CallPins}
 pub use Rattle.gt_model.specs.declared.held.AccessPath.{AccessPath}
@@ -148,41 +137,37 @@ pub use Rattle.gt_model.specs.declared.request.OpenRequest.TheVariants.{Peek, Po
 pub use Rattle.gt_model.specs.declared.request.OpenRequest.TheVariants.{Withdraw, SetVersion, SetupTable, Store}
 pub use Rattle.gt_model.specs.declared.request.OpenRequest.TheVariants.{Release, Unmap}
 pub use Rattle.gt_model.specs.declared.request.PinHolder.{PinHolder}
-pub use Rattle.gt_model.specs.declared.request.PinHolder.TheVariants.{Leg as ByLeg, Mapping as ByMapping}
 pub use Rattle.gt_model.specs.declared.request.Request.{Request}
 pub use Rattle.gt_core.specs.{Accesses.AccessedBy, Accesses.IsAdmitted, Accesses.IsLoadOf, Accesses.IsReadable}
 pub use Rattle.gt_core.specs.{Accesses.IsWritOf, Accesses.IsWriting, Accesses.basis_of, Accesses.route_of}
 pub use Rattle.gt_core.specs.{Alike.AreAlike, Alike.AsksKnown, Alike.HappensKnown, Alike.IsKnown, Alike.IsOfKnown}
 pub use Rattle.gt_core.specs.{Alike.SameElement, Alike.SameEvent, Alike.SameHistory, Alike.KeylessItem}
 pub use Rattle.gt_core.specs.{Alike.bare_event, Alike.bare_handle, Alike.bare_happened, Alike.bare_request}
-pub use Rattle.gt_core.specs.{Alike.bare_step, Alike.keyless_answer, Alike.keyless_item, Effects.Adds}
-pub use Rattle.gt_core.specs.{Effects.applied, Effects.own_after, Effects.slot_after, Effects.handle_taken}
-pub use Rattle.gt_core.specs.{Effects.with_open_call, Effects.with_header, Effects.with_mapping, Effects.with_own}
-pub use Rattle.gt_core.specs.{Effects.with_slot, Effects.with_underway, Effects.without_holder, Rows.changed_at}
-pub use Rattle.gt_core.specs.{Shown.entry_shown, Shown.shown_at, Shown.shown_in, Sight.body_in, Sight.body_seen}
-pub use Rattle.gt_core.specs.{Sight.control_in, Sight.control_seen, Sight.header_seen, Sight.reads_in, Sight.sees}
-pub use Rattle.gt_core.specs.{Sight.slot_body, Sight.slot_reads, Sight.slot_writes, Sight.writes_in}
-pub use Rattle.gt_core.specs.{Standing.StateStands, Standing.AreMappingsApart, Phases.AsksTable, Standing.CallAgrees}
-pub use Rattle.gt_core.specs.{Acting.Closed, Standing.CoreStands, Standing.DoesEvent, Standing.DomainsDo}
-pub use Rattle.gt_core.specs.{Standing.DomainsStand, Phases.EndsAfter, Phases.EndsCopy, Standing.FitsAsked}
-pub use Rattle.gt_core.specs.{Standing.FitsGiven, Standing.FitsTable, Standing.FitsWord, Standing.FramesStand}
-pub use Rattle.gt_core.specs.{Standing.GivenAgrees, Phases.LegHasLooked, Phases.LegHasRead, Phases.IsClean}
-pub use Rattle.gt_core.specs.{Standing.IsLawfulPin, Standing.IsLawfullyHeld, Acting.IsOpenCall, Acting.IsRoomFor}
-pub use Rattle.gt_core.specs.{Phases.IsShown, Acting.IsWritingNext, Phases.LegStands, Standing.MappingsAgree}
-pub use Rattle.gt_core.specs.{Standing.OpenAgrees, Acting.OpensAs, Phases.PhaseStands, Acting.Settled}
-pub use Rattle.gt_core.specs.{Standing.SlotAgrees, Standing.StandsForSome, Standing.StateAgrees, Acting.WantsMemory}
-pub use Rattle.gt_core.specs.{Acting.WantsMemoryNow, Phases.WhileSame, Acting.answer_of, Acting.answer_with}
-pub use Rattle.gt_core.specs.{Acting.begun_element, Standing.core_of, Phases.numbered, Phases.phase_refusal}
-pub use Rattle.gt_core.specs.{Acting.ticked_element, Acting.ticked_with, States.CoreState, States.IsLoading}
-pub use Rattle.gt_core.specs.{States.IsMapping, States.State, States.asked_in, States.asks_memory, States.changed_in}
-pub use Rattle.gt_core.specs.{States.first_state, States.kept_by, States.state_of, Subject.entry_place_of}
-pub use Rattle.gt_core.specs.{Subject.subject_at, declared.core_state.Begun.Begun, declared.core_state.Ticked.Ticked}
-pub use Rattle.gt_core.specs.{declared.core_state.Ticked.Ticked as TickTold}
+pub use Rattle.gt_core.specs.{Alike.bare_step, Alike.keyless_answer, Alike.keyless_item, Effects.Adds, Effects.applied}
+pub use Rattle.gt_core.specs.{Effects.own_after, Effects.slot_after, Effects.handle_taken, Effects.with_open_call}
+pub use Rattle.gt_core.specs.{Effects.with_header, Effects.with_mapping, Effects.with_own, Effects.with_slot}
+pub use Rattle.gt_core.specs.{Effects.with_underway, Effects.without_holder, Rows.changed_at, Shown.entry_shown}
+pub use Rattle.gt_core.specs.{Shown.shown_at, Shown.shown_in, Sight.body_in, Sight.body_seen, Sight.control_in}
+pub use Rattle.gt_core.specs.{Sight.control_seen, Sight.header_seen, Sight.reads_in, Sight.sees, Sight.slot_body}
+pub use Rattle.gt_core.specs.{Sight.slot_reads, Sight.slot_writes, Sight.writes_in, Standing.StateStands}
+pub use Rattle.gt_core.specs.{Standing.AreMappingsApart, Phases.AsksTable, Standing.CallAgrees, Acting.Closed}
+pub use Rattle.gt_core.specs.{Standing.CoreStands, Standing.DoesEvent, Standing.DomainsDo, Standing.DomainsStand}
+pub use Rattle.gt_core.specs.{Phases.EndsAfter, Phases.EndsCopy, Standing.FitsAsked, Standing.FitsGiven}
+pub use Rattle.gt_core.specs.{Standing.FitsTable, Standing.FitsWord, Standing.FramesStand, Standing.GivenAgrees}
+pub use Rattle.gt_core.specs.{Phases.LegHasLooked, Phases.LegHasRead, Phases.IsClean, Standing.IsLawfulPin}
+pub use Rattle.gt_core.specs.{Standing.IsLawfullyHeld, Acting.IsOpenCall, Acting.IsRoomFor, Phases.IsShown}
+pub use Rattle.gt_core.specs.{Acting.IsWritingNext, Phases.LegStands, Standing.MappingsAgree, Standing.OpenAgrees}
+pub use Rattle.gt_core.specs.{Acting.OpensAs, Phases.PhaseStands, Acting.Settled, Standing.SlotAgrees}
+pub use Rattle.gt_core.specs.{Standing.StandsForSome, Standing.StateAgrees, Acting.WantsMemory, Acting.WantsMemoryNow}
+pub use Rattle.gt_core.specs.{Phases.WhileSame, Acting.answer_of, Acting.answer_with, Acting.begun_element}
+pub use Rattle.gt_core.specs.{Standing.core_of, Phases.numbered, Phases.phase_refusal, Acting.ticked_element}
+pub use Rattle.gt_core.specs.{Acting.ticked_with, States.CoreState, States.IsLoading, States.IsMapping, States.State}
+pub use Rattle.gt_core.specs.{States.asked_in, States.asks_memory, States.changed_in, States.first_state}
+pub use Rattle.gt_core.specs.{States.kept_by, States.state_of, Subject.entry_place_of, Subject.subject_at}
+pub use Rattle.gt_core.specs.{declared.core_state.Begun.Begun, declared.core_state.Ticked.Ticked}
 pub use Rattle.gt_core.specs.{declared.pin_counts.CountsChange.TheVariants.Stored}
 pub use Rattle.gt_core.specs.{declared.pin_counts.CountsChange.TheVariants.Unpinned}
 pub use Rattle.gt_core.specs.{declared.pin_counts.PinCounts.PinCounts, declared.underway.OpenCall.OpenCall}
-pub use Rattle.gt_core.specs.{declared.core_state.Begun.TheVariants.Busy as BegunBusy}
-pub use Rattle.gt_core.specs.{declared.core_state.Begun.TheVariants.NoDomain as BegunNoDomain}
 pub use Rattle.gt_core.specs.{declared.pin_counts.CountsChange.CountsChange}
 pub use Rattle.gt_model.specs.History.{History, Pin, Setting, Underway, WriteMade, by_leg, mapping_named, change_at}
 pub use Rattle.gt_model.specs.History.{change_of, contents_at, control_at, changed_entry_of, exchange_sees}
@@ -202,10 +187,9 @@ pub use Rattle.gt_model.specs.FirstRule.{leg_at, leg_now, refusal_in, rule_at_he
 pub use Rattle.gt_model.specs.FirstRule.{rule_at_via, rule_before_pin, second_now, source_now, stood_with}
 pub use Rattle.gt_model.specs.FirstRule.{toward_source}
 pub use Rattle.gt_model.specs.declared.trace.Answer.{Answer}
-pub use Rattle.gt_model.specs.declared.trace.Answer.TheVariants.{Bytes as BytesAnswer, Denied, Done as AnswerDone}
-pub use Rattle.gt_model.specs.declared.trace.Answer.TheVariants.{Mapped, Size, Version}
+pub use Rattle.gt_model.specs.declared.trace.Answer.TheVariants.{Denied, Mapped, Size, Version}
 pub use Rattle.gt_model.specs.declared.trace.Element.{Element}
-pub use Rattle.gt_model.specs.declared.trace.Element.TheVariants.{Busy, Idle, Item as Did, NoDomain}
+pub use Rattle.gt_model.specs.declared.trace.Element.TheVariants.{Busy, Idle, NoDomain}
 pub use Rattle.gt_model.specs.declared.trace.Event.{Event}
 pub use Rattle.gt_model.specs.declared.trace.Event.TheVariants.{Begin, Tick}
 pub use Rattle.gt_model.specs.declared.trace.ItemEvent.{ItemEvent}

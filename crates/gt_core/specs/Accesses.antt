@@ -8,7 +8,7 @@ use Rattle.gt_model.specs.declared.held.AccessPath.TheVariants.{Own, Direct, Thr
 use Rattle.gt_model.specs.declared.request.OpenRequest.{OpenRequest}
 use Rattle.gt_model.specs.declared.request.OpenRequest.TheVariants.{Load, Store, Peek, Copy}
 use Rattle.gt_model.specs.declared.action.Step.{Step}
-use Rattle.gt_model.specs.declared.action.Step.TheVariants.{Read as ReadBytes, Write as WriteBytes, Copy as CopyBytes}
+use Rattle.gt_model.specs.declared.action.Step.TheVariants as call_steps
 use Rattle.gt_calls.specs.declared.call.Call.{Call}
 use Rattle.gt_calls.specs.Holding.{begun_route}
 use Rattle.gt_calls.specs.Standing.{pins_by_call}
@@ -42,8 +42,8 @@ IsWritOf d call w = (w.writer ≡ call.caller) × (w.basis ≡ basis_of (route_o
 
 -- the step writes bytes
 abbrev pub IsWriting : Step → Type 0
-IsWriting (WriteBytes dom frame off len) = Unit {0}
-IsWriting (CopyBytes from to len) = Unit {0}
+IsWriting (call_steps.Write dom frame off len) = Unit {0}
+IsWriting (call_steps.Copy from to len) = Unit {0}
 IsWriting step = ⊥
 
 -- the request reads n bytes
@@ -54,16 +54,16 @@ IsLoadOf request n = ⊥
 
 -- if the step reads, its range exists, and its call asks for as many bytes
 abbrev pub IsReadable : FrameSet → Call → Step → Type 0
-IsReadable fs call (ReadBytes dom frame off len) =
+IsReadable fs call (call_steps.Read dom frame off len) =
     IsTrue (has_range fs (record { owner = dom; number = frame }) off len) × IsLoadOf call.request len
 IsReadable fs call step = Unit {0}
 
 -- if the step writes, its ranges exist, and the writ of the domain's call covers the range that it writes
 abbrev pub IsAdmitted : FrameSet → State → Call → Step → Type 0
-IsAdmitted fs d call (WriteBytes dom frame off len) =
+IsAdmitted fs d call (call_steps.Write dom frame off len) =
     (w : Writ) → IsWritOf d call w
     → IsTrue (admits fs (record { owner = dom; number = frame }) w off (length d.given))
-IsAdmitted fs d call (CopyBytes from to len) =
+IsAdmitted fs d call (call_steps.Copy from to len) =
     IsTrue (has_range fs from.frame from.off len)
     × ((w : Writ) → IsWritOf d call w → IsTrue (admits fs to.frame w to.off len))
 IsAdmitted fs d call step = Unit {0}
@@ -76,8 +76,8 @@ WritesByRight d call old new name off bytes =
 -- the frames after a step: it writes the bytes of its request, or for a copy those of the source range, or changes
 -- none
 abbrev pub AccessedBy : State → Call → Step → FrameSet → FrameSet → Type 0
-AccessedBy d call (WriteBytes dom frame off len) old new =
+AccessedBy d call (call_steps.Write dom frame off len) old new =
     WritesByRight d call old new (record { owner = dom; number = frame }) off d.given
-AccessedBy d call (CopyBytes from to len) old new =
+AccessedBy d call (call_steps.Copy from to len) old new =
     WritesByRight d call old new to.frame to.off (bytes_at (frame_at old from.frame) from.off len)
 AccessedBy d call step old new = new ≡ old

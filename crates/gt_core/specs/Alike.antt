@@ -1,8 +1,10 @@
 -- Runs that are equal except for the keys of handles, which a run may choose.
 use Rattle.std.specs.Prelude.{◌≡◌, ◌≤◌, ◌⊎◌, ℕ, List, [], ◌∷◌, Option, Some}
 use Rattle.gt_core.specs.Prelude.{option_map, Bor, inl, inr, DomId, Handle, SERIAL_LIMIT, Request, OpenRequest, Unmap}
-use Rattle.gt_core.specs.Prelude.{Release, Load, Store, ByMapping, Step, Unpin, asked, Answer, Mapped, Bytes, Event}
-use Rattle.gt_core.specs.Prelude.{Begin, Tick, ItemEvent, Began, Stepped, Item, Element, Did}
+use Rattle.gt_core.specs.Prelude.{Release, Load, Store, Step, Unpin, asked, Answer, Mapped, Bytes, Event, Begin, Tick}
+use Rattle.gt_core.specs.Prelude.{ItemEvent, Began, Stepped, Item, Element}
+use Rattle.gt_model.specs.declared.trace.Element.TheVariants as elements
+use Rattle.gt_model.specs.declared.request.PinHolder.TheVariants as holders
 use Rattle.gt_model.specs.declared.request.Request.TheVariants as requests
 use Rattle.gt_model.specs.History.{History, Setting}
 use Rattle.gt_model.specs.Legal.{IsRight}
@@ -34,7 +36,7 @@ bare_event (Tick d) = Tick d
 
 -- a step without the key of the handle whose mapping it drops
 abbrev pub bare_step : Step → Step
-bare_step (Unpin p (ByMapping handle)) = Unpin p (ByMapping (bare_handle handle))
+bare_step (Unpin p (holders.Mapping handle)) = Unpin p (holders.Mapping (bare_handle handle))
 bare_step step = step
 
 -- an item's event without keys
@@ -77,7 +79,7 @@ SameEvent one other = bare_event one ≡ bare_event other
 
 -- the elements are equal except for keys
 abbrev pub SameElement : Element → Element → Type 0
-SameElement (Did i) (Did j) = keyless_item i ≡ keyless_item j
+SameElement (elements.Item i) (elements.Item j) = keyless_item i ≡ keyless_item j
 SameElement one other = one ≡ other
 
 -- handles that were answered

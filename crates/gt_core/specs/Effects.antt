@@ -1,10 +1,12 @@
 -- What a step does to the states of the domains: the code's own representation. It is in specs/ because private
 -- contracts cite it.
 use Rattle.std.specs.Prelude.{ℕ, List, Option, Some, None, if◌then◌else◌, ◌+◌, ◌-◌, ◌%◌, min, is_some, ◌≡◌, slice_set}
-use Rattle.gt_core.specs.Prelude.{DomId, MAX_PINS, Read, Write, Handle, PinHolder, ByMapping, ByLeg, EntryChange}
-use Rattle.gt_core.specs.Prelude.{Step, Pin, Unpin, StoreBody, StoreHeader, Exchange, Observation, Taken, HeldPin}
-use Rattle.gt_core.specs.Prelude.{PinCounts, CountsChange, FirstHalf, SecondHalf, Pinned, Unpinned, Stored, OpenCall}
-use Rattle.gt_core.specs.Prelude.{HandleMap, value_of, count_of, Updates}
+use Rattle.gt_core.specs.Prelude.{DomId, MAX_PINS, Read, Write, Handle, PinHolder, EntryChange, Step, Pin, Unpin}
+use Rattle.gt_core.specs.Prelude.{StoreBody, StoreHeader, Exchange, Observation, Taken, HeldPin, PinCounts}
+use Rattle.gt_core.specs.Prelude.{CountsChange, Pinned, Unpinned, Stored, OpenCall, HandleMap, value_of, count_of}
+use Rattle.gt_core.specs.Prelude.{Updates}
+use Rattle.gt_model.specs.declared.change.BodyWord.TheVariants as body_words
+use Rattle.gt_model.specs.declared.request.PinHolder.TheVariants as holders
 use Rattle.gt_core.specs.Rows.{changed_at}
 use Rattle.gt_core.specs.States.{State, changed_in}
 pub use Rattle.gt_calls.specs.Known.{own_after}
@@ -15,8 +17,8 @@ slot_after (Pinned Read) slot = record slot { reads = min (slot.reads + 1) MAX_P
 slot_after (Pinned Write) slot = record slot { writes = min (slot.writes + 1) MAX_PINS }
 slot_after (Unpinned Read) slot = record slot { reads = slot.reads - 1 }
 slot_after (Unpinned Write) slot = record slot { writes = slot.writes - 1 }
-slot_after (Stored SecondHalf word) slot = record slot { second = word }
-slot_after (Stored FirstHalf word) slot = record slot { first = word }
+slot_after (Stored body_words.Second word) slot = record slot { second = word }
+slot_after (Stored body_words.First word) slot = record slot { first = word }
 
 -- the state after a change of the pins or a body word of entry r
 abbrev pub with_slot : ℕ → CountsChange → State → State
@@ -58,8 +60,8 @@ handle_taken handle mappings =
 
 -- the state after the holder of a pin released it: a mapping goes, an open call loses nothing here
 abbrev pub without_holder : PinHolder → State → State
-without_holder (ByMapping handle) x = record x { mappings = handle_taken handle x.mappings }
-without_holder (ByLeg number) x = x
+without_holder (holders.Mapping handle) x = record x { mappings = handle_taken handle x.mappings }
+without_holder (holders.Leg number) x = x
 
 -- the states after a step of domain d that saw this
 abbrev pub applied : DomId → Step → Observation → List State → List State

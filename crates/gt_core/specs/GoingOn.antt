@@ -1,9 +1,12 @@
 -- Every history that a core represents can continue: how a run may begin, and what each of its domains may do next.
 use Rattle.std.specs.Prelude.{◌≡◌, ◌≢◌, ◌+◌, Bool, [], ◌∷◌, Option, Some, None, slice_range}
-use Rattle.gt_core.specs.Prelude.{IsWithinLimits, domain_of, DomId, TypeId, Config, Perms, HandleMap, Handle}
-use Rattle.gt_core.specs.Prelude.{FitsAsked, SpellsItsEntry, asked, begun_of, path, Action, Makes, Ends, Step}
-use Rattle.gt_core.specs.Prelude.{ReadBytes, WriteBytes, CopyBytes, CallResult, Nothing, Granted, KeptPin, HeldPin}
-use Rattle.gt_core.specs.Prelude.{Request, Answer, BytesAnswer, AnswerDone, Mapped, Began, Stepped, Item}
+use Rattle.gt_core.specs.Prelude.{IsWithinLimits, domain_of, DomId, TypeId, Config, Perms, HandleMap, Handle, FitsAsked}
+use Rattle.gt_core.specs.Prelude.{SpellsItsEntry, asked, begun_of, path, Action, Step, CallResult, Nothing, Granted}
+use Rattle.gt_core.specs.Prelude.{HeldPin, Request, Answer, Mapped, Began, Stepped, Item}
+use Rattle.gt_model.specs.declared.action.Action.TheVariants as actions
+use Rattle.gt_model.specs.declared.trace.Answer.TheVariants as answers
+use Rattle.gt_model.specs.declared.action.Step.TheVariants as call_steps
+use Rattle.gt_model.specs.declared.action.CallResult.TheVariants as results
 use Rattle.gt_core.specs.Effects.{Adds}
 use Rattle.gt_model.specs.History.{History, Setting, Underway, contents_at, known_at, mappings_at, maps_answered_at}
 use Rattle.gt_model.specs.History.{open_call, seen_by, table_at, values, setting_of}
@@ -33,9 +36,9 @@ begin_answer (Some verdict) = Some (answer_of verdict)
 
 -- the step is on words, and reads and writes no bytes
 abbrev pub AccessesNoBytes : Step → Type 0
-AccessesNoBytes (ReadBytes dom frame off len) = ⊥
-AccessesNoBytes (WriteBytes dom frame off len) = ⊥
-AccessesNoBytes (CopyBytes from to len) = ⊥
+AccessesNoBytes (call_steps.Read dom frame off len) = ⊥
+AccessesNoBytes (call_steps.Write dom frame off len) = ⊥
+AccessesNoBytes (call_steps.Copy from to len) = ⊥
 AccessesNoBytes step = Unit {0}
 
 -- the domain's next mapping may get this handle: some table of handles for its mappings gives it next
@@ -48,9 +51,10 @@ pub record MayBeGiven (h : History) (d : DomId) (handle : Handle) (held : HeldPi
 -- the answer of a call whose next action is this, after its step: none if it continues; such a handle if it keeps its
 -- pin; and otherwise that of its result
 abbrev pub AnsweredSo : History → DomId → Action → Option Answer → Type 0
-AnsweredSo h d (Makes next) answer = answer ≡ None
-AnsweredSo h d (Ends (KeptPin held)) answer = (handle : Handle) × (answer ≡ Some (Mapped handle)) × MayBeGiven h d handle held
-AnsweredSo h d (Ends verdict) answer = answer ≡ Some (answer_of verdict)
+AnsweredSo h d (actions.Step next) answer = answer ≡ None
+AnsweredSo h d (actions.Done (results.Mapped held)) answer =
+    (handle : Handle) × (answer ≡ Some (Mapped handle)) × MayBeGiven h d handle held
+AnsweredSo h d (actions.Done verdict) answer = answer ≡ Some (answer_of verdict)
 
 -- in each configuration within the limits, a core represents the empty history
 abbrev pub RunsStart : Type 0
@@ -71,23 +75,23 @@ abbrev pub OpenCallsCanGoOn : Type 0
 OpenCallsCanGoOn =
     (s : Setting) (h : History) (d : DomId) (c : Underway) (step : Step) (action : Action) (answer : Option Answer)
     → CanBeReached s h → domain_of s.domains d ≢ None → open_call h d.0 ≡ Some c
-    → path (known_at s h d) d c.request (values c) ≡ Some (Makes step) → AccessesNoBytes step
+    → path (known_at s h d) d c.request (values c) ≡ Some (actions.Step step) → AccessesNoBytes step
     → next_in s h d c (seen_by s h d step) ≡ Some action → AnsweredSo h d action answer
     → let i = step_after s h d step answer in IsRight s h i × CanBeReached s (i ∷ h)
 
 -- the answer of a call that ends with its access: the bytes that the range held, if it is a read
 abbrev pub AnswersAccess : History → Step → Answer → Type 0
-AnswersAccess h (ReadBytes dom frame off len) answer =
-    (b : Bytes) × (answer ≡ BytesAnswer b)
+AnswersAccess h (call_steps.Read dom frame off len) answer =
+    (b : Bytes) × (answer ≡ answers.Bytes b)
     × (b.bytes.items ≡ slice_range (contents_at h dom.0 frame) off (off + len))
-AnswersAccess h step answer = answer ≡ AnswerDone
+AnswersAccess h step answer = answer ≡ answers.Done
 
 -- the answer of a call whose next action is this, after its access: none if it continues, and otherwise that of the
 -- access
 abbrev pub AccessAnsweredSo : History → Step → Action → Option Answer → Type 0
-AccessAnsweredSo h step (Makes next) answer = answer ≡ None
-AccessAnsweredSo h step (Ends Granted) answer = (z : Answer) × (answer ≡ Some z) × AnswersAccess h step z
-AccessAnsweredSo h step (Ends verdict) answer = ⊥
+AccessAnsweredSo h step (actions.Step next) answer = answer ≡ None
+AccessAnsweredSo h step (actions.Done Granted) answer = (z : Answer) × (answer ≡ Some z) × AnswersAccess h step z
+AccessAnsweredSo h step (actions.Done verdict) answer = ⊥
 
 -- each open call whose next step is an access can make it and continue as its path gives: that is right, and a core
 -- represents the result
@@ -95,6 +99,6 @@ abbrev pub OpenCallsCanAccess : Type 0
 OpenCallsCanAccess =
     (s : Setting) (h : History) (d : DomId) (c : Underway) (step : Step) (action : Action) (answer : Option Answer)
     → CanBeReached s h → domain_of s.domains d ≢ None → open_call h d.0 ≡ Some c
-    → path (known_at s h d) d c.request (values c) ≡ Some (Makes step) → IsAccess step
+    → path (known_at s h d) d c.request (values c) ≡ Some (actions.Step step) → IsAccess step
     → next_in s h d c Nothing ≡ Some action → AccessAnsweredSo h step action answer
     → let i = step_after s h d step answer in IsRight s h i × CanBeReached s (i ∷ h)

@@ -1,13 +1,17 @@
 -- What the steps of an open call have shown in each of its phases.
 use Rattle.std.specs.Prelude.{◌≡◌, ◌≢◌, ◌<◌, ◌≤◌, ◌+◌, ◌⊎◌, ℕ, true, false, List, [], ◌∷◌, Option, Some, None, All}
-use Rattle.gt_core.specs.Prelude.{domain_of, resolved, DomId, Denial, TABLE_ENTRIES, CopyArgs, OpenRequest}
-use Rattle.gt_core.specs.Prelude.{CallResult, Granted, Given, Refused, Frames, Publish, ToInvalid, FirstHalf}
-use Rattle.gt_core.specs.Prelude.{SecondHalf, Observation, Step, StoreHeader, HeldPin, first_look, first_body}
-use Rattle.gt_core.specs.Prelude.{is_kind, control_with, rule_of_try, MORE_TRIES, entry_of, Rule, Entry, Invalid}
-use Rattle.gt_core.specs.Prelude.{Control, KindSub, control_of, SetVersion, SetupTable, QuerySize, GetVersion}
-use Rattle.gt_core.specs.Prelude.{last_first, HeaderQuery, AsksSize, AsksVersion, Leg, LegPhase, AtHeader, Look, Body}
-use Rattle.gt_core.specs.Prelude.{Second, Pinning, Relook, Phase, Storing, StoringSecond, Exchanging, Looking}
-use Rattle.gt_core.specs.Prelude.{Changing, Walking, Accessing, Asking, Last, Ending}
+use Rattle.gt_core.specs.Prelude.{domain_of, resolved, DomId, Denial, TABLE_ENTRIES, CopyArgs, OpenRequest, CallResult}
+use Rattle.gt_core.specs.Prelude.{Granted, Given, Refused, Frames, Publish, Observation, Step, StoreHeader, HeldPin}
+use Rattle.gt_core.specs.Prelude.{first_look, first_body, is_kind, control_with, rule_of_try, MORE_TRIES, entry_of}
+use Rattle.gt_core.specs.Prelude.{Rule, Entry, Invalid, Control, control_of, SetVersion, SetupTable, QuerySize}
+use Rattle.gt_core.specs.Prelude.{GetVersion, last_first, HeaderQuery, Leg, LegPhase, Look, Body, Second, Pinning}
+use Rattle.gt_core.specs.Prelude.{Relook, Phase, Storing, StoringSecond, Exchanging, Looking, Changing, Walking}
+use Rattle.gt_core.specs.Prelude.{Accessing, Asking, Last, Ending}
+use Rattle.gt_model.specs.declared.change.BodyWord.TheVariants as body_words
+use Rattle.gt_model.specs.declared.change.EntryChange.TheVariants as changes
+use Rattle.gt_model.specs.declared.control.EntryKind.TheVariants as kinds
+use Rattle.gt_calls.specs.declared.leg.LegPhase.TheVariants as leg_phases
+use Rattle.gt_model.specs.declared.action.HeaderQuery.TheVariants as queries
 use Rattle.gt_model.specs.History.{History, Setting, entry_at, generation_at, body_at}
 use Rattle.gt_model.specs.Legal.{LeavesAll, IsSpelled}
 use Rattle.gt_calls.specs.Resting.{IsCopyOf}
@@ -42,13 +46,13 @@ pub record LegHasRead (s : Setting) (h : History) (l : Leg) (so_far : StepsSoFar
 
 -- the steps so far agree with this phase of the leg
 abbrev pub LegStands : Setting → History → Leg → StepsSoFar → LegPhase → Type 0
-LegStands s h l so_far AtHeader = Unit {0}
+LegStands s h l so_far leg_phases.Header = Unit {0}
 LegStands s h l so_far (Look more) =
     (l.gref.0 < TABLE_ENTRIES) × (misses so_far + more ≡ MORE_TRIES) × (is_in_body so_far ≡ false)
 LegStands s h l so_far (Body more word) = LegHasLooked s h l so_far more word
 LegStands s h l so_far (Second more word body) =
     LegHasLooked s h l so_far more word × WhileSame s h l word (λ entry. first_body entry ≡ body)
-    × (is_kind (control_of word).kind KindSub ≡ true)
+    × (is_kind (control_of word).kind kinds.Sub ≡ true)
 LegStands s h l so_far (Pinning more word body second) =
     LegHasLooked s h l so_far more word × LegHasRead s h l so_far word body second None
 LegStands s h l so_far (Relook more word rule) =
@@ -57,8 +61,8 @@ LegStands s h l so_far (Relook more word rule) =
 
 -- the call is a query that asks this about the header of this domain
 abbrev pub AsksTable : DomId → OpenRequest → DomId → HeaderQuery → Type 0
-AsksTable d request dom AsksSize = (named : DomId) × (request ≡ QuerySize named) × (dom ≡ resolved d named)
-AsksTable d request dom AsksVersion = (named : DomId) × (request ≡ GetVersion named) × (dom ≡ resolved d named)
+AsksTable d request dom queries.Size = (named : DomId) × (request ≡ QuerySize named) × (dom ≡ resolved d named)
+AsksTable d request dom queries.Version = (named : DomId) × (request ≡ GetVersion named) × (dom ≡ resolved d named)
 
 -- the result of the call after its one step: for a setup the number of frames that it stored, for all others no value
 abbrev pub EndsAfter : OpenRequest → Step → CallResult → Type 0
@@ -76,10 +80,10 @@ EndsCopy verdict = ⊥
 -- the steps so far, the newest first, agree with this phase of the call
 abbrev pub PhaseStands : Setting → History → DomId → OpenRequest → StepsSoFar → Phase → Type 0
 PhaseStands s h d request so_far (Storing gref entry) = Unit {0}
-PhaseStands s h d request so_far (StoringSecond gref entry) = body_at h d.0 gref.0 FirstHalf ≡ first_body entry
+PhaseStands s h d request so_far (StoringSecond gref entry) = body_at h d.0 gref.0 body_words.First ≡ first_body entry
 PhaseStands s h d request so_far (Exchanging gref looked (Publish entry)) =
-    IsSpelled entry (body_at h d.0 gref.0 FirstHalf) (body_at h d.0 gref.0 SecondHalf)
-PhaseStands s h d request so_far (Exchanging gref looked ToInvalid) = Unit {0}
+    IsSpelled entry (body_at h d.0 gref.0 body_words.First) (body_at h d.0 gref.0 body_words.Second)
+PhaseStands s h d request so_far (Exchanging gref looked changes.Revoke) = Unit {0}
 PhaseStands s h d request so_far (Exchanging gref looked change) = ⊥
 PhaseStands s h d request so_far (Looking gref change more) =
     (misses so_far + more ≡ MORE_TRIES) × (is_in_body so_far ≡ false)

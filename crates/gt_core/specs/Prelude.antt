@@ -14,57 +14,45 @@ pub use Rattle.gt_calls.specs.Known.{entry_in, own_generation, knowledge_of}
 pub use Rattle.gt_types.specs.Copies.{is_dest_granted, is_source_granted}
 pub use Rattle.gt_calls.specs.Standing.{IsAt, StandsAt, held_in, pins_at, pins_by_call}
 pub use Rattle.gt_model.specs.declared.action.Action.{Action}
-pub use Rattle.gt_model.specs.declared.action.Action.TheVariants.{Done as Ends, Step as Makes}
 pub use Rattle.gt_types.specs.declared.places.Spot.{Spot}
 pub use Rattle.gt_model.specs.declared.action.Observation.{Observation}
 pub use Rattle.gt_model.specs.declared.action.Observation.TheVariants.{Missed, Nothing, Taken, Word}
 pub use Rattle.gt_model.specs.declared.action.Step.{Step}
-pub use Rattle.gt_model.specs.declared.action.Step.TheVariants.{Copy as CopyBytes, Exchange, LookBody, LookControl}
-pub use Rattle.gt_model.specs.declared.action.Step.TheVariants.{LookHeader, Pin, Pin as PinStep, Read as ReadBytes}
-pub use Rattle.gt_model.specs.declared.action.Step.TheVariants.{StoreBody, StoreHeader, Unpin, Write as WriteBytes}
+pub use Rattle.gt_model.specs.declared.action.Step.TheVariants.{Exchange, LookBody, LookControl, LookHeader, Pin}
+pub use Rattle.gt_model.specs.declared.action.Step.TheVariants.{StoreBody, StoreHeader, Unpin}
 pub use Rattle.gt_model.specs.declared.action.CallValue.{CallValue}
-pub use Rattle.gt_model.specs.declared.action.CallValue.TheVariants.{Frames, Size as SizeTold, Version as VersionTold}
+pub use Rattle.gt_model.specs.declared.action.CallValue.TheVariants.{Frames}
 pub use Rattle.gt_model.specs.declared.action.CallResult.{CallResult}
-pub use Rattle.gt_model.specs.declared.action.CallResult.TheVariants.{Given, Granted, Mapped as KeptPin, Refused}
+pub use Rattle.gt_model.specs.declared.action.CallResult.TheVariants.{Given, Granted, Refused}
 pub use Rattle.gt_calls.specs.declared.call.Call.{Call}
 pub use Rattle.gt_calls.specs.declared.call.Phase.{Phase}
 pub use Rattle.gt_calls.specs.declared.call.Phase.TheVariants.{Accessing, Asking, Changing, Ending, Exchanging, Last}
 pub use Rattle.gt_calls.specs.declared.call.Phase.TheVariants.{Looking, Storing, StoringSecond, Walking}
 pub use Rattle.gt_model.specs.declared.action.HeaderQuery.{HeaderQuery}
-pub use Rattle.gt_model.specs.declared.action.HeaderQuery.TheVariants.{Size as AsksSize, Version as AsksVersion}
 pub use Rattle.gt_model.specs.declared.held.HeldPin.{HeldPin}
 pub use Rattle.gt_model.specs.declared.held.AccessPath.{AccessPath}
 pub use Rattle.gt_model.specs.declared.held.AccessPath.TheVariants.{Direct, Through}
 pub use Rattle.gt_model.specs.declared.bounds.TheConstants.{SERIAL_LIMIT, MORE_TRIES}
 pub use Rattle.gt_model.specs.declared.leg.Leg.{Leg}
 pub use Rattle.gt_calls.specs.declared.leg.LegPhase.{LegPhase}
-pub use Rattle.gt_calls.specs.declared.leg.LegPhase.TheVariants.{Body, Header as AtHeader, Look, Pinning, Relook}
-pub use Rattle.gt_calls.specs.declared.leg.LegPhase.TheVariants.{Second}
+pub use Rattle.gt_calls.specs.declared.leg.LegPhase.TheVariants.{Body, Look, Pinning, Relook, Second}
 pub use Rattle.gt_model.specs.declared.request.OpenRequest.{OpenRequest}
 pub use Rattle.gt_model.specs.declared.request.OpenRequest.TheVariants.{Copy, Demote, GetVersion, Load, Map, Peek}
 pub use Rattle.gt_model.specs.declared.request.OpenRequest.TheVariants.{Poke, QuerySize, Release, SetVersion}
 pub use Rattle.gt_model.specs.declared.request.OpenRequest.TheVariants.{SetupTable, Store, Unmap}
 pub use Rattle.gt_types.specs.declared.copies.CopyArgs.{CopyArgs}
 pub use Rattle.gt_model.specs.declared.request.PinHolder.{PinHolder}
-pub use Rattle.gt_model.specs.declared.request.PinHolder.TheVariants.{Leg as ByLeg, Mapping as ByMapping}
 pub use Rattle.gt_model.specs.declared.request.Request.{Request}
 pub use Rattle.gt_core.specs.declared.core_state.Begun.{Begun}
-pub use Rattle.gt_core.specs.declared.core_state.Begun.TheVariants.{Busy as BegunBusy, Done as BegunDone}
-pub use Rattle.gt_core.specs.declared.core_state.Begun.TheVariants.{NoDomain as BegunNoDomain, Open as BegunOpen}
 pub use Rattle.gt_core.specs.declared.core_state.Ticked.{Ticked}
-pub use Rattle.gt_core.specs.declared.core_state.Ticked.TheVariants.{Done as TickedDone, Idle as TickedIdle}
-pub use Rattle.gt_core.specs.declared.core_state.Ticked.TheVariants.{NoDomain as TickedNoDomain, Step as TickedStep}
 pub use Rattle.gt_core.specs.declared.kept.Machine.{Machine}
 pub use Rattle.gt_core.specs.declared.pin_counts.CountsChange.{CountsChange}
 pub use Rattle.gt_core.specs.declared.pin_counts.CountsChange.TheVariants.{Pinned, Stored, Unpinned}
 pub use Rattle.gt_core.specs.declared.pin_counts.PinCounts.{PinCounts}
 pub use Rattle.gt_model.specs.declared.trace.Answer.{Answer}
-pub use Rattle.gt_model.specs.declared.trace.Answer.TheVariants.{Bytes, Bytes as BytesAnswer, Denied, Done}
-pub use Rattle.gt_model.specs.declared.trace.Answer.TheVariants.{Done as AnswerDone, Frames as FramesAnswer, Mapped}
-pub use Rattle.gt_model.specs.declared.trace.Answer.TheVariants.{Mapped as MappedAnswer, Size, Size as SizeAnswer}
-pub use Rattle.gt_model.specs.declared.trace.Answer.TheVariants.{Version, Version as VersionAnswer}
+pub use Rattle.gt_model.specs.declared.trace.Answer.TheVariants.{Bytes, Denied, Done, Mapped, Size, Version}
 pub use Rattle.gt_model.specs.declared.trace.Element.{Element}
-pub use Rattle.gt_model.specs.declared.trace.Element.TheVariants.{Busy, Idle, Item as Did, NoDomain}
+pub use Rattle.gt_model.specs.declared.trace.Element.TheVariants.{Busy, Idle, NoDomain}
 pub use Rattle.gt_model.specs.declared.trace.Event.{Event}
 pub use Rattle.gt_model.specs.declared.trace.Event.TheVariants.{Begin, Tick}
 pub use Rattle.gt_model.specs.declared.trace.ItemEvent.{ItemEvent}
@@ -76,13 +64,9 @@ pub use Rattle.gt_model.specs.Permits.{forwards, permits}
 pub use Rattle.gt_model.specs.Spelling.{IsSpelled, entry_of}
 pub use Rattle.gt_model.specs.Words.{IsInRange, control_of, control_word, header_word, pins_of}
 pub use Rattle.gt_model.specs.declared.change.EntryChange.{EntryChange}
-pub use Rattle.gt_model.specs.declared.change.EntryChange.TheVariants.{Demote as ToReadOnly, Promote as ToWritable}
-pub use Rattle.gt_model.specs.declared.change.EntryChange.TheVariants.{Publish, Revoke as ToInvalid}
-pub use Rattle.gt_model.specs.declared.change.EntryChange.TheVariants.{Withdraw as ToWithdrawn}
+pub use Rattle.gt_model.specs.declared.change.EntryChange.TheVariants.{Publish}
 pub use Rattle.gt_model.specs.declared.change.BodyWord.{BodyWord}
-pub use Rattle.gt_model.specs.declared.change.BodyWord.TheVariants.{First as FirstHalf, Second as SecondHalf}
 pub use Rattle.gt_model.specs.declared.control.Control.{Control}
-pub use Rattle.gt_model.specs.declared.control.EntryKind.TheVariants.{Sub as KindSub}
 pub use Rattle.gt_model.specs.declared.entry.Entry.{Entry}
 pub use Rattle.gt_model.specs.declared.entry.Entry.TheVariants.{Invalid, Via}
 pub use Rattle.gt_model.specs.declared.header.Header.{Header}
@@ -91,7 +75,7 @@ pub use Rattle.gt_frames.specs.Frames.{bytes_at, patches}
 pub use Rattle.gt_frames.specs.Places.{frame_counts}
 pub use Rattle.gt_frames.specs.Sets.{AreKept, FrameSet, frame_at}
 pub use Rattle.gt_types.specs.declared.places.FrameName.{FrameName}
-pub use Rattle.gt_handles.specs.Handles.{HandleMap, Updates, count_of, value_of, value_of as mapping_under}
+pub use Rattle.gt_handles.specs.Handles.{HandleMap, Updates, count_of, value_of}
 pub use Rattle.gt_model.specs.declared.handle.Handle.{Handle}
 pub use Rattle.gt_types.specs.Config.{IsFirstFault, IsWithinLimits}
 pub use Rattle.gt_types.specs.Denial.{denial_of}
@@ -102,13 +86,10 @@ pub use Rattle.gt_types.specs.declared.DomId.{DomId}
 pub use Rattle.gt_types.specs.declared.GrantRef.{GrantRef}
 pub use Rattle.gt_types.specs.declared.TypeId.{TypeId}
 pub use Rattle.gt_types.specs.declared.Use.{Use}
-pub use Rattle.gt_types.specs.declared.Use.TheVariants.{Copy as ForCopy, Map as ForMap}
 pub use Rattle.gt_types.specs.declared.config.Config.{Config}
 pub use Rattle.gt_types.specs.declared.config.DomainConfig.{DomainConfig}
 pub use Rattle.gt_types.specs.declared.config.StartFault.{StartFault}
-pub use Rattle.gt_types.specs.declared.config.StartFault.TheVariants.{Config as ConfigFault, Memory as NoMemory}
 pub use Rattle.gt_types.specs.declared.denial.Denial.{Denial}
-pub use Rattle.gt_types.specs.declared.denial.Facts.TheVariants.{Header as HeaderFacts}
 pub use Rattle.gt_types.specs.declared.denial.Rule.{Rule}
 pub use Rattle.gt_types.specs.declared.denial.Rule.TheVariants.{N18, N19, N9}
 pub use Rattle.gt_types.specs.declared.limits.TheConstants.{FRAME_SIZE, LAST_VERSION, MAX_PINS, MAX_TABLE_FRAMES}

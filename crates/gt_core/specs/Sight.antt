@@ -3,12 +3,12 @@
 use Rattle.std.specs.Prelude.{ℕ, ◌==◌, if◌then◌else◌, List, [], ◌∷◌, Option, Some, None, slice_get}
 use Rattle.gt_types.specs.declared.DomId.{DomId}
 use Rattle.gt_model.specs.declared.change.BodyWord.{BodyWord}
-use Rattle.gt_model.specs.declared.change.BodyWord.TheVariants.{First as FirstHalf, Second as SecondHalf}
+use Rattle.gt_model.specs.declared.change.BodyWord.TheVariants as body_words
 use Rattle.gt_model.specs.Words.{control_word, header_word}
 use Rattle.gt_model.specs.declared.action.Step.{Step}
 use Rattle.gt_model.specs.declared.action.Step.TheVariants.{LookHeader, LookControl, LookBody, Pin, Unpin, StoreBody}
-use Rattle.gt_model.specs.declared.action.Step.TheVariants.{StoreHeader, Exchange, Read as ReadBytes}
-use Rattle.gt_model.specs.declared.action.Step.TheVariants.{Write as WriteBytes, Copy as CopyBytes}
+use Rattle.gt_model.specs.declared.action.Step.TheVariants.{StoreHeader, Exchange}
+use Rattle.gt_model.specs.declared.action.Step.TheVariants as call_steps
 use Rattle.gt_model.specs.declared.action.Observation.{Observation}
 use Rattle.gt_model.specs.declared.action.Observation.TheVariants.{Nothing, Word}
 use Rattle.gt_calls.specs.declared.known.OwnerEntry.{OwnerEntry}
@@ -31,8 +31,8 @@ slot_writes (Some slot) = slot.writes
 -- a body word in a slot, 0 if there is none
 abbrev pub slot_body : Option PinCounts → BodyWord → ℕ
 slot_body None which = 0
-slot_body (Some slot) SecondHalf = slot.second
-slot_body (Some slot) FirstHalf = slot.first
+slot_body (Some slot) body_words.Second = slot.second
+slot_body (Some slot) body_words.First = slot.first
 
 -- the read pins in slot r
 abbrev pub reads_in : List PinCounts → ℕ → ℕ
@@ -76,6 +76,6 @@ sees xs d (Exchange gref looked change) = exchange_sees (control_seen xs d.0 gre
 sees xs d (Unpin p holder) = Nothing
 sees xs d (StoreBody gref half word) = Nothing
 sees xs d (StoreHeader version frames) = Nothing
-sees xs d (ReadBytes dom frame off len) = Nothing
-sees xs d (WriteBytes dom frame off len) = Nothing
-sees xs d (CopyBytes from to len) = Nothing
+sees xs d (call_steps.Read dom frame off len) = Nothing
+sees xs d (call_steps.Write dom frame off len) = Nothing
+sees xs d (call_steps.Copy from to len) = Nothing

@@ -2,13 +2,16 @@
 -- counts and phases. It is in specs/ because contracts cite it, most of them private.
 use Rattle.std.specs.Prelude.{◌≡◌, ◌≢◌, ◌<◌, ◌≤◌, ◌+◌, reverse, ℕ, Bool, true, List, [], ◌∷◌, Option, Some, None}
 use Rattle.std.specs.Prelude.{slice_get, length, All}
-use Rattle.gt_core.specs.Prelude.{domain_of, DomId, Dir, TypeId, ForMap, TABLE_ENTRIES, MAX_TABLE_FRAMES}
-use Rattle.gt_core.specs.Prelude.{LAST_VERSION, FRAME_SIZE, PinHolder, ByMapping, ByLeg, Perms, Config, OpenRequest}
-use Rattle.gt_core.specs.Prelude.{FirstHalf, SecondHalf, Header, Makes, Handle, FrameName, patches, frame_counts}
-use Rattle.gt_core.specs.Prelude.{FrameSet, frame_at, AreKept, HandleMap, mapping_under, count_of, HeldPin, Event}
-use Rattle.gt_core.specs.Prelude.{Element, PinCounts, OpenCall, entry_in, own_generation, frame_count_of, GoesOnWith}
-use Rattle.gt_core.specs.Prelude.{action_at, Rests, StandsAt, pins_at, held_in, Phase, most_steps, steps_left, Entry}
-use Rattle.gt_core.specs.Prelude.{Control, IsInRange, IsEntry, permits, Store, Poke}
+use Rattle.gt_core.specs.Prelude.{domain_of, DomId, Dir, TypeId, TABLE_ENTRIES, MAX_TABLE_FRAMES, LAST_VERSION}
+use Rattle.gt_core.specs.Prelude.{FRAME_SIZE, PinHolder, Perms, Config, OpenRequest, Header, Handle, FrameName, patches}
+use Rattle.gt_core.specs.Prelude.{frame_counts, FrameSet, frame_at, AreKept, HandleMap, value_of, count_of, HeldPin}
+use Rattle.gt_core.specs.Prelude.{Event, Element, PinCounts, OpenCall, entry_in, own_generation, frame_count_of}
+use Rattle.gt_core.specs.Prelude.{GoesOnWith, action_at, Rests, StandsAt, pins_at, held_in, Phase, most_steps}
+use Rattle.gt_core.specs.Prelude.{steps_left, Entry, Control, IsInRange, IsEntry, permits, Store, Poke}
+use Rattle.gt_model.specs.declared.action.Action.TheVariants as actions
+use Rattle.gt_model.specs.declared.change.BodyWord.TheVariants as body_words
+use Rattle.gt_model.specs.declared.request.PinHolder.TheVariants as holders
+use Rattle.gt_types.specs.declared.Use.TheVariants as uses
 pub use Rattle.gt_model.specs.Asking.{FitsAsked}
 pub use Rattle.gt_core.specs.States.{State, CoreState, core_of, state_of, first_state, changed_in, asks_memory}
 pub use Rattle.gt_core.specs.States.{IsMapping}
@@ -29,9 +32,9 @@ pub record OpenAgrees (s : Setting) (h : History) (id : DomId) (o : OpenCall) (c
   pub phase : Phase
   pub here : o.call.phase ≡ Some phase
   pub at : StandsAt (known_at s h id) id c.request (values c) phase
-  pub acts : action_at id phase ≡ Makes o.step
-  pub follows : GoesOnWith (known_at s h id) id c.request (values c) (Makes o.step)
-  pub rests : Rests (known_at s h id) id c.request (pins_at phase) (values c) (Makes o.step)
+  pub acts : action_at id phase ≡ actions.Step o.step
+  pub follows : GoesOnWith (known_at s h id) id c.request (values c) (actions.Step o.step)
+  pub rests : Rests (known_at s h id) id c.request (pins_at phase) (values c) (actions.Step o.step)
   pub place : PhaseStands s h id c.request (reverse c.steps) phase
   pub fair : stood s h id.0 ≡ phase_refusal phase
   pub fits : FitsAsked c.request
@@ -62,8 +65,8 @@ GivenAgrees h d given =
 pub record SlotAgrees (h : History) (t r : ℕ) (slot : PinCounts) : Type 0 where
   pub reads : slot.reads ≡ reads_at h t r
   pub writes : slot.writes ≡ writes_at h t r
-  pub first : slot.first ≡ body_at h t r FirstHalf
-  pub second : slot.second ≡ body_at h t r SecondHalf
+  pub first : slot.first ≡ body_at h t r body_words.First
+  pub second : slot.second ≡ body_at h t r body_words.Second
 
 -- no two mappings have the same handle
 abbrev pub AreMappingsApart : List (Handle × HeldPin) → Type 0
@@ -72,7 +75,7 @@ AreMappingsApart (m ∷ ms) = (mapping_of ms m.0 ≡ None) × AreMappingsApart m
 
 -- the handles name exactly these mappings, after this number of maps answered Ok
 pub record MappingsAgree (kept : HandleMap HeldPin) (ms : List (Handle × HeldPin)) (answered : ℕ) : Type 0 where
-  pub named : mapping_under kept ≡ mapping_of ms
+  pub named : value_of kept ≡ mapping_of ms
   pub count : count_of kept ≡ length ms
   pub given : kept.given ≡ answered
   pub apart : AreMappingsApart ms
@@ -97,14 +100,14 @@ StateAgrees s h dom (Some d) = (domain_of s.domains dom ≢ None) × (d.id ≡ d
 -- an entry of domain t lets domain d use a frame of domain t by a mapping of this kind, and so does the policy
 abbrev pub LetsUse : Setting → DomId → DomId → Dir → Entry → Type 0
 LetsUse s d t dir entry =
-    (permits entry d dir ForMap 0 0 ≡ true) × MayUse s d t dir × (frame_of entry < frame_count_of s.domains t)
+    (permits entry d dir uses.Map 0 0 ≡ true) × MayUse s d t dir × (frame_of entry < frame_count_of s.domains t)
     × (domain_of s.domains t ≢ None)
 
 -- a mapping's pin was taken by right, on a frame of its owner; nothing is required of a call's own pin
 abbrev pub IsLawfullyHeld : Setting → Pin → PinHolder → Type 0
-IsLawfullyHeld s p (ByMapping handle) =
+IsLawfullyHeld s p (holders.Mapping handle) =
     LetsUse s (record { 0 = p.actor }) p.held.dom p.held.dir p.held.entry
-IsLawfullyHeld s p (ByLeg number) = Unit {0}
+IsLawfullyHeld s p (holders.Leg number) = Unit {0}
 
 -- if a mapping holds the pin, an entry permitted it, for a frame of its owner, and the policy allows what it is for
 abbrev pub IsLawfulPin : Setting → Pin → Type 0

@@ -2,9 +2,10 @@
 use Rattle.std.specs.Prelude.{◌≡◌, ◌≢◌, ◌⊎◌, ℕ, true, false, List, [], ◌∷◌, ◌++◌, All}
 use Rattle.gt_model.specs.declared.entry.Entry.TheVariants.{Invalid}
 use Rattle.gt_model.specs.Permits.{is_of_frame}
-use Rattle.gt_model.specs.declared.change.EntryChange.TheVariants.{Publish, Revoke as ToInvalid}
-use Rattle.gt_model.specs.declared.action.Step.TheVariants.{Exchange, Read as ReadBytes, Write as WriteBytes}
-use Rattle.gt_model.specs.declared.action.Step.TheVariants.{Copy as CopyBytes}
+use Rattle.gt_model.specs.declared.change.EntryChange.TheVariants.{Publish}
+use Rattle.gt_model.specs.declared.change.EntryChange.TheVariants as changes
+use Rattle.gt_model.specs.declared.action.Step.TheVariants.{Exchange}
+use Rattle.gt_model.specs.declared.action.Step.TheVariants as call_steps
 use Rattle.gt_model.specs.declared.action.Observation.TheVariants.{Taken}
 use Rattle.gt_model.specs.declared.trace.Element.{Element}
 use Rattle.gt_model.specs.declared.trace.Event.{Event}
@@ -28,7 +29,7 @@ abbrev pub EndsPinsOn : ℕ → ℕ → Item → Type 0
 EndsPinsOn t r i = (i.actor.0 ≡ t) × ends i.happened
   where
     ends : ItemEvent → Type 0
-    ends (Stepped (Exchange gref looked ToInvalid) Taken) = gref.0 ≡ r
+    ends (Stepped (Exchange gref looked changes.Revoke) Taken) = gref.0 ≡ r
     ends (Stepped (Exchange gref looked (Publish entry)) Taken) = gref.0 ≡ r
     ends _ = ⊥
 
@@ -71,9 +72,9 @@ abbrev pub IsForeignAccess : ℕ → ℕ → Item → Type 0
 IsForeignAccess t f i = (i.actor.0 ≢ t) × touches i.happened
   where
     touches : ItemEvent → Type 0
-    touches (Stepped (ReadBytes dom frame off len) seen) = (dom.0 ≡ t) × (frame ≡ f)
-    touches (Stepped (WriteBytes dom frame off len) seen) = (dom.0 ≡ t) × (frame ≡ f)
-    touches (Stepped (CopyBytes from to len) seen) =
+    touches (Stepped (call_steps.Read dom frame off len) seen) = (dom.0 ≡ t) × (frame ≡ f)
+    touches (Stepped (call_steps.Write dom frame off len) seen) = (dom.0 ≡ t) × (frame ≡ f)
+    touches (Stepped (call_steps.Copy from to len) seen) =
         ((from.frame.owner.0 ≡ t) × (from.frame.number ≡ f)) ⊎ ((to.frame.owner.0 ≡ t) × (to.frame.number ≡ f))
     touches _ = ⊥
 

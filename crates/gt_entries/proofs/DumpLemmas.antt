@@ -4,7 +4,7 @@ use Rattle.std.proofs.Common.{Err, subst, sym, ◌∙◌, inl, inr, arith, suc}
 use Rattle.gt_text.specs.Laws.{keeps_same, of_any_input, take_whole}
 use Rattle.gt_text.specs.Streams.{OfInput}
 use Rattle.gt_text.specs.declared.fault.ReadFault.{ReadFault}
-use Rattle.gt_text.specs.declared.fault.ReadFault.TheVariants as reads
+use Rattle.gt_text.specs.declared.fault.ReadFault.TheVariants as read_faults
 use Rattle.gt_entries.specs.declared.asked.DumpOptions.{DumpOptions}
 use Rattle.gt_entries.specs.declared.fault.DumpFault.{DumpFault}
 use Rattle.gt_entries.specs.declared.fault.DumpFault.TheVariants.{Memory, Read, Write, Limit, Syntax}
@@ -51,8 +51,8 @@ untold asked input all old Write read is = absurd is
 
 -- nothing could be read
 unread : (asked : DumpOptions) (all : List ℕ) (old : Option (List ℕ)) (error : ReadFault) → WroteDump asked all old old (Err (dump_read_fault error))
-unread asked all old reads.Memory = keeps_same old
-unread asked all old reads.Read = keeps_same old
+unread asked all old read_faults.Memory = keeps_same old
+unread asked all old read_faults.Read = keeps_same old
 
 pub untold_read : (asked : DumpOptions) (known old : Option (List ℕ)) (error : ReadFault) (fault : DumpFault) → fault ≡ dump_read_fault error → OfInput known (λ input. WroteDump asked input old old (Err fault))
 untold_read asked known old error fault is =

@@ -1,19 +1,19 @@
 -- The words of the errors.
 use Rattle.std.specs.Prelude.{ℕ, List, codes}
 use Rattle.gt_text.specs.declared.fault.ReadFault.{ReadFault}
-use Rattle.gt_text.specs.declared.fault.ReadFault.TheVariants as reads
+use Rattle.gt_text.specs.declared.fault.ReadFault.TheVariants as read_faults
 use Rattle.gt_entries.specs.declared.fault.DumpFault.{DumpFault}
-use Rattle.gt_entries.specs.declared.fault.DumpFault.TheVariants as faults
+use Rattle.gt_entries.specs.declared.fault.DumpFault.TheVariants as dump_faults
 
 -- the error for a failed read
 abbrev pub dump_read_fault : ReadFault → DumpFault
-dump_read_fault reads.Memory = faults.Memory
-dump_read_fault reads.Read = faults.Read
+dump_read_fault read_faults.Memory = dump_faults.Memory
+dump_read_fault read_faults.Read = dump_faults.Read
 
 -- the word of an error
 abbrev pub dump_fault_text : DumpFault → List ℕ
-dump_fault_text faults.Memory = codes "memory"
-dump_fault_text faults.Read = codes "read"
-dump_fault_text faults.Write = codes "write"
-dump_fault_text faults.Limit = codes "limit"
-dump_fault_text faults.Syntax = codes "syntax"
+dump_fault_text dump_faults.Memory = codes "memory"
+dump_fault_text dump_faults.Read = codes "read"
+dump_fault_text dump_faults.Write = codes "write"
+dump_fault_text dump_faults.Limit = codes "limit"
+dump_fault_text dump_faults.Syntax = codes "syntax"

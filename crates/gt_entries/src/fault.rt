@@ -40,9 +40,9 @@ impl Error for DumpFault {}
 
 impl From<AllocError> for DumpFault {
     ghost use Rattle.std.specs.Prelude.{◌≡◌};
-    ghost use Rattle.gt_entries.specs.declared.fault.DumpFault.TheVariants as faults;
+    ghost use Rattle.gt_entries.specs.declared.fault.DumpFault.TheVariants as dump_faults;
 
-    ghost from_gives = { λ _ e. e ≡ faults.Memory };
+    ghost from_gives = { λ _ e. e ≡ dump_faults.Memory };
 
     fn from(_error: AllocError) -> DumpFault {
         DumpFault::Memory
@@ -65,9 +65,9 @@ impl From<ReadFault> for DumpFault {
 
 impl From<WriteFault> for DumpFault {
     ghost use Rattle.std.specs.Prelude.{◌≡◌};
-    ghost use Rattle.gt_entries.specs.declared.fault.DumpFault.TheVariants as faults;
+    ghost use Rattle.gt_entries.specs.declared.fault.DumpFault.TheVariants as dump_faults;
 
-    ghost from_gives = { λ _ e. e ≡ faults.Write };
+    ghost from_gives = { λ _ e. e ≡ dump_faults.Write };
 
     fn from(_error: WriteFault) -> DumpFault {
         DumpFault::Write

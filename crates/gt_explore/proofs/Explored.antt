@@ -3,18 +3,18 @@ use Rattle.std.proofs.Common.{◌≡◌, ℕ, List, Option, Result}
 use Rattle.std.proofs.Common.{Ok, Err, sym, subst}
 use Rattle.gt_script_runs.specs.Faults.{fault_of, read_fault}
 use Rattle.gt_script_runs.specs.declared.fault.PlayFault.{PlayFault}
-use Rattle.gt_script_runs.specs.declared.fault.PlayFault.TheVariants as plays
+use Rattle.gt_script_runs.specs.declared.fault.PlayFault.TheVariants as play_faults
 use Rattle.gt_script.specs.RunContents.{RunContents}
 use Rattle.gt_script.specs.RunScripts.{RunAnswers, ReadsAsRun}
 use Rattle.gt_script.specs.Script.{Wrong}
 use Rattle.gt_script.specs.declared.faults.ScriptError.{ScriptError}
-use Rattle.gt_script.specs.declared.faults.ScriptError.TheVariants as errors
+use Rattle.gt_script.specs.declared.faults.ScriptError.TheVariants as script_errors
 use Rattle.gt_text.specs.Laws.{keeps_same, of_any_input}
 use Rattle.gt_text.specs.Streams.{OfInput}
 use Rattle.gt_text.specs.declared.fault.ReadFault.{ReadFault}
-use Rattle.gt_text.specs.declared.fault.ReadFault.TheVariants as reads
+use Rattle.gt_text.specs.declared.fault.ReadFault.TheVariants as read_faults
 use Rattle.gt_explore_verdict.specs.declared.fault.ExpressionFault.{ExpressionFault}
-use Rattle.gt_explore_verdict.specs.declared.fault.ExpressionFault.TheVariants as expressions
+use Rattle.gt_explore_verdict.specs.declared.fault.ExpressionFault.TheVariants as expression_faults
 use Rattle.gt_explore_verdict.specs.declared.judging.Verdict.{Verdict}
 use Rattle.gt_explore_answers.specs.Exploring.{IsFaultAsked}
 use Rattle.gt_explore_faults.specs.Faults.{expression_fault}
@@ -32,16 +32,16 @@ explored_script asked Told c (Err Number) old new told wrote = (c, told, wrote)
 explored_script asked Told c (Err Unfound) old new told wrote = (c, told, wrote)
 explored_script asked Told c (Err (Text line fault)) old new told wrote = (c, told, wrote)
 explored_script asked Told c (Err (Texts fault)) old new told wrote = (c, told, wrote)
-explored_script asked Told c (Err (Play plays.Write)) old new told wrote = (c, told, wrote)
-explored_script asked Told c (Err (Play plays.Memory)) old new told wrote = absurd wrote
-explored_script asked Told c (Err (Play plays.Read)) old new told wrote = absurd wrote
-explored_script asked Told c (Err (Play (plays.Script fault))) old new told wrote = absurd wrote
-explored_script asked Told c (Err (Play (plays.Policy fault))) old new told wrote = absurd wrote
+explored_script asked Told c (Err (Play play_faults.Write)) old new told wrote = (c, told, wrote)
+explored_script asked Told c (Err (Play play_faults.Memory)) old new told wrote = absurd wrote
+explored_script asked Told c (Err (Play play_faults.Read)) old new told wrote = absurd wrote
+explored_script asked Told c (Err (Play (play_faults.Script fault))) old new told wrote = absurd wrote
+explored_script asked Told c (Err (Play (play_faults.Policy fault))) old new told wrote = absurd wrote
 
 -- the expression has a fault, and nothing went out
 fault_asked : (c : RunContents) (asked : ExploreOptions) (error : ExpressionFault) (old : Option (List ℕ)) → IsFaultAsked c asked.request error → Explores c asked old old (Err (expression_fault error))
-fault_asked c asked expressions.Memory old is = keeps_same old
-fault_asked c asked (expressions.Term number fault) old is = (is, keeps_same old)
+fault_asked c asked expression_faults.Memory old is = keeps_same old
+fault_asked c asked (expression_faults.Term number fault) old is = (is, keeps_same old)
 
 pub explored_fault : (c : RunContents) (asked : ExploreOptions) (error : ExpressionFault) (fault : ExploreFault) (old : Option (List ℕ)) → IsFaultAsked c asked.request error → fault ≡ expression_fault error → Explores c asked old old (Err fault)
 explored_fault c asked error fault old is same = subst (λ (f : ExploreFault). Explores c asked old old (Err f)) (sym same) (fault_asked c asked error old is)
@@ -57,17 +57,17 @@ explored_unmade c asked (Play fault) old made = absurd made
 
 -- there is no script, and nothing went out
 no_script : (asked : ExploreOptions) (Told : Result RunContents Wrong → Type 0) (error : ScriptError) (old : Option (List ℕ)) → RunAnswers (Err error) Told → Explored asked Told old old (Err (Play (fault_of error)))
-no_script asked Told errors.Memory old told = keeps_same old
-no_script asked Told (errors.Fault f) old told = (told, keeps_same old)
-no_script asked Told (errors.Policy f) old (g, shown, told) = (g, shown, told, keeps_same old)
+no_script asked Told script_errors.Memory old told = keeps_same old
+no_script asked Told (script_errors.Fault f) old told = (told, keeps_same old)
+no_script asked Told (script_errors.Policy f) old (g, shown, told) = (g, shown, told, keeps_same old)
 
 pub explored_nothing : (asked : ExploreOptions) (Told : Result RunContents Wrong → Type 0) (error : ScriptError) (fault : PlayFault) (old : Option (List ℕ)) → RunAnswers (Err error) Told → fault ≡ fault_of error → Explored asked Told old old (Err (Play fault))
 explored_nothing asked Told error fault old told is = subst (λ (f : PlayFault). Explored asked Told old old (Err (Play f))) (sym is) (no_script asked Told error old told)
 
 -- nothing could be read
 unread : (asked : ExploreOptions) (Told : Result RunContents Wrong → Type 0) (old : Option (List ℕ)) (error : ReadFault) → Explored asked Told old old (Err (Play (read_fault error)))
-unread asked Told old reads.Memory = keeps_same old
-unread asked Told old reads.Read = keeps_same old
+unread asked Told old read_faults.Memory = keeps_same old
+unread asked Told old read_faults.Read = keeps_same old
 
 pub explored_unread : (asked : ExploreOptions) (known old : Option (List ℕ)) (error : ReadFault) (fault : PlayFault) → fault ≡ read_fault error → OfInput known (λ input. Explored asked (ReadsAsRun input) old old (Err (Play fault)))
 explored_unread asked known old error fault is =

@@ -10,7 +10,7 @@ use Rattle.gt_script_runs.specs.declared.fault.PlayFault.TheVariants.{Memory, Re
 use Rattle.gt_explore_verdict.specs.declared.judging.Verdict.{Verdict}
 use Rattle.gt_explore_verdict.specs.Expressions.{Asked}
 use Rattle.gt_explore_answers.specs.Answering.{ShownAs}
-use Rattle.gt_explore_verdict.specs.declared.fault.ExpressionFault.TheVariants as expressions
+use Rattle.gt_explore_verdict.specs.declared.fault.ExpressionFault.TheVariants as expression_faults
 use Rattle.gt_explore_answers.specs.Exploring.{AreAsked, AreTextsOf, IsFaultAsked, has_its_text}
 use Rattle.gt_explore_answers.specs.Given.{refused_text}
 use Rattle.gt_explore_answers.specs.Outputs.{Found}
@@ -58,7 +58,7 @@ MakesOutput c asked (Err (Play fault)) = ⊥
 abbrev pub Explores : RunContents → ExploreOptions → Option (List ℕ) → Option (List ℕ) → Result Verdict ExploreFault → Type 0
 Explores c asked old new (Ok verdict) = (text : List ℕ) × IsMade c asked text verdict × Appends old new text
 Explores c asked old new (Err (Term number fault)) =
-    IsFaultAsked c asked.request (expressions.Term number fault) × Keeps old new
+    IsFaultAsked c asked.request (expression_faults.Term number fault) × Keeps old new
 Explores c asked old new (Err Number) = LacksText c asked true × Keeps old new
 Explores c asked old new (Err Unfound) = LacksText c asked false × Keeps old new
 Explores c asked old new (Err (Text line fault)) = RefusesText c asked line fault × Keeps old new

@@ -13,7 +13,7 @@ use Rattle.gt_explore_answers.specs.Objects.{ShowsText, ShowsTexts, summary}
 use Rattle.gt_explore_answers.specs.Outputs.{Found}
 use Rattle.gt_explore_answers.specs.Tracing.{TracesText}
 use Rattle.gt_explore_answers.specs.declared.asking.ExploreRequest.{ExploreRequest}
-use Rattle.gt_explore_answers.specs.declared.asking.ExploreRequest.TheVariants as requests
+use Rattle.gt_explore_answers.specs.declared.asking.ExploreRequest.TheVariants as explore_requests
 
 -- the objects that an exploration shows, by the texts that were found and the verdict
 abbrev pub Showing : Type 1
@@ -65,10 +65,11 @@ ShowsTrace c number f verdict objects = TracesText c f number objects × (verdic
 
 -- the output and the verdict, by the request
 abbrev pub ShowsBy : RunContents → ℕ → ExploreRequest → List Asked → Found → List ℕ → Verdict → Type 0
-ShowsBy c limit requests.Texts conditions = ShowsObjects limit (ShowsAll c false)
-ShowsBy c limit (requests.Decide claim expression) conditions = ShowsObjects limit (ShowsClaim c claim conditions)
-ShowsBy c limit (requests.Has given) conditions = ShowsObjects limit (ShowsGiven c given.now)
-ShowsBy c limit (requests.Witness number) conditions = ShowsObjects limit (ShowsWitness c number)
-ShowsBy c limit requests.Witnesses conditions = ShowsObjects limit (ShowsAll c true)
-ShowsBy c limit (requests.Trace number) conditions = ShowsObjects limit (ShowsTrace c number)
-ShowsBy c limit (requests.Diagram number) conditions = GivesDiagram c number
+ShowsBy c limit explore_requests.Texts conditions = ShowsObjects limit (ShowsAll c false)
+ShowsBy c limit (explore_requests.Decide claim expression) conditions =
+    ShowsObjects limit (ShowsClaim c claim conditions)
+ShowsBy c limit (explore_requests.Has given) conditions = ShowsObjects limit (ShowsGiven c given.now)
+ShowsBy c limit (explore_requests.Witness number) conditions = ShowsObjects limit (ShowsWitness c number)
+ShowsBy c limit explore_requests.Witnesses conditions = ShowsObjects limit (ShowsAll c true)
+ShowsBy c limit (explore_requests.Trace number) conditions = ShowsObjects limit (ShowsTrace c number)
+ShowsBy c limit (explore_requests.Diagram number) conditions = GivesDiagram c number

@@ -4,23 +4,23 @@ use Rattle.std.specs.List.{flat_map}
 use Rattle.gt_types.specs.declared.DomId.{DomId}
 use Rattle.gt_types.specs.declared.config.DomainConfig.{DomainConfig}
 use Rattle.gt_model.specs.declared.action.Step.{Step}
-use Rattle.gt_model.specs.declared.action.Step.TheVariants as steps
+use Rattle.gt_model.specs.declared.action.Step.TheVariants as call_steps
 use Rattle.gt_explore_replay.specs.declared.replay.Moved.{Moved}
 use Rattle.gt_explore_replay.specs.declared.replay.Moved.TheVariants.{Began, Passed, Raised, Stepped}
 
 -- the domain whose table or frame a step of this domain touches; for a copy, the one whose frame it writes
 abbrev pub owner_of : DomId → Step → DomId
-owner_of dom (steps.LookHeader owner) = owner
-owner_of dom (steps.LookControl owner gref) = owner
-owner_of dom (steps.LookBody owner gref half) = owner
-owner_of dom (steps.Pin p) = p.dom
-owner_of dom (steps.Unpin p holder) = p.dom
-owner_of dom (steps.StoreBody gref half word) = dom
-owner_of dom (steps.Exchange gref looked change) = dom
-owner_of dom (steps.StoreHeader version frames) = dom
-owner_of dom (steps.Read owner frame off len) = owner
-owner_of dom (steps.Write owner frame off len) = owner
-owner_of dom (steps.Copy from to len) = to.frame.owner
+owner_of dom (call_steps.LookHeader owner) = owner
+owner_of dom (call_steps.LookControl owner gref) = owner
+owner_of dom (call_steps.LookBody owner gref half) = owner
+owner_of dom (call_steps.Pin p) = p.dom
+owner_of dom (call_steps.Unpin p holder) = p.dom
+owner_of dom (call_steps.StoreBody gref half word) = dom
+owner_of dom (call_steps.Exchange gref looked change) = dom
+owner_of dom (call_steps.StoreHeader version frames) = dom
+owner_of dom (call_steps.Read owner frame off len) = owner
+owner_of dom (call_steps.Write owner frame off len) = owner
+owner_of dom (call_steps.Copy from to len) = to.frame.owner
 
 -- a note over this domain
 unfoldable pub diagram_note : DomId → List ℕ

@@ -13,7 +13,7 @@ use Rattle.gt_explore_verdict.specs.Satisfying.{satisfies}
 use Rattle.gt_explore_verdict.specs.declared.fault.ConditionFault.{ConditionFault}
 use Rattle.gt_explore_verdict.specs.declared.fault.ConditionFault.TheVariants.{NoCall, NoDomain}
 use Rattle.gt_explore_verdict.specs.declared.fault.ExpressionFault.{ExpressionFault}
-use Rattle.gt_explore_verdict.specs.declared.fault.ExpressionFault.TheVariants as expressions
+use Rattle.gt_explore_verdict.specs.declared.fault.ExpressionFault.TheVariants as expression_faults
 use Rattle.gt_explore_verdict.specs.declared.judging.Claim.{Claim}
 use Rattle.gt_explore_verdict.specs.declared.judging.Claim.TheVariants.{Find, Never, Always}
 use Rattle.gt_explore_verdict.specs.declared.judging.Judgement.{Judgement}
@@ -25,7 +25,7 @@ use Rattle.gt_explore_answers.specs.Outputs.{witness_comment}
 use Rattle.gt_explore_answers.specs.Tracing.{IsDiagram, IsTrace, ShowsMoves}
 use Rattle.gt_explore_answers.specs.Witness.{IsWitness, ShowsAfter}
 use Rattle.gt_explore_answers.specs.declared.asking.ExploreRequest.{ExploreRequest}
-use Rattle.gt_explore_answers.specs.declared.asking.ExploreRequest.TheVariants as requests
+use Rattle.gt_explore_answers.specs.declared.asking.ExploreRequest.TheVariants as explore_requests
 use Rattle.gt_explore_answers.specs.declared.trace.facts.TraceForm.{TraceForm}
 
 -- these are texts that a script may give, in the order of their bytes, each of them once, and all of them if the search
@@ -68,8 +68,8 @@ pub record AreConditions (c : RunContents) (expression : List ℕ) (conditions :
 -- the fault of an expression: its first term that is not a condition; if there is none, the first condition about a
 -- line or a domain that the script does not have; or an allocation failed
 abbrev pub IsExpressionFault : RunContents → List ℕ → ExpressionFault → Type 0
-IsExpressionFault c expression expressions.Memory = Unit {0}
-IsExpressionFault c expression (expressions.Term number fault) =
+IsExpressionFault c expression expression_faults.Memory = Unit {0}
+IsExpressionFault c expression (expression_faults.Term number fault) =
     (conditions_in expression ≡ Err (number, fault))
     ⊎ ((conditions : List Asked) × (conditions_in expression ≡ Ok conditions)
     × (first_unplaced c 1 conditions ≡ Some (number, fault)))
@@ -132,29 +132,29 @@ AreWitnessOutputs c f before (text ∷ texts) out =
 
 -- the conditions that a request states: those of the expression of a claim
 abbrev pub AreAsked : RunContents → ExploreRequest → List Asked → Type 0
-AreAsked c requests.Texts conditions = Unit {0}
-AreAsked c (requests.Decide claim expression) conditions = AreConditions c expression.now conditions
-AreAsked c (requests.Has given) conditions = Unit {0}
-AreAsked c (requests.Witness number) conditions = Unit {0}
-AreAsked c requests.Witnesses conditions = Unit {0}
-AreAsked c (requests.Trace number) conditions = Unit {0}
-AreAsked c (requests.Diagram number) conditions = Unit {0}
+AreAsked c explore_requests.Texts conditions = Unit {0}
+AreAsked c (explore_requests.Decide claim expression) conditions = AreConditions c expression.now conditions
+AreAsked c (explore_requests.Has given) conditions = Unit {0}
+AreAsked c (explore_requests.Witness number) conditions = Unit {0}
+AreAsked c explore_requests.Witnesses conditions = Unit {0}
+AreAsked c (explore_requests.Trace number) conditions = Unit {0}
+AreAsked c (explore_requests.Diagram number) conditions = Unit {0}
 
 -- the fault of the expression of a request; without one, only an allocation fails
 abbrev pub IsFaultAsked : RunContents → ExploreRequest → ExpressionFault → Type 0
-IsFaultAsked c (requests.Decide claim expression) fault = IsExpressionFault c expression.now fault
-IsFaultAsked c request expressions.Memory = Unit {0}
-IsFaultAsked c request (expressions.Term number fault) = ⊥
+IsFaultAsked c (explore_requests.Decide claim expression) fault = IsExpressionFault c expression.now fault
+IsFaultAsked c request expression_faults.Memory = Unit {0}
+IsFaultAsked c request (expression_faults.Term number fault) = ⊥
 
 -- if there are `count` texts, one has the number that a request names; a request that names none has what it needs
 abbrev pub has_its_text : ExploreRequest → ℕ → Bool
-has_its_text requests.Texts count = true
-has_its_text (requests.Decide claim expression) count = true
-has_its_text (requests.Has given) count = true
-has_its_text (requests.Witness number) count = nat_lt 0 number && nat_le number count
-has_its_text requests.Witnesses count = true
-has_its_text (requests.Trace number) count = nat_lt 0 number && nat_le number count
-has_its_text (requests.Diagram number) count = nat_lt 0 number && nat_le number count
+has_its_text explore_requests.Texts count = true
+has_its_text (explore_requests.Decide claim expression) count = true
+has_its_text (explore_requests.Has given) count = true
+has_its_text (explore_requests.Witness number) count = nat_lt 0 number && nat_le number count
+has_its_text explore_requests.Witnesses count = true
+has_its_text (explore_requests.Trace number) count = nat_lt 0 number && nat_le number count
+has_its_text (explore_requests.Diagram number) count = nat_lt 0 number && nat_le number count
 
 -- ---- the output and the verdict, for the texts that were found
 
@@ -197,10 +197,10 @@ GivesDiagram c number f text verdict = IsDiagram c f number text × (verdict ≡
 
 -- the output and the verdict, by the request
 abbrev pub IsOutputBy : RunContents → ExploreRequest → List Asked → Found → List ℕ → Verdict → Type 0
-IsOutputBy c requests.Texts conditions = GivesTexts
-IsOutputBy c (requests.Decide claim expression) conditions = DecidesClaim c claim conditions
-IsOutputBy c (requests.Has given) conditions = NumbersText c given.now
-IsOutputBy c (requests.Witness number) conditions = GivesWitness c number
-IsOutputBy c requests.Witnesses conditions = GivesWitnesses c
-IsOutputBy c (requests.Trace number) conditions = GivesTrace c number
-IsOutputBy c (requests.Diagram number) conditions = GivesDiagram c number
+IsOutputBy c explore_requests.Texts conditions = GivesTexts
+IsOutputBy c (explore_requests.Decide claim expression) conditions = DecidesClaim c claim conditions
+IsOutputBy c (explore_requests.Has given) conditions = NumbersText c given.now
+IsOutputBy c (explore_requests.Witness number) conditions = GivesWitness c number
+IsOutputBy c explore_requests.Witnesses conditions = GivesWitnesses c
+IsOutputBy c (explore_requests.Trace number) conditions = GivesTrace c number
+IsOutputBy c (explore_requests.Diagram number) conditions = GivesDiagram c number

@@ -14,7 +14,7 @@ use Rattle.gt_explore_answers.specs.Exploring.{is_call, index_of_text}
 use Rattle.gt_explore_answers.specs.GivingAnswers.{begins_with}
 use Rattle.gt_explore_answers.specs.Outputs.{Found}
 use Rattle.gt_explore_answers.specs.declared.asking.ExploreRequest.{ExploreRequest}
-use Rattle.gt_explore_answers.specs.declared.asking.ExploreRequest.TheVariants as requests
+use Rattle.gt_explore_answers.specs.declared.asking.ExploreRequest.TheVariants as explore_requests
 use Rattle.gt_explore_answers.specs.declared.given.AnswerPlace.{AnswerPlace}
 
 -- the place of the answer to a task: its line and its domain, if it is a call of this domain
@@ -78,11 +78,11 @@ first_wrong c text = wrong_from (answer_places c) (length (lines_in text)) 0 (li
 -- The same of a given text that is none of the texts of the script. There is no fault of another request, nor if it is
 -- one of those found, or if these are not all texts.
 abbrev pub refused_text : RunContents → ExploreRequest → Found → Option (ℕ × TextFault)
-refused_text c (requests.Has given) f =
+refused_text c (explore_requests.Has given) f =
     if f.whole && not (is_some (index_of_text given.now f.texts)) then first_wrong c given.now else None
-refused_text c requests.Texts f = None
-refused_text c (requests.Decide claim expression) f = None
-refused_text c (requests.Witness number) f = None
-refused_text c requests.Witnesses f = None
-refused_text c (requests.Trace number) f = None
-refused_text c (requests.Diagram number) f = None
+refused_text c explore_requests.Texts f = None
+refused_text c (explore_requests.Decide claim expression) f = None
+refused_text c (explore_requests.Witness number) f = None
+refused_text c explore_requests.Witnesses f = None
+refused_text c (explore_requests.Trace number) f = None
+refused_text c (explore_requests.Diagram number) f = None

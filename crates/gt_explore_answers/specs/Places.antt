@@ -3,7 +3,7 @@ use Rattle.std.specs.Prelude.{ℕ, ◌-◌, ◌==◌, ◌&&◌, Bool, true, fals
 use Rattle.std.specs.Prelude.{codes, slice_get}
 use Rattle.gt_types.specs.declared.DomId.{DomId}
 use Rattle.gt_script_lines.specs.declared.calls.ScriptCall.{ScriptCall}
-use Rattle.gt_script_lines.specs.declared.calls.ScriptCall.TheVariants as calls
+use Rattle.gt_script_lines.specs.declared.calls.ScriptCall.TheVariants as script_calls
 use Rattle.gt_script.specs.Lists.{RunAction, RunTask}
 use Rattle.gt_script.specs.RunContents.{RunContents}
 use Rattle.gt_script.specs.RunScripts.{list_of}
@@ -35,23 +35,23 @@ task_of_move c before m =
 
 -- the word of a script for a call
 abbrev pub call_name : ScriptCall → List ℕ
-call_name (calls.Grant gref entry) = codes "grant"
-call_name (calls.GrantBytes gref hex) = codes "bytes"
-call_name (calls.Revoke gref) = codes "revoke"
-call_name (calls.Withdraw gref) = codes "withdraw"
-call_name (calls.Demote gref) = codes "demote"
-call_name (calls.Promote gref) = codes "promote"
-call_name (calls.Map label dom gref flags) = codes "map"
-call_name (calls.Unmap label) = codes "unmap"
-call_name (calls.Load label off len) = codes "load"
-call_name (calls.Store label off hex) = codes "store"
-call_name (calls.Peek frame off len) = codes "peek"
-call_name (calls.Poke frame off hex) = codes "poke"
-call_name (calls.Copy args) = codes "copy"
-call_name (calls.SetVersion version) = codes "version"
-call_name (calls.SetupTable frames) = codes "setup"
-call_name (calls.QuerySize dom) = codes "size"
-call_name (calls.GetVersion dom) = codes "getversion"
+call_name (script_calls.Grant gref entry) = codes "grant"
+call_name (script_calls.GrantBytes gref hex) = codes "bytes"
+call_name (script_calls.Revoke gref) = codes "revoke"
+call_name (script_calls.Withdraw gref) = codes "withdraw"
+call_name (script_calls.Demote gref) = codes "demote"
+call_name (script_calls.Promote gref) = codes "promote"
+call_name (script_calls.Map label dom gref flags) = codes "map"
+call_name (script_calls.Unmap label) = codes "unmap"
+call_name (script_calls.Load label off len) = codes "load"
+call_name (script_calls.Store label off hex) = codes "store"
+call_name (script_calls.Peek frame off len) = codes "peek"
+call_name (script_calls.Poke frame off hex) = codes "poke"
+call_name (script_calls.Copy args) = codes "copy"
+call_name (script_calls.SetVersion version) = codes "version"
+call_name (script_calls.SetupTable frames) = codes "setup"
+call_name (script_calls.QuerySize dom) = codes "size"
+call_name (script_calls.GetVersion dom) = codes "getversion"
 
 abbrev pub action_name : RunAction → List ℕ
 action_name (Do call) = call_name call

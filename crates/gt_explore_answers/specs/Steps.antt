@@ -12,7 +12,7 @@ use Rattle.gt_model.specs.declared.change.EntryChange.TheVariants.{Demote, Promo
 use Rattle.gt_model.specs.declared.action.Observation.{Observation}
 use Rattle.gt_model.specs.declared.action.Observation.TheVariants.{Missed, Nothing, Taken, Word}
 use Rattle.gt_model.specs.declared.action.Step.{Step}
-use Rattle.gt_model.specs.declared.action.Step.TheVariants as steps
+use Rattle.gt_model.specs.declared.action.Step.TheVariants as call_steps
 use Rattle.gt_model.specs.declared.held.HeldPin.{HeldPin}
 use Rattle.gt_explore_answers.specs.Facts.{move_part, number_part, value_part, word_part}
 use Rattle.gt_explore_answers.specs.declared.trace.facts.TraceForm.{TraceForm}
@@ -94,21 +94,21 @@ copy_step_text form from to len =
 
 -- a step of a call of this domain
 unfoldable pub step_text : TraceForm → DomId → Step → List ℕ
-step_text form dom (steps.LookHeader owner) =
+step_text form dom (call_steps.LookHeader owner) =
     move_part form (codes "H") ++ number_part form (codes "owner") (decimal owner.0)
-step_text form dom (steps.LookControl owner gref) = look_text form (codes "C") owner gref
-step_text form dom (steps.LookBody owner gref half) = look_text form (look_letters half) owner gref
-step_text form dom (steps.Pin p) = pin_text form (codes "P") p ++ word_part form (codes "from") p.word
-step_text form dom (steps.Unpin p holder) = pin_text form (codes "U") p
-step_text form dom (steps.StoreBody gref half word) =
+step_text form dom (call_steps.LookControl owner gref) = look_text form (codes "C") owner gref
+step_text form dom (call_steps.LookBody owner gref half) = look_text form (look_letters half) owner gref
+step_text form dom (call_steps.Pin p) = pin_text form (codes "P") p ++ word_part form (codes "from") p.word
+step_text form dom (call_steps.Unpin p holder) = pin_text form (codes "U") p
+step_text form dom (call_steps.StoreBody gref half word) =
     move_part form (store_letters half) ++ entry_part form dom gref ++ word_part form (codes "word") word
-step_text form dom (steps.Exchange gref looked change) = exchange_text form dom gref looked change
-step_text form dom (steps.StoreHeader version frames) = header_text form dom version frames
-step_text form dom (steps.Read owner frame off len) =
+step_text form dom (call_steps.Exchange gref looked change) = exchange_text form dom gref looked change
+step_text form dom (call_steps.StoreHeader version frames) = header_text form dom version frames
+step_text form dom (call_steps.Read owner frame off len) =
     access_start form (codes "read") ++ range_part form owner frame off len
-step_text form dom (steps.Write owner frame off len) =
+step_text form dom (call_steps.Write owner frame off len) =
     access_start form (codes "write") ++ range_part form owner frame off len
-step_text form dom (steps.Copy from to len) = copy_step_text form from to len
+step_text form dom (call_steps.Copy from to len) = copy_step_text form from to len
 
 -- that an exchange was taken
 abbrev pub taken_part : TraceForm → List ℕ

@@ -3,7 +3,7 @@ use Rattle.std.specs.Prelude.{ℕ, List, ◌++◌, codes, decimal}
 use Rattle.gt_script_runs.specs.Faults.{play_fault_text}
 use Rattle.gt_explore_verdict.specs.Faults.{expression_fault_text}
 use Rattle.gt_explore_verdict.specs.declared.fault.ExpressionFault.{ExpressionFault}
-use Rattle.gt_explore_verdict.specs.declared.fault.ExpressionFault.TheVariants as expression
+use Rattle.gt_explore_verdict.specs.declared.fault.ExpressionFault.TheVariants as expression_faults
 use Rattle.gt_explore_faults.specs.declared.fault.ExploreFault.{ExploreFault}
 use Rattle.gt_explore_faults.specs.declared.fault.ExploreFault.TheVariants.{Play, Term, Text, Number, Unfound, Texts}
 use Rattle.gt_explore_faults.specs.declared.fault.TextFault.{TextFault}
@@ -25,7 +25,7 @@ text_fault_text Line = codes "no answer line of this script"
 
 abbrev pub explore_fault_text : ExploreFault → List ℕ
 explore_fault_text (Play fault) = play_fault_text fault
-explore_fault_text (Term number fault) = expression_fault_text (expression.Term number fault)
+explore_fault_text (Term number fault) = expression_fault_text (expression_faults.Term number fault)
 explore_fault_text Number = codes "no such text"
 explore_fault_text Unfound = codes "no such text found"
 explore_fault_text (Text line fault) = codes "text line " ++ decimal line ++ codes ": " ++ text_fault_text fault
@@ -33,5 +33,5 @@ explore_fault_text (Texts fault) = texts_fault_text fault
 
 -- an expression's fault as that of an exploration: its term, or want of memory
 abbrev pub expression_fault : ExpressionFault → ExploreFault
-expression_fault expression.Memory = Texts Memory
-expression_fault (expression.Term number fault) = Term number fault
+expression_fault expression_faults.Memory = Texts Memory
+expression_fault (expression_faults.Term number fault) = Term number fault

@@ -39,13 +39,13 @@ use Rattle.gt_explore_moves.proofs.Renaming.{alike-between, asked-renamed, begin
 use Rattle.gt_explore_moves.proofs.Renaming.{own_handle}
 use Rattle.gt_calls.specs.Opening.{opens}
 use Rattle.gt_model.specs.Rules.{CallerKnowledge, release_begun}
-use Rattle.gt_model.specs.declared.request.OpenRequest.TheVariants as asks-for
+use Rattle.gt_model.specs.declared.request.OpenRequest.TheVariants as asks
 use Rattle.gt_script_runs.specs.Naming.{AreNamed}
-use Rattle.gt_script_lines.specs.declared.calls.ScriptCall.TheVariants as calls
+use Rattle.gt_script_lines.specs.declared.calls.ScriptCall.TheVariants as script_calls
 use Rattle.gt_model.specs.declared.request.Request.TheVariants as requests
 use Rattle.gt_explore_moves.specs.Starting.{BeginsAsRun, GivesAsRun}
 use Rattle.gt_explore_moves.proofs.CallOpened.{rests}
-use Rattle.gt_explore_moves.specs.declared.calls.CallOpening.{CallOpening as Opened}
+use Rattle.gt_explore_moves.specs.declared.calls.CallOpening.{CallOpening}
 use Rattle.gt_explore_moves.specs.declared.calls.CallOpening.TheVariants.{Open, Done}
 
 -- what is known of the domain's table in the state and by what happened is alike
@@ -146,9 +146,9 @@ module _ (s : Setting) (h : History) (tasks : List RunTask) (k : Course) (scene 
   in-place-by : (call : ScriptCall) (bytes : Bor (List ℕ)) → begun_of (known_at s h k.dom) k.dom (request_of k.named k.dom bytes call) ≡ None
       → AsksByPlace (handles_at h k.dom) (handle_of names k.dom (label_asked call)) (asked (request_of k.named k.dom bytes call))
   unfolding request_of
-  in-place-by (calls.Unmap label) bytes e = let o = opens (known_at s h k.dom) k.dom (asks-for.Unmap (handle_of k.named k.dom label)) e in place-of label o.mapping o.found
-  in-place-by (calls.Load label off len) bytes e = let o = opens (known_at s h k.dom) k.dom (asks-for.Load (handle_of k.named k.dom label) off len) e in place-of label o.mapping o.found
-  in-place-by (calls.Store label off hex) bytes e = let o = opens (known_at s h k.dom) k.dom (asks-for.Store (handle_of k.named k.dom label) off (length bytes.now)) e in place-of label o.mapping o.found
+  in-place-by (script_calls.Unmap label) bytes e = let o = opens (known_at s h k.dom) k.dom (asks.Unmap (handle_of k.named k.dom label)) e in place-of label o.mapping o.found
+  in-place-by (script_calls.Load label off len) bytes e = let o = opens (known_at s h k.dom) k.dom (asks.Load (handle_of k.named k.dom label) off len) e in place-of label o.mapping o.found
+  in-place-by (script_calls.Store label off hex) bytes e = let o = opens (known_at s h k.dom) k.dom (asks.Store (handle_of k.named k.dom label) off (length bytes.now)) e in place-of label o.mapping o.found
   in-place-by call bytes e = tt
 
   module _ (choice : ℕ) (handle place : Handle) (there : slice_get (handles_at h k.dom) choice ≡ Some handle) (here : slice_get n.handles.items choice ≡ Some place) where
@@ -179,12 +179,12 @@ module _ (s : Setting) (h : History) (tasks : List RunTask) (k : Course) (scene 
         let found : value_of n.mappings place ≡ Some pin.0 = state-at choice handle place there here ∙ run-at choice handle there ∙ pin.1 in
         none-some verdict (sym (ap (λ (m : Option HeldPin). release_begun (λ z. m) place) found) ∙ opened (known_in scene t n.mappings) (record { header = refl; begins = refl; judged = refl; first = refl }))
 
-  module _ (call : ScriptCall) (q p : Request) (asks : MakesRequest k.named k.dom call q) (says : MakesRequest names k.dom call p) where
+  module _ (call : ScriptCall) (q p : Request) (is_made : MakesRequest k.named k.dom call q) (says : MakesRequest names k.dom call p) where
     abbrev place : Handle
     place = handle_of names k.dom (label_asked call)
 
     renamed : (bytes_of p ≡ bytes_of q) × (plainly_asked p ≡ asked_under place (plainly_asked q))
-    renamed = request-renamed k.named names k.dom call q p asks says
+    renamed = request-renamed k.named names k.dom call q p is_made says
 
     -- it asks the same but for its handle
     pub asks-by-place : asked p ≡ asked_under place (asked q)
@@ -196,7 +196,7 @@ module _ (s : Setting) (h : History) (tasks : List RunTask) (k : Course) (scene 
     -- it is judged as in the run
     pub begins-as-run : begun_of (known_in scene t n.mappings) k.dom p ≡ begun_of (known_at s h k.dom) k.dom q
     begins-as-run = begun-of-renamed (known_at s h k.dom) (known_in scene t n.mappings) k.dom place q p alike
-        (finds-alike (value_of n.mappings) (mapping_of (mappings_at h k.dom.0)) k.named names k.dom call q asks (state-finds (label_asked call))) renamed.0 renamed.1
+        (finds-alike (value_of n.mappings) (mapping_of (mappings_at h k.dom.0)) k.named names k.dom call q is_made (state-finds (label_asked call))) renamed.0 renamed.1
 
     -- and it begins so by what is known by places
     pub begins-by-place : BeginsAlike (known_by_place s h k.dom) (known_in scene t n.mappings) k.dom p
@@ -207,30 +207,30 @@ module _ (s : Setting) (h : History) (tasks : List RunTask) (k : Course) (scene 
 
     -- one that is open asks by the place of its mapping
     in-place : begun_of (known_at s h k.dom) k.dom q ≡ None → AsksByPlace (handles_at h k.dom) place (asked q)
-    in-place e = subst (λ (r : Request). AsksByPlace (handles_at h k.dom) place (asked r)) (sym asks.2)
-        (in-place-by call asks.0 (ap (begun_of (known_at s h k.dom) k.dom) (sym asks.2) ∙ e))
+    in-place e = subst (λ (r : Request). AsksByPlace (handles_at h k.dom) place (asked r)) (sym is_made.2)
+        (in-place-by call is_made.0 (ap (begun_of (known_at s h k.dom) k.dom) (sym is_made.2) ∙ e))
 
     same-self : BeginsAlike (known_in scene t n.mappings) (known_in scene t n.mappings) k.dom p
     same-self = record { header = refl; begins = refl; judged = refl; first = refl }
 
     -- it begins as in the run
-    pub begins-run : (result : Opened) → ((z : CallerKnowledge) → BeginsAlike z (known_in scene t n.mappings) k.dom p → OpensSo z k.dom p result) → BeginsAsRun s h k.dom q result
+    pub begins-run : (result : CallOpening) → ((z : CallerKnowledge) → BeginsAlike z (known_in scene t n.mappings) k.dom p → OpensSo z k.dom p result) → BeginsAsRun s h k.dom q result
     begins-run (Done verdict) opened = sym begins-as-run ∙ opened (known_in scene t n.mappings) same-self
     begins-run (Open now step) opened = let o = opened (known_by_place s h k.dom) begins-by-place in
         let none : begun_of (known_at s h k.dom) k.dom q ≡ None = sym begins-as-run ∙ sym begins-by-place.begins ∙ o.unanswered in
         (none, (p, place, asks-by-place, in-place none, o))
 
 -- the call of a line of this domain begins as in the run
-pub begun-line : (s : Setting) (h : History) (tasks : List RunTask) (k : Course) (scene : SearchContext) (a : Actor) (t : SparseTable) (d : DomId) (n : ActorHandles) (call : ScriptCall) (q p : Request) (bytes : Bor (List ℕ)) (result : Opened) → d ≡ k.dom → ShowsCalls s h tasks k a → length tasks < 2 ^ 63
+pub begun-line : (s : Setting) (h : History) (tasks : List RunTask) (k : Course) (scene : SearchContext) (a : Actor) (t : SparseTable) (d : DomId) (n : ActorHandles) (call : ScriptCall) (q p : Request) (bytes : Bor (List ℕ)) (result : CallOpening) → d ≡ k.dom → ShowsCalls s h tasks k a → length tasks < 2 ^ 63
     → KnowsTable s h k.dom scene t → ArePlaced d a.mappings.items n → MakesRequest k.named k.dom call q → bytes.now ≡ call_bytes call → ((named : List Named) → AreNamed n.labels named → p ≡ request_of named d bytes call)
     → ((z : CallerKnowledge) → BeginsAlike z (known_in scene t n.mappings) d p → OpensSo z d p result) → BeginsAsRun s h k.dom q result
-begun-line s h tasks k scene a t d n call q p bytes result dom show short table placed asks hex asked-so opened =
+begun-line s h tasks k scene a t d n call q p bytes result dom show short table placed is_made hex asked-so opened =
     let there : ArePlaced k.dom a.mappings.items n = subst (λ (x : DomId). ArePlaced x a.mappings.items n) dom placed in
     let names-now : List Named = place_names k.dom n.handles.items (labels_of a.mappings.items) in
     let few = show.few in let begun = show.begun in let ok = a.mappings.ok in let small = a.mappings.small in
     let below : maps_answered_at h k.dom.0 < SERIAL_LIMIT = omega arith in
     let many : length a.mappings.items < SERIAL_LIMIT = (let len : a.mappings.len ≡ length a.mappings.items = ok.0 in let le : a.mappings.len ≤ a.mappings.cap = ok.1 in omega arith) in
-    begins-run s h tasks k scene a t n show table there below many call q p asks
+    begins-run s h tasks k scene a t n show table there below many call q p is_made
     (bytes, hex, subst (λ (x : DomId). p ≡ request_of names-now x bytes call) dom (asked-so names-now there.labels)) result
     (subst (λ (x : DomId). (z : CallerKnowledge) → BeginsAlike z (known_in scene t n.mappings) x p → OpensSo z x p result) dom opened)
 
@@ -257,10 +257,10 @@ module _ (s : Setting) (h : History) (tasks : List RunTask) (k : Course) (scene 
   few-answered = let few = show.few in let begun = show.begun in omega arith
 
   -- what the start of a release of it gives, by what is known in the state
-  abbrev pub Starts : Handle → Opened → Type 0
+  abbrev pub Starts : Handle → CallOpening → Type 0
   Starts place result = (z : CallerKnowledge) → BeginsAlike z (known_in scene t n.mappings) d (requests.Release place) → OpensSo z d (requests.Release place) result
 
-  starts-there : (place : Handle) (result : Opened) → Starts place result → (z : CallerKnowledge) → BeginsAlike z (known_in scene t n.mappings) k.dom (requests.Release place) → OpensSo z k.dom (requests.Release place) result
+  starts-there : (place : Handle) (result : CallOpening) → Starts place result → (z : CallerKnowledge) → BeginsAlike z (known_in scene t n.mappings) k.dom (requests.Release place) → OpensSo z k.dom (requests.Release place) result
   starts-there place result opened = subst (λ (x : DomId). (z : CallerKnowledge) → BeginsAlike z (known_in scene t n.mappings) x (requests.Release place) → OpensSo z x (requests.Release place) result) dom opened
 
   -- it begins as in the run

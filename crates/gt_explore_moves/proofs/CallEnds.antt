@@ -12,9 +12,10 @@ use Rattle.gt_model.specs.declared.handle.Handle.{Handle}
 use Rattle.gt_model.specs.declared.action.Observation.{Observation}
 use Rattle.gt_model.specs.declared.action.Observation.TheVariants.{Taken}
 use Rattle.gt_model.specs.declared.action.Step.{Step}
-use Rattle.gt_model.specs.declared.action.Step.TheVariants.{Exchange, Pin as PinStep, Unpin}
+use Rattle.gt_model.specs.declared.action.Step.TheVariants.{Exchange, Unpin}
+use Rattle.gt_model.specs.declared.action.Step.TheVariants as call_steps
 use Rattle.gt_model.specs.declared.held.HeldPin.{HeldPin}
-use Rattle.gt_model.specs.declared.request.PinHolder.TheVariants.{Leg as ByLeg, Mapping as ByHandle}
+use Rattle.gt_model.specs.declared.request.PinHolder.TheVariants as holders
 use Rattle.gt_core.specs.Alike.{IsRun}
 use Rattle.gt_model.specs.History.{History, Pin, Setting, Underway, entry_at, gather, holder_after, legs_at, live}
 use Rattle.gt_model.specs.History.{mapping_named, mappings_at, maps_answered_at, one_if_mapped, open_call}
@@ -70,16 +71,16 @@ shows-over s h i tasks k a b named held text answer own answered show next none 
 
 -- the step gives up no mapping
 abbrev pub GivesNone : Step → Type 0
-GivesNone (Unpin p (ByHandle handle)) = ⊥
+GivesNone (Unpin p (holders.Mapping handle)) = ⊥
 GivesNone z = Unit {0}
 
-leg-held : (answer : Answer) (n : ℕ) → one_if_mapped (Some answer) ≡ 0 → holder_after (Some answer) n ≡ ByLeg n
+leg-held : (answer : Answer) (n : ℕ) → one_if_mapped (Some answer) ≡ 0 → holder_after (Some answer) n ≡ holders.Leg n
 leg-held answer n none = grind arith
 
 kept-mappings : (h : History) (d : DomId) (z : Step) (seen : Observation) (answer : Answer) → GivesNone z → one_if_mapped (Some answer) ≡ 0 → mappings_at (stepped d z seen (Some answer) ∷ h) d.0 ≡ mappings_at h d.0
-kept-mappings h d (PinStep p) Taken answer gives none = leg-maps h d p (Some answer) (leg-held answer (length (legs_at h d.0)) none)
-kept-mappings h d (Unpin p (ByLeg n)) seen answer gives none = leg-mappings h d p n seen (Some answer)
-kept-mappings h d (Unpin p (ByHandle handle)) seen answer gives none = absurd gives
+kept-mappings h d (call_steps.Pin p) Taken answer gives none = leg-maps h d p (Some answer) (leg-held answer (length (legs_at h d.0)) none)
+kept-mappings h d (Unpin p (holders.Leg n)) seen answer gives none = leg-mappings h d p n seen (Some answer)
+kept-mappings h d (Unpin p (holders.Mapping handle)) seen answer gives none = absurd gives
 kept-mappings h d (Exchange gref looked change) Taken answer gives none = ap (λ (ps : List Pin). gather mapping_named d.0 ps) (exchanged-live h d gref looked change (Some answer))
 kept-mappings h d z seen answer gives none = ap (λ (ps : List Pin). gather mapping_named d.0 ps)
     (kept-live (stepped d z seen (Some answer)) h (record { changes = λ r. refl; pins = λ before ps. refl; unpins = λ pins. refl; maps = none }))
@@ -102,9 +103,9 @@ shows-kept s h tasks k a b z seen text answer show all gives none next closed sa
 
 pub shows-less : (s : Setting) (h : History) (tasks : List RunTask) (k : Course) (a b : Actor) (p : HeldPin) (handle place : Handle) (seen : Observation) (held : List Handle) (text : List ℕ) (answer : Answer) → ShowsCalls s h tasks k a → held ≡ handles_without handle (handles_at h k.dom)
     → slice_get (handles_at h k.dom) place.serial ≡ Some handle → one_if_mapped (Some answer) ≡ 0 → b.next ≡ a.next → b.«open» ≡ None → b.mappings.items ≡ but place.serial a.mappings.items
-    → ShowsCalls s (stepped k.dom (Unpin p (ByHandle handle)) seen (Some answer) ∷ h) tasks (over_course k k.named held text) b
+    → ShowsCalls s (stepped k.dom (Unpin p (holders.Mapping handle)) seen (Some answer) ∷ h) tasks (over_course k k.named held text) b
 shows-less s h tasks k a b p handle place seen held text answer show all there none next closed same =
-    let d = k.dom in let i = stepped d (Unpin p (ByHandle handle)) seen (Some answer) in let n = place.serial in
+    let d = k.dom in let i = stepped d (Unpin p (holders.Mapping handle)) seen (Some answer) in let n = place.serial in
     let maps : mappings_at (i ∷ h) d.0 ≡ but n (mappings_at h d.0) = mappings-less h d p handle seen (Some answer) ∙ less-is n 0 (mappings_at h d.0) (maps_answered_at h d.0) handle show.rising there in
     let hs : handles_at (i ∷ h) d ≡ but n (handles_at h d) = ap (λ (ms : List (Handle × HeldPin)). map (λ (m : Handle × HeldPin). m.0) ms) maps ∙ map-but (λ (m : Handle × HeldPin). m.0) n (mappings_at h d.0) in
     let ps : pins_mapped_at (i ∷ h) d ≡ but n (pins_mapped_at h d) = ap (λ (ms : List (Handle × HeldPin)). map (λ (m : Handle × HeldPin). m.1) ms) maps ∙ map-but (λ (m : Handle × HeldPin). m.1) n (mappings_at h d.0) in
@@ -210,7 +211,7 @@ gather-one : (h : History) (d : DomId) (p : HeldPin) (handle : Handle) → gathe
 unfolding gather
 gather-one h d p handle = ap (λ (b : Bool). cond b ((handle, record p { entry = entry_at h p.dom.0 p.gref.0 }) ∷ []) [] ++ []) (eq-eqb d.0 d.0 refl)
 
-mappings-more : (h : History) (d : DomId) (p : HeldPin) (handle : Handle) → entry_at h p.dom.0 p.gref.0 ≡ p.entry → mappings_at (stepped d (PinStep p) Taken (Some (Mapped handle)) ∷ h) d.0 ≡ mappings_at h d.0 ++ (handle, p) ∷ []
+mappings-more : (h : History) (d : DomId) (p : HeldPin) (handle : Handle) → entry_at h p.dom.0 p.gref.0 ≡ p.entry → mappings_at (stepped d (call_steps.Pin p) Taken (Some (Mapped handle)) ∷ h) d.0 ≡ mappings_at h d.0 ++ (handle, p) ∷ []
 mappings-more h d p handle same = ap (gather mapping_named d.0) (pinned-live h d p (Some (Mapped handle)))
     ∙ gather-append mapping_named d.0 (live h) (new_pin h d p (Some (Mapped handle)) ∷ [])
     ∙ ap (λ (l : List (Handle × HeldPin)). mappings_at h d.0 ++ l) (gather-one h d p handle ∙ ap (λ (e : Entry). (handle, record p { entry = e }) ∷ []) same)
@@ -218,9 +219,9 @@ mappings-more h d p handle same = ap (gather mapping_named d.0) (pinned-live h d
 pub shows-more : (s : Setting) (h : History) (tasks : List RunTask) (k : Course) (a b : Actor) (p : HeldPin) (handle : Handle) (given : List ℕ) (text : List ℕ) → ShowsCalls s h tasks k a → k.held ≡ handles_at h k.dom → IsRun s h → HaveAnswered h k.named
     → handle.serial ≡ maps_answered_at h k.dom.0 → entry_at h p.dom.0 p.gref.0 ≡ p.entry → maps_answered_at h k.dom.0 + 1 ≤ a.next → b.next ≡ a.next → b.«open» ≡ None → mapping_pins b.mappings.items ≡ mapping_pins a.mappings.items ++ p ∷ []
     → labels_of b.mappings.items ≡ apart_from (Some given) (labels_of a.mappings.items) ++ Some given ∷ []
-    → ShowsCalls s (stepped k.dom (PinStep p) Taken (Some (Mapped handle)) ∷ h) tasks (over_course k (with_name k.named k.dom (Some given) (Some handle)) (k.held ++ handle ∷ []) text) b
+    → ShowsCalls s (stepped k.dom (call_steps.Pin p) Taken (Some (Mapped handle)) ∷ h) tasks (over_course k (with_name k.named k.dom (Some given) (Some handle)) (k.held ++ handle ∷ []) text) b
 shows-more s h tasks k a b p handle given text show all run named serial entry few next closed pins labels =
-    let d = k.dom in let i = stepped d (PinStep p) Taken (Some (Mapped handle)) in
+    let d = k.dom in let i = stepped d (call_steps.Pin p) Taken (Some (Mapped handle)) in
     let maps : mappings_at (i ∷ h) d.0 ≡ mappings_at h d.0 ++ (handle, p) ∷ [] = mappings-more h d p handle entry in
     let hs : handles_at (i ∷ h) d ≡ handles_at h d ++ handle ∷ [] = ap (λ (ms : List (Handle × HeldPin)). map (λ (m : Handle × HeldPin). m.0) ms) maps ∙ map-append (λ (m : Handle × HeldPin). m.0) (mappings_at h d.0) ((handle, p) ∷ []) in
     let ps : pins_mapped_at (i ∷ h) d ≡ pins_mapped_at h d ++ p ∷ [] = ap (λ (ms : List (Handle × HeldPin)). map (λ (m : Handle × HeldPin). m.1) ms) maps ∙ map-append (λ (m : Handle × HeldPin). m.1) (mappings_at h d.0) ((handle, p) ∷ []) in

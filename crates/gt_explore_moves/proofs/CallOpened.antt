@@ -4,7 +4,7 @@ use Rattle.std.proofs.Common.{sym, ap, ◌∙◌, arith, subst}
 use Rattle.std.specs.Prelude.{slice_get}
 use Rattle.gt_types.specs.declared.DomId.{DomId}
 use Rattle.gt_model.specs.declared.handle.Handle.{Handle}
-use Rattle.gt_model.specs.declared.action.Action.TheVariants.{Step as Makes}
+use Rattle.gt_model.specs.declared.action.Action.TheVariants as actions
 use Rattle.gt_model.specs.declared.action.Step.{Step}
 use Rattle.gt_calls.specs.declared.call.Call.{Call}
 use Rattle.gt_model.specs.declared.held.HeldPin.{HeldPin}
@@ -96,7 +96,7 @@ shows-opened s h tasks ts k a t call q p place now step show rest left dom deed 
               asks = is.asks ∙ asks;
               by_place = subst (λ (hs : List Handle). AsksByPlace hs place (asked q)) (sym (same-handles s h g d same)) by_place;
               at = subst (λ (z : CallerKnowledge). IsAt z now []) (sym (same-by-place s h g d same)) is.at;
-              follows = subst (λ (z : CallerKnowledge). path z d now.request [] ≡ Some (Makes step)) (sym (same-by-place s h g d same))
+              follows = subst (λ (z : CallerKnowledge). path z d now.request [] ≡ Some (actions.Step step)) (sym (same-by-place s h g d same))
                   (ap (λ (r : OpenRequest). path (known_by_place s h d) d r []) is.asks ∙ is.follows);
             },
             record { place = a.next; task_is = refl; last = (let e : suc a.next ≡ a.next + 1 = omega arith in e); of_task = t; there = n.0; dom_is = dom; line_is = refl; deed_is = deed },

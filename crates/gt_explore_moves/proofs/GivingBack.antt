@@ -5,7 +5,7 @@ use Rattle.std.specs.Prelude.{◌==◌, not, slice_get}
 use Rattle.std.proofs.lemmas.Bool.{eq-eqb, ne_eqb}
 use Rattle.std.proofs.lemmas.Option.{none-some, same_Some}
 use Rattle.gt_model.specs.declared.handle.Handle.{Handle}
-use Rattle.gt_model.specs.declared.action.Action.TheVariants.{Step as Makes}
+use Rattle.gt_model.specs.declared.action.Action.TheVariants as actions
 use Rattle.gt_model.specs.declared.action.Step.{Step}
 use Rattle.gt_calls.specs.declared.call.Call.{Call}
 use Rattle.gt_model.specs.declared.held.HeldPin.{HeldPin}
@@ -79,7 +79,7 @@ shows-giving s h tasks k a choice handle place now step show rest there serial i
               asks = is.asks;
               by_place = ap (λ (hs : List Handle). slice_get hs place.serial) (same-handles s h g d same) ∙ at;
               at = subst (λ (z : CallerKnowledge). IsAt z now []) (sym (same-by-place s h g d same)) is.at;
-              follows = subst (λ (z : CallerKnowledge). path z d now.request [] ≡ Some (Makes step)) (sym (same-by-place s h g d same))
+              follows = subst (λ (z : CallerKnowledge). path z d now.request [] ≡ Some (actions.Step step)) (sym (same-by-place s h g d same))
                   (ap (λ (r : OpenRequest). path (known_by_place s h d) d r []) is.asks ∙ is.follows);
             },
             refl,

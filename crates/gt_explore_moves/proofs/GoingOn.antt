@@ -7,9 +7,10 @@ use Rattle.gt_model.specs.declared.handle.Handle.{Handle}
 use Rattle.gt_model.specs.declared.action.Observation.{Observation}
 use Rattle.gt_model.specs.declared.action.Observation.TheVariants.{Taken}
 use Rattle.gt_model.specs.declared.action.Step.{Step}
-use Rattle.gt_model.specs.declared.action.Step.TheVariants.{Exchange, Pin as PinStep, StoreHeader, Unpin}
+use Rattle.gt_model.specs.declared.action.Step.TheVariants.{Exchange, StoreHeader, Unpin}
+use Rattle.gt_model.specs.declared.action.Step.TheVariants as call_steps
 use Rattle.gt_model.specs.declared.held.HeldPin.{HeldPin}
-use Rattle.gt_model.specs.declared.request.PinHolder.TheVariants.{Leg as ByLeg, Mapping as ByHandle}
+use Rattle.gt_model.specs.declared.request.PinHolder.TheVariants as holders
 use Rattle.gt_model.specs.History.{History, Pin, Setting, Underway, gather, mapping_named, mappings_at}
 use Rattle.gt_model.specs.History.{maps_answered_at, known_at, open_call, seen_by, underway_after}
 use Rattle.gt_model.specs.declared.trace.ItemEvent.TheVariants.{Stepped}
@@ -39,18 +40,18 @@ plain-same : (h : History) (d : DomId) (z : Step) (seen : Observation) → Keeps
 plain-same h d z seen keeps = ap (λ (ps : List Pin). gather mapping_named d.0 ps) (kept-live (went_on d z seen) h keeps)
 
 mappings-same : (h : History) (d : DomId) (z : Step) (seen : Observation) → (IsSingle z → ⊥) → ((gref : GrantRef) (looked : ℕ) (change : EntryChange) → z ≡ Exchange gref looked change → seen ≡ Taken → ⊥) → mappings_at (went_on d z seen ∷ h) d.0 ≡ mappings_at h d.0
-mappings-same h d (PinStep p) Taken single taken = leg-maps h d p None refl
-mappings-same h d (Unpin p (ByLeg place)) seen single taken = leg-mappings h d p place seen None
-mappings-same h d (Unpin p (ByHandle handle)) seen single taken = absurd (single tt)
+mappings-same h d (call_steps.Pin p) Taken single taken = leg-maps h d p None refl
+mappings-same h d (Unpin p (holders.Leg place)) seen single taken = leg-mappings h d p place seen None
+mappings-same h d (Unpin p (holders.Mapping handle)) seen single taken = absurd (single tt)
 mappings-same h d (Exchange gref looked change) Taken single taken = absurd (taken gref looked change refl refl)
 mappings-same h d z seen single taken = plain-same h d z seen (record { changes = λ r. refl; pins = λ before ps. refl; unpins = λ pins. refl; maps = refl })
 
 known-same : (s : Setting) (h : History) (d : DomId) (z : Step) (seen : Observation) → (IsSingle z → ⊥) → ((gref : GrantRef) (looked : ℕ) (change : EntryChange) → z ≡ Exchange gref looked change → seen ≡ Taken → ⊥) → known_at s (went_on d z seen ∷ h) d ≡ known_at s h d
-known-same s h d (PinStep p) Taken single taken = let i = went_on d (PinStep p) Taken in
+known-same s h d (call_steps.Pin p) Taken single taken = let i = went_on d (call_steps.Pin p) Taken in
     known-as s h (i ∷ h) d (λ r. kept-entry i h d.0 r (λ r. refl)) (λ r. kept-raises i h d.0 r (λ r. refl)) (kept-table s i h d refl) (leg-maps h d p None refl) (answered-stays h i d.0 refl)
-known-same s h d (Unpin p (ByLeg place)) seen single taken = let i = went_on d (Unpin p (ByLeg place)) seen in
+known-same s h d (Unpin p (holders.Leg place)) seen single taken = let i = went_on d (Unpin p (holders.Leg place)) seen in
     known-as s h (i ∷ h) d (λ r. kept-entry i h d.0 r (λ r. refl)) (λ r. kept-raises i h d.0 r (λ r. refl)) (kept-table s i h d refl) (leg-mappings h d p place seen None) (answered-stays h i d.0 refl)
-known-same s h d (Unpin p (ByHandle handle)) seen single taken = absurd (single tt)
+known-same s h d (Unpin p (holders.Mapping handle)) seen single taken = absurd (single tt)
 known-same s h d (StoreHeader version frames) seen single taken = absurd (single tt)
 known-same s h d (Exchange gref looked change) Taken single taken = absurd (taken gref looked change refl refl)
 known-same s h d z seen single taken = kept-known s (went_on d z seen) h d (record { changes = λ r. refl; pins = λ before ps. refl; unpins = λ pins. refl; maps = refl }) refl

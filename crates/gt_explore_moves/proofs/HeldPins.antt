@@ -16,9 +16,8 @@ use Rattle.gt_model.specs.Entries.{with_ro}
 use Rattle.gt_model.specs.Spelling.{control_with, entry_of}
 use Rattle.gt_model.specs.Words.{control_of, control_word, flag, kind_bits, kind_of}
 use Rattle.gt_model.specs.declared.change.EntryChange.{EntryChange}
-use Rattle.gt_model.specs.declared.change.EntryChange.TheVariants.{Demote as ToReadOnly, Promote as ToWritable}
-use Rattle.gt_model.specs.declared.change.EntryChange.TheVariants.{Publish, Revoke as ToInvalid}
-use Rattle.gt_model.specs.declared.change.EntryChange.TheVariants.{Withdraw as ToWithdrawn}
+use Rattle.gt_model.specs.declared.change.EntryChange.TheVariants.{Publish}
+use Rattle.gt_model.specs.declared.change.EntryChange.TheVariants as changes
 use Rattle.gt_model.specs.declared.control.Control.{Control}
 use Rattle.gt_model.specs.declared.control.EntryKind.{EntryKind}
 use Rattle.gt_model.specs.declared.control.EntryKind.TheVariants as kinds
@@ -28,17 +27,19 @@ use Rattle.gt_model.specs.Asking.{asked}
 use Rattle.gt_model.specs.Path.{Continuation, after_beginning, path, steps_of}
 use Rattle.gt_model.specs.Rules.{begun}
 use Rattle.gt_model.specs.declared.action.Action.{Action}
-use Rattle.gt_model.specs.declared.action.Action.TheVariants.{Step as Makes, Done}
+use Rattle.gt_model.specs.declared.action.Action.TheVariants.{Done}
+use Rattle.gt_model.specs.declared.action.Action.TheVariants as actions
 use Rattle.gt_model.specs.declared.action.CallResult.{CallResult}
-use Rattle.gt_model.specs.declared.action.CallResult.TheVariants.{Mapped as KeptPin}
+use Rattle.gt_model.specs.declared.action.CallResult.TheVariants as results
 use Rattle.gt_model.specs.declared.action.Observation.{Observation}
 use Rattle.gt_model.specs.declared.action.Observation.TheVariants.{Missed, Taken}
 use Rattle.gt_model.specs.declared.action.Step.{Step}
-use Rattle.gt_model.specs.declared.action.Step.TheVariants.{Exchange, Pin as PinStep, Unpin}
+use Rattle.gt_model.specs.declared.action.Step.TheVariants.{Exchange, Unpin}
+use Rattle.gt_model.specs.declared.action.Step.TheVariants as call_steps
 use Rattle.gt_model.specs.declared.held.HeldPin.{HeldPin}
 use Rattle.gt_model.specs.declared.request.OpenRequest.{OpenRequest}
 use Rattle.gt_model.specs.declared.request.OpenRequest.TheVariants.{Copy, Grant, Load, Map, Probe, Store}
-use Rattle.gt_model.specs.declared.request.PinHolder.TheVariants.{Mapping as ByHandle, Leg as ByLeg}
+use Rattle.gt_model.specs.declared.request.PinHolder.TheVariants as holders
 use Rattle.gt_model.specs.declared.request.Request.{Request}
 use Rattle.gt_model.specs.FirstRule.{refusal_in, stood}
 use Rattle.gt_model.specs.History.{History, Setting, Underway, by_leg, change_at, change_of, changed_entry_of}
@@ -49,7 +50,8 @@ use Rattle.gt_model.specs.Legal.{AnsweredBy, GivesValue, IsLegalHistory, IsRight
 use Rattle.gt_model.specs.Legal.{gives_back, next_in, refusal_of, verdict_in}
 use Rattle.gt_core.specs.Phases.{numbered}
 use Rattle.gt_model.specs.declared.trace.Answer.{Answer}
-use Rattle.gt_model.specs.declared.trace.Answer.TheVariants.{Denied, Done as AnswerDone, Mapped}
+use Rattle.gt_model.specs.declared.trace.Answer.TheVariants.{Denied, Mapped}
+use Rattle.gt_model.specs.declared.trace.Answer.TheVariants as answers
 use Rattle.gt_model.specs.declared.trace.Item.{Item}
 use Rattle.gt_model.specs.declared.trace.ItemEvent.{ItemEvent}
 use Rattle.gt_model.specs.declared.trace.ItemEvent.TheVariants.{Began, Stepped}
@@ -107,14 +109,14 @@ legs-first legs none = ([], none, refl)
 
 -- the step takes and releases no pin
 abbrev IsQuiet : Step → Observation → Type 0
-IsQuiet (PinStep p) Taken = ⊥
+IsQuiet (call_steps.Pin p) Taken = ⊥
 IsQuiet (Unpin p holder) seen = ⊥
 IsQuiet z seen = Unit {0}
 
 quiet-live : (h : History) (d : DomId) (z : Step) (v : Observation) (a : Option Answer) → IsQuiet z v
     → live (stepped d z v a ∷ h) ≡ live h
 unfolding live
-quiet-live h d (PinStep p) Taken a quiet = absurd quiet
+quiet-live h d (call_steps.Pin p) Taken a quiet = absurd quiet
 quiet-live h d (Unpin p holder) v a quiet = absurd quiet
 quiet-live h d z v a quiet = append-nil (live h)
 
@@ -126,7 +128,7 @@ quiet-legs h d z v a quiet = ap (λ ps. gather by_leg d.0 ps) (quiet-live h d z 
 abbrev NoneMapped : Option Answer → Type 0
 NoneMapped a = (handle : Handle) → a ≡ Some (Mapped handle) → ⊥
 
-by-number : (a : Option Answer) (n : ℕ) → NoneMapped a → holder_after a n ≡ ByLeg n
+by-number : (a : Option Answer) (n : ℕ) → NoneMapped a → holder_after a n ≡ holders.Leg n
 by-number (Some (Mapped handle)) n none = absurd (none handle refl)
 by-number a n none = refl
 
@@ -136,7 +138,7 @@ module _ (h : History) (d : DomId) where
   now p = record p { entry = entry_at h p.dom.0 p.gref.0 }
 
   legs-pinned : (p : HeldPin) (a : Option Answer) (held : List HeldPin) → NoneMapped a
-      → AreLegs (legs_at h d.0) held → AreLegs (legs_at (stepped d (PinStep p) Taken a ∷ h) d.0) (p ∷ held)
+      → AreLegs (legs_at h d.0) held → AreLegs (legs_at (stepped d (call_steps.Pin p) Taken a ∷ h) d.0) (p ∷ held)
   legs-pinned p a held none (qs, is, taken) =
       (qs ++ (now p) ∷ [], whole, (qs, entry_at h p.dom.0 p.gref.0, refl, taken))
     where
@@ -144,7 +146,7 @@ module _ (h : History) (d : DomId) where
       many = let e = length-numbered 0 qs in let f = ap (λ (l : List (ℕ × HeldPin)). length l) is in
           omega (arith, e, f)
 
-      whole : legs_at (stepped d (PinStep p) Taken a ∷ h) d.0 ≡ numbered 0 (qs ++ (now p) ∷ [])
+      whole : legs_at (stepped d (call_steps.Pin p) Taken a ∷ h) d.0 ≡ numbered 0 (qs ++ (now p) ∷ [])
       whole = leg-grows h d p a (by-number a (length (legs_at h d.0)) none)
           ∙ ap (λ (n : ℕ). legs_at h d.0 ++ (n, now p) ∷ []) many
           ∙ ap (λ (l : List (ℕ × HeldPin)). l ++ (0 + length qs, now p) ∷ []) is ∙ sym (numbered-push 0 qs (now p))
@@ -170,16 +172,16 @@ module _ (h : History) (d : DomId) where
     }
 
   legs-unpinned : (p : HeldPin) (n : ℕ) (others : List HeldPin) (v : Observation) (a : Option Answer)
-      → IsLast p n others → AreLegs (legs_at (stepped d (Unpin p (ByLeg n)) v a ∷ h) d.0) others
+      → IsLast p n others → AreLegs (legs_at (stepped d (Unpin p (holders.Leg n)) v a ∷ h) d.0) others
   legs-unpinned p n others v a last = (last.before, whole, last.taken) where
-    whole : legs_at (stepped d (Unpin p (ByLeg n)) v a ∷ h) d.0 ≡ numbered 0 last.before
-    whole = ap (λ ps. gather by_leg d.0 ps) (unpinned-live h d p (ByLeg n) v a
-        ∙ ap (λ (m : ℕ). without d.0 (ByLeg m) (live h)) last.number
-        ∙ sym (unpinned-live h d (record p { entry = last.e }) (ByLeg (length last.before)) v a))
+    whole : legs_at (stepped d (Unpin p (holders.Leg n)) v a ∷ h) d.0 ≡ numbered 0 last.before
+    whole = ap (λ ps. gather by_leg d.0 ps) (unpinned-live h d p (holders.Leg n) v a
+        ∙ ap (λ (m : ℕ). without d.0 (holders.Leg m) (live h)) last.number
+        ∙ sym (unpinned-live h d (record p { entry = last.e }) (holders.Leg (length last.before)) v a))
         ∙ leg-left h d last.before (record p { entry = last.e }) v a last.legs
 
-  last-released : (p : HeldPin) (n : ℕ) (others : List HeldPin) → IsLast p n others → Releases h d (Unpin p (ByLeg n))
-  last-released p n others last = subst (λ (m : ℕ). Releases h d (Unpin p (ByLeg m))) (sym last.number)
+  last-released : (p : HeldPin) (n : ℕ) (others : List HeldPin) → IsLast p n others → Releases h d (Unpin p (holders.Leg n))
+  last-released p n others last = subst (λ (m : ℕ). Releases h d (Unpin p (holders.Leg m))) (sym last.number)
       (loses-leg h d last.before (record p { entry = last.e }) last.legs)
 
 -- transitive entries
@@ -252,10 +254,10 @@ changed-via : (change : Option EntryChange) (old : Entry)
     → is_via (changed_entry_of change old) ≡ false
 changed-via None old new none = none
 changed-via (Some (Publish entry)) old new none = new entry refl
-changed-via (Some ToInvalid) old new none = refl
-changed-via (Some ToWithdrawn) old new none = refl
-changed-via (Some ToReadOnly) old new none = with-ro-via true old ∙ none
-changed-via (Some ToWritable) old new none = with-ro-via false old ∙ none
+changed-via (Some changes.Revoke) old new none = refl
+changed-via (Some changes.Withdraw) old new none = refl
+changed-via (Some changes.Demote) old new none = with-ro-via true old ∙ none
+changed-via (Some changes.Promote) old new none = with-ro-via false old ∙ none
 
 published : (x : ItemEvent) (r : ℕ) (entry : Entry) → change_at x r ≡ Some (Publish entry)
     → (gref : GrantRef) × (looked : ℕ) × (x ≡ Stepped (Exchange gref looked (Publish entry)) Taken)
@@ -301,9 +303,9 @@ module _ (s : Setting) (h : History) (d : DomId) (r : OpenRequest) (unprobed : I
       (λ copy p dom ro dom2 gref take via. ((tt, tt), (λ f. tt), (λ f. tt))) vs action
       (took-any (steps_of (known_at s h d) d r) vs) e
 
-  step-facts : (vs : List Observation) (z : Step) → steps_of (known_at s h d) d r vs ≡ Some (Makes z)
+  step-facts : (vs : List Observation) (z : Step) → steps_of (known_at s h d) d r vs ≡ Some (actions.Step z)
       → StepFacts (known_at s h d) r (held_along (steps_of (known_at s h d) d r) [] vs) z
-  step-facts vs z e = (facts-of vs (Makes z) e).2
+  step-facts vs z e = (facts-of vs (actions.Step z) e).2
 
   end-facts : (vs : List Observation) (verdict : CallResult) → steps_of (known_at s h d) d r vs ≡ Some (Done verdict)
       → EndFacts r (held_along (steps_of (known_at s h d) d r) [] vs) verdict
@@ -318,7 +320,7 @@ ends-with : (s : Setting) (h : History) (d : DomId) (r : OpenRequest) (z : Step)
     → (verdict : CallResult) × (next ≡ Some (Done verdict)) × (refusal_of answer ≡ refusal_in (Some verdict))
     × GivesValue s h d r (Some z) answer
 ends-with s h d r z giving (Some (Done verdict)) answer against by = (verdict, refl, by.0, by.2)
-ends-with s h d r z giving (Some (Makes y)) answer against by = absurd by
+ends-with s h d r z giving (Some (actions.Step y)) answer against by = absurd by
 ends-with s h d r z giving None answer against by = absurd by
 
 -- sound histories
@@ -378,7 +380,7 @@ module _ (vias : Bool) (s : Setting) where
     After r = (a ≡ None → CallHolds legs_then d r (values c ++ v ∷ []))
         × ((answer : Answer) → a ≡ Some answer → legs_then ≡ [])
 
-    plain-pin : (p : HeldPin) → z ≡ PinStep p → v ≡ Taken → PinRead p → IsPlain p
+    plain-pin : (p : HeldPin) → z ≡ call_steps.Pin p → v ≡ Taken → PinRead p → IsPlain p
     plain-pin p pins took (body, second, read) none =
         ap is_via read ∙ via-shown s h p.dom.0 p.gref.0 p.word body second word ∙ entries p.dom.0 p.gref.0 none
       where
@@ -397,11 +399,11 @@ module _ (vias : Bool) (s : Setting) where
         (path-same : steps_of (known_at s h d) d r ≡ pins_path d r)
         (holds : HoldsPins (legs_at h d.0) d r (values c)) where
       opened : (begun (known_at s h d) d r ≡ None)
-          × (steps_of (known_at s h d) d r (values c) ≡ Some (Makes z))
+          × (steps_of (known_at s h d) d r (values c) ≡ Some (actions.Step z))
       opened = path-opened (known_at s h d) d r (values c) z
           (ap (λ (q : OpenRequest). path (known_at s h d) d q (values c)) (sym same) ∙ right.continues)
 
-      here : pins_path d r (values c) ≡ Some (Makes z)
+      here : pins_path d r (values c) ≡ Some (actions.Step z)
       here = ap (λ (f : Continuation). f (values c)) (sym path-same) ∙ opened.1
 
       abbrev held_now : List HeldPin
@@ -422,20 +424,20 @@ module _ (vias : Bool) (s : Setting) where
       legs-so none = by z v facts where
         by : (y : Step) (w : Observation) → StepFacts (known_at s h d) r held_now y
             → AreLegs (legs_at (stepped d y w a ∷ h) d.0) (after_step y w held_now)
-        by (PinStep p) Taken f = legs-pinned h d p a held_now none holds.0
-        by (Unpin p (ByLeg n)) w f = subst
-            (λ (l : List HeldPin). AreLegs (legs_at (stepped d (Unpin p (ByLeg n)) w a ∷ h) d.0)
-            (after_step (Unpin p (ByLeg n)) w l)) (sym f.1.1)
+        by (call_steps.Pin p) Taken f = legs-pinned h d p a held_now none holds.0
+        by (Unpin p (holders.Leg n)) w f = subst
+            (λ (l : List HeldPin). AreLegs (legs_at (stepped d (Unpin p (holders.Leg n)) w a ∷ h) d.0)
+            (after_step (Unpin p (holders.Leg n)) w l)) (sym f.1.1)
             (legs-unpinned h d p n f.1.0 w a (is-last h d p n held_now f.1.0 f.1.1 f.1.2 holds.0))
-        by (Unpin p (ByHandle handle)) w f =
+        by (Unpin p (holders.Mapping handle)) w f =
             subst (λ l. AreLegs l held_now) (sym (mapping-legs h d p handle w a)) holds.0
         by y w f = subst (λ l. AreLegs l held_now) (sym (quiet-legs h d y w a tt)) holds.0
 
       takes-plain : TakesOf IsPlain (pins_path d r (values c)) v
       takes-plain = subst (λ (o : Option Action). TakesOf IsPlain o v) (sym here) (by z v refl refl facts) where
         by : (y : Step) (w : Observation) → z ≡ y → v ≡ w → StepFacts (known_at s h d) r held_now y
-            → TakesOf IsPlain (Some (Makes y)) w
-        by (PinStep p) Taken e f g = plain-pin p e f g.1
+            → TakesOf IsPlain (Some (actions.Step y)) w
+        by (call_steps.Pin p) Taken e f g = plain-pin p e f g.1
         by y w e f g = tt
 
       goes-on : a ≡ None → HoldsPins legs_then d r (values c ++ v ∷ [])
@@ -487,7 +489,7 @@ module _ (vias : Bool) (s : Setting) where
     copy-unmapped : (x : CopyArgs) (answer : Answer) (handle : Handle) → GivesValue s h d (Copy x) (Some z) answer
         → answer ≡ Mapped handle → ⊥
     copy-unmapped x answer handle gives is =
-        let never : Mapped handle ≡ AnswerDone =
+        let never : Mapped handle ≡ answers.Done =
         subst (λ (b : Answer). GivesValue s h d (Copy x) (Some z) b) is gives in absurd (cc)
 
     after-copy : (x : CopyArgs) → c.request ≡ Copy x → HoldsPins (legs_at h d.0) d (Copy x) (values c) → After (Copy x)
@@ -502,8 +504,8 @@ module _ (vias : Bool) (s : Setting) where
         → GivesValue s h d (Map dom gref flags) (Some y) answer
         → ((denial : Denial) × (answer ≡ Denied denial)) ⊎ ((handle : Handle) × (answer ≡ Mapped handle))
     map-answer dom gref flags y (Denied denial) gives = inl (denial, refl)
-    map-answer dom gref flags (PinStep p) (Mapped handle) gives = inr (handle, refl)
-    map-answer dom gref flags (PinStep p) answer gives = absurd gives
+    map-answer dom gref flags (call_steps.Pin p) (Mapped handle) gives = inr (handle, refl)
+    map-answer dom gref flags (call_steps.Pin p) answer gives = absurd gives
     map-answer dom gref flags y answer gives = absurd gives
 
     module _ (dom : DomId) (gref : GrantRef) (flags : ℕ) (same : c.request ≡ Map dom gref flags)
@@ -515,15 +517,15 @@ module _ (vias : Bool) (s : Setting) where
           → GivesValue s h d (Map dom gref flags) (Some y) (Mapped handle)
           → StepFacts (known_at s h d) (Map dom gref flags) held_map y
           → legs_at (stepped d y w (Some (Mapped handle)) ∷ h) d.0 ≡ []
-      mapped-legs handle (PinStep p) Taken gives f = map-legs h d p handle
+      mapped-legs handle (call_steps.Pin p) Taken gives f = map-legs h d p handle
           ∙ legs-none (legs_at h d.0) (subst (AreLegs (legs_at h d.0)) f.0 holds.0)
-      mapped-legs handle (PinStep p) w gives f = quiet-legs h d (PinStep p) w (Some (Mapped handle)) tt
+      mapped-legs handle (call_steps.Pin p) w gives f = quiet-legs h d (call_steps.Pin p) w (Some (Mapped handle)) tt
           ∙ legs-none (legs_at h d.0) (subst (AreLegs (legs_at h d.0)) f.0 holds.0)
       mapped-legs handle y w gives f = absurd gives
 
       denied-over : (denial : Denial) (verdict : CallResult) (held : List HeldPin)
           → EndFacts (Map dom gref flags) held verdict → Some denial ≡ refusal_in (Some verdict) → held ≡ []
-      denied-over denial (KeptPin p) held over refused = absurd (none-some denial (sym refused))
+      denied-over denial (results.Mapped p) held over refused = absurd (none-some denial (sym refused))
       denied-over denial verdict held over refused = over
 
       map-ended : (answer : Answer) → a ≡ Some answer → legs_then ≡ []
@@ -553,16 +555,16 @@ module _ (vias : Bool) (s : Setting) where
         → legs_then ≡ legs_at h d.0
     unpinned-legs r same unprobed none = by z v (step-facts s h d r unprobed (values c) z steps.1) where
       steps : (begun (known_at s h d) d r ≡ None)
-          × (steps_of (known_at s h d) d r (values c) ≡ Some (Makes z))
+          × (steps_of (known_at s h d) d r (values c) ≡ Some (actions.Step z))
       steps = path-opened (known_at s h d) d r (values c) z
           (ap (λ (q : OpenRequest). path (known_at s h d) d q (values c)) (sym same) ∙ right.continues)
 
       by : (y : Step) (w : Observation)
           → StepFacts (known_at s h d) r (held_along (steps_of (known_at s h d) d r) [] (values c)) y
           → legs_at (stepped d y w a ∷ h) d.0 ≡ legs_at h d.0
-      by (PinStep p) w f = absurd (none _ f.0)
-      by (Unpin p (ByLeg n)) w f = absurd (none _ f.0)
-      by (Unpin p (ByHandle handle)) w f = mapping-legs h d p handle w a
+      by (call_steps.Pin p) w f = absurd (none _ f.0)
+      by (Unpin p (holders.Leg n)) w f = absurd (none _ f.0)
+      by (Unpin p (holders.Mapping handle)) w f = mapping-legs h d p handle w a
       by y w f = quiet-legs h d y w a tt
 
     after-step : (r : OpenRequest) → c.request ≡ r → IsOfScript vias r → CallHolds (legs_at h d.0) d r (values c)
@@ -679,18 +681,18 @@ module _ (vias : Bool) (s : Setting) where
   -- the next step of an open call
 
   module _ (h : History) (sound : IsSound h) (d : DomId) (c : Underway) (is : open_call h d.0 ≡ Some c) (z : Step)
-      (next : path (known_at s h d) d c.request (values c) ≡ Some (Makes z)) where
+      (next : path (known_at s h d) d c.request (values c) ≡ Some (actions.Step z)) where
     both : IsOfScript vias c.request × CallHolds (legs_at h d.0) d c.request (values c)
     both = subst (CallSound (legs_at h d.0) d) is (sound.calls d)
 
     open-path : (begun (known_at s h d) d c.request ≡ None)
-        × (steps_of (known_at s h d) d c.request (values c) ≡ Some (Makes z))
+        × (steps_of (known_at s h d) d c.request (values c) ≡ Some (actions.Step z))
     open-path = path-opened (known_at s h d) d c.request (values c) z next
 
     leg-released : (r : OpenRequest) (vs : List Observation) (p : HeldPin) (n : ℕ)
         → CallHolds (legs_at h d.0) d r vs
-        → StepFacts (known_at s h d) r (held_along (steps_of (known_at s h d) d r) [] vs) (Unpin p (ByLeg n))
-        → Releases h d (Unpin p (ByLeg n))
+        → StepFacts (known_at s h d) r (held_along (steps_of (known_at s h d) d r) [] vs) (Unpin p (holders.Leg n))
+        → Releases h d (Unpin p (holders.Leg n))
     leg-released (Map dom gref flags) vs p n holds f = last-released h d p n f.1.0
         (is-last h d p n (held_along (steps_of (known_at s h d) d (Map dom gref flags)) [] vs) f.1.0 f.1.1 f.1.2
         (subst (λ (g : Continuation). AreLegs (legs_at h d.0) (held_along g [] vs)) (sym (map-same h d dom gref flags))
@@ -705,8 +707,8 @@ module _ (vias : Bool) (s : Setting) where
     releases-own = by z (step-facts s h d c.request (no-probe c.request both.0) (values c) z open-path.1) where
       by : (y : Step) → StepFacts (known_at s h d) c.request
           (held_along (steps_of (known_at s h d) d c.request) [] (values c)) y → Releases h d y
-      by (Unpin p (ByHandle handle)) f = unmaps-release h d p handle f
-      by (Unpin p (ByLeg n)) f = leg-released c.request (values c) p n both.1 f
+      by (Unpin p (holders.Mapping handle)) f = unmaps-release h d p handle f
+      by (Unpin p (holders.Leg n)) f = leg-released c.request (values c) p n both.1 f
       by y f = tt
 
     -- the pins that a copy took are plain

@@ -1,16 +1,19 @@
 -- A step of an open call after a history that is, but for keys, one that a core stands for.
-use Rattle.gt_core.proofs.Words.{◌≡◌, ◌≢◌, inl, inr, ◌++◌, ℕ, refl, Bool, List, [], ◌∷◌, Option, Some, None, cond}
-use Rattle.gt_core.proofs.Words.{sym, ap, ◌∙◌, arith, subst, eq-eqb, none-some, same_Some, take, drop, reverse}
-use Rattle.gt_core.proofs.Words.{option_map, DomId, GrantRef, Denial, Header, header_word, Handle, HeldPin, ByMapping}
-use Rattle.gt_core.proofs.Words.{OpenRequest, Map, Load, Store, Peek, Observation, Word, Taken, Missed, Action, Makes}
-use Rattle.gt_core.proofs.Words.{Done, CallResult, Granted, Given, KeptPin, Refused, Step, LookHeader, LookControl}
-use Rattle.gt_core.proofs.Words.{LookBody, PinStep, Unpin, Exchange, ReadBytes, Phase, Exchanging, Changing, Walking}
-use Rattle.gt_core.proofs.Words.{Last, Ending, State, state_of, History, Setting, Underway, open_call, values}
-use Rattle.gt_core.proofs.Words.{known_at, seen_by, exchange_sees, word_at, entry_at, table_at, contents_at}
-use Rattle.gt_core.proofs.Words.{maps_answered_at, path, OpenAgrees, CallAgrees, StateAgrees, StepsRight, AnsweredBy}
-use Rattle.gt_core.proofs.Words.{GivesValue, AreAlike, IsRun, bare_step, action_at, phase_after, last_first}
-use Rattle.gt_core.proofs.Words.{refusal_in, verdict_in, stood, CallerKnowledge, HasShown, EntryChange, IsQuiet, Poke}
-use Rattle.gt_core.proofs.Words.{RestsOnRequest}
+use Rattle.gt_core.proofs.Words.{◌≡◌, ◌≢◌, inl, inr, ◌++◌, ℕ, refl, Bool, List, [], ◌∷◌, Option, Some, None, cond, sym}
+use Rattle.gt_core.proofs.Words.{ap, ◌∙◌, arith, subst, eq-eqb, none-some, same_Some, take, drop, reverse, option_map}
+use Rattle.gt_core.proofs.Words.{DomId, GrantRef, Denial, Header, header_word, Handle, HeldPin, OpenRequest, Map, Load}
+use Rattle.gt_core.proofs.Words.{Store, Peek, Observation, Word, Taken, Missed, Action, Done, CallResult, Granted}
+use Rattle.gt_core.proofs.Words.{Given, Refused, Step, LookHeader, LookControl, LookBody, Unpin, Exchange, Phase}
+use Rattle.gt_core.proofs.Words.{Exchanging, Changing, Walking, Last, Ending, State, state_of, History, Setting}
+use Rattle.gt_core.proofs.Words.{Underway, open_call, values, known_at, seen_by, exchange_sees, word_at, entry_at}
+use Rattle.gt_core.proofs.Words.{table_at, contents_at, maps_answered_at, path, OpenAgrees, CallAgrees, StateAgrees}
+use Rattle.gt_core.proofs.Words.{StepsRight, AnsweredBy, GivesValue, AreAlike, IsRun, bare_step, action_at, phase_after}
+use Rattle.gt_core.proofs.Words.{last_first, refusal_in, verdict_in, stood, CallerKnowledge, HasShown, EntryChange}
+use Rattle.gt_core.proofs.Words.{IsQuiet, Poke, RestsOnRequest}
+use Rattle.gt_model.specs.declared.action.Action.TheVariants as actions
+use Rattle.gt_model.specs.declared.action.Step.TheVariants as call_steps
+use Rattle.gt_model.specs.declared.request.PinHolder.TheVariants as holders
+use Rattle.gt_model.specs.declared.action.CallResult.TheVariants as results
 use Rattle.gt_core.proofs.{Phases.makes-same, Phases.by-leg, Phases.by-giving, Phases.IsHere, Phases.next_of}
 use Rattle.gt_core.proofs.{Phases.seen-fits, Steps.See.state-there, WithoutKeys.bare, WithoutKeys.bared}
 use Rattle.gt_core.proofs.{WithoutKeys.bare-same, WithoutKeys.bare_asked, WithoutKeys.bare_call}
@@ -21,7 +24,6 @@ use Rattle.gt_model.proofs.Observers.{stepped}
 use Rattle.gt_core.specs.Acting.{answer_with}
 use Rattle.gt_core.specs.GoingOn.{CanBeReached}
 use Rattle.gt_model.specs.Legal.{gives_back, next_in, refusal_of}
-use Rattle.gt_core.specs.Prelude.{WriteBytes}
 use Rattle.gt_model.specs.declared.trace.Answer.{Answer}
 use Rattle.gt_model.specs.declared.trace.Answer.TheVariants as answers
 use Rattle.gt_model.specs.declared.trace.Bytes.{Bytes}
@@ -43,36 +45,36 @@ use Rattle.gt_core.proofs.Outcomes.{ends-so}
 -- without keys
 
 seen-bare : (s : Setting) (h : History) (d : DomId) (z : Step) → seen_by s h d (bare_step z) ≡ seen_by s h d z
-seen-bare s h d (Unpin p (ByMapping handle)) = refl
+seen-bare s h d (Unpin p (holders.Mapping handle)) = refl
 seen-bare s h d z = refl
 
 seen-at : (s : Setting) (h : History) (d : DomId) (z : Step) → IsRun s h → seen_by s (bare h) d z ≡ seen_by s h d z
 seen-at s h d (LookHeader dom) run = ap (λ (x : Header). Word (header_word x)) ((bared h).table s dom)
 seen-at s h d (LookControl dom gref) run = ap (λ (w : ℕ). Word w) (word-bare s h dom.0 gref.0 run)
 seen-at s h d (LookBody dom gref half) run = ap (λ (w : ℕ). Word w) ((bared h).body dom.0 gref.0 half)
-seen-at s h d (PinStep p) run = ap (λ (w : ℕ). exchange_sees w p.word) (word-bare s h p.dom.0 p.gref.0 run)
+seen-at s h d (call_steps.Pin p) run = ap (λ (w : ℕ). exchange_sees w p.word) (word-bare s h p.dom.0 p.gref.0 run)
 seen-at s h d (Exchange gref looked change) run = ap (λ (w : ℕ). exchange_sees w looked) (word-bare s h d.0 gref.0 run)
 seen-at s h d z run = refl
 
 to-single : (z : Step) → IsSingle z → IsSingle (bare_step z)
-to-single (Unpin p (ByMapping handle)) a = tt
+to-single (Unpin p (holders.Mapping handle)) a = tt
 to-single z a = a
 
 from-single : (z : Step) → IsSingle (bare_step z) → IsSingle z
-from-single (Unpin p (ByMapping handle)) a = tt
+from-single (Unpin p (holders.Mapping handle)) a = tt
 from-single z a = a
 
 -- a step that gives up no mapping is the same without keys
 abbrev HasNoKey : Step → Type 0
-HasNoKey (Unpin p (ByMapping handle)) = ⊥
+HasNoKey (Unpin p (holders.Mapping handle)) = ⊥
 HasNoKey z = Unit {0}
 
 no-key : (y z : Step) → HasNoKey z → bare_step z ≡ bare_step y → y ≡ z
-no-key (Unpin p (ByMapping handle)) z n e = grind arith
+no-key (Unpin p (holders.Mapping handle)) z n e = grind arith
 no-key y z n e = grind arith
 
 done-bare : (a : Action) (v : CallResult) → bare_action a ≡ Done v → a ≡ Done v
-done-bare (Makes z) v e = absurd (let f : Makes (bare_step z) ≡ Done v = e in cc)
+done-bare (actions.Step z) v e = absurd (let f : actions.Step (bare_step z) ≡ Done v = e in cc)
 done-bare (Done u) v e = e
 
 value-bare : (s : Setting) (h : History) (d : DomId) (r : OpenRequest) (z : Step) (answer : Answer) → GivesValue s h d r (Some z) answer → GivesValue s h d (bare_asked r) (Some (bare_step z)) answer
@@ -123,16 +125,16 @@ to-mapping r a = grind arith
 -- how a call of a run ends after its step: a map with a taken pin of the entry as it is, under the next serial; else as its
 -- verdict tells
 abbrev pub EndsAs : History → DomId → OpenRequest → Step → Observation → CallResult → Answer → Type 0
-EndsAs h d r z seen (KeptPin m) answer =
-    (handle : Handle) × (answer ≡ answers.Mapped handle) × (handle.serial ≡ maps_answered_at h d.0) × (z ≡ PinStep m) × (seen ≡ Taken) × (entry_at h m.dom.0 m.gref.0 ≡ m.entry) × AsksMapping r
+EndsAs h d r z seen (results.Mapped m) answer =
+    (handle : Handle) × (answer ≡ answers.Mapped handle) × (handle.serial ≡ maps_answered_at h d.0) × (z ≡ call_steps.Pin m) × (seen ≡ Taken) × (entry_at h m.dom.0 m.gref.0 ≡ m.entry) × AsksMapping r
 EndsAs h d r z seen v answer = AnswersEnd h z v answer
 
 tells-value : (h : History) (z : Step) (told : CallValue) (answer : Answer) → answer ≡ answer_with told → AnswersEnd h z (Given told) answer
-tells-value h (ReadBytes dom frame off len) told answer e = e
+tells-value h (call_steps.Read dom frame off len) told answer e = e
 tells-value h z told answer e = e
 
 tells-denial : (h : History) (z : Step) (denial : Denial) (answer : Answer) → answer ≡ answers.Denied denial → AnswersEnd h z (Refused denial) answer
-tells-denial h (ReadBytes dom frame off len) denial answer e = e
+tells-denial h (call_steps.Read dom frame off len) denial answer e = e
 tells-denial h z denial answer e = e
 
 -- an answer that has a refusal is that
@@ -146,7 +148,7 @@ value-so : (s : Setting) (h g : History) (d : DomId) (r : OpenRequest) (z : Step
     → refusal_of answer ≡ None → answer ≡ answer_with value
 value-so s h g d r z value answer tables one other none = grind (arith, tables)
 
-read-so : (s : Setting) (h : History) (d : DomId) (r : OpenRequest) (dom : DomId) (frame off len : ℕ) (answer : Answer) → IsReading r → GivesValue s h d r (Some (ReadBytes dom frame off len)) answer → refusal_of answer ≡ None
+read-so : (s : Setting) (h : History) (d : DomId) (r : OpenRequest) (dom : DomId) (frame off len : ℕ) (answer : Answer) → IsReading r → GivesValue s h d r (Some (call_steps.Read dom frame off len)) answer → refusal_of answer ≡ None
     → (b : Bytes) × (answer ≡ answers.Bytes b) × (b.bytes.items ≡ take len (drop off (contents_at h dom.0 frame)))
 read-so s h d (Load handle o n) dom frame off len (answers.Bytes b) is g none = (b, refl, g)
 read-so s h d (Peek f o n) dom frame off len (answers.Bytes b) is g none = (b, refl, g)
@@ -154,7 +156,7 @@ read-so s h d (Load handle o n) dom frame off len (answers.Denied denial) is g n
 read-so s h d (Peek f o n) dom frame off len (answers.Denied denial) is g none = absurd (none-some denial (sym none))
 read-so s h d r dom frame off len answer is g none = absurd (grind arith)
 
-mapped-so : (s : Setting) (h : History) (d : DomId) (r : OpenRequest) (m : HeldPin) (answer : Answer) → AsksMapping r → GivesValue s h d r (Some (PinStep m)) answer → refusal_of answer ≡ None
+mapped-so : (s : Setting) (h : History) (d : DomId) (r : OpenRequest) (m : HeldPin) (answer : Answer) → AsksMapping r → GivesValue s h d r (Some (call_steps.Pin m)) answer → refusal_of answer ≡ None
     → (handle : Handle) × (answer ≡ answers.Mapped handle) × (handle.serial ≡ maps_answered_at h d.0)
 mapped-so s h d (Map dom gref flags) m (answers.Mapped handle) is g none = (handle, refl, g)
 mapped-so s h d (Map dom gref flags) m (answers.Denied denial) is g none = absurd (none-some denial (sym none))
@@ -162,7 +164,7 @@ mapped-so s h d r m answer is g none = absurd (grind arith)
 
 -- an exchange that was taken ends its call
 taken-ends : (k : CallerKnowledge) (way : Continuation) (d : DomId) (r : OpenRequest) (shown : List Observation) (phase : Phase) (gref : GrantRef) (looked : ℕ) (change : EntryChange) → HasShown k way d r shown phase
-    → action_at d phase ≡ Makes (Exchange gref looked change) → (v : CallResult) × (action_at d (phase_after k d phase Taken) ≡ Done v)
+    → action_at d phase ≡ actions.Step (Exchange gref looked change) → (v : CallResult) × (action_at d (phase_after k d phase Taken) ≡ Done v)
 taken-ends k way d r shown (Exchanging g l c) gref looked change a e = (Granted, refl)
 taken-ends k way d r shown (Changing g c more l) gref looked change a e = (Granted, refl)
 taken-ends k way d r shown (Walking aim l at) gref looked change a e =
@@ -177,12 +179,12 @@ taken-ends k way d r shown phase gref looked change a e = absurd (let f = makes-
 -- what is so of a step of an open call
 pub record StepInRun (s : Setting) (h : History) (d : DomId) (c : Underway) (z : Step) (seen : Observation) (answer : Option Answer) : Type 0 where
   -- if the call goes on, it is no last step, and no exchange that was taken
-  pub going : (y : Step) → next_in s h d c seen ≡ Some (Makes y)
+  pub going : (y : Step) → next_in s h d c seen ≡ Some (actions.Step y)
       → (answer ≡ None) × (IsSingle z → ⊥) × ((gref : GrantRef) (looked : ℕ) (change : EntryChange) → z ≡ Exchange gref looked change → seen ≡ Taken → ⊥)
   -- if it ends, its answer is that of its verdict
   pub ending : (v : CallResult) → next_in s h d c seen ≡ Some (Done v) → (a : Answer) × (answer ≡ Some a) × EndsAs h d c.request z seen v a
   -- only a store or a poke writes what its call was given
-  pub writing : (dom : DomId) (frame off len : ℕ) → z ≡ WriteBytes dom frame off len → IsWriting c.request
+  pub writing : (dom : DomId) (frame off len : ℕ) → z ≡ call_steps.Write dom frame off len → IsWriting c.request
 
 none-answered : (s : Setting) (h : History) (d : DomId) (r : OpenRequest) (z : Step) (giving : Bool) (v : Option CallResult) (answer : Option Answer) (against : Option Denial) → v ≡ None → AnsweredBy s h d r (Some z) giving v answer against → answer ≡ None
 none-answered s h d r z giving v answer against none by = grind arith
@@ -236,7 +238,7 @@ module _ (s : Setting) (h g : History) (alike : AreAlike s h g) (reached : CanBe
   next-over : (v : CallResult) → there ≡ Done v → action_at x.id (next_of s g x.id b.phase o.step) ≡ Done v
   next-over v e =
       let holds : HoldsAfter o.step (seen_by s g x.id o.step) (held_in b.phase) (held_in (settled w.request (next_of s g x.id b.phase o.step))) (Done v) =
-      subst (λ (a : Action). HoldsAfter o.step (seen_by s g x.id o.step) (held_in b.phase) (held_in (settled w.request (next_of s g x.id b.phase o.step))) a) e ((goes-there.later (values w) b.at fits-there).1 (Makes o.step) b.follows) in
+      subst (λ (a : Action). HoldsAfter o.step (seen_by s g x.id o.step) (held_in b.phase) (held_in (settled w.request (next_of s g x.id b.phase o.step))) a) e ((goes-there.later (values w) b.at fits-there).1 (actions.Step o.step) b.follows) in
       sym (done-settled (known_at s g x.id) x.id w.request b.phase (seen_by s g x.id o.step) o.step (held_in b.phase) v b.at.may_be b.acts holds (sym e))
 
   -- what follows in both is the same but for keys
@@ -249,21 +251,21 @@ module _ (s : Setting) (h g : History) (alike : AreAlike s h g) (reached : CanBe
       ∙ ap (λ (v : Observation). option_map bare_action (path (known_at s g x.id) x.id w.request (values w ++ v ∷ []))) (sym saw)
       ∙ ap (option_map bare_action) next-there
 
-  not-over : (y : Step) (v : CallResult) → next_in s h x.id c seen ≡ Some (Makes y) → there ≡ Done v → ⊥
-  not-over y v e f = let k : Makes (bare_step y) ≡ Done v = same_Some _ _ (sym (ap (option_map bare_action) e) ∙ next-same ∙ ap (λ (a : Action). Some (bare_action a)) f) in cc
+  not-over : (y : Step) (v : CallResult) → next_in s h x.id c seen ≡ Some (actions.Step y) → there ≡ Done v → ⊥
+  not-over y v e f = let k : actions.Step (bare_step y) ≡ Done v = same_Some _ _ (sym (ap (option_map bare_action) e) ∙ next-same ∙ ap (λ (a : Action). Some (bare_action a)) f) in cc
 
   over : (v : CallResult) → next_in s h x.id c seen ≡ Some (Done v) → there ≡ Done v
   over v e = done-bare there v (same_Some _ _ (sym next-same ∙ ap (option_map bare_action) e))
 
-  no-single : (y : Step) → next_in s h x.id c seen ≡ Some (Makes y) → IsSingle z → ⊥
+  no-single : (y : Step) → next_in s h x.id c seen ≡ Some (actions.Step y) → IsSingle z → ⊥
   no-single y e single =
       let r = single-ends s g x.id w.request (reverse w.steps) b.phase o.step b.acts b.place (from-single o.step (subst IsSingle same-step (to-single z single))) in
       not-over y r.0 e (ap (action_at x.id) (ends-settled w.request _ no_pins r.0 r.1))
 
-  no-taken : (y : Step) → next_in s h x.id c seen ≡ Some (Makes y) → (gref : GrantRef) (looked : ℕ) (change : EntryChange) → z ≡ Exchange gref looked change → seen ≡ Taken → ⊥
+  no-taken : (y : Step) → next_in s h x.id c seen ≡ Some (actions.Step y) → (gref : GrantRef) (looked : ℕ) (change : EntryChange) → z ≡ Exchange gref looked change → seen ≡ Taken → ⊥
   no-taken y e gref looked change is taken =
       let made : o.step ≡ Exchange gref looked change = no-key o.step (Exchange gref looked change) tt (ap bare_step (sym is) ∙ same-step) in
-      let r = taken-ends (known_at s g x.id) (path (known_at s g x.id) x.id w.request) x.id w.request (values w) b.phase gref looked change b.at.has_shown (b.acts ∙ ap (λ (q : Step). Makes q) made) in
+      let r = taken-ends (known_at s g x.id) (path (known_at s g x.id) x.id w.request) x.id w.request (values w) b.phase gref looked change b.at.has_shown (b.acts ∙ ap (λ (q : Step). actions.Step q) made) in
       let done = ap (λ (v : Observation). action_at x.id (phase_after (known_at s g x.id) x.id b.phase v)) (saw ∙ taken) ∙ r.1 in
       let ends = ends-so x.id (next_of s g x.id b.phase o.step) r.0 done in
       not-over y r.0 e (ap (action_at x.id) (ends-settled w.request _ ends.0 r.0 ends.1) ∙ ap (λ (l : List HeldPin). next_to_give l r.0) ends.2)
@@ -279,37 +281,37 @@ module _ (s : Setting) (h g : History) (alike : AreAlike s h g) (reached : CanBe
   value-here a v = bare-value s g x.id c.request z a (subst (λ (r : OpenRequest). GivesValue s g x.id r (Some (bare_step z)) a) (sym requests)
       (subst (λ (y : Step). GivesValue s g x.id (bare_asked w.request) (Some y) a) (sym same-step) (value-bare s g x.id w.request o.step a v)))
 
-  reading : (dom : DomId) (frame off len : ℕ) → z ≡ ReadBytes dom frame off len → IsReading c.request
+  reading : (dom : DomId) (frame off len : ℕ) → z ≡ call_steps.Read dom frame off len → IsReading c.request
   reading dom frame off len is =
-      let made : o.step ≡ ReadBytes dom frame off len = no-key o.step (ReadBytes dom frame off len) tt (ap bare_step (sym is) ∙ same-step) in
-      from-reading c.request (subst IsReading (sym requests) (to-reading w.request (by (stands-at (ReadBytes dom frame off len) made).rests.1)))
+      let made : o.step ≡ call_steps.Read dom frame off len = no-key o.step (call_steps.Read dom frame off len) tt (ap bare_step (sym is) ∙ same-step) in
+      from-reading c.request (subst IsReading (sym requests) (to-reading w.request (by (stands-at (call_steps.Read dom frame off len) made).rests.1)))
     where
-      by : RestsOnRequest (known_at s g x.id) x.id w.request (ReadBytes dom frame off len) → IsReading w.request
+      by : RestsOnRequest (known_at s g x.id) x.id w.request (call_steps.Read dom frame off len) → IsReading w.request
       by (inl r) = subst IsReading (sym r.1) tt
       by (inr r) = subst IsReading (sym r.0) tt
 
-  writing-here : (dom : DomId) (frame off len : ℕ) → z ≡ WriteBytes dom frame off len → IsWriting c.request
+  writing-here : (dom : DomId) (frame off len : ℕ) → z ≡ call_steps.Write dom frame off len → IsWriting c.request
   writing-here dom frame off len is =
-      let made : o.step ≡ WriteBytes dom frame off len = no-key o.step (WriteBytes dom frame off len) tt (ap bare_step (sym is) ∙ same-step) in
-      from-writing c.request (subst IsWriting (sym requests) (to-writing w.request (by (stands-at (WriteBytes dom frame off len) made).rests.1)))
+      let made : o.step ≡ call_steps.Write dom frame off len = no-key o.step (call_steps.Write dom frame off len) tt (ap bare_step (sym is) ∙ same-step) in
+      from-writing c.request (subst IsWriting (sym requests) (to-writing w.request (by (stands-at (call_steps.Write dom frame off len) made).rests.1)))
     where
-      by : RestsOnRequest (known_at s g x.id) x.id w.request (WriteBytes dom frame off len) → IsWriting w.request
+      by : RestsOnRequest (known_at s g x.id) x.id w.request (call_steps.Write dom frame off len) → IsWriting w.request
       by (inl r) = subst IsWriting (sym r.1) tt
       by (inr r) = subst IsWriting (sym r.0) tt
 
   granted-here : (y : Step) (a : Answer) → z ≡ y → EndsWith s g x.id w.request b.phase o.step Granted → GivesValue s h x.id c.request (Some y) a → refusal_of a ≡ None → AnswersEnd h y Granted a
-  granted-here (ReadBytes dom frame off len) a is ends value none = read-so s h x.id c.request dom frame off len a (reading dom frame off len is) value none
+  granted-here (call_steps.Read dom frame off len) a is ends value none = read-so s h x.id c.request dom frame off len a (reading dom frame off len is) value none
   granted-here y a is ends value none = done-so s h g x.id c.request y a
       (subst (λ (q : Step). GivesValue s g x.id c.request (Some q) answers.Done) is (value-here answers.Done (ends (λ dom frame off len e.
-      let f : y ≡ ReadBytes dom frame off len = sym is ∙ no-key z (ReadBytes dom frame off len) tt (ap bare_step (sym e) ∙ sym same-step) in cc)))) value none
+      let f : y ≡ call_steps.Read dom frame off len = sym is ∙ no-key z (call_steps.Read dom frame off len) tt (ap bare_step (sym e) ∙ sym same-step) in cc)))) value none
 
   ended-here : (v : CallResult) (a : Answer) → EndsWith s g x.id w.request b.phase o.step v → refusal_of a ≡ refusal_in (Some v) → GivesValue s h x.id c.request (Some z) a → EndsAs h x.id c.request z seen v a
   ended-here Granted a ends refusal value = granted-here z a refl ends value refusal
   ended-here (Given told) a ends refusal value = tells-value h z told a (value-so s h g x.id c.request z told a same-table (value-here (answer_with told) ends) value refusal)
   ended-here (Refused denial) a ends refusal value = tells-denial h z denial a (refused-so a denial refusal)
-  ended-here (KeptPin m) a ends refusal value =
-      let made : z ≡ PinStep m = no-key z (PinStep m) tt (ap bare_step (sym ends.is) ∙ sym same-step) in
-      let pin = can-pin s g reached.0.domains x.id w.request (values w) (reverse w.steps) b.phase m (stands-at (PinStep m) ends.is) ends.taken in
+  ended-here (results.Mapped m) a ends refusal value =
+      let made : z ≡ call_steps.Pin m = no-key z (call_steps.Pin m) tt (ap bare_step (sym ends.is) ∙ sym same-step) in
+      let pin = can-pin s g reached.0.domains x.id w.request (values w) (reverse w.steps) b.phase m (stands-at (call_steps.Pin m) ends.is) ends.taken in
       let map : AsksMapping c.request = from-mapping c.request (subst AsksMapping (sym requests) (to-mapping w.request (subst AsksMapping (sym ends.of_map) tt))) in
       let r = mapped-so s h x.id c.request m a map (subst (λ (y : Step). GivesValue s h x.id c.request (Some y) a) made value) refusal in (
         r.0,

@@ -14,7 +14,7 @@ use Rattle.gt_model.specs.declared.request.Request.{Request}
 use Rattle.gt_model.specs.History.{mapping_of}
 use Rattle.gt_script_runs.specs.Runs.{Named, MakesRequest, handle_labelled, handle_of, never_given, request_of}
 use Rattle.gt_script_lines.specs.declared.calls.ScriptCall.{ScriptCall}
-use Rattle.gt_script_lines.specs.declared.calls.ScriptCall.TheVariants as calls
+use Rattle.gt_script_lines.specs.declared.calls.ScriptCall.TheVariants as script_calls
 use Rattle.gt_explore_moves.specs.Calls.{SerialsRise}
 use Rattle.gt_explore_moves.specs.Placing.{CountFrom}
 use Rattle.gt_explore_moves.specs.Renaming.{FindsSame, asked_under}
@@ -102,18 +102,18 @@ same-found found mapping named names d handles places label same gone no-place n
 
 -- the label that a call names a mapping by
 abbrev pub label_asked : ScriptCall → List ℕ
-label_asked (calls.Unmap label) = label
-label_asked (calls.Load label off len) = label
-label_asked (calls.Store label off hex) = label
+label_asked (script_calls.Unmap label) = label
+label_asked (script_calls.Load label off len) = label
+label_asked (script_calls.Store label off hex) = label
 label_asked call = []
 
 request-by : (named names : List Named) (d : DomId) (one other : Bor (List ℕ)) (call : ScriptCall) → other.now ≡ one.now
     → (bytes_of (request_of names d other call) ≡ bytes_of (request_of named d one call))
     × (plainly_asked (request_of names d other call) ≡ asked_under (handle_of names d (label_asked call)) (plainly_asked (request_of named d one call)))
 unfolding request_of
-request-by named names d one other (calls.GrantBytes gref hex) e = (ap (λ (bs : List ℕ). Some (gref, bs)) e, refl)
-request-by named names d one other (calls.Store label off hex) e = (refl, ap (λ (bs : List ℕ). asks.Store (handle_of names d label) off (length bs)) e)
-request-by named names d one other (calls.Poke frame off hex) e = (refl, ap (λ (bs : List ℕ). asks.Poke frame off (length bs)) e)
+request-by named names d one other (script_calls.GrantBytes gref hex) e = (ap (λ (bs : List ℕ). Some (gref, bs)) e, refl)
+request-by named names d one other (script_calls.Store label off hex) e = (refl, ap (λ (bs : List ℕ). asks.Store (handle_of names d label) off (length bs)) e)
+request-by named names d one other (script_calls.Poke frame off hex) e = (refl, ap (λ (bs : List ℕ). asks.Poke frame off (length bs)) e)
 request-by named names d one other call e = (refl, refl)
 
 -- in a state and in a run a call asks the same but for handles
@@ -128,9 +128,9 @@ request-renamed named names d call q p (one, e, is) (other, f, also) =
 finds-by : (found mapping : Handle → Option HeldPin) (named names : List Named) (d : DomId) (one : Bor (List ℕ)) (call : ScriptCall) → found (handle_of names d (label_asked call)) ≡ mapping (handle_of named d (label_asked call))
     → FindsSame found (handle_of names d (label_asked call)) mapping (asked (request_of named d one call))
 unfolding request_of
-finds-by found mapping named names d one (calls.Unmap label) e = e
-finds-by found mapping named names d one (calls.Load label off len) e = e
-finds-by found mapping named names d one (calls.Store label off hex) e = e
+finds-by found mapping named names d one (script_calls.Unmap label) e = e
+finds-by found mapping named names d one (script_calls.Load label off len) e = e
+finds-by found mapping named names d one (script_calls.Store label off hex) e = e
 finds-by found mapping named names d one call e = tt
 
 pub finds-alike : (found mapping : Handle → Option HeldPin) (named names : List Named) (d : DomId) (call : ScriptCall) (q : Request) → MakesRequest named d call q → found (handle_of names d (label_asked call)) ≡ mapping (handle_of named d (label_asked call))

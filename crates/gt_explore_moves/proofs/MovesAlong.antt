@@ -20,7 +20,8 @@ use Rattle.gt_model.specs.History.{History, Setting, Underway, open_call}
 use Rattle.gt_model.specs.Legal.{BeginsRight, IsItemOf, IsRight, MayDo}
 use Rattle.gt_model.specs.declared.trace.Answer.{Answer}
 use Rattle.gt_model.specs.declared.trace.Element.{Element}
-use Rattle.gt_model.specs.declared.trace.Element.TheVariants.{Busy, Idle, Item as Did, NoDomain}
+use Rattle.gt_model.specs.declared.trace.Element.TheVariants.{Busy, Idle, NoDomain}
+use Rattle.gt_model.specs.declared.trace.Element.TheVariants as elements
 use Rattle.gt_model.specs.declared.trace.Event.TheVariants.{Begin, Tick}
 use Rattle.gt_model.specs.declared.trace.ItemEvent.{ItemEvent}
 use Rattle.gt_model.specs.declared.trace.ItemEvent.TheVariants.{Began, Stepped}
@@ -196,7 +197,7 @@ module _ (c : RunContents) (scene : SearchContext) (hs : List Happening) (ks : L
 
   -- a call began
   begun-to : (new : SearchState) (led : TurnResult) (q : Request) (answer : Option Answer) (j : Course) → BeginsRight s h (beginning k.dom q answer) q → HappensKnown h (beginning k.dom q answer) → FitsAsked (asked q) → IsOfScript scene.vias (asked q) → j.dom ≡ k.dom → WasAnsweredAll (beginning k.dom q answer ∷ h) j
-      → MovesAsRun s (beginning k.dom q answer ∷ h) tasks a k j old new place led → Comes new led (did (Begin k.dom q) (Did (beginning k.dom q answer))) j
+      → MovesAsRun s (beginning k.dom q answer ∷ h) tasks a k j old new place led → Comes new led (did (Begin k.dom q) (elements.Item (beginning k.dom q answer))) j
   begun-to new led q answer j right asks fits said dom answered moved = let i = beginning k.dom q answer in
       let same = beginnings-change-nothing s h i q old.ground.tables.items old.ground.pages.items is.setting.apart refl in (
         moved.grows,
@@ -227,11 +228,11 @@ module _ (c : RunContents) (scene : SearchContext) (hs : List Happening) (ks : L
     task-next task here = show.left ∙ drop_here tasks a.next task here
 
     -- a call can begin only so
-    begins : {P : Type 0} (q : Request) (e : Element) → MayDo s h (Begin k.dom q) e → ((i : Item) → e ≡ Did i → i ≡ beginning k.dom q i.answer → BeginsRight s h (beginning k.dom q i.answer) q → P) → P
+    begins : {P : Type 0} (q : Request) (e : Element) → MayDo s h (Begin k.dom q) e → ((i : Item) → e ≡ elements.Item i → i ≡ beginning k.dom q i.answer → BeginsRight s h (beginning k.dom q i.answer) q → P) → P
     begins q NoDomain may so = absurd (run may)
     begins q Busy may so = absurd (may.1 rest.1)
     begins q Idle may so = absurd may
-    begins q (Did i) may so = let same = beginning-is k.dom q i may.1 in so i refl same (subst (λ (z : Item). IsRight s h z) same may.2)
+    begins q (elements.Item i) may so = let same = beginning-is k.dom q i may.1 in so i refl same (subst (λ (z : Item). IsRight s h z) same may.2)
 
     -- the call of its next line begins
     pub line-begins : (new : SearchState) (led : TurnResult) (choice : ℕ) (x : Happening) (j : Course) (task : RunTask) (call : ScriptCall) → slice_get tasks a.next ≡ Some task → task.deed ≡ Do call → FitsSaid call
@@ -253,7 +254,7 @@ module _ (c : RunContents) (scene : SearchContext) (hs : List Happening) (ks : L
         let answered = subst (WasAnsweredAll (one ∷ h)) after (line-answered scene.types.items task.line call (given_up q) h (record k { tasks = left }) one answer (left-answered h k left known) refl refl) in
         let came = begun-to new led q answer j right (asks_answered h k.named k.dom call q known.named says) (fits k.named k.dom q says) (said-of-script scene.vias k.named k.dom call q says of-script) dom answered
         (subst (λ (z : Course). MovesAsRun s (one ∷ h) tasks a k z old new place led) after moved) in
-        subst (λ (z : Happening). Comes new led z j) (sym (deed.3 ∙ ap (λ (z : Element). did (Begin k.dom q) z) (e-is ∙ ap (λ (z : Item). Did z) same))) came)
+        subst (λ (z : Happening). Comes new led z j) (sym (deed.3 ∙ ap (λ (z : Element). did (Begin k.dom q) z) (e-is ∙ ap (λ (z : Item). elements.Item z) same))) came)
 
     -- at the end of its list it begins to give a mapping back
     pub back-begins : (new : SearchState) (led : TurnResult) (choice : ℕ) (x : Happening) (j : Course) → slice_get tasks a.next ≡ None
@@ -271,7 +272,7 @@ module _ (c : RunContents) (scene : SearchContext) (hs : List Happening) (ks : L
         let answered = subst (WasAnsweredAll (one ∷ h)) after (back-answered h (held_but k choice) one answer (but-answered h k choice known)) in
         let came = begun-to new led q answer j right (inl (held_here h k.dom.0 choice k.held handle gives.2 known.held)) tt tt dom answered
         (subst (λ (z : Course). MovesAsRun s (one ∷ h) tasks a k z old new place led) after moved) in
-        subst (λ (z : Happening). Comes new led z j) (sym (gives.3 ∙ ap (λ (z : Element). did (Begin k.dom q) z) (e-is ∙ ap (λ (z : Item). Did z) same))) came)
+        subst (λ (z : Happening). Comes new led z j) (sym (gives.3 ∙ ap (λ (z : Element). did (Begin k.dom q) z) (e-is ∙ ap (λ (z : Item). elements.Item z) same))) came)
 
     -- it raises a flag
     pub flag-raised : (new : SearchState) (led : TurnResult) (choice : ℕ) (x : Happening) (j : Course) (task : RunTask) (flag : ℕ) → slice_get tasks a.next ≡ Some task → task.deed ≡ Tell flag
@@ -326,15 +327,15 @@ module _ (c : RunContents) (scene : SearchContext) (hs : List Happening) (ks : L
   -- with something open
 
   -- it can make only a step of what it has open
-  steps : {P : Type 0} (e : Element) → open_call h k.dom.0 ≢ None → MayDo s h (Tick k.dom) e → ((i : Item) → e ≡ Did i → IsItemOf (Tick k.dom) i → IsRight s h i → P) → P
+  steps : {P : Type 0} (e : Element) → open_call h k.dom.0 ≢ None → MayDo s h (Tick k.dom) e → ((i : Item) → e ≡ elements.Item i → IsItemOf (Tick k.dom) i → IsRight s h i → P) → P
   steps NoDomain busy may so = absurd (run may)
   steps Busy busy may so = absurd may
   steps Idle busy may so = absurd (busy may.1)
-  steps (Did i) busy may so = so i refl may.1 may.2
+  steps (elements.Item i) busy may so = so i refl may.1 may.2
 
   -- where that comes to
   abbrev Steps : List (List ℕ) → Opened → Happening → Course → Element → Type 0
-  Steps types opened x j e = (x ≡ did (Tick k.dom) e) × ((i : Item) → e ≡ Did i → i.actor ≡ k.dom → TickLeads types k opened i j × (j.dom ≡ k.dom) × WasAnsweredAll (i ∷ h) j)
+  Steps types opened x j e = (x ≡ did (Tick k.dom) e) × ((i : Item) → e ≡ elements.Item i → i.actor ≡ k.dom → TickLeads types k opened i j × (j.dom ≡ k.dom) × WasAnsweredAll (i ∷ h) j)
 
   step-leads : (types : List (List ℕ)) (opened : Opened) (choice : ℕ) (x : Happening) (j : Course) → opened ≢ resting → OpenLeads types k opened choice x j → (e : Element) × Steps types opened x j e
   step-leads types resting choice x j busy leads = absurd (busy refl)

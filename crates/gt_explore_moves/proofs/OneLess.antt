@@ -7,7 +7,7 @@ use Rattle.gt_types.specs.declared.DomId.{DomId}
 use Rattle.gt_model.specs.declared.handle.Handle.{Handle}
 use Rattle.gt_model.specs.declared.action.Observation.{Observation}
 use Rattle.gt_model.specs.declared.held.HeldPin.{HeldPin}
-use Rattle.gt_model.specs.declared.request.PinHolder.TheVariants.{Mapping as ByHandle}
+use Rattle.gt_model.specs.declared.request.PinHolder.TheVariants as holders
 use Rattle.gt_model.specs.History.{History, Pin, gather, live, mapping_named, mappings_at, same_handle, without}
 use Rattle.gt_model.specs.declared.trace.Answer.{Answer}
 use Rattle.gt_core.proofs.Mappings.{less}
@@ -62,11 +62,11 @@ less-is (suc n) low (m ∷ ms) high handle r there =
     let le : suc m.0.serial ≤ handle.serial = rise-from (suc m.0.serial) (map (λ (m : Handle × HeldPin). m.0) ms) high n handle r.1 there in
     ap (λ (b : Bool). cond b ms (m ∷ less handle ms)) (apart-serials m.0 handle (omega arith)) ∙ ap (λ (l : List (Handle × HeldPin)). m ∷ l) (less-is n (suc m.0.serial) ms high handle r.1 there)
 
-gather-less : (d : ℕ) (handle : Handle) (ps : List Pin) → gather mapping_named d (without d (ByHandle handle) ps) ≡ less handle (gather mapping_named d ps)
+gather-less : (d : ℕ) (handle : Handle) (ps : List Pin) → gather mapping_named d (without d (holders.Mapping handle) ps) ≡ less handle (gather mapping_named d ps)
 unfolding gather without
 gather-less d handle [] = refl
 gather-less d handle (p ∷ ps) = grind (arith, gather-less d handle ps)
 
 -- the mappings of a domain that gives one up
-pub mappings-less : (h : History) (d : DomId) (p : HeldPin) (handle : Handle) (seen : Observation) (answer : Option Answer) → mappings_at (unpins d p (ByHandle handle) seen answer ∷ h) d.0 ≡ less handle (mappings_at h d.0)
-mappings-less h d p handle seen answer = ap (gather mapping_named d.0) (unpinned-live h d p (ByHandle handle) seen answer) ∙ gather-less d.0 handle (live h)
+pub mappings-less : (h : History) (d : DomId) (p : HeldPin) (handle : Handle) (seen : Observation) (answer : Option Answer) → mappings_at (unpins d p (holders.Mapping handle) seen answer ∷ h) d.0 ≡ less handle (mappings_at h d.0)
+mappings-less h d p handle seen answer = ap (gather mapping_named d.0) (unpinned-live h d p (holders.Mapping handle) seen answer) ∙ gather-less d.0 handle (live h)

@@ -3,7 +3,7 @@ use Rattle.std.proofs.Common.{◌≡◌, ◌+◌, ◌≤◌, ℕ, false, List, �
 use Rattle.std.specs.Prelude.{◌==◌}
 use Rattle.gt_types.specs.declared.DomId.{DomId}
 use Rattle.gt_model.specs.declared.handle.Handle.{Handle}
-use Rattle.gt_model.specs.declared.action.Action.TheVariants.{Step as Makes}
+use Rattle.gt_model.specs.declared.action.Action.TheVariants as actions
 use Rattle.gt_model.specs.declared.held.HeldPin.{HeldPin}
 use Rattle.gt_model.specs.Path.{path}
 use Rattle.gt_model.specs.Rules.{CallerKnowledge}
@@ -39,7 +39,7 @@ goes-same s h g d c o same along = record {
   asks = along.asks;
   by_place = subst (λ (hs : List Handle). AsksByPlace hs along.place c.request) (sym (same-handles s h g d same)) along.by_place;
   at = subst (λ (z : CallerKnowledge). IsAt z o.call (values c)) (sym (same-by-place s h g d same)) along.at;
-  follows = subst (λ (z : CallerKnowledge). path z d o.call.request (values c) ≡ Some (Makes o.step)) (sym (same-by-place s h g d same)) along.follows;
+  follows = subst (λ (z : CallerKnowledge). path z d o.call.request (values c) ≡ Some (actions.Step o.step)) (sym (same-by-place s h g d same)) along.follows;
 }
 
 opens-same : (s : Setting) (h g : History) (tasks : List RunTask) (k : Course) (next : ℕ) (opened : Opened) (c : Option Underway) (o : Option ActorCall) → SameKnown s h g k.dom → ShowsOpen s h tasks k next opened c o → ShowsOpen s g tasks k next opened c o

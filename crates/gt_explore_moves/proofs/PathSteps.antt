@@ -8,44 +8,46 @@ use Rattle.gt_types.specs.declared.GrantRef.{GrantRef}
 use Rattle.gt_types.specs.declared.denial.Denial.{Denial}
 use Rattle.gt_types.specs.declared.denial.Rule.{Rule}
 use Rattle.gt_model.specs.declared.change.BodyWord.{BodyWord}
-use Rattle.gt_model.specs.declared.change.BodyWord.TheVariants.{First as FirstHalf, Second as SecondHalf}
+use Rattle.gt_model.specs.declared.change.BodyWord.TheVariants as body_words
 use Rattle.gt_model.specs.declared.change.EntryChange.{EntryChange}
 use Rattle.gt_model.specs.declared.change.EntryChange.TheVariants.{Publish}
 use Rattle.gt_model.specs.declared.entry.Entry.TheVariants as entries
-use Rattle.gt_model.specs.declared.entry.Entry.{Entry as TableEntry}
+use Rattle.gt_model.specs.declared.entry.Entry.{Entry}
 use Rattle.gt_model.specs.Words.{control_of, header_of}
-use Rattle.gt_model.specs.declared.control.EntryKind.TheVariants.{Sub as KindSub}
+use Rattle.gt_model.specs.declared.control.EntryKind.TheVariants as kinds
 use Rattle.gt_model.specs.Path.{AfterPin, AfterRefusal, Continuation, after_first, beyond, at_first_look, by_mapping}
 use Rattle.gt_model.specs.Path.{ended, exchanges, exchanges_once, give_back, grant_path, held_of, is_stopped}
 use Rattle.gt_model.specs.Path.{last_step, leg, looks, makes, reaches, reads_body, refused_holding, second_leg}
 use Rattle.gt_model.specs.Path.{rule_of_try, tries, try_pin, turn, turns, unless_refused}
 use Rattle.gt_model.specs.Rules.{CallerKnowledge, first_body, first_look, is_kind, size_of, via_judged}
 use Rattle.gt_model.specs.declared.action.Action.{Action}
-use Rattle.gt_model.specs.declared.action.Action.TheVariants.{Step as Makes, Done}
+use Rattle.gt_model.specs.declared.action.Action.TheVariants.{Done}
+use Rattle.gt_model.specs.declared.action.Action.TheVariants as actions
 use Rattle.gt_model.specs.declared.action.CallResult.{CallResult}
 use Rattle.gt_model.specs.declared.action.CallResult.TheVariants.{Granted, Refused}
 use Rattle.gt_model.specs.declared.action.Observation.{Observation}
 use Rattle.gt_model.specs.declared.action.Observation.TheVariants.{Missed, Nothing, Taken, Word}
 use Rattle.gt_model.specs.declared.action.Step.{Step}
-use Rattle.gt_model.specs.declared.action.Step.TheVariants.{Exchange, LookBody, LookControl, LookHeader}
-use Rattle.gt_model.specs.declared.action.Step.TheVariants.{Pin as PinStep, StoreBody, Unpin}
+use Rattle.gt_model.specs.declared.action.Step.TheVariants.{Exchange, LookBody, LookControl, LookHeader, StoreBody}
+use Rattle.gt_model.specs.declared.action.Step.TheVariants.{Unpin}
+use Rattle.gt_model.specs.declared.action.Step.TheVariants as call_steps
 use Rattle.gt_model.specs.declared.held.AccessPath.{AccessPath}
 use Rattle.gt_model.specs.declared.held.AccessPath.TheVariants.{Own, Direct, Through}
 use Rattle.gt_model.specs.declared.held.HeldPin.{HeldPin}
 use Rattle.gt_model.specs.declared.leg.Leg.{Leg}
 use Rattle.gt_model.specs.declared.bounds.TheConstants.{MORE_TRIES}
-use Rattle.gt_model.specs.declared.request.PinHolder.TheVariants.{Leg as ByLeg}
+use Rattle.gt_model.specs.declared.request.PinHolder.TheVariants as holders
 
 -- the pins of a call
 
 -- the pins that a call holds after a step, the last one first
 abbrev pub after_step : Step → Observation → List HeldPin → List HeldPin
-after_step (PinStep p) Taken held = p ∷ held
-after_step (Unpin p (ByLeg number)) seen (q ∷ held) = held
+after_step (call_steps.Pin p) Taken held = p ∷ held
+after_step (Unpin p (holders.Leg number)) seen (q ∷ held) = held
 after_step step seen held = held
 
 abbrev pub after_action : Option Action → Observation → List HeldPin → List HeldPin
-after_action (Some (Makes step)) seen held = after_step step seen held
+after_action (Some (actions.Step step)) seen held = after_step step seen held
 after_action action seen held = held
 
 -- the pins that it holds after it has been shown these values, if it held these before
@@ -60,7 +62,7 @@ held-more cont held (u ∷ vs) v = held-more (λ us. cont (u ∷ us)) (after_act
 
 -- if the action takes a pin, it is such
 abbrev pub TakesOf : (HeldPin → Type 0) → Option Action → Observation → Type 0
-TakesOf L (Some (Makes (PinStep p))) Taken = L p
+TakesOf L (Some (actions.Step (call_steps.Pin p))) Taken = L p
 TakesOf L action seen = Unit {0}
 
 -- each pin that was taken, while the path has shown these values, is such
@@ -74,7 +76,7 @@ took-more L cont [] v took takes = (takes, tt)
 took-more L cont (u ∷ vs) v took takes = (took.0, took-more L (λ us. cont (u ∷ us)) vs v took.1 takes)
 
 takes-any : (action : Option Action) (seen : Observation) → TakesOf (λ p. Unit {0}) action seen
-takes-any (Some (Makes (PinStep p))) Taken = tt
+takes-any (Some (actions.Step (call_steps.Pin p))) Taken = tt
 takes-any action seen = tt
 
 pub took-any : (cont : Continuation) (vs : List Observation) → TookOf (λ p. Unit {0}) cont vs
@@ -100,15 +102,15 @@ module _ (L : HeldPin → Type 0) (G : List HeldPin → Action → Type 0) where
   each-ended held verdict good [] action took e = one-action held (Done verdict) action good e
   each-ended held verdict good (v ∷ vs) action took e = absurd (none-some action e)
 
-  pub each-makes : (held : List HeldPin) (one : Step) (follows : Continuation) → G held (Makes one)
+  pub each-makes : (held : List HeldPin) (one : Step) (follows : Continuation) → G held (actions.Step one)
       → Each (after_step one Nothing held) follows → Each held (makes one follows)
-  each-makes held one follows good more [] action took e = one-action held (Makes one) action good e
+  each-makes held one follows good more [] action took e = one-action held (actions.Step one) action good e
   each-makes held one follows good more (Nothing ∷ vs) action took e = more vs action took.1 e
   each-makes held one follows good more (v ∷ vs) action took e = absurd (none-some action e)
 
-  pub each-looks : (held : List HeldPin) (one : Step) (follows : ℕ → Continuation) → G held (Makes one)
+  pub each-looks : (held : List HeldPin) (one : Step) (follows : ℕ → Continuation) → G held (actions.Step one)
       → ((w : ℕ) → Each (after_step one (Word w) held) (follows w)) → Each held (looks one follows)
-  each-looks held one follows good more [] action took e = one-action held (Makes one) action good e
+  each-looks held one follows good more [] action took e = one-action held (actions.Step one) action good e
   each-looks held one follows good more (Word w ∷ vs) action took e = more w vs action took.1 e
   each-looks held one follows good more (v ∷ vs) action took e = absurd (none-some action e)
 
@@ -118,11 +120,11 @@ module _ (L : HeldPin → Type 0) (G : List HeldPin → Action → Type 0) where
   each-if held false one other first second = second
 
   pub each-exchanges : (held : List HeldPin) (one : Step) (looked : ℕ) (taken : Continuation)
-      (missed : ℕ → Continuation) → G held (Makes one)
-      → (TakesOf L (Some (Makes one)) Taken → Each (after_step one Taken held) taken)
+      (missed : ℕ → Continuation) → G held (actions.Step one)
+      → (TakesOf L (Some (actions.Step one)) Taken → Each (after_step one Taken held) taken)
       → ((w : ℕ) → Each (after_step one (Missed w) held) (missed w)) → Each held (exchanges one looked taken missed)
   each-exchanges held one looked taken missed good first second [] action took e =
-      one-action held (Makes one) action good e
+      one-action held (actions.Step one) action good e
   each-exchanges held one looked taken missed good first second (Taken ∷ vs) action took e =
       first took.0 vs action took.1 e
   each-exchanges held one looked taken missed good first second (Missed w ∷ vs) action took e =
@@ -136,10 +138,10 @@ module _ (L : HeldPin → Type 0) (G : List HeldPin → Action → Type 0) where
 
   -- the steps of a leg
   pub record LegIs (held : List HeldPin) (l : Leg) : Type 0 where
-    pub header : G held (Makes (LookHeader l.dom))
-    pub control : G held (Makes (LookControl l.dom l.gref))
-    pub body : (half : BodyWord) → G held (Makes (LookBody l.dom l.gref half))
-    pub pin : (p : HeldPin) → IsPinOf l p → G held (Makes (PinStep p))
+    pub header : G held (actions.Step (LookHeader l.dom))
+    pub control : G held (actions.Step (LookControl l.dom l.gref))
+    pub body : (half : BodyWord) → G held (actions.Step (LookBody l.dom l.gref half))
+    pub pin : (p : HeldPin) → IsPinOf l p → G held (actions.Step (call_steps.Pin p))
 
   module _ (held : List HeldPin) (l : Leg) (is : LegIs held l) (refused : AfterRefusal) (pinned : AfterPin)
       (no : (denial : Denial) → Each held (refused denial))
@@ -147,15 +149,15 @@ module _ (L : HeldPin → Type 0) (G : List HeldPin → Action → Type 0) where
     each-last : (p : HeldPin) (rule : Option Rule) (missed : ℕ → Continuation) → IsPinOf l p
         → ((w : ℕ) → Each held (missed w)) → Each held (last_step l p rule refused missed pinned)
     each-last p None missed of more =
-        each-exchanges held (PinStep p) p.word (pinned p) missed (is.pin p of) (yes p of) more
+        each-exchanges held (call_steps.Pin p) p.word (pinned p) missed (is.pin p of) (yes p of) more
     each-last p (Some rule) missed of more = each-looks held (LookControl l.dom l.gref) _ is.control (λ found.
         each-if held (found == p.word) _ _ (no _) (more found))
 
     each-body : (word : ℕ) (missed : ℕ → Continuation) → ((w : ℕ) → Each held (missed w))
         → Each held (reads_body l word refused missed pinned)
-    each-body word missed more = each-looks held (LookBody l.dom l.gref FirstHalf) _ (is.body FirstHalf) (λ body.
-        each-if held (is_kind (control_of word).kind KindSub) _ _
-        (each-looks held (LookBody l.dom l.gref SecondHalf) _ (is.body SecondHalf) (λ second.
+    each-body word missed more = each-looks held (LookBody l.dom l.gref body_words.First) _ (is.body body_words.First) (λ body.
+        each-if held (is_kind (control_of word).kind kinds.Sub) _ _
+        (each-looks held (LookBody l.dom l.gref body_words.Second) _ (is.body body_words.Second) (λ second.
         each-last (held_of l word body second) (rule_of_try l word body second) missed (body, second, refl) more))
         (each-last (held_of l word body 0) (rule_of_try l word body 0) missed (body, 0, refl) more))
 
@@ -182,13 +184,13 @@ module _ (L : HeldPin → Type 0) (G : List HeldPin → Action → Type 0) where
 
   abbrev pub GivesWell : List HeldPin → CallResult → Type 0
   GivesWell [] verdict = G [] (Done verdict)
-  GivesWell (p ∷ ps) verdict = G (p ∷ ps) (Makes (Unpin p (ByLeg (length ps)))) × GivesWell ps verdict
+  GivesWell (p ∷ ps) verdict = G (p ∷ ps) (actions.Step (Unpin p (holders.Leg (length ps)))) × GivesWell ps verdict
 
   pub each-given : (held : List HeldPin) (verdict : CallResult) → GivesWell held verdict
       → Each held (give_back held verdict)
   each-given [] verdict good = each-ended [] verdict good
   each-given (p ∷ ps) verdict good =
-      each-makes (p ∷ ps) (Unpin p (ByLeg (length ps))) (give_back ps verdict) good.0 (each-given ps verdict good.1)
+      each-makes (p ∷ ps) (Unpin p (holders.Leg (length ps))) (give_back ps verdict) good.0 (each-given ps verdict good.1)
 
   -- what is needed of the second leg to an end, after the pin of a transitive entry
   pub record SecondIs (k : CallerKnowledge) (l : Leg) (held : List HeldPin) (p : HeldPin) (dom2 : DomId)
@@ -201,7 +203,7 @@ module _ (L : HeldPin → Type 0) (G : List HeldPin → Action → Type 0) where
   -- an end of a copy is reached
   module _ (k : CallerKnowledge) (l : Leg) (pair : DomId → DomId × DomId) (held : List HeldPin)
       (reached : AccessPath → Continuation) where
-    each-beyond : (p : HeldPin) (entry : TableEntry) → Each (p ∷ held) (reached (Direct p))
+    each-beyond : (p : HeldPin) (entry : Entry) → Each (p ∷ held) (reached (Direct p))
         → ((dom : DomId) (ro : Bool) (dom2 : DomId) (gref : GrantRef) → entry ≡ entries.Via dom ro dom2 gref
         → SecondIs k l held p dom2 gref reached) → Each (p ∷ held) (beyond k l pair held reached p entry)
     each-beyond p (entries.Via dom ro dom2 gref) direct second = by (via_judged k (pair dom2) dom2) where
@@ -234,12 +236,12 @@ module _ (L : HeldPin → Type 0) (G : List HeldPin → Action → Type 0) where
 
   -- an owner's changes
   module _ (held : List HeldPin) (ends : (verdict : CallResult) → G held (Done verdict)) (d : DomId) (gref : GrantRef)
-      (change : EntryChange) (exchange : (looked : ℕ) → G held (Makes (Exchange gref looked change))) where
+      (change : EntryChange) (exchange : (looked : ℕ) → G held (actions.Step (Exchange gref looked change))) where
     pub each-once : (looked : ℕ) → Each held (exchanges_once d gref looked change)
     each-once looked = each-exchanges held (Exchange gref looked change) looked _ _ (exchange looked)
         (λ taken. each-ended held Granted (ends Granted)) (λ found. each-ended held _ (ends _))
 
-    module _ (control : G held (Makes (LookControl d gref))) where
+    module _ (control : G held (actions.Step (LookControl d gref))) where
       each-turn : (missed : ℕ → Continuation) → ((w : ℕ) → Each held (missed w))
           → Each held (turn change d gref missed)
       each-turn missed more = each-looks held (LookControl d gref) _ control (λ word.
@@ -253,15 +255,15 @@ module _ (L : HeldPin → Type 0) (G : List HeldPin → Action → Type 0) where
       each-turns (suc more) = each-turn _ (λ found. each-turns more)
 
   pub each-grant : (held : List HeldPin) → ((verdict : CallResult) → G held (Done verdict)) → (k : CallerKnowledge)
-      (d : DomId) (gref : GrantRef) (entry : TableEntry)
-      → ((half : BodyWord) (w : ℕ) → G held (Makes (StoreBody gref half w)))
-      → ((looked : ℕ) → G held (Makes (Exchange gref looked (Publish entry)))) → Each held (grant_path k d gref entry)
+      (d : DomId) (gref : GrantRef) (entry : Entry)
+      → ((half : BodyWord) (w : ℕ) → G held (actions.Step (StoreBody gref half w)))
+      → ((looked : ℕ) → G held (actions.Step (Exchange gref looked (Publish entry)))) → Each held (grant_path k d gref entry)
   each-grant held ends k d gref entry store exchange =
-      each-makes held (StoreBody gref FirstHalf (first_body entry)) _ (store FirstHalf _) (by entry exchange)
+      each-makes held (StoreBody gref body_words.First (first_body entry)) _ (store body_words.First _) (by entry exchange)
     where
-      by : (e : TableEntry) → ((looked : ℕ) → G held (Makes (Exchange gref looked (Publish e))))
+      by : (e : Entry) → ((looked : ℕ) → G held (actions.Step (Exchange gref looked (Publish e))))
           → Each held (after_first k d gref e)
-      by (entries.Sub dom ro frame off len) x = each-makes held (StoreBody gref SecondHalf _) _ (store SecondHalf _)
+      by (entries.Sub dom ro frame off len) x = each-makes held (StoreBody gref body_words.Second _) _ (store body_words.Second _)
           (each-once held ends d gref (Publish (entries.Sub dom ro frame off len)) x _)
       by entries.Invalid x = each-once held ends d gref (Publish entries.Invalid) x _
       by (entries.Page dom ro frame) x = each-once held ends d gref (Publish (entries.Page dom ro frame)) x _
@@ -269,7 +271,7 @@ module _ (L : HeldPin → Type 0) (G : List HeldPin → Action → Type 0) where
 
   pub each-mapped : (found : Option HeldPin) (step : HeldPin → Step)
       (ends : (verdict : CallResult) → G [] (Done verdict))
-      → ((m : HeldPin) → found ≡ Some m → G [] (Makes (step m)))
+      → ((m : HeldPin) → found ≡ Some m → G [] (actions.Step (step m)))
       → ((m : HeldPin) → after_step (step m) Nothing [] ≡ []) → Each [] (by_mapping found step)
   each-mapped None step ends good kept = each-ended [] _ (ends _)
   each-mapped (Some m) step ends good kept = each-makes [] (step m) _ (good m refl)

@@ -5,14 +5,15 @@ use Rattle.gt_types.specs.declared.DomId.{DomId}
 use Rattle.gt_types.specs.declared.config.DomainConfig.{DomainConfig}
 use Rattle.gt_types.specs.declared.limits.TheConstants.{FRAME_SIZE}
 use Rattle.gt_model.specs.declared.handle.Handle.{Handle}
-use Rattle.gt_model.specs.declared.action.Action.TheVariants.{Step as Makes}
+use Rattle.gt_model.specs.declared.action.Action.TheVariants as actions
 use Rattle.gt_model.specs.declared.action.Observation.{Observation}
 use Rattle.gt_model.specs.declared.action.Step.{Step}
-use Rattle.gt_model.specs.declared.action.Step.TheVariants.{Read as ReadBytes, Unpin, Write as WriteBytes}
+use Rattle.gt_model.specs.declared.action.Step.TheVariants.{Unpin}
+use Rattle.gt_model.specs.declared.action.Step.TheVariants as call_steps
 use Rattle.gt_calls.specs.declared.call.Call.{Call}
 use Rattle.gt_calls.specs.declared.call.Phase.{Phase}
 use Rattle.gt_model.specs.declared.bounds.TheConstants.{SERIAL_LIMIT}
-use Rattle.gt_model.specs.declared.request.PinHolder.TheVariants.{Mapping as ByHandle}
+use Rattle.gt_model.specs.declared.request.PinHolder.TheVariants as holders
 use Rattle.gt_model.specs.declared.request.Request.{Request}
 use Rattle.gt_model.specs.Asking.{asked, bytes_given_by}
 use Rattle.gt_model.specs.Path.{path}
@@ -30,7 +31,7 @@ use Rattle.gt_core.proofs.Words.{fun_ext}
 use Rattle.gt_model.proofs.Observers.{kept-entry, kept-raises, stepped}
 use Rattle.gt_script_runs.specs.Runs.{Named, MakesRequest, call_bytes, request_of}
 use Rattle.gt_script_lines.specs.declared.calls.ScriptCall.{ScriptCall}
-use Rattle.gt_script_lines.specs.declared.calls.ScriptCall.TheVariants as calls
+use Rattle.gt_script_lines.specs.declared.calls.ScriptCall.TheVariants as script_calls
 use Rattle.gt_explore_replay.specs.Courses.{Course, Opened, calling, giving, resting}
 use Rattle.gt_script.specs.Lists.{RunTask}
 use Rattle.gt_explore_state.specs.Shows.{IsGivenTo, IsItemOfStep, IsInRun, LooksInRun, StepFits, TableShows}
@@ -65,21 +66,21 @@ pub record TickIs (s : Setting) (h : History) (tasks : List RunTask) (k : Course
 -- steps that are the same but for a handle
 
 unheld-under : (b : Handle) (y : Step) → unheld (step_under b y) ≡ unheld y
-unheld-under b (Unpin p (ByHandle a)) = refl
+unheld-under b (Unpin p (holders.Mapping a)) = refl
 unheld-under b y = refl
 
 seen-under : (s : Setting) (h : History) (d : DomId) (b : Handle) (y : Step) → seen_by s h d (step_under b y) ≡ seen_by s h d y
-seen-under s h d b (Unpin p (ByHandle a)) = refl
+seen-under s h d b (Unpin p (holders.Mapping a)) = refl
 seen-under s h d b y = refl
 
 change-under : (b : Handle) (y : Step) (seen : Observation) (r : ℕ) → change_at (Stepped (step_under b y) seen) r ≡ change_at (Stepped y seen) r
-change-under b (Unpin p (ByHandle a)) seen r = refl
+change-under b (Unpin p (holders.Mapping a)) seen r = refl
 change-under b y seen r = refl
 
 -- a step that gives up no mapping is the same
 pub no-handle : (b : Handle) (y z : Step) → GivesNone y → step_under b y ≡ step_under b z → z ≡ y
-no-handle b (Unpin p (ByHandle a)) z n e = absurd n
-no-handle b y (Unpin p (ByHandle a)) n e = grind arith
+no-handle b (Unpin p (holders.Mapping a)) z n e = absurd n
+no-handle b y (Unpin p (holders.Mapping a)) n e = grind arith
 no-handle b y z n e = grind arith
 
 -- what a call is given that stores or pokes
@@ -88,8 +89,8 @@ said-given : (named : List Named) (d : DomId) (call : ScriptCall) (q : Request) 
 unfolding request_of
 said-given named d call q (bytes, hex, is) writes = ap bytes_given_by is ∙ by call hex (subst (λ (r : Request). IsWriting (asked r)) is writes) where
   by : (c : ScriptCall) → bytes.now ≡ call_bytes c → IsWriting (asked (request_of named d bytes c)) → bytes_given_by (request_of named d bytes c) ≡ call_bytes c
-  by (calls.Store label off hex) e w = e
-  by (calls.Poke frame off hex) e w = e
+  by (script_calls.Store label off hex) e w = e
+  by (script_calls.Poke frame off hex) e w = e
   by c e w = absurd w
 
 given-open : (s : Setting) (h : History) (tasks : List RunTask) (k : Course) (next : ℕ) (opened : Opened) (c : Underway) (o : ActorCall) → ShowsOpen s h tasks k next opened (Some c) (Some o) → IsWriting c.request → bytes_by (task_in tasks o.task) ≡ c.given
@@ -106,7 +107,7 @@ along-of s h tasks k next (calling line call lost) c o show = show.0
 along-of s h tasks k next giving c o show = show.0
 
 -- while an entry is granted a step stores a body word
-storing-step : (k : CallerKnowledge) (call : Call) (d : DomId) (shown : List Observation) (y : Step) (p : Phase) → call.caller ≡ d → IsAt k call shown → call.phase ≡ Some p → IsGranting p → path k d call.request shown ≡ Some (Makes y) → (r : ℕ) (seen : Observation) → change_at (Stepped y seen) r ≡ None
+storing-step : (k : CallerKnowledge) (call : Call) (d : DomId) (shown : List Observation) (y : Step) (p : Phase) → call.caller ≡ d → IsAt k call shown → call.phase ≡ Some p → IsGranting p → path k d call.request shown ≡ Some (actions.Step y) → (r : ℕ) (seen : Observation) → change_at (Stepped y seen) r ≡ None
 storing-step k call d shown y p own at here storing follows r seen = grind arith
 
 -- what is so of the step that a state is about to make
@@ -179,17 +180,17 @@ module _ (s : Setting) (h : History) (scene : SearchContext) (before : SearchSta
       (sym (unheld-under along.place tick-is.step) ∙ ap unheld (sym same-step) ∙ unheld-under along.place o.step)
 
   given-is : (y : Step) → o.step ≡ y → IsGivenTo h i.actor y (bytes_by (task_in tasks o.task))
-  given-is (WriteBytes dom frame off len) e =
-      let made : tick-is.step ≡ WriteBytes dom frame off len = no-handle along.place (WriteBytes dom frame off len) tick-is.step tt (ap (step_under along.place) (sym e) ∙ same-step) in
+  given-is (call_steps.Write dom frame off len) e =
+      let made : tick-is.step ≡ call_steps.Write dom frame off len = no-handle along.place (call_steps.Write dom frame off len) tick-is.step tt (ap (step_under along.place) (sym e) ∙ same-step) in
       given-open s h tasks k a.next k.opened tick-is.call o tick-is.shows (in-run.writing dom frame off len made)
       ∙ ap given_in (sym tick-is.opened) ∙ ap (λ (d : DomId). given_in (open_call h d.0)) (sym own)
   given-is y e = tt
 
   -- a read fits in its frame
   reads-in : (made y : Step) (seen : Observation) → unheld made ≡ unheld y → StepFits s h i.actor made seen → ReadsInFrame y
-  reads-in made (ReadBytes dom frame off len) seen e fits = by made e fits where
-    by : (z : Step) → unheld z ≡ ReadBytes dom frame off len → StepFits s h i.actor z seen → off + len ≤ FRAME_SIZE
-    by (ReadBytes u f p n) e fits = grind arith
+  reads-in made (call_steps.Read dom frame off len) seen e fits = by made e fits where
+    by : (z : Step) → unheld z ≡ call_steps.Read dom frame off len → StepFits s h i.actor z seen → off + len ≤ FRAME_SIZE
+    by (call_steps.Read u f p n) e fits = grind arith
     by (Unpin p holder) e fits = grind arith
     by z e fits = grind arith
   reads-in made y seen e fits = tt

@@ -14,7 +14,7 @@ use Rattle.gt_types.specs.declared.config.DomainConfig.{DomainConfig}
 use Rattle.gt_core.specs.Alike.{HappensKnown}
 use Rattle.gt_model.specs.History.{History, Setting}
 use Rattle.gt_model.specs.Legal.{IsRight}
-use Rattle.gt_model.specs.declared.trace.Element.TheVariants.{Item as Did}
+use Rattle.gt_model.specs.declared.trace.Element.TheVariants as elements
 use Rattle.gt_model.specs.declared.trace.Event.{Event}
 use Rattle.gt_model.specs.declared.trace.Item.{Item}
 use Rattle.gt_calls.specs.Known.{own_generation}
@@ -187,22 +187,22 @@ module _ (c : RunContents) (scene : SearchContext) (hs : List Happening) (ks : L
       → i.actor ≡ k.dom → IsRight s h i → HappensKnown h i → AsksFit i.happened → BeginsOfScript scene.vias i.happened
       → new.actors.items ≡ slice_set old.actors.items place b → j.dom ≡ k.dom → ShowsCalls s (i ∷ h) (tasks_at scene place) j b → WasAnsweredAll (i ∷ h) j
       → TablesShow s (i ∷ h) new.ground.tables.items → PagesShow (i ∷ h) new.ground.pages.items → new.told ≡ old.told
-      → SceneShows c scene (hs ++ did e (Did i) ∷ []) (slice_set ks place j) new
+      → SceneShows c scene (hs ++ did e (elements.Item i) ∷ []) (slice_set ks place j) new
   comes-event new e i j b own right known fits said becomes dom calls answered tables pages told =
-      comes-so new (did e (Did i)) j b (i ∷ h) becomes (history_did hs e (Did i)) dom calls answered
+      comes-so new (did e (elements.Item i)) j b (i ∷ h) becomes (history_did hs e (elements.Item i)) dom calls answered
       (λ tasks u z other show. others-stay s h tasks u z i (ne_eqb i.actor.0 u.dom.0 (λ same. other (sym same ∙ ap (λ (d : DomId). d.0) own))) show)
-      (λ u was. record { named = names_grown h (Did i) u.named was.named; held = held_grown h (Did i) u.dom.0 u.held was.held })
+      (λ u was. record { named = names_grown h (elements.Item i) u.named was.named; held = held_grown h (elements.Item i) u.dom.0 u.held was.held })
       tables pages
       (like-goes-on s h i shows.like (subst (λ (d : DomId). domain_of c.head.domains d ≢ None) (sym own) of-run) right known fits)
       (said, shows.asked)
       (ap (λ w. length w.items) told ∙ shows.flags)
-      (λ flag before. ap (λ w. slice_get w.items flag) told ∙ elim (raised_or hs (did e (Did i)) flag before) [
+      (λ flag before. ap (λ w. slice_get w.items flag) told ∙ elim (raised_or hs (did e (elements.Item i)) flag before) [
         | inl was ↦ shows.told flag was
         | inr (d, same) ↦ absurd (no-flag d flag same)
       ])
-      (λ flag is. raised-still hs (did e (Did i)) flag (shows.heard flag (ap (λ w. slice_get w.items flag) (sym told) ∙ is)))
+      (λ flag is. raised-still hs (did e (elements.Item i)) flag (shows.heard flag (ap (λ w. slice_get w.items flag) (sym told) ∙ is)))
     where
-      no-flag : (d : DomId) (flag : ℕ) → did e (Did i) ≡ raised d flag → ⊥
+      no-flag : (d : DomId) (flag : ℕ) → did e (elements.Item i) ≡ raised d flag → ⊥
       no-flag d flag same = cc
 
   -- by a flag

@@ -10,18 +10,21 @@ use Rattle.gt_types.specs.declared.GrantRef.{GrantRef}
 use Rattle.gt_types.specs.declared.denial.Denial.{Denial}
 use Rattle.gt_model.specs.declared.change.EntryChange.{EntryChange}
 use Rattle.gt_model.specs.declared.handle.Handle.{Handle}
-use Rattle.gt_model.specs.declared.action.Action.TheVariants.{Step as Makes, Done}
+use Rattle.gt_model.specs.declared.action.Action.TheVariants.{Done}
+use Rattle.gt_model.specs.declared.action.Action.TheVariants as actions
 use Rattle.gt_model.specs.declared.action.Observation.{Observation}
 use Rattle.gt_model.specs.declared.action.Observation.TheVariants.{Taken}
 use Rattle.gt_model.specs.declared.action.Step.{Step}
-use Rattle.gt_model.specs.declared.action.Step.TheVariants.{Exchange, Pin as PinStep, Read as ReadBytes, Unpin}
+use Rattle.gt_model.specs.declared.action.Step.TheVariants.{Exchange, Unpin}
+use Rattle.gt_model.specs.declared.action.Step.TheVariants as call_steps
 use Rattle.gt_model.specs.declared.action.CallResult.{CallResult}
-use Rattle.gt_model.specs.declared.action.CallResult.TheVariants.{Given, Granted, Mapped as KeptPin, Refused}
+use Rattle.gt_model.specs.declared.action.CallResult.TheVariants.{Given, Granted, Refused}
+use Rattle.gt_model.specs.declared.action.CallResult.TheVariants as results
 use Rattle.gt_calls.specs.declared.call.Call.{Call}
 use Rattle.gt_model.specs.declared.held.HeldPin.{HeldPin}
 use Rattle.gt_model.specs.declared.request.OpenRequest.{OpenRequest}
 use Rattle.gt_model.specs.declared.request.OpenRequest.TheVariants.{Unmap, Release}
-use Rattle.gt_model.specs.declared.request.PinHolder.TheVariants.{Leg as ByLeg, Mapping as ByHandle}
+use Rattle.gt_model.specs.declared.request.PinHolder.TheVariants as holders
 use Rattle.gt_model.specs.declared.request.Request.{Request}
 use Rattle.gt_model.specs.declared.request.Request.TheVariants as requests
 use Rattle.gt_model.specs.Asking.{asked, GivesUp}
@@ -41,7 +44,7 @@ use Rattle.gt_model.proofs.Observers.{stepped}
 use Rattle.gt_script_runs.specs.Printing.{answer_line, answer_text, bytes_text, call_text}
 use Rattle.gt_script_runs.specs.Runs.{Named, MakesRequest, handle_given, label_given, request_of, with_name}
 use Rattle.gt_script_lines.specs.declared.calls.ScriptCall.{ScriptCall}
-use Rattle.gt_script_lines.specs.declared.calls.ScriptCall.TheVariants as calls
+use Rattle.gt_script_lines.specs.declared.calls.ScriptCall.TheVariants as script_calls
 use Rattle.gt_explore_replay.specs.Courses.{Course, Opened, back_after, calling, course_after, course_answered}
 use Rattle.gt_explore_replay.specs.Courses.{giving, resting}
 use Rattle.gt_explore_replay.specs.Orders.{given_up, handles_without, held_after}
@@ -92,33 +95,33 @@ shows-same-actor s h tasks k a b next maps opened show = record {
 -- a step that gives up no mapping leaves them
 
 no-single : (z : Step) → (IsSingle z → ⊥) → GivesNone z
-no-single (Unpin p (ByHandle a)) n = n tt
+no-single (Unpin p (holders.Mapping a)) n = n tt
 no-single z n = tt
 
 under-none : (b : Handle) (y z : Step) → GivesNone z → step_under b y ≡ step_under b z → GivesNone y
 under-none b y z n e = subst GivesNone (sym (no-handle b z y n (sym e))) n
 
 maps-left : (y : Step) (ms : List LabelledMapping) → GivesNone y → mappings_after y ms ≡ ms
-maps-left (Unpin p (ByHandle a)) ms n = absurd n
-maps-left (Unpin p (ByLeg place)) ms n = refl
+maps-left (Unpin p (holders.Mapping a)) ms n = absurd n
+maps-left (Unpin p (holders.Leg place)) ms n = refl
 maps-left y ms n = refl
 
 -- the path of a call that drops a mapping
 
-drop-step : (b : Option CallResult) (m : Option HeldPin) (handle : Handle) (vs : List Observation) (z : Step) → after_beginning b (by_mapping m (λ q. Unpin q (ByHandle handle))) vs ≡ Some (Makes z) → (p : HeldPin) × (z ≡ Unpin p (ByHandle handle))
+drop-step : (b : Option CallResult) (m : Option HeldPin) (handle : Handle) (vs : List Observation) (z : Step) → after_beginning b (by_mapping m (λ q. Unpin q (holders.Mapping handle))) vs ≡ Some (actions.Step z) → (p : HeldPin) × (z ≡ Unpin p (holders.Mapping handle))
 drop-step None (Some q) handle [] z e = (q, grind arith)
 drop-step b m handle vs z e = absurd (grind arith)
 
-drop-over : (b : Option CallResult) (m : Option HeldPin) (handle : Handle) (vs : List Observation) (z : Step) (seen : Observation) (v : CallResult) → after_beginning b (by_mapping m (λ q. Unpin q (ByHandle handle))) vs ≡ Some (Makes z)
-    → after_beginning b (by_mapping m (λ q. Unpin q (ByHandle handle))) (vs ++ seen ∷ []) ≡ Some (Done v) → v ≡ Granted
+drop-over : (b : Option CallResult) (m : Option HeldPin) (handle : Handle) (vs : List Observation) (z : Step) (seen : Observation) (v : CallResult) → after_beginning b (by_mapping m (λ q. Unpin q (holders.Mapping handle))) vs ≡ Some (actions.Step z)
+    → after_beginning b (by_mapping m (λ q. Unpin q (holders.Mapping handle))) (vs ++ seen ∷ []) ≡ Some (Done v) → v ≡ Granted
 drop-over None (Some q) handle [] z seen v e f = grind arith
 drop-over b m handle vs z seen v e f = absurd (grind arith)
 
-drop-makes : (k : CallerKnowledge) (d : DomId) (r : OpenRequest) (handle : Handle) (vs : List Observation) (z : Step) → GivesUp r handle → path k d r vs ≡ Some (Makes z) → (p : HeldPin) × (z ≡ Unpin p (ByHandle handle))
+drop-makes : (k : CallerKnowledge) (d : DomId) (r : OpenRequest) (handle : Handle) (vs : List Observation) (z : Step) → GivesUp r handle → path k d r vs ≡ Some (actions.Step z) → (p : HeldPin) × (z ≡ Unpin p (holders.Mapping handle))
 drop-makes k d r handle vs z (inl is) e = drop-step (begun k d (Unmap handle)) (k.mapping handle) handle vs z (ap (λ (q : OpenRequest). path k d q vs) (sym is) ∙ e)
 drop-makes k d r handle vs z (inr is) e = drop-step (begun k d (Release handle)) (k.mapping handle) handle vs z (ap (λ (q : OpenRequest). path k d q vs) (sym is) ∙ e)
 
-drop-ends : (k : CallerKnowledge) (d : DomId) (r : OpenRequest) (handle : Handle) (vs : List Observation) (z : Step) (seen : Observation) (v : CallResult) → GivesUp r handle → path k d r vs ≡ Some (Makes z) → path k d r (vs ++ seen ∷ []) ≡ Some (Done v) → v ≡ Granted
+drop-ends : (k : CallerKnowledge) (d : DomId) (r : OpenRequest) (handle : Handle) (vs : List Observation) (z : Step) (seen : Observation) (v : CallResult) → GivesUp r handle → path k d r vs ≡ Some (actions.Step z) → path k d r (vs ++ seen ∷ []) ≡ Some (Done v) → v ≡ Granted
 drop-ends k d r handle vs z seen v (inl is) e f =
     let from : (ws : List Observation) → path k d (Unmap handle) ws ≡ path k d r ws = λ ws. ap (λ (q : OpenRequest). path k d q ws) (sym is) in
     drop-over (begun k d (Unmap handle)) (k.mapping handle) handle vs z seen v (from vs ∙ e) (from (vs ++ seen ∷ []) ∙ f)
@@ -150,7 +153,7 @@ map-labelled : (named : List Named) (d : DomId) (call : ScriptCall) (q : Request
 unfolding request_of
 map-labelled named d call q (bytes, hex, is) maps = by call (subst (λ (r : Request). AsksMapping (asked r)) is maps) where
   by : (c : ScriptCall) → AsksMapping (asked (request_of named d bytes c)) → (given : List ℕ) × (label_given c ≡ Some given)
-  by (calls.Map label to gref flags) m = (label, refl)
+  by (script_calls.Map label to gref flags) m = (label, refl)
   by c m = absurd m
 
 -- what a domain holds and its labels name, if its answer gives no handle
@@ -185,17 +188,17 @@ told-plain h z v answer is = grind arith
 
 -- so ends a call that gives no mapping
 abbrev IsNoMap : CallResult → Type 0
-IsNoMap (KeptPin m) = ⊥
+IsNoMap (results.Mapped m) = ⊥
 IsNoMap v = Unit {0}
 
 tells-as : (h : History) (d : DomId) (r : OpenRequest) (z : Step) (seen : Observation) (v : CallResult) (answer : Answer) → IsNoMap v → EndsAs h d r z seen v answer → AnswersEnd h z v answer
-tells-as h d r z seen (KeptPin m) answer n ends = absurd n
+tells-as h d r z seen (results.Mapped m) answer n ends = absurd n
 tells-as h d r z seen Granted answer n ends = ends
 tells-as h d r z seen (Given value) answer n ends = ends
 tells-as h d r z seen (Refused denial) answer n ends = ends
 
 maps-none : (label : Option (List ℕ)) (v : CallResult) (old new : List LabelledMapping) → IsNoMap v → MapsSo label v old new → new ≡ old
-maps-none label (KeptPin m) old new n maps = absurd n
+maps-none label (results.Mapped m) old new n maps = absurd n
 maps-none label Granted old new n maps = maps
 maps-none label (Given value) old new n maps = maps
 maps-none label (Refused denial) old new n maps = maps
@@ -203,23 +206,23 @@ maps-none label (Refused denial) old new n maps = maps
 -- lines
 
 tells-under : (h : History) (b : Handle) (y : Step) (v : CallResult) (answer : Answer) → AnswersEnd h (step_under b y) v answer → AnswersEnd h y v answer
-tells-under h b (Unpin p (ByHandle a)) v answer is = is
+tells-under h b (Unpin p (holders.Mapping a)) v answer is = is
 tells-under h b y v answer is = is
 
 to-under : (h : History) (b : Handle) (y : Step) (v : CallResult) (answer : Answer) → AnswersEnd h y v answer → AnswersEnd h (step_under b y) v answer
-to-under h b (Unpin p (ByHandle a)) v answer is = is
+to-under h b (Unpin p (holders.Mapping a)) v answer is = is
 to-under h b y v answer is = is
 
-read-same : (h : History) (d : DomId) (dom : DomId) (frame off len : ℕ) (seen : Observation) (answer : Option Answer) (t f : ℕ) → contents_at (stepped d (ReadBytes dom frame off len) seen answer ∷ h) t f ≡ contents_at h t f
+read-same : (h : History) (d : DomId) (dom : DomId) (frame off len : ℕ) (seen : Observation) (answer : Option Answer) (t f : ℕ) → contents_at (stepped d (call_steps.Read dom frame off len) seen answer ∷ h) t f ≡ contents_at h t f
 unfolding patches_at
 read-same h d dom frame off len seen answer t f = ap written (append-nil (patches_at h t f))
 
 -- what is printed is what the run prints
 same-text : (types : List (List ℕ)) (h : History) (d : DomId) (r : OpenRequest) (z : Step) (seen : Observation) (v : CallResult) (answer told : Answer) → EndsAs h d r z seen v answer → AnswersEnd (stepped d z seen (Some answer) ∷ h) z v told → answer_text types told ≡ answer_text types answer
-same-text types h d r z seen (KeptPin m) answer told ends tells = ap (answer_text types) (plain z tells) ∙ sym (ap (answer_text types) ends.1) where
-  plain : (y : Step) → AnswersEnd (stepped d z seen (Some answer) ∷ h) y (KeptPin m) told → told ≡ answers.Done
+same-text types h d r z seen (results.Mapped m) answer told ends tells = ap (answer_text types) (plain z tells) ∙ sym (ap (answer_text types) ends.1) where
+  plain : (y : Step) → AnswersEnd (stepped d z seen (Some answer) ∷ h) y (results.Mapped m) told → told ≡ answers.Done
   plain y t = grind arith
-same-text types h d r (ReadBytes dom frame off len) seen Granted answer told ends tells =
+same-text types h d r (call_steps.Read dom frame off len) seen Granted answer told ends tells =
     let same : tells.0.bytes.items ≡ ends.0.bytes.items = tells.2 ∙ ap (λ (l : List ℕ). take len (drop off l)) (read-same h d dom frame off len seen (Some answer) dom.0 frame) ∙ sym ends.2 in
     ap (answer_text types) tells.1 ∙ ap read-text same ∙ sym (ap (answer_text types) ends.1)
   where
@@ -281,11 +284,11 @@ module _ (s : Setting) (h : History) (scene : SearchContext) (before : SearchSta
   same = same-step s h scene before at k a o i tick
 
   -- it goes on
-  module _ (types : List (List ℕ)) (j : Course) (leads : TickLeads types k k.opened i j) (call : Call) (y : Step) (goes : GoesOnAsRun s h k.dom c z o.task call (Makes y)) where
+  module _ (types : List (List ℕ)) (j : Course) (leads : TickLeads types k k.opened i j) (call : Call) (y : Step) (goes : GoesOnAsRun s h k.dom c z o.task call (actions.Step y)) where
     abbrev now : ActorCall
     now = record { task = o.task; call = call; step = y }
 
-    on : (x : Step) × (next_in s h k.dom c saw ≡ Some (Makes x))
+    on : (x : Step) × (next_in s h k.dom c saw ≡ Some (actions.Step x))
     on = let r = run-at s h k.dom (stepped_call s h k.dom c z) now (goes h (same-known s h k.dom)) (below s h scene before at k a o i tick) (maps_answered_at h k.dom.0) (rising s h scene before at k a o i tick) in
         (r.0, ap (λ (vs : List Observation). path (known_at s h k.dom) k.dom c.request vs) (sym (map-append (λ (q : Step × Observation). q.1) c.steps ((z, saw) ∷ []))) ∙ r.1)
 
@@ -322,7 +325,7 @@ module _ (s : Setting) (h : History) (scene : SearchContext) (before : SearchSta
 
   -- it ends
   module _ (v : CallResult) (ends : next_in s h k.dom c saw ≡ Some (Done v)) (m : Actor) (next_m : m.next ≡ a.next) (maps_m : m.mappings.items ≡ mappings_after o.step a.mappings.items) where
-    asks-drop : (p : HeldPin) (x : Handle) → z ≡ Unpin p (ByHandle x) → GivesUp c.request x
+    asks-drop : (p : HeldPin) (x : Handle) → z ≡ Unpin p (holders.Mapping x) → GivesUp c.request x
     asks-drop p x is = subst (λ (y : Step). Justified s h k.dom c.request y) is here.right.justified
 
     is-granted : (x : Handle) → GivesUp c.request x → v ≡ Granted
@@ -356,32 +359,32 @@ module _ (s : Setting) (h : History) (scene : SearchContext) (before : SearchSta
       next_b : b.next ≡ a.next
       next_b = closed.next ∙ next_m
 
-      line-mapped : (p : HeldPin) → v ≡ KeptPin p → Goal z saw answer (label_given call)
+      line-mapped : (p : HeldPin) → v ≡ results.Mapped p → Goal z saw answer (label_given call)
       line-mapped p is =
           let t = subst (λ (w : CallResult). EndsAs h k.dom c.request z saw w answer) is told in let handle : Handle = t.0 in
           let label = map-labelled said.named k.dom call said.request said.makes (subst AsksMapping said.asks t.6) in
           let kept : m.mappings.items ≡ a.mappings.items = keeps (subst GivesNone (sym t.3) tt) in
-          let maps : MapsSo (Some label.0) (KeptPin p) m.mappings.items b.mappings.items = subst (λ (l : Option (List ℕ)). MapsSo l (KeptPin p) m.mappings.items b.mappings.items) label.1
+          let maps : MapsSo (Some label.0) (results.Mapped p) m.mappings.items b.mappings.items = subst (λ (l : Option (List ℕ)). MapsSo l (results.Mapped p) m.mappings.items b.mappings.items) label.1
           (subst (λ (w : CallResult). MapsSo (label_given call) w m.mappings.items b.mappings.items) is closed.maps) in
           subst (λ (y : Step). Goal y saw answer (label_given call)) (sym t.3)
-          (subst (λ (seen : Observation). Goal (PinStep p) seen answer (label_given call)) (sym t.4)
-          (subst (λ (x : Answer). Goal (PinStep p) Taken x (label_given call)) (sym t.1)
-          (subst (λ (l : Option (List ℕ)). Goal (PinStep p) Taken (answers.Mapped handle) l) (sym label.1)
-          (subst (λ (hs : List Handle). ShowsCalls s (stepped k.dom (PinStep p) Taken (Some (answers.Mapped handle)) ∷ h) tasks
+          (subst (λ (seen : Observation). Goal (call_steps.Pin p) seen answer (label_given call)) (sym t.4)
+          (subst (λ (x : Answer). Goal (call_steps.Pin p) Taken x (label_given call)) (sym t.1)
+          (subst (λ (l : Option (List ℕ)). Goal (call_steps.Pin p) Taken (answers.Mapped handle) l) (sym label.1)
+          (subst (λ (hs : List Handle). ShowsCalls s (stepped k.dom (call_steps.Pin p) Taken (Some (answers.Mapped handle)) ∷ h) tasks
           (over_course k (with_name k.named k.dom (Some label.0) (Some handle)) hs (k.text ++ answer_line types line k.dom (answers.Mapped handle))) b) (sym (held-more k.held lost handle))
           (shows-more s h tasks k a b p handle label.0 (k.text ++ answer_line types line k.dom (answers.Mapped handle)) show all tick.shows.like.1.first tick.shows.named t.2 t.5 few next_b closed.none
           (maps.0 ∙ ap (λ (ms : List LabelledMapping). mapping_pins ms ++ p ∷ []) kept)
           (maps.1 ∙ ap (λ (ms : List LabelledMapping). apart_from (Some label.0) (labels_of ms) ++ Some label.0 ∷ []) kept))))))
 
-      line-unmapped : IsNoMap v → (p : HeldPin) (x : Handle) → z ≡ Unpin p (ByHandle x) → Goal z saw answer (label_given call)
+      line-unmapped : IsNoMap v → (p : HeldPin) (x : Handle) → z ≡ Unpin p (holders.Mapping x) → Goal z saw answer (label_given call)
       line-unmapped n p x is =
           let drops : GivesUp c.request x = asks-drop p x is in
           let tells : AnswersEnd h z v answer = tells-as h k.dom c.request z saw v answer n told in
-          let done : answer ≡ answers.Done = subst (λ (w : CallResult). AnswersEnd h (Unpin p (ByHandle x)) w answer) (is-granted x drops) (subst (λ (y : Step). AnswersEnd h y v answer) is tells) in
+          let done : answer ≡ answers.Done = subst (λ (w : CallResult). AnswersEnd h (Unpin p (holders.Mapping x)) w answer) (is-granted x drops) (subst (λ (y : Step). AnswersEnd h y v answer) is tells) in
           let gone : lost ≡ Some x = said.lost_is ∙ gives-up said.request x (subst (λ (r : OpenRequest). GivesUp r x) said.asks drops) in
           subst (λ (y : Step). Goal y saw answer (label_given call)) (sym is)
-          (subst (λ (w : Answer). Goal (Unpin p (ByHandle x)) saw w (label_given call)) (sym done)
-          (subst (λ (names : List Named). ShowsCalls s (stepped k.dom (Unpin p (ByHandle x)) saw (Some answers.Done) ∷ h) tasks
+          (subst (λ (w : Answer). Goal (Unpin p (holders.Mapping x)) saw w (label_given call)) (sym done)
+          (subst (λ (names : List Named). ShowsCalls s (stepped k.dom (Unpin p (holders.Mapping x)) saw (Some answers.Done) ∷ h) tasks
           (over_course k names (held_after k.held lost answers.Done) (k.text ++ answer_line types line k.dom answers.Done)) b) (sym (named-kept k.named k.dom (label_given call)))
           (shows-less s h tasks k a b p x way.place saw (held_after k.held lost answers.Done) (k.text ++ answer_line types line k.dom answers.Done) answers.Done show
           (ap (λ (l : Option Handle). held_after k.held l answers.Done) gone ∙ ap (handles_without x) all) (at-place x drops) refl next_b closed.none
@@ -402,13 +405,13 @@ module _ (s : Setting) (h : History) (scene : SearchContext) (before : SearchSta
       line-plain : IsNoMap v → Goal z saw answer (label_given call)
       line-plain n = by z refl where
         by : (y : Step) → z ≡ y → Goal z saw answer (label_given call)
-        by (Unpin p (ByHandle x)) is = line-unmapped n p x is
+        by (Unpin p (holders.Mapping x)) is = line-unmapped n p x is
         by y is = line-kept n (subst GivesNone (sym is) tt)
 
       line-shows : Goal z saw answer (label_given call)
       line-shows = by v refl where
         by : (w : CallResult) → v ≡ w → Goal z saw answer (label_given call)
-        by (KeptPin p) is = line-mapped p is
+        by (results.Mapped p) is = line-mapped p is
         by Granted is = line-plain (subst IsNoMap (sym is) tt)
         by (Given value) is = line-plain (subst IsNoMap (sym is) tt)
         by (Refused denial) is = line-plain (subst IsNoMap (sym is) tt)
@@ -421,9 +424,9 @@ module _ (s : Setting) (h : History) (scene : SearchContext) (before : SearchSta
         let granted : v ≡ Granted = is-granted x (inr asks) in
         let n : IsNoMap v = subst IsNoMap (sym granted) tt in
         let tells : AnswersEnd h z v answer = tells-as h k.dom c.request z saw v answer n told in
-        let done : answer ≡ answers.Done = subst (λ (w : CallResult). AnswersEnd h (Unpin made.0 (ByHandle x)) w answer) granted (subst (λ (y : Step). AnswersEnd h y v answer) made.1 tells) in
+        let done : answer ≡ answers.Done = subst (λ (w : CallResult). AnswersEnd h (Unpin made.0 (holders.Mapping x)) w answer) granted (subst (λ (y : Step). AnswersEnd h y v answer) made.1 tells) in
         subst (λ (y : Step). ShowsCalls s (stepped k.dom y saw (Some answer) ∷ h) tasks (record k { opened = resting }) b) (sym made.1)
-        (subst (λ (w : Answer). ShowsCalls s (stepped k.dom (Unpin made.0 (ByHandle x)) saw (Some w) ∷ h) tasks (record k { opened = resting }) b) (sym done)
+        (subst (λ (w : Answer). ShowsCalls s (stepped k.dom (Unpin made.0 (holders.Mapping x)) saw (Some w) ∷ h) tasks (record k { opened = resting }) b) (sym done)
         (shows-less s h tasks k a b made.0 x way.place saw k.held k.text answers.Done show held (at-place x (inr asks)) refl (closed.next ∙ next_m) closed.none
         (closed.maps ∙ takes x (inr asks))))
 

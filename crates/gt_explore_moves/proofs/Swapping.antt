@@ -1,19 +1,19 @@
 -- Histories that look the same, and items that change places.
-use Rattle.gt_core.proofs.Words.{◌≡◌, ◌≢◌, ◌⊎◌, inl, inr, ℕ, ◌+◌, refl, Bool, true, false, List, [], ◌∷◌, ◌++◌}
-use Rattle.gt_core.proofs.Words.{Option, Some, None, sym, ap, ◌∙◌, subst, arith, cond, ◌==◌, append_assoc, append-nil}
-use Rattle.gt_core.proofs.Words.{take, drop, map, length, domain_of, DomId, GrantRef, Denial, Header, header_word}
-use Rattle.gt_core.proofs.Words.{Handle, asked, begun_of, CallerKnowledge, path, HeldPin, PinHolder, Request}
-use Rattle.gt_core.proofs.Words.{OpenRequest, Observation, Word, Taken, Step, LookHeader, LookControl, LookBody}
-use Rattle.gt_core.proofs.Words.{PinStep, Exchange, ReadBytes, WriteBytes, CopyBytes, Unpin, StoreBody, StoreHeader}
-use Rattle.gt_core.proofs.Words.{Makes, CallResult, Answer, ItemEvent, Began, Stepped, Item, History, Setting}
-use Rattle.gt_core.proofs.Words.{Underway, open_call, values, known_at, seen_by, exchange_sees, table_at}
+use Rattle.gt_core.proofs.Words.{◌≡◌, ◌≢◌, ◌⊎◌, inl, inr, ℕ, ◌+◌, refl, Bool, true, false, List, [], ◌∷◌, ◌++◌, Option}
+use Rattle.gt_core.proofs.Words.{Some, None, sym, ap, ◌∙◌, subst, arith, cond, ◌==◌, append_assoc, append-nil, take}
+use Rattle.gt_core.proofs.Words.{drop, map, length, domain_of, DomId, GrantRef, Denial, Header, header_word, Handle}
+use Rattle.gt_core.proofs.Words.{asked, begun_of, CallerKnowledge, path, HeldPin, PinHolder, Request, OpenRequest}
+use Rattle.gt_core.proofs.Words.{Observation, Word, Taken, Step, LookHeader, LookControl, LookBody, Exchange, Unpin}
+use Rattle.gt_core.proofs.Words.{StoreBody, StoreHeader, CallResult, Answer, ItemEvent, Began, Stepped, Item, History}
+use Rattle.gt_core.proofs.Words.{Setting, Underway, open_call, values, known_at, seen_by, exchange_sees, table_at}
 use Rattle.gt_core.proofs.Words.{maps_answered_at, contents_at, mapping_of, IsRight, AnsweredBy, GivesValue, entry_at}
 use Rattle.gt_core.proofs.Words.{raises_at, raise_after, live, Pin, pinned_by, unpinned_by, change_of, gather}
 use Rattle.gt_core.proofs.Words.{mapping_named, legs_at, by_leg, body_at, stored_at, or_else, BodyWord, without}
 use Rattle.gt_core.proofs.Words.{is_holder, is_pin_on, reads_at, writes_at, count_by, zero, suc, eq-eqb, eqb-true}
-use Rattle.gt_core.proofs.Words.{false≢true, Entry, holder_after, Any, EntryChange, Dir, Read, Write}
-use Rattle.gt_core.proofs.Words.{changed_entry_of, header_stored, header_or, one_if_mapped, nat_lt, nat_le, reverse}
-use Rattle.gt_core.proofs.Words.{sum_by-cons, ◌&&◌}
+use Rattle.gt_core.proofs.Words.{false≢true, Entry, holder_after, Any, EntryChange, Dir, Read, Write, changed_entry_of}
+use Rattle.gt_core.proofs.Words.{header_stored, header_or, one_if_mapped, nat_lt, nat_le, reverse, sum_by-cons, ◌&&◌}
+use Rattle.gt_model.specs.declared.action.Action.TheVariants as actions
+use Rattle.gt_model.specs.declared.action.Step.TheVariants as call_steps
 use Rattle.gt_explore_moves.specs.Swapping.{touches_entry, looks_header, stores_header, reads_frames, writes_frames}
 use Rattle.gt_explore_moves.specs.Swapping.{ReleasesNoPinOn, LeavesFor, TouchApart, with_holder, own_pins, SameEntry}
 use Rattle.gt_explore_moves.specs.Swapping.{SameOwn, SameLook, SameSight, SameSeen, patches_of, AreApart}
@@ -26,12 +26,16 @@ use Rattle.gt_model.specs.FirstRule.{rule_at_look, rule_at_via, rule_at_pin, fir
 use Rattle.gt_model.specs.FirstRule.{stood_with, stood, refusal_in}
 use Rattle.gt_model.specs.History.{control_at, word_at, same_dir, same_half, patches_at, patches_by, written_by}
 use Rattle.gt_model.specs.History.{given_in, WriteMade, underway_after}
-use Rattle.gt_core.specs.Prelude.{control_with, control_word, Leg, first_look, before_pin, pins_of, size_of}
-use Rattle.gt_core.specs.Prelude.{denial_of, N9, N18, N19, HeaderFacts, MAX_TRIES, stands, first, Load, Store, Peek}
-use Rattle.gt_core.specs.Prelude.{Copy, Map, SetupTable, QuerySize, GetVersion, Spot, ForMap, ForCopy, Publish}
-use Rattle.gt_core.specs.Prelude.{ToInvalid, ToReadOnly, IsSpelled, FirstHalf, SecondHalf, written, Denied, Mapped}
-use Rattle.gt_core.specs.Prelude.{Bytes, MAX_TABLE_FRAMES, SpellsItsEntry, Event, Begin, Tick, Element, Did, Busy}
-use Rattle.gt_core.specs.Prelude.{Idle, NoDomain, Patch}
+use Rattle.gt_core.specs.Prelude.{control_with, control_word, Leg, first_look, before_pin, pins_of, size_of, denial_of}
+use Rattle.gt_core.specs.Prelude.{N9, N18, N19, MAX_TRIES, stands, first, Load, Store, Peek, Copy, Map, SetupTable}
+use Rattle.gt_core.specs.Prelude.{QuerySize, GetVersion, Spot, Publish, IsSpelled, written, Denied, Mapped, Bytes}
+use Rattle.gt_core.specs.Prelude.{MAX_TABLE_FRAMES, SpellsItsEntry, Event, Begin, Tick, Element, Busy, Idle, NoDomain}
+use Rattle.gt_core.specs.Prelude.{Patch}
+use Rattle.gt_model.specs.declared.change.BodyWord.TheVariants as body_words
+use Rattle.gt_model.specs.declared.change.EntryChange.TheVariants as changes
+use Rattle.gt_model.specs.declared.trace.Element.TheVariants as elements
+use Rattle.gt_types.specs.declared.denial.Facts.TheVariants as facts
+use Rattle.gt_types.specs.declared.Use.TheVariants as uses
 use Rattle.gt_model.specs.Justified.{Justified, AccessIsJustified, MayAccess, MayAsk, MayUseMapping, Reaches}
 use Rattle.gt_model.specs.Justified.{Forwards, ReachesThrough, EndIsJustified, CopyIsJustified, IsSafe, IsSafeChange}
 use Rattle.gt_model.specs.Legal.{StepsRightIn, PinIsSound, NoneStands, next_in, gives_back, verdict_in, MayDo}
@@ -124,7 +128,7 @@ any-same P g h d same own a = any-live P d (live h) (subst (λ xs. Any (λ x. P 
 
 pinned-same : (s : Setting) (g h : History) (d : DomId) (x : ItemEvent) (a : Option Answer)
     → own_pins g d.0 ≡ own_pins h d.0 → SameSight s g h d x → pinned_by d x a g (live g) ≡ pinned_by d x a h (live h)
-pinned-same s g h d (Stepped (PinStep p) Taken) a own sight =
+pinned-same s g h d (Stepped (call_steps.Pin p) Taken) a own sight =
     ap (λ (e : Entry). record {
       actor = d.0;
       holder = holder_after a (length (gather by_leg d.0 (live g)));
@@ -204,7 +208,7 @@ goes_with f x own = 0
 
 -- what it adds to them
 abbrev comes_with : (HeldPin → Bool) → ItemEvent → ℕ
-comes_with f (Stepped (PinStep p) Taken) = cond (f p) 1 0
+comes_with f (Stepped (call_steps.Pin p) Taken) = cond (f p) 1 0
 comes_with f x = 0
 
 count-unpinned : (f : HeldPin → Bool) (d : DomId) (x : ItemEvent) (ps : List Pin)
@@ -219,7 +223,7 @@ is_held_on t r k p = (p.dom.0 == t) && (p.gref.0 == r) && same_dir p.dir k
 
 count-pinned : (t r : ℕ) (k : Dir) (d : DomId) (x : ItemEvent) (a : Option Answer) (h : History) (ps : List Pin)
     → count_by (is_pin_on t r k) (pinned_by d x a h ps) ≡ comes_with (is_held_on t r k) x
-count-pinned t r k d (Stepped (PinStep p) Taken) a h ps = count-cons (is_held_on t r k)
+count-pinned t r k d (Stepped (call_steps.Pin p) Taken) a h ps = count-cons (is_held_on t r k)
     (record {
       actor = d.0;
       holder = holder_after a (length (gather by_leg d.0 ps));
@@ -273,7 +277,7 @@ seen-same : (s : Setting) (g h : History) (d : DomId) (z : Step) → SameLook s 
 seen-same s g h d (LookHeader dom) look = ap (λ (x : Header). Word (header_word x)) look
 seen-same s g h d (LookControl dom gref) look = ap (λ (w : ℕ). Word w) (word-same s g h dom.0 gref.0 look)
 seen-same s g h d (LookBody dom gref half) look = ap (λ (w : ℕ). Word w) look
-seen-same s g h d (PinStep p) look = ap (λ (w : ℕ). exchange_sees w p.word) (word-same s g h p.dom.0 p.gref.0 look)
+seen-same s g h d (call_steps.Pin p) look = ap (λ (w : ℕ). exchange_sees w p.word) (word-same s g h p.dom.0 p.gref.0 look)
 seen-same s g h d (Exchange gref looked change) look = ap (λ (w : ℕ). exchange_sees w looked)
     (word-same s g h d.0 gref.0 look.0)
 seen-same s g h d z look = refl
@@ -282,7 +286,7 @@ header-rule : (s : Setting) (g h : History) (dom : DomId) (n : Option LegNow) �
     → rule_at_header s g dom n ≡ rule_at_header s h dom n
 header-rule s g h dom None same = refl
 header-rule s g h dom (Some n) same = ap (λ (t : Header). cond (nat_lt n.leg.gref.0 (size_of t)) None
-    (Some (denial_of N9 (HeaderFacts dom (header_word t))))) same
+    (Some (denial_of N9 (facts.Header dom (header_word t))))) same
 
 before-rule : (s : Setting) (g h : History) (l : Leg) (dom : DomId) (gref : GrantRef) → SameEntry g h dom.0 gref.0
     → rule_before_pin s g l dom gref ≡ rule_before_pin s h l dom gref
@@ -309,7 +313,7 @@ pin-rule s g h d request so_far p Taken own same =
     ∙ ap (λ n. rule_at_via (known_at s h d) n (entry_at g p.dom.0 p.gref.0)) (leg-same s g h d request own)
     ∙ ap (λ e. rule_at_via (known_at s h d) (leg_at s h d request) e) same.entry
 pin-rule s g h d request so_far p seen own same = ap (λ w. at_entry p.dom p.gref w
-    (stands (nat_le MAX_TRIES (misses ((PinStep p, seen) ∷ so_far))) N18)) (word-same s g h p.dom.0 p.gref.0 same)
+    (stands (nat_le MAX_TRIES (misses ((call_steps.Pin p, seen) ∷ so_far))) N18)) (word-same s g h p.dom.0 p.gref.0 same)
 
 first-same : (s : Setting) (g h : History) (d : DomId) (request : OpenRequest) (so_far : StepsSoFar) (z : Step)
     → SameOwn s g h d → SameLook s g h d z → first_at s g d request so_far z ≡ first_at s h d request so_far z
@@ -334,9 +338,9 @@ first-same s g h d request so_far (LookControl dom gref) own look =
     ∷ [])))
     (ap (λ n. rule_at_look s g n dom gref so_far) (leg-same s g h d request own)
     ∙ look-rule s g h (leg_at s h d request) dom gref so_far look)
-first-same s g h d request so_far (PinStep p) own look =
-    ap (λ v. rule_at_pin s g d request so_far p v) (seen-same s g h d (PinStep p) look)
-    ∙ pin-rule s g h d request so_far p (seen_by s h d (PinStep p)) own look
+first-same s g h d request so_far (call_steps.Pin p) own look =
+    ap (λ v. rule_at_pin s g d request so_far p v) (seen-same s g h d (call_steps.Pin p) look)
+    ∙ pin-rule s g h d request so_far p (seen_by s h d (call_steps.Pin p)) own look
 first-same s g h d request so_far (Exchange gref looked change) own look =
     ap (λ w. at_entry d gref w (rule_at_exchange change (reads_at g d.0 gref.0 + writes_at g d.0 gref.0)
     (misses ((Exchange gref looked change, exchange_sees w looked) ∷ so_far)))) (word-same s g h d.0 gref.0 look.0)
@@ -377,7 +381,7 @@ ask-same s g h d request own may = may
 access-same : (s : Setting) (g h : History) (d : DomId) (dir : Dir) (at : Spot) (len : ℕ) → SameOwn s g h d
     → MayAccess g d dir at len → MayAccess h d dir at len
 access-same s g h d dir at len own (inl is) = inl is
-access-same s g h d dir at len own (inr any) = inr (any-same (Reaches d d dir ForMap at len) g h d.0 own.pins
+access-same s g h d dir at len own (inr any) = inr (any-same (Reaches d d dir uses.Map at len) g h d.0 own.pins
     (λ p reach. reach.of_actor) any)
 
 range-same : (s : Setting) (g h : History) (d : DomId) (request : OpenRequest) (dir : Dir) (at : Spot) (len : ℕ)
@@ -391,13 +395,13 @@ range-same s g h d request dir at len own just = (
 through-same : (s : Setting) (g h : History) (d : DomId) (dir : Dir) (at : Spot) (len : ℕ) (named : DomId)
     → SameOwn s g h d → ReachesThrough g d dir at len named → ReachesThrough h d dir at len named
 through-same s g h d dir at len named own any =
-    let outer = any-same (λ p. Any (λ via. Forwards d dir named p via × Reaches d named dir ForCopy at len p) (live g))
+    let outer = any-same (λ p. Any (λ via. Forwards d dir named p via × Reaches d named dir uses.Copy at len p) (live g))
     g h d.0 own.pins (λ p inner. inner.4.1.of_actor) any in (
       outer.0,
       outer.1,
       outer.2,
       outer.3,
-      any-same (λ via. Forwards d dir named outer.1 via × Reaches d named dir ForCopy at len outer.1) g h d.0 own.pins
+      any-same (λ via. Forwards d dir named outer.1 via × Reaches d named dir uses.Copy at len outer.1) g h d.0 own.pins
           (λ via both. both.0.of_actor) outer.4,
     )
 
@@ -406,7 +410,7 @@ end-same : (s : Setting) (g h : History) (d : DomId) (granted : Bool) (dir : Dir
     → EndIsJustified s g d granted dir at len named owners → EndIsJustified s h d granted dir at len named owners
 end-same s g h d granted dir at len named owners own (inl e) = inl e
 end-same s g h d granted dir at len named owners own (inr (inl e)) =
-    inr (inl (e.0, e.1, any-same (Reaches d d dir ForCopy at len) g h d.0 own.pins (λ p reach. reach.of_actor) e.2))
+    inr (inl (e.0, e.1, any-same (Reaches d d dir uses.Copy at len) g h d.0 own.pins (λ p reach. reach.of_actor) e.2))
 end-same s g h d granted dir at len named owners own (inr (inr e)) = inr
     (inr (e.0, through-same s g h d dir at len named own e.1, e.2))
 
@@ -423,22 +427,22 @@ copy-same s g h d request from to len own just = absurd just
 
 justified-same : (s : Setting) (g h : History) (d : DomId) (request : OpenRequest) (z : Step) → SameOwn s g h d
     → Justified s g d request z → Justified s h d request z
-justified-same s g h d request (ReadBytes dom frame off len) own just = range-same s g h d request Read _ len own just
-justified-same s g h d request (WriteBytes dom frame off len) own just = range-same s g h d request Write _ len own just
-justified-same s g h d request (CopyBytes from to len) own just = copy-same s g h d request from to len own just
+justified-same s g h d request (call_steps.Read dom frame off len) own just = range-same s g h d request Read _ len own just
+justified-same s g h d request (call_steps.Write dom frame off len) own just = range-same s g h d request Write _ len own just
+justified-same s g h d request (call_steps.Copy from to len) own just = copy-same s g h d request from to len own just
 justified-same s g h d request z own just = just
 
 change-same : (g h : History) (t r : ℕ) (change : EntryChange) → SameEntry g h t r
     → ((half : BodyWord) → body_at g t r half ≡ body_at h t r half) → IsSafeChange g t r change → IsSafeChange h t r change
 change-same g h t r (Publish entry) same bodies safe = (
   sym same.entry ∙ safe.0,
-  subst (λ w. IsSpelled entry w (body_at h t r SecondHalf)) (bodies FirstHalf)
-      (subst (λ w. IsSpelled entry (body_at g t r FirstHalf) w) (bodies SecondHalf) safe.1),
+  subst (λ w. IsSpelled entry w (body_at h t r body_words.Second)) (bodies body_words.First)
+      (subst (λ w. IsSpelled entry (body_at g t r body_words.First) w) (bodies body_words.Second) safe.1),
   sym same.reads ∙ safe.2,
   sym same.writes ∙ safe.3,
 )
-change-same g h t r ToInvalid same bodies safe = (sym same.reads ∙ safe.0, sym same.writes ∙ safe.1)
-change-same g h t r ToReadOnly same bodies safe = sym same.writes ∙ safe
+change-same g h t r changes.Revoke same bodies safe = (sym same.reads ∙ safe.0, sym same.writes ∙ safe.1)
+change-same g h t r changes.Demote same bodies safe = sym same.writes ∙ safe
 change-same g h t r change same bodies safe = safe
 
 abbrev item : DomId → ItemEvent → Option Answer → Item
@@ -461,7 +465,7 @@ none-same s g h dom gref (Some n) same none = (
 
 sound-same : (s : Setting) (g h : History) (d : DomId) (request : OpenRequest) (z : Step) (seen : Observation) → SameOwn s g h d
     → SameLook s g h d z → PinIsSound s g d request z seen → PinIsSound s h d request z seen
-sound-same s g h d request (PinStep p) Taken own look sound =
+sound-same s g h d request (call_steps.Pin p) Taken own look sound =
     subst (λ n. NoneStands s h p.dom p.gref n) (leg-same s g h d request own)
     (none-same s g h p.dom p.gref (leg_at s g d request) look sound)
 sound-same s g h d request z seen own look sound = sound
@@ -474,10 +478,10 @@ LookIf s g h d (Some z) = SameLook s g h d z
 gives-same : (s : Setting) (g h : History) (d : DomId) (request : OpenRequest) (z : Option Step) (a : Answer)
     → SameOwn s g h d → LookIf s g h d z → GivesValue s g d request z a → GivesValue s h d request z a
 gives-same s g h d request z (Denied denial) own look v = tt
-gives-same s g h d (Map dom gref flags) (Some (PinStep p)) (Mapped handle) own look v = v ∙ own.maps
-gives-same s g h d (Load handle off len) (Some (ReadBytes t frame o n)) (Bytes b) own look v = v
+gives-same s g h d (Map dom gref flags) (Some (call_steps.Pin p)) (Mapped handle) own look v = v ∙ own.maps
+gives-same s g h d (Load handle off len) (Some (call_steps.Read t frame o n)) (Bytes b) own look v = v
     ∙ ap (λ l. take n (drop o (written l))) look
-gives-same s g h d (Peek f off len) (Some (ReadBytes t frame o n)) (Bytes b) own look v = v
+gives-same s g h d (Peek f off len) (Some (call_steps.Read t frame o n)) (Bytes b) own look v = v
     ∙ ap (λ l. take n (drop o (written l))) look
 gives-same s g h d (SetupTable frames) None a own look v = v ∙ ap (λ (t : Header). answers.Frames t.frames) own.table
 gives-same s g h d (QuerySize dom) (Some (LookHeader t)) a own look v = v
@@ -512,7 +516,7 @@ steps-same : (s : Setting) (g h : History) (d : DomId) (z : Step) (seen : Observ
     → StepsRightIn s g (item d (Stepped z seen) a) z seen c → StepsRightIn s h (item d (Stepped z seen) a) z seen c
 steps-same s g h d z seen a None own look right = absurd right
 steps-same s g h d z seen a (Some c) own look right = record {
-  continues = subst (λ k. path k d c.request (values c) ≡ Some (Makes z)) (known-same s g h d own) right.continues;
+  continues = subst (λ k. path k d c.request (values c) ≡ Some (actions.Step z)) (known-same s g h d own) right.continues;
   sees = right.sees ∙ seen-same s g h d z look;
   justified = justified-same s g h d c.request z own right.justified;
   safe = safe-same s g h d (Stepped z seen) a own look right.safe;
@@ -556,10 +560,10 @@ look-of : (s : Setting) (g h : History) (d : DomId) (z : Step) → SameSeen s g 
 look-of s g h d (LookHeader dom) same = (same.own dom).table
 look-of s g h d (LookControl dom gref) same = same.entries dom.0 gref.0
 look-of s g h d (LookBody dom gref half) same = same.bodies dom.0 gref.0 half
-look-of s g h d (PinStep p) same = same.entries p.dom.0 p.gref.0
+look-of s g h d (call_steps.Pin p) same = same.entries p.dom.0 p.gref.0
 look-of s g h d (Exchange gref looked change) same = (same.entries d.0 gref.0, λ half. same.bodies d.0 gref.0 half)
-look-of s g h d (ReadBytes dom frame off len) same = same.patches dom.0 frame
-look-of s g h d (CopyBytes from to len) same = same.patches from.frame.owner.0 from.frame.number
+look-of s g h d (call_steps.Read dom frame off len) same = same.patches dom.0 frame
+look-of s g h d (call_steps.Copy from to len) same = same.patches from.frame.owner.0 from.frame.number
 look-of s g h d z same = tt
 
 sight-of : (s : Setting) (g h : History) (d : DomId) (x : ItemEvent) → SameSeen s g h → SameSight s g h d x
@@ -609,12 +613,12 @@ made-same : (s : Setting) (g h : History) (d : DomId) (x : ItemEvent) → open_c
     → SameSight s g h d x
     → written_by x (given_in (open_call g d.0)) (contents_at g)
     ≡ written_by x (given_in (open_call h d.0)) (contents_at h)
-made-same s g h d (Stepped (WriteBytes dom frame off len) seen) call sight =
+made-same s g h d (Stepped (call_steps.Write dom frame off len) seen) call sight =
     ap (λ c. Some (record {
       at = record { frame = record { owner = dom; number = frame }; off = off };
       bytes = given_in c;
     })) call
-made-same s g h d (Stepped (CopyBytes from to len) seen) call sight = ap
+made-same s g h d (Stepped (call_steps.Copy from to len) seen) call sight = ap
     (λ l. Some (record { at = to; bytes = take len (drop from.off (written l)) })) sight
 made-same s g h d x call sight = refl
 
@@ -691,10 +695,10 @@ look-back : (s : Setting) (g h : History) (d : DomId) (z : Step) → SameLook s 
 look-back s g h d (LookHeader dom) look = sym look
 look-back s g h d (LookControl dom gref) look = entry-back g h dom.0 gref.0 look
 look-back s g h d (LookBody dom gref half) look = sym look
-look-back s g h d (PinStep p) look = entry-back g h p.dom.0 p.gref.0 look
+look-back s g h d (call_steps.Pin p) look = entry-back g h p.dom.0 p.gref.0 look
 look-back s g h d (Exchange gref looked change) look = (entry-back g h d.0 gref.0 look.0, λ half. sym (look.1 half))
-look-back s g h d (ReadBytes dom frame off len) look = sym look
-look-back s g h d (CopyBytes from to len) look = sym look
+look-back s g h d (call_steps.Read dom frame off len) look = sym look
+look-back s g h d (call_steps.Copy from to len) look = sym look
 look-back s g h d z look = tt
 
 sight-back : (s : Setting) (g h : History) (d : DomId) (x : ItemEvent) → SameSight s g h d x → SameSight s h g d x
@@ -830,13 +834,13 @@ began-look : (s : Setting) (h : History) (d : DomId) (q : Request) (a : Option A
 began-look s h d q a e (LookHeader dom) = kept-table s (item d (Began q) a) h dom refl
 began-look s h d q a e (LookControl dom gref) = began-entry h d q a dom.0 gref.0
 began-look s h d q a e (LookBody dom gref half) = unstored (item d (Began q) a) h dom.0 gref.0 half refl
-began-look s h d q a e (PinStep p) = began-entry h d q a p.dom.0 p.gref.0
+began-look s h d q a e (call_steps.Pin p) = began-entry h d q a p.dom.0 p.gref.0
 began-look s h d q a e (Exchange gref looked change) = (
   began-entry h d q a e.0 gref.0,
   λ half. unstored (item d (Began q) a) h e.0 gref.0 half refl,
 )
-began-look s h d q a e (ReadBytes dom frame off len) = none-patched h d q a dom.0 frame
-began-look s h d q a e (CopyBytes from to len) = none-patched h d q a from.frame.owner.0 from.frame.number
+began-look s h d q a e (call_steps.Read dom frame off len) = none-patched h d q a dom.0 frame
+began-look s h d q a e (call_steps.Copy from to len) = none-patched h d q a from.frame.owner.0 from.frame.number
 began-look s h d q a e z = tt
 
 began-sight : (s : Setting) (h : History) (d : DomId) (q : Request) (a : Option Answer) (e : DomId) (x : ItemEvent)
@@ -883,8 +887,8 @@ call-may s g h (Begin d q) NoDomain call right may = may
 call-may s g h (Tick d) NoDomain call right may = may
 call-may s g h (Begin d q) Busy call right may = (may.0, subst (λ c. c ≢ None) call may.1)
 call-may s g h (Tick d) Idle call right may = (may.0, sym call ∙ may.1)
-call-may s g h (Begin d q) (Did i) call right may = (may.0, may.1, right i may.1 may.2)
-call-may s g h (Tick d) (Did i) call right may = (may.0, may.1, right i may.1 may.2)
+call-may s g h (Begin d q) (elements.Item i) call right may = (may.0, may.1, right i may.1 may.2)
+call-may s g h (Tick d) (elements.Item i) call right may = (may.0, may.1, right i may.1 may.2)
 call-may s g h e x call right may = absurd may
 
 -- an event may do the same after histories that look the same, and they look the same after it
@@ -893,7 +897,7 @@ may-same s g h e x same may = call-may s g h e x (same.own (actor_of e)).call
     (λ i is right. right-same s g h i same right) may
 
 pub grown-same : (s : Setting) (g h : History) (x : Element) → SameSeen s g h → SameSeen s (grown g x) (grown h x)
-grown-same s g h (Did i) same = seen-grows s g h i same
+grown-same s g h (elements.Item i) same = seen-grows s g h i same
 grown-same s g h Busy same = same
 grown-same s g h Idle same = same
 grown-same s g h NoDomain same = same
@@ -914,20 +918,20 @@ items-apart e f i j one other apart =
     ap (λ (d : DomId). d.0 == j.actor.0) (item-actor e i one)
     ∙ ap (λ (d : DomId). (actor_of e).0 == d.0) (item-actor f j other) ∙ apart
 
-may-item : (s : Setting) (h : History) (e : Event) (i : Item) → MayDo s h e (Did i)
+may-item : (s : Setting) (h : History) (e : Event) (i : Item) → MayDo s h e (elements.Item i)
     → (domain_of s.domains (actor_of e) ≢ None) × IsItemOf e i × IsRight s h i
 may-item s h (Begin d q) i may = may
 may-item s h (Tick d) i may = may
 
 item-may : (s : Setting) (h : History) (e : Event) (i : Item)
-    → (domain_of s.domains (actor_of e) ≢ None) × IsItemOf e i × IsRight s h i → MayDo s h e (Did i)
+    → (domain_of s.domains (actor_of e) ≢ None) × IsItemOf e i × IsRight s h i → MayDo s h e (elements.Item i)
 item-may s h (Begin d q) i may = may
 item-may s h (Tick d) i may = may
 
 -- an event of another domain changes nothing that an event without an item depends on
 idle-may : (s : Setting) (h : History) (i : Item) (f : Event) (y : Element) → (i.actor.0 == (actor_of f).0) ≡ false
-    → ((j : Item) → y ≢ Did j) → MayDo s (i ∷ h) f y → MayDo s h f y
-idle-may s h i f (Did j) apart none may = absurd (none j refl)
+    → ((j : Item) → y ≢ elements.Item j) → MayDo s (i ∷ h) f y → MayDo s h f y
+idle-may s h i f (elements.Item j) apart none may = absurd (none j refl)
 idle-may s h i (Begin d q) NoDomain apart none may = may
 idle-may s h i (Tick d) NoDomain apart none may = may
 idle-may s h i (Begin d q) Busy apart none may = (may.0, subst (λ c. c ≢ None) (open_call-other i h d.0 apart) may.1)
@@ -935,8 +939,8 @@ idle-may s h i (Tick d) Idle apart none may = (may.0, sym (open_call-other i h d
 idle-may s h i f y apart none may = absurd may
 
 idle-after : (s : Setting) (h : History) (j : Item) (e : Event) (x : Element) → (j.actor.0 == (actor_of e).0) ≡ false
-    → ((i : Item) → x ≢ Did i) → MayDo s h e x → MayDo s (j ∷ h) e x
-idle-after s h j e (Did i) apart none may = absurd (none i refl)
+    → ((i : Item) → x ≢ elements.Item i) → MayDo s h e x → MayDo s (j ∷ h) e x
+idle-after s h j e (elements.Item i) apart none may = absurd (none i refl)
 idle-after s h j (Begin d q) NoDomain apart none may = may
 idle-after s h j (Tick d) NoDomain apart none may = may
 idle-after s h j (Begin d q) Busy apart none may = (
@@ -948,9 +952,9 @@ idle-after s h j e x apart none may = absurd may
 
 -- an event without an item, and any of another domain
 idle-first : (s : Setting) (h : History) (e f : Event) (x y : Element) → ((actor_of e).0 == (actor_of f).0) ≡ false
-    → ((i : Item) → x ≢ Did i) → grown h x ≡ h → ((l : History) → grown l x ≡ l) → MayDo s h e x → MayDo s h f y
+    → ((i : Item) → x ≢ elements.Item i) → grown h x ≡ h → ((l : History) → grown l x ≡ l) → MayDo s h e x → MayDo s h f y
     → ChangePlaces s h e x f y
-idle-first s h e f x (Did j) apart none same all first second =
+idle-first s h e f x (elements.Item j) apart none same all first second =
     let own = may-item s h f j second in (
       second,
       idle-after s h j e x (apart-back (actor_of e).0 j.actor.0
@@ -975,12 +979,12 @@ apart-turned s h i j apart = record {
   turned (inr b) = inl b
 
 event-idle : (s : Setting) (h : History) (e : Event) (i : Item) (f : Event) (y : Element)
-    → ((actor_of e).0 == (actor_of f).0) ≡ false → MayDo s h e (Did i) → MayDo s (i ∷ h) f y
-    → ((j : Item) → y ≢ Did j) → ((l : History) → grown l y ≡ l) → ChangePlaces s h e (Did i) f y
+    → ((actor_of e).0 == (actor_of f).0) ≡ false → MayDo s h e (elements.Item i) → MayDo s (i ∷ h) f y
+    → ((j : Item) → y ≢ elements.Item j) → ((l : History) → grown l y ≡ l) → ChangePlaces s h e (elements.Item i) f y
 event-idle s h e i f y apart first second none same =
     let own = may-item s h e i first in (
       idle-may s h i f y (ap (λ (c : DomId). c.0 == (actor_of f).0) (item-actor e i own.1) ∙ apart) none second,
-      subst (λ l. MayDo s l e (Did i)) (sym (same h)) first,
+      subst (λ l. MayDo s l e (elements.Item i)) (sym (same h)) first,
       subst (λ l. SameSeen s l (i ∷ grown h y)) (sym (same (i ∷ h)))
           (subst (λ l. SameSeen s (i ∷ h) (i ∷ l)) (sym (same h)) (seen-none s (i ∷ h))),
     )
@@ -988,7 +992,7 @@ event-idle s h e i f y apart first second none same =
 -- an event may come before one of another domain that it comes after, if their items are apart
 pub events-first : (s : Setting) (h : History) (e : Event) (x : Element) (f : Event) (y : Element)
     → ((actor_of e).0 == (actor_of f).0) ≡ false
-    → ((i j : Item) → x ≡ Did i → y ≡ Did j → (i.actor.0 == j.actor.0) ≡ false → AreApart s h i j)
+    → ((i j : Item) → x ≡ elements.Item i → y ≡ elements.Item j → (i.actor.0 == j.actor.0) ≡ false → AreApart s h i j)
     → MayDo s h e x → MayDo s (grown h x) f y → ChangePlaces s h e x f y
 events-first s h e Busy f y apart items first second = idle-first s h e f Busy y apart (λ i is. absurd (cc)) refl
     (λ l. refl) first second
@@ -996,7 +1000,7 @@ events-first s h e Idle f y apart items first second = idle-first s h e f Idle y
     (λ l. refl) first second
 events-first s h e NoDomain f y apart items first second = idle-first s h e f NoDomain y apart
     (λ i is. absurd (cc)) refl (λ l. refl) first second
-events-first s h e (Did i) f (Did j) apart items first second =
+events-first s h e (elements.Item i) f (elements.Item j) apart items first second =
     let one = may-item s h e i first in
     let other = may-item s (i ∷ h) f j second in
     let are = items-apart e f i j one.1 other.1 apart in
@@ -1005,11 +1009,11 @@ events-first s h e (Did i) f (Did j) apart items first second =
       item-may s (j ∷ h) e i (one.0, one.1, it.1),
       it.2,
     )
-events-first s h e (Did i) f Busy apart items first second = event-idle s h e i f Busy apart first second
+events-first s h e (elements.Item i) f Busy apart items first second = event-idle s h e i f Busy apart first second
     (λ j is. absurd (cc)) (λ l. refl)
-events-first s h e (Did i) f NoDomain apart items first second = event-idle s h e i f NoDomain apart first second
+events-first s h e (elements.Item i) f NoDomain apart items first second = event-idle s h e i f NoDomain apart first second
     (λ j is. absurd (cc)) (λ l. refl)
-events-first s h e (Did i) f Idle apart items first second = event-idle s h e i f Idle apart first second
+events-first s h e (elements.Item i) f Idle apart items first second = event-idle s h e i f Idle apart first second
     (λ j is. absurd (cc)) (λ l. refl)
 
 -- a beginning may come before an event of another domain that it comes after
@@ -1020,7 +1024,7 @@ begins-first s h e x d q y apart first second =
     events-first s h e x (Begin d q) y apart (λ i j did-i did-j are. apart-turned s h i j
     (began-apart s h j i q (apart-back i.actor.0 j.actor.0 are) (began y j did-j second))) first second
   where
-    began : (z : Element) (j : Item) → z ≡ Did j → MayDo s (grown h x) (Begin d q) z → j.happened ≡ Began q
+    began : (z : Element) (j : Item) → z ≡ elements.Item j → MayDo s (grown h x) (Begin d q) z → j.happened ≡ Began q
     began z j is may = (may-item s (grown h x) (Begin d q) j (subst (MayDo s (grown h x) (Begin d q)) is may)).1.1
 
 -- steps that touch nothing in common
@@ -1062,21 +1066,21 @@ step-count : (h : History) (i : Item) (t r : ℕ) (k : Dir)
 step-count h i t r k comes goes = let e = count-grown t r k h i in omega (arith, e, comes, goes)
 
 pin-off : (h : History) (d : DomId) (p : HeldPin) (seen : Observation) (a : Option Answer) (t r : ℕ)
-    → ((p.dom.0 == t) && (p.gref.0 == r)) ≡ false → LeavesWord h (made_step d (PinStep p) seen a) t r
+    → ((p.dom.0 == t) && (p.gref.0 == r)) ≡ false → LeavesWord h (made_step d (call_steps.Pin p) seen a) t r
 pin-off h d p seen a t r off = (
-  leaves-entry h (made_step d (PinStep p) seen a) t r (changes seen)
-      (λ k. step-count h (made_step d (PinStep p) seen a) t r k (comes seen k) (goes seen k)),
-  λ half. unstored (made_step d (PinStep p) seen a) h t r half refl,
+  leaves-entry h (made_step d (call_steps.Pin p) seen a) t r (changes seen)
+      (λ k. step-count h (made_step d (call_steps.Pin p) seen a) t r k (comes seen k) (goes seen k)),
+  λ half. unstored (made_step d (call_steps.Pin p) seen a) h t r half refl,
 ) where
-  changes : (v : Observation) → change_of (made_step d (PinStep p) v a) t r ≡ None
+  changes : (v : Observation) → change_of (made_step d (call_steps.Pin p) v a) t r ≡ None
   changes v = cond-same (d.0 == t) None
 
-  comes : (v : Observation) (k : Dir) → comes_with (is_held_on t r k) (Stepped (PinStep p) v) ≡ 0
+  comes : (v : Observation) (k : Dir) → comes_with (is_held_on t r k) (Stepped (call_steps.Pin p) v) ≡ 0
   comes Taken k = cond-zero ((p.dom.0 == t) && (p.gref.0 == r)) (same_dir p.dir k) off
   comes v k = refl
 
   goes : (v : Observation) (k : Dir)
-      → goes_with (is_held_on t r k) (Stepped (PinStep p) v) (own_pins h d.0) ≡ 0
+      → goes_with (is_held_on t r k) (Stepped (call_steps.Pin p) v) (own_pins h d.0) ≡ 0
   goes v k = refl
 
 exchange-off : (h : History) (d : DomId) (gref : GrantRef) (looked : ℕ) (change : EntryChange) (seen : Observation)
@@ -1101,7 +1105,7 @@ unpin-off h d p holder seen a t r keeps = (
 
 word-left : (h : History) (d : DomId) (z : Step) (seen : Observation) (a : Option Answer) (t r : ℕ)
     → touches_entry d z t r ≡ false → ReleasesNoPinOn h d z t r → LeavesWord h (made_step d z seen a) t r
-word-left h d (PinStep p) seen a t r off keeps = pin-off h d p seen a t r off
+word-left h d (call_steps.Pin p) seen a t r off keeps = pin-off h d p seen a t r off
 word-left h d (Unpin p holder) seen a t r off keeps = unpin-off h d p holder seen a t r keeps
 word-left h d (Exchange gref looked change) seen a t r off keeps = exchange-off h d gref looked change seen a t r off
 word-left h d (StoreBody gref which w) seen a t r off keeps = (
@@ -1128,8 +1132,8 @@ cond-empty b c x off = grind arith
 
 none-written : (h : History) (d : DomId) (z : Step) (seen : Observation) (a : Option Answer) (t f : ℕ)
     → writes_frames z t ≡ false → patches_of h (made_step d z seen a) t f ≡ []
-none-written h d (WriteBytes dom frame off len) seen a t f none = cond-empty (dom.0 == t) (frame == f) _ none
-none-written h d (CopyBytes from to len) seen a t f none = cond-empty (to.frame.owner.0 == t) (to.frame.number == f) _ none
+none-written h d (call_steps.Write dom frame off len) seen a t f none = cond-empty (dom.0 == t) (frame == f) _ none
+none-written h d (call_steps.Copy from to len) seen a t f none = cond-empty (to.frame.owner.0 == t) (to.frame.number == f) _ none
 none-written h d z seen a t f none = refl
 
 bytes-left : (h : History) (d : DomId) (z : Step) (seen : Observation) (a : Option Answer) (t f : ℕ)
@@ -1167,10 +1171,10 @@ step-look s h d y v a e z leaves = by z leaves where
   by (LookHeader dom) l = table (LookHeader dom) dom l (is-same dom.0)
   by (LookControl dom gref) l = (word (LookControl dom gref) dom.0 gref.0 l (both-same dom.0 gref.0)).0
   by (LookBody dom gref half) l = (word (LookBody dom gref half) dom.0 gref.0 l (both-same dom.0 gref.0)).1 half
-  by (PinStep p) l = (word (PinStep p) p.dom.0 p.gref.0 l (both-same p.dom.0 p.gref.0)).0
+  by (call_steps.Pin p) l = (word (call_steps.Pin p) p.dom.0 p.gref.0 l (both-same p.dom.0 p.gref.0)).0
   by (Exchange gref looked change) l = word (Exchange gref looked change) e.0 gref.0 l (both-same e.0 gref.0)
-  by (ReadBytes dom frame off len) l = bytes (ReadBytes dom frame off len) dom.0 frame l (is-same dom.0)
-  by (CopyBytes from to len) l = bytes (CopyBytes from to len) from.frame.owner.0 from.frame.number l
+  by (call_steps.Read dom frame off len) l = bytes (call_steps.Read dom frame off len) dom.0 frame l (is-same dom.0)
+  by (call_steps.Copy from to len) l = bytes (call_steps.Copy from to len) from.frame.owner.0 from.frame.number l
       (is-same from.frame.owner.0)
   by x l = tt
 

@@ -6,15 +6,14 @@ use Rattle.std.proofs.lemmas.Bool.{and_parts, eqb-true, false≢true}
 use Rattle.std.proofs.lemmas.Option.{none-some}
 use Rattle.gt_types.specs.Copies.{is_dest_granted, is_source_granted}
 use Rattle.gt_types.specs.Names.{resolved}
-use Rattle.gt_types.specs.declared.Dir.TheVariants.{Read as ToRead, Write as ToWrite}
+use Rattle.gt_types.specs.declared.Dir.TheVariants as dirs
 use Rattle.gt_types.specs.declared.DomId.{DomId}
 use Rattle.gt_types.specs.declared.GrantRef.{GrantRef}
 use Rattle.gt_types.specs.declared.copies.CopyArgs.{CopyArgs}
-use Rattle.gt_model.specs.declared.change.EntryChange.TheVariants.{Demote as ToReadOnly, Promote as ToWritable}
-use Rattle.gt_model.specs.declared.change.EntryChange.TheVariants.{Publish, Revoke as ToInvalid}
-use Rattle.gt_model.specs.declared.change.EntryChange.TheVariants.{Withdraw as ToWithdrawn}
+use Rattle.gt_model.specs.declared.change.EntryChange.TheVariants.{Publish}
+use Rattle.gt_model.specs.declared.change.EntryChange.TheVariants as changes
 use Rattle.gt_model.specs.declared.entry.Entry.TheVariants as entries
-use Rattle.gt_model.specs.declared.entry.Entry.{Entry as TableEntry}
+use Rattle.gt_model.specs.declared.entry.Entry.{Entry}
 use Rattle.gt_model.specs.Spelling.{entry_of}
 use Rattle.gt_model.specs.Words.{control_of}
 use Rattle.gt_model.specs.declared.handle.Handle.{Handle}
@@ -25,14 +24,16 @@ use Rattle.gt_model.specs.Path.{gref_of, map_leg, path, place_of, refused_holdin
 use Rattle.gt_model.specs.Path.{to_dest}
 use Rattle.gt_model.specs.Rules.{CallerKnowledge, begun}
 use Rattle.gt_model.specs.declared.action.Action.{Action}
-use Rattle.gt_model.specs.declared.action.Action.TheVariants.{Step as Makes, Done}
+use Rattle.gt_model.specs.declared.action.Action.TheVariants.{Done}
+use Rattle.gt_model.specs.declared.action.Action.TheVariants as actions
 use Rattle.gt_model.specs.declared.action.CallResult.{CallResult}
-use Rattle.gt_model.specs.declared.action.CallResult.TheVariants.{Granted, Mapped as KeptPin, Refused}
+use Rattle.gt_model.specs.declared.action.CallResult.TheVariants.{Granted, Refused}
+use Rattle.gt_model.specs.declared.action.CallResult.TheVariants as results
 use Rattle.gt_model.specs.declared.action.Observation.{Observation}
 use Rattle.gt_model.specs.declared.action.Step.{Step}
-use Rattle.gt_model.specs.declared.action.Step.TheVariants.{Copy as CopyBytes, Exchange, LookBody, LookControl}
-use Rattle.gt_model.specs.declared.action.Step.TheVariants.{LookHeader, Pin as PinStep, Read as ReadBytes, StoreBody}
-use Rattle.gt_model.specs.declared.action.Step.TheVariants.{StoreHeader, Unpin, Write as WriteBytes}
+use Rattle.gt_model.specs.declared.action.Step.TheVariants.{Exchange, LookBody, LookControl, LookHeader, StoreBody}
+use Rattle.gt_model.specs.declared.action.Step.TheVariants.{StoreHeader, Unpin}
+use Rattle.gt_model.specs.declared.action.Step.TheVariants as call_steps
 use Rattle.gt_model.specs.declared.action.HeaderQuery.{HeaderQuery}
 use Rattle.gt_model.specs.declared.action.HeaderQuery.TheVariants as queries
 use Rattle.gt_model.specs.declared.held.AccessPath.{AccessPath}
@@ -45,7 +46,7 @@ use Rattle.gt_model.specs.declared.request.OpenRequest.TheVariants.{Copy, Demote
 use Rattle.gt_model.specs.declared.request.OpenRequest.TheVariants.{Poke, Promote, QuerySize, Revoke, SetVersion}
 use Rattle.gt_model.specs.declared.request.OpenRequest.TheVariants.{SetupTable, Store, Probe, Unmap, Release}
 use Rattle.gt_model.specs.declared.request.OpenRequest.TheVariants.{Withdraw}
-use Rattle.gt_model.specs.declared.request.PinHolder.TheVariants.{Mapping as ByHandle, Leg as ByLeg}
+use Rattle.gt_model.specs.declared.request.PinHolder.TheVariants as holders
 use Rattle.gt_model.specs.declared.request.Request.{Request}
 use Rattle.gt_model.specs.Entries.{frame_of}
 use Rattle.gt_model.specs.History.{History, Setting, mapping_of, mappings_at, patches_at}
@@ -59,7 +60,7 @@ use Rattle.gt_core.proofs.Steps.Unpin.{loses-mapping}
 use Rattle.gt_explore_moves.proofs.Swapping.{Releases, keeps-elsewhere, steps-apart-in}
 use Rattle.gt_script_runs.specs.Runs.{Named, MakesRequest, request_of}
 use Rattle.gt_script_lines.specs.declared.calls.ScriptCall.{ScriptCall}
-use Rattle.gt_script_lines.specs.declared.calls.ScriptCall.TheVariants as calls
+use Rattle.gt_script_lines.specs.declared.calls.ScriptCall.TheVariants as script_calls
 use Rattle.gt_script.specs.Lists.{RunAction, RunTask}
 use Rattle.gt_script.specs.declared.tasks.RunActionBy.TheVariants.{Await, Do, Tell}
 use Rattle.gt_explore_moves.specs.Touches.{is_access_step, is_load, is_on, is_store, is_write, meets, meets_bytes}
@@ -70,10 +71,10 @@ use Rattle.gt_explore_moves.specs.Transitive.{grants_via, is_via}
 use Rattle.gt_explore_moves.specs.declared.touches.MappingUse.{MappingUse}
 use Rattle.gt_explore_moves.specs.Renaming.{step_under}
 use Rattle.gt_explore_moves.specs.declared.touches.NextMove.{NextMove}
-use Rattle.gt_explore_moves.specs.declared.touches.NextMove.TheVariants as next
+use Rattle.gt_explore_moves.specs.declared.touches.NextMove.TheVariants as next_moves
 use Rattle.gt_explore_moves.specs.declared.touches.Touch.{Touch}
-use Rattle.gt_explore_moves.specs.declared.touches.Touch.TheVariants.{Entry, LooksHeader, Raises, Reads, StoresHeader}
-use Rattle.gt_explore_moves.specs.declared.touches.Touch.TheVariants.{Writes}
+use Rattle.gt_explore_moves.specs.declared.touches.Touch.TheVariants.{LooksHeader, Raises, Reads, StoresHeader, Writes}
+use Rattle.gt_explore_moves.specs.declared.touches.Touch.TheVariants as touches
 use Rattle.gt_explore_moves.proofs.PathSteps.{Each, GivesWell, IsPinOf, LegIs, each-ended, each-given, each-grant}
 use Rattle.gt_explore_moves.proofs.PathSteps.{each-leg, each-looks, each-makes, each-mapped, each-once, each-reached}
 use Rattle.gt_explore_moves.proofs.PathSteps.{each-turns}
@@ -82,7 +83,7 @@ use Rattle.gt_explore_moves.proofs.PathSteps.{each-turns}
 
 -- what a leg touches is such
 abbrev pub LegTouches : (Touch → Type 0) → DomId → GrantRef → Type 0
-LegTouches A dom gref = A (LooksHeader dom) × A (Entry dom gref)
+LegTouches A dom gref = A (LooksHeader dom) × A (touches.Entry dom gref)
 
 -- what is used so of some frame is such
 abbrev pub BytesTouch : (Touch → Type 0) → MappingUse → Type 0
@@ -91,7 +92,7 @@ BytesTouch A uses = (uses.loads ≡ true → (t : DomId) (f : ℕ) → A (Reads 
 
 -- what a mapping with this pin may touch is such
 abbrev pub PinTouches : (Touch → Type 0) → MappingUse → HeldPin → Type 0
-PinTouches A uses p = A (Entry p.dom p.gref) × (uses.loads ≡ true → A (Reads p.dom (frame_of p.entry)))
+PinTouches A uses p = A (touches.Entry p.dom p.gref) × (uses.loads ≡ true → A (Reads p.dom (frame_of p.entry)))
     × (uses.stores ≡ true → A (Writes p.dom (frame_of p.entry)))
 
 -- what the ends of a copy touch is such: for an end that a reference names, also each frame of the entry's owner
@@ -108,17 +109,17 @@ DestTouches A d c =
     × (is_dest_granted c ≡ false → A (Writes d c.dest.ptr))
 
 -- an entry is not transitive, unless the script may grant such entries
-abbrev pub IsNoVia : MappingUse → TableEntry → Type 0
+abbrev pub IsNoVia : MappingUse → Entry → Type 0
 IsNoVia uses entry = uses.vias ≡ false → is_via entry ≡ false
 
 -- what a request of this domain may touch is such; if the script may grant a transitive entry, nothing is claimed of a
 -- copy
 abbrev pub RequestTouches : (Touch → Type 0) → MappingUse → DomId → OpenRequest → Type 0
-RequestTouches A uses d (Grant gref entry) = A (Entry d gref) × IsNoVia uses entry
-RequestTouches A uses d (Revoke gref) = A (Entry d gref)
-RequestTouches A uses d (Withdraw gref) = A (Entry d gref)
-RequestTouches A uses d (Demote gref) = A (Entry d gref)
-RequestTouches A uses d (Promote gref) = A (Entry d gref)
+RequestTouches A uses d (Grant gref entry) = A (touches.Entry d gref) × IsNoVia uses entry
+RequestTouches A uses d (Revoke gref) = A (touches.Entry d gref)
+RequestTouches A uses d (Withdraw gref) = A (touches.Entry d gref)
+RequestTouches A uses d (Demote gref) = A (touches.Entry d gref)
+RequestTouches A uses d (Promote gref) = A (touches.Entry d gref)
 RequestTouches A uses d (Map dom gref flags) = LegTouches A (resolved d dom) gref × BytesTouch A uses
 RequestTouches A uses d (Unmap handle) = Unit {0}
 RequestTouches A uses d (Release handle) = Unit {0}
@@ -136,16 +137,16 @@ RequestTouches A uses d (GetVersion dom) = A (LooksHeader (resolved d dom))
 -- what a step of this domain touches is such
 abbrev pub StepTouches : (Touch → Type 0) → DomId → Step → Type 0
 StepTouches A d (LookHeader dom) = A (LooksHeader dom)
-StepTouches A d (LookControl dom gref) = A (Entry dom gref)
-StepTouches A d (LookBody dom gref half) = A (Entry dom gref)
-StepTouches A d (PinStep p) = A (Entry p.dom p.gref)
-StepTouches A d (Unpin p holder) = A (Entry p.dom p.gref)
-StepTouches A d (StoreBody gref half word) = A (Entry d gref)
+StepTouches A d (LookControl dom gref) = A (touches.Entry dom gref)
+StepTouches A d (LookBody dom gref half) = A (touches.Entry dom gref)
+StepTouches A d (call_steps.Pin p) = A (touches.Entry p.dom p.gref)
+StepTouches A d (Unpin p holder) = A (touches.Entry p.dom p.gref)
+StepTouches A d (StoreBody gref half word) = A (touches.Entry d gref)
 StepTouches A d (StoreHeader version frames) = A (StoresHeader d)
-StepTouches A d (Exchange gref looked change) = A (Entry d gref)
-StepTouches A d (ReadBytes dom frame off len) = A (Reads dom frame)
-StepTouches A d (WriteBytes dom frame off len) = A (Writes dom frame)
-StepTouches A d (CopyBytes from to len) =
+StepTouches A d (Exchange gref looked change) = A (touches.Entry d gref)
+StepTouches A d (call_steps.Read dom frame off len) = A (Reads dom frame)
+StepTouches A d (call_steps.Write dom frame off len) = A (Writes dom frame)
+StepTouches A d (call_steps.Copy from to len) =
     A (Reads from.frame.owner from.frame.number) × A (Writes to.frame.owner to.frame.number)
 
 -- a pin of this request may be used so as a mapping
@@ -154,7 +155,7 @@ MapsBytes A uses (Map dom gref flags) = BytesTouch A uses
 MapsBytes A uses r = Unit {0}
 
 abbrev pub PinsBytes : (Touch → Type 0) → MappingUse → OpenRequest → Step → Type 0
-PinsBytes A uses r (PinStep p) = MapsBytes A uses r
+PinsBytes A uses r (call_steps.Pin p) = MapsBytes A uses r
 PinsBytes A uses r step = Unit {0}
 
 -- only a map and a copy take pins: a map one
@@ -170,22 +171,22 @@ PinRead p = (body : ℕ) × (second : ℕ) × (p.entry ≡ entry_of (control_of 
 -- what a step of a request is, by what the caller knows and by the pins that its call holds: an unpin releases the pin
 -- of a mapping, or the call's last one; only a grant publishes an entry
 abbrev pub StepFacts : CallerKnowledge → OpenRequest → List HeldPin → Step → Type 0
-StepFacts k r held (PinStep p) = IsPinning r held × PinRead p
-StepFacts k r held (Unpin p (ByHandle handle)) = k.mapping handle ≡ Some p
-StepFacts k r held (Unpin p (ByLeg number)) =
+StepFacts k r held (call_steps.Pin p) = IsPinning r held × PinRead p
+StepFacts k r held (Unpin p (holders.Mapping handle)) = k.mapping handle ≡ Some p
+StepFacts k r held (Unpin p (holders.Leg number)) =
     IsPinning r held × ((others : List HeldPin) × (held ≡ p ∷ others) × (number ≡ length others))
 StepFacts k r held (Exchange gref looked (Publish entry)) = r ≡ Grant gref entry
 StepFacts k r held step = Unit {0}
 
 -- at its end a call holds no pin but that of a mapping
 abbrev pub EndFacts : OpenRequest → List HeldPin → CallResult → Type 0
-EndFacts (Map dom gref flags) held (KeptPin p) = held ≡ p ∷ []
+EndFacts (Map dom gref flags) held (results.Mapped p) = held ≡ p ∷ []
 EndFacts r held verdict = held ≡ []
 
 -- what holds for an action of a call
 abbrev pub IsActionOf : (Touch → Type 0) → MappingUse → CallerKnowledge → DomId → OpenRequest → List HeldPin → Action
     → Type 0
-IsActionOf A uses k d r held (Makes step) =
+IsActionOf A uses k d r held (actions.Step step) =
     StepTouches A d step × PinsBytes A uses r step × StepFacts k r held step
 IsActionOf A uses k d r held (Done verdict) = EndFacts r held verdict
 
@@ -202,7 +203,7 @@ module _ (A : Touch → Type 0) (uses : MappingUse) (k : CallerKnowledge) (d : D
   -- each of these pins is on such an entry
   abbrev AllOn : List HeldPin → Type 0
   AllOn [] = Unit {0}
-  AllOn (p ∷ ps) = A (Entry p.dom p.gref) × AllOn ps
+  AllOn (p ∷ ps) = A (touches.Entry p.dom p.gref) × AllOn ps
 
   -- what a transitive entry leads to is such, if such a pin was taken on it
   abbrev pub Beyond : Type 0
@@ -210,8 +211,8 @@ module _ (A : Touch → Type 0) (uses : MappingUse) (k : CallerKnowledge) (d : D
       → p.entry ≡ entries.Via dom ro dom2 gref
       → LegTouches A dom2 gref × ((f : ℕ) → A (Reads dom2 f)) × ((f : ℕ) → A (Writes dom2 f))
 
-  pin-on : (l : Leg) (p : HeldPin) → IsPinOf l p → A (Entry l.dom l.gref) → A (Entry p.dom p.gref)
-  pin-on l p of touch = subst (λ (q : HeldPin). A (Entry q.dom q.gref)) (sym of.2) touch
+  pin-on : (l : Leg) (p : HeldPin) → IsPinOf l p → A (touches.Entry l.dom l.gref) → A (touches.Entry p.dom p.gref)
+  pin-on l p of touch = subst (λ (q : HeldPin). A (touches.Entry q.dom q.gref)) (sym of.2) touch
 
   pin-dom : (l : Leg) (p : HeldPin) → IsPinOf l p → l.dom ≡ p.dom
   pin-dom l p of = sym (ap (λ (q : HeldPin). q.dom) of.2)
@@ -244,16 +245,16 @@ module _ (A : Touch → Type 0) (uses : MappingUse) (k : CallerKnowledge) (d : D
         → A (Writes (owner_by d dest) (frame_by c.dest.ptr dest))
         → Each L (One (Copy c)) (held_by dest ++ held_by source) (accesses d c source dest)
     each-access source dest on reads writes = each-makes L (One (Copy c)) (held_by dest ++ held_by source)
-        (CopyBytes (place_of d c.source source) (place_of d c.dest dest) c.len)
+        (call_steps.Copy (place_of d c.source source) (place_of d c.dest dest) c.len)
         (give_back (held_by dest ++ held_by source) Granted) ((reads, writes), tt, tt)
         (each-given L (One (Copy c)) (held_by dest ++ held_by source) Granted
         (gives-well (held_by dest ++ held_by source) on Granted))
 
     abbrev source_leg : Leg
-    source_leg = end_leg k d c.source ToRead c.len
+    source_leg = end_leg k d c.source dirs.Read c.len
 
     abbrev dest_leg : Leg
-    dest_leg = end_leg k d c.dest ToWrite c.len
+    dest_leg = end_leg k d c.dest dirs.Write c.len
 
     each-dest : (source : AccessPath) → AllOn (held_by source)
         → A (Reads (owner_by d source) (frame_by c.source.ptr source))
@@ -302,34 +303,34 @@ module _ (A : Touch → Type 0) (uses : MappingUse) (k : CallerKnowledge) (d : D
       → Each L (One r) [] (steps_of k d r)
   each-step (Grant gref entry) t beyond-on = each-grant L (One (Grant gref entry)) [] (λ verdict. refl) k d gref entry
       (λ half w. (t.0, tt, tt)) (λ looked. (t.0, tt, refl))
-  each-step (Revoke gref) t beyond-on = each-once L (One (Revoke gref)) [] (λ verdict. refl) d gref ToInvalid
+  each-step (Revoke gref) t beyond-on = each-once L (One (Revoke gref)) [] (λ verdict. refl) d gref changes.Revoke
       (λ looked. (t, tt, tt)) _
-  each-step (Withdraw gref) t beyond-on = each-turns L (One (Withdraw gref)) [] (λ verdict. refl) d gref ToWithdrawn
+  each-step (Withdraw gref) t beyond-on = each-turns L (One (Withdraw gref)) [] (λ verdict. refl) d gref changes.Withdraw
       (λ looked. (t, tt, tt)) (t, tt, tt) MORE_TRIES
-  each-step (Demote gref) t beyond-on = each-turns L (One (Demote gref)) [] (λ verdict. refl) d gref ToReadOnly
+  each-step (Demote gref) t beyond-on = each-turns L (One (Demote gref)) [] (λ verdict. refl) d gref changes.Demote
       (λ looked. (t, tt, tt)) (t, tt, tt) MORE_TRIES
-  each-step (Promote gref) t beyond-on = each-turns L (One (Promote gref)) [] (λ verdict. refl) d gref ToWritable
+  each-step (Promote gref) t beyond-on = each-turns L (One (Promote gref)) [] (λ verdict. refl) d gref changes.Promote
       (λ looked. (t, tt, tt)) (t, tt, tt) MORE_TRIES
   each-step (Map dom gref flags) t beyond-on = each-leg L (One (Map dom gref flags)) [] (map_leg k d dom gref flags)
       (leg-is (Map dom gref flags) [] (map_leg k d dom gref flags) t.0 refl t.1) (refused_holding [])
-      (λ p. ended (KeptPin p)) (λ denial. each-ended L (One (Map dom gref flags)) [] (Refused denial) refl)
-      (λ p of take. each-ended L (One (Map dom gref flags)) (p ∷ []) (KeptPin p) refl)
+      (λ p. ended (results.Mapped p)) (λ denial. each-ended L (One (Map dom gref flags)) [] (Refused denial) refl)
+      (λ p of take. each-ended L (One (Map dom gref flags)) (p ∷ []) (results.Mapped p) refl)
   each-step (Unmap handle) t beyond-on = each-mapped L (One (Unmap handle)) (k.mapping handle)
-      (λ m. Unpin m (ByHandle handle)) (λ verdict. refl) (λ m found. ((mapped handle m found).0, tt, found))
+      (λ m. Unpin m (holders.Mapping handle)) (λ verdict. refl) (λ m found. ((mapped handle m found).0, tt, found))
       (λ m. refl)
   each-step (Release handle) t beyond-on = each-mapped L (One (Release handle)) (k.mapping handle)
-      (λ m. Unpin m (ByHandle handle)) (λ verdict. refl) (λ m found. ((mapped handle m found).0, tt, found))
+      (λ m. Unpin m (holders.Mapping handle)) (λ verdict. refl) (λ m found. ((mapped handle m found).0, tt, found))
       (λ m. refl)
   each-step (Load handle off len) t beyond-on = each-mapped L (One (Load handle off len)) (k.mapping handle)
-      (λ m. ReadBytes m.dom (frame_of m.entry) off len) (λ verdict. refl)
+      (λ m. call_steps.Read m.dom (frame_of m.entry) off len) (λ verdict. refl)
       (λ m found. ((mapped handle m found).1 t, tt, tt)) (λ m. refl)
   each-step (Store handle off len) t beyond-on = each-mapped L (One (Store handle off len)) (k.mapping handle)
-      (λ m. WriteBytes m.dom (frame_of m.entry) off len) (λ verdict. refl)
+      (λ m. call_steps.Write m.dom (frame_of m.entry) off len) (λ verdict. refl)
       (λ m found. ((mapped handle m found).2 t, tt, tt)) (λ m. refl)
   each-step (Peek frame off len) t beyond-on = each-makes L (One (Peek frame off len)) []
-      (ReadBytes d frame off len) _ (t, tt, tt) (each-ended L (One (Peek frame off len)) [] Granted refl)
+      (call_steps.Read d frame off len) _ (t, tt, tt) (each-ended L (One (Peek frame off len)) [] Granted refl)
   each-step (Poke frame off len) t beyond-on = each-makes L (One (Poke frame off len)) []
-      (WriteBytes d frame off len) _ (t, tt, tt) (each-ended L (One (Poke frame off len)) [] Granted refl)
+      (call_steps.Write d frame off len) _ (t, tt, tt) (each-ended L (One (Poke frame off len)) [] Granted refl)
   each-step (Copy c) t beyond-on = each-copy c t.1 t.2 (beyond-on tt)
   each-step (Probe c) t beyond-on = absurd t
   each-step (SetVersion version) t beyond-on = each-makes L (One (SetVersion version)) []
@@ -343,16 +344,16 @@ module _ (A : Touch → Type 0) (uses : MappingUse) (k : CallerKnowledge) (d : D
 
 -- a call that makes a step was not answered at its beginning
 
-not-ended : (verdict : CallResult) (vs : List Observation) (step : Step) → ended verdict vs ≡ Some (Makes step) → ⊥
+not-ended : (verdict : CallResult) (vs : List Observation) (step : Step) → ended verdict vs ≡ Some (actions.Step step) → ⊥
 not-ended verdict [] step e = absurd (cc)
-not-ended verdict (v ∷ vs) step e = none-some (Makes step) e
+not-ended verdict (v ∷ vs) step e = none-some (actions.Step step) e
 
 pub path-opened : (k : CallerKnowledge) (d : DomId) (r : OpenRequest) (vs : List Observation) (step : Step)
-    → path k d r vs ≡ Some (Makes step) → (begun k d r ≡ None) × (steps_of k d r vs ≡ Some (Makes step))
+    → path k d r vs ≡ Some (actions.Step step) → (begun k d r ≡ None) × (steps_of k d r vs ≡ Some (actions.Step step))
 path-opened k d r vs step e = by (begun k d r) refl e where
   by : (verdict : Option CallResult) → begun k d r ≡ verdict
-      → after_beginning verdict (steps_of k d r) vs ≡ Some (Makes step)
-      → (begun k d r ≡ None) × (steps_of k d r vs ≡ Some (Makes step))
+      → after_beginning verdict (steps_of k d r) vs ≡ Some (actions.Step step)
+      → (begun k d r ≡ None) × (steps_of k d r vs ≡ Some (actions.Step step))
   by None is f = (is, f)
   by (Some verdict) is f = absurd (not-ended verdict vs step f)
 
@@ -360,23 +361,23 @@ path-opened k d r vs step e = by (begun k d r) refl e where
 
 -- what a call may touch is such
 abbrev pub CallTouches : (Touch → Type 0) → MappingUse → DomId → ScriptCall → Type 0
-CallTouches A uses d (calls.Grant gref entry) = A (Entry d gref) × IsNoVia uses entry
-CallTouches A uses d (calls.GrantBytes gref hex) = A (Entry d gref) × (uses.vias ≡ true)
-CallTouches A uses d (calls.Revoke gref) = A (Entry d gref)
-CallTouches A uses d (calls.Withdraw gref) = A (Entry d gref)
-CallTouches A uses d (calls.Demote gref) = A (Entry d gref)
-CallTouches A uses d (calls.Promote gref) = A (Entry d gref)
-CallTouches A uses d (calls.Map label dom gref flags) = LegTouches A (resolved d dom) gref × BytesTouch A uses
-CallTouches A uses d (calls.Unmap label) = Unit {0}
-CallTouches A uses d (calls.Load label off len) = uses.loads ≡ true
-CallTouches A uses d (calls.Store label off hex) = uses.stores ≡ true
-CallTouches A uses d (calls.Peek frame off len) = A (Reads d frame)
-CallTouches A uses d (calls.Poke frame off hex) = A (Writes d frame)
-CallTouches A uses d (calls.Copy c) = (uses.vias ≡ false) × SourceTouches A d c × DestTouches A d c
-CallTouches A uses d (calls.SetVersion version) = A (StoresHeader d)
-CallTouches A uses d (calls.SetupTable frames) = A (StoresHeader d)
-CallTouches A uses d (calls.QuerySize dom) = A (LooksHeader (resolved d dom))
-CallTouches A uses d (calls.GetVersion dom) = A (LooksHeader (resolved d dom))
+CallTouches A uses d (script_calls.Grant gref entry) = A (touches.Entry d gref) × IsNoVia uses entry
+CallTouches A uses d (script_calls.GrantBytes gref hex) = A (touches.Entry d gref) × (uses.vias ≡ true)
+CallTouches A uses d (script_calls.Revoke gref) = A (touches.Entry d gref)
+CallTouches A uses d (script_calls.Withdraw gref) = A (touches.Entry d gref)
+CallTouches A uses d (script_calls.Demote gref) = A (touches.Entry d gref)
+CallTouches A uses d (script_calls.Promote gref) = A (touches.Entry d gref)
+CallTouches A uses d (script_calls.Map label dom gref flags) = LegTouches A (resolved d dom) gref × BytesTouch A uses
+CallTouches A uses d (script_calls.Unmap label) = Unit {0}
+CallTouches A uses d (script_calls.Load label off len) = uses.loads ≡ true
+CallTouches A uses d (script_calls.Store label off hex) = uses.stores ≡ true
+CallTouches A uses d (script_calls.Peek frame off len) = A (Reads d frame)
+CallTouches A uses d (script_calls.Poke frame off hex) = A (Writes d frame)
+CallTouches A uses d (script_calls.Copy c) = (uses.vias ≡ false) × SourceTouches A d c × DestTouches A d c
+CallTouches A uses d (script_calls.SetVersion version) = A (StoresHeader d)
+CallTouches A uses d (script_calls.SetupTable frames) = A (StoresHeader d)
+CallTouches A uses d (script_calls.QuerySize dom) = A (LooksHeader (resolved d dom))
+CallTouches A uses d (script_calls.GetVersion dom) = A (LooksHeader (resolved d dom))
 
 pub said-touches : (A : Touch
     → Type 0) (uses : MappingUse) (named : List Named) (d : DomId) (call : ScriptCall) (q : Request)
@@ -385,23 +386,23 @@ unfolding request_of
 said-touches A uses named d call q (bytes, hex, is) t = subst (λ r. RequestTouches A uses d (asked r)) (sym is)
     (by call t) where
       by : (c : ScriptCall) → CallTouches A uses d c → RequestTouches A uses d (asked (request_of named d bytes c))
-      by (calls.Grant gref entry) t = t
-      by (calls.GrantBytes gref hex) t = (t.0, λ none. absurd (false≢true (sym none ∙ t.1)))
-      by (calls.Revoke gref) t = t
-      by (calls.Withdraw gref) t = t
-      by (calls.Demote gref) t = t
-      by (calls.Promote gref) t = t
-      by (calls.Map label dom gref flags) t = t
-      by (calls.Unmap label) t = tt
-      by (calls.Load label off len) t = t
-      by (calls.Store label off hex) t = t
-      by (calls.Peek frame off len) t = t
-      by (calls.Poke frame off hex) t = t
-      by (calls.Copy c) t = t
-      by (calls.SetVersion version) t = t
-      by (calls.SetupTable frames) t = t
-      by (calls.QuerySize dom) t = t
-      by (calls.GetVersion dom) t = t
+      by (script_calls.Grant gref entry) t = t
+      by (script_calls.GrantBytes gref hex) t = (t.0, λ none. absurd (false≢true (sym none ∙ t.1)))
+      by (script_calls.Revoke gref) t = t
+      by (script_calls.Withdraw gref) t = t
+      by (script_calls.Demote gref) t = t
+      by (script_calls.Promote gref) t = t
+      by (script_calls.Map label dom gref flags) t = t
+      by (script_calls.Unmap label) t = tt
+      by (script_calls.Load label off len) t = t
+      by (script_calls.Store label off hex) t = t
+      by (script_calls.Peek frame off len) t = t
+      by (script_calls.Poke frame off hex) t = t
+      by (script_calls.Copy c) t = t
+      by (script_calls.SetVersion version) t = t
+      by (script_calls.SetupTable frames) t = t
+      by (script_calls.QuerySize dom) t = t
+      by (script_calls.GetVersion dom) t = t
 
 -- what the action of a line may touch is such
 abbrev pub DeedTouches : (Touch → Type 0) → MappingUse → DomId → RunAction → Type 0
@@ -430,25 +431,25 @@ or-parts true b e = absurd (false≢true (sym e))
 or-parts false true e = absurd (false≢true (sym e))
 
 no-write : (z : Step) (t f : ℕ) → is_write z ≡ false → writes_frame_at z t f ≡ false
-no-write (WriteBytes dom frame off len) t f e = absurd (false≢true (sym e))
-no-write (CopyBytes from to len) t f e = absurd (false≢true (sym e))
+no-write (call_steps.Write dom frame off len) t f e = absurd (false≢true (sym e))
+no-write (call_steps.Copy from to len) t f e = absurd (false≢true (sym e))
 no-write z t f e = refl
 
 no-access : (z : Step) (t f : ℕ) → is_access_step z ≡ false → (reads_frame_at z t f || writes_frame_at z t f) ≡ false
-no-access (ReadBytes dom frame off len) t f e = absurd (false≢true (sym e))
-no-access (WriteBytes dom frame off len) t f e = absurd (false≢true (sym e))
-no-access (CopyBytes from to len) t f e = absurd (false≢true (sym e))
+no-access (call_steps.Read dom frame off len) t f e = absurd (false≢true (sym e))
+no-access (call_steps.Write dom frame off len) t f e = absurd (false≢true (sym e))
+no-access (call_steps.Copy from to len) t f e = absurd (false≢true (sym e))
 no-access z t f e = refl
 
 unmet-reads : (move : NextMove) (t : DomId) (f : ℕ) → next_writes move ≡ false → Unmet move (Reads t f)
-unmet-reads (next.Makes d z) t f e = no-write z t.0 f e
-unmet-reads (next.Awaits flag) t f e = refl
-unmet-reads next.Free t f e = refl
+unmet-reads (next_moves.Makes d z) t f e = no-write z t.0 f e
+unmet-reads (next_moves.Awaits flag) t f e = refl
+unmet-reads next_moves.Free t f e = refl
 
 unmet-writes : (move : NextMove) (t : DomId) (f : ℕ) → next_accesses move ≡ false → Unmet move (Writes t f)
-unmet-writes (next.Makes d z) t f e = no-access z t.0 f e
-unmet-writes (next.Awaits flag) t f e = refl
-unmet-writes next.Free t f e = refl
+unmet-writes (next_moves.Makes d z) t f e = no-access z t.0 f e
+unmet-writes (next_moves.Awaits flag) t f e = refl
+unmet-writes next_moves.Free t f e = refl
 
 if-used : (a b : Bool) → (a && b) ≡ false → a ≡ true → b ≡ false
 if-used true b e is = e
@@ -466,42 +467,42 @@ pub unmet-mapping : (uses : MappingUse) (move : NextMove) (p : HeldPin) → meet
 unmet-mapping uses move p e =
     let reads = uses.loads && meets move (Reads p.dom (frame_of p.entry)) in
     let writes = uses.stores && meets move (Writes p.dom (frame_of p.entry)) in
-    let both = or-parts (meets move (Entry p.dom p.gref) || reads) writes e in
-    let first = or-parts (meets move (Entry p.dom p.gref)) reads both.0 in (
+    let both = or-parts (meets move (touches.Entry p.dom p.gref) || reads) writes e in
+    let first = or-parts (meets move (touches.Entry p.dom p.gref)) reads both.0 in (
       first.0,
       (λ is. if-used uses.loads (meets move (Reads p.dom (frame_of p.entry))) first.1 is),
       (λ is. if-used uses.stores (meets move (Writes p.dom (frame_of p.entry))) both.1 is),
     )
 
 no-frame-written : (z : Step) (t f : ℕ) → writes_frames z t ≡ false → writes_frame_at z t f ≡ false
-no-frame-written (WriteBytes dom frame off len) t f e = ap (λ x. x && (frame == f)) e
-no-frame-written (CopyBytes from to len) t f e = ap (λ x. x && (to.frame.number == f)) e
+no-frame-written (call_steps.Write dom frame off len) t f e = ap (λ x. x && (frame == f)) e
+no-frame-written (call_steps.Copy from to len) t f e = ap (λ x. x && (to.frame.number == f)) e
 no-frame-written z t f e = refl
 
 no-frame-read : (z : Step) (t f : ℕ) → reads_frames z t ≡ false → reads_frame_at z t f ≡ false
-no-frame-read (ReadBytes dom frame off len) t f e = ap (λ x. x && (frame == f)) e
-no-frame-read (CopyBytes from to len) t f e = ap (λ x. x && (from.frame.number == f)) e
+no-frame-read (call_steps.Read dom frame off len) t f e = ap (λ x. x && (frame == f)) e
+no-frame-read (call_steps.Copy from to len) t f e = ap (λ x. x && (from.frame.number == f)) e
 no-frame-read z t f e = refl
 
 both-false : (a b : Bool) → a ≡ false → b ≡ false → (a || b) ≡ false
 both-false a b e f = ap (λ x. x || b) e ∙ f
 
 unmet-frames-read : (move : NextMove) (t : DomId) → meets_reads move t ≡ false → (f : ℕ) → Unmet move (Reads t f)
-unmet-frames-read (next.Makes d z) t e f = no-frame-written z t.0 f e
-unmet-frames-read (next.Awaits flag) t e f = refl
-unmet-frames-read next.Free t e f = refl
+unmet-frames-read (next_moves.Makes d z) t e f = no-frame-written z t.0 f e
+unmet-frames-read (next_moves.Awaits flag) t e f = refl
+unmet-frames-read next_moves.Free t e f = refl
 
 unmet-frames-written : (move : NextMove) (t : DomId) → meets_writes move t ≡ false → (f : ℕ)
     → Unmet move (Writes t f)
-unmet-frames-written (next.Makes d z) t e f =
+unmet-frames-written (next_moves.Makes d z) t e f =
     let both = or-parts (reads_frames z t.0) (writes_frames z t.0) e in
     both-false (reads_frame_at z t.0 f) (writes_frame_at z t.0 f) (no-frame-read z t.0 f both.0) (no-frame-written z t.0 f both.1)
-unmet-frames-written (next.Awaits flag) t e f = refl
-unmet-frames-written next.Free t e f = refl
+unmet-frames-written (next_moves.Awaits flag) t e f = refl
+unmet-frames-written next_moves.Free t e f = refl
 
 unmet-leg : (move : NextMove) (dom : DomId) (gref : GrantRef) → meets_leg move dom gref ≡ false
     → LegTouches (Unmet move) dom gref
-unmet-leg move dom gref e = or-parts (meets move (LooksHeader dom)) (meets move (Entry dom gref)) e
+unmet-leg move dom gref e = or-parts (meets move (LooksHeader dom)) (meets move (touches.Entry dom gref)) e
 
 unmet-source : (move : NextMove) (d : DomId) (c : CopyArgs) → meets_source move d c ≡ false
     → SourceTouches (Unmet move) d c
@@ -531,38 +532,38 @@ unmet-dest move d c e = by (resolved d c.dest.domid) (is_dest_granted c) e where
 
 -- the uses that a call makes of mappings are among these, and it grants no transitive entry unless they have some
 abbrev pub CallUses : MappingUse → ScriptCall → Type 0
-CallUses uses (calls.Grant gref entry) = IsNoVia uses entry
-CallUses uses (calls.GrantBytes gref hex) = uses.vias ≡ true
-CallUses uses (calls.Load label off len) = uses.loads ≡ true
-CallUses uses (calls.Store label off hex) = uses.stores ≡ true
+CallUses uses (script_calls.Grant gref entry) = IsNoVia uses entry
+CallUses uses (script_calls.GrantBytes gref hex) = uses.vias ≡ true
+CallUses uses (script_calls.Load label off len) = uses.loads ≡ true
+CallUses uses (script_calls.Store label off hex) = uses.stores ≡ true
 CallUses uses call = Unit {0}
 
 unmet-call : (uses : MappingUse) (move : NextMove) (d : DomId) (call : ScriptCall) → CallUses uses call
     → meets_call uses move d call ≡ false → CallTouches (Unmet move) uses d call
-unmet-call uses move d (calls.Grant gref entry) used e = (e, used)
-unmet-call uses move d (calls.GrantBytes gref hex) used e = (e, used)
-unmet-call uses move d (calls.Revoke gref) used e = e
-unmet-call uses move d (calls.Withdraw gref) used e = e
-unmet-call uses move d (calls.Demote gref) used e = e
-unmet-call uses move d (calls.Promote gref) used e = e
-unmet-call uses move d (calls.Map label dom gref flags) used e =
+unmet-call uses move d (script_calls.Grant gref entry) used e = (e, used)
+unmet-call uses move d (script_calls.GrantBytes gref hex) used e = (e, used)
+unmet-call uses move d (script_calls.Revoke gref) used e = e
+unmet-call uses move d (script_calls.Withdraw gref) used e = e
+unmet-call uses move d (script_calls.Demote gref) used e = e
+unmet-call uses move d (script_calls.Promote gref) used e = e
+unmet-call uses move d (script_calls.Map label dom gref flags) used e =
     let both = or-parts (meets_leg move (resolved d dom) gref) (meets_bytes uses move) e in (
       unmet-leg move (resolved d dom) gref both.0,
       unmet-bytes uses move both.1,
     )
-unmet-call uses move d (calls.Unmap label) used e = tt
-unmet-call uses move d (calls.Load label off len) used e = used
-unmet-call uses move d (calls.Store label off hex) used e = used
-unmet-call uses move d (calls.Peek frame off len) used e = e
-unmet-call uses move d (calls.Poke frame off hex) used e = e
-unmet-call uses move d (calls.Copy c) used e =
+unmet-call uses move d (script_calls.Unmap label) used e = tt
+unmet-call uses move d (script_calls.Load label off len) used e = used
+unmet-call uses move d (script_calls.Store label off hex) used e = used
+unmet-call uses move d (script_calls.Peek frame off len) used e = e
+unmet-call uses move d (script_calls.Poke frame off hex) used e = e
+unmet-call uses move d (script_calls.Copy c) used e =
     let both = or-parts (uses.vias || meets_source move d c) (meets_dest move d c) e in
     let first = or-parts uses.vias (meets_source move d c) both.0 in
     (first.0, unmet-source move d c first.1, unmet-dest move d c both.1)
-unmet-call uses move d (calls.SetVersion version) used e = e
-unmet-call uses move d (calls.SetupTable frames) used e = e
-unmet-call uses move d (calls.QuerySize dom) used e = e
-unmet-call uses move d (calls.GetVersion dom) used e = e
+unmet-call uses move d (script_calls.SetVersion version) used e = e
+unmet-call uses move d (script_calls.SetupTable frames) used e = e
+unmet-call uses move d (script_calls.QuerySize dom) used e = e
+unmet-call uses move d (script_calls.GetVersion dom) used e = e
 
 -- the uses that a task makes of mappings are among these, and it grants no transitive entry unless they have some
 abbrev pub TaskUses : MappingUse → RunTask → Type 0
@@ -573,11 +574,11 @@ pub unmet-deed : (uses : MappingUse) (move : NextMove) (d : DomId) (t : RunTask)
     → meets_task uses move t ≡ false → DeedTouches (Unmet move) uses d t.deed
 unmet-deed uses move d t own used e = subst (λ x. DeedTouches (Unmet move) uses x t.deed) own (by t.deed used e) where
   call-uses : (call : ScriptCall) → TaskUses uses (record t { deed = Do call }) → CallUses uses call
-  call-uses (calls.Grant gref entry) u = λ none. not-true (is_via entry)
+  call-uses (script_calls.Grant gref entry) u = λ none. not-true (is_via entry)
       (λ is. false≢true (sym none ∙ u.2 is))
-  call-uses (calls.GrantBytes gref hex) u = u.2 refl
-  call-uses (calls.Load label off len) u = u.0 refl
-  call-uses (calls.Store label off hex) u = u.1 refl
+  call-uses (script_calls.GrantBytes gref hex) u = u.2 refl
+  call-uses (script_calls.Load label off len) u = u.0 refl
+  call-uses (script_calls.Store label off hex) u = u.1 refl
   call-uses call u = tt
 
   by : (deed : RunAction) → TaskUses uses (record t { deed = deed })
@@ -592,12 +593,12 @@ or-false a b e = or-parts a b e
 -- steps that are the same but for a handle meet the same
 pub meets-under : (d : DomId) (b : Handle) (z : Step) (touch : Touch)
     → step_meets d (step_under b z) touch ≡ step_meets d z touch
-meets-under d b (Unpin p (ByHandle a)) (Entry dom gref) = refl
-meets-under d b (Unpin p (ByHandle a)) (LooksHeader dom) = refl
-meets-under d b (Unpin p (ByHandle a)) (StoresHeader dom) = refl
-meets-under d b (Unpin p (ByHandle a)) (Reads dom f) = refl
-meets-under d b (Unpin p (ByHandle a)) (Writes dom f) = refl
-meets-under d b (Unpin p (ByHandle a)) (Raises flag) = refl
+meets-under d b (Unpin p (holders.Mapping a)) (touches.Entry dom gref) = refl
+meets-under d b (Unpin p (holders.Mapping a)) (LooksHeader dom) = refl
+meets-under d b (Unpin p (holders.Mapping a)) (StoresHeader dom) = refl
+meets-under d b (Unpin p (holders.Mapping a)) (Reads dom f) = refl
+meets-under d b (Unpin p (holders.Mapping a)) (Writes dom f) = refl
+meets-under d b (Unpin p (holders.Mapping a)) (Raises flag) = refl
 meets-under d b z touch = refl
 
 -- two steps of which one touches nothing that the other meets
@@ -616,13 +617,13 @@ on-is e (Unpin p holder) t r on = absurd (false≢true on)
 on-is e z t r on = on
 
 reads-access : (z : Step) (t : ℕ) → reads_frames z t ≡ true → is_access_step z ≡ true
-reads-access (ReadBytes dom frame off len) t on = refl
-reads-access (CopyBytes from to len) t on = refl
+reads-access (call_steps.Read dom frame off len) t on = refl
+reads-access (call_steps.Copy from to len) t on = refl
 reads-access z t on = absurd (false≢true on)
 
 writes-access : (z : Step) (t : ℕ) → writes_frames z t ≡ true → is_access_step z ≡ true
-writes-access (WriteBytes dom frame off len) t on = refl
-writes-access (CopyBytes from to len) t on = refl
+writes-access (call_steps.Write dom frame off len) t on = refl
+writes-access (call_steps.Copy from to len) t on = refl
 writes-access z t on = absurd (false≢true on)
 
 -- a step that doesn't write to a frame leaves what was written there
@@ -633,8 +634,8 @@ no-patch b xs none = ap (λ (x : Bool). cond x xs []) none
 none-patched : (h : History) (d : DomId) (z : Step) (seen : Observation) (a : Option Answer) (t f : ℕ)
     → writes_frame_at z t f ≡ false
     → patches_of h (record { actor = d; happened = Stepped z seen; answer = a }) t f ≡ []
-none-patched h d (WriteBytes dom frame off len) seen a t f none = no-patch ((dom.0 == t) && (frame == f)) _ none
-none-patched h d (CopyBytes from to len) seen a t f none =
+none-patched h d (call_steps.Write dom frame off len) seen a t f none = no-patch ((dom.0 == t) && (frame == f)) _ none
+none-patched h d (call_steps.Copy from to len) seen a t f none =
     no-patch ((to.frame.owner.0 == t) && (to.frame.number == f)) _ none
 none-patched h d z seen a t f none = refl
 
@@ -650,7 +651,7 @@ module _ (d e : DomId) (y z : Step) (unmet : StepTouches (λ touch. step_meets e
         → is_on e z t r ≡ false
     by (LookControl dom gref) u on = off-entry e z dom gref t r u on
     by (LookBody dom gref half) u on = off-entry e z dom gref t r u on
-    by (PinStep p) u on = off-entry e z p.dom p.gref t r u on
+    by (call_steps.Pin p) u on = off-entry e z p.dom p.gref t r u on
     by (StoreBody gref half w) u on = off-entry e z d gref t r u on
     by (Exchange gref looked change) u on = off-entry e z d gref t r u on
     by x u on = absurd (false≢true on)
@@ -729,8 +730,8 @@ module _ (d e : DomId) (y z : Step) (unmet : StepTouches (λ touch. step_meets e
 
     by : (x : Step) → StepTouches (λ touch. step_meets e z touch ≡ false) d x → writes_frame_at x t f ≡ true
         → (reads_frame_at z t f ≡ false) × (writes_frame_at z t f ≡ false)
-    by (WriteBytes dom frame off len) u at = from-frame dom.0 frame u at
-    by (CopyBytes from to len) u at = from-frame to.frame.owner.0 to.frame.number u.1 at
+    by (call_steps.Write dom frame off len) u at = from-frame dom.0 frame u at
+    by (call_steps.Copy from to len) u at = from-frame to.frame.owner.0 to.frame.number u.1 at
     by x u at = absurd (false≢true at)
 
   -- what the one reads, the other does not write
@@ -757,17 +758,17 @@ module _ (d e : DomId) (y z : Step) (unmet : StepTouches (λ touch. step_meets e
 
     first : (x : Step) → StepTouches (λ touch. step_meets e z touch ≡ false) d x → is_access_step x ≡ true
         → SameLook s (record { actor = e; happened = Stepped z w; answer = b } ∷ h) h d x
-    first (ReadBytes dom frame off len) u on = kept e z w b dom.0 frame u
-    first (CopyBytes from to len) u on = kept e z w b from.frame.owner.0 from.frame.number u.0
-    first (WriteBytes dom frame off len) u on = tt
+    first (call_steps.Read dom frame off len) u on = kept e z w b dom.0 frame u
+    first (call_steps.Copy from to len) u on = kept e z w b from.frame.owner.0 from.frame.number u.0
+    first (call_steps.Write dom frame off len) u on = tt
     first x u on = absurd (false≢true on)
 
     second : (x : Step) → ((t f : ℕ) → reads_frame_at x t f ≡ true → writes_frame_at y t f ≡ false) → is_access_step x ≡ true
         → SameLook s (record { actor = d; happened = Stepped y v; answer = a } ∷ h) h e x
-    second (ReadBytes dom frame off len) none on = kept d y v a dom.0 frame (none dom.0 frame (at-itself dom.0 frame))
-    second (CopyBytes from to len) none on = kept d y v a from.frame.owner.0 from.frame.number
+    second (call_steps.Read dom frame off len) none on = kept d y v a dom.0 frame (none dom.0 frame (at-itself dom.0 frame))
+    second (call_steps.Copy from to len) none on = kept d y v a from.frame.owner.0 from.frame.number
         (none from.frame.owner.0 from.frame.number (at-itself from.frame.owner.0 from.frame.number))
-    second (WriteBytes dom frame off len) none on = tt
+    second (call_steps.Write dom frame off len) none on = tt
     second x none on = absurd (false≢true on)
 
     frames : (t f : ℕ) (x : Bool) → writes_frame_at y t f ≡ x
@@ -793,5 +794,5 @@ steps-apart s h i j y z v w actors unmet mine theirs one other = by (is_access_s
 
 -- the pin of a mapping is the one that its unpin releases
 pub unmaps-release : (h : History) (d : DomId) (p : HeldPin) (handle : Handle)
-    → mapping_of (mappings_at h d.0) handle ≡ Some p → Releases h d (Unpin p (ByHandle handle))
+    → mapping_of (mappings_at h d.0) handle ≡ Some p → Releases h d (Unpin p (holders.Mapping handle))
 unmaps-release h d p handle found = loses-mapping h d handle p found

@@ -14,7 +14,7 @@ use Rattle.gt_model.specs.Rules.{CallerKnowledge}
 use Rattle.gt_model.specs.declared.action.Action.TheVariants as actions
 use Rattle.gt_model.specs.declared.action.Observation.{Observation}
 use Rattle.gt_model.specs.declared.action.Step.{Step}
-use Rattle.gt_model.specs.declared.action.Step.TheVariants as steps
+use Rattle.gt_model.specs.declared.action.Step.TheVariants as call_steps
 use Rattle.gt_model.specs.declared.held.HeldPin.{HeldPin}
 use Rattle.gt_model.specs.declared.bounds.TheConstants.{SERIAL_LIMIT}
 use Rattle.gt_model.specs.declared.request.Request.{Request}
@@ -25,7 +25,8 @@ use Rattle.gt_core.specs.Alike.{IsRun}
 use Rattle.gt_model.specs.Legal.{IsItemOf, IsLegalHistory, IsRight, MayDo, StepsRightIn, actor_of, grown}
 use Rattle.gt_explore_moves.specs.Swapping.{AreApart, SameSeen}
 use Rattle.gt_model.specs.declared.trace.Element.{Element}
-use Rattle.gt_model.specs.declared.trace.Element.TheVariants.{Item as Did, Busy, Idle, NoDomain}
+use Rattle.gt_model.specs.declared.trace.Element.TheVariants.{Busy, Idle, NoDomain}
+use Rattle.gt_model.specs.declared.trace.Element.TheVariants as elements
 use Rattle.gt_model.specs.declared.trace.Event.{Event}
 use Rattle.gt_model.specs.declared.trace.Event.TheVariants.{Begin, Tick}
 use Rattle.gt_model.specs.declared.trace.Item.{Item}
@@ -166,7 +167,7 @@ module _ (s : Setting) where
   -- the items of the later happening and of the one before it are apart, if both have one
   abbrev AreItemsApart : List Happening → Happening → Happening → Type 0
   AreItemsApart hs (did f y) (did e z) =
-      (i j : Item) → z ≡ Did i → y ≡ Did j → (i.actor.0 == j.actor.0) ≡ false → AreApart s (history_in hs) i j
+      (i j : Item) → z ≡ elements.Item i → y ≡ elements.Item j → (i.actor.0 == j.actor.0) ≡ false → AreApart s (history_in hs) i j
   AreItemsApart hs (did f y) x = Unit {0}
   AreItemsApart hs (raised d flag) x = Unit {0}
   AreItemsApart hs (passed d flag) x = Unit {0}
@@ -408,8 +409,8 @@ module _ (c : RunContents) where
       by : (z : Element) (f : Event) → MayDo set (history_in hs) f z → ((actor_of f).0 == d.0) ≡ false
           → (open_call (grown (history_in hs) z) d.0 ≡ open_call (history_in hs) d.0)
           × (known_at set (grown (history_in hs) z) d ≡ known_at set (history_in hs) d)
-      by (Did i) (Begin b q) m off = keeps i (ap (λ (a : DomId). a.0 == d.0) m.1.0 ∙ off)
-      by (Did i) (Tick b) m off = keeps i (ap (λ (a : DomId). a.0 == d.0) m.1.0 ∙ off)
+      by (elements.Item i) (Begin b q) m off = keeps i (ap (λ (a : DomId). a.0 == d.0) m.1.0 ∙ off)
+      by (elements.Item i) (Tick b) m off = keeps i (ap (λ (a : DomId). a.0 == d.0) m.1.0 ∙ off)
       by Busy f m off = (refl, refl)
       by Idle f m off = (refl, refl)
       by NoDomain f m off = (refl, refl)
@@ -438,17 +439,17 @@ module _ (c : RunContents) where
 
   touches-as : (A B : Touch → Type 0) (d : DomId) (y : Step) → ((touch : Touch) → A touch → B touch) → StepTouches A d y
       → StepTouches B d y
-  touches-as A B d (steps.LookHeader dom) f t = f _ t
-  touches-as A B d (steps.LookControl dom gref) f t = f _ t
-  touches-as A B d (steps.LookBody dom gref half) f t = f _ t
-  touches-as A B d (steps.Pin p) f t = f _ t
-  touches-as A B d (steps.Unpin p holder) f t = f _ t
-  touches-as A B d (steps.StoreBody gref half word) f t = f _ t
-  touches-as A B d (steps.StoreHeader version frames) f t = f _ t
-  touches-as A B d (steps.Exchange gref looked change) f t = f _ t
-  touches-as A B d (steps.Read dom frame off len) f t = f _ t
-  touches-as A B d (steps.Write dom frame off len) f t = f _ t
-  touches-as A B d (steps.Copy from to len) f t = (f _ t.0, f _ t.1)
+  touches-as A B d (call_steps.LookHeader dom) f t = f _ t
+  touches-as A B d (call_steps.LookControl dom gref) f t = f _ t
+  touches-as A B d (call_steps.LookBody dom gref half) f t = f _ t
+  touches-as A B d (call_steps.Pin p) f t = f _ t
+  touches-as A B d (call_steps.Unpin p holder) f t = f _ t
+  touches-as A B d (call_steps.StoreBody gref half word) f t = f _ t
+  touches-as A B d (call_steps.StoreHeader version frames) f t = f _ t
+  touches-as A B d (call_steps.Exchange gref looked change) f t = f _ t
+  touches-as A B d (call_steps.Read dom frame off len) f t = f _ t
+  touches-as A B d (call_steps.Write dom frame off len) f t = f _ t
+  touches-as A B d (call_steps.Copy from to len) f t = (f _ t.0, f _ t.1)
 
   turned-back : (a b : ℕ) → (a == b) ≡ false → (b == a) ≡ false
   turned-back a b apart = grind arith
@@ -509,7 +510,7 @@ module _ (c : RunContents) where
       turned (history_in hs) i j (began-apart set (history_in hs) j i q (turned-back i.actor.0 j.actor.0 apart)
       (began z j did-j may))
     where
-      began : (v : Element) (j : Item) → v ≡ Did j → MayDo set (history_in (hs ++ did e w ∷ [])) (Begin d q) v
+      began : (v : Element) (j : Item) → v ≡ elements.Item j → MayDo set (history_in (hs ++ did e w ∷ [])) (Begin d q) v
           → j.happened ≡ Began q
       began v j is m = (subst (MayDo set (history_in (hs ++ did e w ∷ [])) (Begin d q)) is m).1.1
   begin-free hs (raised b flag) d q z may = tt
@@ -567,10 +568,10 @@ module _ (c : RunContents) where
       λ i j did-i did-j apart. by i j apart
       (mine i e (subst (MayDo set (history_in hs) e) did-i first)
       (subst (ElementTouches (Unmet (Makes d step)) vias (history_in hs) (actor_of e)) did-i touches))
-      (subst (λ l. MayDo set l (Tick k.dom) (Did j)) (history_did hs e w ∙ ap (grown (history_in hs)) did-i)
+      (subst (λ l. MayDo set l (Tick k.dom) (elements.Item j)) (history_did hs e w ∙ ap (grown (history_in hs)) did-i)
       (subst (MayDo set (history_in (hs ++ did e w ∷ [])) (Tick k.dom)) did-j may))
     where
-      mine : (i : Item) (f : Event) → MayDo set (history_in hs) f (Did i)
+      mine : (i : Item) (f : Event) → MayDo set (history_in hs) f (elements.Item i)
           → ItemTouches (Unmet (Makes d step)) vias (history_in hs) (actor_of f) i.happened
           → ItemTouches (Unmet (Makes d step)) vias (history_in hs) i.actor i.happened
       mine i (Begin b q) m t = subst (λ a. ItemTouches (Unmet (Makes d step)) vias (history_in hs) a i.happened)
@@ -580,7 +581,7 @@ module _ (c : RunContents) where
 
       by : (i j : Item) → (i.actor.0 == j.actor.0) ≡ false
           → ItemTouches (Unmet (Makes d step)) vias (history_in hs) i.actor i.happened
-          → MayDo set (i ∷ history_in hs) (Tick k.dom) (Did j) → AreApart set (history_in hs) i j
+          → MayDo set (i ∷ history_in hs) (Tick k.dom) (elements.Item j) → AreApart set (history_in hs) i j
       by i j apart t m = stepped j.happened m.1 m.2 where
         stepped : (x : ItemEvent) → IsItemOf (Tick k.dom) (record j { happened = x })
             → IsRight set (i ∷ history_in hs) (record j { happened = x })

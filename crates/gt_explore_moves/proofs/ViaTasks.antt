@@ -11,7 +11,7 @@ use Rattle.gt_model.specs.Asking.{asked}
 use Rattle.gt_model.specs.declared.request.Request.{Request}
 use Rattle.gt_script_runs.specs.Runs.{Named, MakesRequest, request_of}
 use Rattle.gt_script_lines.specs.declared.calls.ScriptCall.{ScriptCall}
-use Rattle.gt_script_lines.specs.declared.calls.ScriptCall.TheVariants as calls
+use Rattle.gt_script_lines.specs.declared.calls.ScriptCall.TheVariants as script_calls
 use Rattle.gt_script.specs.Lists.{RunTask}
 use Rattle.gt_script.specs.RunContents.{RunContents}
 use Rattle.gt_script.specs.RunScripts.{list_of}
@@ -65,20 +65,20 @@ said-of-script vias named dom call q (bytes, hex, is) some =
   where
     by : (x : ScriptCall) → (call_grants_via x ≡ true → vias ≡ true)
         → IsOfScript vias (asked (request_of named dom bytes x))
-    by (calls.Grant gref entry) may = λ none. not-true (is_via entry) (λ e. false≢true (sym none ∙ may e))
-    by (calls.GrantBytes gref hex) may = λ none. absurd (false≢true (sym none ∙ may refl))
-    by (calls.Revoke gref) may = tt
-    by (calls.Withdraw gref) may = tt
-    by (calls.Demote gref) may = tt
-    by (calls.Promote gref) may = tt
-    by (calls.Map label to gref flags) may = tt
-    by (calls.Unmap label) may = tt
-    by (calls.Load label off len) may = tt
-    by (calls.Store label off hex) may = tt
-    by (calls.Peek frame off len) may = tt
-    by (calls.Poke frame off hex) may = tt
-    by (calls.Copy c) may = tt
-    by (calls.SetVersion version) may = tt
-    by (calls.SetupTable frames) may = tt
-    by (calls.QuerySize to) may = tt
-    by (calls.GetVersion to) may = tt
+    by (script_calls.Grant gref entry) may = λ none. not-true (is_via entry) (λ e. false≢true (sym none ∙ may e))
+    by (script_calls.GrantBytes gref hex) may = λ none. absurd (false≢true (sym none ∙ may refl))
+    by (script_calls.Revoke gref) may = tt
+    by (script_calls.Withdraw gref) may = tt
+    by (script_calls.Demote gref) may = tt
+    by (script_calls.Promote gref) may = tt
+    by (script_calls.Map label to gref flags) may = tt
+    by (script_calls.Unmap label) may = tt
+    by (script_calls.Load label off len) may = tt
+    by (script_calls.Store label off hex) may = tt
+    by (script_calls.Peek frame off len) may = tt
+    by (script_calls.Poke frame off hex) may = tt
+    by (script_calls.Copy c) may = tt
+    by (script_calls.SetVersion version) may = tt
+    by (script_calls.SetupTable frames) may = tt
+    by (script_calls.QuerySize to) may = tt
+    by (script_calls.GetVersion to) may = tt

@@ -13,14 +13,15 @@ use Rattle.gt_model.specs.Asking.{same_handle, asked}
 use Rattle.gt_model.specs.declared.handle.Handle.{Handle}
 use Rattle.gt_model.specs.Path.{steps_of}
 use Rattle.gt_model.specs.Rules.{begun}
-use Rattle.gt_model.specs.declared.action.Action.TheVariants.{Step as Makes}
+use Rattle.gt_model.specs.declared.action.Action.TheVariants as actions
 use Rattle.gt_model.specs.declared.action.CallResult.{CallResult}
 use Rattle.gt_model.specs.declared.request.OpenRequest.{OpenRequest}
 use Rattle.gt_model.specs.declared.request.OpenRequest.TheVariants.{Copy, Grant, Map, Probe}
 use Rattle.gt_model.specs.declared.action.Observation.{Observation}
 use Rattle.gt_model.specs.declared.action.Observation.TheVariants.{Taken}
 use Rattle.gt_model.specs.declared.action.Step.{Step}
-use Rattle.gt_model.specs.declared.action.Step.TheVariants.{Pin as PinStep, Unpin}
+use Rattle.gt_model.specs.declared.action.Step.TheVariants.{Unpin}
+use Rattle.gt_model.specs.declared.action.Step.TheVariants as call_steps
 use Rattle.gt_model.specs.declared.held.HeldPin.{HeldPin}
 use Rattle.gt_model.specs.declared.request.PinHolder.{PinHolder}
 use Rattle.gt_model.specs.declared.request.Request.{Request}
@@ -32,9 +33,11 @@ use Rattle.gt_model.specs.FirstRule.{stood}
 use Rattle.gt_model.specs.Legal.{AnsweredBy, IsItemOf, IsLegalHistory, IsRight, MayDo, StepsRight, StepsRightIn}
 use Rattle.gt_model.specs.Legal.{actor_of, gives_back, grown, next_in, verdict_in}
 use Rattle.gt_model.specs.declared.trace.Answer.{Answer}
-use Rattle.gt_model.specs.declared.trace.Answer.TheVariants.{Done as AnswerDone, Mapped}
+use Rattle.gt_model.specs.declared.trace.Answer.TheVariants.{Mapped}
+use Rattle.gt_model.specs.declared.trace.Answer.TheVariants as answers
 use Rattle.gt_model.specs.declared.trace.Element.{Element}
-use Rattle.gt_model.specs.declared.trace.Element.TheVariants.{Item as Did, Busy, Idle, NoDomain}
+use Rattle.gt_model.specs.declared.trace.Element.TheVariants.{Busy, Idle, NoDomain}
+use Rattle.gt_model.specs.declared.trace.Element.TheVariants as elements
 use Rattle.gt_model.specs.declared.trace.Event.{Event}
 use Rattle.gt_model.specs.declared.trace.Event.TheVariants.{Begin, Tick}
 use Rattle.gt_model.specs.declared.trace.Item.{Item}
@@ -73,7 +76,7 @@ module _ (A : Touch → Type 0) (vias : Bool) where
 
   -- what the element touches is such
   abbrev pub ElementTouches : History → DomId → Element → Type 0
-  ElementTouches h d (Did i) = ItemTouches h d i.happened
+  ElementTouches h d (elements.Item i) = ItemTouches h d i.happened
   ElementTouches h d x = Unit {0}
 
   -- what happens touches only such
@@ -93,8 +96,8 @@ module _ (A : Touch → Type 0) (vias : Bool) where
 
   element-grew : (s : Setting) (h : History) (e : Event) (y : Element) → MayDo s h e y → ElementTouches h (actor_of e) y
       → Grew s h → Grew s (grown h y)
-  element-grew s h e (Did i) may touch grew = record {
-    legal = legal-grows s h e (Did i) may grew.legal;
+  element-grew s h e (elements.Item i) may touch grew = record {
+    legal = legal-grows s h e (elements.Item i) may grew.legal;
     asked = (item-asked h (actor_of e) i.happened touch, grew.asked);
   }
   element-grew s h e Busy may touch grew = grew
@@ -180,7 +183,7 @@ module _ (A : Touch → Type 0) (uses : MappingUse) where
 
   -- the pin that an event takes for a mapping is on such an entry
   abbrev PinnedTouches : ItemEvent → Option Answer → Type 0
-  PinnedTouches (Stepped (PinStep p) seen) answer =
+  PinnedTouches (Stepped (call_steps.Pin p) seen) answer =
       (handle : Handle) → answer ≡ Some (Mapped handle) → A (Entry p.dom p.gref) × BytesTouch A uses
   PinnedTouches x answer = Unit {0}
 
@@ -210,7 +213,7 @@ module _ (A : Touch → Type 0) (uses : MappingUse) where
 
   pins-pinned : (d : ℕ) (actor : DomId) (x : ItemEvent) (answer : Option Answer) (h : History) (ps : List Pin)
       → PinnedTouches x answer → PinsTouch (gather mapping_named d (pinned_by actor x answer h ps))
-  pins-pinned d actor (Stepped (PinStep p) Taken) answer h ps touch =
+  pins-pinned d actor (Stepped (call_steps.Pin p) Taken) answer h ps touch =
       pin-touches d _ (named-touches p _ answer _ refl refl touch)
   pins-pinned d actor x answer h ps touch = subst PinsTouch (sym (gather-none d)) tt
 
@@ -264,7 +267,7 @@ module _ (A : Touch → Type 0) (uses : MappingUse) where
       → AnsweredBy s h d (Copy c) (Some z) gives verdict (Some (Mapped handle)) against → ⊥
   copy-unmapped s h d c z gives None against handle by = by
   copy-unmapped s h d c z gives (Some verdict) against handle by =
-      let never : Mapped handle ≡ AnswerDone = by.2 in absurd (cc)
+      let never : Mapped handle ≡ answers.Done = by.2 in absurd (cc)
 
   -- a step of a call touches only such
   module _ (s : Setting) (h : History) (d : DomId) (y : Step) (seen : Observation) (a : Option Answer) (c : Underway)
@@ -274,7 +277,7 @@ module _ (A : Touch → Type 0) (uses : MappingUse) where
     touches = subst (CallWithin d) is w.call
 
     opened : (begun (known_at s h d) d c.request ≡ None)
-        × (steps_of (known_at s h d) d c.request (values c) ≡ Some (Makes y))
+        × (steps_of (known_at s h d) d c.request (values c) ≡ Some (actions.Step y))
     opened = path-opened (known_at s h d) d c.request (values c) y right.continues
 
     mapped : (handle : Handle) (p : HeldPin) → (known_at s h d).mapping handle ≡ Some p → PinTouches A uses p
@@ -292,29 +295,29 @@ module _ (A : Touch → Type 0) (uses : MappingUse) where
     pinned : (r : OpenRequest) (z : Step) → c.request ≡ r → y ≡ z → StepTouches A d z → PinsBytes A uses r z
         → StepFacts (known_at s h d) r (held_along (steps_of (known_at s h d) d r) [] (values c)) z
         → PinnedTouches (Stepped z seen) a
-    pinned (Map dom gref flags) (PinStep p) same step touch bytes f = λ handle answer. (touch, bytes)
-    pinned (Copy x) (PinStep p) same step touch bytes f = λ handle answer. absurd
+    pinned (Map dom gref flags) (call_steps.Pin p) same step touch bytes f = λ handle answer. (touch, bytes)
+    pinned (Copy x) (call_steps.Pin p) same step touch bytes f = λ handle answer. absurd
         (copy-unmapped s h d x y (gives_back (next_in s h d c seen)) (verdict_in (next_in s h d c seen))
         (stood s (item d (Stepped y seen) a ∷ h) d.0) handle
         (subst (λ (r : OpenRequest). AnsweredBy s h d r (Some y) (gives_back (next_in s h d c seen))
         (verdict_in (next_in s h d c seen)) (Some (Mapped handle)) (stood s (item d (Stepped y seen) a ∷ h) d.0)) same
         (subst (λ (o : Option Answer). AnsweredBy s h d c.request (Some y) (gives_back (next_in s h d c seen))
         (verdict_in (next_in s h d c seen)) o (stood s (item d (Stepped y seen) a ∷ h) d.0)) answer right.answered)))
-    pinned r (PinStep p) same step touch bytes f = absurd f.0
+    pinned r (call_steps.Pin p) same step touch bytes f = absurd f.0
     pinned r z same step touch bytes f = tt
 
     does-so : (r : OpenRequest) → c.request ≡ r → RequestTouches A uses d r
-        → steps_of (known_at s h d) d r (values c) ≡ Some (Makes y) → Does r
+        → steps_of (known_at s h d) d r (values c) ≡ Some (actions.Step y) → Does r
     does-so (Copy x) same t e =
         let it = each-step A uses (known_at s h d) d (IsPlain uses.vias s) mapped (Copy x) t
         (λ copy p dom ro dom2 gref plain via. absurd (beyond-none t.0 p dom ro dom2 gref plain via))
-        (values c) (Makes y)
+        (values c) (actions.Step y)
         (copy-took uses.vias s h sound d c is y right.continues x same) e in
         (it.0, pinned (Copy x) y same refl it.0 it.1 it.2)
     does-so (Probe x) same t e = absurd t
     does-so r same t e =
         let it = each-step A uses (known_at s h d) d (λ p. Unit {0}) mapped r t
-        (λ copy. absurd copy) (values c) (Makes y) (took-any (steps_of (known_at s h d) d r) (values c)) e in
+        (λ copy. absurd copy) (values c) (actions.Step y) (took-any (steps_of (known_at s h d) d r) (values c)) e in
         (it.0, pinned r y same refl it.0 it.1 it.2)
 
     does : Does c.request
@@ -372,8 +375,8 @@ module _ (A : Touch → Type 0) (uses : MappingUse) where
   pub event-within : (s : Setting) (h : History) (e : Event) (y : Element) → BeginTouches e → MayDo s h e y
       → HistoryWithin h (actor_of e) → IsSound uses.vias s h
       → HistoryWithin (grown h y) (actor_of e) × ElementTouches A uses.vias h (actor_of e) y
-  event-within s h e (Did i) touch may w sound = by (of-event e may) where
-    of-event : (f : Event) → MayDo s h f (Did i) → IsItemOf f i × IsRight s h i
+  event-within s h e (elements.Item i) touch may w sound = by (of-event e may) where
+    of-event : (f : Event) → MayDo s h f (elements.Item i) → IsItemOf f i × IsRight s h i
     of-event (Begin d q) m = (m.1, m.2)
     of-event (Tick d) m = (m.1, m.2)
 
@@ -382,7 +385,7 @@ module _ (A : Touch → Type 0) (uses : MappingUse) where
     own (Tick d) of = of.0
 
     by : IsItemOf e i × IsRight s h i
-        → HistoryWithin (i ∷ h) (actor_of e) × ElementTouches A uses.vias h (actor_of e) (Did i)
+        → HistoryWithin (i ∷ h) (actor_of e) × ElementTouches A uses.vias h (actor_of e) (elements.Item i)
     by (of, right) =
         let same : item (actor_of e) i.happened i.answer ≡ i =
         ap (λ d. item d i.happened i.answer) (sym (own e of)) in
@@ -503,8 +506,8 @@ module _ (A : Touch → Type 0) (uses : MappingUse) where
   } where
     by : (z : Element) (f : Event) → MayDo s (history_in hs) f z → ((actor_of f).0 == d.0) ≡ false
         → HistoryWithin (grown (history_in hs) z) d
-    by (Did i) (Begin b q) m off = other-within i (history_in hs) d (ap (λ (a : DomId). a.0 == d.0) m.1.0 ∙ off) w.past
-    by (Did i) (Tick b) m off = other-within i (history_in hs) d (ap (λ (a : DomId). a.0 == d.0) m.1.0 ∙ off) w.past
+    by (elements.Item i) (Begin b q) m off = other-within i (history_in hs) d (ap (λ (a : DomId). a.0 == d.0) m.1.0 ∙ off) w.past
+    by (elements.Item i) (Tick b) m off = other-within i (history_in hs) d (ap (λ (a : DomId). a.0 == d.0) m.1.0 ∙ off) w.past
     by Busy f m off = w.past
     by Idle f m off = w.past
     by NoDomain f m off = w.past

@@ -1,7 +1,7 @@
 -- The start of a call, by what its domain knows.
 use Rattle.std.specs.Prelude.{◌≡◌, [], Some, None}
 use Rattle.gt_types.specs.declared.DomId.{DomId}
-use Rattle.gt_model.specs.declared.action.Action.TheVariants.{Step as Makes}
+use Rattle.gt_model.specs.declared.action.Action.TheVariants as actions
 use Rattle.gt_model.specs.declared.action.Step.{Step}
 use Rattle.gt_calls.specs.declared.call.Call.{Call}
 use Rattle.gt_model.specs.declared.request.Request.{Request}
@@ -10,7 +10,7 @@ use Rattle.gt_model.specs.Path.{path}
 use Rattle.gt_calls.specs.Machine.{first_phase}
 use Rattle.gt_model.specs.Rules.{CallerKnowledge, begun}
 use Rattle.gt_calls.specs.Standing.{IsAt}
-use Rattle.gt_explore_moves.specs.declared.calls.CallOpening.{CallOpening as Opened}
+use Rattle.gt_explore_moves.specs.declared.calls.CallOpening.{CallOpening}
 use Rattle.gt_explore_moves.specs.declared.calls.CallOpening.TheVariants.{Open, Done}
 
 -- a call begins the same by either knowledge
@@ -27,9 +27,9 @@ pub record OpensAsRun (k : CallerKnowledge) (dom : DomId) (request : Request) (c
   pub caller : call.caller ≡ dom
   pub asks : call.request ≡ asked request
   pub at : IsAt k call []
-  pub follows : path k dom (asked request) [] ≡ Some (Makes step)
+  pub follows : path k dom (asked request) [] ≡ Some (actions.Step step)
 
 -- the start of a call: it is open, or over by the first rule that applies at its beginning
-abbrev pub OpensSo : CallerKnowledge → DomId → Request → Opened → Type 0
+abbrev pub OpensSo : CallerKnowledge → DomId → Request → CallOpening → Type 0
 OpensSo k dom request (Open call step) = OpensAsRun k dom request call step
 OpensSo k dom request (Done verdict) = begun_of k dom request ≡ Some verdict

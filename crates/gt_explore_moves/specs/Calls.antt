@@ -2,13 +2,13 @@
 -- a state their serials are the indices of mappings.
 use Rattle.std.specs.Prelude.{◌≡◌, ◌≤◌, ◌+◌, ◌↔◌, ℕ, suc, List, [], ◌∷◌, length, map, drop, Option, Some, None}
 use Rattle.std.specs.Prelude.{slice_get}
-use Rattle.gt_explore_moves.specs.Prelude.{DomId, HandleMap, Handle, Makes, HeldPin, OpenRequest, Load, Store}
-use Rattle.gt_explore_moves.specs.Prelude.{Request, asked, bytes_given_by, path, CallerKnowledge, entry_in}
-use Rattle.gt_explore_moves.specs.Prelude.{knowledge_of, own_generation, IsAt, History, Setting, Underway, entry_at}
-use Rattle.gt_explore_moves.specs.Prelude.{generation_at, known_at, mappings_at, maps_answered_at, open_call}
-use Rattle.gt_explore_moves.specs.Prelude.{table_at, values, may_by, Named, MakesRequest, handle_labelled, ScriptCall}
-use Rattle.gt_explore_moves.specs.Prelude.{Course, resting, calling, giving, given_up, handles_without, RunTask, Do}
-use Rattle.gt_explore_moves.specs.Prelude.{SparseTable}
+use Rattle.gt_explore_moves.specs.Prelude.{DomId, HandleMap, Handle, HeldPin, OpenRequest, Load, Store, Request, asked}
+use Rattle.gt_explore_moves.specs.Prelude.{bytes_given_by, path, CallerKnowledge, entry_in, knowledge_of}
+use Rattle.gt_explore_moves.specs.Prelude.{own_generation, IsAt, History, Setting, Underway, entry_at, generation_at}
+use Rattle.gt_explore_moves.specs.Prelude.{known_at, mappings_at, maps_answered_at, open_call, table_at, values, may_by}
+use Rattle.gt_explore_moves.specs.Prelude.{Named, MakesRequest, handle_labelled, ScriptCall, Course, resting, calling}
+use Rattle.gt_explore_moves.specs.Prelude.{giving, given_up, handles_without, RunTask, Do, SparseTable}
+use Rattle.gt_model.specs.declared.action.Action.TheVariants as actions
 use Rattle.gt_model.specs.declared.request.OpenRequest.TheVariants.{Unmap, Release}
 use Rattle.gt_explore_replay.specs.Courses.{Opened}
 use Rattle.gt_explore_moves.specs.Mappings.{labels_of, mapping_pins}
@@ -77,7 +77,7 @@ pub record GoesAlong (s : Setting) (h : History) (d : DomId) (c : Underway) (o :
   pub asks : o.call.request ≡ asked_under place c.request
   pub by_place : AsksByPlace (handles_at h d) place c.request
   pub at : IsAt (known_by_place s h d) o.call (values c)
-  pub follows : path (known_by_place s h d) d o.call.request (values c) ≡ Some (Makes o.step)
+  pub follows : path (known_by_place s h d) d o.call.request (values c) ≡ Some (actions.Step o.step)
 
 -- the open call is that of the last task begun
 pub record IsOfTask (tasks : List RunTask) (next : ℕ) (d : DomId) (line : ℕ) (call : ScriptCall) (task : Option ℕ)

@@ -2,7 +2,8 @@
 use Rattle.std.specs.Prelude.{◌≡◌, ◌++◌, ℕ, [], ◌∷◌, Option, Some}
 use Rattle.gt_types.specs.declared.DomId.{DomId}
 use Rattle.gt_model.specs.declared.action.Action.{Action}
-use Rattle.gt_model.specs.declared.action.Action.TheVariants.{Step as Makes, Done}
+use Rattle.gt_model.specs.declared.action.Action.TheVariants.{Done}
+use Rattle.gt_model.specs.declared.action.Action.TheVariants as actions
 use Rattle.gt_model.specs.declared.action.Step.{Step}
 use Rattle.gt_calls.specs.declared.call.Call.{Call}
 use Rattle.gt_calls.specs.declared.call.Phase.{Phase}
@@ -44,7 +45,7 @@ stepped_call s h d c z = record c { steps = c.steps ++ (z, seen_by s h d z) ∷ 
 -- after this step of the run the call continues as there: it is open along it, if the domain then knows the same; or it
 -- ends with the same verdict
 abbrev pub GoesOnAsRun : Setting → History → DomId → Underway → Step → Option ℕ → Call → Action → Type 0
-GoesOnAsRun s h d c z task call (Makes y) =
+GoesOnAsRun s h d c z task call (actions.Step y) =
     (g : History) → SameKnown s h g d
     → GoesAlong s g d (stepped_call s h d c z) (record { task = task; call = call; step = y })
 GoesOnAsRun s h d c z task call (Done verdict) =

@@ -4,7 +4,7 @@ use Rattle.std.specs.Borrow.{Bor}
 use Rattle.std.specs.Option.{option_map}
 use Rattle.gt_model.specs.declared.held.HeldPin.{HeldPin}
 use Rattle.gt_model.specs.declared.request.PinHolder.{PinHolder}
-use Rattle.gt_model.specs.declared.request.PinHolder.TheVariants.{Mapping as ByHandle, Leg as ByLeg}
+use Rattle.gt_model.specs.declared.request.PinHolder.TheVariants as holders
 use Rattle.gt_explore_moves.specs.declared.actor.LabelledMapping.{LabelledMapping}
 
 -- the bytes of a label, if there is one
@@ -31,5 +31,5 @@ apart_from given labels = map (unless_given given) labels
 
 -- the mappings without the one whose index is the serial of this handle
 abbrev pub given_back : PinHolder → List LabelledMapping → List LabelledMapping
-given_back (ByHandle handle) ms = take handle.serial ms ++ drop (suc handle.serial) ms
-given_back (ByLeg number) ms = ms
+given_back (holders.Mapping handle) ms = take handle.serial ms ++ drop (suc handle.serial) ms
+given_back (holders.Leg number) ms = ms

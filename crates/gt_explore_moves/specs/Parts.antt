@@ -9,7 +9,7 @@ use Rattle.gt_explore_state.specs.declared.table.SparseTable.{SparseTable}
 use Rattle.gt_explore_moves.specs.Copies.{SameActor}
 use Rattle.gt_explore_moves.specs.declared.actor.Actor.{Actor}
 use Rattle.gt_explore_moves.specs.declared.parts.PartInState.{PartInState}
-use Rattle.gt_explore_moves.specs.declared.parts.PartInState.TheVariants as shown
+use Rattle.gt_explore_moves.specs.declared.parts.PartInState.TheVariants as parts_in_state
 use Rattle.gt_explore_moves.specs.declared.parts.StatePart.{StatePart}
 use Rattle.gt_explore_moves.specs.declared.parts.StatePart.TheVariants.{Domain, Flag, Page, Table}
 use Rattle.gt_explore_moves.specs.declared.scene.SearchState.{SearchState}
@@ -81,10 +81,10 @@ parts_of w = map Flag w.told.items ++ all_but_flags w
 
 -- the part that is borrowed from a state
 abbrev pub part_shown : PartInState → StatePart
-part_shown (shown.Flag b) = Flag b
-part_shown (shown.Domain a) = Domain a.now
-part_shown (shown.Table t) = Table t.now
-part_shown (shown.Page p) = Page p.now
+part_shown (parts_in_state.Flag b) = Flag b
+part_shown (parts_in_state.Domain a) = Domain a.now
+part_shown (parts_in_state.Table t) = Table t.now
+part_shown (parts_in_state.Page p) = Page p.now
 
 -- `SamePart` is transitive
 pub same_part_on : (p q r : StatePart) → SamePart p q → SamePart q r → SamePart p r

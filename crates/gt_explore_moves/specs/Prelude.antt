@@ -4,12 +4,11 @@ pub use Rattle.gt_model.specs.Path.{path}
 pub use Rattle.gt_model.specs.Rules.{CallerKnowledge}
 pub use Rattle.gt_calls.specs.Known.{entry_in, knowledge_of, own_generation}
 pub use Rattle.gt_calls.specs.Standing.{IsAt}
-pub use Rattle.gt_model.specs.declared.action.Action.TheVariants.{Step as Makes}
 pub use Rattle.gt_model.specs.declared.action.Observation.{Observation}
 pub use Rattle.gt_model.specs.declared.action.Step.{Step}
-pub use Rattle.gt_model.specs.declared.action.Step.TheVariants.{Read as ReadBytes, Unpin}
+pub use Rattle.gt_model.specs.declared.action.Step.TheVariants.{Unpin}
 pub use Rattle.gt_model.specs.declared.action.CallResult.{CallResult}
-pub use Rattle.gt_model.specs.declared.action.CallResult.TheVariants.{Granted, Mapped as KeptPin}
+pub use Rattle.gt_model.specs.declared.action.CallResult.TheVariants.{Granted}
 pub use Rattle.gt_calls.specs.declared.call.Call.{Call}
 pub use Rattle.gt_model.specs.declared.held.HeldPin.{HeldPin}
 pub use Rattle.gt_model.specs.declared.request.OpenRequest.{OpenRequest}
@@ -20,7 +19,6 @@ pub use Rattle.gt_model.specs.History.{History, Setting, Underway, contents_at, 
 pub use Rattle.gt_model.specs.History.{mappings_at, maps_answered_at, open_call, seen_by, table_at, values}
 pub use Rattle.gt_model.specs.Legal.{IsItemOf, IsRight}
 pub use Rattle.gt_model.specs.declared.trace.Answer.{Answer}
-pub use Rattle.gt_model.specs.declared.trace.Answer.TheVariants.{Bytes as BytesAnswer}
 pub use Rattle.gt_model.specs.declared.trace.Bytes.{Bytes}
 pub use Rattle.gt_model.specs.declared.trace.Event.TheVariants.{Tick}
 pub use Rattle.gt_model.specs.declared.trace.Item.{Item}

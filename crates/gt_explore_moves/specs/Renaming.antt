@@ -4,11 +4,12 @@ use Rattle.gt_model.specs.declared.handle.Handle.{Handle}
 use Rattle.gt_model.specs.declared.held.HeldPin.{HeldPin}
 use Rattle.gt_model.specs.declared.request.OpenRequest.{OpenRequest}
 use Rattle.gt_model.specs.declared.request.OpenRequest.TheVariants.{Unmap, Release, Load, Store}
-use Rattle.gt_model.specs.declared.request.PinHolder.TheVariants.{Mapping as ByHandle}
+use Rattle.gt_model.specs.declared.request.PinHolder.TheVariants as holders
 use Rattle.gt_model.specs.declared.action.Step.{Step}
 use Rattle.gt_model.specs.declared.action.Step.TheVariants.{Unpin}
 use Rattle.gt_model.specs.declared.action.Action.{Action}
-use Rattle.gt_model.specs.declared.action.Action.TheVariants.{Step as Makes, Done}
+use Rattle.gt_model.specs.declared.action.Action.TheVariants.{Done}
+use Rattle.gt_model.specs.declared.action.Action.TheVariants as actions
 use Rattle.gt_model.specs.declared.bounds.TheConstants.{SERIAL_LIMIT}
 use Rattle.gt_model.specs.Rules.{CallerKnowledge}
 
@@ -22,11 +23,11 @@ asked_under b request = request
 
 -- a step, with this handle instead of that of the mapping that it drops
 abbrev pub step_under : Handle → Step → Step
-step_under b (Unpin p (ByHandle a)) = Unpin p (ByHandle b)
+step_under b (Unpin p (holders.Mapping a)) = Unpin p (holders.Mapping b)
 step_under b step = step
 
 abbrev pub action_under : Handle → Action → Action
-action_under b (Makes step) = Makes (step_under b step)
+action_under b (actions.Step step) = actions.Step (step_under b step)
 action_under b (Done verdict) = Done verdict
 
 -- this handle finds for the one caller what the handle of its request finds for the other

@@ -8,13 +8,13 @@ use Rattle.gt_explore_moves.specs.Beginnings.{OpensAsRun}
 use Rattle.gt_explore_moves.specs.Calls.{AsksByPlace, ShowsCalls, handles_at, known_by_place}
 use Rattle.gt_explore_moves.specs.Renaming.{asked_under}
 use Rattle.gt_explore_moves.specs.declared.actor.Actor.{Actor}
-use Rattle.gt_explore_moves.specs.declared.calls.CallOpening.{CallOpening as Opened}
+use Rattle.gt_explore_moves.specs.declared.calls.CallOpening.{CallOpening}
 use Rattle.gt_explore_moves.specs.declared.calls.CallOpening.TheVariants.{Open, Done}
 use Rattle.gt_explore_moves.specs.declared.scene.SearchState.{SearchState}
 
 -- a call began in a state as this request begins in the run: over, with the same verdict; or open, with the same
 -- request except for the handle, which has the index of the mapping as its serial
-abbrev pub BeginsAsRun : Setting → History → DomId → Request → Opened → Type 0
+abbrev pub BeginsAsRun : Setting → History → DomId → Request → CallOpening → Type 0
 BeginsAsRun s h d q (Done verdict) = begun_of (known_at s h d) d q ≡ Some verdict
 BeginsAsRun s h d q (Open call step) =
     (begun_of (known_at s h d) d q ≡ None)

@@ -1,8 +1,9 @@
 -- When two histories look the same, and when the items of two domains may change places.
 use Rattle.std.specs.Prelude.{◌≡◌, ◌⊎◌, ◌==◌, ◌&&◌, ℕ, Bool, true, false, List, [], ◌∷◌, count_by}
-use Rattle.gt_core.specs.Prelude.{DomId, PinHolder, HeldPin, Step, LookHeader, LookControl, LookBody, PinStep}
-use Rattle.gt_core.specs.Prelude.{Exchange, Request, Observation, StoreBody, StoreHeader, ReadBytes, WriteBytes}
-use Rattle.gt_core.specs.Prelude.{CopyBytes, Unpin, BodyWord, Item, ItemEvent, Began, Stepped, Patch, Dir}
+use Rattle.gt_core.specs.Prelude.{DomId, PinHolder, HeldPin, Step, LookHeader, LookControl, LookBody, Exchange, Request}
+use Rattle.gt_core.specs.Prelude.{Observation, StoreBody, StoreHeader, Unpin, BodyWord, Item, ItemEvent, Began, Stepped}
+use Rattle.gt_core.specs.Prelude.{Patch, Dir}
+use Rattle.gt_model.specs.declared.action.Step.TheVariants as call_steps
 use Rattle.gt_model.specs.History.{History, Setting, entry_at, raises_at, body_at, table_at, open_call, live, gather}
 use Rattle.gt_model.specs.History.{reads_at, writes_at, maps_answered_at, patches_at, patches_by, written_by}
 use Rattle.gt_model.specs.History.{given_in, contents_at, is_pin_on, without}
@@ -42,11 +43,11 @@ abbrev pub SameLook : Setting → History → History → DomId → Step → Typ
 SameLook s g h d (LookHeader dom) = table_at s g dom ≡ table_at s h dom
 SameLook s g h d (LookControl dom gref) = SameEntry g h dom.0 gref.0
 SameLook s g h d (LookBody dom gref half) = body_at g dom.0 gref.0 half ≡ body_at h dom.0 gref.0 half
-SameLook s g h d (PinStep p) = SameEntry g h p.dom.0 p.gref.0
+SameLook s g h d (call_steps.Pin p) = SameEntry g h p.dom.0 p.gref.0
 SameLook s g h d (Exchange gref looked change) =
     SameEntry g h d.0 gref.0 × ((half : BodyWord) → body_at g d.0 gref.0 half ≡ body_at h d.0 gref.0 half)
-SameLook s g h d (ReadBytes dom frame off len) = patches_at g dom.0 frame ≡ patches_at h dom.0 frame
-SameLook s g h d (CopyBytes from to len) =
+SameLook s g h d (call_steps.Read dom frame off len) = patches_at g dom.0 frame ≡ patches_at h dom.0 frame
+SameLook s g h d (call_steps.Copy from to len) =
     patches_at g from.frame.owner.0 from.frame.number ≡ patches_at h from.frame.owner.0 from.frame.number
 SameLook s g h d step = Unit {0}
 
@@ -100,7 +101,7 @@ abbrev pub touches_entry : DomId → Step → ℕ → ℕ → Bool
 touches_entry d (LookControl dom gref) t r = (dom.0 == t) && (gref.0 == r)
 touches_entry d (LookBody dom gref half) t r = (dom.0 == t) && (gref.0 == r)
 touches_entry d (StoreBody gref half word) t r = (d.0 == t) && (gref.0 == r)
-touches_entry d (PinStep p) t r = (p.dom.0 == t) && (p.gref.0 == r)
+touches_entry d (call_steps.Pin p) t r = (p.dom.0 == t) && (p.gref.0 == r)
 touches_entry d (Exchange gref looked change) t r = (d.0 == t) && (gref.0 == r)
 touches_entry d step t r = false
 
@@ -116,14 +117,14 @@ stores_header d step t = false
 
 -- the step reads a frame of domain t
 abbrev pub reads_frames : Step → ℕ → Bool
-reads_frames (ReadBytes dom frame off len) t = dom.0 == t
-reads_frames (CopyBytes from to len) t = from.frame.owner.0 == t
+reads_frames (call_steps.Read dom frame off len) t = dom.0 == t
+reads_frames (call_steps.Copy from to len) t = from.frame.owner.0 == t
 reads_frames step t = false
 
 -- the step writes to a frame of domain t
 abbrev pub writes_frames : Step → ℕ → Bool
-writes_frames (WriteBytes dom frame off len) t = dom.0 == t
-writes_frames (CopyBytes from to len) t = to.frame.owner.0 == t
+writes_frames (call_steps.Write dom frame off len) t = dom.0 == t
+writes_frames (call_steps.Copy from to len) t = to.frame.owner.0 == t
 writes_frames step t = false
 
 -- the step of domain d releases no pin on entry r of domain t

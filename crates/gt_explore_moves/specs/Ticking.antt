@@ -1,12 +1,15 @@
 -- The open call of a domain makes its next step in a state as in the run.
 use Rattle.std.specs.Prelude.{◌≡◌, ◌+◌, ◌≤◌, ◌++◌, ℕ, List, [], ◌∷◌, take, drop, Option, Some, None}
 use Rattle.std.specs.Prelude.{slice_get, slice_set}
-use Rattle.gt_explore_moves.specs.Prelude.{DomainConfig, FRAME_SIZE, Observation, Step, ReadBytes, Unpin, CallResult, Granted, KeptPin}
+use Rattle.gt_explore_moves.specs.Prelude.{DomainConfig, FRAME_SIZE, Observation, Step, Unpin, CallResult, Granted}
 use Rattle.gt_explore_moves.specs.Prelude.{answer_of, History, Setting, contents_at, seen_by, IsItemOf, IsRight, Answer}
-use Rattle.gt_explore_moves.specs.Prelude.{BytesAnswer, Bytes, Tick, Item, answer_line, may_by, call_bytes, label_given}
+use Rattle.gt_explore_moves.specs.Prelude.{Bytes, Tick, Item, answer_line, may_by, call_bytes, label_given}
 use Rattle.gt_explore_moves.specs.Prelude.{HaveAnswered, Course, back_after, calling, course_after, giving, resting}
-use Rattle.gt_explore_moves.specs.Prelude.{RunAction, RunTask, Do, TurnResult, On, IsLikeReached, IsSettingOf, PagesShow, TablesShow, SparsePage}
-use Rattle.gt_explore_moves.specs.Prelude.{SparseTable}
+use Rattle.gt_explore_moves.specs.Prelude.{RunAction, RunTask, Do, TurnResult, On, IsLikeReached, IsSettingOf}
+use Rattle.gt_explore_moves.specs.Prelude.{PagesShow, TablesShow, SparsePage, SparseTable}
+use Rattle.gt_model.specs.declared.trace.Answer.TheVariants as answers
+use Rattle.gt_model.specs.declared.action.Step.TheVariants as call_steps
+use Rattle.gt_model.specs.declared.action.CallResult.TheVariants as results
 use Rattle.gt_explore_replay.specs.Courses.{Opened}
 use Rattle.gt_explore_moves.specs.Calls.{ShowsCalls}
 use Rattle.gt_explore_moves.specs.Ends.{tasks_at}
@@ -99,19 +102,19 @@ pub record HasStepped (s : Setting) (h : History) (k : Course) (i : Item) (o : A
 
 -- a step that reads does so inside a frame
 abbrev pub ReadsInFrame : Step → Type 0
-ReadsInFrame (ReadBytes dom frame off len) = off + len ≤ FRAME_SIZE
+ReadsInFrame (call_steps.Read dom frame off len) = off + len ≤ FRAME_SIZE
 ReadsInFrame step = Unit {0}
 
 -- the answer of a call that ends after this step with this verdict, except for a handle: a read returns the bytes that
 -- the frame holds
 abbrev pub AnswersEnd : History → Step → CallResult → Answer → Type 0
-AnswersEnd h (ReadBytes dom frame off len) Granted answer =
-    (b : Bytes) × (answer ≡ BytesAnswer b) × (b.bytes.items ≡ take len (drop off (contents_at h dom.0 frame)))
+AnswersEnd h (call_steps.Read dom frame off len) Granted answer =
+    (b : Bytes) × (answer ≡ answers.Bytes b) × (b.bytes.items ≡ take len (drop off (contents_at h dom.0 frame)))
 AnswersEnd h step verdict answer = answer ≡ answer_of verdict
 
 -- after this verdict a domain has these mappings: one more after a map that is Ok, whose label names no other one
 abbrev pub MapsSo : Option (List ℕ) → CallResult → List LabelledMapping → List LabelledMapping → Type 0
-MapsSo label (KeptPin held) old new =
+MapsSo label (results.Mapped held) old new =
     (mapping_pins new ≡ mapping_pins old ++ held ∷ []) × (labels_of new ≡ apart_from label (labels_of old) ++ label ∷ [])
 MapsSo label verdict old new = new ≡ old
 

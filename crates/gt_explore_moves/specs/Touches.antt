@@ -8,14 +8,14 @@ use Rattle.gt_types.specs.declared.DomId.{DomId}
 use Rattle.gt_types.specs.declared.GrantRef.{GrantRef}
 use Rattle.gt_types.specs.declared.copies.CopyArgs.{CopyArgs}
 use Rattle.gt_model.specs.declared.action.Step.{Step}
-use Rattle.gt_model.specs.declared.action.Step.TheVariants.{Unpin, Read as ReadBytes, Write as WriteBytes}
-use Rattle.gt_model.specs.declared.action.Step.TheVariants.{Copy as CopyBytes}
+use Rattle.gt_model.specs.declared.action.Step.TheVariants.{Unpin}
+use Rattle.gt_model.specs.declared.action.Step.TheVariants as call_steps
 use Rattle.gt_model.specs.declared.held.HeldPin.{HeldPin}
 use Rattle.gt_model.specs.Path.{gref_of}
 use Rattle.gt_explore_moves.specs.Swapping.{touches_entry, looks_header, reads_frames, stores_header, writes_frames}
 use Rattle.gt_model.specs.Entries.{frame_of}
 use Rattle.gt_script_lines.specs.declared.calls.ScriptCall.{ScriptCall}
-use Rattle.gt_script_lines.specs.declared.calls.ScriptCall.TheVariants as calls
+use Rattle.gt_script_lines.specs.declared.calls.ScriptCall.TheVariants as script_calls
 use Rattle.gt_script.specs.Lists.{RunTask, RunAction}
 use Rattle.gt_script.specs.declared.tasks.RunActionBy.TheVariants.{Await, Do, Tell}
 use Rattle.gt_explore_search.specs.declared.spaces.Turn.{Turn}
@@ -41,26 +41,26 @@ is_on d step t r = touches_entry d step t r
 
 -- the step reads or writes bytes; it writes bytes
 abbrev pub is_access_step : Step → Bool
-is_access_step (ReadBytes dom frame off len) = true
-is_access_step (WriteBytes dom frame off len) = true
-is_access_step (CopyBytes from to len) = true
+is_access_step (call_steps.Read dom frame off len) = true
+is_access_step (call_steps.Write dom frame off len) = true
+is_access_step (call_steps.Copy from to len) = true
 is_access_step step = false
 
 abbrev pub is_write : Step → Bool
-is_write (WriteBytes dom frame off len) = true
-is_write (CopyBytes from to len) = true
+is_write (call_steps.Write dom frame off len) = true
+is_write (call_steps.Copy from to len) = true
 is_write step = false
 
 -- the step reads this frame of domain t
 abbrev pub reads_frame_at : Step → ℕ → ℕ → Bool
-reads_frame_at (ReadBytes dom frame off len) t f = (dom.0 == t) && (frame == f)
-reads_frame_at (CopyBytes from to len) t f = (from.frame.owner.0 == t) && (from.frame.number == f)
+reads_frame_at (call_steps.Read dom frame off len) t f = (dom.0 == t) && (frame == f)
+reads_frame_at (call_steps.Copy from to len) t f = (from.frame.owner.0 == t) && (from.frame.number == f)
 reads_frame_at step t f = false
 
 -- the step writes to this frame of domain t
 abbrev pub writes_frame_at : Step → ℕ → ℕ → Bool
-writes_frame_at (WriteBytes dom frame off len) t f = (dom.0 == t) && (frame == f)
-writes_frame_at (CopyBytes from to len) t f = (to.frame.owner.0 == t) && (to.frame.number == f)
+writes_frame_at (call_steps.Write dom frame off len) t f = (dom.0 == t) && (frame == f)
+writes_frame_at (call_steps.Copy from to len) t f = (to.frame.owner.0 == t) && (to.frame.number == f)
 writes_frame_at step t f = false
 
 -- the step of domain d conflicts with this touch of another domain: both are of the same part, and one changes it
@@ -105,7 +105,7 @@ abbrev pub is_load : RunTask → Bool
 is_load t = by t.deed
   where
     of_call : ScriptCall → Bool
-    of_call (calls.Load label off len) = true
+    of_call (script_calls.Load label off len) = true
     of_call call = false
 
     by : RunAction → Bool
@@ -116,7 +116,7 @@ abbrev pub is_store : RunTask → Bool
 is_store t = by t.deed
   where
     of_call : ScriptCall → Bool
-    of_call (calls.Store label off hex) = true
+    of_call (script_calls.Store label off hex) = true
     of_call call = false
 
     by : RunAction → Bool
@@ -162,23 +162,24 @@ meets_dest next d c =
 -- it meets something that the call of domain d may touch, or may touch through the mapping that it makes; what is done
 -- through other mappings is counted with those
 abbrev pub meets_call : MappingUse → NextMove → DomId → ScriptCall → Bool
-meets_call uses next d (calls.Grant gref entry) = meets next (Entry d gref)
-meets_call uses next d (calls.GrantBytes gref hex) = meets next (Entry d gref)
-meets_call uses next d (calls.Revoke gref) = meets next (Entry d gref)
-meets_call uses next d (calls.Withdraw gref) = meets next (Entry d gref)
-meets_call uses next d (calls.Demote gref) = meets next (Entry d gref)
-meets_call uses next d (calls.Promote gref) = meets next (Entry d gref)
-meets_call uses next d (calls.Map label dom gref flags) = meets_leg next (resolved d dom) gref || meets_bytes uses next
-meets_call uses next d (calls.Unmap label) = false
-meets_call uses next d (calls.Load label off len) = false
-meets_call uses next d (calls.Store label off hex) = false
-meets_call uses next d (calls.Peek frame off len) = meets next (Reads d frame)
-meets_call uses next d (calls.Poke frame off hex) = meets next (Writes d frame)
-meets_call uses next d (calls.Copy c) = uses.vias || meets_source next d c || meets_dest next d c
-meets_call uses next d (calls.SetVersion version) = meets next (StoresHeader d)
-meets_call uses next d (calls.SetupTable frames) = meets next (StoresHeader d)
-meets_call uses next d (calls.QuerySize dom) = meets next (LooksHeader (resolved d dom))
-meets_call uses next d (calls.GetVersion dom) = meets next (LooksHeader (resolved d dom))
+meets_call uses next d (script_calls.Grant gref entry) = meets next (Entry d gref)
+meets_call uses next d (script_calls.GrantBytes gref hex) = meets next (Entry d gref)
+meets_call uses next d (script_calls.Revoke gref) = meets next (Entry d gref)
+meets_call uses next d (script_calls.Withdraw gref) = meets next (Entry d gref)
+meets_call uses next d (script_calls.Demote gref) = meets next (Entry d gref)
+meets_call uses next d (script_calls.Promote gref) = meets next (Entry d gref)
+meets_call uses next d (script_calls.Map label dom gref flags) =
+    meets_leg next (resolved d dom) gref || meets_bytes uses next
+meets_call uses next d (script_calls.Unmap label) = false
+meets_call uses next d (script_calls.Load label off len) = false
+meets_call uses next d (script_calls.Store label off hex) = false
+meets_call uses next d (script_calls.Peek frame off len) = meets next (Reads d frame)
+meets_call uses next d (script_calls.Poke frame off hex) = meets next (Writes d frame)
+meets_call uses next d (script_calls.Copy c) = uses.vias || meets_source next d c || meets_dest next d c
+meets_call uses next d (script_calls.SetVersion version) = meets next (StoresHeader d)
+meets_call uses next d (script_calls.SetupTable frames) = meets next (StoresHeader d)
+meets_call uses next d (script_calls.QuerySize dom) = meets next (LooksHeader (resolved d dom))
+meets_call uses next d (script_calls.GetVersion dom) = meets next (LooksHeader (resolved d dom))
 
 -- it meets something that the task may touch
 abbrev pub meets_task : MappingUse → NextMove → RunTask → Bool

@@ -9,7 +9,7 @@ use Rattle.gt_model.specs.History.{History}
 use Rattle.gt_model.specs.declared.trace.ItemEvent.{ItemEvent}
 use Rattle.gt_model.specs.declared.trace.ItemEvent.TheVariants.{Began, Stepped}
 use Rattle.gt_script_lines.specs.declared.calls.ScriptCall.{ScriptCall}
-use Rattle.gt_script_lines.specs.declared.calls.ScriptCall.TheVariants as calls
+use Rattle.gt_script_lines.specs.declared.calls.ScriptCall.TheVariants as script_calls
 use Rattle.gt_script.specs.Lists.{RunTask, RunAction}
 use Rattle.gt_script.specs.declared.tasks.RunActionBy.TheVariants.{Do}
 
@@ -22,8 +22,8 @@ is_via (Via dom ro dom2 gref) = true
 
 -- the call may grant a transitive entry; the bytes of a grant by bytes are not looked at
 abbrev pub call_grants_via : ScriptCall → Bool
-call_grants_via (calls.Grant gref entry) = is_via entry
-call_grants_via (calls.GrantBytes gref hex) = true
+call_grants_via (script_calls.Grant gref entry) = is_via entry
+call_grants_via (script_calls.GrantBytes gref hex) = true
 call_grants_via call = false
 
 -- the action of a task may grant one; the task may

@@ -16,7 +16,7 @@ use Rattle.gt_model.specs.Legal.{MayDo, grown}
 use Rattle.gt_core.specs.Standing.{CoreStands}
 use Rattle.gt_core.specs.States.{CoreState}
 use Rattle.gt_core.specs.declared.core_state.Begun.{Begun}
-use Rattle.gt_core.specs.declared.core_state.Begun.TheVariants as begun
+use Rattle.gt_core.specs.declared.core_state.Begun.TheVariants as beginnings
 use Rattle.gt_core.specs.declared.core_state.Ticked.{Ticked}
 use Rattle.gt_core.specs.declared.core_state.Ticked.TheVariants as ticked
 use Rattle.gt_model.specs.declared.trace.Answer.{Answer}
@@ -40,7 +40,7 @@ use Rattle.gt_explore_replay.specs.Abreast.{history_in, SameNames, SameHandles, 
 use Rattle.gt_explore_replay.specs.Abreast.{IsOpenSo, WalksAbreast, CanComeNext}
 use Rattle.gt_explore_replay.specs.declared.replay.Moved.{Moved}
 use Rattle.gt_explore_replay.specs.declared.walker.OpenTask.{OpenTask}
-use Rattle.gt_explore_replay.specs.declared.walker.OpenTask.TheVariants as doing
+use Rattle.gt_explore_replay.specs.declared.walker.OpenTask.TheVariants as open_tasks
 use Rattle.gt_explore_replay.specs.declared.walker.Walker.{Walker}
 use Rattle.gt_explore_replay.proofs.Alike.{DoAlike, asks_alike, asks_answered, begins_alike, held_alike}
 use Rattle.gt_explore_replay.proofs.Alike.{held_answered, held_at, held_grown, held_here, held_left, left_alike}
@@ -189,16 +189,16 @@ given_bare q = refl
 given_alike : (q r : Request) → bare_request q ≡ bare_request r → option_map bare_handle (given_up q) ≡ option_map bare_handle (given_up r)
 given_alike q r same = given_bare q ∙ ap given_up same ∙ sym (given_bare r)
 
-pub rests : (d : OpenTask) (o : Opened) → d ≡ doing.Nothing → IsDoingSo d o → o ≡ resting
-rests doing.Nothing resting is so = refl
-rests doing.Nothing (calling number asked freed) is so = absurd so
-rests doing.Nothing giving is so = absurd so
-rests (doing.Line line call lost) o is so = absurd (cc)
-rests doing.GivesBack o is so = absurd (cc)
+pub rests : (d : OpenTask) (o : Opened) → d ≡ open_tasks.Nothing → IsDoingSo d o → o ≡ resting
+rests open_tasks.Nothing resting is so = refl
+rests open_tasks.Nothing (calling number asked freed) is so = absurd so
+rests open_tasks.Nothing giving is so = absurd so
+rests (open_tasks.Line line call lost) o is so = absurd (cc)
+rests open_tasks.GivesBack o is so = absurd (cc)
 
 -- at its next line, a domain at rest does what the line says
 pub line_leads : (n : ℕ) (g h : History) (types : List (List ℕ)) (k j : Course) (v : Walker) (task : RunTask) (choice : ℕ) (x : Happening)
-    → WalksAbreast n g h k v → v.doing ≡ doing.Nothing → slice_get (tasks_left_of v) v.next ≡ Some task → CourseLeads types k choice x j
+    → WalksAbreast n g h k v → v.doing ≡ open_tasks.Nothing → slice_get (tasks_left_of v) v.next ≡ Some task → CourseLeads types k choice x j
     → ActionLeads types k task.line (drop (v.next + 1) (tasks_left_of v)) task.deed x j
 line_leads n g h types k j v task choice x walks idle at leads =
     let one = subst (λ (o : Opened). OpenLeads types k o choice x j) (rests v.doing k.opened idle walks.doing) leads in
@@ -214,7 +214,7 @@ left_numbered n g h k v task walks at =
 -- the beginning of a line's call
 pub begin_came : (n : ℕ) (s : Setting) (types : List (List ℕ)) (hs : List Happening) (h : History) (k j : Course) (v w : Walker) (task : RunTask) (call : Bor ScriptCall) (choice : ℕ) (x : Happening) (m : Option Moved) (old new : CoreState)
     → WalksAbreast n (history_in hs) h k v → AreAlike s (history_in hs) h → CoreStands s h old → domain_of s.domains k.dom ≢ None
-    → slice_get (tasks_left_of v) v.next ≡ Some task → task.deed ≡ Do call.now → v.doing ≡ doing.Nothing
+    → slice_get (tasks_left_of v) v.next ≡ Some task → task.deed ≡ Do call.now → v.doing ≡ open_tasks.Nothing
     → CourseLeads types k choice x j → CanComeNext s hs x → BeginsLine s types old v task call m new w → Came n s (history_in hs) h k j x m new w
 begin_came n s types hs h k j v w task call choice x m old new walks alike stands there at does idle leads may (r, b, asks, makes, from) =
     let left = left_numbered n (history_in hs) h k v task walks at in
@@ -234,49 +234,49 @@ begin_came n s types hs h k j v w task call choice x m old new walks alike stand
         → j ≡ course_after types task.line call.now (given_up q) (record k { tasks = drop (v.next + 1) (tasks_left_of v) }) (answer_in e)
         → AreNumbered n (drop (v.next + 1) (tasks_left_of v)) → DoAlike s (history_in hs) h k.dom.0 e (begun_element v.dom r b)
         → CoreStands s (grown h (begun_element v.dom r b)) new → IsBegunFrom types task call (given_up r) v b m w → Came n s (history_in hs) h k j x m new w
-    by q e begun.Open same is to numbered both stood from =
+    by q e beginnings.Open same is to numbered both stood from =
         let none = none_told (answer_in e) both.told in
         let next = to ∙ ap (λ (o : Option Answer). course_after types task.line call.now (given_up q) (record k { tasks = drop (v.next + 1) (tasks_left_of v) }) o) none in
         record {
           moved = from.0;
           event = Begin k.dom q;
           mine = e;
-          theirs = begun_element v.dom r begun.Open;
+          theirs = begun_element v.dom r beginnings.Open;
           happening = is;
           stands = stood;
           alike = both.alike;
           walks =
-              subst (λ (i : Course). WalksAbreast n (grown (history_in hs) e) (grown h (begun_element v.dom r begun.Open)) i w) (sym next)
-              (subst (λ (u : Walker). WalksAbreast n (grown (history_in hs) e) (grown h (begun_element v.dom r begun.Open)) (record k { tasks = drop (v.next + 1) (tasks_left_of v); opened = calling task.line call.now (given_up q) }) u) (sym from.1)
-              (goes_on n s (history_in hs) h k v (record v { next = v.next + 1; doing = doing.Line task.line call (given_up r) }) (drop (v.next + 1) (tasks_left_of v)) k.held (calling task.line call.now (given_up q)) e (begun_element v.dom r begun.Open)
+              subst (λ (i : Course). WalksAbreast n (grown (history_in hs) e) (grown h (begun_element v.dom r beginnings.Open)) i w) (sym next)
+              (subst (λ (u : Walker). WalksAbreast n (grown (history_in hs) e) (grown h (begun_element v.dom r beginnings.Open)) (record k { tasks = drop (v.next + 1) (tasks_left_of v); opened = calling task.line call.now (given_up q) }) u) (sym from.1)
+              (goes_on n s (history_in hs) h k v (record v { next = v.next + 1; doing = open_tasks.Line task.line call (given_up r) }) (drop (v.next + 1) (tasks_left_of v)) k.held (calling task.line call.now (given_up q)) e (begun_element v.dom r beginnings.Open)
               walks (both.goes none) (refl, refl, sym (given_alike q r same)) refl numbered refl refl refl walks.held walks.kept walks.holds));
           others = both.others;
           dom = ap (λ (i : Course). i.dom) next;
         }
-    by q e (begun.Done b) same is to numbered both stood from =
+    by q e (beginnings.Done b) same is to numbered both stood from =
         let some = some_told (answer_in e) b both.told in
         let next = to ∙ ap (λ (o : Option Answer). course_after types task.line call.now (given_up q) (record k { tasks = drop (v.next + 1) (tasks_left_of v) }) o) some.1 in
         record {
           moved = from.0;
           event = Begin k.dom q;
           mine = e;
-          theirs = begun_element v.dom r (begun.Done b);
+          theirs = begun_element v.dom r (beginnings.Done b);
           happening = is;
           stands = stood;
           alike = both.alike;
           walks =
-              subst (λ (i : Course). WalksAbreast n (grown (history_in hs) e) (grown h (begun_element v.dom r (begun.Done b))) i w) (sym next)
-              (goes_answered n s (history_in hs) h types k v w (v.next + 1) (drop (v.next + 1) (tasks_left_of v)) task.line call.now (given_up r) (given_up q) e (begun_element v.dom r (begun.Done b)) some.0 b
+              subst (λ (i : Course). WalksAbreast n (grown (history_in hs) e) (grown h (begun_element v.dom r (beginnings.Done b))) i w) (sym next)
+              (goes_answered n s (history_in hs) h types k v w (v.next + 1) (drop (v.next + 1) (tasks_left_of v)) task.line call.now (given_up r) (given_up q) e (begun_element v.dom r (beginnings.Done b)) some.0 b
               walks both some.1 refl some.2 from.1 refl numbered (given_alike q r same));
           others = both.others;
           dom = ap (λ (i : Course). i.dom) next;
         }
-    by q e begun.Busy same is to numbered both stood from = absurd (let done = both.done in cc)
-    by q e begun.NoDomain same is to numbered both stood from = absurd (let done = both.done in cc)
+    by q e beginnings.Busy same is to numbered both stood from = absurd (let done = both.done in cc)
+    by q e beginnings.NoDomain same is to numbered both stood from = absurd (let done = both.done in cc)
 
 -- a step of what is open
 pub tick_came : (n : ℕ) (s : Setting) (types : List (List ℕ)) (hs : List Happening) (h : History) (k j : Course) (v w : Walker) (choice : ℕ) (x : Happening) (m : Option Moved) (old new : CoreState)
-    → WalksAbreast n (history_in hs) h k v → AreAlike s (history_in hs) h → CoreStands s h old → domain_of s.domains k.dom ≢ None → v.doing ≢ doing.Nothing
+    → WalksAbreast n (history_in hs) h k v → AreAlike s (history_in hs) h → CoreStands s h old → domain_of s.domains k.dom ≢ None → v.doing ≢ open_tasks.Nothing
     → CourseLeads types k choice x j → CanComeNext s hs x → TicksOpen s types old v m new w → Came n s (history_in hs) h k j x m new w
 unfolding IsClosedFrom
 tick_came n s types hs h k j v w choice x m old new walks alike stands there busy leads may (t, makes, from) =
@@ -331,7 +331,7 @@ tick_came n s types hs h k j v w choice x m old new walks alike stands there bus
     line number asked lost freed ticked.Idle e opened loses closes is to alike_now stood from = absurd (let done = alike_now.done in cc)
     line number asked lost freed ticked.NoDomain e opened loses closes is to alike_now stood from = absurd (let done = alike_now.done in cc)
 
-    back : (t : Ticked) (e : Element) → k.opened ≡ giving → v.doing ≡ doing.GivesBack → x ≡ did (Tick k.dom) e → j ≡ back_after k (answer_in e)
+    back : (t : Ticked) (e : Element) → k.opened ≡ giving → v.doing ≡ open_tasks.GivesBack → x ≡ did (Tick k.dom) e → j ≡ back_after k (answer_in e)
         → DoAlike s (history_in hs) h k.dom.0 e (ticked_element v.dom t) → CoreStands s (grown h (ticked_element v.dom t)) new → IsTickedFrom types v t m w → Came n s (history_in hs) h k j x m new w
     back (ticked.Step step seen) e opened does is to alike_now stood from =
         let none = none_told (answer_in e) alike_now.told in
@@ -367,7 +367,7 @@ tick_came n s types hs h k j v w choice x m old new walks alike stands there bus
           walks =
               subst (λ (i : Course). WalksAbreast n (grown (history_in hs) e) (grown h (ticked_element v.dom (ticked.Done step seen b))) i w) (sym next)
               (subst (λ (u : Walker). WalksAbreast n (grown (history_in hs) e) (grown h (ticked_element v.dom (ticked.Done step seen b))) (record k { opened = resting }) u) (sym closed)
-              (goes_on n s (history_in hs) h k v (record v { doing = doing.Nothing }) k.tasks k.held resting e (ticked_element v.dom (ticked.Done step seen b))
+              (goes_on n s (history_in hs) h k v (record v { doing = open_tasks.Nothing }) k.tasks k.held resting e (ticked_element v.dom (ticked.Done step seen b))
               walks (alike_now.over some.0 some.1) tt walks.tasks walks.numbered refl refl refl walks.held walks.kept walks.holds));
           others = alike_now.others;
           dom = ap (λ (i : Course). i.dom) next;
@@ -375,7 +375,7 @@ tick_came n s types hs h k j v w choice x m old new walks alike stands there bus
     back ticked.Idle e opened does is to alike_now stood from = absurd (let done = alike_now.done in cc)
     back ticked.NoDomain e opened does is to alike_now stood from = absurd (let done = alike_now.done in cc)
 
-    closes_line : (number : ℕ) (asked : ScriptCall) (d : OpenTask) (l : ℕ) (call : Bor ScriptCall) (lost : Option Handle) → v.doing ≡ d → d ≡ doing.Line l call lost → l ≡ number → call.now ≡ asked
+    closes_line : (number : ℕ) (asked : ScriptCall) (d : OpenTask) (l : ℕ) (call : Bor ScriptCall) (lost : Option Handle) → v.doing ≡ d → d ≡ open_tasks.Line l call lost → l ≡ number → call.now ≡ asked
         → (b : Answer) → ClosesCall types b v w → AnswersLine types number asked lost b v w
     closes_line number asked d l call lost is line_is same_line same_call b closed =
         let one : AnswersLine types l call.now lost b v w = subst (λ (z : OpenTask). IsClosedFrom types z b v w) (is ∙ line_is) closed in
@@ -384,23 +384,23 @@ tick_came n s types hs h k j v w choice x m old new walks alike stands there bus
 
     by : (d : OpenTask) (o : Opened) (t : Ticked) → v.doing ≡ d → k.opened ≡ o → IsDoingSo d o → OpenLeads types k o choice x j
         → MayDo s h (Tick v.dom) (ticked_element v.dom t) × CoreStands s (grown h (ticked_element v.dom t)) new → IsTickedFrom types v t m w → Came n s (history_in hs) h k j x m new w
-    by doing.Nothing o t is opened so leads_on made from = absurd (busy is)
-    by (doing.Line l call lost) resting t is opened so leads_on made from = absurd so
-    by (doing.Line l call lost) giving t is opened so leads_on made from = absurd so
-    by (doing.Line l call lost) (calling number asked freed) t is opened so leads_on made from =
+    by open_tasks.Nothing o t is opened so leads_on made from = absurd (busy is)
+    by (open_tasks.Line l call lost) resting t is opened so leads_on made from = absurd so
+    by (open_tasks.Line l call lost) giving t is opened so leads_on made from = absurd so
+    by (open_tasks.Line l call lost) (calling number asked freed) t is opened so leads_on made from =
         let busy_still = subst (λ (o : Opened). IsOpenSo (history_in hs) k.dom.0 o) opened walks.opened in
-        line number asked lost freed t leads_on.1 opened so.2 (closes_line number asked (doing.Line l call lost) l call lost is refl so.0 so.1) leads_on.2 leads_on.3
+        line number asked lost freed t leads_on.1 opened so.2 (closes_line number asked (open_tasks.Line l call lost) l call lost is refl so.0 so.1) leads_on.2 leads_on.3
         (both t leads_on.1 busy_still leads_on.2 made.0) made.1 from
-    by doing.GivesBack resting t is opened so leads_on made from = absurd so
-    by doing.GivesBack (calling number asked freed) t is opened so leads_on made from = absurd so
-    by doing.GivesBack giving t is opened so leads_on made from =
+    by open_tasks.GivesBack resting t is opened so leads_on made from = absurd so
+    by open_tasks.GivesBack (calling number asked freed) t is opened so leads_on made from = absurd so
+    by open_tasks.GivesBack giving t is opened so leads_on made from =
         let busy_still = subst (λ (o : Opened). IsOpenSo (history_in hs) k.dom.0 o) opened walks.opened in
         back t leads_on.1 opened is leads_on.2 leads_on.3 (both t leads_on.1 busy_still leads_on.2 made.0) made.1 from
 
 -- the beginning of a release at the end of a list
 pub give_came : (n : ℕ) (s : Setting) (types : List (List ℕ)) (hs : List Happening) (h : History) (k j : Course) (v w : Walker) (choice : ℕ) (x : Happening) (m : Option Moved) (old new : CoreState)
     → WalksAbreast n (history_in hs) h k v → AreAlike s (history_in hs) h → CoreStands s h old → domain_of s.domains k.dom ≢ None
-    → length (tasks_left_of v) ≤ v.next → v.doing ≡ doing.Nothing
+    → length (tasks_left_of v) ≤ v.next → v.doing ≡ open_tasks.Nothing
     → CourseLeads types k choice x j → CanComeNext s hs x → GivesBackAt s old v choice m new w → Came n s (history_in hs) h k j x m new w
 give_came n s types hs h k j v w choice x m old new walks alike stands there end idle leads may gives =
     let one = subst (λ (o : Opened). OpenLeads types k o choice x j) (rests v.doing k.opened idle walks.doing) leads in
@@ -419,7 +419,7 @@ give_came n s types hs h k j v w choice x m old new walks alike stands there end
     by : (handle other : Handle) (e : Element) (b : Begun) → x ≡ did (Begin k.dom (Release handle)) e → j ≡ back_after (record k { held = take choice k.held ++ drop (suc choice) k.held }) (answer_in e)
         → DoAlike s (history_in hs) h k.dom.0 e (begun_element v.dom (Release other) b) → CoreStands s (grown h (begun_element v.dom (Release other) b)) new
         → IsGivenFrom choice v b m w → Came n s (history_in hs) h k j x m new w
-    by handle other e begun.Open is to both stood (some, same, left) =
+    by handle other e beginnings.Open is to both stood (some, same, left) =
         let none = none_told (answer_in e) both.told in
         let next = to ∙ ap (λ (o : Option Answer). back_after (record k { held = take choice k.held ++ drop (suc choice) k.held }) o) none in
         let held : SameHandles (take choice k.held ++ drop (suc choice) k.held) w.held.items = left_alike k.held v.held.items choice walks.held ∙ ap (map bare_handle) (sym left) in
@@ -427,13 +427,13 @@ give_came n s types hs h k j v w choice x m old new walks alike stands there end
           moved = some;
           event = Begin k.dom (Release handle);
           mine = e;
-          theirs = begun_element v.dom (Release other) begun.Open;
+          theirs = begun_element v.dom (Release other) beginnings.Open;
           happening = is;
           stands = stood;
           alike = both.alike;
           walks =
-              subst (λ (i : Course). WalksAbreast n (grown (history_in hs) e) (grown h (begun_element v.dom (Release other) begun.Open)) i w) (sym next)
-              (goes_on n s (history_in hs) h k v w k.tasks (take choice k.held ++ drop (suc choice) k.held) giving e (begun_element v.dom (Release other) begun.Open)
+              subst (λ (i : Course). WalksAbreast n (grown (history_in hs) e) (grown h (begun_element v.dom (Release other) beginnings.Open)) i w) (sym next)
+              (goes_on n s (history_in hs) h k v w k.tasks (take choice k.held ++ drop (suc choice) k.held) giving e (begun_element v.dom (Release other) beginnings.Open)
               walks (both.goes none) (subst (λ (d : OpenTask). IsDoingSo d giving) (sym (ap (λ (u : Walker). u.doing) same)) tt)
               (left_same v w (ap (λ (u : Walker). u.tasks.items) same) (ap (λ (u : Walker). u.next) same) ∙ walks.tasks) walks.numbered
               (ap (λ (u : Walker). u.dom) same) (ap (λ (u : Walker). u.labels) same) (ap (λ (u : Walker). u.text.items) same) held
@@ -442,7 +442,7 @@ give_came n s types hs h k j v w choice x m old new walks alike stands there end
           others = both.others;
           dom = ap (λ (i : Course). i.dom) next;
         }
-    by handle other e (begun.Done b) is to both stood (gone, same, left) =
+    by handle other e (beginnings.Done b) is to both stood (gone, same, left) =
         let some = some_told (answer_in e) b both.told in
         let next = to ∙ ap (λ (o : Option Answer). back_after (record k { held = take choice k.held ++ drop (suc choice) k.held }) o) some.1 in
         let held : SameHandles (take choice k.held ++ drop (suc choice) k.held) w.held.items = left_alike k.held v.held.items choice walks.held ∙ ap (map bare_handle) (sym left) in
@@ -450,13 +450,13 @@ give_came n s types hs h k j v w choice x m old new walks alike stands there end
           moved = gone;
           event = Begin k.dom (Release handle);
           mine = e;
-          theirs = begun_element v.dom (Release other) (begun.Done b);
+          theirs = begun_element v.dom (Release other) (beginnings.Done b);
           happening = is;
           stands = stood;
           alike = both.alike;
           walks =
-              subst (λ (i : Course). WalksAbreast n (grown (history_in hs) e) (grown h (begun_element v.dom (Release other) (begun.Done b))) i w) (sym next)
-              (goes_on n s (history_in hs) h k v w k.tasks (take choice k.held ++ drop (suc choice) k.held) resting e (begun_element v.dom (Release other) (begun.Done b))
+              subst (λ (i : Course). WalksAbreast n (grown (history_in hs) e) (grown h (begun_element v.dom (Release other) (beginnings.Done b))) i w) (sym next)
+              (goes_on n s (history_in hs) h k v w k.tasks (take choice k.held ++ drop (suc choice) k.held) resting e (begun_element v.dom (Release other) (beginnings.Done b))
               walks (both.over some.0 some.1) (subst (λ (d : OpenTask). IsDoingSo d resting) (sym (ap (λ (u : Walker). u.doing) same ∙ idle)) tt)
               (left_same v w (ap (λ (u : Walker). u.tasks.items) same) (ap (λ (u : Walker). u.next) same) ∙ walks.tasks) walks.numbered
               (ap (λ (u : Walker). u.dom) same) (ap (λ (u : Walker). u.labels) same) (ap (λ (u : Walker). u.text.items) same) held
@@ -465,5 +465,5 @@ give_came n s types hs h k j v w choice x m old new walks alike stands there end
           others = both.others;
           dom = ap (λ (i : Course). i.dom) next;
         }
-    by handle other e begun.Busy is to both stood from = absurd (let done = both.done in cc)
-    by handle other e begun.NoDomain is to both stood from = absurd (let done = both.done in cc)
+    by handle other e beginnings.Busy is to both stood from = absurd (let done = both.done in cc)
+    by handle other e beginnings.NoDomain is to both stood from = absurd (let done = both.done in cc)

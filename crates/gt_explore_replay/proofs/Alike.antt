@@ -23,7 +23,7 @@ use Rattle.gt_model.specs.declared.trace.ItemEvent.TheVariants.{Began, Stepped}
 use Rattle.gt_model.specs.declared.trace.Item.{Item}
 use Rattle.gt_core.proofs.AlikeRuns.{does-alike, alike-grows}
 use Rattle.gt_script_lines.specs.declared.calls.ScriptCall.{ScriptCall}
-use Rattle.gt_script.specs.declared.actions.ScriptAction.TheVariants as actions
+use Rattle.gt_script.specs.declared.actions.ScriptAction.TheVariants as script_actions
 use Rattle.gt_script_runs.specs.Runs.{Named, MakesRequest, answer_in, handle_given, label_given, with_name}
 use Rattle.gt_script_runs.proofs.AlikeLemmas.{bare_names, NamesGiven, AnswerGiven, asks-same, asks-known, named-same}
 use Rattle.gt_script_runs.proofs.AlikeLemmas.{named-given, names-after, answers-same, done-given}
@@ -58,13 +58,13 @@ pub names_alike : (one other : List Named) (dom : DomId) (call : ScriptCall) (a 
     → SameNames (with_name one dom (label_given call) (handle_given a)) (with_name other dom (label_given call) (handle_given b))
 names_alike one other dom call a b same told =
     sym (names_bare (with_name one dom (label_given call) (handle_given a)))
-    ∙ named-same one other dom (record { line = 0; dom = dom; action = actions.Do call }) a b (names_same one other same) told
+    ∙ named-same one other dom (record { line = 0; dom = dom; action = script_actions.Do call }) a b (names_same one other same) told
     ∙ names_bare (with_name other dom (label_given call) (handle_given b))
 
 pub names_more : (h : History) (names : List Named) (dom : DomId) (call : ScriptCall) (a : Answer) → HaveAnswered h names → AnswerGiven h dom.0 a → HaveAnswered h (with_name names dom (label_given call) (handle_given a))
 names_more h names dom call a g given =
     names_answered h (with_name names dom (label_given call) (handle_given a))
-    (named-given h names dom (record { line = 0; dom = dom; action = actions.Do call }) a (names_given h names g) given)
+    (named-given h names dom (record { line = 0; dom = dom; action = script_actions.Do call }) a (names_given h names g) given)
 
 pub names_grown : (h : History) (x : Element) (names : List Named) → HaveAnswered h names → HaveAnswered (grown h x) names
 names_grown h x names g = names_answered (grown h x) names (names-after h (x ∷ []) names (names_given h names g))

@@ -12,7 +12,7 @@ use Rattle.gt_model.specs.History.{Setting}
 use Rattle.gt_core.specs.Standing.{DoesEvent}
 use Rattle.gt_core.specs.States.{CoreState}
 use Rattle.gt_core.specs.declared.core_state.Begun.{Begun}
-use Rattle.gt_core.specs.declared.core_state.Begun.TheVariants as begun
+use Rattle.gt_core.specs.declared.core_state.Begun.TheVariants as beginnings
 use Rattle.gt_core.specs.declared.core_state.Ticked.{Ticked}
 use Rattle.gt_core.specs.declared.core_state.Ticked.TheVariants as ticked
 use Rattle.gt_model.specs.declared.trace.Answer.{Answer}
@@ -24,7 +24,7 @@ use Rattle.gt_explore_replay.specs.Making.{GivesBackAt}
 use Rattle.gt_explore_replay.specs.Orders.{given_up}
 use Rattle.gt_explore_replay.specs.Walking.{AnswersLine, ClosesCall}
 use Rattle.gt_explore_replay.specs.declared.replay.Moved.{Moved}
-use Rattle.gt_explore_replay.specs.declared.walker.OpenTask.TheVariants as doing
+use Rattle.gt_explore_replay.specs.declared.walker.OpenTask.TheVariants as open_tasks
 use Rattle.gt_explore_replay.specs.declared.walker.Walker.{Walker}
 
 -- the call of a line
@@ -35,19 +35,19 @@ pub begins_line : (s : Setting) (types : List (List ℕ)) (old new : CoreState) 
 begins_line s types old new v w task call request lost b m asks gives does from =
     (request, b, asks, does, subst (λ (g : Option Handle). IsBegunFrom types task call g v b m w) gives from)
 
-pub begun_open : (types : List (List ℕ)) (v : Walker) (task : RunTask) (call : Bor ScriptCall) (lost : Option Handle) (b : Begun) (m : Option Moved) → b ≡ begun.Open → IsSome m
-    → IsBegunFrom types task call lost v b m (record v { next = v.next + 1; doing = doing.Line task.line call lost })
+pub begun_open : (types : List (List ℕ)) (v : Walker) (task : RunTask) (call : Bor ScriptCall) (lost : Option Handle) (b : Begun) (m : Option Moved) → b ≡ beginnings.Open → IsSome m
+    → IsBegunFrom types task call lost v b m (record v { next = v.next + 1; doing = open_tasks.Line task.line call lost })
 begun_open types v task call lost b m is some =
-    subst (λ (x : Begun). IsBegunFrom types task call lost v x m (record v { next = v.next + 1; doing = doing.Line task.line call lost })) (sym is) (some, refl)
+    subst (λ (x : Begun). IsBegunFrom types task call lost v x m (record v { next = v.next + 1; doing = open_tasks.Line task.line call lost })) (sym is) (some, refl)
 
-pub begun_done : (types : List (List ℕ)) (v w : Walker) (task : RunTask) (call : Bor ScriptCall) (lost : Option Handle) (b : Begun) (answer : Answer) (m : Option Moved) → b ≡ begun.Done answer → IsSome m
+pub begun_done : (types : List (List ℕ)) (v w : Walker) (task : RunTask) (call : Bor ScriptCall) (lost : Option Handle) (b : Begun) (answer : Answer) (m : Option Moved) → b ≡ beginnings.Done answer → IsSome m
     → AnswersLine types task.line call.now lost answer (record v { next = v.next + 1 }) w → IsBegunFrom types task call lost v b m w
 begun_done types v w task call lost b answer m is some a = subst (λ (x : Begun). IsBegunFrom types task call lost v x m w) (sym is) (some, a)
 
-pub begun_busy : (types : List (List ℕ)) (v w : Walker) (task : RunTask) (call : Bor ScriptCall) (lost : Option Handle) (b : Begun) (m : Option Moved) → b ≡ begun.Busy → IsBegunFrom types task call lost v b m w
+pub begun_busy : (types : List (List ℕ)) (v w : Walker) (task : RunTask) (call : Bor ScriptCall) (lost : Option Handle) (b : Begun) (m : Option Moved) → b ≡ beginnings.Busy → IsBegunFrom types task call lost v b m w
 begun_busy types v w task call lost b m is = subst (λ (x : Begun). IsBegunFrom types task call lost v x m w) (sym is) tt
 
-pub begun_away : (types : List (List ℕ)) (v w : Walker) (task : RunTask) (call : Bor ScriptCall) (lost : Option Handle) (b : Begun) (m : Option Moved) → b ≡ begun.NoDomain → IsBegunFrom types task call lost v b m w
+pub begun_away : (types : List (List ℕ)) (v w : Walker) (task : RunTask) (call : Bor ScriptCall) (lost : Option Handle) (b : Begun) (m : Option Moved) → b ≡ beginnings.NoDomain → IsBegunFrom types task call lost v b m w
 begun_away types v w task call lost b m is = subst (λ (x : Begun). IsBegunFrom types task call lost v x m w) (sym is) tt
 
 -- a step
@@ -77,16 +77,16 @@ gives_back_at s old new v w choice handle b m at does from = λ other there.
     let same : handle ≡ other = same_Some handle other (sym at ∙ there) in
     (b, subst (λ (x : Handle). DoesEvent s old (Begin v.dom (Release x)) (begun_element v.dom (Release x) b) new) same does, from)
 
-pub given_open : (choice : ℕ) (v w : Walker) (b : Begun) (m : Option Moved) → b ≡ begun.Open → IsSome m → w ≡ record v { doing = doing.GivesBack; held = w.held }
+pub given_open : (choice : ℕ) (v w : Walker) (b : Begun) (m : Option Moved) → b ≡ beginnings.Open → IsSome m → w ≡ record v { doing = open_tasks.GivesBack; held = w.held }
     → w.held.items ≡ take choice v.held.items ++ drop (suc choice) v.held.items → IsGivenFrom choice v b m w
 given_open choice v w b m is some same left = subst (λ (x : Begun). IsGivenFrom choice v x m w) (sym is) (some, same, left)
 
-pub given_done : (choice : ℕ) (v w : Walker) (b : Begun) (answer : Answer) (m : Option Moved) → b ≡ begun.Done answer → IsSome m → w ≡ record v { held = w.held }
+pub given_done : (choice : ℕ) (v w : Walker) (b : Begun) (answer : Answer) (m : Option Moved) → b ≡ beginnings.Done answer → IsSome m → w ≡ record v { held = w.held }
     → w.held.items ≡ take choice v.held.items ++ drop (suc choice) v.held.items → IsGivenFrom choice v b m w
 given_done choice v w b answer m is some same left = subst (λ (x : Begun). IsGivenFrom choice v x m w) (sym is) (some, same, left)
 
-pub given_busy : (choice : ℕ) (v w : Walker) (b : Begun) (m : Option Moved) → b ≡ begun.Busy → IsGivenFrom choice v b m w
+pub given_busy : (choice : ℕ) (v w : Walker) (b : Begun) (m : Option Moved) → b ≡ beginnings.Busy → IsGivenFrom choice v b m w
 given_busy choice v w b m is = subst (λ (x : Begun). IsGivenFrom choice v x m w) (sym is) tt
 
-pub given_away : (choice : ℕ) (v w : Walker) (b : Begun) (m : Option Moved) → b ≡ begun.NoDomain → IsGivenFrom choice v b m w
+pub given_away : (choice : ℕ) (v w : Walker) (b : Begun) (m : Option Moved) → b ≡ beginnings.NoDomain → IsGivenFrom choice v b m w
 given_away choice v w b m is = subst (λ (x : Begun). IsGivenFrom choice v x m w) (sym is) tt

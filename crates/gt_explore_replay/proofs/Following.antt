@@ -31,7 +31,7 @@ use Rattle.gt_explore_replay.specs.declared.replay.Moved.{Moved}
 use Rattle.gt_explore_replay.specs.declared.replay.Replay.{Replay}
 use Rattle.gt_explore_search.specs.declared.spaces.Turn.{Turn}
 use Rattle.gt_explore_replay.specs.declared.walker.OpenTask.{OpenTask}
-use Rattle.gt_explore_replay.specs.declared.walker.OpenTask.TheVariants as doing
+use Rattle.gt_explore_replay.specs.declared.walker.OpenTask.TheVariants as open_tasks
 use Rattle.gt_explore_replay.specs.declared.walker.Walker.{Walker}
 use Rattle.gt_explore_replay.proofs.Coming.{domain_at, mapped_back}
 use Rattle.gt_explore_replay.proofs.Places.{drop_all, drop_next, get_left}
@@ -111,10 +111,10 @@ bare_none : (held : List Handle) → [] ≡ map bare_handle held → held ≡ []
 bare_none [] e = refl
 bare_none (x ∷ xs) e = absurd (cc)
 
-idle_of : (d : OpenTask) → IsDoingSo d resting → d ≡ doing.Nothing
-idle_of doing.Nothing so = refl
-idle_of (doing.Line line call lost) so = absurd so
-idle_of doing.GivesBack so = absurd so
+idle_of : (d : OpenTask) → IsDoingSo d resting → d ≡ open_tasks.Nothing
+idle_of open_tasks.Nothing so = refl
+idle_of (open_tasks.Line line call lost) so = absurd so
+idle_of open_tasks.GivesBack so = absurd so
 
 course_ended : (n : ℕ) (g h : History) (k : Course) (w : Walker) → WalksAbreast n g h k w → CourseEnds k → IsAtEnd w
 course_ended n g h k w walks ends = record {

@@ -14,7 +14,7 @@ use Rattle.gt_core.specs.Standing.{CoreStands}
 use Rattle.gt_core.specs.Acting.{begun_element, ticked_element}
 use Rattle.gt_core.specs.States.{CoreState}
 use Rattle.gt_core.specs.declared.core_state.Begun.{Begun}
-use Rattle.gt_core.specs.declared.core_state.Begun.TheVariants as begun
+use Rattle.gt_core.specs.declared.core_state.Begun.TheVariants as beginnings
 use Rattle.gt_core.specs.declared.core_state.Ticked.{Ticked}
 use Rattle.gt_core.specs.declared.core_state.Ticked.TheVariants as ticked
 use Rattle.gt_model.specs.declared.trace.Answer.{Answer}
@@ -26,9 +26,9 @@ use Rattle.gt_script_runs.specs.Naming.{AreNamed}
 use Rattle.gt_script_runs.specs.Runs.{Named, MakesRequest, answer_in}
 use Rattle.gt_explore_replay.specs.Orders.{did, given_up}
 use Rattle.gt_explore_replay.specs.Walking.{AnswersLine, ClosesCall, IsClosedFrom, WalksTo, tasks_left_of}
-use Rattle.gt_explore_replay.specs.declared.replay.Moved.TheVariants as moves
+use Rattle.gt_explore_replay.specs.declared.replay.Moved.TheVariants as made
 use Rattle.gt_explore_replay.specs.declared.walker.OpenTask.{OpenTask}
-use Rattle.gt_explore_replay.specs.declared.walker.OpenTask.TheVariants as doing
+use Rattle.gt_explore_replay.specs.declared.walker.OpenTask.TheVariants as open_tasks
 use Rattle.gt_explore_replay.specs.declared.walker.Walker.{Walker}
 use Rattle.gt_explore_replay.proofs.Moving.{begins_done, begins_open, gives_done, gives_open, ticks_done, ticks_open}
 
@@ -37,11 +37,11 @@ abbrev pub BeginsSo : Setting → CoreState → CoreState → Walker → Request
 BeginsSo s old new v request b = (h : History) → CoreStands s h old
     → MayDo s h (Begin v.dom request) (begun_element v.dom request b) × CoreStands s (grown h (begun_element v.dom request b)) new
 
-pub closed_line : (types : List (List ℕ)) (answer : Answer) (v w : Walker) (line : ℕ) (call : Bor ScriptCall) (lost : Option Handle) → v.doing ≡ doing.Line line call lost → AnswersLine types line call.now lost answer v w → ClosesCall types answer v w
+pub closed_line : (types : List (List ℕ)) (answer : Answer) (v w : Walker) (line : ℕ) (call : Bor ScriptCall) (lost : Option Handle) → v.doing ≡ open_tasks.Line line call lost → AnswersLine types line call.now lost answer v w → ClosesCall types answer v w
 unfolding IsClosedFrom
 closed_line types answer v w line call lost is a = subst (λ (d : OpenTask). IsClosedFrom types d answer v w) (sym is) a
 
-pub closed_back : (types : List (List ℕ)) (answer : Answer) (v w : Walker) → v.doing ≡ doing.GivesBack → w ≡ record v { doing = doing.Nothing } → ClosesCall types answer v w
+pub closed_back : (types : List (List ℕ)) (answer : Answer) (v w : Walker) → v.doing ≡ open_tasks.GivesBack → w ≡ record v { doing = open_tasks.Nothing } → ClosesCall types answer v w
 unfolding IsClosedFrom
 closed_back types answer v w is to = subst (λ (d : OpenTask). IsClosedFrom types d answer v w) (sym is) to
 
@@ -55,8 +55,8 @@ abbrev pub AsksSo : Walker → ScriptCall → Request → Type 0
 AsksSo v call request = (named : List Named) → AreNamed v.labels named → MakesRequest named v.dom call request
 
 pub line_open : (s : Setting) (types : List (List ℕ)) (old new : CoreState) (v : Walker) (task : RunTask) (call : Bor ScriptCall) (request : Request) (lost : Option Handle) (b : Begun)
-    → slice_get (tasks_left_of v) v.next ≡ Some task → task.deed ≡ Do call.now → v.doing ≡ doing.Nothing → AsksSo v call.now request → lost ≡ given_up request → b ≡ begun.Open → BeginsSo s old new v request b
-    → WalksTo s types old v (moves.Began None) new (record v { next = v.next + 1; doing = doing.Line task.line call lost })
+    → slice_get (tasks_left_of v) v.next ≡ Some task → task.deed ≡ Do call.now → v.doing ≡ open_tasks.Nothing → AsksSo v call.now request → lost ≡ given_up request → b ≡ beginnings.Open → BeginsSo s old new v request b
+    → WalksTo s types old v (made.Began None) new (record v { next = v.next + 1; doing = open_tasks.Line task.line call lost })
 line_open s types old new v task call request lost b at does idle asks gives is told = λ h stands.
     let so = told h stands in (
       Begin v.dom request,
@@ -68,8 +68,8 @@ line_open s types old new v task call request lost b at does idle asks gives is 
     )
 
 pub line_done : (s : Setting) (types : List (List ℕ)) (old new : CoreState) (v w : Walker) (task : RunTask) (call : Bor ScriptCall) (request : Request) (lost : Option Handle) (b : Begun) (answer : Answer)
-    → slice_get (tasks_left_of v) v.next ≡ Some task → task.deed ≡ Do call.now → v.doing ≡ doing.Nothing → AsksSo v call.now request → lost ≡ given_up request → b ≡ begun.Done answer → BeginsSo s old new v request b
-    → AnswersLine types task.line call.now lost answer (record v { next = v.next + 1 }) w → WalksTo s types old v (moves.Began (Some answer)) new w
+    → slice_get (tasks_left_of v) v.next ≡ Some task → task.deed ≡ Do call.now → v.doing ≡ open_tasks.Nothing → AsksSo v call.now request → lost ≡ given_up request → b ≡ beginnings.Done answer → BeginsSo s old new v request b
+    → AnswersLine types task.line call.now lost answer (record v { next = v.next + 1 }) w → WalksTo s types old v (made.Began (Some answer)) new w
 line_done s types old new v w task call request lost b answer at does idle asks gives is told a = λ h stands.
     let so = told h stands in (
       Begin v.dom request,
@@ -81,8 +81,8 @@ line_done s types old new v w task call request lost b answer at does idle asks 
     )
 
 pub back_open : (s : Setting) (types : List (List ℕ)) (old new : CoreState) (v w : Walker) (before after : List Handle) (handle : Handle) (b : Begun)
-    → length v.tasks.items ≤ v.next → v.doing ≡ doing.Nothing → v.held.items ≡ before ++ handle ∷ after
-    → w ≡ record v { doing = doing.GivesBack; held = w.held } → w.held.items ≡ before ++ after → b ≡ begun.Open → BeginsSo s old new v (Release handle) b → WalksTo s types old v (moves.Began None) new w
+    → length v.tasks.items ≤ v.next → v.doing ≡ open_tasks.Nothing → v.held.items ≡ before ++ handle ∷ after
+    → w ≡ record v { doing = open_tasks.GivesBack; held = w.held } → w.held.items ≡ before ++ after → b ≡ beginnings.Open → BeginsSo s old new v (Release handle) b → WalksTo s types old v (made.Began None) new w
 back_open s types old new v w before after handle b all idle holds same left is told = λ h stands.
     let so = told h stands in
     let end : length (tasks_left_of v) ≤ v.next = simp length-map all in (
@@ -96,8 +96,8 @@ back_open s types old new v w before after handle b all idle holds same left is 
     )
 
 pub back_done : (s : Setting) (types : List (List ℕ)) (old new : CoreState) (v w : Walker) (before after : List Handle) (handle : Handle) (b : Begun) (answer : Answer)
-    → length v.tasks.items ≤ v.next → v.doing ≡ doing.Nothing → v.held.items ≡ before ++ handle ∷ after
-    → w ≡ record v { held = w.held } → w.held.items ≡ before ++ after → b ≡ begun.Done answer → BeginsSo s old new v (Release handle) b → WalksTo s types old v (moves.Began (Some answer)) new w
+    → length v.tasks.items ≤ v.next → v.doing ≡ open_tasks.Nothing → v.held.items ≡ before ++ handle ∷ after
+    → w ≡ record v { held = w.held } → w.held.items ≡ before ++ after → b ≡ beginnings.Done answer → BeginsSo s old new v (Release handle) b → WalksTo s types old v (made.Began (Some answer)) new w
 back_done s types old new v w before after handle b answer all idle holds same left is told = λ h stands.
     let so = told h stands in
     let end : length (tasks_left_of v) ≤ v.next = simp length-map all in (
@@ -111,13 +111,13 @@ back_done s types old new v w before after handle b answer all idle holds same l
     )
 
 pub step_open : (s : Setting) (types : List (List ℕ)) (old new : CoreState) (v : Walker) (t : Ticked) (step : Step) (seen : Observation)
-    → v.doing ≢ doing.Nothing → t ≡ ticked.Step step seen → TicksSo s old new v t → WalksTo s types old v (moves.Stepped step seen None) new v
+    → v.doing ≢ open_tasks.Nothing → t ≡ ticked.Step step seen → TicksSo s old new v t → WalksTo s types old v (made.Stepped step seen None) new v
 step_open s types old new v t step seen busy is told = λ h stands.
     let so = told h stands in
     (Tick v.dom, ticked_element v.dom t, so.0, so.1, (v.dom, ap (λ (x : Ticked). did (Tick v.dom) (ticked_element v.dom x)) is), ticks_open types v (ticked_element v.dom t) busy (ap (λ (x : Ticked). answer_in (ticked_element v.dom x)) is))
 
 pub step_done : (s : Setting) (types : List (List ℕ)) (old new : CoreState) (v w : Walker) (t : Ticked) (step : Step) (seen : Observation) (answer : Answer)
-    → t ≡ ticked.Done step seen answer → TicksSo s old new v t → ClosesCall types answer v w → WalksTo s types old v (moves.Stepped step seen (Some answer)) new w
+    → t ≡ ticked.Done step seen answer → TicksSo s old new v t → ClosesCall types answer v w → WalksTo s types old v (made.Stepped step seen (Some answer)) new w
 step_done s types old new v w t step seen answer is told closed = λ h stands.
     let so = told h stands in
     (Tick v.dom, ticked_element v.dom t, so.0, so.1, (v.dom, ap (λ (x : Ticked). did (Tick v.dom) (ticked_element v.dom x)) is), ticks_done types v w (ticked_element v.dom t) answer (ap (λ (x : Ticked). answer_in (ticked_element v.dom x)) is) closed)

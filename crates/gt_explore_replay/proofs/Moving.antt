@@ -20,7 +20,7 @@ use Rattle.gt_explore_replay.specs.Orders.{FollowsList, GivesMappingsBack, given
 use Rattle.gt_explore_replay.specs.Walking.{tasks_left_of, tasks_left, Continues, Moves, AnswersLine, IsClosedFrom}
 use Rattle.gt_explore_replay.specs.Walking.{ClosesCall}
 use Rattle.gt_explore_replay.specs.declared.walker.OpenTask.{OpenTask}
-use Rattle.gt_explore_replay.specs.declared.walker.OpenTask.TheVariants as doing
+use Rattle.gt_explore_replay.specs.declared.walker.OpenTask.TheVariants as open_tasks
 use Rattle.gt_explore_replay.specs.declared.walker.Walker.{Walker}
 use Rattle.gt_explore_replay.proofs.Places.{drop_next, drop_all}
 
@@ -73,7 +73,7 @@ text_printed v w line rest is = sym (append_assoc v line rest) ∙ ap (λ (l : L
 -- the first move of a line
 
 at_line : (types : List (List ℕ)) (v : Walker) (named : List Named) (task : RunTask) (deed : RunAction) (hs : List Happening) (text : List ℕ)
-    → slice_get (tasks_left_of v) v.next ≡ Some task → task.deed ≡ deed → v.doing ≡ doing.Nothing
+    → slice_get (tasks_left_of v) v.next ≡ Some task → task.deed ≡ deed → v.doing ≡ open_tasks.Nothing
     → DeedHappens types v.dom named v.held.items task.line deed (λ names holds more rest. FollowsList types v.dom names holds (drop (v.next + 1) (tasks_left_of v)) more rest) hs text
     → Continues types v named v.doing hs text
 unfolding Continues
@@ -83,9 +83,9 @@ at_line types v named task deed hs text at does idle follows =
     subst (λ (d : OpenTask). Continues types v named d hs text) (sym idle) all
 
 pub begins_open : (types : List (List ℕ)) (v : Walker) (task : RunTask) (call : Bor ScriptCall) (request : Request) (lost : Option Handle) (x : Element)
-    → slice_get (tasks_left_of v) v.next ≡ Some task → task.deed ≡ Do call.now → v.doing ≡ doing.Nothing
+    → slice_get (tasks_left_of v) v.next ≡ Some task → task.deed ≡ Do call.now → v.doing ≡ open_tasks.Nothing
     → ((named : List Named) → AreNamed v.labels named → MakesRequest named v.dom call.now request) → lost ≡ given_up request → answer_in x ≡ None
-    → Moves types v (did (Begin v.dom request) x) (record v { next = v.next + 1; doing = doing.Line task.line call lost })
+    → Moves types v (did (Begin v.dom request) x) (record v { next = v.next + 1; doing = open_tasks.Line task.line call lost })
 unfolding Continues
 begins_open types v task call request lost x at does idle asks gives none = record {
   own_move = refl;
@@ -98,7 +98,7 @@ begins_open types v task call request lost x at does idle asks gives none = reco
       at_line types v named task (Do call.now) (did (Begin v.dom request) x ∷ more) rest at does idle (
         request,
         asks named names,
-        calls_open v.dom request _ x more none (subst (λ (g : Option Handle). Continues types (record v { next = v.next + 1; doing = doing.Line task.line call g }) named (doing.Line task.line call g) more rest) gives go),
+        calls_open v.dom request _ x more none (subst (λ (g : Option Handle). Continues types (record v { next = v.next + 1; doing = open_tasks.Line task.line call g }) named (open_tasks.Line task.line call g) more rest) gives go),
       ),
       refl,
     ),
@@ -106,7 +106,7 @@ begins_open types v task call request lost x at does idle asks gives none = reco
 }
 
 pub begins_done : (types : List (List ℕ)) (v w : Walker) (task : RunTask) (call : Bor ScriptCall) (request : Request) (lost : Option Handle) (x : Element) (answer : Answer)
-    → slice_get (tasks_left_of v) v.next ≡ Some task → task.deed ≡ Do call.now → v.doing ≡ doing.Nothing
+    → slice_get (tasks_left_of v) v.next ≡ Some task → task.deed ≡ Do call.now → v.doing ≡ open_tasks.Nothing
     → ((named : List Named) → AreNamed v.labels named → MakesRequest named v.dom call.now request) → lost ≡ given_up request → answer_in x ≡ Some answer
     → AnswersLine types task.line call.now lost answer (record v { next = v.next + 1 }) w
     → Moves types v (did (Begin v.dom request) x) w
@@ -134,7 +134,7 @@ begins_done types v w task call request lost x answer at does idle asks gives is
   );
 }
 
-pub tells : (types : List (List ℕ)) (v : Walker) (task : RunTask) (flag : ℕ) → slice_get (tasks_left_of v) v.next ≡ Some task → task.deed ≡ Tell flag → v.doing ≡ doing.Nothing
+pub tells : (types : List (List ℕ)) (v : Walker) (task : RunTask) (flag : ℕ) → slice_get (tasks_left_of v) v.next ≡ Some task → task.deed ≡ Tell flag → v.doing ≡ open_tasks.Nothing
     → Moves types v (raised v.dom flag) (record v { next = v.next + 1 })
 unfolding Continues
 tells types v task flag at does idle = record {
@@ -151,7 +151,7 @@ tells types v task flag at does idle = record {
   );
 }
 
-pub awaits : (types : List (List ℕ)) (v : Walker) (task : RunTask) (flag : ℕ) → slice_get (tasks_left_of v) v.next ≡ Some task → task.deed ≡ Await flag → v.doing ≡ doing.Nothing
+pub awaits : (types : List (List ℕ)) (v : Walker) (task : RunTask) (flag : ℕ) → slice_get (tasks_left_of v) v.next ≡ Some task → task.deed ≡ Await flag → v.doing ≡ open_tasks.Nothing
     → Moves types v (passed v.dom flag) (record v { next = v.next + 1 })
 unfolding Continues
 awaits types v task flag at does idle = record {
@@ -185,7 +185,7 @@ gives_over types dom named before after handle x answer more rest is (order, giv
     (handle ∷ order, (before, after, refl, calls_done dom (Release handle) (λ a l. GivesMappingsBack dom order (before ++ after) l) x answer more is gives), nothing)
 
 -- what happens at the end of a list happens to the domain there
-at_end : (types : List (List ℕ)) (v : Walker) (named : List Named) (held : List Handle) (hs : List Happening) (text : List ℕ) → v.doing ≡ doing.Nothing → v.held.items ≡ held → length (tasks_left_of v) ≤ v.next
+at_end : (types : List (List ℕ)) (v : Walker) (named : List Named) (held : List Handle) (hs : List Happening) (text : List ℕ) → v.doing ≡ open_tasks.Nothing → v.held.items ≡ held → length (tasks_left_of v) ≤ v.next
     → FollowsList types v.dom named held [] hs text → Continues types v named v.doing hs text
 unfolding Continues
 at_end types v named held hs text idle holds end follows =
@@ -194,8 +194,8 @@ at_end types v named held hs text idle holds end follows =
     subst (λ (d : OpenTask). Continues types v named d hs text) (sym idle) two
 
 pub gives_open : (types : List (List ℕ)) (v w : Walker) (before after : List Handle) (handle : Handle) (x : Element)
-    → length v.tasks.items ≤ v.next → v.doing ≡ doing.Nothing → v.held.items ≡ before ++ handle ∷ after → answer_in x ≡ None
-    → w.dom ≡ v.dom → w.labels ≡ v.labels → w.tasks.items ≡ v.tasks.items → w.next ≡ v.next → w.doing ≡ doing.GivesBack → w.held.items ≡ before ++ after → w.text.items ≡ v.text.items
+    → length v.tasks.items ≤ v.next → v.doing ≡ open_tasks.Nothing → v.held.items ≡ before ++ handle ∷ after → answer_in x ≡ None
+    → w.dom ≡ v.dom → w.labels ≡ v.labels → w.tasks.items ≡ v.tasks.items → w.next ≡ v.next → w.doing ≡ open_tasks.GivesBack → w.held.items ≡ before ++ after → w.text.items ≡ v.text.items
     → length (tasks_left_of v) ≤ v.next
     → Moves types v (did (Begin v.dom (Release handle)) x) w
 unfolding Continues
@@ -219,8 +219,8 @@ gives_open types v w before after handle x all idle holds none dom labels tasks 
 }
 
 pub gives_done : (types : List (List ℕ)) (v w : Walker) (before after : List Handle) (handle : Handle) (x : Element) (answer : Answer)
-    → length v.tasks.items ≤ v.next → v.doing ≡ doing.Nothing → v.held.items ≡ before ++ handle ∷ after → answer_in x ≡ Some answer
-    → w.dom ≡ v.dom → w.labels ≡ v.labels → w.tasks.items ≡ v.tasks.items → w.next ≡ v.next → w.doing ≡ doing.Nothing → w.held.items ≡ before ++ after → w.text.items ≡ v.text.items
+    → length v.tasks.items ≤ v.next → v.doing ≡ open_tasks.Nothing → v.held.items ≡ before ++ handle ∷ after → answer_in x ≡ Some answer
+    → w.dom ≡ v.dom → w.labels ≡ v.labels → w.tasks.items ≡ v.tasks.items → w.next ≡ v.next → w.doing ≡ open_tasks.Nothing → w.held.items ≡ before ++ after → w.text.items ≡ v.text.items
     → length (tasks_left_of v) ≤ v.next
     → Moves types v (did (Begin v.dom (Release handle)) x) w
 unfolding Continues
@@ -244,14 +244,14 @@ gives_done types v w before after handle x answer all idle holds is dom labels t
 
 -- ticks
 
-open_on : (types : List (List ℕ)) (v : Walker) (named : List Named) (d : OpenTask) (x : Element) (more : List Happening) (rest : List ℕ) → d ≢ doing.Nothing → answer_in x ≡ None
+open_on : (types : List (List ℕ)) (v : Walker) (named : List Named) (d : OpenTask) (x : Element) (more : List Happening) (rest : List ℕ) → d ≢ open_tasks.Nothing → answer_in x ≡ None
     → Continues types v named d more rest → Continues types v named d (did (Tick v.dom) x ∷ more) rest
 unfolding Continues
-open_on types v named doing.Nothing x more rest busy none go = absurd (busy refl)
-open_on types v named (doing.Line line call lost) x more rest busy none go = goes_open v.dom _ x more none go
-open_on types v named doing.GivesBack x more rest busy none go = goes_open v.dom _ x more none go
+open_on types v named open_tasks.Nothing x more rest busy none go = absurd (busy refl)
+open_on types v named (open_tasks.Line line call lost) x more rest busy none go = goes_open v.dom _ x more none go
+open_on types v named open_tasks.GivesBack x more rest busy none go = goes_open v.dom _ x more none go
 
-pub ticks_open : (types : List (List ℕ)) (v : Walker) (x : Element) → v.doing ≢ doing.Nothing → answer_in x ≡ None → Moves types v (did (Tick v.dom) x) v
+pub ticks_open : (types : List (List ℕ)) (v : Walker) (x : Element) → v.doing ≢ open_tasks.Nothing → answer_in x ≡ None → Moves types v (did (Tick v.dom) x) v
 ticks_open types v x busy none = record {
   own_move = refl;
   dom = refl;
@@ -263,8 +263,8 @@ unfolding Continues IsClosedFrom
 ticks_done types v w x answer is closed = by v.doing refl closed
   where
     by : (d : OpenTask) → v.doing ≡ d → IsClosedFrom types d answer v w → Moves types v (did (Tick v.dom) x) w
-    by doing.Nothing same a = absurd a
-    by (doing.Line line call lost) same a = record {
+    by open_tasks.Nothing same a = absurd a
+    by (open_tasks.Line line call lost) same a = record {
       own_move = refl;
       dom = a.dom;
       leads = λ named names. (
@@ -278,7 +278,7 @@ ticks_done types v w x answer is closed = by v.doing refl closed
         ),
       );
     }
-    by doing.GivesBack same to =
+    by open_tasks.GivesBack same to =
         subst (λ (u : Walker). Moves types v (did (Tick v.dom) x) u) (sym to) (record {
           own_move = refl;
           dom = refl;

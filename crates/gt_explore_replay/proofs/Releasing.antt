@@ -10,7 +10,7 @@ use Rattle.gt_model.specs.declared.handle.Handle.{Handle}
 use Rattle.gt_model.specs.Path.{after_beginning, by_mapping, path}
 use Rattle.gt_model.specs.Rules.{CallerKnowledge, begun, refused_when}
 use Rattle.gt_model.specs.declared.action.Action.{Action}
-use Rattle.gt_model.specs.declared.action.Action.TheVariants.{Step as Makes, Done as Ends}
+use Rattle.gt_model.specs.declared.action.Action.TheVariants as actions
 use Rattle.gt_model.specs.declared.action.CallResult.{CallResult}
 use Rattle.gt_model.specs.declared.action.CallResult.TheVariants.{Granted}
 use Rattle.gt_model.specs.declared.action.Observation.{Observation}
@@ -20,7 +20,7 @@ use Rattle.gt_model.specs.declared.action.Step.TheVariants.{Unpin}
 use Rattle.gt_model.specs.declared.held.HeldPin.{HeldPin}
 use Rattle.gt_model.specs.declared.request.OpenRequest.{OpenRequest}
 use Rattle.gt_model.specs.declared.request.OpenRequest.TheVariants.{Release}
-use Rattle.gt_model.specs.declared.request.PinHolder.TheVariants.{Mapping as ByHandle}
+use Rattle.gt_model.specs.declared.request.PinHolder.TheVariants as holders
 use Rattle.gt_model.specs.declared.request.Request.{Request}
 use Rattle.gt_model.specs.declared.request.Request.TheVariants as requests
 use Rattle.gt_model.specs.History.{History, Setting, Underway, known_at, mapping_of, mappings_at, open_call, seen_by}
@@ -55,20 +55,20 @@ begins-mapped s h i handle right is some = by i.actor i.happened i.answer is rig
 -- at its step
 
 -- its one step drops the mapping, and then it is over
-over : (b : Option CallResult) (m : Option HeldPin) (handle : Handle) (vs : List Observation) (z : Step) → after_beginning b (by_mapping m (λ q. Unpin q (ByHandle handle))) vs ≡ Some (Makes z)
-    → ((p : HeldPin) × (z ≡ Unpin p (ByHandle handle))) × (after_beginning b (by_mapping m (λ q. Unpin q (ByHandle handle))) (vs ++ Nothing ∷ []) ≡ Some (Ends Granted))
+over : (b : Option CallResult) (m : Option HeldPin) (handle : Handle) (vs : List Observation) (z : Step) → after_beginning b (by_mapping m (λ q. Unpin q (holders.Mapping handle))) vs ≡ Some (actions.Step z)
+    → ((p : HeldPin) × (z ≡ Unpin p (holders.Mapping handle))) × (after_beginning b (by_mapping m (λ q. Unpin q (holders.Mapping handle))) (vs ++ Nothing ∷ []) ≡ Some (actions.Done Granted))
 over None (Some q) handle [] z e = ((q, grind arith), refl)
 over b m handle vs z e = absurd (grind arith)
 
-release-over : (k : CallerKnowledge) (d : DomId) (r : OpenRequest) (handle : Handle) (vs : List Observation) (z : Step) → r ≡ Release handle → path k d r vs ≡ Some (Makes z)
-    → ((p : HeldPin) × (z ≡ Unpin p (ByHandle handle))) × (path k d r (vs ++ Nothing ∷ []) ≡ Some (Ends Granted))
+release-over : (k : CallerKnowledge) (d : DomId) (r : OpenRequest) (handle : Handle) (vs : List Observation) (z : Step) → r ≡ Release handle → path k d r vs ≡ Some (actions.Step z)
+    → ((p : HeldPin) × (z ≡ Unpin p (holders.Mapping handle))) × (path k d r (vs ++ Nothing ∷ []) ≡ Some (actions.Done Granted))
 release-over k d r handle vs z is e =
     let from : (ws : List Observation) → path k d r ws ≡ path k d (Release handle) ws = λ ws. ap (λ (q : OpenRequest). path k d q ws) is in
     let o = over (begun k d (Release handle)) (k.mapping handle) handle vs z (sym (from vs) ∙ e) in
     (o.0, from (vs ++ Nothing ∷ []) ∙ o.1)
 
 answered-ok : (s : Setting) (h : History) (d : DomId) (r : OpenRequest) (handle : Handle) (z : Step) (next : Option Action) (given : Option Answer) (against : Option Denial)
-    → r ≡ Release handle → next ≡ Some (Ends Granted) → AnsweredBy s h d r (Some z) (gives_back next) (verdict_in next) given against → given ≡ Some answers.Done
+    → r ≡ Release handle → next ≡ Some (actions.Done Granted) → AnsweredBy s h d r (Some z) (gives_back next) (verdict_in next) given against → given ≡ Some answers.Done
 answered-ok s h d r handle z next given against is ends by =
     plain given (subst (λ (q : OpenRequest). AnsweredBy s h d q (Some z) false (Some Granted) given against) is
     (subst (λ (a : Option Action). AnsweredBy s h d r (Some z) (gives_back a) (verdict_in a) given against) ends by))
@@ -90,7 +90,7 @@ ends-ok s h i step seen c handle right is opened asks = by i.actor i.happened i.
         let request : u.request ≡ Release handle = ap (λ (x : Underway). x.request) (same_Some u c e) ∙ asks in
         let o = release-over (known_at s h actor) actor u.request handle (values u) z request right.continues in
         let nothing : v ≡ Nothing = right.sees ∙ ap (seen_by s h actor) o.0.1 in
-        let ends : next_in s h actor u v ≡ Some (Ends Granted) = ap (λ (w : Observation). path (known_at s h actor) actor u.request (values u ++ w ∷ [])) nothing ∙ o.1 in
+        let ends : next_in s h actor u v ≡ Some (actions.Done Granted) = ap (λ (w : Observation). path (known_at s h actor) actor u.request (values u ++ w ∷ [])) nothing ∙ o.1 in
         answered-ok s h actor u.request handle z (next_in s h actor u v) given _ request ends right.answered
 
     by : (actor : DomId) (x : ItemEvent) (given : Option Answer) → x ≡ Stepped step seen → IsRight s h (record { actor = actor; happened = x; answer = given }) → open_call h actor.0 ≡ Some c → given ≡ Some answers.Done

@@ -33,7 +33,7 @@ use Rattle.gt_explore_replay.specs.Making.{BeginsLine, TicksOpen, GivesBackAt}
 use Rattle.gt_explore_replay.specs.Abreast.{history_in, WalksAbreast, CanComeNext, IsAbreast}
 use Rattle.gt_explore_replay.specs.declared.replay.Moved.{Moved}
 use Rattle.gt_explore_replay.specs.declared.replay.Replay.{Replay}
-use Rattle.gt_explore_replay.specs.declared.walker.OpenTask.TheVariants as doing
+use Rattle.gt_explore_replay.specs.declared.walker.OpenTask.TheVariants as open_tasks
 use Rattle.gt_explore_replay.specs.declared.walker.Walker.{Walker}
 use Rattle.gt_explore_replay.proofs.Abreast.{Came, begin_came, give_came, goes_past, left_numbered, line_leads, stays}
 use Rattle.gt_explore_replay.proofs.Abreast.{tick_came}
@@ -163,7 +163,7 @@ same_setting a b x y e f = ap (λ (c : Config). setting_of c (may_by x)) e ∙ a
 pub begin_comes : {E : Type 0} (c : RunContents) (hs : List Happening) (ks : List Course) (r q : Replay) (x : Happening) (place choice : ℕ) (k j : Course) (v w : Walker) (task : RunTask) (call : Bor ScriptCall) (names : List (List ℕ)) (res : Result (Option Moved) E)
     → IsAbreast c hs ks r → slice_get ks place ≡ Some k → slice_get r.walkers.items place ≡ Some v → names ≡ r.types.items
     → q.core.config ≡ r.core.config → q.core.rights ≡ r.core.rights → q.types.items ≡ r.types.items → q.walkers.items ≡ set r.walkers.items place w → q.told.items ≡ r.told.items
-    → slice_get (tasks_left_of v) v.next ≡ Some task → task.deed ≡ Do call.now → v.doing ≡ doing.Nothing
+    → slice_get (tasks_left_of v) v.next ≡ Some task → task.deed ≡ Do call.now → v.doing ≡ open_tasks.Nothing
     → CourseLeads (type_names c.head) k choice x j → CanComeNext (setting_of_script c.head) hs x
     → IfOk res (λ m. BeginsLine (setting_in may_by r.core) names r.core.state v task call m q.core.state w)
     → IfOk res (λ m. IsSome m × IsAbreast c (hs ++ x ∷ []) (set ks place j) q)
@@ -178,7 +178,7 @@ begin_comes c hs ks r q x place choice k j v w task call names (Ok m) abreast at
 pub tick_comes : {E : Type 0} (c : RunContents) (hs : List Happening) (ks : List Course) (r q : Replay) (x : Happening) (place choice : ℕ) (k j : Course) (v w : Walker) (names : List (List ℕ)) (res : Result (Option Moved) E)
     → IsAbreast c hs ks r → slice_get ks place ≡ Some k → slice_get r.walkers.items place ≡ Some v → names ≡ r.types.items
     → q.core.config ≡ r.core.config → q.core.rights ≡ r.core.rights → q.types.items ≡ r.types.items → q.walkers.items ≡ set r.walkers.items place w → q.told.items ≡ r.told.items
-    → v.doing ≢ doing.Nothing → CourseLeads (type_names c.head) k choice x j → CanComeNext (setting_of_script c.head) hs x
+    → v.doing ≢ open_tasks.Nothing → CourseLeads (type_names c.head) k choice x j → CanComeNext (setting_of_script c.head) hs x
     → IfOk res (λ m. TicksOpen (setting_in may_by r.core) names r.core.state v m q.core.state w)
     → IfOk res (λ m. IsSome m × IsAbreast c (hs ++ x ∷ []) (set ks place j) q)
 tick_comes c hs ks r q x place choice k j v w names (Err e) abreast at there typed config rights types walkers told busy leads may made = tt
@@ -192,7 +192,7 @@ tick_comes c hs ks r q x place choice k j v w names (Ok m) abreast at there type
 pub give_comes : {E : Type 0} (c : RunContents) (hs : List Happening) (ks : List Course) (r q : Replay) (x : Happening) (place choice : ℕ) (k j : Course) (v w : Walker) (res : Result (Option Moved) E)
     → IsAbreast c hs ks r → slice_get ks place ≡ Some k → slice_get r.walkers.items place ≡ Some v
     → q.core.config ≡ r.core.config → q.core.rights ≡ r.core.rights → q.types.items ≡ r.types.items → q.walkers.items ≡ set r.walkers.items place w → q.told.items ≡ r.told.items
-    → length v.tasks.items ≤ v.next → v.doing ≡ doing.Nothing → CourseLeads (type_names c.head) k choice x j → CanComeNext (setting_of_script c.head) hs x
+    → length v.tasks.items ≤ v.next → v.doing ≡ open_tasks.Nothing → CourseLeads (type_names c.head) k choice x j → CanComeNext (setting_of_script c.head) hs x
     → IfOk res (λ m. GivesBackAt (setting_in may_by r.core) r.core.state v choice m q.core.state w)
     → IfOk res (λ m. IsSome m × IsAbreast c (hs ++ x ∷ []) (set ks place j) q)
 give_comes c hs ks r q x place choice k j v w (Err e) abreast at there config rights types walkers told all idle leads may made = tt
@@ -213,7 +213,7 @@ tell_below c hs ks r place k v task flag abreast at there next does =
 pub tell_comes : (c : RunContents) (hs : List Happening) (ks : List Course) (r q : Replay) (x : Happening) (place choice : ℕ) (k j : Course) (v : Walker) (task : RunTask) (flag : ℕ)
     → IsAbreast c hs ks r → slice_get ks place ≡ Some k → slice_get r.walkers.items place ≡ Some v
     → q.core ≡ r.core → q.types.items ≡ r.types.items → q.walkers.items ≡ set r.walkers.items place (record v { next = v.next + 1 }) → q.told.items ≡ set r.told.items flag true
-    → slice_get (tasks_left_of v) v.next ≡ Some task → task.deed ≡ Tell flag → v.doing ≡ doing.Nothing → CourseLeads (type_names c.head) k choice x j
+    → slice_get (tasks_left_of v) v.next ≡ Some task → task.deed ≡ Tell flag → v.doing ≡ open_tasks.Nothing → CourseLeads (type_names c.head) k choice x j
     → IsAbreast c (hs ++ x ∷ []) (set ks place j) q
 tell_comes c hs ks r q x place choice k j v task flag abreast at there core types walkers told next does idle leads =
     let walks = abreast.each place k v at there in
@@ -235,7 +235,7 @@ tell_comes c hs ks r q x place choice k j v task flag abreast at there core type
 
 -- a flag that is to be passed is raised
 pub await_told : (c : RunContents) (hs : List Happening) (ks : List Course) (r : Replay) (x : Happening) (place choice : ℕ) (k j : Course) (v : Walker) (task : RunTask) (flag : ℕ)
-    → IsAbreast c hs ks r → slice_get ks place ≡ Some k → slice_get r.walkers.items place ≡ Some v → slice_get (tasks_left_of v) v.next ≡ Some task → task.deed ≡ Await flag → v.doing ≡ doing.Nothing
+    → IsAbreast c hs ks r → slice_get ks place ≡ Some k → slice_get r.walkers.items place ≡ Some v → slice_get (tasks_left_of v) v.next ≡ Some task → task.deed ≡ Await flag → v.doing ≡ open_tasks.Nothing
     → CourseLeads (type_names c.head) k choice x j → CanComeNext (setting_of_script c.head) hs x → get_or r.told.items flag false ≡ true
 await_told c hs ks r x place choice k j v task flag abreast at there next does idle leads may =
     let deed : (x ≡ passed k.dom flag) × (j ≡ record k { tasks = drop (v.next + 1) (tasks_left_of v) }) =
@@ -247,7 +247,7 @@ await_told c hs ks r x place choice k j v task flag abreast at there next does i
 pub await_comes : (c : RunContents) (hs : List Happening) (ks : List Course) (r q : Replay) (x : Happening) (place choice : ℕ) (k j : Course) (v : Walker) (task : RunTask) (flag : ℕ)
     → IsAbreast c hs ks r → slice_get ks place ≡ Some k → slice_get r.walkers.items place ≡ Some v
     → q.core ≡ r.core → q.types.items ≡ r.types.items → q.walkers.items ≡ set r.walkers.items place (record v { next = v.next + 1 }) → q.told.items ≡ r.told.items
-    → slice_get (tasks_left_of v) v.next ≡ Some task → task.deed ≡ Await flag → v.doing ≡ doing.Nothing → CourseLeads (type_names c.head) k choice x j
+    → slice_get (tasks_left_of v) v.next ≡ Some task → task.deed ≡ Await flag → v.doing ≡ open_tasks.Nothing → CourseLeads (type_names c.head) k choice x j
     → IsAbreast c (hs ++ x ∷ []) (set ks place j) q
 await_comes c hs ks r q x place choice k j v task flag abreast at there core types walkers told next does idle leads =
     let walks = abreast.each place k v at there in

@@ -5,7 +5,7 @@ use Rattle.gt_explore_replay.specs.Prelude.{begun_element, ticked_element, Begun
 use Rattle.gt_explore_replay.specs.Prelude.{ScriptCall, AreNamed, Named}
 use Rattle.gt_explore_replay.specs.Prelude.{MakesRequest, Moved, Line, GivesBack, Walker}
 use Rattle.std.specs.Borrow.{Bor}
-use Rattle.gt_core.specs.declared.core_state.Begun.TheVariants as begun
+use Rattle.gt_core.specs.declared.core_state.Begun.TheVariants as beginnings
 use Rattle.gt_core.specs.declared.core_state.Ticked.TheVariants as ticked
 use Rattle.gt_explore_replay.specs.Orders.{given_up}
 use Rattle.gt_explore_replay.specs.Walking.{AnswersLine, ClosesCall}
@@ -17,12 +17,12 @@ AsksFor v call request = (named : List Named) → AreNamed v.labels named → Ma
 -- the call of a line, which drops the mapping of this handle, began: it is open, or it has its answer
 abbrev pub IsBegunFrom : List (List ℕ) → RunTask → Bor ScriptCall → Option Handle → Walker → Begun → Option Moved
     → Walker → Type 0
-IsBegunFrom types task call lost v begun.Open m w =
+IsBegunFrom types task call lost v beginnings.Open m w =
     IsSome m × (w ≡ record v { next = v.next + 1; doing = Line task.line call lost })
-IsBegunFrom types task call lost v (begun.Done answer) m w =
+IsBegunFrom types task call lost v (beginnings.Done answer) m w =
     IsSome m × AnswersLine types task.line call.now lost answer (record v { next = v.next + 1 }) w
-IsBegunFrom types task call lost v begun.Busy m w = Unit {0}
-IsBegunFrom types task call lost v begun.NoDomain m w = Unit {0}
+IsBegunFrom types task call lost v beginnings.Busy m w = Unit {0}
+IsBegunFrom types task call lost v beginnings.NoDomain m w = Unit {0}
 
 -- the core began the call of a line for a domain
 abbrev pub BeginsLine : Setting → List (List ℕ) → CoreState → Walker → RunTask → Bor ScriptCall → Option Moved
@@ -46,14 +46,14 @@ TicksOpen s types old v m new w =
 
 -- the release of the mapping at this index began: it is open, or it has its answer
 abbrev pub IsGivenFrom : ℕ → Walker → Begun → Option Moved → Walker → Type 0
-IsGivenFrom choice v begun.Open m w =
+IsGivenFrom choice v beginnings.Open m w =
     IsSome m × (w ≡ record v { doing = GivesBack; held = w.held })
     × (w.held.items ≡ take choice v.held.items ++ drop (suc choice) v.held.items)
-IsGivenFrom choice v (begun.Done answer) m w =
+IsGivenFrom choice v (beginnings.Done answer) m w =
     IsSome m × (w ≡ record v { held = w.held })
     × (w.held.items ≡ take choice v.held.items ++ drop (suc choice) v.held.items)
-IsGivenFrom choice v begun.Busy m w = Unit {0}
-IsGivenFrom choice v begun.NoDomain m w = Unit {0}
+IsGivenFrom choice v beginnings.Busy m w = Unit {0}
+IsGivenFrom choice v beginnings.NoDomain m w = Unit {0}
 
 -- the core began the release of the mapping at this index, if there is one
 abbrev pub GivesBackAt : Setting → CoreState → Walker → ℕ → Option Moved → CoreState → Walker → Type 0

@@ -7,7 +7,7 @@ use Rattle.gt_model.specs.Legal.{IsRight}
 use Rattle.gt_model.specs.declared.trace.Item.{Item}
 use Rattle.gt_model.specs.declared.trace.ItemEvent.TheVariants.{Began, Stepped}
 use Rattle.gt_explore_replay.specs.Prelude.{Done, Handle, Release}
-use Rattle.gt_model.specs.declared.request.OpenRequest.TheVariants as asked
+use Rattle.gt_model.specs.declared.request.OpenRequest.TheVariants as asks
 
 -- a release that is answered at its beginning is of a handle under which its domain has no mapping
 abbrev pub RefusedWithoutMapping : Type 0
@@ -20,7 +20,7 @@ abbrev pub OpenReleasesAreOk : Type 0
 OpenReleasesAreOk =
     (s : Setting) (h : History) (i : Item) (step : Step) (seen : Observation) (c : Underway) (handle : Handle)
     → IsRight s h i → i.happened ≡ Stepped step seen → open_call h i.actor.0 ≡ Some c
-    → c.request ≡ asked.Release handle → i.answer ≡ Some Done
+    → c.request ≡ asks.Release handle → i.answer ≡ Some Done
 
 -- the release of a mapping is answered Ok
 abbrev pub ReleasesAreOk : Type 0

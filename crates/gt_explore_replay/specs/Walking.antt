@@ -8,8 +8,8 @@ use Rattle.gt_explore_replay.specs.Prelude.{ScriptCall, type_names, RunContents,
 use Rattle.gt_explore_replay.specs.Prelude.{setting_of_script, answer_line, may_by, Named, handle_given, label_given}
 use Rattle.gt_explore_replay.specs.Prelude.{with_name, Replay, OpenTask, Nothing, Line, GivesBack, Walker, Begin}
 use Rattle.gt_explore_replay.specs.Prelude.{DomId, Moved, Request, Tick}
-use Rattle.gt_model.specs.declared.trace.Element.TheVariants.{Item as Did}
-use Rattle.gt_model.specs.declared.trace.ItemEvent.TheVariants.{Began as BeganCall, Stepped as SteppedCall}
+use Rattle.gt_model.specs.declared.trace.Element.TheVariants as elements
+use Rattle.gt_model.specs.declared.trace.ItemEvent.TheVariants as item_events
 use Rattle.gt_explore_replay.specs.declared.replay.Moved.TheVariants.{Began, Passed, Raised, Stepped}
 use Rattle.gt_explore_replay.specs.Orders.{Happening, did, doer, own_happenings, events_in, trace_in, IsRaisedBefore}
 use Rattle.gt_explore_replay.specs.Orders.{passed, raised, FlagsAreRaised, CallGoesOn, Prints, FollowsList}
@@ -51,9 +51,11 @@ abbrev pub IsShownBy : Moved → Happening → Type 0
 IsShownBy Raised x = (dom : DomId) × (flag : ℕ) × (x ≡ raised dom flag)
 IsShownBy Passed x = (dom : DomId) × (flag : ℕ) × (x ≡ passed dom flag)
 IsShownBy (Began answer) x = (dom : DomId) × (request : Request)
-    × (x ≡ did (Begin dom request) (Did (record { actor = dom; happened = BeganCall request; answer = answer })))
+    × (x ≡ did (Begin dom request)
+    (elements.Item (record { actor = dom; happened = item_events.Began request; answer = answer })))
 IsShownBy (Stepped step seen answer) x = (dom : DomId)
-    × (x ≡ did (Tick dom) (Did (record { actor = dom; happened = SteppedCall step seen; answer = answer })))
+    × (x ≡ did (Tick dom)
+    (elements.Item (record { actor = dom; happened = item_events.Stepped step seen; answer = answer })))
 
 -- an event of the core did what it may, as this move shows, the core's state represents the history with it, and by it
 -- the domain moved

@@ -86,14 +86,14 @@ impl<'s, 'a> Walker<'s, 'a> {
     ghost use Rattle.std.specs.Option.{option_map};
     ghost use Rattle.gt_script_runs.specs.Naming.{AreNamed};
     ghost use Rattle.gt_explore_replay.specs.Walking.{IsAtEnd, tasks_left_of};
-    ghost use Rattle.gt_explore_replay.specs.declared.walker.OpenTask.TheVariants as doing;
+    ghost use Rattle.gt_explore_replay.specs.declared.walker.OpenTask.TheVariants as open_tasks;
 
     /// Makes the domain of this number before the first line of its list.
     pub(crate) fn new(alloc: Global, dom: DomId, tasks: Vec<&'s RunTask<'a>>) -> Walker<'s, 'a>
         ensures dom { result.dom ≡ dom }
         ensures tasks { result.tasks.items ≡ tasks.entry.items }
         ensures next { result.next ≡ 0 }
-        ensures doing { result.doing ≡ doing.Nothing }
+        ensures doing { result.doing ≡ open_tasks.Nothing }
         ensures labels { AreNamed result.labels [] }
         ensures held { result.held.items ≡ [] }
         ensures text { result.text.items ≡ [] }
@@ -121,8 +121,8 @@ impl<'s, 'a> Walker<'s, 'a> {
 
     /// Returns whether it has a call open.
     pub fn is_calling(&self) -> bool
-        ensures open { IsTrue result → self.now.doing ≢ doing.Nothing }
-        ensures idle { (result ≡ false) → self.now.doing ≡ doing.Nothing }
+        ensures open { IsTrue result → self.now.doing ≢ open_tasks.Nothing }
+        ensures idle { (result ≡ false) → self.now.doing ≡ open_tasks.Nothing }
     {
         match self.doing {
             OpenTask::Nothing => false,
@@ -182,10 +182,10 @@ impl<'s, 'a> Walker<'s, 'a> {
     ghost use Rattle.std.specs.Prelude.{◌≡◌, ◌≢◌, ◌<◌, ◌≤◌, ℕ, List, length, slice_get, IsTrue, IfOk, IfSome, Some};
     ghost use Rattle.gt_core.specs.Standing.{setting_in};
     ghost use Rattle.gt_script_runs.specs.Rights.{may_by};
-    ghost use Rattle.gt_script.specs.declared.tasks.RunActionBy.TheVariants as deeds;
+    ghost use Rattle.gt_script.specs.declared.tasks.RunActionBy.TheVariants as run_actions;
     ghost use Rattle.gt_explore_replay.specs.Making.{BeginsLine, GivesBackAt, TicksOpen};
     ghost use Rattle.gt_explore_replay.specs.Walking.{AnswersLine, ClosesCall, WalksTo, tasks_left_of};
-    ghost use Rattle.gt_explore_replay.specs.declared.walker.OpenTask.TheVariants as doing;
+    ghost use Rattle.gt_explore_replay.specs.declared.walker.OpenTask.TheVariants as open_tasks;
 
     // Applies the answer of this line's call: its label, the handles, and the text.
     fn answer(
@@ -217,8 +217,8 @@ impl<'s, 'a> Walker<'s, 'a> {
     ) -> Result<Option<Moved>, Memory>
         requires next { slice_get (tasks_left_of self.old) self.old.next ≡ Some task.now }
         requires room { self.old.next < length self.old.tasks.items }
-        requires does { task.now.deed ≡ deeds.Do call.now }
-        requires idle { self.old.doing ≡ doing.Nothing }
+        requires does { task.now.deed ≡ run_actions.Do call.now }
+        requires idle { self.old.doing ≡ open_tasks.Nothing }
         ensures makes { IfOk result (λ m. IfSome m (λ moved. WalksTo (setting_in may_by core.old) types.now
             core.old.state self.old moved core.new.state self.new)) }
         ensures does { IfOk result (λ m. BeginsLine (setting_in may_by core.old) types.now core.old.state
@@ -253,7 +253,7 @@ impl<'s, 'a> Walker<'s, 'a> {
         choice: usize,
     ) -> Result<Option<Moved>, Memory>
         requires end { length self.old.tasks.items ≤ self.old.next }
-        requires idle { self.old.doing ≡ doing.Nothing }
+        requires idle { self.old.doing ≡ open_tasks.Nothing }
         ensures makes { (types : List (List ℕ)) → IfOk result (λ m. IfSome m (λ moved.
             WalksTo (setting_in may_by core.old) types
             core.old.state self.old moved core.new.state self.new)) }
@@ -281,7 +281,7 @@ impl<'s, 'a> Walker<'s, 'a> {
     // Applies the answer of its open task. Returns whether it had one.
     fn close(&mut self, alloc: Global, types: &[Text], answer: &Answer) -> Result<bool, AllocError>
         ensures closes { IfOk result (λ b. IsTrue b → ClosesCall types.now answer.now self.old self.new) }
-        ensures open { self.old.doing ≢ doing.Nothing → IfOk result IsTrue }
+        ensures open { self.old.doing ≢ open_tasks.Nothing → IfOk result IsTrue }
     {
         match self.doing {
             OpenTask::Nothing => Ok(false),
@@ -303,7 +303,7 @@ impl<'s, 'a> Walker<'s, 'a> {
         core: &mut Core<ScriptPolicy>,
         types: &[Text],
     ) -> Result<Option<Moved>, Memory>
-        requires { self.old.doing ≢ doing.Nothing }
+        requires { self.old.doing ≢ open_tasks.Nothing }
         ensures makes { IfOk result (λ m. IfSome m (λ moved. WalksTo (setting_in may_by core.old) types.now
             core.old.state self.old moved core.new.state self.new)) }
         ensures does { IfOk result (λ m. TicksOpen (setting_in may_by core.old) types.now core.old.state

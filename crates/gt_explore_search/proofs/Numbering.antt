@@ -11,7 +11,7 @@ use Rattle.gt_explore_search.specs.Ways.{Ways, HasEnoughTurns, IsShownSo, LedFit
 use Rattle.gt_explore_search.specs.declared.spaces.TurnResult.{TurnResult}
 use Rattle.gt_explore_search.specs.declared.states.StateIndex.{StateIndex}
 use Rattle.gt_explore_search.specs.declared.states.WholeState.{WholeState}
-use Rattle.gt_explore_search.specs.declared.spaces.TurnResult.TheVariants as leds
+use Rattle.gt_explore_search.specs.declared.spaces.TurnResult.TheVariants as turn_results
 use Rattle.gt_explore_search.specs.Numbers.{IsKeptAs}
 use Rattle.gt_explore_search.proofs.Keeping.{at_last, get_grown}
 
@@ -162,7 +162,7 @@ module _ {W P : Type 0} (ways : Ways W) (parts : Splitting W P) (all : List P) w
   moves k l w v turn led joined led_so has p q shows next = let moved = led_so p q (joined p shows) next in (moved.0, (v, has, moved.1))
 
   -- a move that leads nowhere
-  pub moves-nowhere : (k : List ℕ) (w v : W) (turn : Turn) (led : TurnResult) (l : List ℕ) → IsJoined ways parts all k w → MovesTo ways w turn led v → led ≡ leds.Nowhere → MovesTo (by_numbers ways parts all) k turn led l
+  pub moves-nowhere : (k : List ℕ) (w v : W) (turn : Turn) (led : TurnResult) (l : List ℕ) → IsJoined ways parts all k w → MovesTo ways w turn led v → led ≡ turn_results.Nowhere → MovesTo (by_numbers ways parts all) k turn led l
   moves-nowhere k w v turn led l joined led_so nowhere p q shows next = absurd (subst (λ (r : TurnResult). LedFits ways r turn.place p q) nowhere (led_so p q (joined p shows) next).0)
 
   pub first : (k : List ℕ) (w : W) → ShowsFirst ways w → HasNumbers parts all w k → ShowsFirst (by_numbers ways parts all) k

@@ -21,7 +21,7 @@ use Rattle.gt_explore_search.specs.declared.exploring.MadeTurn.{MadeTurn}
 use Rattle.gt_explore_search.specs.declared.marks.Marks.{Marks}
 use Rattle.gt_explore_search.specs.declared.exploring.OpenNode.{OpenNode}
 use Rattle.gt_explore_search.specs.declared.spaces.TurnResult.{TurnResult}
-use Rattle.gt_explore_search.specs.declared.spaces.TurnResult.TheVariants as leds
+use Rattle.gt_explore_search.specs.declared.spaces.TurnResult.TheVariants as turn_results
 use Rattle.gt_explore_search.specs.declared.spaces.Turn.{Turn}
 use Rattle.gt_explore_search.specs.declared.states.StateIndex.{StateIndex}
 use Rattle.gt_explore_search.specs.declared.suffixes.AnswerLine.{AnswerLine}
@@ -74,7 +74,7 @@ tries_more ways ex v turn tried next holds le there found = record {
 
 -- it leads nowhere, so the domain has no move
 pub steps_nowhere : {P : Type 0} (ways : Ways (List ℕ)) (ex : Explorer P) (v : OpenNode) (turn : Turn) (here copied moved : List ℕ) (led : TurnResult) (next : ℕ) → SearchHolds ways ex → VisitHolds ways ex v
-    → slice_get v.turns.items v.next ≡ Some turn → slice_get ex.states.met v.state ≡ Some here → IsShownSo ways here copied → MovesTo ways copied turn led moved → led ≡ leds.Nowhere
+    → slice_get v.turns.items v.next ≡ Some turn → slice_get ex.states.met v.state ≡ Some here → IsShownSo ways here copied → MovesTo ways copied turn led moved → led ≡ turn_results.Nowhere
     → next ≤ v.next + 1 → Stepped ways ex (record v { made = None; next = next }) None ex
 steps_nowhere ways ex v turn here copied moved led next holds visit at there copies moves nowhere le = record {
   holds = holds;
@@ -132,9 +132,9 @@ nothing_at place at = by (place == at)
     by false = refl
 
 fits_prints : {W : Type 0} (ways : Ways W) (led : TurnResult) (place : ℕ) (p q : ways.Point) → LedFits ways led place p q → PrintsTo ways (only_at place (text_led led)) p q
-fits_prints ways leds.Nowhere place p q fits = absurd fits
-fits_prints ways leds.On place p q fits = λ at. fits at ∙ ap (λ (l : List ℕ). ways.printed p at ++ l) (nothing_at place at)
-fits_prints ways (leds.Answered line) place p q fits = fits
+fits_prints ways turn_results.Nowhere place p q fits = absurd fits
+fits_prints ways turn_results.On place p q fits = λ at. fits at ∙ ap (λ (l : List ℕ). ways.printed p at ++ l) (nothing_at place at)
+fits_prints ways (turn_results.Answered line) place p q fits = fits
 
 -- the number has a state
 numbered_there : {W : Type 0} (ways : Ways W) (old : List W) (w : W) (n : ℕ) (new : List W) → IsNumbered ways old w n new → (u : W) × (slice_get new n ≡ Some u)

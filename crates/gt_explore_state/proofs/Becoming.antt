@@ -13,7 +13,8 @@ use Rattle.gt_types.specs.declared.config.DomainConfig.{DomainConfig}
 use Rattle.gt_model.specs.declared.action.Observation.{Observation}
 use Rattle.gt_model.specs.declared.action.Observation.TheVariants.{Taken}
 use Rattle.gt_model.specs.declared.action.Step.{Step}
-use Rattle.gt_model.specs.declared.action.Step.TheVariants.{Pin as PinStep, Unpin, StoreBody, StoreHeader, Exchange}
+use Rattle.gt_model.specs.declared.action.Step.TheVariants.{Unpin, StoreBody, StoreHeader, Exchange}
+use Rattle.gt_model.specs.declared.action.Step.TheVariants as call_steps
 use Rattle.gt_explore_state.specs.Tables.{among, OneBecomes, place_of_domain, TablesAfter}
 use Rattle.gt_explore_state.specs.declared.table.SparseTable.{SparseTable}
 use Rattle.gt_explore_state.proofs.Kept.{some-place}
@@ -92,7 +93,7 @@ written-back n ws xs same all =
     ap (λ (l : List SparseTable). take n (ws ++ l)) none ∙ ap (take n) (append-nil ws) ∙ take_all n ws (omega arith)
 
 pub many-after : (ds : List DomainConfig) (first at : ℕ) (step : Step) (seen : Observation) (old new : List SparseTable) → TablesAfter ds first at step seen old new → length new ≡ length old
-many-after ds first at (PinStep p) Taken old new t = t.many
+many-after ds first at (call_steps.Pin p) Taken old new t = t.many
 many-after ds first at (Unpin p holder) seen old new t = t.many
 many-after ds first at (StoreBody gref half word) seen old new t = t.many
 many-after ds first at (StoreHeader version frames) seen old new t = t.many

@@ -2,16 +2,17 @@
 use Rattle.gt_core.proofs.Words.{◌≡◌, ◌≢◌, ◌≤◌, ◌+◌, ℕ, refl, Bool, true, List, [], ◌∷◌, ◌++◌, length, Option, Some}
 use Rattle.gt_core.proofs.Words.{None, cond, sym, ap, ◌∙◌, arith, subst, ◌==◌, eqb-true, none-some, same_Some}
 use Rattle.gt_core.proofs.Words.{cond_both, reverse, length-reverse, reverse_onto, domain_of, DomId, HeldPin}
-use Rattle.gt_core.proofs.Words.{ByMapping, ByLeg, Observation, Taken, Missed, Step, LookHeader, LookControl}
-use Rattle.gt_core.proofs.Words.{LookBody, PinStep, Unpin, StoreHeader, Exchange, ReadBytes, State, state_of, History}
-use Rattle.gt_core.proofs.Words.{Setting, Underway, live, open_call, values, word_at, seen_by, legs_at, numbered}
-use Rattle.gt_core.proofs.Words.{without, DomainsStand, StateAgrees, OpenAgrees, CallAgrees, IsLegalHistory, IsRight}
-use Rattle.gt_core.proofs.Words.{StepsRightIn, zero, suc, false, eq-eqb, false≢true, slice_get, DomainConfig}
-use Rattle.gt_core.proofs.Words.{OpenRequest, Copy, Spot, FRAME_SIZE, CopyIsJustified, Justified}
+use Rattle.gt_core.proofs.Words.{Observation, Taken, Missed, Step, LookHeader, LookControl, LookBody, Unpin}
+use Rattle.gt_core.proofs.Words.{StoreHeader, Exchange, State, state_of, History, Setting, Underway, live, open_call}
+use Rattle.gt_core.proofs.Words.{values, word_at, seen_by, legs_at, numbered, without, DomainsStand, StateAgrees}
+use Rattle.gt_core.proofs.Words.{OpenAgrees, CallAgrees, IsLegalHistory, IsRight, StepsRightIn, zero, suc, false}
+use Rattle.gt_core.proofs.Words.{eq-eqb, false≢true, slice_get, DomainConfig, OpenRequest, Copy, Spot, FRAME_SIZE}
+use Rattle.gt_core.proofs.Words.{CopyIsJustified, Justified}
+use Rattle.gt_model.specs.declared.action.Step.TheVariants as call_steps
+use Rattle.gt_model.specs.declared.request.PinHolder.TheVariants as holders
 use Rattle.gt_core.proofs.{Phases.IsHere, Phases.makes-same, EachStep.each-step, Steps.See.IsWithin}
 use Rattle.gt_core.proofs.{Steps.See.state-there, Steps.Pin.can-pin, Steps.Exchange.can-change, Steps.Unpin.loses-leg}
 use Rattle.gt_core.proofs.{Steps.Unpin.loses-mapping, Steps.Unpin.Loses, Steps.Store.header-fits}
-use Rattle.gt_core.specs.Prelude.{WriteBytes, CopyBytes}
 use Rattle.gt_core.specs.GoingOn.{CanBeReached}
 use Rattle.gt_model.proofs.Observers.{stepped}
 use Rattle.gt_core.specs.declared.underway.OpenCall.{OpenCall}
@@ -48,29 +49,29 @@ module _ (s : Setting) (h : History) (xs : List State) (x : State) (o : OpenCall
   looks (LookHeader dom) e = of-state s h xs dom st (within (LookHeader dom) e)
   looks (LookControl dom gref) e = of-state s h xs dom st (within (LookControl dom gref) e).0
   looks (LookBody dom gref half) e = of-state s h xs dom st (within (LookBody dom gref half) e).0
-  looks (PinStep p) e = of-state s h xs p.dom st (within (PinStep p) e).0
+  looks (call_steps.Pin p) e = of-state s h xs p.dom st (within (call_steps.Pin p) e).0
   looks (Exchange gref looked change) e = of-state s h xs x.id st (within (Exchange gref looked change) e).0
   looks z e = tt
 
   -- a pin that its call gives back is the call's last one
-  pub own-legs : (p : HeldPin) (place : ℕ) → o.step ≡ Unpin p (ByLeg place) → (ps : List HeldPin) × (place ≡ length ps) × (legs_at h x.id.0 ≡ numbered 0 (ps ++ p ∷ []))
-  own-legs p place e = let r = (of (Unpin p (ByLeg place)) e).rests.1 in
+  pub own-legs : (p : HeldPin) (place : ℕ) → o.step ≡ Unpin p (holders.Leg place) → (ps : List HeldPin) × (place ≡ length ps) × (legs_at h x.id.0 ≡ numbered 0 (ps ++ p ∷ []))
+  own-legs p place e = let r = (of (Unpin p (holders.Leg place)) e).rests.1 in
       (reverse r.others, r.place_is ∙ sym (length-reverse r.others), a.held ∙ ap (λ (z : List HeldPin). numbered 0 (reverse z)) r.held ∙ ap (numbered 0) (reverse_onto r.others p []))
 
   pub fits : (z : Step) → o.step ≡ z → Justified s h x.id c.request z → StepFits s h x.id z (seen_by s h x.id z)
-  fits (PinStep p) e justified = let w = word_at s h p.dom.0 p.gref.0 in
-      cond_both (w == p.word) Taken (Missed w) (StepFits s h x.id (PinStep p)) (λ is. (can-pin s h xs x.id c.request (values c) (reverse c.steps) a.phase p (of (PinStep p) e) (eqb-true w p.word is)).few) (λ is. tt)
+  fits (call_steps.Pin p) e justified = let w = word_at s h p.dom.0 p.gref.0 in
+      cond_both (w == p.word) Taken (Missed w) (StepFits s h x.id (call_steps.Pin p)) (λ is. (can-pin s h xs x.id c.request (values c) (reverse c.steps) a.phase p (of (call_steps.Pin p) e) (eqb-true w p.word is)).few) (λ is. tt)
   fits (Exchange gref looked change) e justified = let w = word_at s h x.id.0 gref.0 in
       cond_both (w == looked) Taken (Missed w) (StepFits s h x.id (Exchange gref looked change))
       (λ is. (can-change s h xs x.id c.request (values c) (reverse c.steps) a.phase gref looked change (of (Exchange gref looked change) e) (eqb-true w looked is)).room) (λ is. tt)
-  fits (Unpin p (ByMapping handle)) e justified = loses-mapping h x.id handle p (of (Unpin p (ByMapping handle)) e).rests.1.1
-  fits (Unpin p (ByLeg place)) e justified = let r = (of (Unpin p (ByLeg place)) e).rests.1 in
+  fits (Unpin p (holders.Mapping handle)) e justified = loses-mapping h x.id handle p (of (Unpin p (holders.Mapping handle)) e).rests.1.1
+  fits (Unpin p (holders.Leg place)) e justified = let r = (of (Unpin p (holders.Leg place)) e).rests.1 in
       let legs : legs_at h x.id.0 ≡ numbered 0 (reverse r.others ++ p ∷ []) = a.held ∙ ap (λ (z : List HeldPin). numbered 0 (reverse z)) r.held ∙ ap (numbered 0) (reverse_onto r.others p []) in
-      subst (λ (n : ℕ). Loses p (live h) (without x.id.0 (ByLeg n) (live h))) (length-reverse r.others ∙ sym r.place_is) (loses-leg h x.id (reverse r.others) p legs)
+      subst (λ (n : ℕ). Loses p (live h) (without x.id.0 (holders.Leg n) (live h))) (length-reverse r.others ∙ sym r.place_is) (loses-leg h x.id (reverse r.others) p legs)
   fits (StoreHeader version frames) e justified = let i = of (StoreHeader version frames) e in let f = header-fits s h xs x.id c.request version frames st i.rests.0 i.rests.1 in let v = f.version in let n = f.frames in (omega arith, omega arith)
-  fits (ReadBytes dom frame off len) e justified = justified.0.1
-  fits (WriteBytes dom frame off len) e justified = justified.0.1
-  fits (CopyBytes from to len) e justified = copy-frames s h x.id c.request from to len justified
+  fits (call_steps.Read dom frame off len) e justified = justified.0.1
+  fits (call_steps.Write dom frame off len) e justified = justified.0.1
+  fits (call_steps.Copy from to len) e justified = copy-frames s h x.id c.request from to len justified
   fits z e justified = tt
 
 -- a step that is right is the one at which its call stands

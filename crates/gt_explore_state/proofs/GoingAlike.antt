@@ -3,17 +3,20 @@ use Rattle.gt_core.proofs.Words.{◌≡◌, ◌≢◌, ◌≤◌, ◌+◌, ◌-�
 use Rattle.gt_core.proofs.Words.{◌++◌, length, Option, Some, None, cond, sym, ap, ◌∙◌, arith, subst, ◌==◌, ◌&&◌}
 use Rattle.gt_core.proofs.Words.{none-some, same_Some, reverse, option_map, sum_by_push, is_some, take, drop, get_or}
 use Rattle.gt_core.proofs.Words.{ltb, eqb-true, DomId, Handle, HeldPin, HandleMap, HandleSlot, value_of, same_handle}
-use Rattle.gt_core.proofs.Words.{Observation, Nothing, Action, Makes, Done, CallResult, Granted, KeptPin, Step, Unpin}
-use Rattle.gt_core.proofs.Words.{ReadBytes, ByMapping, Denial, OpenRequest, Load, Peek, Phase, Storing, StoringSecond}
-use Rattle.gt_core.proofs.Words.{Exchanging, Looking, Changing, Walking, Accessing, Asking, Last, Ending, Call, State}
-use Rattle.gt_core.proofs.Words.{state_of, History, Setting, Underway, open_call, values, known_at, seen_by, path}
-use Rattle.gt_core.proofs.Words.{sees, knowledge_of, OpenAgrees, CallAgrees, StateAgrees, StateStands, IsRight}
-use Rattle.gt_core.proofs.Words.{StepsRight, StepsRightIn, BeginsRight, AnsweredBy, AreAlike, IsRun, AsksKnown}
-use Rattle.gt_core.proofs.Words.{IsKnown, IsGiven, keyless_items, keyless_item, bare_handle, bare_step, bare_request}
-use Rattle.gt_core.proofs.Words.{Adds, MayDo, Goes, action_at, phase_after, next_to_give, last_first, PhaseStands}
-use Rattle.gt_core.proofs.Words.{begun_of, asked, SpellsItsEntry, table_at, gives_back, verdict_in, stood, position}
-use Rattle.gt_core.proofs.Words.{domain_of, IsReadable, IsLoadOf, contents_at, CallerKnowledge, mapping_of}
-use Rattle.gt_core.proofs.Words.{mappings_at}
+use Rattle.gt_core.proofs.Words.{Observation, Nothing, Action, Done, CallResult, Granted, Step, Unpin, Denial}
+use Rattle.gt_core.proofs.Words.{OpenRequest, Load, Peek, Phase, Storing, StoringSecond, Exchanging, Looking, Changing}
+use Rattle.gt_core.proofs.Words.{Walking, Accessing, Asking, Last, Ending, Call, State, state_of, History, Setting}
+use Rattle.gt_core.proofs.Words.{Underway, open_call, values, known_at, seen_by, path, sees, knowledge_of, OpenAgrees}
+use Rattle.gt_core.proofs.Words.{CallAgrees, StateAgrees, StateStands, IsRight, StepsRight, StepsRightIn, BeginsRight}
+use Rattle.gt_core.proofs.Words.{AnsweredBy, AreAlike, IsRun, AsksKnown, IsKnown, IsGiven, keyless_items, keyless_item}
+use Rattle.gt_core.proofs.Words.{bare_handle, bare_step, bare_request, Adds, MayDo, Goes, action_at, phase_after}
+use Rattle.gt_core.proofs.Words.{next_to_give, last_first, PhaseStands, begun_of, asked, SpellsItsEntry, table_at}
+use Rattle.gt_core.proofs.Words.{gives_back, verdict_in, stood, position, domain_of, IsReadable, IsLoadOf, contents_at}
+use Rattle.gt_core.proofs.Words.{CallerKnowledge, mapping_of, mappings_at}
+use Rattle.gt_model.specs.declared.action.Action.TheVariants as actions
+use Rattle.gt_model.specs.declared.action.Step.TheVariants as call_steps
+use Rattle.gt_model.specs.declared.request.PinHolder.TheVariants as holders
+use Rattle.gt_model.specs.declared.action.CallResult.TheVariants as results
 use Rattle.gt_core.proofs.{Phases.makes-same, Phases.by-leg, Phases.by-giving, Steps.See.state-there}
 use Rattle.gt_core.proofs.{WithoutKeys.bare, WithoutKeys.bared, WithoutKeys.bare-same, WithoutKeys.bare_asked}
 use Rattle.gt_core.proofs.{WithoutKeys.bare_call, WithoutKeys.values-bare, WithoutKeys.contents-bare}
@@ -25,11 +28,10 @@ use Rattle.gt_core.proofs.{Beginning.begin-answers, AgreementKept.known-same, Pl
 use Rattle.gt_core.proofs.{Rows.found, Rows.not-found, Rows.has_id}
 use Rattle.gt_model.proofs.Observers.{stepped}
 use Rattle.gt_core.specs.Alike.{HappensKnown, KeylessItem, bare_bytes, keyless_answer}
-use Rattle.gt_core.specs.declared.core_state.Begun.TheVariants.{Done as BegunDone}
+use Rattle.gt_core.specs.declared.core_state.Begun.TheVariants as beginnings
 use Rattle.gt_model.specs.declared.trace.ItemEvent.{ItemEvent}
 use Rattle.gt_calls.proofs.Advancing.{continues}
 use Rattle.gt_calls.specs.Machine.{standing_after}
-use Rattle.gt_core.specs.Prelude.{WriteBytes, CopyBytes}
 use Rattle.gt_core.specs.Acting.{answer_of}
 use Rattle.gt_core.specs.GoingOn.{AccessAnsweredSo, AnsweredSo, CanBeReached, IsAccess, AccessesNoBytes, AnswersAccess}
 use Rattle.gt_core.specs.GoingOn.{step_after}
@@ -42,7 +44,7 @@ use Rattle.gt_core.specs.declared.underway.OpenCall.{OpenCall}
 use Rattle.gt_model.specs.declared.trace.Answer.{Answer}
 use Rattle.gt_model.specs.declared.trace.Answer.TheVariants as answers
 use Rattle.gt_model.specs.declared.trace.Bytes.{Bytes}
-use Rattle.gt_model.specs.declared.trace.Element.TheVariants.{Item as Did}
+use Rattle.gt_model.specs.declared.trace.Element.TheVariants as elements
 use Rattle.gt_model.specs.declared.trace.Event.TheVariants.{Begin, Tick}
 use Rattle.gt_model.specs.declared.trace.ItemEvent.TheVariants.{Began, Stepped}
 use Rattle.gt_model.specs.declared.trace.Item.{Item}
@@ -106,22 +108,22 @@ can-add old m = record {
 -- a step on words
 
 words-or-access : (z : Step) → AccessesNoBytes z ⊎ IsAccess z
-words-or-access (ReadBytes dom frame off len) = inr tt
-words-or-access (WriteBytes dom frame off len) = inr tt
-words-or-access (CopyBytes from to len) = inr tt
+words-or-access (call_steps.Read dom frame off len) = inr tt
+words-or-access (call_steps.Write dom frame off len) = inr tt
+words-or-access (call_steps.Copy from to len) = inr tt
 words-or-access z = inl tt
 
 answered-so : (s : Setting) (g : History) (x : State) → StateStands s g x → (z : Action) → (answer : Option Answer) × AnsweredSo g x.id z answer
-answered-so s g x a (Makes next) = (None, refl)
-answered-so s g x a (Done (KeptPin held)) = (Some (answers.Mapped (added_handle x.mappings)), (added_handle x.mappings, refl, record { old = x.mappings; new = added x.mappings held; agrees = a.mappings; adds = can-add x.mappings held }))
+answered-so s g x a (actions.Step next) = (None, refl)
+answered-so s g x a (Done (results.Mapped held)) = (Some (answers.Mapped (added_handle x.mappings)), (added_handle x.mappings, refl, record { old = x.mappings; new = added x.mappings held; agrees = a.mappings; adds = can-add x.mappings held }))
 answered-so s g x a (Done v) = (Some (answer_of v), refl)
 
 -- an access
 
 saw-nothing : (s : Setting) (h : History) (d : DomId) (z : Step) → IsAccess z → seen_by s h d z ≡ Nothing
-saw-nothing s h d (ReadBytes dom frame off len) a = refl
-saw-nothing s h d (WriteBytes dom frame off len) a = refl
-saw-nothing s h d (CopyBytes from to len) a = refl
+saw-nothing s h d (call_steps.Read dom frame off len) a = refl
+saw-nothing s h d (call_steps.Write dom frame off len) a = refl
+saw-nothing s h d (call_steps.Copy from to len) a = refl
 saw-nothing s h d z a = absurd a
 
 giving-granted : (ps : List HeldPin) (v : CallResult) → next_to_give ps Granted ≡ Done v → v ≡ Granted
@@ -129,13 +131,13 @@ giving-granted [] v e = cc
 giving-granted (p ∷ ps) v e = cc
 
 last-granted : (r : OpenRequest) (last : Step) (verdict : CallResult) → IsAccess last → Rattle.gt_core.specs.Phases.EndsAfter r last verdict → verdict ≡ Granted
-last-granted r (ReadBytes dom frame off len) verdict a e = e
-last-granted r (WriteBytes dom frame off len) verdict a e = e
-last-granted r (CopyBytes from to len) verdict a e = e
+last-granted r (call_steps.Read dom frame off len) verdict a e = e
+last-granted r (call_steps.Write dom frame off len) verdict a e = e
+last-granted r (call_steps.Copy from to len) verdict a e = e
 last-granted r last verdict a e = absurd a
 
 -- a call that is over with its access ends with Ok
-access-granted : (s : Setting) (h : History) (d : DomId) (r : OpenRequest) (so_far : List (Step × Observation)) (phase : Phase) (z : Step) (v : CallResult) → IsAccess z → action_at d phase ≡ Makes z
+access-granted : (s : Setting) (h : History) (d : DomId) (r : OpenRequest) (so_far : List (Step × Observation)) (phase : Phase) (z : Step) (v : CallResult) → IsAccess z → action_at d phase ≡ actions.Step z
     → PhaseStands s h d r so_far phase → action_at d (phase_after (known_at s h d) d phase Nothing) ≡ Done v → v ≡ Granted
 access-granted s h d r so_far (Accessing c source dest) z v a p place e = giving-granted (last_first (record { source = source; dest = dest })) v e
 access-granted s h d r so_far (Last last verdict) z v a p place e = let same : last ≡ z = makes-same last z p in
@@ -152,13 +154,13 @@ access-granted s h d r so_far (Asking dom question) z v a p place e = absurd (su
 
 -- what a read is told
 
-unbare-read : (y : Step) (dom : DomId) (frame off len : ℕ) → bare_step y ≡ ReadBytes dom frame off len → y ≡ ReadBytes dom frame off len
-unbare-read (Unpin p (ByMapping handle)) dom frame off len e = absurd (let f : Unpin p (ByMapping (bare_handle handle)) ≡ ReadBytes dom frame off len = e in cc)
+unbare-read : (y : Step) (dom : DomId) (frame off len : ℕ) → bare_step y ≡ call_steps.Read dom frame off len → y ≡ call_steps.Read dom frame off len
+unbare-read (Unpin p (holders.Mapping handle)) dom frame off len e = absurd (let f : Unpin p (holders.Mapping (bare_handle handle)) ≡ call_steps.Read dom frame off len = e in cc)
 unbare-read y dom frame off len e = e
 
 only-granted : (p : Option Action) → option_map bare_action p ≡ Some (Done Granted) → p ≡ Some (Done Granted)
 only-granted None e = absurd (none-some _ e)
-only-granted (Some (Makes z)) e = absurd (let f = same_Some _ _ e in let k : Makes (bare_step z) ≡ Done Granted = f in cc)
+only-granted (Some (actions.Step z)) e = absurd (let f = same_Some _ _ e in let k : actions.Step (bare_step z) ≡ Done Granted = f in cc)
 only-granted (Some (Done v)) e = e
 
 bare-load : (r : OpenRequest) (n : ℕ) → IsLoadOf (bare_asked r) n → IsLoadOf r n
@@ -172,7 +174,7 @@ load-bare (Peek frame off len) n a = a
 load-bare r n a = grind arith
 
 -- a read that ends its call with Ok is told the bytes that its range held
-told : (s : Setting) (h : History) (d : DomId) (r : OpenRequest) (dom : DomId) (frame off len : ℕ) (giving : Bool) (answer : Option Answer) (against : Option Denial) → IsLoadOf r len → AnsweredBy s h d r (Some (ReadBytes dom frame off len)) giving (Some Granted) answer against
+told : (s : Setting) (h : History) (d : DomId) (r : OpenRequest) (dom : DomId) (frame off len : ℕ) (giving : Bool) (answer : Option Answer) (against : Option Denial) → IsLoadOf r len → AnsweredBy s h d r (Some (call_steps.Read dom frame off len)) giving (Some Granted) answer against
     → (b : Bytes) × (b.bytes.items ≡ take len (drop off (contents_at h dom.0 frame)))
 told s h d r dom frame off len giving None against is a = absurd a
 told s h d (Load handle o n) dom frame off len giving (Some (answers.Bytes b)) against is a = (b, a.2)
@@ -219,9 +221,9 @@ module _ (s : Setting) (h g : History) (alike : AreAlike s h g) (reached : CanBe
   -- what both do is the same but for keys
   joined : (ans : Option Answer) → IsRight s g (step_after s g x.id o.step ans) × CanBeReached s (step_after s g x.id o.step ans ∷ g) → GoesOnLike s h g (stepped x.id z seen answer)
   joined ans r = let j = step_after s g x.id o.step ans in let e = Tick x.id in
-      let m : MayDo s h e (Did (stepped x.id z seen answer)) = (named, (refl, tt), subst (λ (u : Option Underway). StepsRightIn s h (stepped x.id z seen answer) z seen u) (sym call_h) right) in
-      let n : MayDo s g e (Did j) = (named, (refl, tt), r.0) in
-      (j, alike-grows s h g e e (Did (stepped x.id z seen answer)) (Did j) alike tt tt m n (does-alike s h g e e (Did (stepped x.id z seen answer)) (Did j) alike refl tt tt m n), r.1)
+      let m : MayDo s h e (elements.Item (stepped x.id z seen answer)) = (named, (refl, tt), subst (λ (u : Option Underway). StepsRightIn s h (stepped x.id z seen answer) z seen u) (sym call_h) right) in
+      let n : MayDo s g e (elements.Item j) = (named, (refl, tt), r.0) in
+      (j, alike-grows s h g e e (elements.Item (stepped x.id z seen answer)) (elements.Item j) alike tt tt m n (does-alike s h g e e (elements.Item (stepped x.id z seen answer)) (elements.Item j) alike refl tt tt m n), r.1)
 
   on-words : AccessesNoBytes o.step → GoesOnLike s h g (stepped x.id z seen answer)
   on-words quiet = let so = answered-so s g x a (action_then s reached.0.domains x o) in
@@ -243,26 +245,26 @@ module _ (s : Setting) (h g : History) (alike : AreAlike s h g) (reached : CanBe
   same-contents t f = sym (contents-bare h t f) ∙ ap (λ (l : History). contents_at l t f) (bare-same h g alike.same) ∙ contents-bare g t f
 
   -- a read that ends its call is told what the range held
-  read-told : (dom : DomId) (frame off len : ℕ) → o.step ≡ ReadBytes dom frame off len → path (known_at s g x.id) x.id w.request (values w ++ Nothing ∷ []) ≡ Some (Done Granted)
-      → (y : Answer) × AnswersAccess g (ReadBytes dom frame off len) y
-  read-told dom frame off len is ends = let read : z ≡ ReadBytes dom frame off len = unbare-read z dom frame off len (same ∙ ap bare_step is) in
+  read-told : (dom : DomId) (frame off len : ℕ) → o.step ≡ call_steps.Read dom frame off len → path (known_at s g x.id) x.id w.request (values w ++ Nothing ∷ []) ≡ Some (Done Granted)
+      → (y : Answer) × AnswersAccess g (call_steps.Read dom frame off len) y
+  read-told dom frame off len is ends = let read : z ≡ call_steps.Read dom frame off len = unbare-read z dom frame off len (same ∙ ap bare_step is) in
       let nothing : seen ≡ Nothing = right.sees ∙ ap (λ (y : Step). seen_by s h x.id y) read in
       let over : next_in s h x.id c seen ≡ Some (Done Granted) = ap (λ (v : Observation). path (known_at s h x.id) x.id c.request (values c ++ v ∷ [])) nothing ∙ only-granted _ (path-like Nothing ∙ ap (option_map bare_action) ends) in
-      let readable : IsReadable reached.0.frames o.call (ReadBytes dom frame off len) = subst (IsReadable reached.0.frames o.call) is (open-readable s g reached.0.domains reached.0.frames x o w reached.1.domains reached.1.frames b) in
+      let readable : IsReadable reached.0.frames o.call (call_steps.Read dom frame off len) = subst (IsReadable reached.0.frames o.call) is (open-readable s g reached.0.domains reached.0.frames x o w reached.1.domains reached.1.frames b) in
       let load : IsLoadOf c.request len = bare-load c.request len (subst (λ (u : Underway). IsLoadOf u.request len) (sym calls) (load-bare w.request len (subst (λ (q : OpenRequest). IsLoadOf q len) b.asks readable.1))) in
       let answered = subst (λ (y : Step). AnsweredBy s h x.id c.request (Some y) (gives_back (next_in s h x.id c seen)) (verdict_in (next_in s h x.id c seen)) answer (stood s (stepped x.id z seen answer ∷ h) x.id.0)) read right.answered in
-      let t = told s h x.id c.request dom frame off len false answer (stood s (stepped x.id z seen answer ∷ h) x.id.0) load (subst (λ (p : Option Action). AnsweredBy s h x.id c.request (Some (ReadBytes dom frame off len)) (gives_back p) (verdict_in p) answer (stood s (stepped x.id z seen answer ∷ h) x.id.0)) over answered) in
+      let t = told s h x.id c.request dom frame off len false answer (stood s (stepped x.id z seen answer ∷ h) x.id.0) load (subst (λ (p : Option Action). AnsweredBy s h x.id c.request (Some (call_steps.Read dom frame off len)) (gives_back p) (verdict_in p) answer (stood s (stepped x.id z seen answer ∷ h) x.id.0)) over answered) in
       let size : off + len - off ≡ len = omega arith in
       (answers.Bytes t.0, (t.0, refl, t.1 ∙ ap (λ (l : List ℕ). take len (drop off l)) (same-contents dom.0 frame) ∙ ap (λ (n : ℕ). take n (drop off (contents_at g dom.0 frame))) (sym size)))
 
   access-told : (y : Step) → o.step ≡ y → IsAccess y → path (known_at s g x.id) x.id w.request (values w ++ Nothing ∷ []) ≡ Some (Done Granted) → (ans : Answer) × AnswersAccess g y ans
-  access-told (ReadBytes dom frame off len) is access ends = read-told dom frame off len is ends
-  access-told (WriteBytes dom frame off len) is access ends = (answers.Done, refl)
-  access-told (CopyBytes from to len) is access ends = (answers.Done, refl)
+  access-told (call_steps.Read dom frame off len) is access ends = read-told dom frame off len is ends
+  access-told (call_steps.Write dom frame off len) is access ends = (answers.Done, refl)
+  access-told (call_steps.Copy from to len) is access ends = (answers.Done, refl)
   access-told y is access ends = absurd access
 
   access-so : (p : Action) → IsAccess o.step → path (known_at s g x.id) x.id w.request (values w ++ Nothing ∷ []) ≡ Some p → ((v : CallResult) → p ≡ Done v → v ≡ Granted) → (ans : Option Answer) × AccessAnsweredSo g o.step p ans
-  access-so (Makes next) access ends only = (None, refl)
+  access-so (actions.Step next) access ends only = (None, refl)
   access-so (Done Granted) access ends only = let t = access-told o.step refl access ends in (Some t.0, (t.0, refl, t.1))
   access-so (Done v) access ends only = absurd (let e = only v refl in cc)
 
@@ -392,9 +394,9 @@ module _ (s : Setting) (h g : History) (alike : AreAlike s h g) (reached : CanBe
 
   begin-joined : (ans : Option Answer) → IsRight s g (began d (renamed s h g d request alike known).request' ans) × CanBeReached s (began d (renamed s h g d request alike known).request' ans ∷ g) → GoesOnLike s h g (began d request answer)
   begin-joined ans both = let q = (renamed s h g d request alike known).request' in let i = began d request answer in let j = began d q ans in
-      let m : MayDo s h (Begin d request) (Did i) = (run, (refl, refl), right) in let n : MayDo s g (Begin d q) (Did j) = (run, (refl, refl), both.0) in
+      let m : MayDo s h (Begin d request) (elements.Item i) = (run, (refl, refl), right) in let n : MayDo s g (Begin d q) (elements.Item j) = (run, (refl, refl), both.0) in
       let other = (renamed s h g d request alike known).known in
-      (j, alike-grows s h g (Begin d request) (Begin d q) (Did i) (Did j) alike known other m n (does-alike s h g (Begin d request) (Begin d q) (Did i) (Did j) alike (ap (λ (x : Request). Begin d x) (sym (renamed s h g d request alike known).same)) known other m n), both.1)
+      (j, alike-grows s h g (Begin d request) (Begin d q) (elements.Item i) (elements.Item j) alike known other m n (does-alike s h g (Begin d request) (Begin d q) (elements.Item i) (elements.Item j) alike (ap (λ (x : Request). Begin d x) (sym (renamed s h g d request alike known).same)) known other m n), both.1)
 
   -- no rule answers it
   begin-opens : begun_of (known_at s g d) d (renamed s h g d request alike known).request' ≡ None → (a : Option Answer) → answer ≡ a → GoesOnLike s h g (began d request answer)
@@ -416,9 +418,9 @@ module _ (s : Setting) (h g : History) (alike : AreAlike s h g) (reached : CanBe
         (
           core,
           record {
-            legal = legal-grows s g (Begin d q) (Did (began d q (Some (answer_of v)))) (run, (refl, refl), b.1) st.legal;
+            legal = legal-grows s g (Begin d q) (elements.Item (began d q (Some (answer_of v)))) (run, (refl, refl), b.1) st.legal;
             domains = b.2;
-            frames = frames-begun s g core.frames d q (BegunDone (answer_of v)) st.frames;
+            frames = frames-begun s g core.frames d q (beginnings.Done (answer_of v)) st.frames;
           },
         ),
       )

@@ -10,13 +10,13 @@ use Rattle.gt_types.specs.declared.config.Config.{Config}
 use Rattle.gt_types.specs.declared.config.DomainConfig.{DomainConfig}
 use Rattle.gt_model.specs.declared.entry.Entry.{Entry}
 use Rattle.gt_model.specs.declared.change.BodyWord.{BodyWord}
-use Rattle.gt_model.specs.declared.change.BodyWord.TheVariants.{First as FirstHalf, Second as SecondHalf}
+use Rattle.gt_model.specs.declared.change.BodyWord.TheVariants as body_words
 use Rattle.gt_model.specs.Words.{control_word, header_word}
 use Rattle.gt_model.specs.Spelling.{control_with}
 use Rattle.gt_calls.specs.Known.{own_generation}
 use Rattle.gt_model.specs.declared.action.Step.{Step}
-use Rattle.gt_model.specs.declared.action.Step.TheVariants.{LookHeader, LookControl, LookBody, Pin as PinStep}
-use Rattle.gt_model.specs.declared.action.Step.TheVariants.{Exchange}
+use Rattle.gt_model.specs.declared.action.Step.TheVariants.{LookHeader, LookControl, LookBody, Exchange}
+use Rattle.gt_model.specs.declared.action.Step.TheVariants as call_steps
 use Rattle.gt_model.specs.declared.action.Observation.TheVariants.{Word}
 use Rattle.gt_model.specs.History.{History, Setting, entry_at, generation_at, reads_at, body_at, word_at, seen_by}
 use Rattle.gt_model.specs.History.{exchange_sees}
@@ -63,13 +63,13 @@ module _ (s : Setting) (h : History) (c : Config) (ts : List SparseTable) (set :
       ∙ ap (λ (n : ℕ). control_word (control_with (entry_at h d.0 r) (generation_at s h d.0 r) (reads_at h d.0 r) n)) z.writes
 
   body-is : (d : DomId) (r : ℕ) (half : BodyWord) → IsInRun s d → body_in_table (table_in c.domains.items ts d.0) r half ≡ body_at h d.0 r half
-  body-is d r FirstHalf some = let t = there d some in ap (λ (o : Option SparseTable). body_in_table o r FirstHalf) t.1 ∙ (t.2.counts r).first
-  body-is d r SecondHalf some = let t = there d some in ap (λ (o : Option SparseTable). body_in_table o r SecondHalf) t.1 ∙ (t.2.counts r).second
+  body-is d r body_words.First some = let t = there d some in ap (λ (o : Option SparseTable). body_in_table o r body_words.First) t.1 ∙ (t.2.counts r).first
+  body-is d r body_words.Second some = let t = there d some in ap (λ (o : Option SparseTable). body_in_table o r body_words.Second) t.1 ∙ (t.2.counts r).second
 
   pub saw : (d : DomId) (step : Step) → LooksInRun s d step → step_sees c.domains.items c.first_gen ts d step ≡ seen_by s h d step
   saw d (LookHeader dom) run = let t = there dom run in ap (λ (n : ℕ). Word n) (ap header_in_table t.1 ∙ ap header_word t.2.header)
   saw d (LookControl dom gref) run = ap (λ (n : ℕ). Word n) (word-is dom gref.0 run)
   saw d (LookBody dom gref half) run = ap (λ (n : ℕ). Word n) (body-is dom gref.0 half run)
-  saw d (PinStep p) run = ap (λ (n : ℕ). exchange_sees n p.word) (word-is p.dom p.gref.0 run)
+  saw d (call_steps.Pin p) run = ap (λ (n : ℕ). exchange_sees n p.word) (word-is p.dom p.gref.0 run)
   saw d (Exchange gref looked change) run = ap (λ (n : ℕ). exchange_sees n looked) (word-is d gref.0 run)
   saw d step run = refl

@@ -1,13 +1,14 @@
 -- Tables show what happened, with one item more.
-use Rattle.gt_core.proofs.Words.{◌≡◌, ◌≢◌, ◌<◌, ◌≤◌, ◌+◌, ℕ, refl, Bool, true, false, List, [], ◌∷◌, Option, Some}
-use Rattle.gt_core.proofs.Words.{None, ◌%◌, cond, sym, ap, ◌∙◌, arith, subst, ◌==◌, ◌&&◌, slice_get, eqb-true, eq-eqb}
-use Rattle.gt_core.proofs.Words.{min, DomId, Dir, Read, Write, MAX_PINS, LAST_GENERATION, BodyWord, FirstHalf}
-use Rattle.gt_core.proofs.Words.{SecondHalf, HeldPin, PinHolder, Header, GrantRef, Observation, Taken, Step, PinStep}
-use Rattle.gt_core.proofs.Words.{Unpin, StoreBody, StoreHeader, Exchange, EntryChange, History, Setting, live}
-use Rattle.gt_core.proofs.Words.{entry_at, raises_at, generation_at, body_at, table_at, is_pin_on, same_dir, without}
-use Rattle.gt_core.proofs.Words.{count_by, raise_of, raise_after, changed_entry_of, header_stored, header_or}
-use Rattle.gt_core.proofs.Words.{stored_at, DomainConfig, false≢true, Pin, pinned_by, unpinned_by, append-nil, ◌++◌}
-use Rattle.gt_core.proofs.Words.{Config}
+use Rattle.gt_core.proofs.Words.{◌≡◌, ◌≢◌, ◌<◌, ◌≤◌, ◌+◌, ℕ, refl, Bool, true, false, List, [], ◌∷◌, Option, Some, None}
+use Rattle.gt_core.proofs.Words.{◌%◌, cond, sym, ap, ◌∙◌, arith, subst, ◌==◌, ◌&&◌, slice_get, eqb-true, eq-eqb, min}
+use Rattle.gt_core.proofs.Words.{DomId, Dir, Read, Write, MAX_PINS, LAST_GENERATION, BodyWord, HeldPin, PinHolder}
+use Rattle.gt_core.proofs.Words.{Header, GrantRef, Observation, Taken, Step, Unpin, StoreBody, StoreHeader, Exchange}
+use Rattle.gt_core.proofs.Words.{EntryChange, History, Setting, live, entry_at, raises_at, generation_at, body_at}
+use Rattle.gt_core.proofs.Words.{table_at, is_pin_on, same_dir, without, count_by, raise_of, raise_after}
+use Rattle.gt_core.proofs.Words.{changed_entry_of, header_stored, header_or, stored_at, DomainConfig, false≢true, Pin}
+use Rattle.gt_core.proofs.Words.{pinned_by, unpinned_by, append-nil, ◌++◌, Config}
+use Rattle.gt_model.specs.declared.change.BodyWord.TheVariants as body_words
+use Rattle.gt_model.specs.declared.action.Step.TheVariants as call_steps
 use Rattle.gt_core.specs.Prelude.{Request}
 use Rattle.gt_model.specs.declared.trace.Answer.{Answer}
 use Rattle.gt_model.specs.declared.trace.ItemEvent.{ItemEvent}
@@ -40,18 +41,18 @@ Moves h new t r change = (u q : ℕ) (c : PinCounts) → CountsShow h u q c → 
 counted-up : (h new : History) (u q : ℕ) (dir : Dir) (b : Bool) (c : PinCounts) → CountsShow h u q c → ((which : BodyWord) → body_at new u q which ≡ body_at h u q which)
     → ((k : Dir) → pins_at new u q k ≡ pins_at h u q k + cond (b && same_dir dir k) 1 0) → ((k : Dir) → (b && same_dir dir k) ≡ true → pins_at h u q k < MAX_PINS)
     → CountsShow new u q (cond b (slot_after (Pinned dir) c) c)
-counted-up h new u q dir b c a body now few = grind (arith, now Read, now Write, few Read, few Write, body FirstHalf, body SecondHalf)
+counted-up h new u q dir b c a body now few = grind (arith, now Read, now Write, few Read, few Write, body body_words.First, body body_words.Second)
 
 counted-down : (h new : History) (u q : ℕ) (dir : Dir) (b : Bool) (c : PinCounts) → CountsShow h u q c → ((which : BodyWord) → body_at new u q which ≡ body_at h u q which)
     → ((k : Dir) → pins_at h u q k ≡ cond (b && same_dir dir k) 1 0 + pins_at new u q k) → CountsShow new u q (cond b (slot_after (Unpinned dir) c) c)
-counted-down h new u q dir b c a body now = grind (arith, now Read, now Write, body FirstHalf, body SecondHalf)
+counted-down h new u q dir b c a body now = grind (arith, now Read, now Write, body body_words.First, body body_words.Second)
 
 counts-kept : (h new : History) (u q : ℕ) (c : PinCounts) → ((which : BodyWord) → body_at new u q which ≡ body_at h u q which) → live new ≡ live h → CountsShow h u q c → CountsShow new u q c
 counts-kept h new u q c body same a = record {
   reads = a.reads ∙ ap (λ ps. count_by (is_pin_on u q Read) ps) (sym same);
   writes = a.writes ∙ ap (λ ps. count_by (is_pin_on u q Write) ps) (sym same);
-  first = a.first ∙ sym (body FirstHalf);
-  second = a.second ∙ sym (body SecondHalf);
+  first = a.first ∙ sym (body body_words.First);
+  second = a.second ∙ sym (body body_words.Second);
 }
 
 -- where the pin that is taken is of the kind that is full
@@ -61,8 +62,8 @@ full h t r u q Write Write few e = grind (arith, eqb-true)
 full h t r u q Read Write few e = grind arith
 full h t r u q Write Read few e = grind arith
 
-moves-up : (s : Setting) (h : History) (d : DomId) (p : HeldPin) (answer : Option Answer) → pins_at h p.dom.0 p.gref.0 p.dir < MAX_PINS → Moves h (stepped d (PinStep p) Taken answer ∷ h) p.dom.0 p.gref.0 (Pinned p.dir)
-moves-up s h d p answer few = λ u q c a. let i = stepped d (PinStep p) Taken answer in
+moves-up : (s : Setting) (h : History) (d : DomId) (p : HeldPin) (answer : Option Answer) → pins_at h p.dom.0 p.gref.0 p.dir < MAX_PINS → Moves h (stepped d (call_steps.Pin p) Taken answer ∷ h) p.dom.0 p.gref.0 (Pinned p.dir)
+moves-up s h d p answer few = λ u q c a. let i = stepped d (call_steps.Pin p) Taken answer in
     counted-up h (i ∷ h) u q p.dir ((p.dom.0 == u) && (p.gref.0 == q)) c a (λ which. unstored i h u q which refl)
     (λ k. grown-count h i (new_pin h d p answer) u q k (pinned-live h d p answer)) (λ k e. full h p.dom.0 p.gref.0 u q p.dir k few e)
 
@@ -234,7 +235,7 @@ module _ (s : Setting) (apart : AllPairs (λ d e. d.id.0 ≢ e.id.0) s.domains) 
 
   step-shown : (at : ℕ) (actor : DomainConfig) (answer : Option Answer) → slice_get s.domains at ≡ Some actor → (z : Step) (seen : Observation) → StepFits s h actor.id z seen
       → TablesAfter s.domains s.first_generation at z seen old new → TablesShow s (stepped actor.id z seen answer ∷ h) new
-  step-shown at actor answer is (PinStep p) Taken fits t = counts-shown s apart h old new shows (stepped actor.id (PinStep p) Taken answer) (place_of_domain s.domains p.dom.0) p.dom.0 p.gref.0 (Pinned p.dir) refl
+  step-shown at actor answer is (call_steps.Pin p) Taken fits t = counts-shown s apart h old new shows (stepped actor.id (call_steps.Pin p) Taken answer) (place_of_domain s.domains p.dom.0) p.dom.0 p.gref.0 (Pinned p.dir) refl
       (record { changes = λ r. refl; header = refl }) (moves-up s h actor.id p answer fits) t
   step-shown at actor answer is (Unpin p holder) seen fits t = counts-shown s apart h old new shows (stepped actor.id (Unpin p holder) seen answer) (place_of_domain s.domains p.dom.0) p.dom.0 p.gref.0 (Unpinned p.dir) refl
       (record { changes = λ r. refl; header = refl }) (moves-down s h actor.id p holder seen answer fits) t

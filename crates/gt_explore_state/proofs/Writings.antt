@@ -5,7 +5,8 @@ use Rattle.gt_core.proofs.Words.{History, Setting, Patch, overlay, replay, writt
 use Rattle.gt_model.proofs.Observers.{stepped}
 use Rattle.gt_model.specs.History.{contents_at, patches_at, WriteMade}
 use Rattle.gt_model.specs.Written.{zeros}
-use Rattle.gt_core.specs.Prelude.{Request, WriteBytes, CopyBytes}
+use Rattle.gt_core.specs.Prelude.{Request}
+use Rattle.gt_model.specs.declared.action.Step.TheVariants as call_steps
 use Rattle.gt_model.specs.declared.trace.Answer.{Answer}
 use Rattle.gt_model.specs.declared.trace.ItemEvent.TheVariants.{Began}
 use Rattle.gt_model.specs.declared.trace.Item.{Item}
@@ -37,9 +38,9 @@ wrote h old new w bytes shows same writes t f = writes t f
 
 step-written : (h : History) (d : DomId) (answer : Option Answer) (seen : Observation) (old new : List SparsePage) (given : List ℕ) (z : Step) → PagesShow h old → IsGivenTo h d z given → PagesAfter z given old new → PagesShow (stepped d z seen answer ∷ h) new
 unfolding patches_at
-step-written h d answer seen old new given (WriteBytes dom frame off len) shows is writes = λ t f.
+step-written h d answer seen old new given (call_steps.Write dom frame off len) shows is writes = λ t f.
     wrote h old new (record { at = record { frame = record { owner = dom; number = frame }; off = off }; bytes = given_in (open_call h d.0) }) given shows is writes t f
-step-written h d answer seen old new given (CopyBytes from to len) shows is writes = λ t f.
+step-written h d answer seen old new given (call_steps.Copy from to len) shows is writes = λ t f.
     wrote h old new (record { at = to; bytes = take len (drop from.off (contents_at h from.frame.owner.0 from.frame.number)) })
     (take len (drop from.off (page_contents old from.frame.owner.0 from.frame.number))) shows (ap (λ (l : List ℕ). take len (drop from.off l)) (shows from.frame.owner.0 from.frame.number)) writes t f
 step-written h d answer seen old new given z shows is writes = λ t f.
@@ -64,8 +65,8 @@ from-given h d given (Unpin p holder) t = t
 from-given h d given z t = t
 
 to-frames : (s : Setting) (h : History) (d : DomId) (seen : Observation) (z : Step) → StepFits s h d z seen → IsInFrames (unheld z)
-to-frames s h d seen (WriteBytes dom frame off len) fits = fits
-to-frames s h d seen (CopyBytes from to len) fits = fits
+to-frames s h d seen (call_steps.Write dom frame off len) fits = fits
+to-frames s h d seen (call_steps.Copy from to len) fits = fits
 to-frames s h d seen (Unpin p holder) fits = tt
 to-frames s h d seen z fits = tt
 

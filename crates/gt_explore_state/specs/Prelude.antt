@@ -3,11 +3,9 @@ pub use Rattle.gt_calls.specs.Known.{entry_in, own_generation}
 pub use Rattle.gt_model.specs.declared.action.Observation.{Observation}
 pub use Rattle.gt_model.specs.declared.action.Observation.TheVariants.{Taken}
 pub use Rattle.gt_model.specs.declared.action.Step.{Step}
-pub use Rattle.gt_model.specs.declared.action.Step.TheVariants.{Copy as CopyBytes, Exchange, LookBody, LookControl}
-pub use Rattle.gt_model.specs.declared.action.Step.TheVariants.{LookHeader, Pin as PinStep, Read as ReadBytes}
-pub use Rattle.gt_model.specs.declared.action.Step.TheVariants.{StoreHeader, Unpin, Write as WriteBytes}
+pub use Rattle.gt_model.specs.declared.action.Step.TheVariants.{Exchange, LookBody, LookControl, LookHeader}
+pub use Rattle.gt_model.specs.declared.action.Step.TheVariants.{StoreHeader, Unpin}
 pub use Rattle.gt_model.specs.declared.held.HeldPin.{HeldPin}
-pub use Rattle.gt_model.specs.declared.request.PinHolder.TheVariants.{Leg as ByLeg}
 pub use Rattle.gt_model.specs.declared.request.Request.{Request}
 pub use Rattle.gt_core.specs.GoingOn.{CanBeReached}
 pub use Rattle.gt_model.specs.History.{History, Pin, Setting, body_at, contents_at, entry_at, generation_at, given_in}
@@ -17,7 +15,6 @@ pub use Rattle.gt_core.specs.declared.pin_counts.PinCounts.{PinCounts}
 pub use Rattle.gt_model.specs.declared.trace.ItemEvent.TheVariants.{Began, Stepped}
 pub use Rattle.gt_model.specs.declared.trace.Item.{Item}
 pub use Rattle.gt_model.specs.Entries.{raise_of}
-pub use Rattle.gt_model.specs.declared.change.BodyWord.TheVariants.{First as FirstHalf, Second as SecondHalf}
 pub use Rattle.gt_types.specs.Names.{domain_of}
 pub use Rattle.gt_types.specs.declared.Dir.{Dir}
 pub use Rattle.gt_types.specs.declared.DomId.{DomId}

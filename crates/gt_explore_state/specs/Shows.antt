@@ -2,13 +2,15 @@
 use Rattle.std.specs.Prelude.{◌≡◌, ◌≢◌, ◌==◌, ◌&&◌, ◌+◌, ◌≤◌, ◌<◌, ℕ, List, ◌∷◌, Some, None, length}
 use Rattle.std.specs.Prelude.{slice_get, AllPairs}
 use Rattle.std.specs.Prelude.{count_by, if◌then◌else◌}
-use Rattle.gt_explore_state.specs.Prelude.{domain_of, DomId, Dir, Config, DomainConfig, FRAME_SIZE, LAST_GENERATION, MAX_PINS}
-use Rattle.gt_explore_state.specs.Prelude.{FirstHalf, SecondHalf, raise_of, entry_in, own_generation, HeldPin, ByLeg, Step}
-use Rattle.gt_explore_state.specs.Prelude.{LookHeader, LookControl, LookBody, PinStep, Unpin, StoreHeader, Exchange, ReadBytes}
-use Rattle.gt_explore_state.specs.Prelude.{WriteBytes, CopyBytes, Observation, Taken, Item, Began, Stepped, CanBeReached, IsRight}
-use Rattle.gt_explore_state.specs.Prelude.{Request, History, Setting, Pin, live, without, is_pin_on, same_dir, entry_at}
-use Rattle.gt_explore_state.specs.Prelude.{generation_at, body_at, table_at, reads_at, writes_at, contents_at, given_in}
-use Rattle.gt_explore_state.specs.Prelude.{open_call, PinCounts}
+use Rattle.gt_explore_state.specs.Prelude.{domain_of, DomId, Dir, Config, DomainConfig, FRAME_SIZE, LAST_GENERATION}
+use Rattle.gt_explore_state.specs.Prelude.{MAX_PINS, raise_of, entry_in, own_generation, HeldPin, Step, LookHeader}
+use Rattle.gt_explore_state.specs.Prelude.{LookControl, LookBody, Unpin, StoreHeader, Exchange, Observation, Taken}
+use Rattle.gt_explore_state.specs.Prelude.{Item, Began, Stepped, CanBeReached, IsRight, Request, History, Setting, Pin}
+use Rattle.gt_explore_state.specs.Prelude.{live, without, is_pin_on, same_dir, entry_at, generation_at, body_at}
+use Rattle.gt_explore_state.specs.Prelude.{table_at, reads_at, writes_at, contents_at, given_in, open_call, PinCounts}
+use Rattle.gt_model.specs.declared.change.BodyWord.TheVariants as body_words
+use Rattle.gt_model.specs.declared.action.Step.TheVariants as call_steps
+use Rattle.gt_model.specs.declared.request.PinHolder.TheVariants as holders
 use Rattle.gt_explore_state.specs.Pages.{page_contents}
 use Rattle.gt_explore_state.specs.Rows.{counts_in}
 use Rattle.gt_explore_state.specs.declared.pages.SparsePage.{SparsePage}
@@ -24,8 +26,8 @@ pub record IsSettingOf (c : Config) (s : Setting) : Type 0 where
 pub record CountsShow (h : History) (t r : ℕ) (c : PinCounts) : Type 0 where
   pub reads : c.reads ≡ reads_at h t r
   pub writes : c.writes ≡ writes_at h t r
-  pub first : c.first ≡ body_at h t r FirstHalf
-  pub second : c.second ≡ body_at h t r SecondHalf
+  pub first : c.first ≡ body_at h t r body_words.First
+  pub second : c.second ≡ body_at h t r body_words.Second
 
 -- the table is that of domain d after these items
 pub record TableShows (s : Setting) (h : History) (d : DomId) (t : SparseTable) : Type 0 where
@@ -53,7 +55,7 @@ abbrev pub LooksInRun : Setting → DomId → Step → Type 0
 LooksInRun s d (LookHeader dom) = IsInRun s dom
 LooksInRun s d (LookControl dom gref) = IsInRun s dom
 LooksInRun s d (LookBody dom gref half) = IsInRun s dom
-LooksInRun s d (PinStep p) = IsInRun s p.dom
+LooksInRun s d (call_steps.Pin p) = IsInRun s p.dom
 LooksInRun s d (Exchange gref looked change) = IsInRun s d
 LooksInRun s d step = Unit {0}
 
@@ -66,18 +68,18 @@ LosesOne m whole less =
 -- there is room in words and frames for the effect of a step of domain d with this observation, and an unpin releases a
 -- live pin
 abbrev pub StepFits : Setting → History → DomId → Step → Observation → Type 0
-StepFits s h d (PinStep p) Taken = count_by (is_pin_on p.dom.0 p.gref.0 p.dir) (live h) < MAX_PINS
+StepFits s h d (call_steps.Pin p) Taken = count_by (is_pin_on p.dom.0 p.gref.0 p.dir) (live h) < MAX_PINS
 StepFits s h d (Exchange gref looked change) Taken = generation_at s h d.0 gref.0 + raise_of change ≤ LAST_GENERATION
 StepFits s h d (Unpin p holder) seen = LosesOne p (live h) (without d.0 holder (live h))
 StepFits s h d (StoreHeader version frames) seen = (version < 4) × (frames < 256)
-StepFits s h d (ReadBytes dom frame off len) seen = off + len ≤ FRAME_SIZE
-StepFits s h d (WriteBytes dom frame off len) seen = off + len ≤ FRAME_SIZE
-StepFits s h d (CopyBytes from to len) seen = (from.off + len ≤ FRAME_SIZE) × (to.off + len ≤ FRAME_SIZE)
+StepFits s h d (call_steps.Read dom frame off len) seen = off + len ≤ FRAME_SIZE
+StepFits s h d (call_steps.Write dom frame off len) seen = off + len ≤ FRAME_SIZE
+StepFits s h d (call_steps.Copy from to len) seen = (from.off + len ≤ FRAME_SIZE) × (to.off + len ≤ FRAME_SIZE)
 StepFits s h d step seen = Unit {0}
 
 -- a step, without the holder of the pin that it releases
 abbrev pub unheld : Step → Step
-unheld (Unpin p holder) = Unpin p (ByLeg 0)
+unheld (Unpin p holder) = Unpin p (holders.Leg 0)
 unheld step = step
 
 -- the item is of this step, with this observation, of the domain at a position, except for the holder of a pin that it
@@ -93,7 +95,7 @@ pub record IsItemOfStep (s : Setting) (h : History) (i : Item) (at : ℕ) (step 
 
 -- if the step writes what its call was given, these are the bytes given to the domain's open call
 abbrev pub IsGivenTo : History → DomId → Step → List ℕ → Type 0
-IsGivenTo h d (WriteBytes dom frame off len) given = given ≡ given_in (open_call h d.0)
+IsGivenTo h d (call_steps.Write dom frame off len) given = given ≡ given_in (open_call h d.0)
 IsGivenTo h d step given = Unit {0}
 
 -- a step that is right after a history that some core represents looks at words of a domain of the run, and fits

@@ -9,8 +9,8 @@ use Rattle.gt_model.specs.declared.change.EntryChange.{EntryChange}
 use Rattle.gt_model.specs.declared.change.BodyWord.{BodyWord}
 use Rattle.gt_model.specs.declared.action.Step.{Step}
 use Rattle.gt_model.specs.declared.action.Step.TheVariants.{LookHeader, LookControl, LookBody, Pin, Unpin, StoreBody}
-use Rattle.gt_model.specs.declared.action.Step.TheVariants.{StoreHeader, Exchange, Read as ReadBytes}
-use Rattle.gt_model.specs.declared.action.Step.TheVariants.{Write as WriteBytes, Copy as CopyBytes}
+use Rattle.gt_model.specs.declared.action.Step.TheVariants.{StoreHeader, Exchange}
+use Rattle.gt_model.specs.declared.action.Step.TheVariants as call_steps
 use Rattle.gt_model.specs.declared.action.Observation.{Observation}
 use Rattle.gt_model.specs.declared.action.Observation.TheVariants.{Nothing, Word, Taken}
 use Rattle.gt_model.specs.History.{exchange_sees}
@@ -102,6 +102,6 @@ step_sees ds first ts d (Exchange gref looked change) = exchange_sees (word_seen
 step_sees ds first ts d (Unpin p holder) = Nothing
 step_sees ds first ts d (StoreBody gref half word) = Nothing
 step_sees ds first ts d (StoreHeader version frames) = Nothing
-step_sees ds first ts d (ReadBytes dom frame off len) = Nothing
-step_sees ds first ts d (WriteBytes dom frame off len) = Nothing
-step_sees ds first ts d (CopyBytes from to len) = Nothing
+step_sees ds first ts d (call_steps.Read dom frame off len) = Nothing
+step_sees ds first ts d (call_steps.Write dom frame off len) = Nothing
+step_sees ds first ts d (call_steps.Copy from to len) = Nothing

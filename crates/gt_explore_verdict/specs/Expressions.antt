@@ -9,7 +9,7 @@ use Rattle.gt_explore_verdict.specs.declared.conditions.Condition.{Condition}
 use Rattle.gt_explore_verdict.specs.declared.conditions.Place.{Place}
 use Rattle.gt_explore_verdict.specs.declared.conditions.Place.TheVariants.{Anywhere, Line, Domain}
 use Rattle.gt_explore_verdict.specs.declared.fault.ConditionFault.{ConditionFault}
-use Rattle.gt_explore_verdict.specs.declared.fault.ConditionFault.TheVariants as faults
+use Rattle.gt_explore_verdict.specs.declared.fault.ConditionFault.TheVariants as condition_faults
 use Rattle.gt_explore_verdict.specs.declared.fault.ExpressionFault.{ExpressionFault}
 use Rattle.gt_explore_verdict.specs.declared.fault.ExpressionFault.TheVariants.{Memory, Term}
 
@@ -71,14 +71,16 @@ may_be place (first ∷ more) = may_be_by place first more
 
 -- why no answer can be such a one
 abbrev pub reason_by : ConditionScope → List ℕ → List (List ℕ) → ConditionFault
-reason_by of_all first [] = faults.Word
-reason_by of_all first (word ∷ more) = faults.Words
-reason_by (of_line number) first more = if is_answer_word first then faults.Beginning else faults.Answer
-reason_by (of_domain number) first more = if is_answer_word first then faults.Beginning else faults.Answer
+reason_by of_all first [] = condition_faults.Word
+reason_by of_all first (word ∷ more) = condition_faults.Words
+reason_by (of_line number) first more =
+    if is_answer_word first then condition_faults.Beginning else condition_faults.Answer
+reason_by (of_domain number) first more =
+    if is_answer_word first then condition_faults.Beginning else condition_faults.Answer
 
 abbrev pub reason : ConditionScope → List (List ℕ) → ConditionFault
-reason place [] = faults.Empty
-reason place (first ∷ more) = if is_wrong_rule first then faults.Rule else reason_by place first more
+reason place [] = condition_faults.Empty
+reason place (first ∷ more) = if is_wrong_rule first then condition_faults.Rule else reason_by place first more
 
 -- a condition, if some answer can be one that it is about
 abbrev pub if_possible : Asked → Result Asked ConditionFault
@@ -90,7 +92,7 @@ condition_of_words word more = record { place = (placed word).0; words = (placed
 
 -- the words of a term as a condition, if some answer can be one that it is about
 abbrev pub read_term : List (List ℕ) → Result Asked ConditionFault
-read_term [] = Err faults.Empty
+read_term [] = Err condition_faults.Empty
 read_term (word ∷ more) = if_possible (condition_of_words word more)
 
 -- a word is not empty
@@ -129,7 +131,7 @@ abbrev pub read_terms : List Asked → ℕ → List (List ℕ) → Result (List 
 read_terms before number [] = Ok before
 read_terms before number (term ∷ terms) =
     elim (read_term (words_in term)) [
-      | Ok asked ↦ if is_excluded before asked then Err (number, faults.Excluded)
+      | Ok asked ↦ if is_excluded before asked then Err (number, condition_faults.Excluded)
           else read_terms (before ++ asked ∷ []) (number + 1) terms
       | Err fault ↦ Err (number, fault)
     ]

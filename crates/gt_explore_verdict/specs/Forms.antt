@@ -12,9 +12,9 @@ use Rattle.gt_types.specs.declared.denial.Status.{Status}
 use Rattle.gt_types.specs.declared.denial.Status.TheVariants as statuses
 use Rattle.gt_explore_verdict.specs.Rules.{at_mark, is_decimal_number}
 use Rattle.gt_explore_verdict.specs.declared.forms.AnswerForm.{AnswerForm}
-use Rattle.gt_explore_verdict.specs.declared.forms.AnswerForm.TheVariants as forms
+use Rattle.gt_explore_verdict.specs.declared.forms.AnswerForm.TheVariants as answer_forms
 use Rattle.gt_explore_verdict.specs.declared.forms.WordKind.{WordKind}
-use Rattle.gt_explore_verdict.specs.declared.forms.WordKind.TheVariants as kinds
+use Rattle.gt_explore_verdict.specs.declared.forms.WordKind.TheVariants as word_kinds
 use Rattle.gt_explore_verdict.specs.declared.forms.TheConstants.{EVERY_FIELD, EVERY_FORM}
 
 -- the name of a rule
@@ -94,43 +94,43 @@ is_field_name word = list_any (λ f. bytes_eq (field_name f) word) EVERY_FIELD
 
 -- a word is one of this kind
 abbrev pub is_of_word_kind : WordKind → List ℕ → Bool
-is_of_word_kind kinds.Ok word = bytes_eq word (codes "ok")
-is_of_word_kind kinds.Bytes word = is_bytes word
-is_of_word_kind kinds.Frames word = is_named_value (codes "frames") is_decimal_number word
-is_of_word_kind kinds.Max word = is_named_value (codes "max") is_decimal_number word
-is_of_word_kind kinds.Version word = is_named_value (codes "version") is_decimal_number word
-is_of_word_kind (kinds.Rule rule) word = bytes_eq word (rule_word rule)
-is_of_word_kind (kinds.Status rule) word = is_status (status_of rule) word
-is_of_word_kind kinds.Source word = is_some (value_named (codes "source") word)
-is_of_word_kind kinds.Target word = is_some (value_named (codes "target") word)
-is_of_word_kind kinds.Permission word = is_named_value (codes "perm") is_permission_name word
-is_of_word_kind kinds.Field word = is_named_value (codes "field") is_field_name word
+is_of_word_kind word_kinds.Ok word = bytes_eq word (codes "ok")
+is_of_word_kind word_kinds.Bytes word = is_bytes word
+is_of_word_kind word_kinds.Frames word = is_named_value (codes "frames") is_decimal_number word
+is_of_word_kind word_kinds.Max word = is_named_value (codes "max") is_decimal_number word
+is_of_word_kind word_kinds.Version word = is_named_value (codes "version") is_decimal_number word
+is_of_word_kind (word_kinds.Rule rule) word = bytes_eq word (rule_word rule)
+is_of_word_kind (word_kinds.Status rule) word = is_status (status_of rule) word
+is_of_word_kind word_kinds.Source word = is_some (value_named (codes "source") word)
+is_of_word_kind word_kinds.Target word = is_some (value_named (codes "target") word)
+is_of_word_kind word_kinds.Permission word = is_named_value (codes "perm") is_permission_name word
+is_of_word_kind word_kinds.Field word = is_named_value (codes "field") is_field_name word
 
 -- the kinds of the words of an answer: a refusal has its rule and its status, and then the facts of N5 and N25
 abbrev pub first_kind : AnswerForm → WordKind
-first_kind (forms.Refused rule) = kinds.Rule rule
-first_kind _ = kinds.Ok
+first_kind (answer_forms.Refused rule) = word_kinds.Rule rule
+first_kind _ = word_kinds.Ok
 
 abbrev pub second_kind : AnswerForm → Option WordKind
-second_kind forms.Done = None
-second_kind forms.Bytes = Some kinds.Bytes
-second_kind forms.Frames = Some kinds.Frames
-second_kind forms.Size = Some kinds.Frames
-second_kind forms.Version = Some kinds.Version
-second_kind (forms.Refused rule) = Some (kinds.Status rule)
+second_kind answer_forms.Done = None
+second_kind answer_forms.Bytes = Some word_kinds.Bytes
+second_kind answer_forms.Frames = Some word_kinds.Frames
+second_kind answer_forms.Size = Some word_kinds.Frames
+second_kind answer_forms.Version = Some word_kinds.Version
+second_kind (answer_forms.Refused rule) = Some (word_kinds.Status rule)
 
 abbrev pub third_kind : AnswerForm → Option WordKind
-third_kind forms.Size = Some kinds.Max
-third_kind (forms.Refused N5) = Some kinds.Source
-third_kind (forms.Refused N25) = Some kinds.Field
+third_kind answer_forms.Size = Some word_kinds.Max
+third_kind (answer_forms.Refused N5) = Some word_kinds.Source
+third_kind (answer_forms.Refused N25) = Some word_kinds.Field
 third_kind _ = None
 
 abbrev pub fourth_kind : AnswerForm → Option WordKind
-fourth_kind (forms.Refused N5) = Some kinds.Target
+fourth_kind (answer_forms.Refused N5) = Some word_kinds.Target
 fourth_kind _ = None
 
 abbrev pub fifth_kind : AnswerForm → Option WordKind
-fifth_kind (forms.Refused N5) = Some kinds.Permission
+fifth_kind (answer_forms.Refused N5) = Some word_kinds.Permission
 fifth_kind _ = None
 
 -- the kind of the word at this index of an answer

@@ -6,9 +6,9 @@ use Rattle.gt_file_commands.specs.JsonNames.{ReadsAsScript}
 use Rattle.gt_file_commands.specs.JsonNames.{PlayFault, Played, ListingFault, Listed, DumpOptions, DumpFault}
 use Rattle.gt_file_commands.specs.JsonNames.{WroteDump}
 use Rattle.gt_text.specs.Streams.{OfInput}
-use Rattle.gt_script_runs.specs.declared.fault.PlayFault.TheVariants as plays
-use Rattle.gt_policy_list.specs.declared.fault.ListingFault.TheVariants as listings
-use Rattle.gt_entries.specs.declared.fault.DumpFault.TheVariants as dumps
+use Rattle.gt_script_runs.specs.declared.fault.PlayFault.TheVariants as play_faults
+use Rattle.gt_policy_list.specs.declared.fault.ListingFault.TheVariants as listing_faults
+use Rattle.gt_entries.specs.declared.fault.DumpFault.TheVariants as dump_faults
 
 -- a promise of a command, about what its writer held and holds, and its result
 abbrev pub Promise : Type 0 → Type 1
@@ -48,12 +48,12 @@ Passes printed memory write text (Err why) old new (Err fault) = ((fault ≡ mem
 
 -- what `play_json` writes for an input
 abbrev pub PlayedAsJson : List ℕ → Bool → Promise PlayFault
-PlayedAsJson input audit = AsJson Run plays.Memory plays.Write (Played (ReadsAsScript input) audit)
+PlayedAsJson input audit = AsJson Run play_faults.Memory play_faults.Write (Played (ReadsAsScript input) audit)
 
 -- what `policy_json` writes for an input
 abbrev pub ListedAsJson : List ℕ → Promise ListingFault
-ListedAsJson input = AsJson Policy listings.Memory listings.Write (Listed input)
+ListedAsJson input = AsJson Policy listing_faults.Memory listing_faults.Write (Listed input)
 
 -- what `entries_json` writes for an input, with these options
 abbrev pub WroteDumpAsJson : DumpOptions → List ℕ → Promise DumpFault
-WroteDumpAsJson asked input = AsJson Entries dumps.Memory dumps.Write (WroteDump asked input)
+WroteDumpAsJson asked input = AsJson Entries dump_faults.Memory dump_faults.Write (WroteDump asked input)

@@ -11,7 +11,7 @@ use Rattle.gt_entries.specs.declared.fault.DumpFault.{DumpFault}
 use Rattle.gt_script_runs.specs.Playing.{Played}
 use Rattle.gt_script_runs.specs.declared.fault.PlayFault.{PlayFault}
 use Rattle.gt_policy_check.specs.declared.report.ReportForm.{ReportForm}
-use Rattle.gt_policy_check.specs.declared.report.ReportForm.TheVariants as forms
+use Rattle.gt_policy_check.specs.declared.report.ReportForm.TheVariants as report_forms
 use Rattle.gt_policy_list.specs.Writing.{Listed}
 use Rattle.gt_policy_list.specs.declared.fault.ListingFault.{ListingFault}
 use Rattle.gt_script.specs.Script.{ReadsAsScript}
@@ -39,5 +39,5 @@ CheckedAs true form file input = CheckedScript form file input
 
 -- the forms of findings in a format: JSON, or text with colours or without
 abbrev pub IsFormOf : Format → ReportForm → Type 0
-IsFormOf Json form = form ≡ forms.Json
-IsFormOf Text form = (form ≡ forms.Text) ⊎ (form ≡ forms.Colored)
+IsFormOf Json form = form ≡ report_forms.Json
+IsFormOf Text form = (form ≡ report_forms.Text) ⊎ (form ≡ report_forms.Colored)

@@ -15,7 +15,7 @@ use Rattle.gt_file_commands.specs.Prelude.{CheckKind, Failure, Outcome, ReportFo
 use Rattle.gt_policy_flow.specs.Answering.{Flowed}
 use Rattle.gt_policy_flow.specs.Faults.{flow_fault_text}
 use Rattle.gt_policy_flow.specs.declared.asking.FlowQuestion.{FlowQuestion}
-use Rattle.gt_file_commands.specs.declared.checking.CheckKind.TheVariants as checks
+use Rattle.gt_file_commands.specs.declared.checking.CheckKind.TheVariants as check_kinds
 use Rattle.gt_file_commands.specs.declared.commands.Work.TheVariants as works
 use Rattle.gt_file_commands.specs.declared.failure.Failure.TheVariants as failures
 
@@ -92,14 +92,14 @@ ChecksNever never given form file input old new (Err failure) = ⊥
 
 -- what `check` checks, with `--script` or without
 abbrev pub kind_checked : Bool → CheckKind
-kind_checked false = checks.Policy
-kind_checked true = checks.Script
+kind_checked false = check_kinds.Policy
+kind_checked true = check_kinds.Script
 
 -- what a text is checked as, or against
 abbrev pub Checks : CheckKind → ReportForm → List ℕ → Doing
-Checks checks.Policy = ChecksAs false
-Checks checks.Script = ChecksAs true
-Checks (checks.Never never) = ChecksNever never.file.now never.text.now
+Checks check_kinds.Policy = ChecksAs false
+Checks check_kinds.Script = ChecksAs true
+Checks (check_kinds.Never never) = ChecksNever never.file.now never.text.now
 
 -- the report has a form of this format
 abbrev pub ChecksIn : (ReportForm → List ℕ → Doing) → Format → List ℕ → Doing

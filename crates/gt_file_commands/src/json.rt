@@ -1,10 +1,10 @@
 //! The commands with their texts as JSON Lines.
 ghost use Rattle.gt_text.specs.Streams.{ConsumesAtMost};
 ghost use Rattle.gt_text.specs.declared.streams.TheConstants.{READ_LIMIT};
-ghost use Rattle.gt_json.specs.declared.places.PrintedText.TheVariants as printed;
-ghost use Rattle.gt_script_runs.specs.declared.fault.PlayFault.TheVariants as plays;
-ghost use Rattle.gt_policy_list.specs.declared.fault.ListingFault.TheVariants as listings;
-ghost use Rattle.gt_entries.specs.declared.fault.DumpFault.TheVariants as dumps;
+ghost use Rattle.gt_json.specs.declared.places.PrintedText.TheVariants as printed_texts;
+ghost use Rattle.gt_script_runs.specs.declared.fault.PlayFault.TheVariants as play_faults;
+ghost use Rattle.gt_policy_list.specs.declared.fault.ListingFault.TheVariants as listing_faults;
+ghost use Rattle.gt_entries.specs.declared.fault.DumpFault.TheVariants as dump_faults;
 ghost use Rattle.gt_file_commands.specs.AsJson.{ForInput, PlayedAsJson, ListedAsJson, WroteDumpAsJson, Passes};
 
 use gt_entries::{DumpFault, DumpOptions, entries};
@@ -23,7 +23,7 @@ fn pass_play<W: Write>(
     outcome: Result<(), PlayFault>,
     writer: &mut W,
 ) -> Result<(), PlayFault>
-    ensures { Passes printed.Run plays.Memory plays.Write text.now outcome
+    ensures { Passes printed_texts.Run play_faults.Memory play_faults.Write text.now outcome
         (W.contents writer.old) (W.contents writer.new) result }
 {
     every_writer_keeps_what_it_has();
@@ -45,7 +45,7 @@ fn pass_policy<W: Write>(
     outcome: Result<(), ListingFault>,
     writer: &mut W,
 ) -> Result<(), ListingFault>
-    ensures { Passes printed.Policy listings.Memory listings.Write text.now outcome
+    ensures { Passes printed_texts.Policy listing_faults.Memory listing_faults.Write text.now outcome
         (W.contents writer.old) (W.contents writer.new) result }
 {
     every_writer_keeps_what_it_has();
@@ -67,7 +67,7 @@ fn pass_entries<W: Write>(
     outcome: Result<(), DumpFault>,
     writer: &mut W,
 ) -> Result<(), DumpFault>
-    ensures { Passes printed.Entries dumps.Memory dumps.Write text.now outcome
+    ensures { Passes printed_texts.Entries dump_faults.Memory dump_faults.Write text.now outcome
         (W.contents writer.old) (W.contents writer.new) result }
 {
     every_writer_keeps_what_it_has();

@@ -1,26 +1,27 @@
 -- Two histories that are the same except for bytes of high domains: what they leave, but for bytes, is the same.
 use Rattle.gt_core.proofs.Words.{◌≡◌, ◌+◌, ℕ, zero, suc, refl, Bool, true, false, List, [], ◌∷◌, ◌++◌, Option, Some}
-use Rattle.gt_core.proofs.Words.{None, cond, ap, sym, ◌∙◌, subst, ◌==◌, option_map, eqb-true, length, count_by}
-use Rattle.gt_core.proofs.Words.{gather, by_leg, map, reverse, DomId, TypeId, Entry, Header, EntryChange, BodyWord}
-use Rattle.gt_core.proofs.Words.{Denial, asked, begun_of, bytes_given_by, CallerKnowledge, Request, OpenRequest, Word}
-use Rattle.gt_core.proofs.Words.{Taken, Step, LookHeader, LookControl, LookBody, Observation, PinStep, Exchange, Read}
-use Rattle.gt_core.proofs.Words.{Write, Control, HeldPin, StepsSoFar, History, Setting, Underway, Pin, entry_at}
-use Rattle.gt_core.proofs.Words.{changed_entry_of, change_at, change_of, raises_at, raise_after, body_at, or_else}
-use Rattle.gt_core.proofs.Words.{stored_at, table_at, header_or, header_stored, header_word, open_call, underway_with}
-use Rattle.gt_core.proofs.Words.{underway_after, maps_answered_at, one_if_mapped, live, is_pin_on, pinned_by}
-use Rattle.gt_core.proofs.Words.{unpinned_by, holder_after, mapping_named, known_at, seen_by, word_at, reads_at}
-use Rattle.gt_core.proofs.Words.{control_at, writes_at, exchange_sees, given_in, stood, stood_with, first_at}
-use Rattle.gt_core.proofs.Words.{first_in_call, first_of_item, leg_at, LegNow, leg_now, legs_at, refusal_in, take}
-use Rattle.gt_core.proofs.Words.{drop, contents_at, PinHolder}
+use Rattle.gt_core.proofs.Words.{None, cond, ap, sym, ◌∙◌, subst, ◌==◌, option_map, eqb-true, length, count_by, gather}
+use Rattle.gt_core.proofs.Words.{by_leg, map, reverse, DomId, TypeId, Entry, Header, EntryChange, BodyWord, Denial}
+use Rattle.gt_core.proofs.Words.{asked, begun_of, bytes_given_by, CallerKnowledge, Request, OpenRequest, Word, Taken}
+use Rattle.gt_core.proofs.Words.{Step, LookHeader, LookControl, LookBody, Observation, Exchange, Read, Write, Control}
+use Rattle.gt_core.proofs.Words.{HeldPin, StepsSoFar, History, Setting, Underway, Pin, entry_at, changed_entry_of}
+use Rattle.gt_core.proofs.Words.{change_at, change_of, raises_at, raise_after, body_at, or_else, stored_at, table_at}
+use Rattle.gt_core.proofs.Words.{header_or, header_stored, header_word, open_call, underway_with, underway_after}
+use Rattle.gt_core.proofs.Words.{maps_answered_at, one_if_mapped, live, is_pin_on, pinned_by, unpinned_by, holder_after}
+use Rattle.gt_core.proofs.Words.{mapping_named, known_at, seen_by, word_at, reads_at, control_at, writes_at}
+use Rattle.gt_core.proofs.Words.{exchange_sees, given_in, stood, stood_with, first_at, first_in_call, first_of_item}
+use Rattle.gt_core.proofs.Words.{leg_at, LegNow, leg_now, legs_at, refusal_in, take, drop, contents_at, PinHolder}
+use Rattle.gt_model.specs.declared.action.Step.TheVariants as call_steps
 use Rattle.gt_model.specs.declared.trace.Answer.{Answer}
-use Rattle.gt_model.specs.declared.trace.Answer.TheVariants.{Bytes as BytesAnswer}
+use Rattle.gt_model.specs.declared.trace.Answer.TheVariants as answers
 use Rattle.gt_model.specs.declared.trace.Bytes.{Bytes}
 use Rattle.gt_model.specs.declared.trace.ItemEvent.{ItemEvent}
 use Rattle.gt_model.specs.declared.trace.ItemEvent.TheVariants.{Began, Stepped}
 use Rattle.gt_model.specs.declared.trace.Item.{Item}
 use Rattle.gt_model.proofs.Observers.{known-as}
-use Rattle.gt_core.specs.Prelude.{ReadBytes, GrantRef, Rule, N9, N18, N19, HeaderFacts, denial_of, size_of, stands}
-use Rattle.gt_core.specs.Prelude.{first, first_look, before_pin, pins_of, MAX_TRIES}
+use Rattle.gt_core.specs.Prelude.{GrantRef, Rule, N9, N18, N19, denial_of, size_of, stands, first, first_look}
+use Rattle.gt_core.specs.Prelude.{before_pin, pins_of, MAX_TRIES}
+use Rattle.gt_types.specs.declared.denial.Facts.TheVariants as facts
 use Rattle.gt_model.specs.FirstRule.{looked_at, misses, is_in_body, is_other, is_demote, at_entry, rule_at_look}
 use Rattle.gt_model.specs.FirstRule.{rule_at_header, rule_at_pin, rule_at_via, rule_at_exchange}
 use Rattle.std.specs.Prelude.{◌&&◌, nat_lt, nat_le}
@@ -88,26 +89,26 @@ with_bytes b xs = record {
 
 -- the bytes that a read of this history has
 abbrev pub reread : History → Option Step → Bytes → Bytes
-reread h (Some (ReadBytes t f o n)) b = with_bytes b (take n (drop o (contents_at h t.0 f)))
+reread h (Some (call_steps.Read t f o n)) b = with_bytes b (take n (drop o (contents_at h t.0 f)))
 reread h step b = b
 
 -- the answer, with those bytes if they are hidden
 abbrev pub reanswered : Bool → History → Option Step → Answer → Answer
-reanswered b h step (BytesAnswer x) = BytesAnswer (cond b (reread h step x) x)
+reanswered b h step (answers.Bytes x) = answers.Bytes (cond b (reread h step x) x)
 reanswered b h step a = a
 
 pub mapped-again : (b : Bool) (h : History) (step : Option Step) (a : Option Answer) → one_if_mapped a ≡ one_if_mapped (option_map (reanswered b h step) a)
 mapped-again b h step None = refl
-mapped-again b h step (Some (BytesAnswer x)) = refl
+mapped-again b h step (Some (answers.Bytes x)) = refl
 mapped-again b h step (Some a) = refl
 
 holder-again : (b : Bool) (h : History) (step : Option Step) (a : Option Answer) (n : ℕ) → holder_after a n ≡ holder_after (option_map (reanswered b h step) a) n
 holder-again b h step None n = refl
-holder-again b h step (Some (BytesAnswer x)) n = refl
+holder-again b h step (Some (answers.Bytes x)) n = refl
 holder-again b h step (Some a) n = refl
 
 pinned-again : (d : DomId) (y : ItemEvent) (a c : Option Answer) (h : History) (ps : List Pin) → ((n : ℕ) → holder_after a n ≡ holder_after c n) → pinned_by d y a h ps ≡ pinned_by d y c h ps
-pinned-again d (Stepped (PinStep p) Taken) a c h ps same =
+pinned-again d (Stepped (call_steps.Pin p) Taken) a c h ps same =
     ap (λ (k : PinHolder). record { actor = d.0; holder = k; held = record p { entry = entry_at h p.dom.0 p.gref.0 } } ∷ []) (same (length (gather by_leg d.0 ps)))
 pinned-again d y a c h ps same = refl
 
@@ -137,7 +138,7 @@ module _ (s : Setting) (high : TypeId → Bool) (g h : History) (m : Matched s h
   sees-same d (LookHeader dom) = ap (λ (x : Header). Word (header_word x)) (m.table dom)
   sees-same d (LookControl dom gref) = ap (λ (w : ℕ). Word w) (word-same dom.0 gref.0)
   sees-same d (LookBody dom gref half) = ap (λ (w : ℕ). Word w) (m.body dom.0 gref.0 half)
-  sees-same d (PinStep p) = ap (λ (w : ℕ). exchange_sees w p.word) (word-same p.dom.0 p.gref.0)
+  sees-same d (call_steps.Pin p) = ap (λ (w : ℕ). exchange_sees w p.word) (word-same p.dom.0 p.gref.0)
   sees-same d (Exchange gref looked change) = ap (λ (w : ℕ). exchange_sees w looked) (word-same d.0 gref.0)
   sees-same d step = refl
 
@@ -153,11 +154,11 @@ module _ (s : Setting) (high : TypeId → Bool) (g h : History) (m : Matched s h
 
   header-same : (dom : DomId) (leg : Option LegNow) → rule_at_header s g dom leg ≡ rule_at_header s h dom leg
   header-same dom None = refl
-  header-same dom (Some n) = ap (λ (t : Header). cond {A = Option Denial} (nat_lt n.leg.gref.0 (size_of t)) None (Some (denial_of N9 (HeaderFacts dom (header_word t))))) (m.table dom)
+  header-same dom (Some n) = ap (λ (t : Header). cond {A = Option Denial} (nat_lt n.leg.gref.0 (size_of t)) None (Some (denial_of N9 (facts.Header dom (header_word t))))) (m.table dom)
 
   pin-same : (d : DomId) (r : OpenRequest) (so_far : StepsSoFar) (p : HeldPin) (seen : Observation) → rule_at_pin s g d r so_far p seen ≡ rule_at_pin s h d r so_far p seen
   pin-same d r so_far p Taken = four (λ (k : CallerKnowledge) (l : Option LegNow) (e x : Entry). rule_at_via k l e) (known-same d) (leg-same d r) (m.entry p.dom.0 p.gref.0) (m.entry p.dom.0 p.gref.0)
-  pin-same d r so_far p seen = ap (λ (w : ℕ). at_entry p.dom p.gref w (stands (nat_le MAX_TRIES (misses ((PinStep p, seen) ∷ so_far))) N18)) (word-same p.dom.0 p.gref.0)
+  pin-same d r so_far p seen = ap (λ (w : ℕ). at_entry p.dom p.gref w (stands (nat_le MAX_TRIES (misses ((call_steps.Pin p, seen) ∷ so_far))) N18)) (word-same p.dom.0 p.gref.0)
 
   pub first-same : (d : DomId) (r : OpenRequest) (so_far : StepsSoFar) (step : Step) → first_at s g d r so_far step ≡ first_at s h d r so_far step
   first-same d r so_far (LookHeader dom) = ap (λ (l : Option LegNow). rule_at_header s g dom l) (leg-same d r) ∙ header-same dom (leg_at s h d r)
@@ -166,7 +167,7 @@ module _ (s : Setting) (high : TypeId → Bool) (g h : History) (m : Matched s h
       stands (is_demote r && nat_lt 0 n) N19 ∷ rule ∷ stands (nat_le MAX_TRIES (misses ((LookControl dom gref, v) ∷ so_far))) N18 ∷ [])))
       (word-same dom.0 gref.0) (writes-same dom.0 gref.0)
       (ap (λ (l : Option LegNow). rule_at_look s g l dom gref so_far) (leg-same d r) ∙ look-same (leg_at s h d r) dom gref so_far) (sees-same d (LookControl dom gref))
-  first-same d r so_far (PinStep p) = ap (λ (v : Observation). rule_at_pin s g d r so_far p v) (sees-same d (PinStep p)) ∙ pin-same d r so_far p (seen_by s h d (PinStep p))
+  first-same d r so_far (call_steps.Pin p) = ap (λ (v : Observation). rule_at_pin s g d r so_far p v) (sees-same d (call_steps.Pin p)) ∙ pin-same d r so_far p (seen_by s h d (call_steps.Pin p))
   first-same d r so_far (Exchange gref looked change) =
       four (λ (w n k : ℕ) (v : Observation). at_entry d gref w (rule_at_exchange change (n + k) (misses ((Exchange gref looked change, v) ∷ so_far))))
       (word-same d.0 gref.0) (reads-same d.0 gref.0) (writes-same d.0 gref.0) (sees-same d (Exchange gref looked change))

@@ -1,25 +1,28 @@
 -- Each legal trace has another one for each choice of the bytes that high domains pass.
-use Rattle.gt_core.proofs.Words.{◌≡◌, ◌≢◌, ◌⊎◌, inl, inr, ◌+◌, ℕ, refl, Bool, true, false, List, [], ◌∷◌, ◌++◌}
-use Rattle.gt_core.proofs.Words.{Option, Some, None, cond, ap, sym, ◌∙◌, subst, ◌==◌, option_map, none-some}
-use Rattle.gt_core.proofs.Words.{same_Some, length, gather, by_leg, map, take, drop, mapping_named, DomId, TypeId}
-use Rattle.gt_core.proofs.Words.{Dir, Entry, Header, EntryChange, Denial, asked, begun_of, bytes_given_by}
-use Rattle.gt_core.proofs.Words.{CallerKnowledge, Request, OpenRequest, Map, Load, Store, Peek, Poke, Copy}
-use Rattle.gt_core.proofs.Words.{SetupTable, QuerySize, GetVersion, Taken, Step, Unpin, ByMapping, LookHeader}
-use Rattle.gt_core.proofs.Words.{StoreHeader, PinStep, Exchange, Observation, HeldPin, Makes, path, domain_of}
-use Rattle.gt_core.proofs.Words.{History, Setting, Underway, Pin, entry_at, table_at, open_call, known_at, body_at}
-use Rattle.gt_core.proofs.Words.{mapping_of, values, given_in, stood, leg_at, LegNow, contents_at, patches_at}
-use Rattle.gt_core.proofs.Words.{patches_by, written_by, written, Patch, Spot, ReadBytes, WriteBytes, CopyBytes}
-use Rattle.gt_core.proofs.Words.{IsRight, StepsRight, StepsRightIn, BeginsRight, AnsweredBy, GivesValue, Justified}
-use Rattle.gt_core.proofs.Words.{MayAsk, MayUseMapping, EndIsJustified, CopyIsJustified, Reaches, Forwards, IsSafe}
-use Rattle.gt_core.proofs.Words.{IsSafeChange, PinIsSound, NoneStands, IsSpelled, refusal_of, refusal_if, gives_back}
-use Rattle.gt_core.proofs.Words.{verdict_in, CallResult, MayDo, LegalAfter, grown, history_after, SpellsItsEntry}
-use Rattle.gt_core.proofs.Words.{MAX_TABLE_FRAMES}
+use Rattle.gt_core.proofs.Words.{◌≡◌, ◌≢◌, ◌⊎◌, inl, inr, ◌+◌, ℕ, refl, Bool, true, false, List, [], ◌∷◌, ◌++◌, Option}
+use Rattle.gt_core.proofs.Words.{Some, None, cond, ap, sym, ◌∙◌, subst, ◌==◌, option_map, none-some, same_Some, length}
+use Rattle.gt_core.proofs.Words.{gather, by_leg, map, take, drop, mapping_named, DomId, TypeId, Dir, Entry, Header}
+use Rattle.gt_core.proofs.Words.{EntryChange, Denial, asked, begun_of, bytes_given_by, CallerKnowledge, Request}
+use Rattle.gt_core.proofs.Words.{OpenRequest, Map, Load, Store, Peek, Poke, Copy, SetupTable, QuerySize, GetVersion}
+use Rattle.gt_core.proofs.Words.{Taken, Step, Unpin, LookHeader, StoreHeader, Exchange, Observation, HeldPin, path}
+use Rattle.gt_core.proofs.Words.{domain_of, History, Setting, Underway, Pin, entry_at, table_at, open_call, known_at}
+use Rattle.gt_core.proofs.Words.{body_at, mapping_of, values, given_in, stood, leg_at, LegNow, contents_at, patches_at}
+use Rattle.gt_core.proofs.Words.{patches_by, written_by, written, Patch, Spot, IsRight, StepsRight, StepsRightIn}
+use Rattle.gt_core.proofs.Words.{BeginsRight, AnsweredBy, GivesValue, Justified, MayAsk, MayUseMapping, EndIsJustified}
+use Rattle.gt_core.proofs.Words.{CopyIsJustified, Reaches, Forwards, IsSafe, IsSafeChange, PinIsSound, NoneStands}
+use Rattle.gt_core.proofs.Words.{IsSpelled, refusal_of, refusal_if, gives_back, verdict_in, CallResult, MayDo}
+use Rattle.gt_core.proofs.Words.{LegalAfter, grown, history_after, SpellsItsEntry, MAX_TABLE_FRAMES}
+use Rattle.gt_model.specs.declared.action.Action.TheVariants as actions
+use Rattle.gt_model.specs.declared.action.Step.TheVariants as call_steps
+use Rattle.gt_model.specs.declared.request.PinHolder.TheVariants as holders
 use Rattle.gt_core.specs.Alike.{KeylessItem}
 use Rattle.gt_model.specs.Justified.{MayAccess, ReachesThrough}
 use Rattle.gt_model.specs.Legal.{Legal, actor_of}
-use Rattle.gt_core.specs.Prelude.{StoreBody, FirstHalf, SecondHalf, Publish, ToInvalid, ToReadOnly, ToWritable}
-use Rattle.gt_core.specs.Prelude.{ToWithdrawn, ForMap, ForCopy, Read, Write, resolved, is_source_granted}
-use Rattle.gt_core.specs.Prelude.{is_dest_granted, first_look, before_pin, pins_of, Control}
+use Rattle.gt_core.specs.Prelude.{StoreBody, Publish, Read, Write, resolved, is_source_granted, is_dest_granted}
+use Rattle.gt_core.specs.Prelude.{first_look, before_pin, pins_of, Control}
+use Rattle.gt_model.specs.declared.change.BodyWord.TheVariants as body_words
+use Rattle.gt_model.specs.declared.change.EntryChange.TheVariants as changes
+use Rattle.gt_types.specs.declared.Use.TheVariants as uses
 use Rattle.std.specs.Prelude.{Any, min, ◌-◌, ◌&&◌}
 use Rattle.std.proofs.lemmas.List.{length-append, length-drop, length-map, length-take, map-append}
 use Rattle.gt_model.specs.Written.{overlay, replay, zeros}
@@ -31,7 +34,8 @@ use Rattle.gt_model.specs.declared.trace.ItemEvent.{ItemEvent}
 use Rattle.gt_model.specs.declared.trace.ItemEvent.TheVariants.{Began, Stepped}
 use Rattle.gt_model.specs.declared.trace.Item.{Item}
 use Rattle.gt_model.specs.declared.trace.Element.{Element}
-use Rattle.gt_model.specs.declared.trace.Element.TheVariants.{Busy, Idle, NoDomain, Item as Did}
+use Rattle.gt_model.specs.declared.trace.Element.TheVariants.{Busy, Idle, NoDomain}
+use Rattle.gt_model.specs.declared.trace.Element.TheVariants as elements
 use Rattle.gt_model.specs.declared.request.Request.TheVariants as requests
 use Rattle.gt_flow.specs.Flow.{IsClosed}
 use Rattle.gt_flow.specs.Laws.{SameLowFrames}
@@ -104,11 +108,11 @@ module _ (s : Setting) (high : TypeId → Bool) (g h : History) (m : Matched s h
   -- pins
 
   may-access : (d : DomId) (dir : Dir) (at : Spot) (len : ℕ) → MayAccess g d dir at len → MayAccess h d dir at len
-  may-access d dir at len x = subst (λ (ps : List Pin). (at.frame.owner.0 ≡ d.0) ⊎ Any (Reaches d d dir ForMap at len) ps) m.pins x
+  may-access d dir at len x = subst (λ (ps : List Pin). (at.frame.owner.0 ≡ d.0) ⊎ Any (Reaches d d dir uses.Map at len) ps) m.pins x
 
   through : (d : DomId) (dir : Dir) (at : Spot) (len : ℕ) (named : DomId) → ReachesThrough g d dir at len named → ReachesThrough h d dir at len named
   through d dir at len named x =
-      subst (λ (ps : List Pin). Any (λ p. Any (λ via. Forwards d dir named p via × Reaches d named dir ForCopy at len p) ps) ps) m.pins x
+      subst (λ (ps : List Pin). Any (λ p. Any (λ via. Forwards d dir named p via × Reaches d named dir uses.Copy at len p) ps) ps) m.pins x
 
   may-ask : (d : DomId) (r : OpenRequest) → MayAsk s g d r → MayAsk s h d r
   may-ask d (Load handle off len) x = subst (λ (ps : List Pin). MayUseMapping s d (mapping_of (gather mapping_named d.0 ps) handle)) m.pins x
@@ -117,7 +121,7 @@ module _ (s : Setting) (high : TypeId → Bool) (g h : History) (m : Matched s h
 
   end-same : (d : DomId) (granted : Bool) (dir : Dir) (at : Spot) (len : ℕ) (named : DomId) (owners : DomId × DomId) → EndIsJustified s g d granted dir at len named owners → EndIsJustified s h d granted dir at len named owners
   end-same d granted dir at len named owners (inl e) = inl e
-  end-same d granted dir at len named owners (inr (inl e)) = inr (inl (e.0, e.1, subst (λ (ps : List Pin). Any (Reaches d d dir ForCopy at len) ps) m.pins e.2))
+  end-same d granted dir at len named owners (inr (inl e)) = inr (inl (e.0, e.1, subst (λ (ps : List Pin). Any (Reaches d d dir uses.Copy at len) ps) m.pins e.2))
   end-same d granted dir at len named owners (inr (inr e)) = inr (inr (e.0, through d dir at len named e.1, e.2))
 
   copy-same : (d : DomId) (r : OpenRequest) (from to : Spot) (len : ℕ) → CopyIsJustified s g d r from to len → CopyIsJustified s h d r from to len
@@ -131,10 +135,10 @@ module _ (s : Setting) (high : TypeId → Bool) (g h : History) (m : Matched s h
   copy-same d r from to len x = absurd x
 
   justified-same : (d : DomId) (r : OpenRequest) (step : Step) → Justified s g d r step → Justified s h d r step
-  justified-same d r (ReadBytes dom frame off len) x = (x.0, may-access d Read (record { frame = record { owner = dom; number = frame }; off = off }) len x.1, may-ask d r x.2)
-  justified-same d r (WriteBytes dom frame off len) x = (x.0, may-access d Write (record { frame = record { owner = dom; number = frame }; off = off }) len x.1, may-ask d r x.2)
-  justified-same d r (CopyBytes from to len) x = copy-same d r from to len x
-  justified-same d r (Unpin p (ByMapping handle)) x = x
+  justified-same d r (call_steps.Read dom frame off len) x = (x.0, may-access d Read (record { frame = record { owner = dom; number = frame }; off = off }) len x.1, may-ask d r x.2)
+  justified-same d r (call_steps.Write dom frame off len) x = (x.0, may-access d Write (record { frame = record { owner = dom; number = frame }; off = off }) len x.1, may-ask d r x.2)
+  justified-same d r (call_steps.Copy from to len) x = copy-same d r from to len x
+  justified-same d r (Unpin p (holders.Mapping handle)) x = x
   justified-same d r step x = tt
 
   -- entries
@@ -142,14 +146,14 @@ module _ (s : Setting) (high : TypeId → Bool) (g h : History) (m : Matched s h
   change-same : (t r : ℕ) (change : EntryChange) → IsSafeChange g t r change → IsSafeChange h t r change
   change-same t r (Publish entry) x = (
     sym (m.entry t r) ∙ x.0,
-    subst (λ (w : ℕ). IsSpelled entry (body_at h t r FirstHalf) w) (m.body t r SecondHalf) (subst (λ (w : ℕ). IsSpelled entry w (body_at g t r SecondHalf)) (m.body t r FirstHalf) x.1),
+    subst (λ (w : ℕ). IsSpelled entry (body_at h t r body_words.First) w) (m.body t r body_words.Second) (subst (λ (w : ℕ). IsSpelled entry w (body_at g t r body_words.Second)) (m.body t r body_words.First) x.1),
     sym (reads-same s high g h m t r) ∙ x.2,
     sym (writes-same s high g h m t r) ∙ x.3,
   )
-  change-same t r ToWithdrawn x = tt
-  change-same t r ToInvalid x = (sym (reads-same s high g h m t r) ∙ x.0, sym (writes-same s high g h m t r) ∙ x.1)
-  change-same t r ToReadOnly x = sym (writes-same s high g h m t r) ∙ x
-  change-same t r ToWritable x = tt
+  change-same t r changes.Withdraw x = tt
+  change-same t r changes.Revoke x = (sym (reads-same s high g h m t r) ∙ x.0, sym (writes-same s high g h m t r) ∙ x.1)
+  change-same t r changes.Demote x = sym (writes-same s high g h m t r) ∙ x
+  change-same t r changes.Promote x = tt
 
   safe-same : (d : DomId) (z : Step) (v : Observation) (a c : Option Answer)
       → IsSafe s g (record { actor = d; happened = Stepped z v; answer = a }) → IsSafe s h (record { actor = d; happened = Stepped z v; answer = c })
@@ -166,13 +170,13 @@ module _ (s : Setting) (high : TypeId → Bool) (g h : History) (m : Matched s h
   )
 
   sound-same : (d : DomId) (r : OpenRequest) (z : Step) (v : Observation) → PinIsSound s g d r z v → PinIsSound s h d r z v
-  sound-same d r (PinStep p) Taken x = subst (λ (l : Option LegNow). NoneStands s h p.dom p.gref l) (leg-same s high g h m d r) (none-same d d p (leg_at s g d r) x)
+  sound-same d r (call_steps.Pin p) Taken x = subst (λ (l : Option LegNow). NoneStands s h p.dom p.gref l) (leg-same s high g h m d r) (none-same d d p (leg_at s g d r) x)
   sound-same d r z v x = tt
 
   -- answers
 
   reread-is : (b : Bool) (t : DomId) (f o n : ℕ) (x : Rattle.gt_model.specs.declared.trace.Bytes.Bytes) → (length (contents_at g t.0 f) ≡ length (contents_at h t.0 f)) → (b ≡ false → contents_at g t.0 f ≡ contents_at h t.0 f) → x.bytes.items ≡ take n (drop o (contents_at g t.0 f))
-      → (cond b (reread h (Some (ReadBytes t f o n)) x) x).bytes.items ≡ take n (drop o (contents_at h t.0 f))
+      → (cond b (reread h (Some (call_steps.Read t f o n)) x) x).bytes.items ≡ take n (drop o (contents_at h t.0 f))
   reread-is true t f o n x sized same is = let ys : List ℕ = take n (drop o (contents_at h t.0 f)) in
       ap (λ (k : ℕ). fitted k ys) (ap length is ∙ part-length n o (contents_at g t.0 f) (contents_at h t.0 f) sized) ∙ fitted-all ys
   reread-is false t f o n x sized same is = is ∙ ap (λ (bytes : List ℕ). take n (drop o bytes)) (same refl)
@@ -183,14 +187,14 @@ module _ (s : Setting) (high : TypeId → Bool) (g h : History) (m : Matched s h
 
     -- what a low domain reads is the same
     abbrev ReadsSame : Option Step → OpenRequest → Type 0
-    ReadsSame st r = (t : DomId) (f o n : ℕ) → st ≡ Some (ReadBytes t f o n) → IsReading r
+    ReadsSame st r = (t : DomId) (f o n : ℕ) → st ≡ Some (call_steps.Read t f o n) → IsReading r
         → (length (contents_at g t.0 f) ≡ length (contents_at h t.0 f)) × (b ≡ false → contents_at g t.0 f ≡ contents_at h t.0 f)
 
     value-same : (r : OpenRequest) (st : Option Step) (a : Answer) → ReadsSame st r → GivesValue s g d r st a → GivesValue s h d r st (reanswered b h st a)
     value-same r st (answers.Denied x) low v = tt
-    value-same (Map dom gref flags) (Some (PinStep p)) (answers.Mapped handle) low v = v ∙ m.maps d.0
-    value-same (Load handle off len) (Some (ReadBytes t f o n)) (answers.Bytes x) low v = reread-is b t f o n x (low t f o n refl tt).0 (low t f o n refl tt).1 v
-    value-same (Peek frame off len) (Some (ReadBytes t f o n)) (answers.Bytes x) low v = reread-is b t f o n x (low t f o n refl tt).0 (low t f o n refl tt).1 v
+    value-same (Map dom gref flags) (Some (call_steps.Pin p)) (answers.Mapped handle) low v = v ∙ m.maps d.0
+    value-same (Load handle off len) (Some (call_steps.Read t f o n)) (answers.Bytes x) low v = reread-is b t f o n x (low t f o n refl tt).0 (low t f o n refl tt).1 v
+    value-same (Peek frame off len) (Some (call_steps.Read t f o n)) (answers.Bytes x) low v = reread-is b t f o n x (low t f o n refl tt).0 (low t f o n refl tt).1 v
     value-same (SetupTable frames) None a low v = ap (reanswered b h None) v ∙ ap (λ (x : Header). answers.Frames x.frames) (m.table d)
     value-same (SetupTable frames) (Some (StoreHeader version stored)) a low v = ap (reanswered b h (Some (StoreHeader version stored))) v
     value-same (QuerySize dom) (Some (LookHeader t)) a low v =
@@ -219,8 +223,8 @@ module _ (s : Setting) (high : TypeId → Bool) (g h : History) (m : Matched s h
 
     -- a step that is right after the one is right after the other
     reads-low : (z : Step) (v : Observation) (a : Option Answer) (c : Underway) → IsClosed s.may high → SameLow s high g h → SameShapes g h → StepsRight s g (item (Stepped z v) a) z v c → ReadsSame (Some z) c.request
-    reads-low z v a c closed same shapes right t f o n is reads = let e : z ≡ ReadBytes t f o n = same_Some z (ReadBytes t f o n) is in
-        let way = subst (λ (y : Step). path (known_at s g d) d c.request (values c) ≡ Some (Makes y)) e right.continues in
+    reads-low z v a c closed same shapes right t f o n is reads = let e : z ≡ call_steps.Read t f o n = same_Some z (call_steps.Read t f o n) is in
+        let way = subst (λ (y : Step). path (known_at s g d) d c.request (values c) ≡ Some (actions.Step y)) e right.continues in
         let just = subst (λ (y : Step). Justified s g d c.request y) e right.justified in (
           length-written (patches_at g t.0 f) (patches_at h t.0 f) (shapes t.0 f),
           λ low. ap written (same t.0 f (low-source s high t d closed (read-flows s g d c.request (values c) t f o n reads way just.2) low)),
@@ -261,7 +265,7 @@ module _ (s : Setting) (high : TypeId → Bool) (g h : History) (m : Matched s h
     low-given r one other p q low same = p ∙ sym q
 
     passed-same : (t : DomId) (f o n : ℕ) (v : Observation) (a : Option Answer) (x y : Option Underway) → IsClosed s.may high → is_high s high t ≡ false → option_map strip x ≡ option_map strip y → PassesIn x → PassesIn y
-        → (b ≡ false → given_in x ≡ given_in y) → StepsRightIn s g (item (Stepped (WriteBytes t f o n) v) a) (WriteBytes t f o n) v x → given_in x ≡ given_in y
+        → (b ≡ false → given_in x ≡ given_in y) → StepsRightIn s g (item (Stepped (call_steps.Write t f o n) v) a) (call_steps.Write t f o n) v x → given_in x ≡ given_in y
     passed-same t f o n v a None y closed low e p q same right = absurd right
     passed-same t f o n v a (Some c) None closed low e p q same right = absurd (none-some _ (sym e))
     passed-same t f o n v a (Some c) (Some k) closed low e p q same right = let u = same_Some (strip c) (strip k) e in
@@ -271,13 +275,13 @@ module _ (s : Setting) (high : TypeId → Bool) (g h : History) (m : Matched s h
     step-patches : (z : Step) (v : Observation) (a : Option Answer) (t f : ℕ) → IsClosed s.may high → SameLow s high g h → hides s high t ≡ false → StepsRightIn s g (item (Stepped z v) a) z v (open_call g d.0)
         → patches_by (written_by (Stepped z v) (given_in (open_call g d.0)) (λ u k. written (patches_at g u k))) t f
         ≡ patches_by (written_by (Stepped z v) (given_in (open_call h d.0)) (λ u k. written (patches_at h u k))) t f
-    step-patches (WriteBytes dom frame off len) v a t f closed same low right =
+    step-patches (call_steps.Write dom frame off len) v a t f closed same low right =
         patch-same dom frame off (given_in (open_call g d.0)) (given_in (open_call h d.0)) t f (λ own.
         passed-same dom frame off len v a (open_call g d.0) (open_call h d.0) closed (subst (λ (n : ℕ). hides s high n ≡ false) (sym own) low) (m.calls d.0) (open-passes g d.0) (open-passes h d.0) (m.given d.0) right)
-    step-patches (CopyBytes from to len) v a t f closed same low right =
+    step-patches (call_steps.Copy from to len) v a t f closed same low right =
         patch-same to.frame.owner to.frame.number to.off (take len (drop from.off (written (patches_at g from.frame.owner.0 from.frame.number)))) (take len (drop from.off (written (patches_at h from.frame.owner.0 from.frame.number)))) t f (λ own.
         ap (λ (ps : List Patch). take len (drop from.off (written ps))) (same from.frame.owner.0 from.frame.number
-        (copied-low s high g (item (Stepped (CopyBytes from to len) v) a) from to len v (open_call g d.0) closed (subst (λ (n : ℕ). hides s high n ≡ false) (sym own) low) right)))
+        (copied-low s high g (item (Stepped (call_steps.Copy from to len) v) a) from to len v (open_call g d.0) closed (subst (λ (n : ℕ). hides s high n ≡ false) (sym own) low) right)))
     step-patches z v a t f closed same low right = refl
 
     step-low : (z : Step) (v : Observation) (a c : Option Answer) → IsClosed s.may high → SameLow s high g h → StepsRightIn s g (item (Stepped z v) a) z v (open_call g d.0)
@@ -304,8 +308,8 @@ module _ (s : Setting) (high : TypeId → Bool) (g h : History) (m : Matched s h
     write-shape : (z : Step) (v : Observation) (t f : ℕ) → SameShapes g h
         → map shape (patches_by (written_by (Stepped z v) (given_in (open_call g d.0)) (λ u k. written (patches_at g u k))) t f)
         ≡ map shape (patches_by (written_by (Stepped z v) (given_in (open_call h d.0)) (λ u k. written (patches_at h u k))) t f)
-    write-shape (WriteBytes dom frame off len) v t f shapes = patch-shape dom frame off (given_in (open_call g d.0)) (given_in (open_call h d.0)) t f (m.lengths d.0)
-    write-shape (CopyBytes from to len) v t f shapes =
+    write-shape (call_steps.Write dom frame off len) v t f shapes = patch-shape dom frame off (given_in (open_call g d.0)) (given_in (open_call h d.0)) t f (m.lengths d.0)
+    write-shape (call_steps.Copy from to len) v t f shapes =
         let xs = patches_at g from.frame.owner.0 from.frame.number in let ys = patches_at h from.frame.owner.0 from.frame.number in
         patch-shape to.frame.owner to.frame.number to.off (take len (drop from.off (written xs))) (take len (drop from.off (written ys))) t f
         (part-length len from.off (written xs) (written ys) (length-written xs ys (shapes from.frame.owner.0 from.frame.number)))
@@ -412,23 +416,23 @@ tick-parts d k e = cc
 
 module _ (s : Setting) (high : TypeId → Bool) (g h : History) (closed : IsClosed s.may high) (pair : Paired s high g h) where
   -- a step
-  steps-too : (d : DomId) (z : Step) (v : Observation) (a : Option Answer) → domain_of s.domains d ≢ None → IsRight s g (parts d (Stepped z v) a) → DoesToo s high g h (Did (parts d (Stepped z v) a)) (Tick d)
+  steps-too : (d : DomId) (z : Step) (v : Observation) (a : Option Answer) → domain_of s.domains d ≢ None → IsRight s g (parts d (Stepped z v) a) → DoesToo s high g h (elements.Item (parts d (Stepped z v) a)) (Tick d)
   steps-too d z v a named right = let b = is_high s high d in let c = option_map (reanswered b h (Some z)) a in
       let next = matched-grows s high g h pair.matched d (Stepped z v) (Stepped z v) a c refl (Some z) refl in
       record {
-        y = Did (parts d (Stepped z v) c);
+        y = elements.Item (parts d (Stepped z v) c);
         may = (named, (refl, tt), steps-right s high g h pair.matched d z v a (open_call g d.0) (open_call h d.0) closed pair.low pair.shapes (pair.matched.calls d.0) right next);
         same = ap {B = KeylessItem ⊎ Element} (λ (i : KeylessItem). inl i) (same-item b h (Some z) d (Stepped z v) (Stepped z v) a refl);
         paired = record { matched = next; low = step-low s high g h pair.matched d z v a c closed pair.low right; shapes = step-shapes s high g h pair.matched d z v a c pair.shapes };
       }
 
   begins-too : (d : DomId) (q r : Request) (a : Option Answer) → cond (is_high s high d) (hidden_request q) q ≡ cond (is_high s high d) (hidden_request r) r → domain_of s.domains d ≢ None
-      → IsRight s g (parts d (Began q) a) → DoesToo s high g h (Did (parts d (Began q) a)) (Begin d r)
+      → IsRight s g (parts d (Began q) a) → DoesToo s high g h (elements.Item (parts d (Began q) a)) (Begin d r)
   begins-too d q r a e named right = let b = is_high s high d in let c = option_map (reanswered b h None) a in let deed = same-asked b q r e in
       let next = matched-grows s high g h pair.matched d (Began q) (Began r) a c deed None refl in
       let f = same-request b q r e in
       record {
-        y = Did (parts d (Began r) c);
+        y = elements.Item (parts d (Began r) c);
         may = (
           named,
           (refl, refl),
@@ -443,8 +447,8 @@ module _ (s : Setting) (high : TypeId → Bool) (g h : History) (closed : IsClos
   tick-too d NoDomain may = record { y = NoDomain; may = may; same = refl; paired = pair }
   tick-too d Busy may = absurd may
   tick-too d Idle may = record { y = Idle; may = (may.0, stripped-none (open_call g d.0) (open_call h d.0) (pair.matched.calls d.0) may.1); same = refl; paired = pair }
-  tick-too d (Did i) may = subst (λ (k : DomId). DoesToo s high g h (Did i) (Tick k)) may.1.0 (by i.actor i.happened i.answer (subst (λ (k : DomId). domain_of s.domains k ≢ None) (sym may.1.0) may.0) (refl, may.1.1) may.2) where
-    by : (k : DomId) (x : ItemEvent) (a : Option Answer) → domain_of s.domains k ≢ None → Rattle.gt_core.specs.Legal.IsItemOf (Tick k) (parts k x a) → IsRight s g (parts k x a) → DoesToo s high g h (Did (parts k x a)) (Tick k)
+  tick-too d (elements.Item i) may = subst (λ (k : DomId). DoesToo s high g h (elements.Item i) (Tick k)) may.1.0 (by i.actor i.happened i.answer (subst (λ (k : DomId). domain_of s.domains k ≢ None) (sym may.1.0) may.0) (refl, may.1.1) may.2) where
+    by : (k : DomId) (x : ItemEvent) (a : Option Answer) → domain_of s.domains k ≢ None → Rattle.gt_core.specs.Legal.IsItemOf (Tick k) (parts k x a) → IsRight s g (parts k x a) → DoesToo s high g h (elements.Item (parts k x a)) (Tick k)
     by k (Stepped z v) a named step right = steps-too k z v a named right
     by k (Began q) a named step right = absurd step.1
 
@@ -452,8 +456,8 @@ module _ (s : Setting) (high : TypeId → Bool) (g h : History) (closed : IsClos
   begin-too d q r NoDomain e may = record { y = NoDomain; may = may; same = refl; paired = pair }
   begin-too d q r Idle e may = absurd may
   begin-too d q r Busy e may = record { y = Busy; may = (may.0, λ n. may.1 (stripped-none (open_call h d.0) (open_call g d.0) (sym (pair.matched.calls d.0)) n)); same = refl; paired = pair }
-  begin-too d q r (Did i) e may =
-      subst (λ (k : Item). DoesToo s high g h (Did k) (Begin d r)) (sym is) (begins-too d q r i.answer e may.0 (subst (λ (k : Item). IsRight s g k) is may.2)) where
+  begin-too d q r (elements.Item i) e may =
+      subst (λ (k : Item). DoesToo s high g h (elements.Item k) (Begin d r)) (sym is) (begins-too d q r i.answer e may.0 (subst (λ (k : Item). IsRight s g k) is may.2)) where
         is : i ≡ parts d (Began q) i.answer
         is = let one = may.1.0 in let two = may.1.1 in ap (λ (k : DomId). parts k i.happened i.answer) one ∙ ap (λ (z : ItemEvent). parts d z i.answer) two
 

@@ -18,7 +18,7 @@ use Rattle.gt_model.specs.declared.trace.Event.{Event}
 use Rattle.gt_model.specs.declared.trace.Event.TheVariants.{Begin, Tick}
 use Rattle.gt_script_lines.specs.Hexadecimal.{hex_bytes}
 use Rattle.gt_script_lines.specs.declared.calls.ScriptCall.{ScriptCall}
-use Rattle.gt_script_lines.specs.declared.calls.ScriptCall.TheVariants as calls
+use Rattle.gt_script_lines.specs.declared.calls.ScriptCall.TheVariants as script_calls
 use Rattle.gt_script.specs.Lists.{RunAction, RunTask}
 use Rattle.gt_script.specs.declared.tasks.RunActionBy.TheVariants.{Await, Do, Tell}
 use Rattle.gt_script_runs.specs.Printing.{answer_line}
@@ -203,18 +203,18 @@ module _ (s : Setting) (high : TypeId → Bool) where
 
   asks-stored : (named : List Named) (dom : DomId) (q : Request) (call other : ScriptCall) → SameButStored call other → MakesRequest named dom call q → Asks named dom q call other (with_stored other q)
   unfolding request_of
-  asks-stored named dom q (calls.Store label off hex) (calls.Store name at new) (e, f, n) (bytes, is, to) =
+  asks-stored named dom q (script_calls.Store label off hex) (script_calls.Store name at new) (e, f, n) (bytes, is, to) =
       let w = record bytes { now = fitted (length bytes.now) (hex_bytes new) } in
-      let one : with_stored (calls.Store name at new) q ≡ request_of named dom w (calls.Store name at new) = ap (with_stored (calls.Store name at new)) to
-      ∙ ap (λ (l : List ℕ). request_of named dom w (calls.Store l off new)) e ∙ ap (λ (o : ℕ). request_of named dom w (calls.Store name o new)) f in
+      let one : with_stored (script_calls.Store name at new) q ≡ request_of named dom w (script_calls.Store name at new) = ap (with_stored (script_calls.Store name at new)) to
+      ∙ ap (λ (l : List ℕ). request_of named dom w (script_calls.Store l off new)) e ∙ ap (λ (o : ℕ). request_of named dom w (script_calls.Store name o new)) f in
       record { makes = (w, fits bytes.now hex new is n, one); gives = ap given_up one ∙ sym (ap given_up to); labels = refl }
-  asks-stored named dom q (calls.Poke frame off hex) (calls.Poke number at new) (e, f, n) (bytes, is, to) =
+  asks-stored named dom q (script_calls.Poke frame off hex) (script_calls.Poke number at new) (e, f, n) (bytes, is, to) =
       let w = record bytes { now = fitted (length bytes.now) (hex_bytes new) } in
-      let one : with_stored (calls.Poke number at new) q ≡ request_of named dom w (calls.Poke number at new) = ap (with_stored (calls.Poke number at new)) to
-      ∙ ap (λ (l : ℕ). request_of named dom w (calls.Poke l off new)) e ∙ ap (λ (o : ℕ). request_of named dom w (calls.Poke number o new)) f in
+      let one : with_stored (script_calls.Poke number at new) q ≡ request_of named dom w (script_calls.Poke number at new) = ap (with_stored (script_calls.Poke number at new)) to
+      ∙ ap (λ (l : ℕ). request_of named dom w (script_calls.Poke l off new)) e ∙ ap (λ (o : ℕ). request_of named dom w (script_calls.Poke number o new)) f in
       record { makes = (w, fits bytes.now hex new is n, one); gives = ap given_up one ∙ sym (ap given_up to); labels = refl }
-  asks-stored named dom q (calls.Store label off hex) other same makes = absurd (let f = same in cc)
-  asks-stored named dom q (calls.Poke frame off hex) other same makes = absurd (let f = same in cc)
+  asks-stored named dom q (script_calls.Store label off hex) other same makes = absurd (let f = same in cc)
+  asks-stored named dom q (script_calls.Poke frame off hex) other same makes = absurd (let f = same in cc)
   asks-stored named dom q call other same makes = subst (λ (c : ScriptCall). Asks named dom q call c (with_stored c q)) same (record { makes = makes; gives = refl; labels = refl })
 
   abbrev SameCall : Bool → ScriptCall → ScriptCall → Type 0

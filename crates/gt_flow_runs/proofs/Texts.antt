@@ -26,7 +26,7 @@ use Rattle.gt_flow.specs.Low.{is_high}
 use Rattle.gt_flow.proofs.OtherBytes.{each-has-others}
 use Rattle.gt_script.specs.declared.tasks.RunActionBy.TheVariants.{Await, Do, Tell}
 use Rattle.gt_script_lines.specs.declared.calls.ScriptCall.{ScriptCall}
-use Rattle.gt_script_lines.specs.declared.calls.ScriptCall.TheVariants as calls
+use Rattle.gt_script_lines.specs.declared.calls.ScriptCall.TheVariants as script_calls
 use Rattle.gt_flow_runs.specs.Secrets.{SameAction, SameButHigh, SameButStored, SameForLow, SameTasks}
 use Rattle.gt_flow_runs.proofs.Redone.{IsRedone, done-again, lists_after, redone_events, same-passed}
 use Rattle.gt_flow_runs.proofs.Followed.{IsOwn, SameList, follows-too, own-redone, same-doer}
@@ -134,14 +134,14 @@ texts-have-others high one other text closed same (hs, order) =
 -- each of two scripts that are the same so is so by the other
 
 stored-back : (call other : ScriptCall) → SameButStored call other → SameButStored other call
-stored-back (calls.Store label off hex) (calls.Store name at new) (e, f, n) = (sym e, sym f, sym n)
-stored-back (calls.Poke frame off hex) (calls.Poke number at new) (e, f, n) = (sym e, sym f, sym n)
-stored-back (calls.Store label off hex) other same = absurd (let f = same in cc)
-stored-back (calls.Poke frame off hex) other same = absurd (let f = same in cc)
+stored-back (script_calls.Store label off hex) (script_calls.Store name at new) (e, f, n) = (sym e, sym f, sym n)
+stored-back (script_calls.Poke frame off hex) (script_calls.Poke number at new) (e, f, n) = (sym e, sym f, sym n)
+stored-back (script_calls.Store label off hex) other same = absurd (let f = same in cc)
+stored-back (script_calls.Poke frame off hex) other same = absurd (let f = same in cc)
 stored-back call other same = subst (λ (c : ScriptCall). SameButStored c call) same (plain call same) where
   plain : (call : ScriptCall) → call ≡ other → SameButStored call call
-  plain (calls.Store label off hex) same = (refl, refl, refl)
-  plain (calls.Poke frame off hex) same = (refl, refl, refl)
+  plain (script_calls.Store label off hex) same = (refl, refl, refl)
+  plain (script_calls.Poke frame off hex) same = (refl, refl, refl)
   plain call same = refl
 
 action-back : (b : Bool) (deed other : RunAction) → SameAction b deed other → SameAction b other deed

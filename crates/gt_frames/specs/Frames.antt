@@ -4,7 +4,7 @@ use Rattle.std.specs.Prelude.{slice_range}
 use Rattle.gt_types.specs.declared.DomId.{DomId}
 use Rattle.gt_types.specs.declared.limits.TheConstants.{FRAME_SIZE}
 use Rattle.gt_types.specs.declared.Dir.TheVariants.{Write}
-use Rattle.gt_types.specs.declared.Use.TheVariants.{Copy as ForCopy}
+use Rattle.gt_types.specs.declared.Use.TheVariants as uses
 use Rattle.gt_model.specs.declared.entry.Entry.{Entry}
 use Rattle.gt_model.specs.Permits.{permits, forwards, leads_to, is_of_frame}
 use Rattle.gt_frames.specs.declared.writ.WriteBasis.{WriteBasis}
@@ -41,7 +41,7 @@ bytes_at f off len = slice_range (contents f) off (off + len)
 
 -- the entry permits the domain to write this range of this frame
 abbrev pub permits_writing : Entry → DomId → ℕ → ℕ → ℕ → Bool
-permits_writing entry d number off len = is_of_frame entry number && permits entry d Write ForCopy off len
+permits_writing entry d number off len = is_of_frame entry number && permits entry d Write uses.Copy off len
 
 -- the writer may write this range of this frame of the owner's by this basis
 abbrev pub suffices : WriteBasis → DomId → DomId → ℕ → ℕ → ℕ → Bool

@@ -22,7 +22,8 @@ use Rattle.gt_model.specs.declared.trace.Answer.{Answer}
 use Rattle.gt_model.specs.declared.trace.Event.{Event}
 use Rattle.gt_model.specs.declared.trace.Event.TheVariants.{Begin, Tick}
 use Rattle.gt_model.specs.declared.trace.Element.{Element}
-use Rattle.gt_model.specs.declared.trace.Element.TheVariants.{Busy, Idle, NoDomain, Item as Did}
+use Rattle.gt_model.specs.declared.trace.Element.TheVariants.{Busy, Idle, NoDomain}
+use Rattle.gt_model.specs.declared.trace.Element.TheVariants as elements
 use Rattle.gt_model.specs.declared.trace.ItemEvent.{ItemEvent}
 use Rattle.gt_model.specs.declared.trace.ItemEvent.TheVariants.{Began, Stepped}
 use Rattle.gt_model.specs.declared.trace.Item.{Item}
@@ -85,7 +86,7 @@ stepped_told s actor step seen h d own =
     ∙ step_told s d (before_call h d.0) step seen (open_call h d.0)
 
 item_tick_told : (s : Setting) (h : History) (d : DomId) (actor : DomId) (happened : ItemEvent) (answer : Option Answer) → answer ≡ None
-    → MayDo s h (Tick d) (Did (record { actor = actor; happened = happened; answer = answer }))
+    → MayDo s h (Tick d) (elements.Item (record { actor = actor; happened = happened; answer = answer }))
     → open_hypercall s (record { actor = actor; happened = happened; answer = answer } ∷ h) d ≡ open_hypercall s h d
 item_tick_told s h d actor (Began other) answer none may = absurd may.1.1
 item_tick_told s h d actor (Stepped step seen) None none may = stepped_told s actor step seen h d may.1.0
@@ -96,7 +97,7 @@ tick_told : (s : Setting) (h : History) (d : DomId) (x : Element) → MayDo s h 
 tick_told s h d Busy may none = refl
 tick_told s h d Idle may none = refl
 tick_told s h d NoDomain may none = refl
-tick_told s h d (Did i) may none = item_tick_told s h d i.actor i.happened i.answer none may
+tick_told s h d (elements.Item i) may none = item_tick_told s h d i.actor i.happened i.answer none may
 
 -- ticks that do not answer
 ticks_told : (s : Setting) (h : History) (d : DomId) (n : ℕ) (xs : List Element) → LegalAfter s h (replicate n (Tick d)) xs → AnswerNothing xs → open_hypercall s (history_after h xs) d ≡ open_hypercall s h d
@@ -109,7 +110,7 @@ event_told : (s : Setting) (h : History) (e : Event) (x : Element) (d t : DomId)
 event_told s h e Busy d t own may apart = refl
 event_told s h e Idle d t own may apart = refl
 event_told s h e NoDomain d t own may apart = refl
-event_told s h e (Did i) d t own may apart = other_told s i h t (λ same. apart (sym (ap (λ (u : DomId). u.0) (item_of s h e i d own may)) ∙ same))
+event_told s h e (elements.Item i) d t own may apart = other_told s i h t (λ same. apart (sym (ap (λ (u : DomId). u.0) (item_of s h e i d own may)) ∙ same))
 
 -- another domain's call is told as it was
 events_told : (s : Setting) (h : History) (es : List Event) (xs : List Element) (d t : DomId) → AreOf d es → LegalAfter s h es xs → (d.0 ≡ t.0 → ⊥) → open_hypercall s (history_after h xs) t ≡ open_hypercall s h t
@@ -131,7 +132,7 @@ no_record : (s : Setting) (h : History) (x : Element) → answer_in x ≡ None �
 no_record s h Busy none = refl
 no_record s h Idle none = refl
 no_record s h NoDomain none = refl
-no_record s h (Did i) none = ap (λ (o : Option Answer). record_with i.actor (item_hypercall s h i.actor i.happened) o) none
+no_record s h (elements.Item i) none = ap (λ (o : Option Answer). record_with i.actor (item_hypercall s h i.actor i.happened) o) none
 
 -- elements that answer nothing have no record
 no_records : (s : Setting) (h : History) (xs : List Element) → AnswerNothing xs → records_of s h xs ≡ []
@@ -140,7 +141,7 @@ no_records s h (x ∷ xs) quiet =
     ap (λ (o : Option Record). option_to_list o ++ records_of s (grown h x) xs) (no_record s h x quiet.0) ∙ no_records s (grown h x) xs quiet.1
 
 item_record : (s : Setting) (h : History) (d : DomId) (actor : DomId) (happened : ItemEvent) (answer : Option Answer) (a : Answer) → answer ≡ Some a
-    → MayDo s h (Tick d) (Did (record { actor = actor; happened = happened; answer = answer }))
+    → MayDo s h (Tick d) (elements.Item (record { actor = actor; happened = happened; answer = answer }))
     → record_of s h (record { actor = actor; happened = happened; answer = answer }) ≡ encoded_record d (open_hypercall s h d) a
 item_record s h d actor (Began other) answer a is may = absurd may.1.1
 item_record s h d actor (Stepped step seen) answer a is may =
@@ -151,7 +152,7 @@ tick_record : (s : Setting) (h : History) (d : DomId) (x : Element) (a : Answer)
 tick_record s h d Busy a may is = cc
 tick_record s h d Idle a may is = cc
 tick_record s h d NoDomain a may is = cc
-tick_record s h d (Did i) a may is = item_record s h d i.actor i.happened i.answer a is may
+tick_record s h d (elements.Item i) a may is = item_record s h d i.actor i.happened i.answer a is may
 
 -- ticks of which the last answers
 ticks_record : (s : Setting) (h : History) (d : DomId) (n : ℕ) (before : List Element) (last : Element) (a : Answer) → LegalAfter s h (replicate n (Tick d)) (before ++ last ∷ []) → AnswerNothing before → answer_in last ≡ Some a
@@ -174,19 +175,19 @@ first_record s h d request i a own began is =
     ∙ ap (λ (t : DomId). encoded_record t (hypercall_of_request (subject_at s h t) (asked request)) a) own
 
 -- a call, from its beginning to its answer
-call_record : (s : Setting) (h : History) (d : DomId) (request : Request) (count : ℕ) (i : Item) (xs before : List Element) (last : Element) (a : Answer) → Did i ∷ xs ≡ before ++ last ∷ [] → AnswerNothing before → answer_in last ≡ Some a
-    → LegalAfter s h (call_events d request count) (Did i ∷ xs) → records_of s h (Did i ∷ xs) ≡ option_to_list (encoded_record d (hypercall_of_request (subject_at s h d) (asked request)) a)
+call_record : (s : Setting) (h : History) (d : DomId) (request : Request) (count : ℕ) (i : Item) (xs before : List Element) (last : Element) (a : Answer) → elements.Item i ∷ xs ≡ before ++ last ∷ [] → AnswerNothing before → answer_in last ≡ Some a
+    → LegalAfter s h (call_events d request count) (elements.Item i ∷ xs) → records_of s h (elements.Item i ∷ xs) ≡ option_to_list (encoded_record d (hypercall_of_request (subject_at s h d) (asked request)) a)
 call_record s h d request count i xs [] last a order quiet is legal =
     let none : xs ≡ [] = cc in
-    let same : last ≡ Did i = cc in
+    let same : last ≡ elements.Item i = cc in
     let answer : i.answer ≡ Some a = ap answer_in (sym same) ∙ is in
     ap (λ (l : List Element). option_to_list (record_of s h i) ++ records_of s (i ∷ h) l) none ∙ append-nil (option_to_list (record_of s h i))
     ∙ ap (λ (o : Option Record). option_to_list o) (first_record s h d request i a legal.0.1.0 legal.0.1.1 answer)
 call_record s h d request count i xs (x ∷ before) last a order quiet is legal =
     let rest : xs ≡ before ++ last ∷ [] = cc in
-    let same : x ≡ Did i = cc in
+    let same : x ≡ elements.Item i = cc in
     let none : i.answer ≡ None = ap answer_in (sym same) ∙ quiet.0 in
-    ap (λ (o : Option Record). option_to_list o ++ records_of s (i ∷ h) xs) (no_record s h (Did i) none)
+    ap (λ (o : Option Record). option_to_list o ++ records_of s (i ∷ h) xs) (no_record s h (elements.Item i) none)
     ∙ ap (records_of s (i ∷ h)) rest
     ∙ ticks_record s (i ∷ h) d count before last a (subst (λ (l : List Element). LegalAfter s (i ∷ h) (replicate count (Tick d)) l) rest legal.1) quiet.1 is
     ∙ ap (λ (o : Option Hypercall). option_to_list (encoded_record d o a)) (began_told s i h d request legal.0.1.0 legal.0.1.1 none)
@@ -240,16 +241,16 @@ calls_told s h g d old new known kept stays here n = elim (same_or_apart d.0 n) 
 
 -- a call that came to its answer
 pub audited_call : (s : Setting) (h : History) (d : DomId) (request : Request) (count : ℕ) (i : Item) (xs before : List Element) (last : Element) (a : Answer) (rs new : List Record) (told : ℕ → Option Hypercall) (hyper : Option Hypercall)
-    → Did i ∷ xs ≡ before ++ last ∷ [] → AnswerNothing before → answer_in last ≡ Some a → LegalAfter s h (call_events d request count) (Did i ∷ xs)
-    → hyper ≡ hypercall_of_request (subject_at s h d) (asked request) → new ≡ rs ++ option_to_list (encoded_record d hyper a) → AreTold s h told → Records s h (Did i ∷ xs) rs new told
+    → elements.Item i ∷ xs ≡ before ++ last ∷ [] → AnswerNothing before → answer_in last ≡ Some a → LegalAfter s h (call_events d request count) (elements.Item i ∷ xs)
+    → hyper ≡ hypercall_of_request (subject_at s h d) (asked request) → new ≡ rs ++ option_to_list (encoded_record d hyper a) → AreTold s h told → Records s h (elements.Item i ∷ xs) rs new told
 audited_call s h d request count i xs before last a rs new told hyper order quiet is legal about added known =
     let own : AreOf d (call_events d request count) = (refl, ticks_of d count) in
     let was : open_call h d.0 ≡ None = begins_fresh s h d request i legal.0 in
-    let now : open_call (history_after h (Did i ∷ xs)) d.0 ≡ None = answered_leaves s h d request count i xs before last a order is legal d.0 ∙ was in
+    let now : open_call (history_after h (elements.Item i ∷ xs)) d.0 ≡ None = answered_leaves s h d request count i xs before last a order is legal d.0 ∙ was in
     record {
       records = added ∙ ap (λ (o : Option Hypercall). rs ++ option_to_list (encoded_record d o a)) about ∙ ap (λ (l : List Record). rs ++ l) (sym (call_record s h d request count i xs before last a order quiet is legal));
-      calls = calls_told s h (history_after h (Did i ∷ xs)) d told told known (λ n apart. refl) (λ t apart. events_told s h (call_events d request count) (Did i ∷ xs) d t own legal apart)
-          (known d.0 ∙ closed_told s h d was ∙ sym (closed_told s (history_after h (Did i ∷ xs)) d now));
+      calls = calls_told s h (history_after h (elements.Item i ∷ xs)) d told told known (λ n apart. refl) (λ t apart. events_told s h (call_events d request count) (elements.Item i ∷ xs) d t own legal apart)
+          (known d.0 ∙ closed_told s h d was ∙ sym (closed_told s (history_after h (elements.Item i ∷ xs)) d now));
     }
 
 picked_other : (told : ℕ → Option Hypercall) (hyper : Option Hypercall) (d n : ℕ) → (d ≡ n → ⊥) → cond (n == d) hyper (told n) ≡ told n
@@ -260,13 +261,13 @@ picked_own told hyper d = ap (λ (b : Bool). cond b hyper (told d)) (eq-eqb d d 
 
 -- a call that stays open
 pub audited_begun : (s : Setting) (h : History) (d : DomId) (request : Request) (rs : List Record) (old new : ℕ → Option Hypercall) (hyper : Option Hypercall)
-    → MayDo s h (Begin d request) (Did (record { actor = d; happened = Began request; answer = None })) → hyper ≡ hypercall_of_request (subject_at s h d) (asked request)
-    → ((n : ℕ) → new n ≡ cond (n == d.0) hyper (old n)) → AreTold s h old → Records s h (Did (record { actor = d; happened = Began request; answer = None }) ∷ []) rs rs new
+    → MayDo s h (Begin d request) (elements.Item (record { actor = d; happened = Began request; answer = None })) → hyper ≡ hypercall_of_request (subject_at s h d) (asked request)
+    → ((n : ℕ) → new n ≡ cond (n == d.0) hyper (old n)) → AreTold s h old → Records s h (elements.Item (record { actor = d; happened = Began request; answer = None }) ∷ []) rs rs new
 audited_begun s h d request rs old new hyper may about picked known =
     let i : Item = record { actor = d; happened = Began request; answer = None } in
     record {
       records = sym (append-nil rs);
-      calls = calls_told s h (i ∷ h) d old new known (λ n apart. picked n ∙ picked_other old hyper d.0 n apart) (λ t apart. event_told s h (Begin d request) (Did i) d t refl may apart)
+      calls = calls_told s h (i ∷ h) d old new known (λ n apart. picked n ∙ picked_other old hyper d.0 n apart) (λ t apart. event_told s h (Begin d request) (elements.Item i) d t refl may apart)
           (picked d.0 ∙ picked_own old hyper d.0 ∙ about ∙ sym (began_told s i h d request refl refl refl));
     }
 

@@ -11,7 +11,8 @@ use Rattle.gt_model.specs.declared.trace.Answer.{Answer}
 use Rattle.gt_model.specs.declared.trace.Event.{Event}
 use Rattle.gt_model.specs.declared.trace.Event.TheVariants.{Begin, Tick}
 use Rattle.gt_model.specs.declared.trace.Element.{Element}
-use Rattle.gt_model.specs.declared.trace.Element.TheVariants.{Busy, Idle, NoDomain, Item as Did}
+use Rattle.gt_model.specs.declared.trace.Element.TheVariants.{Busy, Idle, NoDomain}
+use Rattle.gt_model.specs.declared.trace.Element.TheVariants as elements
 use Rattle.gt_model.specs.declared.trace.ItemEvent.{ItemEvent}
 use Rattle.gt_model.specs.declared.trace.ItemEvent.TheVariants.{Began}
 use Rattle.gt_model.specs.declared.trace.Item.{Item}
@@ -28,7 +29,7 @@ ticks_of d zero = tt
 ticks_of d (suc n) = (refl, ticks_of d n)
 
 -- an item is of the domain of its event
-pub item_of : (s : Setting) (h : History) (e : Event) (i : Item) (d : DomId) → actor_of e ≡ d → MayDo s h e (Did i) → i.actor ≡ d
+pub item_of : (s : Setting) (h : History) (e : Event) (i : Item) (d : DomId) → actor_of e ≡ d → MayDo s h e (elements.Item i) → i.actor ≡ d
 item_of s h (Begin t request) i d own may = may.1.0 ∙ own
 item_of s h (Tick t) i d own may = may.1.0 ∙ own
 
@@ -36,7 +37,7 @@ pub event_other : (s : Setting) (h : History) (e : Event) (x : Element) (d : Dom
 event_other s h e Busy d n own may apart = refl
 event_other s h e Idle d n own may apart = refl
 event_other s h e NoDomain d n own may apart = refl
-event_other s h e (Did i) d n own may apart = other_call i h n (λ same. apart (sym (ap (λ (t : DomId). t.0) (item_of s h e i d own may)) ∙ same))
+event_other s h e (elements.Item i) d n own may apart = other_call i h n (λ same. apart (sym (ap (λ (t : DomId). t.0) (item_of s h e i d own may)) ∙ same))
 
 -- another domain's call stays as it is
 pub events_other : (s : Setting) (h : History) (es : List Event) (xs : List Element) (d : DomId) (n : ℕ) → AreOf d es → LegalAfter s h es xs → (d.0 ≡ n → ⊥) → open_call (history_after h xs) n ≡ open_call h n
@@ -52,7 +53,7 @@ pub event_closes : (s : Setting) (h : History) (e : Event) (x : Element) (d : Do
 event_closes s h e Busy d a own may answers = cc
 event_closes s h e Idle d a own may answers = cc
 event_closes s h e NoDomain d a own may answers = cc
-event_closes s h e (Did i) d a own may answers = own_call i h d.0 (ap (λ (t : DomId). t.0) (item_of s h e i d own may)) ∙ closes i (open_call h d.0) a answers
+event_closes s h e (elements.Item i) d a own may answers = own_call i h d.0 (ap (λ (t : DomId). t.0) (item_of s h e i d own may)) ∙ closes i (open_call h d.0) a answers
 
 -- the answer ends the domain's call
 pub events_close : (s : Setting) (h : History) (es : List Event) (xs : List Element) (x : Element) (d : DomId) (a : Answer) → AreOf d es → LegalAfter s h es (xs ++ x ∷ []) → answer_in x ≡ Some a → open_call (history_after h (xs ++ x ∷ [])) d.0 ≡ None
@@ -62,7 +63,7 @@ events_close s h (e ∷ es) [] x d a own legal answers = event_closes s h e x d 
 events_close s h (e ∷ es) (y ∷ xs) x d a own legal answers = events_close s (grown h y) es xs x d a own.1 legal.1 answers
 
 -- a call begins where its domain has none open
-pub begins_fresh : (s : Setting) (h : History) (d : DomId) (request : Request) (i : Item) → MayDo s h (Begin d request) (Did i) → open_call h d.0 ≡ None
+pub begins_fresh : (s : Setting) (h : History) (d : DomId) (request : Request) (i : Item) → MayDo s h (Begin d request) (elements.Item i) → open_call h d.0 ≡ None
 begins_fresh s h d request i may =
     let right : IsRight s h (record { actor = i.actor; happened = Began request; answer = i.answer }) = subst (λ (did : ItemEvent). IsRight s h (record { actor = i.actor; happened = did; answer = i.answer })) may.1.1 may.2 in
     subst (λ (t : DomId). open_call h t.0 ≡ None) may.1.0 right.0
@@ -75,14 +76,14 @@ same_or_apart d n = by (d == n) refl
     by false e = inr (λ same. false≢true (sym e ∙ eq-eqb d n same))
 
 -- a call that was answered left each domain's open call as it was
-pub answered_leaves : (s : Setting) (h : History) (d : DomId) (request : Request) (count : ℕ) (i : Item) (xs before : List Element) (last : Element) (a : Answer) → Did i ∷ xs ≡ before ++ last ∷ [] → answer_in last ≡ Some a
-    → LegalAfter s h (call_events d request count) (Did i ∷ xs) → (n : ℕ) → open_call (history_after h (Did i ∷ xs)) n ≡ open_call h n
+pub answered_leaves : (s : Setting) (h : History) (d : DomId) (request : Request) (count : ℕ) (i : Item) (xs before : List Element) (last : Element) (a : Answer) → elements.Item i ∷ xs ≡ before ++ last ∷ [] → answer_in last ≡ Some a
+    → LegalAfter s h (call_events d request count) (elements.Item i ∷ xs) → (n : ℕ) → open_call (history_after h (elements.Item i ∷ xs)) n ≡ open_call h n
 answered_leaves s h d request count i xs before last a order answers legal n =
     let own : AreOf d (call_events d request count) = (refl, ticks_of d count) in
     let ended : open_call (history_after h (before ++ last ∷ [])) d.0 ≡ None =
     events_close s h (call_events d request count) before last d a own (subst (λ (l : List Element). LegalAfter s h (call_events d request count) l) order legal) answers in
-    let now : open_call (history_after h (Did i ∷ xs)) d.0 ≡ None = subst (λ (l : List Element). open_call (history_after h l) d.0 ≡ None) (sym order) ended in
+    let now : open_call (history_after h (elements.Item i ∷ xs)) d.0 ≡ None = subst (λ (l : List Element). open_call (history_after h l) d.0 ≡ None) (sym order) ended in
     elim (same_or_apart d.0 n) [
-      | inl same ↦ subst (λ (m : ℕ). open_call (history_after h (Did i ∷ xs)) m ≡ open_call h m) same (now ∙ sym (begins_fresh s h d request i legal.0))
-      | inr apart ↦ events_other s h (call_events d request count) (Did i ∷ xs) d n own legal apart
+      | inl same ↦ subst (λ (m : ℕ). open_call (history_after h (elements.Item i ∷ xs)) m ≡ open_call h m) same (now ∙ sym (begins_fresh s h d request i legal.0))
+      | inr apart ↦ events_other s h (call_events d request count) (elements.Item i ∷ xs) d n own legal apart
     ]

@@ -15,7 +15,7 @@ use Rattle.gt_core.specs.Standing.{CoreStands}
 use Rattle.gt_core.specs.Acting.{begun_element}
 use Rattle.gt_core.specs.States.{CoreState}
 use Rattle.gt_core.specs.declared.core_state.Begun.{Begun}
-use Rattle.gt_core.specs.declared.core_state.Begun.TheVariants as begun
+use Rattle.gt_core.specs.declared.core_state.Begun.TheVariants as beginnings
 use Rattle.gt_core.specs.declared.core_state.EntryView.{EntryView}
 use Rattle.gt_model.specs.Asking.{asked, bytes_given_by}
 use Rattle.gt_model.specs.declared.request.Request.{Request}
@@ -23,7 +23,8 @@ use Rattle.gt_model.specs.declared.trace.Answer.{Answer}
 use Rattle.gt_model.specs.declared.trace.Event.{Event}
 use Rattle.gt_model.specs.declared.trace.Event.TheVariants.{Begin, Tick}
 use Rattle.gt_model.specs.declared.trace.Element.{Element}
-use Rattle.gt_model.specs.declared.trace.Element.TheVariants.{Busy, Item as Did}
+use Rattle.gt_model.specs.declared.trace.Element.TheVariants.{Busy}
+use Rattle.gt_model.specs.declared.trace.Element.TheVariants as elements
 use Rattle.gt_model.specs.declared.trace.ItemEvent.TheVariants.{Began}
 use Rattle.gt_model.specs.declared.trace.Item.{Item}
 use Rattle.gt_host.specs.declared.audit.AuditRecords.{AuditRecords}
@@ -109,7 +110,7 @@ do_answered s audit types st call p old new kept next before after request said 
     let made_so = subst (λ (o : Option Answer). HasCalled s (history_of p) st.dom request new o) is made in
     let events : List Event = call_events st.dom request made_so.ticks in
     let ends = made_so.comes.3 in
-    let first : made_so.trace ≡ Did made_so.comes.0 ∷ made_so.comes.1 = made_so.comes.2 in
+    let first : made_so.trace ≡ elements.Item made_so.comes.0 ∷ made_so.comes.1 = made_so.comes.2 in
     let legal = subst (λ (l : List Element). LegalAfter s (history_of p) events l) first made_so.happens.legal in
     let left : (n : ℕ) → open_call (history_after (history_of p) made_so.trace) n ≡ open_call (history_of p) n = λ n.
     subst (λ (l : List Element). open_call (history_after (history_of p) l) n ≡ open_call (history_of p) n) (sym first)
@@ -162,22 +163,22 @@ begun_once s audit types st call p request x named calls text old new kept next 
     )
 
 pub begin_answered : (s : Setting) (audit : Bool) (types : List (List ℕ)) (st : ScriptStep) (call : ScriptCall) (p : Progress) (old new : CoreState) (kept next : PlayState) (before after : List ℕ) (request : Request) (said : Begun) (a : Answer) (hyper : Option Hypercall)
-    → MakesRequest p.named st.dom call request → said ≡ begun.Done a → HasPlayed s audit p old kept → (kept.audit.is_on ≡ true → IsAbout s old st.dom request hyper) → AddsRecord kept next st.dom hyper a → MayDo s (history_of p) (Begin st.dom request) (begun_element st.dom request said) × CoreStands s (grown (history_of p) (begun_element st.dom request said)) new
+    → MakesRequest p.named st.dom call request → said ≡ beginnings.Done a → HasPlayed s audit p old kept → (kept.audit.is_on ≡ true → IsAbout s old st.dom request hyper) → AddsRecord kept next st.dom hyper a → MayDo s (history_of p) (Begin st.dom request) (begun_element st.dom request said) × CoreStands s (grown (history_of p) (begun_element st.dom request said)) new
     → AreNamed next.labels (named_after p.named st.dom st a) → next.calls ≡ kept.calls → after ≡ before ++ answer_line types st.line st.dom a
     → (q : Progress) × BeginLine types st call p q × HasPlayed s audit q new next × IsAppended p.text q.text before after
 begin_answered s audit types st call p old new kept next before after request said a hyper asks is come about adds told names same line =
     let i : Item = record { actor = st.dom; happened = Began request; answer = Some a } in
     let told_so = subst (λ (b : Begun). MayDo s (history_of p) (Begin st.dom request) (begun_element st.dom request b) × CoreStands s (grown (history_of p) (begun_element st.dom request b)) new) is told in
     let was : open_call (history_of p) st.dom.0 ≡ None = begins_fresh s (history_of p) st.dom request i told_so.0 in
-    let now : open_call (i ∷ history_of p) st.dom.0 ≡ None = event_closes s (history_of p) (Begin st.dom request) (Did i) st.dom a refl told_so.0 refl in
-    begun_once s audit types st call p request (Did i) (named_after p.named st.dom st a) p.open_steps (answer_line types st.line st.dom a) old new kept next before after asks come told_so refl names
+    let now : open_call (i ∷ history_of p) st.dom.0 ≡ None = event_closes s (history_of p) (Begin st.dom request) (elements.Item i) st.dom a refl told_so.0 refl in
+    begun_once s audit types st call p request (elements.Item i) (named_after p.named st.dom st a) p.open_steps (answer_line types st.line st.dom a) old new kept next before after asks come told_so refl names
     (λ n. ap (λ (c : OpenCalls). call_in c n) same ∙ come.keeps.calls n) (λ n apart. refl) (come.knows st.dom.0 ∙ ap is_some (was ∙ sym now)) adds.is_on
-    (λ on known. audited_call s (history_of p) st.dom request 0 i [] [] (Did i) a kept.audit.records.items next.audit.records.items (recorded_in next.calls) hyper refl tt refl (told_so.0, tt)
+    (λ on known. audited_call s (history_of p) st.dom request 0 i [] [] (elements.Item i) a kept.audit.records.items next.audit.records.items (recorded_in next.calls) hyper refl tt refl (told_so.0, tt)
     (about on (history_of p) come.stands) adds.records (subst (λ (c : OpenCalls). AreTold s (history_of p) (recorded_in c)) (sym same) known))
     line
 
 pub begin_busy : (s : Setting) (audit : Bool) (types : List (List ℕ)) (st : ScriptStep) (call : ScriptCall) (p : Progress) (old new : CoreState) (kept : PlayState) (before after : List ℕ) (request : Request) (said : Begun)
-    → MakesRequest p.named st.dom call request → said ≡ begun.Busy → HasPlayed s audit p old kept → MayDo s (history_of p) (Begin st.dom request) (begun_element st.dom request said) × CoreStands s (grown (history_of p) (begun_element st.dom request said)) new
+    → MakesRequest p.named st.dom call request → said ≡ beginnings.Busy → HasPlayed s audit p old kept → MayDo s (history_of p) (Begin st.dom request) (begun_element st.dom request said) × CoreStands s (grown (history_of p) (begun_element st.dom request said)) new
     → after ≡ before ++ busy_line st.line st.dom → (q : Progress) × BeginLine types st call p q × HasPlayed s audit q new kept × IsAppended p.text q.text before after
 begin_busy s audit types st call p old new kept before after request said asks is come told line =
     let told_so = subst (λ (b : Begun). MayDo s (history_of p) (Begin st.dom request) (begun_element st.dom request b) × CoreStands s (grown (history_of p) (begun_element st.dom request b)) new) is told in
@@ -186,7 +187,7 @@ begin_busy s audit types st call p old new kept before after request said asks i
 
 begun_open : (s : Setting) (audit : Bool) (types : List (List ℕ)) (st : ScriptStep) (call : ScriptCall) (p : Progress) (old new : CoreState) (kept next : PlayState) (before after : List ℕ) (request : Request) (hyper : Option Hypercall)
     → MakesRequest p.named st.dom call request → HasPlayed s audit p old kept → (kept.audit.is_on ≡ true → IsAbout s old st.dom request hyper) → next.audit ≡ kept.audit → ((n : ℕ) → recorded_in next.calls n ≡ cond (n == st.dom.0) hyper (recorded_in kept.calls n))
-    → MayDo s (history_of p) (Begin st.dom request) (Did (record { actor = st.dom; happened = Began request; answer = None }))
+    → MayDo s (history_of p) (Begin st.dom request) (elements.Item (record { actor = st.dom; happened = Began request; answer = None }))
     × CoreStands s (record { actor = st.dom; happened = Began request; answer = None } ∷ history_of p) new
     → next.labels ≡ kept.labels → ((n : ℕ) → call_in next.calls n ≡ cond (n == st.dom.0) (Some st) (call_in kept.calls n)) → after ≡ before
     → (q : Progress) × BeginLine types st call p q × HasPlayed s audit q new next × IsAppended p.text q.text before after
@@ -194,17 +195,17 @@ begun_open s audit types st call p old new kept next before after request hyper 
     let i : Item = record { actor = st.dom; happened = Began request; answer = None } in
     let calls : ℕ → Option ScriptStep = λ n. cond (n == st.dom.0) (Some st) (p.open_steps n) in
     let now : open_call (i ∷ history_of p) st.dom.0 ≡ Some (record { request = asked request; given = bytes_given_by request; steps = [] }) = own_call i (history_of p) st.dom.0 refl in
-    begun_once s audit types st call p request (Did i) p.named calls [] old new kept next before after asks come told
-    (ap (λ (text : List ℕ). record { events = p.events ++ Begin st.dom request ∷ []; trace = p.trace ++ Did i ∷ []; named = p.named; open_steps = calls; text = text }) (sym (append-nil p.text)))
+    begun_once s audit types st call p request (elements.Item i) p.named calls [] old new kept next before after asks come told
+    (ap (λ (text : List ℕ). record { events = p.events ++ Begin st.dom request ∷ []; trace = p.trace ++ elements.Item i ∷ []; named = p.named; open_steps = calls; text = text }) (sym (append-nil p.text)))
     (subst (λ (l : Labels). AreNamed l p.named) (sym same) come.keeps.names)
     (λ n. known n ∙ ap (λ (o : Option ScriptStep). cond (n == st.dom.0) (Some st) o) (come.keeps.calls n))
     (pick_other p.open_steps (Some st) st.dom.0) (ap is_some (pick_own p.open_steps (Some st) st.dom.0) ∙ sym (ap is_some now)) (ap (λ (a : AuditRecords). a.is_on) was_so)
-    (λ on knew. subst (λ (a : AuditRecords). Records s (history_of p) (Did i ∷ []) kept.audit.records.items a.records.items (recorded_in next.calls)) (sym was_so)
+    (λ on knew. subst (λ (a : AuditRecords). Records s (history_of p) (elements.Item i ∷ []) kept.audit.records.items a.records.items (recorded_in next.calls)) (sym was_so)
     (audited_begun s (history_of p) st.dom request kept.audit.records.items (recorded_in kept.calls) (recorded_in next.calls) hyper told.0 (about on (history_of p) come.stands) picked knew))
     (line ∙ sym (append-nil before))
 
 pub begin_open : (s : Setting) (audit : Bool) (types : List (List ℕ)) (st : ScriptStep) (call : ScriptCall) (p : Progress) (old new : CoreState) (kept next : PlayState) (before after : List ℕ) (request : Request) (said : Begun) (hyper : Option Hypercall)
-    → MakesRequest p.named st.dom call request → domain_of s.domains st.dom ≢ None → (said ≡ begun.Open) ⊎ (said ≡ begun.NoDomain) → HasPlayed s audit p old kept
+    → MakesRequest p.named st.dom call request → domain_of s.domains st.dom ≢ None → (said ≡ beginnings.Open) ⊎ (said ≡ beginnings.NoDomain) → HasPlayed s audit p old kept
     → (kept.audit.is_on ≡ true → IsAbout s old st.dom request hyper) → next.audit ≡ kept.audit → ((n : ℕ) → recorded_in next.calls n ≡ cond (n == st.dom.0) hyper (recorded_in kept.calls n))
     → MayDo s (history_of p) (Begin st.dom request) (begun_element st.dom request said) × CoreStands s (grown (history_of p) (begun_element st.dom request said)) new
     → next.labels ≡ kept.labels → ((n : ℕ) → call_in next.calls n ≡ cond (n == st.dom.0) (Some st) (call_in kept.calls n)) → after ≡ before

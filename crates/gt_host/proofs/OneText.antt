@@ -10,7 +10,7 @@ use Rattle.gt_types.specs.declared.DomId.{DomId}
 use Rattle.gt_types.specs.declared.GrantRef.{GrantRef}
 use Rattle.gt_script_lines.specs.declared.calls.ScriptCall.{ScriptCall}
 use Rattle.gt_script.specs.declared.actions.ScriptAction.{ScriptAction}
-use Rattle.gt_script.specs.declared.actions.ScriptAction.TheVariants as actions
+use Rattle.gt_script.specs.declared.actions.ScriptAction.TheVariants as script_actions
 use Rattle.gt_script.specs.Contents.{Contents, type_names}
 use Rattle.gt_script.specs.Script.{ReadsAsScript, Wrong}
 use Rattle.gt_script.specs.declared.script.ScriptStep.{ScriptStep}
@@ -344,12 +344,12 @@ show-together shows t s gref p q one other w is so =
 
 line-together : StaysAlike → ShowsAlike → (t : Setting) (types : List (List ℕ)) (s : ScriptStep) (action : ScriptAction) (p q one other : Progress) → Together t p q → RunsLine t types s action p one → RunsLine t types s action q other
     → Legal t one.events one.trace → Legal t other.events other.trace → Together t one other
-line-together law shows t types s (actions.Do call) p q one other w x y legal lawful = do-together law t types s call p q one other w x y legal lawful
-line-together law shows t types s (actions.Begin call) p q one other w x y legal lawful = begin-together law t types s call p q one other w x y legal lawful
-line-together law shows t types s (actions.Tick most) p q one other w x y legal lawful =
+line-together law shows t types s (script_actions.Do call) p q one other w x y legal lawful = do-together law t types s call p q one other w x y legal lawful
+line-together law shows t types s (script_actions.Begin call) p q one other w x y legal lawful = begin-together law t types s call p q one other w x y legal lawful
+line-together law shows t types s (script_actions.Tick most) p q one other w x y legal lawful =
     tick-together law t types s most (q.open_steps s.dom.0) p q one other w
     (subst (λ (f : ℕ → Option ScriptStep). TickLine types s most (f s.dom.0) p one) w.opens x) y legal lawful
-line-together law shows t types s (actions.Show gref) p q one other w x y legal lawful = show-together shows t s gref p q one other w x y
+line-together law shows t types s (script_actions.Show gref) p q one other w x y legal lawful = show-together shows t s gref p q one other w x y
 
 -- the front of a legal run is legal
 
@@ -360,20 +360,20 @@ calls-length d request n xs e =
     omega arith
 
 line-legal : (t : Setting) (types : List (List ℕ)) (s : ScriptStep) (action : ScriptAction) (p q : Progress) → RunsLine t types s action p q → Legal t q.events q.trace → Legal t p.events p.trace
-line-legal t types s (actions.Do call) p q (request, asks, n, xs, o, len, comes, is) legal =
+line-legal t types s (script_actions.Do call) p q (request, asks, n, xs, o, len, comes, is) legal =
     legal-front t [] p.events p.trace (call_events s.dom request n) xs (calls-length s.dom request n xs len)
     (call-legal t types (with_events p (call_events s.dom request n) xs) s o (subst (λ (z : Progress). Legal t z.events z.trace) is legal))
-line-legal t types s (actions.Begin call) p q (request, asks, x, is) legal =
+line-legal t types s (script_actions.Begin call) p q (request, asks, x, is) legal =
     legal-front t [] p.events p.trace (Begin s.dom request ∷ []) (x ∷ []) refl
     (begin-legal t types (with_events p (Begin s.dom request ∷ []) (x ∷ [])) s x (subst (λ (z : Progress). Legal t z.events z.trace) is legal))
-line-legal t types s (actions.Tick most) p q x legal = by (p.open_steps s.dom.0) x
+line-legal t types s (script_actions.Tick most) p q x legal = by (p.open_steps s.dom.0) x
   where
     by : (o : Option ScriptStep) → TickLine types s most o p q → Legal t p.events p.trace
     by None x = subst (λ (z : Progress). Legal t z.events z.trace) x.1 legal
     by (Some begun) (n, xs, a, len, comes, is) =
         legal-front t [] p.events p.trace (replicate n (Tick s.dom)) xs (length-replicate n (Tick s.dom) ∙ sym len)
         (tick-legal t types (with_events p (replicate n (Tick s.dom)) xs) s.dom begun a (subst (λ (z : Progress). Legal t z.events z.trace) is legal))
-line-legal t types s (actions.Show gref) p q is legal = subst (λ (z : Progress). Legal t z.events z.trace) is legal
+line-legal t types s (script_actions.Show gref) p q is legal = subst (λ (z : Progress). Legal t z.events z.trace) is legal
 
 leads-legal : (t : Setting) (types : List (List ℕ)) (steps : List ScriptStep) (p q : Progress) → PlayLeadsTo t types p steps q → Legal t q.events q.trace → Legal t p.events p.trace
 leads-legal t types [] p q e legal = subst (λ (z : Progress). Legal t z.events z.trace) (sym e) legal
@@ -455,12 +455,12 @@ tick-grows types s most (Some begun) p q (n, xs, a, len, comes, is) =
     subst (λ (z : Progress). Grows p.text z.text) (sym is) (ticks-grow types (with_events p (replicate n (Tick s.dom)) xs) s.dom begun a)
 
 line-grows : (t : Setting) (types : List (List ℕ)) (s : ScriptStep) (action : ScriptAction) (p q : Progress) → RunsLine t types s action p q → Grows p.text q.text
-line-grows t types s (actions.Do call) p q (request, asks, n, xs, o, len, comes, is) =
+line-grows t types s (script_actions.Do call) p q (request, asks, n, xs, o, len, comes, is) =
     subst (λ (z : Progress). Grows p.text z.text) (sym is) (call-grows types (with_events p (call_events s.dom request n) xs) s o)
-line-grows t types s (actions.Begin call) p q (request, asks, x, is) =
+line-grows t types s (script_actions.Begin call) p q (request, asks, x, is) =
     subst (λ (z : Progress). Grows p.text z.text) (sym is) (begin-grows types (with_events p (Begin s.dom request ∷ []) (x ∷ [])) s x)
-line-grows t types s (actions.Tick most) p q x = tick-grows types s most (p.open_steps s.dom.0) p q x
-line-grows t types s (actions.Show gref) p q is = (show_line s.line s.dom gref (shown_at t (history_of p) s.dom gref.0), ap (λ (z : Progress). z.text) is)
+line-grows t types s (script_actions.Tick most) p q x = tick-grows types s most (p.open_steps s.dom.0) p q x
+line-grows t types s (script_actions.Show gref) p q is = (show_line s.line s.dom gref (shown_at t (history_of p) s.dom gref.0), ap (λ (z : Progress). z.text) is)
 
 leads-grow : (t : Setting) (types : List (List ℕ)) (steps : List ScriptStep) (p q : Progress) → PlayLeadsTo t types p steps q → Grows p.text q.text
 leads-grow t types [] p q e = subst (λ (z : Progress). Grows p.text z.text) e (grows-none p.text)

@@ -23,9 +23,10 @@ use Rattle.gt_model.specs.declared.trace.ItemEvent.{ItemEvent}
 use Rattle.gt_model.specs.declared.trace.ItemEvent.TheVariants.{Began, Stepped}
 use Rattle.gt_model.specs.declared.trace.Event.TheVariants.{Begin, Tick}
 use Rattle.gt_model.specs.declared.trace.Element.{Element}
-use Rattle.gt_model.specs.declared.trace.Element.TheVariants.{Busy, Idle, NoDomain, Item as Did}
+use Rattle.gt_model.specs.declared.trace.Element.TheVariants.{Busy, Idle, NoDomain}
+use Rattle.gt_model.specs.declared.trace.Element.TheVariants as elements
 use Rattle.gt_core.specs.declared.core_state.Begun.{Begun}
-use Rattle.gt_core.specs.declared.core_state.Begun.TheVariants as begun
+use Rattle.gt_core.specs.declared.core_state.Begun.TheVariants as beginnings
 use Rattle.gt_script_runs.specs.Runs.{answer_in, AnswerNothing}
 use Rattle.gt_host.specs.Ticking.{TicksTo}
 
@@ -68,7 +69,7 @@ step_stays s h actor d step seen c request count own is asks made right =
     )
 
 item_stays : (s : Setting) (h : History) (d : DomId) (actor : DomId) (happened : ItemEvent) (answer : Option Answer) (request : OpenRequest) (count : ℕ) → HasOpen h d.0 request count → answer ≡ None
-    → MayDo s h (Tick d) (Did (record { actor = actor; happened = happened; answer = answer }))
+    → MayDo s h (Tick d) (elements.Item (record { actor = actor; happened = happened; answer = answer }))
     → HasOpen (record { actor = actor; happened = happened; answer = answer } ∷ h) d.0 request (count + 1) × (count + 1 < most_steps request)
 item_stays s h d actor (Began other) answer request count open_now none may = absurd may.1.1
 item_stays s h d actor (Stepped step seen) None request count open_now none may =
@@ -84,7 +85,7 @@ tick_stays : (s : Setting) (h : History) (d : DomId) (x : Element) (request : Op
 tick_stays s h d NoDomain request count known open_now none may = absurd (known may)
 tick_stays s h d Busy request count known open_now none may = absurd may
 tick_stays s h d Idle request count known open_now none may = absurd (Some-None _ open_now.call open_now.is may.1)
-tick_stays s h d (Did i) request count known open_now none may = item_stays s h d i.actor i.happened i.answer request count open_now none may
+tick_stays s h d (elements.Item i) request count known open_now none may = item_stays s h d i.actor i.happened i.answer request count open_now none may
 
 -- ticks of an open call that do not answer it: it stays open, and has steps left
 pub ticks_stay : (s : Setting) (h : History) (d : DomId) (n : ℕ) (xs : List Element) (request : OpenRequest) (count : ℕ) → domain_of s.domains d ≢ None → HasOpen h d.0 request count → AnswerNothing xs
@@ -104,17 +105,17 @@ ticks_stay s h d (suc n) (x ∷ xs) request count known open_now quiet legal =
     )
 
 -- a call that began and is not answered at once
-pub begins_open : (s : Setting) (h : History) (d : DomId) (request : Request) (said : Begun) → domain_of s.domains d ≢ None → (said ≡ begun.Open) ⊎ (said ≡ begun.NoDomain)
+pub begins_open : (s : Setting) (h : History) (d : DomId) (request : Request) (said : Begun) → domain_of s.domains d ≢ None → (said ≡ beginnings.Open) ⊎ (said ≡ beginnings.NoDomain)
     → MayDo s h (Begin d request) (begun_element d request said) → HasOpen (grown h (begun_element d request said)) d.0 (asked request) 0
-begins_open s h d request begun.Open known is may = record {
+begins_open s h d request beginnings.Open known is may = record {
   call = record { request = asked request; given = bytes_given_by request; steps = [] };
   is = own_call (record { actor = d; happened = Began request; answer = None }) h d.0 refl;
   asks = refl;
   made = refl;
 }
-begins_open s h d request (begun.Done answer) known is may = elim is [ inl e ↦ cc | inr e ↦ cc ]
-begins_open s h d request begun.Busy known is may = elim is [ inl e ↦ cc | inr e ↦ cc ]
-begins_open s h d request begun.NoDomain known is may = absurd (known may)
+begins_open s h d request (beginnings.Done answer) known is may = elim is [ inl e ↦ cc | inr e ↦ cc ]
+begins_open s h d request beginnings.Busy known is may = elim is [ inl e ↦ cc | inr e ↦ cc ]
+begins_open s h d request beginnings.NoDomain known is may = absurd (known may)
 
 few_steps : (request : OpenRequest) → most_steps request ≤ MAX_STEPS
 few_steps (asks.Grant gref entry) = omega arith

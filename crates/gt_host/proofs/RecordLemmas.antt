@@ -13,7 +13,7 @@ use Rattle.gt_model.specs.Asking.{asked}
 use Rattle.gt_model.specs.declared.request.Request.{Request}
 use Rattle.gt_model.specs.declared.request.Request.TheVariants as requests
 use Rattle.gt_audit.specs.declared.record.Hypercall.{Hypercall}
-use Rattle.gt_audit.specs.declared.record.Hypercall.TheVariants as calls
+use Rattle.gt_audit.specs.declared.record.Hypercall.TheVariants as hypercalls
 use Rattle.gt_audit.specs.declared.record.Record.{Record}
 use Rattle.gt_audit.specs.declared.record.Reply.{Reply}
 use Rattle.gt_audit.specs.declared.record.Reply.TheVariants as replies
@@ -49,7 +49,7 @@ unmapped q = None
 
 -- what a call is told as, with the subject of its handle
 abbrev filled : Option (DomId × GrantRef) → Option Hypercall → Option Hypercall
-filled subject (Some (calls.Unmap x)) = Some (calls.Unmap subject)
+filled subject (Some (hypercalls.Unmap x)) = Some (hypercalls.Unmap subject)
 filled subject o = o
 
 abbrev subject_of : Subject → Option Handle → Option (DomId × GrantRef)

@@ -12,14 +12,14 @@ use Rattle.gt_model.specs.declared.trace.Answer.{Answer}
 use Rattle.gt_model.specs.declared.trace.Event.{Event}
 use Rattle.gt_model.specs.declared.trace.Event.TheVariants.{Begin, Tick}
 use Rattle.gt_model.specs.declared.trace.Element.{Element}
-use Rattle.gt_model.specs.declared.trace.Element.TheVariants.{Item as Did}
+use Rattle.gt_model.specs.declared.trace.Element.TheVariants as elements
 use Rattle.gt_model.specs.declared.trace.Item.{Item}
 use Rattle.gt_model.specs.declared.trace.ItemEvent.TheVariants.{Began}
 use Rattle.gt_types.specs.Names.{domain_of}
 use Rattle.gt_model.specs.declared.action.Observation.{Observation}
 use Rattle.gt_model.specs.declared.action.Step.{Step}
 use Rattle.gt_core.specs.declared.core_state.Begun.{Begun}
-use Rattle.gt_core.specs.declared.core_state.Begun.TheVariants as begun
+use Rattle.gt_core.specs.declared.core_state.Begun.TheVariants as beginnings
 use Rattle.gt_core.specs.declared.core_state.Ticked.{Ticked}
 use Rattle.gt_core.specs.declared.core_state.Ticked.TheVariants as ticked
 use Rattle.gt_script_runs.specs.Runs.{answer_in, AnswerNothing, EndsWith, EndsAsCall}
@@ -125,7 +125,7 @@ tick_none s h dom most count new all u = record {
 -- calls
 
 -- a call that is answered at once
-pub call_done : (s : Setting) (h : History) (dom : DomId) (request : Request) (said : Begun) (answer : Answer) (new : CoreState) → said ≡ begun.Done answer
+pub call_done : (s : Setting) (h : History) (dom : DomId) (request : Request) (said : Begun) (answer : Answer) (new : CoreState) → said ≡ beginnings.Done answer
     → MayDo s h (Begin dom request) (begun_element dom request said) × CoreStands s (grown h (begun_element dom request said)) new → HasCalled s h dom request new (Some answer)
 call_done s h dom request said answer new is told = record {
   ticks = 0;
@@ -141,7 +141,7 @@ call_done s h dom request said answer new is told = record {
 }
 
 -- a call that does not begin
-pub call_busy : (s : Setting) (h : History) (dom : DomId) (request : Request) (said : Begun) (new : CoreState) → said ≡ begun.Busy
+pub call_busy : (s : Setting) (h : History) (dom : DomId) (request : Request) (said : Begun) (new : CoreState) → said ≡ beginnings.Busy
     → MayDo s h (Begin dom request) (begun_element dom request said) × CoreStands s (grown h (begun_element dom request said)) new → HasCalled s h dom request new None
 call_busy s h dom request said new is told = record {
   ticks = 0;
@@ -151,15 +151,15 @@ call_busy s h dom request said new is told = record {
   happens = happens_one s h (Begin dom request) (begun_element dom request said) new told;
 }
 
-comes_after : (i : Item) (trace : List Element) (answer : Answer) → i.answer ≡ None → EndsWith trace answer → EndsAsCall (Did i ∷ trace) (Some answer)
+comes_after : (i : Item) (trace : List Element) (answer : Answer) → i.answer ≡ None → EndsWith trace answer → EndsAsCall (elements.Item i ∷ trace) (Some answer)
 comes_after i trace answer none ends = (
   i,
   trace,
   refl,
   record {
-    before = Did i ∷ ends.before;
+    before = elements.Item i ∷ ends.before;
     last = ends.last;
-    order = ap (λ (xs : List Element). Did i ∷ xs) ends.order;
+    order = ap (λ (xs : List Element). elements.Item i ∷ xs) ends.order;
     quiet = (none, ends.quiet);
     answers = ends.answers;
   },
@@ -167,16 +167,16 @@ comes_after i trace answer none ends = (
 
 -- a call that began, and then its ticks
 call_with_ticks : (s : Setting) (h : History) (dom : DomId) (most : ℕ) (request : Request) (i : Item) (mid new : CoreState) (answer : Answer) → i.answer ≡ None
-    → MayDo s h (Begin dom request) (Did i) × CoreStands s (i ∷ h) mid → TicksTo s (i ∷ h) dom most new (Some answer) → HasCalled s h dom request new (Some answer)
+    → MayDo s h (Begin dom request) (elements.Item i) × CoreStands s (i ∷ h) mid → TicksTo s (i ∷ h) dom most new (Some answer) → HasCalled s h dom request new (Some answer)
 call_with_ticks s h dom most request i mid new answer none told t = record {
   ticks = t.ticks;
-  trace = Did i ∷ t.trace;
+  trace = elements.Item i ∷ t.trace;
   length_of = let long = t.length_of in omega arith;
   comes = comes_after i t.trace answer none t.comes.0;
-  happens = Happens-append s h (Begin dom request ∷ []) (Did i ∷ []) (replicate t.ticks (Tick dom)) t.trace mid new (happens_one s h (Begin dom request) (Did i) mid told) t.happens;
+  happens = Happens-append s h (Begin dom request ∷ []) (elements.Item i ∷ []) (replicate t.ticks (Tick dom)) t.trace mid new (happens_one s h (Begin dom request) (elements.Item i) mid told) t.happens;
 }
 
-pub call_ticked : (s t : Setting) (h : History) (dom : DomId) (most : ℕ) (request : Request) (began : Begun) (mid new : CoreState) (answer : Answer) (said : Option Answer) → t ≡ s → domain_of s.domains dom ≢ None → (began ≡ begun.Open) ⊎ (began ≡ begun.NoDomain)
+pub call_ticked : (s t : Setting) (h : History) (dom : DomId) (most : ℕ) (request : Request) (began : Begun) (mid new : CoreState) (answer : Answer) (said : Option Answer) → t ≡ s → domain_of s.domains dom ≢ None → (began ≡ beginnings.Open) ⊎ (began ≡ beginnings.NoDomain)
     → MayDo s h (Begin dom request) (begun_element dom request began) × CoreStands s (grown h (begun_element dom request began)) mid → ((g : History) → CoreStands t g mid → TicksTo t g dom most new said) → said ≡ Some answer → HasCalled s h dom request new (Some answer)
 call_ticked s t h dom most request began mid new answer said same configured (inl open_now) told ticks is =
     let known = subst (λ (q : Setting). (g : History) → CoreStands q g mid → TicksTo q g dom most new said) same ticks in

@@ -15,9 +15,9 @@ pub enum StepsFault {
 
 impl From<AllocError> for StepsFault {
     ghost use Rattle.std.specs.Prelude.{◌≡◌};
-    ghost use Rattle.gt_host.specs.declared.fault.StepsFault.TheVariants as faults;
+    ghost use Rattle.gt_host.specs.declared.fault.StepsFault.TheVariants as steps_faults;
 
-    ghost from_gives = { λ _ e. e ≡ faults.Memory };
+    ghost from_gives = { λ _ e. e ≡ steps_faults.Memory };
 
     fn from(_error: AllocError) -> StepsFault {
         StepsFault::Memory
@@ -26,9 +26,9 @@ impl From<AllocError> for StepsFault {
 
 impl<T: Drop> From<AllocFailed<T>> for StepsFault {
     ghost use Rattle.std.specs.Prelude.{◌≡◌};
-    ghost use Rattle.gt_host.specs.declared.fault.StepsFault.TheVariants as faults;
+    ghost use Rattle.gt_host.specs.declared.fault.StepsFault.TheVariants as steps_faults;
 
-    ghost from_gives = { λ _ e. e ≡ faults.Memory };
+    ghost from_gives = { λ _ e. e ≡ steps_faults.Memory };
 
     fn from(_error: AllocFailed<T>) -> StepsFault {
         StepsFault::Memory
@@ -37,9 +37,9 @@ impl<T: Drop> From<AllocFailed<T>> for StepsFault {
 
 impl From<Memory> for StepsFault {
     ghost use Rattle.std.specs.Prelude.{◌≡◌};
-    ghost use Rattle.gt_host.specs.declared.fault.StepsFault.TheVariants as faults;
+    ghost use Rattle.gt_host.specs.declared.fault.StepsFault.TheVariants as steps_faults;
 
-    ghost from_gives = { λ _ e. e ≡ faults.Memory };
+    ghost from_gives = { λ _ e. e ≡ steps_faults.Memory };
 
     fn from(_error: Memory) -> StepsFault {
         StepsFault::Memory
@@ -48,9 +48,9 @@ impl From<Memory> for StepsFault {
 
 impl From<WriteFault> for StepsFault {
     ghost use Rattle.std.specs.Prelude.{◌≡◌};
-    ghost use Rattle.gt_host.specs.declared.fault.StepsFault.TheVariants as faults;
+    ghost use Rattle.gt_host.specs.declared.fault.StepsFault.TheVariants as steps_faults;
 
-    ghost from_gives = { λ _ e. e ≡ faults.Write };
+    ghost from_gives = { λ _ e. e ≡ steps_faults.Write };
 
     fn from(_error: WriteFault) -> StepsFault {
         StepsFault::Write

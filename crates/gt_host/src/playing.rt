@@ -3,7 +3,7 @@ ghost use Rattle.std.specs.Prelude.{◌≡◌, ◌⊎◌, ◌++◌, ℕ, List, t
 ghost use Rattle.std.specs.Option.{option_map};
 ghost use Rattle.gt_script.specs.Contents.{contents_of};
 ghost use Rattle.gt_script.specs.Script.{ReadsAsScript};
-ghost use Rattle.gt_host.specs.declared.fault.StepsFault.TheVariants as faults;
+ghost use Rattle.gt_host.specs.declared.fault.StepsFault.TheVariants as steps_faults;
 ghost use Rattle.gt_host.specs.OpenCalls.{call_in};
 ghost use Rattle.gt_script_runs.specs.Runs.{open_text, open_lines};
 ghost use Rattle.gt_text.specs.Streams.{OfInput, ConsumesAtMost};
@@ -62,7 +62,7 @@ fn run_lines<'s, 'a, W: Write>(
         (W.contents writer.new)) }
     ensures beginning { OnErr result (BeginsRun (contents_of script.now) audit
         (W.contents writer.old) (W.contents writer.new)) }
-    ensures errors { IfErr result (λ e. (e ≡ faults.Memory) ⊎ (e ≡ faults.Write)) }
+    ensures errors { IfErr result (λ e. (e ≡ steps_faults.Memory) ⊎ (e ≡ steps_faults.Write)) }
 {
     let types = script.type_names(alloc)?;
     let mut kept = PlayState::new(alloc, audit);
@@ -89,7 +89,7 @@ fn run_script<W: Write>(
         (W.contents writer.new)) }
     ensures beginning { OnErr result (BeginsRun (contents_of script.now) audit
         (W.contents writer.old) (W.contents writer.new)) }
-    ensures errors { IfErr result (λ e. (e ≡ faults.Memory) ⊎ (e ≡ faults.Write)) }
+    ensures errors { IfErr result (λ e. (e ≡ steps_faults.Memory) ⊎ (e ≡ steps_faults.Write)) }
 {
     let mut core = core_of(alloc, script)?;
     run_lines(alloc, &mut core, script, writer, audit)

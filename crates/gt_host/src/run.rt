@@ -9,7 +9,7 @@ ghost use Rattle.gt_script_runs.specs.Printing.{answer_line};
 ghost use Rattle.gt_script_runs.specs.Runs.{call_bytes as bytes_in_call, label_said, DoLine, BeginLine, TickLine, RunsLine};
 ghost use Rattle.gt_script_runs.specs.Naming.{NamesMapping};
 ghost use Rattle.gt_host.specs.Ticking.{IsReadyToCall, HasCalled, TicksTo, Leads};
-ghost use Rattle.gt_host.specs.declared.fault.StepsFault.TheVariants as faults;
+ghost use Rattle.gt_host.specs.declared.fault.StepsFault.TheVariants as steps_faults;
 
 use crate::fault::StepsFault;
 use crate::kept::PlayState;
@@ -122,7 +122,7 @@ fn run_do<'b, 'a, P: Allows>(
         core.old.state core.new.state kept.old kept.new out.old.items out.new.items) }
     ensures config { core.new.config ≡ core.old.config }
     ensures rights { core.new.rights ≡ core.old.rights }
-    ensures errors { IfErr result (λ e. e ≡ faults.Memory) }
+    ensures errors { IfErr result (λ e. e ≡ steps_faults.Memory) }
 {
     let dom = step.dom;
     let request = request_of(&kept.labels, dom, given.bytes, given.call);
@@ -158,7 +158,7 @@ fn run_begin<'b, 'a, P: Allows>(
         core.old.state core.new.state kept.old kept.new out.old.items out.new.items) }
     ensures config { core.new.config ≡ core.old.config }
     ensures rights { core.new.rights ≡ core.old.rights }
-    ensures errors { IfErr result (λ e. e ≡ faults.Memory) }
+    ensures errors { IfErr result (λ e. e ≡ steps_faults.Memory) }
 {
     let dom = step.dom;
     let request = request_of(&kept.labels, dom, given.bytes, given.call);
@@ -195,7 +195,7 @@ fn run_ticks<'b, 'a, P: Allows>(
         core.old.state core.new.state kept.old kept.new out.old.items out.new.items) }
     ensures config { core.new.config ≡ core.old.config }
     ensures rights { core.new.rights ≡ core.old.rights }
-    ensures errors { IfErr result (λ e. e ≡ faults.Memory) }
+    ensures errors { IfErr result (λ e. e ≡ steps_faults.Memory) }
 {
     let Some(begun) = kept.calls.of(step.dom) else {
         push_idle_line(out, step.line, step.dom)?;
@@ -229,7 +229,7 @@ pub fn run_step<'b, 'a, P: Allows>(
         core.old.state core.new.state kept.old kept.new out.old.items out.new.items) }
     ensures config { core.new.config ≡ core.old.config }
     ensures rights { core.new.rights ≡ core.old.rights }
-    ensures errors { IfErr result (λ e. e ≡ faults.Memory) }
+    ensures errors { IfErr result (λ e. e ≡ steps_faults.Memory) }
 {
     match &step.action {
         ScriptAction::Do(call) => {

@@ -5,24 +5,24 @@ use Rattle.gt_json.specs.Words.{begins_as_rule}
 use Rattle.gt_json.specs.declared.places.PrintedText.{PrintedText}
 use Rattle.gt_json.specs.declared.places.PrintedText.TheVariants.{Run, Policy, Entries}
 use Rattle.gt_json.specs.declared.places.WordPlace.{WordPlace}
-use Rattle.gt_json.specs.declared.places.WordPlace.TheVariants as place
+use Rattle.gt_json.specs.declared.places.WordPlace.TheVariants as word_places
 
 -- the first word of a line
 abbrev pub start : PrintedText → WordPlace
-start Run = place.Line
-start Policy = place.Source
-start Entries = place.Dumped
+start Run = word_places.Line
+start Policy = word_places.Source
+start Entries = word_places.Dumped
 
 -- this is the first word of a line
 abbrev pub is_start : WordPlace → Bool
-is_start place.Line = true
-is_start place.Source = true
-is_start place.Dumped = true
+is_start word_places.Line = true
+is_start word_places.Source = true
+is_start word_places.Dumped = true
 is_start _ = false
 
 -- this is a fact, which may have its own name
 abbrev pub is_fact : WordPlace → Bool
-is_fact place.Fact = true
+is_fact word_places.Fact = true
 is_fact _ = false
 
 -- the word is the colon before the answer of an audit line, which is not a member
@@ -31,87 +31,89 @@ is_mark p w = not (is_start p) && bytes_eq w (codes ":")
 
 -- the word after the first one of a line of a run
 abbrev pub after_line : List ℕ → WordPlace
-after_line w = if bytes_eq w (codes "audit") then place.Recorded
-    else (if bytes_eq w (codes "lost") then place.Lost else place.Caller)
+after_line w = if bytes_eq w (codes "audit") then word_places.Recorded
+    else (if bytes_eq w (codes "lost") then word_places.Lost else word_places.Caller)
 
 -- the word after the kind of an entry
 abbrev pub after_kind : List ℕ → WordPlace
-after_kind w = if (bytes_eq w (codes "page") || bytes_eq w (codes "sub")) || bytes_eq w (codes "via") then place.Grantee
-    else (if bytes_eq w (codes "refused") then place.Field else place.Fact)
+after_kind w =
+    if (bytes_eq w (codes "page") || bytes_eq w (codes "sub")) || bytes_eq w (codes "via") then word_places.Grantee
+    else (if bytes_eq w (codes "refused") then word_places.Field else word_places.Fact)
 
 -- the word after the name of a call
 abbrev pub after_call : List ℕ → WordPlace
-after_call w = if bytes_eq w (codes "copy") then place.FromKind
-    else (if bytes_eq w (codes "version") || bytes_eq w (codes "setup") then place.Asked else place.Owner)
+after_call w = if bytes_eq w (codes "copy") then word_places.FromKind
+    else (if bytes_eq w (codes "version") || bytes_eq w (codes "setup") then word_places.Asked else word_places.Owner)
 
 -- the word after one that is a member
 abbrev pub next_place : WordPlace → List ℕ → WordPlace
-next_place place.Line w = after_line w
-next_place place.Caller w = if bytes_eq w (codes "show") then place.Shown else place.Answer
-next_place place.Answer w = if begins_as_rule w then place.Status else place.Fact
-next_place place.Status w = place.Fact
-next_place place.Fact w = place.Fact
-next_place place.Shown w = place.Entry
-next_place place.Entry w = place.Kind
-next_place place.Kind w = after_kind w
-next_place place.Grantee w = place.Mode
-next_place place.Mode w = place.Fact
-next_place place.Field w = place.Fact
-next_place place.Recorded w = place.Call
-next_place place.Call w = after_call w
-next_place place.Owner w = place.Reference
-next_place place.Reference w = place.Flags
-next_place place.Flags w = place.Fact
-next_place place.Asked w = place.Fact
-next_place place.FromKind w = place.FromOwner
-next_place place.FromOwner w = place.FromAt
-next_place place.FromAt w = place.FromOff
-next_place place.FromOff w = place.ToKind
-next_place place.ToKind w = place.ToOwner
-next_place place.ToOwner w = place.ToAt
-next_place place.ToAt w = place.ToOff
-next_place place.ToOff w = place.Len
-next_place place.Len w = place.Flags
-next_place place.Lost w = place.Fact
-next_place place.Source w = place.Target
-next_place place.Target w = place.Permission
-next_place place.Permission w = place.Fact
-next_place place.Dumped w = place.Kind
+next_place word_places.Line w = after_line w
+next_place word_places.Caller w = if bytes_eq w (codes "show") then word_places.Shown else word_places.Answer
+next_place word_places.Answer w = if begins_as_rule w then word_places.Status else word_places.Fact
+next_place word_places.Status w = word_places.Fact
+next_place word_places.Fact w = word_places.Fact
+next_place word_places.Shown w = word_places.Entry
+next_place word_places.Entry w = word_places.Kind
+next_place word_places.Kind w = after_kind w
+next_place word_places.Grantee w = word_places.Mode
+next_place word_places.Mode w = word_places.Fact
+next_place word_places.Field w = word_places.Fact
+next_place word_places.Recorded w = word_places.Call
+next_place word_places.Call w = after_call w
+next_place word_places.Owner w = word_places.Reference
+next_place word_places.Reference w = word_places.Flags
+next_place word_places.Flags w = word_places.Fact
+next_place word_places.Asked w = word_places.Fact
+next_place word_places.FromKind w = word_places.FromOwner
+next_place word_places.FromOwner w = word_places.FromAt
+next_place word_places.FromAt w = word_places.FromOff
+next_place word_places.FromOff w = word_places.ToKind
+next_place word_places.ToKind w = word_places.ToOwner
+next_place word_places.ToOwner w = word_places.ToAt
+next_place word_places.ToAt w = word_places.ToOff
+next_place word_places.ToOff w = word_places.Len
+next_place word_places.Len w = word_places.Flags
+next_place word_places.Lost w = word_places.Fact
+next_place word_places.Source w = word_places.Target
+next_place word_places.Target w = word_places.Permission
+next_place word_places.Permission w = word_places.Fact
+next_place word_places.Dumped w = word_places.Kind
 
 -- the word after this one
 unfoldable pub next : WordPlace → List ℕ → WordPlace
-next p w = if is_mark p w then place.Answer else next_place p w
+next p w = if is_mark p w then word_places.Answer else next_place p w
 
 -- the name of the word; for a fact, that of one without its own name
 unfoldable pub name_at : WordPlace → List ℕ → List ℕ
-name_at place.Line w = if bytes_eq w (codes "audit") || bytes_eq w (codes "lost") then codes "type" else codes "line"
-name_at place.Caller w = if bytes_eq w (codes "show") then codes "type" else codes "domain"
-name_at place.Answer w = if begins_as_rule w then codes "rule" else codes "answer"
-name_at place.Status w = codes "status"
-name_at place.Fact w = codes "bytes"
-name_at place.Shown w = codes "domain"
-name_at place.Entry w = codes "entry"
-name_at place.Kind w = codes "kind"
-name_at place.Grantee w = codes "grantee"
-name_at place.Mode w = codes "mode"
-name_at place.Field w = codes "field"
-name_at place.Recorded w = codes "domain"
-name_at place.Call w = codes "call"
-name_at place.Owner w = codes "owner"
-name_at place.Reference w = codes "ref"
-name_at place.Flags w = codes "flags"
-name_at place.Asked w = codes "asked"
-name_at place.FromKind w = codes "from_kind"
-name_at place.FromOwner w = codes "from_owner"
-name_at place.FromAt w = codes "from_at"
-name_at place.FromOff w = codes "from_off"
-name_at place.ToKind w = codes "to_kind"
-name_at place.ToOwner w = codes "to_owner"
-name_at place.ToAt w = codes "to_at"
-name_at place.ToOff w = codes "to_off"
-name_at place.Len w = codes "len"
-name_at place.Lost w = codes "records"
-name_at place.Source w = codes "source"
-name_at place.Target w = codes "target"
-name_at place.Permission w = codes "perm"
-name_at place.Dumped w = codes "entry"
+name_at word_places.Line w =
+    if bytes_eq w (codes "audit") || bytes_eq w (codes "lost") then codes "type" else codes "line"
+name_at word_places.Caller w = if bytes_eq w (codes "show") then codes "type" else codes "domain"
+name_at word_places.Answer w = if begins_as_rule w then codes "rule" else codes "answer"
+name_at word_places.Status w = codes "status"
+name_at word_places.Fact w = codes "bytes"
+name_at word_places.Shown w = codes "domain"
+name_at word_places.Entry w = codes "entry"
+name_at word_places.Kind w = codes "kind"
+name_at word_places.Grantee w = codes "grantee"
+name_at word_places.Mode w = codes "mode"
+name_at word_places.Field w = codes "field"
+name_at word_places.Recorded w = codes "domain"
+name_at word_places.Call w = codes "call"
+name_at word_places.Owner w = codes "owner"
+name_at word_places.Reference w = codes "ref"
+name_at word_places.Flags w = codes "flags"
+name_at word_places.Asked w = codes "asked"
+name_at word_places.FromKind w = codes "from_kind"
+name_at word_places.FromOwner w = codes "from_owner"
+name_at word_places.FromAt w = codes "from_at"
+name_at word_places.FromOff w = codes "from_off"
+name_at word_places.ToKind w = codes "to_kind"
+name_at word_places.ToOwner w = codes "to_owner"
+name_at word_places.ToAt w = codes "to_at"
+name_at word_places.ToOff w = codes "to_off"
+name_at word_places.Len w = codes "len"
+name_at word_places.Lost w = codes "records"
+name_at word_places.Source w = codes "source"
+name_at word_places.Target w = codes "target"
+name_at word_places.Permission w = codes "perm"
+name_at word_places.Dumped w = codes "entry"

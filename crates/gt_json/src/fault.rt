@@ -13,9 +13,9 @@ pub enum JsonFault {
 
 impl From<AllocError> for JsonFault {
     ghost use Rattle.std.specs.Prelude.{◌≡◌};
-    ghost use Rattle.gt_json.specs.declared.fault.JsonFault.TheVariants as faults;
+    ghost use Rattle.gt_json.specs.declared.fault.JsonFault.TheVariants as json_faults;
 
-    ghost from_gives = { λ _ fault. fault ≡ faults.Memory };
+    ghost from_gives = { λ _ fault. fault ≡ json_faults.Memory };
 
     fn from(_error: AllocError) -> JsonFault {
         JsonFault::Memory
@@ -24,9 +24,9 @@ impl From<AllocError> for JsonFault {
 
 impl From<WriteFault> for JsonFault {
     ghost use Rattle.std.specs.Prelude.{◌≡◌};
-    ghost use Rattle.gt_json.specs.declared.fault.JsonFault.TheVariants as faults;
+    ghost use Rattle.gt_json.specs.declared.fault.JsonFault.TheVariants as json_faults;
 
-    ghost from_gives = { λ _ fault. fault ≡ faults.Write };
+    ghost from_gives = { λ _ fault. fault ≡ json_faults.Write };
 
     fn from(_error: WriteFault) -> JsonFault {
         JsonFault::Write

@@ -9,7 +9,7 @@ use Rattle.gt_types.specs.declared.DomId.{DomId}
 use Rattle.gt_types.specs.declared.Dir.{Dir}
 use Rattle.gt_types.specs.declared.Dir.TheVariants.{Read, Write}
 use Rattle.gt_types.specs.declared.Use.{Use}
-use Rattle.gt_types.specs.declared.Use.TheVariants.{Map as ForMap}
+use Rattle.gt_types.specs.declared.Use.TheVariants as uses
 use Rattle.gt_types.specs.declared.denial.Denial.{Denial}
 use Rattle.gt_types.specs.declared.denial.Facts.{Facts}
 use Rattle.gt_types.specs.declared.denial.Facts.TheVariants as facts
@@ -26,7 +26,7 @@ use Rattle.gt_access.specs.Routes.{IsPinnedFor, ServesAccess}
 use Rattle.gt_frames.specs.Receipts.{Writing}
 use Rattle.gt_model.specs.declared.action.Observation.TheVariants.{Nothing}
 use Rattle.gt_model.specs.declared.action.Step.{Step}
-use Rattle.gt_model.specs.declared.action.Step.TheVariants.{Write as WriteBytes}
+use Rattle.gt_model.specs.declared.action.Step.TheVariants as call_steps
 use Rattle.gt_model.specs.declared.action.CallResult.{CallResult}
 use Rattle.gt_model.specs.declared.action.CallResult.TheVariants.{Granted, Refused}
 use Rattle.gt_model.specs.declared.held.AccessPath.{AccessPath}
@@ -49,14 +49,14 @@ use Rattle.gt_live.specs.Walks.{Called, CarriesFound}
 use Rattle.gt_live.proofs.AnsweredAtOnce.{refused-once}
 
 -- what permits a mapping permits it any range
-any-range : (e : Entry) (d : DomId) (dir : Dir) (off len : ℕ) → permits e d dir ForMap 0 0 ≡ true → permits e d dir ForMap off len ≡ true
+any-range : (e : Entry) (d : DomId) (dir : Dir) (off len : ℕ) → permits e d dir uses.Map 0 0 ≡ true → permits e d dir uses.Map off len ≡ true
 any-range Invalid d dir off len is = is
 any-range (Page dom ro frame) d dir off len is = is
 any-range (Via dom ro dom2 gref) d dir off len is = is
 any-range (Sub dom ro frame start size) d dir off len is = grind (arith, nat_tests)
 
 -- what permits writing permits reading
-to-read : (e : Entry) (d : DomId) (dir : Dir) (off len : ℕ) → permits e d dir ForMap off len ≡ true → permits e d Read ForMap off len ≡ true
+to-read : (e : Entry) (d : DomId) (dir : Dir) (off len : ℕ) → permits e d dir uses.Map off len ≡ true → permits e d Read uses.Map off len ≡ true
 to-read e d Read off len is = is
 to-read Invalid d Write off len is = is
 to-read (Page dom ro frame) d Write off len is = grind (arith, nat_tests)
@@ -70,9 +70,9 @@ of-its-frame (Page dom ro frame) d dir purpose off len is = eq-eqb frame frame r
 of-its-frame (Sub dom ro frame start size) d dir purpose off len is = eq-eqb frame frame refl
 of-its-frame (Via dom ro dom2 gref) d dir purpose off len is = cc
 
-serving : (e : Entry) (d : DomId) (dir own : Dir) (off len : ℕ) → (dir ≡ Write → own ≡ Write) → permits e d own ForMap off len ≡ true → permits e d dir ForMap off len ≡ true
+serving : (e : Entry) (d : DomId) (dir own : Dir) (off len : ℕ) → (dir ≡ Write → own ≡ Write) → permits e d own uses.Map off len ≡ true → permits e d dir uses.Map off len ≡ true
 serving e d Read own off len so is = to-read e d own off len is
-serving e d Write own off len so is = subst (λ (x : Dir). permits e d x ForMap off len ≡ true) (so refl) is
+serving e d Write own off len so is = subst (λ (x : Dir). permits e d x uses.Map off len ≡ true) (so refl) is
 
 pub serves : (p : HeldPin) (dir : Dir) → (dir ≡ Write → p.dir ≡ Write) → ServesAccess dir p
 serves p Read so = tt
@@ -80,14 +80,14 @@ serves p Write so = so refl
 
 -- a mapping reaches any range of its frame, to write where its pin is a write pin
 pub reaches-mapped : (k : Layout) (ds : List DomainConfig) (may : AllowRelation) (s : SeatOf) (p : HeldPin) (dir : Dir) (number off len : ℕ) → IsMappingOf k ds may s.dom s.view p → (dir ≡ Write → p.dir ≡ Write) → number ≡ frame_of p.entry
-    → IsPinnedFor k s s.dom dir ForMap (frame_named p.dom number) off len p
+    → IsPinnedFor k s s.dom dir uses.Map (frame_named p.dom number) off len p
 reaches-mapped k ds may s p dir number off len is so frame =
     let some = any-range p.entry s.dom p.dir off len is.permitted in
     record {
       pin = is.pin;
       serves = serves p dir so;
       owner_is = refl;
-      of_frame = ap (λ (n : ℕ). is_of_frame p.entry n) frame ∙ of-its-frame p.entry s.dom p.dir ForMap off len some;
+      of_frame = ap (λ (n : ℕ). is_of_frame p.entry n) frame ∙ of-its-frame p.entry s.dom p.dir uses.Map off len some;
       permitted = serving p.entry s.dom dir p.dir off len so some;
     }
 
@@ -186,7 +186,7 @@ one-access b way access tells (Err denial) v w is e ok same err cause = inr (acc
 
 -- a write by the route that its request names
 pub named-route : (k : Layout) (d : Domain) (request : Request) (dom : DomId) (frame off len : ℕ) (route : AccessPath) (result : Result Writing Denial) (v w : View) → NamesRoute d request route
-    → IfOk result (λ (r : Writing). WritesFrame k (frame_named dom frame) off (bytes_given_by request) d.seat.dom route r v w) → IfOk result (λ (r : Writing). IsWrittenBy k d request (WriteBytes dom frame off len) r v w)
+    → IfOk result (λ (r : Writing). WritesFrame k (frame_named dom frame) off (bytes_given_by request) d.seat.dom route r v w) → IfOk result (λ (r : Writing). IsWrittenBy k d request (call_steps.Write dom frame off len) r v w)
 named-route k d request dom frame off len route (Ok r) v w named written = (route, named, written)
 named-route k d request dom frame off len route (Err denial) v w named written = tt
 

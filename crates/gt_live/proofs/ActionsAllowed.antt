@@ -10,12 +10,12 @@ use Rattle.gt_types.specs.declared.DomId.{DomId}
 use Rattle.gt_types.specs.declared.GrantRef.{GrantRef}
 use Rattle.gt_types.specs.declared.Dir.{Dir}
 use Rattle.gt_types.specs.declared.Dir.TheVariants.{Write}
-use Rattle.gt_types.specs.declared.Use.TheVariants.{Map as ForMap}
+use Rattle.gt_types.specs.declared.Use.TheVariants as uses
 use Rattle.gt_types.specs.Names.{domain_of, resolved}
 use Rattle.gt_model.specs.declared.entry.Entry.{Entry}
 use Rattle.gt_model.specs.declared.entry.Entry.TheVariants.{Invalid, Page, Sub, Via}
 use Rattle.gt_model.specs.declared.control.EntryKind.{EntryKind}
-use Rattle.gt_model.specs.declared.control.EntryKind.TheVariants.{Page as KindPage, Sub as KindSub}
+use Rattle.gt_model.specs.declared.control.EntryKind.TheVariants as kinds
 use Rattle.gt_model.specs.Entries.{is_read_only, raise_of, frame_of, is_invalid}
 use Rattle.gt_model.specs.Permits.{permits}
 use Rattle.gt_model.specs.Spelling.{IsSpelled, idle_word_of, first_body, second_body}
@@ -26,30 +26,29 @@ use Rattle.gt_word_history.specs.Controls.{generation_of, pins_in}
 use Rattle.gt_word_history.specs.Rule.{IsKeptHeader, Layout, id_at, position_in}
 use Rattle.gt_word_history.specs.Views.{HasBody, is_pin, pins_like, IsAmong, LivePin, Seen as Looks, last_of}
 use Rattle.gt_word_history.specs.Views.{last_seen, own_body, live_pins, record_seen, seen, seen_or_none, steps_on}
-use Rattle.gt_model.specs.declared.change.BodyWord.TheVariants.{First as FirstHalf, Second as SecondHalf}
+use Rattle.gt_model.specs.declared.change.BodyWord.TheVariants as body_words
 use Rattle.gt_word_history.specs.declared.view.EntryRecord.{EntryRecord}
 use Rattle.gt_word_history.specs.History.{Moment}
 use Rattle.gt_word_history.specs.declared.view.View.{View}
 use Rattle.gt_model.specs.declared.handle.Handle.{Handle}
-use Rattle.gt_model.specs.declared.action.Action.TheVariants.{Step as Makes}
+use Rattle.gt_model.specs.declared.action.Action.TheVariants as actions
 use Rattle.gt_model.specs.declared.change.EntryChange.{EntryChange}
-use Rattle.gt_model.specs.declared.change.EntryChange.TheVariants.{Publish, Revoke as ToInvalid}
-use Rattle.gt_model.specs.declared.change.EntryChange.TheVariants.{Withdraw as ToWithdrawn, Demote as ToReadOnly}
-use Rattle.gt_model.specs.declared.change.EntryChange.TheVariants.{Promote as ToWritable}
+use Rattle.gt_model.specs.declared.change.EntryChange.TheVariants.{Publish}
+use Rattle.gt_model.specs.declared.change.EntryChange.TheVariants as changes
 use Rattle.gt_model.specs.declared.action.Observation.{Observation}
 use Rattle.gt_model.specs.declared.action.Observation.TheVariants.{Nothing, Word, Taken, Missed}
 use Rattle.gt_model.specs.declared.action.Step.{Step}
 use Rattle.gt_model.specs.declared.action.Step.TheVariants.{LookHeader, LookControl, LookBody, Pin, Unpin, StoreBody}
-use Rattle.gt_model.specs.declared.action.Step.TheVariants.{StoreHeader, Exchange, Read as ReadBytes}
-use Rattle.gt_model.specs.declared.action.Step.TheVariants.{Write as WriteBytes, Copy as CopyBytes}
+use Rattle.gt_model.specs.declared.action.Step.TheVariants.{StoreHeader, Exchange}
+use Rattle.gt_model.specs.declared.action.Step.TheVariants as call_steps
 use Rattle.gt_model.specs.declared.request.OpenRequest.{OpenRequest}
 use Rattle.gt_model.specs.declared.request.OpenRequest.TheVariants as asks
 use Rattle.gt_calls.specs.declared.copying.PinPurpose.{PinPurpose}
 use Rattle.gt_calls.specs.declared.copying.PinPurpose.TheVariants.{Mapping, Source, Dest}
 use Rattle.gt_model.specs.declared.held.HeldPin.{HeldPin}
-use Rattle.gt_model.specs.declared.held.CallPins.{CallPins as HeldPins}
+use Rattle.gt_model.specs.declared.held.CallPins.{CallPins}
 use Rattle.gt_model.specs.declared.leg.Leg.{Leg}
-use Rattle.gt_model.specs.declared.request.PinHolder.TheVariants.{Mapping as ByHandle, Leg as ByLeg}
+use Rattle.gt_model.specs.declared.request.PinHolder.TheVariants as holders
 use Rattle.gt_model.specs.Holding.{last_first}
 use Rattle.gt_model.specs.Path.{Continuation, idle_word, is_stopped, path}
 use Rattle.gt_types.specs.declared.copies.CopyArgs.{CopyArgs}
@@ -124,10 +123,10 @@ pub record Tried (c : CallerKnowledge) (k : Layout) (caller : DomId) (request : 
   pub saw : seen (steps_on (position_in k.ids p.dom) p.gref.0 w) ≡ Some (last_seen (position_in k.ids p.dom) p.gref.0 w)
   pub word : (last_seen (position_in k.ids p.dom) p.gref.0 w).word ≡ p.word
   pub body : HasBody (last_seen (position_in k.ids p.dom) p.gref.0 w)
-  pub page : kind_of p.word ≡ KindPage
+  pub page : kind_of p.word ≡ kinds.Page
   pub spelled : record_seen (last_seen (position_in k.ids p.dom) p.gref.0 w) ≡ entry_record_of p
   pub few : pins_in p.dir p.word < 4095
-  pub permitted : permits p.entry caller p.dir ForMap 0 0 ≡ true
+  pub permitted : permits p.entry caller p.dir uses.Map 0 0 ≡ true
   pub in_frames : nat_le (frame_count_of c.domains p.dom) (frame_of p.entry) ≡ false
 
 -- neither a copy nor a probe waits for nobody
@@ -145,15 +144,15 @@ module _ (c : CallerKnowledge) (k : Layout) (caller : DomId) (v : View) (knows :
   row : (w : View) → IsSame v w → (q : ℕ) → q < TABLE_ENTRIES → last_of q w ≡ record { generation = c.generation q; entry = c.entry q }
   row w same q lt = same.records q ∙ knows.rows q lt
 
-  tried : (request : OpenRequest) (held : HeldPins) (steps : List Moment) (way : Continuation) (p : HeldPin) → WaitsForNobody request → IsWalk k way v steps → RestsOnTry c caller request held way (all_shown steps) p → Tried c k caller request p (view_after steps v)
+  tried : (request : OpenRequest) (held : CallPins) (steps : List Moment) (way : Continuation) (p : HeldPin) → WaitsForNobody request → IsWalk k way v steps → RestsOnTry c caller request held way (all_shown steps) p → Tried c k caller request p (view_after steps v)
   tried request held steps way p waits walk r = by r.aim r.aimed
     where
       of-map : IsOfMap c caller request r.leg → Tried c k caller request p (view_after steps v)
       of-map m =
           let l = r.leg in let w = view_after steps v in let at = position_in k.ids p.dom in
-          let purpose : l.purpose ≡ ForMap = ap (λ (x : Leg). x.purpose) m.leg_is in
+          let purpose : l.purpose ≡ uses.Map = ap (λ (x : Leg). x.purpose) m.leg_is in
           let page = page-seen l p.word purpose r.first in
-          let nosub : is_kind (control_of p.word).kind KindSub ≡ false = ap (λ (x : EntryKind). is_kind x KindSub) page in
+          let nosub : is_kind (control_of p.word).kind kinds.Sub ≡ false = ap (λ (x : EntryKind). is_kind x kinds.Sub) page in
           let saw = read-page k way v steps p.dom p.gref p.word r.body r.second walk r.read nosub in
           let s : Looks = record { word = p.word; first = Some r.body; second = None } in
           let last : last_seen at p.gref.0 w ≡ s = ap seen_or_none saw in
@@ -177,7 +176,7 @@ module _ (c : CallerKnowledge) (k : Layout) (caller : DomId) (v : View) (knows :
             page = page;
             spelled = ap record_seen last ∙ ap (λ (e : Entry). record { generation = generation_of p.word; entry = e }) (page-spelled p.word r.body 0 page ∙ sym spelt);
             few = subst (λ (d : Dir). pins_in d p.word < 4095) (sym dirs) (room-for l p.word p.entry r.last);
-            permitted = ap (λ (d : Dir). permits p.entry caller d ForMap 0 0) dirs ∙ (ap (λ (j : DomId). permits p.entry j l.dir ForMap 0 0) (sym judge) ∙ lets.0);
+            permitted = ap (λ (d : Dir). permits p.entry caller d uses.Map 0 0) dirs ∙ (ap (λ (j : DomId). permits p.entry j l.dir uses.Map 0 0) (sym judge) ∙ lets.0);
             in_frames = ap (λ (d : DomId). nat_le (frame_count_of c.domains d) (frame_of p.entry)) owner ∙ (ap (λ (n : ℕ). nat_le n (frame_of p.entry)) (sym (ap (λ (x : Leg). x.frames) m.leg_is)) ∙ lets.1);
           }
 
@@ -204,19 +203,19 @@ module _ (c : CallerKnowledge) (k : Layout) (caller : DomId) (v : View) (knows :
           (lt, ap (λ (x : EntryRecord). x.entry) (row w same q.0 lt) ∙ which-invalid (c.entry q.0) o.free)
 
       by : (h : BodyWord) → RestsOnGrant request q h word → (q.0 < TABLE_ENTRIES) × ((last_of q.0 w).entry ≡ Invalid)
-      by FirstHalf x = here x.0 x.1
-      by SecondHalf x = here x.0 x.1
+      by body_words.First x = here x.0 x.1
+      by body_words.Second x = here x.0 x.1
 
   -- the body words stored spell the entry
-  stored : (steps : List Moment) (way : Continuation) (q : GrantRef) (e : Entry) → e ≢ Invalid → IsWalk k way v steps → HasStored way q e (all_shown steps) → IsSpelled e (own_body q.0 FirstHalf (view_after steps v)) (own_body q.0 SecondHalf (view_after steps v))
+  stored : (steps : List Moment) (way : Continuation) (q : GrantRef) (e : Entry) → e ≢ Invalid → IsWalk k way v steps → HasStored way q e (all_shown steps) → IsSpelled e (own_body q.0 body_words.First (view_after steps v)) (own_body q.0 body_words.Second (view_after steps v))
   stored steps way q Invalid ne walk r = absurd (ne refl)
-  stored steps way q (Page dom ro frame) ne walk r = (made-last k way v steps [] Nothing (StoreBody q FirstHalf (first_body (Page dom ro frame))) walk r.0 r.1).made.stored
-  stored steps way q (Via dom ro dom2 gref) ne walk r = (made-last k way v steps [] Nothing (StoreBody q FirstHalf (first_body (Via dom ro dom2 gref))) walk r.0 r.1).made.stored
+  stored steps way q (Page dom ro frame) ne walk r = (made-last k way v steps [] Nothing (StoreBody q body_words.First (first_body (Page dom ro frame))) walk r.0 r.1).made.stored
+  stored steps way q (Via dom ro dom2 gref) ne walk r = (made-last k way v steps [] Nothing (StoreBody q body_words.First (first_body (Via dom ro dom2 gref))) walk r.0 r.1).made.stored
   stored steps way q (Sub dom ro frame off len) ne walk r =
       let e = Sub dom ro frame off len in
-      let two = made-last k way v steps (Nothing ∷ []) Nothing (StoreBody q SecondHalf (second_body e)) walk r.0 r.2 in
-      let one = made-last k way v two.rest [] Nothing (StoreBody q FirstHalf (first_body e)) two.walked two.shown_is r.1 in
-      let first : own_body q.0 FirstHalf (view_after steps v) ≡ own_body q.0 FirstHalf (view_after two.rest v) = two.made.other_half FirstHalf (λ z. cc) in
+      let two = made-last k way v steps (Nothing ∷ []) Nothing (StoreBody q body_words.Second (second_body e)) walk r.0 r.2 in
+      let one = made-last k way v two.rest [] Nothing (StoreBody q body_words.First (first_body e)) two.walked two.shown_is r.1 in
+      let first : own_body q.0 body_words.First (view_after steps v) ≡ own_body q.0 body_words.First (view_after two.rest v) = two.made.other_half body_words.First (λ z. cc) in
       (first ∙ one.made.stored, two.made.stored)
 
   -- an owner's exchange that is tried once
@@ -243,7 +242,7 @@ module _ (c : CallerKnowledge) (k : Layout) (caller : DomId) (v : View) (knows :
   own-valid : (w : View) (q : GrantRef) → IsSame v w → q.0 < TABLE_ENTRIES → is_invalid (c.entry q.0) ≡ false → (last_of q.0 w).entry ≢ Invalid
   own-valid w q same lt valid gone = valid-entry (c.entry q.0) valid (ap (λ (x : EntryRecord). x.entry) (sym (row w same q.0 lt)) ∙ gone)
 
-  can-revoke : (request : OpenRequest) (w : View) (q : GrantRef) (looked : ℕ) → IsSame v w → begun c caller request ≡ None → (request ≡ asks.Revoke q) × (looked ≡ idle_word c q) → CanMake k w (Exchange q looked ToInvalid)
+  can-revoke : (request : OpenRequest) (w : View) (q : GrantRef) (looked : ℕ) → IsSame v w → begun c caller request ≡ None → (request ≡ asks.Revoke q) × (looked ≡ idle_word c q) → CanMake k w (Exchange q looked changes.Revoke)
   can-revoke request w q looked same none r =
       let o = opens c caller (asks.Revoke q) (subst (λ (x : OpenRequest). begun c caller x ≡ None) r.0 none) in let lt = in-own q.0 o.in_table in
       (lt, record { idle = r.1 ∙ once w same q lt; some = own-valid w q same lt o.valid })
@@ -254,7 +253,7 @@ module _ (c : CallerKnowledge) (k : Layout) (caller : DomId) (v : View) (knows :
       m.made.1 (sym knows.named ∙ ap (λ (i : ℕ). id_at k.ids i) (sym (after-position m.rest v)))
 
   can-withdraw : (request : OpenRequest) (steps : List Moment) (way : Continuation) (q : GrantRef) (looked : ℕ) → IsWalk k way v steps → IsSame v (view_after steps v) → begun c caller request ≡ None
-      → (request ≡ asks.Withdraw q) × LookedLast way caller q looked [] (all_shown steps) × (is_stopped ToWithdrawn (control_of looked) ≡ false) → CanMake k (view_after steps v) (Exchange q looked ToWithdrawn)
+      → (request ≡ asks.Withdraw q) × LookedLast way caller q looked [] (all_shown steps) × (is_stopped changes.Withdraw (control_of looked) ≡ false) → CanMake k (view_after steps v) (Exchange q looked changes.Withdraw)
   can-withdraw request steps way q looked walk same none r =
       let o = opens c caller (asks.Withdraw q) (subst (λ (x : OpenRequest). begun c caller x ≡ None) r.0 none) in let lt = in-own q.0 o.in_table in
       (lt, record { word_is = own-look steps way q looked walk r.1; some = own-valid (view_after steps v) q same lt o.valid })
@@ -274,18 +273,18 @@ module _ (c : CallerKnowledge) (k : Layout) (caller : DomId) (v : View) (knows :
       )
 
   can-demote : (request : OpenRequest) (steps : List Moment) (way : Continuation) (q : GrantRef) (looked : ℕ) → IsWalk k way v steps → IsSame v (view_after steps v) → begun c caller request ≡ None
-      → (request ≡ asks.Demote q) × LookedLast way caller q looked [] (all_shown steps) × (is_stopped ToReadOnly (control_of looked) ≡ false) → CanMake k (view_after steps v) (Exchange q looked ToReadOnly)
+      → (request ≡ asks.Demote q) × LookedLast way caller q looked [] (all_shown steps) × (is_stopped changes.Demote (control_of looked) ≡ false) → CanMake k (view_after steps v) (Exchange q looked changes.Demote)
   can-demote request steps way q looked walk same none r =
       let o = opens c caller (asks.Demote q) (subst (λ (x : OpenRequest). begun c caller x ≡ None) r.0 none) in
-      let turn = can-turn false ToReadOnly steps way q looked walk same o o.not_already r.1 in
+      let turn = can-turn false changes.Demote steps way q looked walk same o o.not_already r.1 in
       let none_left = ltb-false 0 (pins_in Write looked) r.2 in
       (turn.0, (turn.1, omega (arith, none_left)))
 
   can-promote : (request : OpenRequest) (steps : List Moment) (way : Continuation) (q : GrantRef) (looked : ℕ) → IsWalk k way v steps → IsSame v (view_after steps v) → begun c caller request ≡ None
-      → (request ≡ asks.Promote q) × LookedLast way caller q looked [] (all_shown steps) × (is_stopped ToWritable (control_of looked) ≡ false) → CanMake k (view_after steps v) (Exchange q looked ToWritable)
+      → (request ≡ asks.Promote q) × LookedLast way caller q looked [] (all_shown steps) × (is_stopped changes.Promote (control_of looked) ≡ false) → CanMake k (view_after steps v) (Exchange q looked changes.Promote)
   can-promote request steps way q looked walk same none r =
       let o = opens c caller (asks.Promote q) (subst (λ (x : OpenRequest). begun c caller x ≡ None) r.0 none) in
-      can-turn true ToWritable steps way q looked walk same o (not-false _ o.not_already) r.1
+      can-turn true changes.Promote steps way q looked walk same o (not-false _ o.not_already) r.1
 
   can-header : (request : OpenRequest) (version frames : ℕ) → begun c caller request ≡ None → ((request ≡ asks.SetVersion version) × (frames ≡ c.header.frames)) ⊎ ((request ≡ asks.SetupTable frames) × (version ≡ c.header.version))
       → IsKeptHeader (record { version = version; frames = frames })
@@ -298,8 +297,8 @@ module _ (c : CallerKnowledge) (k : Layout) (caller : DomId) (v : View) (knows :
       record { version = subst (λ (n : ℕ). (n ≡ 1) ⊎ (n ≡ 2)) (sym r.1) knows.header.version; some = omega (arith, larger); few = omega (arith, within) }
 
   -- the step that comes next can be made
-  pub can-make : (request : OpenRequest) (held : HeldPins) (steps : List Moment) (s : Step) → WaitsForNobody request → IsWalk k (path c caller request) v steps → IsSame v (view_after steps v) → last_first held ≡ []
-      → Rests c caller request held (all_shown steps) (Makes s) → CanMake k (view_after steps v) s
+  pub can-make : (request : OpenRequest) (held : CallPins) (steps : List Moment) (s : Step) → WaitsForNobody request → IsWalk k (path c caller request) v steps → IsSame v (view_after steps v) → last_first held ≡ []
+      → Rests c caller request held (all_shown steps) (actions.Step s) → CanMake k (view_after steps v) s
   can-make request held steps (LookHeader d) waits walk same free r = named-run d r.1
   can-make request held steps (LookControl d q) waits walk same free r = by r.1
     where
@@ -316,35 +315,35 @@ module _ (c : CallerKnowledge) (k : Layout) (caller : DomId) (v : View) (knows :
           valid = λ gone. let k1 = t.page in absurd (cc);
           room = t.few;
           permitted = inl (
-            ForMap,
+            uses.Map,
             0,
             0,
-            ap (λ (x : EntryRecord). permits x.entry (id_at k.ids (view_after steps v).position) p.dir ForMap 0 0) t.spelled
-                ∙ (ap (λ (i : ℕ). permits p.entry (id_at k.ids i) p.dir ForMap 0 0) (after-position steps v) ∙ (ap (λ (d : DomId). permits p.entry d p.dir ForMap 0 0) knows.named ∙ t.permitted)),
+            ap (λ (x : EntryRecord). permits x.entry (id_at k.ids (view_after steps v).position) p.dir uses.Map 0 0) t.spelled
+                ∙ (ap (λ (i : ℕ). permits p.entry (id_at k.ids i) p.dir uses.Map 0 0) (after-position steps v) ∙ (ap (λ (d : DomId). permits p.entry d p.dir uses.Map 0 0) knows.named ∙ t.permitted)),
           );
         },
       )
-  can-make request held steps (Unpin p (ByHandle handle)) waits walk same free r =
+  can-make request held steps (Unpin p (holders.Mapping handle)) waits walk same free r =
       let pin = knows.mapped handle p r.1.1 in (pin.run, pin.inside, still-held (view_after steps v) p same pin)
-  can-make request held steps (Unpin p (ByLeg place)) waits walk same free r = let some = r.1.held in absurd (cc)
+  can-make request held steps (Unpin p (holders.Leg place)) waits walk same free r = let some = r.1.held in absurd (cc)
   can-make request held steps (StoreBody q half word) waits walk same free r = can-store request q half word (view_after steps v) same r.0 r.1
   can-make request held steps (StoreHeader version frames) waits walk same free r = can-header request version frames r.0 r.1
   can-make request held steps (Exchange q looked (Publish e)) waits walk same free r = can-publish request steps (path c caller request) q looked e walk same r.0 r.1
-  can-make request held steps (Exchange q looked ToInvalid) waits walk same free r = can-revoke request (view_after steps v) q looked same r.0 r.1
-  can-make request held steps (Exchange q looked ToWithdrawn) waits walk same free r = can-withdraw request steps (path c caller request) q looked walk same r.0 r.1
-  can-make request held steps (Exchange q looked ToReadOnly) waits walk same free r = can-demote request steps (path c caller request) q looked walk same r.0 r.1
-  can-make request held steps (Exchange q looked ToWritable) waits walk same free r = can-promote request steps (path c caller request) q looked walk same r.0 r.1
-  can-make request held steps (ReadBytes d frame off len) waits walk same free r = by r.1
+  can-make request held steps (Exchange q looked changes.Revoke) waits walk same free r = can-revoke request (view_after steps v) q looked same r.0 r.1
+  can-make request held steps (Exchange q looked changes.Withdraw) waits walk same free r = can-withdraw request steps (path c caller request) q looked walk same r.0 r.1
+  can-make request held steps (Exchange q looked changes.Demote) waits walk same free r = can-demote request steps (path c caller request) q looked walk same r.0 r.1
+  can-make request held steps (Exchange q looked changes.Promote) waits walk same free r = can-promote request steps (path c caller request) q looked walk same r.0 r.1
+  can-make request held steps (call_steps.Read d frame off len) waits walk same free r = by r.1
     where
       by : ((handle : Handle) × (request ≡ asks.Load handle off len) × IsMapped c handle d frame) ⊎ ((request ≡ asks.Peek frame off len) × (d ≡ caller)) → ⊥
       by (inl x) = absurd (subst (λ (y : OpenRequest). WaitsForNobody y) x.1 waits)
       by (inr x) = absurd (subst (λ (y : OpenRequest). WaitsForNobody y) x.0 waits)
-  can-make request held steps (WriteBytes d frame off len) waits walk same free r = by r.1
+  can-make request held steps (call_steps.Write d frame off len) waits walk same free r = by r.1
     where
       by : ((handle : Handle) × (request ≡ asks.Store handle off len) × IsMapped c handle d frame) ⊎ ((request ≡ asks.Poke frame off len) × (d ≡ caller)) → ⊥
       by (inl x) = absurd (subst (λ (y : OpenRequest). WaitsForNobody y) x.1 waits)
       by (inr x) = absurd (subst (λ (y : OpenRequest). WaitsForNobody y) x.0 waits)
-  can-make request held steps (CopyBytes from to len) waits walk same free r = absurd (subst (λ (y : OpenRequest). WaitsForNobody y) r.1.of_copy waits)
+  can-make request held steps (call_steps.Copy from to len) waits walk same free r = absurd (subst (λ (y : OpenRequest). WaitsForNobody y) r.1.of_copy waits)
 
   -- what a step that was made left
 
@@ -357,8 +356,8 @@ module _ (c : CallerKnowledge) (k : Layout) (caller : DomId) (v : View) (knows :
         omega (arith, left),
       )
 
-  pub left-pinned : (request : OpenRequest) (held : HeldPins) (steps : List Moment) (p : HeldPin) (w' : View) → WaitsForNobody request → IsWalk k (path c caller request) v steps → IsSame v (view_after steps v)
-      → Rests c caller request held (all_shown steps) (Makes (Pin p)) → Pins k (position_in k.ids p.dom) p.gref.0 p.dir p.word (view_after steps v) w' → MapsBy c k caller request p v w'
+  pub left-pinned : (request : OpenRequest) (held : CallPins) (steps : List Moment) (p : HeldPin) (w' : View) → WaitsForNobody request → IsWalk k (path c caller request) v steps → IsSame v (view_after steps v)
+      → Rests c caller request held (all_shown steps) (actions.Step (Pin p)) → Pins k (position_in k.ids p.dom) p.gref.0 p.dir p.word (view_after steps v) w' → MapsBy c k caller request p v w'
   left-pinned request held steps p w' waits walk same r m =
       let w = view_after steps v in let at = position_in k.ids p.dom in
       let t = tried request held steps (path c caller request) p waits walk r.1 in
@@ -382,16 +381,16 @@ module _ (c : CallerKnowledge) (k : Layout) (caller : DomId) (v : View) (knows :
   left-changed q change w w' lt few same looked m request is = record { asked = is; before = w; same = same; inside = lt; word = looked; changes = m; fresh = few }
 
   -- what the owner's exchange was asked of
-  own-change : (request : OpenRequest) (held : HeldPins) (shown_so : List Observation) (q : GrantRef) (looked : ℕ) (change : EntryChange) → Rests c caller request held shown_so (Makes (Exchange q looked change)) → (q.0 < TABLE_ENTRIES) × (c.generation q.0 + raise_of change < 1048576) × IsOwnChange request
+  own-change : (request : OpenRequest) (held : CallPins) (shown_so : List Observation) (q : GrantRef) (looked : ℕ) (change : EntryChange) → Rests c caller request held shown_so (actions.Step (Exchange q looked change)) → (q.0 < TABLE_ENTRIES) × (c.generation q.0 + raise_of change < 1048576) × IsOwnChange request
   own-change request held shown_so q looked (Publish e) r =
       let o = grant-opens request q e r.0 r.1.0 in let lt = in-own q.0 o.in_table in let few = knows.generations q.0 lt in let worn = o.not_worn in (lt, omega (arith, few, worn), subst (λ (x : OpenRequest). IsOwnChange x) (sym r.1.0) tt)
-  own-change request held shown_so q looked ToInvalid r =
+  own-change request held shown_so q looked changes.Revoke r =
       let o = opens c caller (asks.Revoke q) (subst (λ (x : OpenRequest). begun c caller x ≡ None) r.1.0 r.0) in let lt = in-own q.0 o.in_table in let few = knows.generations q.0 lt in (lt, omega (arith, few), subst (λ (x : OpenRequest). IsOwnChange x) (sym r.1.0) tt)
-  own-change request held shown_so q looked ToWithdrawn r =
+  own-change request held shown_so q looked changes.Withdraw r =
       let o = opens c caller (asks.Withdraw q) (subst (λ (x : OpenRequest). begun c caller x ≡ None) r.1.0 r.0) in let lt = in-own q.0 o.in_table in let few = knows.generations q.0 lt in (lt, omega (arith, few), subst (λ (x : OpenRequest). IsOwnChange x) (sym r.1.0) tt)
-  own-change request held shown_so q looked ToReadOnly r =
+  own-change request held shown_so q looked changes.Demote r =
       let o = opens c caller (asks.Demote q) (subst (λ (x : OpenRequest). begun c caller x ≡ None) r.1.0 r.0) in let lt = in-own q.0 o.in_table in let few = knows.generations q.0 lt in let worn = o.not_worn in (lt, omega (arith, few, worn), subst (λ (x : OpenRequest). IsOwnChange x) (sym r.1.0) tt)
-  own-change request held shown_so q looked ToWritable r =
+  own-change request held shown_so q looked changes.Promote r =
       let o = opens c caller (asks.Promote q) (subst (λ (x : OpenRequest). begun c caller x ≡ None) r.1.0 r.0) in let lt = in-own q.0 o.in_table in let few = knows.generations q.0 lt in let worn = o.not_worn in (lt, omega (arith, few, worn), subst (λ (x : OpenRequest). IsOwnChange x) (sym r.1.0) tt)
 
   header-asked : (request : OpenRequest) (version frames : ℕ) → ((request ≡ asks.SetVersion version) × (frames ≡ c.header.frames)) ⊎ ((request ≡ asks.SetupTable frames) × (version ≡ c.header.version)) → IsHeaderChange request
@@ -399,8 +398,8 @@ module _ (c : CallerKnowledge) (k : Layout) (caller : DomId) (v : View) (knows :
   header-asked request version frames (inr r) = subst (λ (x : OpenRequest). IsHeaderChange x) (sym r.0) tt
 
   -- a call left its seat by what its last step did
-  pub leaves : (request : OpenRequest) (held : HeldPins) (steps : List Moment) (s : Step) (x : Observation) (w' : View) → WaitsForNobody request → IsWalk k (path c caller request) v steps → IsSame v (view_after steps v) → last_first held ≡ []
-      → Rests c caller request held (all_shown steps) (Makes s) → Made k s x (view_after steps v) w' → Leaves c k caller request v w' (effect_of s x)
+  pub leaves : (request : OpenRequest) (held : CallPins) (steps : List Moment) (s : Step) (x : Observation) (w' : View) → WaitsForNobody request → IsWalk k (path c caller request) v steps → IsSame v (view_after steps v) → last_first held ≡ []
+      → Rests c caller request held (all_shown steps) (actions.Step s) → Made k s x (view_after steps v) w' → Leaves c k caller request v w' (effect_of s x)
   leaves request held steps (LookHeader d) (Word n) w' waits walk same free r m = same-then v (view_after steps v) w' same (look-same k (LookHeader d) (Word n) (view_after steps v) w' m tt)
   leaves request held steps (LookControl d q) (Word n) w' waits walk same free r m = same-then v (view_after steps v) w' same (look-same k (LookControl d q) (Word n) (view_after steps v) w' m tt)
   leaves request held steps (LookBody d q half) (Word n) w' waits walk same free r m = same-then v (view_after steps v) w' same (look-same k (LookBody d q half) (Word n) (view_after steps v) w' m tt)
@@ -408,16 +407,16 @@ module _ (c : CallerKnowledge) (k : Layout) (caller : DomId) (v : View) (knows :
   leaves request held steps (StoreHeader version frames) Nothing w' waits walk same free r m = (same-then v (view_after steps v) w' same (look-same k (StoreHeader version frames) Nothing (view_after steps v) w' m tt), header-asked request version frames r.1)
   leaves request held steps (Pin p) Taken w' waits walk same free r m = left-pinned request held steps p w' waits walk same r m
   leaves request held steps (Pin p) (Missed n) w' waits walk same free r m = same-then v (view_after steps v) w' same (look-same k (Pin p) (Missed n) (view_after steps v) w' m tt)
-  leaves request held steps (Unpin p (ByHandle handle)) Nothing w' waits walk same free r m = record { asked = r.1.0; mapping = p; found = r.1.1; before = view_after steps v; same = same; unpins = m }
-  leaves request held steps (Unpin p (ByLeg place)) x w' waits walk same free r m = let some = r.1.held in absurd (cc)
+  leaves request held steps (Unpin p (holders.Mapping handle)) Nothing w' waits walk same free r m = record { asked = r.1.0; mapping = p; found = r.1.1; before = view_after steps v; same = same; unpins = m }
+  leaves request held steps (Unpin p (holders.Leg place)) x w' waits walk same free r m = let some = r.1.held in absurd (cc)
   leaves request held steps (Exchange q looked (Publish e)) Taken w' waits walk same free r m = let o = own-change request held (all_shown steps) q looked (Publish e) r in left-changed q (Publish e) (view_after steps v) w' o.0 o.1 same looked m.changes request o.2
-  leaves request held steps (Exchange q looked ToInvalid) Taken w' waits walk same free r m = let o = own-change request held (all_shown steps) q looked ToInvalid r in left-changed q ToInvalid (view_after steps v) w' o.0 o.1 same looked m.changes request o.2
-  leaves request held steps (Exchange q looked ToWithdrawn) Taken w' waits walk same free r m = let o = own-change request held (all_shown steps) q looked ToWithdrawn r in left-changed q ToWithdrawn (view_after steps v) w' o.0 o.1 same looked m request o.2
-  leaves request held steps (Exchange q looked ToReadOnly) Taken w' waits walk same free r m = let o = own-change request held (all_shown steps) q looked ToReadOnly r in left-changed q ToReadOnly (view_after steps v) w' o.0 o.1 same looked m.changes request o.2
-  leaves request held steps (Exchange q looked ToWritable) Taken w' waits walk same free r m = let o = own-change request held (all_shown steps) q looked ToWritable r in left-changed q ToWritable (view_after steps v) w' o.0 o.1 same looked m request o.2
+  leaves request held steps (Exchange q looked changes.Revoke) Taken w' waits walk same free r m = let o = own-change request held (all_shown steps) q looked changes.Revoke r in left-changed q changes.Revoke (view_after steps v) w' o.0 o.1 same looked m.changes request o.2
+  leaves request held steps (Exchange q looked changes.Withdraw) Taken w' waits walk same free r m = let o = own-change request held (all_shown steps) q looked changes.Withdraw r in left-changed q changes.Withdraw (view_after steps v) w' o.0 o.1 same looked m request o.2
+  leaves request held steps (Exchange q looked changes.Demote) Taken w' waits walk same free r m = let o = own-change request held (all_shown steps) q looked changes.Demote r in left-changed q changes.Demote (view_after steps v) w' o.0 o.1 same looked m.changes request o.2
+  leaves request held steps (Exchange q looked changes.Promote) Taken w' waits walk same free r m = let o = own-change request held (all_shown steps) q looked changes.Promote r in left-changed q changes.Promote (view_after steps v) w' o.0 o.1 same looked m request o.2
   leaves request held steps (Exchange q looked (Publish e)) (Missed n) w' waits walk same free r m = same-then v (view_after steps v) w' same (look-same k (Exchange q looked (Publish e)) (Missed n) (view_after steps v) w' m tt)
-  leaves request held steps (Exchange q looked ToWithdrawn) (Missed n) w' waits walk same free r m = same-then v (view_after steps v) w' same (look-same k (Exchange q looked ToWithdrawn) (Missed n) (view_after steps v) w' m tt)
-  leaves request held steps (Exchange q looked ToInvalid) (Missed n) w' waits walk same free r m = same-then v (view_after steps v) w' same (look-same k (Exchange q looked ToInvalid) (Missed n) (view_after steps v) w' m tt)
-  leaves request held steps (Exchange q looked ToReadOnly) (Missed n) w' waits walk same free r m = same-then v (view_after steps v) w' same (look-same k (Exchange q looked ToReadOnly) (Missed n) (view_after steps v) w' m tt)
-  leaves request held steps (Exchange q looked ToWritable) (Missed n) w' waits walk same free r m = same-then v (view_after steps v) w' same (look-same k (Exchange q looked ToWritable) (Missed n) (view_after steps v) w' m tt)
+  leaves request held steps (Exchange q looked changes.Withdraw) (Missed n) w' waits walk same free r m = same-then v (view_after steps v) w' same (look-same k (Exchange q looked changes.Withdraw) (Missed n) (view_after steps v) w' m tt)
+  leaves request held steps (Exchange q looked changes.Revoke) (Missed n) w' waits walk same free r m = same-then v (view_after steps v) w' same (look-same k (Exchange q looked changes.Revoke) (Missed n) (view_after steps v) w' m tt)
+  leaves request held steps (Exchange q looked changes.Demote) (Missed n) w' waits walk same free r m = same-then v (view_after steps v) w' same (look-same k (Exchange q looked changes.Demote) (Missed n) (view_after steps v) w' m tt)
+  leaves request held steps (Exchange q looked changes.Promote) (Missed n) w' waits walk same free r m = same-then v (view_after steps v) w' same (look-same k (Exchange q looked changes.Promote) (Missed n) (view_after steps v) w' m tt)
   leaves request held steps _ _ w' waits walk same free r m = absurd m

@@ -20,9 +20,11 @@ use Rattle.gt_word_history.specs.History.{Moment}
 use Rattle.gt_word_history.specs.declared.view.SeatStep.{SeatStep}
 use Rattle.gt_word_history.specs.declared.view.View.{View}
 use Rattle.gt_model.specs.declared.action.Action.{Action}
-use Rattle.gt_model.specs.declared.action.Action.TheVariants.{Step as Makes, Done}
+use Rattle.gt_model.specs.declared.action.Action.TheVariants.{Done}
+use Rattle.gt_model.specs.declared.action.Action.TheVariants as actions
 use Rattle.gt_model.specs.declared.action.Observation.{Observation}
-use Rattle.gt_model.specs.declared.action.Observation.TheVariants.{Nothing as Unseen, Word, Taken, Missed}
+use Rattle.gt_model.specs.declared.action.Observation.TheVariants.{Word, Taken, Missed}
+use Rattle.gt_model.specs.declared.action.Observation.TheVariants as observations
 use Rattle.gt_model.specs.declared.action.Step.{Step}
 use Rattle.gt_model.specs.declared.action.Step.TheVariants.{LookHeader, LookControl, LookBody, Pin, Unpin, StoreBody}
 use Rattle.gt_model.specs.declared.action.Step.TheVariants.{StoreHeader, Exchange, Read, Write, Copy}
@@ -31,7 +33,7 @@ use Rattle.gt_model.specs.declared.action.CallResult.TheVariants.{Granted, Given
 use Rattle.gt_calls.specs.declared.call.Call.{Call}
 use Rattle.gt_model.specs.declared.held.HeldPin.{HeldPin}
 use Rattle.gt_model.specs.declared.request.OpenRequest.{OpenRequest}
-use Rattle.gt_model.specs.declared.request.PinHolder.TheVariants.{Mapping as ByHandle, Leg as ByLeg}
+use Rattle.gt_model.specs.declared.request.PinHolder.TheVariants as holders
 use Rattle.gt_calls.specs.Counting.{steps_to_come}
 use Rattle.gt_calls.specs.Following.{FitsNext, Goes, HoldsAfter, IsStepAction as BeginsSo}
 use Rattle.gt_model.specs.Path.{path}
@@ -51,11 +53,11 @@ use Rattle.gt_live.proofs.Making.{made-fits, made-gains, same-self}
 
 -- at its end a call holds nothing
 abbrev pub IsFreeAtEnd : Action → List HeldPin → Type 0
-IsFreeAtEnd (Makes s) held = Unit {0}
+IsFreeAtEnd (actions.Step s) held = Unit {0}
 IsFreeAtEnd (Done verdict) held = held ≡ []
 
 free-at-end : (c : CallerKnowledge) (caller : DomId) (request : OpenRequest) (call : Call) (vs : List Observation) (action : Action) → Rests c caller request (pins_by_call call) vs action → IsFreeAtEnd action (held_by_call call)
-free-at-end c caller request call vs (Makes s) r = tt
+free-at-end c caller request call vs (actions.Step s) r = tt
 free-at-end c caller request call vs (Done verdict) r = r
 
 -- a call that waits for nobody holds nothing between its steps
@@ -63,14 +65,14 @@ held-none : (caller : DomId) (s : Step) (x : Observation) (old new : List HeldPi
 held-none caller (Pin p) Taken old new action e (inl h) free ends = by action free ends
   where
     by : (a : Action) → IsFreeAtEnd a new → EndsSo caller (Pin p) Taken a → new ≡ []
-    by (Makes s) f no_effect = cc
+    by (actions.Step s) f no_effect = cc
     by (Done verdict) f so = f
 held-none caller (Pin p) Taken old new action e (inr h) free ends = h.1 ∙ e
-held-none caller (Pin p) Unseen old new action e h free ends = h ∙ e
+held-none caller (Pin p) observations.Nothing old new action e h free ends = h ∙ e
 held-none caller (Pin p) (Word n) old new action e h free ends = h ∙ e
 held-none caller (Pin p) (Missed n) old new action e h free ends = h ∙ e
-held-none caller (Unpin p (ByHandle handle)) x old new action e h free ends = h ∙ e
-held-none caller (Unpin p (ByLeg place)) x old new action e h free ends = cc
+held-none caller (Unpin p (holders.Mapping handle)) x old new action e h free ends = h ∙ e
+held-none caller (Unpin p (holders.Leg place)) x old new action e h free ends = cc
 held-none caller (LookHeader d) x old new action e h free ends = h ∙ e
 held-none caller (LookControl d q) x old new action e h free ends = h ∙ e
 held-none caller (LookBody d q half) x old new action e h free ends = h ∙ e
@@ -82,11 +84,11 @@ held-none caller (Write d frame off len) x old new action e h free ends = h ∙ 
 held-none caller (Copy from to len) x old new action e h free ends = h ∙ e
 
 stands-so : (c : CallerKnowledge) (k : Layout) (caller : DomId) (request : OpenRequest) (v w : View) (s : Step) (x : Observation) (action : Action) → EndsSo caller s x action → Leaves c k caller request v w (effect_of s x) → StandsSo c k caller request v w (effect_of s x) action
-stands-so c k caller request v w s x (Makes next) ends left = subst (λ (e : Effect). Leaves c k caller request v w e) ends left
+stands-so c k caller request v w s x (actions.Step next) ends left = subst (λ (e : Effect). Leaves c k caller request v w e) ends left
 stands-so c k caller request v w s x (Done verdict) ends left = (left, ends.0)
 
 -- a call that is under way can make its step
-pub makes-next : (c : CallerKnowledge) (k : Layout) (effect : Effect) (v w : View) (call : Call) (s : Step) → Knows c k call.caller v → WaitsForNobody call.request → Going c k effect v w call (Makes s) → CanMake k w s
+pub makes-next : (c : CallerKnowledge) (k : Layout) (effect : Effect) (v w : View) (call : Call) (s : Step) → Knows c k call.caller v → WaitsForNobody call.request → Going c k effect v w call (actions.Step s) → CanMake k w s
 makes-next c k effect v w call s knows waits g =
     subst (λ (u : View). CanMake k u s) (sym g.view)
     (can-make c k call.caller v knows call.request (pins_by_call call) g.steps s waits g.walked (subst (λ (u : View). IsSame v u) g.view g.stands) g.held g.rests)
@@ -152,16 +154,16 @@ carried-verdict k caller v u w s x steps m (Mapped p) same at found = tt
 
 carried-so : (k : Layout) (caller : DomId) (v u w : View) (s : Step) (x : Observation) (steps : List Moment) (m : Made k s x u w) (action : Action) → IsSame v u → v.position ≡ position_in k.ids caller → EndsSo caller s x action
     → ActionCarries k v ((made-gains k s x u w m).step ∷ steps) action
-carried-so k caller v u w s x steps m (Makes next) same at ends = tt
+carried-so k caller v u w s x steps m (actions.Step next) same at ends = tt
 carried-so k caller v u w s x steps m (Done verdict) same at ends = carried-verdict k caller v u w s x steps m verdict same at ends.1
 
 begins-tells : (k : Layout) (v : View) (o : Option Action) (action : Action) → BeginsSo o → o ≡ Some action → ActionCarries k v [] action
 begins-tells k v None action b e = absurd b
 begins-tells k v (Some (Done verdict)) action b e = absurd b
-begins-tells k v (Some (Makes s)) action b e = let same : Makes s ≡ action = cc in subst (λ (a : Action). ActionCarries k v [] a) same tt
+begins-tells k v (Some (actions.Step s)) action b e = let same : actions.Step s ≡ action = cc in subst (λ (a : Action). ActionCarries k v [] a) same tt
 
 -- after a step that was made the call goes on, and has fewer to come
-pub advance : (c : CallerKnowledge) (k : Layout) (effect : Effect) (v w w' : View) (call call' : Call) (action : Action) (s : Step) (x : Observation) → Knows c k call.caller v → WaitsForNobody call.request → Going c k effect v w call (Makes s) → Made k s x w w'
+pub advance : (c : CallerKnowledge) (k : Layout) (effect : Effect) (v w w' : View) (call call' : Call) (action : Action) (s : Step) (x : Observation) → Knows c k call.caller v → WaitsForNobody call.request → Going c k effect v w call (actions.Step s) → Made k s x w w'
     → call'.caller ≡ call.caller → call'.request ≡ call.request → Goes c call x call' action → Going c k (effect_of s x) v w' call' action × (steps_to_come call' < steps_to_come call)
 advance c k effect v w w' call call' action s x knows waits g m callers requests goes =
     let t = call.caller in let r = call.request in
@@ -178,7 +180,7 @@ advance c k effect v w w' call call' action s x knows waits g m callers requests
     let ends : EndsSo t s x action = (path-sound t c r waits g.unanswered).ends (all_shown g.steps) s x action g.goes on.0.follows in
     let left : Leaves c k t r v w' (effect_of s x) = leaves c k t v knows r (pins_by_call call) g.steps s x w' waits g.walked here g.held g.rests m1 in
     let free = free-at-end c t r call' (all_shown g.steps ++ x ∷ []) action on.0.rests in
-    let none : held_by_call call' ≡ [] = held-none t s x (held_by_call call) (held_by_call call') action g.held (on.1 (Makes s) g.goes) free ends in
+    let none : held_by_call call' ≡ [] = held-none t s x (held_by_call call) (held_by_call call') action g.held (on.1 (actions.Step s) g.goes) free ends in
     let same = same-call call call' callers requests in
     let going : Going c k (effect_of s x) v w' (record call { phase = call'.phase }) action =
     record {
@@ -198,10 +200,10 @@ advance c k effect v w w' call call' action s x knows waits g m callers requests
 begins-so : (c : CallerKnowledge) (k : Layout) (caller : DomId) (request : OpenRequest) (v : View) (o : Option Action) (action : Action) → BeginsSo o → o ≡ Some action → StandsSo c k caller request v v Nothing action
 begins-so c k caller request v None action b e = absurd b
 begins-so c k caller request v (Some (Done verdict)) action b e = absurd b
-begins-so c k caller request v (Some (Makes s)) action b e = let same : Makes s ≡ action = cc in subst (λ (a : Action). StandsSo c k caller request v v Nothing a) same (same-self v)
+begins-so c k caller request v (Some (actions.Step s)) action b e = let same : actions.Step s ≡ action = cc in subst (λ (a : Action). StandsSo c k caller request v v Nothing a) same (same-self v)
 
 -- a call that was opened goes on from its first action
-pub begins : (c : CallerKnowledge) (k : Layout) (v : View) (call call' : Call) (action : Action) → IsFreshCall c call → BeginsSo (path c call.caller call.request []) → call'.caller ≡ call.caller → call'.request ≡ call.request → Goes c call Unseen call' action
+pub begins : (c : CallerKnowledge) (k : Layout) (v : View) (call call' : Call) (action : Action) → IsFreshCall c call → BeginsSo (path c call.caller call.request []) → call'.caller ≡ call.caller → call'.request ≡ call.request → Goes c call observations.Nothing call' action
     → Going c k Nothing v v call' action
 begins c k v call call' action fresh makes callers requests goes =
     let on = goes.first fresh in

@@ -15,7 +15,7 @@ use Rattle.gt_types.specs.declared.limits.TheConstants.{FRAME_SIZE, LAST_GENERAT
 use Rattle.gt_types.specs.Denial.{denial_of}
 use Rattle.gt_types.specs.Names.{domain_of, resolved}
 use Rattle.gt_model.specs.declared.change.EntryChange.{EntryChange}
-use Rattle.gt_model.specs.declared.change.EntryChange.TheVariants.{Demote as ToReadOnly, Promote as ToWritable}
+use Rattle.gt_model.specs.declared.change.EntryChange.TheVariants as changes
 use Rattle.gt_model.specs.Words.{size_of}
 use Rattle.gt_model.specs.declared.action.CallValue.TheVariants.{Frames}
 use Rattle.gt_model.specs.declared.action.CallResult.{CallResult}
@@ -112,8 +112,8 @@ module _ (k : CallerKnowledge) (caller : DomId) where
   once (requests.Withdraw gref) w =
       let r = asks.Withdraw gref in let a = nat_le (size_of k.header) gref.0 in let b = is_invalid (k.entry gref.0) in
       first-of r (refused_when a N9 ∷ refused_when b N10 ∷ []) (refused-may r a N9, (refused-may r b N10, tt))
-  once (requests.Demote gref) w = once-turn (asks.Demote gref) ToReadOnly gref tt
-  once (requests.Promote gref) w = once-turn (asks.Promote gref) ToWritable gref tt
+  once (requests.Demote gref) w = once-turn (asks.Demote gref) changes.Demote gref tt
+  once (requests.Promote gref) w = once-turn (asks.Promote gref) changes.Promote gref tt
   once (requests.Map dom gref flags) w =
       let r = asks.Map dom gref flags in let ts = rights_to_map k caller (resolved caller dom) (map_dir flags) in
       let a = is_none (domain_of k.domains (resolved caller dom)) in let b = not ((flags == 2) || (flags == 6)) in let f = nat_le MAX_MAPPINGS k.in_use || nat_le 18446744073709551615 k.maps_answered in

@@ -12,7 +12,7 @@ use Rattle.gt_types.specs.Denial.{denial_of}
 use Rattle.gt_types.specs.declared.rights.Triple.{Triple}
 use Rattle.gt_types.specs.declared.Dir.{Dir}
 use Rattle.gt_types.specs.declared.Dir.TheVariants.{Read, Write}
-use Rattle.gt_types.specs.declared.Use.TheVariants.{Copy as ForCopy}
+use Rattle.gt_types.specs.declared.Use.TheVariants as uses
 use Rattle.gt_types.specs.declared.denial.Denial.{Denial}
 use Rattle.gt_types.specs.Names.{copy as copying, domain_of, resolved}
 use Rattle.gt_model.specs.Permits.{permits}
@@ -23,7 +23,7 @@ use Rattle.gt_word_history.specs.declared.view.View.{View}
 use Rattle.gt_frames.specs.Receipts.{Copying}
 use Rattle.gt_access.specs.Routes.{MayCopyBy, MayCopyEach, ReachesBy, named_by, pair_beyond}
 use Rattle.gt_types.specs.declared.places.Spot.{Spot}
-use Rattle.gt_model.specs.declared.action.Step.TheVariants.{Copy as CopyBytes}
+use Rattle.gt_model.specs.declared.action.Step.TheVariants as call_steps
 use Rattle.gt_model.specs.declared.action.CallResult.{CallResult}
 use Rattle.gt_model.specs.declared.action.CallResult.TheVariants.{Granted, Refused}
 use Rattle.gt_calls.specs.declared.call.Call.{Call}
@@ -66,24 +66,24 @@ in-source a (x ∷ xs) ys is = inr (in-source a xs ys is)
 
 -- the route to an end reaches its range
 pub reaches-end : (c : CallerKnowledge) (k : Layout) (s : SeatOf) (granted : Bool) (end : End) (dir : Dir) (len : ℕ) (pair : DomId → DomId × DomId) (route : AccessPath) (taken : List HeldPin) (v : View) → IsReached c s.dom granted end dir len pair route → HasTaken k taken v s.view
-    → AreOfRun k taken → ((p : HeldPin) → IsAmong p (held_by route) → IsAmong p taken) → ReachesBy k s dir ForCopy (frame_named (owner_by s.dom route) (frame_by end.ptr route)) end.offset len route
+    → AreOfRun k taken → ((p : HeldPin) → IsAmong p (held_by route) → IsAmong p taken) → ReachesBy k s dir uses.Copy (frame_named (owner_by s.dom route) (frame_by end.ptr route)) end.offset len route
 reaches-end c k s granted end dir len pair Own taken v r x all among = refl
 reaches-end c k s granted end dir len pair (Direct p) taken v r x all among = record {
   pin = has-pin k taken v s.view p x all (among p (inl refl));
   serves = serves p dir (λ e. r.2.taken_for ∙ e);
   owner_is = refl;
-  of_frame = of-its-frame p.entry s.dom dir ForCopy end.offset len r.2.permitted;
+  of_frame = of-its-frame p.entry s.dom dir uses.Copy end.offset len r.2.permitted;
   permitted = r.2.permitted;
 }
 reaches-end c k s granted end dir len pair (Through via p) taken v r x all among =
-    let may : permits p.entry via.dom dir ForCopy end.offset len ≡ true = ap (λ (d : DomId). permits p.entry d dir ForCopy end.offset len) r.1.named ∙ r.3.permitted in (
+    let may : permits p.entry via.dom dir uses.Copy end.offset len ≡ true = ap (λ (d : DomId). permits p.entry d dir uses.Copy end.offset len) r.1.named ∙ r.3.permitted in (
       refl,
       record { pin = has-pin k taken v s.view via x all (among via (inr (inl refl))); serves = serves via dir (λ e. r.1.taken_for ∙ e); forwarded = r.1.forwarded; leads = r.2 },
       record {
         pin = has-pin k taken v s.view p x all (among p (inl refl));
         serves = serves p dir (λ e. r.3.taken_for ∙ e);
         owner_is = refl;
-        of_frame = of-its-frame p.entry via.dom dir ForCopy end.offset len may;
+        of_frame = of-its-frame p.entry via.dom dir uses.Copy end.offset len may;
         permitted = may;
       },
     )
@@ -144,17 +144,17 @@ may-copy c caller a pins opens source dest =
 
 -- a copy that came to its access and gave its pins back is whole
 pub copy-whole : (c : CallerKnowledge) (k : Layout) (call : Call) (from to : Spot) (len : ℕ) (does : View → View → Type 0) (v at mid w : View) → AtAccess c k call from to len v at → does at mid → GivesBack k (pins_by_call call) mid w
-    → EndsAfterAccess k (path c call.caller call.request) (CopyBytes from to len) does v w
+    → EndsAfterAccess k (path c call.caller call.request) (call_steps.Copy from to len) does v w
 copy-whole c k call from to len does v at mid w a did g =
     let way = path c call.caller call.request in
     let ends : Called k (onward way (all_shown a.comes.steps ++ Nothing ∷ [])) Granted mid w =
     subst (λ (y : Continuation). Called k y Granted mid w) (sym a.ends)
     (record { steps = g.steps; view = g.view; walked = g.walked; moments = walk-moments k (give_back (last_first (pins_by_call call)) Granted) mid g.steps g.walked; answered = g.ended; carried = tt }) in
-    record { at = at; after = mid; comes = a.comes; did = did; ends = ends; only = only-access k way (CopyBytes from to len) v at mid w a.comes ends }
+    record { at = at; after = mid; comes = a.comes; did = did; ends = ends; only = only-access k way (call_steps.Copy from to len) v at mid w a.comes ends }
 
 -- a copy in two halves is whole
 pub whole-copy : (c : CallerKnowledge) (k : Layout) (call : Call) (from to : Spot) (len : ℕ) (v mid w : View) → AtAccess c k call from to len v mid → GivesBack k (pins_by_call call) mid w
-    → EndsAfterAccess k (path c call.caller call.request) (CopyBytes from to len) IsUnmade v w × KeepsPins v w
+    → EndsAfterAccess k (path c call.caller call.request) (call_steps.Copy from to len) IsUnmade v w × KeepsPins v w
 whole-copy c k call from to len v mid w a g = (copy-whole c k call from to len IsUnmade v mid mid w a refl g, (g.back v a.taken).pins)
 
 -- a copy of this caller at its access, with these pins
@@ -175,8 +175,8 @@ made-whole c b d copy pins from to len at mid w way result a g same ok kept err 
 
     by : (r : Result Copying Denial) → IfOk r (λ (x : Copying). CopiesBetween b.layout from to len d.seat.dom pins x at mid) → OnErr r (mid ≡ at) → IfErr r IsOfAccess → IfErr r (IsIfOneMissing b from.frame to.frame)
         → AnsweredAtAccess b (path c d.seat.dom (asks.Copy copy)) (IsCopiedBy c b.layout d copy) r d.seat.view w
-    by (Ok r) o n e x = (CopyBytes from to len, copy-whole c b.layout call from to len (IsCopiedBy c b.layout d copy (CopyBytes from to len) r) d.seat.view at mid w a (pins, came, o) g)
-    by (Err denial) o n e x = inr (CopyBytes from to len, copy-whole c b.layout call from to len IsUnmade d.seat.view at mid w a n g, e, x)
+    by (Ok r) o n e x = (call_steps.Copy from to len, copy-whole c b.layout call from to len (IsCopiedBy c b.layout d copy (call_steps.Copy from to len) r) d.seat.view at mid w a (pins, came, o) g)
+    by (Err denial) o n e x = inr (call_steps.Copy from to len, copy-whole c b.layout call from to len IsUnmade d.seat.view at mid w a n g, e, x)
 
 -- the pins that a copy took are there after its access
 pub taken-still : (k : Layout) (taken : List HeldPin) (v at mid : View) → HasTaken k taken v at → IsSame at mid → HasTaken k taken v mid
@@ -190,18 +190,18 @@ taken-still k taken v at mid x same = record {
 
 -- what the routes to both ends reach
 pub reaches-source : (c : CallerKnowledge) (k : Layout) (s : SeatOf) (request : OpenRequest) (pins : CallPins) (from to : Spot) (len : ℕ) (v : View) → RestsOnWays c s.dom request pins from to len → HasTaken k (last_first pins) v s.view → AreOfRun k (last_first pins)
-    → ReachesBy k s Read ForCopy from.frame from.off len pins.source
+    → ReachesBy k s Read uses.Copy from.frame from.off len pins.source
 reaches-source c k s request pins from to len v r x all =
     let at = reaches-end c k s (is_source_granted r.copy) r.copy.source Read r.copy.len (source_pair s.dom r.copy) pins.source (last_first pins) v r.source_reached x all (λ p is. in-source p (held_by pins.dest) (held_by pins.source) is) in
-    subst (λ (n : ℕ). ReachesBy k s Read ForCopy from.frame from.off n pins.source) (sym r.len_is)
-    (subst (λ (p : Spot). ReachesBy k s Read ForCopy p.frame p.off r.copy.len pins.source) (sym r.from_is) at)
+    subst (λ (n : ℕ). ReachesBy k s Read uses.Copy from.frame from.off n pins.source) (sym r.len_is)
+    (subst (λ (p : Spot). ReachesBy k s Read uses.Copy p.frame p.off r.copy.len pins.source) (sym r.from_is) at)
 
 pub reaches-dest : (c : CallerKnowledge) (k : Layout) (s : SeatOf) (request : OpenRequest) (pins : CallPins) (from to : Spot) (len : ℕ) (v : View) → RestsOnWays c s.dom request pins from to len → HasTaken k (last_first pins) v s.view → AreOfRun k (last_first pins)
-    → ReachesBy k s Write ForCopy to.frame to.off len pins.dest
+    → ReachesBy k s Write uses.Copy to.frame to.off len pins.dest
 reaches-dest c k s request pins from to len v r x all =
     let at = reaches-end c k s (is_dest_granted r.copy) r.copy.dest Write r.copy.len (dest_pair s.dom pins.source) pins.dest (last_first pins) v r.dest_reached x all (λ p is. in-dest p (held_by pins.dest) (held_by pins.source) is) in
-    subst (λ (n : ℕ). ReachesBy k s Write ForCopy to.frame to.off n pins.dest) (sym r.len_is)
-    (subst (λ (p : Spot). ReachesBy k s Write ForCopy p.frame p.off r.copy.len pins.dest) (sym r.to_is) at)
+    subst (λ (n : ℕ). ReachesBy k s Write uses.Copy to.frame to.off n pins.dest) (sym r.len_is)
+    (subst (λ (p : Spot). ReachesBy k s Write uses.Copy p.frame p.off r.copy.len pins.dest) (sym r.to_is) at)
 
 abbrev pub Access : CallerKnowledge → Layout → DomId → CopyArgs → CallPins → View → View → Type 0
 Access c k caller copy pins v w =
@@ -221,15 +221,15 @@ module _ (c : CallerKnowledge) (k : Layout) (s : SeatOf) (caller : DomId) (copy 
       subst (λ (x : DomId). RestsOnWays c x (asks.Copy copy) pins from_place to_place copy.len) (sym me) a.rests
 
   pub access-source : (at : Spot) → at ≡ from_place
-      → ReachesBy k s Read ForCopy at.frame at.off copy.len pins.source
+      → ReachesBy k s Read uses.Copy at.frame at.off copy.len pins.source
   access-source at e =
-      subst (λ (p : Spot). ReachesBy k s Read ForCopy p.frame p.off copy.len pins.source) (sym e)
+      subst (λ (p : Spot). ReachesBy k s Read uses.Copy p.frame p.off copy.len pins.source) (sym e)
       (reaches-source c k s (asks.Copy copy) pins from_place to_place copy.len v access-rests a.taken a.of_run)
 
   pub access-dest : (at : Spot) → at ≡ to_place
-      → ReachesBy k s Write ForCopy at.frame at.off copy.len pins.dest
+      → ReachesBy k s Write uses.Copy at.frame at.off copy.len pins.dest
   access-dest at e =
-      subst (λ (p : Spot). ReachesBy k s Write ForCopy p.frame p.off copy.len pins.dest) (sym e)
+      subst (λ (p : Spot). ReachesBy k s Write uses.Copy p.frame p.off copy.len pins.dest) (sym e)
       (reaches-dest c k s (asks.Copy copy) pins from_place to_place copy.len v access-rests a.taken a.of_run)
 
   pub access-may : copy_begun c caller copy ≡ None → MayCopyBy c.domains c.may s.dom pins

@@ -19,12 +19,10 @@ use Rattle.gt_model.specs.declared.entry.Entry.{Entry}
 use Rattle.gt_model.specs.declared.entry.Entry.TheVariants.{Invalid, Page, Sub, Via}
 use Rattle.gt_model.specs.declared.control.Control.{Control}
 use Rattle.gt_model.specs.declared.control.EntryKind.{EntryKind}
-use Rattle.gt_model.specs.declared.control.EntryKind.TheVariants.{Invalid as KindInvalid, Page as KindPage}
-use Rattle.gt_model.specs.declared.control.EntryKind.TheVariants.{Sub as KindSub, Via as KindVia}
-use Rattle.gt_model.specs.declared.change.BodyWord.TheVariants.{First as FirstHalf, Second as SecondHalf}
-use Rattle.gt_model.specs.declared.change.EntryChange.TheVariants.{Publish, Revoke as ToInvalid}
-use Rattle.gt_model.specs.declared.change.EntryChange.TheVariants.{Withdraw as ToWithdrawn, Demote as ToReadOnly}
-use Rattle.gt_model.specs.declared.change.EntryChange.TheVariants.{Promote as ToWritable}
+use Rattle.gt_model.specs.declared.control.EntryKind.TheVariants as kinds
+use Rattle.gt_model.specs.declared.change.BodyWord.TheVariants as body_words
+use Rattle.gt_model.specs.declared.change.EntryChange.TheVariants.{Publish}
+use Rattle.gt_model.specs.declared.change.EntryChange.TheVariants as changes
 use Rattle.gt_model.specs.Permits.{forwards, permits}
 use Rattle.gt_model.specs.Spelling.{entry_of, entry_with}
 use Rattle.gt_model.specs.Words.{control_of, header_of, is_kind, kind_of, size_of}
@@ -38,14 +36,14 @@ use Rattle.gt_word_history.specs.Views.{value_or_zero, with_body}
 use Rattle.gt_word_history.specs.declared.view.EntryRecord.{EntryRecord}
 use Rattle.gt_word_history.specs.History.{Moment}
 use Rattle.gt_word_history.specs.declared.view.View.{View}
-use Rattle.gt_model.specs.declared.action.Action.TheVariants.{Step as Makes}
+use Rattle.gt_model.specs.declared.action.Action.TheVariants as actions
 use Rattle.gt_types.specs.declared.places.Spot.{Spot}
 use Rattle.gt_model.specs.declared.action.Observation.{Observation}
 use Rattle.gt_model.specs.declared.action.Observation.TheVariants.{Nothing, Word, Taken, Missed}
 use Rattle.gt_model.specs.declared.action.Step.{Step}
 use Rattle.gt_model.specs.declared.action.Step.TheVariants.{LookHeader, LookControl, LookBody, Pin, Unpin, StoreBody}
-use Rattle.gt_model.specs.declared.action.Step.TheVariants.{StoreHeader, Exchange, Read as ReadBytes}
-use Rattle.gt_model.specs.declared.action.Step.TheVariants.{Write as WriteBytes, Copy as CopyBytes}
+use Rattle.gt_model.specs.declared.action.Step.TheVariants.{StoreHeader, Exchange}
+use Rattle.gt_model.specs.declared.action.Step.TheVariants as call_steps
 use Rattle.gt_model.specs.declared.action.CallResult.{CallResult}
 use Rattle.gt_model.specs.declared.action.CallResult.TheVariants.{Granted, Given, Mapped, Refused}
 use Rattle.gt_calls.specs.declared.call.Phase.{Phase}
@@ -54,18 +52,19 @@ use Rattle.gt_calls.specs.declared.call.Phase.TheVariants.{Walking, Accessing, A
 use Rattle.gt_calls.specs.declared.copying.PinPurpose.{PinPurpose}
 use Rattle.gt_calls.specs.declared.copying.PinPurpose.TheVariants.{Mapping, Source, Dest}
 use Rattle.gt_model.specs.declared.held.HeldPin.{HeldPin}
-use Rattle.gt_model.specs.declared.held.CallPins.{CallPins as HeldPins}
+use Rattle.gt_model.specs.declared.held.CallPins.{CallPins}
 use Rattle.gt_model.specs.declared.held.AccessPath.{AccessPath}
 use Rattle.gt_model.specs.declared.held.AccessPath.TheVariants.{Own, Direct, Through}
 use Rattle.gt_model.specs.declared.leg.Leg.{Leg}
-use Rattle.gt_calls.specs.declared.leg.LegNext.TheVariants.{Going, Refused as LegRefused}
+use Rattle.gt_calls.specs.declared.leg.LegNext.TheVariants.{Going}
+use Rattle.gt_calls.specs.declared.leg.LegNext.TheVariants as leg_outcomes
 use Rattle.gt_calls.specs.declared.leg.LegPhase.{LegPhase}
 use Rattle.gt_calls.specs.declared.leg.LegPhase.TheVariants.{Header, Look, Body, Second, Pinning, Relook}
 use Rattle.gt_model.specs.declared.request.OpenRequest.{OpenRequest}
 use Rattle.gt_model.specs.declared.request.OpenRequest.TheVariants as asks
 use Rattle.gt_types.specs.declared.copies.CopyArgs.{CopyArgs}
 use Rattle.gt_types.specs.declared.copies.End.{End}
-use Rattle.gt_model.specs.declared.request.PinHolder.TheVariants.{Mapping as ByHandle, Leg as ByLeg}
+use Rattle.gt_model.specs.declared.request.PinHolder.TheVariants as holders
 use Rattle.gt_model.specs.declared.handle.Handle.{Handle}
 use Rattle.gt_model.specs.Holding.{held_by, last_first, without_last}
 use Rattle.gt_calls.specs.Holding.{pins_so_far}
@@ -94,30 +93,30 @@ use Rattle.gt_live.proofs.Walking.{after-position, in-seen-table, made-last, rea
 
 -- what a seat saw of an entry whose words were read, the second body word of a sub-page alone
 abbrev pub words_seen : ℕ → ℕ → ℕ → Looks
-words_seen word body second = record { word = word; first = Some body; second = cond (is_kind (control_of word).kind KindSub) (Some second) None }
+words_seen word body second = record { word = word; first = Some body; second = cond (is_kind (control_of word).kind kinds.Sub) (Some second) None }
 
 read-words : (k : Layout) (way : Continuation) (v : View) (steps : List Moment) (dom : DomId) (gref : GrantRef) (word body second : ℕ) → IsWalk k way v steps → HasRead way dom gref word body second (all_shown steps)
     → seen (steps_on (position_in k.ids dom) gref.0 (view_after steps v)) ≡ Some (words_seen word body second)
-read-words k way v steps dom gref word body second walk r = by (is_kind (control_of word).kind KindSub) refl
+read-words k way v steps dom gref word body second walk r = by (is_kind (control_of word).kind kinds.Sub) refl
   where
-    by : (b : Bool) → is_kind (control_of word).kind KindSub ≡ b → seen (steps_on (position_in k.ids dom) gref.0 (view_after steps v)) ≡ Some (record { word = word; first = Some body; second = cond b (Some second) None })
+    by : (b : Bool) → is_kind (control_of word).kind kinds.Sub ≡ b → seen (steps_on (position_in k.ids dom) gref.0 (view_after steps v)) ≡ Some (record { word = word; first = Some body; second = cond b (Some second) None })
     by false e = read-page k way v steps dom gref word body second walk r e
     by true e =
         let three_shown : all_shown steps ≡ (r.before ++ Word word ∷ Word body ∷ []) ++ Word second ∷ [] =
         r.shown_is ∙ (ap (λ (b : Bool). r.before ++ Word word ∷ Word body ∷ cond b (Word second ∷ []) []) e ∙ sym (append_assoc r.before (Word word ∷ Word body ∷ []) (Word second ∷ []))) in
-        let three = made-last k way v steps (r.before ++ Word word ∷ Word body ∷ []) (Word second) (LookBody dom gref SecondHalf) walk three_shown (r.second_read e) in
+        let three = made-last k way v steps (r.before ++ Word word ∷ Word body ∷ []) (Word second) (LookBody dom gref body_words.Second) walk three_shown (r.second_read e) in
         let two_shown : all_shown three.rest ≡ (r.before ++ Word word ∷ []) ++ Word body ∷ [] = three.shown_is ∙ sym (append_assoc r.before (Word word ∷ []) (Word body ∷ [])) in
-        let two = made-last k way v three.rest (r.before ++ Word word ∷ []) (Word body) (LookBody dom gref FirstHalf) three.walked two_shown r.first_read in
+        let two = made-last k way v three.rest (r.before ++ Word word ∷ []) (Word body) (LookBody dom gref body_words.First) three.walked two_shown r.first_read in
         let one = made-last k way v two.rest r.before (Word word) (LookControl dom gref) two.walked two.shown_is r.looked in
         ap seen three.made.steps.adds.here
-        ∙ ap (λ (o : Option Looks). with_body SecondHalf second o) (ap seen two.made.steps.adds.here ∙ ap (λ (o : Option Looks). with_body FirstHalf body o) (ap seen one.made.0.steps.adds.here))
+        ∙ ap (λ (o : Option Looks). with_body body_words.Second second o) (ap seen two.made.steps.adds.here ∙ ap (λ (o : Option Looks). with_body body_words.First body o) (ap seen one.made.0.steps.adds.here))
 
 -- the second body word is of sub-pages alone
-second-of-sub : (x : EntryKind) (w : Control) (a b : ℕ) → entry_with x w a (value_or_zero (cond (is_kind x KindSub) (Some b) None)) ≡ entry_with x w a b
-second-of-sub KindInvalid w a b = refl
-second-of-sub KindPage w a b = refl
-second-of-sub KindSub w a b = refl
-second-of-sub KindVia w a b = refl
+second-of-sub : (x : EntryKind) (w : Control) (a b : ℕ) → entry_with x w a (value_or_zero (cond (is_kind x kinds.Sub) (Some b) None)) ≡ entry_with x w a b
+second-of-sub kinds.Invalid w a b = refl
+second-of-sub kinds.Page w a b = refl
+second-of-sub kinds.Sub w a b = refl
+second-of-sub kinds.Via w a b = refl
 
 -- what a first leg lets, permits or forwards
 lets-first : (l : Leg) (e : Entry) (me : DomId) → l.grantee ≡ me → Lets l e → PermitsPin e me l.dir ⊎ ForwardsPin e me l.dir
@@ -179,7 +178,7 @@ fewer (Through via p) Own = refl
 fewer source (Direct q) = refl
 fewer source (Through w q) = refl
 
-pub one-fewer : (pins : HeldPins) (p : HeldPin) (ps : List HeldPin) → last_first pins ≡ p ∷ ps → last_first (without_last pins) ≡ ps
+pub one-fewer : (pins : CallPins) (p : HeldPin) (ps : List HeldPin) → last_first pins ≡ p ∷ ps → last_first (without_last pins) ≡ ps
 one-fewer pins p ps e = fewer pins.source pins.dest ∙ ap tail_of e
 
 -- a word found is found still after one step more
@@ -234,7 +233,7 @@ module _ (c : CallerKnowledge) (k : Layout) (caller : DomId) (v : View) (knows :
     pub can : CanPin k (position_in k.ids p.dom) p.gref.0 p.dir p.word w
     pub spelled : record_seen (last_seen (position_in k.ids p.dom) p.gref.0 w) ≡ entry_record_of p
 
-  pub tries-pin : (request : OpenRequest) → IsCopy request → (held : HeldPins) (steps : List Moment) (p : HeldPin) → IsWalk k (path c caller request) v steps → HasTaken k (last_first held) v (view_after steps v) → AreOfRun k (last_first held)
+  pub tries-pin : (request : OpenRequest) → IsCopy request → (held : CallPins) (steps : List Moment) (p : HeldPin) → IsWalk k (path c caller request) v steps → HasTaken k (last_first held) v (view_after steps v) → AreOfRun k (last_first held)
       → RestsOnTry c caller request held (path c caller request) (all_shown steps) p → Tries p (view_after steps v)
   tries-pin request copies held steps p walk x all r =
       let w = view_after steps v in let l = r.leg in let at = position_in k.ids p.dom in let way = path c caller request in
@@ -247,15 +246,15 @@ module _ (c : CallerKnowledge) (k : Layout) (caller : DomId) (v : View) (knows :
       let dirs : p.dir ≡ l.dir = ap (λ (y : HeldPin). y.dir) r.pin_is in
       let run = named-run c k caller v knows p.dom r.of_run in
       let may = may-pin request copies r.aim l p w r.aimed (ap (λ (i : ℕ). id_at k.ids i) (after-position steps v) ∙ knows.named) (ap (λ (y : HeldPin). y.dom) r.pin_is) (ap (λ (y : HeldPin). y.gref) r.pin_is) run
-      (subst (λ (h : HeldPins). HasTaken k (last_first h) v w) r.held x) (subst (λ (h : HeldPins). AreOfRun k (last_first h)) r.held all) r.lets in
-      let valid = none-stands (is_kind (control_of p.word).kind KindInvalid) N10 _ r.first in
-      let second_too : kind_of p.word ≡ KindSub → IsSome s.second = λ e. subst (λ (b : Bool). IsSome (cond b (Some r.second) None)) (sym (ap (λ (y : EntryKind). is_kind y KindSub) e)) refl in
+      (subst (λ (h : CallPins). HasTaken k (last_first h) v w) r.held x) (subst (λ (h : CallPins). AreOfRun k (last_first h)) r.held all) r.lets in
+      let valid = none-stands (is_kind (control_of p.word).kind kinds.Invalid) N10 _ r.first in
+      let second_too : kind_of p.word ≡ kinds.Sub → IsSome s.second = λ e. subst (λ (b : Bool). IsSome (cond b (Some r.second) None)) (sym (ap (λ (y : EntryKind). is_kind y kinds.Sub) e)) refl in
       record {
         run = run;
         inside = in-seen-table k way v steps p.dom p.gref walk r.in_table;
         can = record {
           looked = (saw ∙ ap (λ (y : Looks). Some y) (sym last), ap (λ (y : Looks). y.word) last, subst (λ (y : Looks). HasBody y) (sym last) (refl, second_too));
-          valid = λ gone. let yes : is_kind (control_of p.word).kind KindInvalid ≡ true = ap (λ (y : EntryKind). is_kind y KindInvalid) gone in let none_so = valid.0 in absurd (cc);
+          valid = λ gone. let yes : is_kind (control_of p.word).kind kinds.Invalid ≡ true = ap (λ (y : EntryKind). is_kind y kinds.Invalid) gone in let none_so = valid.0 in absurd (cc);
           room = subst (λ (d : Dir). pins_in d p.word < 4095) (sym dirs) (room-for l p.word p.entry r.last);
           permitted = subst (λ (y : EntryRecord). MayPin k at p.gref.0 w p.dir y) (sym here) (subst (λ (d : Dir). MayPin k at p.gref.0 w d (entry_record_of p)) (sym dirs) may);
         };
@@ -263,8 +262,8 @@ module _ (c : CallerKnowledge) (k : Layout) (caller : DomId) (v : View) (knows :
       }
 
   -- the step that comes next can be made, where it is no access
-  pub can-walk : (request : OpenRequest) → IsCopy request → (held : HeldPins) (steps : List Moment) (s : Step) → IsWalk k (path c caller request) v steps → HasTaken k (last_first held) v (view_after steps v) → AreOfRun k (last_first held)
-      → Rests c caller request held (all_shown steps) (Makes s) → ((from to : Spot) (len : ℕ) → s ≡ CopyBytes from to len → ⊥) → CanMake k (view_after steps v) s
+  pub can-walk : (request : OpenRequest) → IsCopy request → (held : CallPins) (steps : List Moment) (s : Step) → IsWalk k (path c caller request) v steps → HasTaken k (last_first held) v (view_after steps v) → AreOfRun k (last_first held)
+      → Rests c caller request held (all_shown steps) (actions.Step s) → ((from to : Spot) (len : ℕ) → s ≡ call_steps.Copy from to len → ⊥) → CanMake k (view_after steps v) s
   can-walk request copies held steps (LookHeader d) walk x all r other = named-run c k caller v knows d r.1
   can-walk request copies held steps (LookControl d q) walk x all r other = by r.1
     where
@@ -273,37 +272,37 @@ module _ (c : CallerKnowledge) (k : Layout) (caller : DomId) (v : View) (knows :
       by (inr y) = (own-of-run k v caller d knows.named knows.inside y.0, in-own c k caller v knows q.0 y.1)
   can-walk request copies held steps (LookBody d q half) walk x all r other = (named-run c k caller v knows d r.1.0, in-seen-table k (path c caller request) v steps d q walk r.1.1)
   can-walk request copies held steps (Pin p) walk x all r other = let t = tries-pin request copies held steps p walk x all r.1 in (t.run, t.inside, t.can)
-  can-walk request copies held steps (Unpin p (ByHandle handle)) walk x all r other = by r.1.0
+  can-walk request copies held steps (Unpin p (holders.Mapping handle)) walk x all r other = by r.1.0
     where
-      by : GivesUp request handle → CanMake k (view_after steps v) (Unpin p (ByHandle handle))
+      by : GivesUp request handle → CanMake k (view_after steps v) (Unpin p (holders.Mapping handle))
       by (inl y) = absurd (subst (λ (z : OpenRequest). IsCopy z) y copies)
       by (inr y) = absurd (subst (λ (z : OpenRequest). IsCopy z) y copies)
-  can-walk request copies held steps (Unpin p (ByLeg place)) walk x all r other =
+  can-walk request copies held steps (Unpin p (holders.Leg place)) walk x all r other =
       let w = view_after steps v in let x1 : HasTaken k (p ∷ r.1.others) v w = subst (λ (ps : List HeldPin). HasTaken k ps v w) r.1.held x in let a1 : AreOfRun k (p ∷ r.1.others) = subst (λ (ps : List HeldPin). AreOfRun k ps) r.1.held all in
       (a1.0.0, a1.0.1, holds-taken k (p ∷ r.1.others) v w p x1 (inl refl))
-  can-walk request copies held steps (StoreBody q FirstHalf n) walk x all r other = absurd (subst (λ (y : OpenRequest). IsCopy y) r.1.1 copies)
-  can-walk request copies held steps (StoreBody q SecondHalf n) walk x all r other = absurd (subst (λ (y : OpenRequest). IsCopy y) r.1.1 copies)
+  can-walk request copies held steps (StoreBody q body_words.First n) walk x all r other = absurd (subst (λ (y : OpenRequest). IsCopy y) r.1.1 copies)
+  can-walk request copies held steps (StoreBody q body_words.Second n) walk x all r other = absurd (subst (λ (y : OpenRequest). IsCopy y) r.1.1 copies)
   can-walk request copies held steps (StoreHeader version frames) walk x all r other = by r.1
     where
       by : ((request ≡ asks.SetVersion version) × (frames ≡ c.header.frames)) ⊎ ((request ≡ asks.SetupTable frames) × (version ≡ c.header.version)) → CanMake k (view_after steps v) (StoreHeader version frames)
       by (inl y) = absurd (subst (λ (z : OpenRequest). IsCopy z) y.0 copies)
       by (inr y) = absurd (subst (λ (z : OpenRequest). IsCopy z) y.0 copies)
   can-walk request copies held steps (Exchange q looked (Publish e)) walk x all r other = absurd (subst (λ (y : OpenRequest). IsCopy y) r.1.0 copies)
-  can-walk request copies held steps (Exchange q looked ToInvalid) walk x all r other = absurd (subst (λ (y : OpenRequest). IsCopy y) r.1.0 copies)
-  can-walk request copies held steps (Exchange q looked ToWithdrawn) walk x all r other = absurd (subst (λ (y : OpenRequest). IsCopy y) r.1.0 copies)
-  can-walk request copies held steps (Exchange q looked ToReadOnly) walk x all r other = absurd (subst (λ (y : OpenRequest). IsCopy y) r.1.0 copies)
-  can-walk request copies held steps (Exchange q looked ToWritable) walk x all r other = absurd (subst (λ (y : OpenRequest). IsCopy y) r.1.0 copies)
-  can-walk request copies held steps (ReadBytes d frame off len) walk x all r other = by r.1
+  can-walk request copies held steps (Exchange q looked changes.Revoke) walk x all r other = absurd (subst (λ (y : OpenRequest). IsCopy y) r.1.0 copies)
+  can-walk request copies held steps (Exchange q looked changes.Withdraw) walk x all r other = absurd (subst (λ (y : OpenRequest). IsCopy y) r.1.0 copies)
+  can-walk request copies held steps (Exchange q looked changes.Demote) walk x all r other = absurd (subst (λ (y : OpenRequest). IsCopy y) r.1.0 copies)
+  can-walk request copies held steps (Exchange q looked changes.Promote) walk x all r other = absurd (subst (λ (y : OpenRequest). IsCopy y) r.1.0 copies)
+  can-walk request copies held steps (call_steps.Read d frame off len) walk x all r other = by r.1
     where
       by : ((handle : Handle) × (request ≡ asks.Load handle off len) × IsMapped c handle d frame) ⊎ ((request ≡ asks.Peek frame off len) × (d ≡ caller)) → ⊥
       by (inl y) = absurd (subst (λ (z : OpenRequest). IsCopy z) y.1 copies)
       by (inr y) = absurd (subst (λ (z : OpenRequest). IsCopy z) y.0 copies)
-  can-walk request copies held steps (WriteBytes d frame off len) walk x all r other = by r.1
+  can-walk request copies held steps (call_steps.Write d frame off len) walk x all r other = by r.1
     where
       by : ((handle : Handle) × (request ≡ asks.Store handle off len) × IsMapped c handle d frame) ⊎ ((request ≡ asks.Poke frame off len) × (d ≡ caller)) → ⊥
       by (inl y) = absurd (subst (λ (z : OpenRequest). IsCopy z) y.1 copies)
       by (inr y) = absurd (subst (λ (z : OpenRequest). IsCopy z) y.0 copies)
-  can-walk request copies held steps (CopyBytes from to len) walk x all r other = absurd (other from to len refl)
+  can-walk request copies held steps (call_steps.Copy from to len) walk x all r other = absurd (other from to len refl)
 
   -- where a copy stands after a step
 
@@ -359,13 +358,13 @@ module _ (c : CallerKnowledge) (k : Layout) (caller : DomId) (v : View) (knows :
       goes : (at : LegPhase) → StandsWell k v w now (after_leg c caller aim l (Going at))
       goes at = walking-stands w now aim l at is taken all
 
-      refused : (denial : Denial) → CarriesFound k v now denial.facts → StandsWell k v w now (after_leg c caller aim l (LegRefused denial))
+      refused : (denial : Denial) → CarriesFound k v now denial.facts → StandsWell k v w now (after_leg c caller aim l (leg_outcomes.Refused denial))
       refused denial found = record { stays = found; taken = taken; of_run = all }
 
       missed : (more n : ℕ) → CarriesFound k v now (facts.Entry l.dom l.gref n) → StandsWell k v w now (after_leg c caller aim l (after_miss l more n))
       missed more n found = by (nat_lt 0 more)
         where
-          by : (b : Bool) → StandsWell k v w now (after_leg c caller aim l (cond b (Going (Look (more - 1))) (LegRefused (entry_refusal l.dom l.gref N18 n))))
+          by : (b : Bool) → StandsWell k v w now (after_leg c caller aim l (cond b (Going (Look (more - 1))) (leg_outcomes.Refused (entry_refusal l.dom l.gref N18 n))))
           by true = goes (Look (more - 1))
           by false = refused (entry_refusal l.dom l.gref N18 n) found
 
@@ -380,7 +379,7 @@ module _ (c : CallerKnowledge) (k : Layout) (caller : DomId) (v : View) (knows :
         → ((p : HeldPin) → leg_step l at ≡ Pin p → Tries p u) → StandsWell k v w ((made-gains k (leg_step l at) x u w m).step ∷ steps) (after_leg c caller aim l (leg_after l at x))
     leg-stands aim l Header (Word n) m is x all tries = by (nat_lt l.gref.0 (size_of (header_of n)))
       where
-        by : (b : Bool) → StandsWell k v w ((made-gains k (LookHeader l.dom) (Word n) u w m).step ∷ steps) (after_leg c caller aim l (cond b (Going (Look 3)) (LegRefused (denial_of N9 (facts.Header l.dom n)))))
+        by : (b : Bool) → StandsWell k v w ((made-gains k (LookHeader l.dom) (Word n) u w m).step ∷ steps) (after_leg c caller aim l (cond b (Going (Look 3)) (leg_outcomes.Refused (denial_of N9 (facts.Header l.dom n)))))
         by true = goes aim l (LookHeader l.dom) (Word n) m is (looked aim (LookHeader l.dom) (Word n) m tt x) all (Look 3)
         by false = refused aim l (LookHeader l.dom) (Word n) m is (looked aim (LookHeader l.dom) (Word n) m tt x) all (denial_of N9 (facts.Header l.dom n)) (carried-facts k caller v u w (LookHeader l.dom) (Word n) steps m (facts.Header l.dom n) low (still ∙ knows.stands) (refl, refl))
     leg-stands aim l (Look more) (Word n) m is x all tries = by (first_look l (control_of n))
@@ -389,19 +388,19 @@ module _ (c : CallerKnowledge) (k : Layout) (caller : DomId) (v : View) (knows :
         by None = goes aim l (LookControl l.dom l.gref) (Word n) m is (looked aim (LookControl l.dom l.gref) (Word n) m tt x) all (Body more n)
         by (Some rule) = refused aim l (LookControl l.dom l.gref) (Word n) m is (looked aim (LookControl l.dom l.gref) (Word n) m tt x) all (entry_refusal l.dom l.gref rule n)
             (carried-facts k caller v u w (LookControl l.dom l.gref) (Word n) steps m (facts.Entry l.dom l.gref n) low (still ∙ knows.stands) (refl, refl, refl))
-    leg-stands aim l (Body more word) (Word n) m is x all tries = by (is_kind (control_of word).kind KindSub)
+    leg-stands aim l (Body more word) (Word n) m is x all tries = by (is_kind (control_of word).kind kinds.Sub)
       where
-        by : (b : Bool) → StandsWell k v w ((made-gains k (LookBody l.dom l.gref FirstHalf) (Word n) u w m).step ∷ steps) (after_leg c caller aim l (cond b (Going (Second more word n)) (after_words more word n 0 (rule_of_try l word n 0))))
-        by true = goes aim l (LookBody l.dom l.gref FirstHalf) (Word n) m is (looked aim (LookBody l.dom l.gref FirstHalf) (Word n) m tt x) all (Second more word n)
-        by false = words aim l (LookBody l.dom l.gref FirstHalf) (Word n) m is (looked aim (LookBody l.dom l.gref FirstHalf) (Word n) m tt x) all more word n 0 (rule_of_try l word n 0)
+        by : (b : Bool) → StandsWell k v w ((made-gains k (LookBody l.dom l.gref body_words.First) (Word n) u w m).step ∷ steps) (after_leg c caller aim l (cond b (Going (Second more word n)) (after_words more word n 0 (rule_of_try l word n 0))))
+        by true = goes aim l (LookBody l.dom l.gref body_words.First) (Word n) m is (looked aim (LookBody l.dom l.gref body_words.First) (Word n) m tt x) all (Second more word n)
+        by false = words aim l (LookBody l.dom l.gref body_words.First) (Word n) m is (looked aim (LookBody l.dom l.gref body_words.First) (Word n) m tt x) all more word n 0 (rule_of_try l word n 0)
     leg-stands aim l (Second more word body) (Word n) m is x all tries =
-        words aim l (LookBody l.dom l.gref SecondHalf) (Word n) m is (looked aim (LookBody l.dom l.gref SecondHalf) (Word n) m tt x) all more word body n (rule_of_try l word body n)
+        words aim l (LookBody l.dom l.gref body_words.Second) (Word n) m is (looked aim (LookBody l.dom l.gref body_words.Second) (Word n) m tt x) all more word body n (rule_of_try l word body n)
     leg-stands aim l (Relook more word rule) (Word n) m is x all tries = by (n == word) refl
       where
         found : CarriesFound k v ((made-gains k (LookControl l.dom l.gref) (Word n) u w m).step ∷ steps) (facts.Entry l.dom l.gref n)
         found = carried-facts k caller v u w (LookControl l.dom l.gref) (Word n) steps m (facts.Entry l.dom l.gref n) low (still ∙ knows.stands) (refl, refl, refl)
 
-        by : (b : Bool) → (n == word) ≡ b → StandsWell k v w ((made-gains k (LookControl l.dom l.gref) (Word n) u w m).step ∷ steps) (after_leg c caller aim l (cond b (LegRefused (entry_refusal l.dom l.gref rule word)) (after_miss l more n)))
+        by : (b : Bool) → (n == word) ≡ b → StandsWell k v w ((made-gains k (LookControl l.dom l.gref) (Word n) u w m).step ∷ steps) (after_leg c caller aim l (cond b (leg_outcomes.Refused (entry_refusal l.dom l.gref rule word)) (after_miss l more n)))
         by true e = refused aim l (LookControl l.dom l.gref) (Word n) m is (looked aim (LookControl l.dom l.gref) (Word n) m tt x) all (entry_refusal l.dom l.gref rule word)
             (subst (λ (y : ℕ). CarriesFound k v ((made-gains k (LookControl l.dom l.gref) (Word n) u w m).step ∷ steps) (facts.Entry l.dom l.gref y)) (eqb-true n word e) found)
         by false e = missed aim l (LookControl l.dom l.gref) (Word n) m is (looked aim (LookControl l.dom l.gref) (Word n) m tt x) all more n found
@@ -415,12 +414,12 @@ module _ (c : CallerKnowledge) (k : Layout) (caller : DomId) (v : View) (knows :
     leg-stands aim l _ _ m is x all tries = absurd m
 
     -- at the end the last pin is given back
-    end-stands : (pins : HeldPins) (denial : Denial) (p : HeldPin) (ps : List HeldPin) (place : ℕ) (x : Observation) (m : Made k (Unpin p (ByLeg place)) x u w) → last_first pins ≡ p ∷ ps → StandsWell k v u steps (Ending pins (Refused denial))
-        → StandsWell k v w ((made-gains k (Unpin p (ByLeg place)) x u w m).step ∷ steps) (phase_after c caller (Ending pins (Refused denial)) x)
+    end-stands : (pins : CallPins) (denial : Denial) (p : HeldPin) (ps : List HeldPin) (place : ℕ) (x : Observation) (m : Made k (Unpin p (holders.Leg place)) x u w) → last_first pins ≡ p ∷ ps → StandsWell k v u steps (Ending pins (Refused denial))
+        → StandsWell k v w ((made-gains k (Unpin p (holders.Leg place)) x u w m).step ∷ steps) (phase_after c caller (Ending pins (Refused denial)) x)
     end-stands pins denial p ps place Nothing m e st =
         let few = one-fewer pins p ps e in
         record {
-          stays = still-found k v (made-gains k (Unpin p (ByLeg place)) Nothing u w m).step steps denial.facts st.stays;
+          stays = still-found k v (made-gains k (Unpin p (holders.Leg place)) Nothing u w m).step steps denial.facts st.stays;
           taken = subst (λ (qs : List HeldPin). HasTaken k qs v w) (sym few) (taken-unpin k p ps v u w m (subst (λ (qs : List HeldPin). HasTaken k qs v u) e st.taken));
           of_run = subst (λ (qs : List HeldPin). AreOfRun k qs) (sym few) (subst (λ (qs : List HeldPin). AreOfRun k qs) e st.of_run).1;
         }
@@ -428,7 +427,7 @@ module _ (c : CallerKnowledge) (k : Layout) (caller : DomId) (v : View) (knows :
     end-stands pins denial p ps place Taken m e st = absurd m
     end-stands pins denial p ps place (Missed n) m e st = absurd m
 
-    no-access : (from to : Spot) (len : ℕ) (x : Observation) → Made k (CopyBytes from to len) x u w → ⊥
+    no-access : (from to : Spot) (len : ℕ) (x : Observation) → Made k (call_steps.Copy from to len) x u w → ⊥
     no-access from to len Nothing m = absurd m
     no-access from to len (Word n) m = absurd m
     no-access from to len Taken m = absurd m
@@ -438,18 +437,18 @@ module _ (c : CallerKnowledge) (k : Layout) (caller : DomId) (v : View) (knows :
     abbrev pub OnSo : Phase → Observation → Step → Type 0
     OnSo phase x s = (m : Made k s x u w) → ((p : HeldPin) → s ≡ Pin p → Tries p u) → StandsWell k v w ((made-gains k s x u w m).step ∷ steps) (phase_after c caller phase x)
 
-    pub step-stands : (phase : Phase) (s : Step) (x : Observation) → Makes s ≡ action_at caller phase → StandsWell k v u steps phase → OnSo phase x s
+    pub step-stands : (phase : Phase) (s : Step) (x : Observation) → actions.Step s ≡ action_at caller phase → StandsWell k v u steps phase → OnSo phase x s
     step-stands (Walking aim l at) s x acts st = let same : s ≡ leg_step l at = cc in subst (λ (y : Step). OnSo (Walking aim l at) x y) (sym same) (λ m tries. leg-stands aim l at x m (an-end k v steps aim l at st.stays) st.taken st.of_run tries)
     step-stands (Accessing copy source dest) s x acts st = by acts
       where
-        by : Makes s ≡ action_at caller (Accessing copy source dest) → OnSo (Accessing copy source dest) x s
-        by e = let same : s ≡ CopyBytes (place_of caller copy.source source) (place_of caller copy.dest dest) copy.len = cc in
+        by : actions.Step s ≡ action_at caller (Accessing copy source dest) → OnSo (Accessing copy source dest) x s
+        by e = let same : s ≡ call_steps.Copy (place_of caller copy.source source) (place_of caller copy.dest dest) copy.len = cc in
             subst (λ (y : Step). OnSo (Accessing copy source dest) x y) (sym same) (λ m tries. absurd (no-access (place_of caller copy.source source) (place_of caller copy.dest dest) copy.len x m))
     step-stands (Ending pins (Refused denial)) s x acts st = by (last_first pins) refl acts
       where
-        by : (ps : List HeldPin) → last_first pins ≡ ps → Makes s ≡ next_to_give ps (Refused denial) → OnSo (Ending pins (Refused denial)) x s
+        by : (ps : List HeldPin) → last_first pins ≡ ps → actions.Step s ≡ next_to_give ps (Refused denial) → OnSo (Ending pins (Refused denial)) x s
         by [] e a = cc
-        by (p ∷ ps) e a = let same : s ≡ Unpin p (ByLeg (length ps)) = cc in
+        by (p ∷ ps) e a = let same : s ≡ Unpin p (holders.Leg (length ps)) = cc in
             subst (λ (y : Step). OnSo (Ending pins (Refused denial)) x y) (sym same) (λ m tries. end-stands pins denial p ps (length ps) x m e st)
     step-stands (Ending pins Granted) s x acts st = absurd st.stays
     step-stands (Ending pins (Given value)) s x acts st = absurd st.stays

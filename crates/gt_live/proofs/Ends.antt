@@ -7,19 +7,19 @@ use Rattle.gt_types.specs.declared.GrantRef.{GrantRef}
 use Rattle.gt_types.specs.declared.denial.Denial.{Denial}
 use Rattle.gt_types.specs.declared.denial.Rule.{Rule}
 use Rattle.gt_types.specs.declared.denial.Rule.TheVariants.{N6, N9, N18, N19}
-use Rattle.gt_types.specs.declared.denial.Facts.TheVariants.{None as NoFacts, Header as HeaderFacts}
+use Rattle.gt_types.specs.declared.denial.Facts.TheVariants as facts
 use Rattle.gt_types.specs.Denial.{denial_of}
 use Rattle.gt_types.specs.Names.{resolved}
 use Rattle.gt_model.specs.declared.entry.Entry.{Entry}
 use Rattle.gt_model.specs.declared.entry.Entry.TheVariants.{Invalid, Page, Sub, Via}
-use Rattle.gt_model.specs.declared.control.EntryKind.TheVariants.{Sub as KindSub}
+use Rattle.gt_model.specs.declared.control.EntryKind.TheVariants as kinds
 use Rattle.gt_model.specs.Words.{control_of, header_of, size_of}
 use Rattle.gt_model.specs.declared.action.Action.{Action}
-use Rattle.gt_model.specs.declared.action.Action.TheVariants.{Step as Makes, Done}
+use Rattle.gt_model.specs.declared.action.Action.TheVariants.{Done}
+use Rattle.gt_model.specs.declared.action.Action.TheVariants as actions
 use Rattle.gt_model.specs.declared.change.EntryChange.{EntryChange}
-use Rattle.gt_model.specs.declared.change.EntryChange.TheVariants.{Publish, Revoke as ToInvalid}
-use Rattle.gt_model.specs.declared.change.EntryChange.TheVariants.{Withdraw as ToWithdrawn, Demote as ToReadOnly}
-use Rattle.gt_model.specs.declared.change.EntryChange.TheVariants.{Promote as ToWritable}
+use Rattle.gt_model.specs.declared.change.EntryChange.TheVariants.{Publish}
+use Rattle.gt_model.specs.declared.change.EntryChange.TheVariants as changes
 use Rattle.gt_model.specs.declared.change.BodyWord.{BodyWord}
 use Rattle.gt_model.specs.declared.change.BodyWord.TheVariants.{First, Second}
 use Rattle.gt_model.specs.declared.action.Observation.{Observation}
@@ -36,7 +36,7 @@ use Rattle.gt_model.specs.declared.action.HeaderQuery.TheVariants.{Size, Version
 use Rattle.gt_model.specs.declared.held.HeldPin.{HeldPin}
 use Rattle.gt_model.specs.declared.handle.Handle.{Handle}
 use Rattle.gt_model.specs.declared.leg.Leg.{Leg}
-use Rattle.gt_model.specs.declared.request.PinHolder.TheVariants.{Mapping as ByHandle}
+use Rattle.gt_model.specs.declared.request.PinHolder.TheVariants as holders
 use Rattle.gt_model.specs.Rules.{CallerKnowledge, begun, first_look, is_kind, first_body, second_body}
 use Rattle.gt_model.specs.Path.{Continuation, AfterRefusal, AfterPin, after_beginning, at_first_look, by_mapping}
 use Rattle.gt_model.specs.Path.{ended, entry_refusal, exchanges, exchanges_once, grant_path, held_of, idle_word}
@@ -55,14 +55,14 @@ module _ (caller : DomId) where
 
   -- each step of the way is followed as it should be, and the way's answers are these
   pub record Sound (P : CallResult → Type 0) (way : Continuation) : Type 0 where
-    pub ends : (vs : List Observation) (s : Step) (x : Observation) (a : Action) → way vs ≡ Some (Makes s) → way (vs ++ x ∷ []) ≡ Some a → EndsSo caller s x a
+    pub ends : (vs : List Observation) (s : Step) (x : Observation) (a : Action) → way vs ≡ Some (actions.Step s) → way (vs ++ x ∷ []) ≡ Some a → EndsSo caller s x a
     pub answers : (vs : List Observation) (verdict : CallResult) → way vs ≡ Some (Done verdict) → P verdict
 
   module _ (P : CallResult → Type 0) where
     ended-sound : (verdict : CallResult) → P verdict → Sound P (ended verdict)
     ended-sound verdict p = record { ends = ends; answers = answers }
       where
-        ends : (vs : List Observation) (s : Step) (x : Observation) (a : Action) → ended verdict vs ≡ Some (Makes s) → ended verdict (vs ++ x ∷ []) ≡ Some a → EndsSo caller s x a
+        ends : (vs : List Observation) (s : Step) (x : Observation) (a : Action) → ended verdict vs ≡ Some (actions.Step s) → ended verdict (vs ++ x ∷ []) ≡ Some a → EndsSo caller s x a
         ends [] s x a e f = absurd (cc)
         ends (v ∷ vs) s x a e f = absurd (cc)
 
@@ -79,7 +79,7 @@ module _ (caller : DomId) where
         opened s Taken a same f = absurd (cc)
         opened s (Missed w) a same f = absurd (cc)
 
-        ends : (vs : List Observation) (s : Step) (x : Observation) (a : Action) → makes step follows vs ≡ Some (Makes s) → makes step follows (vs ++ x ∷ []) ≡ Some a → EndsSo caller s x a
+        ends : (vs : List Observation) (s : Step) (x : Observation) (a : Action) → makes step follows vs ≡ Some (actions.Step s) → makes step follows (vs ++ x ∷ []) ≡ Some a → EndsSo caller s x a
         ends [] s x a e f = let same : s ≡ step = cc in opened s x a same f
         ends (Nothing ∷ vs) s x a e f = sound.ends vs s x a e f
         ends (Word w ∷ vs) s x a e f = absurd (cc)
@@ -102,7 +102,7 @@ module _ (caller : DomId) where
         opened s Taken a same f = absurd (cc)
         opened s (Missed w) a same f = absurd (cc)
 
-        ends : (vs : List Observation) (s : Step) (x : Observation) (a : Action) → looks step follows vs ≡ Some (Makes s) → looks step follows (vs ++ x ∷ []) ≡ Some a → EndsSo caller s x a
+        ends : (vs : List Observation) (s : Step) (x : Observation) (a : Action) → looks step follows vs ≡ Some (actions.Step s) → looks step follows (vs ++ x ∷ []) ≡ Some a → EndsSo caller s x a
         ends [] s x a e f = let same : s ≡ step = cc in opened s x a same f
         ends (Word w ∷ vs) s x a e f = (sound w).ends vs s x a e f
         ends (Nothing ∷ vs) s x a e f = absurd (cc)
@@ -130,11 +130,11 @@ module _ (caller : DomId) where
         opened s Nothing a same f = absurd (cc)
         opened s (Word w) a same f = absurd (cc)
 
-        ends_else : (b : Bool) (w : ℕ) (vs : List Observation) (s : Step) (x : Observation) (a : Action) → cond b None (missed w vs) ≡ Some (Makes s) → cond b None (missed w (vs ++ x ∷ [])) ≡ Some a → EndsSo caller s x a
+        ends_else : (b : Bool) (w : ℕ) (vs : List Observation) (s : Step) (x : Observation) (a : Action) → cond b None (missed w vs) ≡ Some (actions.Step s) → cond b None (missed w (vs ++ x ∷ [])) ≡ Some a → EndsSo caller s x a
         ends_else true w vs s x a e f = absurd (cc)
         ends_else false w vs s x a e f = (others w).ends vs s x a e f
 
-        ends : (vs : List Observation) (s : Step) (x : Observation) (a : Action) → exchanges step looked taken missed vs ≡ Some (Makes s) → exchanges step looked taken missed (vs ++ x ∷ []) ≡ Some a → EndsSo caller s x a
+        ends : (vs : List Observation) (s : Step) (x : Observation) (a : Action) → exchanges step looked taken missed vs ≡ Some (actions.Step s) → exchanges step looked taken missed (vs ++ x ∷ []) ≡ Some a → EndsSo caller s x a
         ends [] s x a e f = let same : s ≡ step = cc in opened s x a same f
         ends (Taken ∷ vs) s x a e f = sound.ends vs s x a e f
         ends (Missed w ∷ vs) s x a e f = ends_else (w == looked) w vs s x a e f
@@ -160,8 +160,8 @@ module _ (caller : DomId) where
   abbrev pub IsIdle : Step → Observation → Type 0
   IsIdle s x = effect_of s x ≡ effects.Nothing
 
-  then-step : (s : Step) (x : Observation) (way : Continuation) (t : Step) → IsIdle s x → way [] ≡ Some (Makes t) → Opens s x way
-  then-step s x way t idle e = first-is s x way (Makes t) e idle
+  then-step : (s : Step) (x : Observation) (way : Continuation) (t : Step) → IsIdle s x → way [] ≡ Some (actions.Step t) → Opens s x way
+  then-step s x way t idle e = first-is s x way (actions.Step t) e idle
 
   then-refused : (s : Step) (x : Observation) (denial : Denial) → IsIdle s x → IsFound caller s x denial.facts → Opens s x (ended (Refused denial))
   then-refused s x denial idle found = first-is s x (ended (Refused denial)) (Done (Refused denial)) refl (subst (λ (y : Effect). Answers y (Refused denial)) (sym idle) tt, found)
@@ -218,8 +218,8 @@ module _ (caller : DomId) where
     body-sound : (word : ℕ) → Sound MapAnswer (reads_body l word refuse missed keep)
     body-sound word =
         looks-sound MapAnswer (LookBody l.dom l.gref First)
-        (λ body. cond (is_kind (control_of word).kind KindSub) (reads_second l word body refuse missed keep) (last_step l (held_of l word body 0) (rule_of_try l word body 0) refuse missed keep))
-        (λ w. opened w (is_kind (control_of word).kind KindSub)) (λ w. sound w (is_kind (control_of word).kind KindSub))
+        (λ body. cond (is_kind (control_of word).kind kinds.Sub) (reads_second l word body refuse missed keep) (last_step l (held_of l word body 0) (rule_of_try l word body 0) refuse missed keep))
+        (λ w. opened w (is_kind (control_of word).kind kinds.Sub)) (λ w. sound w (is_kind (control_of word).kind kinds.Sub))
       where
         opened : (w : ℕ) (b : Bool) → Opens (LookBody l.dom l.gref First) (Word w) (cond b (reads_second l word w refuse missed keep) (last_step l (held_of l word w 0) (rule_of_try l word w 0) refuse missed keep))
         opened w true = then-step (LookBody l.dom l.gref First) (Word w) (reads_second l word w refuse missed keep) (LookBody l.dom l.gref Second) refl refl
@@ -257,16 +257,16 @@ module _ (caller : DomId) where
 
   leg-sound : (l : Leg) → Sound MapAnswer (leg l refuse keep)
   leg-sound l =
-      looks-sound MapAnswer (LookHeader l.dom) (λ word. cond (nat_lt l.gref.0 (size_of (header_of word))) (tries l 3 refuse keep) (refuse (denial_of N9 (HeaderFacts l.dom word))))
+      looks-sound MapAnswer (LookHeader l.dom) (λ word. cond (nat_lt l.gref.0 (size_of (header_of word))) (tries l 3 refuse keep) (refuse (denial_of N9 (facts.Header l.dom word))))
       (λ w. opened w (nat_lt l.gref.0 (size_of (header_of w)))) (λ w. sound w (nat_lt l.gref.0 (size_of (header_of w))))
     where
-      opened : (w : ℕ) (b : Bool) → Opens (LookHeader l.dom) (Word w) (cond b (tries l 3 refuse keep) (refuse (denial_of N9 (HeaderFacts l.dom w))))
+      opened : (w : ℕ) (b : Bool) → Opens (LookHeader l.dom) (Word w) (cond b (tries l 3 refuse keep) (refuse (denial_of N9 (facts.Header l.dom w))))
       opened w true = tries-opens l 3 (LookHeader l.dom) (Word w) refl
-      opened w false = then-refused (LookHeader l.dom) (Word w) (denial_of N9 (HeaderFacts l.dom w)) refl (refl, refl)
+      opened w false = then-refused (LookHeader l.dom) (Word w) (denial_of N9 (facts.Header l.dom w)) refl (refl, refl)
 
-      sound : (w : ℕ) (b : Bool) → Sound MapAnswer (cond b (tries l 3 refuse keep) (refuse (denial_of N9 (HeaderFacts l.dom w))))
+      sound : (w : ℕ) (b : Bool) → Sound MapAnswer (cond b (tries l 3 refuse keep) (refuse (denial_of N9 (facts.Header l.dom w))))
       sound w true = tries-sound l 3
-      sound w false = refuse-sound (denial_of N9 (HeaderFacts l.dom w))
+      sound w false = refuse-sound (denial_of N9 (facts.Header l.dom w))
 
   -- an owner's exchanges
 
@@ -333,10 +333,10 @@ module _ (caller : DomId) where
 
   -- calls of one step
 
-  unmaps-sound : (k : CallerKnowledge) (o : Option HeldPin) (handle : Handle) → Sound OkOrRefused (by_mapping o (λ m. Unpin m (ByHandle handle)))
-  unmaps-sound k None handle = refused (denial_of N6 NoFacts)
+  unmaps-sound : (k : CallerKnowledge) (o : Option HeldPin) (handle : Handle) → Sound OkOrRefused (by_mapping o (λ m. Unpin m (holders.Mapping handle)))
+  unmaps-sound k None handle = refused (denial_of N6 facts.None)
   unmaps-sound k (Some m) handle =
-      makes-sound OkOrRefused (Unpin m (ByHandle handle)) (ended Granted) (first-is (Unpin m (ByHandle handle)) Nothing (ended Granted) (Done Granted) refl (tt, tt)) granted
+      makes-sound OkOrRefused (Unpin m (holders.Mapping handle)) (ended Granted) (first-is (Unpin m (holders.Mapping handle)) Nothing (ended Granted) (Done Granted) refl (tt, tt)) granted
 
   -- the answers of each call
 
@@ -349,28 +349,28 @@ module _ (caller : DomId) where
         ok (Refused d) h = tt
         ok (Mapped p) h = absurd h
         ok (Given x) h = absurd h
-    steps-sound (asks.Revoke gref) w = let s = once-sound gref (idle_word k gref) ToInvalid in record { ends = s.ends; answers = λ vs v e. ok v (s.answers vs v e) }
+    steps-sound (asks.Revoke gref) w = let s = once-sound gref (idle_word k gref) changes.Revoke in record { ends = s.ends; answers = λ vs v e. ok v (s.answers vs v e) }
       where
         ok : (v : CallResult) → OkOrRefused v → IsAnswerTo (asks.Revoke gref) v
         ok Granted h = tt
         ok (Refused d) h = tt
         ok (Mapped p) h = absurd h
         ok (Given x) h = absurd h
-    steps-sound (asks.Withdraw gref) w = let s = turns-sound ToWithdrawn gref 3 in record { ends = s.ends; answers = λ vs v e. ok v (s.answers vs v e) }
+    steps-sound (asks.Withdraw gref) w = let s = turns-sound changes.Withdraw gref 3 in record { ends = s.ends; answers = λ vs v e. ok v (s.answers vs v e) }
       where
         ok : (v : CallResult) → OkOrRefused v → IsAnswerTo (asks.Withdraw gref) v
         ok Granted h = tt
         ok (Refused d) h = tt
         ok (Mapped p) h = absurd h
         ok (Given x) h = absurd h
-    steps-sound (asks.Demote gref) w = let s = turns-sound ToReadOnly gref 3 in record { ends = s.ends; answers = λ vs v e. ok v (s.answers vs v e) }
+    steps-sound (asks.Demote gref) w = let s = turns-sound changes.Demote gref 3 in record { ends = s.ends; answers = λ vs v e. ok v (s.answers vs v e) }
       where
         ok : (v : CallResult) → OkOrRefused v → IsAnswerTo (asks.Demote gref) v
         ok Granted h = tt
         ok (Refused d) h = tt
         ok (Mapped p) h = absurd h
         ok (Given x) h = absurd h
-    steps-sound (asks.Promote gref) w = let s = turns-sound ToWritable gref 3 in record { ends = s.ends; answers = λ vs v e. ok v (s.answers vs v e) }
+    steps-sound (asks.Promote gref) w = let s = turns-sound changes.Promote gref 3 in record { ends = s.ends; answers = λ vs v e. ok v (s.answers vs v e) }
       where
         ok : (v : CallResult) → OkOrRefused v → IsAnswerTo (asks.Promote gref) v
         ok Granted h = tt

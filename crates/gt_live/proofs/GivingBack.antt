@@ -7,7 +7,7 @@ use Rattle.gt_types.specs.declared.denial.Denial.{Denial}
 use Rattle.gt_word_history.specs.Rule.{Layout}
 use Rattle.gt_word_history.specs.declared.view.View.{View}
 use Rattle.gt_model.specs.declared.action.Action.{Action}
-use Rattle.gt_model.specs.declared.action.Action.TheVariants.{Step as Makes}
+use Rattle.gt_model.specs.declared.action.Action.TheVariants as actions
 use Rattle.gt_model.specs.declared.action.Observation.{Observation}
 use Rattle.gt_model.specs.declared.action.Observation.TheVariants.{Nothing}
 use Rattle.gt_model.specs.declared.action.Step.TheVariants.{Unpin}
@@ -18,7 +18,7 @@ use Rattle.gt_model.specs.declared.held.HeldPin.{HeldPin}
 use Rattle.gt_model.specs.declared.held.CallPins.{CallPins}
 use Rattle.gt_model.specs.declared.held.AccessPath.{AccessPath}
 use Rattle.gt_model.specs.declared.held.AccessPath.TheVariants.{Own, Direct, Through}
-use Rattle.gt_model.specs.declared.request.PinHolder.TheVariants.{Leg as ByLeg}
+use Rattle.gt_model.specs.declared.request.PinHolder.TheVariants as holders
 use Rattle.gt_model.specs.Holding.{held_by, last_first, no_pins, without_last}
 use Rattle.gt_calls.specs.Machine.{next_to_give}
 use Rattle.gt_model.specs.Path.{Continuation, give_back}
@@ -41,14 +41,14 @@ record Giving (k : Layout) (all : List HeldPin) (v w : View) (left : List HeldPi
 
 module _ (k : Layout) where
   giving-on : (all : List HeldPin) (v u w : View) (p : HeldPin) (left : List HeldPin) → Giving k all v u (p ∷ left)
-      → Made k (Unpin p (ByLeg 0)) Nothing u w → Giving k all v w left
+      → Made k (Unpin p (holders.Leg 0)) Nothing u w → Giving k all v w left
   giving-on all v u w p left g made =
-      let s = Unpin p (ByLeg (length left)) in let way : Continuation = give_back all Granted in
+      let s = Unpin p (holders.Leg (length left)) in let way : Continuation = give_back all Granted in
       let mid = view_after g.steps v in
       let m1 : Made k s Nothing mid w = subst (λ (z : View). Made k s Nothing z w) g.view made in
       let gain = made-gains k s Nothing mid w m1 in
       let view : w ≡ view_after (gain.step ∷ g.steps) v = gain.view in
-      let next : way (all_shown g.steps) ≡ Some (Makes s) = ap way (sym (append-nil (all_shown g.steps))) ∙ g.leads [] in
+      let next : way (all_shown g.steps) ≡ Some (actions.Step s) = ap way (sym (append-nil (all_shown g.steps))) ∙ g.leads [] in
       let m2 : Made k s (shown_by gain.step) mid (view_after (gain.step ∷ g.steps) v) =
       subst (λ (z : View). Made k s (shown_by gain.step) mid z) view
       (subst (λ (y : Observation). Made k s y mid w) (sym gain.shows) m1) in
@@ -122,14 +122,14 @@ module _ (k : Layout) where
   module _ (c : CallerKnowledge) (caller : DomId) (start : Phase) (v : View) where
     pub can-last : (pins : CallPins) (denial : Denial) (p : HeldPin) (others : List HeldPin) (u : View)
         → last_first pins ≡ p ∷ others → CanRun c k caller start v
-        → Runs c k caller start v (Ending pins (Refused denial)) u → CanMake k u (Unpin p (ByLeg 0))
+        → Runs c k caller start v (Ending pins (Refused denial)) u → CanMake k u (Unpin p (holders.Leg 0))
     can-last pins denial p others u is can x =
-        can (Ending pins (Refused denial)) u (Unpin p (ByLeg (length others))) x
+        can (Ending pins (Refused denial)) u (Unpin p (holders.Leg (length others))) x
         (ap (λ (ps : List HeldPin). next_to_give ps (Refused denial)) is) (λ from to len e. cc)
 
     pub last-given : (pins : CallPins) (denial : Denial) (p : HeldPin) (others : List HeldPin) (u w : View)
         → last_first pins ≡ p ∷ others → Runs c k caller start v (Ending pins (Refused denial)) u
-        → Made k (Unpin p (ByLeg 0)) Nothing u w
+        → Made k (Unpin p (holders.Leg 0)) Nothing u w
         → Runs c k caller start v (Ending (without_last pins) (Refused denial)) w
     last-given pins denial p others u w is x made =
         runs-on c k caller start (Ending pins (Refused denial)) Nothing v u w x

@@ -16,12 +16,11 @@ use Rattle.gt_types.specs.declared.denial.Rule.TheVariants.{N5, N6, N9, N18, N19
 use Rattle.gt_types.specs.declared.denial.Facts.TheVariants as facts
 use Rattle.gt_types.specs.Denial.{denial_of}
 use Rattle.gt_model.specs.declared.change.EntryChange.{EntryChange}
-use Rattle.gt_model.specs.declared.change.EntryChange.TheVariants.{Demote as ToReadOnly, Promote as ToWritable}
-use Rattle.gt_model.specs.declared.change.EntryChange.TheVariants.{Publish, Revoke as ToInvalid}
-use Rattle.gt_model.specs.declared.change.EntryChange.TheVariants.{Withdraw as ToWithdrawn}
-use Rattle.gt_model.specs.declared.change.BodyWord.TheVariants.{First as FirstHalf, Second as SecondHalf}
+use Rattle.gt_model.specs.declared.change.EntryChange.TheVariants.{Publish}
+use Rattle.gt_model.specs.declared.change.EntryChange.TheVariants as changes
+use Rattle.gt_model.specs.declared.change.BodyWord.TheVariants as body_words
 use Rattle.gt_model.specs.declared.control.Control.{Control}
-use Rattle.gt_model.specs.declared.control.EntryKind.TheVariants.{Sub as KindSub}
+use Rattle.gt_model.specs.declared.control.EntryKind.TheVariants as kinds
 use Rattle.gt_model.specs.declared.entry.Entry.{Entry}
 use Rattle.gt_model.specs.declared.entry.Entry.TheVariants.{Invalid, Page, Sub, Via}
 use Rattle.gt_model.specs.Bytes.{first_refused}
@@ -40,13 +39,14 @@ use Rattle.gt_word_history.specs.declared.view.HeaderStep.TheVariants as header
 use Rattle.gt_word_history.specs.declared.view.SeatStep.{SeatStep}
 use Rattle.gt_word_history.specs.declared.view.View.{View}
 use Rattle.gt_model.specs.declared.action.Action.{Action}
-use Rattle.gt_model.specs.declared.action.Action.TheVariants.{Done, Step as Makes}
+use Rattle.gt_model.specs.declared.action.Action.TheVariants.{Done}
+use Rattle.gt_model.specs.declared.action.Action.TheVariants as actions
 use Rattle.gt_model.specs.declared.action.Observation.{Observation}
 use Rattle.gt_model.specs.declared.action.Observation.TheVariants.{Missed, Nothing, Taken, Word}
 use Rattle.gt_model.specs.declared.action.Step.{Step}
-use Rattle.gt_model.specs.declared.action.Step.TheVariants.{Exchange, LookBody, LookControl, LookHeader, Pin}
-use Rattle.gt_model.specs.declared.action.Step.TheVariants.{StoreBody, StoreHeader, Unpin, Read as ReadBytes}
-use Rattle.gt_model.specs.declared.action.Step.TheVariants.{Write as WriteBytes, Copy as CopyBytes}
+use Rattle.gt_model.specs.declared.action.Step.TheVariants.{Exchange, LookBody, LookControl, LookHeader, Pin, StoreBody}
+use Rattle.gt_model.specs.declared.action.Step.TheVariants.{StoreHeader, Unpin}
+use Rattle.gt_model.specs.declared.action.Step.TheVariants as call_steps
 use Rattle.gt_model.specs.declared.action.CallResult.{CallResult}
 use Rattle.gt_model.specs.declared.action.CallResult.TheVariants.{Granted, Mapped, Refused}
 use Rattle.gt_model.specs.declared.held.HeldPin.{HeldPin}
@@ -57,7 +57,7 @@ use Rattle.gt_model.specs.declared.bounds.TheConstants.{MORE_TRIES}
 use Rattle.gt_model.specs.declared.request.OpenRequest.{OpenRequest}
 use Rattle.gt_model.specs.declared.request.OpenRequest.TheVariants as asks
 use Rattle.gt_types.specs.declared.copies.CopyArgs.{CopyArgs}
-use Rattle.gt_model.specs.declared.request.PinHolder.TheVariants.{Leg as ByLeg}
+use Rattle.gt_model.specs.declared.request.PinHolder.TheVariants as holders
 use Rattle.gt_model.specs.declared.request.Request.{Request}
 use Rattle.gt_model.specs.Asking.{asked, begun_by, begun_of, bytes_of, field_refused, plainly_asked}
 use Rattle.gt_model.specs.Holding.{held_by}
@@ -155,9 +155,9 @@ module _ (k : Layout) (p : ℕ) where
       ⊎ ((f : ℕ) × (n : ℕ) × (x ≡ on_entry p q.0 (ChangeMissed c looked f n)) × (n ≢ looked))
   Is (StoreBody q half n) x = Unit {0}
   Is (StoreHeader version frames) x = Unit {0}
-  Is (ReadBytes dom frame off len) x = ⊥
-  Is (WriteBytes dom frame off len) x = ⊥
-  Is (CopyBytes from to len) x = ⊥
+  Is (call_steps.Read dom frame off len) x = ⊥
+  Is (call_steps.Write dom frame off len) x = ⊥
+  Is (call_steps.Copy from to len) x = ⊥
 
   module _ (v w : View) (at : v.position ≡ p) (past : StepHistory) (x : SeatStep) (view : w ≡ with_step past x v) where
     same : (y : SeatStep) (g : StepHistory) → w ≡ with_step g y v → x ≡ y
@@ -177,19 +177,19 @@ module _ (k : Layout) (p : ℕ) where
     made-is (StoreHeader version frames) Nothing m = tt
     made-is (Exchange q looked (Publish e)) Taken m = inl (_, _, own _ _ (same _ _ m.changes.steps.adds.view))
     made-is (Exchange q looked (Publish e)) (Missed n) m = inr (_, n, own _ _ (same _ _ m.missed.steps.adds.view), m.missed.another)
-    made-is (Exchange q looked ToInvalid) Taken m = inl (_, _, own _ _ (same _ _ m.changes.steps.adds.view))
-    made-is (Exchange q looked ToInvalid) (Missed n) m = inr (_, n, own _ _ (same _ _ m.missed.steps.adds.view), m.missed.another)
-    made-is (Exchange q looked ToWithdrawn) Taken m = inl (_, _, own _ _ (same _ _ m.steps.adds.view))
-    made-is (Exchange q looked ToWithdrawn) (Missed n) m = inr (_, n, own _ _ (same _ _ m.steps.adds.view), m.another)
-    made-is (Exchange q looked ToReadOnly) Taken m = inl (_, _, own _ _ (same _ _ m.changes.steps.adds.view))
-    made-is (Exchange q looked ToReadOnly) (Missed n) m = inr (_, n, own _ _ (same _ _ m.steps.adds.view), m.another)
-    made-is (Exchange q looked ToWritable) Taken m = inl (_, _, own _ _ (same _ _ m.steps.adds.view))
-    made-is (Exchange q looked ToWritable) (Missed n) m = inr (_, n, own _ _ (same _ _ m.steps.adds.view), m.another)
+    made-is (Exchange q looked changes.Revoke) Taken m = inl (_, _, own _ _ (same _ _ m.changes.steps.adds.view))
+    made-is (Exchange q looked changes.Revoke) (Missed n) m = inr (_, n, own _ _ (same _ _ m.missed.steps.adds.view), m.missed.another)
+    made-is (Exchange q looked changes.Withdraw) Taken m = inl (_, _, own _ _ (same _ _ m.steps.adds.view))
+    made-is (Exchange q looked changes.Withdraw) (Missed n) m = inr (_, n, own _ _ (same _ _ m.steps.adds.view), m.another)
+    made-is (Exchange q looked changes.Demote) Taken m = inl (_, _, own _ _ (same _ _ m.changes.steps.adds.view))
+    made-is (Exchange q looked changes.Demote) (Missed n) m = inr (_, n, own _ _ (same _ _ m.steps.adds.view), m.another)
+    made-is (Exchange q looked changes.Promote) Taken m = inl (_, _, own _ _ (same _ _ m.steps.adds.view))
+    made-is (Exchange q looked changes.Promote) (Missed n) m = inr (_, n, own _ _ (same _ _ m.steps.adds.view), m.another)
     made-is _ _ m = absurd m
 
   -- the steps in their order are those of a way
   abbrev IsNext : Option Action → SeatStep → Type 0
-  IsNext (Some (Makes s)) x = Is s x
+  IsNext (Some (actions.Step s)) x = Is s x
   IsNext (Some (Done verdict)) x = ⊥
   IsNext None x = ⊥
 
@@ -208,7 +208,7 @@ module _ (k : Layout) (p : ℕ) where
       goes-more way (in_order xs) x.1 (goes way v xs at walk.1) next
     where
       by : (o : Option Action) → MakesStep k o (shown_by x) (view_after xs v) (view_after (x ∷ xs) v) → IsNext o x.1
-      by (Some (Makes s)) m = made-is (view_after xs v) (view_after (x ∷ xs) v) (after-position xs v ∙ at) x.0 x.1 refl s (shown_by x) m
+      by (Some (actions.Step s)) m = made-is (view_after xs v) (view_after (x ∷ xs) v) (after-position xs v ∙ at) x.0 x.1 refl s (shown_by x) m
       by (Some (Done verdict)) m = absurd m
       by None m = absurd m
 
@@ -218,7 +218,7 @@ module _ (k : Layout) (p : ℕ) where
     abbrev Ends : Continuation → List SeatStep → Type 0
     Ends way ys = Goes way ys × (way (map seen_in_step ys) ≡ Some (Done (Refused d)))
 
-    no-end : (s : Step) → Some (Makes s) ≡ Some (Done (Refused d)) → ⊥
+    no-end : (s : Step) → Some (actions.Step s) ≡ Some (Done (Refused d)) → ⊥
     no-end s e = cc
 
     none-ends : None ≡ Some (Done (Refused d)) → ⊥
@@ -292,13 +292,13 @@ module _ (k : Layout) (p : ℕ) where
 
     never-back : (ps : List HeldPin) (verdict : CallResult) → (verdict ≡ Refused d → ⊥) → Never (give_back ps verdict)
     never-back [] verdict n = never-ended verdict n
-    never-back (h ∷ hs) verdict n = never-makes (Unpin h (ByLeg (length hs))) (give_back hs verdict) (never-back hs verdict n)
+    never-back (h ∷ hs) verdict n = never-makes (Unpin h (holders.Leg (length hs))) (give_back hs verdict) (never-back hs verdict n)
 
     -- the end of a refused leg
     gives-back : (ps : List HeldPin) (verdict : CallResult) (ys : List SeatStep) → Ends (give_back ps verdict) ys → (verdict ≡ Refused d) × AreUnpins ys
     gives-back [] verdict [] e = (is-refused verdict e.1, tt)
     gives-back [] verdict (y ∷ ys) e = absurd (none-ends e.1)
-    gives-back (h ∷ hs) verdict [] e = absurd (no-end (Unpin h (ByLeg (length hs))) e.1)
+    gives-back (h ∷ hs) verdict [] e = absurd (no-end (Unpin h (holders.Leg (length hs))) e.1)
     gives-back (h ∷ hs) verdict (y ∷ ys) e =
         let is = e.0.0 in let none : seen_in_step y ≡ Nothing = ap seen_in_step is.1 in
         let rest = gives-back hs verdict ys (subst (λ (s : Observation). Goes (λ vs. give_back (h ∷ hs) verdict (s ∷ vs)) ys × (give_back (h ∷ hs) verdict (s ∷ map seen_in_step ys) ≡ Some (Done (Refused d)))) none (e.0.1, e.1)) in
@@ -448,18 +448,18 @@ module _ (k : Layout) (p : ℕ) where
 
         body-found : (looked : ℕ) (ys : List SeatStep) → Ends (reads_body l looked refused missed pinned) ys → After (on_entry t r (Looked looked) ∷ ys)
         body-found looked ys e =
-            let a = looks-on (LookBody l.dom l.gref FirstHalf) (λ body. if is_kind (control_of looked).kind KindSub then reads_second l looked body refused missed pinned else last_step l (held_of l looked body 0) (rule_of_try l looked body 0) refused missed pinned) (λ m. on_entry t r (ReadBody FirstHalf m)) (λ x is. is) (λ m. refl) ys e in
-            subst (λ (us : List SeatStep). After (on_entry t r (Looked looked) ∷ us)) (sym a.2) (by a.0 a.1 (is_kind (control_of looked).kind KindSub) a.3)
+            let a = looks-on (LookBody l.dom l.gref body_words.First) (λ body. if is_kind (control_of looked).kind kinds.Sub then reads_second l looked body refused missed pinned else last_step l (held_of l looked body 0) (rule_of_try l looked body 0) refused missed pinned) (λ m. on_entry t r (ReadBody body_words.First m)) (λ x is. is) (λ m. refl) ys e in
+            subst (λ (us : List SeatStep). After (on_entry t r (Looked looked) ∷ us)) (sym a.2) (by a.0 a.1 (is_kind (control_of looked).kind kinds.Sub) a.3)
           where
-            second : (body : ℕ) (zs : List SeatStep) → Ends (reads_second l looked body refused missed pinned) zs → After (on_entry t r (Looked looked) ∷ (on_entry t r (ReadBody FirstHalf body) ∷ zs))
+            second : (body : ℕ) (zs : List SeatStep) → Ends (reads_second l looked body refused missed pinned) zs → After (on_entry t r (Looked looked) ∷ (on_entry t r (ReadBody body_words.First body) ∷ zs))
             second body zs f =
-                let b = looks-on (LookBody l.dom l.gref SecondHalf) (λ sec. last_step l (held_of l looked body sec) (rule_of_try l looked body sec) refused missed pinned) (λ m. on_entry t r (ReadBody SecondHalf m)) (λ x is. is) (λ m. refl) zs f in
-                subst (λ (us : List SeatStep). After (on_entry t r (Looked looked) ∷ (on_entry t r (ReadBody FirstHalf body) ∷ us))) (sym b.2)
-                (last-found looked (on_entry t r (ReadBody FirstHalf body) ∷ (on_entry t r (ReadBody SecondHalf b.0) ∷ [])) ((FirstHalf, body, refl), ((SecondHalf, b.0, refl), tt)) (held_of l looked body b.0) refl refl refl (rule_of_try l looked body b.0) (before-pin18 l (entry_of (control_of looked) body b.0) (pins_of l.dir (control_of looked))) b.1 b.3)
+                let b = looks-on (LookBody l.dom l.gref body_words.Second) (λ sec. last_step l (held_of l looked body sec) (rule_of_try l looked body sec) refused missed pinned) (λ m. on_entry t r (ReadBody body_words.Second m)) (λ x is. is) (λ m. refl) zs f in
+                subst (λ (us : List SeatStep). After (on_entry t r (Looked looked) ∷ (on_entry t r (ReadBody body_words.First body) ∷ us))) (sym b.2)
+                (last-found looked (on_entry t r (ReadBody body_words.First body) ∷ (on_entry t r (ReadBody body_words.Second b.0) ∷ [])) ((body_words.First, body, refl), ((body_words.Second, b.0, refl), tt)) (held_of l looked body b.0) refl refl refl (rule_of_try l looked body b.0) (before-pin18 l (entry_of (control_of looked) body b.0) (pins_of l.dir (control_of looked))) b.1 b.3)
 
-            by : (body : ℕ) (zs : List SeatStep) (b : Bool) → Ends (if b then reads_second l looked body refused missed pinned else last_step l (held_of l looked body 0) (rule_of_try l looked body 0) refused missed pinned) zs → After (on_entry t r (Looked looked) ∷ (on_entry t r (ReadBody FirstHalf body) ∷ zs))
+            by : (body : ℕ) (zs : List SeatStep) (b : Bool) → Ends (if b then reads_second l looked body refused missed pinned else last_step l (held_of l looked body 0) (rule_of_try l looked body 0) refused missed pinned) zs → After (on_entry t r (Looked looked) ∷ (on_entry t r (ReadBody body_words.First body) ∷ zs))
             by body zs true f = second body zs f
-            by body zs false f = last-found looked (on_entry t r (ReadBody FirstHalf body) ∷ []) ((FirstHalf, body, refl), tt) (held_of l looked body 0) refl refl refl (rule_of_try l looked body 0) (before-pin18 l (entry_of (control_of looked) body 0) (pins_of l.dir (control_of looked))) zs f
+            by body zs false f = last-found looked (on_entry t r (ReadBody body_words.First body) ∷ []) ((body_words.First, body, refl), tt) (held_of l looked body 0) refl refl refl (rule_of_try l looked body 0) (before-pin18 l (entry_of (control_of looked) body 0) (pins_of l.dir (control_of looked))) zs f
 
         try-found : (ys : List SeatStep) → Ends (try_pin l refused missed pinned) ys → After ys
         try-found ys e =
@@ -576,9 +576,9 @@ module _ (k : Layout) (p : ℕ) where
     found : (c : CallerKnowledge) (caller : DomId) (request : OpenRequest) → (IsProbe request → ⊥) → p ≡ position_in k.ids caller → (ys : List SeatStep) → Ends (steps_of c caller request) ys → Found caller ys
     found c caller (asks.Grant gref entry) plain stands ys e = absurd (never-makes _ _ (never-grants c caller gref entry entry) ys e.1)
     found c caller (asks.Revoke gref) plain stands ys e = absurd (never-once caller gref _ _ ys e.1)
-    found c caller (asks.Withdraw gref) plain stands ys e = inr (gref, turns-found caller gref stands ToWithdrawn MORE_TRIES ys e)
-    found c caller (asks.Demote gref) plain stands ys e = inr (gref, turns-found caller gref stands ToReadOnly MORE_TRIES ys e)
-    found c caller (asks.Promote gref) plain stands ys e = inr (gref, turns-found caller gref stands ToWritable MORE_TRIES ys e)
+    found c caller (asks.Withdraw gref) plain stands ys e = inr (gref, turns-found caller gref stands changes.Withdraw MORE_TRIES ys e)
+    found c caller (asks.Demote gref) plain stands ys e = inr (gref, turns-found caller gref stands changes.Demote MORE_TRIES ys e)
+    found c caller (asks.Promote gref) plain stands ys e = inr (gref, turns-found caller gref stands changes.Promote MORE_TRIES ys e)
     found c caller (asks.Map dom gref flags) plain stands ys e = inl (map-found c caller dom gref flags ys e)
     found c caller (asks.Unmap handle) plain stands ys e = absurd (never-mapping (c.mapping handle) _ ys e.1)
     found c caller (asks.Release handle) plain stands ys e = absurd (never-mapping (c.mapping handle) _ ys e.1)

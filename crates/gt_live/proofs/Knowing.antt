@@ -13,7 +13,7 @@ use Rattle.gt_model.specs.declared.handle.Handle.{Handle}
 use Rattle.gt_handles.specs.Handles.{HandleMap}
 use Rattle.gt_handles.specs.Listing.{IsInserted}
 use Rattle.gt_model.specs.declared.action.CallValue.{CallValue}
-use Rattle.gt_model.specs.declared.action.CallValue.TheVariants as values
+use Rattle.gt_model.specs.declared.action.CallValue.TheVariants as call_values
 use Rattle.gt_model.specs.declared.action.CallResult.{CallResult}
 use Rattle.gt_model.specs.declared.action.CallResult.TheVariants.{Granted, Given, Mapped, Refused}
 use Rattle.gt_model.specs.declared.held.HeldPin.{HeldPin}
@@ -56,7 +56,7 @@ at-once-answer request (Refused denial) is = tt
 at-once-answer (asks.Demote gref) Granted is = tt
 at-once-answer (asks.Promote gref) Granted is = tt
 at-once-answer (asks.SetVersion version) Granted is = tt
-at-once-answer (asks.SetupTable frames) (Given (values.Frames n)) is = tt
+at-once-answer (asks.SetupTable frames) (Given (call_values.Frames n)) is = tt
 at-once-answer _ _ is = absurd is
 
 -- an answer at once carries no word
@@ -114,7 +114,7 @@ done-back request (Given value) is a = absurd (plain-given request value is a)
 
 pub frames-back : (n : ℕ) (verdict : CallResult) → IsAnswerTo (asks.SetupTable n) verdict → verdict ≡ verdict_of_frames (frames_granted verdict)
 frames-back n (Refused denial) a = refl
-frames-back n (Given (values.Frames m)) a = refl
+frames-back n (Given (call_values.Frames m)) a = refl
 frames-back n _ a = absurd a
 
 -- a map's answer

@@ -3,7 +3,7 @@ use Rattle.std.proofs.Common.{◌≡◌, ◌∙◌, ◌==◌, ◌-◌, ◌<◌, 
 use Rattle.std.proofs.Common.{subst, [], ◌∷◌, Option, Some, None, arith}
 use Rattle.std.proofs.lemmas.Bool.{lt-ltb}
 use Rattle.gt_types.specs.declared.denial.Denial.{Denial}
-use Rattle.gt_types.specs.declared.denial.Facts.TheVariants.{Header as HeaderFacts}
+use Rattle.gt_types.specs.declared.denial.Facts.TheVariants as facts
 use Rattle.gt_types.specs.declared.denial.Rule.{Rule}
 use Rattle.gt_types.specs.declared.denial.Rule.TheVariants.{N9, N18}
 use Rattle.gt_types.specs.Denial.{denial_of}
@@ -22,7 +22,7 @@ use Rattle.gt_model.specs.declared.action.Step.TheVariants.{LookControl, Pin}
 use Rattle.gt_model.specs.declared.held.HeldPin.{HeldPin}
 use Rattle.gt_model.specs.declared.leg.Leg.{Leg}
 use Rattle.gt_calls.specs.declared.leg.LegNext.{LegNext}
-use Rattle.gt_calls.specs.declared.leg.LegNext.TheVariants.{Going as GoesTo, Refused as LegRefused}
+use Rattle.gt_calls.specs.declared.leg.LegNext.TheVariants as leg_outcomes
 use Rattle.gt_calls.specs.declared.leg.LegPhase.{LegPhase}
 use Rattle.gt_calls.specs.declared.leg.LegPhase.TheVariants.{Header, Look, Body, Second, Pinning, Relook}
 use Rattle.gt_model.specs.declared.bounds.TheConstants.{MORE_TRIES}
@@ -31,29 +31,29 @@ use Rattle.gt_live.specs.Walks.{Made, ReadsBody, ReadsSecond}
 
 -- what follows a look at the header
 pub header-refuses : (l : Leg) (word : ℕ) (has : Bool) (denial : Denial)
-    → has ≡ nat_lt l.gref.0 (size_of (header_of word)) → has ≡ false → denial ≡ denial_of N9 (HeaderFacts l.dom word)
-    → after_header l word ≡ LegRefused denial
+    → has ≡ nat_lt l.gref.0 (size_of (header_of word)) → has ≡ false → denial ≡ denial_of N9 (facts.Header l.dom word)
+    → after_header l word ≡ leg_outcomes.Refused denial
 header-refuses l word has denial has_is lacks is =
-    ap (λ (b : Bool). if b then GoesTo (Look MORE_TRIES) else LegRefused (denial_of N9 (HeaderFacts l.dom word)))
+    ap (λ (b : Bool). if b then leg_outcomes.Going (Look MORE_TRIES) else leg_outcomes.Refused (denial_of N9 (facts.Header l.dom word)))
     (sym has_is ∙ lacks)
-    ∙ ap (λ (d : Denial). LegRefused d) (sym is)
+    ∙ ap (λ (d : Denial). leg_outcomes.Refused d) (sym is)
 
 pub header-passes : (l : Leg) (word : ℕ) (has : Bool) → has ≡ nat_lt l.gref.0 (size_of (header_of word))
-    → has ≡ true → after_header l word ≡ GoesTo (Look MORE_TRIES)
+    → has ≡ true → after_header l word ≡ leg_outcomes.Going (Look MORE_TRIES)
 header-passes l word has has_is holds =
-    ap (λ (b : Bool). if b then GoesTo (Look MORE_TRIES) else LegRefused (denial_of N9 (HeaderFacts l.dom word)))
+    ap (λ (b : Bool). if b then leg_outcomes.Going (Look MORE_TRIES) else leg_outcomes.Refused (denial_of N9 (facts.Header l.dom word)))
     (sym has_is ∙ holds)
 
 -- what follows a first look at the control word
 pub look-refuses : (l : Leg) (more word : ℕ) (judged found : Option Rule) (rule : Rule) (denial : Denial)
     → judged ≡ found → judged ≡ Some rule → denial ≡ entry_refusal l.dom l.gref rule word
-    → on_control_word l more word found ≡ LegRefused denial
+    → on_control_word l more word found ≡ leg_outcomes.Refused denial
 look-refuses l more word judged found rule denial judged_is some is =
     ap (λ (o : Option Rule). on_control_word l more word o) (sym judged_is ∙ some)
-    ∙ ap (λ (d : Denial). LegRefused d) (sym is)
+    ∙ ap (λ (d : Denial). leg_outcomes.Refused d) (sym is)
 
 pub look-passes : (l : Leg) (more word : ℕ) (judged found : Option Rule) → judged ≡ found → judged ≡ None
-    → on_control_word l more word found ≡ GoesTo (Body more word)
+    → on_control_word l more word found ≡ leg_outcomes.Going (Body more word)
 look-passes l more word judged found judged_is none =
     ap (λ (o : Option Rule). on_control_word l more word o) (sym judged_is ∙ none)
 
@@ -61,23 +61,23 @@ look-passes l more word judged found judged_is none =
 pub relook-misses : (l : Leg) (more word : ℕ) (rule : Rule) (found : ℕ) → (found == word) ≡ false
     → after_relook l more word rule found ≡ after_miss l more found
 relook-misses l more word rule found other =
-    ap (λ (b : Bool). if b then LegRefused (entry_refusal l.dom l.gref rule word) else after_miss l more found) other
+    ap (λ (b : Bool). if b then leg_outcomes.Refused (entry_refusal l.dom l.gref rule word) else after_miss l more found) other
 
 pub relook-refuses : (l : Leg) (more word : ℕ) (rule : Rule) (found : ℕ) (denial : Denial) → (found == word) ≡ true
-    → denial ≡ entry_refusal l.dom l.gref rule word → after_relook l more word rule found ≡ LegRefused denial
+    → denial ≡ entry_refusal l.dom l.gref rule word → after_relook l more word rule found ≡ leg_outcomes.Refused denial
 relook-refuses l more word rule found denial same is =
-    ap (λ (b : Bool). if b then LegRefused (entry_refusal l.dom l.gref rule word) else after_miss l more found) same
-    ∙ ap (λ (d : Denial). LegRefused d) (sym is)
+    ap (λ (b : Bool). if b then leg_outcomes.Refused (entry_refusal l.dom l.gref rule word) else after_miss l more found) same
+    ∙ ap (λ (d : Denial). leg_outcomes.Refused d) (sym is)
 
 pub last-miss : (l : Leg) (more found : ℕ) (denial : Denial) → more ≡ 0
-    → denial ≡ entry_refusal l.dom l.gref N18 found → after_miss l more found ≡ LegRefused denial
+    → denial ≡ entry_refusal l.dom l.gref N18 found → after_miss l more found ≡ leg_outcomes.Refused denial
 last-miss l more found denial none is =
-    ap (λ (n : ℕ). after_miss l n found) none ∙ ap (λ (d : Denial). LegRefused d) (sym is)
+    ap (λ (n : ℕ). after_miss l n found) none ∙ ap (λ (d : Denial). leg_outcomes.Refused d) (sym is)
 
-pub next-try : (l : Leg) (more found : ℕ) → (more ≡ 0 → ⊥) → after_miss l more found ≡ GoesTo (Look (more - 1))
+pub next-try : (l : Leg) (more found : ℕ) → (more ≡ 0 → ⊥) → after_miss l more found ≡ leg_outcomes.Going (Look (more - 1))
 next-try l more found some =
     let positive : 0 < more = omega (arith, some) in
-    ap (λ (b : Bool). if b then GoesTo (Look (more - 1)) else LegRefused (entry_refusal l.dom l.gref N18 found))
+    ap (λ (b : Bool). if b then leg_outcomes.Going (Look (more - 1)) else leg_outcomes.Refused (entry_refusal l.dom l.gref N18 found))
     (lt-ltb _ _ positive)
 
 -- the kind of an entry that is no sub-page
@@ -89,11 +89,11 @@ no-sub Via other = refl
 
 module _ (k : Layout) (l : Leg) (v : View) where
   -- a leg at its header has been walked so far
-  pub walk-begins : WalksLeg k l v (GoesTo Header) v
+  pub walk-begins : WalksLeg k l v (leg_outcomes.Going Header) v
   walk-begins = ([], (refl, refl))
 
   -- after a step that was made the leg has come to what it goes on with
-  pub walk-on : (at : LegPhase) (seen : Observation) (u w : View) → WalksLeg k l v (GoesTo at) u
+  pub walk-on : (at : LegPhase) (seen : Observation) (u w : View) → WalksLeg k l v (leg_outcomes.Going at) u
       → Made k (leg_step l at) seen u w → WalksLeg k l v (leg_after l at seen) w
   walk-on at seen u w x made = ((at, seen, u) ∷ x.0, (made, refl, x.1))
 
@@ -102,7 +102,7 @@ module _ (k : Layout) (l : Leg) (v : View) where
   walk-to next other w is x = subst (λ (n : LegNext). WalksLeg k l v n w) is x
 
   second-read : (more word first second : ℕ) (u w : View) (is_sub : Bool)
-      → WalksLeg k l v (if is_sub then GoesTo (Second more word first)
+      → WalksLeg k l v (if is_sub then leg_outcomes.Going (Second more word first)
       else after_words more word first 0 (rule_of_try l word first 0)) u
       → ReadsSecond is_sub k l second u w
       → WalksLeg k l v (after_words more word first second (rule_of_try l word first second)) w
@@ -114,7 +114,7 @@ module _ (k : Layout) (l : Leg) (v : View) where
       (sym read.0) x)
 
   -- what follows the body words
-  body-read : (more word first second : ℕ) (u w : View) → WalksLeg k l v (GoesTo (Body more word)) u
+  body-read : (more word first second : ℕ) (u w : View) → WalksLeg k l v (leg_outcomes.Going (Body more word)) u
       → ReadsBody k l word first second u w
       → WalksLeg k l v (after_words more word first second (rule_of_try l word first second)) w
   body-read more word first second u w x read =
@@ -122,16 +122,16 @@ module _ (k : Layout) (l : Leg) (v : View) where
       (walk-on (Body more word) (Word first) u read.0 x read.1) read.2
 
   -- a first look that no rule stands on
-  pub looked : (more word : ℕ) (judged : Option Rule) (u w : View) → WalksLeg k l v (GoesTo (Look more)) u
+  pub looked : (more word : ℕ) (judged : Option Rule) (u w : View) → WalksLeg k l v (leg_outcomes.Going (Look more)) u
       → Made k (LookControl l.dom l.gref) (Word word) u w
-      → judged ≡ first_look l (control_of word) → judged ≡ None → WalksLeg k l v (GoesTo (Body more word)) w
+      → judged ≡ first_look l (control_of word) → judged ≡ None → WalksLeg k l v (leg_outcomes.Going (Body more word)) w
   looked more word judged u w x made judged_is none =
-      walk-to _ (GoesTo (Body more word)) w (look-passes l more word judged _ judged_is none)
+      walk-to _ (leg_outcomes.Going (Body more word)) w (look-passes l more word judged _ judged_is none)
       (walk-on (Look more) (Word word) u w x made)
 
   -- all the words of a try, and whether a rule stands on them
   pub tried : (more word first second : ℕ) (judged judged' next : Option Rule) (u w1 w2 : View)
-      → WalksLeg k l v (GoesTo (Look more)) u → Made k (LookControl l.dom l.gref) (Word word) u w1
+      → WalksLeg k l v (leg_outcomes.Going (Look more)) u → Made k (LookControl l.dom l.gref) (Word word) u w1
       → judged ≡ first_look l (control_of word) → judged ≡ None → ReadsBody k l word first second w1 w2
       → judged' ≡ rule_of_try l word first second → judged' ≡ next
       → WalksLeg k l v (after_words more word first second next) w2
@@ -141,7 +141,7 @@ module _ (k : Layout) (l : Leg) (v : View) where
 
   -- a second look that found another word
   pub relook-missed : (more word : ℕ) (rule : Rule) (found : ℕ) (u w : View)
-      → WalksLeg k l v (GoesTo (Relook more word rule)) u → Made k (LookControl l.dom l.gref) (Word found) u w
+      → WalksLeg k l v (leg_outcomes.Going (Relook more word rule)) u → Made k (LookControl l.dom l.gref) (Word found) u w
       → (found == word) ≡ false → WalksLeg k l v (after_miss l more found) w
   relook-missed more word rule found u w x made other =
       walk-to _ (after_miss l more found) w (relook-misses l more word rule found other)
@@ -149,7 +149,7 @@ module _ (k : Layout) (l : Leg) (v : View) where
 
   -- a pin that was missed
   pub pin-missed : (more word first second found : ℕ) (held : HeldPin) (u w : View)
-      → WalksLeg k l v (GoesTo (Pinning more word first second)) u → held ≡ held_of l word first second
+      → WalksLeg k l v (leg_outcomes.Going (Pinning more word first second)) u → held ≡ held_of l word first second
       → Made k (Pin held) (Missed found) u w → WalksLeg k l v (after_miss l more found) w
   pin-missed more word first second found held u w x is made =
       walk-on (Pinning more word first second) (Missed found) u w x

@@ -10,13 +10,14 @@ use Rattle.gt_word_history.specs.declared.view.View.{View}
 use Rattle.gt_handles.specs.Handles.{HandleMap}
 use Rattle.gt_model.specs.declared.handle.Handle.{Handle}
 use Rattle.gt_model.specs.declared.action.Action.{Action}
-use Rattle.gt_model.specs.declared.action.Action.TheVariants.{Done, Step as Makes}
+use Rattle.gt_model.specs.declared.action.Action.TheVariants.{Done}
+use Rattle.gt_model.specs.declared.action.Action.TheVariants as actions
 use Rattle.gt_model.specs.declared.action.Observation.{Observation}
 use Rattle.gt_model.specs.declared.action.Observation.TheVariants.{Missed, Nothing, Taken, Word}
 use Rattle.gt_model.specs.declared.action.Step.{Step}
-use Rattle.gt_model.specs.declared.action.Step.TheVariants.{Copy as CopyBytes, Exchange, LookBody, LookControl}
-use Rattle.gt_model.specs.declared.action.Step.TheVariants.{LookHeader, Pin, Read as ReadBytes, StoreBody}
-use Rattle.gt_model.specs.declared.action.Step.TheVariants.{StoreHeader, Unpin, Write as WriteBytes}
+use Rattle.gt_model.specs.declared.action.Step.TheVariants.{Exchange, LookBody, LookControl, LookHeader, Pin, StoreBody}
+use Rattle.gt_model.specs.declared.action.Step.TheVariants.{StoreHeader, Unpin}
+use Rattle.gt_model.specs.declared.action.Step.TheVariants as call_steps
 use Rattle.gt_model.specs.declared.action.CallResult.TheVariants.{Granted}
 use Rattle.gt_model.specs.declared.held.HeldPin.{HeldPin}
 use Rattle.gt_model.specs.Path.{Continuation}
@@ -51,7 +52,7 @@ walk-moments k way v [] walk = tt
 walk-moments k way v (x ∷ xs) walk = let t = by (way (all_shown xs)) walk.0 in (t.0, t.1, walk-moments k way v xs walk.1)
   where
     by : (o : Option Action) → MakesStep k o (shown_by x) (view_after xs v) (view_after (x ∷ xs) v) → TookPlace k v.position x × (part_of v.position x.0 ≡ (view_after xs v).steps)
-    by (Some (Makes s)) m =
+    by (Some (actions.Step s)) m =
         let g = made-gains k s (shown_by x) (view_after xs v) (view_after (x ∷ xs) v) m in
         subst (λ (y : Moment). TookPlace k v.position y × (part_of v.position y.0 ≡ (view_after xs v).steps)) (sym (one_moment x g.step (view_after xs v) g.view))
         (later k v xs (shown_by x) (view_after (x ∷ xs) v) g)
@@ -78,18 +79,18 @@ no_access k (Unpin p holder) seen v w m is = absurd is
 no_access k (StoreBody q half n) seen v w m is = absurd is
 no_access k (StoreHeader version frames) seen v w m is = absurd is
 no_access k (Exchange q looked change) seen v w m is = absurd is
-no_access k (ReadBytes dom frame off len) (Word n) v w m is = absurd m
-no_access k (ReadBytes dom frame off len) Taken v w m is = absurd m
-no_access k (ReadBytes dom frame off len) (Missed n) v w m is = absurd m
-no_access k (ReadBytes dom frame off len) Nothing v w m is = absurd m
-no_access k (WriteBytes dom frame off len) (Word n) v w m is = absurd m
-no_access k (WriteBytes dom frame off len) Taken v w m is = absurd m
-no_access k (WriteBytes dom frame off len) (Missed n) v w m is = absurd m
-no_access k (WriteBytes dom frame off len) Nothing v w m is = absurd m
-no_access k (CopyBytes from to len) (Word n) v w m is = absurd m
-no_access k (CopyBytes from to len) Taken v w m is = absurd m
-no_access k (CopyBytes from to len) (Missed n) v w m is = absurd m
-no_access k (CopyBytes from to len) Nothing v w m is = absurd m
+no_access k (call_steps.Read dom frame off len) (Word n) v w m is = absurd m
+no_access k (call_steps.Read dom frame off len) Taken v w m is = absurd m
+no_access k (call_steps.Read dom frame off len) (Missed n) v w m is = absurd m
+no_access k (call_steps.Read dom frame off len) Nothing v w m is = absurd m
+no_access k (call_steps.Write dom frame off len) (Word n) v w m is = absurd m
+no_access k (call_steps.Write dom frame off len) Taken v w m is = absurd m
+no_access k (call_steps.Write dom frame off len) (Missed n) v w m is = absurd m
+no_access k (call_steps.Write dom frame off len) Nothing v w m is = absurd m
+no_access k (call_steps.Copy from to len) (Word n) v w m is = absurd m
+no_access k (call_steps.Copy from to len) Taken v w m is = absurd m
+no_access k (call_steps.Copy from to len) (Missed n) v w m is = absurd m
+no_access k (call_steps.Copy from to len) Nothing v w m is = absurd m
 
 module _ {A : Type 0} where
   nothing_before : (xs ys : List A) → [] ≡ xs ++ ys → xs ≡ []
@@ -110,14 +111,14 @@ module _ {A : Type 0} where
       (λ (q : (ws : List A) × (vs ≡ xs ++ ws) × (ys ≡ ws ++ rest)). inr (q.0, (λ i. sym head i ∷ q.1 i), q.2)) (within_parts xs ys vs rest tail)
 
 -- where a walk comes to an access, it is at its end
-at_its_end : (k : Layout) (way : Continuation) (v : View) (steps : List Moment) → IsWalk k way v steps → (vs rest : List Observation) (s : Step) → all_shown steps ≡ vs ++ rest → way vs ≡ Some (Makes s) → IsAccess s → vs ≡ all_shown steps
+at_its_end : (k : Layout) (way : Continuation) (v : View) (steps : List Moment) → IsWalk k way v steps → (vs rest : List Observation) (s : Step) → all_shown steps ≡ vs ++ rest → way vs ≡ Some (actions.Step s) → IsAccess s → vs ≡ all_shown steps
 at_its_end k way v [] walk vs rest s e next is = nothing_before vs rest e
 at_its_end k way v (y ∷ ys) walk vs [] s e next is = sym (e ∙ append_none vs)
 at_its_end k way v (y ∷ ys) walk vs (a ∷ bs) s e next is =
     let u = unsnoc a bs in
     let split : vs ++ (a ∷ bs) ≡ (vs ++ u.0) ++ u.1 ∷ [] = ap (λ (zs : List Observation). vs ++ zs) u.2 ∙ sym (append_assoc vs u.0 (u.1 ∷ [])) in
     let here = at_its_end k way v ys walk.1 vs u.0 s (snoc-inj (all_shown ys) (vs ++ u.0) (shown_by y) u.1 (e ∙ split)).0 next is in
-    let made : MakesStep k (Some (Makes s)) (shown_by y) (view_after ys v) (view_after (y ∷ ys) v) =
+    let made : MakesStep k (Some (actions.Step s)) (shown_by y) (view_after ys v) (view_after (y ∷ ys) v) =
     subst (λ (o : Option Action). MakesStep k o (shown_by y) (view_after ys v) (view_after (y ∷ ys) v)) (ap way (sym here) ∙ next) walk.0 in
     absurd (no_access k s (shown_by y) (view_after ys v) (view_after (y ∷ ys) v) made is)
 
@@ -135,4 +136,4 @@ only-access k way access v at mid w comes ends vs rest s e next is = ⊎_elim be
     behind : (ws : List Observation) × (vs ≡ (all_shown comes.steps ++ Nothing ∷ []) ++ ws) × (all_shown ends.steps ≡ ws ++ rest) → vs ≡ all_shown comes.steps
     behind q =
         let there = at_its_end k (onward way (all_shown comes.steps ++ Nothing ∷ [])) mid ends.steps ends.walked q.0 rest s q.2 (ap way (sym q.1) ∙ next) is in
-        let done : Some (Makes s) ≡ Some (Done Granted) = sym next ∙ (ap way q.1 ∙ (ap (onward way (all_shown comes.steps ++ Nothing ∷ [])) there ∙ ends.answered)) in absurd (cc)
+        let done : Some (actions.Step s) ≡ Some (Done Granted) = sym next ∙ (ap way q.1 ∙ (ap (onward way (all_shown comes.steps ++ Nothing ∷ [])) there ∙ ends.answered)) in absurd (cc)

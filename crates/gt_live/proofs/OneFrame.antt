@@ -5,7 +5,7 @@ use Rattle.gt_types.specs.declared.config.Config.{Config}
 use Rattle.gt_types.specs.declared.config.DomainConfig.{DomainConfig}
 use Rattle.gt_roster.specs.Frameless.{HasOneFrameEach, IsFramelessFault, OneFrameIsEnough, with_one_frame}
 use Rattle.gt_types.specs.declared.config.StartFault.{StartFault}
-use Rattle.gt_types.specs.declared.config.StartFault.TheVariants as starts
+use Rattle.gt_types.specs.declared.config.StartFault.TheVariants as start_faults
 use Rattle.gt_words.specs.Answers.{IsStartFault}
 use Rattle.gt_word_history.specs.Rule.{first_header, layout_of}
 
@@ -30,5 +30,5 @@ same_layout c e less = λ i. record {
 
 -- its fault is that of the configuration
 pub fault_of : (c e : Config) → OneFrameIsEnough → HasOneFrameEach c e → (f : StartFault) → IsStartFault e f → IsFramelessFault c f
-fault_of c e law less (starts.Config f) is = (λ r. is.0 ((law c e less).1 r), (e, less, is.1))
-fault_of c e law less starts.Memory is = tt
+fault_of c e law less (start_faults.Config f) is = (λ r. is.0 ((law c e less).1 r), (e, less, is.1))
+fault_of c e law less start_faults.Memory is = tt

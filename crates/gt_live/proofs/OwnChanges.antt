@@ -18,8 +18,9 @@ use Rattle.gt_word_history.specs.declared.view.View.{View}
 use Rattle.gt_calls.specs.Machine.{action_at, after_own_miss, after_store, publishing, refused_as}
 use Rattle.gt_model.specs.Path.{entry_refusal, idle_word, is_stopped, path}
 use Rattle.gt_model.specs.Rules.{CallerKnowledge, begun}
-use Rattle.gt_model.specs.declared.action.Action.TheVariants.{Step as Makes}
-use Rattle.gt_model.specs.declared.action.Observation.TheVariants.{Nothing as Unseen, Word, Taken, Missed}
+use Rattle.gt_model.specs.declared.action.Action.TheVariants as actions
+use Rattle.gt_model.specs.declared.action.Observation.TheVariants.{Word, Taken, Missed}
+use Rattle.gt_model.specs.declared.action.Observation.TheVariants as observations
 use Rattle.gt_model.specs.declared.action.Step.{Step}
 use Rattle.gt_model.specs.declared.action.Step.TheVariants.{Exchange, LookControl, StoreBody}
 use Rattle.gt_model.specs.declared.action.CallResult.{CallResult}
@@ -104,17 +105,17 @@ module _ (c : CallerKnowledge) (law : PhaseLaw c) (k : Layout) (v : View) (calle
 
   -- a grant after the store of its first body word
   stored : (entry : Entry) (next : Phase) (n : Step) (word : ℕ) (w : View) → begun c caller (Grant gref entry) ≡ None
-      → word ≡ first_body entry → Made k (StoreBody gref First word) Unseen v w → after_store c gref entry ≡ next
-      → action_at caller next ≡ Makes n → IsIn c law k v caller (Grant gref entry) next n w
+      → word ≡ first_body entry → Made k (StoreBody gref First word) observations.Nothing v w → after_store c gref entry ≡ next
+      → action_at caller next ≡ actions.Step n → IsIn c law k v caller (Grant gref entry) next n w
   stored entry next n word w none word_is made is acts =
-      further c law k v caller (Grant gref entry) (Storing gref entry) (StoreBody gref First (first_body entry)) Unseen next n
+      further c law k v caller (Grant gref entry) (Storing gref entry) (StoreBody gref First (first_body entry)) observations.Nothing next n
       v w knows tt
       (starts c law k v caller (Grant gref entry) (Storing gref entry) (StoreBody gref First (first_body entry)) none refl refl)
-      (subst (λ (m : ℕ). Made k (StoreBody gref First m) Unseen v w) word_is made) is acts
+      (subst (λ (m : ℕ). Made k (StoreBody gref First m) observations.Nothing v w) word_is made) is acts
 
   pub stored-sub : (entry : Entry) (dom : DomId) (ro : Bool) (frame off len word : ℕ) (w : View)
       → begun c caller (Grant gref entry) ≡ None → entry ≡ Sub dom ro frame off len → word ≡ first_body entry
-      → Made k (StoreBody gref First word) Unseen v w
+      → Made k (StoreBody gref First word) observations.Nothing v w
       → IsIn c law k v caller (Grant gref entry) (StoringSecond gref entry) (StoreBody gref Second (second_body entry)) w
   stored-sub entry dom ro frame off len word w none is word_is made =
       stored entry (StoringSecond gref entry) (StoreBody gref Second (second_body entry)) word w none word_is made
@@ -122,7 +123,7 @@ module _ (c : CallerKnowledge) (law : PhaseLaw c) (k : Layout) (v : View) (calle
 
   pub stored-other : (entry : Entry) (word : ℕ) (w : View) → begun c caller (Grant gref entry) ≡ None
       → ((dom : DomId) (ro : Bool) (frame off len : ℕ) → entry ≡ Sub dom ro frame off len → ⊥) → word ≡ first_body entry
-      → Made k (StoreBody gref First word) Unseen v w → Publishes entry w
+      → Made k (StoreBody gref First word) observations.Nothing v w → Publishes entry w
   stored-other entry word w none other word_is made =
       stored entry (publishing c gref entry) (Exchange gref (idle_word c gref) (Publish entry)) word w none word_is made
       (other-next c gref entry other) refl
@@ -130,11 +131,11 @@ module _ (c : CallerKnowledge) (law : PhaseLaw c) (k : Layout) (v : View) (calle
   -- and after the store of its second body word
   pub stored-second : (entry : Entry) (word : ℕ) (u w : View)
       → IsIn c law k v caller (Grant gref entry) (StoringSecond gref entry) (StoreBody gref Second (second_body entry)) u
-      → word ≡ second_body entry → Made k (StoreBody gref Second word) Unseen u w → Publishes entry w
+      → word ≡ second_body entry → Made k (StoreBody gref Second word) observations.Nothing u w → Publishes entry w
   stored-second entry word u w g word_is made =
-      further c law k v caller (Grant gref entry) (StoringSecond gref entry) (StoreBody gref Second (second_body entry)) Unseen
+      further c law k v caller (Grant gref entry) (StoringSecond gref entry) (StoreBody gref Second (second_body entry)) observations.Nothing
       (publishing c gref entry) (Exchange gref (idle_word c gref) (Publish entry)) u w knows tt g
-      (subst (λ (m : ℕ). Made k (StoreBody gref Second m) Unseen u w) word_is made) refl refl
+      (subst (λ (m : ℕ). Made k (StoreBody gref Second m) observations.Nothing u w) word_is made) refl refl
 
   -- it can make its stores
   pub can-store : (entry : Entry) (word : ℕ) → begun c caller (Grant gref entry) ≡ None → CanMake k v (StoreBody gref First word)

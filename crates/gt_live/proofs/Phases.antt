@@ -5,9 +5,10 @@ use Rattle.gt_types.specs.declared.denial.Denial.{Denial}
 use Rattle.gt_word_history.specs.Rule.{Layout}
 use Rattle.gt_word_history.specs.declared.view.View.{View}
 use Rattle.gt_model.specs.declared.action.Action.{Action}
-use Rattle.gt_model.specs.declared.action.Action.TheVariants.{Step as Makes, Done}
+use Rattle.gt_model.specs.declared.action.Action.TheVariants.{Done}
+use Rattle.gt_model.specs.declared.action.Action.TheVariants as actions
 use Rattle.gt_model.specs.declared.action.Observation.{Observation}
-use Rattle.gt_model.specs.declared.action.Observation.TheVariants.{Nothing as Unseen}
+use Rattle.gt_model.specs.declared.action.Observation.TheVariants as observations
 use Rattle.gt_model.specs.declared.action.Step.{Step}
 use Rattle.gt_model.specs.declared.action.CallResult.TheVariants.{Refused}
 use Rattle.gt_calls.specs.declared.call.Phase.{Phase}
@@ -83,7 +84,7 @@ module _ (c : CallerKnowledge) (k : Layout) (caller : DomId) where
   pub leg-can : (aim : PinPurpose) (l : Leg) (v : View) → CanRun c k caller (Walking aim l Header) v → CanWalkLeg k l v
   leg-can aim l v can = λ at w x.
       can (Walking aim l at) w (leg_step l at) (leg-runs aim l v (Going at) w x) refl
-      (λ from to len e. no-leg l at from to len (ap (λ (s : Step). Makes s) (sym e)))
+      (λ from to len e. no-leg l at from to len (ap (λ (s : Step). actions.Step s) (sym e)))
 
   pub can-from : (start other : Phase) (v : View) → start ≡ other → CanRun c k caller start v
       → CanRun c k caller other v
@@ -101,7 +102,7 @@ module _ (c : CallerKnowledge) (k : Layout) (caller : DomId) where
 
     step-further : (at : Phase) (seen : Observation) (u w : View) (action : Action) → action_at caller at ≡ action
         → MakesStep k (Some action) seen u w → StandsAt at u → StandsAt (phase_after c caller at seen) w
-    step-further at seen u w (Makes s) acts made here =
+    step-further at seen u w (actions.Step s) acts made here =
         (goes-on c k v u w (copy_call caller copy at) (copy_call caller copy (phase_after c caller at seen))
         (action_at caller (phase_after c caller at seen)) s seen knows
         (subst (λ (a : Action). IsUnderway c k v u (copy_call caller copy at) a) acts here) made refl refl
@@ -131,7 +132,7 @@ module _ (c : CallerKnowledge) (k : Layout) (caller : DomId) where
     stands-first none =
         starts c k v (unmoved_copy caller copy) (copy_call caller copy (at_source c caller copy))
         (action_at caller (at_source c caller copy)) copy knows (record { unmoved = refl; unanswered = none }) refl
-        refl refl (law (unmoved_copy caller copy) Unseen)
+        refl refl (law (unmoved_copy caller copy) observations.Nothing)
 
     -- where it stops
     pub stops : (result : Result CallPins Denial) (w : View) → StandsAt (after_copy copy result) w

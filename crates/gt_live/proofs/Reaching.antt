@@ -18,7 +18,7 @@ use Rattle.gt_model.specs.declared.held.AccessPath.{AccessPath}
 use Rattle.gt_model.specs.declared.held.AccessPath.TheVariants.{Own, Direct}
 use Rattle.gt_model.specs.declared.leg.Leg.{Leg}
 use Rattle.gt_calls.specs.declared.leg.LegNext.{LegNext}
-use Rattle.gt_calls.specs.declared.leg.LegNext.TheVariants.{Refused as LegRefused, Pinned as LegPinned}
+use Rattle.gt_calls.specs.declared.leg.LegNext.TheVariants as leg_outcomes
 use Rattle.gt_calls.specs.declared.leg.LegPhase.TheVariants.{Header}
 use Rattle.gt_types.specs.declared.copies.CopyArgs.{CopyArgs}
 use Rattle.gt_calls.specs.Holding.{pins_so_far}
@@ -112,15 +112,15 @@ module _ (c : CallerKnowledge) (k : Layout) (caller : DomId) where
         (leg-runs c k caller (Source copy None) (end_leg c caller copy.source Read copy.len) v next w
         (subst (λ (l : Leg). WalksLeg k l v next w) is x))
 
-    pub source-refused : (v w : View) (denial : Denial) → WalksLeg k leg v (LegRefused denial) w
+    pub source-refused : (v w : View) (denial : Denial) → WalksLeg k leg v (leg_outcomes.Refused denial) w
         → Runs c k caller (source_leg c caller copy) v (Ending (pins_so_far (Source copy None)) (Refused denial)) w
-    source-refused v w denial x = source-runs v (LegRefused denial) w x
+    source-refused v w denial x = source-runs v (leg_outcomes.Refused denial) w x
 
-    pub source-reached : (v w : View) (p : HeldPin) → WalksLeg k leg v (LegPinned p) w → IsNoVia p.entry
+    pub source-reached : (v w : View) (p : HeldPin) → WalksLeg k leg v (leg_outcomes.Pinned p) w → IsNoVia p.entry
         → Runs c k caller (source_leg c caller copy) v (at_dest c caller copy (Direct p)) w
     source-reached v w p x plain =
         runs-to c k caller (source_leg c caller copy) (after_source_pin c caller copy leg p p.entry)
-        (at_dest c caller copy (Direct p)) v w (by p.entry plain) (source-runs v (LegPinned p) w x)
+        (at_dest c caller copy (Direct p)) v w (by p.entry plain) (source-runs v (leg_outcomes.Pinned p) w x)
       where
         by : (e : Entry) → IsNoVia e → after_source_pin c caller copy leg p e ≡ at_dest c caller copy (Direct p)
         by Invalid plain = refl
@@ -129,7 +129,7 @@ module _ (c : CallerKnowledge) (k : Layout) (caller : DomId) where
         by (Via dom ro dom2 gref) plain = absurd plain
 
     pub source-via : (v w : View) (p : HeldPin) (dom : DomId) (ro : Bool) (dom2 : DomId) (gref : GrantRef) (named : DomId)
-        → WalksLeg k leg v (LegPinned p) w → p.entry ≡ Via dom ro dom2 gref
+        → WalksLeg k leg v (leg_outcomes.Pinned p) w → p.entry ≡ Via dom ro dom2 gref
         → (dom2, named) ≡ source_pair caller copy dom2
         → Runs c k caller (source_leg c caller copy) v
         (through_via c (Source copy (Some p)) leg (dom2, named) dom2 gref) w
@@ -138,7 +138,7 @@ module _ (c : CallerKnowledge) (k : Layout) (caller : DomId) where
         (through_via c (Source copy (Some p)) leg (dom2, named) dom2 gref) v w
         (ap (λ (y : Entry). after_source_pin c caller copy leg p y) e
         ∙ ap (λ (q : DomId × DomId). through_via c (Source copy (Some p)) leg q dom2 gref) (sym pair))
-        (source-runs v (LegPinned p) w x)
+        (source-runs v (leg_outcomes.Pinned p) w x)
 
   -- the leg to its destination
   module _ (copy : CopyArgs) (source : AccessPath) (leg : Leg) (is : leg ≡ end_leg c caller copy.dest Write copy.len) where
@@ -156,16 +156,16 @@ module _ (c : CallerKnowledge) (k : Layout) (caller : DomId) where
         (leg-runs c k caller (Dest copy source None) (end_leg c caller copy.dest Write copy.len) v next w
         (subst (λ (l : Leg). WalksLeg k l v next w) is x))
 
-    pub dest-refused : (v w : View) (denial : Denial) → WalksLeg k leg v (LegRefused denial) w
+    pub dest-refused : (v w : View) (denial : Denial) → WalksLeg k leg v (leg_outcomes.Refused denial) w
         → Runs c k caller (dest_leg c caller copy source) v
         (Ending (pins_so_far (Dest copy source None)) (Refused denial)) w
-    dest-refused v w denial x = dest-runs v (LegRefused denial) w x
+    dest-refused v w denial x = dest-runs v (leg_outcomes.Refused denial) w x
 
-    pub dest-reached : (v w : View) (p : HeldPin) → WalksLeg k leg v (LegPinned p) w → IsNoVia p.entry
+    pub dest-reached : (v w : View) (p : HeldPin) → WalksLeg k leg v (leg_outcomes.Pinned p) w → IsNoVia p.entry
         → Runs c k caller (dest_leg c caller copy source) v (Accessing copy source (Direct p)) w
     dest-reached v w p x plain =
         runs-to c k caller (dest_leg c caller copy source) (after_dest_pin c caller copy source leg p p.entry)
-        (Accessing copy source (Direct p)) v w (by p.entry plain) (dest-runs v (LegPinned p) w x)
+        (Accessing copy source (Direct p)) v w (by p.entry plain) (dest-runs v (leg_outcomes.Pinned p) w x)
       where
         by : (e : Entry) → IsNoVia e
             → after_dest_pin c caller copy source leg p e ≡ Accessing copy source (Direct p)
@@ -175,7 +175,7 @@ module _ (c : CallerKnowledge) (k : Layout) (caller : DomId) where
         by (Via dom ro dom2 gref) plain = absurd plain
 
     pub dest-via : (v w : View) (p : HeldPin) (dom : DomId) (ro : Bool) (dom2 : DomId) (gref : GrantRef) (from : DomId)
-        → WalksLeg k leg v (LegPinned p) w → p.entry ≡ Via dom ro dom2 gref
+        → WalksLeg k leg v (leg_outcomes.Pinned p) w → p.entry ≡ Via dom ro dom2 gref
         → (from, dom2) ≡ dest_pair caller source dom2
         → Runs c k caller (dest_leg c caller copy source) v
         (through_via c (Dest copy source (Some p)) leg (from, dom2) dom2 gref) w
@@ -184,7 +184,7 @@ module _ (c : CallerKnowledge) (k : Layout) (caller : DomId) where
         (through_via c (Dest copy source (Some p)) leg (from, dom2) dom2 gref) v w
         (ap (λ (y : Entry). after_dest_pin c caller copy source leg p y) e
         ∙ ap (λ (q : DomId × DomId). through_via c (Dest copy source (Some p)) leg q dom2 gref) (sym pair))
-        (dest-runs v (LegPinned p) w x)
+        (dest-runs v (leg_outcomes.Pinned p) w x)
 
   -- which legs a copy has
   pub source-walked : (copy : CopyArgs) → is_source_granted copy ≡ true

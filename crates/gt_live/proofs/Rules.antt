@@ -7,14 +7,13 @@ use Rattle.gt_types.specs.declared.DomId.{DomId}
 use Rattle.gt_types.specs.declared.Dir.{Dir}
 use Rattle.gt_types.specs.declared.Dir.TheVariants.{Read, Write}
 use Rattle.gt_types.specs.declared.Use.{Use}
-use Rattle.gt_types.specs.declared.Use.TheVariants.{Map as ForMap}
+use Rattle.gt_types.specs.declared.Use.TheVariants as uses
 use Rattle.gt_types.specs.declared.denial.Rule.{Rule}
 use Rattle.gt_types.specs.declared.denial.Rule.TheVariants.{N10, N11, N12, N14, N16, N17}
 use Rattle.gt_model.specs.declared.entry.Entry.{Entry}
 use Rattle.gt_model.specs.declared.entry.Entry.TheVariants.{Invalid, Page, Sub, Via}
 use Rattle.gt_model.specs.declared.control.EntryKind.{EntryKind}
-use Rattle.gt_model.specs.declared.control.EntryKind.TheVariants.{Invalid as KindInvalid, Page as KindPage}
-use Rattle.gt_model.specs.declared.control.EntryKind.TheVariants.{Sub as KindSub, Via as KindVia}
+use Rattle.gt_model.specs.declared.control.EntryKind.TheVariants as kinds
 use Rattle.gt_model.specs.Entries.{frame_of}
 use Rattle.gt_model.specs.Words.{control_of, control_word, is_kind, kind_of, pins_of}
 use Rattle.gt_model.specs.Spelling.{control_with, idle_word_of, entry_of, entry_with}
@@ -33,20 +32,20 @@ pub is-there : {A : Type 0} (o : Option A) → is_none o ≡ false → (a : A) �
 is-there None e = cc
 is-there (Some a) e = (a, refl)
 
-is-page : (x : EntryKind) → is_kind x KindPage ≡ true → x ≡ KindPage
-is-page KindPage e = refl
-is-page KindInvalid e = cc
-is-page KindSub e = cc
-is-page KindVia e = cc
+is-page : (x : EntryKind) → is_kind x kinds.Page ≡ true → x ≡ kinds.Page
+is-page kinds.Page e = refl
+is-page kinds.Invalid e = cc
+is-page kinds.Sub e = cc
+is-page kinds.Via e = cc
 
 -- a first look of a map leaves a page
-pub page-seen : (l : Leg) (word : ℕ) → l.purpose ≡ ForMap → first_look l (control_of word) ≡ None → kind_of word ≡ KindPage
+pub page-seen : (l : Leg) (word : ℕ) → l.purpose ≡ uses.Map → first_look l (control_of word) ≡ None → kind_of word ≡ kinds.Page
 page-seen l word map e =
     let x = control_of word in
-    let a = none-stands (is_kind x.kind KindInvalid) N10 _ e in
+    let a = none-stands (is_kind x.kind kinds.Invalid) N10 _ e in
     let b = none-stands (not (x.dom.0 == l.grantee.0)) N11 _ a.1 in
-    let d = none-stands (not (is_copying l.purpose || is_kind x.kind KindPage)) N12 _ b.1 in
-    let page : not (is_kind x.kind KindPage) ≡ false = ap (λ (u : Use). not (is_copying u || is_kind x.kind KindPage)) (sym map) ∙ d.0 in
+    let d = none-stands (not (is_copying l.purpose || is_kind x.kind kinds.Page)) N12 _ b.1 in
+    let page : not (is_kind x.kind kinds.Page) ≡ false = ap (λ (u : Use). not (is_copying u || is_kind x.kind kinds.Page)) (sym map) ∙ d.0 in
     is-page x.kind (not-false _ page)
 
 few : (dir : Dir) (word : ℕ) → (pins_of dir (control_of word) == 4095) ≡ false → pins_in dir word < 4095
@@ -62,12 +61,12 @@ room-for l word entry e =
     few l.dir word d.0
 
 -- what a leg of a map finds permits its caller, and is of a frame of its owner's
-pub lets-page : (l : Leg) (e : Entry) (dom : DomId) (ro : Bool) (frame : ℕ) → e ≡ Page dom ro frame → l.purpose ≡ ForMap → l.off ≡ 0 → l.len ≡ 0 → Lets l e
-    → (permits e l.grantee l.dir ForMap 0 0 ≡ true) × (nat_le l.frames (frame_of e) ≡ false)
+pub lets-page : (l : Leg) (e : Entry) (dom : DomId) (ro : Bool) (frame : ℕ) → e ≡ Page dom ro frame → l.purpose ≡ uses.Map → l.off ≡ 0 → l.len ≡ 0 → Lets l e
+    → (permits e l.grantee l.dir uses.Map 0 0 ≡ true) × (nat_le l.frames (frame_of e) ≡ false)
 lets-page l e dom ro frame page map off len h =
-    subst (λ (x : Entry). (permits x l.grantee l.dir ForMap 0 0 ≡ true) × (nat_le l.frames (frame_of x) ≡ false)) (sym page) (subst (λ (x : Entry). Lets l x) page h)
+    subst (λ (x : Entry). (permits x l.grantee l.dir uses.Map 0 0 ≡ true) × (nat_le l.frames (frame_of x) ≡ false)) (sym page) (subst (λ (x : Entry). Lets l x) page h)
 
-pub page-spelled : (word a b : ℕ) → kind_of word ≡ KindPage → entry_of (control_of word) a b ≡ Page (control_of word).dom (control_of word).ro a
+pub page-spelled : (word a b : ℕ) → kind_of word ≡ kinds.Page → entry_of (control_of word) a b ≡ Page (control_of word).dom (control_of word).ro a
 page-spelled word a b e = ap (λ (x : EntryKind). entry_with x (control_of word) a b) e
 
 -- the owner's word of an entry

@@ -8,9 +8,10 @@ use Rattle.gt_calls.specs.Machine.{action_at, ended_as, first_phase, phase_after
 use Rattle.gt_model.specs.Rules.{CallerKnowledge, begun}
 use Rattle.gt_calls.specs.Standing.{IsFreshCall}
 use Rattle.gt_model.specs.declared.action.Action.{Action}
-use Rattle.gt_model.specs.declared.action.Action.TheVariants.{Step as Makes, Done}
+use Rattle.gt_model.specs.declared.action.Action.TheVariants.{Done}
+use Rattle.gt_model.specs.declared.action.Action.TheVariants as actions
 use Rattle.gt_model.specs.declared.action.Observation.{Observation}
-use Rattle.gt_model.specs.declared.action.Observation.TheVariants.{Nothing as Unseen}
+use Rattle.gt_model.specs.declared.action.Observation.TheVariants as observations
 use Rattle.gt_model.specs.declared.action.Step.{Step}
 use Rattle.gt_model.specs.declared.action.CallResult.{CallResult}
 use Rattle.gt_calls.specs.declared.call.Call.{Call}
@@ -44,7 +45,7 @@ unsettled request p waits = refl
 
 -- a call that goes on has only looked, whatever its last step was
 looked-on : (c : CallerKnowledge) (k : Layout) (effect : Effect) (v w : View) (call : Call) (s : Step)
-    → Going c k effect v w call (Makes s) → Going c k Nothing v w call (Makes s)
+    → Going c k effect v w call (actions.Step s) → Going c k Nothing v w call (actions.Step s)
 looked-on c k effect v w call s g = record {
   steps = g.steps;
   view = g.view;
@@ -61,14 +62,14 @@ looked-on c k effect v w call s g = record {
 module _ (c : CallerKnowledge) (law : PhaseLaw c) (k : Layout) (v : View) (caller : DomId) (request : OpenRequest) where
   -- the call is in this phase, whose step is this, and has only looked
   abbrev pub IsIn : Phase → Step → View → Type 0
-  IsIn phase s w = Going c k Nothing v w (call_in caller request phase) (Makes s)
+  IsIn phase s w = Going c k Nothing v w (call_in caller request phase) (actions.Step s)
 
   first-goes : (phase : Phase) (action : Action) → first_phase c caller request ≡ phase → action_at caller phase ≡ action
-      → Goes c (fresh_call caller request) Unseen (call_in caller request phase) action
+      → Goes c (fresh_call caller request) observations.Nothing (call_in caller request phase) action
   first-goes phase action is acts =
-      subst (λ (a : Action). Goes c (fresh_call caller request) Unseen (call_in caller request phase) a) acts
-      (subst (λ (p : Phase). Goes c (fresh_call caller request) Unseen (call_in caller request p) (action_at caller p)) is
-      (law (fresh_call caller request) Unseen))
+      subst (λ (a : Action). Goes c (fresh_call caller request) observations.Nothing (call_in caller request phase) a) acts
+      (subst (λ (p : Phase). Goes c (fresh_call caller request) observations.Nothing (call_in caller request p) (action_at caller p)) is
+      (law (fresh_call caller request) observations.Nothing))
 
   next-goes : WaitsForNobody request → (phase : Phase) (x : Observation) (next : Phase) (action : Action) → phase_after c caller phase x ≡ next
       → action_at caller next ≡ action → Goes c (call_in caller request phase) x (call_in caller request next) action
@@ -79,21 +80,21 @@ module _ (c : CallerKnowledge) (law : PhaseLaw c) (k : Layout) (v : View) (calle
 
   -- a call that no rule answered at its beginning, before its first step
   pub starts : (phase : Phase) (s : Step) → begun c caller request ≡ None → first_phase c caller request ≡ phase
-      → action_at caller phase ≡ Makes s → IsIn phase s v
+      → action_at caller phase ≡ actions.Step s → IsIn phase s v
   starts phase s none is acts =
-      let goes = first-goes phase (Makes s) is acts in
+      let goes = first-goes phase (actions.Step s) is acts in
       let fresh : IsFreshCall c (fresh_call caller request) = record { unmoved = refl; unanswered = none } in
-      begins c k v (fresh_call caller request) (call_in caller request phase) (Makes s) fresh
+      begins c k v (fresh_call caller request) (call_in caller request phase) (actions.Step s) fresh
       (subst (λ (o : Option Action). BeginsSo o) (sym (goes.first fresh).0.follows) tt) refl refl goes
 
   -- a step further
   pub further : (phase : Phase) (s : Step) (x : Observation) (next : Phase) (n : Step) (u w : View) → Knows c k caller v
       → WaitsForNobody request → IsIn phase s u → Made k s x u w → phase_after c caller phase x ≡ next
-      → action_at caller next ≡ Makes n → IsIn next n w
+      → action_at caller next ≡ actions.Step n → IsIn next n w
   further phase s x next n u w knows waits g made is acts =
       looked-on c k (effect_of s x) v w (call_in caller request next) n
-      (advance c k Nothing v u w (call_in caller request phase) (call_in caller request next) (Makes n) s x knows waits g
-      made refl refl (next-goes waits phase x next (Makes n) is acts)).0
+      (advance c k Nothing v u w (call_in caller request phase) (call_in caller request next) (actions.Step n) s x knows waits g
+      made refl refl (next-goes waits phase x next (actions.Step n) is acts)).0
 
   -- its last step
   pub over : (phase : Phase) (s : Step) (x : Observation) (verdict : CallResult) (u w : View) → Knows c k caller v
@@ -106,13 +107,13 @@ module _ (c : CallerKnowledge) (law : PhaseLaw c) (k : Layout) (v : View) (calle
 
   -- a call of one step
   pub can-only : (phase : Phase) (s : Step) → Knows c k caller v → WaitsForNobody request → begun c caller request ≡ None
-      → first_phase c caller request ≡ phase → action_at caller phase ≡ Makes s → CanMake k v s
+      → first_phase c caller request ≡ phase → action_at caller phase ≡ actions.Step s → CanMake k v s
   can-only phase s knows waits none is acts =
       makes-next c k Nothing v v (call_in caller request phase) s knows waits (starts phase s none is acts)
 
   pub only : (phase : Phase) (s : Step) (x : Observation) (verdict : CallResult) (w : View) → Knows c k caller v
       → WaitsForNobody request → begun c caller request ≡ None → first_phase c caller request ≡ phase
-      → action_at caller phase ≡ Makes s → Made k s x v w → phase_after c caller phase x ≡ ended_as verdict
+      → action_at caller phase ≡ actions.Step s → Made k s x v w → phase_after c caller phase x ≡ ended_as verdict
       → Ended c k caller request (effect_of s x) verdict v w
   only phase s x verdict w knows waits none is acts made after =
       over phase s x verdict v w knows waits (starts phase s none is acts) made after

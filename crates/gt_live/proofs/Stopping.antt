@@ -9,12 +9,14 @@ use Rattle.gt_types.specs.declared.Dir.TheVariants.{Read}
 use Rattle.gt_word_history.specs.Rule.{Layout}
 use Rattle.gt_word_history.specs.declared.view.View.{View}
 use Rattle.gt_model.specs.declared.action.Action.{Action}
-use Rattle.gt_model.specs.declared.action.Action.TheVariants.{Step as Makes, Done}
+use Rattle.gt_model.specs.declared.action.Action.TheVariants.{Done}
+use Rattle.gt_model.specs.declared.action.Action.TheVariants as actions
 use Rattle.gt_types.specs.declared.places.Spot.{Spot}
 use Rattle.gt_model.specs.declared.action.Observation.{Observation}
 use Rattle.gt_model.specs.declared.action.Observation.TheVariants.{Nothing}
 use Rattle.gt_model.specs.declared.action.Step.{Step}
-use Rattle.gt_model.specs.declared.action.Step.TheVariants.{Pin, Copy as CopyBytes}
+use Rattle.gt_model.specs.declared.action.Step.TheVariants.{Pin}
+use Rattle.gt_model.specs.declared.action.Step.TheVariants as call_steps
 use Rattle.gt_model.specs.declared.action.CallResult.{CallResult}
 use Rattle.gt_model.specs.declared.action.CallResult.TheVariants.{Granted, Given, Mapped, Refused}
 use Rattle.gt_calls.specs.declared.call.Call.{Call}
@@ -92,7 +94,7 @@ starts c k v call call' action copy knows fresh is callers requests goes =
     subst (λ (z : Call). IsUnderway c k v v z action) same here
 
 -- its next step can be made, where it is no access
-pub makes-copy : (c : CallerKnowledge) (k : Layout) (v w : View) (call : Call) (s : Step) → Knows c k call.caller v → IsUnderway c k v w call (Makes s) → ((from to : Spot) (len : ℕ) → s ≡ CopyBytes from to len → ⊥) → CanMake k w s
+pub makes-copy : (c : CallerKnowledge) (k : Layout) (v w : View) (call : Call) (s : Step) → Knows c k call.caller v → IsUnderway c k v w call (actions.Step s) → ((from to : Spot) (len : ℕ) → s ≡ call_steps.Copy from to len → ⊥) → CanMake k w s
 makes-copy c k v w call s knows u other =
     let held = held-there call u.phase u.there in
     subst (λ (z : View). CanMake k z s) (sym u.view)
@@ -105,7 +107,7 @@ copy-settled : (r : OpenRequest) (copy : CopyArgs) (p : Phase) → r ≡ asks.Co
 copy-settled r copy p is = ap (λ (q : OpenRequest). settled q p) is
 
 -- after a step that was made it goes on, and has fewer to come
-pub goes-on : (c : CallerKnowledge) (k : Layout) (v w w' : View) (call call' : Call) (action : Action) (s : Step) (x : Observation) → Knows c k call.caller v → IsUnderway c k v w call (Makes s) → Made k s x w w' → call'.caller ≡ call.caller → call'.request ≡ call.request
+pub goes-on : (c : CallerKnowledge) (k : Layout) (v w w' : View) (call call' : Call) (action : Action) (s : Step) (x : Observation) → Knows c k call.caller v → IsUnderway c k v w call (actions.Step s) → Made k s x w w' → call'.caller ≡ call.caller → call'.request ≡ call.request
     → Goes c call x call' action → IsUnderway c k v w' call' action × (steps_to_come call' < steps_to_come call)
 goes-on c k v w w' call call' action s x knows u m callers requests goes =
     let t = call.caller in let r = call.request in let mid = view_after u.steps v in
@@ -121,7 +123,7 @@ goes-on c k v w w' call call' action s x knows u m callers requests goes =
     let well : StandsWell k v mid u.steps u.phase = subst (λ (z : View). StandsWell k v z u.steps u.phase) u.view u.stands in
     let tries : (p : HeldPin) → s ≡ Pin p → Tries c k t v knows p mid =
     λ p e. tries-pin c k t v knows r (is-copy r u.copy u.of_copy) (pins_by_call call) u.steps p u.walked (subst (λ (h : CallPins). HasTaken k (last_first h) v mid) (sym held) well.taken)
-    (subst (λ (h : CallPins). AreOfRun k (last_first h)) (sym held) well.of_run) (subst (λ (y : Step). Rests c t r (pins_by_call call) (all_shown u.steps) (Makes y)) e u.rests).1 in
+    (subst (λ (h : CallPins). AreOfRun k (last_first h)) (sym held) well.of_run) (subst (λ (y : Step). Rests c t r (pins_by_call call) (all_shown u.steps) (actions.Step y)) e u.rests).1 in
     let same = same-call call call' callers requests in
     let here : IsUnderway c k v w' (record call { phase = call'.phase }) action =
     record {
@@ -172,7 +174,7 @@ ends-refused c k v w call verdict u = by u.phase u.acts u.stands
     by (Last step other) a well = absurd well.stays
 
 -- no leg makes an access
-pub no-leg : (l : Leg) (at : LegPhase) (from to : Spot) (len : ℕ) → Makes (CopyBytes from to len) ≡ Makes (leg_step l at) → ⊥
+pub no-leg : (l : Leg) (at : LegPhase) (from to : Spot) (len : ℕ) → actions.Step (call_steps.Copy from to len) ≡ actions.Step (leg_step l at) → ⊥
 no-leg l Header from to len e = cc
 no-leg l (Look more) from to len e = cc
 no-leg l (Body more word) from to len e = cc
@@ -180,12 +182,12 @@ no-leg l (Second more word body) from to len e = cc
 no-leg l (Pinning more word body second) from to len e = cc
 no-leg l (Relook more word rule) from to len e = cc
 
-no-end : (ps : List HeldPin) (verdict : CallResult) (from to : Spot) (len : ℕ) → Makes (CopyBytes from to len) ≡ next_to_give ps verdict → ⊥
+no-end : (ps : List HeldPin) (verdict : CallResult) (from to : Spot) (len : ℕ) → actions.Step (call_steps.Copy from to len) ≡ next_to_give ps verdict → ⊥
 no-end [] verdict from to len e = cc
 no-end (p ∷ ps) verdict from to len e = cc
 
 -- a copy that comes to its access
-pub comes-there : (c : CallerKnowledge) (k : Layout) (v w : View) (call : Call) (from to : Spot) (len : ℕ) → IsUnderway c k v w call (Makes (CopyBytes from to len)) → AtAccess c k call from to len v w
+pub comes-there : (c : CallerKnowledge) (k : Layout) (v w : View) (call : Call) (from to : Spot) (len : ℕ) → IsUnderway c k v w call (actions.Step (call_steps.Copy from to len)) → AtAccess c k call from to len v w
 comes-there c k v w call from to len u = by u.phase u.there u.acts u.stands
   where
     here : (copy : CopyArgs) (source dest : AccessPath) → call.phase ≡ Some (Accessing copy source dest) → StandsWell k v w u.steps (Accessing copy source dest) → AtAccess c k call from to len v w
@@ -206,7 +208,7 @@ comes-there c k v w call from to len u = by u.phase u.there u.acts u.stands
           ends = fun_ext leads ∙ ap (λ (h : CallPins). give_back (last_first h) Granted) (sym held);
         }
 
-    by : (phase : Phase) → call.phase ≡ Some phase → Makes (CopyBytes from to len) ≡ action_at call.caller phase → StandsWell k v w u.steps phase → AtAccess c k call from to len v w
+    by : (phase : Phase) → call.phase ≡ Some phase → actions.Step (call_steps.Copy from to len) ≡ action_at call.caller phase → StandsWell k v w u.steps phase → AtAccess c k call from to len v w
     by (Walking aim l at) there a well = absurd (no-leg l at from to len a)
     by (Accessing copy source dest) there a well = here copy source dest there well
     by (Ending pins verdict) there a well = absurd (no-end (last_first pins) verdict from to len a)

@@ -17,8 +17,7 @@ use Rattle.gt_calls.specs.declared.copying.PinPurpose.TheVariants.{Mapping}
 use Rattle.gt_model.specs.declared.held.HeldPin.{HeldPin}
 use Rattle.gt_model.specs.declared.leg.Leg.{Leg}
 use Rattle.gt_calls.specs.declared.leg.LegNext.{LegNext}
-use Rattle.gt_calls.specs.declared.leg.LegNext.TheVariants.{Going as GoesTo, Refused as LegRefused}
-use Rattle.gt_calls.specs.declared.leg.LegNext.TheVariants.{Pinned as LegPinned}
+use Rattle.gt_calls.specs.declared.leg.LegNext.TheVariants as leg_outcomes
 use Rattle.gt_calls.specs.declared.leg.LegPhase.{LegPhase}
 use Rattle.gt_calls.specs.declared.leg.LegPhase.TheVariants.{Header}
 use Rattle.gt_model.specs.declared.request.OpenRequest.{OpenRequest}
@@ -60,26 +59,26 @@ module _ (c : CallerKnowledge) (law : PhaseLaw c) (k : Layout) (v : View) (calle
 
   -- what the map came to by its leg: another phase, or its end
   abbrev pub Comes : LegNext → View → Type 0
-  Comes (GoesTo at) w = Stands at w
-  Comes (LegRefused denial) w =
+  Comes (leg_outcomes.Going at) w = Stands at w
+  Comes (leg_outcomes.Refused denial) w =
       Called k (path c caller (asks.Map dom gref flags)) (Refused denial) v w
       × Leaves c k caller (asks.Map dom gref flags) v w Nothing
-  Comes (LegPinned p) w =
+  Comes (leg_outcomes.Pinned p) w =
       Called k (path c caller (asks.Map dom gref flags)) (Mapped p) v w
       × Leaves c k caller (asks.Map dom gref flags) v w (Pinned p)
 
   -- a step that was made leads to what its leg goes on with
   comes : (at : LegPhase) (seen : Observation) (next : LegNext) (u w : View) → Stands at u → Made k (leg_step l at) seen u w
       → leg_after l at seen ≡ next → Comes next w
-  comes at seen (GoesTo at2) u w here made is =
+  comes at seen (leg_outcomes.Going at2) u w here made is =
       further c law k v caller (asks.Map dom gref flags) (Walking Mapping l at) (leg_step l at) seen
       (Walking Mapping l at2) (leg_step l at2) u w knows tt here made
       (ap (λ (n : LegNext). after_leg c caller Mapping l n) is) refl
-  comes at seen (LegRefused denial) u w here made is =
+  comes at seen (leg_outcomes.Refused denial) u w here made is =
       let e = over c law k v caller (asks.Map dom gref flags) (Walking Mapping l at) (leg_step l at) seen (Refused denial)
       u w knows tt here made (ap (λ (n : LegNext). after_leg c caller Mapping l n) is) in
       (e.called, refused-left c k caller (asks.Map dom gref flags) v w (effect_of (leg_step l at) seen) denial e.answers.0 e.left)
-  comes at seen (LegPinned p) u w here made is =
+  comes at seen (leg_outcomes.Pinned p) u w here made is =
       let e = over c law k v caller (asks.Map dom gref flags) (Walking Mapping l at) (leg_step l at) seen (Mapped p)
       u w knows tt here made (ap (λ (n : LegNext). after_leg c caller Mapping l n) is) in
       (e.called, pinned-left c k caller (asks.Map dom gref flags) v w (effect_of (leg_step l at) seen) p e.answers.0 e.left)
@@ -87,9 +86,9 @@ module _ (c : CallerKnowledge) (law : PhaseLaw c) (k : Layout) (v : View) (calle
   -- what a map has come to by the steps of its leg
   comes-by : Stands Header v → (xs : List LegStep) (next : LegNext) (w : View) → ComesBy k l v xs next w → Comes next w
   comes-by here [] next w x =
-      subst (λ (n : LegNext). Comes n w) (sym x.0) (subst (λ (u : View). Comes (GoesTo Header) u) (sym x.1) here)
+      subst (λ (n : LegNext). Comes n w) (sym x.0) (subst (λ (u : View). Comes (leg_outcomes.Going Header) u) (sym x.1) here)
   comes-by here ((at, seen, u) ∷ xs) next w x =
-      comes at seen next u w (comes-by here xs (GoesTo at) u x.2) x.0 (sym x.1)
+      comes at seen next u w (comes-by here xs (leg_outcomes.Going at) u x.2) x.0 (sym x.1)
 
   -- a map that no rule answered at its beginning
   pub opened : begun c caller (asks.Map dom gref flags) ≡ None → l ≡ map_leg c caller dom gref flags → Stands Header v
@@ -101,11 +100,11 @@ module _ (c : CallerKnowledge) (law : PhaseLaw c) (k : Layout) (v : View) (calle
   pub map-can-walk : Stands Header v → CanWalkLeg k l v
   map-can-walk here = λ at w x.
       makes-next c k Nothing v w (call_in caller (asks.Map dom gref flags) (Walking Mapping l at)) (leg_step l at) knows tt
-      (comes-by here x.0 (GoesTo at) w x.1)
+      (comes-by here x.0 (leg_outcomes.Going at) w x.1)
 
   -- a map whose leg was walked to its end
   pub map-walked : (result : Result HeldPin Denial) (w : View) → Stands Header v → WalksLeg k l v (next_by result) w
       → Called k (path c caller (asks.Map dom gref flags)) (pin_verdict result) v w
       × Leaves c k caller (asks.Map dom gref flags) v w (pin_effect result)
-  map-walked (Ok p) w here x = comes-by here x.0 (LegPinned p) w x.1
-  map-walked (Err denial) w here x = comes-by here x.0 (LegRefused denial) w x.1
+  map-walked (Ok p) w here x = comes-by here x.0 (leg_outcomes.Pinned p) w x.1
+  map-walked (Err denial) w here x = comes-by here x.0 (leg_outcomes.Refused denial) w x.1

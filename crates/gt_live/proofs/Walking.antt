@@ -4,7 +4,7 @@ use Rattle.std.proofs.Common.{◌∷◌, ◌++◌, Option, Some, None, arith, ap
 use Rattle.gt_types.specs.declared.limits.TheConstants.{ENTRIES_V1, ENTRIES_V2, MAX_TABLE_FRAMES, TABLE_ENTRIES}
 use Rattle.gt_types.specs.declared.DomId.{DomId}
 use Rattle.gt_types.specs.declared.GrantRef.{GrantRef}
-use Rattle.gt_model.specs.declared.control.EntryKind.TheVariants.{Sub as KindSub}
+use Rattle.gt_model.specs.declared.control.EntryKind.TheVariants as kinds
 use Rattle.gt_model.specs.Words.{control_of, header_of, size_of}
 use Rattle.gt_word_history.specs.Rule.{Layout, position_in}
 use Rattle.gt_word_history.specs.Views.{Seen as Looks, seen, steps_on, with_body}
@@ -12,7 +12,7 @@ use Rattle.gt_model.specs.declared.change.BodyWord.TheVariants.{First}
 use Rattle.gt_word_history.specs.History.{Moment}
 use Rattle.gt_word_history.specs.declared.view.View.{View}
 use Rattle.gt_model.specs.declared.action.Action.{Action}
-use Rattle.gt_model.specs.declared.action.Action.TheVariants.{Step as Makes}
+use Rattle.gt_model.specs.declared.action.Action.TheVariants as actions
 use Rattle.gt_model.specs.declared.action.Observation.{Observation}
 use Rattle.gt_model.specs.declared.action.Observation.TheVariants.{Word}
 use Rattle.gt_model.specs.declared.action.Step.{Step}
@@ -52,7 +52,7 @@ pub record MadeLast (k : Layout) (way : Continuation) (v : View) (steps : List M
   pub shown_is : all_shown rest ≡ before
   pub made : Made k s x (view_after rest v) (view_after steps v)
 
-pub made-last : (k : Layout) (way : Continuation) (v : View) (steps : List Moment) (before : List Observation) (x : Observation) (s : Step) → IsWalk k way v steps → all_shown steps ≡ before ++ x ∷ [] → way before ≡ Some (Makes s)
+pub made-last : (k : Layout) (way : Continuation) (v : View) (steps : List Moment) (before : List Observation) (x : Observation) (s : Step) → IsWalk k way v steps → all_shown steps ≡ before ++ x ∷ [] → way before ≡ Some (actions.Step s)
     → MadeLast k way v steps before x s
 made-last k way v [] before x s walk e f = absurd (never before x [] e)
 made-last k way v (y ∷ rest) before x s walk e f =
@@ -63,7 +63,7 @@ made-last k way v (y ∷ rest) before x s walk e f =
 
 -- a header that was shown has no larger table than there is room for
 shown-header : (k : Layout) (way : Continuation) (v : View) (steps : List Moment) (before : List Observation) (word : ℕ) (later : List Observation) (dom : DomId) → IsWalk k way v steps → all_shown steps ≡ before ++ Word word ∷ later
-    → way before ≡ Some (Makes (LookHeader dom)) → size_of (header_of word) ≤ TABLE_ENTRIES
+    → way before ≡ Some (actions.Step (LookHeader dom)) → size_of (header_of word) ≤ TABLE_ENTRIES
 shown-header k way v [] before word later dom walk e f = absurd (never before (Word word) later e)
 shown-header k way v (y ∷ rest) before word [] dom walk e f = (made-last k way v (y ∷ rest) before (Word word) (LookHeader dom) walk e f).made.size
 shown-header k way v (y ∷ rest) before word (a ∷ bs) dom walk e f =
@@ -84,7 +84,7 @@ in-seen-table k way v steps dom gref walk t =
 
 -- the words of an entry that was read, and is no sub-page, are those that the seat saw last of it
 pub read-page : (k : Layout) (way : Continuation) (v : View) (steps : List Moment) (dom : DomId) (gref : GrantRef) (word body second : ℕ) → IsWalk k way v steps → HasRead way dom gref word body second (all_shown steps)
-    → is_kind (control_of word).kind KindSub ≡ false → seen (steps_on (position_in k.ids dom) gref.0 (view_after steps v)) ≡ Some (record { word = word; first = Some body; second = None })
+    → is_kind (control_of word).kind kinds.Sub ≡ false → seen (steps_on (position_in k.ids dom) gref.0 (view_after steps v)) ≡ Some (record { word = word; first = Some body; second = None })
 read-page k way v steps dom gref word body second walk r page =
     let at = position_in k.ids dom in
     let split : all_shown steps ≡ (r.before ++ Word word ∷ []) ++ Word body ∷ [] =

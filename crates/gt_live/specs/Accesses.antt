@@ -1,13 +1,16 @@
 -- Calls with an access to bytes: the path to it, the access, and the path from there to the end.
 use Rattle.std.specs.Prelude.{◌≡◌, ◌⊎◌, ℕ, List, [], ◌∷◌, ◌++◌, length, Some, Result, Ok, Err}
-use Rattle.gt_live.specs.Prelude.{DomId, Denial, N16, N26, NoFacts, denial_of, Layout, Moment, View, Copying, Reading}
-use Rattle.gt_live.specs.Prelude.{Writing, FrameName, IsReadOf, copying_at, writing_at, Makes, Observation, Nothing}
-use Rattle.gt_live.specs.Prelude.{Step, ReadBytes, WriteBytes, CopyBytes, Granted, Refused, Continuation, position_in}
-use Rattle.gt_live.specs.Prelude.{Spot, SeatOf, AccessPath, Own, Direct, ReachesBy, Dir, Use, Read, Write, ForMap}
-use Rattle.gt_live.specs.Prelude.{ForCopy, CallerKnowledge, CallPins, Copy, CopyArgs, Domain, HeldPin, Request}
-use Rattle.gt_live.specs.Prelude.{RestsOnWays, bytes_given_by, last_first, value_of}
+use Rattle.gt_live.specs.Prelude.{DomId, Denial, N16, N26, denial_of, Layout, Moment, View, Copying, Reading, Writing}
+use Rattle.gt_live.specs.Prelude.{FrameName, IsReadOf, copying_at, writing_at, Observation, Nothing, Step, Granted}
+use Rattle.gt_live.specs.Prelude.{Refused, Continuation, position_in, Spot, SeatOf, AccessPath, Own, Direct, ReachesBy}
+use Rattle.gt_live.specs.Prelude.{Dir, Use, Read, Write, CallerKnowledge, CallPins, Copy, CopyArgs, Domain, HeldPin}
+use Rattle.gt_live.specs.Prelude.{Request, RestsOnWays, bytes_given_by, last_first, value_of}
+use Rattle.gt_model.specs.declared.action.Action.TheVariants as actions
+use Rattle.gt_model.specs.declared.action.Step.TheVariants as call_steps
+use Rattle.gt_types.specs.declared.denial.Facts.TheVariants as facts
+use Rattle.gt_types.specs.declared.Use.TheVariants as uses
 use Rattle.gt_model.specs.declared.request.Request.TheVariants as requests
-use Rattle.gt_word_history.specs.declared.view.FrameStep.TheVariants as frames
+use Rattle.gt_word_history.specs.declared.view.FrameStep.TheVariants as frame_steps
 use Rattle.gt_words.specs.Conditions.{Board}
 use Rattle.gt_words.specs.Frames.{AccessesFrame, CopiesFrames, KeepsFrame}
 use Rattle.gt_live.specs.Taken.{HasTaken}
@@ -26,14 +29,15 @@ pub record ComesTo (k : Layout) (way : Continuation) (access : Step) (v w : View
   pub view : w ≡ view_after steps v
   pub walked : IsWalk k way v steps
   pub moments : AreMoments k v steps
-  pub next : way (all_shown steps) ≡ Some (Makes access)
+  pub next : way (all_shown steps) ≡ Some (actions.Step access)
   pub is_access : IsAccess access
 
 -- of all actions on this path over the observations of a whole call, only the one after the observations before is an
 -- access to bytes
 abbrev pub IsOnlyAccess : Continuation → List Observation → List Observation → Type 0
 IsOnlyAccess way before whole =
-    (vs rest : List Observation) (s : Step) → whole ≡ vs ++ rest → way vs ≡ Some (Makes s) → IsAccess s → vs ≡ before
+    (vs rest : List Observation) (s : Step) → whole ≡ vs ++ rest → way vs ≡ Some (actions.Step s) → IsAccess s
+    → vs ≡ before
 
 -- a call with this access was made whole: it reached the access, which did this to its seat's view and shows nothing,
 -- and continued from there to its end, where its path is Ok. The access comes after the steps on the words that led to
@@ -53,11 +57,11 @@ IsUnmade v w = w ≡ v
 
 -- the refusal of an access to a frame that the table does not keep
 abbrev pub IsOfMissing : Denial → Type 0
-IsOfMissing denial = denial ≡ denial_of N16 NoFacts
+IsOfMissing denial = denial ≡ denial_of N16 facts.None
 
 -- the refusal of an access that was not made: allocation failed, or the table does not keep the frame
 abbrev pub IsOfAccess : Denial → Type 0
-IsOfAccess denial = (denial ≡ denial_of N26 NoFacts) ⊎ IsOfMissing denial
+IsOfAccess denial = (denial ≡ denial_of N26 facts.None) ⊎ IsOfMissing denial
 
 -- the name of the frame with this number of this owner
 abbrev pub frame_named : DomId → ℕ → FrameName
@@ -65,17 +69,17 @@ frame_named owner number = record { owner = owner; number = number }
 
 -- N16 comes only if the table does not keep the frame
 abbrev pub IsIfMissing : Board → FrameName → Denial → Type 0
-IsIfMissing b name denial = denial ≡ denial_of N16 NoFacts → KeepsFrame b name → ⊥
+IsIfMissing b name denial = denial ≡ denial_of N16 facts.None → KeepsFrame b name → ⊥
 
 -- N16 comes only if the table does not keep both frames
 abbrev pub IsIfOneMissing : Board → FrameName → FrameName → Denial → Type 0
-IsIfOneMissing b from to denial = denial ≡ denial_of N16 NoFacts → KeepsFrame b from → KeepsFrame b to → ⊥
+IsIfOneMissing b from to denial = denial ≡ denial_of N16 facts.None → KeepsFrame b from → KeepsFrame b to → ⊥
 
 -- the refusal of this access has its cause
 abbrev pub HasCause : Board → Step → Denial → Type 0
-HasCause b (ReadBytes dom frame off len) denial = IsIfMissing b (frame_named dom frame) denial
-HasCause b (WriteBytes dom frame off len) denial = IsIfMissing b (frame_named dom frame) denial
-HasCause b (CopyBytes from to len) denial = IsIfOneMissing b from.frame to.frame denial
+HasCause b (call_steps.Read dom frame off len) denial = IsIfMissing b (frame_named dom frame) denial
+HasCause b (call_steps.Write dom frame off len) denial = IsIfMissing b (frame_named dom frame) denial
+HasCause b (call_steps.Copy from to len) denial = IsIfOneMissing b from.frame to.frame denial
 HasCause b step denial = Unit {0}
 
 -- the result of a call with an access. Ok: its whole path was made, and the value is that of the access as it was made.
@@ -94,7 +98,7 @@ AnsweredAtAccess b way makes (Err denial) v w =
 abbrev pub ReadsFrame : Layout → FrameName → ℕ → ℕ → Reading → View → View → Type 0
 ReadsFrame k name off len r v w =
     IsReadOf r name off len
-    × AccessesFrame k (position_in k.ids name.owner) name.number (frames.Read off r.bytes) v w
+    × AccessesFrame k (position_in k.ids name.owner) name.number (frame_steps.Read off r.bytes) v w
 
 -- at this view the domain reaches this range by the route: the frame is its own, or the view has the pins of the route,
 -- and they permit the access
@@ -109,22 +113,22 @@ pub record ReachesAt (k : Layout) (v : View) (caller : DomId) (dir : Dir) (purpo
 abbrev pub WritesFrame : Layout → FrameName → ℕ → List ℕ → DomId → AccessPath → Writing → View → View → Type 0
 WritesFrame k name off bytes writer route r v w =
     (r ≡ writing_at name off bytes writer)
-    × ReachesAt k v writer Write ForMap name off (length bytes) route
+    × ReachesAt k v writer Write uses.Map name off (length bytes) route
     × AccessesFrame k (position_in k.ids name.owner) name.number
-    (frames.Wrote (record { writ = writ_by writer route; off = off; bytes = bytes })) v w
+    (frame_steps.Wrote (record { writ = writ_by writer route; off = off; bytes = bytes })) v w
 
 -- the writer copied this many bytes from one place to the other, as one step of the history: it read by the route to
 -- the source, and wrote by the writ of the route to the destination
 abbrev pub CopiesBetween : Layout → Spot → Spot → ℕ → DomId → CallPins → Copying → View → View → Type 0
 CopiesBetween k from to len writer routes r v w =
     (r ≡ copying_at from to len writer)
-    × ReachesAt k v writer Read ForCopy from.frame from.off len routes.source
-    × ReachesAt k v writer Write ForCopy to.frame to.off len routes.dest
+    × ReachesAt k v writer Read uses.Copy from.frame from.off len routes.source
+    × ReachesAt k v writer Write uses.Copy to.frame to.off len routes.dest
     × CopiesFrames k from to len (writ_by writer routes.dest) v w
 
 -- the access read exactly its frame and range
 abbrev pub IsReadBy : Layout → Step → Reading → View → View → Type 0
-IsReadBy k (ReadBytes dom frame off len) r v w = ReadsFrame k (frame_named dom frame) off len r v w
+IsReadBy k (call_steps.Read dom frame off len) r v w = ReadsFrame k (frame_named dom frame) off len r v w
 IsReadBy k step r v w = ⊥
 
 -- if the read was made, the caller's buffer has the bytes read; if it was refused, the buffer is unchanged
@@ -143,7 +147,7 @@ NamesRoute d request route = ⊥
 -- the domain wrote the bytes of this request to exactly the frame and range of the access, by the route that the
 -- request names
 abbrev pub IsWrittenBy : Layout → Domain → Request → Step → Writing → View → View → Type 0
-IsWrittenBy k d request (WriteBytes dom frame off len) r v w =
+IsWrittenBy k d request (call_steps.Write dom frame off len) r v w =
     (route : AccessPath) × NamesRoute d request route
     × WritesFrame k (frame_named dom frame) off (bytes_given_by request) d.seat.dom route r v w
 IsWrittenBy k d request step r v w = ⊥
@@ -158,7 +162,7 @@ pub record CameBy (c : CallerKnowledge) (k : Layout) (caller : DomId) (copy : Co
 -- the domain copied exactly the access's number of bytes between the access's places, by the routes by which this copy
 -- came to it
 abbrev pub IsCopiedBy : CallerKnowledge → Layout → Domain → CopyArgs → Step → Copying → View → View → Type 0
-IsCopiedBy c k d copy (CopyBytes from to len) r v w =
+IsCopiedBy c k d copy (call_steps.Copy from to len) r v w =
     (routes : CallPins) × CameBy c k d.seat.dom copy from to len routes d.seat.view v
     × CopiesBetween k from to len d.seat.dom routes r v w
 IsCopiedBy c k d copy step r v w = ⊥

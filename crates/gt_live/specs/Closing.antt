@@ -2,7 +2,7 @@
 use Rattle.std.specs.Prelude.{◌≡◌, ◌⊎◌, ◌<◌, ◌≤◌, ℕ, zero, suc, Bool, true, nat_lt, not, ◌||◌, List, [], ◌∷◌, length}
 use Rattle.std.specs.Prelude.{count_by, HoldsAt, Option, Some, None, Result, Ok, Err, slice_get}
 use Rattle.gt_model.specs.declared.control.Control.{Control}
-use Rattle.gt_model.specs.declared.control.EntryKind.TheVariants.{Invalid as NoKind}
+use Rattle.gt_model.specs.declared.control.EntryKind.TheVariants as kinds
 use Rattle.gt_model.specs.Rules.{size_of}
 use Rattle.gt_handles.specs.Handles.{IsEmpty}
 use Rattle.gt_live.specs.Prelude.{Denial, Domain, GrantRef, Handle, Invalid, IsSameSeat, Layout, LookControl, Moment}
@@ -29,7 +29,7 @@ has_pins c = nat_lt 0 c.reads || nat_lt 0 c.writes
 
 -- the control of an entry that is in use: the entry is valid, or has pins
 abbrev pub is_used : Control → Bool
-is_used c = not (is_kind c.kind NoKind) || has_pins c
+is_used c = not (is_kind c.kind kinds.Invalid) || has_pins c
 
 -- the control word is of an entry that is in use
 abbrev pub is_in_use : ℕ → Bool

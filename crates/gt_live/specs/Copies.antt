@@ -3,9 +3,9 @@
 use Rattle.std.specs.Prelude.{◌≡◌, List, [], ◌∷◌, Some, None, Result, Ok, Err}
 use Rattle.gt_live.specs.Prelude.{DomId, Read, Write, GrantRef, Denial, Layout, View, Nothing, Unpin, Refused, Phase}
 use Rattle.gt_live.specs.Prelude.{Accessing, Ending, Walking, PinPurpose, Source, Dest, HeldPin, CallPins, AccessPath}
-use Rattle.gt_live.specs.Prelude.{Leg, Header, CopyArgs, Copy, Call, ByLeg, last_first, no_pins, pins_so_far}
-use Rattle.gt_live.specs.Prelude.{without_last, after_pin_of, at_dest, end_leg, place_of, second_leg, CallerKnowledge}
-use Rattle.gt_live.specs.Prelude.{PendingCopy}
+use Rattle.gt_live.specs.Prelude.{Leg, Header, CopyArgs, Copy, Call, last_first, no_pins, pins_so_far, without_last}
+use Rattle.gt_live.specs.Prelude.{after_pin_of, at_dest, end_leg, place_of, second_leg, CallerKnowledge, PendingCopy}
+use Rattle.gt_model.specs.declared.request.PinHolder.TheVariants as holders
 use Rattle.gt_model.specs.declared.held.AccessPath.TheVariants.{Own}
 use Rattle.gt_live.specs.Driving.{CanMake}
 use Rattle.gt_live.specs.Underway.{AtAccess, EndsRefused}
@@ -65,13 +65,14 @@ CopyStopsWith c k caller copy (Err denial) v w = EndsRefused c k (unmoved_copy c
 -- these pins were released, in the order of the list, and nothing else was done
 abbrev pub IsGivenBack : Layout → List HeldPin → View → View → Type 0
 IsGivenBack k [] v w = w ≡ v
-IsGivenBack k (p ∷ ps) v w = (u : View) × Made k (Unpin p (ByLeg 0)) Nothing v u × IsGivenBack k ps u w
+IsGivenBack k (p ∷ ps) v w = (u : View) × Made k (Unpin p (holders.Leg 0)) Nothing v u × IsGivenBack k ps u w
 
 -- these pins can be released, in the order of the list
 abbrev pub CanGiveBack : Layout → List HeldPin → View → Type 0
 CanGiveBack k [] v = Unit {0}
 CanGiveBack k (p ∷ ps) v =
-    CanMake k v (Unpin p (ByLeg 0)) × ((u : View) → Made k (Unpin p (ByLeg 0)) Nothing v u → CanGiveBack k ps u)
+    CanMake k v (Unpin p (holders.Leg 0))
+    × ((u : View) → Made k (Unpin p (holders.Leg 0)) Nothing v u → CanGiveBack k ps u)
 
 -- a copy of this caller at its access, with these pins
 abbrev pub halfway_with : DomId → CopyArgs → CallPins → PendingCopy

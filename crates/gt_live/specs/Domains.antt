@@ -1,14 +1,15 @@
 -- What a domain keeps, how it agrees with what its seat did, and the results of its calls.
 use Rattle.std.specs.Prelude.{◌≡◌, ◌⊎◌, ℕ, ◌<◌, Bool, length, List, [], ◌∷◌, Option, Some, None, Result, Ok, Err}
-use Rattle.gt_live.specs.Prelude.{DomId, TypeId, GrantRef, Size, Hypercall, Record, Reply, Perms, Config}
-use Rattle.gt_live.specs.Prelude.{Denial, N16, N26, NoFacts, TABLE_ENTRIES, denial_of, Board, IsSameSeat, IsSeatOf}
-use Rattle.gt_live.specs.Prelude.{KeepsPins, Unpins, generation_of, Moment, Layout, position_in, last_of, own_table}
-use Rattle.gt_live.specs.Prelude.{live_pins, steps_on, View, HandleMap, value_of, Handle, CallResult, Granted, Given}
-use Rattle.gt_live.specs.Prelude.{Mapped}
-use Rattle.gt_live.specs.Prelude.{Refused, Frames, SizeTold, Version, HeldPin, CopyArgs, Request, Copying, begun_of}
-use Rattle.gt_live.specs.Prelude.{path_of, CallerKnowledge, knowledge_of}
-use Rattle.gt_live.specs.Prelude.{entry_in}
-use Rattle.gt_live.specs.Prelude.{own_generation, Domain, Departed, Monitor, NotMade, Gone, OutOfMemory, Step}
+use Rattle.gt_live.specs.Prelude.{DomId, TypeId, GrantRef, Size, Hypercall, Record, Reply, Perms, Config, Denial, N16}
+use Rattle.gt_live.specs.Prelude.{N26, TABLE_ENTRIES, denial_of, Board, IsSameSeat, IsSeatOf, KeepsPins, Unpins}
+use Rattle.gt_live.specs.Prelude.{generation_of, Moment, Layout, position_in, last_of, own_table, live_pins, steps_on}
+use Rattle.gt_live.specs.Prelude.{View, HandleMap, value_of, Handle, CallResult, Granted, Given, Mapped, Refused}
+use Rattle.gt_live.specs.Prelude.{Frames, Version, HeldPin, CopyArgs, Request, Copying, begun_of, path_of}
+use Rattle.gt_live.specs.Prelude.{CallerKnowledge, knowledge_of, entry_in, own_generation, Domain, Departed, Monitor}
+use Rattle.gt_live.specs.Prelude.{AccessFault, Gone, Step}
+use Rattle.gt_words.specs.declared.frames.AccessFault.TheVariants as access_faults
+use Rattle.gt_model.specs.declared.action.CallValue.TheVariants as call_values
+use Rattle.gt_types.specs.declared.denial.Facts.TheVariants as facts
 use Rattle.gt_audit.specs.Trails.{AppendsRecord}
 use Rattle.gt_audit.specs.declared.record.Hypercall.TheVariants as hypercalls
 use Rattle.gt_audit.specs.declared.record.Reply.TheVariants as replies
@@ -77,7 +78,7 @@ verdict_of_version (Err denial) = Refused denial
 
 -- the result of a call that returns a table's size (grant_table.h)
 abbrev pub verdict_of_size : Result Size Denial → CallResult
-verdict_of_size (Ok size) = Given (SizeTold size)
+verdict_of_size (Ok size) = Given (call_values.Size size)
 verdict_of_size (Err denial) = Refused denial
 
 -- the result of a call that returns the number of frames that a table then has (grant_table.h)
@@ -94,7 +95,7 @@ MapAnswered may m d request (Ok handle) e =
     (p : HeldPin) × Answered may m d request (Mapped p) e × AddsMapping d.mappings e.mappings handle p
 MapAnswered may m d request (Err denial) e =
     (Answered may m d request (Refused denial) e
-    ⊎ ((denial ≡ denial_of N26 NoFacts) × (begun_of (known_on may m d) d.seat.dom request ≡ None)
+    ⊎ ((denial ≡ denial_of N26 facts.None) × (begun_of (known_on may m d) d.seat.dom request ≡ None)
     × (d.mappings.room ≡ 0) × (e.seat.view ≡ d.seat.view)))
     × KeepsPinned d e
 
@@ -160,19 +161,19 @@ pub record HasLeft (k : Layout) (d : Domain) (l : Departed) : Type 0 where
 -- the refusal of a call that was refused
 abbrev pub denial_in : CallResult → Denial
 denial_in (Refused denial) = denial
-denial_in verdict = denial_of N26 NoFacts
+denial_in verdict = denial_of N26 facts.None
 
 -- the refusal of a call whose access was not made
-abbrev pub not_made : NotMade → Denial
-not_made Gone = denial_of N16 NoFacts
-not_made OutOfMemory = denial_of N26 NoFacts
+abbrev pub not_made : AccessFault → Denial
+not_made Gone = denial_of N16 facts.None
+not_made access_faults.Memory = denial_of N26 facts.None
 
 -- what a record keeps of a result
 abbrev pub reply_of : CallResult → Reply
 reply_of Granted = replies.Done
 reply_of (Mapped p) = replies.Done
 reply_of (Given (Frames frames)) = replies.Frames frames
-reply_of (Given (SizeTold size)) = replies.Size size
+reply_of (Given (call_values.Size size)) = replies.Size size
 reply_of (Given (Version version)) = replies.Version version
 reply_of (Refused denial) = replies.Denied denial
 
@@ -184,7 +185,7 @@ mapping_reply result = reply_of (outcome_of result)
 abbrev pub result_of_reply : Reply → CallResult
 result_of_reply replies.Done = Granted
 result_of_reply (replies.Frames frames) = Given (Frames frames)
-result_of_reply (replies.Size size) = Given (SizeTold size)
+result_of_reply (replies.Size size) = Given (call_values.Size size)
 result_of_reply (replies.Version version) = Given (Version version)
 result_of_reply (replies.Denied denial) = Refused denial
 

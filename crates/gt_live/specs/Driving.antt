@@ -4,10 +4,11 @@ use Rattle.std.specs.Prelude.{◌≡◌, ℕ, ◌+◌, ◌^◌, ◌<◌, List, [
 use Rattle.gt_live.specs.Prelude.{DomId, DomainConfig, TABLE_ENTRIES, domain_of, Invalid, View, generation_of}
 use Rattle.gt_live.specs.Prelude.{CanChange, CanPin, HasDomain, Holds, KeepsPins, SeesNoEarlier, Changes, Unpins}
 use Rattle.gt_live.specs.Prelude.{IsKeptHeader, Layout, id_at, position_in, last_seen, record_seen, last_of, Moment}
-use Rattle.gt_live.specs.Prelude.{Action, Makes, Done, EntryChange, Step, LookHeader, LookControl, LookBody, Pin}
-use Rattle.gt_live.specs.Prelude.{Unpin, StoreBody, StoreHeader, Exchange, OpenRequest, Call, HeldPin, Handle}
-use Rattle.gt_live.specs.Prelude.{raise_of, GoesOnWith, path, Rests, CallerKnowledge, begun, IsAt, held_by_call}
-use Rattle.gt_live.specs.Prelude.{pins_by_call, Effect, Pinned, Unpinned, Changed, Stored}
+use Rattle.gt_live.specs.Prelude.{Action, Done, EntryChange, Step, LookHeader, LookControl, LookBody, Pin, Unpin}
+use Rattle.gt_live.specs.Prelude.{StoreBody, StoreHeader, Exchange, OpenRequest, Call, HeldPin, Handle, raise_of}
+use Rattle.gt_live.specs.Prelude.{GoesOnWith, path, Rests, CallerKnowledge, begun, IsAt, held_by_call, pins_by_call}
+use Rattle.gt_live.specs.Prelude.{Effect, Pinned, Unpinned, Changed, Stored}
+use Rattle.gt_model.specs.declared.action.Action.TheVariants as actions
 use Rattle.gt_words.specs.Answers.{Pins}
 use Rattle.gt_model.specs.Asking.{GivesUp}
 use Rattle.gt_live.specs.declared.driving.Effect.TheVariants.{Nothing}
@@ -91,12 +92,12 @@ Leaves c k caller request v w Stored = IsSame v w × IsHeaderChange request
 
 -- a call that continues has only looked, and one that ends left the seat by what it did
 abbrev pub StandsSo : CallerKnowledge → Layout → DomId → OpenRequest → View → View → Effect → Action → Type 0
-StandsSo c k caller request v w effect (Makes step) = IsSame v w
+StandsSo c k caller request v w effect (actions.Step step) = IsSame v w
 StandsSo c k caller request v w effect (Done verdict) = Leaves c k caller request v w effect × Answers effect verdict
 
 -- a result that comes next carries a word of these steps
 abbrev pub ActionCarries : Layout → View → List Moment → Action → Type 0
-ActionCarries k v steps (Makes step) = Unit {0}
+ActionCarries k v steps (actions.Step step) = Unit {0}
 ActionCarries k v steps (Done verdict) = CarriesSteps k v steps verdict
 
 -- a call under way: it added the steps of its path to its seat's view, and the action comes next

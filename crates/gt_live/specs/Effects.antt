@@ -5,7 +5,8 @@ use Rattle.gt_types.specs.declared.GrantRef.{GrantRef}
 use Rattle.gt_types.specs.declared.denial.Facts.{Facts}
 use Rattle.gt_types.specs.declared.denial.Facts.TheVariants as facts
 use Rattle.gt_model.specs.declared.action.Action.{Action}
-use Rattle.gt_model.specs.declared.action.Action.TheVariants.{Step as Makes, Done}
+use Rattle.gt_model.specs.declared.action.Action.TheVariants.{Done}
+use Rattle.gt_model.specs.declared.action.Action.TheVariants as actions
 use Rattle.gt_model.specs.declared.action.Observation.{Observation}
 use Rattle.gt_model.specs.declared.action.Observation.TheVariants.{Taken, Word, Missed}
 use Rattle.gt_model.specs.declared.action.Step.{Step}
@@ -13,14 +14,14 @@ use Rattle.gt_model.specs.declared.action.Step.TheVariants.{LookHeader, LookCont
 use Rattle.gt_model.specs.declared.action.Step.TheVariants.{Exchange}
 use Rattle.gt_model.specs.declared.action.CallResult.{CallResult}
 use Rattle.gt_model.specs.declared.action.CallResult.TheVariants.{Granted, Given, Mapped, Refused}
-use Rattle.gt_model.specs.declared.request.PinHolder.TheVariants.{Mapping as ByHandle}
+use Rattle.gt_model.specs.declared.request.PinHolder.TheVariants as holders
 use Rattle.gt_live.specs.declared.driving.Effect.{Effect}
 use Rattle.gt_live.specs.declared.driving.Effect.TheVariants.{Nothing, Pinned, Unpinned, Changed, Stored}
 
 -- what a step with this observation did
 abbrev pub effect_of : Step → Observation → Effect
 effect_of (Pin p) Taken = Pinned p
-effect_of (Unpin p (ByHandle handle)) seen = Unpinned handle
+effect_of (Unpin p (holders.Mapping handle)) seen = Unpinned handle
 effect_of (Exchange gref looked change) Taken = Changed gref change
 effect_of (StoreHeader version frames) seen = Stored
 effect_of step seen = Nothing
@@ -62,5 +63,5 @@ ResultIsFound caller step seen verdict = Unit {0}
 -- what follows a step with this observation: a step that did more than look is the last one, and the call's result
 -- agrees with what its last step did and found
 abbrev pub EndsSo : DomId → Step → Observation → Action → Type 0
-EndsSo caller step seen (Makes next) = effect_of step seen ≡ Nothing
+EndsSo caller step seen (actions.Step next) = effect_of step seen ≡ Nothing
 EndsSo caller step seen (Done verdict) = Answers (effect_of step seen) verdict × ResultIsFound caller step seen verdict

@@ -3,7 +3,7 @@ use Rattle.gt_types.specs.declared.denial.Facts.{Facts}
 use Rattle.gt_types.specs.declared.denial.Facts.TheVariants as facts
 use Rattle.gt_model.specs.declared.request.OpenRequest.{OpenRequest}
 use Rattle.gt_model.specs.declared.request.OpenRequest.TheVariants as asks
-use Rattle.gt_model.specs.declared.action.CallValue.TheVariants as values
+use Rattle.gt_model.specs.declared.action.CallValue.TheVariants as call_values
 use Rattle.gt_model.specs.declared.action.CallResult.{CallResult}
 use Rattle.gt_model.specs.declared.action.CallResult.TheVariants.{Granted, Given, Mapped, Refused}
 
@@ -30,9 +30,9 @@ IsAccessing request = ⊥
 abbrev pub IsAnswerTo : OpenRequest → CallResult → Type 0
 IsAnswerTo request (Refused denial) = Unit {0}
 IsAnswerTo (asks.Map dom gref flags) (Mapped p) = Unit {0}
-IsAnswerTo (asks.SetupTable frames) (Given (values.Frames n)) = Unit {0}
-IsAnswerTo (asks.QuerySize dom) (Given (values.Size size)) = Unit {0}
-IsAnswerTo (asks.GetVersion dom) (Given (values.Version version)) = Unit {0}
+IsAnswerTo (asks.SetupTable frames) (Given (call_values.Frames n)) = Unit {0}
+IsAnswerTo (asks.QuerySize dom) (Given (call_values.Size size)) = Unit {0}
+IsAnswerTo (asks.GetVersion dom) (Given (call_values.Version version)) = Unit {0}
 IsAnswerTo (asks.Grant gref entry) Granted = Unit {0}
 IsAnswerTo (asks.Revoke gref) Granted = Unit {0}
 IsAnswerTo (asks.Withdraw gref) Granted = Unit {0}
@@ -82,5 +82,5 @@ IsAtOnce request (Refused denial) = IsWordless denial.facts
 IsAtOnce (asks.Demote gref) Granted = Unit {0}
 IsAtOnce (asks.Promote gref) Granted = Unit {0}
 IsAtOnce (asks.SetVersion version) Granted = Unit {0}
-IsAtOnce (asks.SetupTable frames) (Given (values.Frames n)) = Unit {0}
+IsAtOnce (asks.SetupTable frames) (Given (call_values.Frames n)) = Unit {0}
 IsAtOnce request verdict = ⊥

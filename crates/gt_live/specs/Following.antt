@@ -4,14 +4,14 @@ use Rattle.std.specs.Prelude.{Ok, Err, OnOk, OnErr}
 use Rattle.gt_types.specs.declared.denial.Field.{Field}
 use Rattle.gt_types.specs.declared.denial.Field.TheVariants.{Kind}
 use Rattle.gt_types.specs.declared.denial.Rule.TheVariants.{N9, N25}
-use Rattle.gt_types.specs.declared.denial.Facts.TheVariants.{Field as FieldFacts}
+use Rattle.gt_types.specs.declared.denial.Facts.TheVariants as facts
 use Rattle.gt_model.specs.Bytes.{Spells, first_refused, flags_of}
 use Rattle.gt_model.specs.Entries.{changed_entry, IsEntry, is_invalid, is_read_only, with_ro}
 use Rattle.gt_model.specs.declared.entry.Entry.{Entry}
 use Rattle.gt_model.specs.Rules.{size_of}
 use Rattle.gt_model.specs.declared.request.Request.TheVariants as requests
-use Rattle.gt_live.specs.Prelude.{Denial, Domain, EntryChange, GrantRef, Invalid, Monitor, NoFacts, Request}
-use Rattle.gt_live.specs.Prelude.{denial_of, Demote, Promote, Publish, Revoke, Withdraw, entry_in, own_table}
+use Rattle.gt_live.specs.Prelude.{Denial, Domain, EntryChange, GrantRef, Invalid, Monitor, Request, denial_of, Demote}
+use Rattle.gt_live.specs.Prelude.{Promote, Publish, Revoke, Withdraw, entry_in, own_table}
 use Rattle.gt_live.specs.Domains.{AllowRelation, AnswersQuietly, StaysIn, verdict_of}
 use Rattle.gt_live.specs.Unmarked.{unmarked, with_marks}
 use Rattle.gt_live.specs.declared.domain.following.Followed.{Followed}
@@ -93,7 +93,7 @@ Withdraws may m d gref Then result e =
 
 -- bytes that encode no entry are refused, and nothing else is done
 abbrev pub RefusesField : Field → Domain → Result Followed Denial → Domain → Type 0
-RefusesField field d result e = (result ≡ Err (denial_of N25 (FieldFacts field))) × (e ≡ d)
+RefusesField field d result e = (result ≡ Err (denial_of N25 (facts.Field field))) × (e ≡ d)
 
 -- what was due was done, by these calls and no others
 abbrev pub Does : {P : Type 0} → (P → AllowRelation) → Monitor P → Domain → GrantRef → Due → Result Followed Denial
@@ -131,7 +131,7 @@ pub record FollowsBytes {P : Type 0} (may : P → AllowRelation) (m : Monitor P)
 abbrev pub Follows : {P : Type 0} → (P → AllowRelation) → Monitor P → Domain → GrantRef → List ℕ
     → Result Followed Denial → Domain → Type 0
 Follows may m d gref bytes result e =
-    ((size_of (own_table d.seat.view) ≤ gref.0) × (result ≡ Err (denial_of N9 NoFacts)) × (e ≡ d))
+    ((size_of (own_table d.seat.view) ≤ gref.0) × (result ≡ Err (denial_of N9 facts.None)) × (e ≡ d))
     ⊎ ((gref.0 < size_of (own_table d.seat.view)) × FollowsBytes may m d gref bytes result e)
 
 -- the numbers of the entry that a change grants are in the ranges of their types

@@ -1,8 +1,10 @@
 -- A copy in two halves: the path to its access, which the monitor's caller makes, and the path from there to its end.
 use Rattle.std.specs.Prelude.{◌≡◌, ◌+◌, ◌≤◌, ℕ}
-use Rattle.gt_live.specs.Prelude.{Read, Write, ForCopy, IsSameSeat, KeepsPins, Layout, View, MayCopyBy, ReachesBy}
-use Rattle.gt_live.specs.Prelude.{Hypercall, Record, Spot, CopyBytes, Call, CopyArgs, path, path_of, CallerKnowledge}
-use Rattle.gt_live.specs.Prelude.{pins_by_call, Domain, PendingCopy, Monitor}
+use Rattle.gt_live.specs.Prelude.{Read, Write, IsSameSeat, KeepsPins, Layout, View, MayCopyBy, ReachesBy, Hypercall}
+use Rattle.gt_live.specs.Prelude.{Record, Spot, Call, CopyArgs, path, path_of, CallerKnowledge, pins_by_call, Domain}
+use Rattle.gt_live.specs.Prelude.{PendingCopy, Monitor}
+use Rattle.gt_model.specs.declared.action.Step.TheVariants as call_steps
+use Rattle.gt_types.specs.declared.Use.TheVariants as uses
 use Rattle.gt_audit.specs.declared.record.Hypercall.TheVariants as hypercalls
 use Rattle.gt_audit.specs.declared.record.Reply.TheVariants as replies
 use Rattle.gt_model.specs.declared.request.Request.TheVariants as requests
@@ -27,9 +29,9 @@ pub record ComesHalfway {P : Type 0} (may : P → AllowRelation) (m : Monitor P)
   pub way : path_of (known_on may m d) d.seat.dom (requests.Copy copy)
       ≡ path (known_on may m d) h.call.caller h.call.request
   pub access : AtAccess (known_on may m d) m.words.layout h.call h.from h.to h.len d.seat.view e.seat.view
-  pub source : ReachesBy m.words.layout e.seat Read ForCopy h.from.frame h.from.off h.len
+  pub source : ReachesBy m.words.layout e.seat Read uses.Copy h.from.frame h.from.off h.len
       (pins_by_call h.call).source
-  pub dest : ReachesBy m.words.layout e.seat Write ForCopy h.to.frame h.to.off h.len
+  pub dest : ReachesBy m.words.layout e.seat Write uses.Copy h.to.frame h.to.off h.len
       (pins_by_call h.call).dest
   pub allowed : MayCopyBy m.config.domains.items (may m.rights) e.seat.dom (pins_by_call h.call)
   pub source_range : h.from.off + h.len ≤ 4096
@@ -54,4 +56,4 @@ abbrev pub TwoHalvesMakeACopy : Type 0
 TwoHalvesMakeACopy =
     (c : CallerKnowledge) (k : Layout) (call : Call) (from to : Spot) (len : ℕ) (v mid w : View)
     → AtAccess c k call from to len v mid → GivesBack k (pins_by_call call) mid w
-    → EndsAfterAccess k (path c call.caller call.request) (CopyBytes from to len) IsUnmade v w × KeepsPins v w
+    → EndsAfterAccess k (path c call.caller call.request) (call_steps.Copy from to len) IsUnmade v w × KeepsPins v w

@@ -1,9 +1,10 @@
 -- The mappings of a domain, and the pins of its seat.
 use Rattle.std.specs.Prelude.{◌≡◌, ℕ, ◌==◌, ◌&&◌, Bool, true, false, nat_le, List}
-use Rattle.gt_live.specs.Prelude.{DomId, Dir, Read, Write, ForMap, Perms, permits, ReachesBy, FrameName, SeatOf, Direct}
+use Rattle.gt_live.specs.Prelude.{DomId, Dir, Read, Write, Perms, permits, ReachesBy, FrameName, SeatOf, Direct}
 use Rattle.gt_live.specs.Prelude.{generation_of, Layout, position_in, held, is_same_dir, View, HandleMap, KeepsSpent}
-use Rattle.gt_live.specs.Prelude.{IsInserted, IsTaken, count_passing, Handle, HeldPin, frame_of, IsAllowed, frame_count_of}
-use Rattle.gt_live.specs.Prelude.{label_of, map_perms, triples, TypeId, Domain, DomainConfig}
+use Rattle.gt_live.specs.Prelude.{IsInserted, IsTaken, count_passing, Handle, HeldPin, frame_of, IsAllowed}
+use Rattle.gt_live.specs.Prelude.{frame_count_of, label_of, map_perms, triples, TypeId, Domain, DomainConfig}
+use Rattle.gt_types.specs.declared.Use.TheVariants as uses
 pub use Rattle.gt_access.specs.Routes.{HasPin, entry_record_of}
 
 -- a mapping: its pin is held, of an entry that permits the caller and is of one of its owner's frames, and the policy
@@ -11,7 +12,7 @@ pub use Rattle.gt_access.specs.Routes.{HasPin, entry_record_of}
 pub record IsMappingOf (k : Layout) (domains : List DomainConfig) (may : TypeId → TypeId → Perms → Bool)
     (caller : DomId) (v : View) (p : HeldPin) : Type 0 where
   pub pin : HasPin k v p
-  pub permitted : permits p.entry caller p.dir ForMap 0 0 ≡ true
+  pub permitted : permits p.entry caller p.dir uses.Map 0 0 ≡ true
   pub in_frames : nat_le (frame_count_of domains p.dom) (frame_of p.entry) ≡ false
   pub allowed : IsAllowed may (triples (label_of domains caller) (label_of domains p.dom) (map_perms p.dir))
 
@@ -21,8 +22,8 @@ frame_mapped p = record { owner = p.dom; number = frame_of p.entry }
 
 -- by its mapping the seat's domain reaches any range of the frame, for writing if the pin is a write pin
 pub record ReachesItsFrame (k : Layout) (s : SeatOf) (p : HeldPin) : Type 0 where
-  pub reads : (off len : ℕ) → ReachesBy k s Read ForMap (frame_mapped p) off len (Direct p)
-  pub writes : p.dir ≡ Write → (off len : ℕ) → ReachesBy k s Write ForMap (frame_mapped p) off len (Direct p)
+  pub reads : (off len : ℕ) → ReachesBy k s Read uses.Map (frame_mapped p) off len (Direct p)
+  pub writes : p.dir ≡ Write → (off len : ℕ) → ReachesBy k s Write uses.Map (frame_mapped p) off len (Direct p)
 
 -- the pin of the mapping has this kind and generation, and is of the entry r of the domain t
 abbrev pub is_mapping_of : Layout → ℕ → ℕ → Dir → ℕ → HeldPin → Bool

@@ -4,11 +4,11 @@ use Rattle.std.specs.Prelude.{◌≡◌, ℕ, List, [], ◌∷◌, Some}
 use Rattle.gt_types.specs.declared.DomId.{DomId}
 use Rattle.gt_word_history.specs.Rule.{Layout}
 use Rattle.gt_word_history.specs.declared.view.View.{View}
-use Rattle.gt_model.specs.declared.action.Action.TheVariants.{Step as Makes}
+use Rattle.gt_model.specs.declared.action.Action.TheVariants as actions
 use Rattle.gt_types.specs.declared.places.Spot.{Spot}
 use Rattle.gt_model.specs.declared.action.Observation.{Observation}
 use Rattle.gt_model.specs.declared.action.Step.{Step}
-use Rattle.gt_model.specs.declared.action.Step.TheVariants.{Copy as CopyBytes}
+use Rattle.gt_model.specs.declared.action.Step.TheVariants as call_steps
 use Rattle.gt_calls.specs.declared.call.Phase.{Phase}
 use Rattle.gt_calls.specs.Machine.{action_at, phase_after}
 use Rattle.gt_model.specs.Rules.{CallerKnowledge}
@@ -34,5 +34,5 @@ Runs c k caller start v phase w = (xs : List PhaseStep) × RunsBy c k caller sta
 -- from each phase that a call reaches from here, its next step can be made, unless it is an access
 abbrev pub CanRun : CallerKnowledge → Layout → DomId → Phase → View → Type 0
 CanRun c k caller start v =
-    (at : Phase) (w : View) (step : Step) → Runs c k caller start v at w → action_at caller at ≡ Makes step
-    → ((from to : Spot) (len : ℕ) → step ≡ CopyBytes from to len → ⊥) → CanMake k w step
+    (at : Phase) (w : View) (step : Step) → Runs c k caller start v at w → action_at caller at ≡ actions.Step step
+    → ((from to : Spot) (len : ℕ) → step ≡ call_steps.Copy from to len → ⊥) → CanMake k w step

@@ -1,8 +1,8 @@
 -- Names from other crates, and from the code, that these definitions use.
 pub use Rattle.gt_access.specs.Accesses.{IsReadOf, copying_at, writing_at}
 pub use Rattle.gt_access.specs.Routes.{MayCopyBy, ReachesBy}
-pub use Rattle.gt_words.specs.declared.frames.AccessFault.{AccessFault as NotMade}
-pub use Rattle.gt_words.specs.declared.frames.AccessFault.TheVariants.{Gone, Memory as OutOfMemory}
+pub use Rattle.gt_words.specs.declared.frames.AccessFault.{AccessFault}
+pub use Rattle.gt_words.specs.declared.frames.AccessFault.TheVariants.{Gone}
 pub use Rattle.gt_audit.specs.declared.record.Hypercall.{Hypercall}
 pub use Rattle.gt_audit.specs.declared.record.Record.{Record}
 pub use Rattle.gt_audit.specs.declared.record.Reply.{Reply}
@@ -19,14 +19,13 @@ pub use Rattle.gt_calls.specs.Resting.{Rests, RestsOnWays}
 pub use Rattle.gt_calls.specs.Known.{entry_in, own_generation, knowledge_of}
 pub use Rattle.gt_calls.specs.Standing.{IsAt, IsFreshCall, held_by_call, held_in, pins_by_call}
 pub use Rattle.gt_model.specs.declared.action.Action.{Action}
-pub use Rattle.gt_model.specs.declared.action.Action.TheVariants.{Done, Step as Makes}
+pub use Rattle.gt_model.specs.declared.action.Action.TheVariants.{Done}
 pub use Rattle.gt_model.specs.declared.action.Observation.{Observation}
 pub use Rattle.gt_model.specs.declared.action.Observation.TheVariants.{Missed, Nothing, Taken, Word}
 pub use Rattle.gt_model.specs.declared.action.Step.{Step}
-pub use Rattle.gt_model.specs.declared.action.Step.TheVariants.{Copy as CopyBytes, Exchange, LookBody, LookControl}
-pub use Rattle.gt_model.specs.declared.action.Step.TheVariants.{LookHeader, Pin, Read as ReadBytes, StoreBody}
-pub use Rattle.gt_model.specs.declared.action.Step.TheVariants.{StoreHeader, Unpin, Write as WriteBytes}
-pub use Rattle.gt_model.specs.declared.action.CallValue.TheVariants.{Frames, Size as SizeTold, Version}
+pub use Rattle.gt_model.specs.declared.action.Step.TheVariants.{Exchange, LookBody, LookControl, LookHeader, Pin}
+pub use Rattle.gt_model.specs.declared.action.Step.TheVariants.{StoreBody, StoreHeader, Unpin}
+pub use Rattle.gt_model.specs.declared.action.CallValue.TheVariants.{Frames, Version}
 pub use Rattle.gt_model.specs.declared.action.CallResult.{CallResult}
 pub use Rattle.gt_model.specs.declared.action.CallResult.TheVariants.{Given, Granted, Mapped, Refused}
 pub use Rattle.gt_calls.specs.declared.call.Call.{Call}
@@ -45,14 +44,12 @@ pub use Rattle.gt_model.specs.declared.request.OpenRequest.{OpenRequest}
 pub use Rattle.gt_model.specs.declared.request.OpenRequest.TheVariants.{Copy}
 pub use Rattle.gt_types.specs.declared.copies.CopyArgs.{CopyArgs}
 pub use Rattle.gt_types.specs.declared.copies.End.{End}
-pub use Rattle.gt_model.specs.declared.request.PinHolder.TheVariants.{Leg as ByLeg}
 pub use Rattle.gt_model.specs.declared.request.Request.{Request}
 pub use Rattle.gt_model.specs.Permits.{permits}
 pub use Rattle.gt_model.specs.Words.{control_of, is_kind}
 pub use Rattle.gt_model.specs.declared.change.EntryChange.{EntryChange}
 pub use Rattle.gt_model.specs.declared.change.EntryChange.TheVariants.{Demote, Promote, Publish, Revoke, Withdraw}
 pub use Rattle.gt_model.specs.declared.change.BodyWord.{BodyWord}
-pub use Rattle.gt_model.specs.declared.change.BodyWord.TheVariants.{First as FirstHalf, Second as SecondHalf}
 pub use Rattle.gt_model.specs.declared.control.EntryKind.TheVariants.{Sub}
 pub use Rattle.gt_model.specs.declared.entry.Entry.TheVariants.{Invalid}
 pub use Rattle.gt_frames.specs.Receipts.{Copying, Reading, Writing}
@@ -76,12 +73,10 @@ pub use Rattle.gt_types.specs.declared.GrantRef.{GrantRef}
 pub use Rattle.gt_types.specs.declared.Size.{Size}
 pub use Rattle.gt_types.specs.declared.TypeId.{TypeId}
 pub use Rattle.gt_types.specs.declared.Use.{Use}
-pub use Rattle.gt_types.specs.declared.Use.TheVariants.{Copy as ForCopy, Map as ForMap}
 pub use Rattle.gt_types.specs.declared.config.Config.{Config}
 pub use Rattle.gt_types.specs.declared.config.DomainConfig.{DomainConfig}
 pub use Rattle.gt_types.specs.declared.denial.Denial.{Denial}
 pub use Rattle.gt_types.specs.declared.denial.Facts.{Facts}
-pub use Rattle.gt_types.specs.declared.denial.Facts.TheVariants.{None as NoFacts}
 pub use Rattle.gt_types.specs.declared.denial.Rule.TheVariants.{N16, N18, N26}
 pub use Rattle.gt_types.specs.declared.limits.TheConstants.{TABLE_ENTRIES}
 pub use Rattle.gt_types.specs.declared.perms.Perms.{Perms}

@@ -2,10 +2,10 @@
 -- contracts cite it.
 use Rattle.std.specs.Prelude.{◌≡◌, ℕ, ◌<◌, List, [], ◌∷◌, ◌++◌, Some}
 use Rattle.gt_live.specs.Prelude.{Denial, TABLE_ENTRIES, HasDomain, Layout, Moment, View, Action, Spot, Nothing}
-use Rattle.gt_live.specs.Prelude.{CopyBytes, CallResult, Granted, Refused, Call, Phase, Accessing, Ending, Walking}
-use Rattle.gt_live.specs.Prelude.{Source, Dest, HeldPin, CallPins, CopyArgs, Copy, GoesOnWith, last_first, action_at}
-use Rattle.gt_live.specs.Prelude.{give_back, path, Rests, RestsOnWays, CallerKnowledge, IsAt, held_by_call, held_in}
-use Rattle.gt_live.specs.Prelude.{pins_by_call}
+use Rattle.gt_live.specs.Prelude.{CallResult, Granted, Refused, Call, Phase, Accessing, Ending, Walking, Source, Dest}
+use Rattle.gt_live.specs.Prelude.{HeldPin, CallPins, CopyArgs, Copy, GoesOnWith, last_first, action_at, give_back, path}
+use Rattle.gt_live.specs.Prelude.{Rests, RestsOnWays, CallerKnowledge, IsAt, held_by_call, held_in, pins_by_call}
+use Rattle.gt_model.specs.declared.action.Step.TheVariants as call_steps
 use Rattle.gt_model.specs.declared.action.Action.TheVariants as actions
 use Rattle.gt_live.specs.Accesses.{ComesTo, onward}
 use Rattle.gt_live.specs.Driving.{IsSame}
@@ -51,7 +51,7 @@ pub record IsUnderway (c : CallerKnowledge) (k : Layout) (v w : View) (call : Ca
 -- path releases them
 pub record AtAccess (c : CallerKnowledge) (k : Layout) (call : Call) (from to : Spot) (len : ℕ)
     (v w : View) : Type 0 where
-  pub comes : ComesTo k (path c call.caller call.request) (CopyBytes from to len) v w
+  pub comes : ComesTo k (path c call.caller call.request) (call_steps.Copy from to len) v w
   pub copy : CopyArgs
   pub there : call.phase ≡ Some (Accessing copy (pins_by_call call).source (pins_by_call call).dest)
   pub rests : RestsOnWays c call.caller call.request (pins_by_call call) from to len

@@ -5,10 +5,12 @@ use Rattle.gt_live.specs.Prelude.{MissesPin, Unpins, StoresBody, StoresHeader, C
 use Rattle.gt_live.specs.Prelude.{Publishes, Revokes, Demotes, Layout, id_at, position_in, on_entry, on_header}
 use Rattle.gt_live.specs.Prelude.{TookPlace, Moment, part_of, IsAmong, last_of, with_step, EntryStep, DomId, GrantRef}
 use Rattle.gt_live.specs.Prelude.{Facts, Looked, ReadBody, PinMissed, StoredBody, ChangeMissed, SeatStep, Entry, View}
-use Rattle.gt_live.specs.Prelude.{Action, Makes, Done, control_of, is_kind, Publish, Revoke, Withdraw, Demote, Promote}
-use Rattle.gt_live.specs.Prelude.{FirstHalf, SecondHalf, Sub, Leg, Observation, Nothing, Word, Taken, Missed, Step, LookHeader}
-use Rattle.gt_live.specs.Prelude.{LookControl, LookBody, Pin, Unpin, StoreBody, StoreHeader, Exchange, CallResult, Refused}
+use Rattle.gt_live.specs.Prelude.{Action, Done, control_of, is_kind, Publish, Revoke, Withdraw, Demote, Promote, Sub}
+use Rattle.gt_live.specs.Prelude.{Leg, Observation, Nothing, Word, Taken, Missed, Step, LookHeader, LookControl}
+use Rattle.gt_live.specs.Prelude.{LookBody, Pin, Unpin, StoreBody, StoreHeader, Exchange, CallResult, Refused}
 use Rattle.gt_live.specs.Prelude.{Continuation}
+use Rattle.gt_model.specs.declared.action.Action.TheVariants as actions
+use Rattle.gt_model.specs.declared.change.BodyWord.TheVariants as body_words
 use Rattle.gt_words.specs.Answers.{Pins}
 use Rattle.gt_types.specs.declared.denial.Facts.TheVariants as facts
 use Rattle.gt_word_history.specs.declared.view.EntryStep.TheVariants.{Pinned, Unpinned, Changed}
@@ -70,18 +72,18 @@ Made k _ _ v w = ⊥
 
 -- the second body word of the leg's entry was read if the entry is a sub-page; otherwise it counts as 0
 abbrev pub ReadsSecond : Bool → Layout → Leg → ℕ → View → View → Type 0
-ReadsSecond true k l second v w = Made k (LookBody l.dom l.gref SecondHalf) (Word second) v w
+ReadsSecond true k l second v w = Made k (LookBody l.dom l.gref body_words.Second) (Word second) v w
 ReadsSecond false k l second v w = (second ≡ 0) × (w ≡ v)
 
 -- the body words of the leg's entry, which has this control word, were read
 abbrev pub ReadsBody : Layout → Leg → ℕ → ℕ → ℕ → View → View → Type 0
 ReadsBody k l word first second v w =
-    (u : View) × Made k (LookBody l.dom l.gref FirstHalf) (Word first) v u
+    (u : View) × Made k (LookBody l.dom l.gref body_words.First) (Word first) v u
     × ReadsSecond (is_kind (control_of word).kind Sub) k l second u w
 
 -- the action is a step, which was made and gave this observation
 abbrev pub MakesStep : Layout → Option Action → Observation → View → View → Type 0
-MakesStep k (Some (Makes s)) seen v w = Made k s seen v w
+MakesStep k (Some (actions.Step s)) seen v w = Made k s seen v w
 MakesStep k _ seen v w = ⊥
 
 -- each of these steps, the last first, was taken at its moment by the seat with the view v, which had then taken those

@@ -14,14 +14,15 @@ use Rattle.gt_model.specs.History.{is_pin_on}
 use Rattle.gt_model.specs.declared.action.Observation.{Observation}
 use Rattle.gt_model.specs.declared.action.Observation.TheVariants.{Taken}
 use Rattle.gt_model.specs.declared.action.Step.{Step}
-use Rattle.gt_model.specs.declared.action.Step.TheVariants.{Exchange, Pin as PinStep, Unpin}
+use Rattle.gt_model.specs.declared.action.Step.TheVariants.{Exchange, Unpin}
+use Rattle.gt_model.specs.declared.action.Step.TheVariants as call_steps
 use Rattle.gt_model.specs.declared.change.BodyWord.{BodyWord}
 use Rattle.gt_model.specs.declared.change.EntryChange.{EntryChange}
 use Rattle.gt_model.specs.declared.handle.Handle.{Handle}
 use Rattle.gt_model.specs.declared.header.Header.{Header}
 use Rattle.gt_model.specs.declared.held.HeldPin.{HeldPin}
 use Rattle.gt_model.specs.declared.request.PinHolder.{PinHolder}
-use Rattle.gt_model.specs.declared.request.PinHolder.TheVariants.{Mapping as ByMapping, Leg as ByLeg}
+use Rattle.gt_model.specs.declared.request.PinHolder.TheVariants as holders
 use Rattle.gt_model.specs.declared.trace.Answer.{Answer}
 use Rattle.gt_model.specs.declared.trace.Item.{Item}
 use Rattle.gt_model.specs.declared.trace.ItemEvent.TheVariants.{Stepped}
@@ -149,22 +150,22 @@ pub record IsKeyed {K : Type 0} (give : PinHolder → HeldPin → List (K × Hel
 abbrev pub mapping-keyed : IsKeyed mapping_named
 mapping-keyed = record { key = key; gives = gives } where
   key : PinHolder → Option Handle
-  key (ByMapping k) = Some k
-  key (ByLeg n) = None
+  key (holders.Mapping k) = Some k
+  key (holders.Leg n) = None
 
   gives : (x : PinHolder) (p : HeldPin) → mapping_named x p ≡ listed (key x) p
-  gives (ByMapping k) p = refl
-  gives (ByLeg n) p = refl
+  gives (holders.Mapping k) p = refl
+  gives (holders.Leg n) p = refl
 
 abbrev pub leg-keyed : IsKeyed by_leg
 leg-keyed = record { key = key; gives = gives } where
   key : PinHolder → Option ℕ
-  key (ByMapping k) = None
-  key (ByLeg n) = Some n
+  key (holders.Mapping k) = None
+  key (holders.Leg n) = Some n
 
   gives : (x : PinHolder) (p : HeldPin) → by_leg x p ≡ listed (key x) p
-  gives (ByMapping k) p = refl
-  gives (ByLeg n) p = refl
+  gives (holders.Mapping k) p = refl
+  gives (holders.Leg n) p = refl
 
 -- the items of steps
 
@@ -178,7 +179,7 @@ new_pin h d p answer = record { actor = d.0; holder = holder_after answer (lengt
 
 -- the item of a pin that was taken
 abbrev pub pins : DomId → HeldPin → Option Answer → Item
-pins d p answer = stepped d (PinStep p) Taken answer
+pins d p answer = stepped d (call_steps.Pin p) Taken answer
 
 pub pinned-live : (h : History) (d : DomId) (p : HeldPin) (answer : Option Answer) → live (pins d p answer ∷ h) ≡ live h ++ new_pin h d p answer ∷ []
 unfolding live

@@ -20,7 +20,7 @@ use Rattle.gt_model.specs.declared.request.OpenRequest.TheVariants.{Probe}
 use Rattle.gt_model.specs.declared.request.Request.{Request}
 use Rattle.gt_types.specs.declared.DomId.{DomId}
 use Rattle.gt_types.specs.declared.GrantRef.{GrantRef}
-use Rattle.gt_types.specs.declared.denial.Facts.TheVariants.{Field as FieldFacts}
+use Rattle.gt_types.specs.declared.denial.Facts.TheVariants as facts
 use Rattle.gt_types.specs.declared.denial.Field.{Field}
 use Rattle.gt_types.specs.declared.denial.Rule.TheVariants.{N9, N20, N22, N25}
 use Rattle.gt_types.specs.declared.limits.TheConstants.{LAST_GENERATION}
@@ -108,7 +108,7 @@ SpellsItsEntry header request = SpellsEntryBy header (bytes_of request)
 -- the refusal of a field, if a field is refused
 abbrev pub field_refused : Option Field → Option CallResult
 field_refused None = None
-field_refused (Some f) = Some (Refused (denial_of N25 (FieldFacts f)))
+field_refused (Some f) = Some (Refused (denial_of N25 (facts.Field f)))
 
 -- grant_bytes: N9 N20 N22 N25
 abbrev pub bytes_begun : Header → Entry → ℕ → ℕ → List ℕ → Option CallResult

@@ -15,11 +15,11 @@ use Rattle.gt_model.specs.declared.action.CallResult.TheVariants.{Refused}
 use Rattle.gt_model.specs.declared.action.Observation.{Observation}
 use Rattle.gt_model.specs.declared.action.Observation.TheVariants.{Word, Taken, Missed}
 use Rattle.gt_model.specs.declared.action.Step.{Step}
-use Rattle.gt_model.specs.declared.action.Step.TheVariants.{LookHeader, LookControl, LookBody, Pin as PinStep}
-use Rattle.gt_model.specs.declared.action.Step.TheVariants.{Exchange}
+use Rattle.gt_model.specs.declared.action.Step.TheVariants.{LookHeader, LookControl, LookBody, Exchange}
+use Rattle.gt_model.specs.declared.action.Step.TheVariants as call_steps
 use Rattle.gt_model.specs.declared.change.EntryChange.{EntryChange}
-use Rattle.gt_model.specs.declared.change.EntryChange.TheVariants.{Publish, Revoke as ToInvalid, Demote as ToReadOnly}
-use Rattle.gt_model.specs.declared.change.EntryChange.TheVariants.{Promote as ToWritable, Withdraw as ToWithdrawn}
+use Rattle.gt_model.specs.declared.change.EntryChange.TheVariants.{Publish}
+use Rattle.gt_model.specs.declared.change.EntryChange.TheVariants as changes
 use Rattle.gt_model.specs.declared.entry.Entry.{Entry}
 use Rattle.gt_model.specs.declared.entry.Entry.TheVariants.{Via}
 use Rattle.gt_model.specs.declared.held.AccessPath.{AccessPath}
@@ -36,7 +36,7 @@ use Rattle.gt_types.specs.declared.DomId.{DomId}
 use Rattle.gt_types.specs.declared.GrantRef.{GrantRef}
 use Rattle.gt_types.specs.declared.copies.CopyArgs.{CopyArgs}
 use Rattle.gt_types.specs.declared.denial.Denial.{Denial}
-use Rattle.gt_types.specs.declared.denial.Facts.TheVariants.{Header as HeaderFacts}
+use Rattle.gt_types.specs.declared.denial.Facts.TheVariants as facts
 use Rattle.gt_types.specs.declared.denial.Rule.{Rule}
 use Rattle.gt_types.specs.declared.denial.Rule.TheVariants.{N9, N18, N19}
 use Rattle.gt_types.specs.declared.limits.TheConstants.{MAX_TRIES}
@@ -123,7 +123,7 @@ is_other w (Some looked) = not (w == looked)
 
 -- this step ends a missed try: it is an exchange that found another word, or a second look that saw one
 abbrev pub is_miss : (Step × Observation) → StepsSoFar → Bool
-is_miss (PinStep p, Missed w) more = true
+is_miss (call_steps.Pin p, Missed w) more = true
 is_miss (Exchange gref looked change, Missed w) more = true
 is_miss (LookControl dom gref, Word w) more = is_in_body more && is_other w (looked_at more)
 is_miss _ more = false
@@ -141,17 +141,17 @@ at_entry dom gref word rule = option_map (λ (r : Rule). entry_refusal dom gref 
 -- the rule at an owner's exchange, by the pins on its entry and the number of missed tries, including this one
 abbrev pub rule_at_exchange : EntryChange → ℕ → ℕ → Option Rule
 rule_at_exchange (Publish entry) pins missed = stands (nat_lt 0 pins) N19
-rule_at_exchange ToInvalid pins missed = stands (nat_lt 0 pins) N19
-rule_at_exchange ToWithdrawn pins missed = stands (nat_le MAX_TRIES missed) N18
-rule_at_exchange ToReadOnly pins missed = stands (nat_le MAX_TRIES missed) N18
-rule_at_exchange ToWritable pins missed = stands (nat_le MAX_TRIES missed) N18
+rule_at_exchange changes.Revoke pins missed = stands (nat_lt 0 pins) N19
+rule_at_exchange changes.Withdraw pins missed = stands (nat_le MAX_TRIES missed) N18
+rule_at_exchange changes.Demote pins missed = stands (nat_le MAX_TRIES missed) N18
+rule_at_exchange changes.Promote pins missed = stands (nat_le MAX_TRIES missed) N18
 
 -- the rule at the header of a leg
 abbrev pub rule_at_header : Setting → History → DomId → Option LegNow → Option Denial
 rule_at_header s before dom None = None
 rule_at_header s before dom (Some n) =
     if nat_lt n.leg.gref.0 (size_of (table_at s before dom)) then None
-    else Some (denial_of N9 (HeaderFacts dom (header_word (table_at s before dom))))
+    else Some (denial_of N9 (facts.Header dom (header_word (table_at s before dom))))
 
 -- the rule before a pin, by the entry at that moment
 abbrev pub rule_before_pin : Setting → History → Leg → DomId → GrantRef → Option Rule
@@ -184,7 +184,7 @@ rule_at_pin s before d request so_far p Taken =
     rule_at_via (known_at s before d) (leg_at s before d request) (entry_at before p.dom.0 p.gref.0)
 rule_at_pin s before d request so_far p seen =
     at_entry p.dom p.gref (word_at s before p.dom.0 p.gref.0)
-    (stands (nat_le MAX_TRIES (misses ((PinStep p, seen) ∷ so_far))) N18)
+    (stands (nat_le MAX_TRIES (misses ((call_steps.Pin p, seen) ∷ so_far))) N18)
 
 -- the first rule that applies to the call at this step, by the history; so_far are the steps of the call before it
 abbrev pub first_at : Setting → History → DomId → OpenRequest → StepsSoFar → Step → Option Denial
@@ -196,8 +196,8 @@ first_at s before d request so_far (LookControl dom gref) =
     ∷ stands
     (nat_le MAX_TRIES (misses ((LookControl dom gref, seen_by s before d (LookControl dom gref)) ∷ so_far))) N18
     ∷ []))
-first_at s before d request so_far (PinStep p) =
-    rule_at_pin s before d request so_far p (seen_by s before d (PinStep p))
+first_at s before d request so_far (call_steps.Pin p) =
+    rule_at_pin s before d request so_far p (seen_by s before d (call_steps.Pin p))
 first_at s before d request so_far (Exchange gref looked change) =
     at_entry d gref (word_at s before d.0 gref.0)
     (rule_at_exchange change (reads_at before d.0 gref.0 + writes_at before d.0 gref.0)

@@ -12,17 +12,17 @@ use Rattle.gt_types.specs.Copies.{is_source_granted, is_dest_granted}
 use Rattle.gt_types.specs.Names.{resolved}
 use Rattle.gt_model.specs.declared.action.Observation.TheVariants.{Taken}
 use Rattle.gt_model.specs.declared.action.Step.{Step}
-use Rattle.gt_model.specs.declared.action.Step.TheVariants.{StoreBody, Unpin, Exchange, Read as ReadBytes}
-use Rattle.gt_model.specs.declared.action.Step.TheVariants.{Write as WriteBytes, Copy as CopyBytes}
-use Rattle.gt_model.specs.declared.change.BodyWord.TheVariants.{First as FirstHalf, Second as SecondHalf}
+use Rattle.gt_model.specs.declared.action.Step.TheVariants.{StoreBody, Unpin, Exchange}
+use Rattle.gt_model.specs.declared.action.Step.TheVariants as call_steps
+use Rattle.gt_model.specs.declared.change.BodyWord.TheVariants as body_words
 use Rattle.gt_model.specs.declared.change.EntryChange.{EntryChange}
-use Rattle.gt_model.specs.declared.change.EntryChange.TheVariants.{Publish, Revoke as ToInvalid, Demote as ToReadOnly}
-use Rattle.gt_model.specs.declared.change.EntryChange.TheVariants.{Promote as ToWritable, Withdraw as ToWithdrawn}
+use Rattle.gt_model.specs.declared.change.EntryChange.TheVariants.{Publish}
+use Rattle.gt_model.specs.declared.change.EntryChange.TheVariants as changes
 use Rattle.gt_model.specs.declared.entry.Entry.TheVariants.{Invalid}
 use Rattle.gt_model.specs.declared.held.HeldPin.{HeldPin}
 use Rattle.gt_model.specs.declared.request.OpenRequest.{OpenRequest}
 use Rattle.gt_model.specs.declared.request.OpenRequest.TheVariants.{Load, Store, Copy}
-use Rattle.gt_model.specs.declared.request.PinHolder.TheVariants.{Mapping as ByMapping}
+use Rattle.gt_model.specs.declared.request.PinHolder.TheVariants as holders
 use Rattle.gt_model.specs.declared.trace.Item.{Item}
 use Rattle.gt_model.specs.declared.trace.ItemEvent.{ItemEvent}
 use Rattle.gt_model.specs.declared.trace.ItemEvent.TheVariants.{Stepped}
@@ -30,7 +30,7 @@ use Rattle.gt_types.specs.declared.Dir.{Dir}
 use Rattle.gt_types.specs.declared.Dir.TheVariants.{Read, Write}
 use Rattle.gt_types.specs.declared.DomId.{DomId}
 use Rattle.gt_types.specs.declared.Use.{Use}
-use Rattle.gt_types.specs.declared.Use.TheVariants.{Map as ForMap, Copy as ForCopy}
+use Rattle.gt_types.specs.declared.Use.TheVariants as uses
 use Rattle.gt_types.specs.declared.limits.TheConstants.{FRAME_SIZE}
 use Rattle.gt_types.specs.declared.places.Spot.{Spot}
 
@@ -66,7 +66,7 @@ IsInFrame s at len = (at.frame.number < frame_count_of s.domains at.frame.owner)
 
 -- the frame is the domain's own, or a live pin of a mapping's kind reaches the range
 abbrev pub MayAccess : History → DomId → Dir → Spot → ℕ → Type 0
-MayAccess before d dir at len = (at.frame.owner.0 ≡ d.0) ⊎ Any (Reaches d d dir ForMap at len) (live before)
+MayAccess before d dir at len = (at.frame.owner.0 ≡ d.0) ⊎ Any (Reaches d d dir uses.Map at len) (live before)
 
 -- there is such a mapping, and the policy allows what its pin is for (XSM FLASK)
 abbrev pub MayUseMapping : Setting → DomId → Option HeldPin → Type 0
@@ -84,7 +84,7 @@ MayAsk s before d request = Unit {0}
 -- permitted the Via's owner
 abbrev pub ReachesThrough : History → DomId → Dir → Spot → ℕ → DomId → Type 0
 ReachesThrough before d dir at len named =
-    Any (λ p. Any (λ via. Forwards d dir named p via × Reaches d named dir ForCopy at len p) (live before))
+    Any (λ p. Any (λ via. Forwards d dir named p via × Reaches d named dir uses.Copy at len p) (live before))
     (live before)
 
 -- An end of a copy. If a frame number names it, it is in a frame of the domain's own. Otherwise a pin on an entry of
@@ -93,7 +93,7 @@ ReachesThrough before d dir at len named =
 abbrev pub EndIsJustified : Setting → History → DomId → Bool → Dir → Spot → ℕ → DomId → DomId × DomId → Type 0
 EndIsJustified s before d granted dir at len named owners =
     ((granted ≡ false) × (at.frame.owner ≡ d))
-    ⊎ ((granted ≡ true) × (at.frame.owner ≡ named) × Any (Reaches d d dir ForCopy at len) (live before))
+    ⊎ ((granted ≡ true) × (at.frame.owner ≡ named) × Any (Reaches d d dir uses.Copy at len) (live before))
     ⊎ ((granted ≡ true) × ReachesThrough before d dir at len named × MayCopy s owners)
 
 -- A copy's access is between the call's two ends, each justified, and the policy allows the copy between the domains
@@ -116,14 +116,14 @@ AccessIsJustified s before d request dir at len =
 
 -- an access is justified, and only an unmap or a release that names its handle drops a mapping
 abbrev pub Justified : Setting → History → DomId → OpenRequest → Step → Type 0
-Justified s before d request (ReadBytes dom frame off len) =
+Justified s before d request (call_steps.Read dom frame off len) =
     AccessIsJustified s before d request Read
     (record { frame = record { owner = dom; number = frame }; off = off }) len
-Justified s before d request (WriteBytes dom frame off len) =
+Justified s before d request (call_steps.Write dom frame off len) =
     AccessIsJustified s before d request Write
     (record { frame = record { owner = dom; number = frame }; off = off }) len
-Justified s before d request (CopyBytes from to len) = CopyIsJustified s before d request from to len
-Justified s before d request (Unpin p (ByMapping handle)) = GivesUp request handle
+Justified s before d request (call_steps.Copy from to len) = CopyIsJustified s before d request from to len
+Justified s before d request (Unpin p (holders.Mapping handle)) = GivesUp request handle
 Justified s before d request _ = Unit {0}
 
 -- owners' changes, and pins
@@ -133,12 +133,13 @@ Justified s before d request _ = Unit {0}
 -- withdrawal and a promotion: always.
 abbrev pub IsSafeChange : History → ℕ → ℕ → EntryChange → Type 0
 IsSafeChange before t r (Publish entry) =
-    (entry_at before t r ≡ Invalid) × IsSpelled entry (body_at before t r FirstHalf) (body_at before t r SecondHalf)
+    (entry_at before t r ≡ Invalid)
+    × IsSpelled entry (body_at before t r body_words.First) (body_at before t r body_words.Second)
     × (reads_at before t r ≡ 0) × (writes_at before t r ≡ 0)
-IsSafeChange before t r ToWithdrawn = Unit {0}
-IsSafeChange before t r ToInvalid = (reads_at before t r ≡ 0) × (writes_at before t r ≡ 0)
-IsSafeChange before t r ToReadOnly = writes_at before t r ≡ 0
-IsSafeChange before t r ToWritable = Unit {0}
+IsSafeChange before t r changes.Withdraw = Unit {0}
+IsSafeChange before t r changes.Revoke = (reads_at before t r ≡ 0) × (writes_at before t r ≡ 0)
+IsSafeChange before t r changes.Demote = writes_at before t r ≡ 0
+IsSafeChange before t r changes.Promote = Unit {0}
 
 -- an exchange that is taken makes a safe change, and a body word is stored only on an Invalid entry
 abbrev pub IsSafe : Setting → History → Item → Type 0

@@ -6,7 +6,7 @@ use Rattle.gt_types.specs.declared.Dir.{Dir}
 use Rattle.gt_types.specs.declared.Dir.TheVariants.{Read, Write}
 use Rattle.gt_types.specs.declared.DomId.{DomId}
 use Rattle.gt_types.specs.declared.Use.{Use}
-use Rattle.gt_types.specs.declared.Use.TheVariants.{Map as ForMap, Copy as ForCopy}
+use Rattle.gt_types.specs.declared.Use.TheVariants as uses
 
 -- a read-only entry refuses writing (grant_table.h)
 abbrev pub allows_direction : Bool → Dir → Bool
@@ -15,8 +15,8 @@ allows_direction ro Write = not ro
 
 -- the bytes are for a copy
 abbrev pub is_copying : Use → Bool
-is_copying ForMap = false
-is_copying ForCopy = true
+is_copying uses.Map = false
+is_copying uses.Copy = true
 
 -- the entry permits the domain this direction and use of len bytes, starting at off: a page permits any of its bytes,
 -- a sub-page only copies of its own (grant_table.h)

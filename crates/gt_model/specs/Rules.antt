@@ -11,11 +11,10 @@ use Rattle.gt_model.specs.declared.action.CallValue.{CallValue}
 use Rattle.gt_model.specs.declared.action.CallValue.TheVariants.{Frames}
 use Rattle.gt_model.specs.declared.bounds.TheConstants.{SERIAL_LIMIT}
 use Rattle.gt_model.specs.declared.change.EntryChange.{EntryChange}
-use Rattle.gt_model.specs.declared.change.EntryChange.TheVariants.{Publish, Revoke as ToInvalid, Demote as ToReadOnly}
-use Rattle.gt_model.specs.declared.change.EntryChange.TheVariants.{Promote as ToWritable, Withdraw as ToWithdrawn}
+use Rattle.gt_model.specs.declared.change.EntryChange.TheVariants.{Publish}
+use Rattle.gt_model.specs.declared.change.EntryChange.TheVariants as changes
 use Rattle.gt_model.specs.declared.control.Control.{Control}
-use Rattle.gt_model.specs.declared.control.EntryKind.TheVariants.{Invalid as KindInvalid, Page as KindPage}
-use Rattle.gt_model.specs.declared.control.EntryKind.TheVariants.{Via as KindVia}
+use Rattle.gt_model.specs.declared.control.EntryKind.TheVariants as kinds
 use Rattle.gt_model.specs.declared.entry.Entry.{Entry}
 use Rattle.gt_model.specs.declared.entry.Entry.TheVariants.{Invalid, Page, Sub, Via}
 use Rattle.gt_model.specs.declared.handle.Handle.{Handle}
@@ -34,7 +33,8 @@ use Rattle.gt_types.specs.declared.TypeId.{TypeId}
 use Rattle.gt_types.specs.declared.config.DomainConfig.{DomainConfig}
 use Rattle.gt_types.specs.declared.copies.CopyArgs.{CopyArgs}
 use Rattle.gt_types.specs.declared.copies.End.{End}
-use Rattle.gt_types.specs.declared.denial.Facts.TheVariants.{None as NoFacts, Policy}
+use Rattle.gt_types.specs.declared.denial.Facts.TheVariants.{Policy}
+use Rattle.gt_types.specs.declared.denial.Facts.TheVariants as facts
 use Rattle.gt_types.specs.declared.denial.Rule.{Rule}
 use Rattle.gt_types.specs.declared.denial.Rule.TheVariants.{N1, N2, N3, N4, N5, N6, N7, N8, N9, N10, N11, N12, N13}
 use Rattle.gt_types.specs.declared.denial.Rule.TheVariants.{N14, N15, N16, N17, N20, N21, N22, N23, N24}
@@ -71,7 +71,7 @@ stands false rule = None
 
 -- a refusal without facts, if the test holds
 abbrev pub refused_when : Bool → Rule → Option CallResult
-refused_when true rule = Some (Refused (denial_of rule NoFacts))
+refused_when true rule = Some (Refused (denial_of rule facts.None))
 refused_when false rule = None
 
 -- Ok at once, if the test holds: there is nothing to do
@@ -182,10 +182,10 @@ revoke_begun header old r = first (
 -- a demote or promote would not change the entry
 abbrev pub is_already : EntryChange → Entry → Bool
 is_already (Publish entry) old = false
-is_already ToInvalid old = false
-is_already ToWithdrawn old = false
-is_already ToReadOnly old = is_read_only old
-is_already ToWritable old = not (is_read_only old)
+is_already changes.Revoke old = false
+is_already changes.Withdraw old = false
+is_already changes.Demote old = is_read_only old
+is_already changes.Promote old = not (is_read_only old)
 
 -- demote and promote: N9 N10, Ok if the entry would not change, N22
 abbrev pub change_begun : EntryChange → Header → Entry → ℕ → ℕ → Option CallResult
@@ -341,8 +341,8 @@ abbrev pub begun : CallerKnowledge → DomId → OpenRequest → Option CallResu
 begun k caller (Grant gref entry) = grant_begun k.header (k.entry gref.0) (k.generation gref.0) gref.0 entry
 begun k caller (Revoke gref) = revoke_begun k.header (k.entry gref.0) gref.0
 begun k caller (Withdraw gref) = revoke_begun k.header (k.entry gref.0) gref.0
-begun k caller (Demote gref) = change_begun ToReadOnly k.header (k.entry gref.0) (k.generation gref.0) gref.0
-begun k caller (Promote gref) = change_begun ToWritable k.header (k.entry gref.0) (k.generation gref.0) gref.0
+begun k caller (Demote gref) = change_begun changes.Demote k.header (k.entry gref.0) (k.generation gref.0) gref.0
+begun k caller (Promote gref) = change_begun changes.Promote k.header (k.entry gref.0) (k.generation gref.0) gref.0
 begun k caller (Map dom gref flags) = map_begun k caller dom flags
 begun k caller (Unmap handle) = unmap_begun k caller handle
 begun k caller (Release handle) = release_begun k.mapping handle
@@ -360,11 +360,11 @@ begun k caller (GetVersion dom) = query_begun k caller dom
 -- the rule that applies at a first look, by the control word
 abbrev pub first_look : Leg → Control → Option Rule
 first_look l c = first (
-    stands (is_kind c.kind KindInvalid) N10
+    stands (is_kind c.kind kinds.Invalid) N10
     ∷ stands (not (c.dom.0 == l.grantee.0)) N11
-    ∷ stands (not (is_copying l.purpose || is_kind c.kind KindPage)) N12
+    ∷ stands (not (is_copying l.purpose || is_kind c.kind kinds.Page)) N12
     ∷ stands (not (allows_direction c.ro l.dir)) N13
-    ∷ stands (l.beyond_via && is_kind c.kind KindVia) N15 ∷ [])
+    ∷ stands (l.beyond_via && is_kind c.kind kinds.Via) N15 ∷ [])
 
 -- the entry is a sub-page that does not contain the leg's range (grant_table.h)
 abbrev pub is_outside_sub : Leg → Entry → Bool

@@ -3,8 +3,7 @@ use Rattle.std.specs.Prelude.{◌≡◌, ℕ, ◌+◌, ◌*◌, ◌/◌, ◌%◌
 use Rattle.gt_model.specs.Words.{flag}
 use Rattle.gt_model.specs.declared.control.Control.{Control}
 use Rattle.gt_model.specs.declared.control.EntryKind.{EntryKind}
-use Rattle.gt_model.specs.declared.control.EntryKind.TheVariants.{Invalid as KindInvalid, Page as KindPage}
-use Rattle.gt_model.specs.declared.control.EntryKind.TheVariants.{Sub as KindSub, Via as KindVia}
+use Rattle.gt_model.specs.declared.control.EntryKind.TheVariants as kinds
 use Rattle.gt_model.specs.declared.entry.Entry.{Entry}
 use Rattle.gt_model.specs.declared.entry.Entry.TheVariants.{Invalid, Page, Sub, Via}
 
@@ -34,7 +33,7 @@ word_of e generation reads writes = idle_word_of e generation + 16 * reads + 655
 abbrev pub control_with : Entry → ℕ → ℕ → ℕ → Control
 control_with Invalid generation reads writes =
     record {
-      kind = KindInvalid;
+      kind = kinds.Invalid;
       ro = false;
       reads = reads;
       writes = writes;
@@ -42,11 +41,11 @@ control_with Invalid generation reads writes =
       generation = generation;
     }
 control_with (Page dom ro frame) generation reads writes =
-    record { kind = KindPage; ro = ro; reads = reads; writes = writes; dom = dom; generation = generation }
+    record { kind = kinds.Page; ro = ro; reads = reads; writes = writes; dom = dom; generation = generation }
 control_with (Sub dom ro frame off len) generation reads writes =
-    record { kind = KindSub; ro = ro; reads = reads; writes = writes; dom = dom; generation = generation }
+    record { kind = kinds.Sub; ro = ro; reads = reads; writes = writes; dom = dom; generation = generation }
 control_with (Via dom ro dom2 gref) generation reads writes =
-    record { kind = KindVia; ro = ro; reads = reads; writes = writes; dom = dom; generation = generation }
+    record { kind = kinds.Via; ro = ro; reads = reads; writes = writes; dom = dom; generation = generation }
 
 -- body word 0: the frame number, or in bits 0 to 15 the next domain and in 16 to 47 its reference
 abbrev pub first_body : Entry → ℕ
@@ -71,10 +70,10 @@ IsSpelled (Via dom ro dom2 gref) first second = first ≡ dom2.0 + gref.0 * 6553
 
 -- the entry that a control of this kind and two body words encode
 abbrev pub entry_with : EntryKind → Control → ℕ → ℕ → Entry
-entry_with KindInvalid c first second = Invalid
-entry_with KindPage c first second = Page c.dom c.ro first
-entry_with KindSub c first second = Sub c.dom c.ro first (second % 65536) (second / 65536 % 65536)
-entry_with KindVia c first second =
+entry_with kinds.Invalid c first second = Invalid
+entry_with kinds.Page c first second = Page c.dom c.ro first
+entry_with kinds.Sub c first second = Sub c.dom c.ro first (second % 65536) (second / 65536 % 65536)
+entry_with kinds.Via c first second =
     Via c.dom c.ro (record { 0 = first % 65536 }) (record { 0 = first / 65536 % 2 ^ 32 })
 
 -- the entry that a control and two body words encode

@@ -17,7 +17,7 @@ use Rattle.gt_policy_text.specs.Lexing.{lexemes_of}
 use Rattle.gt_neverallow.specs.Naming.{ReadsAsNever, is_declared_in, named_with, mentions_of, too_long, undeclared, read, faulty}
 use Rattle.gt_neverallow.specs.Reading.{GivesNeverallows, ReadsTo, parse_fault_in, fault_kind}
 use Rattle.gt_neverallow.specs.declared.fault.ParseError.{ParseError}
-use Rattle.gt_neverallow.specs.declared.fault.ParseError.TheVariants as errors
+use Rattle.gt_neverallow.specs.declared.fault.ParseError.TheVariants as parse_errors
 use Rattle.gt_neverallow.specs.declared.statement.Neverallow.{Neverallow}
 
 -- the first name of two lists is that of the first list, or else of the second
@@ -43,8 +43,8 @@ says_read xs text bytes ns said same few follows is =
 
 -- a fault of the text
 of_error : (xs : List LinedStatement) (text : List ℕ) (e : ParseError) (f : TokenFault) → length text ≤ 1048576 → ReadsTo (Err e) (lexemes_of text) → parse_fault_in e ≡ Some f → ReadsAsNever xs text (Err f)
-of_error xs text errors.Memory f few reads is = absurd (cc is)
-of_error xs text (errors.Fault line kind) f few reads is =
+of_error xs text parse_errors.Memory f few reads is = absurd (cc is)
+of_error xs text (parse_errors.Fault line kind) f few reads is =
     let same : at line (fault_kind kind) ≡ f = cc is in
     subst (λ (g : TokenFault). ReadsAsNever xs text (Err g)) same (faulty text (at line (fault_kind kind)) few reads)
 

@@ -8,7 +8,7 @@ use Rattle.gt_policy.specs.Grammar.{Lexemes, LexerState, ◌>>=◌, at, classes_
 use Rattle.gt_policy.specs.Grammar.{semicolon, set_of}
 use Rattle.gt_policy.specs.declared.fault.TokenFault.{TokenFault}
 use Rattle.gt_policy.specs.declared.fault.TokenFaultKind.{TokenFaultKind}
-use Rattle.gt_policy.specs.declared.fault.TokenFaultKind.TheVariants as kinds
+use Rattle.gt_policy.specs.declared.fault.TokenFaultKind.TheVariants as token_fault_kinds
 use Rattle.gt_policy.specs.declared.statements.SetElement.{SetElement}
 use Rattle.gt_policy_text.specs.declared.lexer.Token.{Token}
 use Rattle.gt_policy_text.specs.declared.lexer.Token.TheVariants.{AllowWord, AttributeWord, End, Name, Star, Tilde, TypeWord}
@@ -16,18 +16,18 @@ use Rattle.gt_policy_text.specs.declared.lexer.Token.TheVariants.{TypeattributeW
 use Rattle.gt_neverallow.specs.declared.fault.ParseError.{ParseError}
 use Rattle.gt_neverallow.specs.declared.fault.ParseError.TheVariants.{Fault, Memory}
 use Rattle.gt_neverallow.specs.declared.fault.TokenKind.{TokenKind}
-use Rattle.gt_neverallow.specs.declared.fault.TokenKind.TheVariants as tokens
+use Rattle.gt_neverallow.specs.declared.fault.TokenKind.TheVariants as token_kinds
 use Rattle.gt_neverallow.specs.declared.statement.Neverallow.{Neverallow}
 use Rattle.gt_neverallow.specs.declared.statement.TypeChoice.{TypeChoice}
 use Rattle.gt_neverallow.specs.declared.statement.TypeChoice.TheVariants.{But, Every, Of}
 
 -- the kind of a fault of the text
 abbrev pub fault_kind : TokenKind → TokenFaultKind
-fault_kind tokens.Syntax = kinds.Syntax
-fault_kind (tokens.Unknown w) = kinds.Unknown w
-fault_kind (tokens.Permission w) = kinds.Permission w
-fault_kind (tokens.Outside w) = kinds.Outside w
-fault_kind tokens.Limit = kinds.Limit
+fault_kind token_kinds.Syntax = token_fault_kinds.Syntax
+fault_kind (token_kinds.Unknown w) = token_fault_kinds.Unknown w
+fault_kind (token_kinds.Permission w) = token_fault_kinds.Permission w
+fault_kind (token_kinds.Outside w) = token_fault_kinds.Outside w
+fault_kind token_kinds.Limit = token_fault_kinds.Limit
 
 -- the fault of an error; none if an allocation failed
 abbrev pub parse_fault_in : ParseError → Option TokenFault
@@ -72,11 +72,11 @@ begins_statement _ = false
 
 -- the kind of fault for a token that begins no neverallow statement
 unfoldable pub misfit_statement : Token → TokenFaultKind
-misfit_statement TypeWord = kinds.Outside (codes "type")
-misfit_statement AttributeWord = kinds.Outside (codes "attribute")
-misfit_statement TypeattributeWord = kinds.Outside (codes "typeattribute")
-misfit_statement AllowWord = kinds.Outside (codes "allow")
-misfit_statement (Name w) = kinds.Outside w
+misfit_statement TypeWord = token_fault_kinds.Outside (codes "type")
+misfit_statement AttributeWord = token_fault_kinds.Outside (codes "attribute")
+misfit_statement TypeattributeWord = token_fault_kinds.Outside (codes "typeattribute")
+misfit_statement AllowWord = token_fault_kinds.Outside (codes "allow")
+misfit_statement (Name w) = token_fault_kinds.Outside w
 misfit_statement token = misfit false token
 
 -- a statement as the next one
@@ -86,7 +86,7 @@ next_neverallow (Err f) = Err f
 
 -- the next statement, or none at the end of the text; no other statement may come (faults own)
 unfoldable pub next_statement : Lexemes → LexerState (Option Neverallow)
-next_statement [] = Err (at 0 kinds.Syntax)
+next_statement [] = Err (at 0 token_fault_kinds.Syntax)
 next_statement ((End, n) ∷ ls) = Ok (None, [])
 next_statement ((token, n) ∷ ls) = if begins_statement token then next_neverallow (never_statement n ls)
     else Err (at n (misfit_statement token))

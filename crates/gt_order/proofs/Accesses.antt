@@ -17,7 +17,7 @@ use Rattle.gt_word_history.specs.Rule.{layout_of, position_in}
 use Rattle.gt_word_history.specs.Steps.{StoodWith}
 use Rattle.gt_word_history.specs.Views.{with_step}
 use Rattle.gt_word_history.specs.declared.view.FrameStep.{FrameStep}
-use Rattle.gt_word_history.specs.declared.view.FrameStep.TheVariants as frames
+use Rattle.gt_word_history.specs.declared.view.FrameStep.TheVariants as frame_steps
 use Rattle.gt_word_history.specs.declared.view.SeatStep.{SeatStep}
 use Rattle.gt_word_history.specs.declared.view.SeatStep.TheVariants.{Entry, Flag, Frame, Header}
 use Rattle.gt_word_history.specs.declared.view.View.{View}
@@ -25,12 +25,12 @@ use Rattle.gt_model.specs.declared.action.Observation.{Observation}
 use Rattle.gt_model.specs.declared.action.Observation.TheVariants.{Nothing}
 use Rattle.gt_model.specs.declared.action.Step.{Step}
 use Rattle.gt_model.specs.declared.action.Step.TheVariants.{LookHeader, LookControl, LookBody, Pin, Unpin, StoreBody}
-use Rattle.gt_model.specs.declared.action.Step.TheVariants.{StoreHeader, Exchange, Read as ReadBytes}
-use Rattle.gt_model.specs.declared.action.Step.TheVariants.{Write as WriteBytes, Copy as CopyBytes}
+use Rattle.gt_model.specs.declared.action.Step.TheVariants.{StoreHeader, Exchange}
+use Rattle.gt_model.specs.declared.action.Step.TheVariants as call_steps
 use Rattle.gt_model.proofs.Observers.{stepped}
 use Rattle.gt_core.proofs.Words.{append-nil}
 use Rattle.gt_core.specs.GoingOn.{IsAccess, AccessesNoBytes}
-use Rattle.gt_model.specs.History.{History as Items, Setting, WriteMade, contents_at, given_in, open_call, patches_at}
+use Rattle.gt_model.specs.History.{History, Setting, WriteMade, contents_at, given_in, open_call, patches_at}
 use Rattle.gt_model.specs.History.{patches_by, seen_by, written_by}
 use Rattle.gt_model.specs.declared.trace.Answer.{Answer}
 use Rattle.gt_model.specs.declared.trace.Item.{Item}
@@ -41,16 +41,16 @@ use Rattle.gt_order.specs.Runs.{MakesAccess}
 
 -- the bytes that an access of a call, which was passed these, writes after this history
 abbrev pub IsWriteOf : Layout → StepHistory → List ℕ → Step → SeatStep → Type 0
-IsWriteOf k h given (WriteBytes dom frame off len) (Frame t q (frames.Wrote r)) = r.bytes ≡ given
-IsWriteOf k h given (CopyBytes from to len) (Frame t q (frames.Copied d p o r)) = r.bytes ≡ bytes_at (frame_made k d p h) o len
-IsWriteOf k h given (ReadBytes dom frame off len) (Frame t q (frames.Read o bytes)) = Unit {0}
+IsWriteOf k h given (call_steps.Write dom frame off len) (Frame t q (frame_steps.Wrote r)) = r.bytes ≡ given
+IsWriteOf k h given (call_steps.Copy from to len) (Frame t q (frame_steps.Copied d p o r)) = r.bytes ≡ bytes_at (frame_made k d p h) o len
+IsWriteOf k h given (call_steps.Read dom frame off len) (Frame t q (frame_steps.Read o bytes)) = Unit {0}
 IsWriteOf k h given step x = ⊥
 
 -- the domains that an access names are of the run
 abbrev pub NamesRun : Layout → Step → Type 0
-NamesRun k (ReadBytes dom frame off len) = position_in k.ids dom < k.domains
-NamesRun k (WriteBytes dom frame off len) = position_in k.ids dom < k.domains
-NamesRun k (CopyBytes from to len) = (position_in k.ids from.frame.owner < k.domains) × (position_in k.ids to.frame.owner < k.domains)
+NamesRun k (call_steps.Read dom frame off len) = position_in k.ids dom < k.domains
+NamesRun k (call_steps.Write dom frame off len) = position_in k.ids dom < k.domains
+NamesRun k (call_steps.Copy from to len) = (position_in k.ids from.frame.owner < k.domains) × (position_in k.ids to.frame.owner < k.domains)
 NamesRun k step = ⊥
 
 -- an access of a call was made so: it is this step of its seat, taken after these steps of all seats
@@ -65,8 +65,8 @@ pub record AccessedAs (k : Layout) (i : ℕ) (given : List ℕ) (step : Step) (v
   pub stands : StoodWith (Unit {0}) k ((v.position, x.1) ∷ x.0) w
 
 pub accessed-as : (k : Layout) (i : ℕ) (given : List ℕ) (step : Step) (v w : View) → MakesAccess k given step v w → (x : Moment) × AccessedAs k i given step v w x
-accessed-as k i given (WriteBytes dom frame off len) v w m =
-    let a = m.1 in let x : SeatStep = Frame (position_in k.ids dom) frame (frames.Wrote (record { writ = m.0; off = off; bytes = given })) in (
+accessed-as k i given (call_steps.Write dom frame off len) v w m =
+    let a = m.1 in let x : SeatStep = Frame (position_in k.ids dom) frame (frame_steps.Wrote (record { writ = m.0; off = off; bytes = given })) in (
       (a.past, x),
       record {
         is = tt;
@@ -79,10 +79,10 @@ accessed-as k i given (WriteBytes dom frame off len) v w m =
         stands = subst (StoodWith (Unit {0}) k ((v.position, x) ∷ a.past)) (sym a.view) a.access.still_stands;
       },
     )
-accessed-as k i given (CopyBytes from to len) v w m =
+accessed-as k i given (call_steps.Copy from to len) v w m =
     let c = m.1 in let bytes = c.1 in let a = c.3 in
     let r : WriteRecord = record { writ = m.0; off = to.off; bytes = bytes } in
-    let x : SeatStep = Frame (position_in k.ids to.frame.owner) to.frame.number (frames.Copied (position_in k.ids from.frame.owner) from.frame.number from.off r) in (
+    let x : SeatStep = Frame (position_in k.ids to.frame.owner) to.frame.number (frame_steps.Copied (position_in k.ids from.frame.owner) from.frame.number from.off r) in (
       (a.past, x),
       record {
         is = tt;
@@ -98,11 +98,11 @@ accessed-as k i given (CopyBytes from to len) v w m =
 accessed-as k i given step v w m = absurd m
 
 -- a read of a call was made so
-pub read-as : (k : Layout) (i : ℕ) (given : List ℕ) (dom : DomId) (frame off len : ℕ) (bytes : List ℕ) (v u w : View) (a : AccessesFrame k (position_in k.ids dom) frame (frames.Read off bytes) v u)
-    → w ≡ with_step a.past (Frame (position_in k.ids dom) frame (frames.Read off bytes)) v → length bytes ≡ len
-    → AccessedAs k i given (ReadBytes dom frame off len) v w (a.past, Frame (position_in k.ids dom) frame (frames.Read off bytes))
+pub read-as : (k : Layout) (i : ℕ) (given : List ℕ) (dom : DomId) (frame off len : ℕ) (bytes : List ℕ) (v u w : View) (a : AccessesFrame k (position_in k.ids dom) frame (frame_steps.Read off bytes) v u)
+    → w ≡ with_step a.past (Frame (position_in k.ids dom) frame (frame_steps.Read off bytes)) v → length bytes ≡ len
+    → AccessedAs k i given (call_steps.Read dom frame off len) v w (a.past, Frame (position_in k.ids dom) frame (frame_steps.Read off bytes))
 read-as k i given dom frame off len bytes v u w a view len_is =
-    let x : SeatStep = Frame (position_in k.ids dom) frame (frames.Read off bytes) in record {
+    let x : SeatStep = Frame (position_in k.ids dom) frame (frame_steps.Read off bytes) in record {
       is = tt;
       view = view;
       the = (refl, refl, refl, len_is);
@@ -114,26 +114,26 @@ read-as k i given dom frame off len bytes v u w a view len_is =
     }
 
 -- an access sees nothing
-pub sees-nothing : (s : Setting) (g : Items) (d : DomId) (step : Step) → IsAccess step → seen_by s g d step ≡ Nothing
-sees-nothing s g d (ReadBytes dom frame off len) is = refl
-sees-nothing s g d (WriteBytes dom frame off len) is = refl
-sees-nothing s g d (CopyBytes from to len) is = refl
+pub sees-nothing : (s : Setting) (g : History) (d : DomId) (step : Step) → IsAccess step → seen_by s g d step ≡ Nothing
+sees-nothing s g d (call_steps.Read dom frame off len) is = refl
+sees-nothing s g d (call_steps.Write dom frame off len) is = refl
+sees-nothing s g d (call_steps.Copy from to len) is = refl
 sees-nothing s g d step is = absurd is
 
 -- what the writes of an item are after those before it
 
-abbrev made_by : Items → Item → Option WriteMade
+abbrev made_by : History → Item → Option WriteMade
 made_by g item = written_by item.happened (given_in (open_call g item.actor.0)) (λ u f. written (patches_at g u f))
 
-patches-more : (g : Items) (item : Item) (t f : ℕ) → patches_at (item ∷ g) t f ≡ patches_at g t f ++ patches_by (made_by g item) t f
+patches-more : (g : History) (item : Item) (t f : ℕ) → patches_at (item ∷ g) t f ≡ patches_at g t f ++ patches_by (made_by g item) t f
 unfolding patches_at
 patches-more g item t f = refl
 
-patches-none : (g : Items) (item : Item) (t f : ℕ) → made_by g item ≡ None → patches_at (item ∷ g) t f ≡ patches_at g t f
+patches-none : (g : History) (item : Item) (t f : ℕ) → made_by g item ≡ None → patches_at (item ∷ g) t f ≡ patches_at g t f
 patches-none g item t f e = patches-more g item t f ∙ (ap (λ (o : Option WriteMade). patches_at g t f ++ patches_by o t f) e ∙ append-nil (patches_at g t f))
 
 -- a step on words writes no frame
-writes-none : (g : Items) (d : DomId) (step : Step) (seen : Observation) (answer : Option Answer) → AccessesNoBytes step → made_by g (stepped d step seen answer) ≡ None
+writes-none : (g : History) (d : DomId) (step : Step) (seen : Observation) (answer : Option Answer) → AccessesNoBytes step → made_by g (stepped d step seen answer) ≡ None
 writes-none g d (LookHeader dom) seen answer q = refl
 writes-none g d (LookControl dom gref) seen answer q = refl
 writes-none g d (LookBody dom gref half) seen answer q = refl
@@ -142,9 +142,9 @@ writes-none g d (Unpin p holder) seen answer q = refl
 writes-none g d (StoreBody gref half word) seen answer q = refl
 writes-none g d (StoreHeader version frames) seen answer q = refl
 writes-none g d (Exchange gref looked change) seen answer q = refl
-writes-none g d (ReadBytes dom frame off len) seen answer q = absurd q
-writes-none g d (WriteBytes dom frame off len) seen answer q = absurd q
-writes-none g d (CopyBytes from to len) seen answer q = absurd q
+writes-none g d (call_steps.Read dom frame off len) seen answer q = absurd q
+writes-none g d (call_steps.Write dom frame off len) seen answer q = absurd q
+writes-none g d (call_steps.Copy from to len) seen answer q = absurd q
 
 not-frame : (k : Layout) (i : ℕ) (step : Step) (t q : ℕ) (m : FrameStep) → AccessesNoBytes step → IsThe k i step (Frame t q m) → ⊥
 not-frame k i (LookHeader dom) t q m quiet the = the
@@ -155,12 +155,12 @@ not-frame k i (Unpin p holder) t q m quiet the = the
 not-frame k i (StoreBody gref half word) t q m quiet the = the
 not-frame k i (StoreHeader version frames) t q m quiet the = the
 not-frame k i (Exchange gref looked change) t q m quiet the = the
-not-frame k i (ReadBytes dom frame off len) t q m quiet the = absurd quiet
-not-frame k i (WriteBytes dom frame off len) t q m quiet the = absurd quiet
-not-frame k i (CopyBytes from to len) t q m quiet the = absurd quiet
+not-frame k i (call_steps.Read dom frame off len) t q m quiet the = absurd quiet
+not-frame k i (call_steps.Write dom frame off len) t q m quiet the = absurd quiet
+not-frame k i (call_steps.Copy from to len) t q m quiet the = absurd quiet
 
 -- after a step on words
-pub writes-by-words : (k : Layout) (g : Items) (h : StepHistory) (i : ℕ) (d : DomId) (step : Step) (x : SeatStep) (seen : Observation) (answer : Option Answer) → AccessesNoBytes step → IsThe k i step x → WritesAgree k g h
+pub writes-by-words : (k : Layout) (g : History) (h : StepHistory) (i : ℕ) (d : DomId) (step : Step) (x : SeatStep) (seen : Observation) (answer : Option Answer) → AccessesNoBytes step → IsThe k i step x → WritesAgree k g h
     → WritesAgree k (stepped d step seen answer ∷ g) ((i, x) ∷ h)
 writes-by-words k g h i d step x seen answer quiet the agree t f l =
     patches-none g (stepped d step seen answer) (dom_at k t).0 f (writes-none g d step seen answer quiet) ∙ (agree t f l ∙ sym (ap patches (same x the)))
@@ -172,7 +172,7 @@ writes-by-words k g h i d step x seen answer quiet the agree t f l =
     same (Flag g m) a = refl
 
 -- after an item that is no step
-pub writes-by-none : (k : Layout) (g : Items) (h : StepHistory) (item : Item) → ((given : List ℕ) (contents : ℕ → ℕ → List ℕ) → written_by item.happened given contents ≡ None) → WritesAgree k g h → WritesAgree k (item ∷ g) h
+pub writes-by-none : (k : Layout) (g : History) (h : StepHistory) (item : Item) → ((given : List ℕ) (contents : ℕ → ℕ → List ℕ) → written_by item.happened given contents ≡ None) → WritesAgree k g h → WritesAgree k (item ∷ g) h
 writes-by-none k g h item none agree t f l = patches-none g item (dom_at k t).0 f (none (given_in (open_call g item.actor.0)) (λ u q. written (patches_at g u q))) ∙ agree t f l
 
 map-more : (rs : List WriteRecord) (r : WriteRecord) → patches (rs ++ r ∷ []) ≡ patches rs ++ patch_of r ∷ []
@@ -196,11 +196,11 @@ module _ (c : Config) (k : Layout) (is : k ≡ layout_of c) (limits : IsWithinLi
       ]
 
   -- the frame f of a domain holds what the history makes of it
-  pub contents-are : (g : Items) (h : StepHistory) (dom : DomId) (f : ℕ) → position_in k.ids dom < k.domains → WritesAgree k g h → contents_at g dom.0 f ≡ written (patches (journal_made (position_in k.ids dom) f h))
+  pub contents-are : (g : History) (h : StepHistory) (dom : DomId) (f : ℕ) → position_in k.ids dom < k.domains → WritesAgree k g h → contents_at g dom.0 f ≡ written (patches (journal_made (position_in k.ids dom) f h))
   contents-are g h dom f l agree = ap (λ (d : DomId). contents_at g d.0 f) (sym (named dom l)) ∙ ap written (agree (position_in k.ids dom) f l)
 
   -- one more write to a frame, on both sides
-  one-write : (g : Items) (h : StepHistory) (item : Item) (dom : DomId) (frame off : ℕ) (bytes : List ℕ) (t q : ℕ) (m : FrameStep) (r : WriteRecord) → ((rs : List WriteRecord) → journal_by m rs ≡ rs ++ r ∷ [])
+  one-write : (g : History) (h : StepHistory) (item : Item) (dom : DomId) (frame off : ℕ) (bytes : List ℕ) (t q : ℕ) (m : FrameStep) (r : WriteRecord) → ((rs : List WriteRecord) → journal_by m rs ≡ rs ++ r ∷ [])
       → made_by g item ≡ Some (record { at = record { frame = record { owner = dom; number = frame }; off = off }; bytes = bytes }) → position_in k.ids dom < k.domains
       → t ≡ position_in k.ids dom → q ≡ frame → r.off ≡ off → r.bytes ≡ bytes → (i : ℕ) → WritesAgree k g h → WritesAgree k (item ∷ g) ((i, Frame t q m) ∷ h)
   one-write g h item dom frame off bytes t q m r adds made l at number o b i agree u f n =
@@ -214,27 +214,27 @@ module _ (c : Config) (k : Layout) (is : k ≡ layout_of c) (limits : IsWithinLi
       by false = append-nil (patches_at g (dom_at k u).0 f) ∙ agree u f n
 
   -- after an access
-  pub writes-by-access : (g : Items) (h : StepHistory) (i : ℕ) (d : DomId) (given : List ℕ) (step : Step) (x : SeatStep) (seen : Observation) (answer : Option Answer) → given_in (open_call g d.0) ≡ given → NamesRun k step → IsThe k i step x
+  pub writes-by-access : (g : History) (h : StepHistory) (i : ℕ) (d : DomId) (given : List ℕ) (step : Step) (x : SeatStep) (seen : Observation) (answer : Option Answer) → given_in (open_call g d.0) ≡ given → NamesRun k step → IsThe k i step x
       → IsWriteOf k h given step x → WritesAgree k g h → WritesAgree k (stepped d step seen answer ∷ g) ((i, x) ∷ h)
-  writes-by-access g h i d given (ReadBytes dom frame off len) (Frame t q (frames.Read o bytes)) seen answer passed run the writes agree =
-      λ u f n. patches-none g (stepped d (ReadBytes dom frame off len) seen answer) (dom_at k u).0 f refl ∙ (agree u f n ∙ ap patches (sym (by (journal_made u f h) ((t == u) && (q == f)))))
+  writes-by-access g h i d given (call_steps.Read dom frame off len) (Frame t q (frame_steps.Read o bytes)) seen answer passed run the writes agree =
+      λ u f n. patches-none g (stepped d (call_steps.Read dom frame off len) seen answer) (dom_at k u).0 f refl ∙ (agree u f n ∙ ap patches (sym (by (journal_made u f h) ((t == u) && (q == f)))))
     where
       by : (rs : List WriteRecord) (z : Bool) → cond z rs rs ≡ rs
       by rs true = refl
       by rs false = refl
-  writes-by-access g h i d given (WriteBytes dom frame off len) (Frame t q (frames.Wrote r)) seen answer passed run the writes agree =
-      one-write g h (stepped d (WriteBytes dom frame off len) seen answer) dom frame off given t q (frames.Wrote r) r (λ rs. refl)
+  writes-by-access g h i d given (call_steps.Write dom frame off len) (Frame t q (frame_steps.Wrote r)) seen answer passed run the writes agree =
+      one-write g h (stepped d (call_steps.Write dom frame off len) seen answer) dom frame off given t q (frame_steps.Wrote r) r (λ rs. refl)
       (ap (λ (bytes : List ℕ). Some (record { at = record { frame = record { owner = dom; number = frame }; off = off }; bytes = bytes })) passed) run the.0 the.1 the.2 writes i agree
-  writes-by-access g h i d given (CopyBytes from to len) (Frame t q (frames.Copied p y o r)) seen answer passed run the writes agree =
+  writes-by-access g h i d given (call_steps.Copy from to len) (Frame t q (frame_steps.Copied p y o r)) seen answer passed run the writes agree =
       let held : contents_at g from.frame.owner.0 from.frame.number ≡ written (patches (journal_made p y h)) =
       contents-are g h from.frame.owner from.frame.number run.0 agree ∙ (λ j. written (patches (journal_made (sym the.3 j) (sym the.4 j) h))) in
       let bytes : r.bytes ≡ take len (drop from.off (contents_at g from.frame.owner.0 from.frame.number)) =
       writes ∙ (sliced (written (patches (journal_made p y h))) o len ∙ (λ j. take len (drop (the.5 j) (sym held j)))) in
-      one-write g h (stepped d (CopyBytes from to len) seen answer) to.frame.owner to.frame.number to.off (take len (drop from.off (contents_at g from.frame.owner.0 from.frame.number))) t q (frames.Copied p y o r) r (λ rs. refl)
+      one-write g h (stepped d (call_steps.Copy from to len) seen answer) to.frame.owner to.frame.number to.off (take len (drop from.off (contents_at g from.frame.owner.0 from.frame.number))) t q (frame_steps.Copied p y o r) r (λ rs. refl)
       refl run.1 the.0 the.1 the.2 bytes i agree
   writes-by-access g h i d given step x seen answer passed run the writes agree = absurd writes
 
   -- the bytes that a read had
-  pub read-bytes : (g : Items) (h : StepHistory) (dom : DomId) (frame off : ℕ) (bytes : List ℕ) → position_in k.ids dom < k.domains → IsTrueStep k h (Frame (position_in k.ids dom) frame (frames.Read off bytes)) → WritesAgree k g h
+  pub read-bytes : (g : History) (h : StepHistory) (dom : DomId) (frame off : ℕ) (bytes : List ℕ) → position_in k.ids dom < k.domains → IsTrueStep k h (Frame (position_in k.ids dom) frame (frame_steps.Read off bytes)) → WritesAgree k g h
       → bytes ≡ slice_range (contents_at g dom.0 frame) off (off + length bytes)
   read-bytes g h dom frame off bytes l says agree = says ∙ ap (λ (ys : List ℕ). slice_range ys off (off + length bytes)) (sym (contents-are g h dom frame l agree))

@@ -4,7 +4,7 @@ use Rattle.std.proofs.Common.{append_assoc}
 use Rattle.gt_word_history.specs.History.{Moment}
 use Rattle.gt_word_history.specs.Rule.{Layout, position_in}
 use Rattle.gt_word_history.specs.Views.{with_step}
-use Rattle.gt_word_history.specs.declared.view.FrameStep.TheVariants as frames
+use Rattle.gt_word_history.specs.declared.view.FrameStep.TheVariants as frame_steps
 use Rattle.gt_word_history.specs.declared.view.SeatStep.TheVariants.{Frame}
 use Rattle.gt_word_history.specs.declared.view.View.{View}
 use Rattle.gt_model.specs.Asking.{asked, begun_of, bytes_given_by}
@@ -14,7 +14,7 @@ use Rattle.gt_model.specs.declared.action.Action.TheVariants.{Done}
 use Rattle.gt_model.specs.declared.action.Observation.{Observation}
 use Rattle.gt_model.specs.declared.action.Observation.TheVariants.{Missed, Nothing, Taken, Word}
 use Rattle.gt_model.specs.declared.action.Step.{Step}
-use Rattle.gt_model.specs.declared.action.Step.TheVariants.{Copy as CopyBytes, Read as ReadBytes, Write as WriteBytes}
+use Rattle.gt_model.specs.declared.action.Step.TheVariants as call_steps
 use Rattle.gt_model.specs.declared.action.CallResult.{CallResult}
 use Rattle.gt_model.specs.declared.action.CallResult.TheVariants.{Granted}
 use Rattle.gt_model.specs.declared.held.HeldPin.{HeldPin}
@@ -112,10 +112,10 @@ writes-made may m d e request r stays is answered kept = by answered.0 answered.
     plain q is a = absurd is
 
     by : (access : Step) → EndsAfterAccess k way access (IsWrittenBy k d request access r) d.seat.view e.seat.view → (steps : List Moment) × WasMade may m request Wrote steps d e
-    by (WriteBytes dom frame off len) a =
+    by (call_steps.Write dom frame off len) a =
         let u = writ_by d.seat.dom a.did.0 in let f = a.did.2.2 in
-        let x : Moment = (f.past, Frame (position_in k.ids dom) frame (frames.Wrote (record { writ = u; off = off; bytes = bytes_given_by request }))) in
-        let z = whole k (bytes_given_by request) way (WriteBytes dom frame off len) _ d.seat.view e.seat.view a x (record { made = (u, f); view = f.view; shows = refl }) in (
+        let x : Moment = (f.past, Frame (position_in k.ids dom) frame (frame_steps.Wrote (record { writ = u; off = off; bytes = bytes_given_by request }))) in
+        let z = whole k (bytes_given_by request) way (call_steps.Write dom frame off len) _ d.seat.view e.seat.view a x (record { made = (u, f); view = f.view; shows = refl }) in (
           z.0,
           record {
             before = stays.before;
@@ -138,14 +138,14 @@ copies-made may m d e args r stays fits answered kept = by answered.0 answered.1
     way = path_of (knowledge m.config (may m.rights) d) d.seat.dom (requests.Copy args)
 
     by : (access : Step) → EndsAfterAccess k way access (IsCopiedBy (knowledge m.config (may m.rights) d) k d args access r) d.seat.view e.seat.view → (steps : List Moment) × WasMade may m (requests.Copy args) Wrote steps d e
-    by (CopyBytes from to len) a =
+    by (call_steps.Copy from to len) a =
         let u = writ_by d.seat.dom a.did.0.dest in let c = a.did.2.3 in
         let x : Moment = (
           c.3.past,
           Frame (position_in k.ids to.frame.owner) to.frame.number
-              (frames.Copied (position_in k.ids from.frame.owner) from.frame.number from.off (record { writ = u; off = to.off; bytes = c.1 })),
+              (frame_steps.Copied (position_in k.ids from.frame.owner) from.frame.number from.off (record { writ = u; off = to.off; bytes = c.1 })),
         ) in
-        let z = whole k [] way (CopyBytes from to len) _ d.seat.view e.seat.view a x (record { made = (u, c); view = c.3.view; shows = refl }) in (
+        let z = whole k [] way (call_steps.Copy from to len) _ d.seat.view e.seat.view a x (record { made = (u, c); view = c.3.view; shows = refl }) in (
           z.0,
           record {
             before = stays.before;
@@ -160,18 +160,18 @@ copies-made may m d e args r stays fits answered kept = by answered.0 answered.1
 -- a way with one step, which is an access
 
 no-step : (k : Layout) (step : Step) (seen : Observation) (u w : View) → IsAccess step → Made k step seen u w → ⊥
-no-step k (ReadBytes dom frame off len) (Word n) u w is made = absurd made
-no-step k (ReadBytes dom frame off len) Taken u w is made = absurd made
-no-step k (ReadBytes dom frame off len) (Missed n) u w is made = absurd made
-no-step k (ReadBytes dom frame off len) Nothing u w is made = absurd made
-no-step k (WriteBytes dom frame off len) (Word n) u w is made = absurd made
-no-step k (WriteBytes dom frame off len) Taken u w is made = absurd made
-no-step k (WriteBytes dom frame off len) (Missed n) u w is made = absurd made
-no-step k (WriteBytes dom frame off len) Nothing u w is made = absurd made
-no-step k (CopyBytes from to len) (Word n) u w is made = absurd made
-no-step k (CopyBytes from to len) Taken u w is made = absurd made
-no-step k (CopyBytes from to len) (Missed n) u w is made = absurd made
-no-step k (CopyBytes from to len) Nothing u w is made = absurd made
+no-step k (call_steps.Read dom frame off len) (Word n) u w is made = absurd made
+no-step k (call_steps.Read dom frame off len) Taken u w is made = absurd made
+no-step k (call_steps.Read dom frame off len) (Missed n) u w is made = absurd made
+no-step k (call_steps.Read dom frame off len) Nothing u w is made = absurd made
+no-step k (call_steps.Write dom frame off len) (Word n) u w is made = absurd made
+no-step k (call_steps.Write dom frame off len) Taken u w is made = absurd made
+no-step k (call_steps.Write dom frame off len) (Missed n) u w is made = absurd made
+no-step k (call_steps.Write dom frame off len) Nothing u w is made = absurd made
+no-step k (call_steps.Copy from to len) (Word n) u w is made = absurd made
+no-step k (call_steps.Copy from to len) Taken u w is made = absurd made
+no-step k (call_steps.Copy from to len) (Missed n) u w is made = absurd made
+no-step k (call_steps.Copy from to len) Nothing u w is made = absurd made
 no-step k step seen u w is made = absurd is
 
 -- no step on the words is made after these values
@@ -202,8 +202,8 @@ single-way may m d (requests.Store handle off bytes) is = begun-so m.words.layou
     (by-mapping m.words.layout ((knowledge m.config (may m.rights) d).mapping handle) _ (λ p. tt))
 single-way may m d (requests.Load handle off len) is = begun-so m.words.layout (begun_of (knowledge m.config (may m.rights) d) d.seat.dom (requests.Load handle off len)) _
     (by-mapping m.words.layout ((knowledge m.config (may m.rights) d).mapping handle) _ (λ p. tt))
-single-way may m d (requests.Poke frame off bytes) is = begun-so m.words.layout (begun_of (knowledge m.config (may m.rights) d) d.seat.dom (requests.Poke frame off bytes)) _ (one-access m.words.layout (WriteBytes d.seat.dom frame off (length bytes.now)) tt)
-single-way may m d (requests.Peek frame off len) is = begun-so m.words.layout (begun_of (knowledge m.config (may m.rights) d) d.seat.dom (requests.Peek frame off len)) _ (one-access m.words.layout (ReadBytes d.seat.dom frame off len) tt)
+single-way may m d (requests.Poke frame off bytes) is = begun-so m.words.layout (begun_of (knowledge m.config (may m.rights) d) d.seat.dom (requests.Poke frame off bytes)) _ (one-access m.words.layout (call_steps.Write d.seat.dom frame off (length bytes.now)) tt)
+single-way may m d (requests.Peek frame off len) is = begun-so m.words.layout (begun_of (knowledge m.config (may m.rights) d) d.seat.dom (requests.Peek frame off len)) _ (one-access m.words.layout (call_steps.Read d.seat.dom frame off len) tt)
 single-way may m d request is = absurd is
 
 fits-single : (request : Request) → IsSingle request → FitsTypes request
@@ -249,12 +249,12 @@ reads-made may m d e request r bytes stays is same answered kept = by answered.0
     single q is = absurd is
 
     by : (access : Step) → EndsAfterAccess k way access (IsReadBy k access r) d.seat.view e.seat.view → (steps : List Moment) × WasMade may m request (Read bytes) steps d e
-    by (ReadBytes dom frame off len) a =
-        let u = alone k way (ReadBytes dom frame off len) _ d.seat.view e.seat.view (single-way may m d request (single request is)) a in
-        let f : AccessesFrame k (position_in k.ids dom) frame (frames.Read off bytes.bytes.items) d.seat.view e.seat.view =
-        subst (λ (q : View × View). AccessesFrame k (position_in k.ids dom) frame (frames.Read off bytes.bytes.items) q.0 q.1) (λ j. (u.at j, sym u.end j))
-        (subst (λ (ys : List ℕ). AccessesFrame k (position_in k.ids dom) frame (frames.Read off ys) a.at a.after) (sym same) a.did.1) in (
-          (f.past, Frame (position_in k.ids dom) frame (frames.Read off bytes.bytes.items)) ∷ [],
+    by (call_steps.Read dom frame off len) a =
+        let u = alone k way (call_steps.Read dom frame off len) _ d.seat.view e.seat.view (single-way may m d request (single request is)) a in
+        let f : AccessesFrame k (position_in k.ids dom) frame (frame_steps.Read off bytes.bytes.items) d.seat.view e.seat.view =
+        subst (λ (q : View × View). AccessesFrame k (position_in k.ids dom) frame (frame_steps.Read off bytes.bytes.items) q.0 q.1) (λ j. (u.at j, sym u.end j))
+        (subst (λ (ys : List ℕ). AccessesFrame k (position_in k.ids dom) frame (frame_steps.Read off ys) a.at a.after) (sym same) a.did.1) in (
+          (f.past, Frame (position_in k.ids dom) frame (frame_steps.Read off bytes.bytes.items)) ∷ [],
           record {
             before = stays.before;
             afterwards = stays.afterwards;

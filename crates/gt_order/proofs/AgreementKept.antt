@@ -20,9 +20,8 @@ use Rattle.gt_model.proofs.Observers.{kept-entry, kept-raises, kept-table, other
 use Rattle.gt_core.proofs.Words.{GrantRef, None, Option, Pin, Observation, Some, StoreBody, StoreHeader, []}
 use Rattle.gt_core.proofs.Words.{append-nil, header_or, or_else, pinned_by, unpinned_by, ◌++◌}
 use Rattle.gt_word_history.specs.declared.view.EntryRecord.{EntryRecord}
-use Rattle.gt_model.specs.History.{History as Items, Setting, body_at, change_at, entry_at, generation_at}
-use Rattle.gt_model.specs.History.{header_stored, live, raises_at, reads_at, same_half, stored_at, table_at, word_at}
-use Rattle.gt_model.specs.History.{writes_at}
+use Rattle.gt_model.specs.History.{History, Setting, body_at, change_at, entry_at, generation_at, header_stored, live}
+use Rattle.gt_model.specs.History.{raises_at, reads_at, same_half, stored_at, table_at, word_at, writes_at}
 use Rattle.gt_model.specs.declared.trace.Answer.{Answer}
 use Rattle.gt_model.specs.declared.trace.Item.{Item}
 use Rattle.gt_order.proofs.Places.{ChangesNothing, header-apart, headers-apart, places-apart, record-kept, test-apart}
@@ -30,7 +29,7 @@ use Rattle.gt_order.proofs.Places.{word-else, word-here, word-kept}
 use Rattle.gt_order.specs.Agreeing.{Agree, dom_at, last_at}
 
 -- the word of an entry whose parts are the same is the same
-pub word-same : (s : Setting) (g new : Items) (t r : ℕ) → entry_at new t r ≡ entry_at g t r → raises_at new t r ≡ raises_at g t r → live new ≡ live g → word_at s new t r ≡ word_at s g t r
+pub word-same : (s : Setting) (g new : History) (t r : ℕ) → entry_at new t r ≡ entry_at g t r → raises_at new t r ≡ raises_at g t r → live new ≡ live g → word_at s new t r ≡ word_at s g t r
 word-same s g new t r e n l =
     let reads : reads_at new t r ≡ reads_at g t r = cc in let writes : writes_at new t r ≡ writes_at g t r = cc in
     let gen : generation_at s new t r ≡ generation_at s g t r = ap (λ (z : ℕ). s.first_generation + z) n in
@@ -39,10 +38,10 @@ word-same s g new t r e n l =
 -- the item changes no entry and no pin
 pub record KeepsWords (item : Item) : Type 0 where
   pub changes : (r : ℕ) → change_at item.happened r ≡ None
-  pub pins : (before : Items) (ps : List Pin) → pinned_by item.actor item.happened item.answer before ps ≡ []
+  pub pins : (before : History) (ps : List Pin) → pinned_by item.actor item.happened item.answer before ps ≡ []
   pub unpins : (ps : List Pin) → unpinned_by item.actor item.happened ps ≡ ps
 
-pub live-kept : (item : Item) (g : Items) → KeepsWords item → live (item ∷ g) ≡ live g
+pub live-kept : (item : Item) (g : History) → KeepsWords item → live (item ∷ g) ≡ live g
 unfolding live
 live-kept item g q = ap (λ (ps : List Pin). unpinned_by item.actor item.happened (live g) ++ ps) (q.pins g (live g)) ∙ (append-nil (unpinned_by item.actor item.happened (live g)) ∙ q.unpins (live g))
 
@@ -54,7 +53,7 @@ pub half-some : (half : BodyWord) → 0 ≡ half_index half → ⊥
 half-some First e = absurd (omega arith)
 half-some Second e = absurd (omega arith)
 
-module _ (c : Config) (s : Setting) (k : Layout) (g : Items) (h : StepHistory) (i : ℕ) (is : k ≡ layout_of c) (limits : IsWithinLimits c) (agree : Agree s k g h) (inside : i < k.domains) where
+module _ (c : Config) (s : Setting) (k : Layout) (g : History) (h : StepHistory) (i : ℕ) (is : k ≡ layout_of c) (limits : IsWithinLimits c) (agree : Agree s k g h) (inside : i < k.domains) where
   abbrev d : DomId
   d = dom_at k i
 

@@ -18,7 +18,7 @@ use Rattle.gt_model.specs.declared.change.EntryChange.TheVariants.{Publish, Revo
 use Rattle.gt_model.specs.declared.control.Control.{Control}
 use Rattle.gt_model.specs.declared.control.EntryKind.{EntryKind}
 use Rattle.gt_model.specs.declared.control.EntryKind.TheVariants as kinds
-use Rattle.gt_model.specs.declared.entry.Entry.{Entry as EntryOf}
+use Rattle.gt_model.specs.declared.entry.Entry.{Entry}
 use Rattle.gt_model.specs.declared.entry.Entry.TheVariants.{Invalid, Page, Sub, Via}
 use Rattle.gt_words.specs.Conditions.{HasDomain}
 use Rattle.gt_word_history.specs.Controls.{generation_of, pins_in}
@@ -28,7 +28,7 @@ use Rattle.gt_word_history.specs.Steps.{changed, changed_word}
 use Rattle.gt_word_history.specs.declared.view.EntryRecord.{EntryRecord}
 use Rattle.gt_word_history.specs.declared.view.EntryStep.TheVariants.{Pinned, Unpinned, Changed}
 use Rattle.gt_word_history.specs.declared.view.SeatStep.{SeatStep}
-use Rattle.gt_word_history.specs.declared.view.SeatStep.TheVariants.{Entry}
+use Rattle.gt_word_history.specs.declared.view.SeatStep.TheVariants as seat_steps
 use Rattle.gt_model.specs.declared.held.HeldPin.{HeldPin}
 use Rattle.gt_model.specs.declared.request.PinHolder.{PinHolder}
 use Rattle.gt_model.specs.declared.action.Observation.{Observation}
@@ -37,8 +37,8 @@ use Rattle.gt_model.proofs.Observers.{new_pin, other-entry, other-raises, pinned
 use Rattle.gt_model.proofs.Observers.{unpins, unstored}
 use Rattle.gt_core.proofs.Steps.Unpin.{Loses}
 use Rattle.gt_core.proofs.Words.{count_by, is_pin_on, without}
-use Rattle.gt_model.specs.History.{History as Items, Setting, control_at, changed_entry_of, entry_at, generation_at}
-use Rattle.gt_model.specs.History.{live, raise_after, raises_at, reads_at, same_dir, word_at, writes_at}
+use Rattle.gt_model.specs.History.{History, Setting, control_at, changed_entry_of, entry_at, generation_at, live}
+use Rattle.gt_model.specs.History.{raise_after, raises_at, reads_at, same_dir, word_at, writes_at}
 use Rattle.gt_core.specs.Standing.{FitsWord}
 use Rattle.gt_model.specs.declared.trace.Answer.{Answer}
 use Rattle.gt_model.specs.declared.trace.Item.{Item}
@@ -49,7 +49,7 @@ use Rattle.gt_order.specs.Agreeing.{Agree, dom_at, last_at}
 
 -- counts in a word
 
-counted : (e : EntryOf) (g r w a b : ℕ) → control_word (control_with e g (r + a) (w + b)) ≡ control_word (control_with e g r w) + (16 * a + 65536 * b)
+counted : (e : Entry) (g r w a b : ℕ) → control_word (control_with e g (r + a) (w + b)) ≡ control_word (control_with e g r w) + (16 * a + 65536 * b)
 counted Invalid g r w a b = omega arith
 counted (Page dom ro frame) g r w a b = omega arith
 counted (Sub dom ro frame off len) g r w a b = omega arith
@@ -81,26 +81,26 @@ taken-away n w u a e = omega arith
 
 -- an owner's change
 
-parts-of : (e : EntryOf) (g r w : ℕ) → ((control_with e g r w).generation ≡ g) × ((control_with e g r w).reads ≡ r) × ((control_with e g r w).writes ≡ w)
+parts-of : (e : Entry) (g r w : ℕ) → ((control_with e g r w).generation ≡ g) × ((control_with e g r w).reads ≡ r) × ((control_with e g r w).writes ≡ w)
 parts-of Invalid g r w = (refl, refl, refl)
 parts-of (Page dom ro frame) g r w = (refl, refl, refl)
 parts-of (Sub dom ro frame off len) g r w = (refl, refl, refl)
 parts-of (Via dom ro dom2 gref) g r w = (refl, refl, refl)
 
-idle-word : (e : EntryOf) (g : ℕ) → control_word (control_with e g 0 0) ≡ idle_word_of e g
+idle-word : (e : Entry) (g : ℕ) → control_word (control_with e g 0 0) ≡ idle_word_of e g
 idle-word Invalid g = omega arith
 idle-word (Page dom ro frame) g = omega arith
 idle-word (Sub dom ro frame off len) g = omega arith
 idle-word (Via dom ro dom2 gref) g = omega arith
 
-read-back : (e : EntryOf) (g r w : ℕ) → FitsWord (control_with e g r w)
+read-back : (e : Entry) (g r w : ℕ) → FitsWord (control_with e g r w)
     → (generation_of (control_word (control_with e g r w)) ≡ g) × (pins_in Read (control_word (control_with e g r w)) ≡ r) × (pins_in Write (control_word (control_with e g r w)) ≡ w)
 read-back e g r w f = let c = control_with e g r w in let p = parts-of e g r w in
     let same : control_of (control_word c) ≡ c = control-round c f.in_range f.domain in
     (ap (λ (z : Control). z.generation) same ∙ p.0, ap (λ (z : Control). z.reads) same ∙ p.1, ap (λ (z : Control). z.writes) same ∙ p.2)
 
 -- it is one that this change turns
-abbrev pub IsTurned : EntryChange → EntryOf → Type 0
+abbrev pub IsTurned : EntryChange → Entry → Type 0
 IsTurned Demote e = (is_read_only e ≡ false) × (is_invalid e ≡ false)
 IsTurned Promote e = (is_read_only e ≡ true) × (is_invalid e ≡ false)
 IsTurned change e = Unit {0}
@@ -111,7 +111,7 @@ IsIdleFor (Publish e) r w = (r ≡ 0) × (w ≡ 0)
 IsIdleFor Revoke r w = (r ≡ 0) × (w ≡ 0)
 IsIdleFor change r w = Unit {0}
 
-demoted : (e : EntryOf) (g r w : ℕ) → is_read_only e ≡ false → is_invalid e ≡ false → control_word (control_with (changed_entry Demote e) (g + 1) r w) ≡ control_word (control_with e g r w) + 17592186044420
+demoted : (e : Entry) (g r w : ℕ) → is_read_only e ≡ false → is_invalid e ≡ false → control_word (control_with (changed_entry Demote e) (g + 1) r w) ≡ control_word (control_with e g r w) + 17592186044420
 demoted Invalid g r w a b = absurd (cc)
 demoted (Page dom true frame) g r w a b = absurd (cc)
 demoted (Page dom false frame) g r w a b = omega arith
@@ -120,7 +120,7 @@ demoted (Sub dom false frame off len) g r w a b = omega arith
 demoted (Via dom true dom2 gref) g r w a b = absurd (cc)
 demoted (Via dom false dom2 gref) g r w a b = omega arith
 
-promoted : (e : EntryOf) (g r w : ℕ) → is_read_only e ≡ true → is_invalid e ≡ false → control_word (control_with (changed_entry Promote e) (g + 1) r w) ≡ control_word (control_with e g r w) + 17592186044412
+promoted : (e : Entry) (g r w : ℕ) → is_read_only e ≡ true → is_invalid e ≡ false → control_word (control_with (changed_entry Promote e) (g + 1) r w) ≡ control_word (control_with e g r w) + 17592186044412
 promoted Invalid g r w a b = absurd (cc)
 promoted (Page dom false frame) g r w a b = absurd (cc)
 promoted (Page dom true frame) g r w a b = omega arith
@@ -129,7 +129,7 @@ promoted (Sub dom true frame off len) g r w a b = omega arith
 promoted (Via dom false dom2 gref) g r w a b = absurd (cc)
 promoted (Via dom true dom2 gref) g r w a b = omega arith
 
-change-word : (change : EntryChange) (e : EntryOf) (g r w : ℕ) → FitsWord (control_with e g r w) → IsTurned change e → IsIdleFor change r w
+change-word : (change : EntryChange) (e : Entry) (g r w : ℕ) → FitsWord (control_with e g r w) → IsTurned change e → IsIdleFor change r w
     → control_word (control_with (changed_entry change e) (g + raise_of change) r w) ≡ changed_word change (record { generation = g; entry = e }) (control_word (control_with e g r w))
 change-word (Publish new) e g r w f t i = (λ j. control_word (control_with new (g + 1) (i.0 j) (i.1 j))) ∙ idle-word new (g + 1)
 change-word Revoke e g r w f t i = let b = read-back e g r w f in let z : generation_of (control_word (control_with e g r w)) ≡ g = b.0 in
@@ -141,16 +141,16 @@ change-word Withdraw e g r w f t i = let b = read-back e g r w f in
 change-word Demote e g r w f t i = demoted e g r w t.0 t.1
 change-word Promote e g r w f t i = promoted e g r w t.0 t.1
 
-module _ (c : Config) (s : Setting) (k : Layout) (g : Items) (h : StepHistory) (i : ℕ) (is : k ≡ layout_of c) (limits : IsWithinLimits c) (agree : Agree s k g h) (inside : i < k.domains) where
+module _ (c : Config) (s : Setting) (k : Layout) (g : History) (h : StepHistory) (i : ℕ) (is : k ≡ layout_of c) (limits : IsWithinLimits c) (agree : Agree s k g h) (inside : i < k.domains) where
   abbrev d : DomId
   d = dom_at k i
 
   -- the parts of an item that takes a pin or gives one back
 
-  abbrev counts-new : Items → ℕ → ℕ → ℕ → ℕ → Type 0
+  abbrev counts-new : History → ℕ → ℕ → ℕ → ℕ → Type 0
   counts-new new t r a b = (reads_at new t r ≡ a) × (writes_at new t r ≡ b)
 
-  word-of : (new : Items) (t r : ℕ) → entry_at new t r ≡ entry_at g t r → raises_at new t r ≡ raises_at g t r
+  word-of : (new : History) (t r : ℕ) → entry_at new t r ≡ entry_at g t r → raises_at new t r ≡ raises_at g t r
       → word_at s new t r ≡ control_word (control_with (entry_at g t r) (generation_at s g t r) (reads_at new t r) (writes_at new t r))
   word-of new t r e n = λ j. control_word (control_with (e j) (s.first_generation + n j) (reads_at new t r) (writes_at new t r))
 
@@ -192,7 +192,7 @@ module _ (c : Config) (s : Setting) (k : Layout) (g : Items) (h : StepHistory) (
       off false = refl
 
   pub takes-pin : (p : HeldPin) (answer : Option Answer) (u : ℕ) (y : EntryRecord) → HasDomain k p.dom → u ≡ position_in k.ids p.dom → p.gref.0 < TABLE_ENTRIES
-      → Agree s k (pins d p answer ∷ g) ((i, Entry u p.gref.0 (Pinned p.dir p.word y)) ∷ h)
+      → Agree s k (pins d p answer ∷ g) ((i, seat_steps.Entry u p.gref.0 (Pinned p.dir p.word y)) ∷ h)
   takes-pin p answer u y has at lt = record {
     words = λ t r l m. elim (cases_eq (place u p.gref.0 0) (place t r 0)) [
       | inl e ↦ let q = places-apart u p.gref.0 0 t r 0 lt m (omega arith) (omega arith) e in
@@ -211,11 +211,11 @@ module _ (c : Config) (s : Setting) (k : Layout) (g : Items) (h : StepHistory) (
       item = pins d p answer
 
       x : SeatStep
-      x = Entry u p.gref.0 (Pinned p.dir p.word y)
+      x = seat_steps.Entry u p.gref.0 (Pinned p.dir p.word y)
 
   pub gives-back : (p : HeldPin) (holder : PinHolder) (seen : Observation) (answer : Option Answer) (u gen : ℕ) → HasDomain k p.dom → u ≡ position_in k.ids p.dom → p.gref.0 < TABLE_ENTRIES
       → Loses p (live g) (without d.0 holder (live g)) → FitsWord (control_at s g (dom_at k u).0 p.gref.0)
-      → Agree s k (unpins d p holder seen answer ∷ g) ((i, Entry u p.gref.0 (Unpinned p.dir gen)) ∷ h)
+      → Agree s k (unpins d p holder seen answer ∷ g) ((i, seat_steps.Entry u p.gref.0 (Unpinned p.dir gen)) ∷ h)
   gives-back p holder seen answer u gen has at lt loses fits = record {
     words = λ t r l m. elim (cases_eq (place u p.gref.0 0) (place t r 0)) [
       | inl e ↦ let q = places-apart u p.gref.0 0 t r 0 lt m (omega arith) (omega arith) e in
@@ -235,7 +235,7 @@ module _ (c : Config) (s : Setting) (k : Layout) (g : Items) (h : StepHistory) (
       item = unpins d p holder seen answer
 
       x : SeatStep
-      x = Entry u p.gref.0 (Unpinned p.dir gen)
+      x = seat_steps.Entry u p.gref.0 (Unpinned p.dir gen)
 
   -- an owner's exchange is taken
 
@@ -275,7 +275,7 @@ module _ (c : Config) (s : Setting) (k : Layout) (g : Items) (h : StepHistory) (
 
   pub changes-entry : (q : GrantRef) (looked : ℕ) (change : EntryChange) (answer : Option Answer) → q.0 < TABLE_ENTRIES → FitsWord (control_at s g d.0 q.0) → IsTurned change (entry_at g d.0 q.0) → IsIdleFor change (reads_at g d.0 q.0) (writes_at g d.0 q.0)
       → word_after k h (place i q.0 0) ≡ looked
-      → Agree s k (exchanged d q looked change answer ∷ g) ((i, Entry i q.0 (Changed change looked (changed_word change (last_at k i q.0 h) looked) (changed change (last_at k i q.0 h)))) ∷ h)
+      → Agree s k (exchanged d q looked change answer ∷ g) ((i, seat_steps.Entry i q.0 (Changed change looked (changed_word change (last_at k i q.0 h) looked) (changed change (last_at k i q.0 h)))) ∷ h)
   changes-entry q looked change answer lt fits turned idle found = record {
     words = λ t r l m. elim (cases_eq (place i q.0 0) (place t r 0)) [
       | inl e ↦ let p = places-apart i q.0 0 t r 0 lt m (omega arith) (omega arith) e in
@@ -295,7 +295,7 @@ module _ (c : Config) (s : Setting) (k : Layout) (g : Items) (h : StepHistory) (
       item = exchanged d q looked change answer
 
       x : SeatStep
-      x = Entry i q.0 (Changed change looked (changed_word change (last_at k i q.0 h) looked) (changed change (last_at k i q.0 h)))
+      x = seat_steps.Entry i q.0 (Changed change looked (changed_word change (last_at k i q.0 h) looked) (changed change (last_at k i q.0 h)))
 
       records : (t r : ℕ) → t < k.domains → r < TABLE_ENTRIES → (entry_at (item ∷ g) (dom_at k t).0 r ≡ (last_at k t r ((i, x) ∷ h)).entry) × (generation_at s (item ∷ g) (dom_at k t).0 r ≡ (last_at k t r ((i, x) ∷ h)).generation)
       records t r l m = elim (cases_eq (place i q.0 0) (place t r 0)) [

@@ -18,9 +18,9 @@ use Rattle.gt_core.proofs.Rows.{found, has_id, not-found}
 use Rattle.gt_model.proofs.Observers.{kept-entry, kept-raises, kept-table, unstored}
 use Rattle.gt_core.proofs.Steps.Write.{frames-begun}
 use Rattle.gt_core.specs.GoingOn.{CanBeReached, beginning}
-use Rattle.gt_model.specs.History.{History as Items, setting_of}
-use Rattle.gt_core.specs.declared.core_state.Begun.TheVariants.{Done as BegunDone}
-use Rattle.gt_model.specs.declared.trace.Element.TheVariants.{Item as Did}
+use Rattle.gt_model.specs.History.{History, setting_of}
+use Rattle.gt_core.specs.declared.core_state.Begun.TheVariants as beginnings
+use Rattle.gt_model.specs.declared.trace.Element.TheVariants as elements
 use Rattle.gt_model.specs.declared.trace.Event.TheVariants.{Begin}
 use Rattle.gt_model.specs.declared.trace.Item.{Item}
 use Rattle.gt_core.specs.declared.underway.OpenCall.{OpenCall}
@@ -38,7 +38,7 @@ use Rattle.gt_order.specs.Agreeing.{Agree, dom_at, last_at}
 
 -- what a domain at rest knows
 
-module _ (b : Board) (c : Config) (may : AllowRelation) (k : Layout) (g : Items) (h : StepHistory) (i : ℕ) (D : Domain) (agree : Agree (setting_of c may) k g h) (inside : i < k.domains) (of-run : IsDomainOf b c may D)
+module _ (b : Board) (c : Config) (may : AllowRelation) (k : Layout) (g : History) (h : StepHistory) (i : ℕ) (D : Domain) (agree : Agree (setting_of c may) k g h) (inside : i < k.domains) (of-run : IsDomainOf b c may D)
     (at : D.seat.view.position ≡ i) (first : D.seat.view.first ≡ k.first) (steps : D.seat.view.steps ≡ part_of i h) (x : State) (core : StateStands (setting_of c may) g x) (id : x.id ≡ dom_at k i) where
   abbrev s : Setting
   s = setting_of c may
@@ -80,12 +80,12 @@ placed xs d x is = by (position (has_id d) xs) refl where
   by None e = absurd (none-some x (sym (not-found xs d e) ∙ is))
   by (Some at) e = (at, e, same_Some x (get_or xs at x) (sym is ∙ found xs d at x e))
 
-idle : (s : Setting) (g : Items) (d : DomId) (o : Option OpenCall) (c : Option Underway) → CallAgrees s g d o c → c ≡ None → is_some o ≡ false
+idle : (s : Setting) (g : History) (d : DomId) (o : Option OpenCall) (c : Option Underway) → CallAgrees s g d o c → c ≡ None → is_some o ≡ false
 idle s g d None c a e = refl
 idle s g d (Some o) None a e = absurd a
 idle s g d (Some o) (Some c) a e = absurd (none-some c (sym e))
 
-pub can-be-answered : (s : Setting) (g : Items) (d : DomId) (request : Request) (v : CallResult) → CanBeReached s g → domain_of s.domains d ≢ None → open_call g d.0 ≡ None → begun_of (known_at s g d) d request ≡ Some v
+pub can-be-answered : (s : Setting) (g : History) (d : DomId) (request : Request) (v : CallResult) → CanBeReached s g → domain_of s.domains d ≢ None → open_call g d.0 ≡ None → begun_of (known_at s g d) d request ≡ Some v
     → IsRight s g (beginning d request (Some (answer_of v))) × CanBeReached s (beginning d request (Some (answer_of v)) ∷ g)
 can-be-answered s g d request v (core, st) named closed is =
     let t = state-there s g core.domains d st.domains named in let x = t.0 in let a = t.3 in
@@ -99,15 +99,15 @@ can-be-answered s g d request v (core, st) named closed is =
       (
         core,
         record {
-          legal = legal-grows s g (Begin d request) (Did (beginning d request (Some (answer_of v)))) (named, (refl, refl), b.1) st.legal;
+          legal = legal-grows s g (Begin d request) (elements.Item (beginning d request (Some (answer_of v)))) (named, (refl, refl), b.1) st.legal;
           domains = b.2;
-          frames = frames-begun s g core.frames d request (BegunDone (answer_of v)) st.frames;
+          frames = frames-begun s g core.frames d request (beginnings.Done (answer_of v)) st.frames;
         },
       ),
     )
 
 -- an item that is no step, and changes nothing, keeps items and history in agreement
-pub keeps-agreement : (s : Setting) (k : Layout) (g : Items) (h : StepHistory) (item : Item) → KeepsWords item → header_stored item.happened ≡ None → ((r : ℕ) (half : BodyWord) → stored_at item.happened r half ≡ None) → Agree s k g h → Agree s k (item ∷ g) h
+pub keeps-agreement : (s : Setting) (k : Layout) (g : History) (h : StepHistory) (item : Item) → KeepsWords item → header_stored item.happened ≡ None → ((r : ℕ) (half : BodyWord) → stored_at item.happened r half ≡ None) → Agree s k g h → Agree s k (item ∷ g) h
 keeps-agreement s k g h item keeps head stores a = record {
   words = λ t r l m. word-same s g (item ∷ g) (dom_at k t).0 r (kept-entry item g (dom_at k t).0 r keeps.changes) (kept-raises item g (dom_at k t).0 r keeps.changes) (live-kept item g keeps) ∙ a.words t r l m;
   bodies = λ t r half l m. unstored item g (dom_at k t).0 r half (stores r half) ∙ a.bodies t r half l m;

@@ -37,11 +37,13 @@ use Rattle.gt_calls.specs.Standing.{pins_at}
 use Rattle.gt_model.specs.Rules.{CallerKnowledge, begun, denied, first, map_begun, map_dir, refused_when}
 use Rattle.gt_model.specs.Rules.{rights_to_map, rights_to_unmap, unmap_begun, unmap_denied}
 use Rattle.gt_calls.specs.Known.{knowledge_of}
-use Rattle.gt_model.specs.declared.action.Action.TheVariants.{Step as Makes, Done}
+use Rattle.gt_model.specs.declared.action.Action.TheVariants.{Done}
+use Rattle.gt_model.specs.declared.action.Action.TheVariants as actions
 use Rattle.gt_model.specs.declared.action.Observation.{Observation}
 use Rattle.gt_model.specs.declared.action.Step.{Step}
 use Rattle.gt_model.specs.declared.action.CallResult.{CallResult}
-use Rattle.gt_model.specs.declared.action.CallResult.TheVariants.{Mapped as KeptPin, Refused}
+use Rattle.gt_model.specs.declared.action.CallResult.TheVariants.{Refused}
+use Rattle.gt_model.specs.declared.action.CallResult.TheVariants as results
 use Rattle.gt_model.specs.declared.held.HeldPin.{HeldPin}
 use Rattle.gt_model.specs.declared.request.OpenRequest.{OpenRequest}
 use Rattle.gt_model.specs.declared.request.OpenRequest.TheVariants.{Map, Release, Unmap}
@@ -53,8 +55,8 @@ use Rattle.gt_model.proofs.Observers.{kept-table, stepped}
 use Rattle.gt_core.proofs.Steps.See.{table-fits}
 use Rattle.gt_core.specs.Effects.{Adds}
 use Rattle.gt_core.specs.GoingOn.{CanBeReached}
-use Rattle.gt_model.specs.History.{History as Items, Setting, Underway, known_at, maps_answered_at, mappings_at}
-use Rattle.gt_model.specs.History.{one_if_mapped, open_call, seen_by, table_at, underway_after, values, setting_of}
+use Rattle.gt_model.specs.History.{History, Setting, Underway, known_at, maps_answered_at, mappings_at, one_if_mapped}
+use Rattle.gt_model.specs.History.{open_call, seen_by, table_at, underway_after, values, setting_of}
 use Rattle.gt_core.specs.Standing.{MappingsAgree}
 use Rattle.gt_core.specs.Acting.{answer_of}
 use Rattle.gt_model.specs.declared.trace.Answer.{Answer}
@@ -174,7 +176,7 @@ keeps-at-once (Release handle) (Refused denial) old new r l = l
 keeps-at-once (Release handle) v old new r l = absurd r
 keeps-at-once request v old new r l = l
 
-pub no-pin-at-once : (request : OpenRequest) (p : HeldPin) → IsMap request → RefusesOnly request (Some (KeptPin p)) → ⊥
+pub no-pin-at-once : (request : OpenRequest) (p : HeldPin) → IsMap request → RefusesOnly request (Some (results.Mapped p)) → ⊥
 no-pin-at-once (Map dom gref flags) p m r = r
 no-pin-at-once request p m r = absurd m
 
@@ -193,7 +195,7 @@ module _ (b : Board) (c : Config) (may : AllowRelation) (limits : IsWithinLimits
   known-alike D E r = λ j. knowledge_of c.domains.items c.first_gen may (r.own j) (own_table (r.seat j).view) (r.mappings j)
 
   -- the step goes on
-  pub going-on : (g : Items) (ms : List DomainAct) (m : CallMade) (xs : List Moment) (x : Moment) (v w : View) (call : IsCall b c may m) (seat : SeatNow c may g d first (Going ms m xs))
+  pub going-on : (g : History) (ms : List DomainAct) (m : CallMade) (xs : List Moment) (x : Moment) (v w : View) (call : IsCall b c may m) (seat : SeatNow c may g d first (Going ms m xs))
       → (r : GoesSo c may k g i seat.call.0 (all_shown xs) (way_of c may m) x v w None) → SeatNow c may (stepped d r.step (seen_in_step x.1) None ∷ g) d first (Going ms m (x ∷ xs))
   going-on g ms m xs x v w call seat r = record {
     maps = mappings-same m.old.mappings _ _ _ _ (sym keeps.mappings) (sym keeps.answered) seat.maps;
@@ -220,7 +222,7 @@ module _ (b : Board) (c : Config) (may : AllowRelation) (limits : IsWithinLimits
 
   -- what a domain knows after its call's last step
 
-  ends-known : (g : Items) (m : CallMade) (x : Moment) (v w : View) (item : Item) → IsCall b c may m → CanBeReached s (item ∷ g) → Agree s k (item ∷ g) ((i, x.1) ∷ x.0) → StoodWith (Unit {0}) k ((v.position, x.1) ∷ x.0) w → v.position ≡ i → w.position ≡ i → m.new.seat.view ≡ w
+  ends-known : (g : History) (m : CallMade) (x : Moment) (v w : View) (item : Item) → IsCall b c may m → CanBeReached s (item ∷ g) → Agree s k (item ∷ g) ((i, x.1) ∷ x.0) → StoodWith (Unit {0}) k ((v.position, x.1) ∷ x.0) w → v.position ≡ i → w.position ≡ i → m.new.seat.view ≡ w
       → m.new.seat.view.steps ≡ part_of i ((i, x.1) ∷ x.0) → MappingsAgree m.new.mappings (mappings_at (item ∷ g) d.0) (maps_answered_at (item ∷ g) d.0) → known_at s (item ∷ g) d ≡ knowledge c may m.new
   ends-known g m x v w item call reached agree stands at-v at-w view steps maps =
       let st : StoodWith (Unit {0}) k ((i, x.1) ∷ x.0) w = subst (λ (n : ℕ). StoodWith (Unit {0}) k ((n, x.1) ∷ x.0) w) at-v stands in
@@ -233,7 +235,7 @@ module _ (b : Board) (c : Config) (may : AllowRelation) (limits : IsWithinLimits
       let head : table_at s (item ∷ g) d ≡ own_table m.new.seat.view = sym (table-fits _ (reached.1.domains.tables d)).1 ∙ (ap header_of word ∙ ap (λ (z : View). own_table z) (sym view)) in
       rest-known b c may k (item ∷ g) ((i, x.1) ∷ x.0) i m.new agree inside call.afterwards at first-is steps t.0 t.3 t.2 head maps
 
-  closed : (g : Items) (item : Item) (answer : Answer) → item.actor ≡ d → item.answer ≡ Some answer → open_call (item ∷ g) d.0 ≡ None
+  closed : (g : History) (item : Item) (answer : Answer) → item.actor ≡ d → item.answer ≡ Some answer → open_call (item ∷ g) d.0 ≡ None
   closed g item answer own e = ap (λ (z : DomId). open_call (item ∷ g) z.0) (sym own) ∙ (open_call-own item g ∙ by item.answer e)
     where
       by : (a : Option Answer) → a ≡ Some answer → underway_after (record item { answer = a }) (open_call g item.actor.0) ≡ None
@@ -248,21 +250,21 @@ module _ (b : Board) (c : Config) (may : AllowRelation) (limits : IsWithinLimits
       ap (λ (z : RunOrder). OfCore (item_of d (way_of c may m) (all_shown xs) x a) ∷ z)
       (sym (ap (λ (z : RunOrder). z ++ rest) (map-append (λ (i : Item). OfCore i) before (begins ∷ [])) ∙ append_assoc (of_core before) (OfCore begins ∷ []) rest))
 
-  item-same : (m : CallMade) (xs : List Moment) (x : Moment) (step : Step) (a : Option Answer) → way_of c may m (all_shown xs) ≡ Some (Makes step) → stepped d step (seen_in_step x.1) a ≡ item_of d (way_of c may m) (all_shown xs) x a
+  item-same : (m : CallMade) (xs : List Moment) (x : Moment) (step : Step) (a : Option Answer) → way_of c may m (all_shown xs) ≡ Some (actions.Step step) → stepped d step (seen_in_step x.1) a ≡ item_of d (way_of c may m) (all_shown xs) x a
   item-same m xs x step a e = λ j. record { actor = d; happened = Stepped (step_in (sym e j)) (shown_by x); answer = a }
 
-  pub grows-on : (ms : List DomainAct) (m : CallMade) (xs : List Moment) (x : Moment) (step : Step) → way_of c may m (all_shown xs) ≡ Some (Makes step)
+  pub grows-on : (ms : List DomainAct) (m : CallMade) (xs : List Moment) (x : Moment) (step : Step) → way_of c may m (all_shown xs) ≡ Some (actions.Step step)
       → OfCore (stepped d step (seen_in_step x.1) None) ∷ order_now c may d (Going ms m xs) ≡ order_now c may d (Going ms m (x ∷ xs))
   grows-on ms m xs x step e = ap (λ (z : Item). OfCore z ∷ order_now c may d (Going ms m xs)) (item-same m xs x step None e)
 
-  pub grows-last : (ms : List DomainAct) (m : CallMade) (xs : List Moment) (x : Moment) (step : Step) (a : Option Answer) → way_of c may m (all_shown xs) ≡ Some (Makes step) → items_by_outcome d (way_of c may m) m.request m.outcome m.steps ≡ items_of_call d (way_of c may m) m.request a (x ∷ xs)
+  pub grows-last : (ms : List DomainAct) (m : CallMade) (xs : List Moment) (x : Moment) (step : Step) (a : Option Answer) → way_of c may m (all_shown xs) ≡ Some (actions.Step step) → items_by_outcome d (way_of c may m) m.request m.outcome m.steps ≡ items_of_call d (way_of c may m) m.request a (x ∷ xs)
       → OfCore (stepped d step (seen_in_step x.1) a) ∷ order_now c may d (Going ms m xs) ≡ order_now c may d (Resting (Call m ∷ ms))
   grows-last ms m xs x step a e out = ap (λ (z : Item). OfCore z ∷ order_now c may d (Going ms m xs)) (item-same m xs x step a e)
       ∙ (one-call m xs x a (order_of_deeds c may d ms) ∙ ap (λ (z : List Item). of_core z ++ order_of_deeds c may d ms) (sym out))
 
   -- the step ends the call
 
-  pub ends-told : (g : Items) (ms : List DomainAct) (m : CallMade) (xs : List Moment) (x : Moment) (v w : View) (verdict : CallResult) (call : IsCall b c may m) (seat : SeatNow c may g d first (Going ms m xs))
+  pub ends-told : (g : History) (ms : List DomainAct) (m : CallMade) (xs : List Moment) (x : Moment) (v w : View) (verdict : CallResult) (call : IsCall b c may m) (seat : SeatNow c may g d first (Going ms m xs))
       → (r : GoesSo c may k g i seat.call.0 (all_shown xs) (way_of c may m) x v w (Some (answer_of verdict))) → LeavesMappings (asked m.request) verdict m.old.mappings m.new.mappings
       → v.position ≡ i → w.position ≡ i → m.new.seat.view ≡ w → m.new.seat.view.steps ≡ part_of i ((i, x.1) ∷ x.0) → SeatNow c may (stepped d r.step (seen_in_step x.1) (Some (answer_of verdict)) ∷ g) d first (Resting (Call m ∷ ms))
   ends-told g ms m xs x v w verdict call seat r leaves at-v at-w view steps = record {
@@ -284,8 +286,8 @@ module _ (b : Board) (c : Config) (may : AllowRelation) (limits : IsWithinLimits
   pub core-adds : (old new : HandleMap HeldPin) (handle : Handle) (p : HeldPin) → KeepsOneMore old new handle p → Adds old new handle p
   core-adds old new handle p a = record { serial = a.serial; fresh = a.inserted.fresh; given = a.inserted.given; updates = a.inserted.updates; count = a.inserted.count }
 
-  pub ends-kept : (g : Items) (ms : List DomainAct) (m : CallMade) (xs : List Moment) (x : Moment) (v w : View) (handle : Handle) (p : HeldPin) (call : IsCall b c may m) (seat : SeatNow c may g d first (Going ms m xs))
-      → (r : GoesSo c may k g i seat.call.0 (all_shown xs) (way_of c may m) x v w (Some (Mapped handle))) → path (known_at s g d) d seat.call.0.request (values seat.call.0 ++ seen_by s g d r.step ∷ []) ≡ Some (Done (KeptPin p)) → KeepsOneMore m.old.mappings m.new.mappings handle p
+  pub ends-kept : (g : History) (ms : List DomainAct) (m : CallMade) (xs : List Moment) (x : Moment) (v w : View) (handle : Handle) (p : HeldPin) (call : IsCall b c may m) (seat : SeatNow c may g d first (Going ms m xs))
+      → (r : GoesSo c may k g i seat.call.0 (all_shown xs) (way_of c may m) x v w (Some (Mapped handle))) → path (known_at s g d) d seat.call.0.request (values seat.call.0 ++ seen_by s g d r.step ∷ []) ≡ Some (Done (results.Mapped p)) → KeepsOneMore m.old.mappings m.new.mappings handle p
       → v.position ≡ i → w.position ≡ i → m.new.seat.view ≡ w → m.new.seat.view.steps ≡ part_of i ((i, x.1) ∷ x.0) → SeatNow c may (stepped d r.step (seen_in_step x.1) (Some (Mapped handle)) ∷ g) d first (Resting (Call m ∷ ms))
   ends-kept g ms m xs x v w handle p call seat r last adds at-v at-w view steps = record {
     maps = maps;
@@ -305,10 +307,10 @@ module _ (b : Board) (c : Config) (may : AllowRelation) (limits : IsWithinLimits
 
   -- a beginning
 
-  began-keeps : (g : Items) (request : Request) (a : Option Answer) → one_if_mapped a ≡ 0 → KeepsOwn s g d (item_of_beginning d request a)
+  began-keeps : (g : History) (request : Request) (a : Option Answer) → one_if_mapped a ≡ 0 → KeepsOwn s g d (item_of_beginning d request a)
   began-keeps g request a e = keeps-own s g d (item_of_beginning d request a) (λ r. refl) refl e (maps-quiet g d _ (record { changes = λ z. refl; pins = λ before ps. refl; unpins = λ ps. refl }))
 
-  pub begins : (g : Items) (ms : List DomainAct) (m : CallMade) → IsAtRest (domain_after first ms) m.old → SeatNow c may g d first (Resting ms) → SeatNow c may (item_of_beginning d m.request None ∷ g) d first (Going ms m [])
+  pub begins : (g : History) (ms : List DomainAct) (m : CallMade) → IsAtRest (domain_after first ms) m.old → SeatNow c may g d first (Resting ms) → SeatNow c may (item_of_beginning d m.request None ∷ g) d first (Going ms m [])
   begins g ms m rest seat =
       let keeps = began-keeps g m.request None refl in record {
         maps = subst (λ (z : HandleMap HeldPin). MappingsAgree z (mappings_at (item_of_beginning d m.request None ∷ g) d.0) (maps_answered_at (item_of_beginning d m.request None ∷ g) d.0)) (sym rest.mappings)
@@ -320,7 +322,7 @@ module _ (b : Board) (c : Config) (may : AllowRelation) (limits : IsWithinLimits
   -- a call without a step
 
   -- what the domain knows after it, where it has the view that it had
-  stays-known : (g new : Items) (h : StepHistory) (D E : Domain) → CanBeReached s new → Agree s k new h → IsDomainOf b c may E → E.seat.view ≡ D.seat.view → D.seat.view.position ≡ i → D.seat.view.first ≡ k.first → D.seat.view.steps ≡ part_of i h
+  stays-known : (g new : History) (h : StepHistory) (D E : Domain) → CanBeReached s new → Agree s k new h → IsDomainOf b c may E → E.seat.view ≡ D.seat.view → D.seat.view.position ≡ i → D.seat.view.first ≡ k.first → D.seat.view.steps ≡ part_of i h
       → known_at s g d ≡ knowledge c may D → table_at s new d ≡ table_at s g d → MappingsAgree E.mappings (mappings_at new d.0) (maps_answered_at new d.0) → known_at s new d ≡ knowledge c may E
   stays-known g new h D E reached agree of-run view at first-is steps known table maps =
       let t = state-there s new reached.0.domains d reached.1.domains named in
@@ -328,7 +330,7 @@ module _ (b : Board) (c : Config) (may : AllowRelation) (limits : IsWithinLimits
       (table ∙ (ap (λ (z : CallerKnowledge). z.header) known ∙ ap (λ (z : View). own_table z) (sym view))) maps
 
   -- it was refused for want of memory, and is no item
-  pub starves : (g : Items) (h : StepHistory) (ms : List DomainAct) (m : CallMade) → CanBeReached s g → Agree s k g h → IsCall b c may m → IsAtRest (domain_after first ms) m.old → m.new.seat.view ≡ m.old.seat.view → KeepsMappings m.old.mappings m.new.mappings
+  pub starves : (g : History) (h : StepHistory) (ms : List DomainAct) (m : CallMade) → CanBeReached s g → Agree s k g h → IsCall b c may m → IsAtRest (domain_after first ms) m.old → m.new.seat.view ≡ m.old.seat.view → KeepsMappings m.old.mappings m.new.mappings
       → (domain_after first ms).seat.view.position ≡ i → (domain_after first ms).seat.view.first ≡ k.first → (domain_after first ms).seat.view.steps ≡ part_of i h → SeatNow c may g d first (Resting ms) → SeatNow c may g d first (Resting (Call m ∷ ms))
   starves g h ms m reached agree call rest view keeps at first-is steps seat =
       let D = domain_after first ms in
@@ -339,7 +341,7 @@ module _ (b : Board) (c : Config) (may : AllowRelation) (limits : IsWithinLimits
       }
 
   -- it was answered at its beginning
-  pub answers : (g : Items) (h : StepHistory) (ms : List DomainAct) (m : CallMade) (verdict : CallResult) → CanBeReached s (item_of_beginning d m.request (Some (answer_of verdict)) ∷ g) → Agree s k (item_of_beginning d m.request (Some (answer_of verdict)) ∷ g) h
+  pub answers : (g : History) (h : StepHistory) (ms : List DomainAct) (m : CallMade) (verdict : CallResult) → CanBeReached s (item_of_beginning d m.request (Some (answer_of verdict)) ∷ g) → Agree s k (item_of_beginning d m.request (Some (answer_of verdict)) ∷ g) h
       → IsCall b c may m → IsAtRest (domain_after first ms) m.old → m.new.seat.view ≡ m.old.seat.view → KeepsMappings m.old.mappings m.new.mappings
       → (domain_after first ms).seat.view.position ≡ i → (domain_after first ms).seat.view.first ≡ k.first → (domain_after first ms).seat.view.steps ≡ part_of i h → SeatNow c may g d first (Resting ms)
       → SeatNow c may (item_of_beginning d m.request (Some (answer_of verdict)) ∷ g) d first (Resting (Call m ∷ ms))
@@ -354,7 +356,7 @@ module _ (b : Board) (c : Config) (may : AllowRelation) (limits : IsWithinLimits
       }
 
   -- a step of its seat that leaves all that the domain knows, and is no item
-  after-quiet : (g : Items) (ms : List DomainAct) (D E : Domain) → IsUnsettled D E → own_header E.seat.view ≡ own_header D.seat.view → IsAtRest (domain_after first ms) D → SeatNow c may g d first (Resting ms)
+  after-quiet : (g : History) (ms : List DomainAct) (D E : Domain) → IsUnsettled D E → own_header E.seat.view ≡ own_header D.seat.view → IsAtRest (domain_after first ms) D → SeatNow c may g d first (Resting ms)
       → MappingsAgree E.mappings (mappings_at g d.0) (maps_answered_at g d.0) × (known_at s g d ≡ knowledge c may E)
   after-quiet g ms D E kept header rest seat =
       let maps : E.mappings ≡ (domain_after first ms).mappings = kept.mappings ∙ rest.mappings in
@@ -365,17 +367,17 @@ module _ (b : Board) (c : Config) (may : AllowRelation) (limits : IsWithinLimits
       )
 
   -- on a flag
-  pub after-flag : (g : Items) (ms : List DomainAct) (x : FlagMade) → FlagStepped k x.flag x.step x.old x.new → IsAtRest (domain_after first ms) x.old → SeatNow c may g d first (Resting ms) → SeatNow c may g d first (Resting (OnFlag x ∷ ms))
+  pub after-flag : (g : History) (ms : List DomainAct) (x : FlagMade) → FlagStepped k x.flag x.step x.old x.new → IsAtRest (domain_after first ms) x.old → SeatNow c may g d first (Resting ms) → SeatNow c may g d first (Resting (OnFlag x ∷ ms))
   after-flag g ms x stepped rest seat = let y = after-quiet g ms x.old x.new stepped.kept stepped.step.keeps.header rest seat in record { maps = y.0; known = y.1; call = seat.call }
 
   -- a look
-  pub after-look : (g : Items) (ms : List DomainAct) (x : LookMade) → IsLook k x → IsAtRest (domain_after first ms) x.old → SeatNow c may g d first (Resting ms) → SeatNow c may g d first (Resting (Look x ∷ ms))
+  pub after-look : (g : History) (ms : List DomainAct) (x : LookMade) → IsLook k x → IsAtRest (domain_after first ms) x.old → SeatNow c may g d first (Resting ms) → SeatNow c may g d first (Resting (Look x ∷ ms))
   after-look g ms x look rest seat = let y = after-quiet g ms x.old x.new look.kept look.found.0.keeps.header rest seat in record { maps = y.0; known = y.1; call = seat.call }
 
   -- an access
 
   -- the call goes on after it
-  pub going-on-accessed : (g : Items) (ms : List DomainAct) (m : CallMade) (xs : List Moment) (x : Moment) (v w : View) (seat : SeatNow c may g d first (Going ms m xs))
+  pub going-on-accessed : (g : History) (ms : List DomainAct) (m : CallMade) (xs : List Moment) (x : Moment) (v w : View) (seat : SeatNow c may g d first (Going ms m xs))
       → (r : AccessesSo c may k g i (all_shown xs) (way_of c may m) x v w None) → SeatNow c may (stepped d r.step (seen_in_step x.1) None ∷ g) d first (Going ms m (x ∷ xs))
   going-on-accessed g ms m xs x v w seat r = record {
     maps = mappings-same m.old.mappings _ _ _ _ (sym r.keeps.mappings) (sym r.keeps.answered) seat.maps;
@@ -396,7 +398,7 @@ module _ (b : Board) (c : Config) (may : AllowRelation) (limits : IsWithinLimits
       open-then = open_call-own item g ∙ ap (underway_after item) seat.call.1
 
   -- it ends the call
-  pub ends-accessed : (g : Items) (ms : List DomainAct) (m : CallMade) (xs : List Moment) (x : Moment) (v w : View) (answer : Answer) (call : IsCall b c may m) (seat : SeatNow c may g d first (Going ms m xs))
+  pub ends-accessed : (g : History) (ms : List DomainAct) (m : CallMade) (xs : List Moment) (x : Moment) (v w : View) (answer : Answer) (call : IsCall b c may m) (seat : SeatNow c may g d first (Going ms m xs))
       → (r : AccessesSo c may k g i (all_shown xs) (way_of c may m) x v w (Some answer))
       → KeepsMappings m.old.mappings m.new.mappings → v.position ≡ i → w.position ≡ i → m.new.seat.view ≡ w → m.new.seat.view.steps ≡ part_of i ((i, x.1) ∷ x.0)
       → SeatNow c may (stepped d r.step (seen_in_step x.1) (Some answer) ∷ g) d first (Resting (Call m ∷ ms))

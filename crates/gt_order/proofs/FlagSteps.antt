@@ -10,10 +10,10 @@ use Rattle.gt_word_history.specs.declared.view.FlagStep.TheVariants.{Passed, Rai
 use Rattle.gt_word_history.specs.declared.view.SeatStep.{SeatStep}
 use Rattle.gt_word_history.specs.declared.view.SeatStep.TheVariants.{Entry, Flag, Frame, Header}
 use Rattle.gt_model.specs.declared.action.Step.{Step}
-use Rattle.gt_model.specs.declared.action.Step.TheVariants.{Copy as CopyBytes, Exchange, LookBody, LookControl}
-use Rattle.gt_model.specs.declared.action.Step.TheVariants.{LookHeader, Pin, Read as ReadBytes, StoreBody}
-use Rattle.gt_model.specs.declared.action.Step.TheVariants.{StoreHeader, Unpin, Write as WriteBytes}
-use Rattle.gt_model.specs.History.{History as Items, Setting}
+use Rattle.gt_model.specs.declared.action.Step.TheVariants.{Exchange, LookBody, LookControl, LookHeader, Pin, StoreBody}
+use Rattle.gt_model.specs.declared.action.Step.TheVariants.{StoreHeader, Unpin}
+use Rattle.gt_model.specs.declared.action.Step.TheVariants as call_steps
+use Rattle.gt_model.specs.History.{History, Setting}
 use Rattle.gt_model.specs.declared.trace.ItemEvent.{ItemEvent}
 use Rattle.gt_model.specs.declared.trace.ItemEvent.TheVariants.{Began, Stepped}
 use Rattle.gt_order.proofs.Places.{ChangesNothing, record-kept, word-kept}
@@ -21,7 +21,7 @@ use Rattle.gt_order.specs.Agreeing.{Agree, IsThe}
 use Rattle.gt_order.specs.Ordering.{AreStepsOf, IsRaisedIn, RunOrder, ThenSteps}
 use Rattle.gt_order.specs.Ordering.Occurrence.{OfCore, OfFlag, OfLook}
 
-agree-kept : (s : Setting) (k : Layout) (g : Items) (h : StepHistory) (i : ℕ) (x : SeatStep) → ((n : ℕ) → left_by x n ≡ n) → ChangesNothing x → Agree s k g h → Agree s k g ((i, x) ∷ h)
+agree-kept : (s : Setting) (k : Layout) (g : History) (h : StepHistory) (i : ℕ) (x : SeatStep) → ((n : ℕ) → left_by x n ≡ n) → ChangesNothing x → Agree s k g h → Agree s k g ((i, x) ∷ h)
 agree-kept s k g h i x leaves same agree = record {
   words = λ t r l lt. agree.words t r l lt ∙ sym (word-kept k i x h (place t r 0) leaves);
   bodies = λ t r half l lt. agree.bodies t r half l lt ∙ sym (word-kept k i x h (place t r (half_index half)) leaves);
@@ -30,10 +30,10 @@ agree-kept s k g h i x leaves same agree = record {
   generations = λ t r l lt. agree.generations t r l lt ∙ ap (λ (z : EntryRecord). z.generation) (sym (record-kept k i x h t r same));
 }
 
-pub agree-on-flag : (s : Setting) (k : Layout) (g : Items) (h : StepHistory) (i flag : ℕ) (m : FlagStep) → Agree s k g h → Agree s k g ((i, Flag flag m) ∷ h)
+pub agree-on-flag : (s : Setting) (k : Layout) (g : History) (h : StepHistory) (i flag : ℕ) (m : FlagStep) → Agree s k g h → Agree s k g ((i, Flag flag m) ∷ h)
 agree-on-flag s k g h i flag m agree = agree-kept s k g h i (Flag flag m) (λ n. refl) tt agree
 
-pub agree-on-look : (s : Setting) (k : Layout) (g : Items) (h : StepHistory) (i t r n : ℕ) → Agree s k g h → Agree s k g ((i, Entry t r (Looked n)) ∷ h)
+pub agree-on-look : (s : Setting) (k : Layout) (g : History) (h : StepHistory) (i t r n : ℕ) → Agree s k g h → Agree s k g ((i, Entry t r (Looked n)) ∷ h)
 agree-on-look s k g h i t r n agree = agree-kept s k g h i (Entry t r (Looked n)) (λ m. refl) tt agree
 
 -- a step of a call is none on a flag
@@ -46,9 +46,9 @@ not-flag k i (Unpin p holder) flag m the = the
 not-flag k i (StoreBody gref half word) flag m the = the
 not-flag k i (StoreHeader version frames) flag m the = the
 not-flag k i (Exchange gref looked change) flag m the = the
-not-flag k i (ReadBytes dom frame off len) flag m the = the
-not-flag k i (WriteBytes dom frame off len) flag m the = the
-not-flag k i (CopyBytes from to len) flag m the = the
+not-flag k i (call_steps.Read dom frame off len) flag m the = the
+not-flag k i (call_steps.Write dom frame off len) flag m the = the
+not-flag k i (call_steps.Copy from to len) flag m the = the
 
 raises-none : (k : Layout) (i : ℕ) (step : Step) (x : SeatStep) (flag : ℕ) → IsThe k i step x → Raises flag x → ⊥
 raises-none k i step (Entry t r m) flag the raises = raises

@@ -36,7 +36,7 @@ use Rattle.gt_types.specs.declared.copies.CopyArgs.{CopyArgs}
 use Rattle.gt_order.specs.Printed.{GetsNoMemory, IsAllocating, Starves, no_memory_answer}
 use Rattle.gt_order.specs.Texts.{HasAllFrames, IsMemoryRefusal, OutcomeGivesAnswer}
 use Rattle.gt_types.specs.Denial.{denial_of}
-use Rattle.gt_types.specs.declared.denial.Facts.TheVariants.{None as NoFacts}
+use Rattle.gt_types.specs.declared.denial.Facts.TheVariants as facts
 use Rattle.gt_types.specs.declared.denial.Rule.TheVariants.{N26}
 use Rattle.gt_order.specs.Leaving.{AreReleases}
 use Rattle.gt_order.specs.Ordering.{RunOrder, items_by_outcome, items_of_call, of_core, order_of_deeds, way_of}
@@ -198,7 +198,7 @@ module _ (Lost : Type 0) (Stopped : RunAction → Type 0) (c : Config) (may : Al
       NextOf names holds hs left = Serves Lost Stopped types dom names holds rest hs left
 
       then : NextOf named held more text
-      then = subst (λ (q : List Named × List Handle). NextOf q.0 q.1 more text) (λ j. (named-none named dom (label_given call) j, held-none held (given_up m.request) (denial_of N26 NoFacts) j)) f
+      then = subst (λ (q : List Named × List Handle). NextOf q.0 q.1 more text) (λ j. (named-none named dom (label_given call) j, held-none held (given_up m.request) (denial_of N26 facts.None) j)) f
 
       gets : GetsNoMemory types dom named held task.line task.deed NextOf more (line ++ text)
       gets = subst (λ (x : RunAction). GetsNoMemory types dom named held task.line x NextOf more (line ++ text)) (sym is) (m.request, says, starves-plainly dom m.request (λ hs. Prints line (NextOf named held hs) (line ++ text)) more allocates (text, refl, then))

@@ -10,11 +10,12 @@ use Rattle.gt_types.specs.declared.DomId.{DomId}
 use Rattle.gt_types.specs.declared.config.Config.{Config}
 use Rattle.gt_model.specs.Path.{Continuation}
 use Rattle.gt_model.specs.declared.request.Request.{Request}
-use Rattle.gt_model.specs.History.{setting_of, History as Items, Setting}
+use Rattle.gt_model.specs.History.{setting_of, History, Setting}
 use Rattle.gt_model.specs.Legal.{LegalAfter, actor_of}
 use Rattle.gt_model.specs.declared.trace.Answer.{Answer}
 use Rattle.gt_model.specs.declared.trace.Element.{Element}
-use Rattle.gt_model.specs.declared.trace.Element.TheVariants.{Item as Did, Busy, Idle, NoDomain}
+use Rattle.gt_model.specs.declared.trace.Element.TheVariants.{Busy, Idle, NoDomain}
+use Rattle.gt_model.specs.declared.trace.Element.TheVariants as elements
 use Rattle.gt_model.specs.declared.trace.Event.TheVariants.{Begin, Tick}
 use Rattle.gt_model.specs.declared.trace.Item.{Item}
 use Rattle.gt_model.specs.declared.trace.ItemEvent.{ItemEvent}
@@ -33,7 +34,7 @@ use Rattle.gt_order.specs.Ordering.Occurrence.{OfCore, OfFlag, OfLook}
 
 -- an item, as an event and an element of the trace
 abbrev pub did_item : Item → Happening
-did_item i = did (event_in i.actor i.happened) (Did i)
+did_item i = did (event_in i.actor i.happened) (elements.Item i)
 
 abbrev pub on_flag : DomId → ℕ → FlagStep → Happening
 on_flag d flag Raised = raised d flag
@@ -60,14 +61,14 @@ trace-both (passed d flag ∷ xs) ys = trace-both xs ys
 
 pub events-are : (o : RunOrder) → events_in (happenings o) ≡ events_of (items_in o)
 events-are [] = refl
-events-are (OfCore i ∷ o) = events-both (happenings o) (did (event_in i.actor i.happened) (Did i) ∷ []) ∙ ap (λ l. l ++ event_in i.actor i.happened ∷ []) (events-are o)
+events-are (OfCore i ∷ o) = events-both (happenings o) (did (event_in i.actor i.happened) (elements.Item i) ∷ []) ∙ ap (λ l. l ++ event_in i.actor i.happened ∷ []) (events-are o)
 events-are (OfFlag d flag Raised ∷ o) = events-both (happenings o) (raised d flag ∷ []) ∙ (append-nil (events_in (happenings o)) ∙ events-are o)
 events-are (OfFlag d flag Passed ∷ o) = events-both (happenings o) (passed d flag ∷ []) ∙ (append-nil (events_in (happenings o)) ∙ events-are o)
 events-are (OfLook d gref word ∷ o) = events-are o
 
 pub trace-is : (o : RunOrder) → trace_in (happenings o) ≡ trace_of (items_in o)
 trace-is [] = refl
-trace-is (OfCore i ∷ o) = trace-both (happenings o) (did (event_in i.actor i.happened) (Did i) ∷ []) ∙ ap (λ l. l ++ Did i ∷ []) (trace-is o)
+trace-is (OfCore i ∷ o) = trace-both (happenings o) (did (event_in i.actor i.happened) (elements.Item i) ∷ []) ∙ ap (λ l. l ++ elements.Item i ∷ []) (trace-is o)
 trace-is (OfFlag d flag Raised ∷ o) = trace-both (happenings o) (raised d flag ∷ []) ∙ (append-nil (trace_in (happenings o)) ∙ trace-is o)
 trace-is (OfFlag d flag Passed ∷ o) = trace-both (happenings o) (passed d flag ∷ []) ∙ (append-nil (trace_in (happenings o)) ∙ trace-is o)
 trace-is (OfLook d gref word ∷ o) = trace-is o
@@ -121,7 +122,7 @@ happenings-both (OfLook d gref word ∷ xs) ys = happenings-both xs ys
 steps-tick : (d : DomId) (way : Continuation) (answer : Option Answer) (xs : List Moment) → happenings (of_core (items_of_steps d way answer xs)) ≡ ticks_of d (trace_of (items_of_steps d way answer xs))
 steps-tick d way answer [] = refl
 steps-tick d way answer (x ∷ xs) =
-    let rest = trace_of (items_of_steps d way None xs) in let last : Element = Did (item_of d way _ x answer) in
+    let rest = trace_of (items_of_steps d way None xs) in let last : Element = elements.Item (item_of d way _ x answer) in
     ap (λ l. l ++ did (Tick d) last ∷ []) (steps-tick d way None xs) ∙ sym (map-append (λ (e : Element). did (Tick d) e) rest (last ∷ []))
 
 quiet-push : (xs : List Element) (x : Element) → AnswerNothing xs → answer_in x ≡ None → AnswerNothing (xs ++ x ∷ [])
@@ -130,24 +131,24 @@ quiet-push (y ∷ ys) x q e = (q.0, quiet-push ys x q.1 e)
 
 steps-quiet : (d : DomId) (way : Continuation) (xs : List Moment) → AnswerNothing (trace_of (items_of_steps d way None xs))
 steps-quiet d way [] = tt
-steps-quiet d way (x ∷ xs) = quiet-push (trace_of (items_of_steps d way None xs)) (Did (item_of d way _ x None)) (steps-quiet d way xs) refl
+steps-quiet d way (x ∷ xs) = quiet-push (trace_of (items_of_steps d way None xs)) (elements.Item (item_of d way _ x None)) (steps-quiet d way xs) refl
 
 -- the items of an answered call are a call that happens
 pub call-happens : (d : DomId) (way : Continuation) (request : Request) (answer : Answer) (steps : List Moment) (After : Answer → List Happening → Type 0) (more : List Happening) → After answer more
     → CallHappens d request After (happenings (of_core (items_of_call d way request (Some answer) steps)) ++ more)
 call-happens d way request answer [] After more then =
-    let first : Element = Did (item_of_beginning d request (Some answer)) in
+    let first : Element = elements.Item (item_of_beginning d request (Some answer)) in
     (first, [], answer, more, refl, record { before = []; last = first; order = refl; quiet = tt; answers = refl }, then)
 call-happens d way request answer (x ∷ xs) After more then =
     let begins = item_of_beginning d request None in let steps = items_of_steps d way (Some answer) (x ∷ xs) in let rest = trace_of (items_of_steps d way None xs) in (
-      Did begins,
+      elements.Item begins,
       trace_of steps,
       answer,
       more,
       ap (λ l. l ++ more)
           (ap happenings (map-append (λ (i : Item). OfCore i) steps (begins ∷ []))
-          ∙ (happenings-both (of_core steps) (OfCore begins ∷ []) ∙ ap (λ l. did (Begin d request) (Did begins) ∷ l) (steps-tick d way (Some answer) (x ∷ xs)))),
-      record { before = Did begins ∷ rest; last = Did (item_of d way _ x (Some answer)); order = refl; quiet = (refl, steps-quiet d way xs); answers = refl },
+          ∙ (happenings-both (of_core steps) (OfCore begins ∷ []) ∙ ap (λ l. did (Begin d request) (elements.Item begins) ∷ l) (steps-tick d way (Some answer) (x ∷ xs)))),
+      record { before = elements.Item begins ∷ rest; last = elements.Item (item_of d way _ x (Some answer)); order = refl; quiet = (refl, steps-quiet d way xs); answers = refl },
       then,
     )
 
@@ -155,7 +156,7 @@ call-happens d way request answer (x ∷ xs) After more then =
 
 -- the happening is an item, or a step on a flag by a domain of the run
 abbrev IsOfRun : Setting → Happening → Type 0
-IsOfRun s (did e (Did i)) = Unit {0}
+IsOfRun s (did e (elements.Item i)) = Unit {0}
 IsOfRun s (did e x) = ⊥
 IsOfRun s (raised d flag) = domain_of s.domains d ≢ None
 IsOfRun s (passed d flag) = domain_of s.domains d ≢ None
@@ -170,14 +171,14 @@ of-run-both s (x ∷ xs) ys a b = (a.0, of-run-both s xs ys a.1 b)
 
 are-of-run : (c : Config) (may : AllowRelation) (o : RunOrder) → AreOnRaisedFlags c o → AreOfRun (setting_of c may) (happenings o)
 are-of-run c may [] flags = tt
-are-of-run c may (OfCore i ∷ o) flags = of-run-both (setting_of c may) (happenings o) (did (event_in i.actor i.happened) (Did i) ∷ []) (are-of-run c may o flags) (tt, tt)
+are-of-run c may (OfCore i ∷ o) flags = of-run-both (setting_of c may) (happenings o) (did (event_in i.actor i.happened) (elements.Item i) ∷ []) (are-of-run c may o flags) (tt, tt)
 are-of-run c may (OfFlag d flag Raised ∷ o) flags = of-run-both (setting_of c may) (happenings o) (raised d flag ∷ []) (are-of-run c may o flags.2) (flags.0, tt)
 are-of-run c may (OfFlag d flag Passed ∷ o) flags = of-run-both (setting_of c may) (happenings o) (passed d flag ∷ []) (are-of-run c may o flags.2) (flags.0, tt)
 are-of-run c may (OfLook d gref word ∷ o) flags = are-of-run c may o flags
 
-all-known : (s : Setting) (h : Items) (hs : List Happening) → AreOfRun s hs → LegalAfter s h (events_in hs) (trace_in hs) → All (λ x. domain_of s.domains (doer x) ≢ None) hs
+all-known : (s : Setting) (h : History) (hs : List Happening) → AreOfRun s hs → LegalAfter s h (events_in hs) (trace_in hs) → All (λ x. domain_of s.domains (doer x) ≢ None) hs
 all-known s h [] are legal = All-nil (λ (x : Happening). domain_of s.domains (doer x) ≢ None)
-all-known s h (did e (Did i) ∷ hs) are legal = All-cons (λ (x : Happening). domain_of s.domains (doer x) ≢ None) (did e (Did i)) hs legal.0.0 (all-known s (i ∷ h) hs are.1 legal.1)
+all-known s h (did e (elements.Item i) ∷ hs) are legal = All-cons (λ (x : Happening). domain_of s.domains (doer x) ≢ None) (did e (elements.Item i)) hs legal.0.0 (all-known s (i ∷ h) hs are.1 legal.1)
 all-known s h (did e Busy ∷ hs) are legal = absurd are.0
 all-known s h (did e Idle ∷ hs) are legal = absurd are.0
 all-known s h (did e NoDomain ∷ hs) are legal = absurd are.0

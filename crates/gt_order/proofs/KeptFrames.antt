@@ -16,13 +16,13 @@ use Rattle.gt_types.specs.declared.config.DomainConfig.{DomainConfig}
 use Rattle.gt_types.specs.declared.copies.CopyArgs.{CopyArgs}
 use Rattle.gt_types.specs.declared.copies.End.{End}
 use Rattle.gt_types.specs.declared.denial.Denial.{Denial}
-use Rattle.gt_types.specs.declared.denial.Facts.TheVariants.{None as NoFacts}
+use Rattle.gt_types.specs.declared.denial.Facts.TheVariants as facts
 use Rattle.gt_types.specs.declared.denial.Rule.{Rule}
 use Rattle.gt_types.specs.declared.denial.Rule.TheVariants.{N16}
 use Rattle.gt_types.specs.declared.places.FrameName.{FrameName}
 use Rattle.gt_model.specs.Words.{control_of}
-use Rattle.gt_model.specs.declared.change.BodyWord.TheVariants.{First as FirstHalf, Second as SecondHalf}
-use Rattle.gt_model.specs.declared.control.EntryKind.TheVariants.{Sub as KindSub}
+use Rattle.gt_model.specs.declared.change.BodyWord.TheVariants as body_words
+use Rattle.gt_model.specs.declared.control.EntryKind.TheVariants as kinds
 use Rattle.gt_model.specs.declared.entry.Entry.{Entry}
 use Rattle.gt_model.specs.declared.entry.Entry.TheVariants.{Invalid, Page, Sub, Via}
 use Rattle.gt_handles.specs.Handles.{value_of}
@@ -38,21 +38,21 @@ use Rattle.gt_model.specs.Path.{reads_body, refused_holding, rule_of_try, second
 use Rattle.gt_model.specs.Path.{try_pin, unless_refused}
 use Rattle.gt_calls.specs.Resting.{Lets}
 use Rattle.gt_model.specs.Rules.{CallerKnowledge, begun, first_look, frame_count_of, frames_in, is_kind, via_judged}
-use Rattle.gt_model.specs.declared.action.Action.TheVariants.{Step as Makes}
+use Rattle.gt_model.specs.declared.action.Action.TheVariants as actions
 use Rattle.gt_model.specs.declared.action.CallResult.{CallResult}
 use Rattle.gt_model.specs.declared.action.CallResult.TheVariants.{Granted}
 use Rattle.gt_model.specs.declared.action.Observation.{Observation}
 use Rattle.gt_model.specs.declared.action.Observation.TheVariants.{Missed, Nothing, Taken, Word}
 use Rattle.gt_model.specs.declared.action.Step.{Step}
-use Rattle.gt_model.specs.declared.action.Step.TheVariants.{Copy as CopyBytes, LookBody, LookControl, LookHeader, Pin}
-use Rattle.gt_model.specs.declared.action.Step.TheVariants.{Read as ReadBytes, Unpin, Write as WriteBytes}
+use Rattle.gt_model.specs.declared.action.Step.TheVariants.{LookBody, LookControl, LookHeader, Pin, Unpin}
+use Rattle.gt_model.specs.declared.action.Step.TheVariants as call_steps
 use Rattle.gt_model.specs.declared.held.AccessPath.{AccessPath}
 use Rattle.gt_model.specs.declared.held.AccessPath.TheVariants.{Direct, Own, Through}
 use Rattle.gt_model.specs.declared.held.HeldPin.{HeldPin}
 use Rattle.gt_model.specs.declared.leg.Leg.{Leg}
 use Rattle.gt_model.specs.declared.bounds.TheConstants.{MORE_TRIES}
 use Rattle.gt_model.specs.declared.request.OpenRequest.TheVariants as asks
-use Rattle.gt_model.specs.declared.request.PinHolder.TheVariants.{Leg as ByLeg}
+use Rattle.gt_model.specs.declared.request.PinHolder.TheVariants as holders
 use Rattle.gt_model.specs.declared.request.Request.{Request}
 use Rattle.gt_model.specs.declared.request.Request.TheVariants as requests
 use Rattle.gt_shared_table.specs.Words.{frames_kept}
@@ -74,26 +74,26 @@ module _ (k : CallerKnowledge) (reads : Bool) where
 
   -- the frames of an access are of the run; it may be other than a copy only if `reads`
   abbrev pub IsToFrames : Step → Type 0
-  IsToFrames (ReadBytes dom frame off len) = (reads ≡ true) × Has dom frame
-  IsToFrames (WriteBytes dom frame off len) = (reads ≡ true) × Has dom frame
-  IsToFrames (CopyBytes from to len) = Has from.frame.owner from.frame.number × Has to.frame.owner to.frame.number
+  IsToFrames (call_steps.Read dom frame off len) = (reads ≡ true) × Has dom frame
+  IsToFrames (call_steps.Write dom frame off len) = (reads ≡ true) × Has dom frame
+  IsToFrames (call_steps.Copy from to len) = Has from.frame.owner from.frame.number × Has to.frame.owner to.frame.number
   IsToFrames step = Unit {0}
 
   -- so are those of each access on the path
   pub record AreToFrames (way : Continuation) : Type 0 where
-    pub each : (vs : List Observation) (s : Step) → way vs ≡ Some (Makes s) → IsToFrames s
+    pub each : (vs : List Observation) (s : Step) → way vs ≡ Some (actions.Step s) → IsToFrames s
 
   ended-so : (verdict : CallResult) → AreToFrames (ended verdict)
   ended-so verdict = record { each = each }
     where
-      each : (vs : List Observation) (s : Step) → ended verdict vs ≡ Some (Makes s) → IsToFrames s
+      each : (vs : List Observation) (s : Step) → ended verdict vs ≡ Some (actions.Step s) → IsToFrames s
       each [] s e = absurd (cc)
       each (v ∷ vs) s e = absurd (cc)
 
   makes-so : (step : Step) (follows : Continuation) → IsToFrames step → AreToFrames follows → AreToFrames (makes step follows)
   makes-so step follows is rest = record { each = each }
     where
-      each : (vs : List Observation) (s : Step) → makes step follows vs ≡ Some (Makes s) → IsToFrames s
+      each : (vs : List Observation) (s : Step) → makes step follows vs ≡ Some (actions.Step s) → IsToFrames s
       each [] s e = let same : step ≡ s = cc in subst IsToFrames same is
       each (Nothing ∷ vs) s e = rest.each vs s e
       each (Word w ∷ vs) s e = absurd (cc)
@@ -103,7 +103,7 @@ module _ (k : CallerKnowledge) (reads : Bool) where
   looks-so : (step : Step) (follows : ℕ → Continuation) → IsToFrames step → ((w : ℕ) → AreToFrames (follows w)) → AreToFrames (looks step follows)
   looks-so step follows is rest = record { each = each }
     where
-      each : (vs : List Observation) (s : Step) → looks step follows vs ≡ Some (Makes s) → IsToFrames s
+      each : (vs : List Observation) (s : Step) → looks step follows vs ≡ Some (actions.Step s) → IsToFrames s
       each [] s e = let same : step ≡ s = cc in subst IsToFrames same is
       each (Word w ∷ vs) s e = (rest w).each vs s e
       each (Nothing ∷ vs) s e = absurd (cc)
@@ -113,11 +113,11 @@ module _ (k : CallerKnowledge) (reads : Bool) where
   exchanges-so : (step : Step) (looked : ℕ) (taken : Continuation) (missed : ℕ → Continuation) → IsToFrames step → AreToFrames taken → ((w : ℕ) → AreToFrames (missed w)) → AreToFrames (exchanges step looked taken missed)
   exchanges-so step looked taken missed is one other = record { each = each }
     where
-      by : (b : Bool) (w : ℕ) (vs : List Observation) (s : Step) → cond b None (missed w vs) ≡ Some (Makes s) → IsToFrames s
+      by : (b : Bool) (w : ℕ) (vs : List Observation) (s : Step) → cond b None (missed w vs) ≡ Some (actions.Step s) → IsToFrames s
       by true w vs s e = absurd (cc)
       by false w vs s e = (other w).each vs s e
 
-      each : (vs : List Observation) (s : Step) → exchanges step looked taken missed vs ≡ Some (Makes s) → IsToFrames s
+      each : (vs : List Observation) (s : Step) → exchanges step looked taken missed vs ≡ Some (actions.Step s) → IsToFrames s
       each [] s e = let same : step ≡ s = cc in subst IsToFrames same is
       each (Taken ∷ vs) s e = one.each vs s e
       each (Missed w ∷ vs) s e = by (w == looked) w vs s e
@@ -130,7 +130,7 @@ module _ (k : CallerKnowledge) (reads : Bool) where
 
   give-back-so : (held : List HeldPin) (verdict : CallResult) → AreToFrames (give_back held verdict)
   give-back-so [] verdict = ended-so verdict
-  give-back-so (p ∷ ps) verdict = makes-so (Unpin p (ByLeg (length ps))) (give_back ps verdict) tt (give-back-so ps verdict)
+  give-back-so (p ∷ ps) verdict = makes-so (Unpin p (holders.Leg (length ps))) (give_back ps verdict) tt (give-back-so ps verdict)
 
   -- a leg
   module _ (l : Leg) (refused : AfterRefusal) (pinned : AfterPin) (refuses : (d : Denial) → AreToFrames (refused d)) (goes-on : (p : HeldPin) → p.dom ≡ l.dom → Lets l p.entry → AreToFrames (pinned p)) where
@@ -142,11 +142,11 @@ module _ (k : CallerKnowledge) (reads : Bool) where
 
     body-so : (word : ℕ) (missed : ℕ → Continuation) → first_look l (control_of word) ≡ None → ((w : ℕ) → AreToFrames (missed w)) → AreToFrames (reads_body l word refused missed pinned)
     body-so word missed none misses =
-        looks-so (LookBody l.dom l.gref FirstHalf)
-        (λ body. cond (is_kind (control_of word).kind KindSub) (looks (LookBody l.dom l.gref SecondHalf) (λ second. last_step l (held_of l word body second) (rule_of_try l word body second) refused missed pinned)) (last_step l (held_of l word body 0) (rule_of_try l word body 0) refused missed pinned))
+        looks-so (LookBody l.dom l.gref body_words.First)
+        (λ body. cond (is_kind (control_of word).kind kinds.Sub) (looks (LookBody l.dom l.gref body_words.Second) (λ second. last_step l (held_of l word body second) (rule_of_try l word body second) refused missed pinned)) (last_step l (held_of l word body 0) (rule_of_try l word body 0) refused missed pinned))
         tt
-        (λ body. either-so (is_kind (control_of word).kind KindSub) (looks (LookBody l.dom l.gref SecondHalf) (λ second. last_step l (held_of l word body second) (rule_of_try l word body second) refused missed pinned)) (last_step l (held_of l word body 0) (rule_of_try l word body 0) refused missed pinned)
-        (looks-so (LookBody l.dom l.gref SecondHalf) (λ second. last_step l (held_of l word body second) (rule_of_try l word body second) refused missed pinned) tt (λ second. ends body second)) (ends body 0))
+        (λ body. either-so (is_kind (control_of word).kind kinds.Sub) (looks (LookBody l.dom l.gref body_words.Second) (λ second. last_step l (held_of l word body second) (rule_of_try l word body second) refused missed pinned)) (last_step l (held_of l word body 0) (rule_of_try l word body 0) refused missed pinned)
+        (looks-so (LookBody l.dom l.gref body_words.Second) (λ second. last_step l (held_of l word body second) (rule_of_try l word body second) refused missed pinned) tt (λ second. ends body second)) (ends body 0))
       where
         ends : (body second : ℕ) → AreToFrames (last_step l (held_of l word body second) (rule_of_try l word body second) refused missed pinned)
         ends body second = last-so (held_of l word body second) (rule_of_try l word body second) missed refl (λ last. lets l (control_of word) body second none last) misses
@@ -212,7 +212,7 @@ module _ (k : CallerKnowledge) (reads : Bool) where
   copies-so caller c none =
       reaches-so caller c.source Read c.len (source_pair caller c) [] (to_dest k caller c)
       (λ source there. reaches-so caller c.dest Write c.len (dest_pair caller source) (held_by source) (accesses caller c source)
-      (λ dest also. makes-so (CopyBytes (place_of caller c.source source) (place_of caller c.dest dest) c.len) _ (there, also) (give-back-so _ Granted))
+      (λ dest also. makes-so (call_steps.Copy (place_of caller c.source source) (place_of caller c.dest dest) c.len) _ (there, also) (give-back-so _ Granted))
       (is_dest_granted c) (λ own. (o.own_dest own).framed))
       (is_source_granted c) (λ own. (o.own_source own).framed)
     where
@@ -271,10 +271,10 @@ module _ {P : Type 0} (may : P → AllowRelation) (m : Monitor P) (all : m.words
       (at-position m.config.domains.items name.owner name.number has))
 
   -- an access to frames of the run was not refused with N16
-  not-missing : (k : CallerKnowledge) → k.domains ≡ m.config.domains.items → (access : Step) (denial : Denial) → IsToFrames k true access → HasCause m.words access denial → denial ≡ denial_of N16 NoFacts → IsAccess access → ⊥
-  not-missing k same (ReadBytes dom frame off len) denial has cause is a = cause is (kept (frame_named dom frame) (subst (λ (ds : List DomainConfig). frame < frame_count_of ds dom) same has.1))
-  not-missing k same (WriteBytes dom frame off len) denial has cause is a = cause is (kept (frame_named dom frame) (subst (λ (ds : List DomainConfig). frame < frame_count_of ds dom) same has.1))
-  not-missing k same (CopyBytes from to len) denial has cause is a =
+  not-missing : (k : CallerKnowledge) → k.domains ≡ m.config.domains.items → (access : Step) (denial : Denial) → IsToFrames k true access → HasCause m.words access denial → denial ≡ denial_of N16 facts.None → IsAccess access → ⊥
+  not-missing k same (call_steps.Read dom frame off len) denial has cause is a = cause is (kept (frame_named dom frame) (subst (λ (ds : List DomainConfig). frame < frame_count_of ds dom) same has.1))
+  not-missing k same (call_steps.Write dom frame off len) denial has cause is a = cause is (kept (frame_named dom frame) (subst (λ (ds : List DomainConfig). frame < frame_count_of ds dom) same has.1))
+  not-missing k same (call_steps.Copy from to len) denial has cause is a =
       cause is (kept from.frame (subst (λ (ds : List DomainConfig). from.frame.number < frame_count_of ds from.frame.owner) same has.0)) (kept to.frame (subst (λ (ds : List DomainConfig). to.frame.number < frame_count_of ds to.frame.owner) same has.1))
   not-missing k same access denial has cause is a = absurd a
 
@@ -287,18 +287,18 @@ module _ {P : Type 0} (may : P → AllowRelation) (m : Monitor P) (all : m.words
 
     path-so : (request : Request) → MakesOne request → AreToFrames know true (path_of know d.seat.dom request)
     path-so (requests.Load handle off len) one = begun-so know true (begun_of know d.seat.dom (requests.Load handle off len)) _
-        (λ none. mapped-so know true (know.mapping handle) (λ p. ReadBytes p.dom (frame_of p.entry) off len) (λ p is. (refl, mapped handle p is)))
+        (λ none. mapped-so know true (know.mapping handle) (λ p. call_steps.Read p.dom (frame_of p.entry) off len) (λ p is. (refl, mapped handle p is)))
     path-so (requests.Store handle off bytes) one = begun-so know true (begun_of know d.seat.dom (requests.Store handle off bytes)) _
-        (λ none. mapped-so know true (know.mapping handle) (λ p. WriteBytes p.dom (frame_of p.entry) off (length bytes.now)) (λ p is. (refl, mapped handle p is)))
+        (λ none. mapped-so know true (know.mapping handle) (λ p. call_steps.Write p.dom (frame_of p.entry) off (length bytes.now)) (λ p is. (refl, mapped handle p is)))
     path-so (requests.Peek frame off len) one = begun-so know true (begun_of know d.seat.dom (requests.Peek frame off len)) _
-        (λ none. let o : OpensOwn know d.seat.dom frame off len = opens know d.seat.dom (asks.Peek frame off len) none in makes-so know true (ReadBytes d.seat.dom frame off len) (ended Granted) (refl, o.framed) (ended-so know true Granted))
+        (λ none. let o : OpensOwn know d.seat.dom frame off len = opens know d.seat.dom (asks.Peek frame off len) none in makes-so know true (call_steps.Read d.seat.dom frame off len) (ended Granted) (refl, o.framed) (ended-so know true Granted))
     path-so (requests.Poke frame off bytes) one = begun-so know true (begun_of know d.seat.dom (requests.Poke frame off bytes)) _
-        (λ none. let o : OpensOwn know d.seat.dom frame off (length bytes.now) = opens know d.seat.dom (asks.Poke frame off (length bytes.now)) none in makes-so know true (WriteBytes d.seat.dom frame off (length bytes.now)) (ended Granted) (refl, o.framed) (ended-so know true Granted))
+        (λ none. let o : OpensOwn know d.seat.dom frame off (length bytes.now) = opens know d.seat.dom (asks.Poke frame off (length bytes.now)) none in makes-so know true (call_steps.Write d.seat.dom frame off (length bytes.now)) (ended Granted) (refl, o.framed) (ended-so know true Granted))
     path-so (requests.Copy args) one = begun-so know true (begun_of know d.seat.dom (requests.Copy args)) _ (λ none. copies-so know true d.seat.dom args none)
     path-so request one = absurd one
 
     -- an access of the domain's call that was not made was not refused with N16, since the table has all frames
     pub never-missing : (request : Request) → MakesOne request → (access : Step) (denial : Denial) (v w : View) (a : EndsAfterAccess m.words.layout (path_of know d.seat.dom request) access IsUnmade v w) → HasCause m.words access denial
-        → denial ≡ denial_of N16 NoFacts → ⊥
+        → denial ≡ denial_of N16 facts.None → ⊥
     never-missing request one access denial v w a cause is =
         not-missing know refl access denial ((path-so request one).each (all_shown a.comes.steps) access a.comes.next) cause is a.comes.is_access

@@ -13,7 +13,7 @@ use Rattle.gt_model.specs.Rules.{CallerKnowledge, refused_when}
 use Rattle.gt_model.specs.declared.action.Step.TheVariants.{Unpin}
 use Rattle.gt_model.specs.declared.action.CallResult.TheVariants.{Granted}
 use Rattle.gt_model.specs.declared.held.HeldPin.{HeldPin}
-use Rattle.gt_model.specs.declared.request.PinHolder.TheVariants.{Mapping as ByMapping}
+use Rattle.gt_model.specs.declared.request.PinHolder.TheVariants as holders
 use Rattle.gt_model.specs.declared.request.Request.TheVariants as requests
 use Rattle.gt_live.proofs.DomainKept.{unmapped}
 use Rattle.gt_live.proofs.Making.{still_seat}
@@ -26,9 +26,9 @@ use Rattle.gt_order.specs.Runs.DomainAct.{Call}
 use Rattle.gt_order.specs.Runs.CallOutcome.{Told}
 
 -- a release of a mapping gives its pin back, and is Ok
-release-way : (k : CallerKnowledge) (dom : DomId) (h : Handle) (m : HeldPin) → k.mapping h ≡ Some m → path_of k dom (requests.Release h) ≡ makes (Unpin m (ByMapping h)) (ended Granted)
+release-way : (k : CallerKnowledge) (dom : DomId) (h : Handle) (m : HeldPin) → k.mapping h ≡ Some m → path_of k dom (requests.Release h) ≡ makes (Unpin m (holders.Mapping h)) (ended Granted)
 release-way k dom h m found =
-    (λ j. after_beginning (refused_when (is_none (found j)) N6) (by_mapping (found j) (λ q. Unpin q (ByMapping h))))
+    (λ j. after_beginning (refused_when (is_none (found j)) N6) (by_mapping (found j) (λ q. Unpin q (holders.Mapping h))))
 
 -- the domain after these mappings were given up
 abbrev pub with_rest : Domain → View → HandleMap HeldPin → Domain
@@ -65,7 +65,7 @@ module _ (b : Board) (c : Config) (may : AllowRelation) (d : Domain) (mine : IsD
       } in
       let there : value_of mid h ≡ Some m = removes.taken.value in
       let way = release-way (knowledge c may old) d.seat.dom h m there in
-      let called = one-step b.layout (path_of (knowledge c may old) d.seat.dom (requests.Release h)) (Unpin m (ByMapping h)) u w way step in
+      let called = one-step b.layout (path_of (knowledge c may old) d.seat.dom (requests.Release h)) (Unpin m (holders.Mapping h)) u w way step in
       let of-run : IsDomainOf b c may new = unmapped b c may old new h m was.of-run (still_seat b old.seat new.seat was.of-run.seat seat) refl refl removes.taken step in
       let call : CallMade = record { request = requests.Release h; outcome = Told Granted; steps = called.steps; old = old; new = new } in record {
         deeds = Call call ∷ was.deeds;

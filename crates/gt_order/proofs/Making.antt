@@ -16,8 +16,8 @@ use Rattle.gt_model.specs.declared.action.Observation.{Observation}
 use Rattle.gt_model.specs.declared.action.Observation.TheVariants.{Nothing, Word, Taken, Missed}
 use Rattle.gt_model.specs.declared.action.Step.{Step}
 use Rattle.gt_model.specs.declared.action.Step.TheVariants.{LookHeader, LookControl, LookBody, Pin, Unpin, StoreBody}
-use Rattle.gt_model.specs.declared.action.Step.TheVariants.{StoreHeader, Exchange, Read as ReadBytes}
-use Rattle.gt_model.specs.declared.action.Step.TheVariants.{Write as WriteBytes, Copy as CopyBytes}
+use Rattle.gt_model.specs.declared.action.Step.TheVariants.{StoreHeader, Exchange}
+use Rattle.gt_model.specs.declared.action.Step.TheVariants as call_steps
 use Rattle.gt_core.specs.GoingOn.{AccessesNoBytes}
 use Rattle.gt_live.specs.Walks.{Made, seen_in_step}
 use Rattle.gt_order.specs.Agreeing.{IsThe, StoresChange, last_at}
@@ -89,18 +89,18 @@ on-words k (Unpin p holder) seen v w m = tt
 on-words k (StoreBody q half n) seen v w m = tt
 on-words k (StoreHeader version frames) seen v w m = tt
 on-words k (Exchange q looked change) seen v w m = tt
-on-words k (ReadBytes dom frame off len) (Word n) v w m = absurd m
-on-words k (ReadBytes dom frame off len) Taken v w m = absurd m
-on-words k (ReadBytes dom frame off len) (Missed n) v w m = absurd m
-on-words k (ReadBytes dom frame off len) Nothing v w m = absurd m
-on-words k (WriteBytes dom frame off len) (Word n) v w m = absurd m
-on-words k (WriteBytes dom frame off len) Taken v w m = absurd m
-on-words k (WriteBytes dom frame off len) (Missed n) v w m = absurd m
-on-words k (WriteBytes dom frame off len) Nothing v w m = absurd m
-on-words k (CopyBytes from to len) (Word n) v w m = absurd m
-on-words k (CopyBytes from to len) Taken v w m = absurd m
-on-words k (CopyBytes from to len) (Missed n) v w m = absurd m
-on-words k (CopyBytes from to len) Nothing v w m = absurd m
+on-words k (call_steps.Read dom frame off len) (Word n) v w m = absurd m
+on-words k (call_steps.Read dom frame off len) Taken v w m = absurd m
+on-words k (call_steps.Read dom frame off len) (Missed n) v w m = absurd m
+on-words k (call_steps.Read dom frame off len) Nothing v w m = absurd m
+on-words k (call_steps.Write dom frame off len) (Word n) v w m = absurd m
+on-words k (call_steps.Write dom frame off len) Taken v w m = absurd m
+on-words k (call_steps.Write dom frame off len) (Missed n) v w m = absurd m
+on-words k (call_steps.Write dom frame off len) Nothing v w m = absurd m
+on-words k (call_steps.Copy from to len) (Word n) v w m = absurd m
+on-words k (call_steps.Copy from to len) Taken v w m = absurd m
+on-words k (call_steps.Copy from to len) (Missed n) v w m = absurd m
+on-words k (call_steps.Copy from to len) Nothing v w m = absurd m
 
 -- a step and what came before it are known by the view after it
 

@@ -17,20 +17,21 @@ use Rattle.gt_model.specs.Asking.{SpellsItsEntry, asked, begun_of}
 use Rattle.gt_model.specs.Path.{Continuation, FitsStep, after_beginning, path, path_of, steps_of}
 use Rattle.gt_model.specs.Rules.{CallerKnowledge, begun}
 use Rattle.gt_model.specs.declared.action.Action.{Action}
-use Rattle.gt_model.specs.declared.action.Action.TheVariants.{Step as Makes, Done}
+use Rattle.gt_model.specs.declared.action.Action.TheVariants.{Done}
+use Rattle.gt_model.specs.declared.action.Action.TheVariants as actions
 use Rattle.gt_model.specs.declared.action.Observation.{Observation}
 use Rattle.gt_model.specs.declared.action.Step.{Step}
 use Rattle.gt_model.specs.declared.action.Step.TheVariants.{Unpin}
 use Rattle.gt_model.specs.declared.action.CallResult.{CallResult}
 use Rattle.gt_model.specs.declared.held.HeldPin.{HeldPin}
 use Rattle.gt_model.specs.declared.request.PinHolder.{PinHolder}
-use Rattle.gt_model.specs.declared.request.PinHolder.TheVariants.{Mapping as ByMapping, Leg as ByLeg}
+use Rattle.gt_model.specs.declared.request.PinHolder.TheVariants as holders
 use Rattle.gt_model.specs.declared.request.Request.{Request}
 use Rattle.gt_core.proofs.GoingOn.{open-calls-can-go-on}
 use Rattle.gt_model.proofs.Observers.{stepped}
 use Rattle.gt_core.specs.GoingOn.{AnsweredSo, AccessesNoBytes, CanBeReached}
-use Rattle.gt_model.specs.History.{History as Items, Setting, Underway, known_at, mapping_of, mappings_at, seen_by}
-use Rattle.gt_model.specs.History.{values, setting_of}
+use Rattle.gt_model.specs.History.{History, Setting, Underway, known_at, mapping_of, mappings_at, seen_by, values}
+use Rattle.gt_model.specs.History.{setting_of}
 use Rattle.gt_model.specs.Legal.{IsRight}
 use Rattle.gt_model.specs.declared.trace.Answer.{Answer}
 use Rattle.gt_live.proofs.Making.{made-fits}
@@ -49,7 +50,7 @@ use Rattle.gt_order.specs.Ordering.{way_of}
 use Rattle.gt_order.specs.Runs.{CallMade, DomainAct, IsCall}
 
 -- a way that goes on with a step was not answered at its beginning
-pub unanswered : (o : Option CallResult) (goes : Continuation) (vs : List Observation) (step : Step) → after_beginning o goes vs ≡ Some (Makes step) → o ≡ None
+pub unanswered : (o : Option CallResult) (goes : Continuation) (vs : List Observation) (step : Step) → after_beginning o goes vs ≡ Some (actions.Step step) → o ≡ None
 unanswered None goes vs step e = refl
 unanswered (Some v) goes [] step e = absurd (cc)
 unanswered (Some v) goes (x ∷ vs) step e = absurd (cc)
@@ -61,9 +62,9 @@ same-way k d request none said vs =
     ap (λ (o : Option CallResult). after_beginning o (steps_of k d (asked request)) vs) (quiet ∙ sym none)
 
 -- the step and its item
-pub record GoesSo (c : Config) (may : AllowRelation) (k : Layout) (g : Items) (i : ℕ) (cl : Underway) (before : List Observation) (way : Continuation) (x : Moment) (v w : View) (answer : Option Answer) : Type 0 where
+pub record GoesSo (c : Config) (may : AllowRelation) (k : Layout) (g : History) (i : ℕ) (cl : Underway) (before : List Observation) (way : Continuation) (x : Moment) (v w : View) (answer : Option Answer) : Type 0 where
   pub step : Step
-  pub next : way before ≡ Some (Makes step)
+  pub next : way before ≡ Some (actions.Step step)
   pub the : IsThe k i step x.1
   pub right : IsRight (setting_of c may) g (stepped (dom_at k i) step (seen_in_step x.1) answer)
   pub reached : CanBeReached (setting_of c may) (stepped (dom_at k i) step (seen_in_step x.1) answer ∷ g)
@@ -73,11 +74,11 @@ pub record GoesSo (c : Config) (may : AllowRelation) (k : Layout) (g : Items) (i
   pub quiet : AccessesNoBytes step
   pub sees : seen_by (setting_of c may) g (dom_at k i) step ≡ seen_in_step x.1
   pub fits : FitsStep step (seen_in_step x.1)
-  pub on_path : path (known_at (setting_of c may) g (dom_at k i)) (dom_at k i) cl.request (values cl) ≡ Some (Makes step)
+  pub on_path : path (known_at (setting_of c may) g (dom_at k i)) (dom_at k i) cl.request (values cl) ≡ Some (actions.Step step)
   pub stood : StoodWith (Unit {0}) k x.0 v
   pub stands : StoodWith (Unit {0}) k ((v.position, x.1) ∷ x.0) w
 
-module _ (b : Board) (c : Config) (may : AllowRelation) (limits : IsWithinLimits c) (is : b.layout ≡ layout_of c) (g : Items) (i : ℕ) (inside : i < b.layout.domains) (m : CallMade) (ms : List DomainAct) (first : Domain)
+module _ (b : Board) (c : Config) (may : AllowRelation) (limits : IsWithinLimits c) (is : b.layout ≡ layout_of c) (g : History) (i : ℕ) (inside : i < b.layout.domains) (m : CallMade) (ms : List DomainAct) (first : Domain)
     (xs : List Moment) (x : Moment) (call : IsCall b c may m) (at : m.old.seat.view.position ≡ i) (named : domain_of c.domains.items (dom_at b.layout i) ≢ None) (reached : CanBeReached (setting_of c may) g)
     (agree : Agree (setting_of c may) b.layout g x.0) (seat : SeatNow c may g (dom_at b.layout i) first (Going ms m xs))
     (bounded : AreBounded b.layout g) (walk : MakesStep b.layout (way_of c may m (all_shown xs)) (shown_by x) (view_after xs m.old.seat.view) (view_after (x ∷ xs) m.old.seat.view)) where
@@ -111,7 +112,7 @@ module _ (b : Board) (c : Config) (may : AllowRelation) (limits : IsWithinLimits
   stood-at : v.position ≡ i
   stood-at = after-position xs m.old.seat.view ∙ at
 
-  pub on-way : (step : Step) → way (all_shown xs) ≡ Some (Makes step) → (vs : List Observation) → path (known_at s g d) d cl.request vs ≡ way vs
+  pub on-way : (step : Step) → way (all_shown xs) ≡ Some (actions.Step step) → (vs : List Observation) → path (known_at s g d) d cl.request vs ≡ way vs
   on-way step next vs =
       let none : begun_of know m.old.seat.dom m.request ≡ None = unanswered (begun_of know m.old.seat.dom m.request) (steps_of know m.old.seat.dom (asked m.request)) (all_shown xs) step next in
       (λ j. path (seat.known j) (sym own j) (seat.call.2 j) vs) ∙ same-way know m.old.seat.dom m.request none (said know m.old.seat.dom m.request call.fits.1) vs
@@ -119,13 +120,13 @@ module _ (b : Board) (c : Config) (may : AllowRelation) (limits : IsWithinLimits
   values-then : (seen : Observation) → seen ≡ shown_by x → values cl ++ seen ∷ [] ≡ all_shown (x ∷ xs)
   values-then seen e = λ j. seat.call.3 j ++ e j ∷ []
 
-  goes-with : (step : Step) → way (all_shown xs) ≡ Some (Makes step) → Made k step (shown_by x) v w → (action : Action) (answer : Option Answer) → way (all_shown (x ∷ xs)) ≡ Some action → AnsweredSo g d action answer → GoesSo c may k g i cl (all_shown xs) way x v w answer
+  goes-with : (step : Step) → way (all_shown xs) ≡ Some (actions.Step step) → Made k step (shown_by x) v w → (action : Action) (answer : Option Answer) → way (all_shown (x ∷ xs)) ≡ Some action → AnsweredSo g d action answer → GoesSo c may k g i cl (all_shown xs) way x v w answer
   goes-with step next made action answer then answered =
       let quiet : AccessesNoBytes step = on-words k step (shown_by x) v w made in
       let y = made-as k i v w stood-at step (shown_by x) made in
       let same : x ≡ y.0 = one-moment x y.0 v y.1.view in
       let so : MadeAs k i step (shown_by x) v w x = subst (MadeAs k i step (shown_by x) v w) (sym same) y.1 in
-      let on : path (known_at s g d) d cl.request (values cl) ≡ Some (Makes step) = ap (path (known_at s g d) d cl.request) seat.call.3 ∙ (on-way step next (all_shown xs) ∙ next) in
+      let on : path (known_at s g d) d cl.request (values cl) ≡ Some (actions.Step step) = ap (path (known_at s g d) d cl.request) seat.call.3 ∙ (on-way step next (all_shown xs) ∙ next) in
       let here = stands-here s g d cl step reached named seat.call.1 on in
       let inner : IsWithin k step = within c may k g d cl step is here quiet (λ p holder e. unpinned step here p holder e) in
       let saw : seen_by s g d step ≡ seen_in_step x.1 = sees c s k g x.0 i is agree inside step x.1 inner so.the so.recorded in
@@ -151,14 +152,14 @@ module _ (b : Board) (c : Config) (may : AllowRelation) (limits : IsWithinLimits
       mapped p handle found = let pin = (call.before.mapped handle p (ap (λ (f : Handle → Option HeldPin). f handle) seat.maps.named ∙ found)).pin in (pin.run, pin.inside)
 
       unpinned : (z : Step) → StandsHere s g d cl z → (p : HeldPin) (holder : PinHolder) → z ≡ Unpin p holder → HasDomain k p.dom × (p.gref.0 < TABLE_ENTRIES)
-      unpinned z here p (ByMapping handle) e = let r = subst (StandsHere s g d cl) e here in mapped p handle r.here.rests.1.1
-      unpinned z here p (ByLeg n) e = let r = subst (StandsHere s g d cl) e here in
-          leg-all (IsBounded k) s g r.core.domains d cl.request (values cl) (reverse cl.steps) r.phase (Unpin p (ByLeg n)) p n r.here r.here.rests.1 bounded
+      unpinned z here p (holders.Mapping handle) e = let r = subst (StandsHere s g d cl) e here in mapped p handle r.here.rests.1.1
+      unpinned z here p (holders.Leg n) e = let r = subst (StandsHere s g d cl) e here in
+          leg-all (IsBounded k) s g r.core.domains d cl.request (values cl) (reverse cl.steps) r.phase (Unpin p (holders.Leg n)) p n r.here r.here.rests.1 bounded
 
   pub goes-so : (action : Action) (answer : Option Answer) → way (all_shown (x ∷ xs)) ≡ Some action → AnsweredSo g d action answer → GoesSo c may k g i cl (all_shown xs) way x v w answer
   goes-so action answer then answered = by (way (all_shown xs)) refl walk
     where
       by : (o : Option Action) → way (all_shown xs) ≡ o → MakesStep k o (shown_by x) v w → GoesSo c may k g i cl (all_shown xs) way x v w answer
-      by (Some (Makes step)) e made = goes-with step e made action answer then answered
+      by (Some (actions.Step step)) e made = goes-with step e made action answer then answered
       by (Some (Done verdict)) e made = absurd made
       by None e made = absurd made

@@ -13,7 +13,7 @@ use Rattle.gt_word_history.specs.History.{StepHistory, Layout, Moment, part_of, 
 use Rattle.gt_words.specs.Laws.{domain_of_run, seat_at}
 use Rattle.gt_word_history.specs.Rule.{layout_of, place, position_in}
 use Rattle.gt_word_history.specs.Steps.{StoodWith}
-use Rattle.gt_word_history.specs.declared.view.FrameStep.TheVariants as frames
+use Rattle.gt_word_history.specs.declared.view.FrameStep.TheVariants as frame_steps
 use Rattle.gt_word_history.specs.declared.view.FlagStep.{FlagStep}
 use Rattle.gt_word_history.specs.declared.view.FlagStep.TheVariants.{Passed, Raised}
 use Rattle.gt_word_history.specs.declared.view.EntryStep.TheVariants.{Looked}
@@ -24,27 +24,30 @@ use Rattle.gt_model.specs.Asking.{SpellsItsEntry, asked, begun_of, bytes_given_b
 use Rattle.gt_model.specs.Path.{Continuation, path, steps_of}
 use Rattle.gt_model.specs.Rules.{CallerKnowledge}
 use Rattle.gt_model.specs.declared.action.Action.{Action}
-use Rattle.gt_model.specs.declared.action.Action.TheVariants.{Step as Makes, Done}
+use Rattle.gt_model.specs.declared.action.Action.TheVariants.{Done}
+use Rattle.gt_model.specs.declared.action.Action.TheVariants as actions
 use Rattle.gt_model.specs.declared.action.CallResult.{CallResult}
-use Rattle.gt_model.specs.declared.action.CallResult.TheVariants.{Granted, Given, Mapped as KeptPin, Refused}
+use Rattle.gt_model.specs.declared.action.CallResult.TheVariants.{Granted, Given, Refused}
+use Rattle.gt_model.specs.declared.action.CallResult.TheVariants as results
 use Rattle.gt_model.specs.declared.request.Request.{Request}
 use Rattle.gt_model.specs.declared.action.Observation.{Observation}
 use Rattle.gt_model.specs.declared.action.Observation.TheVariants.{Word}
 use Rattle.gt_model.specs.declared.action.Step.{Step}
-use Rattle.gt_model.specs.declared.action.Step.TheVariants.{Copy as CopyBytes, LookControl, Read as ReadBytes}
-use Rattle.gt_model.specs.declared.action.Step.TheVariants.{Write as WriteBytes}
+use Rattle.gt_model.specs.declared.action.Step.TheVariants.{LookControl}
+use Rattle.gt_model.specs.declared.action.Step.TheVariants as call_steps
 use Rattle.gt_core.proofs.GoingOn.{calls-can-begin}
 use Rattle.gt_live.specs.Mappings.{KeepsMappings}
 use Rattle.gt_model.proofs.Observers.{stepped}
 use Rattle.gt_core.specs.GoingOn.{AnsweredSo, CanBeReached, MayBeGiven, AnswersAccess, begin_answer, beginning}
-use Rattle.gt_model.specs.History.{History as Items, Setting, contents_at, known_at, one_if_mapped, seen_by, table_at}
-use Rattle.gt_model.specs.History.{values, setting_of}
+use Rattle.gt_model.specs.History.{History, Setting, contents_at, known_at, one_if_mapped, seen_by, table_at, values}
+use Rattle.gt_model.specs.History.{setting_of}
 use Rattle.gt_model.specs.Legal.{IsRight}
 use Rattle.gt_core.specs.Acting.{answer_of}
 use Rattle.gt_model.specs.declared.trace.Answer.{Answer}
 use Rattle.gt_model.specs.declared.trace.Item.{Item}
 use Rattle.gt_shared_table.specs.Bytes.{IsTrueStep}
-use Rattle.gt_model.specs.declared.trace.Answer.TheVariants.{Bytes as BytesAnswer, Done as AnswerDone, Mapped}
+use Rattle.gt_model.specs.declared.trace.Answer.TheVariants.{Mapped}
+use Rattle.gt_model.specs.declared.trace.Answer.TheVariants as answers
 use Rattle.gt_live.proofs.Walking.{after-position}
 use Rattle.gt_live.specs.Domains.{AllowRelation, knowledge}
 use Rattle.gt_live.specs.Starting.{IsNewDomain}
@@ -90,11 +93,11 @@ grows-by : (c : Config) (may : AllowRelation) (d : DomId) (i : ℕ) (x : Occurre
 grows-by c may d i x stages was is e grows = ap (λ (st : Stage). x ∷ order_now c may d st) (put-here i was stages) ∙ (grows ∙ ap (order_now c may d) (sym e))
 
 -- how a call is answered that ends so without a pin
-answered-so : (g : Items) (d : DomId) (v : CallResult) → KeepsNoPin v → AnsweredSo g d (Done v) (Some (answer_of v))
+answered-so : (g : History) (d : DomId) (v : CallResult) → KeepsNoPin v → AnsweredSo g d (Done v) (Some (answer_of v))
 answered-so g d Granted n = refl
 answered-so g d (Given value) n = refl
 answered-so g d (Refused denial) n = refl
-answered-so g d (KeptPin p) n = absurd n
+answered-so g d (results.Mapped p) n = absurd n
 
 -- the last part of a step and of what was before it
 module _ {A : Type 0} where
@@ -113,7 +116,7 @@ then-more k d i step seen x rest h own the shows r = (own, the, shows, r)
 
 -- an access of a call, which comes next on its path
 abbrev IsNextAccess : Layout → ℕ → List ℕ → Continuation → List Moment → Moment → View → View → Type 0
-IsNextAccess k i given way xs x v w = (z : Step) × (way (all_shown xs) ≡ Some (Makes z)) × AccessedAs k i given z v w x × MakesAccess k given z v w
+IsNextAccess k i given way xs x v w = (z : Step) × (way (all_shown xs) ≡ Some (actions.Step z)) × AccessedAs k i given z v w x × MakesAccess k given z v w
 
 -- the newest step of a call was made on the words, or is its access
 turn-of : (k : Layout) (i : ℕ) (given : List ℕ) (way : Continuation) (xs : List Moment) (x : Moment) (u : View) → MakesTurn k given (way (all_shown xs)) (shown_by x) (view_after xs u) (view_after (x ∷ xs) u)
@@ -127,8 +130,8 @@ turn-of k i given way xs x u turn = by (way (all_shown xs)) refl turn
     w = view_after (x ∷ xs) u
 
     by : (o : Option Action) → way (all_shown xs) ≡ o → MakesTurn k given o (shown_by x) v w → MakesStep k (way (all_shown xs)) (shown_by x) v w ⊎ IsNextAccess k i given way xs x v w
-    by (Some (Makes z)) e (inl m) = inl (subst (λ (q : Option Action). MakesStep k q (shown_by x) v w) (sym e) m)
-    by (Some (Makes z)) e (inr m) =
+    by (Some (actions.Step z)) e (inl m) = inl (subst (λ (q : Option Action). MakesStep k q (shown_by x) v w) (sym e) m)
+    by (Some (actions.Step z)) e (inr m) =
         let y = accessed-as k i given z v w m.1 in let same : x ≡ y.0 = one-moment x y.0 v y.1.view in
         inr (z, e, subst (AccessedAs k i given z v w) (sym same) y.1, m.1)
     by (Some (Done r)) e m = absurd m
@@ -136,7 +139,7 @@ turn-of k i given way xs x u turn = by (way (all_shown xs)) refl turn
 
 -- it was taken after the steps of its moment
 pub stood-of : (k : Layout) (i : ℕ) (given : List ℕ) (way : Continuation) (xs : List Moment) (x : Moment) (u : View) → (view_after xs u).position ≡ i → MakesTurn k given (way (all_shown xs)) (shown_by x) (view_after xs u) (view_after (x ∷ xs) u)
-    → (z : Step) × (way (all_shown xs) ≡ Some (Makes z)) × StoodWith (Unit {0}) k x.0 (view_after xs u)
+    → (z : Step) × (way (all_shown xs) ≡ Some (actions.Step z)) × StoodWith (Unit {0}) k x.0 (view_after xs u)
 stood-of k i given way xs x u at turn = ⊎_elim (words (way (all_shown xs)) refl) (λ (q : IsNextAccess k i given way xs x v w). (q.0, q.1, q.2.stood)) (turn-of k i given way xs x u turn)
   where
     v : View
@@ -145,8 +148,8 @@ stood-of k i given way xs x u at turn = ⊎_elim (words (way (all_shown xs)) ref
     w : View
     w = view_after (x ∷ xs) u
 
-    words : (o : Option Action) → way (all_shown xs) ≡ o → MakesStep k (way (all_shown xs)) (shown_by x) v w → (z : Step) × (way (all_shown xs) ≡ Some (Makes z)) × StoodWith (Unit {0}) k x.0 v
-    words (Some (Makes z)) e m =
+    words : (o : Option Action) → way (all_shown xs) ≡ o → MakesStep k (way (all_shown xs)) (shown_by x) v w → (z : Step) × (way (all_shown xs) ≡ Some (actions.Step z)) × StoodWith (Unit {0}) k x.0 v
+    words (Some (actions.Step z)) e m =
         let y = made-as k i v w at z (shown_by x) (subst (λ (q : Option Action). MakesStep k q (shown_by x) v w) e m) in
         let same : x ≡ y.0 = one-moment x y.0 v y.1.view in
         (z, e, subst (λ (q : Moment). StoodWith (Unit {0}) k q.0 v) (sym same) y.1.stood)
@@ -154,9 +157,9 @@ stood-of k i given way xs x u at turn = ⊎_elim (words (way (all_shown xs)) ref
     words None e m = absurd (subst (λ (q : Option Action). MakesStep k q (shown_by x) v w) e m)
 
 -- a write or a copy answers no bytes
-tells-done : (g : Items) (k : Layout) (given : List ℕ) (z : Step) (v w : View) → MakesAccess k given z v w → AnswersAccess g z AnswerDone
-tells-done g k given (WriteBytes dom frame off len) v w m = refl
-tells-done g k given (CopyBytes from to len) v w m = refl
+tells-done : (g : History) (k : Layout) (given : List ℕ) (z : Step) (v w : View) → MakesAccess k given z v w → AnswersAccess g z answers.Done
+tells-done g k given (call_steps.Write dom frame off len) v w m = refl
+tells-done g k given (call_steps.Copy from to len) v w m = refl
 tells-done g k given z v w m = absurd m
 
 -- the newest of these steps is this access
@@ -166,7 +169,7 @@ LastIs k i given z u (y ∷ ys) = AccessedAs k i given z (view_after ys u) (view
 
 abbrev pub LastNext : Continuation → Step → List Moment → Type 0
 LastNext way z [] = ⊥
-LastNext way z (y ∷ ys) = way (all_shown ys) ≡ Some (Makes z)
+LastNext way z (y ∷ ys) = way (all_shown ys) ≡ Some (actions.Step z)
 
 module _ (b : Board) (c : Config) (may : AllowRelation) (limits : IsWithinLimits c) (is : b.layout ≡ layout_of c) (firsts : ℕ → Domain) (new : (i : ℕ) → i < b.layout.domains → IsNewDomain b c may i (firsts i)) where
   abbrev k : Layout
@@ -220,7 +223,7 @@ module _ (b : Board) (c : Config) (may : AllowRelation) (limits : IsWithinLimits
 
   pub same-view : (request : Request) (o : CallOutcome) (steps : List Moment) (D E : Domain) → IsAnswered b c may request o steps D E → steps ≡ [] → E.seat.view ≡ D.seat.view
   same-view request (Told verdict) steps D E a none = took-none request verdict steps D E a.1 none
-  same-view request (Kept handle p) steps D E a none = took-none request (KeptPin p) steps D E a.1 none
+  same-view request (Kept handle p) steps D E a none = took-none request (results.Mapped p) steps D E a.1 none
   same-view request Starved steps D E a none = a.1
   same-view request (Read bytes) steps D E a none = absurd (no-head _ _ (sym a.0.step ∙ none))
   same-view request Wrote steps D E a none = absurd (no-head _ _ (sym a.0.all ∙ none))
@@ -308,7 +311,7 @@ module _ (b : Board) (c : Config) (may : AllowRelation) (limits : IsWithinLimits
       }
       by (Read bytes) out a = absurd (no-head _ _ (sym a.0.step ∙ none))
       by Wrote out a = absurd (no-head _ _ (sym a.0.all ∙ none))
-      by (Kept handle p) out a = absurd (no-pin-at-once (asked m.request) p a.0 (subst (RefusesOnly (asked m.request)) (at-once (KeptPin p) a.1) (asked-refuses (knowledge c may m.old) m.old.seat.dom m.request)))
+      by (Kept handle p) out a = absurd (no-pin-at-once (asked m.request) p a.0 (subst (RefusesOnly (asked m.request)) (at-once (results.Mapped p) a.1) (asked-refuses (knowledge c may m.old) m.old.seat.dom m.request)))
       by (Told verdict) out a =
           let op = at-once verdict a.1 in
           let here : begun_of (known_at s o.g d) d m.request ≡ Some verdict = (λ j. begun_of (known j) (sym own j) m.request) ∙ op in
@@ -338,7 +341,7 @@ module _ (b : Board) (c : Config) (may : AllowRelation) (limits : IsWithinLimits
 
       words : (d : DomId) → IsCall b c may m → m.old.seat.view.position ≡ i → SeatNow c may o.g (dom_at k i) (firsts i) (Going ms m xs) → MakesStep k (way_of c may m (all_shown xs)) (shown_by x) v w → Ordered b c may ((i, x.1) ∷ x.0) firsts stages
       words _ call at-old seat walk =
-          let d = dom_at k i in let r = goes-so b c may limits is o.g i l m ms (firsts i) xs x call at-old (named i l) o.reached o.agree seat o.bounded walk (Makes going.step) None going.next refl in
+          let d = dom_at k i in let r = goes-so b c may limits is o.g i l m ms (firsts i) xs x call at-old (named i l) o.reached o.agree seat o.bounded walk (actions.Step going.step) None going.next refl in
           one-more b c may limits is x.0 ((i, x.1) ∷ x.0) firsts (put i (Going ms m xs) stages) stages i (stepped d r.step (seen_in_step x.1) None) o l refl (named i l) r.right r.reached r.agree (then-more k d i r.step (seen_in_step x.1) x.1 (AreStepsOf k o.order) x.0 refl r.the refl o.steps)
           (writes-by-words k o.g x.0 i d r.step x.1 (seen_in_step x.1) None r.quiet r.the o.writes) (bounded-step k o.g d r.step (seen_in_step x.1) None r.inner o.bounded)
           (λ j n. sym (put-else i (Going ms m xs) stages j n))
@@ -347,7 +350,7 @@ module _ (b : Board) (c : Config) (may : AllowRelation) (limits : IsWithinLimits
 
       access : (d : DomId) → IsCall b c may m → m.old.seat.view.position ≡ i → SeatNow c may o.g (dom_at k i) (firsts i) (Going ms m xs) → IsNextAccess k i (bytes_given_by m.request) (way_of c may m) xs x v w → Ordered b c may ((i, x.1) ∷ x.0) firsts stages
       access _ call at-old seat q =
-          let d = dom_at k i in let r = accesses-so b c may limits is o.g i l m ms (firsts i) xs x call at-old (named i l) o.reached o.agree o.writes seat o.bounded v w q.0 q.1 q.2 (Makes going.step) None going.next refl refl in
+          let d = dom_at k i in let r = accesses-so b c may limits is o.g i l m ms (firsts i) xs x call at-old (named i l) o.reached o.agree o.writes seat o.bounded v w q.0 q.1 q.2 (actions.Step going.step) None going.next refl refl in
           one-more b c may limits is x.0 ((i, x.1) ∷ x.0) firsts (put i (Going ms m xs) stages) stages i (stepped d r.step (seen_in_step x.1) None) o l refl (named i l) r.right r.reached r.agree (then-more k d i r.step (seen_in_step x.1) x.1 (AreStepsOf k o.order) x.0 refl r.the refl o.steps)
           r.writes r.bounded
           (λ j n. sym (put-else i (Going ms m xs) stages j n))
@@ -412,7 +415,7 @@ module _ (b : Board) (c : Config) (may : AllowRelation) (limits : IsWithinLimits
           (ends-told b c may limits is i l (firsts i) (named i l) o.g ms m xs x v w verdict call seat r leave at-v at-w view steps))
 
       -- its last step is its access
-      ends : (answer : Answer) (z : Step) → way_of c may m (all_shown xs) ≡ Some (Makes z) → AccessedAs k i (bytes_given_by m.request) z v w x → way_of c may m (all_shown (x ∷ xs)) ≡ Some (Done Granted) → AnswersAccess o.g z answer → one_if_mapped (Some answer) ≡ 0
+      ends : (answer : Answer) (z : Step) → way_of c may m (all_shown xs) ≡ Some (actions.Step z) → AccessedAs k i (bytes_given_by m.request) z v w x → way_of c may m (all_shown (x ∷ xs)) ≡ Some (Done Granted) → AnswersAccess o.g z answer → one_if_mapped (Some answer) ≡ 0
           → items_by_outcome d (way_of c may m) m.request m.outcome m.steps ≡ items_of_call d (way_of c may m) m.request (Some answer) (x ∷ xs) → KeepsMappings m.old.mappings m.new.mappings → m.new.seat.view ≡ w
           → Ordered b c may ((i, x.1) ∷ x.0) firsts stages
       ends answer z next so then tells plain items keeps view =
@@ -426,16 +429,16 @@ module _ (b : Board) (c : Config) (may : AllowRelation) (limits : IsWithinLimits
       by : (out : CallOutcome) → m.outcome ≡ out → IsAnswered b c may m.request out m.steps m.old m.new → Ordered b c may ((i, x.1) ∷ x.0) firsts stages
       by Starved out a = absurd (no-head x xs (sym made ∙ a.0))
       by (Read bytes) out a =
-          let t = a.0 in let given = bytes_given_by m.request in let z : Step = ReadBytes t.dom t.frame t.off t.len in
-          let last : Moment = (t.made.past, Frame (position_in k.ids t.dom) t.frame (frames.Read t.off bytes.bytes.items)) in
+          let t = a.0 in let given = bytes_given_by m.request in let z : Step = call_steps.Read t.dom t.frame t.off t.len in
+          let last : Moment = (t.made.past, Frame (position_in k.ids t.dom) t.frame (frame_steps.Read t.off bytes.bytes.items)) in
           let all : last ∷ [] ≡ x ∷ xs = sym t.step ∙ made in
           let so : AccessedAs k i given z v w x = subst (LastIs k i given z m.old.seat.view) all (read-as k i given t.dom t.frame t.off t.len bytes.bytes.items m.old.seat.view m.new.seat.view (view_after (last ∷ []) m.old.seat.view) t.made refl t.length_is) in
-          let next : way_of c may m (all_shown xs) ≡ Some (Makes z) = subst (LastNext (way_of c may m) z) all t.next in
+          let next : way_of c may m (all_shown xs) ≡ Some (actions.Step z) = subst (LastNext (way_of c may m) z) all t.next in
           let then : way_of c may m (all_shown (x ∷ xs)) ≡ Some (Done Granted) = ap (λ (q : List Moment). way_of c may m (all_shown q)) (sym all) ∙ t.done in
           let agree : WritesAgree k o.g t.made.past = subst (WritesAgree k o.g) (ap (λ (q : Moment). q.0) (sym (head-same _ _ _ _ all))) o.writes in
           let had = read-bytes c k is limits o.g t.made.past t.dom t.frame t.off bytes.bytes.items t.made.inside t.made.access.recorded agree in
-          let tells : AnswersAccess o.g z (BytesAnswer bytes) = (bytes, refl, had ∙ ap (λ (n : ℕ). slice_range (contents_at o.g t.dom.0 t.frame) t.off (t.off + n)) t.length_is) in
-          ends (BytesAnswer bytes) z next so then tells refl (λ j. items_by_outcome d (way_of c may m) m.request (out j) (made j)) a.1
+          let tells : AnswersAccess o.g z (answers.Bytes bytes) = (bytes, refl, had ∙ ap (λ (n : ℕ). slice_range (contents_at o.g t.dom.0 t.frame) t.off (t.off + n)) t.length_is) in
+          ends (answers.Bytes bytes) z next so then tells refl (λ j. items_by_outcome d (way_of c may m) m.request (out j) (made j)) a.1
           (t.made.view ∙ ap (λ (q : List Moment). view_after q m.old.seat.view) all)
       by Wrote out a =
           let t = a.0 in let given = bytes_given_by m.request in
@@ -446,23 +449,23 @@ module _ (b : Board) (c : Config) (may : AllowRelation) (limits : IsWithinLimits
           ⊎_elim (λ (step : MakesStep k (way_of c may m (all_shown xs)) (shown_by x) v w).
           told Granted tt step then items (leaves (asked m.request) Granted m.old.mappings m.new.mappings t.other a.1) view)
           (λ (q : IsNextAccess k i given (way_of c may m) xs x v w).
-          ends AnswerDone q.0 q.1 q.2 then (tells-done o.g k given q.0 v w q.3) refl items a.1 view)
+          ends answers.Done q.0 q.1 q.2 then (tells-done o.g k given q.0 v w q.3) refl items a.1 view)
           (turn-of k i given (way_of c may m) xs x m.old.seat.view walk.0)
       by (Told verdict) out a =
           let t = a.1 in told verdict a.0 (walk-of verdict t).0 (done-of verdict t) (λ j. items_by_outcome d (way_of c may m) m.request (out j) (made j)) a.2 (view-of verdict t)
       by (Kept handle p) out a =
           let t = a.1 in
           let given : MayBeGiven o.g d handle p = record { old = m.old.mappings; new = m.new.mappings; agrees = seat.maps; adds = core-adds b c may limits is i l (firsts i) (named i l) m.old.mappings m.new.mappings handle p a.2 } in
-          let r = goes-so b c may limits is o.g i l m ms (firsts i) xs x call at-old (named i l) o.reached o.agree seat o.bounded (walk-of (KeptPin p) t).0 (Done (KeptPin p)) (Some (Mapped handle)) (done-of (KeptPin p) t) (handle, refl, given) in
-          let last : path (known_at s o.g d) d seat.call.0.request (values seat.call.0 ++ seen_by s o.g d r.step ∷ []) ≡ Some (Done (KeptPin p)) =
-          on-way b c may limits is o.g i l m ms (firsts i) xs x call at-old (named i l) o.reached o.agree seat o.bounded (walk-of (KeptPin p) t).0 r.step r.next (values seat.call.0 ++ seen_by s o.g d r.step ∷ [])
-          ∙ ((λ j. way_of c may m (seat.call.3 j ++ r.sees j ∷ [])) ∙ done-of (KeptPin p) t) in
+          let r = goes-so b c may limits is o.g i l m ms (firsts i) xs x call at-old (named i l) o.reached o.agree seat o.bounded (walk-of (results.Mapped p) t).0 (Done (results.Mapped p)) (Some (Mapped handle)) (done-of (results.Mapped p) t) (handle, refl, given) in
+          let last : path (known_at s o.g d) d seat.call.0.request (values seat.call.0 ++ seen_by s o.g d r.step ∷ []) ≡ Some (Done (results.Mapped p)) =
+          on-way b c may limits is o.g i l m ms (firsts i) xs x call at-old (named i l) o.reached o.agree seat o.bounded (walk-of (results.Mapped p) t).0 r.step r.next (values seat.call.0 ++ seen_by s o.g d r.step ∷ [])
+          ∙ ((λ j. way_of c may m (seat.call.3 j ++ r.sees j ∷ [])) ∙ done-of (results.Mapped p) t) in
           one-more b c may limits is x.0 ((i, x.1) ∷ x.0) firsts (put i (Going ms m xs) stages) stages i (stepped d r.step (seen_in_step x.1) (Some (Mapped handle))) o l refl (named i l) r.right r.reached r.agree (then-more k d i r.step (seen_in_step x.1) x.1 (AreStepsOf k o.order) x.0 refl r.the refl o.steps)
           (writes-by-words k o.g x.0 i d r.step x.1 (seen_in_step x.1) (Some (Mapped handle)) r.quiet r.the o.writes) (bounded-step k o.g d r.step (seen_in_step x.1) (Some (Mapped handle)) r.inner o.bounded) same
           (grows (stepped d r.step (seen_in_step x.1) (Some (Mapped handle))) (grows-last b c may limits is i l (firsts i) (named i l) ms m xs x r.step (Some (Mapped handle)) r.next
           (λ j. items_by_outcome d (way_of c may m) m.request (out j) (made j))))
           (subst (SeatNow c may (stepped d r.step (seen_in_step x.1) (Some (Mapped handle)) ∷ o.g) d (firsts i)) (sym e)
-          (ends-kept b c may limits is i l (firsts i) (named i l) o.g ms m xs x v w handle p call seat r last a.2 at-v at-w (view-of (KeptPin p) t) steps))
+          (ends-kept b c may limits is i l (firsts i) (named i l) o.g ms m xs x v w handle p call seat r last a.2 at-v at-w (view-of (results.Mapped p) t) steps))
 
   -- a step on a flag
 
@@ -519,7 +522,7 @@ module _ (b : Board) (c : Config) (may : AllowRelation) (limits : IsWithinLimits
         steps = (refl, (ap (position_in k.ids) dom, refl), refl, o.steps);
         writes = λ t f lt. o.writes t f lt;
         flags = o.flags;
-        looks = (ap (λ (g : Items). seen_by s g d (LookControl d x.gref)) o.items ∙ ap (λ (w : ℕ). Word w) word, o.looks);
+        looks = (ap (λ (g : History). seen_by s g d (LookControl d x.gref)) o.items ∙ ap (λ (w : ℕ). Word w) word, o.looks);
         bounded = o.bounded;
         own = own-more b c may limits is o.order (put i (Resting ms) stages) stages i y l refl same (grows-by c may d i y stages (Resting ms) (Resting (Look x ∷ ms)) e refl) o.own;
         each = λ j lj. elim (cases_eq i j) [

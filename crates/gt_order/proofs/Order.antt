@@ -10,18 +10,18 @@ use Rattle.gt_word_history.specs.History.{StepHistory, Layout, Moment, part_of, 
 use Rattle.gt_word_history.specs.Rule.{layout_of, position_in}
 use Rattle.gt_word_history.specs.Steps.{StoodWith}
 use Rattle.gt_word_history.specs.Views.{with_step}
-use Rattle.gt_word_history.specs.declared.view.FrameStep.TheVariants as frames
+use Rattle.gt_word_history.specs.declared.view.FrameStep.TheVariants as frame_steps
 use Rattle.gt_word_history.specs.declared.view.SeatStep.TheVariants.{Flag, Frame}
 use Rattle.gt_word_history.specs.declared.view.SeatStep.{SeatStep}
 use Rattle.gt_word_history.specs.declared.view.View.{View}
 use Rattle.gt_model.specs.Asking.{bytes_given_by}
-use Rattle.gt_model.specs.declared.action.Action.TheVariants.{Step as Makes}
+use Rattle.gt_model.specs.declared.action.Action.TheVariants as actions
 use Rattle.gt_model.specs.declared.action.CallResult.{CallResult}
-use Rattle.gt_model.specs.declared.action.CallResult.TheVariants.{Mapped as KeptPin}
+use Rattle.gt_model.specs.declared.action.CallResult.TheVariants as results
 use Rattle.gt_model.specs.declared.action.Step.{Step}
-use Rattle.gt_model.specs.declared.action.Step.TheVariants.{Read as ReadBytes}
+use Rattle.gt_model.specs.declared.action.Step.TheVariants as call_steps
 use Rattle.gt_core.specs.GoingOn.{CanBeReached}
-use Rattle.gt_model.specs.History.{History as Items, setting_of}
+use Rattle.gt_model.specs.History.{History, setting_of}
 use Rattle.gt_model.specs.Legal.{Legal}
 use Rattle.gt_live.proofs.Walking.{after-position}
 use Rattle.gt_live.specs.Domains.{AllowRelation}
@@ -67,7 +67,7 @@ module _ (b : Board) (c : Config) (may : AllowRelation) (limits : IsWithinLimits
 
   -- the call goes back by one step
   back : (h : StepHistory) (p : ℕ × SeatStep) (i : ℕ) (ms : List DomainAct) (m : CallMade) (xs : List Moment) (x : Moment) → p.0 ≡ i → AreDeeds b c may (firsts i) ms → IsAtRest (domain_after (firsts i) ms) m.old → IsCall b c may m → m.old.seat.view.position ≡ i
-      → (z : Step) × (way_of c may m (all_shown xs) ≡ Some (Makes z)) × StoodWith (Unit {0}) k x.0 (view_after xs m.old.seat.view) → IsCallWalk k (bytes_given_by m.request) (way_of c may m) m.old.seat.view xs
+      → (z : Step) × (way_of c may m (all_shown xs) ≡ Some (actions.Step z)) × StoodWith (Unit {0}) k x.0 (view_after xs m.old.seat.view) → IsCallWalk k (bytes_given_by m.request) (way_of c may m) m.old.seat.view xs
       → (view_after (x ∷ xs) m.old.seat.view).steps ≡ part_of i (p ∷ h) → (view_after (x ∷ xs) m.old.seat.view).past ≡ up_to i (p ∷ h)
       → ((x.0 ≡ h) × (x.1 ≡ p.1)) × Fits b c may h i (firsts i) (Going ms m xs)
   back h p i ms m xs x here calls rest call at newest walk steps past =
@@ -130,7 +130,7 @@ module _ (b : Board) (c : Config) (may : AllowRelation) (limits : IsWithinLimits
           some-steps (Read bytes) a = no-head _ _ (ap (λ (q : View). q.steps) (sym a.0.made.view) ∙ (subst (Fits b c may [] n (firsts n)) e (f n l)).steps)
           some-steps Wrote a = no-head x.1 _ (ap (λ (q : View). q.steps) (sym (a.0.view ∙ ap (λ (z : List Moment). view_after z m.old.seat.view) made)) ∙ (subst (Fits b c may [] n (firsts n)) e (f n l)).steps)
           some-steps (Told verdict) a = view-then verdict a.1 ((subst (Fits b c may [] n (firsts n)) e (f n l)).steps)
-          some-steps (Kept handle p) a = view-then (KeptPin p) a.1 ((subst (Fits b c may [] n (firsts n)) e (f n l)).steps)
+          some-steps (Kept handle p) a = view-then (results.Mapped p) a.1 ((subst (Fits b c may [] n (firsts n)) e (f n l)).steps)
 
       no-flags : (ms : List DomainAct) (x : FlagMade) (st : ℕ → Stage) → st n ≡ Resting (OnFlag x ∷ ms) → FitAll [] st → Ordered b c may [] firsts st
       no-flags ms x st e f =
@@ -189,7 +189,7 @@ module _ (b : Board) (c : Config) (may : AllowRelation) (limits : IsWithinLimits
           at-old : m.old.seat.view.position ≡ i
           at-old = ap (λ (z : SeatOf). z.view.position) fit.is.1.seat ∙ (placed b c may limits is firsts new i l ms fit.is.2).0
 
-          goes : (z : Step) × (way_of c may m (all_shown xs) ≡ Some (Makes z)) × StoodWith (Unit {0}) k x.0 (view_after xs m.old.seat.view) → IsCallWalk k (bytes_given_by m.request) (way_of c may m) m.old.seat.view xs → m.new.seat.view ≡ view_after (x ∷ xs) m.old.seat.view
+          goes : (z : Step) × (way_of c may m (all_shown xs) ≡ Some (actions.Step z)) × StoodWith (Unit {0}) k x.0 (view_after xs m.old.seat.view) → IsCallWalk k (bytes_given_by m.request) (way_of c may m) m.old.seat.view xs → m.new.seat.view ≡ view_after (x ∷ xs) m.old.seat.view
               → Ordered b c may (p ∷ h) firsts st
           goes newest walk view =
               let bk = back h p i ms m xs x refl fit.is.2 fit.is.1 fit.is.0 at-old newest walk
@@ -209,8 +209,8 @@ module _ (b : Board) (c : Config) (may : AllowRelation) (limits : IsWithinLimits
           go : (o : CallOutcome) → IsAnswered b c may m.request o m.steps m.old m.new → Ordered b c may (p ∷ h) firsts st
           go Starved a = absurd (no-head x xs (sym made ∙ a.0))
           go (Read bytes) a =
-              let t = a.0 in let given = bytes_given_by m.request in let z : Step = ReadBytes t.dom t.frame t.off t.len in
-              let last : Moment = (t.made.past, Frame (position_in k.ids t.dom) t.frame (frames.Read t.off bytes.bytes.items)) in
+              let t = a.0 in let given = bytes_given_by m.request in let z : Step = call_steps.Read t.dom t.frame t.off t.len in
+              let last : Moment = (t.made.past, Frame (position_in k.ids t.dom) t.frame (frame_steps.Read t.off bytes.bytes.items)) in
               let all : last ∷ [] ≡ x ∷ xs = sym t.step ∙ made in
               let so : AccessedAs k i given z (view_after xs m.old.seat.view) (view_after (x ∷ xs) m.old.seat.view) x =
               subst (LastIs k i given z m.old.seat.view) all (read-as k i given t.dom t.frame t.off t.len bytes.bytes.items m.old.seat.view m.new.seat.view (view_after (last ∷ []) m.old.seat.view) t.made refl t.length_is) in
@@ -219,7 +219,7 @@ module _ (b : Board) (c : Config) (may : AllowRelation) (limits : IsWithinLimits
               (t.made.view ∙ ap (λ (q : List Moment). view_after q m.old.seat.view) all)
           go Wrote a = walks (subst (IsCallWalk k (bytes_given_by m.request) (way_of c may m) m.old.seat.view) made a.0.walked) (a.0.view ∙ ap (λ (z : List Moment). view_after z m.old.seat.view) made)
           go (Told verdict) a = took verdict a.1
-          go (Kept handle q) a = took (KeptPin q) a.1
+          go (Kept handle q) a = took (results.Mapped q) a.1
 
       flag-step : (i < k.domains) → ((st : ℕ → Stage) → FitAll h st → Ordered b c may h firsts st) → (ms : List DomainAct) (x : FlagMade) (st : ℕ → Stage) → st i ≡ Resting (OnFlag x ∷ ms) → FitAll (p ∷ h) st → Ordered b c may (p ∷ h) firsts st
       flag-step l rec ms x st e f =
@@ -299,9 +299,9 @@ runs-have-legal-orders b c may s seats run = by ordered
       o.order,
       record {
         reached = subst (CanBeReached (setting_of c may)) (sym o.items) o.reached;
-        legal = subst (λ (g : Items). Legal (setting_of c may) (events_of g) (trace_of g)) (sym o.items) o.legal;
+        legal = subst (λ (g : History). Legal (setting_of c may) (events_of g) (trace_of g)) (sym o.items) o.legal;
         steps = o.steps;
-        writes = subst (λ (g : Items). WritesAgree k g run.shown.history) (sym o.items) o.writes;
+        writes = subst (λ (g : History). WritesAgree k g run.shown.history) (sym o.items) o.writes;
         flags = o.flags;
         looks = o.looks;
         deeds = o.own;

@@ -7,7 +7,7 @@ use Rattle.gt_types.specs.declared.places.Spot.{Spot}
 use Rattle.gt_model.specs.declared.request.OpenRequest.TheVariants as asks
 use Rattle.gt_types.specs.Copies.{is_dest_granted, is_source_granted}
 use Rattle.gt_types.specs.declared.DomId.{DomId}
-use Rattle.gt_types.specs.declared.Dir.TheVariants.{Read as ForReading, Write as ForWriting}
+use Rattle.gt_types.specs.declared.Dir.TheVariants as dirs
 use Rattle.gt_types.specs.declared.copies.CopyArgs.{CopyArgs}
 use Rattle.gt_handles.specs.Handles.{HandleMap}
 use Rattle.gt_word_history.specs.Events.{TookPlace}
@@ -21,13 +21,14 @@ unfoldable use Rattle.gt_model.specs.Path.{without_access}
 use Rattle.gt_model.specs.Holding.{held_by}
 use Rattle.gt_model.specs.Rules.{CallerKnowledge, begun, first, granted_when, has_own_ends}
 use Rattle.gt_model.specs.declared.action.Action.{Action}
-use Rattle.gt_model.specs.declared.action.Action.TheVariants.{Done, Step as Makes}
+use Rattle.gt_model.specs.declared.action.Action.TheVariants.{Done}
+use Rattle.gt_model.specs.declared.action.Action.TheVariants as actions
 use Rattle.gt_model.specs.declared.action.CallResult.{CallResult}
 use Rattle.gt_model.specs.declared.action.CallResult.TheVariants.{Granted}
 use Rattle.gt_model.specs.declared.action.Observation.{Observation}
 use Rattle.gt_model.specs.declared.action.Observation.TheVariants.{Missed, Nothing, Taken, Word}
 use Rattle.gt_model.specs.declared.action.Step.{Step}
-use Rattle.gt_model.specs.declared.action.Step.TheVariants.{Copy as CopyBytes, Read as ReadBytes, Write as WriteBytes}
+use Rattle.gt_model.specs.declared.action.Step.TheVariants as call_steps
 use Rattle.gt_model.specs.declared.held.AccessPath.TheVariants.{Own}
 use Rattle.gt_model.specs.declared.held.HeldPin.{HeldPin}
 use Rattle.gt_model.specs.declared.request.Request.TheVariants as requests
@@ -45,11 +46,11 @@ use Rattle.gt_order.specs.Calling.{HalvesAreMade, LostCopiesAreMade}
 
 -- a step that was made on the words is no access
 words-only : (k : Layout) (o : Option Action) (seen : Observation) (v w : View) → MakesStep k o seen v w → is_copy_access o ≡ false
-words-only k (Some (Makes (CopyBytes from to len))) (Word n) v w made = absurd made
-words-only k (Some (Makes (CopyBytes from to len))) Taken v w made = absurd made
-words-only k (Some (Makes (CopyBytes from to len))) (Missed n) v w made = absurd made
-words-only k (Some (Makes (CopyBytes from to len))) Nothing v w made = absurd made
-words-only k (Some (Makes s)) seen v w made = refl
+words-only k (Some (actions.Step (call_steps.Copy from to len))) (Word n) v w made = absurd made
+words-only k (Some (actions.Step (call_steps.Copy from to len))) Taken v w made = absurd made
+words-only k (Some (actions.Step (call_steps.Copy from to len))) (Missed n) v w made = absurd made
+words-only k (Some (actions.Step (call_steps.Copy from to len))) Nothing v w made = absurd made
+words-only k (Some (actions.Step s)) seen v w made = refl
 words-only k (Some (Done r)) seen v w made = refl
 words-only k None seen v w made = refl
 
@@ -104,7 +105,7 @@ module _ (k : Layout) (way : Continuation) (v : View) where
   )
 
   -- a copy whose access could not be made
-  pub probed : (from to : Spot) (len : ℕ) (w : View) → EndsAfterAccess k way (CopyBytes from to len) IsUnmade v w → Called k (without_access way) Granted v w
+  pub probed : (from to : Spot) (len : ℕ) (w : View) → EndsAfterAccess k way (call_steps.Copy from to len) IsUnmade v w → Called k (without_access way) Granted v w
   probed from to len w a =
       let access : is_copy_access (way (all_shown a.comes.steps)) ≡ true = ap is_copy_access a.comes.next in
       let mid : a.after ≡ view_after a.comes.steps v = a.did ∙ a.comes.view in
@@ -122,35 +123,35 @@ module _ (k : Layout) (way : Continuation) (v : View) where
 -- a copy between two frames of the caller's own
 own-ways : (c : CallerKnowledge) (k : Layout) (caller : DomId) (args : CopyArgs) → is_source_granted args ≡ false → is_dest_granted args ≡ false → IsOneAccess k (copies c caller args)
 own-ways c k caller args source dest =
-    subst (λ (b : Bool). IsOneAccess k (reaches c b (end_leg c caller args.source ForReading args.len) (source_pair caller args) [] (to_dest c caller args))) (sym source)
-    (subst (λ (b : Bool). IsOneAccess k (reaches c b (end_leg c caller args.dest ForWriting args.len) (dest_pair caller Own) (held_by Own) (accesses caller args Own))) (sym dest)
-    (one-access k (CopyBytes (place_of caller args.source Own) (place_of caller args.dest Own) args.len) tt))
+    subst (λ (b : Bool). IsOneAccess k (reaches c b (end_leg c caller args.source dirs.Read args.len) (source_pair caller args) [] (to_dest c caller args))) (sym source)
+    (subst (λ (b : Bool). IsOneAccess k (reaches c b (end_leg c caller args.dest dirs.Write args.len) (dest_pair caller Own) (held_by Own) (accesses caller args Own))) (sym dest)
+    (one-access k (call_steps.Copy (place_of caller args.source Own) (place_of caller args.dest Own) args.len) tt))
 
 both-own : (a b : Bool) → (not a && not b) ≡ true → (a ≡ false) × (b ≡ false)
 both-own false false e = (refl, refl)
 both-own true b e = cc
 both-own false true e = cc
 
-no-end : (verdict : CallResult) (vs : List Observation) (s : Step) → ended verdict vs ≡ Some (Makes s) → ⊥
+no-end : (verdict : CallResult) (vs : List Observation) (s : Step) → ended verdict vs ≡ Some (actions.Step s) → ⊥
 no-end verdict [] s e = cc
 no-end verdict (v ∷ vs) s e = cc
 
 -- by whether a rule, or that there is nothing to pin, answers the probe at its beginning
 module _ (c : CallerKnowledge) (k : Layout) (caller : DomId) (args : CopyArgs) (v w : View) where
-  granted : (from to : Spot) (len : ℕ) (b : Bool) → has_own_ends args ≡ b → EndsAfterAccess k (copies c caller args) (CopyBytes from to len) IsUnmade v w
+  granted : (from to : Spot) (len : ℕ) (b : Bool) → has_own_ends args ≡ b → EndsAfterAccess k (copies c caller args) (call_steps.Copy from to len) IsUnmade v w
       → Called k (after_beginning (first (None ∷ granted_when b ∷ [])) (without_access (copies c caller args))) Granted v w
   granted from to len false is a = probed k (copies c caller args) v from to len w a
   granted from to len true is a =
       let own = both-own (is_source_granted args) (is_dest_granted args) is in
-      let u = alone k (copies c caller args) (CopyBytes from to len) IsUnmade v w (own-ways c k caller args own.0 own.1) a in
+      let u = alone k (copies c caller args) (call_steps.Copy from to len) IsUnmade v w (own-ways c k caller args own.0 own.1) a in
       record { steps = []; view = u.end ∙ (a.did ∙ u.at); walked = tt; moments = tt; answered = refl; carried = tt }
 
   -- the only access of a copy is a copy
   by-access : (access : Step) → IsToFrames c false access → IsAccess access → EndsAfterAccess k (copies c caller args) access IsUnmade v w
       → Called k (after_beginning (first (None ∷ granted_when (has_own_ends args) ∷ [])) (without_access (copies c caller args))) Granted v w
-  by-access (CopyBytes from to len) frames is a = granted from to len (has_own_ends args) refl a
-  by-access (ReadBytes dom frame off len) frames is a = absurd (false≢true frames.0)
-  by-access (WriteBytes dom frame off len) frames is a = absurd (false≢true frames.0)
+  by-access (call_steps.Copy from to len) frames is a = granted from to len (has_own_ends args) refl a
+  by-access (call_steps.Read dom frame off len) frames is a = absurd (false≢true frames.0)
+  by-access (call_steps.Write dom frame off len) frames is a = absurd (false≢true frames.0)
   by-access access frames is a = absurd is
 
   by-rules : (access : Step) (o : Option CallResult) → begun c caller (asks.Copy args) ≡ o → EndsAfterAccess k (after_beginning o (copies c caller args)) access IsUnmade v w
@@ -167,7 +168,7 @@ lost-copies may m d e args access stays a kept =
 
 pub halves-made : {P : Type 0} (may : P → AllowRelation) (m : Monitor P) → HalvesAreMade may m
 halves-made may m d mid e args h before comes ends afterwards =
-    let c = knowledge m.config (may m.rights) d in let k = m.words.layout in let access = CopyBytes h.from h.to h.len in
+    let c = knowledge m.config (may m.rights) d in let k = m.words.layout in let access = call_steps.Copy h.from h.to h.len in
     let whole = whole-copy c k h.call h.from h.to h.len d.seat.view mid.seat.view e.seat.view comes.access ends.gives in
     let way : EndsAfterAccess k (path_of c d.seat.dom (requests.Copy args)) access IsUnmade d.seat.view e.seat.view =
     subst (λ (y : Continuation). EndsAfterAccess k y access IsUnmade d.seat.view e.seat.view) (sym comes.way) whole.0 in

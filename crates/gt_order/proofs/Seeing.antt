@@ -15,17 +15,16 @@ use Rattle.gt_word_history.specs.declared.view.SeatStep.{SeatStep}
 use Rattle.gt_word_history.specs.declared.view.SeatStep.TheVariants.{Entry, Header}
 use Rattle.gt_model.specs.declared.action.Observation.TheVariants.{Word, Taken, Missed}
 use Rattle.gt_model.specs.declared.action.Step.{Step}
-use Rattle.gt_model.specs.declared.action.Step.TheVariants.{LookHeader, LookControl, LookBody, Pin as PinStep, Unpin}
-use Rattle.gt_model.specs.declared.action.Step.TheVariants.{StoreBody, StoreHeader, Exchange, Read as ReadBytes}
-use Rattle.gt_model.specs.declared.action.Step.TheVariants.{Write as WriteBytes, Copy as CopyBytes}
-use Rattle.gt_model.specs.History.{History as Items, Setting, body_at, exchange_sees, seen_by, table_at, word_at}
-use Rattle.gt_model.specs.History.{setting_of}
+use Rattle.gt_model.specs.declared.action.Step.TheVariants.{LookHeader, LookControl, LookBody, Unpin, StoreBody}
+use Rattle.gt_model.specs.declared.action.Step.TheVariants.{StoreHeader, Exchange}
+use Rattle.gt_model.specs.declared.action.Step.TheVariants as call_steps
+use Rattle.gt_model.specs.History.{History, Setting, body_at, exchange_sees, seen_by, table_at, word_at, setting_of}
 use Rattle.gt_live.specs.Walks.{seen_in_step}
 use Rattle.gt_order.proofs.Places.{dom-there}
 use Rattle.gt_order.specs.Agreeing.{Agree, IsThe, IsWithin, dom_at}
 use Rattle.gt_order.specs.Laws.{CoreSeesTheWords}
 
-module _ (c : Config) (s : Setting) (k : Layout) (g : Items) (h : StepHistory) (i : ℕ) (is : k ≡ layout_of c) (agree : Agree s k g h) (inside : i < k.domains) where
+module _ (c : Config) (s : Setting) (k : Layout) (g : History) (h : StepHistory) (i : ℕ) (is : k ≡ layout_of c) (agree : Agree s k g h) (inside : i < k.domains) where
   -- the words of another domain, and of the actor's own
 
   pub header-there : (d : DomId) (t : ℕ) → HasDomain k d → t ≡ position_in k.ids d → header_word (table_at s g d) ≡ word_after k h (header_place t)
@@ -53,16 +52,16 @@ module _ (c : Config) (s : Setting) (k : Layout) (g : Items) (h : StepHistory) (
   sees (LookControl d q) (Entry t r (Looked n)) w a b = ap (λ (z : ℕ). Word z) (word-there d t r q.0 w.0 w.1 a.0 a.1 ∙ sym b)
   sees (LookBody d q half) (Entry t r (ReadBody z n)) w a b =
       ap (λ (z : ℕ). Word z) (body-there d t r q.0 half w.0 w.1 a.0 a.1 ∙ (ap (λ (y : BodyWord). word_after k h (place t r (half_index y))) (sym a.2) ∙ sym b))
-  sees (PinStep p) (Entry t r (Pinned d e y)) w a b = taken _ p.word e (word-there p.dom t r p.gref.0 w.0 w.1 a.0 a.1 ∙ sym b) a.3
-  sees (PinStep p) (Entry t r (PinMissed d e f n)) w a b = missed _ p.word e n (word-there p.dom t r p.gref.0 w.0 w.1 a.0 a.1 ∙ sym b.0) b.1 a.3
+  sees (call_steps.Pin p) (Entry t r (Pinned d e y)) w a b = taken _ p.word e (word-there p.dom t r p.gref.0 w.0 w.1 a.0 a.1 ∙ sym b) a.3
+  sees (call_steps.Pin p) (Entry t r (PinMissed d e f n)) w a b = missed _ p.word e n (word-there p.dom t r p.gref.0 w.0 w.1 a.0 a.1 ∙ sym b.0) b.1 a.3
   sees (Unpin p holder) (Entry t r (Unpinned d y)) w a b = refl
   sees (StoreBody q half n) (Entry t r (StoredBody z m)) w a b = refl
   sees (StoreHeader version frames) (Header t (header.Stored n)) w a b = refl
   sees (Exchange q looked change) (Entry t r (Changed z e n y)) w a b = taken _ looked e (own-word t r q.0 w a.0 a.1 ∙ sym b) a.3
   sees (Exchange q looked change) (Entry t r (ChangeMissed z e f n)) w a b = missed _ looked e n (own-word t r q.0 w a.0 a.1 ∙ sym b.0) b.1 a.3
-  sees (ReadBytes dom frame off len) x w a b = absurd w
-  sees (WriteBytes dom frame off len) x w a b = absurd w
-  sees (CopyBytes from to len) x w a b = absurd w
+  sees (call_steps.Read dom frame off len) x w a b = absurd w
+  sees (call_steps.Write dom frame off len) x w a b = absurd w
+  sees (call_steps.Copy from to len) x w a b = absurd w
   sees step x w a b = absurd a
 
 pub core-sees : CoreSeesTheWords

@@ -11,19 +11,19 @@ use Rattle.gt_word_history.specs.History.{StepHistory, Layout, Moment, part_of, 
 use Rattle.gt_word_history.specs.Rule.{layout_of}
 use Rattle.gt_word_history.specs.declared.view.View.{View}
 use Rattle.gt_model.specs.Asking.{asked, bytes_given_by}
-use Rattle.gt_model.specs.declared.action.Action.TheVariants.{Step as Makes}
+use Rattle.gt_model.specs.declared.action.Action.TheVariants as actions
 use Rattle.gt_model.specs.declared.action.Step.{Step}
 use Rattle.gt_core.proofs.AgreementKept.{open_call-other}
 use Rattle.gt_core.proofs.Mappings.{mappings-same}
 use Rattle.gt_core.proofs.Playing.{history-more, legal-more}
 use Rattle.gt_model.proofs.Observers.{other-known, other-maps, other-pins}
 use Rattle.gt_core.specs.GoingOn.{CanBeReached}
-use Rattle.gt_model.specs.History.{History as Items, Setting, Underway, mapping_named, known_at, maps_answered_at}
-use Rattle.gt_model.specs.History.{mappings_at, open_call, values, setting_of}
+use Rattle.gt_model.specs.History.{History, Setting, Underway, mapping_named, known_at, maps_answered_at, mappings_at}
+use Rattle.gt_model.specs.History.{open_call, values, setting_of}
 use Rattle.gt_model.specs.Legal.{IsRight, Legal, MayDo, history_after}
 use Rattle.gt_core.specs.Standing.{MappingsAgree}
 use Rattle.gt_model.specs.declared.trace.Answer.{Answer}
-use Rattle.gt_model.specs.declared.trace.Element.TheVariants.{Item as Did}
+use Rattle.gt_model.specs.declared.trace.Element.TheVariants as elements
 use Rattle.gt_model.specs.declared.trace.ItemEvent.{ItemEvent}
 use Rattle.gt_model.specs.declared.trace.ItemEvent.TheVariants.{Began, Stepped}
 use Rattle.gt_model.specs.declared.trace.Item.{Item}
@@ -65,7 +65,7 @@ pub record IsGoing (b : Board) (c : Config) (may : AllowRelation) (first : Domai
   pub call : IsCall b c may m
   pub walked : IsCallWalk b.layout (bytes_given_by m.request) (way_of c may m) m.old.seat.view xs
   pub step : Step
-  pub next : way_of c may m (all_shown xs) ≡ Some (Makes step)
+  pub next : way_of c may m (all_shown xs) ≡ Some (actions.Step step)
 
 abbrev pub IsStage : Board → Config → AllowRelation → Domain → Stage → Type 0
 IsStage b c may first (Resting ms) = AreDeeds b c may first ms
@@ -78,19 +78,19 @@ pub record Fits (b : Board) (c : Config) (may : AllowRelation) (h : StepHistory)
   pub past : (view_now first stage).past ≡ up_to i h
 
 -- the open call of a domain
-abbrev pub CallNow : Items → DomId → Stage → Type 0
+abbrev pub CallNow : History → DomId → Stage → Type 0
 CallNow g d (Resting ms) = open_call g d.0 ≡ None
 CallNow g d (Going ms m xs) = (cl : Underway) × (open_call g d.0 ≡ Some cl) × (cl.request ≡ asked m.request) × (values cl ≡ all_shown xs) × (cl.given ≡ bytes_given_by m.request)
 
 -- what the items have made of a domain
-pub record SeatNow (c : Config) (may : AllowRelation) (g : Items) (d : DomId) (first : Domain) (stage : Stage) : Type 0 where
+pub record SeatNow (c : Config) (may : AllowRelation) (g : History) (d : DomId) (first : Domain) (stage : Stage) : Type 0 where
   pub maps : MappingsAgree (domain_now first stage).mappings (mappings_at g d.0) (maps_answered_at g d.0)
   pub known : known_at (setting_of c may) g d ≡ knowledge c may (domain_now first stage)
   pub call : CallNow g d stage
 
 -- an order of what all domains did by then
 pub record Ordered (b : Board) (c : Config) (may : AllowRelation) (h : StepHistory) (firsts : ℕ → Domain) (stages : ℕ → Stage) : Type 0 where
-  pub g : Items
+  pub g : History
   pub order : RunOrder
   pub items : items_in order ≡ g
   pub reached : CanBeReached (setting_of c may) g
@@ -113,7 +113,7 @@ module _ (b : Board) (c : Config) (may : AllowRelation) (limits : IsWithinLimits
   abbrev s : Setting
   s = setting_of c may
 
-  pub other-seat : (g : Items) (item : Item) (i j : ℕ) (first : Domain) (stage : Stage) → item.actor ≡ dom_at k i → i < k.domains → j < k.domains → i ≢ j → SeatNow c may g (dom_at k j) first stage
+  pub other-seat : (g : History) (item : Item) (i j : ℕ) (first : Domain) (stage : Stage) → item.actor ≡ dom_at k i → i < k.domains → j < k.domains → i ≢ j → SeatNow c may g (dom_at k j) first stage
       → SeatNow c may (item ∷ g) (dom_at k j) first stage
   other-seat g item i j first stage own a b' n seat = record {
     maps = mappings-same _ _ _ _ _ (sym (other-pins mapping_named item g d.0 apart)) (sym (other-maps item g d.0 apart)) seat.maps;
@@ -133,17 +133,17 @@ module _ (b : Board) (c : Config) (may : AllowRelation) (limits : IsWithinLimits
 
   -- the trace of the items is one element longer
 
-  trace-back : (g : Items) → history_after [] (trace_of g) ≡ g
+  trace-back : (g : History) → history_after [] (trace_of g) ≡ g
   trace-back [] = refl
-  trace-back (i ∷ g) = history-more [] (trace_of g) (Did i) ∙ ap (λ (z : Items). i ∷ z) (trace-back g)
+  trace-back (i ∷ g) = history-more [] (trace_of g) (elements.Item i) ∙ ap (λ (z : History). i ∷ z) (trace-back g)
 
-  may-do : (g : Items) (d : DomId) (x : ItemEvent) (a : Option Answer) → let item : Item = record { actor = d; happened = x; answer = a } in domain_of c.domains.items d ≢ None → IsRight s g item → MayDo s g (event_in d x) (Did item)
+  may-do : (g : History) (d : DomId) (x : ItemEvent) (a : Option Answer) → let item : Item = record { actor = d; happened = x; answer = a } in domain_of c.domains.items d ≢ None → IsRight s g item → MayDo s g (event_in d x) (elements.Item item)
   may-do g d (Began request) a named right = (named, (refl, refl), right)
   may-do g d (Stepped step seen) a named right = (named, (refl, tt), right)
 
-  pub legal-longer : (g : Items) (item : Item) → domain_of c.domains.items item.actor ≢ None → IsRight s g item → Legal s (events_of g) (trace_of g) → Legal s (events_of (item ∷ g)) (trace_of (item ∷ g))
-  legal-longer g item named right legal = legal-more s [] (events_of g) (trace_of g) (event_in item.actor item.happened) (Did item) legal
-      (subst (λ (z : Items). MayDo s z (event_in item.actor item.happened) (Did item)) (sym (trace-back g)) (may-do g item.actor item.happened item.answer named right))
+  pub legal-longer : (g : History) (item : Item) → domain_of c.domains.items item.actor ≢ None → IsRight s g item → Legal s (events_of g) (trace_of g) → Legal s (events_of (item ∷ g)) (trace_of (item ∷ g))
+  legal-longer g item named right legal = legal-more s [] (events_of g) (trace_of g) (event_in item.actor item.happened) (elements.Item item) legal
+      (subst (λ (z : History). MayDo s z (event_in item.actor item.happened) (elements.Item item)) (sym (trace-back g)) (may-do g item.actor item.happened item.answer named right))
 
   -- one thing more happens, by one domain
 
@@ -167,7 +167,7 @@ module _ (b : Board) (c : Config) (may : AllowRelation) (limits : IsWithinLimits
   one-more h' h firsts old new i item o inside own named right reached agree steps writes bounded same grows seat = record {
     g = item ∷ o.g;
     order = OfCore item ∷ o.order;
-    items = ap (λ (z : Items). item ∷ z) o.items;
+    items = ap (λ (z : History). item ∷ z) o.items;
     reached = reached;
     agree = agree;
     legal = legal-longer o.g item (subst (λ (z : DomId). domain_of c.domains.items z ≢ None) (sym own) named) right o.legal;

@@ -12,7 +12,7 @@ use Rattle.gt_run.specs.Prelude.{line_text, type_text}
 use Rattle.gt_audit.specs.Lines.{lost_text}
 use Rattle.gt_audit.specs.declared.record.Record.{Record}
 use Rattle.gt_script_runs.specs.Rights.{may_by}
-use Rattle.gt_script_runs.specs.declared.rights.ScriptPolicy.{ScriptPolicy as ScriptRights}
+use Rattle.gt_script_runs.specs.declared.rights.ScriptPolicy.{ScriptPolicy}
 use Rattle.gt_script.specs.Lists.{RunAction, RunTask}
 use Rattle.gt_script.specs.declared.tasks.RunActionBy.TheVariants.{Await, Do, Tell}
 use Rattle.gt_live.specs.Domains.{AllowRelation}
@@ -52,19 +52,19 @@ module _ {P : Type 0} (may : P → AllowRelation) (job : ThreadJob P) (unlogged 
   quiet-list [] p q leads quiet = subst IsQuiet (ap (λ (r : ListProgress). r.outcomes) (sym leads)) quiet
   quiet-list (task ∷ tasks) p q leads quiet = quiet-list tasks leads.0 q leads.2 (quiet-line task _ p leads.0 leads.1 quiet)
 
-served-quiet : (refuses : ℕ → Bool) (s : Served ScriptRights) → WasServed may_by refuses s → is_some s.job.log ≡ false → IsQuiet s.outcomes
+served-quiet : (refuses : ℕ → Bool) (s : Served ScriptPolicy) → WasServed may_by refuses s → is_some s.job.log ≡ false → IsQuiet s.outcomes
 served-quiet refuses s was unlogged = subst IsQuiet was.came (quiet-list may_by s.job unlogged (take was.number s.job.part.tasks.now) (list_start was.domain) was.left was.leads (refl, refl))
 
 -- no audit line, and no lost record
-quiet-run : (refuses : ℕ → Bool) (all : List (Served ScriptRights)) → AreServed may_by refuses all → All (λ (d : ThreadJob ScriptRights). is_some d.log ≡ false) (jobs_in all) → (audits_in all ≡ []) × (all_lost all ≡ 0)
+quiet-run : (refuses : ℕ → Bool) (all : List (Served ScriptPolicy)) → AreServed may_by refuses all → All (λ (d : ThreadJob ScriptPolicy). is_some d.log ≡ false) (jobs_in all) → (audits_in all ≡ []) × (all_lost all ≡ 0)
 quiet-run refuses [] are unlogged = (refl, refl)
 quiet-run refuses (s ∷ all) are unlogged =
-    let mine = served-quiet refuses s (All-head (WasServed may_by refuses) s all are) (All-head (λ (d : ThreadJob ScriptRights). is_some d.log ≡ false) s.job (jobs_in all) unlogged) in
-    let rest = quiet-run refuses all (All-tail (WasServed may_by refuses) s all are) (All-tail (λ (d : ThreadJob ScriptRights). is_some d.log ≡ false) s.job (jobs_in all) unlogged) in
+    let mine = served-quiet refuses s (All-head (WasServed may_by refuses) s all are) (All-head (λ (d : ThreadJob ScriptPolicy). is_some d.log ≡ false) s.job (jobs_in all) unlogged) in
+    let rest = quiet-run refuses all (All-tail (WasServed may_by refuses) s all are) (All-tail (λ (d : ThreadJob ScriptPolicy). is_some d.log ≡ false) s.job (jobs_in all) unlogged) in
     let none : audit_lines s.job.part.types.now s.outcomes ≡ [] = ap (λ (rs : List Record). flat_map (line_text (type_text (λ (name : List ℕ). name) s.job.part.types.now)) rs) mine.0 in
-    (ap (λ (l : List ℕ). l ++ audits_in all) none ∙ rest.0, ap (λ (n : ℕ). fold (λ (a : ℕ) (x : Served ScriptRights). a + lost_in x.outcomes) n all) (let lost = mine.1 in omega (arith, lost)) ∙ rest.1)
+    (ap (λ (l : List ℕ). l ++ audits_in all) none ∙ rest.0, ap (λ (n : ℕ). fold (λ (a : ℕ) (x : Served ScriptPolicy). a + lost_in x.outcomes) n all) (let lost = mine.1 in omega (arith, lost)) ∙ rest.1)
 
-run-text : (all : List (Served ScriptRights)) → (audits_in all ≡ []) × (all_lost all ≡ 0) → run_text all ≡ texts_in all
+run-text : (all : List (Served ScriptPolicy)) → (audits_in all ≡ []) × (all_lost all ≡ 0) → run_text all ≡ texts_in all
 run-text all quiet = (λ j. texts_in all ++ (quiet.0 j ++ lost_text (counted (quiet.1 j)))) ∙ append-nil (texts_in all)
 
 -- what is appended is the text of the lists
@@ -72,9 +72,9 @@ pub unlogged-text : (refuses : ℕ → Bool) (c : RunContents) (old new : Option
 unlogged-text refuses c old new wrote =
     let all = wrote.2.0 in
     let same : jobs_in all ≡ wrote.0 = wrote.2.1 in
-    let unlogged : All (λ (d : ThreadJob ScriptRights). is_some d.log ≡ false) (jobs_in all) =
-    subst (All (λ (d : ThreadJob ScriptRights). is_some d.log ≡ false)) (sym same)
-    (All-weaker (λ (d : ThreadJob ScriptRights). (d.monitor.now ≡ wrote.1.monitor) × (is_some d.log ≡ false)) (λ (d : ThreadJob ScriptRights). is_some d.log ≡ false) (λ d both. both.1) wrote.0 wrote.1.jobs_are.1) in
+    let unlogged : All (λ (d : ThreadJob ScriptPolicy). is_some d.log ≡ false) (jobs_in all) =
+    subst (All (λ (d : ThreadJob ScriptPolicy). is_some d.log ≡ false)) (sym same)
+    (All-weaker (λ (d : ThreadJob ScriptPolicy). (d.monitor.now ≡ wrote.1.monitor) × (is_some d.log ≡ false)) (λ (d : ThreadJob ScriptPolicy). is_some d.log ≡ false) (λ d both. both.1) wrote.0 wrote.1.jobs_are.1) in
     subst (Appends old new) (run-text all (quiet-run refuses all wrote.2.2 unlogged)) wrote.2.4
 
 pub unlogged-print : UnloggedRunsPrint

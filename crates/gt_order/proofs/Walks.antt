@@ -5,13 +5,14 @@ use Rattle.gt_word_history.specs.Rule.{Layout}
 use Rattle.gt_word_history.specs.declared.view.View.{View}
 use Rattle.gt_model.specs.Path.{Continuation}
 use Rattle.gt_model.specs.declared.action.Action.{Action}
-use Rattle.gt_model.specs.declared.action.Action.TheVariants.{Done, Step as Makes}
+use Rattle.gt_model.specs.declared.action.Action.TheVariants.{Done}
+use Rattle.gt_model.specs.declared.action.Action.TheVariants as actions
 use Rattle.gt_model.specs.declared.action.Observation.{Observation}
 use Rattle.gt_live.specs.Walks.{IsWalk, MakesStep, all_shown, shown_by, view_after}
 use Rattle.gt_order.specs.Runs.{IsCallWalk, MakesTurn}
 
 pub as-turn : (k : Layout) (given : List ℕ) (o : Option Action) (seen : Observation) (v w : View) → MakesStep k o seen v w → MakesTurn k given o seen v w
-as-turn k given (Some (Makes z)) seen v w m = inl m
+as-turn k given (Some (actions.Step z)) seen v w m = inl m
 as-turn k given (Some (Done r)) seen v w m = absurd m
 as-turn k given None seen v w m = absurd m
 

@@ -4,12 +4,12 @@ use Rattle.gt_order.specs.Prelude.{TABLE_ENTRIES, header_word, BodyWord, HasDoma
 use Rattle.gt_order.specs.Prelude.{half_index, part_of, word_after, header_place, id_at, place, position_in, changed}
 use Rattle.gt_order.specs.Prelude.{changed_word, entry_steps, last_record, EntryRecord, Looked, ReadBody, Pinned}
 use Rattle.gt_order.specs.Prelude.{PinMissed, Unpinned, StoredBody, Changed, ChangeMissed, SeatStep, Entry, Header}
-use Rattle.gt_order.specs.Prelude.{DomId, Step, LookHeader, LookControl, LookBody, PinStep, Unpin, StoreBody}
-use Rattle.gt_order.specs.Prelude.{StoreHeader, Exchange, Items, Setting, body_at, entry_at, generation_at, table_at}
-use Rattle.gt_order.specs.Prelude.{word_at}
+use Rattle.gt_order.specs.Prelude.{DomId, Step, LookHeader, LookControl, LookBody, Unpin, StoreBody, StoreHeader}
+use Rattle.gt_order.specs.Prelude.{Exchange, History, Setting, body_at, entry_at, generation_at, table_at, word_at}
+use Rattle.gt_model.specs.declared.action.Step.TheVariants as call_steps
 use Rattle.std.specs.Prelude.{length}
-use Rattle.gt_order.specs.Prelude.{CopyBytes, Frame, ReadBytes, WriteBytes, journal_made, patches, patches_at}
-use Rattle.gt_word_history.specs.declared.view.FrameStep.TheVariants as frames
+use Rattle.gt_order.specs.Prelude.{Frame, journal_made, patches, patches_at}
+use Rattle.gt_word_history.specs.declared.view.FrameStep.TheVariants as frame_steps
 use Rattle.gt_word_history.specs.declared.view.HeaderStep.TheVariants as header
 
 -- the domain at a position
@@ -18,7 +18,7 @@ dom_at k t = id_at k.ids t
 
 -- the items and the history have made the same: of each entry the control word, the body words, and the entry and
 -- generation that its owner knows, and of each table its header
-pub record Agree (s : Setting) (k : Layout) (g : Items) (h : StepHistory) : Type 0 where
+pub record Agree (s : Setting) (k : Layout) (g : History) (h : StepHistory) : Type 0 where
   pub words : (t r : ℕ) → t < k.domains → r < TABLE_ENTRIES → word_at s g (dom_at k t).0 r ≡ word_after k h (place t r 0)
   pub bodies : (t r : ℕ) (half : BodyWord) → t < k.domains → r < TABLE_ENTRIES
       → body_at g (dom_at k t).0 r half ≡ word_after k h (place t r (half_index half))
@@ -29,7 +29,7 @@ pub record Agree (s : Setting) (k : Layout) (g : Items) (h : StepHistory) : Type
       → generation_at s g (dom_at k t).0 r ≡ (last_record k.first (entry_steps t r (part_of t h))).generation
 
 -- items and history have written the same bytes to each frame of the run, in the same order
-abbrev pub WritesAgree : Layout → Items → StepHistory → Type 0
+abbrev pub WritesAgree : Layout → History → StepHistory → Type 0
 WritesAgree k g h = (t f : ℕ) → t < k.domains → patches_at g (dom_at k t).0 f ≡ patches (journal_made t f h)
 
 -- this step of a call by the domain at the position i is this step of its seat: on the same word, of the same kind, and
@@ -38,9 +38,9 @@ abbrev pub IsThe : Layout → ℕ → Step → SeatStep → Type 0
 IsThe k i (LookHeader d) (Header t (header.Looked n)) = t ≡ position_in k.ids d
 IsThe k i (LookControl d q) (Entry t r (Looked n)) = (t ≡ position_in k.ids d) × (r ≡ q.0)
 IsThe k i (LookBody d q half) (Entry t r (ReadBody h n)) = (t ≡ position_in k.ids d) × (r ≡ q.0) × (h ≡ half)
-IsThe k i (PinStep p) (Entry t r (Pinned d e x)) =
+IsThe k i (call_steps.Pin p) (Entry t r (Pinned d e x)) =
     (t ≡ position_in k.ids p.dom) × (r ≡ p.gref.0) × (d ≡ p.dir) × (e ≡ p.word)
-IsThe k i (PinStep p) (Entry t r (PinMissed d e f n)) =
+IsThe k i (call_steps.Pin p) (Entry t r (PinMissed d e f n)) =
     (t ≡ position_in k.ids p.dom) × (r ≡ p.gref.0) × (d ≡ p.dir) × (e ≡ p.word)
 IsThe k i (Unpin p holder) (Entry t r (Unpinned d g)) =
     (t ≡ position_in k.ids p.dom) × (r ≡ p.gref.0) × (d ≡ p.dir) × (g ≡ generation_of p.word)
@@ -51,11 +51,11 @@ IsThe k i (Exchange q looked change) (Entry t r (Changed c e n x)) =
     (t ≡ i) × (r ≡ q.0) × (c ≡ change) × (e ≡ looked)
 IsThe k i (Exchange q looked change) (Entry t r (ChangeMissed c e f n)) =
     (t ≡ i) × (r ≡ q.0) × (c ≡ change) × (e ≡ looked)
-IsThe k i (ReadBytes dom frame off len) (Frame t q (frames.Read o bytes)) =
+IsThe k i (call_steps.Read dom frame off len) (Frame t q (frame_steps.Read o bytes)) =
     (t ≡ position_in k.ids dom) × (q ≡ frame) × (o ≡ off) × (length bytes ≡ len)
-IsThe k i (WriteBytes dom frame off len) (Frame t q (frames.Wrote r)) =
+IsThe k i (call_steps.Write dom frame off len) (Frame t q (frame_steps.Wrote r)) =
     (t ≡ position_in k.ids dom) × (q ≡ frame) × (r.off ≡ off)
-IsThe k i (CopyBytes from to len) (Frame t q (frames.Copied u f o r)) =
+IsThe k i (call_steps.Copy from to len) (Frame t q (frame_steps.Copied u f o r)) =
     (t ≡ position_in k.ids to.frame.owner) × (q ≡ to.frame.number) × (r.off ≡ to.off)
     × (u ≡ position_in k.ids from.frame.owner) × (f ≡ from.frame.number) × (o ≡ from.off) × (length r.bytes ≡ len)
 IsThe k i _ _ = ⊥
@@ -65,7 +65,7 @@ abbrev pub IsWithin : Layout → Step → Type 0
 IsWithin k (LookHeader d) = HasDomain k d
 IsWithin k (LookControl d q) = HasDomain k d × (q.0 < TABLE_ENTRIES)
 IsWithin k (LookBody d q half) = HasDomain k d × (q.0 < TABLE_ENTRIES)
-IsWithin k (PinStep p) = HasDomain k p.dom × (p.gref.0 < TABLE_ENTRIES)
+IsWithin k (call_steps.Pin p) = HasDomain k p.dom × (p.gref.0 < TABLE_ENTRIES)
 IsWithin k (Unpin p holder) = HasDomain k p.dom × (p.gref.0 < TABLE_ENTRIES)
 IsWithin k (StoreBody q half n) = q.0 < TABLE_ENTRIES
 IsWithin k (Exchange q looked change) = q.0 < TABLE_ENTRIES

@@ -1,11 +1,11 @@
 -- Each call of a domain is a call of a run, by the clauses of its contract.
 use Rattle.std.specs.Prelude.{◌≡◌, ℕ, List, [], Result, Ok, Err, OnOk, OnErr}
-use Rattle.gt_order.specs.Prelude.{denial_of, DomId, GrantRef, Denial, NoFacts, N26, IsSameSeat, Moment, Handle}
-use Rattle.gt_order.specs.Prelude.{asked, CallResult, Refused, HeldPin, Request, Writing, path_of, Step}
-use Rattle.gt_order.specs.Prelude.{EndsAfterAccess}
+use Rattle.gt_order.specs.Prelude.{denial_of, DomId, GrantRef, Denial, N26, IsSameSeat, Moment, Handle, asked}
+use Rattle.gt_order.specs.Prelude.{CallResult, Refused, HeldPin, Request, Writing, path_of, Step, EndsAfterAccess}
 use Rattle.gt_order.specs.Prelude.{IsWrittenBy, AnswersWithAccess, AllowRelation, Answered, BelongsTo, KeepsPinned}
 use Rattle.gt_order.specs.Prelude.{MapAnswered, known_on, verdict_of, IsOfMapping, Removes, Domain, Monitor, Bytes}
 use Rattle.gt_order.specs.Prelude.{Copying, IsCopiedBy, IsReadBy, IsUnmade, Reading}
+use Rattle.gt_types.specs.declared.denial.Facts.TheVariants as facts
 use Rattle.gt_types.specs.declared.copies.CopyArgs.{CopyArgs}
 use Rattle.gt_model.specs.declared.action.CallResult.TheVariants.{Granted}
 use Rattle.gt_model.specs.declared.request.Request.TheVariants as requests
@@ -57,7 +57,7 @@ ReleasesAreMade may m = DropsAreMade may m (λ handle. requests.Release handle)
 abbrev pub IsOutcomeOf : Result Handle Denial → CallOutcome → Type 0
 IsOutcomeOf (Ok handle) (Kept given p) = given ≡ handle
 IsOutcomeOf (Err denial) (Told verdict) = verdict ≡ Refused denial
-IsOutcomeOf (Err denial) Starved = denial ≡ denial_of N26 NoFacts
+IsOutcomeOf (Err denial) Starved = denial ≡ denial_of N26 facts.None
 IsOutcomeOf result outcome = ⊥
 
 -- a map

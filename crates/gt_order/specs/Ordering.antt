@@ -1,12 +1,13 @@
 -- The order of a run: the steps of its history in their order, with the beginnings of its calls between them.
 use Rattle.std.specs.Prelude.{◌≡◌, ◌≢◌, ◌⊎◌, ℕ, ◌<◌, ◌==◌, if◌then◌else◌, List, [], ◌∷◌, ◌++◌, map, Option, Some, None}
-use Rattle.gt_order.specs.Prelude.{DomId, Config, StepHistory, Layout, Moment, Continuation, path_of, Action, Makes}
-use Rattle.gt_order.specs.Prelude.{GrantRef, LookControl, Observation, Setting, Word, seen_by}
-use Rattle.gt_order.specs.Prelude.{Step, LookHeader, Request, CanBeReached, Items, Legal}
-use Rattle.gt_order.specs.Prelude.{answer_of}
-use Rattle.gt_order.specs.Prelude.{setting_of, Answer, AnswerDone, BytesAnswer, MappedAnswer, Element, Did, Event, Begin, Tick}
-use Rattle.gt_order.specs.Prelude.{ItemEvent, Began, Stepped, Item, AllowRelation, knowledge, all_shown, shown_by}
+use Rattle.gt_order.specs.Prelude.{DomId, Config, StepHistory, Layout, Moment, Continuation, path_of, Action, GrantRef}
+use Rattle.gt_order.specs.Prelude.{LookControl, Observation, Setting, Word, seen_by, Step, LookHeader, Request}
+use Rattle.gt_order.specs.Prelude.{CanBeReached, History, Legal, answer_of, setting_of, Answer, Element, Event, Begin}
+use Rattle.gt_order.specs.Prelude.{Tick, ItemEvent, Began, Stepped, Item, AllowRelation, knowledge, all_shown, shown_by}
 use Rattle.gt_order.specs.Prelude.{Flag, FlagStep, Passed, Raised, domain_of, seen_in_step}
+use Rattle.gt_model.specs.declared.action.Action.TheVariants as actions
+use Rattle.gt_model.specs.declared.trace.Answer.TheVariants as answers
+use Rattle.gt_model.specs.declared.trace.Element.TheVariants as elements
 use Rattle.gt_order.specs.Agreeing.{IsThe, WritesAgree, dom_at}
 use Rattle.gt_order.specs.Runs.{CallMade, CallOutcome, DomainAct, SeatRun}
 use Rattle.gt_order.specs.Runs.DomainAct.{Call, Look, OnFlag}
@@ -36,7 +37,7 @@ abbrev pub RunOrder : Type 0
 RunOrder = List Occurrence
 
 -- the items in an order
-abbrev pub items_in : RunOrder → Items
+abbrev pub items_in : RunOrder → History
 items_in [] = []
 items_in (OfCore i ∷ o) = i ∷ items_in o
 items_in (OfFlag d flag m ∷ o) = items_in o
@@ -85,7 +86,7 @@ AreTrueLooks s (OfLook d gref word ∷ o) =
 
 -- the step that comes next; on the path of a call there is one if the call made one
 abbrev pub step_in : Option Action → Step
-step_in (Some (Makes step)) = step
+step_in (Some (actions.Step step)) = step
 step_in action = LookHeader (record { 0 = 0 })
 
 -- the item of a step of a call by the domain d, after steps with these observations, with the answer if it ends the
@@ -113,10 +114,10 @@ items_of_call d way request answer (x ∷ xs) =
 -- the core's answer to a call with this outcome
 abbrev pub answer_to : CallOutcome → Option Answer
 answer_to (Told verdict) = Some (answer_of verdict)
-answer_to (Kept handle p) = Some (MappedAnswer handle)
+answer_to (Kept handle p) = Some (answers.Mapped handle)
 answer_to Starved = None
-answer_to (Read bytes) = Some (BytesAnswer bytes)
-answer_to Wrote = Some AnswerDone
+answer_to (Read bytes) = Some (answers.Bytes bytes)
+answer_to Wrote = Some answers.Done
 
 -- the items of a call with this outcome: none if allocation failed or its access could not be made, and otherwise those
 -- of its steps
@@ -158,13 +159,13 @@ event_in d (Began request) = Begin d request
 event_in d (Stepped step seen) = Tick d
 
 -- the events of items, in order, and the trace that the items are
-abbrev pub events_of : Items → List Event
+abbrev pub events_of : History → List Event
 events_of [] = []
 events_of (i ∷ g) = events_of g ++ event_in i.actor i.happened ∷ []
 
-abbrev pub trace_of : Items → List Element
+abbrev pub trace_of : History → List Element
 trace_of [] = []
-trace_of (i ∷ g) = trace_of g ++ Did i ∷ []
+trace_of (i ∷ g) = trace_of g ++ elements.Item i ∷ []
 
 -- a legal order of the run's deeds: a core represents its items, their trace is legal for their events, its steps are
 -- those of the history in their order and wrote the same bytes, each flag is raised before it is passed, each look

@@ -3,31 +3,25 @@ pub use Rattle.atomic_table.specs.Table.{State}
 pub use Rattle.gt_model.specs.Asking.{FitsAsked, asked, bytes_given_by, bytes_of}
 pub use Rattle.gt_model.specs.Path.{Continuation, path, path_of}
 pub use Rattle.gt_model.specs.declared.action.Action.{Action}
-pub use Rattle.gt_model.specs.declared.action.Action.TheVariants.{Done, Step as Makes}
+pub use Rattle.gt_model.specs.declared.action.Action.TheVariants.{Done}
 pub use Rattle.gt_model.specs.declared.action.Observation.{Observation}
 pub use Rattle.gt_model.specs.declared.action.Observation.TheVariants.{Nothing, Word}
 pub use Rattle.gt_model.specs.declared.action.Step.{Step}
-pub use Rattle.gt_model.specs.declared.action.Step.TheVariants.{Exchange, LookBody, LookControl, LookHeader}
-pub use Rattle.gt_model.specs.declared.action.Step.TheVariants.{Pin as PinStep, StoreBody, StoreHeader, Unpin}
-pub use Rattle.gt_model.specs.declared.action.Step.TheVariants.{Copy as CopyBytes, Read as ReadBytes}
-pub use Rattle.gt_model.specs.declared.action.Step.TheVariants.{Write as WriteBytes}
+pub use Rattle.gt_model.specs.declared.action.Step.TheVariants.{Exchange, LookBody, LookControl, LookHeader, StoreBody}
+pub use Rattle.gt_model.specs.declared.action.Step.TheVariants.{StoreHeader, Unpin}
 pub use Rattle.gt_model.specs.declared.action.CallResult.{CallResult}
 pub use Rattle.gt_model.specs.declared.action.CallResult.TheVariants.{Granted, Mapped, Refused}
 pub use Rattle.gt_model.specs.declared.held.HeldPin.{HeldPin}
 pub use Rattle.gt_model.specs.declared.request.OpenRequest.{OpenRequest}
 pub use Rattle.gt_model.specs.declared.request.Request.{Request}
 pub use Rattle.gt_core.specs.Acting.{answer_of}
-pub use Rattle.gt_model.specs.History.{setting_of, History as Items, Setting, Underway, body_at, entry_at}
-pub use Rattle.gt_model.specs.History.{generation_at, known_at, open_call, patches_at, seen_by, table_at, values}
-pub use Rattle.gt_model.specs.History.{word_at}
+pub use Rattle.gt_model.specs.History.{setting_of, History, Setting, Underway, body_at, entry_at, generation_at}
+pub use Rattle.gt_model.specs.History.{known_at, open_call, patches_at, seen_by, table_at, values, word_at}
 pub use Rattle.gt_core.specs.GoingOn.{CanBeReached}
 pub use Rattle.gt_model.specs.Legal.{IsRight, Legal}
 pub use Rattle.gt_model.specs.declared.trace.Answer.{Answer}
-pub use Rattle.gt_model.specs.declared.trace.Answer.TheVariants.{Bytes as BytesAnswer, Done as AnswerDone}
-pub use Rattle.gt_model.specs.declared.trace.Answer.TheVariants.{Mapped as MappedAnswer}
 pub use Rattle.gt_model.specs.declared.trace.Bytes.{Bytes}
 pub use Rattle.gt_model.specs.declared.trace.Element.{Element}
-pub use Rattle.gt_model.specs.declared.trace.Element.TheVariants.{Item as Did}
 pub use Rattle.gt_model.specs.declared.trace.Event.{Event}
 pub use Rattle.gt_model.specs.declared.trace.Event.TheVariants.{Begin, Tick}
 pub use Rattle.gt_model.specs.declared.trace.ItemEvent.{ItemEvent}
@@ -58,7 +52,6 @@ pub use Rattle.gt_types.specs.declared.DomId.{DomId}
 pub use Rattle.gt_types.specs.declared.GrantRef.{GrantRef}
 pub use Rattle.gt_types.specs.declared.config.Config.{Config}
 pub use Rattle.gt_types.specs.declared.denial.Denial.{Denial}
-pub use Rattle.gt_types.specs.declared.denial.Facts.TheVariants.{None as NoFacts}
 pub use Rattle.gt_types.specs.declared.denial.Rule.TheVariants.{N26}
 pub use Rattle.gt_types.specs.declared.limits.TheConstants.{TABLE_ENTRIES}
 pub use Rattle.gt_words.specs.Conditions.{Board, HasDomain, IsSameSeat}

@@ -4,7 +4,8 @@ use Rattle.std.specs.Prelude.{◌≡◌, ◌≢◌, ◌⊎◌, ◌++◌, ℕ, Bo
 use Rattle.std.specs.Io.KnownBytes.{Appends}
 use Rattle.gt_types.specs.Names.{domain_of}
 use Rattle.gt_types.specs.declared.config.DomainConfig.{DomainConfig}
-use Rattle.gt_order.specs.Prelude.{DomId, Handle, Legal, N26, NoFacts, Request, denial_of}
+use Rattle.gt_order.specs.Prelude.{DomId, Handle, Legal, N26, Request, denial_of}
+use Rattle.gt_types.specs.declared.denial.Facts.TheVariants as facts
 use Rattle.gt_order.specs.RunNames.{Answer, Do, Named, RunAction, RunTask, MakesRequest, ThreadJob, WritesAll}
 use Rattle.gt_model.specs.declared.request.Request.TheVariants as requests
 use Rattle.gt_model.specs.declared.trace.Answer.TheVariants as answers
@@ -14,7 +15,7 @@ use Rattle.gt_script.specs.RunScripts.{list_of}
 use Rattle.gt_script_runs.specs.Playing.{setting_of_script}
 use Rattle.gt_script_runs.specs.Printing.{answer_line}
 use Rattle.gt_script_runs.specs.Rights.{may_by}
-use Rattle.gt_script_runs.specs.declared.rights.ScriptPolicy.{ScriptPolicy as ScriptRights}
+use Rattle.gt_script_runs.specs.declared.rights.ScriptPolicy.{ScriptPolicy}
 use Rattle.gt_run.specs.Printing.{texts_in}
 use Rattle.gt_run.specs.Runs.{AreOf, WritesScript}
 use Rattle.gt_run.specs.Serving.{AwaitsRefusedFlag, RefusesNone, gate_line}
@@ -23,7 +24,7 @@ use Rattle.gt_explore_replay.specs.Orders.{MayGive, Prints, doer, events_in, own
 
 -- the answer of a call that got no memory
 abbrev pub no_memory_answer : Answer
-no_memory_answer = answers.Denied (denial_of N26 NoFacts)
+no_memory_answer = answers.Denied (denial_of N26 facts.None)
 
 -- a call that makes no step before it has the memory that it needs: a map, or a call whose only step is an access
 abbrev pub IsAllocating : Request → Type 0
@@ -92,7 +93,7 @@ MayPrint refuses c text = (hs : List Happening) × IsRunOf refuses c hs text
 -- what a run of a script writes is a text that a run of it may print
 abbrev pub RunsArePrinted : Type 0
 RunsArePrinted =
-    (refuses : ℕ → Bool) (c : RunContents) (logged : Bool) (jobs : List (ThreadJob ScriptRights))
+    (refuses : ℕ → Bool) (c : RunContents) (logged : Bool) (jobs : List (ThreadJob ScriptPolicy))
     (old new : Option (List ℕ)) → (of : AreOf c logged jobs) → (wrote : WritesAll may_by refuses jobs old new)
     → MayPrint refuses c (texts_in wrote.0)
 

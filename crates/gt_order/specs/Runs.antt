@@ -1,15 +1,16 @@
 -- A run of the monitor: the order of all steps of all seats, and the calls that each domain made.
 use Rattle.std.specs.Prelude.{◌≡◌, ℕ, ◌<◌, All, List, [], ◌∷◌, length, Option, Some, None, ◌⊎◌}
-use Rattle.gt_order.specs.Prelude.{some, get_elem?, State, IsWithinLimits, GrantRef, Config, Board, IsSameSeat}
-use Rattle.gt_order.specs.Prelude.{Moment, Shows, layout_of, View, HandleMap, Handle, FitsAsked, asked, bytes_of}
-use Rattle.gt_order.specs.Prelude.{Continuation, path_of, Makes, Done, Nothing, Step, WriteBytes, CallResult, Granted}
-use Rattle.gt_order.specs.Prelude.{Mapped, Refused, HeldPin, OpenRequest, Request, AllowRelation, IsDomainOf}
-use Rattle.gt_order.specs.Prelude.{knowledge, IsMap, AddsMapping, KeepsMappings, Removes, IsNewDomain, Called, Domain}
-use Rattle.gt_order.specs.Prelude.{AccessesFrame, Action, Bytes, CopiesFrames, CopyBytes, DomId, Frame, Layout, Made}
-use Rattle.gt_order.specs.Prelude.{Observation, ReadBytes, Writ, all_shown, bytes_given_by, position_in, shown_by}
-use Rattle.gt_order.specs.Prelude.{FlagStep, FlagStepped, IsOfMapping, IsUnsettled, LookControl, TABLE_ENTRIES, Word}
-use Rattle.gt_order.specs.Prelude.{view_after}
-use Rattle.gt_word_history.specs.declared.view.FrameStep.TheVariants as frames
+use Rattle.gt_order.specs.Prelude.{some, get_elem?, State, IsWithinLimits, GrantRef, Config, Board, IsSameSeat, Moment}
+use Rattle.gt_order.specs.Prelude.{Shows, layout_of, View, HandleMap, Handle, FitsAsked, asked, bytes_of, Continuation}
+use Rattle.gt_order.specs.Prelude.{path_of, Done, Nothing, Step, CallResult, Granted, Mapped, Refused, HeldPin}
+use Rattle.gt_order.specs.Prelude.{OpenRequest, Request, AllowRelation, IsDomainOf, knowledge, IsMap, AddsMapping}
+use Rattle.gt_order.specs.Prelude.{KeepsMappings, Removes, IsNewDomain, Called, Domain, AccessesFrame, Action, Bytes}
+use Rattle.gt_order.specs.Prelude.{CopiesFrames, DomId, Frame, Layout, Made, Observation, Writ, all_shown}
+use Rattle.gt_order.specs.Prelude.{bytes_given_by, position_in, shown_by, FlagStep, FlagStepped, IsOfMapping}
+use Rattle.gt_order.specs.Prelude.{IsUnsettled, LookControl, TABLE_ENTRIES, Word, view_after}
+use Rattle.gt_model.specs.declared.action.Action.TheVariants as actions
+use Rattle.gt_model.specs.declared.action.Step.TheVariants as call_steps
+use Rattle.gt_word_history.specs.declared.view.FrameStep.TheVariants as frame_steps
 use Rattle.gt_model.specs.declared.request.OpenRequest.TheVariants as asks
 use Rattle.gt_live.specs.Parts.{mappings_of, seat_of}
 
@@ -54,15 +55,17 @@ TookSteps b c may request verdict steps d e =
 
 -- an access of a call, which was passed these bytes to write, was made as one step of its seat: a write or a copy
 abbrev pub MakesAccess : Layout → List ℕ → Step → View → View → Type 0
-MakesAccess k given (WriteBytes dom frame off len) v w =
+MakesAccess k given (call_steps.Write dom frame off len) v w =
     (u : Writ)
-    × AccessesFrame k (position_in k.ids dom) frame (frames.Wrote (record { writ = u; off = off; bytes = given })) v w
-MakesAccess k given (CopyBytes from to len) v w = (u : Writ) × CopiesFrames k from to len u v w
+    × AccessesFrame k (position_in k.ids dom) frame
+    (frame_steps.Wrote (record { writ = u; off = off; bytes = given })) v w
+MakesAccess k given (call_steps.Copy from to len) v w = (u : Writ) × CopiesFrames k from to len u v w
 MakesAccess k given step v w = ⊥
 
 -- a step of a call was made on the words, or as an access, which shows nothing
 abbrev pub MakesTurn : Layout → List ℕ → Option Action → Observation → View → View → Type 0
-MakesTurn k given (Some (Makes step)) seen v w = Made k step seen v w ⊎ ((seen ≡ Nothing) × MakesAccess k given step v w)
+MakesTurn k given (Some (actions.Step step)) seen v w =
+    Made k step seen v w ⊎ ((seen ≡ Nothing) × MakesAccess k given step v w)
 MakesTurn k given action seen v w = ⊥
 
 -- each of these steps after the view v, the last first, is what comes next on this path after the observations of the
@@ -93,11 +96,13 @@ pub record TookRead (b : Board) (c : Config) (may : AllowRelation) (request : Re
   pub frame : ℕ
   pub off : ℕ
   pub len : ℕ
-  pub next : path_of (knowledge c may d) (seat_of d).dom request [] ≡ Some (Makes (ReadBytes dom frame off len))
+  pub next : path_of (knowledge c may d) (seat_of d).dom request []
+      ≡ Some (actions.Step (call_steps.Read dom frame off len))
   pub done : path_of (knowledge c may d) (seat_of d).dom request (Nothing ∷ []) ≡ Some (Done Granted)
-  pub made : AccessesFrame b.layout (position_in b.layout.ids dom) frame (frames.Read off bytes.bytes.items)
+  pub made : AccessesFrame b.layout (position_in b.layout.ids dom) frame (frame_steps.Read off bytes.bytes.items)
       (seat_of d).view (seat_of e).view
-  pub step : steps ≡ (made.past, Frame (position_in b.layout.ids dom) frame (frames.Read off bytes.bytes.items)) ∷ []
+  pub step : steps
+      ≡ (made.past, Frame (position_in b.layout.ids dom) frame (frame_steps.Read off bytes.bytes.items)) ∷ []
   pub length_is : length bytes.bytes.items ≡ len
 
 -- the call has this outcome: mostly by its path; one whose allocation failed or whose access could not be made made no

@@ -6,7 +6,8 @@ use Rattle.gt_order.specs.RunNames.{AreReleases, IsLegalOrder, CallMade, Await, 
 use Rattle.gt_order.specs.RunNames.{Look, OnFlag, Passed, Raised, RunAction, RunOrder, Tell, CallOutcome, SeatRun}
 use Rattle.gt_order.specs.RunNames.{Told, Kept, Starved, Read, Wrote, ScriptCall, RunTask, ThreadJob, Served}
 use Rattle.gt_order.specs.RunNames.{WasServed, WritesAll, MakesCall, ListProgress}
-use Rattle.gt_order.specs.Prelude.{IsWithinLimits, N26, NoFacts, denial_of}
+use Rattle.gt_order.specs.Prelude.{IsWithinLimits, N26, denial_of}
+use Rattle.gt_types.specs.declared.denial.Facts.TheVariants as facts
 use Rattle.gt_model.specs.declared.trace.Answer.TheVariants as answers
 use Rattle.gt_shared_table.specs.Words.{frames_kept}
 use Rattle.gt_types.specs.declared.denial.Rule.TheVariants.{N16}
@@ -23,7 +24,7 @@ HasAllFrames m = (words_of m).frames ≡ frames_kept (config_of m)
 -- the refusal of an allocation, or of an access to a frame that is missing, which no table with all frames gives
 abbrev pub IsMemoryRefusal : {P : Type 0} → Monitor P → Denial → Type 0
 IsMemoryRefusal m denial =
-    (denial ≡ denial_of N26 NoFacts) ⊎ ((denial ≡ denial_of N16 NoFacts) × (HasAllFrames m → ⊥))
+    (denial ≡ denial_of N26 facts.None) ⊎ ((denial ≡ denial_of N16 facts.None) × (HasAllFrames m → ⊥))
 
 -- a call with this outcome has this answer
 abbrev pub OutcomeGivesAnswer : {P : Type 0} → Monitor P → CallOutcome → Answer → Type 0

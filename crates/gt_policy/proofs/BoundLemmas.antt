@@ -12,7 +12,7 @@ use Rattle.gt_policy.specs.declared.symbols.Symbol.{Symbol}
 use Rattle.gt_policy.specs.declared.symbols.Symbol.TheVariants.{IsType, IsAttribute}
 use Rattle.gt_policy.specs.declared.statements.Mention.{Mention}
 use Rattle.gt_policy.specs.declared.statements.SetElement.{SetElement}
-use Rattle.gt_policy.specs.declared.statements.SetElement.TheVariants as item
+use Rattle.gt_policy.specs.declared.statements.SetElement.TheVariants as set_elements
 use Rattle.gt_policy.specs.declared.statements.Statement.{Statement}
 use Rattle.gt_policy.specs.declared.statements.Statement.TheVariants.{DeclareType, DeclareAttribute, GiveAttributes}
 use Rattle.gt_policy.specs.declared.statements.Statement.TheVariants.{Allow}
@@ -103,13 +103,13 @@ module _ (names : Names) where
 
     item_bound : (i : SetElement) (x : DraftElement) → element_of names i ≡ Ok x → Bounded (is_with has x)
     unfolding element_of
-    item_bound (item.With m) x e n h =
+    item_bound (set_elements.With m) x e n h =
         let b = bind_ok (known names m.name m.line) (λ s. ok_of (With s)) x e in
         stands_bound m.name b.0 (known_ok m.name m.line (symbol_of names m.name) b.0 b.1) n (ap (λ y. is_with has y n) (ok_part (With b.0) x b.2) ∙ h)
-    item_bound (item.Without m) x e n h =
+    item_bound (set_elements.Without m) x e n h =
         let b = bind_ok (known names m.name m.line) (λ s. ok_of (Without s)) x e in
         absurd (false≢true (ap (λ y. is_with has y n) (ok_part (Without b.0) x b.2) ∙ h))
-    item_bound item.Itself x e n h = absurd (false≢true (ap (λ y. is_with has y n) (ok_part Itself x e) ∙ h))
+    item_bound set_elements.Itself x e n h = absurd (false≢true (ap (λ y. is_with has y n) (ok_part Itself x e) ∙ h))
 
     items_bound : (items : List SetElement) (set els : List DraftElement) → elements_of names set items ≡ Ok els → Bounded (λ n. list_any (λ x. is_with has x n) set) → Bounded (λ n. list_any (λ x. is_with has x n) els)
     items_bound [] set els e so_far n h = so_far n (ap (λ (xs : List DraftElement). list_any (λ x. is_with has x n) xs) (ok_part set els e) ∙ h)

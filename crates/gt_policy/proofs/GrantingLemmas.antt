@@ -15,7 +15,7 @@ use Rattle.gt_policy.specs.declared.symbols.Symbol.{Symbol}
 use Rattle.gt_policy.specs.declared.symbols.Symbol.TheVariants.{IsType, IsAttribute}
 use Rattle.gt_policy.specs.declared.statements.Mention.{Mention}
 use Rattle.gt_policy.specs.declared.statements.SetElement.{SetElement}
-use Rattle.gt_policy.specs.declared.statements.SetElement.TheVariants as item
+use Rattle.gt_policy.specs.declared.statements.SetElement.TheVariants as set_elements
 use Rattle.gt_policy.specs.declared.statements.Statement.{Statement}
 use Rattle.gt_policy.specs.declared.statements.Statement.TheVariants.{DeclareType, DeclareAttribute, GiveAttributes}
 use Rattle.gt_policy.specs.declared.statements.Statement.TheVariants.{Allow}
@@ -228,33 +228,33 @@ module _ (names : Names) (ss : List Statement) (has : ℕ → ℕ → Bool) (kno
 
   item_with : (t : List ℕ) (n : ℕ) → symbol_of names t ≡ Some (IsType n) → (i : SetElement) (x : DraftElement) → element_of names i ≡ Ok x → is_with has x n ≡ names_with ss i t
   unfolding element_of
-  item_with t n is (item.With m) x e =
+  item_with t n is (set_elements.With m) x e =
       let b = bind_ok (known names m.name m.line) (λ s. ok_of (With s)) x e in
       ap (λ y. is_with has y n) (sym (ok_part (With b.0) x b.2)) ∙ stands_named m.name t n b.0 (known_ok m.name m.line (symbol_of names m.name) b.0 b.1) is
-  item_with t n is (item.Without m) x e =
+  item_with t n is (set_elements.Without m) x e =
       let b = bind_ok (known names m.name m.line) (λ s. ok_of (Without s)) x e in
       ap (λ y. is_with has y n) (sym (ok_part (Without b.0) x b.2))
-  item_with t n is item.Itself x e = ap (λ y. is_with has y n) (sym (ok_part Itself x e))
+  item_with t n is set_elements.Itself x e = ap (λ y. is_with has y n) (sym (ok_part Itself x e))
 
   item_without : (t : List ℕ) (n : ℕ) → symbol_of names t ≡ Some (IsType n) → (i : SetElement) (x : DraftElement) → element_of names i ≡ Ok x → is_without has x n ≡ names_without ss i t
   unfolding element_of
-  item_without t n is (item.With m) x e =
+  item_without t n is (set_elements.With m) x e =
       let b = bind_ok (known names m.name m.line) (λ s. ok_of (With s)) x e in
       ap (λ y. is_without has y n) (sym (ok_part (With b.0) x b.2))
-  item_without t n is (item.Without m) x e =
+  item_without t n is (set_elements.Without m) x e =
       let b = bind_ok (known names m.name m.line) (λ s. ok_of (Without s)) x e in
       ap (λ y. is_without has y n) (sym (ok_part (Without b.0) x b.2)) ∙ stands_named m.name t n b.0 (known_ok m.name m.line (symbol_of names m.name) b.0 b.1) is
-  item_without t n is item.Itself x e = ap (λ y. is_without has y n) (sym (ok_part Itself x e))
+  item_without t n is set_elements.Itself x e = ap (λ y. is_without has y n) (sym (ok_part Itself x e))
 
   item_self : (i : SetElement) (x : DraftElement) → element_of names i ≡ Ok x → is_itself x ≡ is_self i
   unfolding element_of
-  item_self (item.With m) x e =
+  item_self (set_elements.With m) x e =
       let b = bind_ok (known names m.name m.line) (λ s. ok_of (With s)) x e in
       ap (λ y. is_itself y) (sym (ok_part (With b.0) x b.2))
-  item_self (item.Without m) x e =
+  item_self (set_elements.Without m) x e =
       let b = bind_ok (known names m.name m.line) (λ s. ok_of (Without s)) x e in
       ap (λ y. is_itself y) (sym (ok_part (Without b.0) x b.2))
-  item_self item.Itself x e = ap (λ y. is_itself y) (sym (ok_part Itself x e))
+  item_self set_elements.Itself x e = ap (λ y. is_itself y) (sym (ok_part Itself x e))
 
   items_any : (p : DraftElement → Bool) (q : SetElement → Bool) → ((i : SetElement) (x : DraftElement) → element_of names i ≡ Ok x → p x ≡ q i) → (items : List SetElement) (set els : List DraftElement) → elements_of names set items ≡ Ok els
       → list_any p els ≡ (list_any p set || list_any q items)

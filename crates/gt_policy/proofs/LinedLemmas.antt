@@ -3,7 +3,7 @@ use Rattle.std.proofs.Common.{◌≡◌, ◌≤◌, ℕ, List, [], ◌∷◌, �
 use Rattle.std.proofs.Common.{◌∙◌, subst, append_assoc}
 use Rattle.std.proofs.lemmas.List.{append-nil}
 use Rattle.gt_policy.specs.declared.fault.ReadError.{ReadError}
-use Rattle.gt_policy.specs.declared.fault.ReadError.TheVariants as read
+use Rattle.gt_policy.specs.declared.fault.ReadError.TheVariants as read_errors
 use Rattle.gt_policy.specs.declared.fault.TokenFault.{TokenFault}
 use Rattle.gt_policy_text.specs.declared.lexer.Token.{Token}
 use Rattle.gt_policy_text.specs.declared.lexer.Token.TheVariants.{Name, TypeWord, AttributeWord, TypeattributeWord}
@@ -73,8 +73,8 @@ goes_more xs pushed x start seen next ls rest all taken is so_far = λ said h.
     (subst (λ (ss : List Statement). GivesStatements next ss rest said) (ap statements_in is ∙ statements_push xs x) h))
 
 pub heeds_lined_err : (e : ReadError) (start seen next after : Names) (ss : List Statement) (all ls rest : Lexemes) → Goes seen ss ls start all → GivesNext (Err e) seen next rest (statement seen ls) → HeedsLined (Err e) after start all
-heeds_lined_err read.Memory start seen next after ss all ls rest so_far h = tt
-heeds_lined_err (read.Fault f) start seen next after ss all ls rest so_far h = so_far (Err f) (wrong seen ss ls f h)
+heeds_lined_err read_errors.Memory start seen next after ss all ls rest so_far h = tt
+heeds_lined_err (read_errors.Fault f) start seen next after ss all ls rest so_far h = so_far (Err f) (wrong seen ss ls f h)
 
 pub lined_ok : (xs : List LinedStatement) (start seen next : Names) (all ls rest : Lexemes) → Goes seen (statements_in xs) ls start all → Continues xs ls all
     → GivesNext (Ok None) seen next rest (statement seen ls) → GivesStatements start [] all (Ok (next, statements_in xs)) × SpellsLined xs all
@@ -92,5 +92,5 @@ lined_is (Ok xs) text names seen ls few en el h = record {
   written = (follows_written text seen (statements_in xs) few (started text names ls (Ok (seen, statements_in xs)) en el h.0)).0;
   lines = subst (λ (l : Lexemes). SpellsLined xs l) el h.1;
 }
-lined_is (Err read.Memory) text names seen ls few en el h = tt
-lined_is (Err (read.Fault f)) text names seen ls few en el h = faulty text f few (started text names ls (Err f) en el h)
+lined_is (Err read_errors.Memory) text names seen ls few en el h = tt
+lined_is (Err (read_errors.Fault f)) text names seen ls few en el h = faulty text f few (started text names ls (Err f) en el h)

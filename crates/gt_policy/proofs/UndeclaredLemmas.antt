@@ -11,7 +11,7 @@ use Rattle.gt_policy.specs.declared.fault.TokenFaultKind.TheVariants.{Unknown}
 use Rattle.gt_policy.specs.declared.symbols.Symbol.{Symbol}
 use Rattle.gt_policy.specs.declared.statements.Mention.{Mention}
 use Rattle.gt_policy.specs.declared.statements.SetElement.{SetElement}
-use Rattle.gt_policy.specs.declared.statements.SetElement.TheVariants as item
+use Rattle.gt_policy.specs.declared.statements.SetElement.TheVariants as set_elements
 use Rattle.gt_policy.specs.declared.statements.Statement.{Statement}
 use Rattle.gt_policy.specs.declared.statements.Statement.TheVariants.{DeclareType, DeclareAttribute, GiveAttributes}
 use Rattle.gt_policy.specs.declared.statements.Statement.TheVariants.{Allow}
@@ -178,14 +178,14 @@ attribute_tells ss d m = go (position (λ t. bytes_eq t m.name) (types_in ss)) (
 -- a set
 element_tells : (ss : List Statement) (i : SetElement) → Tells ss (set_uses (i ∷ [])) (element_of (declared_names ss) i)
 unfolding element_of
-element_tells ss (item.With m) = tells_made ss ((InSet, m) ∷ []) (known (declared_names ss) m.name m.line) (λ s. With s) (known_tells ss m)
-element_tells ss (item.Without m) = tells_made ss ((InSet, m) ∷ []) (known (declared_names ss) m.name m.line) (λ s. Without s) (known_tells ss m)
-element_tells ss item.Itself = refl
+element_tells ss (set_elements.With m) = tells_made ss ((InSet, m) ∷ []) (known (declared_names ss) m.name m.line) (λ s. With s) (known_tells ss m)
+element_tells ss (set_elements.Without m) = tells_made ss ((InSet, m) ∷ []) (known (declared_names ss) m.name m.line) (λ s. Without s) (known_tells ss m)
+element_tells ss set_elements.Itself = refl
 
 uses_more : (i : SetElement) (items : List SetElement) → set_uses (i ∷ []) ++ set_uses items ≡ set_uses (i ∷ items)
-uses_more (item.With m) items = refl
-uses_more (item.Without m) items = refl
-uses_more item.Itself items = refl
+uses_more (set_elements.With m) items = refl
+uses_more (set_elements.Without m) items = refl
+uses_more set_elements.Itself items = refl
 
 elements_tell : (ss : List Statement) (items : List SetElement) (set : List DraftElement) → Tells ss (set_uses items) (elements_of (declared_names ss) set items)
 elements_tell ss [] set = refl

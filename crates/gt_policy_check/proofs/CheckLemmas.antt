@@ -9,7 +9,7 @@ use Rattle.gt_policy.specs.Shown.{fault_shown}
 use Rattle.gt_policy.specs.Whole.{ReadsAs}
 use Rattle.gt_policy.specs.declared.fault.TokenFault.{TokenFault}
 use Rattle.gt_policy.specs.declared.parse.PolicyFaultKind.{PolicyFaultKind}
-use Rattle.gt_policy.specs.declared.parse.PolicyFaultKind.TheVariants as kinds
+use Rattle.gt_policy.specs.declared.parse.PolicyFaultKind.TheVariants as policy_fault_kinds
 use Rattle.gt_policy.specs.Lined.{statements_in}
 use Rattle.gt_policy.specs.Resolving.{has_grant}
 use Rattle.gt_policy.specs.Spelling.{types_in}
@@ -197,23 +197,23 @@ repeated_same xs before (y ∷ ys) =
 -- a text that is not a policy
 pub judged_faulty : (line : ℕ) (kind : PolicyFaultKind) (text : List ℕ) (found : List Finding) → ((f : TokenFault) → fault_shown (record { line = line; kind = kind }) ≡ Some f → ReadsAs text (Err f))
     → is_some (fault_shown (record { line = line; kind = kind })) ≡ true → error_lines found ≡ line ∷ [] → Judges text found
-judged_faulty line kinds.Memory text found says shown lines = absurd (cc)
-judged_faulty line kinds.Syntax text found says shown lines = faulty _ found (says _ refl) lines
-judged_faulty line (kinds.Unknown name) text found says shown lines = faulty _ found (says _ refl) lines
-judged_faulty line (kinds.Twice name) text found says shown lines = faulty _ found (says _ refl) lines
-judged_faulty line (kinds.Permission name) text found says shown lines = faulty _ found (says _ refl) lines
-judged_faulty line (kinds.Outside word) text found says shown lines = faulty _ found (says _ refl) lines
-judged_faulty line kinds.Limit text found says shown lines = faulty _ found (says _ refl) lines
+judged_faulty line policy_fault_kinds.Memory text found says shown lines = absurd (cc)
+judged_faulty line policy_fault_kinds.Syntax text found says shown lines = faulty _ found (says _ refl) lines
+judged_faulty line (policy_fault_kinds.Unknown name) text found says shown lines = faulty _ found (says _ refl) lines
+judged_faulty line (policy_fault_kinds.Twice name) text found says shown lines = faulty _ found (says _ refl) lines
+judged_faulty line (policy_fault_kinds.Permission name) text found says shown lines = faulty _ found (says _ refl) lines
+judged_faulty line (policy_fault_kinds.Outside word) text found says shown lines = faulty _ found (says _ refl) lines
+judged_faulty line policy_fault_kinds.Limit text found says shown lines = faulty _ found (says _ refl) lines
 
 -- a fault shows something, unless an allocation failed
-pub is_shown : (line : ℕ) (kind : PolicyFaultKind) → (kind ≡ kinds.Memory → ⊥) → is_some (fault_shown (record { line = line; kind = kind })) ≡ true
-is_shown line kinds.Memory other = absurd (other refl)
-is_shown line kinds.Syntax other = refl
-is_shown line (kinds.Unknown name) other = refl
-is_shown line (kinds.Twice name) other = refl
-is_shown line (kinds.Permission name) other = refl
-is_shown line (kinds.Outside word) other = refl
-is_shown line kinds.Limit other = refl
+pub is_shown : (line : ℕ) (kind : PolicyFaultKind) → (kind ≡ policy_fault_kinds.Memory → ⊥) → is_some (fault_shown (record { line = line; kind = kind })) ≡ true
+is_shown line policy_fault_kinds.Memory other = absurd (other refl)
+is_shown line policy_fault_kinds.Syntax other = refl
+is_shown line (policy_fault_kinds.Unknown name) other = refl
+is_shown line (policy_fault_kinds.Twice name) other = refl
+is_shown line (policy_fault_kinds.Permission name) other = refl
+is_shown line (policy_fault_kinds.Outside word) other = refl
+is_shown line policy_fault_kinds.Limit other = refl
 
 -- the text of one more item is appended
 pub appended-more : {X : Type 0} (f : X → List ℕ) (xs : List X) (i : ℕ) (x : X) (before out : List ℕ) → i < length xs → x ≡ get_or xs i x → out ≡ before ++ flat_map f (take i xs) → out ++ f x ≡ before ++ flat_map f (take (i + 1) xs)

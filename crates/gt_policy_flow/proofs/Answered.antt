@@ -12,18 +12,18 @@ use Rattle.gt_policy_flow.specs.declared.fault.FlowFault.TheVariants.{NoSource, 
 use Rattle.gt_policy_list.specs.Faults.{listing_fault_of, listing_read_fault}
 use Rattle.gt_policy_list.specs.Reading.{IsNoText}
 use Rattle.gt_policy_list.specs.declared.fault.ListingFault.{ListingFault}
-use Rattle.gt_policy_list.specs.declared.fault.ListingFault.TheVariants as faults
+use Rattle.gt_policy_list.specs.declared.fault.ListingFault.TheVariants as listing_faults
 use Rattle.gt_policy.specs.Grammar.{at}
 use Rattle.gt_policy.specs.Shown.{fault_shown}
 use Rattle.gt_policy.specs.Whole.{ReadsAs, too_long}
 use Rattle.gt_policy.specs.declared.fault.TokenFault.{TokenFault}
 use Rattle.gt_policy.specs.declared.fault.TokenFaultKind.TheVariants.{Limit}
 use Rattle.gt_policy.specs.declared.parse.PolicyFaultKind.{PolicyFaultKind}
-use Rattle.gt_policy.specs.declared.parse.PolicyFaultKind.TheVariants as kinds
+use Rattle.gt_policy.specs.declared.parse.PolicyFaultKind.TheVariants as policy_fault_kinds
 use Rattle.gt_text.specs.Laws.{keeps_same, of_any_input, take_whole}
 use Rattle.gt_text.specs.Streams.{AppendsBeginning, OfInput}
 use Rattle.gt_text.specs.declared.fault.ReadFault.{ReadFault}
-use Rattle.gt_text.specs.declared.fault.ReadFault.TheVariants as reads
+use Rattle.gt_text.specs.declared.fault.ReadFault.TheVariants as read_faults
 
 -- the lines of an answer went out
 pub flow-lines : (text lines : List ℕ) (q : FlowQuestion) (report : FlowReport) (has : Bool) (old new : Option (List ℕ))
@@ -37,24 +37,24 @@ flow-lines text lines q report has old new (Ok answer) same is (of, went) = (
 flow-lines text lines q report has old new (Err NoSource) same is w = absurd w
 flow-lines text lines q report has old new (Err NoTarget) same is w = absurd w
 flow-lines text lines q report has old new (Err NoTrusted) same is w = absurd w
-flow-lines text lines q report has old new (Err (Text faults.Write)) same is w =
+flow-lines text lines q report has old new (Err (Text listing_faults.Write)) same is w =
     (has, report, is, subst (λ (l : List ℕ). AppendsBeginning old new l) same w)
-flow-lines text lines q report has old new (Err (Text faults.Memory)) same is w = absurd w
-flow-lines text lines q report has old new (Err (Text faults.Read)) same is w = absurd w
-flow-lines text lines q report has old new (Err (Text (faults.Utf8 line))) same is w = absurd w
-flow-lines text lines q report has old new (Err (Text (faults.Policy shown))) same is w = absurd w
+flow-lines text lines q report has old new (Err (Text listing_faults.Memory)) same is w = absurd w
+flow-lines text lines q report has old new (Err (Text listing_faults.Read)) same is w = absurd w
+flow-lines text lines q report has old new (Err (Text (listing_faults.Utf8 line))) same is w = absurd w
+flow-lines text lines q report has old new (Err (Text (listing_faults.Policy shown))) same is w = absurd w
 
 -- the text is not a policy
 refused : (text : List ℕ) (q : FlowQuestion) (line : ℕ) (kind : PolicyFaultKind) (old : Option (List ℕ))
     → ((f : TokenFault) → fault_shown (record { line = line; kind = kind }) ≡ Some f → ReadsAs text (Err f))
     → FlowsOf q text old old (Err (Text (listing_fault_of line kind)))
-refused text q line kinds.Memory old says = keeps_same old
-refused text q line kinds.Syntax old says = (_, refl, says _ refl, keeps_same old)
-refused text q line (kinds.Unknown name) old says = (_, refl, says _ refl, keeps_same old)
-refused text q line (kinds.Twice name) old says = (_, refl, says _ refl, keeps_same old)
-refused text q line (kinds.Permission name) old says = (_, refl, says _ refl, keeps_same old)
-refused text q line (kinds.Outside word) old says = (_, refl, says _ refl, keeps_same old)
-refused text q line kinds.Limit old says = (_, refl, says _ refl, keeps_same old)
+refused text q line policy_fault_kinds.Memory old says = keeps_same old
+refused text q line policy_fault_kinds.Syntax old says = (_, refl, says _ refl, keeps_same old)
+refused text q line (policy_fault_kinds.Unknown name) old says = (_, refl, says _ refl, keeps_same old)
+refused text q line (policy_fault_kinds.Twice name) old says = (_, refl, says _ refl, keeps_same old)
+refused text q line (policy_fault_kinds.Permission name) old says = (_, refl, says _ refl, keeps_same old)
+refused text q line (policy_fault_kinds.Outside word) old says = (_, refl, says _ refl, keeps_same old)
+refused text q line policy_fault_kinds.Limit old says = (_, refl, says _ refl, keeps_same old)
 
 pub flow-no : (text : List ℕ) (q : FlowQuestion) (line : ℕ) (kind : PolicyFaultKind) (fault : ListingFault)
     (old : Option (List ℕ)) → fault ≡ listing_fault_of line kind
@@ -69,11 +69,11 @@ answered-from bytes q old new (Ok answer) utf8 c = (utf8, c)
 answered-from bytes q old new (Err NoSource) utf8 c = (utf8, c)
 answered-from bytes q old new (Err NoTarget) utf8 c = (utf8, c)
 answered-from bytes q old new (Err NoTrusted) utf8 c = (utf8, c)
-answered-from bytes q old new (Err (Text faults.Write)) utf8 c = (utf8, c)
-answered-from bytes q old new (Err (Text faults.Memory)) utf8 c = c
-answered-from bytes q old new (Err (Text faults.Read)) utf8 c = absurd c
-answered-from bytes q old new (Err (Text (faults.Utf8 line))) utf8 c = absurd c
-answered-from bytes q old new (Err (Text (faults.Policy shown))) utf8 c = (c.0, c.1, (inr utf8, c.2), c.3)
+answered-from bytes q old new (Err (Text listing_faults.Write)) utf8 c = (utf8, c)
+answered-from bytes q old new (Err (Text listing_faults.Memory)) utf8 c = c
+answered-from bytes q old new (Err (Text listing_faults.Read)) utf8 c = absurd c
+answered-from bytes q old new (Err (Text (listing_faults.Utf8 line))) utf8 c = absurd c
+answered-from bytes q old new (Err (Text (listing_faults.Policy shown))) utf8 c = (c.0, c.1, (inr utf8, c.2), c.3)
 
 whole-read : (all bytes : List ℕ) → bytes ≡ take 1048577 all → length bytes ≤ 1048576 → bytes ≡ all
 whole-read all bytes read short =
@@ -97,19 +97,19 @@ flowed-bytes all bytes text q old new r read same short utf8 c =
 
 pub flowed-no : (all bytes : List ℕ) (q : FlowQuestion) (fault : ListingFault) (old : Option (List ℕ))
     → bytes ≡ take 1048577 all → IsNoText bytes fault → Flowed q all old old (Err (Text fault))
-flowed-no all bytes q (faults.Utf8 line) old read h =
-    subst (λ (l : List ℕ). Flowed q l old old (Err (Text (faults.Utf8 line)))) (whole-read all bytes read h.0)
+flowed-no all bytes q (listing_faults.Utf8 line) old read h =
+    subst (λ (l : List ℕ). Flowed q l old old (Err (Text (listing_faults.Utf8 line)))) (whole-read all bytes read h.0)
     (h, keeps_same old)
-flowed-no all bytes q (faults.Policy shown) old read h =
+flowed-no all bytes q (listing_faults.Policy shown) old read h =
     let long = too-many all bytes read h.0 in (at 1 Limit, h.1, (inl long, too_long all long), keeps_same old)
-flowed-no all bytes q faults.Memory old read h = absurd h
-flowed-no all bytes q faults.Read old read h = absurd h
-flowed-no all bytes q faults.Write old read h = absurd h
+flowed-no all bytes q listing_faults.Memory old read h = absurd h
+flowed-no all bytes q listing_faults.Read old read h = absurd h
+flowed-no all bytes q listing_faults.Write old read h = absurd h
 
 unread : (all : List ℕ) (q : FlowQuestion) (old : Option (List ℕ)) (error : ReadFault)
     → Flowed q all old old (Err (Text (listing_read_fault error)))
-unread all q old reads.Memory = keeps_same old
-unread all q old reads.Read = keeps_same old
+unread all q old read_faults.Memory = keeps_same old
+unread all q old read_faults.Read = keeps_same old
 
 pub flowed-unread : (q : FlowQuestion) (known old : Option (List ℕ)) (error : ReadFault) (fault : ListingFault)
     → fault ≡ listing_read_fault error → OfInput known (λ input. Flowed q input old old (Err (Text fault)))

@@ -10,7 +10,7 @@ use Rattle.gt_policy_list.specs.declared.fault.ListingFault.TheVariants.{Memory,
 use Rattle.gt_text.specs.Streams.{AppendsBeginning}
 use Rattle.gt_policy_flow.specs.Asking.{IsFlowOf, flow_answer}
 use Rattle.gt_policy_flow.specs.declared.asking.FlowAnswer.{FlowAnswer}
-use Rattle.gt_policy_flow.specs.declared.asking.FlowAnswer.TheVariants as answers
+use Rattle.gt_policy_flow.specs.declared.asking.FlowAnswer.TheVariants as flow_answers
 use Rattle.gt_policy_flow.specs.declared.asking.FlowQuestion.{FlowQuestion}
 use Rattle.gt_policy_flow.specs.declared.asking.FlowReport.{FlowReport}
 use Rattle.gt_policy_flow.specs.declared.fault.FlowFault.{FlowFault}
@@ -37,10 +37,12 @@ WritesFlow lines has old new (Err (Text (Policy shown))) = ⊥
 abbrev pub FlowsOf : FlowQuestion → List ℕ → Option (List ℕ) → Option (List ℕ) → Result Bool FlowFault → Type 0
 FlowsOf q text old new (Ok has) =
     (report : FlowReport) × PolicyHasAnswer text q (flow_answer has) report × Appends old new report.lines.items
-FlowsOf q text old new (Err NoSource) = ((report : FlowReport) × PolicyHasAnswer text q answers.NoSource report) × Keeps old new
-FlowsOf q text old new (Err NoTarget) = ((report : FlowReport) × PolicyHasAnswer text q answers.NoTarget report) × Keeps old new
+FlowsOf q text old new (Err NoSource) =
+    ((report : FlowReport) × PolicyHasAnswer text q flow_answers.NoSource report) × Keeps old new
+FlowsOf q text old new (Err NoTarget) =
+    ((report : FlowReport) × PolicyHasAnswer text q flow_answers.NoTarget report) × Keeps old new
 FlowsOf q text old new (Err NoTrusted) =
-    ((report : FlowReport) × PolicyHasAnswer text q answers.NoTrusted report) × Keeps old new
+    ((report : FlowReport) × PolicyHasAnswer text q flow_answers.NoTrusted report) × Keeps old new
 FlowsOf q text old new (Err (Text Write)) =
     (has : Bool) × (report : FlowReport) × PolicyHasAnswer text q (flow_answer has) report
     × AppendsBeginning old new report.lines.items

@@ -14,11 +14,11 @@ use Rattle.gt_policy_check.specs.declared.members.Member.{Member}
 use Rattle.gt_policy_flow.specs.Flows.{is_among}
 use Rattle.gt_policy_flow.specs.Pairs.{AnswersAll}
 use Rattle.gt_policy_flow.specs.declared.asking.FlowAnswer.{FlowAnswer}
-use Rattle.gt_policy_flow.specs.declared.asking.FlowAnswer.TheVariants as answers
+use Rattle.gt_policy_flow.specs.declared.asking.FlowAnswer.TheVariants as flow_answers
 use Rattle.gt_policy_flow.specs.declared.asking.FlowQuestion.{FlowQuestion}
 use Rattle.gt_policy_flow.specs.declared.asking.FlowReport.{FlowReport}
 use Rattle.gt_policy_flow.specs.declared.pairs.PairForm.{PairForm}
-use Rattle.gt_policy_flow.specs.declared.pairs.PairForm.TheVariants as forms
+use Rattle.gt_policy_flow.specs.declared.pairs.PairForm.TheVariants as pair_forms
 
 -- a type is asked for, by its number
 abbrev pub is_member_asked : Option Member → Option (List ℕ) → Bool
@@ -53,13 +53,13 @@ are_known members count names = list_all (λ n. not (length (ids_asked members (
 
 -- the form of the answers: for one source and one target that are asked for, for several pairs, or for what is reached
 abbrev pub form_of : Bool → ℕ → ℕ → PairForm
-form_of false sources targets = forms.Reached
-form_of true sources targets = if (sources == 1) && (targets == 1) then forms.Steps else forms.Pairs
+form_of false sources targets = pair_forms.Reached
+form_of true sources targets = if (sources == 1) && (targets == 1) then pair_forms.Steps else pair_forms.Pairs
 
 -- the answer, by whether there is a path
 abbrev pub flow_answer : Bool → FlowAnswer
-flow_answer true = answers.Path
-flow_answer false = answers.NoPath
+flow_answer true = flow_answers.Path
+flow_answer false = flow_answers.NoPath
 
 -- the lines are those of all pairs, and the answer is whether one of them has a path
 abbrev pub Reports : FlowPolicy → (TypeId → Bool) → List LinedStatement → List Member → PairForm → List TypeId
@@ -74,9 +74,9 @@ IsBare answer report = (report.answer ≡ answer) × (report.lines.items ≡ [])
 
 -- some name is not that of a type, of the trusted ones, the source or the target, in this order; or all are
 abbrev pub ReportsBy : Bool → ℕ → ℕ → (FlowReport → Type 0) → FlowReport → Type 0
-ReportsBy false sources targets Answered report = IsBare answers.NoTrusted report
-ReportsBy true zero targets Answered report = IsBare answers.NoSource report
-ReportsBy true (suc n) zero Answered report = IsBare answers.NoTarget report
+ReportsBy false sources targets Answered report = IsBare flow_answers.NoTrusted report
+ReportsBy true zero targets Answered report = IsBare flow_answers.NoSource report
+ReportsBy true (suc n) zero Answered report = IsBare flow_answers.NoTarget report
 ReportsBy true (suc n) (suc k) Answered report = Answered report
 
 -- the answer to a question, for a policy with this number of types

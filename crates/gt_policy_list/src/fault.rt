@@ -41,9 +41,9 @@ impl Error for ListingFault {}
 
 impl From<AllocError> for ListingFault {
     ghost use Rattle.std.specs.Prelude.{◌≡◌};
-    ghost use Rattle.gt_policy_list.specs.declared.fault.ListingFault.TheVariants as faults;
+    ghost use Rattle.gt_policy_list.specs.declared.fault.ListingFault.TheVariants as listing_faults;
 
-    ghost from_gives = { λ _ e. e ≡ faults.Memory };
+    ghost from_gives = { λ _ e. e ≡ listing_faults.Memory };
 
     fn from(_error: AllocError) -> ListingFault {
         ListingFault::Memory
@@ -81,9 +81,9 @@ impl From<ReadFault> for ListingFault {
 
 impl From<WriteFault> for ListingFault {
     ghost use Rattle.std.specs.Prelude.{◌≡◌};
-    ghost use Rattle.gt_policy_list.specs.declared.fault.ListingFault.TheVariants as faults;
+    ghost use Rattle.gt_policy_list.specs.declared.fault.ListingFault.TheVariants as listing_faults;
 
-    ghost from_gives = { λ _ e. e ≡ faults.Write };
+    ghost from_gives = { λ _ e. e ≡ listing_faults.Write };
 
     fn from(_error: WriteFault) -> ListingFault {
         ListingFault::Write

@@ -6,7 +6,7 @@ ghost use Rattle.gt_policy_list.specs.Lines.{source_text};
 ghost use Rattle.gt_policy_list.specs.Listing.{listing};
 ghost use Rattle.gt_text.specs.Streams.{AppendsBeginning, Sends};
 ghost use Rattle.gt_policy_list.specs.Writing.{WritesRules};
-ghost use Rattle.gt_policy_list.specs.declared.fault.ListingFault.TheVariants as faults;
+ghost use Rattle.gt_policy_list.specs.declared.fault.ListingFault.TheVariants as listing_faults;
 
 use crate::fault::ListingFault;
 use crate::lines::push_pair;
@@ -32,7 +32,7 @@ fn write_source<W: Write>(
     ensures few { OnOk result (length waiting.new.items < CHUNK) }
     ensures err { OnErr result (AppendsBeginning (W.contents writer.old) (W.contents writer.new)
         (waiting.old.items ++ source_text policy.now.types (looks_up table.now) ids.now source)) }
-    ensures errors { IfErr result (λ e. (e ≡ faults.Memory) ⊎ (e ≡ faults.Write)) }
+    ensures errors { IfErr result (λ e. (e ≡ listing_faults.Memory) ⊎ (e ≡ listing_faults.Write)) }
 {
     'targets: for target in ids {
         push_pair(waiting, policy, table, source, *target)?;
@@ -53,7 +53,7 @@ fn write_sources<W: Write>(
         (listing policy.now.types (looks_up table.now) ids.now)) }
     ensures beginning { OnErr result (AppendsBeginning (W.contents writer.old) (W.contents writer.new)
         (listing policy.now.types (looks_up table.now) ids.now)) }
-    ensures errors { IfErr result (λ e. (e ≡ faults.Memory) ⊎ (e ≡ faults.Write)) }
+    ensures errors { IfErr result (λ e. (e ≡ listing_faults.Memory) ⊎ (e ≡ listing_faults.Write)) }
 {
     let mut waiting = Vec::new(alloc);
     'sources: for source in ids {

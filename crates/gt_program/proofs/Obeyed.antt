@@ -37,7 +37,7 @@ use Rattle.gt_commands.specs.declared.invocation.Format.{Format}
 use Rattle.gt_file_commands.specs.Names.{shown_name}
 use Rattle.gt_explore_verdict.specs.declared.judging.Verdict.{Verdict}
 use Rattle.gt_explore_verdict.specs.declared.judging.Verdict.TheVariants.{Holds, Fails, Undecided}
-use Rattle.gt_explore_answers.specs.declared.asking.ExploreOptions.{ExploreOptions as Searched}
+use Rattle.gt_explore_answers.specs.declared.asking.ExploreOptions.{ExploreOptions}
 use Rattle.gt_file_commands.specs.Laws.{nothing_without_memory, nothing_done}
 use Rattle.gt_file_commands.specs.Rules.{PrintsRules}
 use Rattle.gt_file_commands.specs.Working.{AnswersDump, AnswersFlow, AnswersQuestion, ChecksAll, ChecksAs, ChecksFiles}
@@ -68,13 +68,13 @@ pub as_planned : (p same : Invocation) (failed : Outcome) (width : Option ℕ) (
 as_planned p same failed width file input old new outcome is obeys = subst (λ (q : Invocation). Obeys (asked_by_plan q) failed width file input old new outcome) (sym is) obeys
 
 -- a text was sought among those of a script
-seeks_given : (asked : Searched) (text : List ℕ) (format : Format) (states : ℕ) (name : Option (List ℕ)) (input : List ℕ) (old new : Option (List ℕ)) (r : Ending) → AsksAboutText text asked.request
+seeks_given : (asked : ExploreOptions) (text : List ℕ) (format : Format) (states : ℕ) (name : Option (List ℕ)) (input : List ℕ) (old new : Option (List ℕ)) (r : Ending) → AsksAboutText text asked.request
     → asked.format ≡ explore_format format → asked.states ≡ states
     → DoesOnFile (Searches asked) name input old new r → DoesOnFile (SeeksText text format states) name input old new r
 seeks_given asked text format states name input old new r given form same (inl does) = inl (asked, given, form, same, does)
 seeks_given asked text format states name input old new r given form same (inr unopened) = inr unopened
 
-pub found_so : (asked : Searched) (text : List ℕ) (format : Format) (states : ℕ) (name known old new : Option (List ℕ)) (outcome : Outcome) → AsksAboutText text asked.request
+pub found_so : (asked : ExploreOptions) (text : List ℕ) (format : Format) (states : ℕ) (name known old new : Option (List ℕ)) (outcome : Outcome) → AsksAboutText text asked.request
     → asked.format ≡ explore_format format → asked.states ≡ states
     → Works (Searches asked) Unknown name known old new outcome → Works (SeeksText text format states) Unknown name known old new outcome
 found_so asked text format states name None old new outcome given form same works = tt
@@ -381,12 +381,12 @@ pub refused_words : (words : List (List ℕ)) (width : Option ℕ) (file : List 
 refused_words words width file input old new error failed outcome is has fits = refused (request_in_words words) width file input old new error failed outcome (failed_in_words words failed is) has fits
 
 -- a script was explored as it was asked
-seeks_asked : (asked : Searched) (sought : Sought) (format : Format) (states : ℕ) (name : Option (List ℕ)) (input : List ℕ) (old new : Option (List ℕ)) (r : Ending) → AreSearchOptions sought format states asked
+seeks_asked : (asked : ExploreOptions) (sought : Sought) (format : Format) (states : ℕ) (name : Option (List ℕ)) (input : List ℕ) (old new : Option (List ℕ)) (r : Ending) → AreSearchOptions sought format states asked
     → DoesOnFile (Searches asked) name input old new r → DoesOnFile (Seeks sought format states) name input old new r
 seeks_asked asked sought format states name input old new r is (inl does) = inl (asked, is, does)
 seeks_asked asked sought format states name input old new r is (inr unopened) = inr unopened
 
-pub sought_so : (asked : Searched) (sought : Sought) (format : Format) (states : ℕ) (name known old new : Option (List ℕ)) (outcome : Outcome) → AreSearchOptions sought format states asked
+pub sought_so : (asked : ExploreOptions) (sought : Sought) (format : Format) (states : ℕ) (name known old new : Option (List ℕ)) (outcome : Outcome) → AreSearchOptions sought format states asked
     → Works (Searches asked) Unknown name known old new outcome → Works (Seeks sought format states) Unknown name known old new outcome
 sought_so asked sought format states name None old new outcome asks works = tt
 sought_so asked sought format states name (Some bytes) old new outcome asks (r, is, inl does) = (r, is, inl (seeks_asked asked sought format states name bytes old new r asks does))

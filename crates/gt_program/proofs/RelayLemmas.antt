@@ -9,7 +9,7 @@ use Rattle.gt_file_commands.specs.JsonNames.{Run, json_text}
 use Rattle.gt_commands.specs.declared.invocation.Format.{Format}
 use Rattle.gt_commands.specs.declared.invocation.Format.TheVariants.{Text, Json}
 use Rattle.gt_script_runs.specs.Rights.{may_by}
-use Rattle.gt_script_runs.specs.declared.rights.ScriptPolicy.{ScriptPolicy as ScriptRights}
+use Rattle.gt_script_runs.specs.declared.rights.ScriptPolicy.{ScriptPolicy}
 use Rattle.gt_script_runs.specs.declared.fault.PlayFault.TheVariants.{Memory, Read, Write, Script, Policy}
 use Rattle.gt_run.specs.Printing.{BeginsAll, run_text, texts_in}
 use Rattle.gt_run.specs.Runs.{Ran}
@@ -32,7 +32,7 @@ kept_nothing (Some xs) (Some ys) kept = kept ∙ sym (append-nil xs)
 begins_nothing : (old new : Option (List ℕ)) (text : List ℕ) → Keeps old new → AppendsBeginning old new text
 begins_nothing old new text kept = (0, omega arith, kept_nothing old new kept)
 
-begins_all : (refuses : ℕ → Bool) (jobs : List (ThreadJob ScriptRights)) (a b old new : Option (List ℕ)) → Keeps old new → BeginsAll may_by refuses jobs a b → BeginsAll may_by refuses jobs old new
+begins_all : (refuses : ℕ → Bool) (jobs : List (ThreadJob ScriptPolicy)) (a b old new : Option (List ℕ)) → Keeps old new → BeginsAll may_by refuses jobs a b → BeginsAll may_by refuses jobs old new
 begins_all refuses jobs a b old new kept (inl (all, rest, text, is, served, prints, begins)) = inl (all, rest, text, is, served, prints, begins_nothing old new (texts_in all ++ text) kept)
 begins_all refuses jobs a b old new kept (inr (all, is, served, begins)) = inr (all, is, served, begins_nothing old new (run_text all) kept)
 

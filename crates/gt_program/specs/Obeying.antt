@@ -1,13 +1,11 @@
 -- The result of a command line: the output, and the exit status.
 use Rattle.std.specs.Prelude.{◌≡◌, ◌⊎◌, ℕ, List, [], ◌∷◌, Option, Some, None, Result, Ok, Err}
-use Rattle.gt_program.specs.Prelude.{Keeps, ErrorKind, DisplayHelp, DisplayVersion, OutOfMemory, Format, Mode}
-use Rattle.gt_program.specs.Prelude.{Request, to_check, to_check_never, to_explain, to_explain_each, to_explore}
-use Rattle.gt_program.specs.Prelude.{to_find_text, to_list, to_play, to_run, to_tell_entries, to_tell_rules, for_help}
-use Rattle.gt_program.specs.Prelude.{for_version, nothing, to_show_flow, mode_of, Sought, all_texts, a_claim}
-use Rattle.gt_program.specs.Prelude.{one_script, one_trace}
-use Rattle.gt_program.specs.Prelude.{one_diagram, all_scripts}
-use Rattle.gt_program.specs.Prelude.{Explored, ReadsAsRun, Searched, ExploreFormat, ExploreRequest, Verdict}
-use Rattle.gt_program.specs.Prelude.{Holds, Fails, Undecided, Outcome, No, Unknown, Yes}
+use Rattle.gt_program.specs.Prelude.{Keeps, ErrorKind, DisplayHelp, DisplayVersion, OutOfMemory, Format, Mode, Request}
+use Rattle.gt_program.specs.Prelude.{to_check, to_check_never, to_explain, to_explain_each, to_explore, to_find_text}
+use Rattle.gt_program.specs.Prelude.{to_list, to_play, to_run, to_tell_entries, to_tell_rules, for_help, for_version}
+use Rattle.gt_program.specs.Prelude.{nothing, to_show_flow, mode_of, Sought, all_texts, a_claim, one_script, one_trace}
+use Rattle.gt_program.specs.Prelude.{one_diagram, all_scripts, Explored, ReadsAsRun, ExploreOptions, ExploreFormat}
+use Rattle.gt_program.specs.Prelude.{ExploreRequest, Verdict, Holds, Fails, Undecided, Outcome, No, Unknown, Yes}
 use Rattle.gt_file_commands.specs.Names.{shown_name}
 use Rattle.gt_file_commands.specs.Rules.{PrintsRules}
 use Rattle.gt_file_commands.specs.Working.{AnswersDump, AnswersAboutFile, AnswersFlow, AnswersQuestion, ChecksAll}
@@ -17,8 +15,8 @@ use Rattle.gt_file_commands.specs.declared.failure.Failure.TheVariants as failur
 use Rattle.gt_program.specs.Runs.{RunsDomains}
 use Rattle.gt_commands.specs.declared.invocation.Format.TheVariants.{Text, Json}
 use Rattle.gt_commands.specs.declared.invocation.Mode.TheVariants as modes
-use Rattle.gt_explore_answers.specs.declared.asking.ExploreFormat.TheVariants as explored
-use Rattle.gt_explore_answers.specs.declared.asking.ExploreRequest.TheVariants as requests
+use Rattle.gt_explore_answers.specs.declared.asking.ExploreFormat.TheVariants as explore_formats
+use Rattle.gt_explore_answers.specs.declared.asking.ExploreRequest.TheVariants as explore_requests
 use Rattle.std.specs.declared.io.ErrorKind.{ErrorKind as IoErrorKind}
 use Rattle.std.specs.declared.io.ErrorKind.TheVariants as io_kinds
 
@@ -63,7 +61,7 @@ AnswersVerdict Wrote No = Wrote (Ok Fails)
 AnswersVerdict Wrote Unknown = Wrote (Ok Undecided)
 
 -- the answer is the verdict
-abbrev pub Searches : Searched → Doing
+abbrev pub Searches : ExploreOptions → Doing
 Searches asked input old new (Ok outcome) = AnswersVerdict (Explored asked (ReadsAsRun input) old new) outcome
 Searches asked input old new (Err (failures.Explore fault)) = Explored asked (ReadsAsRun input) old new (Err fault)
 Searches asked input old new (Err failure) = ⊥
@@ -89,43 +87,43 @@ FitsUnread kind outcome =
 
 -- the request is for what is sought
 abbrev pub IsRequestFor : Sought → ExploreRequest → Type 0
-IsRequestFor sought requests.Texts = sought ≡ all_texts
-IsRequestFor sought (requests.Decide claim expression) = sought ≡ a_claim claim expression.now
-IsRequestFor sought (requests.Has given) = ⊥
-IsRequestFor sought (requests.Witness number) = sought ≡ one_script number
-IsRequestFor sought requests.Witnesses = sought ≡ all_scripts
-IsRequestFor sought (requests.Trace number) = sought ≡ one_trace number
-IsRequestFor sought (requests.Diagram number) = sought ≡ one_diagram number
+IsRequestFor sought explore_requests.Texts = sought ≡ all_texts
+IsRequestFor sought (explore_requests.Decide claim expression) = sought ≡ a_claim claim expression.now
+IsRequestFor sought (explore_requests.Has given) = ⊥
+IsRequestFor sought (explore_requests.Witness number) = sought ≡ one_script number
+IsRequestFor sought explore_requests.Witnesses = sought ≡ all_scripts
+IsRequestFor sought (explore_requests.Trace number) = sought ≡ one_trace number
+IsRequestFor sought (explore_requests.Diagram number) = sought ≡ one_diagram number
 
 -- the format of an exploration
 abbrev pub explore_format : Format → ExploreFormat
-explore_format Text = explored.Text
-explore_format Json = explored.Json
+explore_format Text = explore_formats.Text
+explore_format Json = explore_formats.Json
 
 -- the options for the texts of a script
-abbrev pub AreSearchOptions : Sought → Format → ℕ → Searched → Type 0
+abbrev pub AreSearchOptions : Sought → Format → ℕ → ExploreOptions → Type 0
 AreSearchOptions sought format states asked =
     IsRequestFor sought asked.request × (asked.format ≡ explore_format format) × (asked.states ≡ states)
 
 -- a script is explored with these options
 abbrev pub Seeks : Sought → Format → ℕ → Doing
 Seeks sought format states input old new r =
-    (asked : Searched) × AreSearchOptions sought format states asked × Searches asked input old new r
+    (asked : ExploreOptions) × AreSearchOptions sought format states asked × Searches asked input old new r
 
 -- the request is whether this text is one of those of a script
 abbrev pub AsksAboutText : List ℕ → ExploreRequest → Type 0
-AsksAboutText text requests.Texts = ⊥
-AsksAboutText text (requests.Decide claim expression) = ⊥
-AsksAboutText text (requests.Has given) = given.now ≡ text
-AsksAboutText text (requests.Witness number) = ⊥
-AsksAboutText text requests.Witnesses = ⊥
-AsksAboutText text (requests.Trace number) = ⊥
-AsksAboutText text (requests.Diagram number) = ⊥
+AsksAboutText text explore_requests.Texts = ⊥
+AsksAboutText text (explore_requests.Decide claim expression) = ⊥
+AsksAboutText text (explore_requests.Has given) = given.now ≡ text
+AsksAboutText text (explore_requests.Witness number) = ⊥
+AsksAboutText text explore_requests.Witnesses = ⊥
+AsksAboutText text (explore_requests.Trace number) = ⊥
+AsksAboutText text (explore_requests.Diagram number) = ⊥
 
 -- a text is sought among those of a script, up to this number of states
 abbrev pub SeeksText : List ℕ → Format → ℕ → Doing
 SeeksText text format states input old new r =
-    (asked : Searched) × AsksAboutText text asked.request × (asked.format ≡ explore_format format)
+    (asked : ExploreOptions) × AsksAboutText text asked.request × (asked.format ≡ explore_format format)
     × (asked.states ≡ states) × Searches asked input old new r
 
 -- the text of a file is sought among those of a script

@@ -9,7 +9,7 @@ pub use Rattle.gt_commands.specs.declared.invocation.Mode.{Mode}
 pub use Rattle.gt_commands.specs.declared.invocation.Format.{Format}
 pub use Rattle.gt_explore.specs.Writing.{Explored}
 pub use Rattle.gt_explore_answers.specs.declared.asking.ExploreFormat.{ExploreFormat}
-pub use Rattle.gt_explore_answers.specs.declared.asking.ExploreOptions.{ExploreOptions as Searched}
+pub use Rattle.gt_explore_answers.specs.declared.asking.ExploreOptions.{ExploreOptions}
 pub use Rattle.gt_explore_answers.specs.declared.asking.ExploreRequest.{ExploreRequest}
 pub use Rattle.gt_explore_verdict.specs.declared.judging.Verdict.{Verdict}
 pub use Rattle.gt_explore_verdict.specs.declared.judging.Verdict.TheVariants.{Holds, Fails, Undecided}

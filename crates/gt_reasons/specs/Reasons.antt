@@ -5,7 +5,7 @@ use Rattle.std.specs.List.{flat_map}
 use Rattle.gt_types.specs.declared.limits.TheConstants.{DOMID_SELF, LAST_VERSION, MAX_DOMAINS, MAX_FRAMES}
 use Rattle.gt_types.specs.declared.limits.TheConstants.{MAX_TABLE_FRAMES}
 use Rattle.gt_types.specs.declared.config.ConfigFault.{ConfigFault}
-use Rattle.gt_types.specs.declared.config.ConfigFault.TheVariants as faults
+use Rattle.gt_types.specs.declared.config.ConfigFault.TheVariants as config_faults
 
 -- `FILE:LINE:COLUMN: `
 abbrev pub reason_heading : List ℕ → ℕ → ℕ → List ℕ
@@ -27,14 +27,14 @@ AppendsReasonAt file line old new =
 
 -- the limit that a fault is about; 0 if it is about none
 abbrev pub limit_of : ConfigFault → ℕ
-limit_of faults.NoDomains = 0
-limit_of (faults.TooMany id) = MAX_DOMAINS
-limit_of (faults.Id id) = DOMID_SELF - 1
-limit_of (faults.Repeated id) = 0
-limit_of (faults.Frames id) = MAX_FRAMES
-limit_of (faults.TableFrames id) = MAX_TABLE_FRAMES
-limit_of (faults.Version id) = LAST_VERSION
-limit_of faults.Generation = 0
+limit_of config_faults.NoDomains = 0
+limit_of (config_faults.TooMany id) = MAX_DOMAINS
+limit_of (config_faults.Id id) = DOMID_SELF - 1
+limit_of (config_faults.Repeated id) = 0
+limit_of (config_faults.Frames id) = MAX_FRAMES
+limit_of (config_faults.TableFrames id) = MAX_TABLE_FRAMES
+limit_of (config_faults.Version id) = LAST_VERSION
+limit_of config_faults.Generation = 0
 
 -- `FILE: "NAME"MESSAGE`
 abbrev pub name_line : List ℕ → List ℕ → List ℕ → List ℕ

@@ -4,7 +4,7 @@ use Rattle.gt_types.specs.Config.{IsFirstFault, IsWithinLimits}
 use Rattle.gt_types.specs.declared.config.Config.{Config}
 use Rattle.gt_types.specs.declared.config.DomainConfig.{DomainConfig}
 use Rattle.gt_types.specs.declared.config.StartFault.{StartFault}
-use Rattle.gt_types.specs.declared.config.StartFault.TheVariants as fault
+use Rattle.gt_types.specs.declared.config.StartFault.TheVariants as start_faults
 use Rattle.gt_types.specs.declared.limits.TheConstants.{DOMID_SELF, LAST_GENERATION, LAST_VERSION, MAX_DOMAINS}
 use Rattle.gt_types.specs.declared.limits.TheConstants.{MAX_TABLE_FRAMES}
 
@@ -30,8 +30,8 @@ HasOneFrameEach c e = (e.domains.items ≡ map with_one_frame c.domains.items) �
 -- why no monitor without frames can be made: the first fault of the configuration, where no number of frames is too
 -- large; or an allocation failed
 abbrev pub IsFramelessFault : Config → StartFault → Type 0
-IsFramelessFault c (fault.Config f) = (¬ IsRunnable c) × ((e : Config) × HasOneFrameEach c e × IsFirstFault e f)
-IsFramelessFault c fault.Memory = Unit {0}
+IsFramelessFault c (start_faults.Config f) = (¬ IsRunnable c) × ((e : Config) × HasOneFrameEach c e × IsFirstFault e f)
+IsFramelessFault c start_faults.Memory = Unit {0}
 
 -- each configuration within the limits is runnable
 abbrev pub LimitsAreRunnable : Type 0

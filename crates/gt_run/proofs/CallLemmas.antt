@@ -22,7 +22,7 @@ use Rattle.gt_types.specs.declared.DomId.{DomId}
 use Rattle.gt_run.specs.Asking.{AnswersCall, Asks}
 use Rattle.gt_types.specs.declared.GrantRef.{GrantRef}
 use Rattle.gt_model.specs.declared.entry.Entry.{Entry}
-use Rattle.gt_script_lines.specs.declared.calls.ScriptCall.TheVariants as said
+use Rattle.gt_script_lines.specs.declared.calls.ScriptCall.TheVariants as script_calls
 use Rattle.gt_run.specs.Serving.{ServesCall, FitsEntry, LogsOutcomes, MakesScriptCall, ListOutcome, Records}
 use Rattle.gt_run.specs.Serving.{answer_lines, counted}
 use Rattle.gt_run.specs.Serving.{is_logged, lost_in, record_made, logged_records}
@@ -212,8 +212,8 @@ tells_where logged made old new (Some t) u os asked a i (next, is, tells) =
     (subst (λ (x : Option TrailLogger). Added true made new x os) (sym is) (tells_some made old new t next os a i tells))
 
 -- a line that grants no entry
-pub fits_other : (call : ScriptCall) → ((gref : GrantRef) (entry : Entry) → call ≡ said.Grant gref entry → ⊥) → FitsEntry call
-fits_other (said.Grant gref entry) other = absurd (other gref entry refl)
+pub fits_other : (call : ScriptCall) → ((gref : GrantRef) (entry : Entry) → call ≡ script_calls.Grant gref entry → ⊥) → FitsEntry call
+fits_other (script_calls.Grant gref entry) other = absurd (other gref entry refl)
 fits_other call other = tt
 
 -- the call of a line was made, its record was pushed, and its answer is printed

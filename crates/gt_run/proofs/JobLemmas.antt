@@ -37,7 +37,7 @@ use Rattle.gt_live.specs.declared.domain.Domain.{Domain}
 use Rattle.gt_live.specs.declared.monitor.Monitor.{Monitor}
 use Rattle.gt_text.specs.Laws.{appends_both, begins_after, keeps_same}
 use Rattle.gt_text.specs.Streams.{AppendsBeginning}
-use Rattle.gt_script_runs.specs.declared.fault.PlayFault.TheVariants as plays
+use Rattle.gt_script_runs.specs.declared.fault.PlayFault.TheVariants as play_faults
 use Rattle.gt_run.specs.Asking.{Stand}
 use Rattle.gt_run.specs.Faults.{run_out_of_memory}
 use Rattle.gt_run.specs.Joining.{AreGathered, AreOfThisRun, AreOnRun, BeginsFirst, IsLate, IsOfThisRun, IsTakenIn}
@@ -466,11 +466,11 @@ wrote_of : {P : Type 0} (may : P → AllowRelation) (refuses : ℕ → Bool) (Ar
     → Wrote may refuses Are old new r
 wrote_of may refuses Are ds (Ok done) old new are wrote = (ds, are, wrote)
 wrote_of may refuses Are ds (Err Thread) old new are wrote = wrote
-wrote_of may refuses Are ds (Err (Play plays.Memory)) old new are wrote = inr (ds, are, wrote)
-wrote_of may refuses Are ds (Err (Play plays.Write)) old new are wrote = (ds, are, wrote)
-wrote_of may refuses Are ds (Err (Play plays.Read)) old new are wrote = absurd wrote
-wrote_of may refuses Are ds (Err (Play (plays.Script fault))) old new are wrote = absurd wrote
-wrote_of may refuses Are ds (Err (Play (plays.Policy fault))) old new are wrote = absurd wrote
+wrote_of may refuses Are ds (Err (Play play_faults.Memory)) old new are wrote = inr (ds, are, wrote)
+wrote_of may refuses Are ds (Err (Play play_faults.Write)) old new are wrote = (ds, are, wrote)
+wrote_of may refuses Are ds (Err (Play play_faults.Read)) old new are wrote = absurd wrote
+wrote_of may refuses Are ds (Err (Play (play_faults.Script fault))) old new are wrote = absurd wrote
+wrote_of may refuses Are ds (Err (Play (play_faults.Policy fault))) old new are wrote = absurd wrote
 
 -- the threads that were started are those of these jobs, where all were
 pub wrote_started : {P : Type 0} (may : P → AllowRelation) (refuses : ℕ → Bool) (Are : List (ThreadJob P) → Type 0) (all : Option ThreadRefusal) (hs : List (ThreadJob P)) (r : Result (Unit {0}) RunFault) (old new : Option (List ℕ))
@@ -484,12 +484,12 @@ pub wrote_as : {P : Type 0} (may : P → AllowRelation) (refuses : ℕ → Bool)
     → Wrote may refuses Are old new r → Wrote may refuses Be old new r
 wrote_as may refuses Are Be (Ok done) old new f (ds, are, wrote) = (ds, f ds are, wrote)
 wrote_as may refuses Are Be (Err Thread) old new f wrote = wrote
-wrote_as may refuses Are Be (Err (Play plays.Memory)) old new f (inl kept) = inl kept
-wrote_as may refuses Are Be (Err (Play plays.Memory)) old new f (inr (ds, are, wrote)) = inr (ds, f ds are, wrote)
-wrote_as may refuses Are Be (Err (Play plays.Write)) old new f (ds, are, wrote) = (ds, f ds are, wrote)
-wrote_as may refuses Are Be (Err (Play plays.Read)) old new f wrote = absurd wrote
-wrote_as may refuses Are Be (Err (Play (plays.Script fault))) old new f wrote = absurd wrote
-wrote_as may refuses Are Be (Err (Play (plays.Policy fault))) old new f wrote = absurd wrote
+wrote_as may refuses Are Be (Err (Play play_faults.Memory)) old new f (inl kept) = inl kept
+wrote_as may refuses Are Be (Err (Play play_faults.Memory)) old new f (inr (ds, are, wrote)) = inr (ds, f ds are, wrote)
+wrote_as may refuses Are Be (Err (Play play_faults.Write)) old new f (ds, are, wrote) = (ds, f ds are, wrote)
+wrote_as may refuses Are Be (Err (Play play_faults.Read)) old new f wrote = absurd wrote
+wrote_as may refuses Are Be (Err (Play (play_faults.Script fault))) old new f wrote = absurd wrote
+wrote_as may refuses Are Be (Err (Play (play_faults.Policy fault))) old new f wrote = absurd wrote
 
 -- no memory, and nothing was written yet
 pub wrote_none : {P : Type 0} (may : P → AllowRelation) (refuses : ℕ → Bool) (Are : List (ThreadJob P) → Type 0) (e : RunFault) (old : Option (List ℕ)) → e ≡ run_out_of_memory → Wrote may refuses Are old old (Err e)

@@ -13,7 +13,7 @@ use Rattle.gt_script.specs.Lists.{RunTask}
 use Rattle.gt_script.specs.Stuck.{AreNumbered}
 use Rattle.gt_script_runs.specs.Rights.{may_by, may_in}
 use Rattle.gt_script_runs.specs.declared.fault.PlayFault.TheVariants.{Memory, Read, Write, Script, Policy}
-use Rattle.gt_script_runs.specs.declared.rights.ScriptPolicy.{ScriptPolicy as ScriptRights}
+use Rattle.gt_script_runs.specs.declared.rights.ScriptPolicy.{ScriptPolicy}
 use Rattle.gt_shared_table.specs.Words.{frames_kept}
 use Rattle.gt_live.specs.Domains.{AllowRelation}
 use Rattle.gt_live.specs.declared.monitor.Monitor.{Monitor}
@@ -82,10 +82,10 @@ AreListsOf c parts = AreParts c.head.domains c.tasks (type_names c.head) parts
 
 -- the jobs of a script's parts, over one monitor that has the script's domains with all their frames, its first
 -- generation and its flags, is within the limits, and allows what the script allows
-pub record AreOf (c : RunContents) (logged : Bool) (jobs : List (ThreadJob ScriptRights)) : Type 0 where
+pub record AreOf (c : RunContents) (logged : Bool) (jobs : List (ThreadJob ScriptPolicy)) : Type 0 where
   pub parts : List DomainPart
   pub of_script : AreListsOf c parts
-  pub monitor : Monitor ScriptRights
+  pub monitor : Monitor ScriptPolicy
   pub domains : (config_of monitor).domains.items ≡ c.head.domains
   pub limits : IsWithinLimits (config_of monitor)
   pub generation : (config_of monitor).first_gen ≡ first_gen c.head

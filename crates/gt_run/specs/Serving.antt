@@ -9,7 +9,7 @@ use Rattle.gt_run.specs.Prelude.{Monitor, RunAction, Do, Tell, Await, RunTask, T
 use Rattle.gt_run.specs.Prelude.{TrailLogger}
 use Rattle.gt_run.specs.Asking.{Asks, MakesFlagStep, RaisesFlag, Stand}
 use Rattle.gt_model.specs.Entries.{IsEntry}
-use Rattle.gt_script_lines.specs.declared.calls.ScriptCall.TheVariants as calls
+use Rattle.gt_script_lines.specs.declared.calls.ScriptCall.TheVariants as script_calls
 use Rattle.gt_live.specs.Parts.{config_of, rights_of, seat_of, trail_of, words_of}
 
 -- calls
@@ -49,7 +49,7 @@ is_logged job = is_some job.log
 
 -- the numbers of the entry that a line grants are in the range of their types
 abbrev pub FitsEntry : ScriptCall → Type 0
-FitsEntry (calls.Grant gref entry) = IsEntry entry
+FitsEntry (script_calls.Grant gref entry) = IsEntry entry
 FitsEntry call = Unit {0}
 
 -- The call of a line was made. The domain got the request that the line makes, by what its labels named then, and gave

@@ -17,7 +17,7 @@ use Rattle.gt_policy.specs.Shown.{fault_shown}
 use Rattle.gt_policy.specs.Whole as policies
 use Rattle.gt_policy.specs.declared.fault.TokenFault as policy
 use Rattle.gt_policy.specs.declared.parse.PolicyFaultKind as kinds
-use Rattle.gt_policy.specs.declared.parse.PolicyFaultKind.TheVariants as kind
+use Rattle.gt_policy.specs.declared.parse.PolicyFaultKind.TheVariants as policy_fault_kinds
 use Rattle.gt_script_lines.specs.Words.{words}
 use Rattle.gt_script.specs.Faults.{error_in_block}
 use Rattle.gt_script.specs.Blocks.{opening, closing, block_text, BlockMeans, IsFaultyBlock, IsPolicyOf}
@@ -35,7 +35,7 @@ use Rattle.gt_script.specs.Outcomes.{AnswersScript, GivesScript}
 use Rattle.gt_script.specs.declared.command.ScriptCommand.{ScriptCommand}
 use Rattle.gt_script.specs.declared.script.Script.{Script}
 use Rattle.gt_script.specs.declared.faults.ScriptError.{ScriptError}
-use Rattle.gt_script.specs.declared.faults.ScriptError.TheVariants as errors
+use Rattle.gt_script.specs.declared.faults.ScriptError.TheVariants as script_errors
 use Rattle.gt_script.specs.declared.faults.ScriptFaultKind.{ScriptFaultKind}
 use Rattle.gt_script.specs.declared.faults.ScriptFaultKind.TheVariants.{Syntax, Config}
 use Rattle.gt_script.specs.declared.faults.ScriptFault.{ScriptFault}
@@ -354,9 +354,9 @@ answers-script command bytes (Err e) h = tt
 
 pub answers-fault : (command : ScriptCommand) (bytes : List ℕ) (r : Result Script ScriptError) → AnswersScript r (ReadsFor command bytes) → IfErr r (λ e. StandsFor command bytes e)
 answers-fault command bytes (Ok s) h = tt
-answers-fault command bytes (Err errors.Memory) h = tt
-answers-fault command bytes (Err (errors.Fault f)) h = tells-script command bytes f h
-answers-fault command bytes (Err (errors.Policy e)) (g, shown, h) = (g, shown, tells-policy command bytes g h)
+answers-fault command bytes (Err script_errors.Memory) h = tt
+answers-fault command bytes (Err (script_errors.Fault f)) h = tells-script command bytes f h
+answers-fault command bytes (Err (script_errors.Policy e)) (g, shown, h) = (g, shown, tells-policy command bytes g h)
 
 -- a text past the limit is as long as what is read of it
 
@@ -370,23 +370,23 @@ tells-all command all lines_said (inr (inr (short, text, says))) = subst (λ (l 
 
 pub answers-all : (command : ScriptCommand) (bytes all : List ℕ) (r : Result Script ScriptError) → bytes ≡ take 1048577 all → AnswersScript r (ReadsFor command bytes) → AnswersScript r (ReadsFor command all)
 answers-all command bytes all (Ok s) e h = tells-all command all (Ok (contents_of s)) (subst (λ (l : List ℕ). ReadsFor command l (Ok (contents_of s))) e h)
-answers-all command bytes all (Err errors.Memory) e h = tt
-answers-all command bytes all (Err (errors.Fault f)) e h = tells-all command all (Err (in_script f)) (subst (λ (l : List ℕ). ReadsFor command l (Err (in_script f))) e h)
-answers-all command bytes all (Err (errors.Policy fault)) e (g, shown, h) = (g, shown, tells-all command all (Err (in_policy g)) (subst (λ (l : List ℕ). ReadsFor command l (Err (in_policy g))) e h))
+answers-all command bytes all (Err script_errors.Memory) e h = tt
+answers-all command bytes all (Err (script_errors.Fault f)) e h = tells-all command all (Err (in_script f)) (subst (λ (l : List ℕ). ReadsFor command l (Err (in_script f))) e h)
+answers-all command bytes all (Err (script_errors.Policy fault)) e (g, shown, h) = (g, shown, tells-all command all (Err (in_policy g)) (subst (λ (l : List ℕ). ReadsFor command l (Err (in_policy g))) e h))
 
 -- from the answers of the parts to those of the whole
 
 pub answers-lines : (r : Result Script ScriptError) (all : Result Contents ScriptFault) → GivesScript r all → AnswersScript r (λ w. w ≡ in_result all)
 answers-lines (Ok s) all h = ap in_result (sym h)
-answers-lines (Err errors.Memory) all h = tt
-answers-lines (Err (errors.Fault f)) all h = ap in_result (sym h)
-answers-lines (Err (errors.Policy e)) all h = absurd h
+answers-lines (Err script_errors.Memory) all h = tt
+answers-lines (Err (script_errors.Fault f)) all h = ap in_result (sym h)
+answers-lines (Err (script_errors.Policy e)) all h = absurd h
 
 pub answers-weaker : (r : Result Script ScriptError) (P Q : Result Contents Wrong → Type 0) → ((w : Result Contents Wrong) → P w → Q w) → AnswersScript r P → AnswersScript r Q
 answers-weaker (Ok s) P Q f h = f (Ok (contents_of s)) h
-answers-weaker (Err errors.Memory) P Q f h = tt
-answers-weaker (Err (errors.Fault g)) P Q f h = f (Err (in_script g)) h
-answers-weaker (Err (errors.Policy e)) P Q f (g, shown, h) = (g, shown, f (Err (in_policy g)) h)
+answers-weaker (Err script_errors.Memory) P Q f h = tt
+answers-weaker (Err (script_errors.Fault g)) P Q f h = f (Err (in_script g)) h
+answers-weaker (Err (script_errors.Policy e)) P Q f (g, shown, h) = (g, shown, f (Err (in_policy g)) h)
 
 -- a text that is none
 pub answers-unread : (command : ScriptCommand) (bytes : List ℕ) (f : ScriptFault) → IsUnread bytes f → ReadsFor command bytes (Err (in_script f))
@@ -430,9 +430,9 @@ block_rest command count first end lines p c r closes means starts h =
     (answers-weaker r (λ w. w ≡ in_result (whole_script count (with_policy command p) (first + end + 1 + 1) (drop (end + 1) (texts lines)))) (ClosedReads command count first (texts lines) end) (λ w e. inl (p, meant, e)) (answers-lines r _ lines_said))
 
 block-fault : (command : ScriptCommand) (count first end : ℕ) (lines : List (List ℕ)) (error : ScriptError) → IsPolicyOf first (take end lines) (Err error) → AnswersScript (Err error) (ClosedReads command count first lines end)
-block-fault command count first end lines errors.Memory h = tt
-block-fault command count first end lines (errors.Fault f) h = absurd h
-block-fault command count first end lines (errors.Policy e) (g, shown, faulty) = (g, shown, inr (g, faulty, refl))
+block-fault command count first end lines script_errors.Memory h = tt
+block-fault command count first end lines (script_errors.Fault f) h = absurd h
+block-fault command count first end lines (script_errors.Policy e) (g, shown, faulty) = (g, shown, inr (g, faulty, refl))
 
 pub block_faulty : (command : ScriptCommand) (count first end : ℕ) (lines : List (Bor (List ℕ))) (error : ScriptError) → Some end ≡ closing (texts lines) → IsPolicyOf first (texts (take end lines)) (Err error)
     → AnswersScript (Err error) (BlockReads command count first (texts lines) (closing (texts lines)))
@@ -460,13 +460,13 @@ lines_none command lines c o r opens none starts h =
 
 shown-fault : (before line : ℕ) (kind : kinds.PolicyFaultKind) (lines : List (List ℕ)) → ((f : policy.TokenFault) → fault_shown (record { line = line; kind = kind }) ≡ Some f → policies.ReadsAs (block_text lines) (Err f))
     → IsPolicyOf before lines (Err (error_in_block (before + line) kind))
-shown-fault before line kind.Memory lines says = tt
-shown-fault before line kind.Syntax lines says = (_, refl, (_, says _ refl, refl))
-shown-fault before line (kind.Unknown name) lines says = (_, refl, (_, says _ refl, refl))
-shown-fault before line (kind.Twice name) lines says = (_, refl, (_, says _ refl, refl))
-shown-fault before line (kind.Permission name) lines says = (_, refl, (_, says _ refl, refl))
-shown-fault before line (kind.Outside word) lines says = (_, refl, (_, says _ refl, refl))
-shown-fault before line kind.Limit lines says = (_, refl, (_, says _ refl, refl))
+shown-fault before line policy_fault_kinds.Memory lines says = tt
+shown-fault before line policy_fault_kinds.Syntax lines says = (_, refl, (_, says _ refl, refl))
+shown-fault before line (policy_fault_kinds.Unknown name) lines says = (_, refl, (_, says _ refl, refl))
+shown-fault before line (policy_fault_kinds.Twice name) lines says = (_, refl, (_, says _ refl, refl))
+shown-fault before line (policy_fault_kinds.Permission name) lines says = (_, refl, (_, says _ refl, refl))
+shown-fault before line (policy_fault_kinds.Outside word) lines says = (_, refl, (_, says _ refl, refl))
+shown-fault before line policy_fault_kinds.Limit lines says = (_, refl, (_, says _ refl, refl))
 
 pub policy_faulty : (before line : ℕ) (kind : kinds.PolicyFaultKind) (lines : List (List ℕ)) (text : List ℕ) (error : ScriptError) → text ≡ block_text lines
     → ((f : policy.TokenFault) → fault_shown (record { line = line; kind = kind }) ≡ Some f → policies.ReadsAs text (Err f)) → error ≡ error_in_block (before + line) kind → IsPolicyOf before lines (Err error)

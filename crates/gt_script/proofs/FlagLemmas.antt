@@ -13,7 +13,7 @@ use Rattle.gt_script.specs.Flags.{borrowed_names, with_flag, with_flag_of, flag_
 use Rattle.gt_script.specs.Stuck.{IsBelow, AreNumbered}
 use Rattle.gt_script.specs.Tasks.{deed_of, task_of, tasks_for}
 use Rattle.gt_script.specs.Lists.{NamedRunTask, NamedRunAction, RunAction, RunTask}
-use Rattle.gt_script.specs.declared.tasks.RunActionBy.TheVariants as runs
+use Rattle.gt_script.specs.declared.tasks.RunActionBy.TheVariants as run_actions
 use Rattle.gt_script.proofs.TypeLemmas.{same_bytes}
 
 any-names : (keys : List (Bor (List ℕ))) (name : List ℕ) → list_any (λ k. bytes_eq name k.now) keys ≡ list_any (bytes_eq name) (borrowed_names keys)
@@ -47,9 +47,9 @@ number-names keys name n is = is ∙ position-names keys name
 -- the names after one line more
 
 named-one : (names : List (List ℕ)) (line : NamedRunAction) → fold with_flag names (cons_option (flag_in line) []) ≡ with_flag_of names line
-named-one names (runs.Do call) = refl
-named-one names (runs.Tell flag) = refl
-named-one names (runs.Await flag) = refl
+named-one names (run_actions.Do call) = refl
+named-one names (run_actions.Tell flag) = refl
+named-one names (run_actions.Await flag) = refl
 
 flags-more : (orders : List NamedRunTask) (o : NamedRunTask) → flag_names_of (orders ++ o ∷ []) ≡ with_flag_of (flag_names_of orders) o.deed
 flags-more orders o =
@@ -109,9 +109,9 @@ number-below names name h = position-below (bytes_eq name) names h
 
 line-below : (names : List (List ℕ)) (line : NamedRunAction) → ((name : List ℕ) → flag_in line ≡ Some name → Has names name) → IsBelow (length names) (deed_of names line)
 unfolding deed_of
-line-below names (runs.Do call) h = tt
-line-below names (runs.Tell flag) h = number-below names flag (h flag refl)
-line-below names (runs.Await flag) h = number-below names flag (h flag refl)
+line-below names (run_actions.Do call) h = tt
+line-below names (run_actions.Tell flag) h = number-below names flag (h flag refl)
+line-below names (run_actions.Await flag) h = number-below names flag (h flag refl)
 
 first-named : (names : List (List ℕ)) (o : Option (List ℕ)) (more : List (List ℕ)) → All (Has names) (cons_option o more) → (name : List ℕ) → o ≡ Some name → Has names name
 first-named names None more h name e = absurd cc
@@ -169,29 +169,29 @@ number-kept names other name h = number-kept-by names other name (list_any (byte
 -- the two actions that name a flag, by the number of the flag
 
 abbrev pub told : ℕ → RunAction
-told n = runs.Tell n
+told n = run_actions.Tell n
 
 abbrev pub awaited : ℕ → RunAction
-awaited n = runs.Await n
+awaited n = run_actions.Await n
 
 flag-new : (names new : List (List ℕ)) (flag bytes : List ℕ) (n : ℕ) → bytes ≡ flag → new ≡ with_flag names bytes → n ≡ flag_number names bytes → n ≡ flag_number new flag
 flag-new names new flag bytes n same named number =
     number ∙ sym (number-new names bytes) ∙ ap (λ (l : List (List ℕ)). flag_number l bytes) (sym named) ∙ ap (λ (w : List ℕ). flag_number new w) same
 
 -- the action of a line, by the number that its flag had before it was added
-pub tell-new : (names new : List (List ℕ)) (deed : NamedRunAction) (flag bytes : List ℕ) (n : ℕ) → deed ≡ runs.Tell flag → bytes ≡ flag → new ≡ with_flag names bytes → n ≡ flag_number names bytes → told n ≡ deed_of new deed
+pub tell-new : (names new : List (List ℕ)) (deed : NamedRunAction) (flag bytes : List ℕ) (n : ℕ) → deed ≡ run_actions.Tell flag → bytes ≡ flag → new ≡ with_flag names bytes → n ≡ flag_number names bytes → told n ≡ deed_of new deed
 unfolding deed_of
 tell-new names new deed flag bytes n is same named number = rw is (ap told (flag-new names new flag bytes n same named number))
 
-pub await-new : (names new : List (List ℕ)) (deed : NamedRunAction) (flag bytes : List ℕ) (n : ℕ) → deed ≡ runs.Await flag → bytes ≡ flag → new ≡ with_flag names bytes → n ≡ flag_number names bytes → awaited n ≡ deed_of new deed
+pub await-new : (names new : List (List ℕ)) (deed : NamedRunAction) (flag bytes : List ℕ) (n : ℕ) → deed ≡ run_actions.Await flag → bytes ≡ flag → new ≡ with_flag names bytes → n ≡ flag_number names bytes → awaited n ≡ deed_of new deed
 unfolding deed_of
 await-new names new deed flag bytes n is same named number = rw is (ap awaited (flag-new names new flag bytes n same named number))
 
 deed-kept : (names : List (List ℕ)) (other : List ℕ) (line : NamedRunAction) → ((name : List ℕ) → flag_in line ≡ Some name → Has names name) → deed_of (with_flag names other) line ≡ deed_of names line
 unfolding deed_of
-deed-kept names other (runs.Do call) h = refl
-deed-kept names other (runs.Tell flag) h = ap told (number-kept names other flag (h flag refl))
-deed-kept names other (runs.Await flag) h = ap awaited (number-kept names other flag (h flag refl))
+deed-kept names other (run_actions.Do call) h = refl
+deed-kept names other (run_actions.Tell flag) h = ap told (number-kept names other flag (h flag refl))
+deed-kept names other (run_actions.Await flag) h = ap awaited (number-kept names other flag (h flag refl))
 
 tasks-kept : (names : List (List ℕ)) (other : List ℕ) (orders : List NamedRunTask) → All (Has names) (filter_map (λ o. flag_in o.deed) orders) → tasks_for (with_flag names other) orders ≡ tasks_for names orders
 tasks-kept names other [] h = refl
@@ -200,9 +200,9 @@ tasks-kept names other (o ∷ orders) h =
     ∙ ap (λ (ts : List RunTask). task_of names o ∷ ts) (tasks-kept names other orders (rest-named names (flag_in o.deed) _ h))
 
 tasks-kept-of : (names : List (List ℕ)) (line : NamedRunAction) (orders : List NamedRunTask) → All (Has names) (filter_map (λ o. flag_in o.deed) orders) → tasks_for (with_flag_of names line) orders ≡ tasks_for names orders
-tasks-kept-of names (runs.Do call) orders h = refl
-tasks-kept-of names (runs.Tell flag) orders h = tasks-kept names flag orders h
-tasks-kept-of names (runs.Await flag) orders h = tasks-kept names flag orders h
+tasks-kept-of names (run_actions.Do call) orders h = refl
+tasks-kept-of names (run_actions.Tell flag) orders h = tasks-kept names flag orders h
+tasks-kept-of names (run_actions.Await flag) orders h = tasks-kept names flag orders h
 
 -- the names and tasks after one line more
 pub one-more : (orders : List NamedRunTask) (o : NamedRunTask) (names new : List (List ℕ)) (tasks made : List RunTask) → names ≡ flag_names_of orders → tasks ≡ tasks_for names orders → new ≡ with_flag_of names o.deed

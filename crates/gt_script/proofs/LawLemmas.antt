@@ -35,7 +35,7 @@ use Rattle.gt_script.specs.declared.actions.ScriptAction.{ScriptAction}
 use Rattle.gt_script_lines.specs.declared.lines.TripleLine.{TripleLine}
 use Rattle.gt_script_lines.specs.declared.lines.DomainLine.{DomainLine}
 use Rattle.gt_script_lines.specs.declared.lines.ScriptLine.{ScriptLine}
-use Rattle.gt_script_lines.specs.declared.lines.ScriptLine.TheVariants as line
+use Rattle.gt_script_lines.specs.declared.lines.ScriptLine.TheVariants as script_lines
 use Rattle.gt_script_lines.specs.declared.body.BodyLine.{BodyLine}
 use Rattle.gt_script.specs.declared.command.ScriptCommand.{ScriptCommand}
 use Rattle.gt_script.specs.declared.command.ScriptCommand.TheVariants.{Play, Run}
@@ -139,18 +139,18 @@ bind-at : {A B : Type 0} (o : Option A) (x : A) (f : A → Option B) → o ≡ S
 bind-at o x f e = ap (λ (q : Option _). q >>= f) e
 
 adds-triple-of : (n : ℕ) (c d : Contents) (t : TripleLine) (source target : List (List ℕ) × TypeId) → c.policy ≡ None → with_type_name c.types t.source ≡ Some source → with_type_name source.0 t.target ≡ Some target
-    → record c { types = target.0; triples = c.triples ++ record { source = source.1; target = target.1; perm = t.perm } ∷ [] } ≡ d → Adds n (Some (line.Triple t)) c d
+    → record c { types = target.0; triples = c.triples ++ record { source = source.1; target = target.1; perm = t.perm } ∷ [] } ≡ d → Adds n (Some (script_lines.Triple t)) c d
 adds-triple-of n c d t source target free s r same =
     let a = with_type-Typed c.types t.source source s in
     let b = with_type-Typed source.0 t.target target r in
-    subst (λ (x : Contents). Adds n (Some (line.Triple t)) c x) same (record {
+    subst (λ (x : Contents). Adds n (Some (script_lines.Triple t)) c x) same (record {
       policy = refl;
       no_triples = λ p e. absurd (cc (e, free));
       types = Grown-trans c.types source.0 target.0 a.grown b.grown;
       triples = λ types g.
           let first : type_named types t.source ≡ Some source.1 = g.kept _ _ (b.grown.kept _ _ a.number) in
           let second : type_named types t.target ≡ Some target.1 = g.kept _ _ b.number in
-          let lines_said : triple_in types (line.Triple t) ≡ Some (record { source = source.1; target = target.1; perm = t.perm }) = bind-at _ _ _ first ∙ bind-at _ _ _ second in
+          let lines_said : triple_in types (script_lines.Triple t) ≡ Some (record { source = source.1; target = target.1; perm = t.perm }) = bind-at _ _ _ first ∙ bind-at _ _ _ second in
           ap (λ (o : Option Triple). c.triples ++ option_to_list o) (sym lines_said);
       wear = sym (append-nil (option_to_list c.wear));
       domains = λ types g. sym (append-nil c.domains);
@@ -163,7 +163,7 @@ adds-triple-of n c d t source target free s r same =
       ordered = λ h. h;
     })
 
-adds-triple : (n : ℕ) (c d : Contents) (t : TripleLine) → c.policy ≡ None → with_triple c t ≡ Ok d → Adds n (Some (line.Triple t)) c d
+adds-triple : (n : ℕ) (c d : Contents) (t : TripleLine) → c.policy ≡ None → with_triple c t ≡ Ok d → Adds n (Some (script_lines.Triple t)) c d
 unfolding with_triple
 adds-triple n c d t free e =
     let p = bind-Some _ _ d (or_config-Ok _ d e) in
@@ -186,17 +186,17 @@ type_in-Is (Some p) types name label e =
     record { grown = subst (λ (l : List (List ℕ)). Grown types l) is.0 (Grown-refl types); number = λ later g. is.1 }
 
 adds-domain-of : (n : ℕ) (c d : Contents) (l : DomainLine) (label : List (List ℕ) × TypeId) (domain : DomainConfig) → type_named_in c.policy c.types l.type_name ≡ Some label → domain_written l label.1 ≡ Some domain
-    → is_none (domain_fault c.domains domain) ≡ true → record c { types = label.0; domains = c.domains ++ domain ∷ [] } ≡ d → Adds n (Some (line.Domain l)) c d
+    → is_none (domain_fault c.domains domain) ≡ true → record c { types = label.0; domains = c.domains ++ domain ∷ [] } ≡ d → Adds n (Some (script_lines.Domain l)) c d
 adds-domain-of n c d l label domain t w fine same =
     let a = type_in-Is c.policy c.types l.type_name label t in
-    subst (λ (x : Contents). Adds n (Some (line.Domain l)) c x) same (record {
+    subst (λ (x : Contents). Adds n (Some (script_lines.Domain l)) c x) same (record {
       policy = refl;
       no_triples = λ p e. refl;
       types = a.grown;
       triples = λ types g. sym (append-nil c.triples);
       wear = sym (append-nil (option_to_list c.wear));
       domains = λ types g.
-          let lines_said : domain_in (type_names_with c.policy types) (line.Domain l) ≡ Some domain = bind-at _ _ _ (a.number types g) ∙ w in
+          let lines_said : domain_in (type_names_with c.policy types) (script_lines.Domain l) ≡ Some domain = bind-at _ _ _ (a.number types g) ∙ w in
           ap (λ (o : Option DomainConfig). c.domains ++ option_to_list o) (sym lines_said);
       command = refl;
       steps = sym (append-nil c.steps);
@@ -207,7 +207,7 @@ adds-domain-of n c d l label domain t w fine same =
       ordered = λ h. All-weaker _ _ (λ o k. taken-push c.domains domain o.dom k) c.orders h;
     })
 
-adds-domain : (n : ℕ) (c d : Contents) (l : DomainLine) → with_domain c l ≡ Ok d → Adds n (Some (line.Domain l)) c d
+adds-domain : (n : ℕ) (c d : Contents) (l : DomainLine) → with_domain c l ≡ Ok d → Adds n (Some (script_lines.Domain l)) c d
 unfolding with_domain
 adds-domain n c d l e =
     let p = bind-Some _ _ d (or_config-Ok _ d e) in
@@ -224,11 +224,11 @@ configured-Some ds number dom e =
     (p.1 ∙ ap (λ (d : DomId). Some d.0) r.1, subst (λ (d : DomId). is_taken ds d ≡ true) r.1 r.0)
 
 adds-step : (n : ℕ) (c d : Contents) (number : Number) (asks : BodyLine) (dom : DomId) → c.command ≡ Play → number_below (2 ^ 16) number ≡ Some dom.0 → is_taken c.domains dom ≡ true
-    → with_domain_line c n dom asks ≡ Ok d → Adds n (Some (line.Body number asks)) c d
+    → with_domain_line c n dom asks ≡ Ok d → Adds n (Some (script_lines.Body number asks)) c d
 unfolding with_domain_line
 adds-step n c d number asks dom play small taken e =
     let p = bind-Some _ _ d (or_mode-Ok _ d e) in
-    subst (λ (x : Contents). Adds n (Some (line.Body number asks)) c x) (same_Some _ _ p.2) (record {
+    subst (λ (x : Contents). Adds n (Some (script_lines.Body number asks)) c x) (same_Some _ _ p.2) (record {
       policy = refl;
       no_triples = λ p e. refl;
       types = Grown-refl c.types;
@@ -237,11 +237,11 @@ adds-step n c d number asks dom play small taken e =
       domains = λ types g. sym (append-nil c.domains);
       command = refl;
       steps =
-          let lines_said : step_on c.command n (line.Body number asks) ≡ Some (record { line = n; dom = dom; action = p.0 }) =
+          let lines_said : step_on c.command n (script_lines.Body number asks) ≡ Some (record { line = n; dom = dom; action = p.0 }) =
           ap (λ (k : ScriptCommand). step_for k n number asks) play ∙ bind-at _ _ _ small ∙ bind-at _ _ _ p.1 in
           ap (λ (o : Option ScriptStep). c.steps ++ option_to_list o) (sym lines_said);
       orders =
-          let lines_said : order_on c.command n (line.Body number asks) ≡ None = ap (λ (k : ScriptCommand). order_for k n number asks) play in
+          let lines_said : order_on c.command n (script_lines.Body number asks) ≡ None = ap (λ (k : ScriptCommand). order_for k n number asks) play in
           sym (append-nil c.orders) ∙ ap (λ (o : Option NamedRunTask). c.orders ++ option_to_list o) (sym lines_said);
       suited = ap (λ (k : ScriptCommand). asks_for k asks) play ∙ ap (λ (o : Option ScriptAction). is_some o) p.1;
       faultless = λ h. h;
@@ -250,11 +250,11 @@ adds-step n c d number asks dom play small taken e =
     })
 
 adds-order : (n : ℕ) (c d : Contents) (number : Number) (asks : BodyLine) (dom : DomId) → c.command ≡ Run → number_below (2 ^ 16) number ≡ Some dom.0 → is_taken c.domains dom ≡ true
-    → with_order c n dom asks ≡ Ok d → Adds n (Some (line.Body number asks)) c d
+    → with_order c n dom asks ≡ Ok d → Adds n (Some (script_lines.Body number asks)) c d
 unfolding with_order
 adds-order n c d number asks dom run small taken e =
     let p = bind-Some _ _ d (or_mode-Ok _ d e) in
-    subst (λ (x : Contents). Adds n (Some (line.Body number asks)) c x) (same_Some _ _ p.2) (record {
+    subst (λ (x : Contents). Adds n (Some (script_lines.Body number asks)) c x) (same_Some _ _ p.2) (record {
       policy = refl;
       no_triples = λ p e. refl;
       types = Grown-refl c.types;
@@ -263,10 +263,10 @@ adds-order n c d number asks dom run small taken e =
       domains = λ types g. sym (append-nil c.domains);
       command = refl;
       steps =
-          let lines_said : step_on c.command n (line.Body number asks) ≡ None = ap (λ (k : ScriptCommand). step_for k n number asks) run in
+          let lines_said : step_on c.command n (script_lines.Body number asks) ≡ None = ap (λ (k : ScriptCommand). step_for k n number asks) run in
           sym (append-nil c.steps) ∙ ap (λ (o : Option ScriptStep). c.steps ++ option_to_list o) (sym lines_said);
       orders =
-          let lines_said : order_on c.command n (line.Body number asks) ≡ Some (record { line = n; dom = dom; deed = p.0 }) =
+          let lines_said : order_on c.command n (script_lines.Body number asks) ≡ Some (record { line = n; dom = dom; deed = p.0 }) =
           ap (λ (k : ScriptCommand). order_for k n number asks) run ∙ bind-at _ _ _ small ∙ bind-at _ _ _ p.1 in
           ap (λ (o : Option NamedRunTask). c.orders ++ option_to_list o) (sym lines_said);
       suited = ap (λ (k : ScriptCommand). asks_for k asks) run ∙ ap (λ (o : Option NamedRunAction). is_some o) p.1;
@@ -276,18 +276,18 @@ adds-order n c d number asks dom run small taken e =
     })
 
 adds-asked : (n : ℕ) (c d : Contents) (number : Number) (asks : BodyLine) (dom : DomId) (command : ScriptCommand) → c.command ≡ command → number_below (2 ^ 16) number ≡ Some dom.0
-    → is_taken c.domains dom ≡ true → with_asked command c n dom asks ≡ Ok d → Adds n (Some (line.Body number asks)) c d
+    → is_taken c.domains dom ≡ true → with_asked command c n dom asks ≡ Ok d → Adds n (Some (script_lines.Body number asks)) c d
 adds-asked n c d number asks dom Play is small taken e = adds-step n c d number asks dom is small taken e
 adds-asked n c d number asks dom Run is small taken e = adds-order n c d number asks dom is small taken e
 
 adds-known : (n : ℕ) (c d : Contents) (number : Number) (asks : BodyLine) (known : Option DomId) → configured c.domains number ≡ known
-    → (let r : Result Contents ScriptFaultKind = elim known [ None ↦ Err Config | Some dom ↦ with_asked c.command c n dom asks ] in r ≡ Ok d) → Adds n (Some (line.Body number asks)) c d
+    → (let r : Result Contents ScriptFaultKind = elim known [ None ↦ Err Config | Some dom ↦ with_asked c.command c n dom asks ] in r ≡ Ok d) → Adds n (Some (script_lines.Body number asks)) c d
 adds-known n c d number asks None p e = absurd cc
 adds-known n c d number asks (Some dom) p e =
     let is = configured-Some c.domains number dom p in
     adds-asked n c d number asks dom c.command refl is.0 is.1 e
 
-adds-body : (n : ℕ) (c d : Contents) (number : Number) (asks : BodyLine) → with_body_line c n number asks ≡ Ok d → Adds n (Some (line.Body number asks)) c d
+adds-body : (n : ℕ) (c d : Contents) (number : Number) (asks : BodyLine) → with_body_line c n number asks ≡ Ok d → Adds n (Some (script_lines.Body number asks)) c d
 unfolding with_body_line
 adds-body n c d number asks e = adds-known n c d number asks (configured c.domains number) refl e
 
@@ -306,9 +306,9 @@ none-yet : {A : Type 0} (o : Option A) → is_some o ≡ false → o ≡ None
 none-yet None h = refl
 none-yet (Some x) h = absurd cc
 
-adds-wear : (n : ℕ) (c d : Contents) (first : ℕ) → c.wear ≡ None → record c { wear = Some first } ≡ d → Adds n (Some (line.Wear first)) c d
+adds-wear : (n : ℕ) (c d : Contents) (first : ℕ) → c.wear ≡ None → record c { wear = Some first } ≡ d → Adds n (Some (script_lines.Wear first)) c d
 adds-wear n c d first fresh same =
-    subst (λ (x : Contents). Adds n (Some (line.Wear first)) c x) same (record {
+    subst (λ (x : Contents). Adds n (Some (script_lines.Wear first)) c x) same (record {
       policy = refl;
       no_triples = λ p e. refl;
       types = Grown-refl c.types;
@@ -326,13 +326,13 @@ adds-wear n c d first fresh same =
 
 adds-placed : (n : ℕ) (c d : Contents) (l : ScriptLine) → is_misplaced c l ≡ false → with_placed c n l ≡ Ok d → Adds n (Some l) c d
 unfolding is_misplaced
-adds-placed n c d (line.Triple t) p e = adds-triple n c d t (none-yet c.policy (first-false (is_some c.policy) (is_some c.wear) (not (is_empty c.domains)) p)) e
-adds-placed n c d (line.Wear first) p e =
+adds-placed n c d (script_lines.Triple t) p e = adds-triple n c d t (none-yet c.policy (first-false (is_some c.policy) (is_some c.wear) (not (is_empty c.domains)) p)) e
+adds-placed n c d (script_lines.Wear first) p e =
     let fresh : c.wear ≡ None = none-yet c.wear (no-wear (has_no_rights c) (is_some c.wear) (not (is_empty c.domains)) p) in
     let same : record c { wear = Some first } ≡ d = cc in
     adds-wear n c d first fresh same
-adds-placed n c d (line.Domain l) p e = adds-domain n c d l e
-adds-placed n c d (line.Body number asks) p e = adds-body n c d number asks e
+adds-placed n c d (script_lines.Domain l) p e = adds-domain n c d l e
+adds-placed n c d (script_lines.Body number asks) p e = adds-body n c d number asks e
 
 adds-line : (n : ℕ) (c d : Contents) (l : ScriptLine) → with_script_line c n l ≡ Ok d → Adds n (Some l) c d
 unfolding with_script_line

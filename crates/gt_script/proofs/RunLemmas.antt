@@ -18,7 +18,7 @@ use Rattle.gt_script.specs.Stuck.{AreNumbered}
 use Rattle.gt_script.specs.Tasks.{tasks_numbered, tasks_of}
 use Rattle.gt_script.specs.declared.command.ScriptCommand.TheVariants.{Run}
 use Rattle.gt_script.specs.declared.faults.ScriptError.{ScriptError}
-use Rattle.gt_script.specs.declared.faults.ScriptError.TheVariants as errors
+use Rattle.gt_script.specs.declared.faults.ScriptError.TheVariants as script_errors
 use Rattle.gt_script.specs.Lists.{NamedRunTask, RunTask}
 use Rattle.gt_script.specs.declared.run_script.RunScript.{RunScript}
 use Rattle.gt_script.proofs.FlagLemmas.{tasks-numbered, tasks-known}
@@ -51,9 +51,9 @@ says-run c head orders domains tasks flags same front set made many h =
 
 run-weaker : (r : Result RunScript ScriptError) (P Q : Result RunContents Wrong → Type 0) → ((w : Result RunContents Wrong) → P w → Q w) → RunAnswers r P → RunAnswers r Q
 run-weaker (Ok s) P Q f h = f _ h
-run-weaker (Err errors.Memory) P Q f h = tt
-run-weaker (Err (errors.Fault fault)) P Q f h = f _ h
-run-weaker (Err (errors.Policy fault)) P Q f (g, shown, h) = (g, shown, f _ h)
+run-weaker (Err script_errors.Memory) P Q f h = tt
+run-weaker (Err (script_errors.Fault fault)) P Q f h = f _ h
+run-weaker (Err (script_errors.Policy fault)) P Q f (g, shown, h) = (g, shown, f _ h)
 
 says-tells : (bytes : List ℕ) (c : Contents) → ReadsFor Run bytes (Ok c) → (w : Result RunContents Wrong) → ContentsReadAs c w → ReadsAsRun bytes w
 says-tells bytes c t (Ok run) h = (c, t, h)
@@ -63,9 +63,9 @@ pub run-tells : (bytes : List ℕ) (c : Contents) (r : Result RunScript ScriptEr
 run-tells bytes c r t h = run-weaker r (ContentsReadAs c) (ReadsAsRun bytes) (says-tells bytes c t) h
 
 pub fault-tells : (bytes : List ℕ) (error : ScriptError) → AnswersScript (Err error) (ReadsFor Run bytes) → RunAnswers (Err error) (ReadsAsRun bytes)
-fault-tells bytes errors.Memory h = tt
-fault-tells bytes (errors.Fault fault) h = inl h
-fault-tells bytes (errors.Policy fault) (g, shown, h) = (g, shown, inl h)
+fault-tells bytes script_errors.Memory h = tt
+fault-tells bytes (script_errors.Fault fault) h = inl h
+fault-tells bytes (script_errors.Policy fault) (g, shown, h) = (g, shown, inl h)
 
 can-configure : (lines : List (List ℕ)) (c : Contents) → IsScriptFor Run lines c → CanConfigure c
 can-configure lines c (inl s) = (s.parts.faultless, s.parts.some_domain, s.parts.generation)

@@ -19,15 +19,15 @@ use Rattle.gt_script_lines.specs.declared.body.BodyLine.{BodyLine}
 use Rattle.gt_script_lines.specs.declared.lines.TripleLine.{TripleLine}
 use Rattle.gt_script_lines.specs.declared.lines.DomainLine.{DomainLine}
 use Rattle.gt_script_lines.specs.declared.lines.ScriptLine.{ScriptLine}
-use Rattle.gt_script_lines.specs.declared.lines.ScriptLine.TheVariants as line
+use Rattle.gt_script_lines.specs.declared.lines.ScriptLine.TheVariants as script_lines
 use Rattle.gt_script.proofs.LawLemmas.{filter-cons}
 
 -- a line that gives no generation past the last
 abbrev Ages : ScriptLine → Type 0
-Ages (line.Triple t) = Unit {0}
-Ages (line.Wear first) = first ≤ LAST_GENERATION
-Ages (line.Domain d) = Unit {0}
-Ages (line.Body id asks) = Unit {0}
+Ages (script_lines.Triple t) = Unit {0}
+Ages (script_lines.Wear first) = first ≤ LAST_GENERATION
+Ages (script_lines.Domain d) = Unit {0}
+Ages (script_lines.Body id asks) = Unit {0}
 
 below-less : (limit n m : ℕ) → below (limit + 1) n ≡ Some m → m ≤ limit
 below-less limit n m e = grind (arith, nat_tests)
@@ -46,10 +46,10 @@ wear-ages [] first e = absurd cc
 wear-ages (word ∷ []) first e = generation-ages word first e
 wear-ages (word ∷ other ∷ args) first e = absurd cc
 
-body-by : (number : Option Number) (asks : Option BodyLine) (l : ScriptLine) → (number >>= λ n. asks >>= λ a. Some (line.Body n a)) ≡ Some l → Ages l
+body-by : (number : Option Number) (asks : Option BodyLine) (l : ScriptLine) → (number >>= λ n. asks >>= λ a. Some (script_lines.Body n a)) ≡ Some l → Ages l
 body-by None asks l e = absurd cc
 body-by (Some n) None l e = absurd cc
-body-by (Some n) (Some a) l e = let same : line.Body n a ≡ l = cc in subst Ages same tt
+body-by (Some n) (Some a) l e = let same : script_lines.Body n a ≡ l = cc in subst Ages same tt
 
 body-ages : (word : List ℕ) (args : List (List ℕ)) (l : ScriptLine) → body_of word args ≡ Some l → Ages l
 unfolding body_of
@@ -59,13 +59,13 @@ body-ages word (id ∷ args) l e = body-by (decimal_number id) (body_line_of wor
 -- a line by its first word, which is `triple`, `wear`, `domain` or another
 by-word : (a b c : Bool) (t : Option TripleLine) (w : Option ℕ) (d : Option DomainLine) (rest : Option ScriptLine) (l : ScriptLine)
     → ((first : ℕ) → w ≡ Some first → first ≤ LAST_GENERATION) → (rest ≡ Some l → Ages l)
-    → cond a (option_map line.Triple t) (cond b (option_map line.Wear w) (cond c (option_map line.Domain d) rest)) ≡ Some l → Ages l
+    → cond a (option_map script_lines.Triple t) (cond b (option_map script_lines.Wear w) (cond c (option_map script_lines.Domain d) rest)) ≡ Some l → Ages l
 by-word true b c None w d rest l f g e = absurd cc
-by-word true b c (Some t) w d rest l f g e = let same : line.Triple t ≡ l = cc in subst Ages same tt
+by-word true b c (Some t) w d rest l f g e = let same : script_lines.Triple t ≡ l = cc in subst Ages same tt
 by-word false true c t None d rest l f g e = absurd cc
-by-word false true c t (Some first) d rest l f g e = let same : line.Wear first ≡ l = cc in subst Ages same (f first refl)
+by-word false true c t (Some first) d rest l f g e = let same : script_lines.Wear first ≡ l = cc in subst Ages same (f first refl)
 by-word false false true t w None rest l f g e = absurd cc
-by-word false false true t w (Some d) rest l f g e = let same : line.Domain d ≡ l = cc in subst Ages same tt
+by-word false false true t w (Some d) rest l f g e = let same : script_lines.Domain d ≡ l = cc in subst Ages same tt
 by-word false false false t w d rest l f g e = g e
 
 line-ages : (ws : List (List ℕ)) (l : ScriptLine) → line_of ws ≡ Some l → Ages l
@@ -74,10 +74,10 @@ line-ages (word ∷ args) l e = by-word (bytes_eq word (codes "triple")) (bytes_
 
 ages-cons : (o : Option ScriptLine) → ((l : ScriptLine) → o ≡ Some l → Ages l) → (gs : List ℕ) → All (λ g. g ≤ LAST_GENERATION) gs → All (λ g. g ≤ LAST_GENERATION) (option_to_list (o >>= wear_in) ++ gs)
 ages-cons None h gs a = a
-ages-cons (Some (line.Triple t)) h gs a = a
-ages-cons (Some (line.Wear first)) h gs a = All-cons (λ g. g ≤ LAST_GENERATION) first gs (h (line.Wear first) refl) a
-ages-cons (Some (line.Domain d)) h gs a = a
-ages-cons (Some (line.Body id asks)) h gs a = a
+ages-cons (Some (script_lines.Triple t)) h gs a = a
+ages-cons (Some (script_lines.Wear first)) h gs a = All-cons (λ g. g ≤ LAST_GENERATION) first gs (h (script_lines.Wear first) refl) a
+ages-cons (Some (script_lines.Domain d)) h gs a = a
+ages-cons (Some (script_lines.Body id asks)) h gs a = a
 
 all-age : (n : ℕ) (ls : List (List ℕ)) → All (λ g. g ≤ LAST_GENERATION) (filter_map (λ l. wear_in l.1) (lines_said n ls))
 all-age n [] = All-nil (λ g. g ≤ LAST_GENERATION)

@@ -11,7 +11,7 @@ use Rattle.gt_policy.specs.declared.fault.TokenFault as policy
 use Rattle.gt_script_lines.specs.Words.{words}
 use Rattle.gt_script.specs.declared.faults.BlockFault.{BlockFault}
 use Rattle.gt_script.specs.declared.faults.ScriptError.{ScriptError}
-use Rattle.gt_script.specs.declared.faults.ScriptError.TheVariants as errors
+use Rattle.gt_script.specs.declared.faults.ScriptError.TheVariants as script_errors
 
 -- the words of a line are exactly this one
 abbrev pub is_just : List ℕ → List (List ℕ) → Bool
@@ -58,7 +58,7 @@ IsFaultyBlock before lines g =
 -- the policy of a block or its fault, unless an allocation failed
 abbrev pub IsPolicyOf : ℕ → List (List ℕ) → Result KeptPolicy ScriptError → Type 0
 IsPolicyOf before lines (Ok p) = BlockMeans lines (allowed_of p)
-IsPolicyOf before lines (Err errors.Memory) = Unit {0}
-IsPolicyOf before lines (Err (errors.Fault f)) = ⊥
-IsPolicyOf before lines (Err (errors.Policy e)) =
+IsPolicyOf before lines (Err script_errors.Memory) = Unit {0}
+IsPolicyOf before lines (Err (script_errors.Fault f)) = ⊥
+IsPolicyOf before lines (Err (script_errors.Policy e)) =
     (g : policy.TokenFault) × (block_fault_shown e ≡ Some g) × IsFaultyBlock before lines g

@@ -4,7 +4,7 @@ use Rattle.std.specs.Borrow.{Bor}
 use Rattle.std.specs.List.{filter_map, list_any, position_or_len}
 use Rattle.std.specs.Str.{bytes_eq}
 use Rattle.gt_script.specs.Lists.{NamedRunTask, NamedRunAction}
-use Rattle.gt_script.specs.declared.tasks.RunActionBy.TheVariants as runs
+use Rattle.gt_script.specs.declared.tasks.RunActionBy.TheVariants as run_actions
 
 -- the names behind the references
 abbrev pub borrowed_names : List (Bor (List ℕ)) → List (List ℕ)
@@ -16,15 +16,15 @@ with_flag names name = if list_any (bytes_eq name) names then names else names +
 
 -- the flag of a line, if it has one
 abbrev pub flag_in : NamedRunAction → Option (List ℕ)
-flag_in (runs.Do call) = None
-flag_in (runs.Tell flag) = Some flag
-flag_in (runs.Await flag) = Some flag
+flag_in (run_actions.Do call) = None
+flag_in (run_actions.Tell flag) = Some flag
+flag_in (run_actions.Await flag) = Some flag
 
 -- the names with the flag of this line
 abbrev pub with_flag_of : List (List ℕ) → NamedRunAction → List (List ℕ)
-with_flag_of names (runs.Do call) = names
-with_flag_of names (runs.Tell flag) = with_flag names flag
-with_flag_of names (runs.Await flag) = with_flag names flag
+with_flag_of names (run_actions.Do call) = names
+with_flag_of names (run_actions.Tell flag) = with_flag names flag
+with_flag_of names (run_actions.Await flag) = with_flag names flag
 
 -- the names of the flags of these lines, each once, in the order in which they first appear
 abbrev pub flag_names_of : List NamedRunTask → List (List ℕ)

@@ -1,17 +1,18 @@
 -- The parts of a script, defined without the order of reading.
 use Rattle.std.specs.Prelude.{◌≡◌, ◌≢◌, ◌≤◌, ◌<◌, ◌+◌, ◌^◌, ◌⊎◌, ℕ, Bool, true, List, [], ◌∷◌, ◌++◌, length, take}
 use Rattle.std.specs.Prelude.{Option, Some, None, Ok, Err, IsSome, IsTrue, All, AllPairs, slice_get, codes}
-use Rattle.gt_script.specs.Prelude.{option_map, option_to_list, is_some, filter_map, enumerate_from, IsUtf8, lines_in}
+use Rattle.gt_script.specs.Prelude.{option_map, option_to_list, is_some, filter_map, enumerate_from, IsUtf8}
 use Rattle.gt_script.specs.Prelude.{utf8_valid_len, line_after, is_taken, AreFaultless, LAST_GENERATION, LONGEST_TEXT}
 use Rattle.gt_script.specs.Prelude.{Triple, DomainConfig, Allowed, type_named, words, number_below, ◌>>=◌, line_of}
-use Rattle.gt_script.specs.Prelude.{ScriptLine, Number, BodyLine, ScriptCommand, Play, Run, NamedRunTask, ScriptStep, ScriptFault, Limit}
-use Rattle.gt_script.specs.Prelude.{Utf8, Syntax, Config, ScriptError, Memory}
+use Rattle.gt_script.specs.Prelude.{ScriptLine, Number, BodyLine, ScriptCommand, Play, Run, NamedRunTask, ScriptStep}
+use Rattle.gt_script.specs.Prelude.{ScriptFault, Limit, Utf8, Syntax, Config, ScriptError, Memory}
+use Rattle.std.specs.Str.Lines.{lines as lines_in}
 use Rattle.gt_policy.specs.declared.fault.TokenFault as policy
 use Rattle.gt_script.specs.Blocks.{BlockMeans, IsFaultyBlock, block_fault_shown}
 use Rattle.gt_script.specs.Contents.{Contents, empty, with_policy, type_names, first_gen}
 use Rattle.gt_script.specs.Script.{domain_written, play_action_in, run_action_in, with_words, with_lines}
-use Rattle.gt_script_lines.specs.declared.lines.ScriptLine.TheVariants as line
-use Rattle.gt_script.specs.declared.faults.ScriptError.TheVariants as errors
+use Rattle.gt_script_lines.specs.declared.lines.ScriptLine.TheVariants as script_lines
+use Rattle.gt_script.specs.declared.faults.ScriptError.TheVariants as script_errors
 
 -- the lines of a script with their numbers, without those that have no meaning
 abbrev pub lines_said : ℕ → List (List ℕ) → List (ℕ × ScriptLine)
@@ -19,29 +20,29 @@ lines_said n lines = filter_map (λ l. option_map (λ x. (l.0, x)) (line_of (wor
 
 -- the triple of a line, if it gives one
 abbrev pub triple_in : List (List ℕ) → ScriptLine → Option Triple
-triple_in types (line.Triple t) = do
+triple_in types (script_lines.Triple t) = do
   source ← type_named types t.source
   target ← type_named types t.target
   Some (record { source = source; target = target; perm = t.perm })
-triple_in types (line.Wear first) = None
-triple_in types (line.Domain d) = None
-triple_in types (line.Body id asks) = None
+triple_in types (script_lines.Wear first) = None
+triple_in types (script_lines.Domain d) = None
+triple_in types (script_lines.Body id asks) = None
 
 -- the first generation of a line, if it gives one
 abbrev pub wear_in : ScriptLine → Option ℕ
-wear_in (line.Triple t) = None
-wear_in (line.Wear first) = Some first
-wear_in (line.Domain d) = None
-wear_in (line.Body id asks) = None
+wear_in (script_lines.Triple t) = None
+wear_in (script_lines.Wear first) = Some first
+wear_in (script_lines.Domain d) = None
+wear_in (script_lines.Body id asks) = None
 
 -- the domain of a line, if it configures one
 abbrev pub domain_in : List (List ℕ) → ScriptLine → Option DomainConfig
-domain_in types (line.Triple t) = None
-domain_in types (line.Wear first) = None
-domain_in types (line.Domain d) = do
+domain_in types (script_lines.Triple t) = None
+domain_in types (script_lines.Wear first) = None
+domain_in types (script_lines.Domain d) = do
   label ← type_named types d.type_name
   domain_written d label
-domain_in types (line.Body id asks) = None
+domain_in types (script_lines.Body id asks) = None
 
 -- the step of line n in a script for this command, if it is one
 abbrev pub step_for : ScriptCommand → ℕ → Number → BodyLine → Option ScriptStep
@@ -61,17 +62,17 @@ order_for Run n number asks = do
 
 -- the step of line n, if it is a line of the body of a script for `play`
 abbrev pub step_on : ScriptCommand → ℕ → ScriptLine → Option ScriptStep
-step_on command n (line.Triple t) = None
-step_on command n (line.Wear first) = None
-step_on command n (line.Domain d) = None
-step_on command n (line.Body number asks) = step_for command n number asks
+step_on command n (script_lines.Triple t) = None
+step_on command n (script_lines.Wear first) = None
+step_on command n (script_lines.Domain d) = None
+step_on command n (script_lines.Body number asks) = step_for command n number asks
 
 -- the order of line n, if it is a line of the body of a script for `run`
 abbrev pub order_on : ScriptCommand → ℕ → ScriptLine → Option NamedRunTask
-order_on command n (line.Triple t) = None
-order_on command n (line.Wear first) = None
-order_on command n (line.Domain d) = None
-order_on command n (line.Body number asks) = order_for command n number asks
+order_on command n (script_lines.Triple t) = None
+order_on command n (script_lines.Wear first) = None
+order_on command n (script_lines.Domain d) = None
+order_on command n (script_lines.Body number asks) = order_for command n number asks
 
 -- a line of the body is for this command
 abbrev pub asks_for : ScriptCommand → BodyLine → Bool
@@ -80,10 +81,10 @@ asks_for Run asks = is_some (run_action_in asks)
 
 -- a line is for this command: each but those of the body that are for the other one
 abbrev pub is_for : ScriptCommand → ScriptLine → Bool
-is_for command (line.Triple t) = true
-is_for command (line.Wear first) = true
-is_for command (line.Domain d) = true
-is_for command (line.Body number asks) = asks_for command asks
+is_for command (script_lines.Triple t) = true
+is_for command (script_lines.Wear first) = true
+is_for command (script_lines.Domain d) = true
+is_for command (script_lines.Body number asks) = asks_for command asks
 
 -- a line without words, or one that has a meaning
 abbrev pub IsLine : List ℕ → Type 0
@@ -236,8 +237,8 @@ pub record IsFaultOfBlock (bytes : List ℕ) (g : policy.TokenFault) : Type 0 wh
 -- an allocation failed, or this is the first fault of a script for the command
 abbrev pub StandsFor : ScriptCommand → List ℕ → ScriptError → Type 0
 StandsFor command bytes Memory = Unit {0}
-StandsFor command bytes (errors.Fault f) = IsFaultOfScript command bytes f
-StandsFor command bytes (errors.Policy e) =
+StandsFor command bytes (script_errors.Fault f) = IsFaultOfScript command bytes f
+StandsFor command bytes (script_errors.Policy e) =
     (g : policy.TokenFault) × (block_fault_shown e ≡ Some g) × IsFaultOfBlock bytes g
 
 -- an allocation failed, or this is the first fault of a script for `play`

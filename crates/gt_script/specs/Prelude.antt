@@ -29,5 +29,4 @@ pub use Rattle.gt_types.specs.declared.rights.Triple.{Triple}
 pub use Rattle.std.specs.List.{enumerate_from, filter_map}
 pub use Rattle.std.specs.Option.{is_some, option_map, option_to_list}
 pub use Rattle.std.specs.Str.{IsUtf8}
-pub use Rattle.std.specs.Str.Lines.{lines as lines_in}
 pub use Rattle.std.specs.Str.Lossy.{utf8_valid_len}

@@ -15,7 +15,7 @@ use Rattle.gt_script.specs.Tasks.{tasks_of}
 use Rattle.gt_script.specs.declared.command.ScriptCommand.TheVariants.{Run}
 use Rattle.gt_script.specs.declared.faults.ScriptFaultKind.TheVariants.{Stuck}
 use Rattle.gt_script.specs.declared.faults.ScriptError.{ScriptError}
-use Rattle.gt_script.specs.declared.faults.ScriptError.TheVariants as errors
+use Rattle.gt_script.specs.declared.faults.ScriptError.TheVariants as script_errors
 use Rattle.gt_script.specs.declared.run_script.RunScript.{RunScript}
 use Rattle.gt_script.specs.Lists.{RunTask}
 
@@ -37,9 +37,10 @@ ComeToEnd tasks domains = AllEnd (IsRaisable tasks) tasks domains
 
 -- the line at which the first domain waits that does not come to the end of its list, unless an allocation failed
 abbrev pub IsStuckError : List RunTask → List DomainConfig → ScriptError → Type 0
-IsStuckError tasks domains errors.Memory = Unit {0}
-IsStuckError tasks domains (errors.Fault f) = IsStuckAt (IsRaisable tasks) tasks domains f.line × (f.kind ≡ Stuck)
-IsStuckError tasks domains (errors.Policy e) = ⊥
+IsStuckError tasks domains script_errors.Memory = Unit {0}
+IsStuckError tasks domains (script_errors.Fault f) =
+    IsStuckAt (IsRaisable tasks) tasks domains f.line × (f.kind ≡ Stuck)
+IsStuckError tasks domains (script_errors.Policy e) = ⊥
 
 -- What contents that were read for `run` mean: their script, if each domain comes to the end of its
 -- list, and else a fault at the line where the first one that does not waits for ever.
@@ -59,7 +60,7 @@ ReadsAsRun bytes (Err wrong) =
 -- `Told` holds of this script or this fault, unless an allocation failed
 abbrev pub RunAnswers : Result RunScript ScriptError → (Result RunContents Wrong → Type 0) → Type 0
 RunAnswers (Ok script) Told = Told (Ok (run_contents script))
-RunAnswers (Err errors.Memory) Told = Unit {0}
-RunAnswers (Err (errors.Fault fault)) Told = Told (Err (in_script fault))
-RunAnswers (Err (errors.Policy fault)) Told =
+RunAnswers (Err script_errors.Memory) Told = Unit {0}
+RunAnswers (Err (script_errors.Fault fault)) Told = Told (Err (in_script fault))
+RunAnswers (Err (script_errors.Policy fault)) Told =
     (g : policy.TokenFault) × (block_fault_shown fault ≡ Some g) × Told (Err (in_policy g))

@@ -1,21 +1,22 @@
 -- The script that bytes mean, by its policy block and then line by line, or their first fault.
 use Rattle.std.specs.Prelude.{◌≡◌, ◌⊎◌, ◌<◌, ◌≤◌, ℕ, ◌+◌, ◌==◌, ◌&&◌, ◌||◌, not, Bool, List, [], ◌∷◌, ◌++◌, length}
 use Rattle.std.specs.Prelude.{Option, Some, None, Result, Ok, Err, take, drop, is_none, is_some, ◌^◌, if◌then◌else◌}
-use Rattle.gt_script.specs.Prelude.{option_map, IsUtf8, utf8_valid_len, line_after, LONGEST_TEXT, lines_in, is_taken}
+use Rattle.gt_script.specs.Prelude.{option_map, IsUtf8, utf8_valid_len, line_after, LONGEST_TEXT, is_taken}
 use Rattle.gt_script.specs.Prelude.{domain_fault, DomId, TypeId, DomainConfig, Allowed, type_named, words, number_below}
-use Rattle.gt_script.specs.Prelude.{◌>>=◌, line_of, Number, ScriptAction, BodyLine, ScriptCommand, Play, Run, NamedRunAction}
-use Rattle.gt_script.specs.Prelude.{TripleLine, DomainLine, ScriptLine, ScriptFaultKind, Limit, Utf8, Syntax, Config, Mode}
-use Rattle.gt_script.specs.Prelude.{ScriptFault}
+use Rattle.gt_script.specs.Prelude.{◌>>=◌, line_of, Number, ScriptAction, BodyLine, ScriptCommand, Play, Run}
+use Rattle.gt_script.specs.Prelude.{NamedRunAction, TripleLine, DomainLine, ScriptLine, ScriptFaultKind, Limit, Utf8}
+use Rattle.gt_script.specs.Prelude.{Syntax, Config, Mode, ScriptFault}
+use Rattle.std.specs.Str.Lines.{lines as lines_in}
 use Rattle.gt_policy.specs.declared.fault.TokenFault as policy
 use Rattle.gt_script.specs.Blocks.{opening, closing, BlockMeans, IsFaultyBlock}
 use Rattle.gt_script.specs.Types.{with_type_name}
 use Rattle.gt_script.specs.Contents.{Contents, empty, with_policy}
-use Rattle.gt_script.specs.declared.actions.ScriptAction.TheVariants as actions
+use Rattle.gt_script.specs.declared.actions.ScriptAction.TheVariants as script_actions
 use Rattle.gt_script.specs.declared.faults.AddError.{AddError}
-use Rattle.gt_script.specs.declared.faults.AddError.TheVariants as adds
-use Rattle.gt_script_lines.specs.declared.body.BodyLine.TheVariants as bodies
-use Rattle.gt_script.specs.declared.tasks.RunActionBy.TheVariants as runs
-use Rattle.gt_script_lines.specs.declared.lines.ScriptLine.TheVariants as line
+use Rattle.gt_script.specs.declared.faults.AddError.TheVariants as add_errors
+use Rattle.gt_script_lines.specs.declared.body.BodyLine.TheVariants as body_lines
+use Rattle.gt_script.specs.declared.tasks.RunActionBy.TheVariants as run_actions
+use Rattle.gt_script_lines.specs.declared.lines.ScriptLine.TheVariants as script_lines
 
 -- a list without elements
 abbrev pub is_empty : {X : Type 0} → List X → Bool
@@ -40,10 +41,10 @@ has_body c = not (is_empty c.steps) || not (is_empty c.orders)
 
 -- the policy or triples come first, then at most one line `wear`, then domains, then the body
 unfoldable pub is_misplaced : Contents → ScriptLine → Bool
-is_misplaced c (line.Triple t) = (is_some c.policy || is_some c.wear) || not (is_empty c.domains)
-is_misplaced c (line.Wear first) = (has_no_rights c || is_some c.wear) || not (is_empty c.domains)
-is_misplaced c (line.Domain d) = has_no_rights c || has_body c
-is_misplaced c (line.Body id asks) = is_empty c.domains
+is_misplaced c (script_lines.Triple t) = (is_some c.policy || is_some c.wear) || not (is_empty c.domains)
+is_misplaced c (script_lines.Wear first) = (has_no_rights c || is_some c.wear) || not (is_empty c.domains)
+is_misplaced c (script_lines.Domain d) = has_no_rights c || has_body c
+is_misplaced c (script_lines.Body id asks) = is_empty c.domains
 
 -- the contents after a line, or the fault `config`
 abbrev pub or_config : Option Contents → Result Contents ScriptFaultKind
@@ -75,8 +76,8 @@ with_type_names c named = (record c { types = named.0 }, named.1)
 abbrev pub GivesTypeNumber : Contents → Contents → List ℕ → Result TypeId AddError → Type 0
 GivesTypeNumber old new name (Ok id) =
     option_map (with_type_names old) (type_named_in old.policy old.types name) ≡ Some (new, id)
-GivesTypeNumber old new name (Err adds.Memory) = Unit {0}
-GivesTypeNumber old new name (Err (adds.Fault kind)) =
+GivesTypeNumber old new name (Err add_errors.Memory) = Unit {0}
+GivesTypeNumber old new name (Err (add_errors.Fault kind)) =
     (type_named_in old.policy old.types name ≡ None) × (kind ≡ Config)
 
 -- the script with one more domain, which has no fault after those before it
@@ -95,21 +96,21 @@ configured domains number = do
 
 -- what a line of the body is for `play`: an action
 unfoldable pub play_action_in : BodyLine → Option ScriptAction
-play_action_in (bodies.Do call) = Some (actions.Do call)
-play_action_in (bodies.Begin call) = Some (actions.Begin call)
-play_action_in (bodies.Tick most) = Some (actions.Tick most)
-play_action_in (bodies.Show gref) = Some (actions.Show gref)
-play_action_in (bodies.Tell flag) = None
-play_action_in (bodies.Await flag) = None
+play_action_in (body_lines.Do call) = Some (script_actions.Do call)
+play_action_in (body_lines.Begin call) = Some (script_actions.Begin call)
+play_action_in (body_lines.Tick most) = Some (script_actions.Tick most)
+play_action_in (body_lines.Show gref) = Some (script_actions.Show gref)
+play_action_in (body_lines.Tell flag) = None
+play_action_in (body_lines.Await flag) = None
 
 -- what a line of the body is for `run`: a whole call, or a flag that is raised or awaited
 unfoldable pub run_action_in : BodyLine → Option NamedRunAction
-run_action_in (bodies.Do call) = Some (runs.Do call)
-run_action_in (bodies.Begin call) = None
-run_action_in (bodies.Tick most) = None
-run_action_in (bodies.Show gref) = None
-run_action_in (bodies.Tell flag) = Some (runs.Tell flag)
-run_action_in (bodies.Await flag) = Some (runs.Await flag)
+run_action_in (body_lines.Do call) = Some (run_actions.Do call)
+run_action_in (body_lines.Begin call) = None
+run_action_in (body_lines.Tick most) = None
+run_action_in (body_lines.Show gref) = None
+run_action_in (body_lines.Tell flag) = Some (run_actions.Tell flag)
+run_action_in (body_lines.Await flag) = Some (run_actions.Await flag)
 
 -- the contents after a line, or the fault `mode`
 abbrev pub or_mode : Option Contents → Result Contents ScriptFaultKind
@@ -140,10 +141,10 @@ with_body_line c n number asks =
 
 -- the script with line n, which is in its place
 abbrev pub with_placed : Contents → ℕ → ScriptLine → Result Contents ScriptFaultKind
-with_placed c n (line.Triple t) = with_triple c t
-with_placed c n (line.Wear first) = Ok (record c { wear = Some first })
-with_placed c n (line.Domain d) = with_domain c d
-with_placed c n (line.Body id asks) = with_body_line c n id asks
+with_placed c n (script_lines.Triple t) = with_triple c t
+with_placed c n (script_lines.Wear first) = Ok (record c { wear = Some first })
+with_placed c n (script_lines.Domain d) = with_domain c d
+with_placed c n (script_lines.Body id asks) = with_body_line c n id asks
 
 -- the script with line n
 unfoldable pub with_script_line : Contents → ℕ → ScriptLine → Result Contents ScriptFaultKind

@@ -11,7 +11,7 @@ use Rattle.gt_script_lines.specs.Fields.{◌>>=◌, u16_word, u32_word, u64_word
 use Rattle.gt_script_lines.specs.Fields.{flags_word, label_word, text_where}
 use Rattle.gt_script_lines.specs.Hexadecimal.{hex_word}
 use Rattle.gt_script_lines.specs.declared.calls.ScriptCall.{ScriptCall}
-use Rattle.gt_script_lines.specs.declared.calls.ScriptCall.TheVariants as calls
+use Rattle.gt_script_lines.specs.declared.calls.ScriptCall.TheVariants as script_calls
 
 -- a page: DOM MODE FRAME
 unfoldable pub page_of : List (List ℕ) → Option Entry
@@ -54,7 +54,7 @@ unfoldable pub grant_of : List (List ℕ) → Option ScriptCall
 grant_of (gref ∷ kind ∷ args) = do
   r ← reference_word gref
   e ← entry_of_kind kind args
-  Some (calls.Grant r e)
+  Some (script_calls.Grant r e)
 grant_of _ = None
 
 -- the words after `bytes`: REF HEX
@@ -62,7 +62,7 @@ unfoldable pub grant_bytes_of : List (List ℕ) → Option ScriptCall
 grant_bytes_of (gref ∷ digits ∷ []) = do
   r ← reference_word gref
   h ← text_where hex_word digits
-  Some (calls.GrantBytes r h)
+  Some (script_calls.GrantBytes r h)
 grant_bytes_of _ = None
 
 -- the words after `map`: LABEL DOM REF FLAGS
@@ -72,14 +72,14 @@ map_of (label ∷ dom ∷ gref ∷ flags ∷ []) = do
   d ← domain_word dom
   r ← reference_word gref
   f ← flags_word flags
-  Some (calls.Map l d r f)
+  Some (script_calls.Map l d r f)
 map_of _ = None
 
 -- the word after `unmap`: LABEL
 unfoldable pub unmap_of : List (List ℕ) → Option ScriptCall
 unmap_of (label ∷ []) = do
   l ← text_where label_word label
-  Some (calls.Unmap l)
+  Some (script_calls.Unmap l)
 unmap_of _ = None
 
 -- the words after `load`: LABEL OFF LEN
@@ -88,7 +88,7 @@ load_of (label ∷ off ∷ len ∷ []) = do
   l ← text_where label_word label
   o ← u16_word off
   n ← u16_word len
-  Some (calls.Load l o n)
+  Some (script_calls.Load l o n)
 load_of _ = None
 
 -- the words after `store`: LABEL OFF HEX
@@ -97,7 +97,7 @@ store_of (label ∷ off ∷ digits ∷ []) = do
   l ← text_where label_word label
   o ← u16_word off
   h ← text_where hex_word digits
-  Some (calls.Store l o h)
+  Some (script_calls.Store l o h)
 store_of _ = None
 
 -- the words after `peek`: FRAME OFF LEN
@@ -106,7 +106,7 @@ peek_of (frame ∷ off ∷ len ∷ []) = do
   f ← u64_word frame
   o ← u16_word off
   n ← u16_word len
-  Some (calls.Peek f o n)
+  Some (script_calls.Peek f o n)
 peek_of _ = None
 
 -- the words after `poke`: FRAME OFF HEX
@@ -115,7 +115,7 @@ poke_of (frame ∷ off ∷ digits ∷ []) = do
   f ← u64_word frame
   o ← u16_word off
   h ← text_where hex_word digits
-  Some (calls.Poke f o h)
+  Some (script_calls.Poke f o h)
 poke_of _ = None
 
 -- an end of a copy: `gref` DOM REF OFF, or `frame` DOM FRAME OFF; its number is the reference, or the frame's
@@ -142,7 +142,8 @@ copy_of (from_kind ∷ from_dom ∷ from ∷ from_off ∷ to_kind ∷ to_dom ∷
   s ← copy_end_of from_kind from_dom from from_off
   d ← copy_end_of to_kind to_dom to to_off
   n ← u16_word len
-  Some (calls.Copy (record { source = s; dest = d; len = n; flags = grant_flag from_kind 1 + grant_flag to_kind 2 }))
+  Some (script_calls.Copy
+      (record { source = s; dest = d; len = n; flags = grant_flag from_kind 1 + grant_flag to_kind 2 }))
 copy_of _ = None
 
 -- the word after `revoke`, `withdraw`, `demote`, `promote`, and after `show` and its domain: REF
@@ -164,14 +165,15 @@ only_domain _ = None
 unfoldable pub table_of : List ℕ → List (List ℕ) → Option ScriptCall
 table_of word args = if bytes_eq word (codes "grant") then grant_of args
     else (if bytes_eq word (codes "bytes") then grant_bytes_of args
-    else (if bytes_eq word (codes "revoke") then option_map calls.Revoke (only_reference args)
-    else (if bytes_eq word (codes "withdraw") then option_map calls.Withdraw (only_reference args)
-    else (if bytes_eq word (codes "demote") then option_map calls.Demote (only_reference args)
-    else (if bytes_eq word (codes "promote") then option_map calls.Promote (only_reference args)
-    else (if bytes_eq word (codes "version") then option_map calls.SetVersion (only_number args)
-    else (if bytes_eq word (codes "setup") then option_map calls.SetupTable (only_number args)
-    else (if bytes_eq word (codes "size") then option_map calls.QuerySize (only_domain args)
-    else (if bytes_eq word (codes "getversion") then option_map calls.GetVersion (only_domain args) else None)))))))))
+    else (if bytes_eq word (codes "revoke") then option_map script_calls.Revoke (only_reference args)
+    else (if bytes_eq word (codes "withdraw") then option_map script_calls.Withdraw (only_reference args)
+    else (if bytes_eq word (codes "demote") then option_map script_calls.Demote (only_reference args)
+    else (if bytes_eq word (codes "promote") then option_map script_calls.Promote (only_reference args)
+    else (if bytes_eq word (codes "version") then option_map script_calls.SetVersion (only_number args)
+    else (if bytes_eq word (codes "setup") then option_map script_calls.SetupTable (only_number args)
+    else (if bytes_eq word (codes "size") then option_map script_calls.QuerySize (only_domain args)
+    else (if bytes_eq word (codes "getversion") then option_map script_calls.GetVersion (only_domain args)
+    else None)))))))))
 
 -- a call on a mapping, or one that reads or writes bytes, by its word
 unfoldable pub access_of : List ℕ → List (List ℕ) → Option ScriptCall

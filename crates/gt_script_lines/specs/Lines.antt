@@ -9,7 +9,7 @@ use Rattle.gt_script_lines.specs.Body.{body_line_of}
 use Rattle.gt_script_lines.specs.declared.lines.TripleLine.{TripleLine}
 use Rattle.gt_script_lines.specs.declared.lines.DomainLine.{DomainLine}
 use Rattle.gt_script_lines.specs.declared.lines.ScriptLine.{ScriptLine}
-use Rattle.gt_script_lines.specs.declared.lines.ScriptLine.TheVariants as lines
+use Rattle.gt_script_lines.specs.declared.lines.ScriptLine.TheVariants as script_lines
 
 -- the words after `triple`: SOURCE TARGET PERMISSION
 unfoldable pub triple_of : List (List ℕ) → Option TripleLine
@@ -42,12 +42,12 @@ body_of word [] = None
 body_of word (id ∷ args) = do
   n ← decimal_number id
   a ← body_line_of word args
-  Some (lines.Body n a)
+  Some (script_lines.Body n a)
 
 -- a line of a script by its first word
 abbrev pub line_of : List (List ℕ) → Option ScriptLine
 line_of [] = None
-line_of (word ∷ args) = if bytes_eq word (codes "triple") then option_map lines.Triple (triple_of args)
-    else (if bytes_eq word (codes "wear") then option_map lines.Wear (wear_of args)
-    else (if bytes_eq word (codes "domain") then option_map lines.Domain (domain_line_of args)
+line_of (word ∷ args) = if bytes_eq word (codes "triple") then option_map script_lines.Triple (triple_of args)
+    else (if bytes_eq word (codes "wear") then option_map script_lines.Wear (wear_of args)
+    else (if bytes_eq word (codes "domain") then option_map script_lines.Domain (domain_line_of args)
     else body_of word args))

@@ -9,7 +9,7 @@ use Rattle.std.proofs.lemmas.Bool.{eqb-true}
 use Rattle.std.proofs.lemmas.Option.{none-some, same_Some}
 use Rattle.gt_types.specs.declared.DomId.{DomId}
 use Rattle.gt_script_lines.specs.declared.calls.ScriptCall.{ScriptCall}
-use Rattle.gt_script_lines.specs.declared.calls.ScriptCall.TheVariants as calls
+use Rattle.gt_script_lines.specs.declared.calls.ScriptCall.TheVariants as script_calls
 use Rattle.gt_script.specs.declared.script.ScriptStep.{ScriptStep}
 use Rattle.gt_model.specs.declared.handle.Handle.{Handle}
 use Rattle.gt_model.specs.Asking.{asked}
@@ -77,13 +77,13 @@ bytes-same a b e = ap (λ (l : List ℕ). record { ref_ptr = (0, 0); now = l }) 
 
 request-same : (one other : List Named) (dom : DomId) (a b : Bor (List ℕ)) (call : ScriptCall) → bare_names one ≡ bare_names other → a.now ≡ b.now → bare_request (request_of one dom a call) ≡ bare_request (request_of other dom b call)
 unfolding request_of
-request-same one other dom a b (calls.GrantBytes gref hex) same e = ap (λ (l : Bor (List ℕ)). requests.GrantBytes gref l) (bytes-same a b e)
-request-same one other dom a b (calls.Unmap label) same e = ap (λ (x : Handle). requests.Unmap x) (handle-same one other dom label same)
-request-same one other dom a b (calls.Load label off len) same e = ap (λ (x : Handle). requests.Load x off len) (handle-same one other dom label same)
-request-same one other dom a b (calls.Store label off hex) same e =
+request-same one other dom a b (script_calls.GrantBytes gref hex) same e = ap (λ (l : Bor (List ℕ)). requests.GrantBytes gref l) (bytes-same a b e)
+request-same one other dom a b (script_calls.Unmap label) same e = ap (λ (x : Handle). requests.Unmap x) (handle-same one other dom label same)
+request-same one other dom a b (script_calls.Load label off len) same e = ap (λ (x : Handle). requests.Load x off len) (handle-same one other dom label same)
+request-same one other dom a b (script_calls.Store label off hex) same e =
     ap (λ (x : Handle). requests.Store x off (bare_bytes a)) (handle-same one other dom label same)
     ∙ ap (λ (l : Bor (List ℕ)). requests.Store (bare_handle (handle_of other dom label)) off l) (bytes-same a b e)
-request-same one other dom a b (calls.Poke frame off hex) same e = ap (λ (l : Bor (List ℕ)). requests.Poke frame off l) (bytes-same a b e)
+request-same one other dom a b (script_calls.Poke frame off hex) same e = ap (λ (l : Bor (List ℕ)). requests.Poke frame off l) (bytes-same a b e)
 request-same one other dom a b call same e = refl
 
 pub asks-same : (one other : List Named) (dom : DomId) (call : ScriptCall) (q r : Request) → bare_names one ≡ bare_names other → MakesRequest one dom call q → MakesRequest other dom call r → bare_request q ≡ bare_request r
@@ -92,10 +92,10 @@ asks-same one other dom call q r same x y =
 
 request-known : (h : History) (named : List Named) (dom : DomId) (a : Bor (List ℕ)) (call : ScriptCall) → NamesGiven h named → AsksKnown h dom.0 (asked (request_of named dom a call))
 unfolding request_of
-request-known h named dom a (calls.GrantBytes gref hex) g = tt
-request-known h named dom a (calls.Unmap label) g = found-given h named dom.0 label g
-request-known h named dom a (calls.Load label off len) g = found-given h named dom.0 label g
-request-known h named dom a (calls.Store label off hex) g = found-given h named dom.0 label g
+request-known h named dom a (script_calls.GrantBytes gref hex) g = tt
+request-known h named dom a (script_calls.Unmap label) g = found-given h named dom.0 label g
+request-known h named dom a (script_calls.Load label off len) g = found-given h named dom.0 label g
+request-known h named dom a (script_calls.Store label off hex) g = found-given h named dom.0 label g
 request-known h named dom a call g = tt
 
 pub asks-known : (h : History) (named : List Named) (dom : DomId) (call : ScriptCall) (q : Request) → NamesGiven h named → MakesRequest named dom call q → AsksKnown h dom.0 (asked q)

@@ -5,7 +5,7 @@ use Rattle.gt_script_runs.specs.Prelude.{DomId, GrantRef, Handle, asked, OpenReq
 use Rattle.gt_script_runs.specs.Prelude.{reply_text, Hypercall, Record, Reply, History, Setting, Underway, open_call}
 use Rattle.gt_script_runs.specs.Prelude.{grown, subject_at, Answer, Element, ItemEvent, Began, Stepped, Item}
 use Rattle.gt_model.specs.declared.request.OpenRequest.TheVariants as asks
-use Rattle.gt_audit.specs.declared.record.Hypercall.TheVariants as calls
+use Rattle.gt_audit.specs.declared.record.Hypercall.TheVariants as hypercalls
 use Rattle.gt_audit.specs.declared.record.Reply.TheVariants as replies
 use Rattle.gt_model.specs.declared.trace.Answer.TheVariants as answers
 use Rattle.gt_model.specs.declared.trace.Element.TheVariants as elements
@@ -15,13 +15,13 @@ use Rattle.gt_script_runs.specs.Printing.{answer_text}
 
 -- the record of a call, if calls of its kind are audited; an unmap is recorded by the entry that its handle names
 abbrev pub hypercall_of_request : (Handle → Option (DomId × GrantRef)) → OpenRequest → Option Hypercall
-hypercall_of_request subject (asks.Map dom gref flags) = Some (calls.Map dom gref flags)
-hypercall_of_request subject (asks.Unmap handle) = Some (calls.Unmap (subject handle))
-hypercall_of_request subject (asks.Copy c) = Some (calls.Copy c.source c.dest c.len c.flags)
-hypercall_of_request subject (asks.QuerySize dom) = Some (calls.QuerySize dom)
-hypercall_of_request subject (asks.GetVersion dom) = Some (calls.GetVersion dom)
-hypercall_of_request subject (asks.SetVersion version) = Some (calls.SetVersion version)
-hypercall_of_request subject (asks.SetupTable frames) = Some (calls.SetupTable frames)
+hypercall_of_request subject (asks.Map dom gref flags) = Some (hypercalls.Map dom gref flags)
+hypercall_of_request subject (asks.Unmap handle) = Some (hypercalls.Unmap (subject handle))
+hypercall_of_request subject (asks.Copy c) = Some (hypercalls.Copy c.source c.dest c.len c.flags)
+hypercall_of_request subject (asks.QuerySize dom) = Some (hypercalls.QuerySize dom)
+hypercall_of_request subject (asks.GetVersion dom) = Some (hypercalls.GetVersion dom)
+hypercall_of_request subject (asks.SetVersion version) = Some (hypercalls.SetVersion version)
+hypercall_of_request subject (asks.SetupTable frames) = Some (hypercalls.SetupTable frames)
 hypercall_of_request subject (asks.Grant gref entry) = None
 hypercall_of_request subject (asks.Revoke gref) = None
 hypercall_of_request subject (asks.Withdraw gref) = None

@@ -8,12 +8,12 @@ use Rattle.gt_allow.specs.Looking.{looks_up}
 use Rattle.gt_policy.specs.Allowing.{Allowed}
 use Rattle.gt_script.specs.Contents.{Contents}
 use Rattle.gt_script_runs.specs.declared.rights.ScriptPolicy.{ScriptPolicy}
-use Rattle.gt_script_runs.specs.declared.rights.ScriptPolicy.TheVariants as rights
+use Rattle.gt_script_runs.specs.declared.rights.ScriptPolicy.TheVariants as script_policies
 
 -- what these rights allow
 abbrev pub may_by : ScriptPolicy → TypeId → TypeId → Perms → Bool
-may_by (rights.Table t) source target perm = looks_up t source.0 target.0 perm
-may_by (rights.Triples t) source target perm = is_listed t.allowed.items source target perm
+may_by (script_policies.Table t) source target perm = looks_up t source.0 target.0 perm
+may_by (script_policies.Triples t) source target perm = is_listed t.allowed.items source target perm
 
 -- what a policy allows, or these triples if there is none
 abbrev pub may_with : Option Allowed → List Triple → TypeId → TypeId → Perms → Bool

@@ -4,8 +4,8 @@ use Rattle.std.specs.Prelude.{Some, None, unwrap_or, is_some, if◌then◌else�
 use Rattle.gt_script_runs.specs.Prelude.{Bor, bytes_eq, DomId, GrantRef, DomainConfig, hex_bytes, ScriptCall}
 use Rattle.gt_script_runs.specs.Prelude.{ScriptAction, ScriptStep, Handle, Request, Answer, Mapped, Event, Begin}
 use Rattle.gt_script_runs.specs.Prelude.{Tick, Item, Element, History, Setting, open_call, history_after, shown_at}
-use Rattle.gt_script_lines.specs.declared.calls.ScriptCall.TheVariants as calls
-use Rattle.gt_script.specs.declared.actions.ScriptAction.TheVariants as actions
+use Rattle.gt_script_lines.specs.declared.calls.ScriptCall.TheVariants as script_calls
+use Rattle.gt_script.specs.declared.actions.ScriptAction.TheVariants as script_actions
 use Rattle.gt_model.specs.declared.request.Request.TheVariants as requests
 use Rattle.gt_model.specs.declared.trace.Element.TheVariants as elements
 use Rattle.gt_script_runs.specs.Printing.{answer_line, busy_line, idle_line, open_line}
@@ -37,23 +37,23 @@ handle_of named dom label = unwrap_or (handle_labelled named dom.0 label) never_
 
 -- the hexadecimal text of a call: that of an entry, or of the bytes that it writes
 abbrev pub hex_of_call : ScriptCall → Option (List ℕ)
-hex_of_call (calls.Grant gref entry) = None
-hex_of_call (calls.GrantBytes gref hex) = Some hex
-hex_of_call (calls.Revoke gref) = None
-hex_of_call (calls.Withdraw gref) = None
-hex_of_call (calls.Demote gref) = None
-hex_of_call (calls.Promote gref) = None
-hex_of_call (calls.Map label to gref flags) = None
-hex_of_call (calls.Unmap label) = None
-hex_of_call (calls.Load label off len) = None
-hex_of_call (calls.Store label off hex) = Some hex
-hex_of_call (calls.Peek frame off len) = None
-hex_of_call (calls.Poke frame off hex) = Some hex
-hex_of_call (calls.Copy c) = None
-hex_of_call (calls.SetVersion version) = None
-hex_of_call (calls.SetupTable frames) = None
-hex_of_call (calls.QuerySize to) = None
-hex_of_call (calls.GetVersion to) = None
+hex_of_call (script_calls.Grant gref entry) = None
+hex_of_call (script_calls.GrantBytes gref hex) = Some hex
+hex_of_call (script_calls.Revoke gref) = None
+hex_of_call (script_calls.Withdraw gref) = None
+hex_of_call (script_calls.Demote gref) = None
+hex_of_call (script_calls.Promote gref) = None
+hex_of_call (script_calls.Map label to gref flags) = None
+hex_of_call (script_calls.Unmap label) = None
+hex_of_call (script_calls.Load label off len) = None
+hex_of_call (script_calls.Store label off hex) = Some hex
+hex_of_call (script_calls.Peek frame off len) = None
+hex_of_call (script_calls.Poke frame off hex) = Some hex
+hex_of_call (script_calls.Copy c) = None
+hex_of_call (script_calls.SetVersion version) = None
+hex_of_call (script_calls.SetupTable frames) = None
+hex_of_call (script_calls.QuerySize to) = None
+hex_of_call (script_calls.GetVersion to) = None
 
 -- the bytes of such a text, none if there is none
 abbrev pub bytes_or_none : Option (List ℕ) → List ℕ
@@ -66,23 +66,23 @@ call_bytes call = bytes_or_none (hex_of_call call)
 
 -- the request of a call of a script, if its labels have these handles and these are its bytes
 unfoldable pub request_of : List Named → DomId → Bor (List ℕ) → ScriptCall → Request
-request_of named dom bytes (calls.Grant gref entry) = requests.Grant gref entry
-request_of named dom bytes (calls.GrantBytes gref hex) = requests.GrantBytes gref bytes
-request_of named dom bytes (calls.Revoke gref) = requests.Revoke gref
-request_of named dom bytes (calls.Withdraw gref) = requests.Withdraw gref
-request_of named dom bytes (calls.Demote gref) = requests.Demote gref
-request_of named dom bytes (calls.Promote gref) = requests.Promote gref
-request_of named dom bytes (calls.Map label to gref flags) = requests.Map to gref flags
-request_of named dom bytes (calls.Unmap label) = requests.Unmap (handle_of named dom label)
-request_of named dom bytes (calls.Load label off len) = requests.Load (handle_of named dom label) off len
-request_of named dom bytes (calls.Store label off hex) = requests.Store (handle_of named dom label) off bytes
-request_of named dom bytes (calls.Peek frame off len) = requests.Peek frame off len
-request_of named dom bytes (calls.Poke frame off hex) = requests.Poke frame off bytes
-request_of named dom bytes (calls.Copy c) = requests.Copy c
-request_of named dom bytes (calls.SetVersion version) = requests.SetVersion version
-request_of named dom bytes (calls.SetupTable frames) = requests.SetupTable frames
-request_of named dom bytes (calls.QuerySize to) = requests.QuerySize to
-request_of named dom bytes (calls.GetVersion to) = requests.GetVersion to
+request_of named dom bytes (script_calls.Grant gref entry) = requests.Grant gref entry
+request_of named dom bytes (script_calls.GrantBytes gref hex) = requests.GrantBytes gref bytes
+request_of named dom bytes (script_calls.Revoke gref) = requests.Revoke gref
+request_of named dom bytes (script_calls.Withdraw gref) = requests.Withdraw gref
+request_of named dom bytes (script_calls.Demote gref) = requests.Demote gref
+request_of named dom bytes (script_calls.Promote gref) = requests.Promote gref
+request_of named dom bytes (script_calls.Map label to gref flags) = requests.Map to gref flags
+request_of named dom bytes (script_calls.Unmap label) = requests.Unmap (handle_of named dom label)
+request_of named dom bytes (script_calls.Load label off len) = requests.Load (handle_of named dom label) off len
+request_of named dom bytes (script_calls.Store label off hex) = requests.Store (handle_of named dom label) off bytes
+request_of named dom bytes (script_calls.Peek frame off len) = requests.Peek frame off len
+request_of named dom bytes (script_calls.Poke frame off hex) = requests.Poke frame off bytes
+request_of named dom bytes (script_calls.Copy c) = requests.Copy c
+request_of named dom bytes (script_calls.SetVersion version) = requests.SetVersion version
+request_of named dom bytes (script_calls.SetupTable frames) = requests.SetupTable frames
+request_of named dom bytes (script_calls.QuerySize to) = requests.QuerySize to
+request_of named dom bytes (script_calls.GetVersion to) = requests.GetVersion to
 
 -- this is the request of a call of a script, if its labels have these handles
 abbrev pub MakesRequest : List Named → DomId → ScriptCall → Request → Type 0
@@ -91,30 +91,30 @@ MakesRequest named dom call request =
 
 -- the label to which a call gives its handle: that of a map
 abbrev pub label_given : ScriptCall → Option (List ℕ)
-label_given (calls.Grant gref entry) = None
-label_given (calls.GrantBytes gref hex) = None
-label_given (calls.Revoke gref) = None
-label_given (calls.Withdraw gref) = None
-label_given (calls.Demote gref) = None
-label_given (calls.Promote gref) = None
-label_given (calls.Map label to gref flags) = Some label
-label_given (calls.Unmap label) = None
-label_given (calls.Load label off len) = None
-label_given (calls.Store label off hex) = None
-label_given (calls.Peek frame off len) = None
-label_given (calls.Poke frame off hex) = None
-label_given (calls.Copy c) = None
-label_given (calls.SetVersion version) = None
-label_given (calls.SetupTable frames) = None
-label_given (calls.QuerySize to) = None
-label_given (calls.GetVersion to) = None
+label_given (script_calls.Grant gref entry) = None
+label_given (script_calls.GrantBytes gref hex) = None
+label_given (script_calls.Revoke gref) = None
+label_given (script_calls.Withdraw gref) = None
+label_given (script_calls.Demote gref) = None
+label_given (script_calls.Promote gref) = None
+label_given (script_calls.Map label to gref flags) = Some label
+label_given (script_calls.Unmap label) = None
+label_given (script_calls.Load label off len) = None
+label_given (script_calls.Store label off hex) = None
+label_given (script_calls.Peek frame off len) = None
+label_given (script_calls.Poke frame off hex) = None
+label_given (script_calls.Copy c) = None
+label_given (script_calls.SetVersion version) = None
+label_given (script_calls.SetupTable frames) = None
+label_given (script_calls.QuerySize to) = None
+label_given (script_calls.GetVersion to) = None
 
 -- the label to which the call of a line gives its handle
 abbrev pub label_said : ScriptAction → Option (List ℕ)
-label_said (actions.Do call) = label_given call
-label_said (actions.Begin call) = label_given call
-label_said (actions.Tick most) = None
-label_said (actions.Show gref) = None
+label_said (script_actions.Do call) = label_given call
+label_said (script_actions.Begin call) = label_given call
+label_said (script_actions.Tick most) = None
+label_said (script_actions.Show gref) = None
 
 -- the handle that an answer returns: that of a map answered Ok
 abbrev pub handle_given : Answer → Option Handle
@@ -258,10 +258,10 @@ ShowLine t s gref p q = q ≡ with_line p (show_line s.line s.dom gref (shown_at
 
 -- a line of the body leads from one point of a run to the next
 abbrev pub RunsLine : Setting → List (List ℕ) → ScriptStep → ScriptAction → Progress → Progress → Type 0
-RunsLine t types s (actions.Do call) p q = DoLine types s call p q
-RunsLine t types s (actions.Begin call) p q = BeginLine types s call p q
-RunsLine t types s (actions.Tick count) p q = TickLine types s count (p.open_steps s.dom.0) p q
-RunsLine t types s (actions.Show gref) p q = ShowLine t s gref p q
+RunsLine t types s (script_actions.Do call) p q = DoLine types s call p q
+RunsLine t types s (script_actions.Begin call) p q = BeginLine types s call p q
+RunsLine t types s (script_actions.Tick count) p q = TickLine types s count (p.open_steps s.dom.0) p q
+RunsLine t types s (script_actions.Show gref) p q = ShowLine t s gref p q
 
 -- the steps, one after the other, lead from one point of a run to another
 abbrev pub PlayLeadsTo : Setting → List (List ℕ) → Progress → List ScriptStep → Progress → Type 0

@@ -7,7 +7,7 @@ ghost use Rattle.gt_frames.specs.Frames.{FrameState, bytes_at, covers};
 ghost use Rattle.gt_types.specs.declared.limits.TheConstants.{FRAME_SIZE};
 ghost use Rattle.gt_word_history.specs.Rule.{layout_of, id_at};
 ghost use Rattle.gt_word_history.specs.Views.{IsAmong};
-ghost use Rattle.gt_word_history.specs.declared.view.FrameStep.TheVariants as access;
+ghost use Rattle.gt_word_history.specs.declared.view.FrameStep.TheVariants as frame_steps;
 ghost use Rattle.gt_shared_table.specs.Accesses.{IsReadIn, copied_in, written_in};
 ghost use Rattle.gt_shared_table.specs.Rule.{HoldsAll, IsNamed, IsSlotOf, slot_frame, places_of};
 ghost use Rattle.gt_shared_table.specs.Recording.{CopiedBy, Frees, HasBoth, IsOut, OnlyLocked, Returns, both_locks};
@@ -136,7 +136,7 @@ pub(crate) fn read_out(
     requires out { (x : FrameState) × IsOut (layout_of cells.now.key) slot true x seat.old.me }
     requires range { off + length out.old ≤ FRAME_SIZE }
     ensures seat { (seat.new.table_id ≡ seat.old.table_id) × (seat.new.id ≡ seat.old.id) }
-    ensures read { Frees (places_of cells.now.key) (slot_frame slot) (access.Read off result.bytes)
+    ensures read { Frees (places_of cells.now.key) (slot_frame slot) (frame_steps.Read off result.bytes)
         (without_taken_frame true seat.old.me.0.held) seat.old.me seat.new.me }
     ensures filled { (out.new ≡ result.bytes) × (length result.bytes ≡ length out.old) }
     ensures receipt { IsReadIn (layout_of cells.now.key) (slot_frame slot) off result }
@@ -165,7 +165,8 @@ pub(crate) fn write_out<'a>(
         write.off (length write.bytes.now)) }
     ensures seat { (seat.new.table_id ≡ seat.old.table_id) × (seat.new.id ≡ seat.old.id) }
     ensures wrote { OnOk result (Frees (places_of cells.now.key) (slot_frame slot)
-        (access.Wrote (record { writ = write.entry.writ.now; off = write.entry.off; bytes = write.entry.bytes.now }))
+        (frame_steps.Wrote
+        (record { writ = write.entry.writ.now; off = write.entry.off; bytes = write.entry.bytes.now }))
         (without_taken_frame true seat.old.me.0.held) seat.old.me seat.new.me) }
     ensures receipt { IfOk result (λ r. r ≡ written_in (layout_of cells.now.key) (slot_frame slot)
         write.entry.writ.now write.entry.off write.entry.bytes.now) }
@@ -212,7 +213,7 @@ fn copy_out(
         copy.to_off copy.range.len) }
     ensures seat { (seat.new.table_id ≡ seat.old.table_id) × (seat.new.id ≡ seat.old.id) }
     ensures copied { OnOk result (Frees (places_of cells.now.key) (slot_frame slot)
-        (access.Copied source.owner source.number copy.entry.range.off (record {
+        (frame_steps.Copied source.owner source.number copy.entry.range.off (record {
           writ = copy.entry.writ.now;
           off = copy.entry.to_off;
           bytes = bytes_at from.now copy.entry.range.off copy.entry.range.len;

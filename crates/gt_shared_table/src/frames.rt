@@ -3,7 +3,7 @@ ghost use Rattle.std.specs.Prelude.{◌≡◌, ◌≢◌, ◌+◌, ◌≤◌, �
 ghost use Rattle.gt_frames.specs.Frames.{covers};
 ghost use Rattle.gt_types.specs.declared.limits.TheConstants.{FRAME_SIZE};
 ghost use Rattle.gt_word_history.specs.Rule.{id_at};
-ghost use Rattle.gt_word_history.specs.declared.view.FrameStep.TheVariants as access;
+ghost use Rattle.gt_word_history.specs.declared.view.FrameStep.TheVariants as frame_steps;
 ghost use Rattle.gt_shared_table.specs.Accesses.{IsReadIn, TakesAccess, TakesCopy, copied_in, written_in};
 ghost use Rattle.gt_shared_table.specs.Locking.{LocksOf};
 ghost use Rattle.gt_shared_table.specs.Words.{HasFrame, named_at};
@@ -44,7 +44,7 @@ impl SharedTable {
         requires range { off + length out.old ≤ FRAME_SIZE }
         ensures table { seat.new.table ≡ seat.old.table }
         ensures locks { seat.new.locks ≡ named_at frame ∷ seat.old.locks }
-        ensures step { TakesAccess self.now.layout (named_at frame) (access.Read off result.bytes)
+        ensures step { TakesAccess self.now.layout (named_at frame) (frame_steps.Read off result.bytes)
             seat.old.view seat.new.view }
         ensures filled { (out.new ≡ result.bytes) × (length result.bytes ≡ length out.old) }
         ensures receipt { IsReadIn self.now.layout (named_at frame) off result }
@@ -75,7 +75,8 @@ impl SharedTable {
         ensures table { seat.new.table ≡ seat.old.table }
         ensures locks { seat.new.locks ≡ named_at frame ∷ seat.old.locks }
         ensures step { OnOk result (TakesAccess self.now.layout (named_at frame)
-            (access.Wrote (record { writ = args.entry.writ.now; off = args.entry.off; bytes = args.entry.bytes.now }))
+            (frame_steps.Wrote
+            (record { writ = args.entry.writ.now; off = args.entry.off; bytes = args.entry.bytes.now }))
             seat.old.view seat.new.view) }
         ensures receipt { IfOk result (λ r. r ≡ written_in self.now.layout (named_at frame)
             args.entry.writ.now args.entry.off args.entry.bytes.now) }

@@ -8,7 +8,7 @@ ghost use Rattle.gt_word_history.specs.Rule.{layout_of};
 ghost use Rattle.gt_word_history.specs.Steps.{StepKind, looking};
 ghost use Rattle.gt_word_history.specs.declared.view.FlagStep.TheVariants.{Raised};
 ghost use Rattle.gt_word_history.specs.declared.view.FrameStep.{FrameStep};
-ghost use Rattle.gt_word_history.specs.declared.view.FrameStep.TheVariants as access;
+ghost use Rattle.gt_word_history.specs.declared.view.FrameStep.TheVariants as frame_steps;
 ghost use Rattle.gt_word_history.specs.declared.view.SeatStep.TheVariants.{Flag};
 ghost use Rattle.gt_shared_table.specs.Rule.{FrameAt, HoldsAll, Places, newcomer, places_of};
 ghost use Rattle.gt_shared_table.specs.Seats.{dealer, dealt_by, gone_holder, learns_all_of, taker};
@@ -102,7 +102,7 @@ impl OfAccess for Brand {
 
     ghost name = { (0, 0) };
 
-    ghost access = { access.Read 0 [] };
+    ghost access = { frame_steps.Read 0 [] };
 
     ghost left = { [] };
 }

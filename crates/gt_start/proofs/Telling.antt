@@ -4,7 +4,7 @@ use Rattle.std.specs.Prelude.{Err}
 use Rattle.std.specs.Str.{IsUtf8}
 use Rattle.gt_types.specs.declared.config.Config.{Config}
 use Rattle.gt_types.specs.declared.config.StartFault.{StartFault}
-use Rattle.gt_types.specs.declared.config.StartFault.TheVariants as starts
+use Rattle.gt_types.specs.declared.config.StartFault.TheVariants as start_faults
 use Rattle.gt_roster.specs.Frameless.{IsFramelessFault}
 use Rattle.gt_policy.specs.Allowing.{Allowed, Meaning}
 use Rattle.gt_policy.specs.Kept.{KeptPolicy, PolicyShows}
@@ -26,9 +26,9 @@ of-text text None fault utf8 says e = inl e
 pub of-settings : (settings : List DomainSettings) (first_gen : ℕ) (text : List ℕ) (c : Config) (s : StartFault) (fault : EncodedFault)
     → AreLabelled settings text → IsSetBy settings first_gen c → IsFramelessFault c s → fault ≡ encoded_config s
     → IsFaultOf settings first_gen text fault
-of-settings settings first_gen text c (starts.Config f) fault labelled set is e =
+of-settings settings first_gen text c (start_faults.Config f) fault labelled set is e =
     inr (inr (labelled, (c, is.1.0, f, set, is.1.1, is.1.2, e)))
-of-settings settings first_gen text c starts.Memory fault labelled set is e = inl (inl e)
+of-settings settings first_gen text c start_faults.Memory fault labelled set is e = inl (inl e)
 
 -- a policy has as many types as what its text means
 pub same-count : (p : KeptPolicy) (m : Meaning) → PolicyShows p m → length p.types ≡ length m.types

@@ -5,7 +5,7 @@ use Rattle.gt_types.specs.declared.config.ConfigFault.{ConfigFault}
 use Rattle.gt_types.specs.declared.config.ConfigFault.TheVariants.{NoDomains, TooMany, Id, Repeated, Frames}
 use Rattle.gt_types.specs.declared.config.ConfigFault.TheVariants.{TableFrames, Version, Generation}
 use Rattle.gt_types.specs.declared.config.StartFault.{StartFault}
-use Rattle.gt_types.specs.declared.config.StartFault.TheVariants as starts
+use Rattle.gt_types.specs.declared.config.StartFault.TheVariants as start_faults
 use Rattle.gt_policy.specs.declared.fault.TokenFault.{TokenFault}
 use Rattle.gt_policy.specs.declared.fault.TokenFaultKind.{TokenFaultKind}
 use Rattle.gt_policy.specs.declared.fault.TokenFaultKind.TheVariants.{Syntax, Unknown, Twice, Permission, Outside}
@@ -67,8 +67,8 @@ encoded_limit Generation = record { kind = 17; line = 0; dom = 0 }
 
 -- the same; if the configuration has none, allocation failed
 abbrev pub encoded_config : StartFault → EncodedFault
-encoded_config (starts.Config fault) = encoded_limit fault
-encoded_config starts.Memory = no_memory
+encoded_config (start_faults.Config fault) = encoded_limit fault
+encoded_config start_faults.Memory = no_memory
 
 -- the label of a domain is beyond the policy's types
 abbrev pub encoded_label : DomId → EncodedFault

@@ -4,7 +4,7 @@ use Rattle.gt_types.specs.declared.Dir.{Dir}
 use Rattle.gt_types.specs.declared.Dir.TheVariants.{Read, Write}
 use Rattle.gt_types.specs.declared.DomId.{DomId}
 use Rattle.gt_types.specs.declared.Use.{Use}
-use Rattle.gt_model.specs.declared.control.EntryKind.TheVariants.{Invalid as KindInvalid}
+use Rattle.gt_model.specs.declared.control.EntryKind.TheVariants as kinds
 use Rattle.gt_model.specs.declared.entry.Entry.{Entry}
 use Rattle.gt_model.specs.declared.entry.Entry.TheVariants.{Invalid, Page, Sub, Via}
 use Rattle.gt_model.specs.Entries.{is_read_only}
@@ -22,7 +22,7 @@ pins_in d word = pins_of d (control_of word)
 
 -- the word encodes a valid entry
 abbrev pub IsValid : ℕ → Type 0
-IsValid word = kind_of word ≢ KindInvalid
+IsValid word = kind_of word ≢ kinds.Invalid
 
 -- the invalid word of the same generation, with no pins
 abbrev pub invalid_word : ℕ → ℕ

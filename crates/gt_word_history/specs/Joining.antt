@@ -2,7 +2,8 @@
 use Rattle.std.specs.Prelude.{◌≡◌, ℕ, true, false, List, [], ◌∷◌, map, slice_set}
 use Rattle.gt_word_history.specs.Prelude.{some, get_elem?, State, Me, Allows, View}
 use Rattle.atomic_table.specs.Table.{Joins}
-use Rattle.gt_word_history.specs.Prelude.{TableId, TableStep}
+use Rattle.gt_word_history.specs.Prelude.{TableId}
+use Rattle.atomic_table.specs.Table.{Step as TableStep}
 use Rattle.gt_word_history.specs.declared.view.Outlook.{Outlook}
 use Rattle.gt_word_history.specs.Rule.{Layout, Shows}
 use Rattle.gt_word_history.specs.Steps.{StepKind, promises_step, promises_stored}

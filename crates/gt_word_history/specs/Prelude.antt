@@ -1,15 +1,14 @@
 -- Names from other crates, and from the code, that these definitions use.
 pub use Rattle.atomic_table.specs.Seated.{TableId}
-pub use Rattle.atomic_table.specs.Table.{Allows, Me, State, Step as TableStep}
+pub use Rattle.atomic_table.specs.Table.{Allows, Me, State}
 pub use Rattle.gt_model.specs.Entries.{changed_entry, raise_of, IsEntry, is_read_only, with_ro}
 pub use Rattle.gt_model.specs.Spelling.{IsSpelled, entry_of, idle_word_of, word_of}
 pub use Rattle.gt_model.specs.Words.{control_of, header_of, header_word, kind_of, unit_of}
 pub use Rattle.gt_model.specs.declared.change.EntryChange.{EntryChange}
 pub use Rattle.gt_model.specs.declared.change.BodyWord.{BodyWord}
 pub use Rattle.gt_model.specs.declared.change.BodyWord.TheVariants.{First, Second}
-pub use Rattle.gt_model.specs.declared.control.EntryKind.TheVariants.{Sub as KindSub}
 pub use Rattle.gt_model.specs.declared.entry.Entry.TheVariants.{Invalid}
-pub use Rattle.gt_model.specs.declared.header.Header.{Header, Header as TableHeader}
+pub use Rattle.gt_model.specs.declared.header.Header.{Header}
 pub use Rattle.gt_types.specs.declared.Dir.{Dir}
 pub use Rattle.gt_types.specs.declared.Dir.TheVariants.{Read, Write}
 pub use Rattle.gt_types.specs.declared.DomId.{DomId}

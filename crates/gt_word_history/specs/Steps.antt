@@ -1,19 +1,20 @@
 -- One atomic step: what it adds to its seat's view, and the state in which it is taken.
 use Rattle.std.specs.Prelude.{◌≡◌, ℕ, ◌+◌, ◌-◌, ◌%◌, ◌^◌, cond, ◌==◌, ◌∷◌}
-use Rattle.gt_word_history.specs.Prelude.{some, get_elem?, either, State, Me, TableStep, changed_entry, raise_of}
-use Rattle.gt_word_history.specs.Prelude.{idle_word_of, unit_of, EntryChange, Dir, EntryStep, ChangeMissed, Changed}
-use Rattle.gt_word_history.specs.Prelude.{Looked, PinMissed, Pinned, ReadBody, StoredBody, Unpinned, BodyWord}
-use Rattle.gt_word_history.specs.Prelude.{HeaderStep, Purpose, EntryRecord, SeatStep, View}
+use Rattle.gt_word_history.specs.Prelude.{some, get_elem?, either, State, Me, changed_entry, raise_of, idle_word_of}
+use Rattle.gt_word_history.specs.Prelude.{unit_of, EntryChange, Dir, EntryStep, ChangeMissed, Changed, Looked}
+use Rattle.gt_word_history.specs.Prelude.{PinMissed, Pinned, ReadBody, StoredBody, Unpinned, BodyWord, HeaderStep}
+use Rattle.gt_word_history.specs.Prelude.{Purpose, EntryRecord, SeatStep, View}
+use Rattle.atomic_table.specs.Table.{Step as TableStep}
 use Rattle.gt_word_history.specs.Controls.{demoted_word, invalid_word, promoted_word, withdrawn_word}
 use Rattle.gt_word_history.specs.Events.{Happens}
 use Rattle.gt_word_history.specs.History.{StepHistory, PinsLast, RecordsWord, word_after}
 pub use Rattle.gt_word_history.specs.History.{half_index}
 use Rattle.gt_word_history.specs.Rule.{HasStood, Layout, Stands}
 use Rattle.gt_word_history.specs.Views.{last_of, last_seen, record_seen, with_step}
-use Rattle.gt_model.specs.declared.change.EntryChange.TheVariants as change
-use Rattle.gt_word_history.specs.declared.view.Purpose.TheVariants as purpose
+use Rattle.gt_model.specs.declared.change.EntryChange.TheVariants as changes
+use Rattle.gt_word_history.specs.declared.view.Purpose.TheVariants as purposes
 use Rattle.gt_word_history.specs.declared.view.HeaderStep.TheVariants as header
-use Rattle.gt_word_history.specs.declared.view.SeatStep.TheVariants as step_of
+use Rattle.gt_word_history.specs.declared.view.SeatStep.TheVariants as seat_steps
 
 -- words and views, the view v among them, showed a state after these steps of all seats
 abbrev pub StoodWith : Type 0 → Layout → StepHistory → View → Type 0
@@ -36,11 +37,11 @@ pub record TakesStep (S : Type 0) (k : Layout) (v : View) (past : StepHistory) (
 
 -- a step on the entry r of the domain t
 abbrev pub on_entry : ℕ → ℕ → EntryStep → SeatStep
-on_entry t r m = step_of.Entry t r m
+on_entry t r m = seat_steps.Entry t r m
 
 -- a step on the header of the domain t
 abbrev pub on_header : ℕ → HeaderStep → SeatStep
-on_header t m = step_of.Header t m
+on_header t m = seat_steps.Header t m
 
 -- a kind of step: the step and the number that it leaves, each by the number found
 pub record StepKind : Type 0 where
@@ -96,21 +97,21 @@ changed c x = record { generation = x.generation + raise_of c; entry = changed_e
 -- word of the entry at the next generation; for a revocation the invalid word of the same generation; for a withdrawal
 -- the same with its pins; else the word with the other readonly at the next generation
 abbrev pub changed_word : EntryChange → EntryRecord → ℕ → ℕ
-changed_word (change.Publish e) x word = idle_word_of e (x.generation + 1)
-changed_word change.Revoke x word = invalid_word word
-changed_word change.Withdraw x word = withdrawn_word word
-changed_word change.Demote x word = demoted_word word
-changed_word change.Promote x word = promoted_word word
+changed_word (changes.Publish e) x word = idle_word_of e (x.generation + 1)
+changed_word changes.Revoke x word = invalid_word word
+changed_word changes.Withdraw x word = withdrawn_word word
+changed_word changes.Demote x word = demoted_word word
+changed_word changes.Promote x word = promoted_word word
 
 -- the step of a taken exchange
 abbrev pub taken : ℕ → ℕ → View → Purpose → ℕ → ℕ → EntryStep
-taken t r v (purpose.Pin d) old new = Pinned d old (record_seen (last_seen t r v))
-taken t r v (purpose.Change c) old new = Changed c old new (changed c (last_of r v))
+taken t r v (purposes.Pin d) old new = Pinned d old (record_seen (last_seen t r v))
+taken t r v (purposes.Change c) old new = Changed c old new (changed c (last_of r v))
 
 -- the step of a missed exchange
 abbrev pub missed : Purpose → ℕ → ℕ → ℕ → EntryStep
-missed (purpose.Pin d) old new n = PinMissed d old new n
-missed (purpose.Change c) old new n = ChangeMissed c old new n
+missed (purposes.Pin d) old new n = PinMissed d old new n
+missed (purposes.Change c) old new n = ChangeMissed c old new n
 
 -- an exchange of a control word: it is taken, and the word is then the new one, exactly if the expected one is found
 -- (C11 atomics: atomic_compare_exchange_strong)

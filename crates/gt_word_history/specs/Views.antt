@@ -3,11 +3,12 @@ use Rattle.std.specs.Prelude.{◌≡◌, ◌⊎◌, ℕ, ◌+◌, Bool, true, fa
 use Rattle.std.specs.Prelude.{Some, None, slice_index, count_by, nat_le}
 use Rattle.gt_word_history.specs.Prelude.{Dir, Read, Write, BodyWord, First, Second, EntryRecord, EntryStep, Looked}
 use Rattle.gt_word_history.specs.Prelude.{ReadBody, Pinned, PinMissed, Unpinned, StoredBody, Changed, ChangeMissed}
-use Rattle.gt_word_history.specs.Prelude.{HeaderStep, SeatStep, View, KindSub, entry_of, control_of, header_of}
-use Rattle.gt_word_history.specs.Prelude.{kind_of, TableHeader}
+use Rattle.gt_word_history.specs.Prelude.{HeaderStep, SeatStep, View, entry_of, control_of, header_of, kind_of, Header}
+use Rattle.gt_model.specs.declared.control.EntryKind.TheVariants as kinds
 use Rattle.gt_model.specs.declared.entry.Entry.TheVariants as entries
 use Rattle.gt_word_history.specs.declared.view.HeaderStep.TheVariants as header
-use Rattle.gt_word_history.specs.declared.view.SeatStep.TheVariants.{Entry, Flag, Frame, Header}
+use Rattle.gt_word_history.specs.declared.view.SeatStep.TheVariants.{Entry, Flag, Frame}
+use Rattle.gt_word_history.specs.declared.view.SeatStep.TheVariants as seat_steps
 use Rattle.gt_word_history.specs.Controls.{generation_of}
 
 -- a is in the list
@@ -19,7 +20,7 @@ IsAmong a (x ∷ xs) = (a ≡ x) ⊎ IsAmong a xs
 abbrev pub entry_steps : ℕ → ℕ → List SeatStep → List EntryStep
 entry_steps t r [] = []
 entry_steps t r (Entry d q m ∷ xs) = cond ((d == t) && (q == r)) (m ∷ entry_steps t r xs) (entry_steps t r xs)
-entry_steps t r (Header d m ∷ xs) = entry_steps t r xs
+entry_steps t r (seat_steps.Header d m ∷ xs) = entry_steps t r xs
 entry_steps t r (Frame d q m ∷ xs) = entry_steps t r xs
 entry_steps t r (Flag f m ∷ xs) = entry_steps t r xs
 
@@ -30,7 +31,7 @@ steps_on t r v = entry_steps t r v.steps
 -- the steps of a list that are on the header of the domain t
 abbrev pub header_steps : ℕ → List SeatStep → List HeaderStep
 header_steps t [] = []
-header_steps t (Header d m ∷ xs) = cond (d == t) (m ∷ header_steps t xs) (header_steps t xs)
+header_steps t (seat_steps.Header d m ∷ xs) = cond (d == t) (m ∷ header_steps t xs) (header_steps t xs)
 header_steps t (Entry d q m ∷ xs) = header_steps t xs
 header_steps t (Frame d q m ∷ xs) = header_steps t xs
 header_steps t (Flag f m ∷ xs) = header_steps t xs
@@ -174,7 +175,7 @@ record_seen s =
 
 -- the body words were read since the look: for a sub-page both
 abbrev pub HasBody : Seen → Type 0
-HasBody s = IsSome s.first × (kind_of s.word ≡ KindSub → IsSome s.second)
+HasBody s = IsSome s.first × (kind_of s.word ≡ kinds.Sub → IsSome s.second)
 
 -- what was seen, or zeros if nothing was
 abbrev pub seen_or_none : Option Seen → Seen
@@ -198,7 +199,7 @@ abbrev pub own_header : View → ℕ
 own_header v = stored_header (slice_index v.headers v.position) (steps_on_header v.position v)
 
 -- the same as a header
-abbrev pub own_table : View → TableHeader
+abbrev pub own_table : View → Header
 own_table v = header_of (own_header v)
 
 -- the body word that the seat stored last of its own entry r

@@ -23,7 +23,7 @@ use Rattle.gt_word_history.specs.declared.view.EntryStep.TheVariants.{Pinned, Re
 use Rattle.gt_model.specs.declared.change.BodyWord.{BodyWord}
 use Rattle.gt_model.specs.declared.change.BodyWord.TheVariants.{First, Second}
 use Rattle.gt_word_history.specs.declared.view.EntryRecord.{EntryRecord}
-use Rattle.gt_model.specs.declared.control.EntryKind.TheVariants as kind
+use Rattle.gt_model.specs.declared.control.EntryKind.TheVariants as kinds
 
 -- the word of the last record is a look at it
 pub looks_at : (x : EntryRecord) (xs : List EntryRecord) (r w : ℕ) (word : ℕ) → (r < 4096) × (w < 4096) → word ≡ word_of x.entry x.generation r w → SawRecord x xs (Some (record { word = word; first = None; second = None }))
@@ -108,7 +108,7 @@ none_some : IsSome {T = ℕ} None → ⊥
 none_some h = cc
 
 -- body values that agree with the entry, and were read, spell it
-read_body : (e : Entry) (p q : Option ℕ) (g r w : ℕ) → Agrees e p q → IsSome p → ((control_with e g r w).kind ≡ kind.Sub → IsSome q) → IsSpelled e (value_or_zero p) (value_or_zero q)
+read_body : (e : Entry) (p q : Option ℕ) (g r w : ℕ) → Agrees e p q → IsSome p → ((control_with e g r w).kind ≡ kinds.Sub → IsSome q) → IsSpelled e (value_or_zero p) (value_or_zero q)
 read_body Invalid p q g r w a s t = tt
 read_body (Page d o f) (Some x) q g r w a s t = a
 read_body (Sub d o f y k) (Some x) (Some z) g r w a s t = a

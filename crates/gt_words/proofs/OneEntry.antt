@@ -30,7 +30,7 @@ use Rattle.gt_word_history.specs.declared.view.EntryStep.TheVariants.{Pinned, Re
 use Rattle.gt_model.specs.declared.change.BodyWord.{BodyWord}
 use Rattle.gt_model.specs.declared.change.BodyWord.TheVariants.{First, Second}
 use Rattle.gt_word_history.specs.declared.view.EntryRecord.{EntryRecord}
-use Rattle.gt_model.specs.declared.change.EntryChange.TheVariants as change
+use Rattle.gt_model.specs.declared.change.EntryChange.TheVariants as changes
 
 pub count_in : (d : Dir) (p : LivePin) (ps : List LivePin) → IsAmong p ps → p.0 ≡ d → 1 ≤ pin_count d ps
 count_in d p [] h e = absurd h
@@ -156,23 +156,23 @@ module _ (g t : ℕ) (hs : List (List EntryStep)) (h : List EntryStep) (at : get
 
   -- the entry becomes invalid, where the word is its idle word
   pub entry_revokes : (expected stored : ℕ) → word ≡ expected → word ≡ idle_word_of (last_record g h).entry (last_record g h).generation
-      → ShowsEntry g t (idle_word_of Invalid (last_record g h).generation) a b (set hs t (Changed change.Revoke expected stored (record { generation = (last_record g h).generation; entry = Invalid }) ∷ h))
+      → ShowsEntry g t (idle_word_of Invalid (last_record g h).generation) a b (set hs t (Changed changes.Revoke expected stored (record { generation = (last_record g h).generation; entry = Invalid }) ∷ h))
   entry_revokes expected stored from idle = let x : EntryRecord = last_record g h in let z = idle_held x (earlier_records g h) word (total_pins Read hs) (total_pins Write hs) mine.lawful mine.in_range mine.spelled idle in
       let z0 = z.0 in let z1 = z.1 in let rec = legal_record x (earlier_records g h) mine.lawful in
-      entry_changes (idle_word_of Invalid x.generation) expected stored change.Revoke (record { generation = x.generation; entry = Invalid }) (tt, rec.1) (inl (refl, refl)) tt (omega arith) (λ _. z1) from
+      entry_changes (idle_word_of Invalid x.generation) expected stored changes.Revoke (record { generation = x.generation; entry = Invalid }) (tt, rec.1) (inl (refl, refl)) tt (omega arith) (λ _. z1) from
 
   -- the entry becomes invalid, with its pins
   pub entry_withdraws : (word' expected stored : ℕ) → word ≡ expected → word' ≡ word_of Invalid (last_record g h).generation (total_pins Read hs) (total_pins Write hs)
-      → ShowsEntry g t word' a b (set hs t (Changed change.Withdraw expected stored (record { generation = (last_record g h).generation; entry = Invalid }) ∷ h))
+      → ShowsEntry g t word' a b (set hs t (Changed changes.Withdraw expected stored (record { generation = (last_record g h).generation; entry = Invalid }) ∷ h))
   entry_withdraws word' expected stored from is = let x : EntryRecord = last_record g h in let rec = legal_record x (earlier_records g h) mine.lawful in
-      entry_changes word' expected stored change.Withdraw (record { generation = x.generation; entry = Invalid }) (tt, rec.1) (inl (refl, refl)) tt is (λ n. cc) from
+      entry_changes word' expected stored changes.Withdraw (record { generation = x.generation; entry = Invalid }) (tt, rec.1) (inl (refl, refl)) tt is (λ n. cc) from
 
   -- an entry is published, where the word is the invalid word with no pins
   pub entry_grants : (expected stored : ℕ) (e : Entry) → word ≡ expected → word ≡ idle_word_of Invalid (last_record g h).generation → (last_record g h).entry ≡ Invalid → IsEntry e → e ≢ Invalid → (last_record g h).generation < LAST_GENERATION → IsSpelled e (stored_body First h) (stored_body Second h)
-      → ShowsEntry g t (idle_word_of e ((last_record g h).generation + 1)) a b (set hs t (Changed (change.Publish e) expected stored (record { generation = (last_record g h).generation + 1; entry = e }) ∷ h))
+      → ShowsEntry g t (idle_word_of e ((last_record g h).generation + 1)) a b (set hs t (Changed (changes.Publish e) expected stored (record { generation = (last_record g h).generation + 1; entry = e }) ∷ h))
   entry_grants expected stored e from idle none ok some_kind room body = let x : EntryRecord = last_record g h in
       let z = idle_held x (earlier_records g h) word (total_pins Read hs) (total_pins Write hs) mine.lawful mine.in_range mine.spelled (idle ∙ ap (λ (y : Entry). idle_word_of y x.generation) (sym none)) in let z0 = z.0 in let z1 = z.1 in
-      entry_changes (idle_word_of e (x.generation + 1)) expected stored (change.Publish e) (record { generation = x.generation + 1; entry = e }) (ok, omega arith) (inr (refl, some_kind, inl none))
+      entry_changes (idle_word_of e (x.generation + 1)) expected stored (changes.Publish e) (record { generation = x.generation + 1; entry = e }) (ok, omega arith) (inr (refl, some_kind, inl none))
       (subst (λ (u : ℕ × ℕ). IsSpelled e u.0 u.1) (λ j. (sym (k.first ∙ ap (stored_body First) owner) j, sym (k.second ∙ ap (stored_body Second) owner) j)) body) (omega arith) (λ _. z1) from
 
 -- the low bits of an entry that is turned

@@ -26,8 +26,7 @@ use Rattle.gt_word_history.specs.declared.view.EntryRecord.{EntryRecord}
 use Rattle.gt_word_history.specs.declared.view.EntryStep.{EntryStep}
 use Rattle.gt_word_history.specs.declared.view.EntryStep.TheVariants.{Changed}
 use Rattle.gt_word_history.specs.declared.view.SeatStep.{SeatStep}
-use Rattle.gt_word_history.specs.declared.view.SeatStep.TheVariants.{Entry as OnEntry, Flag as OnFlag}
-use Rattle.gt_word_history.specs.declared.view.SeatStep.TheVariants.{Frame as OnFrame, Header as OnHeader}
+use Rattle.gt_word_history.specs.declared.view.SeatStep.TheVariants as seat_steps
 use Rattle.gt_word_history.specs.declared.view.View.{View}
 
 -- where no view has a pin, none is counted
@@ -43,13 +42,13 @@ one_more e m ms is = is
 
 still_exchanged : (e t r : ℕ) (later steps : List SeatStep) → IsAmong e (exchanged (entry_steps t r steps)) → IsAmong e (exchanged (entry_steps t r (later ++ steps)))
 still_exchanged e t r [] steps is = is
-still_exchanged e t r (OnEntry d q m ∷ later) steps is = by ((d == t) && (q == r)) (still_exchanged e t r later steps is) where
+still_exchanged e t r (seat_steps.Entry d q m ∷ later) steps is = by ((d == t) && (q == r)) (still_exchanged e t r later steps is) where
   by : (b : Bool) → IsAmong e (exchanged (entry_steps t r (later ++ steps))) → IsAmong e (exchanged (cond b (m ∷ entry_steps t r (later ++ steps)) (entry_steps t r (later ++ steps))))
   by true there = one_more e m (entry_steps t r (later ++ steps)) there
   by false there = there
-still_exchanged e t r (OnHeader d m ∷ later) steps is = still_exchanged e t r later steps is
-still_exchanged e t r (OnFrame d q m ∷ later) steps is = still_exchanged e t r later steps is
-still_exchanged e t r (OnFlag f m ∷ later) steps is = still_exchanged e t r later steps is
+still_exchanged e t r (seat_steps.Header d m ∷ later) steps is = still_exchanged e t r later steps is
+still_exchanged e t r (seat_steps.Frame d q m ∷ later) steps is = still_exchanged e t r later steps is
+still_exchanged e t r (seat_steps.Flag f m ∷ later) steps is = still_exchanged e t r later steps is
 
 module _ (k : Layout) (r word : ℕ) (c : EntryChange) (v w : View) (z : Changes k r c word v w) (none : HasNoPins v.position r z.steps.past) (vn : v.position < k.domains) (rn : r < TABLE_ENTRIES) where
   abbrev all : List (List EntryStep)

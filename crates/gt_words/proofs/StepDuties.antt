@@ -49,8 +49,8 @@ use Rattle.gt_word_history.specs.declared.view.Purpose.{Purpose}
 use Rattle.gt_word_history.specs.declared.view.EntryRecord.{EntryRecord}
 use Rattle.gt_word_history.specs.declared.view.View.{View}
 use Rattle.gt_word_history.specs.declared.rule.TheConstants.{DOMAIN_WORDS}
-use Rattle.gt_model.specs.declared.change.EntryChange.TheVariants as change
-use Rattle.gt_word_history.specs.declared.view.Purpose.TheVariants as purpose
+use Rattle.gt_model.specs.declared.change.EntryChange.TheVariants as changes
+use Rattle.gt_word_history.specs.declared.view.Purpose.TheVariants as purposes
 use Rattle.gt_types.specs.declared.limits.TheConstants.{LAST_GENERATION, MAX_PINS, TABLE_ENTRIES}
 
 -- a step is allowed that leaves words and views which show the state that its event makes
@@ -133,11 +133,11 @@ module _ {S : Type 0} (k : Layout) (t r : ℕ) (m : ℕ → EntryStep) (leaves :
       (step w a b hs (before s shown at)))
 
 -- the record revoked
-revoked : (x : EntryRecord) → changed change.Revoke x ≡ invalid_at x.generation
+revoked : (x : EntryRecord) → changed changes.Revoke x ≡ invalid_at x.generation
 revoked x = let e : x.generation + 0 ≡ x.generation = omega arith in ap invalid_at e
 
 -- the record withdrawn
-withdrawn : (x : EntryRecord) → changed change.Withdraw x ≡ invalid_at x.generation
+withdrawn : (x : EntryRecord) → changed changes.Withdraw x ≡ invalid_at x.generation
 withdrawn x = let e : x.generation + 0 ≡ x.generation = omega arith in ap invalid_at e
 
 -- the record with the other readonly, at the next generation
@@ -191,15 +191,15 @@ module _ {S : Type 0} (k : Layout) (slots id : ℕ) (me : Me S View) (t r : ℕ)
 
   -- a pin stores one more
   abbrev StoresPin : Purpose → ℕ → ℕ → Type 0
-  StoresPin (purpose.Pin d) old new = new ≡ old + unit_of d
-  StoresPin (purpose.Change c) old new = Unit {0}
+  StoresPin (purposes.Pin d) old new = new ≡ old + unit_of d
+  StoresPin (purposes.Change c) old new = Unit {0}
 
   -- the steps of an exchange say what was found
   exchange_fits : (p : Purpose) (old new : ℕ) → StoresPin p old new → (n : ℕ)
       → let m : EntryStep = cond (n == old) (taken t r me.0 p old new) (missed p old new n) in (word_on m ≡ 0) × (either (n == old) new n ≡ left_on_entry m n) × RecordsFound m n
-  exchange_fits (purpose.Pin d) old new one n = by_cases n old (λ (q : Bool). let m : EntryStep = cond q (taken t r me.0 (purpose.Pin d) old new) (missed (purpose.Pin d) old new n) in (word_on m ≡ 0) × (either q new n ≡ left_on_entry m n) × RecordsFound m n)
+  exchange_fits (purposes.Pin d) old new one n = by_cases n old (λ (q : Bool). let m : EntryStep = cond q (taken t r me.0 (purposes.Pin d) old new) (missed (purposes.Pin d) old new n) in (word_on m ≡ 0) × (either q new n ≡ left_on_entry m n) × RecordsFound m n)
       (λ e. (refl, one ∙ ap (λ (u : ℕ). u + unit_of d) (sym e), sym e)) (λ ne. (refl, refl, (refl, ne)))
-  exchange_fits (purpose.Change c) old new one n = by_cases n old (λ (q : Bool). let m : EntryStep = cond q (taken t r me.0 (purpose.Change c) old new) (missed (purpose.Change c) old new n) in (word_on m ≡ 0) × (either q new n ≡ left_on_entry m n) × RecordsFound m n)
+  exchange_fits (purposes.Change c) old new one n = by_cases n old (λ (q : Bool). let m : EntryStep = cond q (taken t r me.0 (purposes.Change c) old new) (missed (purposes.Change c) old new n) in (word_on m ≡ 0) × (either q new n ≡ left_on_entry m n) × RecordsFound m n)
       (λ e. (refl, refl, sym e)) (λ ne. (refl, refl, (refl, ne)))
 
   -- an exchange, taken where the word is the one expected
@@ -212,10 +212,10 @@ module _ {S : Type 0} (k : Layout) (slots id : ℕ) (me : Me S View) (t r : ℕ)
       (hit w a b hs z) (miss w a b hs z))
 
   pub pin_owes : (d : Dir) (old new : ℕ) → new ≡ old + unit_of d → HasLooked t r me.0 old → IsValid old → MayPin k t r me.0 d (record_seen (last_seen t r me.0)) → pins_in d old < MAX_PINS
-      → Allows (Shows k) slots id me (place t r 0) (λ n. either (n == old) new n) (promises_step (exchanging k t r me.0 (purpose.Pin d) old new) (step slots (place t r 0) old new none) me)
-  pin_owes d old new one looked valid may room = exchange_owes (purpose.Pin d) old new one
+      → Allows (Shows k) slots id me (place t r 0) (λ n. either (n == old) new n) (promises_step (exchanging k t r me.0 (purposes.Pin d) old new) (step slots (place t r 0) old new none) me)
+  pin_owes d old new one looked valid may room = exchange_owes (purposes.Pin d) old new one
       (λ w a b hs z e. (
-        subst (λ (u : ℕ). ShowsEntry k.first t u a b (set hs id (taken t r me.0 (purpose.Pin d) old new ∷ steps_on t r me.0))) (ap (λ (u : ℕ). u + unit_of d) e ∙ sym one)
+        subst (λ (u : ℕ). ShowsEntry k.first t u a b (set hs id (taken t r me.0 (purposes.Pin d) old new ∷ steps_on t r me.0))) (ap (λ (u : ℕ). u + unit_of d) e ∙ sym one)
             (entry_pins k.first t hs id (steps_on t r me.0) z.1 w a b z.0 d old (last_seen t r me.0) (subst (SawRecord (last_record k.first (owner_steps t hs)) (earlier_records k.first (owner_steps t hs))) looked.0 z.4) (looked.1 ∙ sym e) (subst IsValid (sym e) valid) looked.2 (λ q. may_write k t r me.0 (record_seen (last_seen t r me.0)) (subst (λ (u : Dir). MayPin k t r me.0 u (record_seen (last_seen t r me.0))) q may)) (subst (λ (u : ℕ). pins_in d u < MAX_PINS) (sym e) room)),
         tt,
         pins_last k.first t hs id (steps_on t r me.0) z.1 w a b z.0 (last_seen t r me.0) (subst (SawRecord (last_record k.first (owner_steps t hs)) (earlier_records k.first (owner_steps t hs))) looked.0 z.4) (looked.1 ∙ sym e) (subst IsValid (sym e) valid) looked.2,
@@ -264,26 +264,26 @@ module _ {S : Type 0} (k : Layout) (slots id : ℕ) (me : Me S View) (t r : ℕ)
     -- an exchange by the owner
     change_owes : (c : EntryChange) (old new : ℕ)
         → ((w a b : ℕ) (hs : List (List EntryStep)) → ShowsEntry k.first t w a b hs → get_elem? hs t ≡ some (steps_on t r me.0) → me.0.first ≡ k.first → w ≡ old → ShowsEntry k.first t new a b (set hs t (Changed c old new (changed c (last_of r me.0)) ∷ steps_on t r me.0)))
-        → Allows (Shows k) slots id me (place t r 0) (λ n. either (n == old) new n) (promises_step (exchanging k t r me.0 (purpose.Change c) old new) (step slots (place t r 0) old new none) me)
-    change_owes c old new hit = exchange_owes (purpose.Change c) old new tt
+        → Allows (Shows k) slots id me (place t r 0) (λ n. either (n == old) new n) (promises_step (exchanging k t r me.0 (purposes.Change c) old new) (step slots (place t r 0) old new none) me)
+    change_owes c old new hit = exchange_owes (purposes.Change c) old new tt
         (λ w a b hs z e. (to_seat new a b hs (Changed c old new (changed c (last_of r me.0))) z.2 (hit w a b hs z.0 (at_home hs z.1 z.2) z.3 e), sym z.2 ∙ own, tt))
         (λ w a b hs z n. (entry_misses_change k.first t hs id (steps_on t r me.0) z.1 w a b z.0 c old new, tt, tt))
 
     pub revoke_owes : (old new : ℕ) → IsIdleOf (last_of r me.0) old → new ≡ invalid_word old
         → Allows (Shows k) slots id me (place t r 0) (λ n. either (n == old) new n)
-        (promises_step (exchanging k t r me.0 (purpose.Change change.Revoke) old new) (step slots (place t r 0) old new none) me)
-    revoke_owes old new idle is = change_owes change.Revoke old new (λ w a b hs z at f e.
+        (promises_step (exchanging k t r me.0 (purposes.Change changes.Revoke) old new) (step slots (place t r 0) old new none) me)
+    revoke_owes old new idle is = change_owes changes.Revoke old new (λ w a b hs z at f e.
         let h : List EntryStep = steps_on t r me.0 in let y : EntryRecord = last_record k.first h in let l = last_is f in let m = mine k.first t hs h at w a b z in
         let g : old / 17592186044416 ≡ y.generation = ap generation_of (sym e) ∙ spelled_generation y w (total_pins Read hs) (total_pins Write hs) (legal_record y (earlier_records k.first h) m.lawful) m.in_range m.spelled in
         let i : new ≡ idle_word_of Invalid y.generation = omega arith in
-        subst (λ (u : ℕ × EntryRecord). ShowsEntry k.first t u.0 a b (set hs t (Changed change.Revoke old new u.1 ∷ h))) (λ j. (sym i j, sym (revoked (last_of r me.0)) j))
-        (subst (λ (u : EntryRecord). ShowsEntry k.first t (idle_word_of Invalid y.generation) a b (set hs t (Changed change.Revoke old new (invalid_at u.generation) ∷ h))) (sym l)
+        subst (λ (u : ℕ × EntryRecord). ShowsEntry k.first t u.0 a b (set hs t (Changed changes.Revoke old new u.1 ∷ h))) (λ j. (sym i j, sym (revoked (last_of r me.0)) j))
+        (subst (λ (u : EntryRecord). ShowsEntry k.first t (idle_word_of Invalid y.generation) a b (set hs t (Changed changes.Revoke old new (invalid_at u.generation) ∷ h))) (sym l)
         (entry_revokes k.first t hs h at w a b z old new e (e ∙ (idle ∙ ap (λ (u : EntryRecord). idle_word_of u.entry u.generation) l)))))
 
     pub withdraw_owes : (old new : ℕ) → new ≡ withdrawn_word old
         → Allows (Shows k) slots id me (place t r 0) (λ n. either (n == old) new n)
-        (promises_step (exchanging k t r me.0 (purpose.Change change.Withdraw) old new) (step slots (place t r 0) old new none) me)
-    withdraw_owes old new is = change_owes change.Withdraw old new (λ w a b hs z at f e.
+        (promises_step (exchanging k t r me.0 (purposes.Change changes.Withdraw) old new) (step slots (place t r 0) old new none) me)
+    withdraw_owes old new is = change_owes changes.Withdraw old new (λ w a b hs z at f e.
         let h : List EntryStep = steps_on t r me.0 in let y : EntryRecord = last_record k.first h in let l = last_is f in let m = mine k.first t hs h at w a b z in
         let p = spelled_parts y.entry y.generation (total_pins Read hs) (total_pins Write hs) (legal_record y (earlier_records k.first h) m.lawful).0 m.in_range in let here = sym e ∙ m.spelled in
         let g : generation_of old ≡ y.generation = ap generation_of here ∙ p.generation in
@@ -291,18 +291,18 @@ module _ {S : Type 0} (k : Layout) (slots id : ℕ) (me : Me S View) (t r : ℕ)
         let writes : pins_in Write old ≡ total_pins Write hs = ap (pins_in Write) here ∙ p.writes in
         let u : withdrawn_word old ≡ 17592186044416 * y.generation + 16 * total_pins Read hs + 65536 * total_pins Write hs = λ j. 17592186044416 * g j + 16 * reads j + 65536 * writes j in
         let v : 17592186044416 * y.generation + 16 * total_pins Read hs + 65536 * total_pins Write hs ≡ word_of Invalid y.generation (total_pins Read hs) (total_pins Write hs) = omega arith in
-        subst (λ (u : EntryRecord). ShowsEntry k.first t new a b (set hs t (Changed change.Withdraw old new u ∷ h))) (sym (withdrawn (last_of r me.0)))
-        (subst (λ (u : EntryRecord). ShowsEntry k.first t new a b (set hs t (Changed change.Withdraw old new (invalid_at u.generation) ∷ h))) (sym l)
+        subst (λ (u : EntryRecord). ShowsEntry k.first t new a b (set hs t (Changed changes.Withdraw old new u ∷ h))) (sym (withdrawn (last_of r me.0)))
+        (subst (λ (u : EntryRecord). ShowsEntry k.first t new a b (set hs t (Changed changes.Withdraw old new (invalid_at u.generation) ∷ h))) (sym l)
         (entry_withdraws k.first t hs h at w a b z new old new e (is ∙ (u ∙ v)))))
 
     pub grant_owes : (e : Entry) (old new : ℕ) → IsIdleOf (last_of r me.0) old → new ≡ idle_word_of e ((last_of r me.0).generation + 1) → (last_of r me.0).entry ≡ Invalid → IsEntry e → e ≢ Invalid
         → (last_of r me.0).generation < LAST_GENERATION → IsSpelled e (stored_body First (steps_on t r me.0)) (stored_body Second (steps_on t r me.0))
         → Allows (Shows k) slots id me (place t r 0) (λ n. either (n == old) new n)
-        (promises_step (exchanging k t r me.0 (purpose.Change (change.Publish e)) old new) (step slots (place t r 0) old new none) me)
+        (promises_step (exchanging k t r me.0 (purposes.Change (changes.Publish e)) old new) (step slots (place t r 0) old new none) me)
     grant_owes e old new idle is none_yet ok some_kind room body = let x : EntryRecord = last_of r me.0 in
-        change_owes (change.Publish e) old new (λ w a b hs z at f q.
-        let l = last_is f in subst (λ (u : ℕ). ShowsEntry k.first t u a b (set hs t (Changed (change.Publish e) old new (record { generation = x.generation + 1; entry = e }) ∷ steps_on t r me.0))) (sym is)
-        (subst (λ (y : EntryRecord). ShowsEntry k.first t (idle_word_of e (y.generation + 1)) a b (set hs t (Changed (change.Publish e) old new (record { generation = y.generation + 1; entry = e }) ∷ steps_on t r me.0))) (sym l)
+        change_owes (changes.Publish e) old new (λ w a b hs z at f q.
+        let l = last_is f in subst (λ (u : ℕ). ShowsEntry k.first t u a b (set hs t (Changed (changes.Publish e) old new (record { generation = x.generation + 1; entry = e }) ∷ steps_on t r me.0))) (sym is)
+        (subst (λ (y : EntryRecord). ShowsEntry k.first t (idle_word_of e (y.generation + 1)) a b (set hs t (Changed (changes.Publish e) old new (record { generation = y.generation + 1; entry = e }) ∷ steps_on t r me.0))) (sym l)
         (entry_grants k.first t hs (steps_on t r me.0) at w a b z old new e q (q ∙ (idle ∙ ((λ i. idle_word_of (none_yet i) x.generation) ∙ ap (λ (y : EntryRecord). idle_word_of Invalid y.generation) l))) (ap (λ (y : EntryRecord). y.entry) (sym l) ∙ none_yet) ok some_kind
         (subst (λ (y : EntryRecord). y.generation < LAST_GENERATION) l room) body)))
 
@@ -316,7 +316,7 @@ module _ {S : Type 0} (k : Layout) (slots id : ℕ) (me : Me S View) (t r : ℕ)
     turn_owes : (o : Bool) (c : EntryChange) (old new : ℕ) → ((x : EntryRecord) → changed c x ≡ turned o x) → (last_of r me.0).entry ≢ Invalid → generation_of old < LAST_GENERATION → is_read_only (last_of r me.0).entry ≡ not o → (o ≡ true → pins_in Write old ≡ 0)
         → new + flag (not o) ≡ old + flag o + 17592186044416
         → Allows (Shows k) slots id me (place t r 0) (λ n. either (n == old) new n)
-        (promises_step (exchanging k t r me.0 (purpose.Change c) old new) (step slots (place t r 0) old new none) me)
+        (promises_step (exchanging k t r me.0 (purposes.Change c) old new) (step slots (place t r 0) old new none) me)
     turn_owes o c old new turns_it some_kind room now unwritten is = let x : EntryRecord = last_of r me.0 in
         change_owes c old new (λ w a b hs z at f q. let l = last_is f in let h : List EntryStep = steps_on t r me.0 in let y : EntryRecord = last_record k.first h in let s = mine k.first t hs h at w a b z in
         let g : old / 17592186044416 ≡ y.generation = ap generation_of (sym q) ∙ spelled_generation y w (total_pins Read hs) (total_pins Write hs) (legal_record y (earlier_records k.first h) s.lawful) s.in_range s.spelled in
@@ -327,9 +327,9 @@ module _ {S : Type 0} (k : Layout) (slots id : ℕ) (me : Me S View) (t r : ℕ)
         (turned_is o y (total_pins Read hs) (total_pins Write hs) w new kind turns s.spelled (is ∙ ap (λ (u : ℕ). u + flag o + 17592186044416) (sym q)))))
 
     pub demote_owes : (old new : ℕ) → (last_of r me.0).entry ≢ Invalid → generation_of old < LAST_GENERATION → is_read_only (last_of r me.0).entry ≡ false → pins_in Write old ≡ 0 → new ≡ demoted_word old
-        → Allows (Shows k) slots id me (place t r 0) (λ n. either (n == old) new n) (promises_step (exchanging k t r me.0 (purpose.Change change.Demote) old new) (step slots (place t r 0) old new none) me)
-    demote_owes old new some_kind room now unwritten is = turn_owes true change.Demote old new (λ _. refl) some_kind room now (λ _. unwritten) (omega arith)
+        → Allows (Shows k) slots id me (place t r 0) (λ n. either (n == old) new n) (promises_step (exchanging k t r me.0 (purposes.Change changes.Demote) old new) (step slots (place t r 0) old new none) me)
+    demote_owes old new some_kind room now unwritten is = turn_owes true changes.Demote old new (λ _. refl) some_kind room now (λ _. unwritten) (omega arith)
 
     pub promote_owes : (old new : ℕ) → (last_of r me.0).entry ≢ Invalid → generation_of old < LAST_GENERATION → is_read_only (last_of r me.0).entry ≡ true → new ≡ promoted_word old
-        → Allows (Shows k) slots id me (place t r 0) (λ n. either (n == old) new n) (promises_step (exchanging k t r me.0 (purpose.Change change.Promote) old new) (step slots (place t r 0) old new none) me)
-    promote_owes old new some_kind room now is = turn_owes false change.Promote old new (λ _. refl) some_kind room now (λ n. cc) (omega arith)
+        → Allows (Shows k) slots id me (place t r 0) (λ n. either (n == old) new n) (promises_step (exchanging k t r me.0 (purposes.Change changes.Promote) old new) (step slots (place t r 0) old new none) me)
+    promote_owes old new some_kind room now is = turn_owes false changes.Promote old new (λ _. refl) some_kind room now (λ n. cc) (omega arith)

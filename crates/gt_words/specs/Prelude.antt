@@ -1,7 +1,7 @@
 -- Names from other crates, and from the code, that these definitions use.
 pub use Rattle.atomic_table.proofs.Lists.{at_map}
 pub use Rattle.atomic_table.specs.Seated.{TableId}
-pub use Rattle.atomic_table.specs.Table.{Allows, Me, State, Step as TableStep, keeps, stepped}
+pub use Rattle.atomic_table.specs.Table.{Allows, Me, State, keeps, stepped}
 pub use Rattle.gt_model.specs.Entries.{changed_entry, raise_of, IsEntry, is_read_only, with_ro}
 pub use Rattle.gt_model.specs.Spelling.{IsSpelled, control_with, entry_of, idle_word_of, word_of}
 pub use Rattle.gt_model.specs.Words.{control_of, header_of, header_word, kind_of, size_of, unit_of}
@@ -9,10 +9,9 @@ pub use Rattle.gt_model.specs.declared.change.EntryChange.{EntryChange}
 pub use Rattle.gt_model.specs.declared.change.EntryChange.TheVariants.{Demote, Promote, Publish, Revoke, Withdraw}
 pub use Rattle.gt_model.specs.declared.change.BodyWord.{BodyWord}
 pub use Rattle.gt_model.specs.declared.change.BodyWord.TheVariants.{First, Second}
-pub use Rattle.gt_model.specs.declared.control.EntryKind.TheVariants.{Sub as KindSub}
 pub use Rattle.gt_model.specs.declared.entry.Entry.{Entry}
 pub use Rattle.gt_model.specs.declared.entry.Entry.TheVariants.{Invalid, Page, Sub, Via}
-pub use Rattle.gt_model.specs.declared.header.Header.{Header, Header as TableHeader}
+pub use Rattle.gt_model.specs.declared.header.Header.{Header}
 pub use Rattle.gt_types.specs.Config.{IsFirstFault, IsWithinLimits}
 pub use Rattle.gt_types.specs.Names.{domain_of}
 pub use Rattle.gt_types.specs.declared.Dir.{Dir}

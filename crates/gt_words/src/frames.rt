@@ -7,7 +7,7 @@ ghost use Rattle.gt_shared_table.specs.Words.{HasFrame, named_at};
 ghost use Rattle.gt_word_history.specs.Places.{IsSamePlace};
 ghost use Rattle.gt_word_history.specs.Rule.{id_at};
 ghost use Rattle.gt_word_history.specs.Views.{own_header};
-ghost use Rattle.gt_word_history.specs.declared.view.FrameStep.TheVariants as access;
+ghost use Rattle.gt_word_history.specs.declared.view.FrameStep.TheVariants as frame_steps;
 ghost use Rattle.gt_words.specs.Conditions.{IsSameSeat, IsSeatOf, position_at};
 ghost use Rattle.gt_words.specs.Frames.{AccessesFrame, CopiesAt, CopiesFrames, IsCopyFault, IsFaultAt, IsReadOf, KeepsFrame};
 ghost use Rattle.gt_words.specs.Frames.{copying_at, index_of, writing_at};
@@ -79,7 +79,7 @@ impl Words {
         ensures seat { IsSameSeat seat.old seat.new }
         ensures fits { IsSeatOf self.now seat.new }
         ensures step { IfSome result (λ r. AccessesFrame self.now.layout (position_at self.now name.owner) name.number
-            (access.Read off r.bytes) seat.old.view seat.new.view) }
+            (frame_steps.Read off r.bytes) seat.old.view seat.new.view) }
         ensures receipt { IfSome result (λ r. IsReadOf r name off (length out.old)) }
         ensures filled { IfSome result (λ r. out.new ≡ r.bytes) }
         ensures none { IfNone result (KeepsFrame self.now name → ⊥) }
@@ -109,7 +109,8 @@ impl Words {
         ensures seat { IsSameSeat seat.old seat.new }
         ensures fits { IsSeatOf self.now seat.new }
         ensures step { OnOk result (AccessesFrame self.now.layout (position_at self.now name.owner) name.number
-            (access.Wrote (record { writ = writ.now; off = off; bytes = bytes.now })) seat.old.view seat.new.view) }
+            (frame_steps.Wrote (record { writ = writ.now; off = off; bytes = bytes.now }))
+            seat.old.view seat.new.view) }
         ensures receipt { IfOk result (λ r. r ≡ writing_at name off bytes.now writ.now.writer) }
         ensures fault { IfErr result (IsFaultAt self.now name) }
         ensures refused { OnErr result (seat.new.view ≡ seat.old.view) }

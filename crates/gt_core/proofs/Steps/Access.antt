@@ -1,16 +1,18 @@
 -- What an access to bytes depends on: it is inside a frame, and justified.
-use Rattle.gt_core.proofs.Words.{◌≡◌, ◌≢◌, ◌≤◌, ◌<◌, ◌+◌, ◌⊎◌, inl, inr, ℕ, suc, refl, Bool, true, List, [], ◌∷◌}
-use Rattle.gt_core.proofs.Words.{Some, None, sym, ap, ◌∙◌, arith, subst, reverse, eqb-true, none-some, same_Some, Any}
-use Rattle.gt_core.proofs.Words.{resolved, DomId, Dir, Read, Write, ForMap, ForCopy, FRAME_SIZE, Entry, frame_of}
-use Rattle.gt_core.proofs.Words.{permits, forwards, Handle, HeldPin, AccessPath, Direct, Through, CallPins, End}
-use Rattle.gt_core.proofs.Words.{OpenRequest, Load, Store, Peek, Poke, Copy, PinHolder, ByMapping, Spot, ReadBytes}
-use Rattle.gt_core.proofs.Words.{WriteBytes, last_first, CallerKnowledge, begun, frame_count_of, via_judged}
-use Rattle.gt_core.proofs.Words.{rights_to_copy, is_source_granted, is_dest_granted, source_pair, dest_pair, opens}
-use Rattle.gt_core.proofs.Words.{RestsOnRequest, RestsOnWays, IsReached, GivesHeld, State, History, Setting, Pin}
+use Rattle.gt_core.proofs.Words.{◌≡◌, ◌≢◌, ◌≤◌, ◌<◌, ◌+◌, ◌⊎◌, inl, inr, ℕ, suc, refl, Bool, true, List, [], ◌∷◌, Some}
+use Rattle.gt_core.proofs.Words.{None, sym, ap, ◌∙◌, arith, subst, reverse, eqb-true, none-some, same_Some, Any}
+use Rattle.gt_core.proofs.Words.{resolved, DomId, Dir, Read, Write, FRAME_SIZE, Entry, frame_of, permits, forwards}
+use Rattle.gt_core.proofs.Words.{Handle, HeldPin, AccessPath, Direct, Through, CallPins, End, OpenRequest, Load, Store}
+use Rattle.gt_core.proofs.Words.{Peek, Poke, Copy, PinHolder, Spot, last_first, CallerKnowledge, begun, frame_count_of}
+use Rattle.gt_core.proofs.Words.{via_judged, rights_to_copy, is_source_granted, is_dest_granted, source_pair, dest_pair}
+use Rattle.gt_core.proofs.Words.{opens, RestsOnRequest, RestsOnWays, IsReached, GivesHeld, State, History, Setting, Pin}
 use Rattle.gt_core.proofs.Words.{live, known_at, legs_at, mappings_at, mapping_of, gather, mapping_named, by_leg}
 use Rattle.gt_core.proofs.Words.{same_handle, IsInFrame, CopyIsJustified, Justified, IsLawfulPin, IsLawfullyHeld}
-use Rattle.gt_core.proofs.Words.{DomainsStand, numbered, owner_by, IsAllowed, IsMapped, IsPermitted, Reaches}
-use Rattle.gt_core.proofs.Words.{Forwards, MayCopy, MayUseMapping, MayAsk, EndIsJustified, cond_both}
+use Rattle.gt_core.proofs.Words.{DomainsStand, numbered, owner_by, IsAllowed, IsMapped, IsPermitted, Reaches, Forwards}
+use Rattle.gt_core.proofs.Words.{MayCopy, MayUseMapping, MayAsk, EndIsJustified, cond_both}
+use Rattle.gt_model.specs.declared.action.Step.TheVariants as call_steps
+use Rattle.gt_model.specs.declared.request.PinHolder.TheVariants as holders
+use Rattle.gt_types.specs.declared.Use.TheVariants as uses
 use Rattle.gt_core.proofs.{Phases.none-of}
 use Rattle.gt_model.proofs.Observers.{IsKeyed, mapping-keyed, leg-keyed}
 use Rattle.gt_model.specs.declared.held.AccessPath.TheVariants.{Own}
@@ -48,7 +50,7 @@ found-in (x ∷ ms) handle m e =
     cond_both (same_handle x.0 handle) (Some x.1) (mapping_of ms handle) (λ o. o ≡ Some m → (x.1 ≡ m) ⊎ IsHeldIn m ms) (λ is f. inl (same_Some _ _ f)) (λ is f. inr (found-in ms handle m f)) e
 
 -- a pin whose mapping may be used lets the domain access any range in that direction
-pub permits-as : (e : Entry) (d : DomId) (held dir : Dir) (off len : ℕ) → ((dir ≡ Write) → held ≡ Write) → permits e d held ForMap 0 0 ≡ true → permits e d dir ForMap off len ≡ true
+pub permits-as : (e : Entry) (d : DomId) (held dir : Dir) (off len : ℕ) → ((dir ≡ Write) → held ≡ Write) → permits e d held uses.Map 0 0 ≡ true → permits e d dir uses.Map off len ≡ true
 permits-as e d held dir off len w a = grind arith
 
 -- the mapping's pin is the domain's, by right
@@ -57,14 +59,14 @@ pub record IsRightful (s : Setting) (d : DomId) (m : HeldPin) (p : Pin) : Type 0
   pub is : p.held ≡ m
   pub lets : LetsUse s d m.dom m.dir m.entry
 
-mapping-holder : (x : PinHolder) → mapping-keyed.key x ≢ None → (k : Handle) × (x ≡ ByMapping k)
+mapping-holder : (x : PinHolder) → mapping-keyed.key x ≢ None → (k : Handle) × (x ≡ holders.Mapping k)
 mapping-holder x some = grind arith
 
 -- the pin of a mapping is live
 pub mapping-pin : (s : Setting) (h : History) (xs : List State) (d : DomId) (handle : Handle) (m : HeldPin) → DomainsStand s h xs → mapping_of (mappings_at h d.0) handle ≡ Some m → Any (IsRightful s d m) (live h)
 mapping-pin s h xs d handle m st found = let a = gathered-any mapping_named mapping-keyed d.0 m (live h) (found-in (mappings_at h d.0) handle m found) in
     let p = a.1 in let by = a.4 in let held = mapping-holder p.holder by.2 in
-    let w : IsLawfullyHeld s p (ByMapping held.0) = subst (IsLawfullyHeld s p) held.1 (subst (IsLawfulPin s) a.3 (st.lawful a.0 p a.2)) in
+    let w : IsLawfullyHeld s p (holders.Mapping held.0) = subst (IsLawfullyHeld s p) held.1 (subst (IsLawfulPin s) a.3 (st.lawful a.0 p a.2)) in
     let own : record { 0 = p.actor } ≡ d = ap (λ (n : ℕ). record { 0 = n }) by.0 in (
       a.0,
       p,
@@ -86,11 +88,11 @@ access-mapped s h xs d r dir handle dom frame off len st a writes inside ask = l
     subst (λ (z : DomId). AccessIsJustified s h d r dir (record { frame = record { owner = z; number = frame }; off = off }) len) (sym a.of_dom)
     (subst (λ (n : ℕ). AccessIsJustified s h d r dir (record { frame = record { owner = m.dom; number = n }; off = off }) len) (sym a.of_frame) (
       (pin.4.lets.2, inside),
-      inr (any-map (IsRightful s d m) (Reaches d d dir ForMap at len) (live h) (λ p b. record {
+      inr (any-map (IsRightful s d m) (Reaches d d dir uses.Map at len) (live h) (λ p b. record {
         of_actor = b.own;
         of_owner = ap (λ (q : HeldPin). q.dom.0) b.is;
         of_frame = ap (λ (q : HeldPin). frame_of q.entry) b.is;
-        permitted = ap (λ (q : HeldPin). permits q.entry d dir ForMap off len) b.is ∙ permits-as m.entry d m.dir dir off len writes b.lets.0;
+        permitted = ap (λ (q : HeldPin). permits q.entry d dir uses.Map off len) b.is ∙ permits-as m.entry d m.dir dir off len writes b.lets.0;
         writes = λ w. ap (λ (q : HeldPin). q.dir) b.is ∙ writes w;
       }) pin),
       ask (subst (MayUseMapping s d) (sym a.found) pin.4.lets.1),
@@ -104,7 +106,7 @@ pub same-held : (k : CallerKnowledge) (handle : Handle) (a b : HeldPin) → k.ma
 same-held k handle a b e f = same_Some a b (sym e ∙ f)
 
 pub read-justified : (s : Setting) (h : History) (xs : List State) (d : DomId) (r : OpenRequest) (dom : DomId) (frame off len : ℕ) → DomainsStand s h xs → begun (known_at s h d) d r ≡ None
-    → RestsOnRequest (known_at s h d) d r (ReadBytes dom frame off len) → Justified s h d r (ReadBytes dom frame off len)
+    → RestsOnRequest (known_at s h d) d r (call_steps.Read dom frame off len) → Justified s h d r (call_steps.Read dom frame off len)
 read-justified s h xs d r dom frame off len st none (inl (handle, is, mapped)) =
     let o = opens (known_at s h d) d (Load handle off len) (none-of (known_at s h d) d r (Load handle off len) is none) in
     access-mapped s h xs d r Read handle dom frame off len st mapped (λ w. absurd (cc)) o.range (subst (MayAsk s h d) (sym is))
@@ -113,7 +115,7 @@ read-justified s h xs d r dom frame off len st none (inr (is, own)) =
     access-own s h d r Read dom frame off len own o.framed o.range (subst (MayAsk s h d) (sym is) tt)
 
 pub write-justified : (s : Setting) (h : History) (xs : List State) (d : DomId) (r : OpenRequest) (dom : DomId) (frame off len : ℕ) → DomainsStand s h xs → begun (known_at s h d) d r ≡ None
-    → RestsOnRequest (known_at s h d) d r (WriteBytes dom frame off len) → Justified s h d r (WriteBytes dom frame off len)
+    → RestsOnRequest (known_at s h d) d r (call_steps.Write dom frame off len) → Justified s h d r (call_steps.Write dom frame off len)
 write-justified s h xs d r dom frame off len st none (inl (handle, is, mapped)) =
     let o = opens (known_at s h d) d (Store handle off len) (none-of (known_at s h d) d r (Store handle off len) is none) in
     let same : o.mapping ≡ mapped.mapping = same-held (known_at s h d) handle o.mapping mapped.mapping o.found mapped.found in
@@ -139,7 +141,7 @@ reached-frame : (s : Setting) (h : History) (d : DomId) (granted : Bool) (end : 
 reached-frame s h d granted end dir len pair route a range = grind arith
 
 reaches-by : (s : Setting) (h : History) (d judged : DomId) (dir : Dir) (off len : ℕ) (p : HeldPin) (q : Pin) → IsPermitted (known_at s h d) p judged dir off len → IsOwnPin d p q
-    → Reaches d judged dir ForCopy (record { frame = record { owner = p.dom; number = frame_of p.entry }; off = off }) len q
+    → Reaches d judged dir uses.Copy (record { frame = record { owner = p.dom; number = frame_of p.entry }; off = off }) len q
 reaches-by s h d judged dir off len p q a own = grind arith
 
 -- the pins of a route are among these
@@ -153,7 +155,7 @@ end-justified : (s : Setting) (h : History) (d : DomId) (granted : Bool) (end : 
     → EndIsJustified s h d granted dir (place_of d end route) len (resolved d end.domid) owners
 end-justified s h d granted end dir len pair owners Own has a same = inl (a.0, refl)
 end-justified s h d granted end dir len pair owners (Direct p) has a same =
-    inr (inl (a.0, a.1, any-map (IsOwnPin d p) (Reaches d d dir ForCopy (place_of d end (Direct p)) len) (live h) (λ q own. reaches-by s h d d dir end.offset len p q a.2 own) (leg-pin h d p has)))
+    inr (inl (a.0, a.1, any-map (IsOwnPin d p) (Reaches d d dir uses.Copy (place_of d end (Direct p)) len) (live h) (λ q own. reaches-by s h d d dir end.offset len p q a.2 own) (leg-pin h d p has)))
 end-justified s h d granted end dir len pair owners (Through via p) has a same = inr (inr (
   a.0,
   any-map (IsOwnPin d p) _ (live h)

@@ -9,16 +9,18 @@ use Rattle.gt_core.proofs.Words.{state_of, changed_in, with_own, own_after, Hist
 use Rattle.gt_core.proofs.Words.{raises_at, raise_of, generation_at, open_call, change_of, changed_entry_of}
 use Rattle.gt_core.proofs.Words.{raise_after, one_if_mapped, IsSafeChange, IsLawfulPin, FitsTable, StateStands}
 use Rattle.gt_core.proofs.Words.{DomainsStand, CallAgrees, GivenAgrees, gather, mapping_named, first, false, inl, suc}
-use Rattle.gt_core.proofs.Words.{zero, ◌-◌, cond_both, eq-eqb, false≢true, lt-leb, lt-ltb, ltb-false, ltb-true}
-use Rattle.gt_core.proofs.Words.{nat_le, nat_lt, N18, N19, MAX_TRIES, is_invalid, control_of, control_word}
-use Rattle.gt_core.proofs.Words.{ToReadOnly, ToWritable, ToInvalid, ToWithdrawn, FirstHalf, SecondHalf, last_first}
-use Rattle.gt_core.proofs.Words.{no_pins, action_at, phase_after, refused_as, opens, Continuation, idle_word, path}
-use Rattle.gt_core.proofs.Words.{RestsOnWord, CallerKnowledge, begun, control_with, size_of, stands, HasShown}
-use Rattle.gt_core.proofs.Words.{IsQuiet, IsTurn, Makes, Observation, Missed, Taken, Step, Exchange, Granted, Phase}
-use Rattle.gt_core.proofs.Words.{Changing, Ending, Exchanging, Last, Looking, Walking, MORE_TRIES, OpenRequest}
-use Rattle.gt_core.proofs.Words.{Demote, Grant, Promote, Revoke, Withdraw, known_at, reads_at, seen_by, word_at}
-use Rattle.gt_core.proofs.Words.{writes_at, IsSpelled, StepsSoFar, at_entry, first_at, FitsAsked, PhaseStands}
-use Rattle.gt_core.proofs.Words.{phase_refusal, body_at, table_at, misses}
+use Rattle.gt_core.proofs.Words.{zero, ◌-◌, cond_both, eq-eqb, false≢true, lt-leb, lt-ltb, ltb-false, ltb-true, nat_le}
+use Rattle.gt_core.proofs.Words.{nat_lt, N18, N19, MAX_TRIES, is_invalid, control_of, control_word, last_first, no_pins}
+use Rattle.gt_core.proofs.Words.{action_at, phase_after, refused_as, opens, Continuation, idle_word, path, RestsOnWord}
+use Rattle.gt_core.proofs.Words.{CallerKnowledge, begun, control_with, size_of, stands, HasShown, IsQuiet, IsTurn}
+use Rattle.gt_core.proofs.Words.{Observation, Missed, Taken, Step, Exchange, Granted, Phase, Changing, Ending}
+use Rattle.gt_core.proofs.Words.{Exchanging, Last, Looking, Walking, MORE_TRIES, OpenRequest, Demote, Grant, Promote}
+use Rattle.gt_core.proofs.Words.{Revoke, Withdraw, known_at, reads_at, seen_by, word_at, writes_at, IsSpelled}
+use Rattle.gt_core.proofs.Words.{StepsSoFar, at_entry, first_at, FitsAsked, PhaseStands, phase_refusal, body_at}
+use Rattle.gt_core.proofs.Words.{table_at, misses}
+use Rattle.gt_model.specs.declared.action.Action.TheVariants as actions
+use Rattle.gt_model.specs.declared.change.BodyWord.TheVariants as body_words
+use Rattle.gt_model.specs.declared.change.EntryChange.TheVariants as changes
 use Rattle.gt_model.proofs.Observers.{unstored, answered-stays, kept-table, exchanged, exchanged-entry}
 use Rattle.gt_model.proofs.Observers.{exchanged-raises, exchanged-live}
 use Rattle.gt_core.proofs.{AgreementKept.SlotsAgree, AgreementKept.same-number, AgreementKept.counts-fit}
@@ -130,16 +132,16 @@ table-below s h xs d gref st lt = let le : size_of (table_at s h d) ≤ TABLE_EN
 pub word-below : (s : Setting) (h : History) (xs : List State) (d : DomId) (r : OpenRequest) (way : Continuation) (shown : List Observation) (gref : GrantRef) (word : ℕ) (change : EntryChange) → DomainsStand s h xs → begun (known_at s h d) d r ≡ None
     → RestsOnWord (known_at s h d) way d r shown gref word change → gref.0 < TABLE_ENTRIES
 word-below s h xs d r way shown gref word (Publish entry) st none rests = table-below s h xs d gref st (opens (known_at s h d) d (Grant gref entry) (none-of (known_at s h d) d r (Grant gref entry) rests.0 none)).in_table
-word-below s h xs d r way shown gref word ToInvalid st none rests = table-below s h xs d gref st (opens (known_at s h d) d (Revoke gref) (subst (λ (z : OpenRequest). begun (known_at s h d) d z ≡ None) rests.0 none)).in_table
-word-below s h xs d r way shown gref word ToWithdrawn st none rests = table-below s h xs d gref st (opens (known_at s h d) d (Withdraw gref) (subst (λ (z : OpenRequest). begun (known_at s h d) d z ≡ None) rests.0 none)).in_table
-word-below s h xs d r way shown gref word ToReadOnly st none rests = table-below s h xs d gref st (opens (known_at s h d) d (Demote gref) (subst (λ (z : OpenRequest). begun (known_at s h d) d z ≡ None) rests.0 none)).in_table
-word-below s h xs d r way shown gref word ToWritable st none rests = table-below s h xs d gref st (opens (known_at s h d) d (Promote gref) (subst (λ (z : OpenRequest). begun (known_at s h d) d z ≡ None) rests.0 none)).in_table
+word-below s h xs d r way shown gref word changes.Revoke st none rests = table-below s h xs d gref st (opens (known_at s h d) d (Revoke gref) (subst (λ (z : OpenRequest). begun (known_at s h d) d z ≡ None) rests.0 none)).in_table
+word-below s h xs d r way shown gref word changes.Withdraw st none rests = table-below s h xs d gref st (opens (known_at s h d) d (Withdraw gref) (subst (λ (z : OpenRequest). begun (known_at s h d) d z ≡ None) rests.0 none)).in_table
+word-below s h xs d r way shown gref word changes.Demote st none rests = table-below s h xs d gref st (opens (known_at s h d) d (Demote gref) (subst (λ (z : OpenRequest). begun (known_at s h d) d z ≡ None) rests.0 none)).in_table
+word-below s h xs d r way shown gref word changes.Promote st none rests = table-below s h xs d gref st (opens (known_at s h d) d (Promote gref) (subst (λ (z : OpenRequest). begun (known_at s h d) d z ≡ None) rests.0 none)).in_table
 
 pub turn-below : (s : Setting) (h : History) (xs : List State) (d : DomId) (r : OpenRequest) (gref : GrantRef) (change : EntryChange) → DomainsStand s h xs → begun (known_at s h d) d r ≡ None
     → IsTurn r gref change → gref.0 < TABLE_ENTRIES
-turn-below s h xs d r gref ToWithdrawn st none is = table-below s h xs d gref st (opens (known_at s h d) d (Withdraw gref) (subst (λ (z : OpenRequest). begun (known_at s h d) d z ≡ None) is none)).in_table
-turn-below s h xs d r gref ToReadOnly st none is = table-below s h xs d gref st (opens (known_at s h d) d (Demote gref) (subst (λ (z : OpenRequest). begun (known_at s h d) d z ≡ None) is none)).in_table
-turn-below s h xs d r gref ToWritable st none is = table-below s h xs d gref st (opens (known_at s h d) d (Promote gref) (subst (λ (z : OpenRequest). begun (known_at s h d) d z ≡ None) is none)).in_table
+turn-below s h xs d r gref changes.Withdraw st none is = table-below s h xs d gref st (opens (known_at s h d) d (Withdraw gref) (subst (λ (z : OpenRequest). begun (known_at s h d) d z ≡ None) is none)).in_table
+turn-below s h xs d r gref changes.Demote st none is = table-below s h xs d gref st (opens (known_at s h d) d (Demote gref) (subst (λ (z : OpenRequest). begun (known_at s h d) d z ≡ None) is none)).in_table
+turn-below s h xs d r gref changes.Promote st none is = table-below s h xs d gref st (opens (known_at s h d) d (Promote gref) (subst (λ (z : OpenRequest). begun (known_at s h d) d z ≡ None) is none)).in_table
 turn-below s h xs d r gref change st none is = absurd is
 
 -- what an exchange that is taken depends on
@@ -153,7 +155,7 @@ pub record CanChange (s : Setting) (h : History) (d : DomId) (gref : GrantRef) (
 
 -- a publication follows the stores that encode its entry
 publish-spelled : (s : Setting) (h : History) (d : DomId) (r : OpenRequest) (way : Continuation) (shown : List Observation) (so_far : StepsSoFar) (p : Phase) (gref : GrantRef) (looked : ℕ) (entry : Entry) → HasShown (known_at s h d) way d r shown p → PhaseStands s h d r so_far p
-    → action_at d p ≡ Makes (Exchange gref looked (Publish entry)) → IsSpelled entry (body_at h d.0 gref.0 FirstHalf) (body_at h d.0 gref.0 SecondHalf)
+    → action_at d p ≡ actions.Step (Exchange gref looked (Publish entry)) → IsSpelled entry (body_at h d.0 gref.0 body_words.First) (body_at h d.0 gref.0 body_words.Second)
 publish-spelled s h d r way shown so_far (Exchanging g w (Publish e)) gref looked entry a b acts = let same : e ≡ entry = cc in let at : g ≡ gref = cc in rw (← same, ← at) b
 publish-spelled s h d r way shown so_far (Changing g (Publish e) more w) gref looked entry a b acts = absurd a.1
 publish-spelled s h d r way shown so_far (Walking aim l at) gref looked entry a b acts =
@@ -183,7 +185,7 @@ can-change s h xs d r shown so_far phase gref looked change i same = by change i
   fits-now : generation_at s h d.0 gref.0 ≤ LAST_GENERATION
   fits-now = generation-fits s h xs d.0 gref.0 i.st below
 
-  by : (z : EntryChange) → RestsOnWord k (path k d r) d r shown gref looked z → action_at d phase ≡ Makes (Exchange gref looked z) → CanChange s h d gref z
+  by : (z : EntryChange) → RestsOnWord k (path k d r) d r shown gref looked z → action_at d phase ≡ actions.Step (Exchange gref looked z) → CanChange s h d gref z
   by (Publish entry) rests acts = let none = none-of k d r (Grant gref entry) rests.0 i.rests.0 in
       let free : reads_at h d.0 gref.0 + writes_at h d.0 gref.0 ≡ 0 = idle-pins (entry_at h d.0 gref.0) (generation_at s h d.0 gref.0) (reads_at h d.0 gref.0) (writes_at h d.0 gref.0) (same ∙ rests.1) in record {
         within = below;
@@ -191,16 +193,16 @@ can-change s h xs d r shown so_far phase gref looked change i same = by change i
         fits = subst FitsAsked rests.0 i.fits;
         room = not-last (generation_at s h d.0 gref.0) fits-now (opens k d (Grant gref entry) none).not_worn;
       }
-  by ToInvalid rests acts = let free : reads_at h d.0 gref.0 + writes_at h d.0 gref.0 ≡ 0 = idle-pins (entry_at h d.0 gref.0) (generation_at s h d.0 gref.0) (reads_at h d.0 gref.0) (writes_at h d.0 gref.0) (same ∙ rests.1) in let room = fits-now in
+  by changes.Revoke rests acts = let free : reads_at h d.0 gref.0 + writes_at h d.0 gref.0 ≡ 0 = idle-pins (entry_at h d.0 gref.0) (generation_at s h d.0 gref.0) (reads_at h d.0 gref.0) (writes_at h d.0 gref.0) (same ∙ rests.1) in let room = fits-now in
       record { within = below; safe = (omega arith, omega arith); fits = tt; room = (omega arith) }
-  by ToWithdrawn rests acts = let room = fits-now in record { within = below; safe = tt; fits = tt; room = (omega arith) }
-  by ToReadOnly rests acts = record {
+  by changes.Withdraw rests acts = let room = fits-now in record { within = below; safe = tt; fits = tt; room = (omega arith) }
+  by changes.Demote rests acts = record {
     within = below;
     safe = sym (writes-shown s h d.0 gref.0 (word-shows s h xs d.0 gref.0 i.st below)) ∙ ap (λ (n : ℕ). (control_of n).writes) same ∙ (let le = ltb-false 0 (control_of looked).writes rests.2 in omega arith);
     fits = tt;
     room = not-last (generation_at s h d.0 gref.0) fits-now (opens k d (Demote gref) (none-of k d r (Demote gref) rests.0 i.rests.0)).not_worn;
   }
-  by ToWritable rests acts =
+  by changes.Promote rests acts =
       record { within = below; safe = tt; fits = tt; room = not-last (generation_at s h d.0 gref.0) fits-now (opens k d (Promote gref) (none-of k d r (Promote gref) rests.0 i.rests.0)).not_worn }
 
 -- the rule at an exchange, and how the call continues
@@ -222,7 +224,7 @@ idle-judged s h d gref looked change is = let w = word_at s h d.0 gref.0 in
 pub once-judged : (s : Setting) (h : History) (d : DomId) (r : OpenRequest) (way : Continuation) (shown : List Observation) (so_far : StepsSoFar) (gref : GrantRef) (looked : ℕ) (change : EntryChange)
     → RestsOnWord (known_at s h d) way d r shown gref looked change → PhaseStands s h d r so_far (Exchanging gref looked change) → Judged s h d r so_far (Exchanging gref looked change) (Exchange gref looked change)
 once-judged s h d r way shown so_far gref looked (Publish entry) rests place = idle-judged s h d gref looked (Publish entry) rests.1
-once-judged s h d r way shown so_far gref looked ToInvalid rests place = idle-judged s h d gref looked ToInvalid rests.1
+once-judged s h d r way shown so_far gref looked changes.Revoke rests place = idle-judged s h d gref looked changes.Revoke rests.1
 once-judged s h d r way shown so_far gref looked change rests place = absurd place
 
 change-leads : (s : Setting) (h : History) (d : DomId) (r : OpenRequest) (gref : GrantRef) (change : EntryChange) (more looked w : ℕ) (so_far : StepsSoFar) (b : Bool) → misses so_far + more ≡ MORE_TRIES
@@ -239,11 +241,11 @@ change-leads s h d r gref change more looked w so_far false turn = let now : Ste
 pub turn-leads : (s : Setting) (h : History) (d : DomId) (r : OpenRequest) (so_far : StepsSoFar) (gref : GrantRef) (change : EntryChange) (more looked : ℕ) → IsTurn r gref change → misses so_far + more ≡ MORE_TRIES → let v = seen_by s h d (Exchange gref looked change) in
     Leads s h d r ((Exchange gref looked change, v) ∷ so_far) (first_at s h d r so_far (Exchange gref looked change)) (phase_after (known_at s h d) d (Changing gref change more looked) v)
 turn-leads s h d r so_far gref (Publish entry) more looked is turn = absurd is
-turn-leads s h d r so_far gref ToInvalid more looked is turn = absurd is
+turn-leads s h d r so_far gref changes.Revoke more looked is turn = absurd is
 turn-leads s h d r so_far gref change more looked is turn = change-leads s h d r gref change more looked (word_at s h d.0 gref.0) so_far (word_at s h d.0 gref.0 == looked) turn
 
 -- it ends its call
-pub taken-ends : (k : CallerKnowledge) (way : Continuation) (d : DomId) (r : OpenRequest) (shown : List Observation) (phase : Phase) (gref : GrantRef) (looked : ℕ) (change : EntryChange) → HasShown k way d r shown phase → action_at d phase ≡ Makes (Exchange gref looked change)
+pub taken-ends : (k : CallerKnowledge) (way : Continuation) (d : DomId) (r : OpenRequest) (shown : List Observation) (phase : Phase) (gref : GrantRef) (looked : ℕ) (change : EntryChange) → HasShown k way d r shown phase → action_at d phase ≡ actions.Step (Exchange gref looked change)
     → phase_after k d phase Taken ≡ Ending no_pins Granted
 taken-ends k way d r shown (Exchanging g w c) gref looked change a e = refl
 taken-ends k way d r shown (Changing g c more w) gref looked change a e = refl

@@ -1,29 +1,33 @@
 -- A pin: what a core represents after it, what a pin that is taken depends on, and how its call continues.
 use Rattle.gt_core.proofs.Words.{◌≡◌, ◌<◌, ◌+◌, ℕ, refl, Bool, true, List, [], ◌∷◌, ◌++◌, length, Option, Some, cond}
 use Rattle.gt_core.proofs.Words.{sym, ap, ◌∙◌, arith, subst, ◌==◌, ◌&&◌, All, All-push, append-nil, DomId, Dir, Read}
-use Rattle.gt_core.proofs.Words.{Write, MAX_PINS, BodyWord, FirstHalf, SecondHalf, HandleMap, Handle, HeldPin}
-use Rattle.gt_core.proofs.Words.{PinHolder, ByLeg, PinCounts, OpenCall, Item, Answer, Mapped, State, state_of}
-use Rattle.gt_core.proofs.Words.{changed_in, with_slot, slot_after, Adds, History, Setting, Pin, live, entry_at}
-use Rattle.gt_core.proofs.Words.{body_at, mappings_at, maps_answered_at, legs_at, open_call, is_pin_on, same_dir}
-use Rattle.gt_core.proofs.Words.{FitsWord, control_at, gather, mapping_named, by_leg, holder_after, one_if_mapped}
-use Rattle.gt_core.proofs.Words.{IsLawfulPin, SlotAgrees, StateStands, DomainsStand, CallAgrees, GivenAgrees}
-use Rattle.gt_core.proofs.Words.{MappingsAgree, None, false, inl, inr, reverse, ◌≢◌, cond_both, eqb-false, false≢true}
-use Rattle.gt_core.proofs.Words.{leb-false, true≢false, same_Some, is_none, not, ◌||◌, denial_of, domain_of, resolved}
-use Rattle.gt_core.proofs.Words.{GrantRef, TypeId, ForMap, Policy, N1, N11, N12, N13, N14, N15, N16, N17, N5, Perms}
-use Rattle.gt_core.proofs.Words.{Triple, frame_of, allows_direction, is_copying, permits, control_of, Entry, Invalid}
-use Rattle.gt_core.proofs.Words.{Page, Sub, Via, last_first, pins_so_far, action_at, after_dest_pin, after_pin_of}
-use Rattle.gt_core.proofs.Words.{after_source_pin, at_dest, leg_after, phase_after, where_via, holds-first, opens}
-use Rattle.gt_core.proofs.Words.{dest_pair, end_leg, held_of, map_leg, path, second_leg, source_pair, IsLegFor}
-use Rattle.gt_core.proofs.Words.{IsOnFrom, Lets, RestsOnTry, CallerKnowledge, begun, control_with, copy_denied}
-use Rattle.gt_core.proofs.Words.{denied, first, first_look, frame_count_of, is_dest_granted, is_outside_sub}
-use Rattle.gt_core.proofs.Words.{is_past_owner, map_dir, pins_of, refused_when, rights_to_copy, stands, via_judged}
-use Rattle.gt_core.proofs.Words.{HasShown, IsQuiet, Makes, Observation, Missed, Taken, Step, PinStep, CallResult}
-use Rattle.gt_core.proofs.Words.{Refused, Phase, Accessing, Ending, Last, Walking, PinPurpose, Dest, Mapping, Source}
-use Rattle.gt_core.proofs.Words.{CallPins, AccessPath, Direct, Through, Leg, AtHeader, Pinning, OpenRequest, Copy}
-use Rattle.gt_core.proofs.Words.{Map, CopyArgs, generation_at, known_at, reads_at, word_at, writes_at, LegNow, MayUse}
-use Rattle.gt_core.proofs.Words.{NoneStands, StepsSoFar, leg_at, refusal_in, rule_at_pin, rule_at_via}
-use Rattle.gt_core.proofs.Words.{rule_before_pin, EndsCopy, LegHasLooked, PhaseStands, numbered, misses}
-use Rattle.gt_core.proofs.Words.{IsLegalHistory}
+use Rattle.gt_core.proofs.Words.{Write, MAX_PINS, BodyWord, HandleMap, Handle, HeldPin, PinHolder, PinCounts, OpenCall}
+use Rattle.gt_core.proofs.Words.{Item, Answer, Mapped, State, state_of, changed_in, with_slot, slot_after, Adds}
+use Rattle.gt_core.proofs.Words.{History, Setting, Pin, live, entry_at, body_at, mappings_at, maps_answered_at, legs_at}
+use Rattle.gt_core.proofs.Words.{open_call, is_pin_on, same_dir, FitsWord, control_at, gather, mapping_named, by_leg}
+use Rattle.gt_core.proofs.Words.{holder_after, one_if_mapped, IsLawfulPin, SlotAgrees, StateStands, DomainsStand}
+use Rattle.gt_core.proofs.Words.{CallAgrees, GivenAgrees, MappingsAgree, None, false, inl, inr, reverse, ◌≢◌, cond_both}
+use Rattle.gt_core.proofs.Words.{eqb-false, false≢true, leb-false, true≢false, same_Some, is_none, not, ◌||◌, denial_of}
+use Rattle.gt_core.proofs.Words.{domain_of, resolved, GrantRef, TypeId, Policy, N1, N11, N12, N13, N14, N15, N16, N17}
+use Rattle.gt_core.proofs.Words.{N5, Perms, Triple, frame_of, allows_direction, is_copying, permits, control_of, Entry}
+use Rattle.gt_core.proofs.Words.{Invalid, Page, Sub, Via, last_first, pins_so_far, action_at, after_dest_pin}
+use Rattle.gt_core.proofs.Words.{after_pin_of, after_source_pin, at_dest, leg_after, phase_after, where_via}
+use Rattle.gt_core.proofs.Words.{holds-first, opens, dest_pair, end_leg, held_of, map_leg, path, second_leg}
+use Rattle.gt_core.proofs.Words.{source_pair, IsLegFor, IsOnFrom, Lets, RestsOnTry, CallerKnowledge, begun}
+use Rattle.gt_core.proofs.Words.{control_with, copy_denied, denied, first, first_look, frame_count_of, is_dest_granted}
+use Rattle.gt_core.proofs.Words.{is_outside_sub, is_past_owner, map_dir, pins_of, refused_when, rights_to_copy, stands}
+use Rattle.gt_core.proofs.Words.{via_judged, HasShown, IsQuiet, Observation, Missed, Taken, Step, CallResult, Refused}
+use Rattle.gt_core.proofs.Words.{Phase, Accessing, Ending, Last, Walking, PinPurpose, Dest, Mapping, Source, CallPins}
+use Rattle.gt_core.proofs.Words.{AccessPath, Direct, Through, Leg, Pinning, OpenRequest, Copy, Map, CopyArgs}
+use Rattle.gt_core.proofs.Words.{generation_at, known_at, reads_at, word_at, writes_at, LegNow, MayUse, NoneStands}
+use Rattle.gt_core.proofs.Words.{StepsSoFar, leg_at, refusal_in, rule_at_pin, rule_at_via, rule_before_pin, EndsCopy}
+use Rattle.gt_core.proofs.Words.{LegHasLooked, PhaseStands, numbered, misses, IsLegalHistory}
+use Rattle.gt_model.specs.declared.action.Action.TheVariants as actions
+use Rattle.gt_model.specs.declared.change.BodyWord.TheVariants as body_words
+use Rattle.gt_model.specs.declared.action.Step.TheVariants as call_steps
+use Rattle.gt_model.specs.declared.request.PinHolder.TheVariants as holders
+use Rattle.gt_calls.specs.declared.leg.LegPhase.TheVariants as leg_phases
+use Rattle.gt_types.specs.declared.Use.TheVariants as uses
 use Rattle.gt_model.proofs.Observers.{answered-stays, gather-append, new_pin, pinned-live, Grows, grown-count}
 use Rattle.gt_model.proofs.Observers.{at-place, pins, pins_at}
 use Rattle.gt_core.proofs.{AgreementKept.KeepsEntries, AgreementKept.same-body, AgreementKept.becomes-changed}
@@ -47,7 +51,7 @@ IsFew h p = pins_at h p.held.dom.0 p.held.gref.0 p.held.dir < MAX_PINS
 counted-up : (h new : History) (q r : ℕ) (dir : Dir) (b : Bool) (old : PinCounts) → SlotAgrees h q r old → ((which : BodyWord) → body_at new q r which ≡ body_at h q r which)
     → ((k : Dir) → pins_at new q r k ≡ pins_at h q r k + cond (b && same_dir dir k) 1 0) → ((k : Dir) → (b && same_dir dir k) ≡ true → pins_at h q r k < MAX_PINS)
     → SlotAgrees new q r (cond b (slot_after (Pinned dir) old) old)
-counted-up h new q r dir b old a body now few = grind (arith, now Read, now Write, few Read, few Write, body FirstHalf, body SecondHalf)
+counted-up h new q r dir b old a body now few = grind (arith, now Read, now Write, few Read, few Write, body body_words.First, body body_words.Second)
 
 -- counts and words
 
@@ -64,11 +68,11 @@ unfolding gather
 gathered give h d p answer = grind (arith, pinned-live, gather-append, same-number, append-nil)
 
 -- a pin of a leg is its domain's last one, and no mapping
-pub leg-grows : (h : History) (d : DomId) (p : HeldPin) (answer : Option Answer) → holder_after answer (length (legs_at h d.0)) ≡ ByLeg (length (legs_at h d.0))
+pub leg-grows : (h : History) (d : DomId) (p : HeldPin) (answer : Option Answer) → holder_after answer (length (legs_at h d.0)) ≡ holders.Leg (length (legs_at h d.0))
     → legs_at (pins d p answer ∷ h) d.0 ≡ legs_at h d.0 ++ (length (legs_at h d.0), record p { entry = entry_at h p.dom.0 p.gref.0 }) ∷ []
 leg-grows h d p answer leg = gathered by_leg h d p answer ∙ ap (λ (x : PinHolder). legs_at h d.0 ++ by_leg x (record p { entry = entry_at h p.dom.0 p.gref.0 })) leg
 
-pub leg-maps : (h : History) (d : DomId) (p : HeldPin) (answer : Option Answer) → holder_after answer (length (legs_at h d.0)) ≡ ByLeg (length (legs_at h d.0)) → mappings_at (pins d p answer ∷ h) d.0 ≡ mappings_at h d.0
+pub leg-maps : (h : History) (d : DomId) (p : HeldPin) (answer : Option Answer) → holder_after answer (length (legs_at h d.0)) ≡ holders.Leg (length (legs_at h d.0)) → mappings_at (pins d p answer ∷ h) d.0 ≡ mappings_at h d.0
 leg-maps h d p answer leg = grind (arith, gathered, append-nil)
 
 pub map-legs : (h : History) (d : DomId) (p : HeldPin) (handle : Handle) → legs_at (pins d p (Some (Mapped handle)) ∷ h) d.0 ≡ legs_at h d.0
@@ -103,7 +107,7 @@ map-agrees h d p handle old kept adds a =
     (mappings-added old kept handle (record p { entry = entry_at h p.dom.0 p.gref.0 }) (mappings_at h d.0) (maps_answered_at h d.0) adds a)
 
 -- and after the pin of a leg
-pub leg-agrees : (h : History) (d : DomId) (p : HeldPin) (answer : Option Answer) (kept : HandleMap HeldPin) → holder_after answer (length (legs_at h d.0)) ≡ ByLeg (length (legs_at h d.0)) → one_if_mapped answer ≡ 0
+pub leg-agrees : (h : History) (d : DomId) (p : HeldPin) (answer : Option Answer) (kept : HandleMap HeldPin) → holder_after answer (length (legs_at h d.0)) ≡ holders.Leg (length (legs_at h d.0)) → one_if_mapped answer ≡ 0
     → MappingsAgree kept (mappings_at h d.0) (maps_answered_at h d.0) → MappingsAgree kept (mappings_at (pins d p answer ∷ h) d.0) (maps_answered_at (pins d p answer ∷ h) d.0)
 leg-agrees h d p answer kept leg m a = mappings-same kept _ _ _ _ (sym (leg-maps h d p answer leg)) (sym (answered-stays h (pins d p answer) d.0 m)) a
 
@@ -141,22 +145,22 @@ taken-pin s h xs d r so_far aim l more word body second legal st is held place s
       sound = subst (NoneStands s h l.dom l.gref) (sym (leg-here s h d r aim l is held)) (ap (first_look l) (sym a.control) ∙ place.1.0.passed, judged);
     }
 
-pub can-pin : (s : Setting) (h : History) (xs : List State) (d : DomId) (r : OpenRequest) (shown : List Observation) (so_far : StepsSoFar) (phase : Phase) (p : HeldPin) → IsHere s h xs d r shown so_far phase (PinStep p)
+pub can-pin : (s : Setting) (h : History) (xs : List State) (d : DomId) (r : OpenRequest) (shown : List Observation) (so_far : StepsSoFar) (phase : Phase) (p : HeldPin) → IsHere s h xs d r shown so_far phase (call_steps.Pin p)
     → word_at s h p.dom.0 p.gref.0 ≡ p.word → CanPin s h d r p
 can-pin s h xs d r shown so_far phase p i same = by phase i.at.has_shown i.place i.acts i.held where
-  by : (z : Phase) → HasShown (known_at s h d) (path (known_at s h d) d r) d r shown z → PhaseStands s h d r so_far z → action_at d z ≡ Makes (PinStep p)
+  by : (z : Phase) → HasShown (known_at s h d) (path (known_at s h d) d r) d r shown z → PhaseStands s h d r so_far z → action_at d z ≡ actions.Step (call_steps.Pin p)
       → legs_at h d.0 ≡ numbered 0 (reverse (last_first (Rattle.gt_calls.specs.Standing.pins_at z))) → CanPin s h d r p
   by (Walking aim l (Pinning more word body second)) a b e held = let q : held_of l word body second ≡ p = cc in
       subst (CanPin s h d r) q (taken-pin s h xs d r so_far aim l more word body second i.legal i.st a.1 held b (subst (λ (z : HeldPin). word_at s h z.dom.0 z.gref.0 ≡ z.word) (sym q) same))
   by (Walking aim l at) a b e held = cc
   by (Last last verdict) a b e held = absurd (subst IsQuiet (makes-same _ _ e) a.0)
-  by (Ending pins verdict) a b e held = absurd (by-giving (λ (z : Step). z ≡ PinStep p → ⊥) (λ q n f. cc) (last_first pins) verdict _ e refl)
+  by (Ending pins verdict) a b e held = absurd (by-giving (λ (z : Step). z ≡ call_steps.Pin p → ⊥) (λ q n f. cc) (last_first pins) verdict _ e refl)
   by z a b e held = cc
 
 -- a pin that a map takes is lawful
 
 map-lets : (k : CallerKnowledge) (d dom : DomId) (gref : GrantRef) (flags : ℕ) (e : Entry) → Lets (map_leg k d dom gref flags) e
-    → (permits e d (map_dir flags) ForMap 0 0 ≡ true) × (frame_of e < frame_count_of k.domains (resolved d dom))
+    → (permits e d (map_dir flags) uses.Map 0 0 ≡ true) × (frame_of e < frame_count_of k.domains (resolved d dom))
 map-lets k d dom gref flags Invalid a = absurd a
 map-lets k d dom gref flags (Page to ro frame) a = (a.0, leb-false (frame_count_of k.domains (resolved d dom)) frame a.1)
 map-lets k d dom gref flags (Sub to ro frame off len) a = (a.0, leb-false (frame_count_of k.domains (resolved d dom)) frame a.1)
@@ -168,13 +172,13 @@ not-map r dom gref flags c is (inr a) = let f : Map dom gref flags ≡ Probe c =
 
 pub map-lawful : (s : Setting) (h : History) (d : DomId) (r : OpenRequest) (p : HeldPin) (shown : List Observation) (pins : CallPins) → begun (known_at s h d) d r ≡ None → RestsOnTry (known_at s h d) d r pins (path (known_at s h d) d r) shown p
     → (dom : DomId) (gref : GrantRef) (flags : ℕ) → r ≡ Map dom gref flags
-    → (permits p.entry d p.dir ForMap 0 0 ≡ true) × MayUse s d p.dom p.dir × (frame_of p.entry < frame_count_of s.domains p.dom) × (domain_of s.domains p.dom ≢ None)
+    → (permits p.entry d p.dir uses.Map 0 0 ≡ true) × MayUse s d p.dom p.dir × (frame_of p.entry < frame_count_of s.domains p.dom) × (domain_of s.domains p.dom ≢ None)
 map-lawful s h d r p shown pins none t dom gref flags is = by t.aim t.aimed where
   k : CallerKnowledge
   k = known_at s h d
 
   Lawful : HeldPin → Type 0
-  Lawful q = (permits p.entry d q.dir ForMap 0 0 ≡ true) × MayUse s d q.dom q.dir × (frame_of p.entry < frame_count_of s.domains q.dom) × (domain_of s.domains q.dom ≢ None)
+  Lawful q = (permits p.entry d q.dir uses.Map 0 0 ≡ true) × MayUse s d q.dom q.dir × (frame_of p.entry < frame_count_of s.domains q.dom) × (domain_of s.domains q.dom ≢ None)
 
   by : (aim : PinPurpose) → IsLegFor k d r aim t.leg → Lawful p
   by Mapping a = let l = map_leg k d a.dom a.gref a.flags in let lets = map-lets k d a.dom a.gref a.flags p.entry (subst (λ (l : Leg). Lets l p.entry) a.leg_is t.lets) in
@@ -188,11 +192,11 @@ map-lawful s h d r p shown pins none t dom gref flags is = by t.aim t.aimed wher
 
 -- a try whose exchange found another word
 pub missed-comes : (s : Setting) (h : History) (l : Leg) (d : DomId) (r : OpenRequest) (more word body second : ℕ) (so_far : StepsSoFar) (b : Bool) → b ≡ false → LegHasLooked s h l so_far more word → let p = held_of l word body second in let v = cond b Taken (Missed (word_at s h l.dom.0 l.gref.0)) in
-    ComesTo s h l ((PinStep p, v) ∷ so_far) (rule_at_pin s h d r so_far p v) (leg_after l (Pinning more word body second) v)
+    ComesTo s h l ((call_steps.Pin p, v) ∷ so_far) (rule_at_pin s h d r so_far p v) (leg_after l (Pinning more word body second) v)
 unfolding misses
 missed-comes s h l d r more word body second so_far true e a = absurd (true≢false e)
 missed-comes s h l d r more word body second so_far false e a = let w = word_at s h l.dom.0 l.gref.0 in
-    miss-comes s h l more w (misses so_far) ((PinStep (held_of l word body second), Missed w) ∷ so_far) _ a.within a.turn refl refl refl
+    miss-comes s h l more w (misses so_far) ((call_steps.Pin (held_of l word body second), Missed w) ∷ so_far) _ a.within a.turn refl refl refl
 
 -- a leg that may meet a Via: the first one to an end of a copy
 abbrev pub IsFirstLeg : PinPurpose → Type 0
@@ -257,7 +261,7 @@ module _ (s : Setting) (h : History) (d : DomId) (r : OpenRequest) where
 
   pub dest-leads : (c : CopyArgs) (source : AccessPath) (now : StepsSoFar) → IsCopyOf r c → begun (known_at s h d) d r ≡ None → Leads s h d r now None (at_dest (known_at s h d) d c source)
   dest-leads c source now is none =
-      cond_both (is_dest_granted c) (Walking (Dest c source None) (end_leg (known_at s h d) d c.dest Write c.len) AtHeader) (Accessing c source Own) (Leads s h d r now None)
+      cond_both (is_dest_granted c) (Walking (Dest c source None) (end_leg (known_at s h d) d c.dest Write c.len) leg_phases.Header) (Accessing c source Own) (Leads s h d r now None)
       (λ a. (refl, (of-run (domain_of s.domains (resolved d c.dest.domid)) (copy-opens (known_at s h d) d r c is none).dest_of_run, tt))) (λ a. (refl, tt))
 
   source-pin-leads : (c : CopyArgs) (l : Leg) (p : HeldPin) (e : Entry) (now : StepsSoFar) → IsCopyOf r c → begun (known_at s h d) d r ≡ None

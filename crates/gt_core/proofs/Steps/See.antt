@@ -3,12 +3,14 @@ use Rattle.gt_core.proofs.Words.{◌≡◌, ◌<◌, ◌≤◌, ◌+◌, ◌%◌
 use Rattle.gt_core.proofs.Words.{TABLE_ENTRIES, control_of, header_word, header_of, Header, State, History, Setting}
 use Rattle.gt_core.proofs.Words.{word_at, control_at, DomainsStand, FitsTable, ◌*◌, ◌/◌, control-round}
 use Rattle.gt_core.proofs.Words.{MAX_TABLE_FRAMES, ENTRIES_V1, ENTRIES_V2, ◌≢◌, zero, suc, refl, [], ◌∷◌, length}
-use Rattle.gt_core.proofs.Words.{Option, Some, None, same_Some, slice_get, DomId, Entry, control_word, PinCounts, OwnerEntry}
-use Rattle.gt_core.proofs.Words.{Step, LookHeader, LookControl, LookBody, Exchange, Word, control_with, own_generation}
-use Rattle.gt_core.proofs.Words.{BodyWord, FirstHalf, SecondHalf, entry_at, generation_at, reads_at, body_at, table_at}
+use Rattle.gt_core.proofs.Words.{Option, Some, None, same_Some, slice_get, DomId, Entry, control_word, PinCounts}
+use Rattle.gt_core.proofs.Words.{OwnerEntry, Step, LookHeader, LookControl, LookBody, Exchange, Word, control_with}
+use Rattle.gt_core.proofs.Words.{own_generation, BodyWord, entry_at, generation_at, reads_at, body_at, table_at}
 use Rattle.gt_core.proofs.Words.{seen_by, exchange_sees, StateStands, StateAgrees, control_seen, header_seen, body_seen}
 use Rattle.gt_core.proofs.Words.{sees, reads_in, writes_in, body_in, slot_reads, slot_writes, slot_body, control_in}
-use Rattle.gt_core.proofs.Words.{size_of, state_of, PinStep}
+use Rattle.gt_core.proofs.Words.{size_of, state_of}
+use Rattle.gt_model.specs.declared.change.BodyWord.TheVariants as body_words
+use Rattle.gt_model.specs.declared.action.Step.TheVariants as call_steps
 
 pub word-shows : (s : Setting) (h : History) (xs : List State) (t r : ℕ) → DomainsStand s h xs → r < TABLE_ENTRIES → control_of (word_at s h t r) ≡ control_at s h t r
 word-shows s h xs t r st within = control-round (control_at s h t r) (st.words t r within).in_range (st.words t r within).domain
@@ -52,15 +54,15 @@ word-agrees s h x r a within = let here = some-at x.slots r (let room : length x
     ∙ ap (λ (n : ℕ). control_word (control_with (entry_at h x.id.0 r) (generation_at s h x.id.0 r) (reads_at h x.id.0 r) n)) (ap slot_writes here.1 ∙ b.writes)
 
 body-agrees : (s : Setting) (h : History) (x : State) (r : ℕ) (which : BodyWord) → StateStands s h x → r < TABLE_ENTRIES → body_in x.slots r which ≡ body_at h x.id.0 r which
-body-agrees s h x r SecondHalf a within = let here = some-at x.slots r (let room : length x.slots ≡ TABLE_ENTRIES = a.room in omega arith) in ap (λ (o : Option PinCounts). slot_body o SecondHalf) here.1 ∙ (a.slots r here.0 here.1).second
-body-agrees s h x r FirstHalf a within = let here = some-at x.slots r (let room : length x.slots ≡ TABLE_ENTRIES = a.room in omega arith) in ap (λ (o : Option PinCounts). slot_body o FirstHalf) here.1 ∙ (a.slots r here.0 here.1).first
+body-agrees s h x r body_words.Second a within = let here = some-at x.slots r (let room : length x.slots ≡ TABLE_ENTRIES = a.room in omega arith) in ap (λ (o : Option PinCounts). slot_body o body_words.Second) here.1 ∙ (a.slots r here.0 here.1).second
+body-agrees s h x r body_words.First a within = let here = some-at x.slots r (let room : length x.slots ≡ TABLE_ENTRIES = a.room in omega arith) in ap (λ (o : Option PinCounts). slot_body o body_words.First) here.1 ∙ (a.slots r here.0 here.1).first
 
 -- the step is on an entry that exists
 abbrev pub IsWithin : List State → DomId → Step → Type 0
 IsWithin xs d (LookHeader dom) = state_of xs dom.0 ≢ None
 IsWithin xs d (LookControl dom gref) = (state_of xs dom.0 ≢ None) × (gref.0 < TABLE_ENTRIES)
 IsWithin xs d (LookBody dom gref half) = (state_of xs dom.0 ≢ None) × (gref.0 < TABLE_ENTRIES)
-IsWithin xs d (PinStep p) = (state_of xs p.dom.0 ≢ None) × (p.gref.0 < TABLE_ENTRIES)
+IsWithin xs d (call_steps.Pin p) = (state_of xs p.dom.0 ≢ None) × (p.gref.0 < TABLE_ENTRIES)
 IsWithin xs d (Exchange gref looked change) = (state_of xs d.0 ≢ None) × (gref.0 < TABLE_ENTRIES)
 IsWithin xs d step = Unit {0}
 
@@ -81,6 +83,6 @@ sees-agree s h xs d (LookHeader dom) st w = let x = state-there s h xs dom st w 
 sees-agree s h xs d (LookControl dom gref) st w = ap (λ (n : ℕ). Word n) (control-agrees s h xs dom gref.0 st w.0 w.1)
 sees-agree s h xs d (LookBody dom gref half) st w = let x = state-there s h xs dom st w.0 in
     ap (λ (n : ℕ). Word n) (seen-state (λ l. body_seen l dom.0 gref.0 half) (λ z. body_in z.slots gref.0 half) dom.0 x.0 (λ y ys. refl) xs x.1 ∙ body-agrees s h x.0 gref.0 half x.3 w.1 ∙ ap (λ (t : DomId). body_at h t.0 gref.0 half) x.2)
-sees-agree s h xs d (PinStep p) st w = ap (λ (n : ℕ). exchange_sees n p.word) (control-agrees s h xs p.dom p.gref.0 st w.0 w.1)
+sees-agree s h xs d (call_steps.Pin p) st w = ap (λ (n : ℕ). exchange_sees n p.word) (control-agrees s h xs p.dom p.gref.0 st w.0 w.1)
 sees-agree s h xs d (Exchange gref looked change) st w = ap (λ (n : ℕ). exchange_sees n looked) (control-agrees s h xs d gref.0 st w.0 w.1)
 sees-agree s h xs d step st w = refl

@@ -1,16 +1,17 @@
 -- A store of a header, or of a body word of an invalid entry: what a core represents after it, what it depends on,
 -- and how its call continues.
 use Rattle.gt_core.proofs.Words.{◌≡◌, ◌%◌, ℕ, refl, Bool, true, List, ◌∷◌, Option, Some, None, cond, sym, ap, ◌∙◌}
-use Rattle.gt_core.proofs.Words.{arith, subst, ◌==◌, DomId, Header, StoreHeader, Nothing, OpenCall, Item, Answer}
-use Rattle.gt_core.proofs.Words.{State, state_of, changed_in, with_header, History, Setting, header_or, table_at}
+use Rattle.gt_core.proofs.Words.{arith, subst, ◌==◌, DomId, Header, StoreHeader, Nothing, OpenCall, Item, Answer, State}
+use Rattle.gt_core.proofs.Words.{state_of, changed_in, with_header, History, Setting, header_or, table_at}
 use Rattle.gt_core.proofs.Words.{one_if_mapped, open_call, FitsTable, StateStands, DomainsStand, CallAgrees}
-use Rattle.gt_core.proofs.Words.{GivenAgrees, GrantRef, BodyWord, FirstHalf, SecondHalf, StoreBody, Stored, with_slot}
-use Rattle.gt_core.proofs.Words.{body_at, inl, inr, ◌≤◌, ◌⊎◌, LAST_VERSION, MAX_TABLE_FRAMES, first_body, Entry}
-use Rattle.gt_core.proofs.Words.{Invalid, Sub, last_first, action_at, after_store, phase_after, opens, Continuation}
-use Rattle.gt_core.proofs.Words.{path, RestsOnGrant, RestsOnRequest, CallerKnowledge, begun, first, second_body}
-use Rattle.gt_core.proofs.Words.{HasShown, Makes, Observation, Step, Phase, Ending, Last, Storing, StoringSecond}
-use Rattle.gt_core.proofs.Words.{Walking, OpenRequest, Grant, SetVersion, SetupTable, known_at, StepsSoFar}
-use Rattle.gt_core.proofs.Words.{PhaseStands, phase_refusal, entry_at}
+use Rattle.gt_core.proofs.Words.{GivenAgrees, GrantRef, BodyWord, StoreBody, Stored, with_slot, body_at, inl, inr, ◌≤◌}
+use Rattle.gt_core.proofs.Words.{◌⊎◌, LAST_VERSION, MAX_TABLE_FRAMES, first_body, Entry, Invalid, Sub, last_first}
+use Rattle.gt_core.proofs.Words.{action_at, after_store, phase_after, opens, Continuation, path, RestsOnGrant}
+use Rattle.gt_core.proofs.Words.{RestsOnRequest, CallerKnowledge, begun, first, second_body, HasShown, Observation}
+use Rattle.gt_core.proofs.Words.{Step, Phase, Ending, Last, Storing, StoringSecond, Walking, OpenRequest, Grant}
+use Rattle.gt_core.proofs.Words.{SetVersion, SetupTable, known_at, StepsSoFar, PhaseStands, phase_refusal, entry_at}
+use Rattle.gt_model.specs.declared.action.Action.TheVariants as actions
+use Rattle.gt_model.specs.declared.change.BodyWord.TheVariants as body_words
 use Rattle.gt_model.proofs.Observers.{unstored, KeepsKnown, kept-live, other-table, kept-table, stepped}
 use Rattle.gt_core.proofs.{AgreementKept.SlotsAgree, AgreementKept.actor-agrees, AgreementKept.kept-stands}
 use Rattle.gt_core.proofs.{AgreementKept.mappings-stay, AgreementKept.same-number, AgreementKept.Moves}
@@ -65,7 +66,7 @@ pub half-stored : (d : DomId) (gref : GrantRef) (half : BodyWord) (word : ℕ) (
 unfolding body_at
 half-stored d gref half word h = grind arith
 
-pub first-stays : (d : DomId) (gref : GrantRef) (word r : ℕ) (h : History) → body_at (stores d gref SecondHalf word ∷ h) d.0 r FirstHalf ≡ body_at h d.0 r FirstHalf
+pub first-stays : (d : DomId) (gref : GrantRef) (word r : ℕ) (h : History) → body_at (stores d gref body_words.Second word ∷ h) d.0 r body_words.First ≡ body_at h d.0 r body_words.First
 unfolding body_at
 first-stays d gref word r h = grind arith
 
@@ -89,8 +90,8 @@ store-stands s h xs ys x gref half word o st here a becomes call given = let i =
 
 -- a body word is stored on an invalid entry
 pub store-invalid : (s : Setting) (h : History) (d : DomId) (r : OpenRequest) (gref : GrantRef) (half : BodyWord) (word : ℕ) → begun (known_at s h d) d r ≡ None → RestsOnGrant r gref half word → entry_at h d.0 gref.0 ≡ Invalid
-store-invalid s h d r gref FirstHalf word none a = grant-invalid s h d gref a.0 (none-of (known_at s h d) d r (Grant gref a.0) a.1 none)
-store-invalid s h d r gref SecondHalf word none a = grant-invalid s h d gref a.0 (none-of (known_at s h d) d r (Grant gref a.0) a.1 none)
+store-invalid s h d r gref body_words.First word none a = grant-invalid s h d gref a.0 (none-of (known_at s h d) d r (Grant gref a.0) a.1 none)
+store-invalid s h d r gref body_words.Second word none a = grant-invalid s h d gref a.0 (none-of (known_at s h d) d r (Grant gref a.0) a.1 none)
 
 -- a header that is stored is within the limits
 pub header-fits : (s : Setting) (h : History) (xs : List State) (d : DomId) (r : OpenRequest) (version frames : ℕ) → DomainsStand s h xs → begun (known_at s h d) d r ≡ None → RestsOnRequest (known_at s h d) d r (StoreHeader version frames)
@@ -116,8 +117,8 @@ stored-refusal k gref Invalid = refl
 stored-refusal k gref entry = refl
 
 -- what holds for each call that is about to store a body word
-pub by-storing : (s : Setting) (h : History) (d : DomId) (r : OpenRequest) (way : Continuation) (shown : List Observation) (P : Phase → Step → Type 0) → ((g : GrantRef) (entry : Entry) → P (Storing g entry) (StoreBody g FirstHalf (first_body entry)))
-    → ((g : GrantRef) (entry : Entry) → P (StoringSecond g entry) (StoreBody g SecondHalf (second_body entry))) → (phase : Phase) (step : Step) → HasShown (known_at s h d) way d r shown phase → action_at d phase ≡ Makes step → IsStore step → P phase step
+pub by-storing : (s : Setting) (h : History) (d : DomId) (r : OpenRequest) (way : Continuation) (shown : List Observation) (P : Phase → Step → Type 0) → ((g : GrantRef) (entry : Entry) → P (Storing g entry) (StoreBody g body_words.First (first_body entry)))
+    → ((g : GrantRef) (entry : Entry) → P (StoringSecond g entry) (StoreBody g body_words.Second (second_body entry))) → (phase : Phase) (step : Step) → HasShown (known_at s h d) way d r shown phase → action_at d phase ≡ actions.Step step → IsStore step → P phase step
 by-storing s h d r way shown P first second (Storing g entry) step a e n = subst (P (Storing g entry)) (makes-same _ _ e) (first g entry)
 by-storing s h d r way shown P first second (StoringSecond g entry) step a e n = subst (P (StoringSecond g entry)) (makes-same _ _ e) (second g entry)
 by-storing s h d r way shown P first second (Walking aim l at) step a e n = absurd (by-leg (λ (z : Step). IsStore z → ⊥) (λ dom n. n) (λ dom gref n. n) (λ dom gref half n. n) (λ p n. n) l at (subst IsStore (sym (makes-same _ _ e)) n))
@@ -133,11 +134,11 @@ by-storing s h d r way shown P first second phase step a e n = absurd (subst IsS
 abbrev pub StoreLeads : Setting → History → DomId → OpenRequest → List Observation → StepsSoFar → StepsSoFar → Phase → Step → Type 0
 StoreLeads s h d r shown so_far now phase step = HasShown (known_at s h d) (path (known_at s h d) d r) d r shown phase → PhaseStands s h d r so_far phase → PhaseStands s (stepped d step Nothing None ∷ h) d r now (phase_after (known_at s h d) d phase Nothing)
 
-pub first-leads : (s : Setting) (h : History) (d : DomId) (r : OpenRequest) (shown : List Observation) (so_far now : StepsSoFar) (g : GrantRef) (entry : Entry) → StoreLeads s h d r shown so_far now (Storing g entry) (StoreBody g FirstHalf (first_body entry))
-first-leads s h d r shown so_far now g (Sub dom ro frame off len) a b = half-stored d g FirstHalf (first_body (Sub dom ro frame off len)) h
+pub first-leads : (s : Setting) (h : History) (d : DomId) (r : OpenRequest) (shown : List Observation) (so_far now : StepsSoFar) (g : GrantRef) (entry : Entry) → StoreLeads s h d r shown so_far now (Storing g entry) (StoreBody g body_words.First (first_body entry))
+first-leads s h d r shown so_far now g (Sub dom ro frame off len) a b = half-stored d g body_words.First (first_body (Sub dom ro frame off len)) h
 first-leads s h d r shown so_far now g Invalid a b = tt
-first-leads s h d r shown so_far now g y a b = half-stored d g FirstHalf (first_body y) h
+first-leads s h d r shown so_far now g y a b = half-stored d g body_words.First (first_body y) h
 
-pub second-leads : (s : Setting) (h : History) (d : DomId) (r : OpenRequest) (shown : List Observation) (so_far now : StepsSoFar) (g : GrantRef) (entry : Entry) → StoreLeads s h d r shown so_far now (StoringSecond g entry) (StoreBody g SecondHalf (second_body entry))
-second-leads s h d r shown so_far now g (Sub dom ro frame off len) a b = let w = second_body (Sub dom ro frame off len) in (first-stays d g w g.0 h ∙ b, half-stored d g SecondHalf w h)
+pub second-leads : (s : Setting) (h : History) (d : DomId) (r : OpenRequest) (shown : List Observation) (so_far now : StepsSoFar) (g : GrantRef) (entry : Entry) → StoreLeads s h d r shown so_far now (StoringSecond g entry) (StoreBody g body_words.Second (second_body entry))
+second-leads s h d r shown so_far now g (Sub dom ro frame off len) a b = let w = second_body (Sub dom ro frame off len) in (first-stays d g w g.0 h ∙ b, half-stored d g body_words.Second w h)
 second-leads s h d r shown so_far now g y a b = absurd a.3

@@ -1,15 +1,17 @@
 -- An unpin: what a core represents after it, and how its call continues.
-use Rattle.gt_core.proofs.Words.{◌≡◌, ◌+◌, ℕ, refl, Bool, false, List, [], ◌∷◌, ◌++◌, length, Option, Some, None}
-use Rattle.gt_core.proofs.Words.{cond, sym, ap, ◌∙◌, arith, subst, ◌==◌, ◌&&◌, All, count_by, none-some, sum_by-cons}
-use Rattle.gt_core.proofs.Words.{DomId, Dir, Read, Write, BodyWord, FirstHalf, SecondHalf, Handle, HandleMap, HeldPin}
-use Rattle.gt_core.proofs.Words.{PinHolder, ByMapping, ByLeg, Observation, PinCounts, OpenCall, Unpinned, Item}
-use Rattle.gt_core.proofs.Words.{Answer, State, state_of, changed_in, with_slot, without_holder, slot_after}
-use Rattle.gt_core.proofs.Words.{handle_taken, History, Setting, Pin, live, body_at, mappings_at, maps_answered_at}
-use Rattle.gt_core.proofs.Words.{legs_at, open_call, is_pin_on, without, is_holder, same_handle, same_dir, gather}
-use Rattle.gt_core.proofs.Words.{mapping_named, by_leg, mapping_of, one_if_mapped, IsLawfulPin, SlotAgrees}
-use Rattle.gt_core.proofs.Words.{StateStands, DomainsStand, CallAgrees, GivenAgrees, MappingsAgree, numbered, inl}
-use Rattle.gt_core.proofs.Words.{inr, ◌⊎◌, option_or, Denial, last_first, next_to_give, Done, Makes, Step, CallResult}
-use Rattle.gt_core.proofs.Words.{Ending, CallPins, OpenRequest, CopyArgs, StepsSoFar, EndsCopy}
+use Rattle.gt_core.proofs.Words.{◌≡◌, ◌+◌, ℕ, refl, Bool, false, List, [], ◌∷◌, ◌++◌, length, Option, Some, None, cond}
+use Rattle.gt_core.proofs.Words.{sym, ap, ◌∙◌, arith, subst, ◌==◌, ◌&&◌, All, count_by, none-some, sum_by-cons, DomId}
+use Rattle.gt_core.proofs.Words.{Dir, Read, Write, BodyWord, Handle, HandleMap, HeldPin, PinHolder, Observation}
+use Rattle.gt_core.proofs.Words.{PinCounts, OpenCall, Unpinned, Item, Answer, State, state_of, changed_in, with_slot}
+use Rattle.gt_core.proofs.Words.{without_holder, slot_after, handle_taken, History, Setting, Pin, live, body_at}
+use Rattle.gt_core.proofs.Words.{mappings_at, maps_answered_at, legs_at, open_call, is_pin_on, without, is_holder}
+use Rattle.gt_core.proofs.Words.{same_handle, same_dir, gather, mapping_named, by_leg, mapping_of, one_if_mapped}
+use Rattle.gt_core.proofs.Words.{IsLawfulPin, SlotAgrees, StateStands, DomainsStand, CallAgrees, GivenAgrees}
+use Rattle.gt_core.proofs.Words.{MappingsAgree, numbered, inl, inr, ◌⊎◌, option_or, Denial, last_first, next_to_give}
+use Rattle.gt_core.proofs.Words.{Done, Step, CallResult, Ending, CallPins, OpenRequest, CopyArgs, StepsSoFar, EndsCopy}
+use Rattle.gt_model.specs.declared.action.Action.TheVariants as actions
+use Rattle.gt_model.specs.declared.change.BodyWord.TheVariants as body_words
+use Rattle.gt_model.specs.declared.request.PinHolder.TheVariants as holders
 use Rattle.gt_model.proofs.Observers.{answered-stays, cond-same, without-kept, IsKeyed, mapping-keyed, leg-keyed}
 use Rattle.gt_model.proofs.Observers.{pins_at, all-without, unpinned-live, unpins}
 use Rattle.gt_core.proofs.{AgreementKept.KeepsEntries, AgreementKept.same-body, AgreementKept.Becomes}
@@ -53,17 +55,17 @@ without-one {K} give test holder d (p ∷ ps) t = let was = without-one give tes
 
 -- the tests that exist
 
-mapping-tells : (handle : Handle) → Tells mapping_named (λ (k : Handle). same_handle k handle) (ByMapping handle)
+mapping-tells : (handle : Handle) → Tells mapping_named (λ (k : Handle). same_handle k handle) (holders.Mapping handle)
 mapping-tells handle = record { keyed = mapping-keyed; tells = by } where
-  by : (x : PinHolder) → is_holder x (ByMapping handle) ≡ passes (λ (k : Handle). same_handle k handle) (mapping-keyed.key x)
-  by (ByMapping k) = refl
-  by (ByLeg n) = refl
+  by : (x : PinHolder) → is_holder x (holders.Mapping handle) ≡ passes (λ (k : Handle). same_handle k handle) (mapping-keyed.key x)
+  by (holders.Mapping k) = refl
+  by (holders.Leg n) = refl
 
-leg-tells : (number : ℕ) → Tells by_leg (λ (k : ℕ). k == number) (ByLeg number)
+leg-tells : (number : ℕ) → Tells by_leg (λ (k : ℕ). k == number) (holders.Leg number)
 leg-tells number = record { keyed = leg-keyed; tells = by } where
-  by : (x : PinHolder) → is_holder x (ByLeg number) ≡ passes (λ (k : ℕ). k == number) (leg-keyed.key x)
-  by (ByMapping k) = refl
-  by (ByLeg n) = refl
+  by : (x : PinHolder) → is_holder x (holders.Leg number) ≡ passes (λ (k : ℕ). k == number) (leg-keyed.key x)
+  by (holders.Mapping k) = refl
+  by (holders.Leg n) = refl
 
 -- by the handle of a mapping
 
@@ -71,23 +73,23 @@ one-mapping : (ms : List (Handle × HeldPin)) (handle : Handle) → one_of (λ (
 one-mapping [] handle = refl
 one-mapping (m ∷ ms) handle = ap (λ (o : Option HeldPin). cond (same_handle m.0 handle) (Some m.1) o) (one-mapping ms handle)
 
-pub loses-mapping : (h : History) (d : DomId) (handle : Handle) (p : HeldPin) → mapping_of (mappings_at h d.0) handle ≡ Some p → Loses p (live h) (without d.0 (ByMapping handle) (live h))
+pub loses-mapping : (h : History) (d : DomId) (handle : Handle) (p : HeldPin) → mapping_of (mappings_at h d.0) handle ≡ Some p → Loses p (live h) (without d.0 (holders.Mapping handle) (live h))
 loses-mapping h d handle p found =
-    (without-one mapping_named (λ (k : Handle). same_handle k handle) (ByMapping handle) d.0 (live h) (mapping-tells handle)).1 p (one-mapping (mappings_at h d.0) handle ∙ found)
+    (without-one mapping_named (λ (k : Handle). same_handle k handle) (holders.Mapping handle) d.0 (live h) (mapping-tells handle)).1 p (one-mapping (mappings_at h d.0) handle ∙ found)
 
 -- the domain's mappings lose the one of the handle, and its call no pin
-mapping-left : (h : History) (d : DomId) (p : HeldPin) (handle : Handle) (seen : Observation) (answer : Option Answer) → mappings_at (unpins d p (ByMapping handle) seen answer ∷ h) d.0 ≡ less handle (mappings_at h d.0)
-mapping-left h d p handle seen answer = ap (gather mapping_named d.0) (unpinned-live h d p (ByMapping handle) seen answer)
-    ∙ (without-one mapping_named (λ (k : Handle). same_handle k handle) (ByMapping handle) d.0 (live h) (mapping-tells handle)).0
+mapping-left : (h : History) (d : DomId) (p : HeldPin) (handle : Handle) (seen : Observation) (answer : Option Answer) → mappings_at (unpins d p (holders.Mapping handle) seen answer ∷ h) d.0 ≡ less handle (mappings_at h d.0)
+mapping-left h d p handle seen answer = ap (gather mapping_named d.0) (unpinned-live h d p (holders.Mapping handle) seen answer)
+    ∙ (without-one mapping_named (λ (k : Handle). same_handle k handle) (holders.Mapping handle) d.0 (live h) (mapping-tells handle)).0
 
-pub mapping-legs : (h : History) (d : DomId) (p : HeldPin) (handle : Handle) (seen : Observation) (answer : Option Answer) → legs_at (unpins d p (ByMapping handle) seen answer ∷ h) d.0 ≡ legs_at h d.0
+pub mapping-legs : (h : History) (d : DomId) (p : HeldPin) (handle : Handle) (seen : Observation) (answer : Option Answer) → legs_at (unpins d p (holders.Mapping handle) seen answer ∷ h) d.0 ≡ legs_at h d.0
 mapping-legs h d p handle seen answer = grind (arith, unpinned-live, without-kept, cond-same)
 
 pub mapping-agrees : (h : History) (d : DomId) (p : HeldPin) (handle : Handle) (seen : Observation) (answer : Option Answer) (kept : HandleMap HeldPin) → one_if_mapped answer ≡ 0 → mapping_of (mappings_at h d.0) handle ≡ Some p
     → MappingsAgree kept (mappings_at h d.0) (maps_answered_at h d.0)
-    → MappingsAgree (handle_taken handle kept) (mappings_at (unpins d p (ByMapping handle) seen answer ∷ h) d.0) (maps_answered_at (unpins d p (ByMapping handle) seen answer ∷ h) d.0)
+    → MappingsAgree (handle_taken handle kept) (mappings_at (unpins d p (holders.Mapping handle) seen answer ∷ h) d.0) (maps_answered_at (unpins d p (holders.Mapping handle) seen answer ∷ h) d.0)
 mapping-agrees h d p handle seen answer kept m found a =
-    mappings-same (handle_taken handle kept) _ _ _ _ (sym (mapping-left h d p handle seen answer)) (sym (answered-stays h (unpins d p (ByMapping handle) seen answer) d.0 m))
+    mappings-same (handle_taken handle kept) _ _ _ _ (sym (mapping-left h d p handle seen answer)) (sym (answered-stays h (unpins d p (holders.Mapping handle) seen answer) d.0 m))
     (mappings-taken kept handle p (mappings_at h d.0) (maps_answered_at h d.0) found a)
 
 -- by the position of a call's own pin, the last one
@@ -100,27 +102,27 @@ last-leg m n (q ∷ ps) p e = grind (arith, last-leg (m + 1) n ps p (omega arith
 pub from-zero : (n : ℕ) → 0 + n ≡ n
 from-zero n = omega arith
 
-pub loses-leg : (h : History) (d : DomId) (ps : List HeldPin) (p : HeldPin) → legs_at h d.0 ≡ numbered 0 (ps ++ p ∷ []) → Loses p (live h) (without d.0 (ByLeg (length ps)) (live h))
-loses-leg h d ps p held = (without-one by_leg (λ (k : ℕ). k == length ps) (ByLeg (length ps)) d.0 (live h) (leg-tells (length ps))).1 p
+pub loses-leg : (h : History) (d : DomId) (ps : List HeldPin) (p : HeldPin) → legs_at h d.0 ≡ numbered 0 (ps ++ p ∷ []) → Loses p (live h) (without d.0 (holders.Leg (length ps)) (live h))
+loses-leg h d ps p held = (without-one by_leg (λ (k : ℕ). k == length ps) (holders.Leg (length ps)) d.0 (live h) (leg-tells (length ps))).1 p
     (ap (one_of (λ (k : ℕ). k == length ps)) held ∙ (last-leg 0 (length ps) ps p (omega arith)).0)
 
 pub leg-left : (h : History) (d : DomId) (ps : List HeldPin) (p : HeldPin) (seen : Observation) (answer : Option Answer) → legs_at h d.0 ≡ numbered 0 (ps ++ p ∷ [])
-    → legs_at (unpins d p (ByLeg (length ps)) seen answer ∷ h) d.0 ≡ numbered 0 ps
-leg-left h d ps p seen answer held = ap (gather by_leg d.0) (unpinned-live h d p (ByLeg (length ps)) seen answer)
-    ∙ (without-one by_leg (λ (k : ℕ). k == length ps) (ByLeg (length ps)) d.0 (live h) (leg-tells (length ps))).0
+    → legs_at (unpins d p (holders.Leg (length ps)) seen answer ∷ h) d.0 ≡ numbered 0 ps
+leg-left h d ps p seen answer held = ap (gather by_leg d.0) (unpinned-live h d p (holders.Leg (length ps)) seen answer)
+    ∙ (without-one by_leg (λ (k : ℕ). k == length ps) (holders.Leg (length ps)) d.0 (live h) (leg-tells (length ps))).0
     ∙ ap (less_of (λ (k : ℕ). k == length ps)) held ∙ (last-leg 0 (length ps) ps p (omega arith)).1
 
-pub leg-mappings : (h : History) (d : DomId) (p : HeldPin) (number : ℕ) (seen : Observation) (answer : Option Answer) → mappings_at (unpins d p (ByLeg number) seen answer ∷ h) d.0 ≡ mappings_at h d.0
+pub leg-mappings : (h : History) (d : DomId) (p : HeldPin) (number : ℕ) (seen : Observation) (answer : Option Answer) → mappings_at (unpins d p (holders.Leg number) seen answer ∷ h) d.0 ≡ mappings_at h d.0
 leg-mappings h d p number seen answer = grind (arith, unpinned-live, without-kept, cond-same)
 
 pub leg-agrees : (h : History) (d : DomId) (p : HeldPin) (number : ℕ) (seen : Observation) (answer : Option Answer) (kept : HandleMap HeldPin) → one_if_mapped answer ≡ 0
-    → MappingsAgree kept (mappings_at h d.0) (maps_answered_at h d.0) → MappingsAgree kept (mappings_at (unpins d p (ByLeg number) seen answer ∷ h) d.0) (maps_answered_at (unpins d p (ByLeg number) seen answer ∷ h) d.0)
-leg-agrees h d p number seen answer kept m a = mappings-same kept _ _ _ _ (sym (leg-mappings h d p number seen answer)) (sym (answered-stays h (unpins d p (ByLeg number) seen answer) d.0 m)) a
+    → MappingsAgree kept (mappings_at h d.0) (maps_answered_at h d.0) → MappingsAgree kept (mappings_at (unpins d p (holders.Leg number) seen answer ∷ h) d.0) (maps_answered_at (unpins d p (holders.Leg number) seen answer ∷ h) d.0)
+leg-agrees h d p number seen answer kept m a = mappings-same kept _ _ _ _ (sym (leg-mappings h d p number seen answer)) (sym (answered-stays h (unpins d p (holders.Leg number) seen answer) d.0 m)) a
 
 -- the slot that the unpin counts down
 counted-down : (h new : History) (q r : ℕ) (dir : Dir) (b : Bool) (old : PinCounts) → SlotAgrees h q r old → ((which : BodyWord) → body_at new q r which ≡ body_at h q r which)
     → ((k : Dir) → pins_at h q r k ≡ cond (b && same_dir dir k) 1 0 + pins_at new q r k) → SlotAgrees new q r (cond b (slot_after (Unpinned dir) old) old)
-counted-down h new q r dir b old a body now = grind (arith, now Read, now Write, body FirstHalf, body SecondHalf)
+counted-down h new q r dir b old a body now = grind (arith, now Read, now Write, body body_words.First, body body_words.Second)
 
 -- after a live pin is released the core represents the history with it, if the domain's mappings are those that it
 -- then has
@@ -159,7 +161,7 @@ pub then-none : (o : Option Denial) → option_or o None ≡ o
 then-none None = refl
 then-none (Some d) = refl
 
-pub give-placed : (s : Setting) (h : History) (d : DomId) (r : OpenRequest) (so_far : StepsSoFar) (pins : CallPins) (verdict : CallResult) (step : Step) → next_to_give (last_first pins) verdict ≡ Makes step
+pub give-placed : (s : Setting) (h : History) (d : DomId) (r : OpenRequest) (so_far : StepsSoFar) (pins : CallPins) (verdict : CallResult) (step : Step) → next_to_give (last_first pins) verdict ≡ actions.Step step
     → (last_first pins ≡ []) ⊎ ((copy : CopyArgs) × IsCopyOf r copy × EndsCopy verdict) → Placed s h d r so_far (Ending pins verdict) step
-give-placed s h d r so_far pins verdict step e (inl none) = let f : Done verdict ≡ Makes step = sym (ap (λ (l : List HeldPin). next_to_give l verdict) none) ∙ e in cc
+give-placed s h d r so_far pins verdict step e (inl none) = let f : Done verdict ≡ actions.Step step = sym (ap (λ (l : List HeldPin). next_to_give l verdict) none) ∙ e in cc
 give-placed s h d r so_far pins verdict step e (inr copy) = by-giving (Placed s h d r so_far (Ending pins verdict)) (λ p n. inr copy) (last_first pins) verdict step e

@@ -3,20 +3,22 @@ use Rattle.gt_core.proofs.Words.{◌≡◌, ◌≤◌, ◌<◌, ◌+◌, ◌-◌
 use Rattle.gt_core.proofs.Words.{replicate, length, take, drop, Option, Some, None, cond, sym, ap, ◌∙◌, arith, subst}
 use Rattle.gt_core.proofs.Words.{eqb-true, eq-eqb, and_parts, and_from, append-nil, map-append, length-append}
 use Rattle.gt_core.proofs.Words.{length-drop, length-take-le, length-replicate, ◌==◌, ◌&&◌, nat_lt, is_some, IsTrue}
-use Rattle.gt_core.proofs.Words.{DomId, Write, ForMap, DomainConfig, FRAME_SIZE, Entry, frame_of, permits, Handle}
-use Rattle.gt_core.proofs.Words.{value_of, HeldPin, AccessPath, Direct, End, Request, OpenRequest, Store, Poke, Spot}
-use Rattle.gt_core.proofs.Words.{Observation, Step, ReadBytes, WriteBytes, CopyBytes, Makes, Call, CallerKnowledge}
-use Rattle.gt_core.proofs.Words.{begun, frame_count_of, is_dest_granted, dest_pair, opens, Rests, RestsOnRequest}
-use Rattle.gt_core.proofs.Words.{RestsOnWays, IsReached, pins_at, Patch, written, bytes_at, frame_counts, FrameSet}
-use Rattle.gt_core.proofs.Words.{frame_at, has_range, all_zeros, AreKept, OpenCall, Item, Answer, Begun, State}
-use Rattle.gt_core.proofs.Words.{IsLoadOf, IsReadable, IsAdmitted, AccessedBy, History, Setting, patches_at}
-use Rattle.gt_core.proofs.Words.{patches_by, contents_at, written_by, WriteMade, given_in, open_call, Underway}
-use Rattle.gt_core.proofs.Words.{values, known_at, IsInFrame, CopyIsJustified, grown, DomainsStand, FramesStand}
-use Rattle.gt_core.proofs.Words.{StateStands, OpenAgrees, FitsGiven, begun_element, le-leb, unwrap_or, overlay}
-use Rattle.gt_core.proofs.Words.{replay, zeros, FrameState, patch_of, patches, permits_writing, suffices}
-use Rattle.gt_core.proofs.Words.{all_rightful, pool_number, frames_of_all, is_name, has_frame, admits, WritesTo}
-use Rattle.gt_core.proofs.Words.{journal_in, basis_of, begun_route, route_of, IsWritOf, FrameName, Writ, WriteRecord}
-use Rattle.gt_core.proofs.Words.{BegunBusy, BegunNoDomain, cond_both}
+use Rattle.gt_core.proofs.Words.{DomId, Write, DomainConfig, FRAME_SIZE, Entry, frame_of, permits, Handle, value_of}
+use Rattle.gt_core.proofs.Words.{HeldPin, AccessPath, Direct, End, Request, OpenRequest, Store, Poke, Spot, Observation}
+use Rattle.gt_core.proofs.Words.{Step, Call, CallerKnowledge, begun, frame_count_of, is_dest_granted, dest_pair, opens}
+use Rattle.gt_core.proofs.Words.{Rests, RestsOnRequest, RestsOnWays, IsReached, pins_at, Patch, written, bytes_at}
+use Rattle.gt_core.proofs.Words.{frame_counts, FrameSet, frame_at, has_range, all_zeros, AreKept, OpenCall, Item}
+use Rattle.gt_core.proofs.Words.{Answer, Begun, State, IsLoadOf, IsReadable, IsAdmitted, AccessedBy, History, Setting}
+use Rattle.gt_core.proofs.Words.{patches_at, patches_by, contents_at, written_by, WriteMade, given_in, open_call}
+use Rattle.gt_core.proofs.Words.{Underway, values, known_at, IsInFrame, CopyIsJustified, grown, DomainsStand}
+use Rattle.gt_core.proofs.Words.{FramesStand, StateStands, OpenAgrees, FitsGiven, begun_element, le-leb, unwrap_or}
+use Rattle.gt_core.proofs.Words.{overlay, replay, zeros, FrameState, patch_of, patches, permits_writing, suffices}
+use Rattle.gt_core.proofs.Words.{all_rightful, pool_number, frames_of, is_name, has_frame, admits, WritesTo, journal_in}
+use Rattle.gt_core.proofs.Words.{basis_of, begun_route, route_of, IsWritOf, FrameName, Writ, WriteRecord, cond_both}
+use Rattle.gt_model.specs.declared.action.Action.TheVariants as actions
+use Rattle.gt_core.specs.declared.core_state.Begun.TheVariants as beginnings
+use Rattle.gt_model.specs.declared.action.Step.TheVariants as call_steps
+use Rattle.gt_types.specs.declared.Use.TheVariants as uses
 use Rattle.gt_core.proofs.{Starting.get-replicate, Phases.call-is, Phases.none-of, Steps.Access.permits-as}
 use Rattle.gt_core.proofs.{Steps.Access.mapping-pin, Steps.Access.same-held, Steps.Access.read-justified}
 use Rattle.gt_core.proofs.{Steps.Access.copy-justified}
@@ -47,7 +49,7 @@ range-there s h fs at len fr a = and_from _ _ (frame-there s h fs at.frame fr a.
 -- writs
 
 -- an entry that permits a mapping to write permits any range of its frame to be written
-map-writes : (e : Entry) (d : DomId) (frame off len : ℕ) → frame ≡ frame_of e → permits e d Write ForMap off len ≡ true → permits_writing e d frame off len ≡ true
+map-writes : (e : Entry) (d : DomId) (frame off len : ℕ) → frame ≡ frame_of e → permits e d Write uses.Map off len ≡ true → permits_writing e d frame off len ≡ true
 map-writes e d frame off len is a = grind arith
 
 -- the entries of a copy's pins permit it to write
@@ -77,7 +79,7 @@ open-admitted s h xs fs x o c st fr a call here = subst (λ (z : Call). IsAdmitt
   given = let g = a.given c call in subst (FitsGiven c.request) (sym g.0) g.1
 
   -- a store through a mapping writes by the mapping's entry, and a poke to a frame of the caller's own
-  writes : (dom : DomId) (frame off len : ℕ) → begun k x.id c.request ≡ None → RestsOnRequest k x.id c.request (WriteBytes dom frame off len) → IsAdmitted fs x now (WriteBytes dom frame off len)
+  writes : (dom : DomId) (frame off len : ℕ) → begun k x.id c.request ≡ None → RestsOnRequest k x.id c.request (call_steps.Write dom frame off len) → IsAdmitted fs x now (call_steps.Write dom frame off len)
   writes dom frame off len none (inl (handle, is, mapped)) = let m = mapped.mapping in let o = opens k x.id (Store handle off len) (none-of k x.id c.request (Store handle off len) is none) in
       let same : o.mapping ≡ m = same-held k handle o.mapping m o.found mapped.found in
       let writable : m.dir ≡ Write = ap (λ (q : HeldPin). q.dir) (sym same) ∙ o.writable in
@@ -97,7 +99,7 @@ open-admitted s h xs fs x o c st fr a call here = subst (λ (z : Call). IsAdmitt
       (eq-eqb x.id.0 dom.0 (ap (λ (z : DomId). z.0) (sym own)))
 
   -- a copy writes by the pins of its destination
-  copies : (from to : Spot) (len : ℕ) → begun k x.id c.request ≡ None → RestsOnWays k x.id c.request (pins_at here.phase) from to len → IsAdmitted fs x now (CopyBytes from to len)
+  copies : (from to : Spot) (len : ℕ) → begun k x.id c.request ≡ None → RestsOnWays k x.id c.request (pins_at here.phase) from to len → IsAdmitted fs x now (call_steps.Copy from to len)
   copies from to len none w = let c' = w.copy in let pins = pins_at here.phase in
       let inside = subst (λ (q : OpenRequest). CopyIsJustified s h x.id q from to len) w.of_copy (copy-justified s h x.id c.request pins from to len none here.held w) in
       let t = place_of x.id c'.dest pins.dest in
@@ -106,20 +108,20 @@ open-admitted s h xs fs x o c st fr a call here = subst (λ (z : Call). IsAdmitt
       (subst (λ (n : ℕ). suffices (basis_of pins.dest) x.id t.frame.owner t.frame.number t.off n ≡ true) (sym w.len_is) right) in
       (range-there s h fs from len fr inside.0, admitted-by fs x now to.frame to.off len pins.dest (frame-there s h fs to.frame fr inside.1.0) inside.1.1 (ap (λ (q : OpenRequest). route_of x.mappings (asked_so q)) w.of_copy) right_to)
 
-  by : (step : Step) → Rests k x.id c.request (pins_at here.phase) (values c) (Makes step) → IsAdmitted fs x now step
-  by (WriteBytes dom frame off len) r = writes dom frame off len r.0 r.1
-  by (CopyBytes from to len) r = copies from to len r.0 r.1
+  by : (step : Step) → Rests k x.id c.request (pins_at here.phase) (values c) (actions.Step step) → IsAdmitted fs x now step
+  by (call_steps.Write dom frame off len) r = writes dom frame off len r.0 r.1
+  by (call_steps.Copy from to len) r = copies from to len r.0 r.1
   by step r = tt
 
 -- what it reads exists
 pub open-readable : (s : Setting) (h : History) (xs : List State) (fs : FrameSet) (x : State) (o : OpenCall) (c : Underway) → DomainsStand s h xs → FramesStand s h fs → OpenAgrees s h x.id o c → IsReadable fs o.call o.step
 open-readable s h xs fs x o c st fr here = by o.step here.rests where
-  long : (dom : DomId) (frame off len : ℕ) → RestsOnRequest (known_at s h x.id) x.id c.request (ReadBytes dom frame off len) → IsLoadOf o.call.request len
+  long : (dom : DomId) (frame off len : ℕ) → RestsOnRequest (known_at s h x.id) x.id c.request (call_steps.Read dom frame off len) → IsLoadOf o.call.request len
   long dom frame off len (inl (handle, is, mapped)) = subst (λ (q : OpenRequest). IsLoadOf q len) (sym (here.asks ∙ is)) refl
   long dom frame off len (inr (is, own)) = subst (λ (q : OpenRequest). IsLoadOf q len) (sym (here.asks ∙ is)) refl
 
-  by : (step : Step) → Rests (known_at s h x.id) x.id c.request (pins_at here.phase) (values c) (Makes step) → IsReadable fs o.call step
-  by (ReadBytes dom frame off len) r = let just = read-justified s h xs x.id c.request dom frame off len st r.0 r.1 in
+  by : (step : Step) → Rests (known_at s h x.id) x.id c.request (pins_at here.phase) (values c) (actions.Step step) → IsReadable fs o.call step
+  by (call_steps.Read dom frame off len) r = let just = read-justified s h xs x.id c.request dom frame off len st r.0 r.1 in
       (range-there s h fs (record { frame = record { owner = dom; number = frame }; off = off }) len fr just.0, long dom frame off len r.1)
   by step r = tt
 
@@ -190,18 +192,18 @@ pub frames-stepped : (s : Setting) (h : History) (fs gs : FrameSet) (x : State) 
     → FramesStand s (stepped x.id step seen answer ∷ h) gs
 frames-stepped s h fs gs x call step seen answer c under given fr = by step where
   by : (z : Step) → AccessedBy x call z fs gs → FramesStand s (stepped x.id z seen answer ∷ h) gs
-  by (WriteBytes dom frame off len) a =
-      written-once s h fs gs (stepped x.id (WriteBytes dom frame off len) seen answer) (record { frame = record { owner = dom; number = frame }; off = off }) a.0 x.given
+  by (call_steps.Write dom frame off len) a =
+      written-once s h fs gs (stepped x.id (call_steps.Write dom frame off len) seen answer) (record { frame = record { owner = dom; number = frame }; off = off }) a.0 x.given
       (ap (λ (u : Option Underway). Some (record { at = record { frame = record { owner = dom; number = frame }; off = off }; bytes = given_in u })) under ∙ ap (λ (l : List ℕ). Some (record { at = record { frame = record { owner = dom; number = frame }; off = off }; bytes = l })) (sym given)) fr a.2 a.3
-  by (CopyBytes from to len) a =
-      written-once s h fs gs (stepped x.id (CopyBytes from to len) seen answer) to a.0 (bytes_at (frame_at fs from.frame) from.off len)
+  by (call_steps.Copy from to len) a =
+      written-once s h fs gs (stepped x.id (call_steps.Copy from to len) seen answer) to a.0 (bytes_at (frame_at fs from.frame) from.off len)
       (ap (λ (l : List ℕ). Some (record { at = to; bytes = l })) (sym (bytes-held s h fs from.frame.owner from.frame.number from.off len fr))) fr a.2 a.3
   by z a = subst (FramesStand s (stepped x.id z seen answer ∷ h)) (sym a) (nothing-written s h fs (stepped x.id z seen answer) refl fr)
 
 -- a beginning writes nothing
 pub frames-begun : (s : Setting) (h : History) (fs : FrameSet) (dom : DomId) (request : Request) (b : Begun) → FramesStand s h fs → FramesStand s (grown h (begun_element dom request b)) fs
-frames-begun s h fs dom request BegunBusy fr = fr
-frames-begun s h fs dom request BegunNoDomain fr = fr
+frames-begun s h fs dom request beginnings.Busy fr = fr
+frames-begun s h fs dom request beginnings.NoDomain fr = fr
 frames-begun s h fs dom request b fr = nothing-written s h fs _ refl fr
 
 -- new frames
@@ -217,9 +219,9 @@ frames-start s fs same kept = record { counts = ap (λ (z : FrameSet). z.domains
     picked true = refl
     picked false = refl
 
-    by : (place : Option ℕ) → journal_in place (replicate (frames_of_all (frame_counts s.domains)) []) ≡ []
+    by : (place : Option ℕ) → journal_in place (replicate (frames_of (frame_counts s.domains)) []) ≡ []
     by None = refl
-    by (Some n) = ap (λ (o : Option (List WriteRecord)). unwrap_or o []) (get-replicate (frames_of_all (frame_counts s.domains)) n []) ∙ picked (nat_lt n (frames_of_all (frame_counts s.domains)))
+    by (Some n) = ap (λ (o : Option (List WriteRecord)). unwrap_or o []) (get-replicate (frames_of (frame_counts s.domains)) n []) ∙ picked (nat_lt n (frames_of (frame_counts s.domains)))
 
     writes : (name : FrameName) → patches (frame_at fs name).journal ≡ patches_at [] name.owner.0 name.number
     writes name = ap (λ (z : FrameSet). patches (frame_at z name).journal) same ∙ ap patches (by (pool_number (frame_counts s.domains) name.owner name.number 0)) ∙ sym (no-patches name.owner.0 name.number)

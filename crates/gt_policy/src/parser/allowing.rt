@@ -3,7 +3,7 @@ ghost use Rattle.std.specs.Prelude.{◌≡◌, ◌≤◌, [], length, true, fals
 ghost use Rattle.gt_policy.specs.Grammar.{Gives, GivesNothing, Fills, IsBlank, set_in_braces, set_of, colon};
 ghost use Rattle.gt_policy.specs.Grammar.{is_grant_alone, is_refused_word, classes_of, classes_in_braces};
 ghost use Rattle.gt_policy.specs.Grammar.{perms_of, perms_named, perms_in_braces, allow_statement};
-ghost use Rattle.gt_policy.specs.declared.statements.Statement.TheVariants as Statement;
+ghost use Rattle.gt_policy.specs.declared.statements.Statement.TheVariants as statements;
 
 use super::{Parser, misfit, misfit_name};
 use crate::fault::{ReadError, TokenFaultKind, fault_at, syntax_at};
@@ -218,7 +218,7 @@ impl<'a> Parser<'a> {
         allowance: &mut Allowance<'a>,
     ) -> Result<(), ReadError<'a>>
         requires { IsBlank allowance.old }
-        ensures value { Fills result (Statement.Allow allowance.new) self.new (allow_statement self.old) }
+        ensures value { Fills result (statements.Allow allowance.new) self.new (allow_statement self.old) }
         ensures shorter { length self.new ≤ length self.old }
     {
         self.set(&mut allowance.source, false)?;

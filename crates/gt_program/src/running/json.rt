@@ -2,11 +2,11 @@
 ghost use Rattle.std.specs.Prelude.{is_some};
 ghost use Rattle.gt_text.specs.Streams.{ConsumesAtMost};
 ghost use Rattle.gt_text.specs.declared.streams.TheConstants.{READ_LIMIT};
-ghost use Rattle.gt_json.specs.declared.places.PrintedText.TheVariants as printed;
+ghost use Rattle.gt_json.specs.declared.places.PrintedText.TheVariants as printed_texts;
 ghost use Rattle.gt_file_commands.specs.AsJson.{ForInput, Passes};
 ghost use Rattle.gt_program.specs.Runs.{RanAsJson};
-ghost use Rattle.gt_run.specs.declared.fault.RunFault.TheVariants as runs;
-ghost use Rattle.gt_script_runs.specs.declared.fault.PlayFault.TheVariants as plays;
+ghost use Rattle.gt_run.specs.declared.fault.RunFault.TheVariants as run_faults;
+ghost use Rattle.gt_script_runs.specs.declared.fault.PlayFault.TheVariants as play_faults;
 
 use gt_audit::SharedLog;
 use gt_json::{JsonFault, PrintedText, write_json};
@@ -26,7 +26,8 @@ fn pass_run<W: Write>(
     outcome: Result<(), RunFault>,
     writer: &mut W,
 ) -> Result<(), RunFault>
-    ensures { Passes printed.Run (runs.Play plays.Memory) (runs.Play plays.Write) text.now outcome
+    ensures { Passes printed_texts.Run (run_faults.Play play_faults.Memory)
+        (run_faults.Play play_faults.Write) text.now outcome
         (W.contents writer.old) (W.contents writer.new) result }
 {
     every_writer_keeps_what_it_has();

@@ -1,9 +1,9 @@
 use Rattle.std.proofs.Common.{ap, subst, ◌∙◌, Result}
 use Rattle.gt_types.specs.Denial.{denial_of}
 use Rattle.gt_types.specs.declared.denial.Denial.{Denial}
-use Rattle.gt_types.specs.declared.denial.Facts.TheVariants.{None as NoFacts}
+use Rattle.gt_types.specs.declared.denial.Facts.TheVariants as facts
 use Rattle.gt_types.specs.declared.denial.Rule.TheVariants.{N6}
-use Rattle.gt_model.specs.declared.handle.Handle.{Handle as Name}
+use Rattle.gt_model.specs.declared.handle.Handle.{Handle}
 use Rattle.gt_attached.specs.Encoding.{encoded}
 use Rattle.gt_attached.specs.declared.answer.AttachedOutcome.TheVariants as outcomes
 use Rattle.gt_model.specs.declared.request.Request.TheVariants as requests
@@ -19,11 +19,11 @@ unmap-answered-requires c = record { idle = idle-there c.args.domain.now.held.va
 pub returns : goal.returns
 returns c =
     let x = c.here_mut-here.result.now in let answer = c.store_done.new.answer in
-    let refused : RefusesForeign x c.args.name.now (outcomes.Denied (denial_of N6 NoFacts)) answer =
+    let refused : RefusesForeign x c.args.name.now (outcomes.Denied (denial_of N6 facts.None)) answer =
     λ foreign. c.store_done.ensures
     ∙ ap (λ (r : Result (Unit {0}) Denial). encoded (outcome r)) (c.unmap-answered.ensures.absent (c.handle_named-handle.ensures.foreign foreign)) in
-    made answer (λ d e. EncodesUnmapped (requests.Unmap (handle_named d c.args.name.now)) hypercalls.Unmap (handle_named d c.args.name.now) answer d e × RefusesForeign d c.args.name.now (outcomes.Denied (denial_of N6 NoFacts)) answer) (c.is_turned_away.ensures.may c.if-is_turned_away.false) c.here_mut-here.ensures.value (
-      subst (λ (h : Name). EncodesUnmapped (requests.Unmap h) hypercalls.Unmap h answer x (record { guest = c.unmap-answered.new.self; run = x.run }))
+    made answer (λ d e. EncodesUnmapped (requests.Unmap (handle_named d c.args.name.now)) hypercalls.Unmap (handle_named d c.args.name.now) answer d e × RefusesForeign d c.args.name.now (outcomes.Denied (denial_of N6 facts.None)) answer) (c.is_turned_away.ensures.may c.if-is_turned_away.false) c.here_mut-here.ensures.value (
+      subst (λ (h : Handle). EncodesUnmapped (requests.Unmap h) hypercalls.Unmap h answer x (record { guest = c.unmap-answered.new.self; run = x.run }))
           c.handle_named-handle.ensures.value
           (record {
             result = c.unmap-answered.result;

@@ -1,7 +1,7 @@
-use Rattle.gt_calls.proofs.Words.{◌≡◌, refl, ◌∙◌, DomId, CallResult, CopyArgs, PinPurpose, AccessPath}
-use Rattle.gt_calls.proofs.Words.{CallerKnowledge, Leg, LegPhase, Phase, Walking, Accessing, Asking, Last, Ending}
-use Rattle.gt_calls.proofs.Words.{Observation, Step, CallPins, LegRefused, after_leg, ap, knows, leg_after}
-use Rattle.gt_calls.proofs.Words.{phase_after, pins_so_far, sym}
+use Rattle.gt_calls.proofs.Words.{◌≡◌, refl, ◌∙◌, DomId, CallResult, CopyArgs, PinPurpose, AccessPath, CallerKnowledge}
+use Rattle.gt_calls.proofs.Words.{Leg, LegPhase, Phase, Walking, Accessing, Asking, Last, Ending, Observation, Step}
+use Rattle.gt_calls.proofs.Words.{CallPins, after_leg, ap, knows, leg_after, phase_after, pins_so_far, sym}
+use Rattle.gt_calls.specs.declared.leg.LegNext.TheVariants as leg_outcomes
 use Rattle.gt_calls.specs.Prelude.{Denial}
 use Rattle.gt_model.specs.declared.action.CallResult.TheVariants.{Refused}
 use Rattle.gt_calls.specs.Machine.{change_after}
@@ -31,7 +31,7 @@ returns-in_default g c =
 -- a leg that is refused is followed by the release of the pins so far
 of-refused : (k : CallerKnowledge) (caller : DomId) (aim : PinPurpose) (l : Leg) (at : LegPhase) (seen : Observation)
     (denial : Denial) (pins : CallPins) (phase after : Phase)
-    → phase ≡ Walking aim l at → leg_after l at seen ≡ LegRefused denial → pins ≡ pins_so_far aim
+    → phase ≡ Walking aim l at → leg_after l at seen ≡ leg_outcomes.Refused denial → pins ≡ pins_so_far aim
     → after ≡ Ending pins (Refused denial) → after ≡ phase_after k caller phase seen
 of-refused k caller aim l at seen denial pins phase after w r p e =
     e ∙ ap (λ (x : CallPins). Ending x (Refused denial)) p ∙ ap (after_leg k caller aim l) (sym r)

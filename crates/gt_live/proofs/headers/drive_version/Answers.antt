@@ -1,7 +1,7 @@
 use Rattle.std.proofs.Common.{ℕ, refl, subst, sym}
 use Rattle.gt_calls.specs.Known.{knows}
-use Rattle.gt_model.specs.declared.action.Observation.TheVariants.{Nothing as Unseen}
-use Rattle.gt_model.specs.declared.action.Step.TheVariants as steps
+use Rattle.gt_model.specs.declared.action.Observation.TheVariants as observations
+use Rattle.gt_model.specs.declared.action.Step.TheVariants as call_steps
 use Rattle.gt_model.specs.declared.action.CallResult.TheVariants.{Granted}
 use Rattle.gt_calls.specs.declared.call.Phase.TheVariants as phases
 use Rattle.gt_model.specs.declared.request.OpenRequest.TheVariants as asks
@@ -14,22 +14,22 @@ pub store_header-requires-clause-can : goal.store_header-requires-clause-can
 store_header-requires-clause-can g c =
     let known = knows g.P.Allows.may c.args.known.now in let law = c.every_call_goes_on_by_its_phase.ensures known in
     let k = c.args.words.now.layout in let v = c.args.seat.now.view in let a = c.args in let r = c.requires in
-    subst (λ (n : ℕ). CanMake k v (steps.StoreHeader a.version n)) (sym c.from.ensures)
-    (can-only known law k v a.caller (asks.SetVersion a.version) (phases.Last (steps.StoreHeader a.version known.header.frames) Granted)
-    (steps.StoreHeader a.version known.header.frames) r.knows tt r.unanswered refl refl)
+    subst (λ (n : ℕ). CanMake k v (call_steps.StoreHeader a.version n)) (sym c.from.ensures)
+    (can-only known law k v a.caller (asks.SetVersion a.version) (phases.Last (call_steps.StoreHeader a.version known.header.frames) Granted)
+    (call_steps.StoreHeader a.version known.header.frames) r.knows tt r.unanswered refl refl)
 
 pub returns-clause-called : goal.returns-clause-called
 returns-clause-called g c =
     let known = knows g.P.Allows.may c.args.known.now in let law = c.every_call_goes_on_by_its_phase.ensures known in
     let k = c.args.words.now.layout in let v = c.args.seat.now.view in let a = c.args in let r = c.requires in
-    (only known law k v a.caller (asks.SetVersion a.version) (phases.Last (steps.StoreHeader a.version known.header.frames) Granted)
-    (steps.StoreHeader a.version known.header.frames) Unseen Granted c.store_header.new.seat.view r.knows tt r.unanswered refl refl
-    (subst (λ (n : ℕ). Made k (steps.StoreHeader a.version n) Unseen v c.store_header.new.seat.view) c.from.ensures c.store_header.ensures.made) refl).called
+    (only known law k v a.caller (asks.SetVersion a.version) (phases.Last (call_steps.StoreHeader a.version known.header.frames) Granted)
+    (call_steps.StoreHeader a.version known.header.frames) observations.Nothing Granted c.store_header.new.seat.view r.knows tt r.unanswered refl refl
+    (subst (λ (n : ℕ). Made k (call_steps.StoreHeader a.version n) observations.Nothing v c.store_header.new.seat.view) c.from.ensures c.store_header.ensures.made) refl).called
 
 pub returns-clause-same : goal.returns-clause-same
 returns-clause-same g c =
     let known = knows g.P.Allows.may c.args.known.now in let law = c.every_call_goes_on_by_its_phase.ensures known in
     let k = c.args.words.now.layout in let v = c.args.seat.now.view in let a = c.args in let r = c.requires in
-    (only known law k v a.caller (asks.SetVersion a.version) (phases.Last (steps.StoreHeader a.version known.header.frames) Granted)
-    (steps.StoreHeader a.version known.header.frames) Unseen Granted c.store_header.new.seat.view r.knows tt r.unanswered refl refl
-    (subst (λ (n : ℕ). Made k (steps.StoreHeader a.version n) Unseen v c.store_header.new.seat.view) c.from.ensures c.store_header.ensures.made) refl).left.0
+    (only known law k v a.caller (asks.SetVersion a.version) (phases.Last (call_steps.StoreHeader a.version known.header.frames) Granted)
+    (call_steps.StoreHeader a.version known.header.frames) observations.Nothing Granted c.store_header.new.seat.view r.knows tt r.unanswered refl refl
+    (subst (λ (n : ℕ). Made k (call_steps.StoreHeader a.version n) observations.Nothing v c.store_header.new.seat.view) c.from.ensures c.store_header.ensures.made) refl).left.0

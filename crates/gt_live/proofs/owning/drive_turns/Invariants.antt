@@ -1,5 +1,5 @@
 use Rattle.gt_calls.specs.Known.{knows}
-use Rattle.gt_model.specs.declared.action.Action.TheVariants.{Step as Makes}
+use Rattle.gt_model.specs.declared.action.Action.TheVariants as actions
 use Rattle.gt_model.specs.declared.action.Step.TheVariants.{LookControl}
 use Rattle.gt_calls.specs.declared.call.Phase.TheVariants.{Looking}
 use Rattle.gt_words.specs.Conditions.{IsSeatOf, IsSameSeat}
@@ -14,7 +14,7 @@ invariant-turns g l = record {
   seat : IsSeatOf l.words l.seat;
   same : IsSameSeat l.fn.seat l.seat;
   going : Going (knows g.P.Allows.may l.known) l.words.layout Nothing l.fn.seat.view l.seat.view
-      (call_in l.caller (asks_change l.gref l.change) (Looking l.gref l.change l.more)) (Makes (LookControl l.caller l.gref));
+      (call_in l.caller (asks_change l.gref l.change) (Looking l.gref l.change l.more)) (actions.Step (LookControl l.caller l.gref));
 }
 
 abbrev pub decreases-turns : goal.decreases-turns

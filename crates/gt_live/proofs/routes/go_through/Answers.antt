@@ -1,5 +1,5 @@
 use Rattle.std.proofs.Common.{◌∙◌, sym, refl}
-use Rattle.gt_calls.specs.declared.leg.LegNext.TheVariants.{Refused as LegRefused, Pinned as LegPinned}
+use Rattle.gt_calls.specs.declared.leg.LegNext.TheVariants as leg_outcomes
 use Rattle.gt_calls.specs.Holding.{pins_so_far}
 use Rattle.gt_calls.specs.Machine.{through_via}
 use Rattle.gt_calls.specs.Known.{knows}
@@ -43,7 +43,7 @@ give_pin_back-requires-in-Err-clause-can g c =
     can-last k known can.0 (through_via known can.1 first c.args.to.pair c.args.to.dom c.args.to.gref) v (pins_so_far can.1)
     c.in-Err.denial c.args.via.now can.2.0 u can.2.1 can.3
     (through-runs known k can.0 can.1 first c.second_leg-second.result c.args.to.pair c.args.to.dom c.args.to.gref
-    (LegRefused c.in-Err.denial) v u (sym c.judge_via.ensures ∙ c.in_default.is) c.second_leg-second.ensures
+    (leg_outcomes.Refused c.in-Err.denial) v u (sym c.judge_via.ensures ∙ c.in_default.is) c.second_leg-second.ensures
     c.in-Err.ensures.walked)
 
 pub returns-in-Ok-clause-goes : goal.returns-in-Ok-clause-goes
@@ -51,7 +51,7 @@ returns-in-Ok-clause-goes g c = λ caller aim last.
     let known = knows g.P.Allows.may c.args.known.now in let k = c.args.words.now.layout in
     let v = c.args.seat.now.view in let first = c.args.first.now in
     through-runs known k caller aim first c.second_leg-second.result c.args.to.pair c.args.to.dom c.args.to.gref
-    (LegPinned c.in-Ok.held) v c.walk_leg.new.seat.view (sym c.judge_via.ensures ∙ c.in_default.is)
+    (leg_outcomes.Pinned c.in-Ok.held) v c.walk_leg.new.seat.view (sym c.judge_via.ensures ∙ c.in_default.is)
     c.second_leg-second.ensures c.in-Ok.ensures.walked
 
 pub returns-in-Err-clause-goes : goal.returns-in-Err-clause-goes
@@ -61,6 +61,6 @@ returns-in-Err-clause-goes g c = λ caller aim last.
     last-given k known caller (through_via known aim first c.args.to.pair c.args.to.dom c.args.to.gref) v (pins_so_far aim)
     c.in-Err.denial c.args.via.now last.0 u c.give_pin_back-in-Err.new.seat.view last.1
     (through-runs known k caller aim first c.second_leg-second.result c.args.to.pair c.args.to.dom c.args.to.gref
-    (LegRefused c.in-Err.denial) v u (sym c.judge_via.ensures ∙ c.in_default.is) c.second_leg-second.ensures
+    (leg_outcomes.Refused c.in-Err.denial) v u (sym c.judge_via.ensures ∙ c.in_default.is) c.second_leg-second.ensures
     c.in-Err.ensures.walked)
     (c.give_pin_back-in-Err.ensures.made 0)

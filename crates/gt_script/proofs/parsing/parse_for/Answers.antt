@@ -1,5 +1,5 @@
 use Rattle.std.proofs.Common.{Err}
-use Rattle.gt_script.specs.declared.faults.ScriptError.TheVariants as errors
+use Rattle.gt_script.specs.declared.faults.ScriptError.TheVariants as script_errors
 use Rattle.gt_script.proofs.FaultLemmas.{answers-script, answers-fault, answers-all, answers-unread, answers-text}
 use Rattle.gt_script.proofs.parsing.parse_for.Goals as goal
 
@@ -22,8 +22,8 @@ pub returns-in-Err-clause-script : goal.returns-in-Err-clause-script
 returns-in-Err-clause-script c = answers-unread c.args.command c.args.bytes.now c.in-Err.fault c.in-Err.ensures.fault
 
 pub returns-in-Err-clause-fault : goal.returns-in-Err-clause-fault
-returns-in-Err-clause-fault c = answers-fault c.args.command c.args.bytes.now (Err (errors.Fault c.in-Err.fault)) (answers-unread c.args.command c.args.bytes.now c.in-Err.fault c.in-Err.ensures.fault)
+returns-in-Err-clause-fault c = answers-fault c.args.command c.args.bytes.now (Err (script_errors.Fault c.in-Err.fault)) (answers-unread c.args.command c.args.bytes.now c.in-Err.fault c.in-Err.ensures.fault)
 
 pub returns-in-Err-clause-beginning : goal.returns-in-Err-clause-beginning
 returns-in-Err-clause-beginning c = λ all e.
-    answers-all c.args.command c.args.bytes.now all (Err (errors.Fault c.in-Err.fault)) e (answers-unread c.args.command c.args.bytes.now c.in-Err.fault c.in-Err.ensures.fault)
+    answers-all c.args.command c.args.bytes.now all (Err (script_errors.Fault c.in-Err.fault)) e (answers-unread c.args.command c.args.bytes.now c.in-Err.fault c.in-Err.ensures.fault)

@@ -8,8 +8,8 @@ use Rattle.gt_words.specs.Conditions.{IsWordOf}
 use Rattle.gt_word_history.specs.Controls.{generation_of}
 use Rattle.gt_word_history.specs.declared.view.EntryRecord.{EntryRecord}
 use Rattle.gt_word_history.specs.Views.{last_of}
-use Rattle.gt_model.specs.declared.change.EntryChange.TheVariants as change
-use Rattle.gt_word_history.specs.declared.view.Purpose.TheVariants as purpose
+use Rattle.gt_model.specs.declared.change.EntryChange.TheVariants as changes
+use Rattle.gt_word_history.specs.declared.view.Purpose.TheVariants as purposes
 
 -- the word is not worn
 low : (x : EntryRecord) (word : ℕ) → IsWordOf x word → x.generation < LAST_GENERATION → generation_of word < LAST_GENERATION
@@ -23,10 +23,10 @@ exchange-found-requires-clause-may c = λ slots id. promote_owes c.args.words.no
 
 pub returns-then-found-word-clause-step : goal.returns-then-found-word-clause-step
 returns-then-found-word-clause-step c = let k = c.args.words.now.layout in let v = c.args.seat.now.view in let w = c.exchange-found.new.seat.view in let n : ℕ = c.exchange-found.result in let e = c.exchange-found.ensures.step in
-    let z = exchange_taken k c.args.at.position c.args.at.gref v (purpose.Change change.Promote) c.args.word c.turned_over-new.result n w c.if-found-word.true e.0 e.1 e.2 in
-    takes_change k c.args.at.position c.args.at.gref c.args.word v w c.requires.entry.0 c.requires.entry.1 c.requires.mine.1 change.Promote c.turned_over-new.result c.turned_over-new.ensures z
+    let z = exchange_taken k c.args.at.position c.args.at.gref v (purposes.Change changes.Promote) c.args.word c.turned_over-new.result n w c.if-found-word.true e.0 e.1 e.2 in
+    takes_change k c.args.at.position c.args.at.gref c.args.word v w c.requires.entry.0 c.requires.entry.1 c.requires.mine.1 changes.Promote c.turned_over-new.result c.turned_over-new.ensures z
 
 pub returns-else-found-word-clause-step : goal.returns-else-found-word-clause-step
 returns-else-found-word-clause-step c = let k = c.args.words.now.layout in let v = c.args.seat.now.view in let w = c.exchange-found.new.seat.view in let n : ℕ = c.exchange-found.result in let e = c.exchange-found.ensures.step in
-    let z = exchange_missed k c.args.at.position c.args.at.gref v (purpose.Change change.Promote) c.args.word c.turned_over-new.result n w c.if-found-word.false e.0 e.1 e.2 in
-    finds_another k c.args.at.position c.args.at.gref c.args.word v w c.requires.entry.0 c.requires.entry.1 c.requires.mine.1 change.Promote c.turned_over-new.result n c.turned_over-new.ensures c.if-found-word.false z
+    let z = exchange_missed k c.args.at.position c.args.at.gref v (purposes.Change changes.Promote) c.args.word c.turned_over-new.result n w c.if-found-word.false e.0 e.1 e.2 in
+    finds_another k c.args.at.position c.args.at.gref c.args.word v w c.requires.entry.0 c.requires.entry.1 c.requires.mine.1 changes.Promote c.turned_over-new.result n c.turned_over-new.ensures c.if-found-word.false z

@@ -1,6 +1,7 @@
 use Rattle.gt_core.proofs.Words.{◌≡◌, ℕ, length, Option, Some, None, refl, sym, ap, ◌∙◌, subst, set, same_Some}
-use Rattle.gt_core.proofs.Words.{slice_get_read, slice_get, IsTrue, bytes_at, FrameSet, frame_at, has_range, OpenCall, Step}
-use Rattle.gt_core.proofs.Words.{BytesAnswer, State, IsLoading, asked_in, IsReadable, with_underway, Closed, vec_len}
+use Rattle.gt_core.proofs.Words.{slice_get_read, slice_get, IsTrue, bytes_at, FrameSet, frame_at, has_range, OpenCall}
+use Rattle.gt_core.proofs.Words.{Step, State, IsLoading, asked_in, IsReadable, with_underway, Closed, vec_len}
+use Rattle.gt_model.specs.declared.trace.Answer.TheVariants as answers
 use Rattle.gt_core.proofs.{Placed.ids-set, CallsOver.loaded, CallsOver.closed-plain}
 use Rattle.gt_core.proofs.kept.Machine.close.Goals as goal
 
@@ -24,7 +25,7 @@ returns-in-Read-clause-settles g c = let fs : FrameSet = c.args.self.now.frames 
     let after : new ≡ set xs at (with_underway None d) = ap (λ (z : State). set xs at z) (c.close_load-out.ensures.closed ∙ ap (with_underway None) same) in
     let read : bytes.items ≡ bytes_at (frame_at fs (record { owner = c.in-Read.dom; number = c.in-Read.frame })) c.in-Read.off c.in-Read.len =
     c.read_bytes-bytes.ensures ∙ ap (bytes_at (frame_at fs (record { owner = c.in-Read.dom; number = c.in-Read.frame })) c.in-Read.off) (loaded c.args.last.call.request (vec_len out) c.in-Read.len asks can.1) in
-    subst (λ (s : Step). Closed fs xs at d s (BytesAnswer (record { bytes = bytes })) new) (sym c.in-Read.is) (record { bytes = bytes }, refl, after, read)
+    subst (λ (s : Step). Closed fs xs at d s (answers.Bytes (record { bytes = bytes })) new) (sym c.in-Read.is) (record { bytes = bytes }, refl, after, read)
 
 pub returns-in_default : goal.returns-in_default
 returns-in_default g c = let xs = c.args.self.now.domains.items in let at = c.args.at in

@@ -3,7 +3,7 @@ use Rattle.std.specs.Prelude.{IfOk, ℕ, option_copied, IfErr}
 use Rattle.gt_frames.specs.Receipts.{Reading}
 use Rattle.gt_types.specs.declared.Dir.TheVariants as dirs
 use Rattle.gt_model.specs.Entries.{frame_of}
-use Rattle.gt_model.specs.declared.action.Step.TheVariants as steps
+use Rattle.gt_model.specs.declared.action.Step.TheVariants as call_steps
 use Rattle.gt_model.specs.declared.held.HeldPin.{HeldPin}
 use Rattle.gt_model.specs.declared.request.Request.TheVariants as requests
 use Rattle.gt_handles.specs.Handles.{value_of}
@@ -34,8 +34,8 @@ returns-clause-answers g c =
     let k = knowledge m.config may d in
     let judged : c.judge_load.result ≡ load_begun (value_of d.mappings) c.args.handle c.args.off c.args.len =
     c.judge_load.ensures ∙ ap (λ (n : ℕ). load_begun (value_of d.mappings) c.args.handle c.args.off n) c.from.ensures in
-    let way = mapped-way k d.seat.dom (requests.Load c.args.handle c.args.off c.args.len) c.args.handle held (λ (p : HeldPin). steps.Read p.dom (frame_of p.entry) c.args.off c.args.len) (sym judged ∙ none-left c.judge_load.result c.in_default.not-Some) there refl in (
-      one-access m.words _ (steps.Read held.dom (frame_of held.entry) c.args.off c.args.len) (IsReadBy m.words.layout) c.read_through.result d.seat.view c.read_through.new.seat.view tt way (subst (λ (n : ℕ). IfOk c.read_through.result (λ (r : Reading). ReadsFrame m.words.layout (frame_named held.dom n) c.args.off c.args.len r d.seat.view c.read_through.new.seat.view)) c.frame.ensures c.read_through.ensures.read) c.read_through.ensures.unmade c.read_through.ensures.refused
+    let way = mapped-way k d.seat.dom (requests.Load c.args.handle c.args.off c.args.len) c.args.handle held (λ (p : HeldPin). call_steps.Read p.dom (frame_of p.entry) c.args.off c.args.len) (sym judged ∙ none-left c.judge_load.result c.in_default.not-Some) there refl in (
+      one-access m.words _ (call_steps.Read held.dom (frame_of held.entry) c.args.off c.args.len) (IsReadBy m.words.layout) c.read_through.result d.seat.view c.read_through.new.seat.view tt way (subst (λ (n : ℕ). IfOk c.read_through.result (λ (r : Reading). ReadsFrame m.words.layout (frame_named held.dom n) c.args.off c.args.len r d.seat.view c.read_through.new.seat.view)) c.frame.ensures c.read_through.ensures.read) c.read_through.ensures.unmade c.read_through.ensures.refused
           (subst (λ (n : ℕ). IfErr c.read_through.result (IsIfMissing m.words (frame_named held.dom n))) c.frame.ensures c.read_through.ensures.cause),
       (record { slots = refl; given = refl }, c.read_through.ensures.same.pins),
       refl,

@@ -3,7 +3,7 @@ use Rattle.std.specs.Prelude.{IfOk, ℕ, option_copied, IfErr}
 use Rattle.gt_frames.specs.Receipts.{Reading}
 use Rattle.gt_types.specs.declared.Dir.TheVariants as dirs
 use Rattle.gt_model.specs.Entries.{frame_of}
-use Rattle.gt_model.specs.declared.action.Step.TheVariants as steps
+use Rattle.gt_model.specs.declared.action.Step.TheVariants as call_steps
 use Rattle.gt_model.specs.declared.held.HeldPin.{HeldPin}
 use Rattle.gt_model.specs.declared.request.Request.TheVariants as requests
 use Rattle.gt_handles.specs.Handles.{value_of}
@@ -32,8 +32,8 @@ returns-clause-answers g c =
     let m = c.args.monitor.now in let d = c.args.self.now in let may = g.P.Allows.may m.rights in let held = c.unwrap-held.result.now in
     let there : value_of d.mappings c.args.handle ≡ Some held = sym c.get.ensures.value ∙ ap option_copied c.unwrap-held.ensures in
     let k = knowledge m.config may d in
-    let way = mapped-way k d.seat.dom (requests.Load c.args.handle c.args.off (length c.args.buffer.now)) c.args.handle held (λ (p : HeldPin). steps.Read p.dom (frame_of p.entry) c.args.off (length c.args.buffer.now)) (sym c.judge_load.ensures ∙ none-left c.judge_load.result c.in_default.not-Some) there refl in (
-      one-access m.words _ (steps.Read held.dom (frame_of held.entry) c.args.off (length c.args.buffer.now)) (IsReadBy m.words.layout) c.fill_through.result d.seat.view c.fill_through.new.seat.view tt way (subst (λ (n : ℕ). IfOk c.fill_through.result (λ (r : Reading). ReadsFrame m.words.layout (frame_named held.dom n) c.args.off (length c.args.buffer.now) r d.seat.view c.fill_through.new.seat.view)) c.frame.ensures c.fill_through.ensures.read) c.fill_through.ensures.unmade (missing-access c.fill_through.result c.fill_through.ensures.refused)
+    let way = mapped-way k d.seat.dom (requests.Load c.args.handle c.args.off (length c.args.buffer.now)) c.args.handle held (λ (p : HeldPin). call_steps.Read p.dom (frame_of p.entry) c.args.off (length c.args.buffer.now)) (sym c.judge_load.ensures ∙ none-left c.judge_load.result c.in_default.not-Some) there refl in (
+      one-access m.words _ (call_steps.Read held.dom (frame_of held.entry) c.args.off (length c.args.buffer.now)) (IsReadBy m.words.layout) c.fill_through.result d.seat.view c.fill_through.new.seat.view tt way (subst (λ (n : ℕ). IfOk c.fill_through.result (λ (r : Reading). ReadsFrame m.words.layout (frame_named held.dom n) c.args.off (length c.args.buffer.now) r d.seat.view c.fill_through.new.seat.view)) c.frame.ensures c.fill_through.ensures.read) c.fill_through.ensures.unmade (missing-access c.fill_through.result c.fill_through.ensures.refused)
           (subst (λ (n : ℕ). IfErr c.fill_through.result (IsIfMissing m.words (frame_named held.dom n))) c.frame.ensures c.fill_through.ensures.cause),
       (record { slots = refl; given = refl }, c.fill_through.ensures.same.pins),
       refl,

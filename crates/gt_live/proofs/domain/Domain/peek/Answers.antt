@@ -2,7 +2,7 @@ use Rattle.std.proofs.Common.{◌≡◌, ◌∙◌, sym, ap, subst, refl}
 use Rattle.std.specs.Prelude.{IfOk, ℕ, IfErr}
 use Rattle.gt_types.specs.declared.DomId.{DomId}
 use Rattle.gt_model.specs.Rules.{own_access_begun}
-use Rattle.gt_model.specs.declared.action.Step.TheVariants as steps
+use Rattle.gt_model.specs.declared.action.Step.TheVariants as call_steps
 use Rattle.gt_model.specs.declared.request.Request.TheVariants as requests
 use Rattle.gt_live.specs.Accesses.{frame_named, IsIfMissing, IsReadBy, ReadsFrame}
 use Rattle.gt_live.specs.Domains.{knowledge}
@@ -19,7 +19,7 @@ returns-clause-answers g c =
     let judged : c.judge_own_access.result ≡ own_access_begun ds d.seat.dom c.args.frame c.args.off c.args.len =
     c.judge_own_access.ensures ∙ (ap (λ (n : ℕ). own_access_begun ds c.dom-caller.result c.args.frame c.args.off n) c.from.ensures
     ∙ ap (λ (x : DomId). own_access_begun ds x c.args.frame c.args.off c.args.len) c.dom-caller.ensures) in
-    let access = steps.Read d.seat.dom c.args.frame c.args.off c.args.len in
+    let access = call_steps.Read d.seat.dom c.args.frame c.args.off c.args.len in
     let way = own-way k d.seat.dom (requests.Peek c.args.frame c.args.off c.args.len) access (sym judged ∙ none-left c.judge_own_access.result c.in_default.not-Some) refl in (
       one-access m.words _ access (IsReadBy m.words.layout) c.read_through.result d.seat.view c.read_through.new.seat.view tt way
           (subst (λ (x : DomId). IfOk c.read_through.result (λ (r : Reading). ReadsFrame m.words.layout (frame_named x c.args.frame) c.args.off c.args.len r d.seat.view c.read_through.new.seat.view)) c.dom-caller.ensures c.read_through.ensures.read) c.read_through.ensures.unmade c.read_through.ensures.refused

@@ -2,7 +2,7 @@ use Rattle.std.proofs.Common.{◌≡◌, ◌∙◌, sym, ap, subst, refl, inl, l
 use Rattle.std.specs.Prelude.{IfOk, IfErr}
 use Rattle.gt_types.specs.declared.DomId.{DomId}
 use Rattle.gt_model.specs.Rules.{own_access_begun}
-use Rattle.gt_model.specs.declared.action.Step.TheVariants as steps
+use Rattle.gt_model.specs.declared.action.Step.TheVariants as call_steps
 use Rattle.gt_model.specs.declared.request.Request.TheVariants as requests
 use Rattle.gt_live.specs.Accesses.{frame_named, IsIfMissing, IsReadBy, ReadsFrame}
 use Rattle.gt_live.specs.Domains.{knowledge}
@@ -19,7 +19,7 @@ returns-clause-answers g c =
     let ds = m.config.domains.items in
     let judged : c.judge_own_access.result ≡ own_access_begun ds d.seat.dom c.args.frame c.args.off (length c.args.buffer.now) =
     c.judge_own_access.ensures ∙ (ap (λ (x : DomId). own_access_begun ds x c.args.frame c.args.off (length c.args.buffer.now)) c.dom-caller.ensures) in
-    let access = steps.Read d.seat.dom c.args.frame c.args.off (length c.args.buffer.now) in
+    let access = call_steps.Read d.seat.dom c.args.frame c.args.off (length c.args.buffer.now) in
     let way = own-way k d.seat.dom (requests.Peek c.args.frame c.args.off (length c.args.buffer.now)) access (sym judged ∙ none-left c.judge_own_access.result c.in_default.not-Some) refl in (
       one-access m.words _ access (IsReadBy m.words.layout) c.fill_through.result d.seat.view c.fill_through.new.seat.view tt way
           (subst (λ (x : DomId). IfOk c.fill_through.result (λ (r : Reading). ReadsFrame m.words.layout (frame_named x c.args.frame) c.args.off (length c.args.buffer.now) r d.seat.view c.fill_through.new.seat.view)) c.dom-caller.ensures c.fill_through.ensures.read) c.fill_through.ensures.unmade (missing-access c.fill_through.result c.fill_through.ensures.refused)

@@ -2,7 +2,7 @@ use Rattle.std.proofs.Common.{◌≡◌, ◌∙◌, sym, ap, subst, refl, length
 use Rattle.std.specs.Prelude.{IfOk, IfErr}
 use Rattle.gt_types.specs.declared.DomId.{DomId}
 use Rattle.gt_model.specs.Rules.{own_access_begun}
-use Rattle.gt_model.specs.declared.action.Step.TheVariants as steps
+use Rattle.gt_model.specs.declared.action.Step.TheVariants as call_steps
 use Rattle.gt_model.specs.declared.request.Request.TheVariants as requests
 use Rattle.gt_live.specs.Accesses.{frame_named, IsIfMissing, IsWrittenBy, WritesFrame}
 use Rattle.gt_live.specs.Domains.{knowledge}
@@ -19,7 +19,7 @@ returns-clause-answers g c =
     let ds = m.config.domains.items in
     let judged : c.judge_own_access.result ≡ own_access_begun ds d.seat.dom c.args.frame c.args.off (length c.args.bytes.now) =
     c.judge_own_access.ensures ∙ (ap (λ (x : DomId). own_access_begun ds x c.args.frame c.args.off (length c.args.bytes.now)) c.dom-caller.ensures) in
-    let access = steps.Write d.seat.dom c.args.frame c.args.off (length c.args.bytes.now) in
+    let access = call_steps.Write d.seat.dom c.args.frame c.args.off (length c.args.bytes.now) in
     let way = own-way k d.seat.dom (requests.Poke c.args.frame c.args.off c.args.bytes) access (sym judged ∙ none-left c.judge_own_access.result c.in_default.not-Some) refl in (
       one-access m.words _ access (IsWrittenBy m.words.layout d (requests.Poke c.args.frame c.args.off c.args.bytes)) c.write_through.result d.seat.view c.write_through.new.seat.view tt way
           (named-route m.words.layout d (requests.Poke c.args.frame c.args.off c.args.bytes) d.seat.dom c.args.frame c.args.off (length c.args.bytes.now) Own c.write_through.result d.seat.view c.write_through.new.seat.view refl

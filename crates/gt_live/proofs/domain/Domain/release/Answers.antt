@@ -3,10 +3,10 @@ use Rattle.std.specs.Option.{IsSome}
 use Rattle.gt_model.specs.Asking.{begun_of}
 use Rattle.gt_calls.specs.Opening.{opens}
 use Rattle.gt_model.specs.Rules.{release_begun}
-use Rattle.gt_model.specs.declared.action.Step.TheVariants as steps
+use Rattle.gt_model.specs.declared.action.Step.TheVariants as call_steps
 use Rattle.gt_model.specs.declared.held.HeldPin.{HeldPin}
 use Rattle.gt_model.specs.declared.request.OpenRequest.TheVariants as asks
-use Rattle.gt_model.specs.declared.request.PinHolder.TheVariants.{Mapping as ByHandle}
+use Rattle.gt_model.specs.declared.request.PinHolder.TheVariants as holders
 use Rattle.gt_model.specs.declared.request.Request.TheVariants as requests
 use Rattle.gt_live.specs.Domains.{knowledge}
 use Rattle.gt_live.proofs.Accessing.{mapped-way, none-left, refused-called, refuses}
@@ -42,11 +42,11 @@ returns g c =
     let m = c.args.monitor.now in let d = c.args.self.now in let c0 = knowledge m.config (g.P.Allows.may m.rights) d in
     let h = c.args.handle in let did = c.drop_mapping.ensures in let held = did.dropped.0 in
     let begun : begun_of c0 d.seat.dom (requests.Release h) ≡ None = sym c.judge_release.ensures ∙ none-left c.judge_release.result c.in_default.not-Some in
-    let way = mapped-way c0 d.seat.dom (requests.Release h) h held (λ (p : HeldPin). steps.Unpin p (ByHandle h)) begun did.dropped.1.taken.value refl in
+    let way = mapped-way c0 d.seat.dom (requests.Release h) h held (λ (p : HeldPin). call_steps.Unpin p (holders.Mapping h)) begun did.dropped.1.taken.value refl in
     record {
       mine = did.mine;
       seat = did.seat;
-      answered = one-step m.words.layout _ (steps.Unpin held (ByHandle h)) d.seat.view c.drop_mapping.new.self.seat.view way did.dropped.2;
+      answered = one-step m.words.layout _ (call_steps.Unpin held (holders.Mapping h)) d.seat.view c.drop_mapping.new.self.seat.view way did.dropped.2;
       removed = (held, did.dropped.1);
       refused = tt;
       silent = did.silent;

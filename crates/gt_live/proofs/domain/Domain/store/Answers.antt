@@ -3,7 +3,7 @@ use Rattle.std.specs.Prelude.{IfOk, ℕ, option_copied, IfErr}
 use Rattle.gt_frames.specs.Receipts.{Writing}
 use Rattle.gt_types.specs.declared.Dir.TheVariants as dirs
 use Rattle.gt_model.specs.Entries.{frame_of}
-use Rattle.gt_model.specs.declared.action.Step.TheVariants as steps
+use Rattle.gt_model.specs.declared.action.Step.TheVariants as call_steps
 use Rattle.gt_model.specs.declared.held.AccessPath.TheVariants.{Direct}
 use Rattle.gt_model.specs.declared.held.HeldPin.{HeldPin}
 use Rattle.gt_model.specs.declared.request.Request.TheVariants as requests
@@ -34,8 +34,8 @@ returns-clause-answers g c =
     let m = c.args.monitor.now in let d = c.args.self.now in let may = g.P.Allows.may m.rights in let held = c.unwrap-held.result.now in
     let there : value_of d.mappings c.args.handle ≡ Some held = sym c.get.ensures.value ∙ ap option_copied c.unwrap-held.ensures in
     let k = knowledge m.config may d in
-    let way = mapped-way k d.seat.dom (requests.Store c.args.handle c.args.off c.args.bytes) c.args.handle held (λ (p : HeldPin). steps.Write p.dom (frame_of p.entry) c.args.off (length c.args.bytes.now)) (sym c.judge_store.ensures ∙ none-left c.judge_store.result c.in_default.not-Some) there refl in (
-      one-access m.words _ (steps.Write held.dom (frame_of held.entry) c.args.off (length c.args.bytes.now)) (IsWrittenBy m.words.layout d (requests.Store c.args.handle c.args.off c.args.bytes)) c.write_through.result d.seat.view c.write_through.new.seat.view tt way
+    let way = mapped-way k d.seat.dom (requests.Store c.args.handle c.args.off c.args.bytes) c.args.handle held (λ (p : HeldPin). call_steps.Write p.dom (frame_of p.entry) c.args.off (length c.args.bytes.now)) (sym c.judge_store.ensures ∙ none-left c.judge_store.result c.in_default.not-Some) there refl in (
+      one-access m.words _ (call_steps.Write held.dom (frame_of held.entry) c.args.off (length c.args.bytes.now)) (IsWrittenBy m.words.layout d (requests.Store c.args.handle c.args.off c.args.bytes)) c.write_through.result d.seat.view c.write_through.new.seat.view tt way
           (named-route m.words.layout d (requests.Store c.args.handle c.args.off c.args.bytes) held.dom (frame_of held.entry) c.args.off (length c.args.bytes.now) (Direct held) c.write_through.result d.seat.view c.write_through.new.seat.view (held, there, refl)
           (subst (λ (n : ℕ). IfOk c.write_through.result (λ (r : Writing). WritesFrame m.words.layout (frame_named held.dom n) c.args.off c.args.bytes.now d.seat.dom (Direct held) r d.seat.view c.write_through.new.seat.view)) c.frame.ensures c.write_through.ensures.written))
           c.write_through.ensures.unmade c.write_through.ensures.refused
