@@ -341,11 +341,11 @@ module _ (b : Board) (c : Config) (may : AllowRelation) (limits : IsWithinLimits
       }
 
   -- it was answered at its beginning
-  pub answers : (g : History) (h : StepHistory) (ms : List DomainAct) (m : CallMade) (verdict : CallResult) → CanBeReached s (item_of_beginning d m.request (Some (answer_of verdict)) ∷ g) → Agree s k (item_of_beginning d m.request (Some (answer_of verdict)) ∷ g) h
+  pub answers-at-beginning : (g : History) (h : StepHistory) (ms : List DomainAct) (m : CallMade) (verdict : CallResult) → CanBeReached s (item_of_beginning d m.request (Some (answer_of verdict)) ∷ g) → Agree s k (item_of_beginning d m.request (Some (answer_of verdict)) ∷ g) h
       → IsCall b c may m → IsAtRest (domain_after first ms) m.old → m.new.seat.view ≡ m.old.seat.view → KeepsMappings m.old.mappings m.new.mappings
       → (domain_after first ms).seat.view.position ≡ i → (domain_after first ms).seat.view.first ≡ k.first → (domain_after first ms).seat.view.steps ≡ part_of i h → SeatNow c may g d first (Resting ms)
       → SeatNow c may (item_of_beginning d m.request (Some (answer_of verdict)) ∷ g) d first (Resting (Call m ∷ ms))
-  answers g h ms m verdict reached agree call rest view keeps at first-is steps seat =
+  answers-at-beginning g h ms m verdict reached agree call rest view keeps at first-is steps seat =
       let D = domain_after first ms in let item = item_of_beginning d m.request (Some (answer_of verdict)) in
       let own = began-keeps g m.request (Some (answer_of verdict)) (plain-unmapped verdict) in
       let maps = handles-kept m.old.mappings m.new.mappings _ _ keeps (subst (λ (z : HandleMap HeldPin). MappingsAgree z (mappings_at (item ∷ g) d.0) (maps_answered_at (item ∷ g) d.0)) (sym rest.mappings)

@@ -56,7 +56,7 @@ use Rattle.gt_live.specs.declared.domain.Domain.{Domain}
 use Rattle.gt_order.proofs.Accesses.{AccessedAs, accessed-as, read-as, read-bytes, writes-by-none, writes-by-words}
 use Rattle.gt_order.proofs.Bytes.{said}
 use Rattle.gt_order.proofs.Called.{leaves}
-use Rattle.gt_order.proofs.Ending.{RefusesOnly, answered-at-once, answers, asked-refuses, begins, core-adds}
+use Rattle.gt_order.proofs.Ending.{RefusesOnly, answered-at-once, answers-at-beginning, asked-refuses, begins, core-adds}
 use Rattle.gt_order.proofs.Ending.{ends-kept, ends-accessed, after-flag, after-look, ends-told, going-on}
 use Rattle.gt_order.proofs.Ending.{going-on-accessed, grows-last, grows-on, keeps-at-once, known-alike}
 use Rattle.gt_order.proofs.Ending.{no-pin-at-once, starves}
@@ -321,7 +321,7 @@ module _ (b : Board) (c : Config) (may : AllowRelation) (limits : IsWithinLimits
           let keeps = keeps-at-once (asked m.request) verdict m.old.mappings m.new.mappings (subst (RefusesOnly (asked m.request)) op (asked-refuses (knowledge c may m.old) m.old.seat.dom m.request)) a.2 in
           one-more b c may limits is h h firsts (put i (Resting ms) stages) stages i item o l refl (named i l) answered.0 answered.1 agree o.steps (writes-by-none k o.g h item (λ given contents. refl) o.writes) (bounded-quiet k o.g item (record { changes = λ z. refl; pins = λ before ps. refl; unpins = λ ps. refl }) o.bounded) same
           (grows-by c may d i (OfCore item) stages (Resting ms) (Resting (Call m ∷ ms)) e (λ j. of_core (items_by_outcome d (way_of c may m) m.request (sym out j) (sym none j)) ++ order_of_deeds c may d ms))
-          (subst (SeatNow c may (item ∷ o.g) d (firsts i)) (sym e) (answers b c may limits is i l (firsts i) (named i l) o.g h ms m verdict answered.1 agree call rest view keeps at.0 at.1 steps seat))
+          (subst (SeatNow c may (item ∷ o.g) d (firsts i)) (sym e) (answers-at-beginning b c may limits is i l (firsts i) (named i l) o.g h ms m verdict answered.1 agree call rest view keeps at.0 at.1 steps seat))
 
   -- a step of a call that goes on
 
