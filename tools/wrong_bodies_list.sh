@@ -50,13 +50,13 @@ invariant that is false of the body. Those that a contract refuses are among the
 | A guest that unmaps keeps its write pin | `gt_words` | contract: `Unpins` |
 | A page that is granted to one guest is granted to another | `gt_words` | contract: `Publishes` |
 | A store to a frame that its domain lacks is answered with N26 | `gt_words` | nothing |
-| A guest that leaves maps another page | `gt_attached` | contract: `Leaves` (`Resets`, `HasLeft`) |
+| A guest that leaves maps another page | `gt_attached` | contract: `LeavesRun` (`Resets`, `HasLeft`) |
 | A host copies from the destination to the source | `gt_attached` | contract: `BeginsAccess` |
 | A program that looks at the status takes a refused call as done | `gt_attached` | contract: `encoded` |
 | The record of a copy shows its destination as its source | `gt_attached` | contract: `record_kept` |
 | A run starts without the guests that got no memory | `gt_attached` | contract: `guests` and `count` of `start` |
 | A guest that is dropped grants a page again before it leaves | `gt_attached` | test: `tools/leaves.sh` |
-| A policy is read without its last byte | `gt_start` | contract: `begun` and `fault` (`IsPolicy`) |
+| A policy is read without its last byte | `gt_start` | contract: `begun` and `fault` (`IsPolicyMeaning`) |
 | The handle of the first guest is that of the last one | `gt_start` | contract: `begun` (`IsSetBy`) |
 | A guest starts with the type after the policy's last one | `gt_start` | contract: `begun` (`AreTypes`) |
 | A fault of the settings names no guest | `gt_start` | contract: `fault` (`IsLimitFault`) |
@@ -69,7 +69,7 @@ invariant that is false of the body. Those that a contract refuses are among the
 | A copy that C begins goes the other way | `gt_c` | contract: `BeginsCopy` |
 | `finish` answers that no entry is in use, while a guest maps one | `gt_c` | test: `tools/leaves.sh` |
 | A copy that was refused prints `ok` | `gt_run` | contract: `Asks` |
-| A guest's line unmaps what the label names for domain 0 | `gt_run` | contract: `Calls` (`MakesRequest`) |
+| A guest's line unmaps what the label names for domain 0 | `gt_run` | contract: `ServesCall` (`MakesRequest`) |
 | A guest at the end of its list takes back its pages | `gt_run` | contract: `IsOutputOf` (`HasLeft`) |
 | A guest that waits for a flag keeps a processor busy | `gt_run` | nothing |
 | A guest that gets no thread grants a page before it leaves | `gt_run` | test: `tools/leaves.sh` |
@@ -79,9 +79,9 @@ invariant that is false of the body. Those that a contract refuses are among the
 | `check --script` is silent about a label that no map has | `gt_checks` | test: `cases_program` |
 | A fault that `play` finds is reported of a script for `run` | `gt_checks` | test: `cases_program` |
 | A file of `neverallow` statements loses its last byte | `gt_file_commands` | contract: `read_whole` |
-| A command whose file can't be opened reads the standard input | `gt_file_commands` | contract: `Works` (`Does`) |
+| A command whose file can't be opened reads the standard input | `gt_file_commands` | contract: `Works` (`DoesOnFile`) |
 | Questions after the first denied one are not answered | `gt_file_commands` | contract: `AnswersLines` |
-| `check` without a file answers that its file can't be opened | `gt_file_commands` | contract: `Works` (`Does`) |
+| `check` without a file answers that its file can't be opened | `gt_file_commands` | contract: `Works` (`DoesOnFile`) |
 | A faulty script prints as JSON what it played | `gt_file_commands` | contract: `PlayedAsJson` |
 
 Of the bodies that nothing refuses, each has its sentence in [NOT_PROVED.md](NOT_PROVED.md).
