@@ -14,8 +14,8 @@ use Rattle.gt_live.specs.Domains.{AllowRelation, Answered, BelongsTo, HasLeft, K
 use Rattle.gt_live.specs.Halves.{ComesHalfway, EndsHalfway, IsHalfway, done_copy}
 use Rattle.gt_live.specs.Parts.{seat_of, trail_left, trail_of, words_of}
 use Rattle.gt_attached.specs.declared.answer.TakenCounts.{TakenCounts}
-use Rattle.gt_attached.specs.declared.guest.CopyPlaces.{CopyPlaces}
-use Rattle.gt_attached.specs.declared.guest.LeftGuest.{LeftGuest}
+use Rattle.gt_attached.specs.declared.attachment.CopyPlaces.{CopyPlaces}
+use Rattle.gt_attached.specs.declared.attachment.LeftDomain.{LeftDomain}
 
 -- a domain, its monitor, and the copy that it is in
 pub record Seated (P : Type 0) : Type 0 where
@@ -61,7 +61,7 @@ EndsAccess s t =
 
 -- a domain released its mappings, closed its table and left its run by the seat that is given, with this many entries
 -- still in use and this many records lost; it did nothing else
-pub record LeavesRun {P : Type 0} (may : P → AllowRelation) (m : Monitor P) (d : Domain) (gone : LeftGuest)
+pub record LeavesRun {P : Type 0} (may : P → AllowRelation) (m : Monitor P) (d : Domain) (gone : LeftDomain)
     : Type 0 where
   pub closed : Domain
   pub resets : Resets may m d gone.remains.in_use closed
@@ -73,7 +73,7 @@ abbrev pub Settles : {P : Type 0} → Seated P → Seated P → Type 0
 Settles s t = ((s.copying ≡ None) × (t ≡ s)) ⊎ EndsAccess s t
 
 -- the domain left its run, after the end of its copy if it was in one, and this is what it left behind
-pub record LeavesSettled {P : Type 0} (may : P → AllowRelation) (s : Seated P) (gone : LeftGuest) : Type 0 where
+pub record LeavesSettled {P : Type 0} (may : P → AllowRelation) (s : Seated P) (gone : LeftDomain) : Type 0 where
   pub settled : Seated P
   pub settles : Settles s settled
   pub leaves : LeavesRun may settled.monitor settled.domain gone

@@ -3,9 +3,9 @@ ghost use Rattle.std.specs.Prelude.{◌≡◌, None};
 ghost use Rattle.std.specs.Arc.{arc_value};
 ghost use Rattle.gt_live.specs.Domains.{BelongsTo};
 ghost use Rattle.gt_attached.specs.Seated.{LeavesSettled};
-ghost use Rattle.gt_attached.specs.declared.guest.LeftGuest.{LeftGuest as Gone};
+ghost use Rattle.gt_attached.specs.declared.attachment.LeftDomain.{LeftDomain as Gone};
 
-use crate::guest::{Guest, LeftGuest};
+use crate::attachment::{Attachment, LeftDomain};
 use gt_live::{Domain, Monitor};
 use gt_types::Allows;
 use std::alloc::Global;
@@ -16,7 +16,7 @@ use std::sync::Arc;
 /// copy, closes its table and leaves the run, as by `finish`. A contract sees these three parts.
 pub struct AttachedDomain<P: Allows + Drop> {
     pub(crate) monitor: Arc<Monitor<P>, Global>,
-    pub(crate) guest: Guest,
+    pub(crate) attachment: Attachment,
 }
 
 impl<P: Allows + Drop> Model for AttachedDomain<P> {
@@ -25,17 +25,20 @@ impl<P: Allows + Drop> Model for AttachedDomain<P> {
 
     ghost Value = { Seated P };
 
-    ghost view = { λ g. record { monitor = arc_value g.monitor; domain = g.guest.domain; copying = g.guest.copying } };
+    ghost view = { λ g. record { monitor = arc_value g.monitor; domain = g.attachment.domain; copying = g.attachment.copying } };
 
-    ghost invariant = { λ g. StandsBy P.may (arc_value g.monitor) g.guest.domain g.guest.copying };
+    ghost invariant = { λ g. StandsBy P.may (arc_value g.monitor) g.attachment.domain g.attachment.copying };
 }
 
 impl<P: Allows + Drop> Drop for AttachedDomain<P> {
     fn drop(self)
         ensures { (gone : Gone) × LeavesSettled P.may self gone }
     {
-        let AttachedDomain { monitor, guest } = self;
-        let _ = guest.leave(&monitor);
+        let AttachedDomain {
+            monitor,
+            attachment,
+        } = self;
+        let _ = attachment.leave(&monitor);
     }
 }
 
@@ -47,17 +50,20 @@ impl<P: Allows + Drop> AttachedDomain<P> {
     {
         AttachedDomain {
             monitor,
-            guest: Guest::new(domain),
+            attachment: Attachment::new(domain),
         }
     }
 
     /// Leaves the run: ends the copy that the domain is in, if it is in one, releases each of its mappings, and withdraws
     /// each of its valid entries. Returns the number of records that were lost, the number of the domain's entries still
     /// in use, and the seat that left.
-    pub fn finish(self) -> LeftGuest
+    pub fn finish(self) -> LeftDomain
         ensures { LeavesSettled P.may self result }
     {
-        let AttachedDomain { monitor, guest } = self;
-        guest.leave(&monitor)
+        let AttachedDomain {
+            monitor,
+            attachment,
+        } = self;
+        attachment.leave(&monitor)
     }
 }

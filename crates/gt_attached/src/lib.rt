@@ -14,7 +14,7 @@
 
 mod answer;
 mod attached;
-mod guest;
+mod attachment;
 mod record;
 mod starting;
 
@@ -22,6 +22,6 @@ pub use answer::{
     AttachedOutcome, Departure, EncodedAnswer, MappingName, TakenCounts, answers_are_read_back,
 };
 pub use attached::AttachedDomain;
-pub use guest::{CopyPlaces, LeftGuest};
+pub use attachment::{CopyPlaces, LeftDomain};
 pub use record::{CopyEnd, EncodedRecord};
 pub use starting::start;

@@ -4,46 +4,46 @@ use Rattle.std.specs.Prelude.{is_some, false}
 use mathlib.Core.Bool.{true≢false}
 use Rattle.std.proofs.lemmas.Option.{same_Some}
 use Rattle.gt_attached.specs.declared.answer.EncodedAnswer.{EncodedAnswer}
-use Rattle.gt_c.specs.declared.here.CDomain.{CDomain}
-use Rattle.gt_c.specs.Calling.{CallsGuest, CallsReporting, MayBeCalled}
+use Rattle.gt_c.specs.declared.c_domain.CDomain.{CDomain}
+use Rattle.gt_c.specs.Calling.{CallsAttached, CallsReporting, MayBeCalled}
 use Rattle.gt_c.specs.Prelude.{Seated, Table}
 
 -- the call is made on the domain x that the handle lends, whose guest is g afterwards
 pub made : {before between : Option CDomain} {x : CDomain} {g : Seated Table} (answer : EncodedAnswer) (Q : CDomain → CDomain → Type 0)
-    → MayBeCalled before between → Some x ≡ between → Q x (record x { guest = g })
-    → CallsGuest before (Some (record x { guest = g })) answer Q
+    → MayBeCalled before between → Some x ≡ between → Q x (record x { attached = g })
+    → CallsAttached before (Some (record x { attached = g })) answer Q
 made {before = None} answer Q may lent holds = absurd may
 made {before = Some d} {between} {x} {g} answer Q may lent holds =
     inr (record {
       was = d;
-      is = record x { guest = g };
+      is = record x { attached = g };
       before_is = refl;
       after_is = refl;
       idle = may.1;
       run = ap (λ (y : CDomain). y.run) (same_Some x d (lent ∙ may.0));
-      holds = subst (λ (y : CDomain). Q y (record x { guest = g })) (same_Some x d (lent ∙ may.0)) holds;
+      holds = subst (λ (y : CDomain). Q y (record x { attached = g })) (same_Some x d (lent ∙ may.0)) holds;
     })
 
 -- the same of a call that tells more than its answer
 pub made-telling : {before between : Option CDomain} {x : CDomain} {g : Seated Table} (answer : EncodedAnswer) (N : Type 0)
-    (Q : CDomain → CDomain → Type 0) → MayBeCalled before between → Some x ≡ between → Q x (record x { guest = g })
-    → CallsReporting before (Some (record x { guest = g })) answer N Q
+    (Q : CDomain → CDomain → Type 0) → MayBeCalled before between → Some x ≡ between → Q x (record x { attached = g })
+    → CallsReporting before (Some (record x { attached = g })) answer N Q
 made-telling {before = None} answer N Q may lent holds = absurd may
 made-telling {before = Some d} {between} {x} {g} answer N Q may lent holds =
     inr (record {
       was = d;
-      is = record x { guest = g };
+      is = record x { attached = g };
       before_is = refl;
       after_is = refl;
       idle = may.1;
       run = ap (λ (y : CDomain). y.run) (same_Some x d (lent ∙ may.0));
-      holds = subst (λ (y : CDomain). Q y (record x { guest = g })) (same_Some x d (lent ∙ may.0)) holds;
+      holds = subst (λ (y : CDomain). Q y (record x { attached = g })) (same_Some x d (lent ∙ may.0)) holds;
     })
 
 pub idle-there : (before : Option CDomain) {between : Option CDomain} {x : CDomain} → MayBeCalled before between → Some x ≡ between
-    → x.guest.copying ≡ None
+    → x.attached.copying ≡ None
 idle-there None may lent = absurd may
-idle-there (Some d) {between} {x} may lent = ap (λ (y : CDomain). y.guest.copying) (same_Some x d (lent ∙ may.0)) ∙ may.1
+idle-there (Some d) {between} {x} may lent = ap (λ (y : CDomain). y.attached.copying) (same_Some x d (lent ∙ may.0)) ∙ may.1
 
 pub none-of : {A : Type 0} (o : Option A) → is_some o ≡ false → o ≡ None
 none-of None e = refl

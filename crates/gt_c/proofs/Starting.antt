@@ -11,7 +11,7 @@ use Rattle.std.specs.Prelude.{slice_index_or}
 use Rattle.gt_start.specs.declared.settings.DomainSettings.{DomainSettings}
 use Rattle.gt_c.specs.Starting.{AreWrong, domain_of_handle, filled_handle}
 use Rattle.gt_c.specs.declared.handle.DomainHandle.{DomainHandle}
-use Rattle.gt_c.specs.declared.here.CDomain.{CDomain}
+use Rattle.gt_c.specs.declared.c_domain.CDomain.{CDomain}
 
 or-left : (a b : Bool) → (a || b) ≡ false → a ≡ false
 or-left true b e = e
@@ -58,10 +58,10 @@ map-map f g [] = refl
 map-map f g (x ∷ xs) = ap (λ ys. f (g x) ∷ ys) (map-map f g xs)
 
 -- the handles have the guests, if they have the boxes of the guests
-pub handed-over : {B S : Type 0} (value : B → CDomain) (here : S → CDomain) (bs : List B) (gs : List S) (os : List (Option CDomain))
-    → os ≡ map (λ b. filled_handle (value b)) bs → map value bs ≡ map here gs → os ≡ map (λ g. filled_handle (here g)) gs
-handed-over value here bs gs os e same =
-    e ∙ sym (map-map filled_handle value bs) ∙ ap (λ xs. map filled_handle xs) same ∙ map-map filled_handle here gs
+pub handed-over : {B S : Type 0} (value : B → CDomain) (lent : S → CDomain) (bs : List B) (gs : List S) (os : List (Option CDomain))
+    → os ≡ map (λ b. filled_handle (value b)) bs → map value bs ≡ map lent gs → os ≡ map (λ g. filled_handle (lent g)) gs
+handed-over value lent bs gs os e same =
+    e ∙ sym (map-map filled_handle value bs) ∙ ap (λ xs. map filled_handle xs) same ∙ map-map filled_handle lent gs
 
 pub same-length : {A B C : Type 0} (f : A → C) (g : B → C) (xs : List A) (ys : List B) → map f xs ≡ map g ys → length xs ≡ length ys
 same-length f g xs ys e = sym (length-map xs f) ∙ ap (λ zs. length zs) e ∙ length-map ys g

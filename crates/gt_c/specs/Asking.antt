@@ -9,17 +9,17 @@ use Rattle.gt_attached.specs.declared.answer.AttachedOutcome.{AttachedOutcome}
 use Rattle.gt_attached.specs.declared.answer.EncodedAnswer.{EncodedAnswer}
 use Rattle.gt_c.specs.declared.calls.EntryBytes.{EntryBytes}
 use Rattle.gt_c.specs.declared.calls.MapHandle.{MapHandle}
-use Rattle.gt_c.specs.declared.here.CDomain.{CDomain}
+use Rattle.gt_c.specs.declared.c_domain.CDomain.{CDomain}
 
 -- the name is of a mapping of this domain in this run
 abbrev pub is_of_domain : CDomain → MapHandle → Bool
-is_of_domain d name = (name.run == d.run) && (name.dom == d.guest.domain.seat.dom.0)
+is_of_domain d name = (name.run == d.run) && (name.dom == d.attached.domain.seat.dom.0)
 
 -- the handle that a name gives in a call of this domain: if the name is of another domain or run, one under which the
 -- domain has no mapping
 abbrev pub handle_named : CDomain → MapHandle → Handle
 handle_named d name =
-    if is_of_domain d name then record { serial = name.serial; key = name.key } else unused_handle d.guest.domain
+    if is_of_domain d name then record { serial = name.serial; key = name.key } else unused_handle d.attached.domain
 
 -- the name is of another domain or run, and the answer is therefore this
 abbrev pub RefusesForeign : CDomain → MapHandle → AttachedOutcome → EncodedAnswer → Type 0

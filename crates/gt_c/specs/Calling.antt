@@ -3,7 +3,7 @@ use Rattle.std.specs.Prelude.{◌≡◌, ◌≤◌, ◌⊎◌, ℕ, List, Option
 use Rattle.gt_c.specs.Prelude.{GrantRef, DomId, Memory, Size, Denial, Table, may, Hypercall, Record, HasNone}
 use Rattle.gt_c.specs.Prelude.{AppendsRecord, KeepsRoom, CallResult, HeldPin, Request, Handle, Domain, Answered}
 use Rattle.gt_c.specs.Prelude.{AnswersQuietly, AnswersRecorded, KeepsPinned, LeavesSettled, Settles, Departure}
-use Rattle.gt_c.specs.Prelude.{LeftGuest, Resets, taken_of, MapAnswered, mapping_reply, subject_of, record_of_result}
+use Rattle.gt_c.specs.Prelude.{LeftDomain, Resets, taken_of, MapAnswered, mapping_reply, subject_of, record_of_result}
 use Rattle.gt_c.specs.Prelude.{verdict_of, Removes, encoded, Seated, StaysIdle, EncodedAnswer, AttachedOutcome, CDomain}
 use Rattle.gt_attached.specs.declared.answer.AttachedOutcome.TheVariants as outcomes
 use Rattle.gt_audit.specs.declared.pieces.TheConstants.{MOST_RESERVED}
@@ -14,12 +14,12 @@ use Rattle.gt_live.specs.declared.domain.following.Followed.{Followed}
 abbrev pub TurnedAway : Option CDomain → Option CDomain → EncodedAnswer → Type 0
 TurnedAway None after answer = (after ≡ None) × (answer ≡ encoded outcomes.NoDomain)
 TurnedAway (Some d) after answer =
-    (after ≡ Some d) × IsSome d.guest.copying × (answer ≡ encoded outcomes.Busy)
+    (after ≡ Some d) × IsSome d.attached.copying × (answer ≡ encoded outcomes.Busy)
 
 -- the handle has a domain, which is in no copy and unchanged
 abbrev pub MayBeCalled : Option CDomain → Option CDomain → Type 0
 MayBeCalled None after = ⊥
-MayBeCalled (Some d) after = (after ≡ Some d) × (d.guest.copying ≡ None)
+MayBeCalled (Some d) after = (after ≡ Some d) × (d.attached.copying ≡ None)
 
 -- the handle is still one of the same run
 abbrev pub KeepsRun : CDomain → CDomain → Type 0
@@ -32,13 +32,13 @@ pub record MadeOn (before after : Option CDomain) (Holds : CDomain → CDomain �
   pub is : CDomain
   pub before_is : before ≡ Some was
   pub after_is : after ≡ Some is
-  pub idle : was.guest.copying ≡ None
+  pub idle : was.attached.copying ≡ None
   pub run : KeepsRun was is
   pub holds : Holds was is
 
 -- no call was made, or this one was
-abbrev pub CallsGuest : Option CDomain → Option CDomain → EncodedAnswer → (CDomain → CDomain → Type 0) → Type 0
-CallsGuest before after answer Holds = TurnedAway before after answer ⊎ MadeOn before after Holds
+abbrev pub CallsAttached : Option CDomain → Option CDomain → EncodedAnswer → (CDomain → CDomain → Type 0) → Type 0
+CallsAttached before after answer Holds = TurnedAway before after answer ⊎ MadeOn before after Holds
 
 -- the same for a call that returns more than its answer: if no call was made, it returns nothing more
 abbrev pub CallsReporting : Option CDomain → Option CDomain → EncodedAnswer → Type 0 → (CDomain → CDomain → Type 0)
@@ -76,26 +76,26 @@ pub record EncodesResult {R : Type 0} (said : Result R Denial → AttachedOutcom
     (answer : EncodedAnswer) (d e : CDomain) : Type 0 where
   pub result : Result R Denial
   pub encodes : answer ≡ encoded (said result)
-  pub stays : StaysIdle d.guest e.guest
+  pub stays : StaysIdle d.attached e.attached
   pub holds : Holds result
 
 -- this request of the domain had this answer, by the steps of its path; mappings, pins and records are unchanged
 abbrev pub EncodesDone : Request → EncodedAnswer → CDomain → CDomain → Type 0
 EncodesDone request answer d e =
-    EncodesResult outcome (λ r. AnswersQuietly may d.guest.monitor d.guest.domain request (verdict_of r) e.guest.domain)
+    EncodesResult outcome (λ r. AnswersQuietly may d.attached.monitor d.attached.domain request (verdict_of r) e.attached.domain)
     answer d e
 
 -- the same for an entry of the domain that followed these bytes
 abbrev pub EncodesFollowed : GrantRef → List ℕ → EncodedAnswer → CDomain → CDomain → Type 0
 EncodesFollowed gref bytes answer d e =
-    EncodesResult outcome_followed (λ r. Follows may d.guest.monitor d.guest.domain gref bytes r e.guest.domain)
+    EncodesResult outcome_followed (λ r. Follows may d.attached.monitor d.attached.domain gref bytes r e.attached.domain)
     answer d e
 
 -- the same for a call that is recorded, whose result gives this verdict
 abbrev pub EncodesRecorded : {R : Type 0} → (Result R Denial → AttachedOutcome) → (Result R Denial → CallResult)
     → Request → Hypercall → EncodedAnswer → CDomain → CDomain → Type 0
 EncodesRecorded said verdict request call answer d e =
-    EncodesResult said (λ r. AnswersRecorded may d.guest.monitor d.guest.domain request call (verdict r) e.guest.domain)
+    EncodesResult said (λ r. AnswersRecorded may d.attached.monitor d.attached.domain request call (verdict r) e.attached.domain)
     answer d e
 
 -- the record of a map
@@ -105,26 +105,26 @@ record_of_map d call r = record { dom = d.seat.dom; call = call; reply = mapping
 -- the same for a map, whose mapping is kept, and is named by its domain and run
 abbrev pub EncodesMapped : Request → Hypercall → EncodedAnswer → CDomain → CDomain → Type 0
 EncodesMapped request call answer d e =
-    EncodesResult (outcome_mapped d.guest.domain.seat.dom d.run) (λ r.
-    MapAnswered may d.guest.monitor d.guest.domain request r e.guest.domain
-    × AppendsRecord d.guest.domain.trail (record_of_map d.guest.domain call r) e.guest.domain.trail) answer d e
+    EncodesResult (outcome_mapped d.attached.domain.seat.dom d.run) (λ r.
+    MapAnswered may d.attached.monitor d.attached.domain request r e.attached.domain
+    × AppendsRecord d.attached.domain.trail (record_of_map d.attached.domain call r) e.attached.domain.trail) answer d e
 
 -- the same for an unmap, whose mapping is removed
 abbrev pub EncodesUnmapped : Request → (Option (DomId × GrantRef) → Hypercall) → Handle → EncodedAnswer → CDomain
     → CDomain → Type 0
 EncodesUnmapped request call name answer d e =
-    EncodesResult outcome (λ r. Answered may d.guest.monitor d.guest.domain request (verdict_of r) e.guest.domain
-    × OnOk r ((p : HeldPin) × Removes d.guest.domain.mappings e.guest.domain.mappings name p)
-    × OnErr r (KeepsPinned d.guest.domain e.guest.domain)
-    × AppendsRecord d.guest.domain.trail
-    (record_of_result d.guest.domain (call (subject_of d.guest.domain name)) (verdict_of r))
-    e.guest.domain.trail) answer d e
+    EncodesResult outcome (λ r. Answered may d.attached.monitor d.attached.domain request (verdict_of r) e.attached.domain
+    × OnOk r ((p : HeldPin) × Removes d.attached.domain.mappings e.attached.domain.mappings name p)
+    × OnErr r (KeepsPinned d.attached.domain e.attached.domain)
+    × AppendsRecord d.attached.domain.trail
+    (record_of_result d.attached.domain (call (subject_of d.attached.domain name)) (verdict_of r))
+    e.attached.domain.trail) answer d e
 
 -- the domain keeps at most this many records, and nothing else changed
 abbrev pub KeepsAtMost : ℕ → EncodedAnswer → CDomain → CDomain → Type 0
 KeepsAtMost most answer d e =
-    (answer ≡ encoded outcomes.Done) × StaysIdle d.guest e.guest
-    × (e.guest.domain ≡ record d.guest.domain { trail = record d.guest.domain.trail { most = most } })
+    (answer ≡ encoded outcomes.Done) × StaysIdle d.attached e.attached
+    × (e.attached.domain ≡ record d.attached.domain { trail = record d.attached.domain.trail { most = most } })
 
 -- the result of a call that allocates
 abbrev pub outcome_reserved : Result (Unit {0}) Memory → AttachedOutcome
@@ -136,26 +136,26 @@ outcome_reserved (Err refused) = outcomes.NoMemory
 pub record Reserves (records : ℕ) (answer : EncodedAnswer) (d e : CDomain) : Type 0 where
   pub result : Result (Unit {0}) Memory
   pub encodes : answer ≡ encoded (outcome_reserved result)
-  pub stays : StaysIdle d.guest e.guest
+  pub stays : StaysIdle d.attached e.attached
   pub bound : OnOk result (records ≤ MOST_RESERVED)
-  pub refused : OnErr result (e.guest.domain ≡ d.guest.domain)
-  pub room : OnOk result (records ≤ e.guest.domain.trail.room)
-  pub grows : d.guest.domain.trail.room ≤ e.guest.domain.trail.room
-  pub kept : e.guest.domain ≡ record d.guest.domain {
+  pub refused : OnErr result (e.attached.domain ≡ d.attached.domain)
+  pub room : OnOk result (records ≤ e.attached.domain.trail.room)
+  pub grows : d.attached.domain.trail.room ≤ e.attached.domain.trail.room
+  pub kept : e.attached.domain ≡ record d.attached.domain {
     trail =
-        record d.guest.domain.trail { room = e.guest.domain.trail.room };
+        record d.attached.domain.trail { room = e.attached.domain.trail.room };
   }
 
 -- the domain left the run, after the end of its copy if it was in one, and the answer encodes what remains
 pub record LeavesWith (s : Seated Table) (answer : EncodedAnswer) : Type 0 where
-  pub gone : LeftGuest
+  pub gone : LeftDomain
   pub encodes : answer ≡ encoded (outcomes.Left gone.remains)
   pub leaves : LeavesSettled may s gone
 
 -- the domain of a handle left, and the answer encodes what remains; or the handle had none, and the answer is that
 abbrev pub Finishes : EncodedAnswer → Option CDomain → Option CDomain → Type 0
 Finishes answer None after = (after ≡ None) × (answer ≡ encoded outcomes.NoDomain)
-Finishes answer (Some d) after = (after ≡ None) × LeavesWith d.guest answer
+Finishes answer (Some d) after = (after ≡ None) × LeavesWith d.attached answer
 
 -- a domain was made ready for the next guest in its place, after the end of its copy if it was in one: it has no copy
 -- and no mapping, each of its entries was closed, and the answer encodes what remains
@@ -169,19 +169,19 @@ pub record MakesReady (s t : Seated Table) (answer : EncodedAnswer) : Type 0 whe
   pub lost : remains.lost ≡ settled.domain.trail.lost
 
 -- the domain of a handle was made ready; or the handle had none, and the answer is that
-abbrev pub ResetsGuest : EncodedAnswer → Option CDomain → Option CDomain → Type 0
-ResetsGuest answer None after = (after ≡ None) × (answer ≡ encoded outcomes.NoDomain)
-ResetsGuest answer (Some d) None = ⊥
-ResetsGuest answer (Some d) (Some e) = KeepsRun d e × MakesReady d.guest e.guest answer
+abbrev pub ResetsAttached : EncodedAnswer → Option CDomain → Option CDomain → Type 0
+ResetsAttached answer None after = (after ≡ None) × (answer ≡ encoded outcomes.NoDomain)
+ResetsAttached answer (Some d) None = ⊥
+ResetsAttached answer (Some d) (Some e) = KeepsRun d e × MakesReady d.attached e.attached answer
 
 -- the records of a domain were dropped, the answer encodes their number and the number lost before, their room is kept,
 -- and nothing else changed
 abbrev pub TakesAll : EncodedAnswer → CDomain → CDomain → Type 0
 TakesAll answer d e =
-    (answer ≡ encoded (outcomes.Taken (taken_of d.guest.domain.trail))) × StaysIdle d.guest e.guest
-    × HasNone e.guest.domain.trail × (e.guest.domain.trail.most ≡ d.guest.domain.trail.most)
-    × KeepsRoom d.guest.domain.trail e.guest.domain.trail
-    × (e.guest.domain ≡ record d.guest.domain { trail = e.guest.domain.trail })
+    (answer ≡ encoded (outcomes.Taken (taken_of d.attached.domain.trail))) × StaysIdle d.attached e.attached
+    × HasNone e.attached.domain.trail × (e.attached.domain.trail.most ≡ d.attached.domain.trail.most)
+    × KeepsRoom d.attached.domain.trail e.attached.domain.trail
+    × (e.attached.domain ≡ record d.attached.domain { trail = e.attached.domain.trail })
 
 -- the reference with this number, and the domain
 abbrev pub ref_at : ℕ → GrantRef

@@ -1,15 +1,15 @@
 -- How a handle lends its domain.
 use Rattle.std.specs.Prelude.{Some}
 use Rattle.std.specs.Borrow.{MutBor, Fml, Lends}
-use Rattle.gt_c.specs.declared.here.CDomain.{CDomain}
+use Rattle.gt_c.specs.declared.c_domain.CDomain.{CDomain}
 use Rattle.gt_c.specs.declared.held.RawBox.{RawBox}
-use Rattle.gt_c.specs.contracts.here.CDomain.{the_row as here_row}
+use Rattle.gt_c.specs.contracts.c_domain.CDomain.{the_row as c_domain_row}
 use Rattle.gt_c.specs.contracts.held.RawBox.{the_row as held_row}
 
 -- the handle with this domain
-abbrev pub with_here : RawBox → CDomain → RawBox
-with_here h d = record h { value = Some d }
+abbrev pub with_c_domain : RawBox → CDomain → RawBox
+with_c_domain h d = record h { value = Some d }
 
 -- the handle ends with the last value of the lent domain
-abbrev pub LendsHere : MutBor RawBox → MutBor CDomain → Fml
-LendsHere s r = Lends held_row here_row s r (with_here s.now)
+abbrev pub LendsCDomain : MutBor RawBox → MutBor CDomain → Fml
+LendsCDomain s r = Lends held_row c_domain_row s r (with_c_domain s.now)

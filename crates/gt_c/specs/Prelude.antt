@@ -11,7 +11,7 @@ pub use Rattle.gt_c.specs.declared.copies.CopySettings.{CopySettings}
 pub use Rattle.gt_c.specs.declared.copies.PlaceReport.{PlaceReport}
 pub use Rattle.gt_c.specs.declared.copies.PlacesReport.{PlacesReport}
 pub use Rattle.gt_c.specs.declared.handle.DomainHandle.{DomainHandle}
-pub use Rattle.gt_c.specs.declared.here.CDomain.{CDomain}
+pub use Rattle.gt_c.specs.declared.c_domain.CDomain.{CDomain}
 pub use Rattle.gt_c.specs.declared.reports.EntryStatus.{EntryStatus}
 pub use Rattle.gt_c.specs.declared.reports.MappedFrame.{MappedFrame}
 pub use Rattle.gt_types.specs.declared.places.Spot.{Spot}
@@ -37,8 +37,8 @@ pub use Rattle.gt_attached.specs.Seated.{taken_of}
 pub use Rattle.gt_attached.specs.declared.answer.EncodedAnswer.{EncodedAnswer}
 pub use Rattle.gt_attached.specs.declared.answer.AttachedOutcome.{AttachedOutcome}
 pub use Rattle.gt_attached.specs.declared.answer.Departure.{Departure}
-pub use Rattle.gt_attached.specs.declared.guest.CopyPlaces.{CopyPlaces}
-pub use Rattle.gt_attached.specs.declared.guest.LeftGuest.{LeftGuest}
+pub use Rattle.gt_attached.specs.declared.attachment.CopyPlaces.{CopyPlaces}
+pub use Rattle.gt_attached.specs.declared.attachment.LeftDomain.{LeftDomain}
 pub use Rattle.gt_attached.specs.declared.record.CopyEnd.{CopyEnd}
 pub use Rattle.gt_attached.specs.declared.record.EncodedRecord.{EncodedRecord}
 pub use Rattle.gt_types.specs.declared.Dir.{Dir}

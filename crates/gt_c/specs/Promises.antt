@@ -9,7 +9,7 @@ use Rattle.gt_c.specs.declared.calls.EntryBytes.{EntryBytes}
 use Rattle.gt_c.specs.declared.calls.MapHandle.{MapHandle}
 use Rattle.gt_c.specs.declared.copies.BegunReport.{BegunReport}
 use Rattle.gt_c.specs.declared.copies.CopySettings.{CopySettings}
-use Rattle.gt_c.specs.declared.here.CDomain.{CDomain}
+use Rattle.gt_c.specs.declared.c_domain.CDomain.{CDomain}
 use Rattle.gt_c.specs.declared.reports.EntryReport.{EntryReport}
 use Rattle.gt_c.specs.declared.reports.MappingReport.{MappingReport}
 use Rattle.gt_c.specs.declared.reports.RecordReport.{RecordReport}
@@ -18,7 +18,7 @@ use Rattle.gt_types.specs.declared.denial.Facts.TheVariants as facts
 use Rattle.gt_types.specs.declared.denial.Rule.TheVariants.{N6}
 use Rattle.gt_attached.specs.declared.answer.AttachedOutcome.TheVariants as outcomes
 use Rattle.gt_c.specs.Asking.{RefusesForeign, handle_named, page, spelled, sub, via}
-use Rattle.gt_c.specs.Calling.{CallsGuest, CallsReporting, EncodesDone, EncodesFollowed, EncodesMapped}
+use Rattle.gt_c.specs.Calling.{CallsAttached, CallsReporting, EncodesDone, EncodesFollowed, EncodesMapped}
 use Rattle.gt_c.specs.Calling.{EncodesRecorded, EncodesUnmapped, KeepsAtMost, Reserves, TakesAll, dom_of, ref_at}
 use Rattle.gt_c.specs.Calling.{outcome, outcome_frames, outcome_size, outcome_version}
 use Rattle.gt_c.specs.Reports.{EncodesBegun, EncodesEntry, EncodesMapping, EncodesRecord, copy_asked, no_entry}
@@ -27,81 +27,81 @@ use Rattle.gt_c.specs.Reports.{no_mapping, no_copy_places, no_record}
 -- one of the domain's pages is granted
 abbrev pub GrantsPage : ℕ → ℕ → ℕ → ℕ → EncodedAnswer → Option CDomain → Option CDomain → Type 0
 GrantsPage gref to frame ro answer before after =
-    CallsGuest before after answer (EncodesDone (requests.Grant (ref_at gref) (page to frame ro)) answer)
+    CallsAttached before after answer (EncodesDone (requests.Grant (ref_at gref) (page to frame ro)) answer)
 
 -- bytes of one of the domain's pages are granted
 abbrev pub GrantsSub : ℕ → ℕ → ℕ → ℕ → ℕ → ℕ → EncodedAnswer → Option CDomain → Option CDomain → Type 0
 GrantsSub gref to frame off len ro answer before after =
-    CallsGuest before after answer (EncodesDone (requests.Grant (ref_at gref) (sub to frame off len ro)) answer)
+    CallsAttached before after answer (EncodesDone (requests.Grant (ref_at gref) (sub to frame off len ro)) answer)
 
 -- a grant of another domain is granted on
 abbrev pub GrantsVia : ℕ → ℕ → ℕ → ℕ → ℕ → EncodedAnswer → Option CDomain → Option CDomain → Type 0
 GrantsVia gref to dom2 ref2 ro answer before after =
-    CallsGuest before after answer (EncodesDone (requests.Grant (ref_at gref) (via to dom2 ref2 ro)) answer)
+    CallsAttached before after answer (EncodesDone (requests.Grant (ref_at gref) (via to dom2 ref2 ro)) answer)
 
 -- the entry that the bytes encode is granted
 abbrev pub GrantsBytes : ℕ → EntryBytes → EncodedAnswer → Option CDomain → Option CDomain → Type 0
 GrantsBytes gref bytes answer before after =
-    CallsGuest before after answer (λ d e.
+    CallsAttached before after answer (λ d e.
     (s : Bor (List ℕ)) × (s.now ≡ spelled bytes) × EncodesDone (requests.GrantBytes (ref_at gref) s) answer d e)
 
 -- an entry follows the bytes that its guest keeps for it
 abbrev pub FollowsEntryBytes : ℕ → EntryBytes → EncodedAnswer → Option CDomain → Option CDomain → Type 0
 FollowsEntryBytes gref bytes answer before after =
-    CallsGuest before after answer (EncodesFollowed (ref_at gref) (spelled bytes) answer)
+    CallsAttached before after answer (EncodesFollowed (ref_at gref) (spelled bytes) answer)
 
 -- an entry is revoked, withdrawn, demoted, promoted
 abbrev pub RevokesEntry : ℕ → EncodedAnswer → Option CDomain → Option CDomain → Type 0
 RevokesEntry gref answer before after =
-    CallsGuest before after answer (EncodesDone (requests.Revoke (ref_at gref)) answer)
+    CallsAttached before after answer (EncodesDone (requests.Revoke (ref_at gref)) answer)
 
 abbrev pub WithdrawsEntry : ℕ → EncodedAnswer → Option CDomain → Option CDomain → Type 0
 WithdrawsEntry gref answer before after =
-    CallsGuest before after answer (EncodesDone (requests.Withdraw (ref_at gref)) answer)
+    CallsAttached before after answer (EncodesDone (requests.Withdraw (ref_at gref)) answer)
 
 abbrev pub DemotesEntry : ℕ → EncodedAnswer → Option CDomain → Option CDomain → Type 0
 DemotesEntry gref answer before after =
-    CallsGuest before after answer (EncodesDone (requests.Demote (ref_at gref)) answer)
+    CallsAttached before after answer (EncodesDone (requests.Demote (ref_at gref)) answer)
 
 abbrev pub Promotes : ℕ → EncodedAnswer → Option CDomain → Option CDomain → Type 0
-Promotes gref answer before after = CallsGuest before after answer (EncodesDone (requests.Promote (ref_at gref)) answer)
+Promotes gref answer before after = CallsAttached before after answer (EncodesDone (requests.Promote (ref_at gref)) answer)
 
 -- an entry of a domain is mapped
 abbrev pub Maps : ℕ → ℕ → ℕ → EncodedAnswer → Option CDomain → Option CDomain → Type 0
 Maps dom gref flags answer before after =
-    CallsGuest before after answer
+    CallsAttached before after answer
     (EncodesMapped (requests.Map (dom_of dom) (ref_at gref) flags)
     (hypercalls.Map (dom_of dom) (ref_at gref) flags) answer)
 
 -- a mapping is unmapped; by the name of another domain or run none is, and the answer is N6
 abbrev pub Unmaps : MapHandle → EncodedAnswer → Option CDomain → Option CDomain → Type 0
 Unmaps name answer before after =
-    CallsGuest before after answer (λ d e.
+    CallsAttached before after answer (λ d e.
     EncodesUnmapped (requests.Unmap (handle_named d name)) hypercalls.Unmap (handle_named d name) answer d e
     × RefusesForeign d name (outcomes.Denied (denial_of N6 facts.None)) answer)
 
 -- the table gets a version, or more frames
 abbrev pub SetsVersion : ℕ → EncodedAnswer → Option CDomain → Option CDomain → Type 0
 SetsVersion version answer before after =
-    CallsGuest before after answer
+    CallsAttached before after answer
     (EncodesRecorded outcome verdict_of (requests.SetVersion version) (hypercalls.SetVersion version) answer)
 
 abbrev pub SetsUp : ℕ → EncodedAnswer → Option CDomain → Option CDomain → Type 0
 SetsUp frames answer before after =
-    CallsGuest before after answer
+    CallsAttached before after answer
     (EncodesRecorded outcome_frames verdict_of_frames (requests.SetupTable frames)
     (hypercalls.SetupTable frames) answer)
 
 -- the table of a domain is queried
 abbrev pub AsksSize : ℕ → EncodedAnswer → Option CDomain → Option CDomain → Type 0
 AsksSize dom answer before after =
-    CallsGuest before after answer
+    CallsAttached before after answer
     (EncodesRecorded outcome_size verdict_of_size (requests.QuerySize (dom_of dom)) (hypercalls.QuerySize (dom_of dom))
     answer)
 
 abbrev pub AsksVersion : ℕ → EncodedAnswer → Option CDomain → Option CDomain → Type 0
 AsksVersion dom answer before after =
-    CallsGuest before after answer
+    CallsAttached before after answer
     (EncodesRecorded outcome_version verdict_of_version (requests.GetVersion (dom_of dom))
     (hypercalls.GetVersion (dom_of dom)) answer)
 
@@ -124,14 +124,14 @@ ReportsEntry gref report before after =
 
 -- the records are taken
 abbrev pub TakesRecords : EncodedAnswer → Option CDomain → Option CDomain → Type 0
-TakesRecords answer before after = CallsGuest before after answer (TakesAll answer)
+TakesRecords answer before after = CallsAttached before after answer (TakesAll answer)
 
 -- the records are bounded, or room is made for them
 abbrev pub Bounds : ℕ → EncodedAnswer → Option CDomain → Option CDomain → Type 0
-Bounds records answer before after = CallsGuest before after answer (KeepsAtMost records answer)
+Bounds records answer before after = CallsAttached before after answer (KeepsAtMost records answer)
 
 abbrev pub MakesRoom : ℕ → EncodedAnswer → Option CDomain → Option CDomain → Type 0
-MakesRoom records answer before after = CallsGuest before after answer (Reserves records answer)
+MakesRoom records answer before after = CallsAttached before after answer (Reserves records answer)
 
 -- a copy begins
 abbrev pub BeginsCopy : CopySettings → BegunReport → Option CDomain → Option CDomain → Type 0

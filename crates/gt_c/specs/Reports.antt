@@ -44,15 +44,15 @@ pub record EncodesBegun (copy : CopyArgs) (places : PlacesReport) (answer : Enco
   pub result : Result CopyPlaces Denial
   pub encodes : answer ≡ encoded (outcome_begun result)
   pub shown : places ≡ places_report result
-  pub begins : BeginsAccess may d.guest copy result e.guest
+  pub begins : BeginsAccess may d.attached copy result e.attached
 
 -- the copy of a handle's domain was ended; or there was none, or no domain, and the answer is that
 abbrev pub CopyEnds : EncodedAnswer → Option CDomain → Option CDomain → Type 0
 CopyEnds answer None after = (after ≡ None) × (answer ≡ encoded outcomes.NoDomain)
 CopyEnds answer (Some d) None = ⊥
 CopyEnds answer (Some d) (Some e) =
-    ((d.guest.copying ≡ None) × (e ≡ d) × (answer ≡ encoded outcomes.NoCopy))
-    ⊎ (KeepsRun d e × EndsAccess d.guest e.guest × (answer ≡ encoded outcomes.Done))
+    ((d.attached.copying ≡ None) × (e ≡ d) × (answer ≡ encoded outcomes.NoCopy))
+    ⊎ (KeepsRun d e × EndsAccess d.attached e.attached × (answer ≡ encoded outcomes.Done))
 
 -- 1 for a mapping that writes, 0 for one that reads
 abbrev pub writes : Dir → ℕ
@@ -77,8 +77,8 @@ outcome_present (Some a) = outcomes.Done
 -- these are the mapping under this handle, if there is one, and the answer; nothing changed
 abbrev pub EncodesMapping : Handle → MappedFrame → EncodedAnswer → CDomain → CDomain → Type 0
 EncodesMapping name mapping answer d e =
-    (answer ≡ encoded (outcome_present (value_of d.guest.domain.mappings name)))
-    × (mapping ≡ mapping_report (value_of d.guest.domain.mappings name)) × (e ≡ d)
+    (answer ≡ encoded (outcome_present (value_of d.attached.domain.mappings name)))
+    × (mapping ≡ mapping_report (value_of d.attached.domain.mappings name)) × (e ≡ d)
 
 -- no record
 abbrev pub no_record : EncodedRecord
@@ -103,8 +103,8 @@ kept_record (Some r) = record_kept r
 -- these are the record at this index, if there is one, and the answer; nothing changed
 abbrev pub EncodesRecord : ℕ → EncodedRecord → EncodedAnswer → CDomain → CDomain → Type 0
 EncodesRecord index kept answer d e =
-    (answer ≡ encoded (outcome_present (slice_get d.guest.domain.trail.records index)))
-    × (kept ≡ kept_record (slice_get d.guest.domain.trail.records index)) × (e ≡ d)
+    (answer ≡ encoded (outcome_present (slice_get d.attached.domain.trail.records index)))
+    × (kept ≡ kept_record (slice_get d.attached.domain.trail.records index)) × (e ≡ d)
 
 -- the number of a kind of entry
 abbrev pub kind_code : EntryKind → ℕ
@@ -140,5 +140,5 @@ pub record EncodesEntry (gref : GrantRef) (entry : EntryStatus) (answer : Encode
   pub found : Option Control
   pub encodes : answer ≡ encoded (outcome_present found)
   pub shown : entry ≡ entry_status found
-  pub stays : StaysIdle d.guest e.guest
-  pub looks : LooksAtOwn d.guest.monitor.words.layout d.guest.domain gref found e.guest.domain
+  pub stays : StaysIdle d.attached e.attached
+  pub looks : LooksAtOwn d.attached.monitor.words.layout d.attached.domain gref found e.attached.domain

@@ -12,8 +12,8 @@ abbrev pub domain_of_handle : DomainHandle → Option CDomain
 domain_of_handle h = h.held.value
 
 -- a domain of the run with this number, as a handle holds it
-abbrev pub here_of : ℕ → Seated Table → CDomain
-here_of run g = record { guest = g; run = run }
+abbrev pub c_domain_of : ℕ → Seated Table → CDomain
+c_domain_of run g = record { attached = g; run = run }
 
 -- a handle has this domain
 abbrev pub filled_handle : CDomain → Option CDomain
@@ -29,7 +29,7 @@ pub record StartsRun (settings : List DomainSettings) (first_gen run : ℕ) (pol
     (handles : List DomainHandle) : Type 0 where
   pub guests : List (Seated Table)
   pub begun : Begins settings first_gen policy guests
-  pub handed : map domain_of_handle handles ≡ map (λ g. filled_handle (here_of run g)) guests
+  pub handed : map domain_of_handle handles ≡ map (λ g. filled_handle (c_domain_of run g)) guests
 
 -- why no run started: the handles are wrong; or they are right, and the text, a label or the configuration has a fault
 abbrev pub IsFaultOfNewRun : List DomainSettings → ℕ → List ℕ → List DomainHandle → EncodedFault → Type 0

@@ -1,13 +1,13 @@
 //! The start of a run, and how a domain leaves it.
 ghost use Rattle.std.specs.Prelude.{◌≡◌, All, length, map, IfOk, None};
 ghost use Rattle.std.specs.List.{list_any};
-ghost use Rattle.gt_c.specs.Calling.{Finishes, MakesReady, ResetsGuest};
+ghost use Rattle.gt_c.specs.Calling.{Finishes, MakesReady, ResetsAttached};
 ghost use Rattle.gt_attached.specs.Seated.{Settles};
-ghost use Rattle.gt_c.specs.Starting.{StartsWith, ReportsType, domain_of_handle, here_of, filled_handle};
+ghost use Rattle.gt_c.specs.Starting.{StartsWith, ReportsType, domain_of_handle, c_domain_of, filled_handle};
 
+use crate::c_domain::CDomain;
 use crate::handle::DomainHandle;
-use crate::here::CDomain;
-use crate::lending::here_mut;
+use crate::lending::lent_mut;
 use gt_allow::AllowTable;
 use gt_attached::{AttachedDomain, AttachedOutcome, EncodedAnswer};
 use gt_start::{DomainSettings, EncodedFault, HANDLES, MEMORY, NONE, begin, type_of};
@@ -19,12 +19,12 @@ fn boxed(
     run: u32,
     guests: Vec<AttachedDomain<AllowTable>>,
 ) -> Result<Vec<Box<CDomain>>, AllocError>
-    ensures { IfOk result (λ v. map (λ b. b.value) v.items ≡ map (here_of run) guests.items) }
+    ensures { IfOk result (λ v. map (λ b. b.value) v.items ≡ map (c_domain_of run) guests.items) }
 {
     let mut all = Vec::new(alloc);
-    for guest in guests {
-        let here = Box::new(alloc, CDomain { guest, run })?;
-        all.push(here)?;
+    for attached in guests {
+        let lent = Box::new(alloc, CDomain { attached, run })?;
+        all.push(lent)?;
     }
     Ok(all)
 }
@@ -43,8 +43,8 @@ fn hand_out(all: Vec<Box<CDomain>>, out: &mut [DomainHandle])
 {
     let mut rest = all;
     'handles: for place in 0..out.len() {
-        let here = rest.remove(0);
-        out[place].put(here);
+        let lent = rest.remove(0);
+        out[place].put(lent);
     }
 }
 
@@ -78,12 +78,12 @@ pub extern "C" fn gthost_start_at(
 }
 
 // Ends the copy of a domain, if it is in one.
-fn settle(guest: &mut AttachedDomain<AllowTable>)
-    ensures settled { Settles guest.old guest.new }
-    ensures idle { guest.new.copying ≡ None }
+fn settle(attached: &mut AttachedDomain<AllowTable>)
+    ensures settled { Settles attached.old attached.new }
+    ensures idle { attached.new.copying ≡ None }
 {
-    if guest.is_copying() {
-        guest.copy_end();
+    if attached.is_copying() {
+        attached.copy_end();
     }
 }
 
@@ -94,20 +94,20 @@ fn settle(guest: &mut AttachedDomain<AllowTable>)
 pub extern "C" fn gthost_finish_at(alloc: Global, domain: &mut DomainHandle) -> EncodedAnswer
     ensures { Finishes result domain.old.held.value domain.new.held.value }
 {
-    let Some(here) = domain.take(alloc) else {
+    let Some(lent) = domain.take(alloc) else {
         return EncodedAnswer::of(AttachedOutcome::NoDomain);
     };
-    let here = Box::into_inner(here);
-    let gone = here.guest.finish();
+    let lent = Box::into_inner(lent);
+    let gone = lent.attached.finish();
     EncodedAnswer::of(AttachedOutcome::Left(gone.remains))
 }
 
 // Makes a domain ready for the next guest in its place, after the end of its copy if it is in one.
-fn made_ready(guest: &mut AttachedDomain<AllowTable>) -> EncodedAnswer
-    ensures { MakesReady guest.old guest.new result }
+fn made_ready(attached: &mut AttachedDomain<AllowTable>) -> EncodedAnswer
+    ensures { MakesReady attached.old attached.new result }
 {
-    settle(guest);
-    let remains = guest.reset();
+    settle(attached);
+    let remains = attached.reset();
     EncodedAnswer::of(AttachedOutcome::Left(remains))
 }
 
@@ -115,13 +115,13 @@ fn made_ready(guest: &mut AttachedDomain<AllowTable>) -> EncodedAnswer
 /// number of records that were lost, and the number of entries still in use.
 #[unsafe(no_mangle)]
 pub extern "C" fn gthost_reset_at(domain: &mut DomainHandle) -> EncodedAnswer
-    ensures { ResetsGuest result domain.old.held.value domain.new.held.value }
+    ensures { ResetsAttached result domain.old.held.value domain.new.held.value }
 {
     if !domain.is_live {
         return EncodedAnswer::of(AttachedOutcome::NoDomain);
     }
-    let here = here_mut(&mut domain.held);
-    made_ready(&mut here.guest)
+    let lent = lent_mut(&mut domain.held);
+    made_ready(&mut lent.attached)
 }
 
 /// The label of a type, or why it was not found.

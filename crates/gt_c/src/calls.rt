@@ -10,9 +10,9 @@ ghost use Rattle.gt_c.specs.Promises.{AsksSize, AsksVersion, DemotesEntry, Follo
 ghost use Rattle.gt_c.specs.Promises.{GrantsSub, GrantsVia};
 ghost use Rattle.gt_c.specs.Promises.{Maps, Promotes, RevokesEntry, SetsUp, SetsVersion, Unmaps, WithdrawsEntry};
 
+use crate::c_domain::CDomain;
 use crate::handle::DomainHandle;
-use crate::here::CDomain;
-use crate::lending::here_mut;
+use crate::lending::lent_mut;
 use gt_attached::{AttachedOutcome, EncodedAnswer, MappingName as Named};
 use gt_calls::Handle as Name;
 use gt_entry::Entry;
@@ -31,12 +31,12 @@ pub struct MapHandle {
 
 // Returns the handle in a name, for a call of this domain. For a name of another domain or another run it returns a
 // handle under which the domain has no mapping.
-pub(crate) fn handle_named(here: &CDomain, name: MapHandle) -> Name
-    ensures value { result ≡ handle_named here.now name }
-    ensures foreign { is_of_domain here.now name ≡ false → value_of here.now.guest.domain.mappings result ≡ None }
+pub(crate) fn handle_named(lent: &CDomain, name: MapHandle) -> Name
+    ensures value { result ≡ handle_named lent.now name }
+    ensures foreign { is_of_domain lent.now name ≡ false → value_of lent.now.attached.domain.mappings result ≡ None }
 {
-    if name.run != here.run || name.dom != here.guest.dom().0 {
-        return here.guest.unused_handle();
+    if name.run != lent.run || name.dom != lent.attached.dom().0 {
+        return lent.attached.unused_handle();
     }
     Name {
         serial: name.serial,
@@ -71,7 +71,7 @@ pub(crate) fn turned_away(domain: &mut DomainHandle) -> Option<EncodedAnswer>
     if !domain.is_live {
         return Some(EncodedAnswer::of(AttachedOutcome::NoDomain));
     }
-    if here_mut(&mut domain.held).guest.is_copying() {
+    if lent_mut(&mut domain.held).attached.is_copying() {
         return Some(EncodedAnswer::of(AttachedOutcome::Busy));
     }
     None
@@ -114,8 +114,8 @@ fn is_turned_away(domain: &mut DomainHandle, answer: &mut EncodedAnswer) -> bool
         store_no_domain(answer);
         return true;
     }
-    let here = here_mut(&mut domain.held);
-    if here.guest.is_copying() {
+    let lent = lent_mut(&mut domain.held);
+    if lent.attached.is_copying() {
         store_busy(answer);
         return true;
     }
@@ -238,8 +238,8 @@ pub extern "C" fn gthost_grant_page_at(
     if let Some(answer) = turned_away(domain) {
         return answer;
     }
-    let here = here_mut(&mut domain.held);
-    EncodedAnswer::of(done(here.guest.grant(GrantRef(gref), &page(to, frame, ro))))
+    let lent = lent_mut(&mut domain.held);
+    EncodedAnswer::of(done(lent.attached.grant(GrantRef(gref), &page(to, frame, ro))))
 }
 
 /// Grants bytes of a page of the caller to a domain, for copies only.
@@ -258,9 +258,9 @@ pub extern "C" fn gthost_grant_sub_at(
     if let Some(answer) = turned_away(domain) {
         return answer;
     }
-    let here = here_mut(&mut domain.held);
+    let lent = lent_mut(&mut domain.held);
     EncodedAnswer::of(done(
-        here.guest
+        lent.attached
             .grant(GrantRef(gref), &sub(to, frame, off, len, ro)),
     ))
 }
@@ -280,8 +280,11 @@ pub extern "C" fn gthost_grant_via_at(
     if let Some(answer) = turned_away(domain) {
         return answer;
     }
-    let here = here_mut(&mut domain.held);
-    EncodedAnswer::of(done(here.guest.grant(GrantRef(gref), &via(to, dom2, ref2, ro))))
+    let lent = lent_mut(&mut domain.held);
+    EncodedAnswer::of(done(
+        lent.attached
+            .grant(GrantRef(gref), &via(to, dom2, ref2, ro)),
+    ))
 }
 
 /// Grants the entry that the bytes encode.
@@ -296,8 +299,8 @@ pub extern "C" fn gthost_grant_bytes_at(
     if let Some(answer) = turned_away(domain) {
         return answer;
     }
-    let here = here_mut(&mut domain.held);
-    EncodedAnswer::of(done(here.guest.grant_bytes(GrantRef(gref), spelled(&bytes))))
+    let lent = lent_mut(&mut domain.held);
+    EncodedAnswer::of(done(lent.attached.grant_bytes(GrantRef(gref), spelled(&bytes))))
 }
 
 /// Brings an entry of the caller to what its guest has written: the bytes are the guest's entry as its memory has them.
@@ -312,8 +315,8 @@ pub extern "C" fn gthost_follow_at(
     if let Some(answer) = turned_away(domain) {
         return answer;
     }
-    let here = here_mut(&mut domain.held);
-    EncodedAnswer::of(followed_outcome(here.guest.follow(GrantRef(gref), spelled(&bytes))))
+    let lent = lent_mut(&mut domain.held);
+    EncodedAnswer::of(followed_outcome(lent.attached.follow(GrantRef(gref), spelled(&bytes))))
 }
 
 /// Makes an entry of the caller invalid if it has no pins.
@@ -324,8 +327,8 @@ pub extern "C" fn gthost_revoke_at(domain: &mut DomainHandle, gref: u32) -> Enco
     if let Some(answer) = turned_away(domain) {
         return answer;
     }
-    let here = here_mut(&mut domain.held);
-    EncodedAnswer::of(done(here.guest.revoke(GrantRef(gref))))
+    let lent = lent_mut(&mut domain.held);
+    EncodedAnswer::of(done(lent.attached.revoke(GrantRef(gref))))
 }
 
 /// Makes an entry of the caller invalid, with or without pins.
@@ -336,8 +339,8 @@ pub extern "C" fn gthost_withdraw_at(domain: &mut DomainHandle, gref: u32) -> En
     if let Some(answer) = turned_away(domain) {
         return answer;
     }
-    let here = here_mut(&mut domain.held);
-    EncodedAnswer::of(done(here.guest.withdraw(GrantRef(gref))))
+    let lent = lent_mut(&mut domain.held);
+    EncodedAnswer::of(done(lent.attached.withdraw(GrantRef(gref))))
 }
 
 /// Makes an entry of the caller read-only if it has no write pins.
@@ -348,8 +351,8 @@ pub extern "C" fn gthost_demote_at(domain: &mut DomainHandle, gref: u32) -> Enco
     if let Some(answer) = turned_away(domain) {
         return answer;
     }
-    let here = here_mut(&mut domain.held);
-    EncodedAnswer::of(done(here.guest.demote(GrantRef(gref))))
+    let lent = lent_mut(&mut domain.held);
+    EncodedAnswer::of(done(lent.attached.demote(GrantRef(gref))))
 }
 
 /// Makes an entry of the caller writable.
@@ -360,8 +363,8 @@ pub extern "C" fn gthost_promote_at(domain: &mut DomainHandle, gref: u32) -> Enc
     if let Some(answer) = turned_away(domain) {
         return answer;
     }
-    let here = here_mut(&mut domain.held);
-    EncodedAnswer::of(done(here.guest.promote(GrantRef(gref))))
+    let lent = lent_mut(&mut domain.held);
+    EncodedAnswer::of(done(lent.attached.promote(GrantRef(gref))))
 }
 
 /// Maps an entry of a domain, for reading and writing (flags 2) or for reading (flags 6).
@@ -378,10 +381,10 @@ pub extern "C" fn gthost_map_at(
     if is_turned_away(domain, answer) {
         return;
     }
-    let here = here_mut(&mut domain.held);
-    let caller = here.guest.dom();
-    let answered = here.guest.map(DomId(dom), GrantRef(gref), flags);
-    store_mapped(answer, answered, caller, here.run);
+    let lent = lent_mut(&mut domain.held);
+    let caller = lent.attached.dom();
+    let answered = lent.attached.map(DomId(dom), GrantRef(gref), flags);
+    store_mapped(answer, answered, caller, lent.run);
 }
 
 /// Unmaps a mapping.
@@ -396,9 +399,9 @@ pub extern "C" fn gthost_unmap_at(
     if is_turned_away(domain, answer) {
         return;
     }
-    let here = here_mut(&mut domain.held);
-    let handle = handle_named(here, *name);
-    let answered = here.guest.unmap(handle);
+    let lent = lent_mut(&mut domain.held);
+    let handle = handle_named(lent, *name);
+    let answered = lent.attached.unmap(handle);
     store_done(answer, answered);
 }
 
@@ -410,8 +413,8 @@ pub extern "C" fn gthost_set_version_at(domain: &mut DomainHandle, version: u32)
     if let Some(answer) = turned_away(domain) {
         return answer;
     }
-    let here = here_mut(&mut domain.held);
-    EncodedAnswer::of(done(here.guest.set_version(version)))
+    let lent = lent_mut(&mut domain.held);
+    EncodedAnswer::of(done(lent.attached.set_version(version)))
 }
 
 /// Grows the caller's table to this many frames, if it has fewer.
@@ -422,8 +425,8 @@ pub extern "C" fn gthost_setup_table_at(domain: &mut DomainHandle, frames: u32) 
     if let Some(answer) = turned_away(domain) {
         return answer;
     }
-    let here = here_mut(&mut domain.held);
-    EncodedAnswer::of(frames_outcome(here.guest.setup_table(frames)))
+    let lent = lent_mut(&mut domain.held);
+    EncodedAnswer::of(frames_outcome(lent.attached.setup_table(frames)))
 }
 
 /// Returns the size of a domain's table.
@@ -434,8 +437,8 @@ pub extern "C" fn gthost_query_size_at(domain: &mut DomainHandle, dom: u16) -> E
     if let Some(answer) = turned_away(domain) {
         return answer;
     }
-    let here = here_mut(&mut domain.held);
-    EncodedAnswer::of(size_outcome(here.guest.query_size(DomId(dom))))
+    let lent = lent_mut(&mut domain.held);
+    EncodedAnswer::of(size_outcome(lent.attached.query_size(DomId(dom))))
 }
 
 /// Returns the version of a domain's table.
@@ -446,6 +449,6 @@ pub extern "C" fn gthost_get_version_at(domain: &mut DomainHandle, dom: u16) -> 
     if let Some(answer) = turned_away(domain) {
         return answer;
     }
-    let here = here_mut(&mut domain.held);
-    EncodedAnswer::of(version_outcome(here.guest.get_version(DomId(dom))))
+    let lent = lent_mut(&mut domain.held);
+    EncodedAnswer::of(version_outcome(lent.attached.get_version(DomId(dom))))
 }

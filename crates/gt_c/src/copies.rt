@@ -6,7 +6,7 @@ ghost use Rattle.gt_c.specs.Reports.{places_report};
 
 use crate::calls::turned_away;
 use crate::handle::DomainHandle;
-use crate::lending::here_mut;
+use crate::lending::lent_mut;
 use gt_attached::{AttachedOutcome, CopyEnd, CopyPlaces, EncodedAnswer};
 use gt_calls::{CopyArgs, End, Spot};
 use gt_types::{Denial, DomId};
@@ -129,8 +129,8 @@ pub extern "C" fn gthost_copy_begin_at(domain: &mut DomainHandle, copy: CopySett
         let places = no_places();
         return BegunReport { answer, places };
     }
-    let here = here_mut(&mut domain.held);
-    let result = here.guest.copy_begin(&copy_asked(copy));
+    let lent = lent_mut(&mut domain.held);
+    let result = lent.attached.copy_begin(&copy_asked(copy));
     let answer = EncodedAnswer::of(begun(result));
     let places = places_report(result);
     BegunReport { answer, places }
@@ -144,10 +144,10 @@ pub extern "C" fn gthost_copy_end_at(domain: &mut DomainHandle) -> EncodedAnswer
     if !domain.is_live {
         return EncodedAnswer::of(AttachedOutcome::NoDomain);
     }
-    let here = here_mut(&mut domain.held);
-    if !here.guest.is_copying() {
+    let lent = lent_mut(&mut domain.held);
+    if !lent.attached.is_copying() {
         return EncodedAnswer::of(AttachedOutcome::NoCopy);
     }
-    here.guest.copy_end();
+    lent.attached.copy_end();
     EncodedAnswer::of(AttachedOutcome::Done)
 }

@@ -2,8 +2,8 @@
 ghost use Rattle.std.specs.Prelude.{◌≡◌, Some, None, IsSome, true, false};
 ghost use Rattle.std.specs.Option.{option_map};
 
+use crate::c_domain::CDomain;
 use crate::held::RawBox;
-use crate::here::CDomain;
 use crate::parts::BoxParts;
 use std::alloc::Global;
 use std::mem;
@@ -39,12 +39,12 @@ impl DomainHandle {
     }
 
     /// Puts a domain into a handle without one.
-    pub fn put(&mut self, here: Box<CDomain>)
+    pub fn put(&mut self, lent: Box<CDomain>)
         requires { self.old.held.value ≡ None }
-        ensures { (self.new.is_live ≡ true) × (self.new.held.value ≡ Some here.value) }
+        ensures { (self.new.is_live ≡ true) × (self.new.held.value ≡ Some lent.value) }
     {
         *self = DomainHandle {
-            held: RawBox::of_parts(BoxParts::of(here)),
+            held: RawBox::of_parts(BoxParts::of(lent)),
             is_live: true,
         };
     }

@@ -1,11 +1,11 @@
 //! A box as a pointer that C may hold, or null.
 ghost use Rattle.std.specs.Prelude.{◌≡◌, Option, Some, None, IsSome};
 ghost use Rattle.std.specs.Box.Ownership.{box_owns};
-ghost use Rattle.gt_c.specs.declared.here.CDomain.{CDomain};
+ghost use Rattle.gt_c.specs.declared.c_domain.CDomain.{CDomain};
 ghost use Rattle.std.specs.contracts.impls.GlobalAllocator.TheImpl.{ghosts};
-ghost use Rattle.gt_c.specs.contracts.here.CDomain.{the_row as here_row};
+ghost use Rattle.gt_c.specs.contracts.c_domain.CDomain.{the_row as c_domain_row};
 
-use crate::here::CDomain;
+use crate::c_domain::CDomain;
 use crate::parts::BoxParts;
 use std::alloc::Global;
 use std::marker::Model;
@@ -24,10 +24,10 @@ impl Model for RawBox {
     ghost use Rattle.std.specs.Prelude.{Option};
     ghost use Rattle.std.specs.Box.Ownership.{box_owns};
     ghost use Rattle.std.specs.contracts.impls.GlobalAllocator.TheImpl.{ghosts};
-    ghost use Rattle.gt_c.specs.contracts.here.CDomain.{the_row as here_row};
+    ghost use Rattle.gt_c.specs.contracts.c_domain.CDomain.{the_row as c_domain_row};
     ghost use Rattle.gt_c.specs.Owning.{owned};
 
-    ghost also_owns = { λ p. owned (box_owns (ghosts.dealloc_token p.alloc) here_row p.at) p.value };
+    ghost also_owns = { λ p. owned (box_owns (ghosts.dealloc_token p.alloc) c_domain_row p.at) p.value };
 }
 
 impl RawBox {

@@ -14,12 +14,12 @@
 #![tactic(auto)]
 
 mod beginning;
+mod c_domain;
 mod calls;
 mod copies;
 mod faults;
 mod handle;
 mod held;
-mod here;
 mod lending;
 mod parts;
 mod reports;

@@ -7,7 +7,7 @@ ghost use Rattle.gt_c.specs.Reports.{no_record, outcome_present, read_only_code,
 
 use crate::calls::{MapHandle, handle_named, turned_away};
 use crate::handle::DomainHandle;
-use crate::lending::here_mut;
+use crate::lending::lent_mut;
 use gt_attached::{AttachedOutcome, CopyEnd, EncodedAnswer, EncodedRecord};
 use gt_calls::HeldPin;
 use gt_entry::{Control, EntryKind};
@@ -205,9 +205,9 @@ pub extern "C" fn gthost_mapping_at(domain: &mut DomainHandle, name: MapHandle) 
         let mapping = no_mapping();
         return MappingReport { answer, mapping };
     }
-    let here = here_mut(&mut domain.held);
-    let handle = handle_named(here, name);
-    let found = here.guest.mapping(handle);
+    let lent = lent_mut(&mut domain.held);
+    let handle = handle_named(lent, name);
+    let found = lent.attached.mapping(handle);
     let answer = EncodedAnswer::of(present(&found));
     let mapping = mapping_report(found);
     MappingReport { answer, mapping }
@@ -222,8 +222,8 @@ pub extern "C" fn gthost_entry_at(domain: &mut DomainHandle, gref: u32) -> Entry
         let entry = no_entry();
         return EntryReport { answer, entry };
     }
-    let here = here_mut(&mut domain.held);
-    let found = here.guest.status(GrantRef(gref));
+    let lent = lent_mut(&mut domain.held);
+    let found = lent.attached.status(GrantRef(gref));
     let answer = EncodedAnswer::of(present(&found));
     let entry = entry_status(found);
     EntryReport { answer, entry }
@@ -238,8 +238,8 @@ pub extern "C" fn gthost_record_at(domain: &mut DomainHandle, index: usize) -> R
         let kept = no_record();
         return RecordReport { answer, kept };
     }
-    let here = here_mut(&mut domain.held);
-    let found = here.guest.record_at(index);
+    let lent = lent_mut(&mut domain.held);
+    let found = lent.attached.record_at(index);
     let answer = EncodedAnswer::of(present(&found));
     let kept = encoded_record(found);
     RecordReport { answer, kept }
@@ -253,8 +253,8 @@ pub extern "C" fn gthost_keep_at_most_at(domain: &mut DomainHandle, records: usi
     if let Some(answer) = turned_away(domain) {
         return answer;
     }
-    let here = here_mut(&mut domain.held);
-    here.guest.keep_at_most(records);
+    let lent = lent_mut(&mut domain.held);
+    lent.attached.keep_at_most(records);
     EncodedAnswer::of(AttachedOutcome::Done)
 }
 
@@ -266,8 +266,8 @@ pub extern "C" fn gthost_take_records_at(alloc: Global, domain: &mut DomainHandl
     if let Some(answer) = turned_away(domain) {
         return answer;
     }
-    let here = here_mut(&mut domain.held);
-    let taken = here.guest.take_records(alloc);
+    let lent = lent_mut(&mut domain.held);
+    let taken = lent.attached.take_records(alloc);
     EncodedAnswer::of(AttachedOutcome::Taken(taken))
 }
 
@@ -282,6 +282,6 @@ pub extern "C" fn gthost_reserve_records_at(
     if let Some(answer) = turned_away(domain) {
         return answer;
     }
-    let here = here_mut(&mut domain.held);
-    EncodedAnswer::of(reserved(here.guest.reserve_records(records)))
+    let lent = lent_mut(&mut domain.held);
+    EncodedAnswer::of(reserved(lent.attached.reserve_records(records)))
 }

@@ -3,7 +3,7 @@ use Rattle.gt_c.proofs.beginning.made_ready.Goals as goal
 pub returns : goal.returns
 returns c =
     record {
-      settled = c.settle.new.guest;
+      settled = c.settle.new.attached;
       settles = c.settle.ensures.settled;
       remains = c.reset-remains.result;
       encodes = c.of.ensures;

@@ -7,5 +7,5 @@ returns-then-is_copying c = record { settled = inr c.copy_end.ensures.ends; idle
 
 pub returns-else-is_copying : goal.returns-else-is_copying
 returns-else-is_copying c =
-    let none = none-of c.args.guest.now.copying (sym c.is_copying.ensures ∙ c.if-is_copying.false) in
+    let none = none-of c.args.attached.now.copying (sym c.is_copying.ensures ∙ c.if-is_copying.false) in
     record { settled = inl (none, refl); idle = none }

@@ -8,11 +8,11 @@ use Rattle.gt_c.proofs.Made.{idle-there, made}
 use Rattle.gt_c.proofs.calls.gthost_get_version_at.Goals as goal
 
 pub get_version-requires : goal.get_version-requires
-get_version-requires c = record { idle = idle-there c.args.domain.now.held.value (c.turned_away.ensures.may c.in_default.is) c.here_mut-here.ensures.value }
+get_version-requires c = record { idle = idle-there c.args.domain.now.held.value (c.turned_away.ensures.may c.in_default.is) c.lent_mut-lent.ensures.value }
 
 pub returns : goal.returns
 returns c =
-    made c.of.result (EncodesRecorded outcome_version verdict_of_version (requests.GetVersion (dom_of c.args.dom)) (hypercalls.GetVersion (dom_of c.args.dom)) c.of.result) (c.turned_away.ensures.may c.in_default.is) c.here_mut-here.ensures.value
+    made c.of.result (EncodesRecorded outcome_version verdict_of_version (requests.GetVersion (dom_of c.args.dom)) (hypercalls.GetVersion (dom_of c.args.dom)) c.of.result) (c.turned_away.ensures.may c.in_default.is) c.lent_mut-lent.ensures.value
     (record {
       result = c.get_version.result;
       encodes = c.of.ensures ∙ ap encoded c.version_outcome.ensures;

@@ -7,11 +7,11 @@ use Rattle.gt_c.proofs.Made.{idle-there, made}
 use Rattle.gt_c.proofs.calls.gthost_grant_bytes_at.Goals as goal
 
 pub grant_bytes-requires : goal.grant_bytes-requires
-grant_bytes-requires c = record { idle = idle-there c.args.domain.now.held.value (c.turned_away.ensures.may c.in_default.is) c.here_mut-here.ensures.value }
+grant_bytes-requires c = record { idle = idle-there c.args.domain.now.held.value (c.turned_away.ensures.may c.in_default.is) c.lent_mut-lent.ensures.value }
 
 pub returns : goal.returns
 returns c =
-    made c.of.result (λ d e. (s : Bor (List ℕ)) × (s.now ≡ spelled c.args.bytes) × EncodesDone (requests.GrantBytes (ref_at c.args.gref) s) c.of.result d e) (c.turned_away.ensures.may c.in_default.is) c.here_mut-here.ensures.value (
+    made c.of.result (λ d e. (s : Bor (List ℕ)) × (s.now ≡ spelled c.args.bytes) × EncodesDone (requests.GrantBytes (ref_at c.args.gref) s) c.of.result d e) (c.turned_away.ensures.may c.in_default.is) c.lent_mut-lent.ensures.value (
       c.spelled.result,
       c.spelled.ensures,
       record {

@@ -10,14 +10,14 @@ use Rattle.gt_c.proofs.Made.{idle-there, made}
 use Rattle.gt_c.proofs.calls.gthost_grant_page_at.Goals as goal
 
 pub grant-requires : goal.grant-requires
-grant-requires c = record { idle = idle-there c.args.domain.now.held.value (c.turned_away.ensures.may c.in_default.is) c.here_mut-here.ensures.value }
+grant-requires c = record { idle = idle-there c.args.domain.now.held.value (c.turned_away.ensures.may c.in_default.is) c.lent_mut-lent.ensures.value }
 
 pub returns : goal.returns
 returns c =
-    made c.of.result (EncodesDone (requests.Grant (ref_at c.args.gref) (page c.args.to c.args.frame c.args.ro)) c.of.result) (c.turned_away.ensures.may c.in_default.is) c.here_mut-here.ensures.value
+    made c.of.result (EncodesDone (requests.Grant (ref_at c.args.gref) (page c.args.to c.args.frame c.args.ro)) c.of.result) (c.turned_away.ensures.may c.in_default.is) c.lent_mut-lent.ensures.value
     (record {
       result = c.grant.result;
       encodes = c.of.ensures ∙ ap encoded c.done.ensures;
       stays = c.grant.ensures.stays;
-      holds = subst (λ (y : Entry). AnswersQuietly may c.here_mut-here.result.now.guest.monitor c.here_mut-here.result.now.guest.domain (requests.Grant (ref_at c.args.gref) y) (verdict_of c.grant.result) c.grant.new.self.domain) c.page.ensures c.grant.ensures.answers;
+      holds = subst (λ (y : Entry). AnswersQuietly may c.lent_mut-lent.result.now.attached.monitor c.lent_mut-lent.result.now.attached.domain (requests.Grant (ref_at c.args.gref) y) (verdict_of c.grant.result) c.grant.new.self.domain) c.page.ensures c.grant.ensures.answers;
     })

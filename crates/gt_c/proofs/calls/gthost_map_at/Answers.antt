@@ -7,13 +7,13 @@ use Rattle.gt_c.proofs.Made.{idle-there, made}
 use Rattle.gt_c.proofs.calls.gthost_map_at.Goals as goal
 
 pub map-answered-requires : goal.map-answered-requires
-map-answered-requires c = record { idle = idle-there c.args.domain.now.held.value (c.is_turned_away.ensures.may c.if-is_turned_away.false) c.here_mut-here.ensures.value }
+map-answered-requires c = record { idle = idle-there c.args.domain.now.held.value (c.is_turned_away.ensures.may c.if-is_turned_away.false) c.lent_mut-lent.ensures.value }
 
 pub returns : goal.returns
 returns c =
-    let x = c.here_mut-here.result.now in let answer = c.store_mapped.new.answer in
-    let said : answer ≡ encoded (outcome_mapped x.guest.domain.seat.dom x.run c.map-answered.result) = cc in
-    made answer (EncodesMapped (requests.Map (dom_of c.args.dom) (ref_at c.args.gref) c.args.flags) (hypercalls.Map (dom_of c.args.dom) (ref_at c.args.gref) c.args.flags) answer) (c.is_turned_away.ensures.may c.if-is_turned_away.false) c.here_mut-here.ensures.value
+    let x = c.lent_mut-lent.result.now in let answer = c.store_mapped.new.answer in
+    let said : answer ≡ encoded (outcome_mapped x.attached.domain.seat.dom x.run c.map-answered.result) = cc in
+    made answer (EncodesMapped (requests.Map (dom_of c.args.dom) (ref_at c.args.gref) c.args.flags) (hypercalls.Map (dom_of c.args.dom) (ref_at c.args.gref) c.args.flags) answer) (c.is_turned_away.ensures.may c.if-is_turned_away.false) c.lent_mut-lent.ensures.value
     (record {
       result = c.map-answered.result;
       encodes = said;

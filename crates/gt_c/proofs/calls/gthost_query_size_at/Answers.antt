@@ -8,11 +8,11 @@ use Rattle.gt_c.proofs.Made.{idle-there, made}
 use Rattle.gt_c.proofs.calls.gthost_query_size_at.Goals as goal
 
 pub query_size-requires : goal.query_size-requires
-query_size-requires c = record { idle = idle-there c.args.domain.now.held.value (c.turned_away.ensures.may c.in_default.is) c.here_mut-here.ensures.value }
+query_size-requires c = record { idle = idle-there c.args.domain.now.held.value (c.turned_away.ensures.may c.in_default.is) c.lent_mut-lent.ensures.value }
 
 pub returns : goal.returns
 returns c =
-    made c.of.result (EncodesRecorded outcome_size verdict_of_size (requests.QuerySize (dom_of c.args.dom)) (hypercalls.QuerySize (dom_of c.args.dom)) c.of.result) (c.turned_away.ensures.may c.in_default.is) c.here_mut-here.ensures.value
+    made c.of.result (EncodesRecorded outcome_size verdict_of_size (requests.QuerySize (dom_of c.args.dom)) (hypercalls.QuerySize (dom_of c.args.dom)) c.of.result) (c.turned_away.ensures.may c.in_default.is) c.lent_mut-lent.ensures.value
     (record {
       result = c.query_size.result;
       encodes = c.of.ensures ∙ ap encoded c.size_outcome.ensures;

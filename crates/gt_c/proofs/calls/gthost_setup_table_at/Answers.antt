@@ -8,11 +8,11 @@ use Rattle.gt_c.proofs.Made.{idle-there, made}
 use Rattle.gt_c.proofs.calls.gthost_setup_table_at.Goals as goal
 
 pub setup_table-requires : goal.setup_table-requires
-setup_table-requires c = record { idle = idle-there c.args.domain.now.held.value (c.turned_away.ensures.may c.in_default.is) c.here_mut-here.ensures.value }
+setup_table-requires c = record { idle = idle-there c.args.domain.now.held.value (c.turned_away.ensures.may c.in_default.is) c.lent_mut-lent.ensures.value }
 
 pub returns : goal.returns
 returns c =
-    made c.of.result (EncodesRecorded outcome_frames verdict_of_frames (requests.SetupTable c.args.frames) (hypercalls.SetupTable c.args.frames) c.of.result) (c.turned_away.ensures.may c.in_default.is) c.here_mut-here.ensures.value
+    made c.of.result (EncodesRecorded outcome_frames verdict_of_frames (requests.SetupTable c.args.frames) (hypercalls.SetupTable c.args.frames) c.of.result) (c.turned_away.ensures.may c.in_default.is) c.lent_mut-lent.ensures.value
     (record {
       result = c.setup_table.result;
       encodes = c.of.ensures ∙ ap encoded c.frames_outcome.ensures;

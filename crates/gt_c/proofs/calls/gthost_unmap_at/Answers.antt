@@ -14,16 +14,16 @@ use Rattle.gt_c.proofs.Made.{idle-there, made}
 use Rattle.gt_c.proofs.calls.gthost_unmap_at.Goals as goal
 
 pub unmap-answered-requires : goal.unmap-answered-requires
-unmap-answered-requires c = record { idle = idle-there c.args.domain.now.held.value (c.is_turned_away.ensures.may c.if-is_turned_away.false) c.here_mut-here.ensures.value }
+unmap-answered-requires c = record { idle = idle-there c.args.domain.now.held.value (c.is_turned_away.ensures.may c.if-is_turned_away.false) c.lent_mut-lent.ensures.value }
 
 pub returns : goal.returns
 returns c =
-    let x = c.here_mut-here.result.now in let answer = c.store_done.new.answer in
+    let x = c.lent_mut-lent.result.now in let answer = c.store_done.new.answer in
     let refused : RefusesForeign x c.args.name.now (outcomes.Denied (denial_of N6 facts.None)) answer =
     λ foreign. c.store_done.ensures
     ∙ ap (λ (r : Result (Unit {0}) Denial). encoded (outcome r)) (c.unmap-answered.ensures.absent (c.handle_named-handle.ensures.foreign foreign)) in
-    made answer (λ d e. EncodesUnmapped (requests.Unmap (handle_named d c.args.name.now)) hypercalls.Unmap (handle_named d c.args.name.now) answer d e × RefusesForeign d c.args.name.now (outcomes.Denied (denial_of N6 facts.None)) answer) (c.is_turned_away.ensures.may c.if-is_turned_away.false) c.here_mut-here.ensures.value (
-      subst (λ (h : Handle). EncodesUnmapped (requests.Unmap h) hypercalls.Unmap h answer x (record { guest = c.unmap-answered.new.self; run = x.run }))
+    made answer (λ d e. EncodesUnmapped (requests.Unmap (handle_named d c.args.name.now)) hypercalls.Unmap (handle_named d c.args.name.now) answer d e × RefusesForeign d c.args.name.now (outcomes.Denied (denial_of N6 facts.None)) answer) (c.is_turned_away.ensures.may c.if-is_turned_away.false) c.lent_mut-lent.ensures.value (
+      subst (λ (h : Handle). EncodesUnmapped (requests.Unmap h) hypercalls.Unmap h answer x (record { attached = c.unmap-answered.new.self; run = x.run }))
           c.handle_named-handle.ensures.value
           (record {
             result = c.unmap-answered.result;

@@ -9,10 +9,10 @@ use Rattle.gt_c.proofs.copies.gthost_copy_begin_at.Goals as goal
 
 pub returns : goal.returns
 returns c =
-    made-telling c.of-answer.result (c.places_report-places.result ≡ no_copy_places) (EncodesBegun (copy_asked c.args.copy) c.places_report-places.result c.of-answer.result) (c.turned_away.ensures.may c.in_default.is) c.here_mut-here.ensures.value
+    made-telling c.of-answer.result (c.places_report-places.result ≡ no_copy_places) (EncodesBegun (copy_asked c.args.copy) c.places_report-places.result c.of-answer.result) (c.turned_away.ensures.may c.in_default.is) c.lent_mut-lent.ensures.value
     (record {
       result = c.copy_begin-result.result;
       encodes = c.of-answer.ensures ∙ ap encoded c.begun.ensures;
       shown = c.places_report-places.ensures;
-      begins = subst (λ (a : CopyArgs). BeginsAccess may c.here_mut-here.result.now.guest a c.copy_begin-result.result c.copy_begin-result.new.self) c.copy_asked.ensures c.copy_begin-result.ensures.begins;
+      begins = subst (λ (a : CopyArgs). BeginsAccess may c.lent_mut-lent.result.now.attached a c.copy_begin-result.result c.copy_begin-result.new.self) c.copy_asked.ensures c.copy_begin-result.ensures.begins;
     })

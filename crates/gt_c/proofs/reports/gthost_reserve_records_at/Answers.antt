@@ -6,7 +6,7 @@ use Rattle.gt_c.proofs.reports.gthost_reserve_records_at.Goals as goal
 
 pub returns : goal.returns
 returns c =
-    made c.of.result (Reserves c.args.records c.of.result) (c.turned_away.ensures.may c.in_default.is) c.here_mut-here.ensures.value
+    made c.of.result (Reserves c.args.records c.of.result) (c.turned_away.ensures.may c.in_default.is) c.lent_mut-lent.ensures.value
     (record {
       result = c.reserve_records.result;
       encodes = c.of.ensures ∙ ap encoded c.reserved.ensures;

@@ -27,7 +27,7 @@ returns-clause-refused g c =
 
 pub returns-clause-absent : goal.returns-clause-absent
 returns-clause-absent g c =
-    let may = g.P.Allows.may in let n = c.deref.result.now in let d = c.self.inside.guest.domain in
+    let may = g.P.Allows.may in let n = c.deref.result.now in let d = c.self.inside.attachment.domain in
     beside (λ m x. value_of x.mappings c.args.handle ≡ None → c.unmap.result ≡ Err (denial_of N6 facts.None))
     c.deref.ensures c.self.view_is
     (λ none. refused-by-n6 n.words.layout (known_on may n d) d.seat.dom c.args.handle c.unmap.result d.seat.view c.unmap.new.self.seat.view none c.unmap.ensures.answered)

@@ -27,7 +27,7 @@ use denote.Triple.Walked.{says, Stays, stay_dropped, walk_of, ends_at, Goes-drop
 use Rattle.std_alloc.proofs.BoxSteps.Form.{D, word, box_typed}
 use Rattle.std_alloc.proofs.BoxSteps.Steps.{box_out, box_in}
 use Rattle.gt_c.proofs.AsBox.{E, FromHeld as From, some_of}
-use Rattle.gt_c.specs.declared.here.CDomain.{CDomain}
+use Rattle.gt_c.specs.declared.c_domain.CDomain.{CDomain}
 use Rattle.gt_c.specs.contracts.held.RawBox as Held
 use Rattle.gt_c.specs.contracts.held.RawBox.into_parts as F
 use Rattle.gt_c.specs.contracts.held.RawBox.into_parts.Key.{name as #self}

@@ -1,4 +1,4 @@
-use Rattle.gt_attached.proofs.guest.depart.Goals as goal
+use Rattle.gt_attached.proofs.attachment.depart.Goals as goal
 
 pub returns : goal.returns
 returns g c =

@@ -41,15 +41,15 @@ use Rattle.std_alloc.proofs.BoxSteps.Form.{D, τ, word, handle}
 use Rattle.std_alloc.proofs.BoxSteps.Steps.{box_out, box_in}
 use Rattle.std_heap.specs.contracts.Global as Heap
 use Rattle.gt_c.proofs.AsBox.{E}
-use Rattle.gt_c.specs.Lending.{with_here}
-use Rattle.gt_c.specs.declared.here.CDomain.{CDomain}
+use Rattle.gt_c.specs.Lending.{with_c_domain}
+use Rattle.gt_c.specs.declared.c_domain.CDomain.{CDomain}
 use Rattle.gt_c.specs.declared.held.RawBox.{RawBox}
-use Rattle.gt_c.specs.contracts.here.CDomain as H-type
+use Rattle.gt_c.specs.contracts.c_domain.CDomain as H-type
 use Rattle.gt_c.specs.contracts.held.RawBox as RawBox-type
-use Rattle.gt_c.specs.contracts.lending.here_mut as F
-use Rattle.gt_c.specs.contracts.lending.here_mut.Key.{name as #self}
-use Rattle.gt_c.proofs.lending.here_mut.Statement as stated
-use Rattle.gt_c.proofs.lending.here_mut.Code as code
+use Rattle.gt_c.specs.contracts.lending.lent_mut as F
+use Rattle.gt_c.specs.contracts.lending.lent_mut.Key.{name as #self}
+use Rattle.gt_c.proofs.lending.lent_mut.Statement as stated
+use Rattle.gt_c.proofs.lending.lent_mut.Code as code
 
 abbrev stayed : Stays F.ended.signature.params F.ended.kept
 stayed = (stay_dropped (mut_ref_to (0 ∷ []) tt (plain (λ _. RawBox-type.the_row))) no, tt)
@@ -79,17 +79,17 @@ module _ {M : Type 1} {𝓤 : Ura M} (𝓛 : Logic 𝓤) (at_mem : Memory → SP
       Rest = fsep (fsep (token E.al al (bare (τ E)) (block_ptr b o)) (handle E al hv)) (cell_at full_share RawBox-type.the_row.mir (word E hv b o ∷ []) rb ro)
 
       back : p ≡ block_ptr b o → (w : CDomain)
-          → ent 𝓤 (sep 𝓤 (sem 𝓛 ((mem H-type.the_row).own_at w b o)) (sem 𝓛 Rest)) (sem 𝓛 ((mem RawBox-type.the_row).own_at (with_here h w) rb ro))
+          → ent 𝓤 (sep 𝓤 (sem 𝓛 ((mem H-type.the_row).own_at w b o)) (sem 𝓛 Rest)) (sem 𝓛 ((mem RawBox-type.the_row).own_at (with_c_domain h w) rb ro))
       unfolding part_of
       back at_b w =
           qed 𝓛 (‵ (part_at H-type.the_row full_share w b o) ∷ ‵ Rest ∷ []) ∵ move ! (1 ∷ []) $ fsplit ! $ fsplit ! $ move ! (3 ∷ []) $
-          box_in E ! (d w) b o w at_b refl $ use1 𝓛 (‵ (RawBox-type.the_row.own_val (with_here h w) (word E hv b o ∷ []))) (id⊢ 𝓤 _) $ move ! (1 ∷ 0 ∷ []) $ fjoin ! $
-          fpack ! (List Val) (λ us. fsep (cell_at full_share RawBox-type.the_row.mir us rb ro) (RawBox-type.the_row.own_val (with_here h w) us)) (word E hv b o ∷ []) $ done !
+          box_in E ! (d w) b o w at_b refl $ use1 𝓛 (‵ (RawBox-type.the_row.own_val (with_c_domain h w) (word E hv b o ∷ []))) (id⊢ 𝓤 _) $ move ! (1 ∷ 0 ∷ []) $ fjoin ! $
+          fpack ! (List Val) (λ us. fsep (cell_at full_share RawBox-type.the_row.mir us rb ro) (RawBox-type.the_row.own_val (with_c_domain h w) us)) (word E hv b o ∷ []) $ done !
 
       exits : (γ' : GName)
-          → ent 𝓤 (sep 𝓤 (sem 𝓛 ((MutRef (named 0) κ H-type.the_row).own_val (record { ref_ptr = (b, o); ghost_name = γ'; now = x }) (vptr b o ∷ []))) (sep 𝓤 (A.lft κ q) (sem 𝓛 (follows RawBox-type.the_row H-type.the_row γ γ' (with_here h))))) (Post (vptr b o))
+          → ent 𝓤 (sep 𝓤 (sem 𝓛 ((MutRef (named 0) κ H-type.the_row).own_val (record { ref_ptr = (b, o); ghost_name = γ'; now = x }) (vptr b o ∷ []))) (sep 𝓤 (A.lft κ q) (sem 𝓛 (follows RawBox-type.the_row H-type.the_row γ γ' (with_c_domain h))))) (Post (vptr b o))
       exits γ' =
-          qed 𝓛 (‵ ((MutRef (named 0) κ H-type.the_row).own_val (record { ref_ptr = (b, o); ghost_name = γ'; now = x }) (vptr b o ∷ [])) ∷ ‵ (flft κ q) ∷ ‵ (follows RawBox-type.the_row H-type.the_row γ γ' (with_here h)) ∷ []) ∵
+          qed 𝓛 (‵ ((MutRef (named 0) κ H-type.the_row).own_val (record { ref_ptr = (b, o); ghost_name = γ'; now = x }) (vptr b o ∷ [])) ∷ ‵ (flft κ q) ∷ ‵ (follows RawBox-type.the_row H-type.the_row γ γ' (with_c_domain h)) ∷ []) ∵
           suffices ! _ (ends_at 𝓛 F.ended stayed held bound (vptr b o) (record { ref_ptr = (b, o); ghost_name = γ'; now = x }) (tt, tt) (tt, tt)) $
           nothing ! $ nothing ! $ fjoin ! $ join ! $ nothing ! $ move ! (2 ∷ 0 ∷ []) $ join ! $ join ! $ frame ! $ says ! refl $ done !
 
@@ -110,8 +110,8 @@ module _ {M : Type 1} {𝓤 : Ura M} (𝓛 : Logic 𝓤) (at_mem : Memory → SP
           exec ! C Λ En code.Mir.t-2 (at_ret En Post) $
           sets ! (of_opd ! (get ! refl)) refl (tt, tt) $
           move ! (1 ∷ 2 ∷ []) $ fjoin ! $ move ! (2 ∷ 3 ∷ 4 ∷ 1 ∷ 0 ∷ []) $ group ! 5 $
-          use1 𝓛 (later (some (λ (γ' : GName). raw (Part 𝓛 RawBox-type.the_row H-type.the_row (with_here h) (named 0) κ q rb ro b o γ (sem 𝓛 (Rest b o hv)) (back b o hv at_b) x γ'))))
-          (lends_Part 𝓛 RawBox-type.the_row H-type.the_row (with_here h) (named 0) κ q rb ro b o γ (sem 𝓛 (Rest b o hv)) (back b o hv at_b) (RawBox-type.the_row.coded.code h) (RawBox-type.the_row.coded.code h) x) $ await ! tt $ pick ! (λ γ'.
+          use1 𝓛 (later (some (λ (γ' : GName). raw (Part 𝓛 RawBox-type.the_row H-type.the_row (with_c_domain h) (named 0) κ q rb ro b o γ (sem 𝓛 (Rest b o hv)) (back b o hv at_b) x γ'))))
+          (lends_Part 𝓛 RawBox-type.the_row H-type.the_row (with_c_domain h) (named 0) κ q rb ro b o γ (sem 𝓛 (Rest b o hv)) (back b o hv at_b) (RawBox-type.the_row.coded.code h) (RawBox-type.the_row.coded.code h) x) $ await ! tt $ pick ! (λ γ'.
           returns ! (look_at ! 0 refl) $ free_all ! refl $
           keep ! (0 ∷ []) $ by ! (exits b o hv γ')))))
 
@@ -121,9 +121,9 @@ module _ {M : Type 1} {𝓤 : Ura M} (𝓛 : Logic 𝓤) (at_mem : Memory → SP
   each κ q rb ro γ p al (Some x) is C Λ = walk κ q rb ro γ p al x C Λ
   each κ q rb ro γ p al None is C Λ = absurd (true≢false (sym is))
 
-pub here_mut_spec : {M : Type 1} → stated.statement M
+pub lent_mut_spec : {M : Type 1} → stated.statement M
 unfolding tables_of
-here_mut_spec 𝓤 𝓛 𝓜 𝓡 wired =
+lent_mut_spec 𝓤 𝓛 𝓜 𝓡 wired =
     let 𝓣 : Tables 𝓤 𝓛.H = tables_of 𝓤 𝓛.H 𝓜 (tables 𝓤 𝓛.H 𝓜 𝓡 𝓡.env) in
     let c : Clauses 𝓤 F.ended = F.clauses 𝓛 𝓜.mem 𝓡.returns in
     entered 𝓤 𝓛.H (triple_of 𝓛 F.signature (F.spec 𝓛 𝓜.mem 𝓡.returns)) 𝓣.C 𝓣.Λ #self code.function (code.unfolded 𝓤 𝓛.H 𝓜 𝓡 wired)

@@ -6,6 +6,6 @@ use gt_attached::AttachedDomain;
 /// A domain with the rights of a compiled policy, and the number of its run.
 #[derive(Drop)]
 pub struct CDomain {
-    pub guest: AttachedDomain<AllowTable>,
+    pub attached: AttachedDomain<AllowTable>,
     pub run: u32,
 }

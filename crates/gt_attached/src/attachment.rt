@@ -22,7 +22,7 @@ pub struct CopyPlaces {
 
 /// A domain in its run, and the copy that it is in, if it is in one. It is not `Drop`, and its fields are private here, so
 /// whoever else has one can only let it leave. By each such body that compiles, it ends its copy and closes its table.
-pub(crate) struct Guest {
+pub(crate) struct Attachment {
     domain: Domain,
     copying: Option<PendingCopy>,
 }
@@ -30,7 +30,7 @@ pub(crate) struct Guest {
 /// A domain that has left its run: what remains of it, and its seat with its records. No seat can be made or changed.
 /// So this seat is the one that left, and its view has each step that the domain made.
 #[derive(Drop)]
-pub struct LeftGuest {
+pub struct LeftDomain {
     pub remains: Departure,
     pub left: Departed,
 }
@@ -47,7 +47,7 @@ fn settle<P: Allows>(monitor: &Monitor<P>, domain: &mut Domain, copying: Option<
 }
 
 // Releases the domain's mappings, closes its table and leaves its run.
-fn depart<P: Allows>(monitor: &Monitor<P>, domain: Domain) -> LeftGuest
+fn depart<P: Allows>(monitor: &Monitor<P>, domain: Domain) -> LeftDomain
     requires { BelongsTo P.may monitor.now domain }
     ensures { LeavesRun P.may monitor.now domain result }
 {
@@ -56,15 +56,15 @@ fn depart<P: Allows>(monitor: &Monitor<P>, domain: Domain) -> LeftGuest
     let left = domain.finish(monitor);
     let lost = left.lost();
     let remains = Departure { lost, in_use };
-    LeftGuest { remains, left }
+    LeftDomain { remains, left }
 }
 
-impl Guest {
+impl Attachment {
     /// Makes a guest of a domain that is in no copy.
-    pub(crate) fn new(domain: Domain) -> Guest
+    pub(crate) fn new(domain: Domain) -> Attachment
         ensures { result ≡ record { domain = domain; copying = None } }
     {
-        Guest {
+        Attachment {
             domain,
             copying: None,
         }
@@ -72,11 +72,11 @@ impl Guest {
 
     /// Ends the copy that the domain is in, if it is in one. Then releases its mappings, closes its table and leaves its
     /// run.
-    pub(crate) fn leave<P: Allows>(self, monitor: &Monitor<P>) -> LeftGuest
+    pub(crate) fn leave<P: Allows>(self, monitor: &Monitor<P>) -> LeftDomain
         requires { StandsBy P.may monitor.now self.domain self.copying }
         ensures { LeavesSettled P.may (seated monitor.now self.domain self.copying) result }
     {
-        let Guest {
+        let Attachment {
             mut domain,
             copying,
         } = self;
@@ -119,7 +119,7 @@ impl<P: Allows + Drop> AttachedDomain<P> {
         ensures answers { AnswersQuietly P.may self.old.monitor self.old.domain
             (requests.Grant gref entry.now) (verdict_of result) self.new.domain }
     {
-        self.guest.domain.grant(&self.monitor, gref, entry)
+        self.attachment.domain.grant(&self.monitor, gref, entry)
     }
 
     /// Publishes the entry that the bytes encode in a table of the domain's version.
@@ -132,7 +132,9 @@ impl<P: Allows + Drop> AttachedDomain<P> {
         ensures answers { AnswersQuietly P.may self.old.monitor self.old.domain
             (requests.GrantBytes gref bytes.entry) (verdict_of result) self.new.domain }
     {
-        self.guest.domain.grant_bytes(&self.monitor, gref, bytes)
+        self.attachment
+            .domain
+            .grant_bytes(&self.monitor, gref, bytes)
     }
 
     /// Makes one of the domain's entries invalid if it has no pins.
@@ -145,7 +147,7 @@ impl<P: Allows + Drop> AttachedDomain<P> {
         ensures answers { AnswersQuietly P.may self.old.monitor self.old.domain
             (requests.Revoke gref) (verdict_of result) self.new.domain }
     {
-        self.guest.domain.revoke(&self.monitor, gref)
+        self.attachment.domain.revoke(&self.monitor, gref)
     }
 
     /// Makes one of the domain's entries invalid, with or without pins.
@@ -158,7 +160,7 @@ impl<P: Allows + Drop> AttachedDomain<P> {
         ensures answers { AnswersQuietly P.may self.old.monitor self.old.domain
             (requests.Withdraw gref) (verdict_of result) self.new.domain }
     {
-        self.guest.domain.withdraw(&self.monitor, gref)
+        self.attachment.domain.withdraw(&self.monitor, gref)
     }
 
     /// Makes one of the domain's entries read-only if it has no write pins.
@@ -171,7 +173,7 @@ impl<P: Allows + Drop> AttachedDomain<P> {
         ensures answers { AnswersQuietly P.may self.old.monitor self.old.domain
             (requests.Demote gref) (verdict_of result) self.new.domain }
     {
-        self.guest.domain.demote(&self.monitor, gref)
+        self.attachment.domain.demote(&self.monitor, gref)
     }
 
     /// Makes one of the domain's entries writable.
@@ -184,7 +186,7 @@ impl<P: Allows + Drop> AttachedDomain<P> {
         ensures answers { AnswersQuietly P.may self.old.monitor self.old.domain
             (requests.Promote gref) (verdict_of result) self.new.domain }
     {
-        self.guest.domain.promote(&self.monitor, gref)
+        self.attachment.domain.promote(&self.monitor, gref)
     }
 
     /// Brings one of the domain's entries to what its guest has written: the bytes are the guest's entry, as its memory
@@ -198,7 +200,7 @@ impl<P: Allows + Drop> AttachedDomain<P> {
         ensures stays { StaysIdle self.old self.new }
         ensures follows { Follows P.may self.old.monitor self.old.domain gref bytes.now result self.new.domain }
     {
-        self.guest.domain.follow(&self.monitor, gref, bytes)
+        self.attachment.domain.follow(&self.monitor, gref, bytes)
     }
 
     /// Gives the domain's table this version, 1 or 2, while all its entries are invalid.
@@ -211,7 +213,7 @@ impl<P: Allows + Drop> AttachedDomain<P> {
         ensures answers { AnswersRecorded P.may self.old.monitor self.old.domain
             (requests.SetVersion version) (hypercalls.SetVersion version) (verdict_of result) self.new.domain }
     {
-        self.guest.domain.set_version(&self.monitor, version)
+        self.attachment.domain.set_version(&self.monitor, version)
     }
 
     /// Grows the domain's table to `frames` frames if it has fewer, and returns the number that it then has.
@@ -224,7 +226,7 @@ impl<P: Allows + Drop> AttachedDomain<P> {
         ensures answers { AnswersRecorded P.may self.old.monitor self.old.domain
             (requests.SetupTable frames) (hypercalls.SetupTable frames) (verdict_of_frames result) self.new.domain }
     {
-        self.guest.domain.setup_table(&self.monitor, frames)
+        self.attachment.domain.setup_table(&self.monitor, frames)
     }
 
     /// Returns the number of frames of a domain's table, and the maximum.
@@ -237,7 +239,7 @@ impl<P: Allows + Drop> AttachedDomain<P> {
         ensures answers { AnswersRecorded P.may self.old.monitor self.old.domain
             (requests.QuerySize dom) (hypercalls.QuerySize dom) (verdict_of_size result) self.new.domain }
     {
-        self.guest.domain.query_size(&self.monitor, dom)
+        self.attachment.domain.query_size(&self.monitor, dom)
     }
 
     /// Returns the version of a domain's table.
@@ -250,7 +252,7 @@ impl<P: Allows + Drop> AttachedDomain<P> {
         ensures answers { AnswersRecorded P.may self.old.monitor self.old.domain
             (requests.GetVersion dom) (hypercalls.GetVersion dom) (verdict_of_version result) self.new.domain }
     {
-        self.guest.domain.get_version(&self.monitor, dom)
+        self.attachment.domain.get_version(&self.monitor, dom)
     }
 
     /// Maps an entry of a domain, for reading and writing (flags 2) or for reading (flags 6): `GNTMAP_host_map` and
@@ -271,7 +273,7 @@ impl<P: Allows + Drop> AttachedDomain<P> {
             })
             (trail_of self.new.domain) }
     {
-        self.guest.domain.map(&self.monitor, dom, gref, flags)
+        self.attachment.domain.map(&self.monitor, dom, gref, flags)
     }
 
     /// Unmaps a mapping, and releases its pin.
@@ -292,7 +294,7 @@ impl<P: Allows + Drop> AttachedDomain<P> {
             (hypercalls.Unmap (subject_of self.old.domain handle)) (verdict_of result))
             (trail_of self.new.domain) }
     {
-        self.guest.domain.unmap(&self.monitor, handle)
+        self.attachment.domain.unmap(&self.monitor, handle)
     }
 
     /// Returns the mapping under a handle, or `None` if the domain has no such mapping.
@@ -300,7 +302,7 @@ impl<P: Allows + Drop> AttachedDomain<P> {
         requires idle { self.now.copying ≡ None }
         ensures { result ≡ value_of (mappings_of self.now.domain) handle }
     {
-        self.guest.domain.mapping(&self.monitor, handle)
+        self.attachment.domain.mapping(&self.monitor, handle)
     }
 
     /// Returns a handle under which the domain has no mapping now. Its serial is that of the next mapping.
@@ -308,7 +310,7 @@ impl<P: Allows + Drop> AttachedDomain<P> {
         ensures value { result ≡ unused_handle self.now.domain }
         ensures unused { value_of (mappings_of self.now.domain) result ≡ None }
     {
-        self.guest.domain.unused_handle()
+        self.attachment.domain.unused_handle()
     }
 
     /// Bounds the trail: a call is recorded only while the trail has fewer than `records` records. With 0 no call is
@@ -319,7 +321,7 @@ impl<P: Allows + Drop> AttachedDomain<P> {
         ensures bound { self.new.domain
             ≡ with_trail self.old.domain (record (trail_of self.old.domain) { most = records }) }
     {
-        self.guest.domain.keep_at_most(records);
+        self.attachment.domain.keep_at_most(records);
     }
 
     /// Makes room for `records` more records, which then need no allocation.
@@ -336,28 +338,28 @@ impl<P: Allows + Drop> AttachedDomain<P> {
         ensures kept { self.new.domain ≡ with_trail self.old.domain
             (record (trail_of self.old.domain) { room = (trail_of self.new.domain).room }) }
     {
-        self.guest.domain.reserve_records(records)
+        self.attachment.domain.reserve_records(records)
     }
 
     /// Returns the record at an index of the trail, starting at 0.
     pub fn record_at(&self, index: usize) -> Option<Record>
         ensures { result ≡ slice_get (trail_of self.now.domain).records index }
     {
-        self.guest.domain.trail().get(index)
+        self.attachment.domain.trail().get(index)
     }
 
     /// Returns the number of records lost so far.
     pub fn lost(&self) -> u64
         ensures { result ≡ (trail_of self.now.domain).lost }
     {
-        self.guest.domain.trail().lost()
+        self.attachment.domain.trail().lost()
     }
 
     /// Returns whether the domain is in a copy.
     pub fn is_copying(&self) -> bool
         ensures { result ≡ is_some self.now.copying }
     {
-        self.guest.copying.is_some()
+        self.attachment.copying.is_some()
     }
 
     /// Begins a copy: takes its pins, and returns the places where bytes may now be read and written. The domain is in
@@ -370,9 +372,9 @@ impl<P: Allows + Drop> AttachedDomain<P> {
         requires idle { self.old.copying ≡ None }
         ensures begins { BeginsAccess P.may self.old copy.now result self.new }
     {
-        match self.guest.domain.copy_begin(&self.monitor, copy) {
+        match self.attachment.domain.copy_begin(&self.monitor, copy) {
             Ok(halfway) => {
-                self.guest.copying = Some(halfway);
+                self.attachment.copying = Some(halfway);
                 Ok(CopyPlaces {
                     from: halfway.from,
                     to: halfway.to,
@@ -388,10 +390,10 @@ impl<P: Allows + Drop> AttachedDomain<P> {
         requires copying { IsSome self.old.copying }
         ensures ends { EndsAccess self.old self.new }
     {
-        let copying = self.guest.copying;
+        let copying = self.attachment.copying;
         if let Some(halfway) = copying {
-            self.guest.domain.copy_end(&self.monitor, halfway);
-            self.guest.copying = None;
+            self.attachment.domain.copy_end(&self.monitor, halfway);
+            self.attachment.copying = None;
         }
     }
 
@@ -403,8 +405,8 @@ impl<P: Allows + Drop> AttachedDomain<P> {
         ensures resets { Resets P.may self.old.monitor self.old.domain result.in_use self.new.domain }
         ensures lost { result.lost ≡ (trail_of self.old.domain).lost }
     {
-        let in_use = self.guest.domain.reset(&self.monitor) as u64;
-        let lost = self.guest.domain.trail().lost();
+        let in_use = self.attachment.domain.reset(&self.monitor) as u64;
+        let lost = self.attachment.domain.trail().lost();
         Departure { lost, in_use }
     }
 
@@ -415,7 +417,7 @@ impl<P: Allows + Drop> AttachedDomain<P> {
         ensures stays { StaysIdle self.old self.new }
         ensures looks { LooksAtOwn (words_of self.old.monitor).layout self.old.domain gref result self.new.domain }
     {
-        self.guest.domain.status(&self.monitor, gref)
+        self.attachment.domain.status(&self.monitor, gref)
     }
 
     /// Drops the domain's records. Keeps the room that they took, and the room that was free. Returns the number of
@@ -429,13 +431,13 @@ impl<P: Allows + Drop> AttachedDomain<P> {
         ensures room { KeepsRoom (trail_of self.old.domain) (trail_of self.new.domain) }
         ensures kept { self.new.domain ≡ with_trail self.old.domain (trail_of self.new.domain) }
     {
-        let mut records = self.guest.domain.take_records(Trail::new(alloc));
+        let mut records = self.attachment.domain.take_records(Trail::new(alloc));
         let taken = TakenCounts {
             records: records.len() as u64,
             lost: records.lost(),
         };
         records.clear();
-        let _none = self.guest.domain.take_records(records);
+        let _none = self.attachment.domain.take_records(records);
         taken
     }
 
@@ -443,6 +445,6 @@ impl<P: Allows + Drop> AttachedDomain<P> {
     pub fn dom(&self) -> DomId
         ensures { result ≡ (seat_of self.now.domain).dom }
     {
-        self.guest.domain.seat().dom()
+        self.attachment.domain.seat().dom()
     }
 }

@@ -1,6 +1,6 @@
 use Rattle.gt_attached.specs.Seated.{seated}
 use Rattle.std.proofs.Common.{None}
-use Rattle.gt_attached.proofs.guest.Guest.leave.Goals as goal
+use Rattle.gt_attached.proofs.attachment.Attachment.leave.Goals as goal
 
 pub returns : goal.returns
 returns g c =
