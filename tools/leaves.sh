@@ -6,14 +6,17 @@
 # usage: tools/leaves.sh
 set -euo pipefail
 cd "$(dirname "${BASH_SOURCE[0]}")/.."
-known='let Some(here) = domain.take(alloc) else {
+known='let Some(lent) = domain.take(alloc) else {
 return EncodedAnswer::of(AttachedOutcome::NoDomain);
 };
-let here = Box::into_inner(here);
-let gone = here.guest.finish();
+let lent = Box::into_inner(lent);
+let gone = lent.attached.finish();
 EncodedAnswer::of(AttachedOutcome::Left(gone.remains))
-let AttachedDomain { monitor, guest } = self;
-let _ = guest.leave(&monitor);
+let AttachedDomain {
+monitor,
+attachment,
+} = self;
+let _ = attachment.leave(&monitor);
 let RunningDomain { monitor, domain } = self;
 domain.finish(monitor);'
 

@@ -1,4 +1,4 @@
--- `here_mut` lends what the pointer of a handle leads to, and the handle follows it.
+-- `lent_mut` lends what the pointer of a handle leads to, and the handle follows it.
 use mathlib.Core.Path.{◌≡◌, refl, sym}
 use mathlib.Core.Bool.{true≢false}
 use Prim.Native.Nat.{ℕ}
