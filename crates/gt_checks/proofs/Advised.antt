@@ -60,8 +60,8 @@ some_error (x ∷ xs) line some = by (is_error x.kind) refl some (some_error xs 
     by false e some later = rw e (later (rw e at some))
 
 clean : (text : List ℕ) (found : List Finding) → Judges text found → IsCleanText text (not (errs found))
-clean text found (faulty f _ says line) = rw (some_error found f.line line) (f, says)
-clean text found (sound m xs _ says lined none _ _) = rw (no_error found none) (m, says)
+clean text found (faulty f _ says line _ _) = rw (some_error found f.line line) (f, says)
+clean text found (sound m xs _ says lined none _ _ _) = rw (no_error found none) (m, says)
 
 told : (form : ReportForm) (file text : List ℕ) (found : List Finding) (old new : Option (List ℕ)) (r : Result Bool ListingFault) → Judges text found → WritesFindings form file found old new r → CheckedText form file text old new r
 told form file text found old new (Ok answer) judges (is, (report, printed, went)) = (report, (found, judges, printed), subst (IsCleanText text) (sym is) (clean text found judges), went)

@@ -24,7 +24,7 @@ use Rattle.gt_checks.proofs.Advised.{checked_no, whole_read}
 
 module _ (form : ReportForm) (never given file : List ℕ) where
   -- what was found went out
-  pub written : (text : List ℕ) (found : NeverFindings) (old new : Option (List ℕ)) (r : Result Bool BreachFault) → AreBreaches text given found → WritesBreaches form file never found old new r → CheckedNeverText form never given file text old new r
+  pub written : (text : List ℕ) (found : NeverFindings) (old new : Option (List ℕ)) (r : Result Bool BreachFault) → AreBreaches text given found → WritesBreaches form file text never given found old new r → CheckedNeverText form never given file text old new r
   written text found old new (Ok clean) are (is, (report, printed, went)) = (found, report, are, is, printed, went)
   written text found old new (Err (Policy listing_faults.Write)) are (report, printed, began) = (found, report, are, printed, began)
   written text found old new (Err (Policy listing_faults.Memory)) are w = w

@@ -17,19 +17,19 @@ use Rattle.gt_checks.specs.declared.fault.BreachFault.{BreachFault}
 use Rattle.gt_checks.specs.declared.fault.BreachFault.TheVariants.{ForbidsNothing, Policy, Statements}
 
 -- the report of what was found went out, or a prefix of it; the result is whether there are no breaches
-abbrev pub WritesBreaches : ReportForm → List ℕ → List ℕ → NeverFindings → Option (List ℕ) → Option (List ℕ)
-    → Result Bool BreachFault → Type 0
-WritesBreaches form file never found old new (Ok clean) =
+abbrev pub WritesBreaches : ReportForm → List ℕ → List ℕ → List ℕ → List ℕ → NeverFindings → Option (List ℕ)
+    → Option (List ℕ) → Result Bool BreachFault → Type 0
+WritesBreaches form file text never given found old new (Ok clean) =
     (clean ≡ (vec_len found.breaches == 0))
-    × ((report : List ℕ) × IsNeverReport form file never found report × Appends old new report)
-WritesBreaches form file never found old new (Err (Policy listing_faults.Write)) =
-    (report : List ℕ) × IsNeverReport form file never found report × AppendsBeginning old new report
-WritesBreaches form file never found old new (Err (Policy listing_faults.Memory)) = Keeps old new
-WritesBreaches form file never found old new (Err (Policy listing_faults.Read)) = ⊥
-WritesBreaches form file never found old new (Err (Policy (listing_faults.Utf8 line))) = ⊥
-WritesBreaches form file never found old new (Err (Policy (listing_faults.Policy shown))) = ⊥
-WritesBreaches form file never found old new (Err (Statements shown)) = ⊥
-WritesBreaches form file never found old new (Err (ForbidsNothing line)) = ⊥
+    × ((report : List ℕ) × IsNeverReport form file text never given found report × Appends old new report)
+WritesBreaches form file text never given found old new (Err (Policy listing_faults.Write)) =
+    (report : List ℕ) × IsNeverReport form file text never given found report × AppendsBeginning old new report
+WritesBreaches form file text never given found old new (Err (Policy listing_faults.Memory)) = Keeps old new
+WritesBreaches form file text never given found old new (Err (Policy listing_faults.Read)) = ⊥
+WritesBreaches form file text never given found old new (Err (Policy (listing_faults.Utf8 line))) = ⊥
+WritesBreaches form file text never given found old new (Err (Policy (listing_faults.Policy shown))) = ⊥
+WritesBreaches form file text never given found old new (Err (Statements shown)) = ⊥
+WritesBreaches form file text never given found old new (Err (ForbidsNothing line)) = ⊥
 
 -- What was written for a policy text and a text of neverallow statements, each after its name, by the result: at Ok the
 -- report of what was found, and the result is whether there are no breaches; after a failed write a prefix of the
@@ -38,10 +38,11 @@ abbrev pub CheckedNeverText : ReportForm → List ℕ → List ℕ → List ℕ 
     → Result Bool BreachFault → Type 0
 CheckedNeverText form never given file text old new (Ok clean) =
     (found : NeverFindings) × (report : List ℕ) × AreBreaches text given found
-    × (clean ≡ (vec_len found.breaches == 0)) × IsNeverReport form file never found report × Appends old new report
+    × (clean ≡ (vec_len found.breaches == 0)) × IsNeverReport form file text never given found report
+    × Appends old new report
 CheckedNeverText form never given file text old new (Err (Policy listing_faults.Write)) =
     (found : NeverFindings) × (report : List ℕ) × AreBreaches text given found
-    × IsNeverReport form file never found report × AppendsBeginning old new report
+    × IsNeverReport form file text never given found report × AppendsBeginning old new report
 CheckedNeverText form never given file text old new (Err (Policy listing_faults.Memory)) = Keeps old new
 CheckedNeverText form never given file text old new (Err (Policy listing_faults.Read)) = ⊥
 CheckedNeverText form never given file text old new (Err (Policy (listing_faults.Utf8 line))) = ⊥

@@ -28,7 +28,8 @@ fn report(
     found: &NeverFindings,
 ) -> Result<Vec<u8>, AllocError>
     ensures { IfOk result (λ said.
-        IsNeverReport form texts.now.file.now texts.now.never_file.now found.now said.items) }
+        IsNeverReport form texts.now.file.now texts.now.policy.now texts.now.never_file.now texts.now.never.now
+        found.now said.items) }
 {
     let mut out = Vec::new(alloc);
     push_never_findings(alloc, &mut out, form, texts, found)?;
@@ -43,8 +44,8 @@ fn write_breaches<W: Write>(
     found: &NeverFindings,
     writer: &mut W,
 ) -> Result<bool, BreachFault>
-    ensures { WritesBreaches form texts.now.file.now texts.now.never_file.now found.now
-        (W.contents writer.old) (W.contents writer.new) result }
+    ensures { WritesBreaches form texts.now.file.now texts.now.policy.now texts.now.never_file.now texts.now.never.now
+        found.now (W.contents writer.old) (W.contents writer.new) result }
 {
     let Ok(said) = report(alloc, form, texts, found) else {
         return Err(BreachFault::Policy(ListingFault::Memory));

@@ -20,7 +20,7 @@ use Rattle.gt_policy.specs.declared.statements.Allowance.{Allowance}
 use Rattle.gt_policy.specs.declared.statements.Statement.{Statement}
 use Rattle.gt_policy.specs.declared.statements.Statement.TheVariants.{DeclareType, DeclareAttribute, GiveAttributes}
 use Rattle.gt_policy.specs.declared.statements.Statement.TheVariants.{Allow}
-use Rattle.gt_policy_check.specs.Check.{error_lines}
+use Rattle.gt_policy_check.specs.Check.{KeepsColumns, error_lines}
 use Rattle.gt_policy_check.specs.Granting.{gives_source, reaches_by}
 use Rattle.gt_policy_check.specs.Members.{membership_of, members_of, names_in_lines}
 use Rattle.gt_policy_check.specs.Why.{types_asked}
@@ -215,9 +215,10 @@ adds_more ms f xs i x old mid new within is before added = adds_both ms (flat_ma
 
 -- ---- words that nothing knows
 
-pub unknown_more : (ns : List Neverallow) (i : ℕ) (n : Neverallow) (classes : List (List ℕ)) (old new : List Finding) → i < length ns → n ≡ get_or ns i n → classes ≡ n.classes → AreUnknown (take i ns) old → error_lines new ≡ error_lines old
-    → class_lines new ≡ class_lines old ++ flat_map (unknown_line n.line) classes → AreUnknown (take (i + 1) ns) new
-unknown_more ns i n classes old new within is same before quiet told = (
+pub unknown_more : (text : List ℕ) (ns : List Neverallow) (i : ℕ) (n : Neverallow) (classes : List (List ℕ)) (old new : List Finding) → i < length ns → n ≡ get_or ns i n → classes ≡ n.classes → AreUnknown text (take i ns) old → error_lines new ≡ error_lines old
+    → class_lines new ≡ class_lines old ++ flat_map (unknown_line n.line) classes → KeepsColumns text old new → AreUnknown text (take (i + 1) ns) new
+unknown_more text ns i n classes old new within is same before quiet told columns = (
   told ∙ ap₂ (λ (a b : List ℕ). a ++ b) before.0 (ap (λ (l : List (List ℕ)). flat_map (unknown_line n.line) l) same) ∙ sym (one_more (λ m. flat_map (unknown_line m.line) m.classes) ns i n within is),
   quiet ∙ before.1,
+  columns.kept before.2,
 )

@@ -12,16 +12,16 @@ pub report_of : (form : ReportForm) (file : List ℕ) (lent found : List Finding
 report_of form file lent found old new same adds = subst (λ (l : List Finding). AddsText (IsReport form file l) old new) same adds
 
 -- the error and the note are the breach
-pub breach_added : (form : ReportForm) (file never : List ℕ) (b : Breach) (error note : Finding) (old mid new : List ℕ) → IsBreachError b error → IsBreachNote b note → AddsText (IsReport form file (error ∷ [])) old mid
-    → AddsText (IsReport form never (note ∷ [])) mid new → AddsText (IsBreachText form file never b) old new
-breach_added form file never b error note old mid new is notes (first, one, put) (second, other, more) =
+pub breach_added : (form : ReportForm) (file text never given : List ℕ) (b : Breach) (error note : Finding) (old mid new : List ℕ) → IsBreachError text b error → IsBreachNote given b note → AddsText (IsReport form file (error ∷ [])) old mid
+    → AddsText (IsReport form never (note ∷ [])) mid new → AddsText (IsBreachText form file text never given b) old new
+breach_added form file text never given b error note old mid new is notes (first, one, put) (second, other, more) =
     (first ++ second, (error, note, first, second, is, notes, one, other, refl), more ∙ ap (λ (l : List ℕ). l ++ second) put ∙ append_assoc old first second)
 
 -- the words and the breaches are all
-pub all_added : (form : ReportForm) (file never : List ℕ) (found : NeverFindings) (words : List Finding) (breaches : List Breach) (old mid new : List ℕ) → words ≡ found.words.items → breaches ≡ found.breaches.items
-    → AddsText (IsReport form never words) old mid → AddsText (IsBreachReport form file never breaches) mid new → AddsText (IsNeverReport form file never found) old new
-all_added form file never found words breaches old mid new same like (first, one, put) (second, other, more) = (
+pub all_added : (form : ReportForm) (file text never given : List ℕ) (found : NeverFindings) (words : List Finding) (breaches : List Breach) (old mid new : List ℕ) → words ≡ found.words.items → breaches ≡ found.breaches.items
+    → AddsText (IsReport form never words) old mid → AddsText (IsBreachReport form file text never given breaches) mid new → AddsText (IsNeverReport form file text never given found) old new
+all_added form file text never given found words breaches old mid new same like (first, one, put) (second, other, more) = (
   first ++ second,
-  (first, second, subst (λ (l : List Finding). IsReport form never l first) same one, subst (λ (l : List Breach). IsBreachReport form file never l second) like other, refl),
+  (first, second, subst (λ (l : List Finding). IsReport form never l first) same one, subst (λ (l : List Breach). IsBreachReport form file text never given l second) like other, refl),
   more ∙ ap (λ (l : List ℕ). l ++ second) put ∙ append_assoc old first second,
 )

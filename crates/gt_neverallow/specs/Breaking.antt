@@ -1,6 +1,6 @@
 -- Which allow statements of a policy break which neverallow statements.
-use Rattle.std.specs.Prelude.{◌≡◌, ℕ, Bool, true, false, not, ◌&&◌, ◌||◌, List, [], ◌∷◌, ◌++◌, map, filter, Some, Ok, Err}
-use Rattle.std.specs.Prelude.{if◌then◌else◌, codes, Contains}
+use Rattle.std.specs.Prelude.{◌≡◌, ℕ, Bool, true, false, not, ◌&&◌, ◌||◌, List, [], ◌∷◌, ◌++◌, map, filter, Some, Ok}
+use Rattle.std.specs.Prelude.{Err, if◌then◌else◌, codes, All, Contains}
 use Rattle.std.specs.List.{flat_map, list_any, AllZip}
 use Rattle.std.specs.Str.{bytes_eq}
 use Rattle.gt_types.specs.Names.{every_permission, permission_name}
@@ -17,7 +17,7 @@ use Rattle.gt_policy.specs.declared.statements.Allowance.{Allowance}
 use Rattle.gt_policy.specs.declared.statements.Statement.{Statement}
 use Rattle.gt_policy.specs.declared.statements.Statement.TheVariants.{DeclareType, DeclareAttribute, GiveAttributes}
 use Rattle.gt_policy.specs.declared.statements.Statement.TheVariants.{Allow}
-use Rattle.gt_policy_check.specs.Check.{error_lines}
+use Rattle.gt_policy_check.specs.Check.{HasColumn, error_lines}
 use Rattle.gt_policy_check.specs.Words.{class_lines, unknown_line}
 use Rattle.gt_policy_check.specs.declared.findings.Finding.{Finding}
 use Rattle.gt_policy_check.specs.Granting.{elements_hold, gives_source, reaches_by}
@@ -91,11 +91,12 @@ IsBreach xs p b =
 abbrev pub AreBroken : List LinedStatement → List Neverallow → List Breach → Type 0
 AreBroken xs ns found = AllZip (IsBreach xs) (broken xs ns) found
 
--- the findings of classes are at the lines of the statements with a class that Xen's FLASK policy does not have, once
--- for each; no finding is an error
-abbrev pub AreUnknown : List Neverallow → List Finding → Type 0
-AreUnknown ns found =
+-- The findings of classes are at the lines of the statements with a class that Xen's FLASK policy does not have, once
+-- for each. No finding is an error, and each has the column of its word in the text.
+abbrev pub AreUnknown : List ℕ → List Neverallow → List Finding → Type 0
+AreUnknown text ns found =
     (class_lines found ≡ flat_map (λ n. flat_map (unknown_line n.line) n.classes) ns) × (error_lines found ≡ [])
+    × All (HasColumn text) found
 
 -- the statement forbids some permission of class `grant`
 abbrev pub forbids_grants : Neverallow → Bool
@@ -110,7 +111,7 @@ first_line (n ∷ ns) = n.line
 abbrev pub AreBreaches : List ℕ → List ℕ → NeverFindings → Type 0
 AreBreaches policy never found =
     (m : Meaning) × (xs : List LinedStatement) × (ns : List Neverallow) × ReadsAs policy (Ok m) × IsLined policy xs
-    × ReadsAsNever xs never (Ok ns) × (list_any forbids_grants ns ≡ true) × AreUnknown ns found.words.items
+    × ReadsAsNever xs never (Ok ns) × (list_any forbids_grants ns ≡ true) × AreUnknown never ns found.words.items
     × AreBroken xs ns found.breaches.items
 
 -- why there is no answer: the first fault of the policy, or of the text of neverallow statements for that policy, or no

@@ -1,7 +1,7 @@
 -- What a text of neverallow statements is for a policy: statements that name only what the policy declares, or its
 -- first fault.
-use Rattle.std.specs.Prelude.{ℕ, ◌<◌, ◌≤◌, Bool, false, not, List, [], ◌∷◌, ◌++◌, length, Option, Some, None}
-use Rattle.std.specs.Prelude.{Result, Ok, Err, find}
+use Rattle.std.specs.Prelude.{ℕ, ◌<◌, ◌≤◌, Bool, false, not, List, [], ◌∷◌, ◌++◌, length, Option, Some, None, Result}
+use Rattle.std.specs.Prelude.{Ok, Err, find}
 use Rattle.std.specs.List.{flat_map, list_any}
 use Rattle.std.specs.Str.{bytes_eq}
 use Rattle.gt_types.specs.declared.limits.TheConstants.{LONGEST_TEXT}

@@ -1,18 +1,18 @@
 -- A text of neverallow statements: its parsers, in the form of those of an allow statement.
-use Rattle.std.specs.Prelude.{◌≡◌, ℕ, Bool, true, false, List, [], ◌∷◌, ◌++◌, codes, Option, Some, None}
-use Rattle.std.specs.Prelude.{Result, Ok, Err, if◌then◌else◌}
+use Rattle.std.specs.Prelude.{◌≡◌, ℕ, Bool, true, false, List, [], ◌∷◌, ◌++◌, codes, Option, Some, None, Result, Ok}
+use Rattle.std.specs.Prelude.{Err, if◌then◌else◌}
 use Rattle.std.specs.Str.{bytes_eq}
 use Rattle.gt_types.specs.Memory.{UnlessMemory}
 use Rattle.gt_policy.specs.Errors.{with_rest}
-use Rattle.gt_policy.specs.Grammar.{Lexemes, LexerState, ◌>>=◌, at, classes_of, colon, is_grant_alone, misfit, perms_of}
-use Rattle.gt_policy.specs.Grammar.{semicolon, set_of}
+use Rattle.gt_policy.specs.Grammar.{Lexemes, LexerState, ◌>>=◌, at, classes_of, colon, is_grant_alone, misfit}
+use Rattle.gt_policy.specs.Grammar.{perms_of, semicolon, set_of}
 use Rattle.gt_policy.specs.declared.fault.TokenFault.{TokenFault}
 use Rattle.gt_policy.specs.declared.fault.TokenFaultKind.{TokenFaultKind}
 use Rattle.gt_policy.specs.declared.fault.TokenFaultKind.TheVariants as token_fault_kinds
 use Rattle.gt_policy.specs.declared.statements.SetElement.{SetElement}
 use Rattle.gt_policy_text.specs.declared.lexer.Token.{Token}
-use Rattle.gt_policy_text.specs.declared.lexer.Token.TheVariants.{AllowWord, AttributeWord, End, Name, Star, Tilde, TypeWord}
-use Rattle.gt_policy_text.specs.declared.lexer.Token.TheVariants.{TypeattributeWord}
+use Rattle.gt_policy_text.specs.declared.lexer.Token.TheVariants.{AllowWord, AttributeWord, End, Name, Star, Tilde}
+use Rattle.gt_policy_text.specs.declared.lexer.Token.TheVariants.{TypeWord, TypeattributeWord}
 use Rattle.gt_neverallow.specs.declared.fault.ParseError.{ParseError}
 use Rattle.gt_neverallow.specs.declared.fault.ParseError.TheVariants.{Fault, Memory}
 use Rattle.gt_neverallow.specs.declared.fault.TokenKind.{TokenKind}

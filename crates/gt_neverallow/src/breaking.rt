@@ -111,7 +111,7 @@ fn found_by(
     never: &str,
     nevers: &[Neverallow],
 ) -> Result<NeverFindings, AllocError>
-    ensures words { IfOk result (λ found. AreUnknown nevers.now found.words.items) }
+    ensures words { IfOk result (λ found. AreUnknown never.now nevers.now found.words.items) }
     ensures broken { IfOk result (λ found. AreBroken statements.now nevers.now found.breaches.items) }
 {
     let words = unknown_words(alloc, never, nevers)?;

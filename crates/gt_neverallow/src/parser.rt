@@ -1,10 +1,11 @@
 //! The parser of `neverallow` statements.
 ghost use Rattle.std.specs.Prelude.{◌≡◌, ◌∷◌, ◌<◌, ◌≤◌, length, IfOk, IsSome, false, Some};
-ghost use Rattle.gt_policy.specs.Grammar.{at, classes_in_braces, classes_of, is_grant, is_grant_alone, is_refused_word};
-ghost use Rattle.gt_policy.specs.Grammar.{colon, misfit, misfit_name, perms_in_braces, perms_of, semicolon, set_in_braces};
-ghost use Rattle.gt_policy.specs.Grammar.{set_of, type_name};
+ghost use Rattle.gt_policy.specs.Grammar.{at, classes_in_braces, classes_of, is_grant, is_grant_alone};
+ghost use Rattle.gt_policy.specs.Grammar.{is_refused_word, colon, misfit, misfit_name, perms_in_braces, perms_of};
+ghost use Rattle.gt_policy.specs.Grammar.{semicolon, set_in_braces, set_of, type_name};
 ghost use Rattle.gt_neverallow.specs.Reading.{Reads, ReadsNext, ReadsNothing, ReadsTo, parse_fault_in, fault_kind};
-ghost use Rattle.gt_neverallow.specs.Reading.{begins_statement, misfit_statement, never_statement, next_statement, types_of};
+ghost use Rattle.gt_neverallow.specs.Reading.{begins_statement, misfit_statement, never_statement, next_statement};
+ghost use Rattle.gt_neverallow.specs.Reading.{types_of};
 
 use crate::fault::{ParseError, TokenKind};
 use crate::statement::{Neverallow, TypeChoice};

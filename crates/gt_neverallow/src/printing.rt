@@ -20,7 +20,7 @@ pub struct BrokenTexts<'t> {
 
 // Makes the error at the allow statement.
 fn error_of(alloc: Global, texts: &BrokenTexts, breach: &Breach) -> Result<Finding, AllocError>
-    ensures { IfOk result (λ x. IsBreachError breach.now x) }
+    ensures { IfOk result (λ x. IsBreachError texts.now.policy.now breach.now x) }
 {
     let mut message = Vec::new(alloc);
     push_text(&mut message, "this statement allows ")?;
@@ -36,7 +36,7 @@ fn error_of(alloc: Global, texts: &BrokenTexts, breach: &Breach) -> Result<Findi
 
 // Makes the note at the `neverallow` statement.
 fn note_of(alloc: Global, texts: &BrokenTexts, breach: &Breach) -> Result<Finding, AllocError>
-    ensures { IfOk result (λ x. IsBreachNote breach.now x) }
+    ensures { IfOk result (λ x. IsBreachNote texts.now.never.now breach.now x) }
 {
     let mut message = Vec::new(alloc);
     push_text(&mut message, "this statement forbids it")?;
@@ -70,8 +70,8 @@ fn push_breach(
     texts: &BrokenTexts,
     breach: &Breach,
 ) -> Result<(), AllocError>
-    ensures { OnOk result (AddsText (IsBreachText form texts.now.file.now texts.now.never_file.now breach.now)
-        out.old.items out.new.items) }
+    ensures { OnOk result (AddsText (IsBreachText form texts.now.file.now texts.now.policy.now
+        texts.now.never_file.now texts.now.never.now breach.now) out.old.items out.new.items) }
 {
     let error = error_of(alloc, texts, breach)?;
     push_finding(out, form, texts.file, texts.policy, error)?;
@@ -87,8 +87,8 @@ fn push_breaches(
     texts: &BrokenTexts,
     found: &[Breach],
 ) -> Result<(), AllocError>
-    ensures { OnOk result (AddsText (IsBreachReport form texts.now.file.now texts.now.never_file.now found.now)
-        out.old.items out.new.items) }
+    ensures { OnOk result (AddsText (IsBreachReport form texts.now.file.now texts.now.policy.now
+        texts.now.never_file.now texts.now.never.now found.now) out.old.items out.new.items) }
 {
     'found: for breach in found {
         push_breach(alloc, out, form, texts, breach)?;
@@ -105,8 +105,8 @@ pub fn push_never_findings(
     texts: &BrokenTexts,
     found: &NeverFindings,
 ) -> Result<(), AllocError>
-    ensures { OnOk result (AddsText (IsNeverReport form texts.now.file.now texts.now.never_file.now found.now)
-        out.old.items out.new.items) }
+    ensures { OnOk result (AddsText (IsNeverReport form texts.now.file.now texts.now.policy.now
+        texts.now.never_file.now texts.now.never.now found.now) out.old.items out.new.items) }
 {
     push_findings(
         out,

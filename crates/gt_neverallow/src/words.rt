@@ -13,7 +13,7 @@ pub(crate) fn unknown_words(
     text: &str,
     nevers: &[Neverallow],
 ) -> Result<Vec<Finding>, AllocError>
-    ensures { IfOk result (λ found. AreUnknown nevers.now found.items) }
+    ensures { IfOk result (λ found. AreUnknown text.now nevers.now found.items) }
 {
     let mut found = Vec::new(alloc);
     'nevers: for never in nevers {

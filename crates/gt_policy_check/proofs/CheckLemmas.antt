@@ -1,7 +1,7 @@
 -- Which statements allow nothing.
 use Rattle.std.proofs.Common.{◌≡◌, ℕ, Bool, true, false, ◌&&◌, not, List, [], ◌∷◌, ◌++◌, map, None, refl, sym, ap, ap₂}
 use Rattle.std.proofs.Common.{◌∙◌, ◌+◌, ◌<◌, get_or, length, take}
-use Rattle.std.specs.Prelude.{if◌then◌else◌, filter, is_some, Some, Err}
+use Rattle.std.specs.Prelude.{if◌then◌else◌, filter, is_some, Some, Err, All}
 use Rattle.std.specs.List.{flat_map, list_any}
 use Rattle.gt_types.specs.Names.{every_permission, permission_name}
 use Rattle.gt_policy.specs.Granting.{statement_grants}
@@ -19,7 +19,7 @@ use Rattle.gt_policy.specs.declared.statements.Statement.TheVariants.{DeclareTyp
 use Rattle.gt_policy.specs.declared.statements.Statement.TheVariants.{Allow}
 use Rattle.gt_policy_check.specs.declared.findings.Finding.{Finding}
 use Rattle.gt_policy_check.specs.Check.{is_useless_with, allows_nothing, useless_line, is_error, is_of_nothing, is_of_repeat}
-use Rattle.gt_policy_check.specs.Check.{error_lines, nothing_lines, repeat_lines, Quiet, AddsUseless, Judges, faulty}
+use Rattle.gt_policy_check.specs.Check.{error_lines, nothing_lines, repeat_lines, Quiet, AddsUseless, HasColumn, HasFaultColumn, Judges, faulty}
 use Rattle.gt_policy_check.specs.Check.{grants_something, grants_with, grants_no_more, no_more_with, repeats, repeats_with}
 use Rattle.gt_policy_check.specs.Check.{repeated_with, lines_repeated}
 use Rattle.std.proofs.lemmas.List.{append-nil, flat_map_more, take_more}
@@ -196,14 +196,15 @@ repeated_same xs before (y ∷ ys) =
 
 -- a text that is not a policy
 pub judged_faulty : (line : ℕ) (kind : PolicyFaultKind) (text : List ℕ) (found : List Finding) → ((f : TokenFault) → fault_shown (record { line = line; kind = kind }) ≡ Some f → ReadsAs text (Err f))
-    → is_some (fault_shown (record { line = line; kind = kind })) ≡ true → error_lines found ≡ line ∷ [] → Judges text found
-judged_faulty line policy_fault_kinds.Memory text found says shown lines = absurd (cc)
-judged_faulty line policy_fault_kinds.Syntax text found says shown lines = faulty _ found (says _ refl) lines
-judged_faulty line (policy_fault_kinds.Unknown name) text found says shown lines = faulty _ found (says _ refl) lines
-judged_faulty line (policy_fault_kinds.Twice name) text found says shown lines = faulty _ found (says _ refl) lines
-judged_faulty line (policy_fault_kinds.Permission name) text found says shown lines = faulty _ found (says _ refl) lines
-judged_faulty line (policy_fault_kinds.Outside word) text found says shown lines = faulty _ found (says _ refl) lines
-judged_faulty line policy_fault_kinds.Limit text found says shown lines = faulty _ found (says _ refl) lines
+    → is_some (fault_shown (record { line = line; kind = kind })) ≡ true → error_lines found ≡ line ∷ []
+    → ((f : TokenFault) → fault_shown (record { line = line; kind = kind }) ≡ Some f → HasFaultColumn text f found) → All (HasColumn text) found → Judges text found
+judged_faulty line policy_fault_kinds.Memory text found says shown lines column columns = absurd (cc)
+judged_faulty line policy_fault_kinds.Syntax text found says shown lines column columns = faulty _ found (says _ refl) lines (column _ refl) columns
+judged_faulty line (policy_fault_kinds.Unknown name) text found says shown lines column columns = faulty _ found (says _ refl) lines (column _ refl) columns
+judged_faulty line (policy_fault_kinds.Twice name) text found says shown lines column columns = faulty _ found (says _ refl) lines (column _ refl) columns
+judged_faulty line (policy_fault_kinds.Permission name) text found says shown lines column columns = faulty _ found (says _ refl) lines (column _ refl) columns
+judged_faulty line (policy_fault_kinds.Outside word) text found says shown lines column columns = faulty _ found (says _ refl) lines (column _ refl) columns
+judged_faulty line policy_fault_kinds.Limit text found says shown lines column columns = faulty _ found (says _ refl) lines (column _ refl) columns
 
 -- a fault shows something, unless an allocation failed
 pub is_shown : (line : ℕ) (kind : PolicyFaultKind) → (kind ≡ policy_fault_kinds.Memory → ⊥) → is_some (fault_shown (record { line = line; kind = kind })) ≡ true

@@ -1,6 +1,6 @@
 -- What the types of a policy give is what its statements say.
 use Rattle.std.proofs.Common.{◌≡◌, ℕ, List, [], ◌∷◌, true, None, Some, Result, Ok, Err, IfOk, Vec, Global, map, ap, ◌∙◌}
-use Rattle.std.specs.Prelude.{filter, is_some}
+use Rattle.std.specs.Prelude.{All, filter, is_some}
 use Rattle.std.specs.List.{flat_map}
 use Rattle.gt_policy.specs.Allowing.{Meaning}
 use Rattle.gt_policy.specs.Lined.{IsLined}
@@ -12,7 +12,7 @@ use Rattle.gt_policy.specs.declared.parse.PolicyFaultKind.{PolicyFaultKind}
 use Rattle.gt_policy_check.specs.declared.members.Member.{Member}
 use Rattle.gt_policy_check.specs.declared.findings.Finding.{Finding}
 use Rattle.gt_policy_check.specs.Check.{allows_nothing, error_lines, lines_repeated, nothing_lines, repeat_lines, repeated_with, useless_line}
-use Rattle.gt_policy_check.specs.Check.{Judges, sound}
+use Rattle.gt_policy_check.specs.Check.{HasColumn, HasFaultColumn, Judges, sound}
 use Rattle.gt_policy_check.specs.Members.{members_of}
 use Rattle.gt_policy_check.proofs.CheckLemmas.{judged_faulty, repeated_same, useless_lines}
 
@@ -38,13 +38,19 @@ repeated_so xs ms (Ok v) s is = repeated_of xs ms (repeat_lines v.items) s is
 -- the findings of a policy are those of its text
 pub judged_sound : {E : Type 0} (text : List ℕ) (m : Meaning) (xs ys : List LinedStatement) (r : Result (Vec Finding Global) E) → ys ≡ xs → ReadsAs text (Ok m) → IsLined text xs
     → IfOk r (λ v. error_lines v.items ≡ []) → IfOk r (λ v. nothing_lines v.items ≡ map (λ x. x.line) (filter (λ x. allows_nothing ys x.statement) ys))
-    → IfOk r (λ v. repeat_lines v.items ≡ lines_repeated ys [] ys) → IfOk r (λ v. Judges text v.items)
-judged_sound text m xs ys (Err fault) same says lined none nothing repeated = tt
-judged_sound text m xs ys (Ok v) same says lined none nothing repeated = sound m xs v.items says lined none (rw same at nothing) (rw same at repeated)
+    → IfOk r (λ v. repeat_lines v.items ≡ lines_repeated ys [] ys) → IfOk r (λ v. All (HasColumn text) v.items) → IfOk r (λ v. Judges text v.items)
+judged_sound text m xs ys (Err fault) same says lined none nothing repeated columns = tt
+judged_sound text m xs ys (Ok v) same says lined none nothing repeated columns = sound m xs v.items says lined none (rw same at nothing) (rw same at repeated) columns
 
 -- the finding of a text that is not a policy
 pub judged_fault : {E : Type 0} (line : ℕ) (kind : PolicyFaultKind) (text : List ℕ) (r : Result (Vec Finding Global) E)
     → ((f : TokenFault) → fault_shown (record { line = line; kind = kind }) ≡ Some f → ReadsAs text (Err f))
-    → IfOk r (λ _. is_some (fault_shown (record { line = line; kind = kind })) ≡ true) → IfOk r (λ v. error_lines v.items ≡ line ∷ []) → IfOk r (λ v. Judges text v.items)
-judged_fault line kind text (Err fault) says shown lines = tt
-judged_fault line kind text (Ok v) says shown lines = judged_faulty line kind text v.items says shown lines
+    → IfOk r (λ _. is_some (fault_shown (record { line = line; kind = kind })) ≡ true) → IfOk r (λ v. error_lines v.items ≡ line ∷ [])
+    → IfOk r (λ v. (f : TokenFault) → fault_shown (record { line = line; kind = kind }) ≡ Some f → HasFaultColumn text f v.items)
+    → IfOk r (λ v. All (HasColumn text) v.items) → IfOk r (λ v. Judges text v.items)
+judged_fault line kind text (Err fault) says shown lines column columns = tt
+judged_fault line kind text (Ok v) says shown lines column columns = judged_faulty line kind text v.items says shown lines column columns
+
+-- the columns are those of the same text
+pub columns_of : {E : Type 0} (text bytes : List ℕ) (r : Result (Vec Finding Global) E) → bytes ≡ text → IfOk r (λ v. All (HasColumn bytes) v.items) → IfOk r (λ v. All (HasColumn text) v.items)
+columns_of text bytes r is columns = rw is at columns

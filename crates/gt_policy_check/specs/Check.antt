@@ -1,12 +1,17 @@
 -- The findings of a text: that it is not a policy, or what is useless in it.
 use Rattle.std.specs.Prelude.{◌≡◌, ℕ, Bool, true, false, not, ◌&&◌, List, [], ◌∷◌, ◌++◌, Ok, Err, map, filter}
-use Rattle.std.specs.Prelude.{if◌then◌else◌}
-use Rattle.gt_policy_check.specs.Prelude.{flat_map, list_any, every_permission, permission_name, Meaning, statement_grants}
-use Rattle.gt_policy_check.specs.Prelude.{IsLined, statements_in, has_grant, types_in, ReadsAs, TokenFault, LinedStatement}
-use Rattle.gt_policy_check.specs.Prelude.{Statement, DeclareType, DeclareAttribute, GiveAttributes, Allow, Finding, FindingKind}
-use Rattle.gt_policy_check.specs.Prelude.{Fault, OtherClass, OtherPermission, AllowsNothing, NeverAsked, Repeats, NeverNamed}
-use Rattle.gt_policy_check.specs.Prelude.{NoDomain, NeverMatters, NeverMapped, Note, Member}
+use Rattle.std.specs.Prelude.{if◌then◌else◌, ◌⊎◌, chars, codes, All}
+use Rattle.gt_policy_check.specs.Prelude.{flat_map, list_any, every_permission, permission_name, Meaning}
+use Rattle.gt_policy_check.specs.Prelude.{statement_grants, IsLined, statements_in, has_grant, types_in, ReadsAs}
+use Rattle.gt_policy_check.specs.Prelude.{TokenFault, LinedStatement, Statement, DeclareType, DeclareAttribute}
+use Rattle.gt_policy_check.specs.Prelude.{GiveAttributes, Allow, Finding, FindingKind, Fault, OtherClass}
+use Rattle.gt_policy_check.specs.Prelude.{OtherPermission, AllowsNothing, NeverAsked, Repeats, NeverNamed, NoDomain}
+use Rattle.gt_policy_check.specs.Prelude.{NeverMatters, NeverMapped, Note, Member}
+use Rattle.gt_policy.specs.declared.fault.TokenFaultKind.{TokenFaultKind}
+use Rattle.gt_policy.specs.declared.fault.TokenFaultKind.TheVariants as token_fault_kinds
+use Rattle.gt_policy_check.specs.Columns.{IsColumnOf, IsEndOf}
 use Rattle.gt_policy_check.specs.Granting.{exceeds_some, gives_some}
+use Rattle.gt_policy_check.specs.Report.{shown_text}
 
 -- the finding is an error
 abbrev pub is_error : FindingKind → Bool
@@ -53,6 +58,10 @@ is_of_repeat Note = false
 -- the lines of the errors
 abbrev pub error_lines : List Finding → List ℕ
 error_lines found = flat_map (λ x. if is_error x.kind then x.line ∷ [] else []) found
+
+-- the columns of the errors
+abbrev pub error_columns : List Finding → List ℕ
+error_columns found = flat_map (λ x. if is_error x.kind then x.column ∷ [] else []) found
 
 -- the lines of the findings of statements that allow nothing
 abbrev pub nothing_lines : List Finding → List ℕ
@@ -142,11 +151,74 @@ AddsUseless old new nothing repeated =
     (error_lines new ≡ error_lines old) × (nothing_lines new ≡ nothing_lines old ++ nothing)
     × (repeat_lines new ≡ repeat_lines old ++ repeated)
 
+-- the message begins with the word in quotes
+abbrev pub QuotesWord : List ℕ → List ℕ → Type 0
+QuotesWord word message = (rest : List ℕ) × (message ≡ codes "\"" ++ shown_text (chars word) ++ codes "\"" ++ rest)
+
+-- the column of the finding is that of the word which its message begins with
+abbrev pub IsAtQuoted : List ℕ → Finding → Type 0
+IsAtQuoted text x = (word : List ℕ) × QuotesWord word x.message.items × IsColumnOf text x.line word x.column
+
+-- the column of the finding is that of a word `allow`
+abbrev pub IsAtAllow : List ℕ → Finding → Type 0
+IsAtAllow text x = IsColumnOf text x.line (codes "allow") x.column
+
+-- The column of a warning or a note is that of the word that it is about: of an allow statement the word `allow`, and
+-- otherwise the word that its message quotes. (A fault has a column of its kind, and a label is that of a script.)
+abbrev pub HasColumnAs : FindingKind → List ℕ → Finding → Type 0
+HasColumnAs Fault text x = Unit {0}
+HasColumnAs OtherClass text x = IsAtQuoted text x
+HasColumnAs OtherPermission text x = IsAtQuoted text x
+HasColumnAs AllowsNothing text x = IsAtAllow text x
+HasColumnAs NeverAsked text x = IsAtQuoted text x
+HasColumnAs Repeats text x = IsAtAllow text x
+HasColumnAs NeverNamed text x = IsAtQuoted text x
+HasColumnAs NoDomain text x = IsAtQuoted text x
+HasColumnAs NeverMatters text x = IsAtAllow text x
+HasColumnAs NeverMapped text x = Unit {0}
+HasColumnAs Note text x = IsAtAllow text x ⊎ IsAtQuoted text x
+
+abbrev pub HasColumn : List ℕ → Finding → Type 0
+HasColumn text x = HasColumnAs x.kind text x
+
+-- the kind of a finding about a word that its message quotes
+abbrev pub is_of_word : FindingKind → Bool
+is_of_word Fault = false
+is_of_word OtherClass = true
+is_of_word OtherPermission = true
+is_of_word AllowsNothing = false
+is_of_word NeverAsked = true
+is_of_word Repeats = false
+is_of_word NeverNamed = true
+is_of_word NoDomain = true
+is_of_word NeverMatters = false
+is_of_word NeverMapped = false
+is_of_word Note = false
+
+-- each finding that was added has the column of its word
+pub record KeepsColumns (text : List ℕ) (old new : List Finding) : Type 0 where
+  pub kept : All (HasColumn text) old → All (HasColumn text) new
+
+-- The column of a fault on a line is that of the word which is wrong there. A fault of the syntax is after a token, and
+-- one of the limits at the first column.
+abbrev pub IsFaultColumn : List ℕ → ℕ → TokenFaultKind → ℕ → Type 0
+IsFaultColumn text line token_fault_kinds.Syntax column = IsEndOf text line column
+IsFaultColumn text line (token_fault_kinds.Unknown word) column = IsColumnOf text line word column
+IsFaultColumn text line (token_fault_kinds.Twice word) column = IsColumnOf text line word column
+IsFaultColumn text line (token_fault_kinds.Permission word) column = IsColumnOf text line word column
+IsFaultColumn text line (token_fault_kinds.Outside word) column = IsColumnOf text line word column
+IsFaultColumn text line token_fault_kinds.Limit column = column ≡ 1
+
+-- there is one error, and its column is that of the fault
+abbrev pub HasFaultColumn : List ℕ → TokenFault → List Finding → Type 0
+HasFaultColumn text f found =
+    (column : ℕ) × (error_columns found ≡ column ∷ []) × IsFaultColumn text f.line f.kind column
+
 -- The findings of a text. A text that is not a policy has one error, at the line of its first fault. A policy has
 -- none, and its findings include exactly the statements that allow nothing, and exactly those that repeat one.
 pub data Judges (text : List ℕ) : List Finding → Type 0 where
   faulty : (f : TokenFault) (found : List Finding) → ReadsAs text (Err f) → error_lines found ≡ f.line ∷ []
-      → Judges text found
+      → HasFaultColumn text f found → All (HasColumn text) found → Judges text found
   sound : (m : Meaning) (xs : List LinedStatement) (found : List Finding) → ReadsAs text (Ok m) → IsLined text xs
       → error_lines found ≡ [] → nothing_lines found ≡ map (λ x. x.line) (filter (λ x. allows_nothing xs x.statement) xs)
-      → repeat_lines found ≡ lines_repeated xs [] xs → Judges text found
+      → repeat_lines found ≡ lines_repeated xs [] xs → All (HasColumn text) found → Judges text found

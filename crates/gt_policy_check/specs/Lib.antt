@@ -1,6 +1,8 @@
 pub mod Check
+pub mod Columns
 pub mod Granting
 pub mod Members
+pub mod Placing
 pub mod Texts
 pub mod Why
 pub mod Report

@@ -1,9 +1,10 @@
 -- The names of other crates, and of the code, that the definitions here use.
 pub use Rattle.gt_policy_check.specs.declared.findings.Finding.{Finding}
 pub use Rattle.gt_policy_check.specs.declared.findings.FindingKind.{FindingKind}
-pub use Rattle.gt_policy_check.specs.declared.findings.FindingKind.TheVariants.{AllowsNothing, Fault, NeverAsked, NeverMapped}
-pub use Rattle.gt_policy_check.specs.declared.findings.FindingKind.TheVariants.{NeverMatters, NeverNamed, NoDomain, OtherClass}
-pub use Rattle.gt_policy_check.specs.declared.findings.FindingKind.TheVariants.{Note, OtherPermission, Repeats}
+pub use Rattle.gt_policy_check.specs.declared.findings.FindingKind.TheVariants.{AllowsNothing, Fault, NeverAsked}
+pub use Rattle.gt_policy_check.specs.declared.findings.FindingKind.TheVariants.{NeverMapped, NeverMatters, NeverNamed}
+pub use Rattle.gt_policy_check.specs.declared.findings.FindingKind.TheVariants.{NoDomain, OtherClass, Note}
+pub use Rattle.gt_policy_check.specs.declared.findings.FindingKind.TheVariants.{OtherPermission, Repeats}
 pub use Rattle.gt_policy_check.specs.declared.members.Member.{Member}
 pub use Rattle.gt_policy.specs.Allowing.{Meaning}
 pub use Rattle.gt_policy.specs.Granting.{statement_grants}

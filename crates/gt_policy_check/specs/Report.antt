@@ -7,10 +7,10 @@ use Rattle.std.specs.List.{AllPass, AllZip, concat, flat_map}
 use Rattle.gt_json.specs.Strings.{quoted}
 use Rattle.gt_policy_check.specs.declared.findings.Finding.{Finding}
 use Rattle.gt_policy_check.specs.declared.findings.FindingKind.{FindingKind}
-use Rattle.gt_policy_check.specs.declared.findings.FindingKind.TheVariants.{Fault, OtherClass, OtherPermission, AllowsNothing}
-use Rattle.gt_policy_check.specs.declared.findings.FindingKind.TheVariants.{NeverAsked}
-use Rattle.gt_policy_check.specs.declared.findings.FindingKind.TheVariants.{Repeats, NeverNamed, NoDomain, NeverMatters, NeverMapped}
-use Rattle.gt_policy_check.specs.declared.findings.FindingKind.TheVariants.{Note}
+use Rattle.gt_policy_check.specs.declared.findings.FindingKind.TheVariants.{Fault, OtherClass, OtherPermission}
+use Rattle.gt_policy_check.specs.declared.findings.FindingKind.TheVariants.{AllowsNothing, NeverAsked, Repeats}
+use Rattle.gt_policy_check.specs.declared.findings.FindingKind.TheVariants.{NeverNamed, NoDomain, NeverMatters}
+use Rattle.gt_policy_check.specs.declared.findings.FindingKind.TheVariants.{NeverMapped, Note}
 use Rattle.gt_policy_check.specs.declared.report.ReportForm.{ReportForm}
 use Rattle.gt_policy_check.specs.declared.report.ReportForm.TheVariants.{Colored, Json, Text}
 

@@ -11,7 +11,8 @@ use Rattle.gt_policy.specs.declared.lined.LinedStatement.{LinedStatement}
 use Rattle.gt_policy.specs.declared.statements.Statement.{Statement}
 use Rattle.gt_policy_check.specs.declared.members.Member.{Member}
 use Rattle.gt_policy_check.specs.declared.asking.WhyAnswer.{WhyAnswer}
-use Rattle.gt_policy_check.specs.declared.asking.WhyAnswer.TheVariants.{Allowed, Denied, NoSource, NoTarget, NoPermission}
+use Rattle.gt_policy_check.specs.declared.asking.WhyAnswer.TheVariants.{Allowed, Denied, NoSource, NoTarget}
+use Rattle.gt_policy_check.specs.declared.asking.WhyAnswer.TheVariants.{NoPermission}
 use Rattle.gt_policy_check.specs.declared.asking.Explanation.{Explanation}
 use Rattle.gt_policy_check.specs.declared.asking.WhyQuestion.{WhyQuestion}
 use Rattle.gt_policy_check.specs.Granting.{gives_of, near_of}

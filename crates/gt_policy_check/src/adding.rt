@@ -1,6 +1,8 @@
 //! Adds findings.
-ghost use Rattle.std.specs.Prelude.{◌≡◌, ◌∷◌, ◌++◌, [], true, false, OnOk};
-ghost use Rattle.gt_policy_check.specs.Check.{Quiet, AddsUseless, is_error, is_of_nothing, is_of_repeat};
+ghost use Rattle.std.specs.Prelude.{◌≡◌, ◌∷◌, ◌++◌, [], ℕ, List, true, false, OnOk};
+ghost use Rattle.gt_policy_check.specs.Check.{Quiet, AddsUseless, is_error, is_of_nothing, is_of_repeat, is_of_word};
+ghost use Rattle.gt_policy_check.specs.Check.{HasColumn, KeepsColumns, QuotesWord, error_columns};
+ghost use Rattle.gt_policy_check.specs.Placing.{IsOnLine, HasNoteColumn};
 ghost use Rattle.gt_policy_check.specs.Words.{class_line, class_lines};
 
 use crate::fault::FindingNote;
@@ -18,12 +20,15 @@ pub(crate) struct Place<'t> {
 }
 
 /// Adds a finding other than an error, a statement that allows nothing, or a statement that repeats another.
-#[tactic(auto, using(crate::proofs::CheckLemmas::quiet_push))]
+#[tactic(auto, using(crate::proofs::CheckLemmas::quiet_push, crate::proofs::KeepLemmas::keeps_push, crate::proofs::KeepLemmas::same_columns))]
 pub(crate) fn push_quiet(found: &mut Vec<Finding>, finding: Finding) -> Result<(), AllocError>
     requires no_error { is_error finding.kind ≡ false }
     requires no_statement { is_of_nothing finding.kind ≡ false }
     requires no_repeat { is_of_repeat finding.kind ≡ false }
-    ensures { OnOk result (Quiet found.old.items found.new.items) }
+    ensures quiet { OnOk result (Quiet found.old.items found.new.items) }
+    ensures errors { OnOk result (error_columns found.new.items ≡ error_columns found.old.items) }
+    ensures columns { (text : List ℕ) → HasColumn text finding
+        → OnOk result (KeepsColumns text found.old.items found.new.items) }
 {
     found.push(finding)?;
     Ok(())
@@ -31,7 +36,10 @@ pub(crate) fn push_quiet(found: &mut Vec<Finding>, finding: Finding) -> Result<(
 
 /// Adds a note on the finding before it.
 pub(crate) fn push_note(found: &mut Vec<Finding>, note: FindingNote) -> Result<(), AllocError>
-    ensures { OnOk result (Quiet found.old.items found.new.items) }
+    ensures quiet { OnOk result (Quiet found.old.items found.new.items) }
+    ensures errors { OnOk result (error_columns found.new.items ≡ error_columns found.old.items) }
+    ensures columns { (text : List ℕ) → HasNoteColumn text note
+        → OnOk result (KeepsColumns text found.old.items found.new.items) }
 {
     push_quiet(
         found,
@@ -57,7 +65,11 @@ pub(crate) fn push_of_word(
     requires no_error { is_error kind ≡ false }
     requires no_statement { is_of_nothing kind ≡ false }
     requires no_repeat { is_of_repeat kind ≡ false }
+    requires of_word { is_of_word kind ≡ true }
+    requires quotes { QuotesWord word.now message.items }
+    requires on_line { IsOnLine place.now }
     ensures quiet { OnOk result (Quiet found.old.items found.new.items) }
+    ensures columns { OnOk result (KeepsColumns place.now.bytes.now found.old.items found.new.items) }
     ensures classes { OnOk result (class_lines found.new.items
         ≡ class_lines found.old.items ++ class_line kind place.now.line) }
 {
@@ -72,24 +84,28 @@ pub(crate) fn push_of_word(
 }
 
 /// Adds the finding that a statement allows nothing.
-#[tactic(auto, using(crate::proofs::CheckLemmas::nothing_push))]
+#[tactic(auto, using(crate::proofs::CheckLemmas::nothing_push, crate::proofs::KeepLemmas::keeps_push))]
 pub(crate) fn push_nothing(found: &mut Vec<Finding>, finding: Finding) -> Result<(), AllocError>
     requires no_error { is_error finding.kind ≡ false }
     requires of_statement { is_of_nothing finding.kind ≡ true }
     requires no_repeat { is_of_repeat finding.kind ≡ false }
-    ensures { OnOk result (AddsUseless found.old.items found.new.items (finding.line ∷ []) []) }
+    ensures useless { OnOk result (AddsUseless found.old.items found.new.items (finding.line ∷ []) []) }
+    ensures columns { (text : List ℕ) → HasColumn text finding
+        → OnOk result (KeepsColumns text found.old.items found.new.items) }
 {
     found.push(finding)?;
     Ok(())
 }
 
 /// Adds the finding that a statement repeats another.
-#[tactic(auto, using(crate::proofs::CheckLemmas::repeat_push))]
+#[tactic(auto, using(crate::proofs::CheckLemmas::repeat_push, crate::proofs::KeepLemmas::keeps_push))]
 pub(crate) fn push_repeat(found: &mut Vec<Finding>, finding: Finding) -> Result<(), AllocError>
     requires no_error { is_error finding.kind ≡ false }
     requires no_statement { is_of_nothing finding.kind ≡ false }
     requires of_repeat { is_of_repeat finding.kind ≡ true }
-    ensures { OnOk result (AddsUseless found.old.items found.new.items [] (finding.line ∷ [])) }
+    ensures useless { OnOk result (AddsUseless found.old.items found.new.items [] (finding.line ∷ [])) }
+    ensures columns { (text : List ℕ) → HasColumn text finding
+        → OnOk result (KeepsColumns text found.old.items found.new.items) }
 {
     found.push(finding)?;
     Ok(())

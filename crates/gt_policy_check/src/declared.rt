@@ -1,15 +1,15 @@
-//! The names that a text declares, with their lines and columns.
-use crate::places::{bytes_of, column_of, tokens_in};
+//! The names that a text declares, with their lines and places there.
+use crate::places::{bytes_of, tokens_in};
 use gt_text::text_of;
 use std::alloc::{AllocError, Global};
 
-/// A declared name: whether it is a type or an attribute, and its position.
+/// A declared name: whether it is a type or an attribute, its line, and its place there, counted from 0.
 #[derive(Clone, Copy)]
 pub(crate) struct Declared<'a> {
     pub name: &'a str,
     pub is_type: bool,
     pub line: u32,
-    pub column: u32,
+    pub place: usize,
 }
 
 // Returns what the name after this word is declared as: true for a type, false for an attribute.
@@ -29,14 +29,14 @@ fn push_name<'a>(
     before: Option<bool>,
     word: &'a [u8],
     line: u32,
-    column: u32,
+    place: usize,
 ) -> Result<(), AllocError> {
     if let (Some(is_type), Ok(name)) = (before, text_of(word)) {
         names.push(Declared {
             name,
             is_type,
             line,
-            column,
+            place,
         })?;
     }
     Ok(())
@@ -55,7 +55,7 @@ fn push_declared<'a>(
     let tokens = tokens_in(alloc, text.as_bytes())?;
     for token in &tokens {
         let word = bytes_of(text.as_bytes(), *token);
-        push_name(names, before, word, line, column_of(token.start))?;
+        push_name(names, before, word, line, token.start)?;
         before = declares(word);
     }
     Ok(before)

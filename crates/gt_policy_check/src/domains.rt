@@ -1,6 +1,7 @@
 //! Warnings about types that no statement names, and about types and statements that no domain of a script uses.
 ghost use Rattle.std.specs.Prelude.{OnOk};
-ghost use Rattle.gt_policy_check.specs.Check.{Quiet};
+ghost use Rattle.gt_policy_check.specs.Check.{KeepsColumns, Quiet};
+ghost use Rattle.gt_policy_check.specs.Placing.{IsAtStatement, IsOnLine};
 
 use crate::adding::{Place, push_of_word, push_quiet};
 use crate::fault::{message_of, said_of};
@@ -66,6 +67,7 @@ fn is_named(policy: &Judged, name: &TextPiece) -> bool {
 }
 
 /// Warns of a type that no allow statement names, or that no domain has.
+#[tactic(auto, using(crate::proofs::KeepLemmas::keeps_same, crate::proofs::KeepLemmas::keeps_then))]
 pub(crate) fn warn_type(
     alloc: Global,
     found: &mut Vec<Finding>,
@@ -73,7 +75,9 @@ pub(crate) fn warn_type(
     policy: &Judged,
     name: &TextPiece,
 ) -> Result<(), AllocError>
-    ensures { OnOk result (Quiet found.old.items found.new.items) }
+    requires { IsOnLine place.now }
+    ensures quiet { OnOk result (Quiet found.old.items found.new.items) }
+    ensures columns { OnOk result (KeepsColumns place.now.bytes.now found.old.items found.new.items) }
 {
     let word = name.as_str();
     if !is_named(policy, name) {
@@ -93,6 +97,7 @@ fn never_matters(statement: &Statement, policy: &Judged) -> bool {
 }
 
 /// Warns of a statement that allows nothing to the domains of the script.
+#[tactic(auto, using(crate::proofs::KeepLemmas::keeps_same, crate::proofs::KeepLemmas::keeps_then))]
 pub(crate) fn warn_matter(
     alloc: Global,
     found: &mut Vec<Finding>,
@@ -100,7 +105,9 @@ pub(crate) fn warn_matter(
     policy: &Judged,
     statement: &Statement,
 ) -> Result<(), AllocError>
-    ensures { OnOk result (Quiet found.old.items found.new.items) }
+    requires { IsAtStatement place.now }
+    ensures quiet { OnOk result (Quiet found.old.items found.new.items) }
+    ensures columns { OnOk result (KeepsColumns place.now.bytes.now found.old.items found.new.items) }
 {
     if !never_matters(statement, policy) {
         return Ok(());

@@ -1,11 +1,16 @@
 //! Explains the fault of a text: its position, and what was expected there.
-ghost use Rattle.std.specs.Prelude.{◌≡◌, ◌++◌, map, IfOk, OnOk};
+ghost use Rattle.std.specs.Prelude.{◌≡◌, ◌++◌, map, chars, codes, None, IfOk, IfSome, OnOk};
 ghost use Rattle.gt_types.specs.Names.{every_permission, permission_name};
+ghost use Rattle.gt_policy_check.specs.Check.{QuotesWord};
+ghost use Rattle.gt_policy_check.specs.Columns.{AreOfLine, IsColumnOf, IsEndOf};
+ghost use Rattle.gt_policy_check.specs.Placing.{AddsSome, HasNoteColumn, IsOfFault};
+ghost use Rattle.gt_policy_check.specs.Report.{shown_text};
 
 use crate::declared::{Declared, declared_in};
 use crate::nearest::nearest;
 use crate::places::{
-    LineTokens, bytes_of, column_of, column_of_word, front_of, line_tokens, tokens_in,
+    LineTokens, bytes_of, column_at, column_of, column_of_word, first_column, front_of,
+    line_tokens, tokens_in,
 };
 use crate::report::push_all_shown;
 use crate::texts::push_both;
@@ -125,14 +130,18 @@ fn push_all_expected(alloc: Global, out: &mut Vec<u8>, front: &[u8]) -> Result<(
 }
 
 // Appends a word in quotes.
-fn push_quoted(out: &mut Vec<u8>, word: &str) -> Result<(), AllocError> {
+fn push_quoted(out: &mut Vec<u8>, word: &str) -> Result<(), AllocError>
+    ensures { OnOk result (out.new.items ≡ out.old.items ++ codes "\"" ++ shown_text (chars word.now) ++ codes "\"") }
+{
     push_text(out, "\"")?;
     push_all_shown(out, word)?;
     push_text(out, "\"")
 }
 
 // Appends the name that may be meant.
-fn push_meant(out: &mut Vec<u8>, meant: Option<&str>) -> Result<(), AllocError> {
+fn push_meant(out: &mut Vec<u8>, meant: Option<&str>) -> Result<(), AllocError>
+    ensures { OnOk result (AddsSome out.old.items out.new.items) }
+{
     let Some(name) = meant else {
         return Ok(());
     };
@@ -148,7 +157,9 @@ pub fn push_hint(
     out: &mut Vec<u8>,
     word: &str,
     names: &[&str],
-) -> Result<(), AllocError> {
+) -> Result<(), AllocError>
+    ensures { OnOk result (AddsSome out.old.items out.new.items) }
+{
     let meant = nearest(alloc, word, names)?;
     push_meant(out, meant)
 }
@@ -158,7 +169,9 @@ pub(crate) fn push_permission_hint(
     alloc: Global,
     out: &mut Vec<u8>,
     word: &str,
-) -> Result<(), AllocError> {
+) -> Result<(), AllocError>
+    ensures { OnOk result (AddsSome out.old.items out.new.items) }
+{
     let names = permission_names(alloc)?;
     push_hint(alloc, out, word, names.as_slice())
 }
@@ -191,13 +204,18 @@ pub fn permission_names(alloc: Global) -> Result<Vec<&'static str>, AllocError>
 }
 
 // Appends a word in quotes and a text.
-fn push_said(out: &mut Vec<u8>, word: &str, said: &str) -> Result<(), AllocError> {
+fn push_said(out: &mut Vec<u8>, word: &str, said: &str) -> Result<(), AllocError>
+    ensures { OnOk result (out.new.items
+        ≡ out.old.items ++ codes "\"" ++ shown_text (chars word.now) ++ codes "\"" ++ said.now) }
+{
     push_quoted(out, word)?;
     push_text(out, said)
 }
 
 /// Makes a message of a word in quotes and a text. U+FFFD replaces control characters of the word, except tabs.
-pub fn said_of(alloc: Global, word: &str, said: &str) -> Result<Vec<u8>, AllocError> {
+pub fn said_of(alloc: Global, word: &str, said: &str) -> Result<Vec<u8>, AllocError>
+    ensures { IfOk result (λ v. QuotesWord word.now v.items) }
+{
     let mut out = Vec::new(alloc);
     push_said(&mut out, word, said)?;
     Ok(out)
@@ -248,16 +266,16 @@ fn last_token<'a>(alloc: Global, text: &'a [u8]) -> Result<&'a [u8], AllocError>
 
 // Returns the length of the line up to the token before the misfit, and the column there. For the first token of a line
 // the length is 0, and the column is that of the token.
-fn end_before(line: &LineTokens, misfit: usize) -> (usize, u32) {
+fn end_before(bytes: &[u8], line: &LineTokens, misfit: usize) -> (usize, u32)
+    requires { AreOfLine bytes.now line.now }
+    ensures { IsEndOf bytes.now line.now.number result.1 }
+{
     if misfit > 0 {
         if let Some(token) = line.tokens.get(misfit - 1) {
             return (token.end, column_of(token.end));
         }
     }
-    match line.tokens.first() {
-        Some(token) => (0, column_of(token.start)),
-        None => (0, 1),
-    }
+    (0, first_column(bytes_of(bytes, line.span)))
 }
 
 // Explains a token that fits nowhere, by what was expected after the token before it.
@@ -266,36 +284,67 @@ fn explain_syntax(
     explained: &mut Explained,
     bytes: &[u8],
     line: &LineTokens,
-) -> Result<(), AllocError> {
-    let (end, column) = end_before(line, misfit(alloc, bytes, line)?);
+) -> Result<(), AllocError>
+    requires { AreOfLine bytes.now line.now }
+    ensures column { OnOk result (IsEndOf bytes.now line.now.number explained.new.column) }
+    ensures note { OnOk result (explained.new.note ≡ explained.old.note) }
+{
+    let (end, column) = end_before(bytes, line, misfit(alloc, bytes, line)?);
     explained.column = column;
     let front = front_of(bytes, line, end);
     push_all_expected(alloc, &mut explained.message, front)?;
     push_after(&mut explained.message, last_token(alloc, front)?)
 }
 
-// Returns the column of the token that does not fit.
-fn misfit_column(alloc: Global, bytes: &[u8], line: &LineTokens) -> Result<u32, AllocError> {
+// Returns the column of the token that does not fit, which is this word.
+fn misfit_column(
+    alloc: Global,
+    bytes: &[u8],
+    line: &LineTokens,
+    word: &str,
+) -> Result<u32, AllocError>
+    requires { AreOfLine bytes.now line.now }
+    ensures { IfOk result (λ column. IsColumnOf bytes.now line.now.number word.now column) }
+{
     let place = misfit(alloc, bytes, line)?;
     match line.tokens.get(place) {
-        Some(token) => Ok(column_of(token.start)),
-        None => Ok(1),
+        Some(token) => Ok(column_at(bytes, line, word.as_bytes(), token.start)),
+        None => Ok(column_of_word(bytes, line, word.as_bytes(), 0)),
     }
+}
+
+// Makes a note at the declaration of a name.
+fn note_of(
+    alloc: Global,
+    bytes: &[u8],
+    declared: &Declared,
+    said: &str,
+) -> Result<FindingNote, AllocError>
+    ensures { IfOk result (λ n. HasNoteColumn bytes.now n) }
+{
+    let line = line_tokens(alloc, bytes, declared.line)?;
+    let column = column_at(bytes, &line, declared.name.as_bytes(), declared.place);
+    let message = said_of(alloc, declared.name, said)?;
+    Ok(FindingNote {
+        line: declared.line,
+        column,
+        message,
+    })
 }
 
 // Adds a note at the declaration of a name.
 fn note_here(
     alloc: Global,
     explained: &mut Explained,
+    bytes: &[u8],
     declared: &Declared,
     said: &str,
-) -> Result<(), AllocError> {
-    let message = said_of(alloc, declared.name, said)?;
-    explained.note = Some(FindingNote {
-        line: declared.line,
-        column: declared.column,
-        message,
-    });
+) -> Result<(), AllocError>
+    ensures column { OnOk result (explained.new.column ≡ explained.old.column) }
+    ensures note { OnOk result (IfSome explained.new.note (HasNoteColumn bytes.now)) }
+{
+    let note = note_of(alloc, bytes, declared, said)?;
+    explained.note = Some(note);
     Ok(())
 }
 
@@ -312,15 +361,20 @@ fn declaration<'d, 'a>(declared: &'d [Declared<'a>], name: &str) -> Option<&'d D
 fn explain_other(
     alloc: Global,
     explained: &mut Explained,
+    bytes: &[u8],
     declared: &Declared,
-) -> Result<(), AllocError> {
+) -> Result<(), AllocError>
+    requires { explained.old.note ≡ None }
+    ensures column { OnOk result (explained.new.column ≡ explained.old.column) }
+    ensures note { OnOk result (IfSome explained.new.note (HasNoteColumn bytes.now)) }
+{
     let said = if declared.is_type {
         " is a type, and an attribute is expected here"
     } else {
         " is an attribute, and a type is expected here"
     };
     push_said(&mut explained.message, declared.name, said)?;
-    note_here(alloc, explained, declared, " is declared here")
+    note_here(alloc, explained, bytes, declared, " is declared here")
 }
 
 // Finds the declared name that is nearest to an undeclared one.
@@ -340,14 +394,19 @@ fn nearest_declared<'a>(
 fn note_meant(
     alloc: Global,
     explained: &mut Explained,
+    bytes: &[u8],
     declared: &[Declared],
     meant: Option<&str>,
-) -> Result<(), AllocError> {
+) -> Result<(), AllocError>
+    requires { explained.old.note ≡ None }
+    ensures column { OnOk result (explained.new.column ≡ explained.old.column) }
+    ensures note { OnOk result (IfSome explained.new.note (HasNoteColumn bytes.now)) }
+{
     let Some(meant) = meant else {
         return Ok(());
     };
     match declaration(declared, meant) {
-        Some(near) => note_here(alloc, explained, near, " is declared here"),
+        Some(near) => note_here(alloc, explained, bytes, near, " is declared here"),
         None => Ok(()),
     }
 }
@@ -356,13 +415,18 @@ fn note_meant(
 fn explain_undeclared(
     alloc: Global,
     explained: &mut Explained,
+    bytes: &[u8],
     declared: &[Declared],
     name: &str,
-) -> Result<(), AllocError> {
+) -> Result<(), AllocError>
+    requires { explained.old.note ≡ None }
+    ensures column { OnOk result (explained.new.column ≡ explained.old.column) }
+    ensures note { OnOk result (IfSome explained.new.note (HasNoteColumn bytes.now)) }
+{
     push_said(&mut explained.message, name, " is not declared")?;
     let meant = nearest_declared(alloc, declared, name)?;
     push_meant(&mut explained.message, meant)?;
-    note_meant(alloc, explained, declared, meant)
+    note_meant(alloc, explained, bytes, declared, meant)
 }
 
 // Explains a name that is not declared as what it has to be.
@@ -372,12 +436,18 @@ fn explain_unknown(
     text: &str,
     line: &LineTokens,
     name: &str,
-) -> Result<(), AllocError> {
-    explained.column = column_of_word(text.as_bytes(), line, name.as_bytes(), 0);
+) -> Result<(), AllocError>
+    requires of_line { AreOfLine text.now line.now }
+    requires no_note { explained.old.note ≡ None }
+    ensures column { OnOk result (IsColumnOf text.now line.now.number name.now explained.new.column) }
+    ensures note { OnOk result (IfSome explained.new.note (HasNoteColumn text.now)) }
+{
+    let bytes = text.as_bytes();
+    explained.column = column_of_word(bytes, line, name.as_bytes(), 0);
     let declared = declared_in(alloc, text)?;
     match declaration(declared.as_slice(), name) {
-        Some(other) => explain_other(alloc, explained, other),
-        None => explain_undeclared(alloc, explained, declared.as_slice(), name),
+        Some(other) => explain_other(alloc, explained, bytes, other),
+        None => explain_undeclared(alloc, explained, bytes, declared.as_slice(), name),
     }
 }
 
@@ -391,14 +461,19 @@ fn push_first(message: &mut Vec<u8>, line: u32) -> Result<(), AllocError> {
 fn report_first(
     alloc: Global,
     explained: &mut Explained,
+    bytes: &[u8],
     declared: &[Declared],
     name: &str,
-) -> Result<(), AllocError> {
+) -> Result<(), AllocError>
+    requires { explained.old.note ≡ None }
+    ensures column { OnOk result (explained.new.column ≡ explained.old.column) }
+    ensures note { OnOk result (IfSome explained.new.note (HasNoteColumn bytes.now)) }
+{
     let Some(first) = declaration(declared, name) else {
         return Ok(());
     };
     push_first(&mut explained.message, first.line)?;
-    note_here(alloc, explained, first, " is first declared here")
+    note_here(alloc, explained, bytes, first, " is first declared here")
 }
 
 // Explains a name that is declared twice.
@@ -408,11 +483,17 @@ fn explain_twice(
     text: &str,
     line: &LineTokens,
     name: &str,
-) -> Result<(), AllocError> {
-    explained.column = misfit_column(alloc, text.as_bytes(), line)?;
+) -> Result<(), AllocError>
+    requires of_line { AreOfLine text.now line.now }
+    requires no_note { explained.old.note ≡ None }
+    ensures column { OnOk result (IsColumnOf text.now line.now.number name.now explained.new.column) }
+    ensures note { OnOk result (IfSome explained.new.note (HasNoteColumn text.now)) }
+{
+    let bytes = text.as_bytes();
+    explained.column = misfit_column(alloc, bytes, line, name)?;
     push_said(&mut explained.message, name, " is declared twice")?;
     let declared = declared_in(alloc, text)?;
-    report_first(alloc, explained, declared.as_slice(), name)
+    report_first(alloc, explained, bytes, declared.as_slice(), name)
 }
 
 // Explains a word that is not a permission, by the nearest permission.
@@ -422,8 +503,12 @@ fn explain_permission(
     bytes: &[u8],
     line: &LineTokens,
     word: &str,
-) -> Result<(), AllocError> {
-    explained.column = misfit_column(alloc, bytes, line)?;
+) -> Result<(), AllocError>
+    requires { AreOfLine bytes.now line.now }
+    ensures column { OnOk result (IsColumnOf bytes.now line.now.number word.now explained.new.column) }
+    ensures note { OnOk result (explained.new.note ≡ explained.old.note) }
+{
+    explained.column = misfit_column(alloc, bytes, line, word)?;
     push_said(
         &mut explained.message,
         word,
@@ -451,8 +536,12 @@ fn explain_outside(
     bytes: &[u8],
     line: &LineTokens,
     word: &str,
-) -> Result<(), AllocError> {
-    explained.column = misfit_column(alloc, bytes, line)?;
+) -> Result<(), AllocError>
+    requires { AreOfLine bytes.now line.now }
+    ensures column { OnOk result (IsColumnOf bytes.now line.now.number word.now explained.new.column) }
+    ensures note { OnOk result (explained.new.note ≡ explained.old.note) }
+{
+    explained.column = misfit_column(alloc, bytes, line, word)?;
     push_said(&mut explained.message, word, outside_text(word))
 }
 
@@ -462,7 +551,11 @@ pub(crate) fn explain(
     explained: &mut Explained,
     text: &str,
     fault: &PolicyFault,
-) -> Result<(), AllocError> {
+) -> Result<(), AllocError>
+    requires column { explained.old.column ≡ 1 }
+    requires no_note { explained.old.note ≡ None }
+    ensures { OnOk result (IsOfFault text.now fault.now explained.new) }
+{
     let bytes = text.as_bytes();
     let line = line_tokens(alloc, bytes, fault.line)?;
     match &fault.kind {

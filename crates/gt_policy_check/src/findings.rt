@@ -1,7 +1,9 @@
 //! Findings: what is wrong or useless in a policy text.
-ghost use Rattle.std.specs.Prelude.{◌≡◌, ◌∷◌, [], true, is_some, IfOk};
+ghost use Rattle.std.specs.Prelude.{◌≡◌, ◌∷◌, [], true, is_some, Some, ℕ, List, All, IfOk, IfSome};
 ghost use Rattle.gt_policy.specs.Shown.{fault_shown};
-ghost use Rattle.gt_policy_check.specs.Check.{Judges, error_lines};
+ghost use Rattle.gt_policy.specs.declared.fault.TokenFault.{TokenFault};
+ghost use Rattle.gt_policy_check.specs.Check.{HasColumn, HasFaultColumn, Judges, error_columns, error_lines};
+ghost use Rattle.gt_policy_check.specs.Placing.{HasNoteColumn};
 
 use crate::adding::push_note;
 use crate::fault::{Explained, explain};
@@ -50,7 +52,10 @@ pub struct Finding {
 
 // Makes the findings for the first fault of a text: an error on this line, and its note.
 fn fault_found(alloc: Global, line: u32, explained: Explained) -> Result<Vec<Finding>, Memory>
-    ensures { IfOk result (λ v. error_lines v.items ≡ line ∷ []) }
+    ensures lines { IfOk result (λ v. error_lines v.items ≡ line ∷ []) }
+    ensures columns { IfOk result (λ v. error_columns v.items ≡ explained.column ∷ []) }
+    ensures note { (text : List ℕ) → IfSome explained.note (HasNoteColumn text)
+        → IfOk result (λ v. All (HasColumn text) v.items) }
 {
     let Explained {
         column,
@@ -74,6 +79,9 @@ fn fault_found(alloc: Global, line: u32, explained: Explained) -> Result<Vec<Fin
 fn errors(alloc: Global, text: &str, fault: &PolicyFault) -> Result<Vec<Finding>, Memory>
     ensures line { IfOk result (λ v. error_lines v.items ≡ fault.now.line ∷ []) }
     ensures shown { IfOk result (λ _. is_some (fault_shown fault.now) ≡ true) }
+    ensures column { IfOk result (λ v. (f : TokenFault) → fault_shown fault.now ≡ Some f
+        → HasFaultColumn text.now f v.items) }
+    ensures columns { IfOk result (λ v. All (HasColumn text.now) v.items) }
 {
     if let PolicyFaultKind::Memory = fault.kind {
         return Err(Memory);

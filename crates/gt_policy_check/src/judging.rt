@@ -1,6 +1,9 @@
 //! Warnings about the statements of a policy.
-ghost use Rattle.std.specs.Prelude.{◌≡◌, ◌∷◌, [], map, filter, IfOk, OnOk};
+ghost use Rattle.std.specs.Prelude.{◌≡◌, ◌∷◌, [], codes, map, filter, All, IfOk, OnOk};
 ghost use Rattle.std.specs.List.{flat_map};
+ghost use Rattle.gt_policy_check.specs.Check.{HasColumn, KeepsColumns};
+ghost use Rattle.gt_policy_check.specs.Columns.{AreOfLine, IsColumnOf};
+ghost use Rattle.gt_policy_check.specs.Placing.{IsAtStatement, IsOnLine};
 ghost use Rattle.gt_policy_check.specs.Check.{Quiet, AddsUseless, allows_nothing, error_lines, lines_repeated};
 ghost use Rattle.gt_policy_check.specs.Check.{nothing_lines, repeat_line, repeat_lines, repeated_with, useless_line};
 
@@ -39,6 +42,7 @@ fn reason_text(reason: UselessReason) -> &'static str {
     }
 }
 
+#[tactic(auto, using(crate::proofs::KeepLemmas::keeps_same, crate::proofs::KeepLemmas::keeps_then))]
 fn warn_nothing(
     alloc: Global,
     found: &mut Vec<Finding>,
@@ -46,7 +50,11 @@ fn warn_nothing(
     stated: &LinedStatement,
     members: &[Member],
 ) -> Result<(), AllocError>
-    ensures { OnOk result (AddsUseless found.old.items found.new.items (useless_line members.now stated.now) []) }
+    requires at_statement { IsAtStatement place.now }
+    requires on_line { place.now.line ≡ stated.now.line }
+    ensures useless { OnOk result (AddsUseless found.old.items found.new.items
+        (useless_line members.now stated.now) []) }
+    ensures columns { OnOk result (KeepsColumns place.now.bytes.now found.old.items found.new.items) }
 {
     if is_useless(&stated.statement, members) {
         let said = reason_text(reason_of(&stated.statement, members));
@@ -73,7 +81,10 @@ fn repeat_message(alloc: Global, line: u32) -> Result<Vec<u8>, AllocError> {
 }
 
 // Returns the column at which the allow statement after these begins, on this line.
-fn column_after(bytes: &[u8], tokens: &LineTokens, before: &[LinedStatement], line: u32) -> u32 {
+fn column_after(bytes: &[u8], tokens: &LineTokens, before: &[LinedStatement], line: u32) -> u32
+    requires { AreOfLine bytes.now tokens.now }
+    ensures { IsColumnOf bytes.now tokens.now.number (codes "allow") result }
+{
     column_of_word(bytes, tokens, b"allow".as_slice(), allows_on(before, line))
 }
 
@@ -85,7 +96,8 @@ fn push_repeat_note(
     line: u32,
     before: &[LinedStatement],
 ) -> Result<(), AllocError>
-    ensures { OnOk result (Quiet found.old.items found.new.items) }
+    ensures quiet { OnOk result (Quiet found.old.items found.new.items) }
+    ensures columns { OnOk result (KeepsColumns bytes.now found.old.items found.new.items) }
 {
     let tokens = line_tokens(alloc, bytes, line)?;
     let column = column_after(bytes, &tokens, before, line);
@@ -101,7 +113,7 @@ fn push_repeat_note(
 }
 
 // Adds the finding that the statement on `line` repeats the one on `first`, which comes after these.
-#[tactic(auto, using(crate::proofs::CheckLemmas::repeat_then_note))]
+#[tactic(auto, using(crate::proofs::CheckLemmas::repeat_then_note, crate::proofs::KeepLemmas::keeps_then))]
 fn push_repeated(
     alloc: Global,
     found: &mut Vec<Finding>,
@@ -110,7 +122,10 @@ fn push_repeated(
     first: u32,
     before: &[LinedStatement],
 ) -> Result<(), AllocError>
-    ensures { OnOk result (AddsUseless found.old.items found.new.items [] (line ∷ [])) }
+    requires at_statement { IsAtStatement place.now }
+    requires on_line { place.now.line ≡ line }
+    ensures useless { OnOk result (AddsUseless found.old.items found.new.items [] (line ∷ [])) }
+    ensures columns { OnOk result (KeepsColumns place.now.bytes.now found.old.items found.new.items) }
 {
     let message = repeat_message(alloc, first)?;
     push_repeat(
@@ -126,6 +141,7 @@ fn push_repeated(
 }
 
 // Warns of a statement that repeats an earlier one.
+#[tactic(auto, using(crate::proofs::KeepLemmas::keeps_same, crate::proofs::KeepLemmas::keeps_then))]
 fn warn_repeat(
     alloc: Global,
     found: &mut Vec<Finding>,
@@ -134,8 +150,11 @@ fn warn_repeat(
     before: &[LinedStatement],
     members: &[Member],
 ) -> Result<(), AllocError>
-    ensures { OnOk result (AddsUseless found.old.items found.new.items []
+    requires at_statement { IsAtStatement place.now }
+    requires on_line { place.now.line ≡ stated.now.line }
+    ensures useless { OnOk result (AddsUseless found.old.items found.new.items []
         (repeat_line members.now before.now stated.now)) }
+    ensures columns { OnOk result (KeepsColumns place.now.bytes.now found.old.items found.new.items) }
 {
     match repeated(&stated.statement, before, members) {
         Some(first) => {
@@ -147,6 +166,7 @@ fn warn_repeat(
 }
 
 // Warns of useless parts of a statement.
+#[tactic(auto, using(crate::proofs::KeepLemmas::keeps_same, crate::proofs::KeepLemmas::keeps_then))]
 fn warn_parts(
     alloc: Global,
     found: &mut Vec<Finding>,
@@ -154,7 +174,9 @@ fn warn_parts(
     policy: &Judged,
     statement: &Statement,
 ) -> Result<(), AllocError>
-    ensures { OnOk result (Quiet found.old.items found.new.items) }
+    requires { IsOnLine place.now }
+    ensures quiet { OnOk result (Quiet found.old.items found.new.items) }
+    ensures columns { OnOk result (KeepsColumns place.now.bytes.now found.old.items found.new.items) }
 {
     match statement {
         Statement::Allow(allowed) => warn_words(alloc, found, place, allowed),
@@ -164,7 +186,7 @@ fn warn_parts(
 }
 
 // Warns of what is useless in a statement at this position, which comes after these.
-#[tactic(auto, using(crate::proofs::CheckLemmas::tells_all))]
+#[tactic(auto, using(crate::proofs::CheckLemmas::tells_all, crate::proofs::KeepLemmas::keeps_then))]
 fn warn_at(
     alloc: Global,
     found: &mut Vec<Finding>,
@@ -173,8 +195,13 @@ fn warn_at(
     stated: &LinedStatement,
     before: &[LinedStatement],
 ) -> Result<(), AllocError>
-    ensures { OnOk result (AddsUseless found.old.items found.new.items (useless_line policy.now.members.now stated.now)
+    requires tokens { IsOnLine place.now }
+    requires at_statement { IsAtStatement place.now }
+    requires on_line { place.now.line ≡ stated.now.line }
+    ensures useless { OnOk result (AddsUseless found.old.items found.new.items
+        (useless_line policy.now.members.now stated.now)
         (repeat_line policy.now.members.now before.now stated.now)) }
+    ensures columns { OnOk result (KeepsColumns place.now.bytes.now found.old.items found.new.items) }
 {
     warn_parts(alloc, found, place, policy, &stated.statement)?;
     warn_nothing(alloc, found, place, stated, policy.members)?;
@@ -190,8 +217,10 @@ fn warn(
     stated: &LinedStatement,
     before: &[LinedStatement],
 ) -> Result<(), AllocError>
-    ensures { OnOk result (AddsUseless found.old.items found.new.items (useless_line policy.now.members.now stated.now)
+    ensures useless { OnOk result (AddsUseless found.old.items found.new.items
+        (useless_line policy.now.members.now stated.now)
         (repeat_line policy.now.members.now before.now stated.now)) }
+    ensures columns { OnOk result (KeepsColumns policy.now.bytes.now found.old.items found.new.items) }
 {
     let tokens = line_tokens(alloc, policy.bytes, stated.line)?;
     let place = Place {
@@ -204,12 +233,14 @@ fn warn(
 }
 
 // Warns of what is useless in the statements of a policy.
+#[tactic(auto, using(crate::proofs::KeepLemmas::keeps_same, crate::proofs::KeepLemmas::keeps_then))]
 fn warn_all(alloc: Global, policy: &Judged) -> Result<Vec<Finding>, Memory>
     ensures no_error { IfOk result (λ v. error_lines v.items ≡ []) }
     ensures nothing { IfOk result (λ v. nothing_lines v.items
         ≡ flat_map (λ x. useless_line policy.now.members.now x) policy.now.statements.now) }
     ensures repeated { IfOk result (λ v. repeat_lines v.items
         ≡ repeated_with policy.now.members.now [] policy.now.statements.now) }
+    ensures columns { IfOk result (λ v. All (HasColumn policy.now.bytes.now) v.items) }
 {
     let statements = policy.statements;
     let mut found = Vec::new(alloc);
@@ -230,6 +261,7 @@ pub(crate) fn warnings(
     ensures nothing { IfOk result (λ v. nothing_lines v.items
         ≡ map (λ x. x.line) (filter (λ x. allows_nothing statements.now x.statement) statements.now)) }
     ensures repeated { IfOk result (λ v. repeat_lines v.items ≡ lines_repeated statements.now [] statements.now) }
+    ensures columns { IfOk result (λ v. All (HasColumn bytes.now) v.items) }
 {
     let members = members_of(alloc, statements, None)?;
     let worn = worn_members(alloc, statements, worn)?;

@@ -1,7 +1,8 @@
 //! Warnings about the classes and permissions of an allow statement.
-ghost use Rattle.std.specs.Prelude.{◌≡◌, ◌++◌, OnOk};
+ghost use Rattle.std.specs.Prelude.{◌≡◌, ◌++◌, IfOk, OnOk};
 ghost use Rattle.std.specs.List.{flat_map};
-ghost use Rattle.gt_policy_check.specs.Check.{error_lines, Quiet};
+ghost use Rattle.gt_policy_check.specs.Check.{error_lines, KeepsColumns, QuotesWord, Quiet};
+ghost use Rattle.gt_policy_check.specs.Placing.{IsOnLine};
 ghost use Rattle.gt_policy_check.specs.Words.{class_lines, is_flask_class, is_known_class, unknown_line};
 
 use crate::adding::{Place, push_of_word};
@@ -52,20 +53,25 @@ fn has_flask_class(classes: &[TextPiece]) -> bool {
 }
 
 // Makes the message about an unknown class.
-fn class_message(alloc: Global, class: &str) -> Result<Vec<u8>, AllocError> {
+fn class_message(alloc: Global, class: &str) -> Result<Vec<u8>, AllocError>
+    ensures { IfOk result (λ v. QuotesWord class.now v.items) }
+{
     let mut message = said_of(alloc, class, " is not a class of Xen's FLASK policy")?;
     push_hint(alloc, &mut message, class, ["grant"].as_slice())?;
     Ok(message)
 }
 
 // Warns of a class that Xen's FLASK policy doesn't have.
+#[tactic(auto, using(crate::proofs::KeepLemmas::keeps_same, crate::proofs::KeepLemmas::keeps_then))]
 fn warn_class(
     alloc: Global,
     found: &mut Vec<Finding>,
     place: &Place,
     class: &str,
 ) -> Result<(), AllocError>
+    requires { IsOnLine place.now }
     ensures quiet { OnOk result (Quiet found.old.items found.new.items) }
+    ensures columns { OnOk result (KeepsColumns place.now.bytes.now found.old.items found.new.items) }
     ensures classes { OnOk result (class_lines found.new.items
         ≡ class_lines found.old.items ++ unknown_line place.now.line class.now) }
 {
@@ -77,13 +83,16 @@ fn warn_class(
 }
 
 // Makes the message about a word that is not a permission of class `grant`.
-fn permission_message(alloc: Global, word: &str) -> Result<Vec<u8>, AllocError> {
+fn permission_message(alloc: Global, word: &str) -> Result<Vec<u8>, AllocError>
+    ensures { IfOk result (λ v. QuotesWord word.now v.items) }
+{
     let mut message = said_of(alloc, word, " is not a permission of class grant")?;
     push_permission_hint(alloc, &mut message, word)?;
     Ok(message)
 }
 
 // Warns of a word that is not a permission of class `grant`, unless it may be one of another class.
+#[tactic(auto, using(crate::proofs::KeepLemmas::keeps_same, crate::proofs::KeepLemmas::keeps_then))]
 fn warn_other(
     alloc: Global,
     found: &mut Vec<Finding>,
@@ -91,7 +100,9 @@ fn warn_other(
     word: &str,
     has_flask_class: bool,
 ) -> Result<(), AllocError>
+    requires { IsOnLine place.now }
     ensures quiet { OnOk result (Quiet found.old.items found.new.items) }
+    ensures columns { OnOk result (KeepsColumns place.now.bytes.now found.old.items found.new.items) }
     ensures classes { OnOk result (class_lines found.new.items ≡ class_lines found.old.items) }
 {
     if Perms::named(word.as_bytes()).is_some() {
@@ -105,6 +116,7 @@ fn warn_other(
 }
 
 // Warns of a word that is not a permission of class `grant`, or that no call asks for.
+#[tactic(auto, using(crate::proofs::KeepLemmas::keeps_same, crate::proofs::KeepLemmas::keeps_then))]
 fn warn_perm(
     alloc: Global,
     found: &mut Vec<Finding>,
@@ -112,7 +124,9 @@ fn warn_perm(
     word: &str,
     has_flask_class: bool,
 ) -> Result<(), AllocError>
-    ensures { OnOk result (Quiet found.old.items found.new.items) }
+    requires { IsOnLine place.now }
+    ensures quiet { OnOk result (Quiet found.old.items found.new.items) }
+    ensures columns { OnOk result (KeepsColumns place.now.bytes.now found.old.items found.new.items) }
 {
     if word == "transfer" {
         let message = said_of(alloc, word, " is not asked for by any call")?;
@@ -121,13 +135,16 @@ fn warn_perm(
     warn_other(alloc, found, place, word, has_flask_class)
 }
 
+#[tactic(auto, using(crate::proofs::KeepLemmas::keeps_same, crate::proofs::KeepLemmas::keeps_then))]
 fn warn_classes(
     alloc: Global,
     found: &mut Vec<Finding>,
     place: &Place,
     classes: &[TextPiece],
 ) -> Result<(), AllocError>
+    requires { IsOnLine place.now }
     ensures quiet { OnOk result (Quiet found.old.items found.new.items) }
+    ensures columns { OnOk result (KeepsColumns place.now.bytes.now found.old.items found.new.items) }
     ensures classes { OnOk result (class_lines found.new.items
         ≡ class_lines found.old.items ++ flat_map (unknown_line place.now.line) classes.now) }
 {
@@ -137,6 +154,7 @@ fn warn_classes(
     Ok(())
 }
 
+#[tactic(auto, using(crate::proofs::KeepLemmas::keeps_same, crate::proofs::KeepLemmas::keeps_then))]
 fn warn_perms(
     alloc: Global,
     found: &mut Vec<Finding>,
@@ -144,7 +162,9 @@ fn warn_perms(
     perms: &[TextPiece],
     has_flask_class: bool,
 ) -> Result<(), AllocError>
-    ensures { OnOk result (Quiet found.old.items found.new.items) }
+    requires { IsOnLine place.now }
+    ensures quiet { OnOk result (Quiet found.old.items found.new.items) }
+    ensures columns { OnOk result (KeepsColumns place.now.bytes.now found.old.items found.new.items) }
 {
     'perms: for perm in perms {
         warn_perm(alloc, found, place, perm.as_str(), has_flask_class)?;
@@ -153,13 +173,16 @@ fn warn_perms(
 }
 
 /// Warns of useless classes and permissions of an allow statement.
+#[tactic(auto, using(crate::proofs::KeepLemmas::keeps_same, crate::proofs::KeepLemmas::keeps_then))]
 pub(crate) fn warn_words(
     alloc: Global,
     found: &mut Vec<Finding>,
     place: &Place,
     allowed: &Allowance,
 ) -> Result<(), AllocError>
-    ensures { OnOk result (Quiet found.old.items found.new.items) }
+    requires { IsOnLine place.now }
+    ensures quiet { OnOk result (Quiet found.old.items found.new.items) }
+    ensures columns { OnOk result (KeepsColumns place.now.bytes.now found.old.items found.new.items) }
 {
     let classes = allowed.classes.as_slice();
     warn_classes(alloc, found, place, classes)?;
@@ -176,6 +199,7 @@ pub(crate) fn warn_words(
 }
 
 // Warns of words that are not permissions of class `grant`.
+#[tactic(auto, using(crate::proofs::KeepLemmas::keeps_same, crate::proofs::KeepLemmas::keeps_then))]
 fn warn_others(
     alloc: Global,
     found: &mut Vec<Finding>,
@@ -183,7 +207,9 @@ fn warn_others(
     perms: &[TextPiece],
     has_flask_class: bool,
 ) -> Result<(), AllocError>
+    requires { IsOnLine place.now }
     ensures quiet { OnOk result (Quiet found.old.items found.new.items) }
+    ensures columns { OnOk result (KeepsColumns place.now.bytes.now found.old.items found.new.items) }
     ensures classes { OnOk result (class_lines found.new.items ≡ class_lines found.old.items) }
 {
     'perms: for perm in perms {
@@ -193,6 +219,7 @@ fn warn_others(
 }
 
 // Warns of words of a statement that Xen's FLASK policy doesn't have.
+#[tactic(auto, using(crate::proofs::KeepLemmas::keeps_same, crate::proofs::KeepLemmas::keeps_then))]
 fn warn_unknown(
     alloc: Global,
     found: &mut Vec<Finding>,
@@ -200,7 +227,9 @@ fn warn_unknown(
     classes: &[TextPiece],
     perms: &Permissions,
 ) -> Result<(), AllocError>
+    requires { IsOnLine place.now }
     ensures quiet { OnOk result (Quiet found.old.items found.new.items) }
+    ensures columns { OnOk result (KeepsColumns place.now.bytes.now found.old.items found.new.items) }
     ensures classes { OnOk result (class_lines found.new.items
         ≡ class_lines found.old.items ++ flat_map (unknown_line place.now.line) classes.now) }
 {
@@ -229,6 +258,7 @@ pub fn push_unknown_words(
     perms: &Permissions,
 ) -> Result<(), AllocError>
     ensures errors { OnOk result (error_lines found.new.items ≡ error_lines found.old.items) }
+    ensures columns { OnOk result (KeepsColumns text.now found.old.items found.new.items) }
     ensures classes { OnOk result (class_lines found.new.items
         ≡ class_lines found.old.items ++ flat_map (unknown_line line) classes.now) }
 {

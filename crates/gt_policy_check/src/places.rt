@@ -1,4 +1,10 @@
 //! The lines and tokens of a text, as ranges of bytes.
+ghost use Rattle.std.specs.Prelude.{◌≡◌, ℕ, ◌+◌, ◌<◌, ◌≤◌, ◌==◌, true, false, length, take, count_by, slice_index};
+ghost use Rattle.std.specs.Prelude.{slice_range, IfOk, MatchOption};
+ghost use Rattle.gt_policy_text.specs.Lexing.{is_blank, is_letter};
+ghost use Rattle.gt_policy_check.specs.Columns.{column_number, continues_token, AreBounds, AreOfLine, AreTokens};
+ghost use Rattle.gt_policy_check.specs.Columns.{HasWord, IsColumnIn, IsColumnOf, IsFirstColumn};
+
 use std::alloc::{AllocError, Global};
 
 /// A range of bytes of a text.
@@ -8,31 +14,53 @@ pub struct Span {
     pub end: usize,
 }
 
-/// Returns the range of a line, without its line feed. A line beyond the last is empty, at the end of the text.
-pub(crate) fn line_span(bytes: &[u8], line: u32) -> Span {
-    let mut start = 0;
-    let mut ends: u32 = 0;
-    for (i, byte) in bytes.iter().enumerate() {
-        if *byte == b'\n' {
-            ends = ends.saturating_add(1);
-            if ends == line {
-                return Span { start, end: i };
-            }
-            start = i + 1;
+// Returns the end of the line that begins at this place, without its line feed.
+fn line_end(bytes: &[u8], start: usize) -> usize
+    requires { start ≤ length bytes.now }
+    ensures within { (start ≤ result) × (result ≤ length bytes.now) }
+    ensures inside { (k : ℕ) → start ≤ k → k < result → slice_index bytes.now k ≡ 10 → ⊥ }
+    ensures ends { result < length bytes.now → slice_index bytes.now result ≡ 10 }
+    ensures count { count_by (λ b. b == 10) (take result bytes.now) ≡ count_by (λ b. b == 10) (take start bytes.now) }
+{
+    'bytes: for place in start..bytes.len() {
+        if bytes[place] == b'\n' {
+            return place;
         }
     }
-    if ends.saturating_add(1) != line {
-        start = bytes.len();
+    bytes.len()
+}
+
+/// Returns the range of a line, without its line feed. A line beyond the last is empty, at the end of the text.
+pub(crate) fn line_span(bytes: &[u8], line: u32) -> Span
+    ensures { AreBounds bytes.now line result }
+{
+    let last = bytes.len();
+    let none = Span {
+        start: last,
+        end: last,
+    };
+    if line == 0 {
+        return none;
+    }
+    let mut start = 0;
+    'lines: for number in 1..line {
+        let end = line_end(bytes, start);
+        if end == last {
+            return none;
+        }
+        start = end + 1;
     }
     Span {
         start,
-        end: bytes.len(),
+        end: line_end(bytes, start),
     }
 }
 
 // Returns whether a byte continues a token: a byte of names continues a name, and the bytes from 128 up continue a
 // character that is not ASCII.
-fn is_continuation(first: u8, byte: u8) -> bool {
+fn is_continuation(first: u8, byte: u8) -> bool
+    ensures { result ≡ continues_token first byte }
+{
     if first.is_ascii_alphabetic() {
         byte.is_ascii_alphabetic()
             || byte.is_ascii_digit()
@@ -44,35 +72,63 @@ fn is_continuation(first: u8, byte: u8) -> bool {
     }
 }
 
-/// Returns the tokens of a line, up to a comment. Their ranges are relative to the line.
-pub(crate) fn tokens_in(alloc: Global, line: &[u8]) -> Result<Vec<Span>, AllocError> {
-    let mut tokens = Vec::new(alloc);
-    let mut open: Option<(usize, u8)> = None;
-    for (i, byte) in line.iter().enumerate() {
-        if let Some((start, first)) = open {
-            if is_continuation(first, *byte) {
-                continue;
-            }
-            tokens.push(Span { start, end: i })?;
-            open = None;
-        }
-        match *byte {
-            b' ' | b'\t' | b'\r' => {}
-            b'#' => return Ok(tokens),
-            first => open = Some((i, first)),
+fn is_blank(byte: u8) -> bool
+    ensures { result ≡ is_blank byte }
+{
+    byte == b' ' || byte == b'\t' || byte == b'\r'
+}
+
+// Returns the place of the first byte from this place on that is not blank.
+fn after_blanks(line: &[u8], from: usize) -> usize
+    requires { from ≤ length line.now }
+    ensures within { (from ≤ result) × (result ≤ length line.now) }
+    ensures blanks { (k : ℕ) → from ≤ k → k < result → is_blank (slice_index line.now k) ≡ true }
+    ensures ends { is_blank (slice_index line.now result) ≡ false }
+{
+    'bytes: for place in from..line.len() {
+        if !is_blank(line[place]) {
+            return place;
         }
     }
-    if let Some((start, _)) = open {
-        tokens.push(Span {
-            start,
-            end: line.len(),
-        })?;
+    line.len()
+}
+
+// Returns the end of the token that begins at this place.
+fn token_end(line: &[u8], start: usize) -> usize
+    requires { start < length line.now }
+    ensures within { (start < result) × (result ≤ length line.now) }
+    ensures inside { (k : ℕ) → start < k → k < result
+        → continues_token (slice_index line.now start) (slice_index line.now k) ≡ true }
+    ensures ends { continues_token (slice_index line.now start) (slice_index line.now result) ≡ false }
+{
+    let first = line[start];
+    'bytes: for place in start + 1..line.len() {
+        if !is_continuation(first, line[place]) {
+            return place;
+        }
+    }
+    line.len()
+}
+
+/// Returns the tokens of a line, up to a comment. Their ranges are relative to the line.
+pub(crate) fn tokens_in(alloc: Global, line: &[u8]) -> Result<Vec<Span>, AllocError>
+    ensures { IfOk result (λ v. AreTokens line.now v.items) }
+{
+    let mut tokens = Vec::new(alloc);
+    let mut start = after_blanks(line, 0);
+    'tokens: while start < line.len() && line[start] != b'#' {
+        let end = token_end(line, start);
+        tokens.push(Span { start, end })?;
+        start = after_blanks(line, end);
     }
     Ok(tokens)
 }
 
 /// Returns the bytes of a range, or none if it is out of range.
-pub(crate) fn bytes_of<'a>(bytes: &'a [u8], span: Span) -> &'a [u8] {
+pub(crate) fn bytes_of<'a>(bytes: &'a [u8], span: Span) -> &'a [u8]
+    ensures { span.start ≤ span.end → span.end ≤ length bytes.entry.now
+        → result.now ≡ slice_range bytes.entry.now span.start span.end }
+{
     match bytes.get(span.start..span.end) {
         Some(piece) => piece,
         None => &[],
@@ -80,34 +136,43 @@ pub(crate) fn bytes_of<'a>(bytes: &'a [u8], span: Span) -> &'a [u8] {
 }
 
 /// Returns the column of an offset in a line, counted from 1.
-pub(crate) fn column_of(place: usize) -> u32 {
-    match u32::try_from(place) {
-        Ok(place) => place.saturating_add(1),
-        Err(_) => 1,
+pub(crate) fn column_of(place: usize) -> u32
+    ensures { result ≡ column_number place }
+{
+    if place < u32::MAX as usize {
+        place as u32 + 1
+    } else {
+        u32::MAX
     }
 }
 
-/// The tokens of a line, and its range in the text.
+/// The tokens of a line, and its number and range in the text.
 #[derive(Drop)]
 pub(crate) struct LineTokens {
+    pub number: u32,
     pub span: Span,
     pub tokens: Vec<Span>,
 }
 
 /// Returns the tokens of a line, counted from 1.
-pub(crate) fn line_tokens(
-    alloc: Global,
-    bytes: &[u8],
-    line: u32,
-) -> Result<LineTokens, AllocError> {
+pub(crate) fn line_tokens(alloc: Global, bytes: &[u8], line: u32) -> Result<LineTokens, AllocError>
+    ensures of_line { IfOk result (λ l. AreOfLine bytes.now l) }
+    ensures number { IfOk result (λ l. l.number ≡ line) }
+{
     let span = line_span(bytes, line);
     let tokens = tokens_in(alloc, bytes_of(bytes, span))?;
-    Ok(LineTokens { span, tokens })
+    Ok(LineTokens {
+        number: line,
+        span,
+        tokens,
+    })
 }
 
 /// Returns the column at which a word first occurs on a line, counted from 1; that of the line's first token if it does
 /// not occur.
-pub fn column_on(alloc: Global, text: &str, line: u32, word: &str) -> Result<u32, AllocError> {
+pub fn column_on(alloc: Global, text: &str, line: u32, word: &str) -> Result<u32, AllocError>
+    ensures { IfOk result (λ column. IsColumnOf text.now line word.now column) }
+{
     let tokens = line_tokens(alloc, text.as_bytes(), line)?;
     Ok(column_of_word(text.as_bytes(), &tokens, word.as_bytes(), 0))
 }
@@ -123,21 +188,93 @@ pub(crate) fn front_of<'a>(bytes: &'a [u8], line: &LineTokens, place: usize) -> 
     )
 }
 
-/// Returns the column of a word among the tokens of a line, after `skipped` occurrences of the same word. If there is
-/// none, it is the column of the line's first token.
-pub(crate) fn column_of_word(bytes: &[u8], line: &LineTokens, word: &[u8], skipped: usize) -> u32 {
-    let text = bytes_of(bytes, line.span);
+/// Returns the column of the first token of a line; 1 if there is none.
+pub(crate) fn first_column(line: &[u8]) -> u32
+    ensures { IsFirstColumn line.now result }
+{
+    let place = after_blanks(line, 0);
+    if place < line.len() && line[place] != b'#' {
+        column_of(place)
+    } else {
+        1
+    }
+}
+
+// Returns the place of a word among the tokens of a line, after `skipped` occurrences of the same word. If there are
+// fewer, it is the last one.
+fn place_of_word(line: &[u8], tokens: &[Span], word: &[u8], skipped: usize) -> Option<usize>
+    requires { AreTokens line.now tokens.now }
+    ensures { MatchOption result ((place : ℕ) → HasWord line.now word.now place → ⊥)
+        (λ place. HasWord line.now word.now place) }
+{
+    let mut last = None;
     let mut found: usize = 0;
-    for token in &line.tokens {
-        if bytes_of(text, *token) == word {
+    'tokens: for token in tokens {
+        if bytes_of(line, *token) == word {
+            last = Some(token.start);
             if found == skipped {
-                return column_of(token.start);
+                return last;
             }
             found = found.saturating_add(1);
         }
     }
-    match line.tokens.first() {
-        Some(token) => column_of(token.start),
-        None => 1,
+    last
+}
+
+// Returns the column of a word of a line, after `skipped` occurrences of the same word. Without the word it is that of
+// the line's first token.
+fn column_in(line: &[u8], tokens: &[Span], word: &[u8], skipped: usize) -> u32
+    requires { AreTokens line.now tokens.now }
+    ensures { IsColumnIn line.now word.now result }
+{
+    match place_of_word(line, tokens, word, skipped) {
+        Some(place) => column_of(place),
+        None => first_column(line),
     }
+}
+
+// Returns whether the word is the token at this place of a line.
+fn is_word_at(line: &[u8], tokens: &[Span], word: &[u8], place: usize) -> bool
+    requires { AreTokens line.now tokens.now }
+    ensures { result ≡ true → HasWord line.now word.now place }
+{
+    'tokens: for token in tokens {
+        if token.start == place && bytes_of(line, *token) == word {
+            return true;
+        }
+    }
+    false
+}
+
+// Returns the column of the word at this place of a line. If it is not there, it is that of its first occurrence, and
+// without any that of the line's first token.
+fn column_near(line: &[u8], tokens: &[Span], word: &[u8], place: usize) -> u32
+    requires { AreTokens line.now tokens.now }
+    ensures { IsColumnIn line.now word.now result }
+{
+    if is_word_at(line, tokens, word, place) {
+        column_of(place)
+    } else {
+        column_in(line, tokens, word, 0)
+    }
+}
+
+/// Returns the column of the word at this place of a line. If it is not there, it is that of its first occurrence, and
+/// without any that of the line's first token.
+pub(crate) fn column_at(bytes: &[u8], line: &LineTokens, word: &[u8], place: usize) -> u32
+    requires { AreOfLine bytes.now line.now }
+    ensures { IsColumnOf bytes.now line.now.number word.now result }
+{
+    let text = bytes_of(bytes, line.span);
+    column_near(text, line.tokens.as_slice(), word, place)
+}
+
+/// Returns the column of a word among the tokens of a line, after `skipped` occurrences of the same word. If there are
+/// fewer, it is that of the last one, and without any that of the line's first token.
+pub(crate) fn column_of_word(bytes: &[u8], line: &LineTokens, word: &[u8], skipped: usize) -> u32
+    requires { AreOfLine bytes.now line.now }
+    ensures { IsColumnOf bytes.now line.now.number word.now result }
+{
+    let text = bytes_of(bytes, line.span);
+    column_in(text, line.tokens.as_slice(), word, skipped)
 }

@@ -1,9 +1,10 @@
 //! Allow statements as text.
 ghost use Rattle.std.specs.Prelude.{◌≡◌, ◌++◌, codes, find, OnOk};
 ghost use Rattle.std.specs.List.{list_any};
-ghost use Rattle.gt_policy_check.specs.Texts.{is_plain, item_text, items_text, set_text, words_text, list_text, perms_text};
-ghost use Rattle.gt_policy_check.specs.Texts.{allow_text, names_type, way_text, held_text, all_held_text, self_text};
-ghost use Rattle.gt_policy_check.specs.Texts.{note_text, place_text, report_entry_text, by_text, item_by_text};
+ghost use Rattle.gt_policy_check.specs.Texts.{is_plain, item_text, items_text, set_text, words_text, list_text};
+ghost use Rattle.gt_policy_check.specs.Texts.{perms_text, allow_text, names_type, way_text, held_text, all_held_text};
+ghost use Rattle.gt_policy_check.specs.Texts.{self_text, note_text, place_text, report_entry_text, by_text};
+ghost use Rattle.gt_policy_check.specs.Texts.{item_by_text};
 ghost use Rattle.gt_policy_check.specs.Granting.{puts_in};
 
 use crate::granting::{has_self, holds, puts_in};

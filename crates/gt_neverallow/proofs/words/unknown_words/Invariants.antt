@@ -3,4 +3,4 @@ use Rattle.gt_neverallow.specs.Breaking.{AreUnknown}
 use Rattle.gt_neverallow.proofs.words.unknown_words.Given as goal
 
 abbrev pub invariant-nevers : goal.invariant-nevers
-invariant-nevers l = AreUnknown (take l.never-index l.nevers) l.found.items
+invariant-nevers l = AreUnknown l.text (take l.never-index l.nevers) l.found.items

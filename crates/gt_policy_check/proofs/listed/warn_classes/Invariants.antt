@@ -1,6 +1,6 @@
 use Rattle.std.proofs.Common.{◌≡◌, ◌++◌, take}
 use Rattle.std.specs.List.{flat_map}
-use Rattle.gt_policy_check.specs.Check.{Quiet}
+use Rattle.gt_policy_check.specs.Check.{KeepsColumns, Quiet}
 use Rattle.gt_policy_check.specs.Words.{class_lines, unknown_line}
 use Rattle.gt_policy_check.proofs.listed.warn_classes.Given as goal
 
@@ -8,3 +8,4 @@ abbrev pub invariant-classes : goal.invariant-classes
 invariant-classes l =
     Quiet l.initial.found.items l.found.items
     × (class_lines l.found.items ≡ class_lines l.initial.found.items ++ flat_map (unknown_line l.place.line) (take l.class-index l.classes))
+    × KeepsColumns l.place.bytes.now l.initial.found.items l.found.items

@@ -1,0 +1,33 @@
+-- Where findings are made: the place of a statement, and that of a note.
+use Rattle.std.specs.Prelude.{Some, IfSome, ◌≡◌, ◌⊎◌, ℕ, List, ◌++◌, codes}
+use Rattle.gt_policy.specs.Shown.{fault_shown}
+use Rattle.gt_policy.specs.declared.fault.TokenFault.{TokenFault}
+use Rattle.gt_policy.specs.declared.parse.PolicyFault.{PolicyFault}
+use Rattle.gt_policy_check.specs.Check.{IsFaultColumn, QuotesWord}
+use Rattle.gt_policy_check.specs.Columns.{AreOfLine, IsColumnOf}
+use Rattle.gt_policy_check.specs.declared.adding.Place.{Place}
+use Rattle.gt_policy_check.specs.declared.fault.Explained.{Explained}
+use Rattle.gt_policy_check.specs.declared.fault.FindingNote.{FindingNote}
+
+-- the tokens of the place are those of its line
+abbrev pub IsOnLine : Place → Type 0
+IsOnLine p = AreOfLine p.bytes.now p.tokens.now × (p.tokens.now.number ≡ p.line)
+
+-- the column of the place is that of a word `allow`
+abbrev pub IsAtStatement : Place → Type 0
+IsAtStatement p = IsColumnOf p.bytes.now p.line (codes "allow") p.column
+
+-- the column of a note is that of a word `allow`, or of the word that it quotes
+abbrev pub HasNoteColumn : List ℕ → FindingNote → Type 0
+HasNoteColumn text n =
+    IsColumnOf text n.line (codes "allow") n.column
+    ⊎ ((word : List ℕ) × QuotesWord word n.message.items × IsColumnOf text n.line word n.column)
+
+-- some text was appended
+abbrev pub AddsSome : List ℕ → List ℕ → Type 0
+AddsSome old new = (more : List ℕ) × (new ≡ old ++ more)
+
+-- the column and the note are those of the fault of a text
+pub record IsOfFault (text : List ℕ) (fault : PolicyFault) (explained : Explained) : Type 0 where
+  pub column : (f : TokenFault) → fault_shown fault ≡ Some f → IsFaultColumn text f.line f.kind explained.column
+  pub note : IfSome explained.note (HasNoteColumn text)
