@@ -165,7 +165,7 @@ module _ (s : Setting) (high : TypeId → Bool) (g h : History) (m : Matched s h
   none-same d dom p None x = absurd x
   none-same d dom p (Some n) x = (
     sym (ap (λ (k : Control). first_look n.leg k) (control-same s high g h m p.dom.0 p.gref.0)) ∙ x.0,
-    sym (ap (λ (e : Entry). before_pin n.leg e (pins_of n.leg.dir (Rattle.gt_core.specs.History.control_at s g p.dom.0 p.gref.0))) (m.entry p.dom.0 p.gref.0)
+    sym (ap (λ (e : Entry). before_pin n.leg e (pins_of n.leg.dir (Rattle.gt_model.specs.History.control_at s g p.dom.0 p.gref.0))) (m.entry p.dom.0 p.gref.0)
         ∙ ap (λ (k : Control). before_pin n.leg (entry_at h p.dom.0 p.gref.0) (pins_of n.leg.dir k)) (control-same s high g h m p.dom.0 p.gref.0)) ∙ x.1,
   )
 
@@ -448,7 +448,7 @@ module _ (s : Setting) (high : TypeId → Bool) (g h : History) (closed : IsClos
   tick-too d Busy may = absurd may
   tick-too d Idle may = record { y = Idle; may = (may.0, stripped-none (open_call g d.0) (open_call h d.0) (pair.matched.calls d.0) may.1); same = refl; paired = pair }
   tick-too d (elements.Item i) may = subst (λ (k : DomId). DoesToo s high g h (elements.Item i) (Tick k)) may.1.0 (by i.actor i.happened i.answer (subst (λ (k : DomId). domain_of s.domains k ≢ None) (sym may.1.0) may.0) (refl, may.1.1) may.2) where
-    by : (k : DomId) (x : ItemEvent) (a : Option Answer) → domain_of s.domains k ≢ None → Rattle.gt_core.specs.Legal.IsItemOf (Tick k) (parts k x a) → IsRight s g (parts k x a) → DoesToo s high g h (elements.Item (parts k x a)) (Tick k)
+    by : (k : DomId) (x : ItemEvent) (a : Option Answer) → domain_of s.domains k ≢ None → Rattle.gt_model.specs.Legal.IsItemOf (Tick k) (parts k x a) → IsRight s g (parts k x a) → DoesToo s high g h (elements.Item (parts k x a)) (Tick k)
     by k (Stepped z v) a named step right = steps-too k z v a named right
     by k (Began q) a named step right = absurd step.1
 
