@@ -9,16 +9,16 @@ use Rattle.std_alloc.proofs.BoxSteps.Form.{Bx}
 use Rattle.std_heap.specs.contracts.Global as Heap
 use Rattle.std_heap.specs.contracts.GlobalAllocator.TheImpl.{ghosts, dict}
 use Rattle.std_heap.proofs.Global.TheLaws as heap
-use Rattle.gt_c.specs.contracts.c_domain.CDomain as Here
-use Rattle.gt_c.proofs.lent.CDomain.TheLaws as lent
+use Rattle.gt_c.specs.contracts.c_domain.CDomain as Boxed
+use Rattle.gt_c.proofs.c_domain.CDomain.TheLaws as c_domain
 use Rattle.gt_c.specs.contracts.parts.BoxParts as Parts
 use Rattle.gt_c.specs.contracts.held.RawBox as Held
 
 abbrev pub E : Bx
-E = record { row = Here.the_row; laws = lent.the_row_laws; al = record { row = Heap.the_row; laws = heap.the_row_laws; g = ghosts; d = dict; drops = impl [] tnil dnil } }
+E = record { row = Boxed.the_row; laws = c_domain.the_row_laws; al = record { row = Heap.the_row; laws = heap.the_row_laws; g = ghosts; d = dict; drops = impl [] tnil dnil } }
 
 abbrev pub FromParts : Slot 0
-FromParts = plain (λ _. Parts.the_row Here.the_row Heap.the_row ghosts)
+FromParts = plain (λ _. Parts.the_row Boxed.the_row Heap.the_row ghosts)
 
 abbrev pub FromHeld : Slot 0
 FromHeld = plain (λ _. Held.the_row)

@@ -109,7 +109,7 @@ pub extern "C" fn gthost_rule_text(rule: u32) -> RuleText
 /// Returns the version of the library. It is `GTHOST_VERSION` of the header of the same release.
 #[unsafe(no_mangle)]
 pub extern "C" fn gthost_version() -> u32
-    ensures { result ≡ 65536 }
+    ensures { result ≡ 131072 }
 {
     VERSION
 }
