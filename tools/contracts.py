@@ -1,13 +1,13 @@
 #!/usr/bin/env python3
 """Counts the functions of the product, and those that have a contract: an `ensures` of their own, or of the trait that
-their `impl` is for. Tests, cases and benchmarks don't count.
+their `impl` is for. Tests, cases, benchmarks and the example don't count.
 
 usage: tools/contracts.py             prints the counts by crate
        tools/contracts.py --check     fails if README.md gives another number"""
 import os, re, sys
 
 TOP = os.path.join(os.path.dirname(os.path.abspath(__file__)), "..")
-APART = ("test_", "cases_", "bench")
+APART = ("test_", "cases_", "bench", "share")
 HEAD = re.compile(r"^(\s*)(?:pub(?:\([^)]*\))? )?(?:const )?(?:unsafe )?(?:extern \"C\" )?fn (\w+)")
 
 
