@@ -33,9 +33,9 @@ fn bit(flag: usize) -> u64 {
 // The domains that a gate lets through.
 #[derive(Clone, Copy)]
 enum Way {
-    /// Lets nobody through, and returns false at once.
+    /// Lets no domain through, and returns false at once.
     Closed,
-    /// Lets nobody through, and returns false after all turns.
+    /// Lets no domain through, and returns false after all turns.
     Deaf,
     /// Lets all callers through, whatever flag they wait for, once this number of them wait.
     Meeting(u64),
