@@ -32,7 +32,7 @@ from drawn_texts import PERMISSIONS, Guests, Rules, changed, race
 
 STATES = "30000"
 TOP = os.path.dirname(os.path.dirname(os.path.abspath(__file__)))
-WORKED = sorted(glob.glob(f"{TOP}/examples/*.[gt][te]") + glob.glob(f"{TOP}/crates/cases_host/data/*.gt"))
+WORKED = sorted(glob.glob(f"{TOP}/examples/*.[gt][te]") + glob.glob(f"{TOP}/crates/cases_play/data/*.gt"))
 FAULT = re.compile(rb"gthost: line (\d+): (limit|utf8|syntax|config|mode|stuck|policy [a-z]+.*)\n")
 
 

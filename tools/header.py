@@ -250,7 +250,7 @@ def compare_versions(header, text):
     """The version of the header, of the library and of the program is one."""
     said = re.search(r"#define GTHOST_VERSION 0x(\w+)", header).group(1)
     made = re.search(r"const VERSION: u32 = 0x(\w+);", text).group(1).replace("_", "")
-    line = (TOP / "crates" / "gt_commands" / "src" / "line.rt").read_text(encoding="utf-8")
+    line = (TOP / "crates" / "gt_command_line" / "src" / "line.rt").read_text(encoding="utf-8")
     program = re.search(r'const VERSION: &str = "(\d+)\.(\d+)\.(\d+)', line).groups()
     numbers = {int(said, 16), int(made, 16), sum(int(part) << shift for part, shift in zip(program, (16, 8, 0)))}
     if len(numbers) > 1:

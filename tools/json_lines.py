@@ -1,7 +1,7 @@
 #!/usr/bin/env python3
-"""The JSON of the texts of crates/cases_host, made and read by another program than gthost.
+"""The JSON of the texts of crates/cases_play, made and read by another program than gthost.
 
-    tools/json_lines.py check            compares the end of crates/cases_host/stdout with this program's JSON, reads
+    tools/json_lines.py check            compares the end of crates/cases_play/stdout with this program's JSON, reads
                                    each of its lines as JSON, and makes the line of the text of it again
     tools/json_lines.py expected         prints what the end of that file has to be, from `== run` on
     tools/json_lines.py program GTHOST   runs GTHOST on the examples, on the dumps of crates/cases_program and on dumps
@@ -21,7 +21,7 @@ import sys
 import tempfile
 
 TOP = os.path.dirname(os.path.dirname(os.path.abspath(__file__)))
-CASES = os.path.join(TOP, "crates", "cases_host")
+CASES = os.path.join(TOP, "crates", "cases_play")
 CALLS = {
     "map": ["owner", "ref", "flags"],
     "unmap": ["owner", "ref"],

@@ -3,7 +3,7 @@
 # `data`. It must end with status 0 and the whole text, or with status 1 and a beginning of it.
 # It is no part of the gate. `rt test` or `rt run` in the crate builds what is run.
 # usage: tools/refused.sh CRATE TEST..      as: tools/refused.sh test_core memory::calls_with_memory_refused
-#        tools/refused.sh CRATE WORD..      as: tools/refused.sh cases_host first step_by_step
+#        tools/refused.sh CRATE WORD..      as: tools/refused.sh cases_play first step_by_step
 set -euo pipefail
 cd "$(dirname "$0")/.."
 crate=$1

@@ -11,7 +11,7 @@ fail() { echo "release: $1" >&2; exit 1; }
 gate=$(tail -n 1 "$log")
 [[ $gate =~ ^[0-9]+\ passed,\ 0\ failed ]] || fail "the gate did not pass: $gate"
 [ -z "$(git status --porcelain)" ] || fail "the tree has changes that are not committed"
-version=$(sed -n 's/^const VERSION: &str = "//p' crates/gt_commands/src/line.rt)
+version=$(sed -n 's/^const VERSION: &str = "//p' crates/gt_command_line/src/line.rt)
 grep -q "^## \[$version\]" CHANGELOG.md || fail "CHANGELOG.md has no $version"
 name="gthost-$version-x86_64"
 room=$(mktemp -d)

@@ -73,11 +73,11 @@ invariant that is false of the body. Those that a contract refuses are among the
 | A guest at the end of its list takes back its pages | `gt_run` | contract: `IsOutputOf` (`HasLeft`) |
 | A guest that waits for a flag keeps a processor busy | `gt_run` | nothing |
 | A guest that gets no thread grants a page before it leaves | `gt_run` | test: `tools/leaves.sh` |
-| A policy is checked against no `neverallow` statement | `gt_checks` | contract: `CheckedNever` |
-| A file that is not text is a clean policy | `gt_checks` | contract: `Checked` |
-| A question about a misspelled type is answered with `denied` | `gt_checks` | contract: `AskedOf` |
-| `check --script` is silent about a label that no map has | `gt_checks` | test: `cases_program` |
-| A fault that `play` finds is reported of a script for `run` | `gt_checks` | test: `cases_program` |
+| A policy is checked against no `neverallow` statement | `gt_check_command` | contract: `CheckedNever` |
+| A file that is not text is a clean policy | `gt_check_command` | contract: `Checked` |
+| A question about a misspelled type is answered with `denied` | `gt_check_command` | contract: `AskedOf` |
+| `check --script` is silent about a label that no map has | `gt_check_command` | test: `cases_program` |
+| A fault that `play` finds is reported of a script for `run` | `gt_check_command` | test: `cases_program` |
 | A file of `neverallow` statements loses its last byte | `gt_file_commands` | contract: `read_whole` |
 | A command whose file can't be opened reads the standard input | `gt_file_commands` | contract: `Works` (`DoesOnFile`) |
 | Questions after the first denied one are not answered | `gt_file_commands` | contract: `AnswersLines` |
@@ -99,7 +99,7 @@ Made by \`tools/wrong_bodies_list.sh\` from the edits themselves; don't edit it.
 Each line is a body that the proofs refuse: an edit of a crate, and what it would do. The gate tries
 $(count must-fail) of them (\`must-fail/\`), those that a definition of meaning refuses. The other $(count wrong-bodies)
 (\`wrong-bodies/\`) are tried by \`tools/wrong_bodies.sh CRATE\`, which whoever changes a crate runs for it. Those of
-\`gt_commands\`, two of \`gt_c\`, three of \`gt_live\`, six of \`gt_explore_answers\`, one of \`gt_explore\`, and most of
+\`gt_command_line\`, two of \`gt_c\`, three of \`gt_live\`, six of \`gt_explore_answers\`, one of \`gt_explore\`, and most of
 \`gt_program\` and \`gt_file_commands\` wait for such a run.
 
 A lock round the words of an entry can't be written as an edit: taking one asks for a bound \`Wait\`, and
@@ -118,9 +118,9 @@ refuses are among the edits. The bodies of the program and of \`gt_run\` were ch
 | \`gt_explore_replay\` | 15 | 15 | 0 | 0 |
 | \`gt_explore_moves\` | 17 | 16 | 1 | 0 |
 | \`gt_explore\`, \`gt_explore_answers\` | 12 | 11 | 1 | 0 |
-| \`gt_commands\` | 12 | 12 | 0 | 0 |
+| \`gt_command_line\` | 12 | 12 | 0 | 0 |
 | \`gt_neverallow\` | 15 | 15 | 0 | 0 |
-| \`gt_checks\` | 2 | 0 | 2 | 0 |
+| \`gt_check_command\` | 2 | 0 | 2 | 0 |
 | \`gt_program\`, \`gt_file_commands\` | 32 | 10 | 22 | 0 |
 | \`gt_run\` | 31 | 22 | 9 | 0 |
 | all | 157 | 117 | 40 | 0 |

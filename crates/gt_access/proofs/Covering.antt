@@ -1,4 +1,4 @@
--- A route that reaches a range for writing covers it by its writ.
+-- An access path that reaches a range for writing covers it by its writ.
 use Rattle.std.proofs.Common.{◌≡◌, ℕ, true, ◌&&◌, IsTrue, sym, ◌∙◌, ap, arith}
 use Rattle.std.proofs.lemmas.Bool.{and_from, eq-eqb}
 use Rattle.std.proofs.lemmas.Bool.Decides.{nat_tests}
@@ -18,7 +18,7 @@ use Rattle.gt_model.specs.declared.held.AccessPath.TheVariants.{Own, Direct, Thr
 use Rattle.gt_model.specs.Holding.{GivesHeld}
 use Rattle.gt_types.specs.declared.places.FrameName.{FrameName}
 use Rattle.gt_frames.specs.Frames.{covers}
-use Rattle.gt_access.specs.Routes.{ReachesBy, writ_by}
+use Rattle.gt_access.specs.AccessPaths.{ReachesBy, writ_by}
 
 -- what an entry permits, it permits to copy
 to_copy : (e : Entry) (d : DomId) (dir : Dir) (purpose : Use) (off len : ℕ) → permits e d dir purpose off len ≡ true → permits e d dir uses.Copy off len ≡ true
@@ -35,8 +35,8 @@ to_owner Invalid p owner leads is = absurd leads
 to_owner (Page dom ro frame) p owner leads is = absurd leads
 to_owner (Sub dom ro frame off len) p owner leads is = absurd leads
 
-pub covers_by : (k : Layout) (s : SeatOf) (purpose : Use) (name : FrameName) (off len : ℕ) (route : AccessPath)
-    → ReachesBy k s Write purpose name off len route → IsTrue (covers (writ_by s.dom route) name.owner name.number off len)
+pub covers_by : (k : Layout) (s : SeatOf) (purpose : Use) (name : FrameName) (off len : ℕ) (access_path : AccessPath)
+    → ReachesBy k s Write purpose name off len access_path → IsTrue (covers (writ_by s.dom access_path) name.owner name.number off len)
 covers_by k s purpose name off len Own is = eq-eqb s.dom.0 name.owner.0 (ap (λ (d : DomId). d.0) is)
 covers_by k s purpose name off len (Direct p) is =
     and_from (is_of_frame p.entry name.number) (permits p.entry s.dom Write uses.Copy off len) is.of_frame (to_copy p.entry s.dom Write purpose off len is.permitted)

@@ -1,3 +1,3 @@
 pub mod Accesses
 pub mod Prelude
-pub mod Routes
+pub mod AccessPaths

@@ -5,7 +5,7 @@ use Rattle.gt_live.specs.declared.domain.copies.PendingCopy.{PendingCopy}
 use Rattle.gt_live.specs.declared.monitor.Monitor.{Monitor}
 use Rattle.gt_types.specs.declared.copies.CopyArgs.{CopyArgs}
 use Rattle.gt_live.specs.Domains.{AllowRelation, BelongsTo}
-use Rattle.gt_live.specs.Halves.{ComesHalfway, IsHalfway}
+use Rattle.gt_live.specs.Halves.{BecomesPending, IsPending}
 use Rattle.gt_attached.specs.Seated.{Seated, StandsBy}
 
 pub beside : {P : Type 0} {m n : Monitor P} {d : Domain} {o : Option PendingCopy} {s : Seated P} (Q : Monitor P → Domain → Type 0)
@@ -27,11 +27,11 @@ still {P} may {m} {n} {d} {e} {o} {s} q v none mine =
     (subst (λ (k : Monitor P). BelongsTo may k e) q mine)
 
 pub stands-there : {P : Type 0} (may : P → AllowRelation) (m n : Monitor P) (d e : Domain) (copy : CopyArgs) (h : PendingCopy)
-    → m ≡ n → BelongsTo may m d → ComesHalfway may m d copy h e → IsHalfway may n h e
+    → m ≡ n → BelongsTo may m d → BecomesPending may m d copy h e → IsPending may n h e
 stands-there {P} may m n d e copy h q mine comes =
-    subst (λ (k : Monitor P). IsHalfway may k h e) q (d, mine, subst (λ (x : CopyArgs). ComesHalfway may m d x h e) (sym comes.asked) comes)
+    subst (λ (k : Monitor P). IsPending may k h e) q (d, mine, subst (λ (x : CopyArgs). BecomesPending may m d x h e) (sym comes.asked) comes)
 
 pub at-access : {P : Type 0} (may : P → AllowRelation) {m n : Monitor P} {d : Domain} {o : Option PendingCopy} {h : PendingCopy}
-    → m ≡ n → o ≡ Some h → StandsBy may n d o → IsHalfway may m h d
+    → m ≡ n → o ≡ Some h → StandsBy may n d o → IsPending may m h d
 at-access {P} may {m} {n} {d} {o} {h} e there stands =
-    subst (λ (k : Monitor P). IsHalfway may k h d) (sym e) (subst (λ (x : Option PendingCopy). StandsBy may n d x) there stands)
+    subst (λ (k : Monitor P). IsPending may k h d) (sym e) (subst (λ (x : Option PendingCopy). StandsBy may n d x) there stands)

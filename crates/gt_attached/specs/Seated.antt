@@ -11,7 +11,7 @@ use Rattle.gt_live.specs.declared.domain.copies.PendingCopy.{PendingCopy}
 use Rattle.gt_live.specs.declared.monitor.Monitor.{Monitor}
 use Rattle.gt_live.specs.Closing.{Resets}
 use Rattle.gt_live.specs.Domains.{AllowRelation, Answered, BelongsTo, HasLeft, KeepsPinned, record_of_copy}
-use Rattle.gt_live.specs.Halves.{ComesHalfway, EndsHalfway, IsHalfway, done_copy}
+use Rattle.gt_live.specs.Halves.{BecomesPending, EndsPending, IsPending, done_copy}
 use Rattle.gt_live.specs.Parts.{seat_of, trail_left, trail_of, words_of}
 use Rattle.gt_attached.specs.declared.answer.TakenCounts.{TakenCounts}
 use Rattle.gt_attached.specs.declared.attachment.CopyPlaces.{CopyPlaces}
@@ -30,7 +30,7 @@ seated m d copying = record { monitor = m; domain = d; copying = copying }
 -- the domain came with this monitor, or is at the access of this copy
 abbrev pub StandsBy : {P : Type 0} → (P → AllowRelation) → Monitor P → Domain → Option PendingCopy → Type 0
 StandsBy may m d None = BelongsTo may m d
-StandsBy may m d (Some h) = IsHalfway may m h d
+StandsBy may m d (Some h) = IsPending may m h d
 
 -- the monitor and the domain's seat are the same, and the domain is in no copy
 abbrev pub StaysIdle : {P : Type 0} → Seated P → Seated P → Type 0
@@ -46,7 +46,7 @@ abbrev pub BeginsAccess : {P : Type 0} → (P → AllowRelation) → Seated P �
     → Type 0
 BeginsAccess may s copy (Ok places) t =
     (h : PendingCopy) × (t.copying ≡ Some h) × (places ≡ copy_places_of h) × (t.monitor ≡ s.monitor)
-    × ComesHalfway may s.monitor s.domain copy h t.domain
+    × BecomesPending may s.monitor s.domain copy h t.domain
 BeginsAccess may s copy (Err denial) t =
     StaysIdle s t × Answered may s.monitor s.domain (requests.Copy copy) (Refused denial) t.domain
     × KeepsPinned s.domain t.domain
@@ -56,7 +56,7 @@ BeginsAccess may s copy (Err denial) t =
 abbrev pub EndsAccess : {P : Type 0} → Seated P → Seated P → Type 0
 EndsAccess s t =
     (h : PendingCopy) × (s.copying ≡ Some h) × StaysIdle s t
-    × EndsHalfway (words_of s.monitor).layout h s.domain t.domain
+    × EndsPending (words_of s.monitor).layout h s.domain t.domain
     × AppendsRecord (trail_of s.domain) (done_copy s.domain h.copy) (trail_of t.domain)
 
 -- a domain released its mappings, closed its table and left its run by the seat that is given, with this many entries

@@ -41,8 +41,8 @@ fn settle<P: Allows>(monitor: &Monitor<P>, domain: &mut Domain, copying: Option<
     ensures mine { BelongsTo P.may monitor.now domain.new }
     ensures settles { Settles (seated monitor.now domain.old copying) (seated monitor.now domain.new None) }
 {
-    if let Some(halfway) = copying {
-        domain.copy_end(monitor, halfway);
+    if let Some(pending) = copying {
+        domain.copy_end(monitor, pending);
     }
 }
 
@@ -373,12 +373,12 @@ impl<P: Allows + Drop> AttachedDomain<P> {
         ensures begins { BeginsAccess P.may self.old copy.now result self.new }
     {
         match self.attachment.domain.copy_begin(&self.monitor, copy) {
-            Ok(halfway) => {
-                self.attachment.copying = Some(halfway);
+            Ok(pending) => {
+                self.attachment.copying = Some(pending);
                 Ok(CopyPlaces {
-                    from: halfway.from,
-                    to: halfway.to,
-                    len: halfway.len,
+                    from: pending.from,
+                    to: pending.to,
+                    len: pending.len,
                 })
             }
             Err(denial) => Err(denial),
@@ -391,8 +391,8 @@ impl<P: Allows + Drop> AttachedDomain<P> {
         ensures ends { EndsAccess self.old self.new }
     {
         let copying = self.attachment.copying;
-        if let Some(halfway) = copying {
-            self.attachment.domain.copy_end(&self.monitor, halfway);
+        if let Some(pending) = copying {
+            self.attachment.domain.copy_end(&self.monitor, pending);
             self.attachment.copying = None;
         }
     }

@@ -192,7 +192,7 @@ fn mapping<P: Allows>(
     ensures { result ≡ first_phase (knows P.may known.now) caller (OpenRequest.Map dom gref flags) }
 {
     Phase::Walking {
-        aim: PinPurpose::Mapping,
+        pin_purpose: PinPurpose::Mapping,
         leg: map_leg(known, caller, dom, gref, flags),
         at: LegPhase::Header,
     }
@@ -211,8 +211,8 @@ fn begin_copy<P: Allows>(
     *phase = at_source(known, caller, copy);
 }
 
-// Returns the pins of these routes.
-pub(crate) fn by_routes(source: &AccessPath, dest: &AccessPath) -> CallPins
+// Returns the pins of these access paths.
+pub(crate) fn by_access_paths(source: &AccessPath, dest: &AccessPath) -> CallPins
     ensures { result ≡ record { source = source.now; dest = dest.now } }
 {
     CallPins {
@@ -226,7 +226,7 @@ pub(crate) fn pass_access(phase: &mut Phase)
     ensures { phase.new ≡ unaccessed phase.old }
 {
     if let Phase::Accessing { source, dest, .. } = phase {
-        *phase = ending(by_routes(source, dest), CallResult::Granted);
+        *phase = ending(by_access_paths(source, dest), CallResult::Granted);
     }
 }
 

@@ -60,7 +60,7 @@ begun-at s h d q run k = ap (λ (z : CallerKnowledge). begun_of z d (bare_reques
 seen-at : (s : Setting) (h : History) (d : DomId) (step : Step) → IsRun s h → seen_by s (bare h) d step ≡ seen_by s h d step
 seen-at s h d (LookHeader dom) run = ap (λ (x : Header). Word (header_word x)) ((bared h).table s dom)
 seen-at s h d (LookControl dom gref) run = ap (λ (w : ℕ). Word w) (word-bare s h dom.0 gref.0 run)
-seen-at s h d (LookBody dom gref half) run = ap (λ (w : ℕ). Word w) ((bared h).body dom.0 gref.0 half)
+seen-at s h d (LookBody dom gref body_word) run = ap (λ (w : ℕ). Word w) ((bared h).body dom.0 gref.0 body_word)
 seen-at s h d (call_steps.Pin p) run = ap (λ (w : ℕ). exchange_sees w p.word) (word-bare s h p.dom.0 p.gref.0 run)
 seen-at s h d (Exchange gref looked change) run = ap (λ (w : ℕ). exchange_sees w looked) (word-bare s h d.0 gref.0 run)
 seen-at s h d step run = refl

@@ -17,7 +17,7 @@ length-applied d (call_steps.Pin p) Taken xs = length-changed_in xs p.dom.0 (wit
 length-applied d (Exchange gref looked change) Taken xs = length-changed_in xs d.0 (with_own gref.0 change)
 length-applied d (Unpin p holder) seen xs =
     length-changed_in (changed_in p.dom.0 (with_slot p.gref.0 (Unpinned p.dir)) xs) d.0 (without_holder holder) ∙ length-changed_in xs p.dom.0 (with_slot p.gref.0 (Unpinned p.dir))
-length-applied d (StoreBody gref half word) seen xs = length-changed_in xs d.0 (with_slot gref.0 (Stored half word))
+length-applied d (StoreBody gref body_word word) seen xs = length-changed_in xs d.0 (with_slot gref.0 (Stored body_word word))
 length-applied d (StoreHeader version frames) seen xs = length-changed_in xs d.0 (with_header version frames)
 length-applied d step seen xs = refl
 

@@ -66,6 +66,6 @@ place-stays s i h d r so_far (Storing gref entry) b a = tt
 place-stays s i h d r so_far (StoringSecond gref entry) b a = b gref.0 body_words.First ∙ a
 place-stays s i h d r so_far (Exchanging gref looked (Publish entry)) b a = spelled-stays i h d.0 gref.0 entry b a
 place-stays s i h d r so_far (Exchanging gref looked changes.Revoke) b a = tt
-place-stays s i h d r so_far (Walking aim l at) b a = (a.0, leg-keeps s i h l so_far at a.1)
+place-stays s i h d r so_far (Walking pin_purpose l at) b a = (a.0, leg-keeps s i h l so_far at a.1)
 place-stays s i h d r so_far (Accessing c source dest) b a = tt
 place-stays s i h d r so_far phase b a = a

@@ -13,7 +13,7 @@ use Rattle.gt_model.specs.declared.action.Action.TheVariants as actions
 use Rattle.gt_calls.specs.declared.leg.LegNext.TheVariants as leg_outcomes
 use Rattle.gt_calls.specs.Resting.{IsCopyOf}
 use Rattle.gt_core.proofs.{Phases.OfAction, Phases.IsHere, Phases.words-of, Phases.by-quiet, Legs.Words, Legs.ComesTo}
-use Rattle.gt_core.proofs.{Legs.IsLegOf, Aims.pair_of, Aims.leg-here, Legs.as-tried, Phases.Judged}
+use Rattle.gt_core.proofs.{Legs.IsLegOf, PinPurposes.pair_of, PinPurposes.leg-here, Legs.as-tried, Phases.Judged}
 use Rattle.gt_core.proofs.{Steps.Look.asked-judged, Steps.Look.look-judged, Steps.Exchange.once-judged}
 use Rattle.gt_core.proofs.{Steps.Store.stored-refusal, Steps.Exchange.turn-below, Outcomes.after-plain}
 use Rattle.gt_core.proofs.{Steps.See.word-shows, Steps.See.IsWithin, Steps.Look.asks-run, Phases.by-giving}
@@ -23,7 +23,7 @@ use Rattle.gt_core.proofs.{Phases.Placed, Steps.Unpin.give-placed, Steps.Pin.mis
 use Rattle.gt_core.proofs.{Steps.Store.IsStore, Steps.Pin.taken-leads, Steps.Look.look-placed}
 
 -- the pins of a leg that ends are those of a copy, or none
-walk-over : (k : CallerKnowledge) (d : DomId) (r : OpenRequest) (aim : PinPurpose) (l : Leg) → IsLegFor k d r aim l → (last_first (pins_so_far aim) ≡ []) ⊎ ((copy : CopyArgs) × IsCopyOf r copy × Unit {0})
+walk-over : (k : CallerKnowledge) (d : DomId) (r : OpenRequest) (pin_purpose : PinPurpose) (l : Leg) → IsLegFor k d r pin_purpose l → (last_first (pins_so_far pin_purpose) ≡ []) ⊎ ((copy : CopyArgs) × IsCopyOf r copy × Unit {0})
 walk-over k d r Mapping l is = inl refl
 walk-over k d r (Source c via) l is = inr (c, is.0, tt)
 walk-over k d r (Dest c source via) l is = inr (c, is.0, tt)
@@ -41,36 +41,36 @@ no-demote r c (inl is) = ap is_demote is
 no-demote r c (inr is) = ap is_demote is
 
 -- the purpose is not a demotion: a demotion makes no leg
-plain-leg : (k : CallerKnowledge) (d : DomId) (r : OpenRequest) (aim : PinPurpose) (l : Leg) → IsLegFor k d r aim l → is_demote r ≡ false
+plain-leg : (k : CallerKnowledge) (d : DomId) (r : OpenRequest) (pin_purpose : PinPurpose) (l : Leg) → IsLegFor k d r pin_purpose l → is_demote r ≡ false
 plain-leg k d r Mapping l is = ap is_demote is.of_map
 plain-leg k d r (Source c via) l is = no-demote r c is.0
 plain-leg k d r (Dest c source via) l is = no-demote r c is.0
 
-pub walk-comes : (s : Setting) (h : History) (d : DomId) (r : OpenRequest) (so_far : StepsSoFar) (aim : PinPurpose) (l : Leg) (at : LegPhase) → Words s h l → IsLegFor (known_at s h d) d r aim l → IsLegOf s h d r l (pair_of d aim) → LegStands s h l so_far at
+pub walk-comes : (s : Setting) (h : History) (d : DomId) (r : OpenRequest) (so_far : StepsSoFar) (pin_purpose : PinPurpose) (l : Leg) (at : LegPhase) → Words s h l → IsLegFor (known_at s h d) d r pin_purpose l → IsLegOf s h d r l (pair_of d pin_purpose) → LegStands s h l so_far at
     → TakesNone s h d l at → ComesTo s h l ((leg_step l at, seen_by s h d (leg_step l at)) ∷ so_far) (first_at s h d r so_far (leg_step l at)) (leg_after l at (seen_by s h d (leg_step l at)))
-walk-comes s h d r so_far aim l (Pinning more word body second) ws is leg a none = missed-comes s h l d r more word body second so_far (word_at s h l.dom.0 l.gref.0 == word) none a.0
-walk-comes s h d r so_far aim l at ws is leg a none = looks-come s h l ws d r (pair_of d aim) leg (plain-leg (known_at s h d) d r aim l is) so_far at a tt
+walk-comes s h d r so_far pin_purpose l (Pinning more word body second) ws is leg a none = missed-comes s h l d r more word body second so_far (word_at s h l.dom.0 l.gref.0 == word) none a.0
+walk-comes s h d r so_far pin_purpose l at ws is leg a none = looks-come s h l ws d r (pair_of d pin_purpose) leg (plain-leg (known_at s h d) d r pin_purpose l is) so_far at a tt
 
 module _ (s : Setting) (h : History) (d : DomId) (r : OpenRequest) where
-  leg-leads : (aim : PinPurpose) (l : Leg) (now : StepsSoFar) (rule : Option Denial) (next : LegNext) → IsLegFor (known_at s h d) d r aim l → domain_of s.domains l.dom ≢ None → ComesTo s h l now rule next
-      → Leads s h d r now rule (after_leg (known_at s h d) d aim l next)
-  leg-leads aim l now rule (Going phase) is some a = (sym a.0, (some, a.1))
-  leg-leads aim l now rule (leg_outcomes.Refused denial) is some a = (sym a, walk-over (known_at s h d) d r aim l is)
-  leg-leads aim l now rule (Pinned p) is some a = absurd a
+  leg-leads : (pin_purpose : PinPurpose) (l : Leg) (now : StepsSoFar) (rule : Option Denial) (next : LegNext) → IsLegFor (known_at s h d) d r pin_purpose l → domain_of s.domains l.dom ≢ None → ComesTo s h l now rule next
+      → Leads s h d r now rule (after_leg (known_at s h d) d pin_purpose l next)
+  leg-leads pin_purpose l now rule (Going phase) is some a = (sym a.0, (some, a.1))
+  leg-leads pin_purpose l now rule (leg_outcomes.Refused denial) is some a = (sym a, walk-over (known_at s h d) d r pin_purpose l is)
+  leg-leads pin_purpose l now rule (Pinned p) is some a = absurd a
 
   -- each step of a walk
-  walk-leads : (so_far : StepsSoFar) (aim : PinPurpose) (l : Leg) (at : LegPhase) → Words s h l → IsLegFor (known_at s h d) d r aim l → IsLegOf s h d r l (pair_of d aim) → begun (known_at s h d) d r ≡ None
-      → PhaseStands s h d r so_far (Walking aim l at) → Judged s h d r so_far (Walking aim l at) (leg_step l at) × Placed s h d r so_far (Walking aim l at) (leg_step l at)
-  walk-leads so_far aim l (Pinning more word body second) ws is leg none a = by (word_at s h l.dom.0 l.gref.0 == word) refl
+  walk-leads : (so_far : StepsSoFar) (pin_purpose : PinPurpose) (l : Leg) (at : LegPhase) → Words s h l → IsLegFor (known_at s h d) d r pin_purpose l → IsLegOf s h d r l (pair_of d pin_purpose) → begun (known_at s h d) d r ≡ None
+      → PhaseStands s h d r so_far (Walking pin_purpose l at) → Judged s h d r so_far (Walking pin_purpose l at) (leg_step l at) × Placed s h d r so_far (Walking pin_purpose l at) (leg_step l at)
+  walk-leads so_far pin_purpose l (Pinning more word body second) ws is leg none a = by (word_at s h l.dom.0 l.gref.0 == word) refl
     where
       at : LegPhase
       at = Pinning more word body second
 
-      by : (b : Bool) → (word_at s h l.dom.0 l.gref.0 == word) ≡ b → Judged s h d r so_far (Walking aim l at) (leg_step l at) × Placed s h d r so_far (Walking aim l at) (leg_step l at)
-      by false e = leg-leads aim l _ _ (leg_after l at (seen_by s h d (leg_step l at))) is a.0 (walk-comes s h d r so_far aim l at ws is leg a.1 e)
-      by true e = taken-leads s h d r so_far _ aim l more word body second (word_at s h l.dom.0 l.gref.0 == word) e is leg none a.1.0.passed
+      by : (b : Bool) → (word_at s h l.dom.0 l.gref.0 == word) ≡ b → Judged s h d r so_far (Walking pin_purpose l at) (leg_step l at) × Placed s h d r so_far (Walking pin_purpose l at) (leg_step l at)
+      by false e = leg-leads pin_purpose l _ _ (leg_after l at (seen_by s h d (leg_step l at))) is a.0 (walk-comes s h d r so_far pin_purpose l at ws is leg a.1 e)
+      by true e = taken-leads s h d r so_far _ pin_purpose l more word body second (word_at s h l.dom.0 l.gref.0 == word) e is leg none a.1.0.passed
           (as-tried s h l so_far more word body second None a.1.0 a.1.1 ws (eqb-true (word_at s h l.dom.0 l.gref.0) word e))
-  walk-leads so_far aim l at ws is leg none a = leg-leads aim l _ _ (leg_after l at (seen_by s h d (leg_step l at))) is a.0 (walk-comes s h d r so_far aim l at ws is leg a.1 tt)
+  walk-leads so_far pin_purpose l at ws is leg none a = leg-leads pin_purpose l _ _ (leg_after l at (seen_by s h d (leg_step l at))) is a.0 (walk-comes s h d r so_far pin_purpose l at ws is leg a.1 tt)
 
 -- At each step: it is on words that exist. It leaves everything unchanged or ends its call with Ok. The first rule
 -- that applies, here or before, is the refusal that its words lead to. Each step except a store leads to its next
@@ -104,13 +104,13 @@ each-step s h xs d r shown so_far phase step i = subst (OfAction (Led phase)) i.
         ((i.own, below), inl tt, look-judged s h d r so_far gref change more (word-shows s h xs d.0 gref.0 i.st below) a b, λ quiet. look-placed s h d r gref change more w so_far (is_stopped change (control_of w)) b)
     by (Changing gref change more looked) a b e held = let w = turn-leads s h d r so_far gref change more looked a.1 b.0 in
         ((i.own, turn-below s h xs d r gref change i.st i.at.unanswered a.1), exchanged (Changing gref change more looked) gref looked change (λ steps. inl refl), w.0, λ quiet. w.1)
-    by (Walking aim l at) a b e held = let w = walk-leads s h d r so_far aim l at (words-of s h xs l i.legal i.st) a.1 (leg-here s h d r aim l a.1 held) i.at.unanswered b in
-        let q = by-leg (λ (z : Step). LeavesOrEnds s h d (Walking aim l at) z) (λ dom. inl tt) (λ dom gref. inl tt) (λ dom gref half. inl tt) (λ p. inl tt) l at in
+    by (Walking pin_purpose l at) a b e held = let w = walk-leads s h d r so_far pin_purpose l at (words-of s h xs l i.legal i.st) a.1 (leg-here s h d r pin_purpose l a.1 held) i.at.unanswered b in
+        let q = by-leg (λ (z : Step). LeavesOrEnds s h d (Walking pin_purpose l at) z) (λ dom. inl tt) (λ dom gref. inl tt) (λ dom gref body_word. inl tt) (λ p. inl tt) l at in
         (leg-within s h xs d l so_far at (state-some s h xs l.dom i.st b.0) b.1, q, w.0, λ quiet. w.1)
     by (Accessing c source dest) a b e held = (tt, inr (λ steps. inl refl), refl, λ quiet. inr (c, a.0, tt))
     by (Asking dom question) a b e held = (state-some s h xs dom i.st (asks-run s h d r dom question i.at.unanswered b), inl tt, asked-judged s h d r so_far dom question b, λ quiet. inl refl)
     by (Last last verdict) a b e held = let none = after-plain r last verdict b in by-quiet (λ z. Led (Last z verdict) z) (λ p handle. (tt, inr (λ steps. inl none), sym none, λ quiet. inl refl))
-        (λ gref half word. (tt, inl tt, sym none, λ quiet. inl refl)) (λ version frames. (tt, inr (λ steps. inl none), sym none, λ quiet. inl refl))
+        (λ gref body_word word. (tt, inl tt, sym none, λ quiet. inl refl)) (λ version frames. (tt, inr (λ steps. inl none), sym none, λ quiet. inl refl))
         (λ dom frame off len. ((tt, inl tt, sym none, λ quiet. inl refl), (tt, inr (λ steps. inl none), sym none, λ quiet. inl refl))) last a.0
     by (Ending pins verdict) a b e held = let q = by-giving (λ (z : Step). IsWithin xs d z × LeavesOrEnds s h d (Ending pins verdict) z × Judged s h d r so_far (Ending pins verdict) z)
         (λ p n. (tt, inl tt, then-none (refusal_in (Some verdict)))) (last_first pins) verdict step e in

@@ -35,10 +35,10 @@ change-spells h u g changes.Withdraw safe was = tt
 change-spells h u g change safe was = ro-spelled _ (entry_at h u g) _ _ was
 
 -- a body word is stored on an invalid entry
-store-spells : (d : DomId) (gref : GrantRef) (half : BodyWord) (word : ℕ) (seen : Observation) (a : Option Answer) (h : History) (t r : ℕ) (e : Entry) → entry_at h d.0 gref.0 ≡ Invalid → entry_at h t r ≡ e → Spells h t r e
-    → Spells (stepped d (StoreBody gref half word) seen a ∷ h) t r e
+store-spells : (d : DomId) (gref : GrantRef) (body_word : BodyWord) (word : ℕ) (seen : Observation) (a : Option Answer) (h : History) (t r : ℕ) (e : Entry) → entry_at h d.0 gref.0 ≡ Invalid → entry_at h t r ≡ e → Spells h t r e
+    → Spells (stepped d (StoreBody gref body_word word) seen a ∷ h) t r e
 unfolding body_at
-store-spells d gref half word seen a h t r e invalid is was = grind (arith, eqb-true)
+store-spells d gref body_word word seen a h t r e invalid is was = grind (arith, eqb-true)
 
 spelled-after : (s : Setting) (h : History) (d : DomId) (x : ItemEvent) (a : Option Answer) (t r : ℕ) → let i : Item = record { actor = d; happened = x; answer = a } in IsRight s h i
     → ((u g : ℕ) → Spells h u g (entry_at h u g)) → Spells (i ∷ h) t r (entry_at (i ∷ h) t r)
@@ -46,9 +46,9 @@ unfolding entry_at
 spelled-after s h d (Stepped (Exchange gref looked change) Taken) a t r right was = let i = exchanged d gref looked change a in let safe = of-safe s h i _ _ (open_call h d.0) right in
     spelled-stays i h t r (entry_at (i ∷ h) t r) (λ r which. unstored i h t r which refl)
     (at-change (λ (u g : ℕ) (c : Option EntryChange). Spells h u g (changed_entry_of c (entry_at h u g))) d.0 gref.0 change t r (change-spells h d.0 gref.0 change safe (was d.0 gref.0)) (was t r))
-spelled-after s h d (Stepped (StoreBody gref half word) seen) a t r right was = let i = stepped d (StoreBody gref half word) seen a in
+spelled-after s h d (Stepped (StoreBody gref body_word word) seen) a t r right was = let i = stepped d (StoreBody gref body_word word) seen a in
     subst (Spells (i ∷ h) t r) (sym (kept-entry i h t r (λ r. refl)))
-    (store-spells d gref half word seen a h t r (entry_at h t r) (of-safe s h i _ _ (open_call h d.0) right) refl (was t r))
+    (store-spells d gref body_word word seen a h t r (entry_at h t r) (of-safe s h i _ _ (open_call h d.0) right) refl (was t r))
 spelled-after s h d x a t r right was = let i : Item = record { actor = d; happened = x; answer = a } in
     subst (Spells (i ∷ h) t r) (sym (kept-entry i h t r (λ r. refl))) (spelled-stays i h t r (entry_at h t r) (λ r which. unstored i h t r which refl) (was t r))
 

@@ -39,7 +39,7 @@ use Rattle.gt_types.specs.declared.places.FrameName.{FrameName}
 use Rattle.gt_frames.specs.declared.writ.Writ.{Writ}
 use Rattle.gt_core.proofs.Steps.Write.{open-admitted}
 use Rattle.gt_core.proofs.Writing.{can-write}
-use Rattle.gt_core.specs.Accesses.{IsAdmitted, basis_of, route_of}
+use Rattle.gt_core.specs.Accesses.{IsAdmitted, basis_of, access_path_of}
 use Rattle.gt_model.specs.History.{contents_at}
 use Rattle.gt_model.specs.declared.trace.Bytes.{Bytes}
 use Rattle.gt_core.specs.Acting.{answer_of, IsOpenCall}
@@ -286,7 +286,7 @@ open-calls-can-go-on s h d c step action answer (core, st) named call way quiet 
 
 -- the writ of the domain's call
 abbrev writ_of : State → Call → Writ
-writ_of x call = record { writer = call.caller; basis = basis_of (route_of x.mappings call) }
+writ_of x call = record { writer = call.caller; basis = basis_of (access_path_of x.mappings call) }
 
 seen-nothing : (s : Setting) (h : History) (d : DomId) (step : Step) → IsAccess step → seen_by s h d step ≡ Nothing
 seen-nothing s h d (call_steps.Read dom frame off len) is = refl

@@ -1,4 +1,4 @@
--- Public are the modules that crates above cite, each with what it is cited for: gt_order (each run of a monitor is a
+-- Public are the modules that crates above cite, each with what it is cited for: gt_linearization (each run of a monitor is a
 -- run of the core), gt_explore_state and gt_explore_moves (a state of the search stays like a history), and gt_flow
 -- (runs that differ only in bytes). A name that changes in one of these changes there too.
 
@@ -32,7 +32,7 @@ pub mod WithoutKeys
 pub mod Pins
 pub mod AlikeRuns
 -- of this crate alone
-mod Aims
+mod PinPurposes
 mod CallsOver
 mod CallsStand
 mod Legs

@@ -37,7 +37,7 @@ single-sees s h d step a = absurd a
 -- the call ends after it
 pub single-ends : (s : Setting) (h : History) (d : DomId) (r : OpenRequest) (so_far : StepsSoFar) (phase : Phase) (step : Step) → action_at d phase ≡ actions.Step step → PhaseStands s h d r so_far phase → IsSingle step
     → (verdict : CallResult) × (next_of s h d phase step ≡ Ending no_pins verdict) × EndsAfter r step verdict
-single-ends s h d r so_far (Walking aim l at) step e b a = absurd (by-leg (λ (z : Step). IsSingle z → ⊥) (λ dom n. n) (λ dom gref n. n) (λ dom gref half n. n) (λ p n. n) l at (subst IsSingle (sym (makes-same _ _ e)) a))
+single-ends s h d r so_far (Walking pin_purpose l at) step e b a = absurd (by-leg (λ (z : Step). IsSingle z → ⊥) (λ dom n. n) (λ dom gref n. n) (λ dom gref body_word n. n) (λ p n. n) l at (subst IsSingle (sym (makes-same _ _ e)) a))
 single-ends s h d r so_far (Last last verdict) step e b a =
     (verdict, ap (phase_after (known_at s h d) d (Last last verdict)) (single-sees s h d step a), subst (λ (z : Step). EndsAfter r z verdict) (makes-same _ _ e) b)
 single-ends s h d r so_far (Ending pins verdict) step e b a = absurd (by-giving (λ (z : Step). IsSingle z → ⊥) (λ p n f. f) (last_first pins) verdict step e a)
@@ -83,15 +83,15 @@ dest-not k d c source v e =
     cond_both (is_dest_granted c) (Walking (Dest c source None) (end_leg k d c.dest Write c.len) leg_phases.Header) (Accessing c source Own) (λ p. action_at d p ≡ Done v → ⊥) (λ b f. cc) (λ b f. cc) e
 
 -- nor has one that is checked after a Via
-where-not : (d : DomId) (o : Option CallResult) (aim : PinPurpose) (second : Leg) (v : CallResult) → ((w : CallResult) → next_to_give (last_first (pins_so_far aim)) w ≡ Done v → ⊥) → action_at d (where_via o aim second) ≡ Done v → ⊥
-where-not d None aim second v held e = cc
-where-not d (Some w) aim second v held e = held w e
+where-not : (d : DomId) (o : Option CallResult) (pin_purpose : PinPurpose) (second : Leg) (v : CallResult) → ((w : CallResult) → next_to_give (last_first (pins_so_far pin_purpose)) w ≡ Done v → ⊥) → action_at d (where_via o pin_purpose second) ≡ Done v → ⊥
+where-not d None pin_purpose second v held e = cc
+where-not d (Some w) pin_purpose second v held e = held w e
 
 -- the end of a leg: a refusal, or the pin of a map
-pub walk-done : (k : CallerKnowledge) (d : DomId) (aim : PinPurpose) (l : Leg) (next : LegNext) (v : CallResult) → action_at d (after_leg k d aim l next) ≡ Done v
-    → ((denial : Denial) × (v ≡ Refused denial)) ⊎ ((p : HeldPin) × (v ≡ Mapped p) × (next ≡ Pinned p) × (aim ≡ Mapping))
-walk-done k d aim l (leg_outcomes.Refused denial) v e = by (last_first (pins_so_far aim)) e where
-  by : (held : List HeldPin) → next_to_give held (Refused denial) ≡ Done v → ((denial : Denial) × (v ≡ Refused denial)) ⊎ ((p : HeldPin) × (v ≡ Mapped p) × (leg_outcomes.Refused denial ≡ Pinned p) × (aim ≡ Mapping))
+pub walk-done : (k : CallerKnowledge) (d : DomId) (pin_purpose : PinPurpose) (l : Leg) (next : LegNext) (v : CallResult) → action_at d (after_leg k d pin_purpose l next) ≡ Done v
+    → ((denial : Denial) × (v ≡ Refused denial)) ⊎ ((p : HeldPin) × (v ≡ Mapped p) × (next ≡ Pinned p) × (pin_purpose ≡ Mapping))
+walk-done k d pin_purpose l (leg_outcomes.Refused denial) v e = by (last_first (pins_so_far pin_purpose)) e where
+  by : (held : List HeldPin) → next_to_give held (Refused denial) ≡ Done v → ((denial : Denial) × (v ≡ Refused denial)) ⊎ ((p : HeldPin) × (v ≡ Mapped p) × (leg_outcomes.Refused denial ≡ Pinned p) × (pin_purpose ≡ Mapping))
   by [] f = let w : v ≡ Refused denial = cc in inl (denial, w)
   by (q ∷ qs) f = cc
 walk-done k d Mapping l (Pinned p) v e = let w : v ≡ Mapped p = cc in inr (p, w, refl, refl)
@@ -104,4 +104,4 @@ walk-done k d (Dest c source None) l (Pinned p) v e = absurd (by p.entry e) wher
   by : (entry : Entry) → action_at d (after_dest_pin k d c source l p entry) ≡ Done v → ⊥
   by (Via dom ro dom2 gref) f = where-not d (via_judged k (dest_pair d source dom2) dom2) (Dest c source (Some p)) (second_leg k l dom2 gref) v (λ w g. cc) f
   by entry f = cc
-walk-done k d aim l next v e = cc
+walk-done k d pin_purpose l next v e = cc

@@ -47,7 +47,7 @@ applied-swap d (Unpin p holder) seen u xs =
     swapped : (h : PinHolder) (x : State) → with_underway u (without_holder h x) ≡ without_holder h (with_underway u x)
     swapped (holders.Mapping handle) x = refl
     swapped (holders.Leg n) x = refl
-applied-swap d (StoreBody gref half word) seen u xs = changed-swap xs d.0 d.0 (with_underway u) (with_slot gref.0 (Stored half word)) (λ x. refl) (λ x. refl) (λ x. refl)
+applied-swap d (StoreBody gref body_word word) seen u xs = changed-swap xs d.0 d.0 (with_underway u) (with_slot gref.0 (Stored body_word word)) (λ x. refl) (λ x. refl) (λ x. refl)
 applied-swap d (StoreHeader version frames) seen u xs = changed-swap xs d.0 d.0 (with_underway u) (with_header version frames) (λ x. refl) (λ x. refl) (λ x. refl)
 applied-swap d step seen u xs = refl
 
@@ -67,7 +67,7 @@ place-applied d (call_steps.Pin p) Taken xs = place-changed xs d.0 p.dom.0 (with
 place-applied d (Exchange gref looked change) Taken xs = place-changed xs d.0 d.0 (with_own gref.0 change) (λ x. refl)
 place-applied d (Unpin p holder) seen xs = place-changed (changed_in p.dom.0 (with_slot p.gref.0 (Unpinned p.dir)) xs) d.0 d.0 (without_holder holder) (kept-id holder)
     ∙ place-changed xs d.0 p.dom.0 (with_slot p.gref.0 (Unpinned p.dir)) (λ x. refl)
-place-applied d (StoreBody gref half word) seen xs = place-changed xs d.0 d.0 (with_slot gref.0 (Stored half word)) (λ x. refl)
+place-applied d (StoreBody gref body_word word) seen xs = place-changed xs d.0 d.0 (with_slot gref.0 (Stored body_word word)) (λ x. refl)
 place-applied d (StoreHeader version frames) seen xs = place-changed xs d.0 d.0 (with_header version frames) (λ x. refl)
 place-applied d step seen xs = refl
 
@@ -99,7 +99,7 @@ changed-keeps field t g (z ∷ zs) (suc k) y keeps e = cond_both (z.id.0 == t) (
 abbrev Untouched : {A : Type 0} → (State → A) → Step → Type 0
 Untouched field (call_steps.Pin p) = (z : State) (r : ℕ) (c : CountsChange) → field (with_slot r c z) ≡ field z
 Untouched field (Unpin p holder) = ((z : State) (r : ℕ) (c : CountsChange) → field (with_slot r c z) ≡ field z) × ((z : State) → field (without_holder holder z) ≡ field z)
-Untouched field (StoreBody gref half word) = (z : State) (r : ℕ) (c : CountsChange) → field (with_slot r c z) ≡ field z
+Untouched field (StoreBody gref body_word word) = (z : State) (r : ℕ) (c : CountsChange) → field (with_slot r c z) ≡ field z
 Untouched field (StoreHeader version frames) = (z : State) → field (with_header version frames z) ≡ field z
 Untouched field (Exchange gref looked change) = (z : State) → field (with_own gref.0 change z) ≡ field z
 Untouched field step = Unit {0}
@@ -110,7 +110,7 @@ applied-keeps field d (Exchange gref looked change) Taken xs k y keeps e = chang
 applied-keeps field d (Unpin p holder) seen xs k y keeps e =
     let a = changed-keeps field d.0 (without_holder holder) (changed_in p.dom.0 (with_slot p.gref.0 (Unpinned p.dir)) xs) k y keeps.1 e in
     let b = changed-keeps field p.dom.0 (with_slot p.gref.0 (Unpinned p.dir)) xs k a.0 (λ z. keeps.0 z p.gref.0 (Unpinned p.dir)) a.1 in (b.0, b.1, a.2 ∙ b.2)
-applied-keeps field d (StoreBody gref half word) seen xs k y keeps e = changed-keeps field d.0 (with_slot gref.0 (Stored half word)) xs k y (λ z. keeps z gref.0 (Stored half word)) e
+applied-keeps field d (StoreBody gref body_word word) seen xs k y keeps e = changed-keeps field d.0 (with_slot gref.0 (Stored body_word word)) xs k y (λ z. keeps z gref.0 (Stored body_word word)) e
 applied-keeps field d (StoreHeader version frames) seen xs k y keeps e = changed-keeps field d.0 (with_header version frames) xs k y keeps e
 applied-keeps field d step seen xs k y keeps e = (y, e, refl)
 
@@ -128,7 +128,7 @@ still-underway d step seen xs k x y = kept-part (λ z. z.underway) d step seen x
   by : (step : Step) → Untouched (λ z. z.underway) step
   by (call_steps.Pin p) = λ z r c. refl
   by (Unpin p holder) = (λ z r c. refl, gone holder)
-  by (StoreBody gref half word) = λ z r c. refl
+  by (StoreBody gref body_word word) = λ z r c. refl
   by (StoreHeader version frames) = λ z. refl
   by (Exchange gref looked change) = λ z. refl
   by step = tt
@@ -151,14 +151,14 @@ module _ (domains : List DomainConfig) (first : ℕ) (may : TypeId → TypeId �
   dest-alike d c source l p (Via dom ro dom2 gref) = refl
   dest-alike d c source l p e = refl
 
-  leg-alike : (d : DomId) (aim : PinPurpose) (l : Leg) (next : LegNext) → after_leg Before d aim l next ≡ after_leg After d aim l next
+  leg-alike : (d : DomId) (pin_purpose : PinPurpose) (l : Leg) (next : LegNext) → after_leg Before d pin_purpose l next ≡ after_leg After d pin_purpose l next
   leg-alike d Mapping l (Pinned p) = refl
   leg-alike d (Source c None) l (Pinned p) = source-alike d c l p p.entry
   leg-alike d (Source c (Some via)) l (Pinned p) = refl
   leg-alike d (Dest c source None) l (Pinned p) = dest-alike d c source l p p.entry
   leg-alike d (Dest c source (Some via)) l (Pinned p) = refl
-  leg-alike d aim l (Going phase) = refl
-  leg-alike d aim l (leg_outcomes.Refused denial) = refl
+  leg-alike d pin_purpose l (Going phase) = refl
+  leg-alike d pin_purpose l (leg_outcomes.Refused denial) = refl
 
   -- the next step of a grant is a store of a body word
   abbrev pub IsStoring : Phase → Type 0
@@ -169,7 +169,7 @@ module _ (domains : List DomainConfig) (first : ℕ) (may : TypeId → TypeId �
   phase-alike : (d : DomId) (phase : Phase) (seen : Observation) → (IsStoring phase → ⊥) → phase_after Before d phase seen ≡ phase_after After d phase seen
   phase-alike d (Storing gref entry) seen n = absurd (n tt)
   phase-alike d (StoringSecond gref entry) seen n = absurd (n tt)
-  phase-alike d (Walking aim l at) seen n = leg-alike d aim l (leg_after l at seen)
+  phase-alike d (Walking pin_purpose l at) seen n = leg-alike d pin_purpose l (leg_after l at seen)
   phase-alike d phase seen n = grind arith
 
 -- an open call has the same phase by what its domain knew before its step and by what it knows after it
@@ -179,8 +179,8 @@ left-alike s h xs k d x y o c seen a here there = rw a.here (ap (settled o.call.
   Alike : Phase → Type 0
   Alike p = phase_after (knowledge_of s.domains s.first_generation s.may x.own x.header x.mappings) o.call.caller p seen ≡ phase_after (knowledge_of s.domains s.first_generation s.may y.own y.header y.mappings) o.call.caller p seen
 
-  stored : (gref : GrantRef) (half : BodyWord) (word : ℕ) (p : Phase) → StoreBody gref half word ≡ o.step → Alike p
-  stored gref half word p is = let step : Step = StoreBody gref half word in let at = subst (λ (z : Step). slice_get (applied d z seen xs) k ≡ Some y) (sym is) there in
+  stored : (gref : GrantRef) (body_word : BodyWord) (word : ℕ) (p : Phase) → StoreBody gref body_word word ≡ o.step → Alike p
+  stored gref body_word word p is = let step : Step = StoreBody gref body_word word in let at = subst (λ (z : Step). slice_get (applied d z seen xs) k ≡ Some y) (sym is) there in
       let own : y.own ≡ x.own = kept-part (λ z. z.own) d step seen xs k x y (λ z r c. refl) here at in
       let header : y.header ≡ x.header = kept-part (λ z. z.header) d step seen xs k x y (λ z r c. refl) here at in
       let mappings : y.mappings ≡ x.mappings = kept-part (λ z. z.mappings) d step seen xs k x y (λ z r c. refl) here at in rw (own, header, mappings) refl

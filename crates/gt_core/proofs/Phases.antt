@@ -46,7 +46,7 @@ OfAction P (actions.Step z) = P z
 OfAction P (Done v) = Unit {0}
 
 -- a leg looks, or pins
-pub by-leg : (P : Step → Type 0) → ((dom : DomId) → P (LookHeader dom)) → ((dom : DomId) (gref : GrantRef) → P (LookControl dom gref)) → ((dom : DomId) (gref : GrantRef) (half : BodyWord) → P (LookBody dom gref half))
+pub by-leg : (P : Step → Type 0) → ((dom : DomId) → P (LookHeader dom)) → ((dom : DomId) (gref : GrantRef) → P (LookControl dom gref)) → ((dom : DomId) (gref : GrantRef) (body_word : BodyWord) → P (LookBody dom gref body_word))
     → ((p : HeldPin) → P (call_steps.Pin p)) → (l : Leg) (at : LegPhase) → P (leg_step l at)
 by-leg P headers looks bodies pins l leg_phases.Header = headers l.dom
 by-leg P headers looks bodies pins l (Look more) = looks l.dom l.gref
@@ -77,10 +77,10 @@ words-of s h xs l legal st = record {
 }
 
 -- what holds for each step that is a call's only one
-pub by-quiet : (P : Step → Type 0) → ((p : HeldPin) (handle : Handle) → P (Unpin p (holders.Mapping handle))) → ((gref : GrantRef) (half : BodyWord) (word : ℕ) → P (StoreBody gref half word)) → ((version frames : ℕ) → P (StoreHeader version frames))
+pub by-quiet : (P : Step → Type 0) → ((p : HeldPin) (handle : Handle) → P (Unpin p (holders.Mapping handle))) → ((gref : GrantRef) (body_word : BodyWord) (word : ℕ) → P (StoreBody gref body_word word)) → ((version frames : ℕ) → P (StoreHeader version frames))
     → ((dom : DomId) (frame off len : ℕ) → P (call_steps.Read dom frame off len) × P (call_steps.Write dom frame off len)) → (step : Step) → IsQuiet step → P step
 by-quiet P unpins bodies headers accesses (Unpin p (holders.Mapping handle)) q = unpins p handle
-by-quiet P unpins bodies headers accesses (StoreBody gref half word) q = bodies gref half word
+by-quiet P unpins bodies headers accesses (StoreBody gref body_word word) q = bodies gref body_word word
 by-quiet P unpins bodies headers accesses (StoreHeader version frames) q = headers version frames
 by-quiet P unpins bodies headers accesses (call_steps.Read dom frame off len) q = (accesses dom frame off len).0
 by-quiet P unpins bodies headers accesses (call_steps.Write dom frame off len) q = (accesses dom frame off len).1
@@ -94,7 +94,7 @@ exchanged-fits word w = cond_both (w == word) Taken (Missed w) (IsExchanged word
 pub seen-fits : (s : Setting) (h : History) (d : DomId) (step : Step) → FitsStep step (seen_by s h d step)
 seen-fits s h d (LookHeader dom) = tt
 seen-fits s h d (LookControl dom gref) = tt
-seen-fits s h d (LookBody dom gref half) = tt
+seen-fits s h d (LookBody dom gref body_word) = tt
 seen-fits s h d (call_steps.Pin q) = exchanged-fits q.word (word_at s h q.dom.0 q.gref.0)
 seen-fits s h d (Exchange gref looked change) = exchanged-fits looked (word_at s h d.0 gref.0)
 seen-fits s h d step = refl

@@ -51,7 +51,7 @@ ids-applied d (call_steps.Pin p) Taken xs = ids-changed xs p.dom.0 (with_slot p.
 ids-applied d (Exchange gref looked change) Taken xs = ids-changed xs d.0 (with_own gref.0 change) (λ x. refl)
 ids-applied d (Unpin p holder) seen xs = ids-changed (changed_in p.dom.0 (with_slot p.gref.0 (Unpinned p.dir)) xs) d.0 (without_holder holder) (kept-id holder)
     ∙ ids-changed xs p.dom.0 (with_slot p.gref.0 (Unpinned p.dir)) (λ x. refl)
-ids-applied d (StoreBody gref half word) seen xs = ids-changed xs d.0 (with_slot gref.0 (Stored half word)) (λ x. refl)
+ids-applied d (StoreBody gref body_word word) seen xs = ids-changed xs d.0 (with_slot gref.0 (Stored body_word word)) (λ x. refl)
 ids-applied d (StoreHeader version frames) seen xs = ids-changed xs d.0 (with_header version frames) (λ x. refl)
 ids-applied d step seen xs = refl
 

@@ -41,8 +41,8 @@ abbrev IsUnpinned : LegNext → Type 0
 IsUnpinned (Pinned p) = ⊥
 IsUnpinned next = Unit {0}
 
-unpinned-not : (k : CallerKnowledge) (d : DomId) (aim : PinPurpose) (l : Leg) (next : LegNext) → IsUnpinned next → IsAtAccess (after_leg k d aim l next) → ⊥
-unpinned-not k d aim l next u a = grind arith
+unpinned-not : (k : CallerKnowledge) (d : DomId) (pin_purpose : PinPurpose) (l : Leg) (next : LegNext) → IsUnpinned next → IsAtAccess (after_leg k d pin_purpose l next) → ⊥
+unpinned-not k d pin_purpose l next u a = grind arith
 
 abbrev TakesPin : LegPhase → Observation → Type 0
 TakesPin (Pinning more word body second) Taken = Unit {0}
@@ -52,15 +52,15 @@ unpinned : (l : Leg) (at : LegPhase) (seen : Observation) → (TakesPin at seen 
 unpinned l at seen n = grind arith
 
 abbrev ComesFromPin : Phase → Observation → Type 0
-ComesFromPin (Walking aim l at) seen = TakesPin at seen
+ComesFromPin (Walking pin_purpose l at) seen = TakesPin at seen
 ComesFromPin phase seen = ⊥
 
-from-leg : (k : CallerKnowledge) (d : DomId) (aim : PinPurpose) (l : Leg) (at : LegPhase) (seen : Observation) → IsAtAccess (after_leg k d aim l (leg_after l at seen)) → TakesPin at seen
-from-leg k d aim l (Pinning more word body second) Taken a = tt
-from-leg k d aim l at seen a = absurd (unpinned-not k d aim l (leg_after l at seen) (unpinned l at seen (λ n. n)) a)
+from-leg : (k : CallerKnowledge) (d : DomId) (pin_purpose : PinPurpose) (l : Leg) (at : LegPhase) (seen : Observation) → IsAtAccess (after_leg k d pin_purpose l (leg_after l at seen)) → TakesPin at seen
+from-leg k d pin_purpose l (Pinning more word body second) Taken a = tt
+from-leg k d pin_purpose l at seen a = absurd (unpinned-not k d pin_purpose l (leg_after l at seen) (unpinned l at seen (λ n. n)) a)
 
 from-pin : (k : CallerKnowledge) (d : DomId) (c : CopyArgs) (phase : Phase) (seen : Observation) → IsSettled (Probe c) phase → IsAtAccess (phase_after k d phase seen) → ComesFromPin phase seen
-from-pin k d c (Walking aim l at) seen s a = from-leg k d aim l at seen a
+from-pin k d c (Walking pin_purpose l at) seen s a = from-leg k d pin_purpose l at seen a
 from-pin k d c (Accessing b source dest) seen s a = s
 from-pin k d c phase seen s a = grind arith
 

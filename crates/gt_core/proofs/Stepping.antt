@@ -85,9 +85,9 @@ module _ (s : Setting) (h : History) (xs ys : List State) (x : State) (c : Under
       (loses-mapping h x.id handle p found) (mapping-agrees h x.id p handle Nothing answer x.mappings m found a.mappings) call (given (Unpin p (holders.Mapping handle)) Nothing)
   step-stands (StoreHeader version frames) i last store call =
       header-stands s h xs ys x version frames answer o' i.st here a r m (header-fits s h xs x.id c.request version frames i.st i.rests.0 i.rests.1) call (given (StoreHeader version frames) Nothing)
-  step-stands (StoreBody gref half word) i last store call = let step : Step = StoreBody gref half word in
+  step-stands (StoreBody gref body_word word) i last store call = let step : Step = StoreBody gref body_word word in
       subst (λ (z : Option Answer). DomainsStand s (stepped x.id step Nothing z ∷ h) (applied x.id step Nothing ys)) (sym (store tt))
-      (store-stands s h xs ys x gref half word o' i.st here a r
+      (store-stands s h xs ys x gref body_word word o' i.st here a r
       (subst (λ (z : Option Answer). CallAgrees s (stepped x.id step Nothing z ∷ h) x.id o' (open_call (stepped x.id step Nothing z ∷ h) x.id.0)) (store tt) call) (given-goes-on x.id step Nothing None h x.given a.given))
   step-stands step i last store call = quiet-stands s (stepped x.id step (seen_by s h x.id step) answer) h xs ys x o' x.given (record { changes = λ r. refl; stores = λ r which. refl; header = refl })
       (record { changes = λ r. refl; pins = λ before ps. refl; unpins = λ pins. refl; maps = m }) refl i.st here a r call (given step _)

@@ -177,10 +177,10 @@ module _ {s : Setting} {h : History} {xs : List State} {x : State} {o : OpenCall
     k = known_at s h x.id
 
     by : (step : Step) → o.step ≡ step → PhaseStands s (stepped x.id step (seen_by s h x.id step) None ∷ h) x.id c.request ((step, seen_by s h x.id step) ∷ reverse c.steps) (next_of s h x.id t.stands.phase step)
-    by (StoreBody gref half word) is = let now : StepsSoFar = (StoreBody gref half word, Nothing) ∷ reverse c.steps in
+    by (StoreBody gref body_word word) is = let now : StepsSoFar = (StoreBody gref body_word word, Nothing) ∷ reverse c.steps in
         by-storing s h x.id c.request (path k x.id c.request) (values c) (StoreLeads s h x.id c.request (values c) (reverse c.steps) now)
         (first-leads s h x.id c.request (values c) (reverse c.steps) now) (second-leads s h x.id c.request (values c) (reverse c.steps) now) t.stands.phase
-        (StoreBody gref half word) t.stands.at.has_shown (t.stands.acts ∙ ap actions.Step is) tt t.stands.at.has_shown t.stands.place
+        (StoreBody gref body_word word) t.stands.at.has_shown (t.stands.acts ∙ ap actions.Step is) tt t.stands.at.has_shown t.stands.place
     by step is = place-stays s (stepped x.id step (seen_by s h x.id step) None) h x.id c.request ((step, seen_by s h x.id step) ∷ reverse c.steps) (next_of s h x.id t.stands.phase step)
         (λ r which. unstored (stepped x.id step (seen_by s h x.id step) None) h x.id.0 r which refl) ((subst (OfStep s h xs x.id c.request (reverse c.steps) t.stands.phase) is each).3 (λ n. n))
 
@@ -243,7 +243,7 @@ module _ (s : Setting) (h : History) (xs : List State) (d : DomId) (r : OpenRequ
   step-safe (Exchange gref looked change) answer i =
       cond_both (word_at s h d.0 gref.0 == looked) Taken (Missed (word_at s h d.0 gref.0)) (λ v. IsSafe s h (stepped d (Exchange gref looked change) v answer))
       (λ is. (can-change s h xs d r shown so_far phase gref looked change i (eqb-true (word_at s h d.0 gref.0) looked is)).safe) (λ is. tt)
-  step-safe (StoreBody gref half word) answer i = store-invalid s h d r gref half word i.rests.0 i.rests.1
+  step-safe (StoreBody gref body_word word) answer i = store-invalid s h d r gref body_word word i.rests.0 i.rests.1
   step-safe (call_steps.Pin p) answer i =
       cond_both (word_at s h p.dom.0 p.gref.0 == p.word) Taken (Missed (word_at s h p.dom.0 p.gref.0)) (λ v. IsSafe s h (stepped d (call_steps.Pin p) v answer)) (λ is. tt) (λ is. tt)
   step-safe step answer i = tt

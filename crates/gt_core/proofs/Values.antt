@@ -20,7 +20,7 @@ use Rattle.gt_model.specs.declared.action.Step.TheVariants as call_steps
 use Rattle.gt_model.specs.declared.request.PinHolder.TheVariants as holders
 use Rattle.gt_model.specs.declared.action.HeaderQuery.TheVariants as queries
 use Rattle.gt_core.proofs.{Phases.OfAction, Phases.IsHere, Phases.makes-same, EachStep.walk-comes, Legs.ComesTo}
-use Rattle.gt_core.proofs.{Legs.IsLegOf, Legs.Words, Aims.pair_of, Aims.leg-here, Phases.words-of, Phases.next_of}
+use Rattle.gt_core.proofs.{Legs.IsLegOf, Legs.Words, PinPurposes.pair_of, PinPurposes.leg-here, Phases.words-of, Phases.next_of}
 use Rattle.gt_core.proofs.{Outcomes.walk-done, Steps.See.table-fits}
 use Rattle.gt_model.specs.declared.action.CallResult.TheVariants.{Mapped}
 use Rattle.gt_model.specs.Path.{place_of}
@@ -89,9 +89,9 @@ at-end Q a v q e = subst (AtEnd Q) e q
 copy-end : (Q : CallResult → Type 0) (v : CallResult) → EndsCopy v → Plain Q → Q v
 copy-end Q v e plain = grind arith
 
-pinned-leg : (s : Setting) (h : History) (d : DomId) (r : OpenRequest) (so_far : StepsSoFar) (aim : PinPurpose) (l : Leg) (at : LegPhase) (m : HeldPin) → Words s h l → IsLegFor (known_at s h d) d r aim l → IsLegOf s h d r l (pair_of d aim) → LegStands s h l so_far at
+pinned-leg : (s : Setting) (h : History) (d : DomId) (r : OpenRequest) (so_far : StepsSoFar) (pin_purpose : PinPurpose) (l : Leg) (at : LegPhase) (m : HeldPin) → Words s h l → IsLegFor (known_at s h d) d r pin_purpose l → IsLegOf s h d r l (pair_of d pin_purpose) → LegStands s h l so_far at
     → leg_after l at (seen_by s h d (leg_step l at)) ≡ Pinned m → (leg_step l at ≡ call_steps.Pin m) × (word_at s h m.dom.0 m.gref.0 ≡ m.word)
-pinned-leg s h d r so_far aim l (Pinning more word body second) m ws is leg a e = by (word_at s h l.dom.0 l.gref.0 == word) refl where
+pinned-leg s h d r so_far pin_purpose l (Pinning more word body second) m ws is leg a e = by (word_at s h l.dom.0 l.gref.0 == word) refl where
   q : HeldPin
   q = held_of l word body second
 
@@ -100,11 +100,11 @@ pinned-leg s h d r so_far aim l (Pinning more word body second) m ws is leg a e 
       let f : Pinned q ≡ Pinned m = sym (ap (λ (b : Bool). leg_after l (Pinning more word body second) (cond b Taken (Missed (word_at s h l.dom.0 l.gref.0)))) same) ∙ e in
       let p : q ≡ m = cc in
       (ap call_steps.Pin p, subst (λ (z : HeldPin). word_at s h z.dom.0 z.gref.0 ≡ z.word) p (eqb-true (word_at s h l.dom.0 l.gref.0) word same))
-  by false same = absurd (subst (ComesTo s h l _ _) e (walk-comes s h d r so_far aim l (Pinning more word body second) ws is leg a same))
-pinned-leg s h d r so_far aim l at m ws is leg a e = absurd (subst (ComesTo s h l _ _) e (walk-comes s h d r so_far aim l at ws is leg a tt))
+  by false same = absurd (subst (ComesTo s h l _ _) e (walk-comes s h d r so_far pin_purpose l (Pinning more word body second) ws is leg a same))
+pinned-leg s h d r so_far pin_purpose l at m ws is leg a e = absurd (subst (ComesTo s h l _ _) e (walk-comes s h d r so_far pin_purpose l at ws is leg a tt))
 
-of-map : (k : CallerKnowledge) (d : DomId) (r : OpenRequest) (aim : PinPurpose) (l : Leg) → IsLegFor k d r aim l → aim ≡ Mapping → (dom : DomId) × (gref : GrantRef) × (flags : ℕ) × (r ≡ Map dom gref flags)
-of-map k d r aim l a is = grind arith
+of-map : (k : CallerKnowledge) (d : DomId) (r : OpenRequest) (pin_purpose : PinPurpose) (l : Leg) → IsLegFor k d r pin_purpose l → pin_purpose ≡ Mapping → (dom : DomId) × (gref : GrantRef) × (flags : ℕ) × (r ≡ Map dom gref flags)
+of-map k d r pin_purpose l a is = grind arith
 
 -- a call in this phase that ends after its step ends like this
 pub call-ends : (s : Setting) (h : History) (xs : List State) (d : DomId) (r : OpenRequest) (shown : List Observation) (so_far : StepsSoFar) (phase : Phase) (step : Step) → IsHere s h xs d r shown so_far phase step
@@ -122,10 +122,10 @@ call-ends s h xs d r shown so_far phase step i = subst (OfAction (Led phase)) i.
   led : (p : Phase) (z : Step) → AtEnd (EndsWith s h d r p z) (action_at d (next_of s h d p z)) → Led p z
   led p z q v n = at-end (EndsWith s h d r p z) _ v q n
 
-  walked : (aim : PinPurpose) (l : Leg) (at : LegPhase) (v : CallResult) → IsLegFor k d r aim l → IsLegOf s h d r l (pair_of d aim) → LegStands s h l so_far at
-      → ((denial : Denial) × (v ≡ Refused denial)) ⊎ ((p : HeldPin) × (v ≡ Mapped p) × (leg_after l at (seen_by s h d (leg_step l at)) ≡ Pinned p) × (aim ≡ Mapping)) → EndsWith s h d r (Walking aim l at) (leg_step l at) v
-  walked aim l at v is leg stands (inl x) = subst (EndsWith s h d r (Walking aim l at) (leg_step l at)) (sym x.1) tt
-  walked aim l at v is leg stands (inr x) = let g = pinned-leg s h d r so_far aim l at x.0 (words-of s h xs l i.legal i.st) is leg stands x.2 in let map = of-map k d r aim l is x.3 in subst (EndsWith s h d r (Walking aim l at) (leg_step l at)) (sym x.1)
+  walked : (pin_purpose : PinPurpose) (l : Leg) (at : LegPhase) (v : CallResult) → IsLegFor k d r pin_purpose l → IsLegOf s h d r l (pair_of d pin_purpose) → LegStands s h l so_far at
+      → ((denial : Denial) × (v ≡ Refused denial)) ⊎ ((p : HeldPin) × (v ≡ Mapped p) × (leg_after l at (seen_by s h d (leg_step l at)) ≡ Pinned p) × (pin_purpose ≡ Mapping)) → EndsWith s h d r (Walking pin_purpose l at) (leg_step l at) v
+  walked pin_purpose l at v is leg stands (inl x) = subst (EndsWith s h d r (Walking pin_purpose l at) (leg_step l at)) (sym x.1) tt
+  walked pin_purpose l at v is leg stands (inr x) = let g = pinned-leg s h d r so_far pin_purpose l at x.0 (words-of s h xs l i.legal i.st) is leg stands x.2 in let map = of-map k d r pin_purpose l is x.3 in subst (EndsWith s h d r (Walking pin_purpose l at) (leg_step l at)) (sym x.1)
       (record { is = g.0; taken = g.1; dom = map.0; gref = map.1; flags = map.2; of_map = map.3; none = ap (λ (z : PinPurpose). last_first (pins_so_far z)) x.3 })
 
   ending : (pins : CallPins) (verdict : CallResult) (held : List HeldPin) → next_to_give held verdict ≡ actions.Step step → (copy : CopyArgs) × IsCopyOf r copy × EndsCopy verdict → Led (Ending pins verdict) step
@@ -143,7 +143,7 @@ call-ends s h xs d r shown so_far phase step i = subst (OfAction (Led phase)) i.
   by (Changing gref change more looked) a b e held = let z = Exchange gref looked change in let Q = EndsWith s h d r (Changing gref change more looked) z in led (Changing gref change more looked) z
       (cond_both (w gref == looked) Taken (Missed (w gref)) (λ v. AtEnd Q (action_at d (phase_after k d (Changing gref change more looked) v))) (λ y read. turn-value s h d r gref change (Some z) a.1)
       (λ y. cond_both (nat_lt 0 more) (Looking gref change (more - 1)) (refused_as d gref N18 (w gref)) (λ p. AtEnd Q (action_at d p)) (λ x. tt) (λ x. tt)))
-  by (Walking aim l at) a b e held = λ v n. walked aim l at v a.1 (leg-here s h d r aim l a.1 held) b.1 (walk-done k d aim l (leg_after l at (seen_by s h d (leg_step l at))) v n)
+  by (Walking pin_purpose l at) a b e held = λ v n. walked pin_purpose l at v a.1 (leg-here s h d r pin_purpose l a.1 held) b.1 (walk-done k d pin_purpose l (leg_after l at (seen_by s h d (leg_step l at))) v n)
   by (Accessing c source dest) a b e held = let z = call_steps.Copy (place_of d c.source source) (place_of d c.dest dest) c.len in
       led (Accessing c source dest) z (give-end (EndsWith s h d r (Accessing c source dest) z) (last_first (record { source = source; dest = dest })) Granted (λ read. copied s h d r c z a.0))
   by (Asking dom queries.Size) a b e held = let t = header_of (header_word (table_at s h dom)) in led (Asking dom queries.Size) (LookHeader dom)

@@ -79,7 +79,7 @@ unfoldable pub use Rattle.gt_model.specs.Written.{zeros}
 pub use Rattle.gt_model.specs.Asking.{SpellsItsEntry, asked, begun_of, bytes_given_by}
 pub use Rattle.gt_calls.specs.{Counting.most_steps, Counting.steps_left, Counting.steps_to_come, Following.FitsNext}
 pub use Rattle.gt_calls.specs.{Following.Goes, Following.GoesOnWith, Following.HoldsAfter, Following.Starts}
-pub use Rattle.gt_calls.specs.{Holding.begun_route, Holding.pins_so_far, Machine.action_at, Machine.after_dest_pin}
+pub use Rattle.gt_calls.specs.{Holding.begun_access_path, Holding.pins_so_far, Machine.action_at, Machine.after_dest_pin}
 pub use Rattle.gt_calls.specs.{Machine.after_leg, Legs.on_control_word, Legs.after_miss, Machine.after_pin_of}
 pub use Rattle.gt_calls.specs.{Machine.after_source_pin, Machine.after_store, Legs.after_words, Machine.at_dest}
 pub use Rattle.gt_calls.specs.{Machine.first_phase, Legs.leg_after, Legs.leg_step, Machine.next_to_give}
@@ -139,7 +139,7 @@ pub use Rattle.gt_model.specs.declared.request.OpenRequest.TheVariants.{Release,
 pub use Rattle.gt_model.specs.declared.request.PinHolder.{PinHolder}
 pub use Rattle.gt_model.specs.declared.request.Request.{Request}
 pub use Rattle.gt_core.specs.{Accesses.AccessedBy, Accesses.IsAdmitted, Accesses.IsLoadOf, Accesses.IsReadable}
-pub use Rattle.gt_core.specs.{Accesses.IsWritOf, Accesses.IsWriting, Accesses.basis_of, Accesses.route_of}
+pub use Rattle.gt_core.specs.{Accesses.IsWritOf, Accesses.IsWriting, Accesses.basis_of, Accesses.access_path_of}
 pub use Rattle.gt_core.specs.{Alike.AreAlike, Alike.AsksKnown, Alike.HappensKnown, Alike.IsKnown, Alike.IsOfKnown}
 pub use Rattle.gt_core.specs.{Alike.SameElement, Alike.SameEvent, Alike.SameHistory, Alike.KeylessItem}
 pub use Rattle.gt_core.specs.{Alike.bare_event, Alike.bare_handle, Alike.bare_happened, Alike.bare_request}

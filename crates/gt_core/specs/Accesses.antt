@@ -10,7 +10,7 @@ use Rattle.gt_model.specs.declared.request.OpenRequest.TheVariants.{Load, Store,
 use Rattle.gt_model.specs.declared.action.Step.{Step}
 use Rattle.gt_model.specs.declared.action.Step.TheVariants as call_steps
 use Rattle.gt_calls.specs.declared.call.Call.{Call}
-use Rattle.gt_calls.specs.Holding.{begun_route}
+use Rattle.gt_calls.specs.Holding.{begun_access_path}
 use Rattle.gt_calls.specs.Standing.{pins_by_call}
 use Rattle.gt_types.specs.declared.places.FrameName.{FrameName}
 use Rattle.gt_frames.specs.declared.writ.WriteBasis.{WriteBasis}
@@ -20,25 +20,25 @@ use Rattle.gt_frames.specs.Frames.{bytes_at}
 use Rattle.gt_frames.specs.Sets.{FrameSet, frame_at, has_range, admits, AreKept, WritesTo}
 use Rattle.gt_core.specs.States.{State}
 
--- the right of a write by a route: the writer owns the frame, or the entries of the route's pins grant it
+-- the right of a write by an access path: the writer owns the frame, or the entries of the access path's pins grant it
 abbrev pub basis_of : AccessPath → WriteBasis
 basis_of Own = Owned
 basis_of (Direct p) = Granted p.entry
 basis_of (Through via p) = Forwarded via.entry via.dom p.entry
 
--- the route by which a call writes: by the pin of a store's mapping, or by those of a copy's destination; otherwise
+-- the access path by which a call writes: by the pin of a store's mapping, or by those of a copy's destination; otherwise
 -- to the caller's own frame
-abbrev pub route_of : HandleMap HeldPin → Call → AccessPath
-route_of mappings call = by call.request
+abbrev pub access_path_of : HandleMap HeldPin → Call → AccessPath
+access_path_of mappings call = by call.request
   where
     by : OpenRequest → AccessPath
-    by (Store handle off len) = begun_route (value_of mappings handle)
+    by (Store handle off len) = begun_access_path (value_of mappings handle)
     by (Copy c) = (pins_by_call call).dest
     by request = Own
 
--- the writ is that of the domain's call: the caller writes, by the route of the call
+-- the writ is that of the domain's call: the caller writes, by the access path of the call
 abbrev pub IsWritOf : State → Call → Writ → Type 0
-IsWritOf d call w = (w.writer ≡ call.caller) × (w.basis ≡ basis_of (route_of d.mappings call))
+IsWritOf d call w = (w.writer ≡ call.caller) × (w.basis ≡ basis_of (access_path_of d.mappings call))
 
 -- the step writes bytes
 abbrev pub IsWriting : Step → Type 0

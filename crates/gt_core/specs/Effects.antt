@@ -68,7 +68,7 @@ abbrev pub applied : DomId → Step → Observation → List State → List Stat
 applied d (Pin p) Taken xs = changed_in p.dom.0 (with_slot p.gref.0 (Pinned p.dir)) xs
 applied d (Unpin p holder) seen xs =
     changed_in d.0 (without_holder holder) (changed_in p.dom.0 (with_slot p.gref.0 (Unpinned p.dir)) xs)
-applied d (StoreBody gref half word) seen xs = changed_in d.0 (with_slot gref.0 (Stored half word)) xs
+applied d (StoreBody gref body_word word) seen xs = changed_in d.0 (with_slot gref.0 (Stored body_word word)) xs
 applied d (StoreHeader version frames) seen xs = changed_in d.0 (with_header version frames) xs
 applied d (Exchange gref looked change) Taken xs = changed_in d.0 (with_own gref.0 change) xs
 applied d step seen xs = xs

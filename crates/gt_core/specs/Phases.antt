@@ -89,7 +89,7 @@ PhaseStands s h d request so_far (Looking gref change more) =
     (misses so_far + more ≡ MORE_TRIES) × (is_in_body so_far ≡ false)
 PhaseStands s h d request so_far (Changing gref change more looked) =
     (misses so_far + more ≡ MORE_TRIES) × (looked_at so_far ≡ Some looked)
-PhaseStands s h d request so_far (Walking aim l at) = (domain_of s.domains l.dom ≢ None) × LegStands s h l so_far at
+PhaseStands s h d request so_far (Walking pin_purpose l at) = (domain_of s.domains l.dom ≢ None) × LegStands s h l so_far at
 PhaseStands s h d request so_far (Accessing copy source dest) = Unit {0}
 PhaseStands s h d request so_far (Asking dom question) = AsksTable d request dom question
 PhaseStands s h d request so_far (Last step verdict) = EndsAfter request step verdict

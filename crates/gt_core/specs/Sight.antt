@@ -70,11 +70,11 @@ body_seen (x ∷ xs) d r which = if x.id.0 == d then body_in x.slots r which els
 abbrev pub sees : List State → DomId → Step → Observation
 sees xs d (LookHeader dom) = Word (header_seen xs dom.0)
 sees xs d (LookControl dom gref) = Word (control_seen xs dom.0 gref.0)
-sees xs d (LookBody dom gref half) = Word (body_seen xs dom.0 gref.0 half)
+sees xs d (LookBody dom gref body_word) = Word (body_seen xs dom.0 gref.0 body_word)
 sees xs d (Pin p) = exchange_sees (control_seen xs p.dom.0 p.gref.0) p.word
 sees xs d (Exchange gref looked change) = exchange_sees (control_seen xs d.0 gref.0) looked
 sees xs d (Unpin p holder) = Nothing
-sees xs d (StoreBody gref half word) = Nothing
+sees xs d (StoreBody gref body_word word) = Nothing
 sees xs d (StoreHeader version frames) = Nothing
 sees xs d (call_steps.Read dom frame off len) = Nothing
 sees xs d (call_steps.Write dom frame off len) = Nothing

@@ -89,13 +89,20 @@ pub fn apply(
             );
             forget(config, domains, actor, holder);
         }
-        (Step::StoreBody { gref, half, word }, _) => {
+        (
+            Step::StoreBody {
+                gref,
+                body_word,
+                word,
+            },
+            _,
+        ) => {
             change_slot(
                 config,
                 domains,
                 actor,
                 gref,
-                CountsChange::Stored(half, word),
+                CountsChange::Stored(body_word, word),
             );
         }
         (Step::StoreHeader { version, frames }, _) => {

@@ -71,10 +71,10 @@ impl PinCounts {
     }
 
     /// Returns one of the body words.
-    pub fn body(self, half: BodyWord) -> u64
-        ensures { result ≡ slot_body (Some self) half }
+    pub fn body(self, body_word: BodyWord) -> u64
+        ensures { result ≡ slot_body (Some self) body_word }
     {
-        match half {
+        match body_word {
             BodyWord::First => self.first,
             BodyWord::Second => self.second,
         }

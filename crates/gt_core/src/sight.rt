@@ -33,11 +33,11 @@ fn control_word(own: &[OwnerEntry], slots: &[PinCounts], gref: GrantRef) -> u64
     Control::of_entry(row.entry(), row.generation(), slot.reads(), slot.writes()).pack()
 }
 
-fn body_word(slots: &[PinCounts], gref: GrantRef, half: BodyWord) -> u64
-    ensures { result ≡ body_in slots.now gref.0 half }
+fn body_in_slots(slots: &[PinCounts], gref: GrantRef, body_word: BodyWord) -> u64
+    ensures { result ≡ body_in slots.now gref.0 body_word }
 {
     let slot = slot_at(slots, gref);
-    slot.body(half)
+    slot.body(body_word)
 }
 
 fn look_header(config: &Roster, domains: &[DomainState], dom: DomId) -> u64
@@ -71,15 +71,15 @@ fn look_body(
     domains: &[DomainState],
     dom: DomId,
     gref: GrantRef,
-    half: BodyWord,
+    body_word: BodyWord,
 ) -> u64
     requires { IsPlaced config.now.domains.items domains.now }
-    ensures { result ≡ body_seen domains.now dom.0 gref.0 half }
+    ensures { result ≡ body_seen domains.now dom.0 gref.0 body_word }
 {
     match find(config, domains, dom) {
         Some(at) => {
             let domain = &domains[at];
-            body_word(&domain.slots, gref, half)
+            body_in_slots(&domain.slots, gref, body_word)
         }
         None => 0,
     }
@@ -106,9 +106,11 @@ pub fn see(config: &Roster, domains: &[DomainState], actor: DomId, step: Step) -
         Step::LookControl { dom, gref } => Observation::Word(look_control(
             config, domains, dom, gref,
         )),
-        Step::LookBody { dom, gref, half } => {
-            Observation::Word(look_body(config, domains, dom, gref, half))
-        }
+        Step::LookBody {
+            dom,
+            gref,
+            body_word,
+        } => { Observation::Word(look_body(config, domains, dom, gref, body_word)) }
         Step::Pin { held } => exchange_sees(
             look_control(config, domains, held.dom, held.gref),
             held.word,

@@ -71,10 +71,10 @@ fn table_header(version: u32, frames: u32) -> Header
 }
 
 // Returns the right of a write by this route.
-fn basis_of(route: AccessPath) -> WriteBasis
-    ensures { result ≡ basis_of route }
+fn basis_of(access_path: AccessPath) -> WriteBasis
+    ensures { result ≡ basis_of access_path }
 {
-    match route {
+    match access_path {
         AccessPath::Own => WriteBasis::Owned,
         AccessPath::Direct(held) => WriteBasis::Granted(held.entry),
         AccessPath::Through { via, held } => WriteBasis::Forwarded {
@@ -87,7 +87,7 @@ fn basis_of(route: AccessPath) -> WriteBasis
 
 impl DomainState {
     ghost use Rattle.std.specs.Prelude.{◌≡◌, ◌<◌, ◌+◌, ◌^◌, IfOk, OnErr, OnOk, Some, None, true, slice_get, vec_len};
-    ghost use Rattle.gt_core.specs.Accesses.{route_of, IsWritOf};
+    ghost use Rattle.gt_core.specs.Accesses.{access_path_of, IsWritOf};
     ghost use Rattle.gt_core.specs.States.{first_state, asked_in, asks_memory, kept_by, IsMapping, IsLoading};
     ghost use Rattle.gt_core.specs.Shown.{shown_in};
     ghost use Rattle.gt_core.specs.Effects.{Adds, with_slot, with_own, with_header, with_underway, with_open_call};
@@ -184,9 +184,9 @@ impl DomainState {
         handle
     }
 
-    // Returns the route by which its call writes.
-    fn route(&self, call: Call) -> AccessPath
-        ensures { result ≡ route_of self.now.mappings call }
+    // Returns the access path by which its call writes.
+    fn access_path(&self, call: Call) -> AccessPath
+        ensures { result ≡ access_path_of self.now.mappings call }
     {
         match call.request {
             OpenRequest::Store { handle, .. } => match self.mappings.get(handle) {
@@ -205,7 +205,7 @@ impl DomainState {
     {
         Writ {
             writer: call.caller,
-            basis: basis_of(self.route(call)),
+            basis: basis_of(self.access_path(call)),
         }
     }
 

@@ -12,10 +12,10 @@ use Rattle.gt_explore_replay.specs.declared.replay.Moved.TheVariants.{Began, Pas
 abbrev pub owner_of : DomId → Step → DomId
 owner_of dom (call_steps.LookHeader owner) = owner
 owner_of dom (call_steps.LookControl owner gref) = owner
-owner_of dom (call_steps.LookBody owner gref half) = owner
+owner_of dom (call_steps.LookBody owner gref body_word) = owner
 owner_of dom (call_steps.Pin p) = p.dom
 owner_of dom (call_steps.Unpin p holder) = p.dom
-owner_of dom (call_steps.StoreBody gref half word) = dom
+owner_of dom (call_steps.StoreBody gref body_word word) = dom
 owner_of dom (call_steps.Exchange gref looked change) = dom
 owner_of dom (call_steps.StoreHeader version frames) = dom
 owner_of dom (call_steps.Read owner frame off len) = owner

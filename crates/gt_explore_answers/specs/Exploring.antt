@@ -45,7 +45,7 @@ is_call (Await flag) = false
 -- the script has a call on the line of a condition, or a domain of that number
 abbrev pub is_askable : RunContents → ConditionScope → Bool
 is_askable c of_all = true
-is_askable c (of_line number) = list_any (λ t. is_call t.deed && bytes_eq (decimal t.line) number) c.tasks
+is_askable c (of_line number) = list_any (λ t. is_call t.run_action && bytes_eq (decimal t.line) number) c.tasks
 is_askable c (of_domain number) = list_any (λ d. bytes_eq (decimal d.id.0) number) c.head.domains
 
 -- the fault of a condition about a line or a domain that the script does not have

@@ -19,7 +19,7 @@ use Rattle.gt_explore_answers.specs.declared.given.AnswerPlace.{AnswerPlace}
 
 -- the place of the answer to a task: its line and its domain, if it is a call of this domain
 abbrev pub answer_places_of : DomId → RunTask → List AnswerPlace
-answer_places_of dom t = if (t.dom.0 == dom.0) && is_call t.deed then record { line = t.line; dom = dom } ∷ [] else []
+answer_places_of dom t = if (t.dom.0 == dom.0) && is_call t.run_action then record { line = t.line; dom = dom } ∷ [] else []
 
 -- the places of all answers, in the order of a text: those of the first domain, in the order of its list, and so on
 abbrev pub answer_places : RunContents → List AnswerPlace

@@ -61,4 +61,4 @@ action_name (Await flag) = codes "await"
 -- what a domain begins: the call of a line, or the release of a mapping at the end of its list
 abbrev pub begun_name : Option RunTask → List ℕ
 begun_name None = codes "release"
-begun_name (Some t) = action_name t.deed
+begun_name (Some t) = action_name t.run_action

@@ -97,11 +97,11 @@ unfoldable pub step_text : TraceForm → DomId → Step → List ℕ
 step_text form dom (call_steps.LookHeader owner) =
     move_part form (codes "H") ++ number_part form (codes "owner") (decimal owner.0)
 step_text form dom (call_steps.LookControl owner gref) = look_text form (codes "C") owner gref
-step_text form dom (call_steps.LookBody owner gref half) = look_text form (look_letters half) owner gref
+step_text form dom (call_steps.LookBody owner gref body_word) = look_text form (look_letters body_word) owner gref
 step_text form dom (call_steps.Pin p) = pin_text form (codes "P") p ++ word_part form (codes "from") p.word
 step_text form dom (call_steps.Unpin p holder) = pin_text form (codes "U") p
-step_text form dom (call_steps.StoreBody gref half word) =
-    move_part form (store_letters half) ++ entry_part form dom gref ++ word_part form (codes "word") word
+step_text form dom (call_steps.StoreBody gref body_word word) =
+    move_part form (store_letters body_word) ++ entry_part form dom gref ++ word_part form (codes "word") word
 step_text form dom (call_steps.Exchange gref looked change) = exchange_text form dom gref looked change
 step_text form dom (call_steps.StoreHeader version frames) = header_text form dom version frames
 step_text form dom (call_steps.Read owner frame off len) =

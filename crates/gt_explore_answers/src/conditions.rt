@@ -40,10 +40,10 @@ pub fn is_call(action: &RunAction) -> bool
 
 // Returns whether one of these tasks is a call on the line of this number.
 fn has_call(alloc: Global, tasks: &[RunTask], number: &[u8]) -> Result<bool, AllocError>
-    ensures { IfOk result (λ b. b ≡ list_any (λ t. is_call t.deed && bytes_eq (decimal t.line) number.now) tasks.now) }
+    ensures { IfOk result (λ b. b ≡ list_any (λ t. is_call t.run_action && bytes_eq (decimal t.line) number.now) tasks.now) }
 {
     'tasks: for task in tasks {
-        if is_call(&task.deed) && is_written(alloc, task.line, number)? {
+        if is_call(&task.run_action) && is_written(alloc, task.line, number)? {
             return Ok(true);
         }
     }

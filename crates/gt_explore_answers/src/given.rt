@@ -34,7 +34,7 @@ fn push_places(
     ensures { OnOk result (places.new.items ≡ places.old.items ++ flat_map (answer_places_of dom) tasks.now) }
 {
     'tasks: for task in tasks {
-        if task.dom.0 == dom.0 && is_call(&task.deed) {
+        if task.dom.0 == dom.0 && is_call(&task.run_action) {
             places.push(AnswerPlace {
                 line: task.line,
                 dom,

@@ -74,10 +74,10 @@ abbrev pub opened_course : Course → List RunTask → RunTask → ScriptCall �
 opened_course k ts t call q = record k { tasks = ts; opened = calling t.line call (given_up q) }
 
 -- it is where the run has brought it, if the call asks the same but for the handle
-pub shows-opened : (s : Setting) (h : History) (tasks ts : List RunTask) (k : Course) (a : Actor) (t : RunTask) (call : ScriptCall) (q p : Request) (place : Handle) (now : Call) (step : Step) → ShowsCalls s h tasks k a → k.opened ≡ resting → k.tasks ≡ t ∷ ts → t.dom ≡ k.dom → t.deed ≡ Do call
+pub shows-opened : (s : Setting) (h : History) (tasks ts : List RunTask) (k : Course) (a : Actor) (t : RunTask) (call : ScriptCall) (q p : Request) (place : Handle) (now : Call) (step : Step) → ShowsCalls s h tasks k a → k.opened ≡ resting → k.tasks ≡ t ∷ ts → t.dom ≡ k.dom → t.run_action ≡ Do call
     → MakesRequest k.named k.dom call q → asked p ≡ asked_under place (asked q) → AsksByPlace (handles_at h k.dom) place (asked q) → OpensAsRun (known_by_place s h k.dom) k.dom p now step
     → ShowsCalls s (began k.dom q ∷ h) tasks (opened_course k ts t call q) (opened_actor a now step)
-shows-opened s h tasks ts k a t call q p place now step show rest left dom deed says asks by_place is =
+shows-opened s h tasks ts k a t call q p place now step show rest left dom run_action says asks by_place is =
     let d = k.dom in let g : History = began d q ∷ h in let same = begun-same s h d q in
     let n = next-task a.next tasks t ts (sym left ∙ show.left) in
     let few : maps_answered_at h d.0 + 0 ≤ a.next = subst (λ (z : Opened). maps_answered_at h d.0 + tasks_open z ≤ a.next) rest show.few in
@@ -99,7 +99,7 @@ shows-opened s h tasks ts k a t call q p place now step show rest left dom deed 
               follows = subst (λ (z : CallerKnowledge). path z d now.request [] ≡ Some (actions.Step step)) (sym (same-by-place s h g d same))
                   (ap (λ (r : OpenRequest). path (known_by_place s h d) d r []) is.asks ∙ is.follows);
             },
-            record { place = a.next; task_is = refl; last = (let e : suc a.next ≡ a.next + 1 = omega arith in e); of_task = t; there = n.0; dom_is = dom; line_is = refl; deed_is = deed },
+            record { place = a.next; task_is = refl; last = (let e : suc a.next ≡ a.next + 1 = omega arith in e); of_task = t; there = n.0; dom_is = dom; line_is = refl; action_is = run_action },
             record { named = k.named; request = q; makes = says; asks = refl; given = refl; lost_is = refl },
             rests s h tasks k a.next k.opened (open_call h d.0) a.«open» rest show.opens ∙ sym (same-handles s h g d same),
           );

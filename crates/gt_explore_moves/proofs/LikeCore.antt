@@ -51,7 +51,7 @@ seen-bare s h d z = refl
 seen-at : (s : Setting) (h : History) (d : DomId) (z : Step) → IsRun s h → seen_by s (bare h) d z ≡ seen_by s h d z
 seen-at s h d (LookHeader dom) run = ap (λ (x : Header). Word (header_word x)) ((bared h).table s dom)
 seen-at s h d (LookControl dom gref) run = ap (λ (w : ℕ). Word w) (word-bare s h dom.0 gref.0 run)
-seen-at s h d (LookBody dom gref half) run = ap (λ (w : ℕ). Word w) ((bared h).body dom.0 gref.0 half)
+seen-at s h d (LookBody dom gref body_word) run = ap (λ (w : ℕ). Word w) ((bared h).body dom.0 gref.0 body_word)
 seen-at s h d (call_steps.Pin p) run = ap (λ (w : ℕ). exchange_sees w p.word) (word-bare s h p.dom.0 p.gref.0 run)
 seen-at s h d (Exchange gref looked change) run = ap (λ (w : ℕ). exchange_sees w looked) (word-bare s h d.0 gref.0 run)
 seen-at s h d z run = refl
@@ -167,8 +167,8 @@ taken-ends : (k : CallerKnowledge) (way : Continuation) (d : DomId) (r : OpenReq
     → action_at d phase ≡ actions.Step (Exchange gref looked change) → (v : CallResult) × (action_at d (phase_after k d phase Taken) ≡ Done v)
 taken-ends k way d r shown (Exchanging g l c) gref looked change a e = (Granted, refl)
 taken-ends k way d r shown (Changing g c more l) gref looked change a e = (Granted, refl)
-taken-ends k way d r shown (Walking aim l at) gref looked change a e =
-    absurd (by-leg (λ (y : Step). y ≡ Exchange gref looked change → ⊥) (λ dom f. cc) (λ dom g f. cc) (λ dom g half f. cc) (λ q f. cc) l at (makes-same _ _ e))
+taken-ends k way d r shown (Walking pin_purpose l at) gref looked change a e =
+    absurd (by-leg (λ (y : Step). y ≡ Exchange gref looked change → ⊥) (λ dom f. cc) (λ dom g f. cc) (λ dom g body_word f. cc) (λ q f. cc) l at (makes-same _ _ e))
 taken-ends k way d r shown (Ending pins verdict) gref looked change a e =
     absurd (by-giving (λ (y : Step). y ≡ Exchange gref looked change → ⊥) (λ q n f. cc) (last_first pins) verdict (Exchange gref looked change) e refl)
 taken-ends k way d r shown (Last last verdict) gref looked change a e = absurd (subst IsQuiet (makes-same last (Exchange gref looked change) e) a.0)

@@ -86,7 +86,7 @@ module _ (s : Setting) (h : History) (scene : SearchContext) (place : ℕ) (text
         actor = b;
         becomes = becomes;
         shows = subst (ShowsCalls s (beginning k.dom q None ∷ h) (tasks_at scene place) (course_after texts t.line call (given_up q) (record k { tasks = ts }) None)) (sym b-is)
-            (shows-opened s h (tasks_at scene place) ts k a t call q p handle now step show next.rest next.next next.dom next.deed says asks by_place is);
+            (shows-opened s h (tasks_at scene place) ts k a t call q p handle now step show next.rest next.next next.dom next.run_action says asks by_place is);
         ground = ground;
         told = told;
       })

@@ -60,7 +60,7 @@ use Rattle.gt_explore_moves.proofs.HandlesAnswered.{after-dom, back-answered, ba
 use Rattle.gt_explore_moves.proofs.HandlesAnswered.{line-answered}
 use Rattle.gt_explore_moves.proofs.MappingFound.{get-at}
 use Rattle.gt_explore_moves.proofs.ViaTasks.{said-of-script, task-vias}
-use Rattle.gt_explore_moves.specs.Transitive.{BeginsOfScript, IsOfScript, call_grants_via, deed_grants_via}
+use Rattle.gt_explore_moves.specs.Transitive.{BeginsOfScript, IsOfScript, call_grants_via, action_grants_via}
 use Rattle.gt_explore_replay.proofs.Whole.{raised_or}
 use Rattle.gt_explore_moves.proofs.StateComesOn.{comes-event, comes-quiet, domain-at, of-run, raised-here}
 use Rattle.gt_explore_moves.proofs.StateComesOn.{raised-still, table-at, task-below, task-own}
@@ -218,9 +218,9 @@ module _ (c : RunContents) (scene : SearchContext) (hs : List Happening) (ks : L
         (subst (λ (o : Opened). OpenLeads (type_names c.head) k o choice x j) rest.0 leads)
 
     -- before this task
-    task-leads : (choice : ℕ) (x : Happening) (j : Course) (task : RunTask) (deed : RunAction) → slice_get tasks a.next ≡ Some task → task.deed ≡ deed → CourseLeads (type_names c.head) k choice x j
-        → ActionLeads (type_names c.head) k task.line (drop (suc a.next) tasks) deed x j
-    task-leads choice x j task deed here does leads =
+    task-leads : (choice : ℕ) (x : Happening) (j : Course) (task : RunTask) (run_action : RunAction) → slice_get tasks a.next ≡ Some task → task.run_action ≡ run_action → CourseLeads (type_names c.head) k choice x j
+        → ActionLeads (type_names c.head) k task.line (drop (suc a.next) tasks) run_action x j
+    task-leads choice x j task run_action here does leads =
         subst (λ (d : RunAction). ActionLeads (type_names c.head) k task.line (drop (suc a.next) tasks) d x j) does
         (rest-leads choice x j (task ∷ drop (suc a.next) tasks) (drop_here tasks a.next task here) leads).1
 
@@ -235,26 +235,26 @@ module _ (c : RunContents) (scene : SearchContext) (hs : List Happening) (ks : L
     begins q (elements.Item i) may so = let same = beginning-is k.dom q i may.1 in so i refl same (subst (λ (z : Item). IsRight s h z) same may.2)
 
     -- the call of its next line begins
-    pub line-begins : (new : SearchState) (led : TurnResult) (choice : ℕ) (x : Happening) (j : Course) (task : RunTask) (call : ScriptCall) → slice_get tasks a.next ≡ Some task → task.deed ≡ Do call → FitsSaid call
+    pub line-begins : (new : SearchState) (led : TurnResult) (choice : ℕ) (x : Happening) (j : Course) (task : RunTask) (call : ScriptCall) → slice_get tasks a.next ≡ Some task → task.run_action ≡ Do call → FitsSaid call
         → BeginMeets {E = Unit {0}} scene place task call old new (Ok led) → CourseLeads (type_names c.head) k choice x j → CanComeNext s hs x → Comes new led x j
     line-begins new led choice x j task call here does fits meets leads may =
         let left = drop (suc a.next) tasks in
-        let deed = task-leads choice x j task (Do call) here does leads in
-        let q = deed.0 in let e = deed.1 in let says = deed.2 in
-        begins {P = Comes new led x j} q e (subst (λ (z : Happening). CanComeNext s hs z) deed.3 may) (λ i e-is same right.
+        let run_action = task-leads choice x j task (Do call) here does leads in
+        let q = run_action.0 in let e = run_action.1 in let says = run_action.2 in
+        begins {P = Comes new led x j} q e (subst (λ (z : Happening). CanComeNext s hs z) run_action.3 may) (λ i e-is same right.
         let answer = i.answer in let one = beginning k.dom q answer in
-        let of-script : call_grants_via call ≡ true → scene.vias ≡ true = λ grants. task-vias c scene is place a.next task here (ap deed_grants_via does ∙ grants) in
+        let of-script : call_grants_via call ≡ true → scene.vias ≡ true = λ grants. task-vias c scene is place a.next task here (ap action_grants_via does ∙ grants) in
         let table = table-at c scene hs ks old place k a is shows at there in
-        let next : IsNextCall k task left call = record { rest = rest.0; next = task-next task here; dom = task-own c scene hs ks old place k a is shows at there a.next task here; deed = does } in
+        let next : IsNextCall k task left call = record { rest = rest.0; next = task-next task here; dom = task-own c scene hs ks old place k a is shows at there a.next task here; run_action = does } in
         let moved = meets s h k left a q table.0 answer there table.1 show table.2 next says right in
         let after : course_after scene.types.items task.line call (given_up q) (record k { tasks = left }) answer ≡ j =
         ap (λ (types : List (List ℕ)). course_after types task.line call (given_up q) (record k { tasks = left }) answer) is.types
-        ∙ sym (deed.4 ∙ ap (λ (z : Element). course_after (type_names c.head) task.line call (given_up q) (record k { tasks = left }) (answer_in z)) e-is) in
+        ∙ sym (run_action.4 ∙ ap (λ (z : Element). course_after (type_names c.head) task.line call (given_up q) (record k { tasks = left }) (answer_in z)) e-is) in
         let dom : j.dom ≡ k.dom = ap (λ (z : Course). z.dom) (sym after) ∙ after-dom scene.types.items task.line call (given_up q) (record k { tasks = left }) answer in
         let answered = subst (WasAnsweredAll (one ∷ h)) after (line-answered scene.types.items task.line call (given_up q) h (record k { tasks = left }) one answer (left-answered h k left known) refl refl) in
         let came = begun-to new led q answer j right (asks_answered h k.named k.dom call q known.named says) (fits k.named k.dom q says) (said-of-script scene.vias k.named k.dom call q says of-script) dom answered
         (subst (λ (z : Course). MovesAsRun s (one ∷ h) tasks a k z old new place led) after moved) in
-        subst (λ (z : Happening). Comes new led z j) (sym (deed.3 ∙ ap (λ (z : Element). did (Begin k.dom q) z) (e-is ∙ ap (λ (z : Item). elements.Item z) same))) came)
+        subst (λ (z : Happening). Comes new led z j) (sym (run_action.3 ∙ ap (λ (z : Element). did (Begin k.dom q) z) (e-is ∙ ap (λ (z : Item). elements.Item z) same))) came)
 
     -- at the end of its list it begins to give a mapping back
     pub back-begins : (new : SearchState) (led : TurnResult) (choice : ℕ) (x : Happening) (j : Course) → slice_get tasks a.next ≡ None
@@ -275,25 +275,25 @@ module _ (c : RunContents) (scene : SearchContext) (hs : List Happening) (ks : L
         subst (λ (z : Happening). Comes new led z j) (sym (gives.3 ∙ ap (λ (z : Element). did (Begin k.dom q) z) (e-is ∙ ap (λ (z : Item). elements.Item z) same))) came)
 
     -- it raises a flag
-    pub flag-raised : (new : SearchState) (led : TurnResult) (choice : ℕ) (x : Happening) (j : Course) (task : RunTask) (flag : ℕ) → slice_get tasks a.next ≡ Some task → task.deed ≡ Tell flag
+    pub flag-raised : (new : SearchState) (led : TurnResult) (choice : ℕ) (x : Happening) (j : Course) (task : RunTask) (flag : ℕ) → slice_get tasks a.next ≡ Some task → task.run_action ≡ Tell flag
         → RaiseMeets scene place flag old new led → CourseLeads (type_names c.head) k choice x j → Comes new led x j
     flag-raised new led choice x j task flag here does meets leads =
         let left = drop (suc a.next) tasks in
-        let deed : (x ≡ raised k.dom flag) × (j ≡ record k { tasks = left }) = task-leads choice x j task (Tell flag) here does leads in
+        let run_action : (x ≡ raised k.dom flag) × (j ≡ record k { tasks = left }) = task-leads choice x j task (Tell flag) here does leads in
         let below : flag < c.flags = subst (IsBelow c.flags) does (task-below c scene hs ks old place k a is shows at there a.next task here) in
         let fits : flag < length old.told.items = subst (λ (n : ℕ). flag < n) (sym shows.flags) below in
         let moved = meets s h k task left a there show rest.0 (task-next task here) fits in (
-          subst (λ (z : TurnResult). Grows z k.text j.text) (sym moved.0) (ap (λ (z : Course). z.text) deed.1),
-          comes-quiet c scene hs ks old place k a is shows at there new x j moved.2.actor (subst IsQuiet (sym deed.0) (tells k.dom flag)) moved.2.becomes (ap (λ (z : Course). z.dom) deed.1)
-              (subst (λ (z : Course). ShowsCalls s h tasks z moved.2.actor) (sym deed.1) moved.2.shows)
-              (subst (WasAnsweredAll h) (sym deed.1) (left-answered h k left known)) moved.2.ground
+          subst (λ (z : TurnResult). Grows z k.text j.text) (sym moved.0) (ap (λ (z : Course). z.text) run_action.1),
+          comes-quiet c scene hs ks old place k a is shows at there new x j moved.2.actor (subst IsQuiet (sym run_action.0) (tells k.dom flag)) moved.2.becomes (ap (λ (z : Course). z.dom) run_action.1)
+              (subst (λ (z : Course). ShowsCalls s h tasks z moved.2.actor) (sym run_action.1) moved.2.shows)
+              (subst (WasAnsweredAll h) (sym run_action.1) (left-answered h k left known)) moved.2.ground
               (ap (λ (l : List Bool). length l) moved.1 ∙ length-set old.told.items flag true)
               (λ f before. ap (λ (l : List Bool). slice_get l f) moved.1 ∙ elim (raised_or hs x f before) [
                 | inl was ↦ set-keeps old.told.items flag f (shows.told f was)
-                | inr (d, same) ↦ subst (λ (n : ℕ). slice_get (set old.told.items flag true) n ≡ Some true) (one-flag k.dom d flag f (sym deed.0 ∙ same)) (set-there old.told.items flag fits)
+                | inr (d, same) ↦ subst (λ (n : ℕ). slice_get (set old.told.items flag true) n ≡ Some true) (one-flag k.dom d flag f (sym run_action.0 ∙ same)) (set-there old.told.items flag fits)
               ])
               (λ f told. elim (set-was old.told.items flag f (ap (λ (l : List Bool). slice_get l f) (sym moved.1) ∙ told)) [
-                | inl same ↦ raised-here hs x k.dom f (deed.0 ∙ ap (λ (n : ℕ). raised k.dom n) (sym same))
+                | inl same ↦ raised-here hs x k.dom f (run_action.0 ∙ ap (λ (n : ℕ). raised k.dom n) (sym same))
                 | inr was ↦ raised-still hs x f (shows.heard f was)
               ]),
         )
@@ -302,21 +302,21 @@ module _ (c : RunContents) (scene : SearchContext) (hs : List Happening) (ks : L
         one-flag d e m n same = cc
 
     -- it goes past a flag
-    pub flag-passed : (new : SearchState) (led : TurnResult) (choice : ℕ) (x : Happening) (j : Course) (task : RunTask) (flag : ℕ) → slice_get tasks a.next ≡ Some task → task.deed ≡ Await flag
+    pub flag-passed : (new : SearchState) (led : TurnResult) (choice : ℕ) (x : Happening) (j : Course) (task : RunTask) (flag : ℕ) → slice_get tasks a.next ≡ Some task → task.run_action ≡ Await flag
         → PassMeets scene place flag old new led → CourseLeads (type_names c.head) k choice x j → CanComeNext s hs x → Comes new led x j
     flag-passed new led choice x j task flag here does meets leads may =
         let left = drop (suc a.next) tasks in
-        let deed : (x ≡ passed k.dom flag) × (j ≡ record k { tasks = left }) = task-leads choice x j task (Await flag) here does leads in
-        let before : IsRaisedBefore (length hs) flag hs = subst (λ (z : Happening). CanComeNext s hs z) deed.0 may in
+        let run_action : (x ≡ passed k.dom flag) × (j ≡ record k { tasks = left }) = task-leads choice x j task (Await flag) here does leads in
+        let before : IsRaisedBefore (length hs) flag hs = subst (λ (z : Happening). CanComeNext s hs z) run_action.0 may in
         let moved = meets s h k task left a there show rest.0 (task-next task here) (shows.told flag before) in (
-          subst (λ (z : TurnResult). Grows z k.text j.text) (sym moved.0) (ap (λ (z : Course). z.text) deed.1),
-          comes-quiet c scene hs ks old place k a is shows at there new x j moved.2.actor (subst IsQuiet (sym deed.0) (waits k.dom flag)) moved.2.becomes (ap (λ (z : Course). z.dom) deed.1)
-              (subst (λ (z : Course). ShowsCalls s h tasks z moved.2.actor) (sym deed.1) moved.2.shows)
-              (subst (WasAnsweredAll h) (sym deed.1) (left-answered h k left known)) moved.2.ground
+          subst (λ (z : TurnResult). Grows z k.text j.text) (sym moved.0) (ap (λ (z : Course). z.text) run_action.1),
+          comes-quiet c scene hs ks old place k a is shows at there new x j moved.2.actor (subst IsQuiet (sym run_action.0) (waits k.dom flag)) moved.2.becomes (ap (λ (z : Course). z.dom) run_action.1)
+              (subst (λ (z : Course). ShowsCalls s h tasks z moved.2.actor) (sym run_action.1) moved.2.shows)
+              (subst (WasAnsweredAll h) (sym run_action.1) (left-answered h k left known)) moved.2.ground
               (ap (λ w. length w.items) moved.1)
               (λ f was. ap (λ w. slice_get w.items f) moved.1 ∙ elim (raised_or hs x f was) [
                 | inl earlier ↦ shows.told f earlier
-                | inr (d, same) ↦ absurd (no-flag k.dom d flag f (sym deed.0 ∙ same))
+                | inr (d, same) ↦ absurd (no-flag k.dom d flag f (sym run_action.0 ∙ same))
               ])
               (λ f told. raised-still hs x f (shows.heard f (ap (λ w. slice_get w.items f) (sym moved.1) ∙ told))),
         )
@@ -401,7 +401,7 @@ actor-at items xs place a below same items-are = let lt : place < length items =
     ap (λ (l : List Actor). slice_get l place) (sym items-are) ∙ get-at items place a lt same
 
 pub begin-along : {E : Type 0} (scene : SearchContext) (place choice : ℕ) (old new : SearchState) (a : Actor) (task : RunTask) (call : ScriptCall) (res : Result TurnResult E) → slice_get old.actors.items place ≡ Some a → a.«open» ≡ None
-    → slice_get (tasks_at scene place) a.next ≡ Some task → task.deed ≡ Do call → FitsSaid call → BeginMeets scene place task call old new res → IfOk res (λ led. MovesAlong scene place choice old led new)
+    → slice_get (tasks_at scene place) a.next ≡ Some task → task.run_action ≡ Do call → FitsSaid call → BeginMeets scene place task call old new res → IfOk res (λ led. MovesAlong scene place choice old led new)
 begin-along scene place choice old new a task call (Err e) there none here does fits meets = tt
 begin-along scene place choice old new a task call (Ok led) there none here does fits meets = λ c hs ks k j x is shows at leads may.
     line-begins c scene hs ks old place k a is shows at there none new led choice x j task call here does fits meets leads may
@@ -419,12 +419,12 @@ tick-along scene place choice old new a o (Ok led) there some meets = λ c hs ks
     open-steps c scene hs ks old place k a is shows at there new led choice x j o some meets leads may
 
 pub raise-along : (scene : SearchContext) (place choice : ℕ) (old new : SearchState) (a : Actor) (task : RunTask) (flag : ℕ) (led : TurnResult) → slice_get old.actors.items place ≡ Some a → a.«open» ≡ None
-    → slice_get (tasks_at scene place) a.next ≡ Some task → task.deed ≡ Tell flag → RaiseMeets scene place flag old new led → MovesAlong scene place choice old led new
+    → slice_get (tasks_at scene place) a.next ≡ Some task → task.run_action ≡ Tell flag → RaiseMeets scene place flag old new led → MovesAlong scene place choice old led new
 raise-along scene place choice old new a task flag led there none here does meets = λ c hs ks k j x is shows at leads may.
     flag-raised c scene hs ks old place k a is shows at there none new led choice x j task flag here does meets leads
 
 pub pass-along : (scene : SearchContext) (place choice : ℕ) (old new : SearchState) (a : Actor) (task : RunTask) (flag : ℕ) (led : TurnResult) → slice_get old.actors.items place ≡ Some a → a.«open» ≡ None
-    → slice_get (tasks_at scene place) a.next ≡ Some task → task.deed ≡ Await flag → PassMeets scene place flag old new led → MovesAlong scene place choice old led new
+    → slice_get (tasks_at scene place) a.next ≡ Some task → task.run_action ≡ Await flag → PassMeets scene place flag old new led → MovesAlong scene place choice old led new
 pass-along scene place choice old new a task flag led there none here does meets = λ c hs ks k j x is shows at leads may.
     flag-passed c scene hs ks old place k a is shows at there none new led choice x j task flag here does meets leads may
 

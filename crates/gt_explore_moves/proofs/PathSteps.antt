@@ -140,7 +140,7 @@ module _ (L : HeldPin → Type 0) (G : List HeldPin → Action → Type 0) where
   pub record LegIs (held : List HeldPin) (l : Leg) : Type 0 where
     pub header : G held (actions.Step (LookHeader l.dom))
     pub control : G held (actions.Step (LookControl l.dom l.gref))
-    pub body : (half : BodyWord) → G held (actions.Step (LookBody l.dom l.gref half))
+    pub body : (body_word : BodyWord) → G held (actions.Step (LookBody l.dom l.gref body_word))
     pub pin : (p : HeldPin) → IsPinOf l p → G held (actions.Step (call_steps.Pin p))
 
   module _ (held : List HeldPin) (l : Leg) (is : LegIs held l) (refused : AfterRefusal) (pinned : AfterPin)
@@ -256,7 +256,7 @@ module _ (L : HeldPin → Type 0) (G : List HeldPin → Action → Type 0) where
 
   pub each-grant : (held : List HeldPin) → ((verdict : CallResult) → G held (Done verdict)) → (k : CallerKnowledge)
       (d : DomId) (gref : GrantRef) (entry : Entry)
-      → ((half : BodyWord) (w : ℕ) → G held (actions.Step (StoreBody gref half w)))
+      → ((body_word : BodyWord) (w : ℕ) → G held (actions.Step (StoreBody gref body_word w)))
       → ((looked : ℕ) → G held (actions.Step (Exchange gref looked (Publish entry)))) → Each held (grant_path k d gref entry)
   each-grant held ends k d gref entry store exchange =
       each-makes held (StoreBody gref body_words.First (first_body entry)) _ (store body_words.First _) (by entry exchange)

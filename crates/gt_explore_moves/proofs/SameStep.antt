@@ -96,7 +96,7 @@ said-given named d call q (bytes, hex, is) writes = ap bytes_given_by is ∙ by 
 given-open : (s : Setting) (h : History) (tasks : List RunTask) (k : Course) (next : ℕ) (opened : Opened) (c : Underway) (o : ActorCall) → ShowsOpen s h tasks k next opened (Some c) (Some o) → IsWriting c.request → bytes_by (task_in tasks o.task) ≡ c.given
 given-open s h tasks k next resting c o show writes = absurd show
 given-open s h tasks k next (calling line call lost) c o show writes = let task = show.1 in let said = show.2 in
-    ap (λ (place : Option ℕ). bytes_by (task_in tasks place)) task.task_is ∙ ap bytes_by task.there ∙ ap bytes_in task.deed_is
+    ap (λ (place : Option ℕ). bytes_by (task_in tasks place)) task.task_is ∙ ap bytes_by task.there ∙ ap bytes_in task.action_is
     ∙ sym (said-given said.named k.dom call said.request said.makes (subst IsWriting said.asks writes)) ∙ sym said.given
 given-open s h tasks k next giving c o show writes = absurd (subst IsWriting show.2.1 writes)
 

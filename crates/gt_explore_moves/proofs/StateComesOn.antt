@@ -136,11 +136,11 @@ module _ (c : RunContents) (scene : SearchContext) (hs : List Happening) (ks : L
   task-own n t here = ap (λ (i : ℕ). record { 0 = i }) (own-task c.tasks k.dom n t (ap (λ (l : List RunTask). slice_get l n) (sym tasks-are) ∙ here))
 
   -- a flag that it names is one of the script
-  pub task-below : (n : ℕ) (t : RunTask) → slice_get (tasks_at scene place) n ≡ Some t → IsBelow c.flags t.deed
+  pub task-below : (n : ℕ) (t : RunTask) → slice_get (tasks_at scene place) n ≡ Some t → IsBelow c.flags t.run_action
   task-below n t here =
       let list = list_of c.tasks k.dom in let there = ap (λ (l : List RunTask). slice_get l n) (sym tasks-are) ∙ here in
-      let all = All-filter (λ (u : RunTask). u.dom.0 == k.dom.0) (λ (u : RunTask). IsBelow c.flags u.deed) c.tasks is.numbered in
-      subst (λ (u : RunTask). IsBelow c.flags u.deed) (get_or_from_slice_get list n t t there) (all n t (slice_get_within list n t there))
+      let all = All-filter (λ (u : RunTask). u.dom.0 == k.dom.0) (λ (u : RunTask). IsBelow c.flags u.run_action) c.tasks is.numbered in
+      subst (λ (u : RunTask). IsBelow c.flags u.run_action) (get_or_from_slice_get list n t t there) (all n t (slice_get_within list n t there))
 
   -- all domains
 

@@ -448,8 +448,8 @@ module _ (s : Setting) (h : History) (scene : SearchContext) (before : SearchSta
       becomes-then b e = e ∙ ap (λ (xs : List Actor). slice_set xs at b) set ∙ set-again old.actors.items at m b
 
       line-ends : (line : ℕ) (call : ScriptCall) (lost : Option Handle) → IsOfTask tasks a.next k.dom line call o.task → IsOfLine k.dom call lost c → k.held ≡ handles_at h k.dom → maps_answered_at h k.dom.0 + 1 ≤ a.next
-          → j ≡ course_after types line call lost k i.answer → (t : RunTask) → t.dom ≡ k.dom → t.line ≡ line → t.deed ≡ Do call → EndsCallOfTask (i ∷ h) types t o.step v m mid new at led → TicksAsRun s (i ∷ h) tasks k j old new at led
-      line-ends line call lost task said all few leads t dom line-is deed x =
+          → j ≡ course_after types line call lost k i.answer → (t : RunTask) → t.dom ≡ k.dom → t.line ≡ line → t.run_action ≡ Do call → EndsCallOfTask (i ∷ h) types t o.step v m mid new at led → TicksAsRun s (i ∷ h) tasks k j old new at led
+      line-ends line call lost task said all few leads t dom line-is run_action x =
           let j-is : j ≡ course_answered types line call lost k ended.0 = leads ∙ ap (course_after types line call lost k) ended.1 in
           let tells : AnswersEnd (stepped k.dom z saw (Some ended.0) ∷ h) z v x.answer = subst (λ (y : Item). AnswersEnd (y ∷ h) z v x.answer) item-over
           (tells-under (i ∷ h) way.place z v x.answer (subst (λ (y : Step). AnswersEnd (i ∷ h) y v x.answer) same (to-under (i ∷ h) way.place o.step v x.answer x.answers))) in
@@ -461,7 +461,7 @@ module _ (s : Setting) (h : History) (scene : SearchContext) (before : SearchSta
             actor = x.actor;
             becomes = becomes-then x.actor x.becomes;
             shows = subst (λ (y : Course). ShowsCalls s (i ∷ h) tasks y x.actor) (sym j-is) (subst (λ (y : Item). ShowsCalls s (y ∷ h) tasks (course_answered types line call lost k ended.0) x.actor) (sym item-over)
-                (line-shows types line call lost said all few ended.0 ended.2 x.actor (subst (λ (l : Option (List ℕ)). CallIsOver l v m x.actor) (ap label_given_by deed) x.closed)));
+                (line-shows types line call lost said all few ended.0 ended.2 x.actor (subst (λ (l : Option (List ℕ)). CallIsOver l v m x.actor) (ap label_given_by run_action) x.closed)));
             tables = tables-then x.ground;
             pages = pages-then x.ground;
             told = x.told ∙ told;
@@ -491,6 +491,6 @@ module _ (s : Setting) (h : History) (scene : SearchContext) (before : SearchSta
     by resting e shown led = absurd shown
     by (calling number call lost) e shown led = let task = shown.1 in
         IfOk-weaker result _ _ (λ x closes. line-ends v ends m next_m maps_m types j seen old mid new x made set ground told number call lost shown.1 shown.2 shown.3
-        (subst (λ (z : Opened). maps_answered_at h k.dom.0 + tasks_open z ≤ a.next) e show.few) led task.of_task task.dom_is task.line_is task.deed_is closes)
+        (subst (λ (z : Opened). maps_answered_at h k.dom.0 + tasks_open z ≤ a.next) e show.few) led task.of_task task.dom_is task.line_is task.action_is closes)
         (line task.place task.of_task task.task_is task.there)
     by giving e shown led = IfOk-weaker result _ _ (λ x closes. back-ends v ends m next_m maps_m types j seen old mid new x made set ground told shown.2.0 shown.2.1 shown.2.2 led closes) (back shown.1)

@@ -24,7 +24,7 @@ use Rattle.gt_model.specs.FirstRule.{LegNow, leg_now, leg_at, StepsSoFar, looked
 use Rattle.gt_model.specs.FirstRule.{is_demote, at_entry, rule_at_exchange, rule_at_header, rule_before_pin}
 use Rattle.gt_model.specs.FirstRule.{rule_at_look, rule_at_via, rule_at_pin, first_at, first_in_call, first_of_item}
 use Rattle.gt_model.specs.FirstRule.{stood_with, stood, refusal_in}
-use Rattle.gt_model.specs.History.{control_at, word_at, same_dir, same_half, patches_at, patches_by, written_by}
+use Rattle.gt_model.specs.History.{control_at, word_at, same_dir, same_body_word, patches_at, patches_by, written_by}
 use Rattle.gt_model.specs.History.{given_in, WriteMade, underway_after}
 use Rattle.gt_core.specs.Prelude.{control_with, control_word, Leg, first_look, before_pin, pins_of, size_of, denial_of}
 use Rattle.gt_core.specs.Prelude.{N9, N18, N19, MAX_TRIES, stands, first, Load, Store, Peek, Copy, Map, SetupTable}
@@ -276,7 +276,7 @@ seen-same : (s : Setting) (g h : History) (d : DomId) (z : Step) → SameLook s 
     → seen_by s g d z ≡ seen_by s h d z
 seen-same s g h d (LookHeader dom) look = ap (λ (x : Header). Word (header_word x)) look
 seen-same s g h d (LookControl dom gref) look = ap (λ (w : ℕ). Word w) (word-same s g h dom.0 gref.0 look)
-seen-same s g h d (LookBody dom gref half) look = ap (λ (w : ℕ). Word w) look
+seen-same s g h d (LookBody dom gref body_word) look = ap (λ (w : ℕ). Word w) look
 seen-same s g h d (call_steps.Pin p) look = ap (λ (w : ℕ). exchange_sees w p.word) (word-same s g h p.dom.0 p.gref.0 look)
 seen-same s g h d (Exchange gref looked change) look = ap (λ (w : ℕ). exchange_sees w looked)
     (word-same s g h d.0 gref.0 look.0)
@@ -433,7 +433,7 @@ justified-same s g h d request (call_steps.Copy from to len) own just = copy-sam
 justified-same s g h d request z own just = just
 
 change-same : (g h : History) (t r : ℕ) (change : EntryChange) → SameEntry g h t r
-    → ((half : BodyWord) → body_at g t r half ≡ body_at h t r half) → IsSafeChange g t r change → IsSafeChange h t r change
+    → ((body_word : BodyWord) → body_at g t r body_word ≡ body_at h t r body_word) → IsSafeChange g t r change → IsSafeChange h t r change
 change-same g h t r (Publish entry) same bodies safe = (
   sym same.entry ∙ safe.0,
   subst (λ w. IsSpelled entry w (body_at h t r body_words.Second)) (bodies body_words.First)
@@ -452,7 +452,7 @@ safe-same : (s : Setting) (g h : History) (d : DomId) (x : ItemEvent) (a : Optio
     → SameSight s g h d x → IsSafe s g (item d x a) → IsSafe s h (item d x a)
 safe-same s g h d (Stepped (Exchange gref looked change) Taken) a own sight safe = change-same g h d.0 gref.0 change
     sight.0 sight.1 safe
-safe-same s g h d (Stepped (StoreBody gref half word) seen) a own sight safe = sym (own.entries gref.0) ∙ safe
+safe-same s g h d (Stepped (StoreBody gref body_word word) seen) a own sight safe = sym (own.entries gref.0) ∙ safe
 safe-same s g h d x a own sight safe = safe
 
 none-same : (s : Setting) (g h : History) (dom : DomId) (gref : GrantRef) (n : Option LegNow)
@@ -559,9 +559,9 @@ right-for s g h i own sight right = right-of s g h i.actor i.happened i.answer o
 look-of : (s : Setting) (g h : History) (d : DomId) (z : Step) → SameSeen s g h → SameLook s g h d z
 look-of s g h d (LookHeader dom) same = (same.own dom).table
 look-of s g h d (LookControl dom gref) same = same.entries dom.0 gref.0
-look-of s g h d (LookBody dom gref half) same = same.bodies dom.0 gref.0 half
+look-of s g h d (LookBody dom gref body_word) same = same.bodies dom.0 gref.0 body_word
 look-of s g h d (call_steps.Pin p) same = same.entries p.dom.0 p.gref.0
-look-of s g h d (Exchange gref looked change) same = (same.entries d.0 gref.0, λ half. same.bodies d.0 gref.0 half)
+look-of s g h d (Exchange gref looked change) same = (same.entries d.0 gref.0, λ body_word. same.bodies d.0 gref.0 body_word)
 look-of s g h d (call_steps.Read dom frame off len) same = same.patches dom.0 frame
 look-of s g h d (call_steps.Copy from to len) same = same.patches from.frame.owner.0 from.frame.number
 look-of s g h d z same = tt
@@ -648,7 +648,7 @@ seen-grows s g h i same =
         reads = count-same t r Read g h i own.pins e.reads;
         writes = count-same t r Write g h i own.pins e.writes;
       };
-      bodies = λ t r half. body-grows g h i t r half (same.bodies t r half);
+      bodies = λ t r body_word. body-grows g h i t r body_word (same.bodies t r body_word);
       patches = λ t f. patches-grow g h i t f (same.patches t f) (made-same s g h i.actor i.happened own.call sight);
     }
 
@@ -694,9 +694,9 @@ entry-back g h t r same = record {
 look-back : (s : Setting) (g h : History) (d : DomId) (z : Step) → SameLook s g h d z → SameLook s h g d z
 look-back s g h d (LookHeader dom) look = sym look
 look-back s g h d (LookControl dom gref) look = entry-back g h dom.0 gref.0 look
-look-back s g h d (LookBody dom gref half) look = sym look
+look-back s g h d (LookBody dom gref body_word) look = sym look
 look-back s g h d (call_steps.Pin p) look = entry-back g h p.dom.0 p.gref.0 look
-look-back s g h d (Exchange gref looked change) look = (entry-back g h d.0 gref.0 look.0, λ half. sym (look.1 half))
+look-back s g h d (Exchange gref looked change) look = (entry-back g h d.0 gref.0 look.0, λ body_word. sym (look.1 body_word))
 look-back s g h d (call_steps.Read dom frame off len) look = sym look
 look-back s g h d (call_steps.Copy from to len) look = sym look
 look-back s g h d z look = tt
@@ -794,8 +794,8 @@ seen-swapped s h i j apart =
         reads = count-swap t r Read i j h apart.actors;
         writes = count-swap t r Write i j h apart.actors;
       };
-      bodies = λ t r half. owned-swap (λ l. body_at l t r half) t i j h apart.actors
-          (λ k l o. other-body k l t r half o) (body-grows (j ∷ h) h i t r half) (body-grows (i ∷ h) h j t r half);
+      bodies = λ t r body_word. owned-swap (λ l. body_at l t r body_word) t i j h apart.actors
+          (λ k l o. other-body k l t r body_word o) (body-grows (j ∷ h) h i t r body_word) (body-grows (i ∷ h) h j t r body_word);
       patches = λ t f. patches-swap i j h t f (made-same s (j ∷ h) h i.actor i.happened mine.call apart.first)
           (made-same s (i ∷ h) h j.actor j.happened theirs.call apart.second) (apart.frames t f);
     }
@@ -833,11 +833,11 @@ began-look : (s : Setting) (h : History) (d : DomId) (q : Request) (a : Option A
     → SameLook s (item d (Began q) a ∷ h) h e z
 began-look s h d q a e (LookHeader dom) = kept-table s (item d (Began q) a) h dom refl
 began-look s h d q a e (LookControl dom gref) = began-entry h d q a dom.0 gref.0
-began-look s h d q a e (LookBody dom gref half) = unstored (item d (Began q) a) h dom.0 gref.0 half refl
+began-look s h d q a e (LookBody dom gref body_word) = unstored (item d (Began q) a) h dom.0 gref.0 body_word refl
 began-look s h d q a e (call_steps.Pin p) = began-entry h d q a p.dom.0 p.gref.0
 began-look s h d q a e (Exchange gref looked change) = (
   began-entry h d q a e.0 gref.0,
-  λ half. unstored (item d (Began q) a) h e.0 gref.0 half refl,
+  λ body_word. unstored (item d (Began q) a) h e.0 gref.0 body_word refl,
 )
 began-look s h d q a e (call_steps.Read dom frame off len) = none-patched h d q a dom.0 frame
 began-look s h d q a e (call_steps.Copy from to len) = none-patched h d q a from.frame.owner.0 from.frame.number
@@ -876,7 +876,7 @@ seen-none s h = record {
     against = refl;
   };
   entries = λ t r. record { entry = refl; raises = refl; reads = refl; writes = refl };
-  bodies = λ t r half. refl;
+  bodies = λ t r body_word. refl;
   patches = λ t f. refl;
 }
 
@@ -1048,14 +1048,14 @@ leaves-entry h i t r none pins = record {
   writes = pins Write;
 }
 
-body-left : (h : History) (i : Item) (t r : ℕ) (half : BodyWord) → cond (i.actor.0 == t) (stored_at i.happened r half) None
-    ≡ None → body_at (i ∷ h) t r half ≡ body_at h t r half
+body-left : (h : History) (i : Item) (t r : ℕ) (body_word : BodyWord) → cond (i.actor.0 == t) (stored_at i.happened r body_word) None
+    ≡ None → body_at (i ∷ h) t r body_word ≡ body_at h t r body_word
 unfolding body_at
-body-left h i t r half none = ap (λ o. or_else o (body_at h t r half)) none
+body-left h i t r body_word none = ap (λ o. or_else o (body_at h t r body_word)) none
 
 -- what a step elsewhere leaves of an entry
 abbrev LeavesWord : History → Item → ℕ → ℕ → Type 0
-LeavesWord h i t r = SameEntry (i ∷ h) h t r × ((half : BodyWord) → body_at (i ∷ h) t r half ≡ body_at h t r half)
+LeavesWord h i t r = SameEntry (i ∷ h) h t r × ((body_word : BodyWord) → body_at (i ∷ h) t r body_word ≡ body_at h t r body_word)
 
 abbrev made_step : DomId → Step → Observation → Option Answer → Item
 made_step d z seen a = item d (Stepped z seen) a
@@ -1070,7 +1070,7 @@ pin-off : (h : History) (d : DomId) (p : HeldPin) (seen : Observation) (a : Opti
 pin-off h d p seen a t r off = (
   leaves-entry h (made_step d (call_steps.Pin p) seen a) t r (changes seen)
       (λ k. step-count h (made_step d (call_steps.Pin p) seen a) t r k (comes seen k) (goes seen k)),
-  λ half. unstored (made_step d (call_steps.Pin p) seen a) h t r half refl,
+  λ body_word. unstored (made_step d (call_steps.Pin p) seen a) h t r body_word refl,
 ) where
   changes : (v : Observation) → change_of (made_step d (call_steps.Pin p) v a) t r ≡ None
   changes v = cond-same (d.0 == t) None
@@ -1089,7 +1089,7 @@ exchange-off : (h : History) (d : DomId) (gref : GrantRef) (looked : ℕ) (chang
 exchange-off h d gref looked change seen a t r off = (
   leaves-entry h (made_step d (Exchange gref looked change) seen a) t r (changes seen)
       (λ k. step-count h (made_step d (Exchange gref looked change) seen a) t r k refl refl),
-  λ half. unstored (made_step d (Exchange gref looked change) seen a) h t r half refl,
+  λ body_word. unstored (made_step d (Exchange gref looked change) seen a) h t r body_word refl,
 ) where
   changes : (v : Observation) → change_of (made_step d (Exchange gref looked change) v a) t r ≡ None
   changes Taken = cond-none (d.0 == t) (gref.0 == r) (Some change) off
@@ -1100,7 +1100,7 @@ unpin-off : (h : History) (d : DomId) (p : HeldPin) (holder : PinHolder) (seen :
 unpin-off h d p holder seen a t r keeps = (
   leaves-entry h (made_step d (Unpin p holder) seen a) t r (cond-same (d.0 == t) None)
       (λ k. ap (λ ps. count_by (is_pin_on t r k) ps) (unpinned-live h d p holder seen a) ∙ keeps k),
-  λ half. unstored (made_step d (Unpin p holder) seen a) h t r half refl,
+  λ body_word. unstored (made_step d (Unpin p holder) seen a) h t r body_word refl,
 )
 
 word-left : (h : History) (d : DomId) (z : Step) (seen : Observation) (a : Option Answer) (t r : ℕ)
@@ -1111,13 +1111,13 @@ word-left h d (Exchange gref looked change) seen a t r off keeps = exchange-off 
 word-left h d (StoreBody gref which w) seen a t r off keeps = (
   leaves-entry h (made_step d (StoreBody gref which w) seen a) t r (cond-same (d.0 == t) None)
       (λ k. step-count h (made_step d (StoreBody gref which w) seen a) t r k refl refl),
-  λ half. body-left h (made_step d (StoreBody gref which w) seen a) t r half
-      (cond-three (d.0 == t) (gref.0 == r) (same_half which half) (Some w) off),
+  λ body_word. body-left h (made_step d (StoreBody gref which w) seen a) t r body_word
+      (cond-three (d.0 == t) (gref.0 == r) (same_body_word which body_word) (Some w) off),
 )
 word-left h d z seen a t r off keeps = (
   leaves-entry h (made_step d z seen a) t r (cond-same (d.0 == t) None)
       (λ k. step-count h (made_step d z seen a) t r k refl refl),
-  λ half. unstored (made_step d z seen a) h t r half refl,
+  λ body_word. unstored (made_step d z seen a) h t r body_word refl,
 )
 
 table-left : (s : Setting) (h : History) (d : DomId) (z : Step) (seen : Observation) (a : Option Answer) (t : DomId)
@@ -1170,7 +1170,7 @@ step-look s h d y v a e z leaves = by z leaves where
   by : (x : Step) → LeavesFor h d y e x → SameLook s (made_step d y v a ∷ h) h e x
   by (LookHeader dom) l = table (LookHeader dom) dom l (is-same dom.0)
   by (LookControl dom gref) l = (word (LookControl dom gref) dom.0 gref.0 l (both-same dom.0 gref.0)).0
-  by (LookBody dom gref half) l = (word (LookBody dom gref half) dom.0 gref.0 l (both-same dom.0 gref.0)).1 half
+  by (LookBody dom gref body_word) l = (word (LookBody dom gref body_word) dom.0 gref.0 l (both-same dom.0 gref.0)).1 body_word
   by (call_steps.Pin p) l = (word (call_steps.Pin p) p.dom.0 p.gref.0 l (both-same p.dom.0 p.gref.0)).0
   by (Exchange gref looked change) l = word (Exchange gref looked change) e.0 gref.0 l (both-same e.0 gref.0)
   by (call_steps.Read dom frame off len) l = bytes (call_steps.Read dom frame off len) dom.0 frame l (is-same dom.0)

@@ -138,10 +138,10 @@ RequestTouches A uses d (GetVersion dom) = A (LooksHeader (resolved d dom))
 abbrev pub StepTouches : (Touch → Type 0) → DomId → Step → Type 0
 StepTouches A d (LookHeader dom) = A (LooksHeader dom)
 StepTouches A d (LookControl dom gref) = A (touches.Entry dom gref)
-StepTouches A d (LookBody dom gref half) = A (touches.Entry dom gref)
+StepTouches A d (LookBody dom gref body_word) = A (touches.Entry dom gref)
 StepTouches A d (call_steps.Pin p) = A (touches.Entry p.dom p.gref)
 StepTouches A d (Unpin p holder) = A (touches.Entry p.dom p.gref)
-StepTouches A d (StoreBody gref half word) = A (touches.Entry d gref)
+StepTouches A d (StoreBody gref body_word word) = A (touches.Entry d gref)
 StepTouches A d (StoreHeader version frames) = A (StoresHeader d)
 StepTouches A d (Exchange gref looked change) = A (touches.Entry d gref)
 StepTouches A d (call_steps.Read dom frame off len) = A (Reads dom frame)
@@ -225,7 +225,7 @@ module _ (A : Touch → Type 0) (uses : MappingUse) (k : CallerKnowledge) (d : D
   leg-is r held l touches pinning bytes = record {
     header = (touches.0, tt, tt);
     control = (touches.1, tt, tt);
-    body = λ half. (touches.1, tt, tt);
+    body = λ body_word. (touches.1, tt, tt);
     pin = λ p of. (pin-on l p of touches.1, bytes, (pinning, pin-read l p of));
   }
 
@@ -302,7 +302,7 @@ module _ (A : Touch → Type 0) (uses : MappingUse) (k : CallerKnowledge) (d : D
   pub each-step : (r : OpenRequest) → RequestTouches A uses d r → (IsCopy r → Beyond)
       → Each L (One r) [] (steps_of k d r)
   each-step (Grant gref entry) t beyond-on = each-grant L (One (Grant gref entry)) [] (λ verdict. refl) k d gref entry
-      (λ half w. (t.0, tt, tt)) (λ looked. (t.0, tt, refl))
+      (λ body_word w. (t.0, tt, tt)) (λ looked. (t.0, tt, refl))
   each-step (Revoke gref) t beyond-on = each-once L (One (Revoke gref)) [] (λ verdict. refl) d gref changes.Revoke
       (λ looked. (t, tt, tt)) _
   each-step (Withdraw gref) t beyond-on = each-turns L (One (Withdraw gref)) [] (λ verdict. refl) d gref changes.Withdraw
@@ -405,15 +405,15 @@ said-touches A uses named d call q (bytes, hex, is) t = subst (λ r. RequestTouc
       by (script_calls.GetVersion dom) t = t
 
 -- what the action of a line may touch is such
-abbrev pub DeedTouches : (Touch → Type 0) → MappingUse → DomId → RunAction → Type 0
-DeedTouches A uses d (Do call) = CallTouches A uses d call
-DeedTouches A uses d (Tell flag) = A (Raises flag)
-DeedTouches A uses d (Await flag) = Unit {0}
+abbrev pub ActionTouches : (Touch → Type 0) → MappingUse → DomId → RunAction → Type 0
+ActionTouches A uses d (Do call) = CallTouches A uses d call
+ActionTouches A uses d (Tell flag) = A (Raises flag)
+ActionTouches A uses d (Await flag) = Unit {0}
 
 -- what these tasks of a domain may touch is such
 abbrev pub TasksTouch : (Touch → Type 0) → MappingUse → DomId → List RunTask → Type 0
 TasksTouch A uses d [] = Unit {0}
-TasksTouch A uses d (t ∷ ts) = DeedTouches A uses d t.deed × TasksTouch A uses d ts
+TasksTouch A uses d (t ∷ ts) = ActionTouches A uses d t.run_action × TasksTouch A uses d ts
 
 -- touches that a next move doesn't meet
 
@@ -570,10 +570,10 @@ abbrev pub TaskUses : MappingUse → RunTask → Type 0
 TaskUses uses t = (is_load t ≡ true → uses.loads ≡ true) × (is_store t ≡ true → uses.stores ≡ true)
     × (grants_via t ≡ true → uses.vias ≡ true)
 
-pub unmet-deed : (uses : MappingUse) (move : NextMove) (d : DomId) (t : RunTask) → t.dom ≡ d → TaskUses uses t
-    → meets_task uses move t ≡ false → DeedTouches (Unmet move) uses d t.deed
-unmet-deed uses move d t own used e = subst (λ x. DeedTouches (Unmet move) uses x t.deed) own (by t.deed used e) where
-  call-uses : (call : ScriptCall) → TaskUses uses (record t { deed = Do call }) → CallUses uses call
+pub unmet-run_action : (uses : MappingUse) (move : NextMove) (d : DomId) (t : RunTask) → t.dom ≡ d → TaskUses uses t
+    → meets_task uses move t ≡ false → ActionTouches (Unmet move) uses d t.run_action
+unmet-run_action uses move d t own used e = subst (λ x. ActionTouches (Unmet move) uses x t.run_action) own (by t.run_action used e) where
+  call-uses : (call : ScriptCall) → TaskUses uses (record t { run_action = Do call }) → CallUses uses call
   call-uses (script_calls.Grant gref entry) u = λ none. not-true (is_via entry)
       (λ is. false≢true (sym none ∙ u.2 is))
   call-uses (script_calls.GrantBytes gref hex) u = u.2 refl
@@ -581,8 +581,8 @@ unmet-deed uses move d t own used e = subst (λ x. DeedTouches (Unmet move) uses
   call-uses (script_calls.Store label off hex) u = u.1 refl
   call-uses call u = tt
 
-  by : (deed : RunAction) → TaskUses uses (record t { deed = deed })
-      → meets_task uses move (record t { deed = deed }) ≡ false → DeedTouches (Unmet move) uses t.dom deed
+  by : (run_action : RunAction) → TaskUses uses (record t { run_action = run_action })
+      → meets_task uses move (record t { run_action = run_action }) ≡ false → ActionTouches (Unmet move) uses t.dom run_action
   by (Do call) u f = unmet-call uses move t.dom call (call-uses call u) f
   by (Tell flag) u f = f
   by (Await flag) u f = tt
@@ -650,9 +650,9 @@ module _ (d e : DomId) (y z : Step) (unmet : StepTouches (λ touch. step_meets e
     by : (x : Step) → StepTouches (λ touch. step_meets e z touch ≡ false) d x → touches_entry d x t r ≡ true
         → is_on e z t r ≡ false
     by (LookControl dom gref) u on = off-entry e z dom gref t r u on
-    by (LookBody dom gref half) u on = off-entry e z dom gref t r u on
+    by (LookBody dom gref body_word) u on = off-entry e z dom gref t r u on
     by (call_steps.Pin p) u on = off-entry e z p.dom p.gref t r u on
-    by (StoreBody gref half w) u on = off-entry e z d gref t r u on
+    by (StoreBody gref body_word w) u on = off-entry e z d gref t r u on
     by (Exchange gref looked change) u on = off-entry e z d gref t r u on
     by x u on = absurd (false≢true on)
 

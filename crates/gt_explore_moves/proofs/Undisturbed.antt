@@ -77,8 +77,8 @@ use Rattle.gt_explore_moves.proofs.OpenAlong.{run-makes}
 use Rattle.gt_explore_moves.proofs.SameStep.{along-of}
 use Rattle.gt_explore_moves.proofs.SpaceMoves.{each-turn}
 use Rattle.gt_explore_moves.proofs.StateComesOn.{raised-here, raised-still, task-own}
-use Rattle.gt_explore_moves.proofs.Touching.{DeedTouches, RequestTouches, StepTouches, TasksTouch, Unmet, meets-under}
-use Rattle.gt_explore_moves.proofs.Touching.{or-false, PinTouches, said-touches, steps-apart, unmet-deed}
+use Rattle.gt_explore_moves.proofs.Touching.{ActionTouches, RequestTouches, StepTouches, TasksTouch, Unmet, meets-under}
+use Rattle.gt_explore_moves.proofs.Touching.{or-false, PinTouches, said-touches, steps-apart, unmet-run_action}
 use Rattle.gt_explore_moves.proofs.Touching.{unmet-mapping}
 use Rattle.gt_explore_moves.proofs.HeldPins.{IsSound, releases-own}
 use Rattle.gt_explore_moves.proofs.ViaTasks.{task-vias}
@@ -123,7 +123,7 @@ seen-none s h = record {
     against = refl;
   };
   entries = λ t r. record { entry = refl; raises = refl; reads = refl; writes = refl };
-  bodies = λ t r half. refl;
+  bodies = λ t r body_word. refl;
   patches = λ t f. refl;
 }
 
@@ -251,8 +251,8 @@ module _ (s : Setting) where
 
 -- courses
 
-leads-line : (types : List (List ℕ)) (k j : Course) (line : ℕ) (left : List RunTask) (deed : RunAction) (x : Happening)
-    → ActionLeads types k line left deed x j → (j.dom ≡ k.dom) × (doer x ≡ k.dom)
+leads-line : (types : List (List ℕ)) (k j : Course) (line : ℕ) (left : List RunTask) (run_action : RunAction) (x : Happening)
+    → ActionLeads types k line left run_action x j → (j.dom ≡ k.dom) × (doer x ≡ k.dom)
 leads-line types k j line left (Tell flag) x leads = (ap (λ (z : Course). z.dom) leads.1, ap doer leads.0)
 leads-line types k j line left (Await flag) x leads = (ap (λ (z : Course). z.dom) leads.1, ap doer leads.0)
 leads-line types k j line left (Do call) x (q, e, says, is, to) =
@@ -265,7 +265,7 @@ leads-rest types k j [] choice x (handle, e, there, is, to) = (
       (answer_in e),
   ap doer is,
 )
-leads-rest types k j (t ∷ ts) choice x leads = leads-line types k j t.line ts t.deed x leads.1
+leads-rest types k j (t ∷ ts) choice x leads = leads-line types k j t.line ts t.run_action x leads.1
 
 leads-open : (types : List (List ℕ)) (k j : Course) (opened : Opened) (choice : ℕ) (x : Happening)
     → OpenLeads types k opened choice x j → (j.dom ≡ k.dom) × (doer x ≡ k.dom)
@@ -366,20 +366,20 @@ module _ (c : RunContents) where
   FreeLine hs (Tell flag) = Unit {0}
   FreeLine hs (Await flag) = IsRaisedBefore (length hs) flag hs
 
-  free-still : (hs : List Happening) (x : Happening) (deed : RunAction) → FreeLine hs deed
-      → FreeLine (hs ++ x ∷ []) deed
+  free-still : (hs : List Happening) (x : Happening) (run_action : RunAction) → FreeLine hs run_action
+      → FreeLine (hs ++ x ∷ []) run_action
   free-still hs x (Do call) free = tt
   free-still hs x (Tell flag) free = tt
   free-still hs x (Await flag) free = raised-still hs x flag free
 
   abbrev FreeTasks : List Happening → List RunTask → Type 0
   FreeTasks hs [] = Unit {0}
-  FreeTasks hs (t ∷ ts) = FreeLine hs t.deed
+  FreeTasks hs (t ∷ ts) = FreeLine hs t.run_action
 
   tasks-still : (hs : List Happening) (x : Happening) (ts : List RunTask) → FreeTasks hs ts
       → FreeTasks (hs ++ x ∷ []) ts
   tasks-still hs x [] free = tt
-  tasks-still hs x (t ∷ ts) free = free-still hs x t.deed free
+  tasks-still hs x (t ∷ ts) free = free-still hs x t.run_action free
 
   abbrev set : Setting
   set = setting_of_script c.head
@@ -391,7 +391,7 @@ module _ (c : RunContents) where
       × ((z : Step) → path (known_at set (history_in hs) k.dom) k.dom u.request (values u) ≡ Some (actions.Step z)
       → (touch : Touch) → step_meets k.dom z touch ≡ step_meets k.dom step touch)
   IsNext hs k (Awaits flag) =
-      (t : RunTask) × (ts : List RunTask) × (k.opened ≡ resting) × (k.tasks ≡ t ∷ ts) × (t.deed ≡ Await flag)
+      (t : RunTask) × (ts : List RunTask) × (k.opened ≡ resting) × (k.tasks ≡ t ∷ ts) × (t.run_action ≡ Await flag)
   IsNext hs k Free = (k.opened ≡ resting) × FreeTasks hs k.tasks
 
   -- what another domain does leaves what a domain has open, and what it knows
@@ -441,10 +441,10 @@ module _ (c : RunContents) where
       → StepTouches B d y
   touches-as A B d (call_steps.LookHeader dom) f t = f _ t
   touches-as A B d (call_steps.LookControl dom gref) f t = f _ t
-  touches-as A B d (call_steps.LookBody dom gref half) f t = f _ t
+  touches-as A B d (call_steps.LookBody dom gref body_word) f t = f _ t
   touches-as A B d (call_steps.Pin p) f t = f _ t
   touches-as A B d (call_steps.Unpin p holder) f t = f _ t
-  touches-as A B d (call_steps.StoreBody gref half word) f t = f _ t
+  touches-as A B d (call_steps.StoreBody gref body_word word) f t = f _ t
   touches-as A B d (call_steps.StoreHeader version frames) f t = f _ t
   touches-as A B d (call_steps.Exchange gref looked change) f t = f _ t
   touches-as A B d (call_steps.Read dom frame off len) f t = f _ t
@@ -519,9 +519,9 @@ module _ (c : RunContents) where
   -- a line of a domain that is not calling
   line-free : (vias : Bool) (hs : List Happening) (k : Course) (move : NextMove) (t : RunTask) (ts : List RunTask)
       (y x : Happening) (j : Course) → k.opened ≡ resting → k.tasks ≡ t ∷ ts → IsNext hs k move → HappeningTouches (Unmet move) vias hs y
-      → ActionLeads (type_names c.head) k t.line ts t.deed x j → CanComeNext set (hs ++ y ∷ []) x → ComesFree hs y x
-  line-free vias hs k move t ts y x j rest tasks next touches leads may = by t.deed refl leads where
-    flag-free : (m : NextMove) (flag : ℕ) → t.deed ≡ Await flag → IsNext hs k m → HappeningTouches (Unmet m) vias hs y
+      → ActionLeads (type_names c.head) k t.line ts t.run_action x j → CanComeNext set (hs ++ y ∷ []) x → ComesFree hs y x
+  line-free vias hs k move t ts y x j rest tasks next touches leads may = by t.run_action refl leads where
+    flag-free : (m : NextMove) (flag : ℕ) → t.run_action ≡ Await flag → IsNext hs k m → HappeningTouches (Unmet m) vias hs y
         → IsRaisedBefore (length (hs ++ y ∷ [])) flag (hs ++ y ∷ []) → IsRaisedBefore (length hs) flag hs
     flag-free (Makes d step) flag awaits n touch was = absurd (n.1 rest)
     flag-free Free flag awaits n touch was =
@@ -529,7 +529,7 @@ module _ (c : RunContents) where
     flag-free (Awaits other) flag awaits n touch was = elim (raised_or hs y flag was) [
       | inl before ↦ before
       | inr now ↦ absurd (false≢true (sym (subst (HappeningTouches (Unmet (Awaits other)) vias hs) now.1 touch)
-          ∙ eq-eqb flag other (same-flag flag other (sym awaits ∙ ap (λ (u : RunTask). u.deed)
+          ∙ eq-eqb flag other (same-flag flag other (sym awaits ∙ ap (λ (u : RunTask). u.run_action)
           (head-same (sym tasks ∙ n.3)) ∙ n.4))))
     ] where
       head-same : t ∷ ts ≡ n.0 ∷ n.1 → t ≡ n.0
@@ -538,7 +538,7 @@ module _ (c : RunContents) where
       same-flag : (a b : ℕ) → Await a ≡ Await b → a ≡ b
       same-flag a b e = cc
 
-    by : (deed : RunAction) → t.deed ≡ deed → ActionLeads (type_names c.head) k t.line ts deed x j → ComesFree hs y x
+    by : (run_action : RunAction) → t.run_action ≡ run_action → ActionLeads (type_names c.head) k t.line ts run_action x j → ComesFree hs y x
     by (Tell flag) is l = subst (ComesFree hs y) (sym l.0) (tt, tt)
     by (Await flag) is l = subst (ComesFree hs y) (sym l.0)
         (flag-free move flag is next touches (subst (CanComeNext set (hs ++ y ∷ [])) l.0 may), tt)
@@ -836,14 +836,14 @@ module _ (c : RunContents) (scene : SearchContext) (hs : List Happening) (place 
     rest-next : (o : Option RunTask) → k.opened ≡ resting → slice_get tasks a.next ≡ o
         → IsNext c hs k (next_at_rest told o)
     rest-next None rest is = (rest, subst (FreeTasks c hs) (sym (show.left ∙ drop-none a.next tasks is)) tt)
-    rest-next (Some t) rest is = by t.deed refl where
+    rest-next (Some t) rest is = by t.run_action refl where
       left : k.tasks ≡ t ∷ drop (suc a.next) tasks
       left = show.left ∙ drop_here tasks a.next t is
 
-      free : FreeLine c hs t.deed → IsNext c hs k Free
+      free : FreeLine c hs t.run_action → IsNext c hs k Free
       free line = (rest, subst (FreeTasks c hs) (sym left) line)
 
-      by : (deed : RunAction) → t.deed ≡ deed → IsNext c hs k (next_at_rest told (Some (record t { deed = deed })))
+      by : (run_action : RunAction) → t.run_action ≡ run_action → IsNext c hs k (next_at_rest told (Some (record t { run_action = run_action })))
       by (Do call) same = free (subst (FreeLine c hs) (sym same) tt)
       by (Tell flag) same = free (subst (FreeLine c hs) (sym same) tt)
       by (Await flag) same = flagged (get_or told flag false) refl where
@@ -875,7 +875,7 @@ module _ (c : RunContents) (scene : SearchContext) (hs : List Happening) (place 
     tasks-unmet (suc n) [] mine vias loads stores none = tt
     tasks-unmet zero (t ∷ ts) mine vias loads stores none =
         let both = or-false (meets_task uses move t) (list_any (meets_task uses move) ts) none in (
-          unmet-deed uses move k.dom t (mine 0 t refl) (
+          unmet-run_action uses move k.dom t (mine 0 t refl) (
             (λ e. loads (or-first (is_load t) (list_any is_load ts) e)),
             (λ e. stores (or-first (is_store t) (list_any is_store ts) e)),
             vias 0 t refl,
@@ -914,7 +914,7 @@ module _ (c : RunContents) (scene : SearchContext) (hs : List Happening) (place 
           subst (λ n. TasksTouch (Unmet move) uses k.dom (drop n tasks)) task.last whole.1,
           subst (RequestTouches (Unmet move) uses k.dom) (sym said.asks)
               (said-touches (Unmet move) uses said.named k.dom call said.request said.makes
-              (subst (DeedTouches (Unmet move) uses k.dom) task.deed_is whole.0)),
+              (subst (ActionTouches (Unmet move) uses k.dom) task.action_is whole.0)),
         )
     later-unmet o u giving (along, task, released) all = (
       subst (λ (t : Option ℕ). TasksTouch (Unmet move) uses k.dom (drop (first_of a.next t) tasks)) task all,

@@ -65,7 +65,7 @@ use Rattle.gt_explore_moves.specs.declared.touches.MappingUse.{MappingUse}
 use Rattle.gt_explore_moves.specs.Transitive.{AllOfScript, BeginsOfScript, IsOfScript, is_via}
 use Rattle.gt_explore_moves.proofs.HeldPins.{IsPlain, IsSound, copy-took, is-sound, releases-own}
 use Rattle.gt_explore_moves.proofs.PathSteps.{held_along, took-any}
-use Rattle.gt_explore_moves.proofs.Touching.{BytesTouch, PinTouches, PinsBytes, DeedTouches, RequestTouches}
+use Rattle.gt_explore_moves.proofs.Touching.{BytesTouch, PinTouches, PinsBytes, ActionTouches, RequestTouches}
 use Rattle.gt_explore_moves.proofs.Touching.{StepFacts, StepTouches, TasksTouch, each-step, path-opened, said-touches}
 
 module _ (A : Touch → Type 0) (vias : Bool) where
@@ -448,8 +448,8 @@ module _ (A : Touch → Type 0) (uses : MappingUse) where
 
   line-within : (types : List (List ℕ)) (s : Setting) (hs : List Happening) (k j : Course) (line : ℕ)
       (left : List RunTask)
-      (deed : RunAction) (x : Happening) → ActionLeads types k line left deed x j → CanComeNext s hs x
-      → DeedTouches A uses k.dom deed → TasksTouch A uses k.dom left → HistoryWithin (history_in hs) k.dom
+      (run_action : RunAction) (x : Happening) → ActionLeads types k line left run_action x j → CanComeNext s hs x
+      → ActionTouches A uses k.dom run_action → TasksTouch A uses k.dom left → HistoryWithin (history_in hs) k.dom
       → IsSound uses.vias s (history_in hs) → GoesWithin hs x j
   line-within types s hs k j line left (Tell flag) x leads may touch all past sound =
       subst (λ z. Within (hs ++ z ∷ []) j.dom j.tasks × HappeningTouches A uses.vias hs z) (sym leads.0)
@@ -479,7 +479,7 @@ module _ (A : Touch → Type 0) (uses : MappingUse) where
       ∙ back-tasks (record k { held = take choice k.held ++ drop (suc choice) k.held }) (answer_in e) ∙ same)
       tt may tt past sound
   rest-within types s hs k j (t ∷ ts) choice x same leads may touch past sound =
-      line-within types s hs k j t.line ts t.deed x leads.1 may touch.0 touch.1 past sound
+      line-within types s hs k j t.line ts t.run_action x leads.1 may touch.0 touch.1 past sound
 
   -- what a domain does touches only such, and so it stays
   pub course-within : (types : List (List ℕ)) (s : Setting) (hs : List Happening) (k j : Course) (choice : ℕ)

@@ -89,7 +89,7 @@ pub record IsOfTask (tasks : List RunTask) (next : ℕ) (d : DomId) (line : ℕ)
   pub there : slice_get tasks place ≡ Some of_task
   pub dom_is : of_task.dom ≡ d
   pub line_is : of_task.line ≡ line
-  pub deed_is : of_task.deed ≡ Do call
+  pub action_is : of_task.run_action ≡ Do call
 
 -- the call in progress is the one that a line asks for, by what its labels named when it began, and this is the handle
 -- of the mapping that it drops

@@ -63,7 +63,7 @@ pub record IsNextCall (k : Course) (t : RunTask) (ts : List RunTask) (call : Scr
   pub rest : k.opened ≡ resting
   pub next : k.tasks ≡ t ∷ ts
   pub dom : t.dom ≡ k.dom
-  pub deed : t.deed ≡ Do call
+  pub run_action : t.run_action ≡ Do call
 
 -- by a move of the domain at this position the state reaches the point to which this history brings the domain on its
 -- course, and its table is unchanged

@@ -42,10 +42,10 @@ pub record SameOwn (s : Setting) (g h : History) (d : DomId) : Type 0 where
 abbrev pub SameLook : Setting → History → History → DomId → Step → Type 0
 SameLook s g h d (LookHeader dom) = table_at s g dom ≡ table_at s h dom
 SameLook s g h d (LookControl dom gref) = SameEntry g h dom.0 gref.0
-SameLook s g h d (LookBody dom gref half) = body_at g dom.0 gref.0 half ≡ body_at h dom.0 gref.0 half
+SameLook s g h d (LookBody dom gref body_word) = body_at g dom.0 gref.0 body_word ≡ body_at h dom.0 gref.0 body_word
 SameLook s g h d (call_steps.Pin p) = SameEntry g h p.dom.0 p.gref.0
 SameLook s g h d (Exchange gref looked change) =
-    SameEntry g h d.0 gref.0 × ((half : BodyWord) → body_at g d.0 gref.0 half ≡ body_at h d.0 gref.0 half)
+    SameEntry g h d.0 gref.0 × ((body_word : BodyWord) → body_at g d.0 gref.0 body_word ≡ body_at h d.0 gref.0 body_word)
 SameLook s g h d (call_steps.Read dom frame off len) = patches_at g dom.0 frame ≡ patches_at h dom.0 frame
 SameLook s g h d (call_steps.Copy from to len) =
     patches_at g from.frame.owner.0 from.frame.number ≡ patches_at h from.frame.owner.0 from.frame.number
@@ -60,7 +60,7 @@ SameSight s g h d (Stepped step seen) = SameLook s g h d step
 pub record SameSeen (s : Setting) (g h : History) : Type 0 where
   pub own : (d : DomId) → SameOwn s g h d
   pub entries : (t r : ℕ) → SameEntry g h t r
-  pub bodies : (t r : ℕ) (half : BodyWord) → body_at g t r half ≡ body_at h t r half
+  pub bodies : (t r : ℕ) (body_word : BodyWord) → body_at g t r body_word ≡ body_at h t r body_word
   pub patches : (t f : ℕ) → patches_at g t f ≡ patches_at h t f
 
 -- the same item may follow both, and they look the same after it too
@@ -99,8 +99,8 @@ BeginningsAreApart =
 -- what the step of domain d reads or changes of the words of an entry, except an unpin: entry r of domain t
 abbrev pub touches_entry : DomId → Step → ℕ → ℕ → Bool
 touches_entry d (LookControl dom gref) t r = (dom.0 == t) && (gref.0 == r)
-touches_entry d (LookBody dom gref half) t r = (dom.0 == t) && (gref.0 == r)
-touches_entry d (StoreBody gref half word) t r = (d.0 == t) && (gref.0 == r)
+touches_entry d (LookBody dom gref body_word) t r = (dom.0 == t) && (gref.0 == r)
+touches_entry d (StoreBody gref body_word word) t r = (d.0 == t) && (gref.0 == r)
 touches_entry d (call_steps.Pin p) t r = (p.dom.0 == t) && (p.gref.0 == r)
 touches_entry d (Exchange gref looked change) t r = (d.0 == t) && (gref.0 == r)
 touches_entry d step t r = false

@@ -60,11 +60,11 @@ pub record TicksAsRun (s : Setting) (h : History) (tasks : List RunTask) (k j : 
 -- the bytes in a call, if the action is one
 abbrev pub bytes_in : RunAction → List ℕ
 bytes_in (Do call) = call_bytes call
-bytes_in deed = []
+bytes_in run_action = []
 
 abbrev pub bytes_by : Option RunTask → List ℕ
 bytes_by None = []
-bytes_by (Some t) = bytes_in t.deed
+bytes_by (Some t) = bytes_in t.run_action
 
 -- the task at an index of a list, if there is an index
 abbrev pub task_in : List RunTask → Option ℕ → Option RunTask
@@ -74,7 +74,7 @@ task_in tasks (Some place) = slice_get tasks place
 -- the label to which a task gives its mapping
 abbrev pub label_given_by : RunAction → Option (List ℕ)
 label_given_by (Do call) = label_given call
-label_given_by deed = None
+label_given_by run_action = None
 
 -- the step
 
@@ -132,7 +132,7 @@ pub record EndsCallOfTask (h : History) (types : List (List ℕ)) (t : RunTask) 
   pub prints : PrintsLine led (answer_line types t.line t.dom answer)
   pub actor : Actor
   pub becomes : new.actors.items ≡ slice_set old.actors.items at actor
-  pub closed : CallIsOver (label_given_by t.deed) verdict a actor
+  pub closed : CallIsOver (label_given_by t.run_action) verdict a actor
   pub ground : new.ground ≡ old.ground
   pub told : new.told ≡ old.told
 

@@ -102,7 +102,7 @@ next_accesses next = false
 
 -- the task loads, or stores, through a mapping
 abbrev pub is_load : RunTask → Bool
-is_load t = by t.deed
+is_load t = by t.run_action
   where
     of_call : ScriptCall → Bool
     of_call (script_calls.Load label off len) = true
@@ -110,10 +110,10 @@ is_load t = by t.deed
 
     by : RunAction → Bool
     by (Do call) = of_call call
-    by deed = false
+    by run_action = false
 
 abbrev pub is_store : RunTask → Bool
-is_store t = by t.deed
+is_store t = by t.run_action
   where
     of_call : ScriptCall → Bool
     of_call (script_calls.Store label off hex) = true
@@ -121,7 +121,7 @@ is_store t = by t.deed
 
     by : RunAction → Bool
     by (Do call) = of_call call
-    by deed = false
+    by run_action = false
 
 -- what these tasks do through mappings; a copy may go through a transitive entry if the script may grant one
 abbrev pub use_of : Bool → List RunTask → MappingUse
@@ -183,7 +183,7 @@ meets_call uses next d (script_calls.GetVersion dom) = meets next (LooksHeader (
 
 -- it meets something that the task may touch
 abbrev pub meets_task : MappingUse → NextMove → RunTask → Bool
-meets_task uses next t = by t.deed
+meets_task uses next t = by t.run_action
   where
     by : RunAction → Bool
     by (Do call) = meets_call uses next t.dom call
@@ -225,11 +225,11 @@ may_meet next s place a =
 -- what a domain without an open call does next: it waits, unless the flag was raised, or is free to go on
 abbrev pub next_at_rest : List Bool → Option RunTask → NextMove
 next_at_rest told None = Free
-next_at_rest told (Some t) = by t.deed
+next_at_rest told (Some t) = by t.run_action
   where
     by : RunAction → NextMove
     by (Await flag) = if get_or told flag false then Free else Awaits flag
-    by deed = Free
+    by run_action = Free
 
 -- what the domain at this position does next
 abbrev pub next_move : SearchContext → List Bool → ℕ → Actor → NextMove

@@ -27,12 +27,12 @@ call_grants_via (script_calls.GrantBytes gref hex) = true
 call_grants_via call = false
 
 -- the action of a task may grant one; the task may
-abbrev pub deed_grants_via : RunAction → Bool
-deed_grants_via (Do call) = call_grants_via call
-deed_grants_via deed = false
+abbrev pub action_grants_via : RunAction → Bool
+action_grants_via (Do call) = call_grants_via call
+action_grants_via run_action = false
 
 abbrev pub grants_via : RunTask → Bool
-grants_via t = deed_grants_via t.deed
+grants_via t = action_grants_via t.run_action
 
 -- a request of a script: it is no probe, and grants no transitive entry unless the script may
 abbrev pub IsOfScript : Bool → OpenRequest → Type 0

@@ -52,7 +52,7 @@ fn bytes_of_task(alloc: Global, task: Option<&RunTask>) -> Result<Vec<u8>, Searc
     ensures { IfOk result (λ bytes. bytes.items ≡ bytes_by (option_map (λ t. t.now) task.entry)) }
 {
     match task {
-        Some(task) => match &task.deed {
+        Some(task) => match &task.run_action {
             RunAction::Do(call) => Ok(call_bytes(alloc, call)?),
             _ => Ok(Vec::new(alloc)),
         },
@@ -62,9 +62,9 @@ fn bytes_of_task(alloc: Global, task: Option<&RunTask>) -> Result<Vec<u8>, Searc
 
 // Returns the label to which a task gives its mapping.
 fn label_of<'a>(task: &RunTask<'a>) -> Option<&'a [u8]>
-    ensures { label_bytes result ≡ label_given_by task.now.deed }
+    ensures { label_bytes result ≡ label_given_by task.now.run_action }
 {
-    match &task.deed {
+    match &task.run_action {
         RunAction::Do(call) => label_given(call),
         _ => None,
     }
@@ -463,7 +463,7 @@ impl<'s, 'a> SearchContext<'s, 'a> {
         let Some(task) = self.task(at, actor.next) else {
             return self.give_back(world, turn);
         };
-        match &task.deed {
+        match &task.run_action {
             RunAction::Do(call) => {
                 said_fits(call);
                 self.begin(world, at, task, call)

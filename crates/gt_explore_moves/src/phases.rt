@@ -52,8 +52,8 @@ fn mix_via(digest: &mut Digest, via: Option<&HeldPin>) {
     }
 }
 
-fn mix_route(digest: &mut Digest, route: &AccessPath) {
-    match route {
+fn mix_access_path(digest: &mut Digest, access_path: &AccessPath) {
+    match access_path {
         AccessPath::Own => digest.mix(0),
         AccessPath::Direct(held) => {
             digest.mix(1);
@@ -68,8 +68,8 @@ fn mix_route(digest: &mut Digest, route: &AccessPath) {
 }
 
 fn mix_pins(digest: &mut Digest, pins: &CallPins) {
-    mix_route(digest, &pins.source);
-    mix_route(digest, &pins.dest)
+    mix_access_path(digest, &pins.source);
+    mix_access_path(digest, &pins.dest)
 }
 
 // Mixes in a phase of this number, with this number of tries left.
@@ -101,8 +101,8 @@ fn mix_leg_phase(digest: &mut Digest, at: &LegPhase) {
     }
 }
 
-fn mix_aim(digest: &mut Digest, aim: &PinPurpose) {
-    match aim {
+fn mix_purpose(digest: &mut Digest, pin_purpose: &PinPurpose) {
+    match pin_purpose {
         PinPurpose::Mapping => digest.mix(0),
         PinPurpose::Source { via, .. } => {
             digest.mix(1);
@@ -110,7 +110,7 @@ fn mix_aim(digest: &mut Digest, aim: &PinPurpose) {
         }
         PinPurpose::Dest { source, via, .. } => {
             digest.mix(2);
-            mix_route(digest, source);
+            mix_access_path(digest, source);
             mix_via(digest, via.as_ref())
         }
     }
@@ -156,16 +156,20 @@ pub fn mix_phase(digest: &mut Digest, phase: &Phase) {
             mix_try(digest, 5, *more);
             digest.mix(*looked)
         }
-        Phase::Walking { aim, leg, at } => {
+        Phase::Walking {
+            pin_purpose,
+            leg,
+            at,
+        } => {
             digest.mix(6);
-            mix_aim(digest, aim);
+            mix_purpose(digest, pin_purpose);
             mix_leg(digest, leg);
             mix_leg_phase(digest, at)
         }
         Phase::Accessing { source, dest, .. } => {
             digest.mix(7);
-            mix_route(digest, source);
-            mix_route(digest, dest)
+            mix_access_path(digest, source);
+            mix_access_path(digest, dest)
         }
         Phase::Asking { .. } => digest.mix(8),
         Phase::Last { .. } => digest.mix(9),

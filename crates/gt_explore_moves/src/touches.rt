@@ -311,7 +311,7 @@ fn meets_call(uses: MappingUse, next: NextMove, dom: DomId, call: &ScriptCall<'_
 pub fn meets_task(uses: MappingUse, next: NextMove, task: &RunTask<'_>) -> bool
     ensures { result ≡ meets_task uses next task.now }
 {
-    match &task.deed {
+    match &task.run_action {
         RunAction::Do(call) => meets_call(uses, next, task.dom, call),
         RunAction::Tell(flag) => meets(next, Touch::Raises(*flag)),
         RunAction::Await(_) => false,
@@ -322,14 +322,14 @@ pub fn meets_task(uses: MappingUse, next: NextMove, task: &RunTask<'_>) -> bool
 pub fn is_load(task: &RunTask<'_>) -> bool
     ensures { result ≡ is_load task.now }
 {
-    matches!(&task.deed, RunAction::Do(ScriptCall::Load { .. }))
+    matches!(&task.run_action, RunAction::Do(ScriptCall::Load { .. }))
 }
 
 /// Returns whether a task stores through a mapping.
 pub fn is_store(task: &RunTask<'_>) -> bool
     ensures { result ≡ is_store task.now }
 {
-    matches!(&task.deed, RunAction::Do(ScriptCall::Store { .. }))
+    matches!(&task.run_action, RunAction::Do(ScriptCall::Store { .. }))
 }
 
 /// Returns whether a next move meets what one of these mappings of another domain may touch.
@@ -366,7 +366,7 @@ fn call_grants_via(call: &ScriptCall<'_>) -> bool
 fn grants_via(task: &RunTask<'_>) -> bool
     ensures { result ≡ grants_via task.now }
 {
-    match &task.deed {
+    match &task.run_action {
         RunAction::Do(call) => call_grants_via(call),
         _ => false,
     }

@@ -50,7 +50,7 @@ use Rattle.gt_explore_replay.proofs.Places.{drop_all, drop_next}
 
 -- tasks that are numbered
 
-pub numbered_first : (n : ℕ) (t : RunTask) (ts : List RunTask) → AreNumbered n (t ∷ ts) → IsBelow n t.deed
+pub numbered_first : (n : ℕ) (t : RunTask) (ts : List RunTask) → AreNumbered n (t ∷ ts) → IsBelow n t.run_action
 numbered_first n t ts all = all 0 t (omega arith)
 
 pub numbered_rest : (n : ℕ) (t : RunTask) (ts : List RunTask) → AreNumbered n (t ∷ ts) → AreNumbered n ts
@@ -199,14 +199,14 @@ rests open_tasks.GivesBack o is so = absurd (cc)
 -- at its next line, a domain at rest does what the line says
 pub line_leads : (n : ℕ) (g h : History) (types : List (List ℕ)) (k j : Course) (v : Walker) (task : RunTask) (choice : ℕ) (x : Happening)
     → WalksAbreast n g h k v → v.doing ≡ open_tasks.Nothing → slice_get (tasks_left_of v) v.next ≡ Some task → CourseLeads types k choice x j
-    → ActionLeads types k task.line (drop (v.next + 1) (tasks_left_of v)) task.deed x j
+    → ActionLeads types k task.line (drop (v.next + 1) (tasks_left_of v)) task.run_action x j
 line_leads n g h types k j v task choice x walks idle at leads =
     let one = subst (λ (o : Opened). OpenLeads types k o choice x j) (rests v.doing k.opened idle walks.doing) leads in
     let two = subst (λ (l : List RunTask). RestLeads types k l choice x j) (sym walks.tasks ∙ drop_next (tasks_left_of v) v.next task at) one in
     two.1
 
 pub left_numbered : (n : ℕ) (g h : History) (k : Course) (v : Walker) (task : RunTask) → WalksAbreast n g h k v → slice_get (tasks_left_of v) v.next ≡ Some task
-    → IsBelow n task.deed × AreNumbered n (drop (v.next + 1) (tasks_left_of v))
+    → IsBelow n task.run_action × AreNumbered n (drop (v.next + 1) (tasks_left_of v))
 left_numbered n g h k v task walks at =
     let all = subst (λ (l : List RunTask). AreNumbered n l) (sym walks.tasks ∙ drop_next (tasks_left_of v) v.next task at) walks.numbered in
     (numbered_first n task (drop (v.next + 1) (tasks_left_of v)) all, numbered_rest n task (drop (v.next + 1) (tasks_left_of v)) all)
@@ -214,21 +214,21 @@ left_numbered n g h k v task walks at =
 -- the beginning of a line's call
 pub begin_came : (n : ℕ) (s : Setting) (types : List (List ℕ)) (hs : List Happening) (h : History) (k j : Course) (v w : Walker) (task : RunTask) (call : Bor ScriptCall) (choice : ℕ) (x : Happening) (m : Option Moved) (old new : CoreState)
     → WalksAbreast n (history_in hs) h k v → AreAlike s (history_in hs) h → CoreStands s h old → domain_of s.domains k.dom ≢ None
-    → slice_get (tasks_left_of v) v.next ≡ Some task → task.deed ≡ Do call.now → v.doing ≡ open_tasks.Nothing
+    → slice_get (tasks_left_of v) v.next ≡ Some task → task.run_action ≡ Do call.now → v.doing ≡ open_tasks.Nothing
     → CourseLeads types k choice x j → CanComeNext s hs x → BeginsLine s types old v task call m new w → Came n s (history_in hs) h k j x m new w
 begin_came n s types hs h k j v w task call choice x m old new walks alike stands there at does idle leads may (r, b, asks, makes, from) =
     let left = left_numbered n (history_in hs) h k v task walks at in
-    let deed = subst (λ (d : RunAction). ActionLeads types k task.line (drop (v.next + 1) (tasks_left_of v)) d x j) does (line_leads n (history_in hs) h types k j v task choice x walks idle at leads) in
-    let q = deed.0 in
-    let e = deed.1 in
+    let run_action = subst (λ (d : RunAction). ActionLeads types k task.line (drop (v.next + 1) (tasks_left_of v)) d x j) does (line_leads n (history_in hs) h types k j v task choice x walks idle at leads) in
+    let q = run_action.0 in
+    let e = run_action.1 in
     let theirs = subst (λ (d : DomId). MakesRequest walks.names d call.now r) walks.dom (asks walks.names walks.named) in
-    let same = asks_alike k.named walks.names k.dom call.now q r walks.same deed.2 theirs in
+    let same = asks_alike k.named walks.names k.dom call.now q r walks.same run_action.2 theirs in
     let rest = subst (λ (o : Opened). IsOpenSo (history_in hs) k.dom.0 o) (rests v.doing k.opened idle walks.doing) walks.opened in
-    let mine : MayDo s (history_in hs) (Begin k.dom q) e = subst (λ (z : Happening). CanComeNext s hs z) deed.3 may in
+    let mine : MayDo s (history_in hs) (Begin k.dom q) e = subst (λ (z : Happening). CanComeNext s hs z) run_action.3 may in
     let made = makes h stands in
-    let both = begins_alike s (history_in hs) h k.dom q r e (begun_element v.dom r b) alike same (asks_answered (history_in hs) k.named k.dom call.now q walks.mine deed.2)
+    let both = begins_alike s (history_in hs) h k.dom q r e (begun_element v.dom r b) alike same (asks_answered (history_in hs) k.named k.dom call.now q walks.mine run_action.2)
     (asks_answered h walks.names k.dom call.now r walks.theirs theirs) there rest mine (subst (λ (d : DomId). MayDo s h (Begin d r) (begun_element v.dom r b)) walks.dom made.0) in
-    by q e b same deed.3 deed.4 left.1 both made.1 from
+    by q e b same run_action.3 run_action.4 left.1 both made.1 from
   where
     by : (q : Request) (e : Element) (b : Begun) → bare_request q ≡ bare_request r → x ≡ did (Begin k.dom q) e
         → j ≡ course_after types task.line call.now (given_up q) (record k { tasks = drop (v.next + 1) (tasks_left_of v) }) (answer_in e)

@@ -49,7 +49,7 @@ unfolding open_call
 first_abreast c n d w first is numbered = record {
   dom = sym is;
   tasks = ap (λ (m : ℕ). drop m (tasks_left_of w)) first.next ∙ first.list ∙ ap (list_of c.tasks) (sym is);
-  numbered = All-filter (λ (t : RunTask). t.dom.0 == d.id.0) (λ (t : RunTask). IsBelow n t.deed) c.tasks numbered;
+  numbered = All-filter (λ (t : RunTask). t.dom.0 == d.id.0) (λ (t : RunTask). IsBelow n t.run_action) c.tasks numbered;
   doing = subst (λ (x : OpenTask). IsDoingSo x resting) (sym first.doing) tt;
   opened = refl;
   names = [];

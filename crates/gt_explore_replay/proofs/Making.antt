@@ -55,7 +55,7 @@ abbrev pub AsksSo : Walker → ScriptCall → Request → Type 0
 AsksSo v call request = (named : List Named) → AreNamed v.labels named → MakesRequest named v.dom call request
 
 pub line_open : (s : Setting) (types : List (List ℕ)) (old new : CoreState) (v : Walker) (task : RunTask) (call : Bor ScriptCall) (request : Request) (lost : Option Handle) (b : Begun)
-    → slice_get (tasks_left_of v) v.next ≡ Some task → task.deed ≡ Do call.now → v.doing ≡ open_tasks.Nothing → AsksSo v call.now request → lost ≡ given_up request → b ≡ beginnings.Open → BeginsSo s old new v request b
+    → slice_get (tasks_left_of v) v.next ≡ Some task → task.run_action ≡ Do call.now → v.doing ≡ open_tasks.Nothing → AsksSo v call.now request → lost ≡ given_up request → b ≡ beginnings.Open → BeginsSo s old new v request b
     → WalksTo s types old v (made.Began None) new (record v { next = v.next + 1; doing = open_tasks.Line task.line call lost })
 line_open s types old new v task call request lost b at does idle asks gives is told = λ h stands.
     let so = told h stands in (
@@ -68,7 +68,7 @@ line_open s types old new v task call request lost b at does idle asks gives is 
     )
 
 pub line_done : (s : Setting) (types : List (List ℕ)) (old new : CoreState) (v w : Walker) (task : RunTask) (call : Bor ScriptCall) (request : Request) (lost : Option Handle) (b : Begun) (answer : Answer)
-    → slice_get (tasks_left_of v) v.next ≡ Some task → task.deed ≡ Do call.now → v.doing ≡ open_tasks.Nothing → AsksSo v call.now request → lost ≡ given_up request → b ≡ beginnings.Done answer → BeginsSo s old new v request b
+    → slice_get (tasks_left_of v) v.next ≡ Some task → task.run_action ≡ Do call.now → v.doing ≡ open_tasks.Nothing → AsksSo v call.now request → lost ≡ given_up request → b ≡ beginnings.Done answer → BeginsSo s old new v request b
     → AnswersLine types task.line call.now lost answer (record v { next = v.next + 1 }) w → WalksTo s types old v (made.Began (Some answer)) new w
 line_done s types old new v w task call request lost b answer at does idle asks gives is told a = λ h stands.
     let so = told h stands in (

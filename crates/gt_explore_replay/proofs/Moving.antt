@@ -15,7 +15,7 @@ use Rattle.gt_script.specs.declared.tasks.RunActionBy.TheVariants.{Do, Tell, Awa
 use Rattle.gt_script_runs.specs.Naming.{AreNamed}
 use Rattle.gt_script_runs.specs.Printing.{answer_line}
 use Rattle.gt_script_runs.specs.Runs.{Named, MakesRequest, EndsWith, answer_in, handle_given, label_given, with_name}
-use Rattle.gt_explore_replay.specs.Orders.{Happening, did, raised, passed, CallGoesOn, CallHappens, DeedHappens}
+use Rattle.gt_explore_replay.specs.Orders.{Happening, did, raised, passed, CallGoesOn, CallHappens, ActionHappens}
 use Rattle.gt_explore_replay.specs.Orders.{FollowsList, GivesMappingsBack, given_up, held_after}
 use Rattle.gt_explore_replay.specs.Walking.{tasks_left_of, tasks_left, Continues, Moves, AnswersLine, IsClosedFrom}
 use Rattle.gt_explore_replay.specs.Walking.{ClosesCall}
@@ -72,18 +72,18 @@ text_printed v w line rest is = sym (append_assoc v line rest) ∙ ap (λ (l : L
 
 -- the first move of a line
 
-at_line : (types : List (List ℕ)) (v : Walker) (named : List Named) (task : RunTask) (deed : RunAction) (hs : List Happening) (text : List ℕ)
-    → slice_get (tasks_left_of v) v.next ≡ Some task → task.deed ≡ deed → v.doing ≡ open_tasks.Nothing
-    → DeedHappens types v.dom named v.held.items task.line deed (λ names holds more rest. FollowsList types v.dom names holds (drop (v.next + 1) (tasks_left_of v)) more rest) hs text
+at_line : (types : List (List ℕ)) (v : Walker) (named : List Named) (task : RunTask) (run_action : RunAction) (hs : List Happening) (text : List ℕ)
+    → slice_get (tasks_left_of v) v.next ≡ Some task → task.run_action ≡ run_action → v.doing ≡ open_tasks.Nothing
+    → ActionHappens types v.dom named v.held.items task.line run_action (λ names holds more rest. FollowsList types v.dom names holds (drop (v.next + 1) (tasks_left_of v)) more rest) hs text
     → Continues types v named v.doing hs text
 unfolding Continues
-at_line types v named task deed hs text at does idle follows =
-    let own = subst (λ (d : RunAction). DeedHappens types v.dom named v.held.items task.line d (λ names holds more rest. FollowsList types v.dom names holds (drop (v.next + 1) (tasks_left_of v)) more rest) hs text) (sym does) follows in
+at_line types v named task run_action hs text at does idle follows =
+    let own = subst (λ (d : RunAction). ActionHappens types v.dom named v.held.items task.line d (λ names holds more rest. FollowsList types v.dom names holds (drop (v.next + 1) (tasks_left_of v)) more rest) hs text) (sym does) follows in
     let all = subst (λ (l : List RunTask). FollowsList types v.dom named v.held.items l hs text) (sym (drop_next (tasks_left_of v) v.next task at)) own in
     subst (λ (d : OpenTask). Continues types v named d hs text) (sym idle) all
 
 pub begins_open : (types : List (List ℕ)) (v : Walker) (task : RunTask) (call : Bor ScriptCall) (request : Request) (lost : Option Handle) (x : Element)
-    → slice_get (tasks_left_of v) v.next ≡ Some task → task.deed ≡ Do call.now → v.doing ≡ open_tasks.Nothing
+    → slice_get (tasks_left_of v) v.next ≡ Some task → task.run_action ≡ Do call.now → v.doing ≡ open_tasks.Nothing
     → ((named : List Named) → AreNamed v.labels named → MakesRequest named v.dom call.now request) → lost ≡ given_up request → answer_in x ≡ None
     → Moves types v (did (Begin v.dom request) x) (record v { next = v.next + 1; doing = open_tasks.Line task.line call lost })
 unfolding Continues
@@ -106,7 +106,7 @@ begins_open types v task call request lost x at does idle asks gives none = reco
 }
 
 pub begins_done : (types : List (List ℕ)) (v w : Walker) (task : RunTask) (call : Bor ScriptCall) (request : Request) (lost : Option Handle) (x : Element) (answer : Answer)
-    → slice_get (tasks_left_of v) v.next ≡ Some task → task.deed ≡ Do call.now → v.doing ≡ open_tasks.Nothing
+    → slice_get (tasks_left_of v) v.next ≡ Some task → task.run_action ≡ Do call.now → v.doing ≡ open_tasks.Nothing
     → ((named : List Named) → AreNamed v.labels named → MakesRequest named v.dom call.now request) → lost ≡ given_up request → answer_in x ≡ Some answer
     → AnswersLine types task.line call.now lost answer (record v { next = v.next + 1 }) w
     → Moves types v (did (Begin v.dom request) x) w
@@ -134,7 +134,7 @@ begins_done types v w task call request lost x answer at does idle asks gives is
   );
 }
 
-pub tells : (types : List (List ℕ)) (v : Walker) (task : RunTask) (flag : ℕ) → slice_get (tasks_left_of v) v.next ≡ Some task → task.deed ≡ Tell flag → v.doing ≡ open_tasks.Nothing
+pub tells : (types : List (List ℕ)) (v : Walker) (task : RunTask) (flag : ℕ) → slice_get (tasks_left_of v) v.next ≡ Some task → task.run_action ≡ Tell flag → v.doing ≡ open_tasks.Nothing
     → Moves types v (raised v.dom flag) (record v { next = v.next + 1 })
 unfolding Continues
 tells types v task flag at does idle = record {
@@ -151,7 +151,7 @@ tells types v task flag at does idle = record {
   );
 }
 
-pub awaits : (types : List (List ℕ)) (v : Walker) (task : RunTask) (flag : ℕ) → slice_get (tasks_left_of v) v.next ≡ Some task → task.deed ≡ Await flag → v.doing ≡ open_tasks.Nothing
+pub awaits : (types : List (List ℕ)) (v : Walker) (task : RunTask) (flag : ℕ) → slice_get (tasks_left_of v) v.next ≡ Some task → task.run_action ≡ Await flag → v.doing ≡ open_tasks.Nothing
     → Moves types v (passed v.dom flag) (record v { next = v.next + 1 })
 unfolding Continues
 awaits types v task flag at does idle = record {

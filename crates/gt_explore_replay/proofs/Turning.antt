@@ -23,7 +23,7 @@ use Rattle.gt_script_runs.specs.Printing.{answer_line}
 use Rattle.gt_script_runs.specs.Runs.{EndsWith, AnswerNothing, answer_in, handle_given, label_given, with_name}
 use Rattle.gt_explore_search.specs.declared.spaces.Turn.{Turn}
 use Rattle.gt_explore_replay.specs.Orders.{Happening, did, doer, own_happenings, given_up, held_after, ticks_of}
-use Rattle.gt_explore_replay.specs.Orders.{CallGoesOn, CallHappens, GivesMappingsBack, FollowsList, DeedHappens}
+use Rattle.gt_explore_replay.specs.Orders.{CallGoesOn, CallHappens, GivesMappingsBack, FollowsList, ActionHappens}
 use Rattle.gt_explore_replay.specs.Orders.{Prints, AllFollow, IsOrderOf}
 use Rattle.gt_explore_replay.specs.Walking.{HaveOwnIds}
 use Rattle.gt_explore_replay.specs.Courses.{Opened, resting, calling, giving, Course, course_answered, course_after}
@@ -130,10 +130,10 @@ line-next types k line call lost left e more part (inr (none, goes)) = record {
   dom = refl;
 }
 
-deed-next : (types : List (List ℕ)) (k : Course) (line : ℕ) (left : List RunTask) (deed : RunAction) (x : Happening) (more : List Happening) (part : List ℕ)
-    → DeedHappens types k.dom k.named k.held line deed (λ names holds later rest. FollowsList types k.dom names holds left later rest) (x ∷ more) part
-    → k.opened ≡ resting → Next types k (λ c j. ActionLeads types k line left deed x j) more part
-deed-next types k line left (Tell flag) x more part (later, is, follows) idle = record {
+run_action-next : (types : List (List ℕ)) (k : Course) (line : ℕ) (left : List RunTask) (run_action : RunAction) (x : Happening) (more : List Happening) (part : List ℕ)
+    → ActionHappens types k.dom k.named k.held line run_action (λ names holds later rest. FollowsList types k.dom names holds left later rest) (x ∷ more) part
+    → k.opened ≡ resting → Next types k (λ c j. ActionLeads types k line left run_action x j) more part
+run_action-next types k line left (Tell flag) x more part (later, is, follows) idle = record {
   choice = 0;
   next = record k { tasks = left };
   rest = part;
@@ -145,7 +145,7 @@ deed-next types k line left (Tell flag) x more part (later, is, follows) idle = 
   text = refl;
   dom = refl;
 }
-deed-next types k line left (Await flag) x more part (later, is, follows) idle = record {
+run_action-next types k line left (Await flag) x more part (later, is, follows) idle = record {
   choice = 0;
   next = record k { tasks = left };
   rest = part;
@@ -157,7 +157,7 @@ deed-next types k line left (Await flag) x more part (later, is, follows) idle =
   text = refl;
   dom = refl;
 }
-deed-next types k line left (Do call) x more part (request, asks, happens) idle =
+run_action-next types k line left (Do call) x more part (request, asks, happens) idle =
     let begun = begins-next k.dom request (λ answer later.
     Prints (answer_line types line k.dom answer)
     (FollowsList types k.dom (with_name k.named k.dom (label_given call) (handle_given answer)) (held_after k.held (given_up request) answer) left later)
@@ -231,7 +231,7 @@ rest-next : (types : List (List ℕ)) (k : Course) (tasks : List RunTask) (x : H
     → FollowsList types k.dom k.named k.held tasks (x ∷ more) part → Next types k (λ c j. RestLeads types k tasks c x j) more part
 rest-next types k [] x more part end idle (order, gives, nothing) = gives-next types k order x more part nothing gives end
 rest-next types k (t ∷ ts) x more part end idle follows =
-    let n = deed-next types k t.line ts t.deed x more part follows idle in
+    let n = run_action-next types k t.line ts t.run_action x more part follows idle in
     record {
       choice = 0;
       next = n.next;
@@ -299,9 +299,9 @@ open-next types k giving x more part is goes =
 over-by : (types : List (List ℕ)) (k : Course) (tasks : List RunTask) (part : List ℕ) → FollowsList types k.dom k.named k.held tasks [] part → (tasks ≡ []) × (k.held ≡ []) × (part ≡ [])
 over-by types k [] part ([], (none, nothing), is) = (refl, none, is)
 over-by types k [] part (handle ∷ order, (before, after, is, (e, trace, answer, more, so, ends, gives)), nothing) = absurd (cc)
-over-by types k (t ∷ ts) part follows = absurd (by t.deed follows)
+over-by types k (t ∷ ts) part follows = absurd (by t.run_action follows)
   where
-    by : (deed : RunAction) → DeedHappens types k.dom k.named k.held t.line deed (λ names holds later rest. FollowsList types k.dom names holds ts later rest) [] part → ⊥
+    by : (run_action : RunAction) → ActionHappens types k.dom k.named k.held t.line run_action (λ names holds later rest. FollowsList types k.dom names holds ts later rest) [] part → ⊥
     by (Tell flag) (more, is, follows) = cc
     by (Await flag) (more, is, follows) = cc
     by (Do call) (request, asks, (e, trace, answer, more, so, ends, done)) = cc

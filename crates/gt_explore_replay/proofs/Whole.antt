@@ -163,7 +163,7 @@ same_setting a b x y e f = ap (λ (c : Config). setting_of c (may_by x)) e ∙ a
 pub begin_comes : {E : Type 0} (c : RunContents) (hs : List Happening) (ks : List Course) (r q : Replay) (x : Happening) (place choice : ℕ) (k j : Course) (v w : Walker) (task : RunTask) (call : Bor ScriptCall) (names : List (List ℕ)) (res : Result (Option Moved) E)
     → IsAbreast c hs ks r → slice_get ks place ≡ Some k → slice_get r.walkers.items place ≡ Some v → names ≡ r.types.items
     → q.core.config ≡ r.core.config → q.core.rights ≡ r.core.rights → q.types.items ≡ r.types.items → q.walkers.items ≡ set r.walkers.items place w → q.told.items ≡ r.told.items
-    → slice_get (tasks_left_of v) v.next ≡ Some task → task.deed ≡ Do call.now → v.doing ≡ open_tasks.Nothing
+    → slice_get (tasks_left_of v) v.next ≡ Some task → task.run_action ≡ Do call.now → v.doing ≡ open_tasks.Nothing
     → CourseLeads (type_names c.head) k choice x j → CanComeNext (setting_of_script c.head) hs x
     → IfOk res (λ m. BeginsLine (setting_in may_by r.core) names r.core.state v task call m q.core.state w)
     → IfOk res (λ m. IsSome m × IsAbreast c (hs ++ x ∷ []) (set ks place j) q)
@@ -205,7 +205,7 @@ give_comes c hs ks r q x place choice k j v w (Ok m) abreast at there config rig
 
 -- a flag that is to be raised has a place
 pub tell_below : (c : RunContents) (hs : List Happening) (ks : List Course) (r : Replay) (place : ℕ) (k : Course) (v : Walker) (task : RunTask) (flag : ℕ)
-    → IsAbreast c hs ks r → slice_get ks place ≡ Some k → slice_get r.walkers.items place ≡ Some v → slice_get (tasks_left_of v) v.next ≡ Some task → task.deed ≡ Tell flag → flag < length r.told.items
+    → IsAbreast c hs ks r → slice_get ks place ≡ Some k → slice_get r.walkers.items place ≡ Some v → slice_get (tasks_left_of v) v.next ≡ Some task → task.run_action ≡ Tell flag → flag < length r.told.items
 tell_below c hs ks r place k v task flag abreast at there next does =
     let below = left_numbered (length r.told.items) (history_in hs) abreast.replayed k v task (abreast.each place k v at there) next in
     subst (λ (d : RunAction). IsBelow (length r.told.items) d) does below.0
@@ -213,21 +213,21 @@ tell_below c hs ks r place k v task flag abreast at there next does =
 pub tell_comes : (c : RunContents) (hs : List Happening) (ks : List Course) (r q : Replay) (x : Happening) (place choice : ℕ) (k j : Course) (v : Walker) (task : RunTask) (flag : ℕ)
     → IsAbreast c hs ks r → slice_get ks place ≡ Some k → slice_get r.walkers.items place ≡ Some v
     → q.core ≡ r.core → q.types.items ≡ r.types.items → q.walkers.items ≡ set r.walkers.items place (record v { next = v.next + 1 }) → q.told.items ≡ set r.told.items flag true
-    → slice_get (tasks_left_of v) v.next ≡ Some task → task.deed ≡ Tell flag → v.doing ≡ open_tasks.Nothing → CourseLeads (type_names c.head) k choice x j
+    → slice_get (tasks_left_of v) v.next ≡ Some task → task.run_action ≡ Tell flag → v.doing ≡ open_tasks.Nothing → CourseLeads (type_names c.head) k choice x j
     → IsAbreast c (hs ++ x ∷ []) (set ks place j) q
 tell_comes c hs ks r q x place choice k j v task flag abreast at there core types walkers told next does idle leads =
     let walks = abreast.each place k v at there in
     let below = left_numbered (length r.told.items) (history_in hs) abreast.replayed k v task walks next in
     let fits = tell_below c hs ks r place k v task flag abreast at there next does in
-    let deed : (x ≡ raised k.dom flag) × (j ≡ record k { tasks = drop (v.next + 1) (tasks_left_of v) }) =
+    let run_action : (x ≡ raised k.dom flag) × (j ≡ record k { tasks = drop (v.next + 1) (tasks_left_of v) }) =
     subst (λ (d : RunAction). ActionLeads (type_names c.head) k task.line (drop (v.next + 1) (tasks_left_of v)) d x j) does (line_leads (length r.told.items) (history_in hs) abreast.replayed (type_names c.head) k j v task choice x walks idle next leads) in
-    comes_quiet c hs ks r q x place k j v (record v { next = v.next + 1 }) (subst IsQuiet (sym deed.0) (tells k.dom flag)) abreast at there core types walkers (ap length told ∙ length-set r.told.items flag true)
-    (subst (λ (i : Course). WalksAbreast (length r.told.items) (history_in hs) abreast.replayed i (record v { next = v.next + 1 })) (sym deed.1)
+    comes_quiet c hs ks r q x place k j v (record v { next = v.next + 1 }) (subst IsQuiet (sym run_action.0) (tells k.dom flag)) abreast at there core types walkers (ap length told ∙ length-set r.told.items flag true)
+    (subst (λ (i : Course). WalksAbreast (length r.told.items) (history_in hs) abreast.replayed i (record v { next = v.next + 1 })) (sym run_action.1)
     (goes_past (length r.told.items) (history_in hs) abreast.replayed k v (drop (v.next + 1) (tasks_left_of v)) walks refl below.1))
-    (ap (λ (i : Course). i.dom) deed.1)
+    (ap (λ (i : Course). i.dom) run_action.1)
     (λ f before. elim (raised_or hs x f before) [
       | inl old ↦ ap (λ (l : List Bool). get_or l f false) told ∙ set_keeps r.told.items flag f (abreast.told f old)
-      | inr (d, same) ↦ ap (λ (l : List Bool). get_or l f false) told ∙ subst (λ (n : ℕ). get_or (set r.told.items flag true) n false ≡ true) (one_flag k.dom d flag f (sym deed.0 ∙ same)) (get_or-set_same r.told.items flag true false fits)
+      | inr (d, same) ↦ ap (λ (l : List Bool). get_or l f false) told ∙ subst (λ (n : ℕ). get_or (set r.told.items flag true) n false ≡ true) (one_flag k.dom d flag f (sym run_action.0 ∙ same)) (get_or-set_same r.told.items flag true false fits)
     ])
   where
     one_flag : (d e : DomId) (a b : ℕ) → raised d a ≡ raised e b → a ≡ b
@@ -235,32 +235,32 @@ tell_comes c hs ks r q x place choice k j v task flag abreast at there core type
 
 -- a flag that is to be passed is raised
 pub await_told : (c : RunContents) (hs : List Happening) (ks : List Course) (r : Replay) (x : Happening) (place choice : ℕ) (k j : Course) (v : Walker) (task : RunTask) (flag : ℕ)
-    → IsAbreast c hs ks r → slice_get ks place ≡ Some k → slice_get r.walkers.items place ≡ Some v → slice_get (tasks_left_of v) v.next ≡ Some task → task.deed ≡ Await flag → v.doing ≡ open_tasks.Nothing
+    → IsAbreast c hs ks r → slice_get ks place ≡ Some k → slice_get r.walkers.items place ≡ Some v → slice_get (tasks_left_of v) v.next ≡ Some task → task.run_action ≡ Await flag → v.doing ≡ open_tasks.Nothing
     → CourseLeads (type_names c.head) k choice x j → CanComeNext (setting_of_script c.head) hs x → get_or r.told.items flag false ≡ true
 await_told c hs ks r x place choice k j v task flag abreast at there next does idle leads may =
-    let deed : (x ≡ passed k.dom flag) × (j ≡ record k { tasks = drop (v.next + 1) (tasks_left_of v) }) =
+    let run_action : (x ≡ passed k.dom flag) × (j ≡ record k { tasks = drop (v.next + 1) (tasks_left_of v) }) =
     subst (λ (d : RunAction). ActionLeads (type_names c.head) k task.line (drop (v.next + 1) (tasks_left_of v)) d x j) does
     (line_leads (length r.told.items) (history_in hs) abreast.replayed (type_names c.head) k j v task choice x (abreast.each place k v at there) idle next leads) in
-    let before : IsRaisedBefore (length hs) flag hs = subst (λ (z : Happening). CanComeNext (setting_of_script c.head) hs z) deed.0 may in
+    let before : IsRaisedBefore (length hs) flag hs = subst (λ (z : Happening). CanComeNext (setting_of_script c.head) hs z) run_action.0 may in
     abreast.told flag before
 
 pub await_comes : (c : RunContents) (hs : List Happening) (ks : List Course) (r q : Replay) (x : Happening) (place choice : ℕ) (k j : Course) (v : Walker) (task : RunTask) (flag : ℕ)
     → IsAbreast c hs ks r → slice_get ks place ≡ Some k → slice_get r.walkers.items place ≡ Some v
     → q.core ≡ r.core → q.types.items ≡ r.types.items → q.walkers.items ≡ set r.walkers.items place (record v { next = v.next + 1 }) → q.told.items ≡ r.told.items
-    → slice_get (tasks_left_of v) v.next ≡ Some task → task.deed ≡ Await flag → v.doing ≡ open_tasks.Nothing → CourseLeads (type_names c.head) k choice x j
+    → slice_get (tasks_left_of v) v.next ≡ Some task → task.run_action ≡ Await flag → v.doing ≡ open_tasks.Nothing → CourseLeads (type_names c.head) k choice x j
     → IsAbreast c (hs ++ x ∷ []) (set ks place j) q
 await_comes c hs ks r q x place choice k j v task flag abreast at there core types walkers told next does idle leads =
     let walks = abreast.each place k v at there in
     let below = left_numbered (length r.told.items) (history_in hs) abreast.replayed k v task walks next in
-    let deed : (x ≡ passed k.dom flag) × (j ≡ record k { tasks = drop (v.next + 1) (tasks_left_of v) }) =
+    let run_action : (x ≡ passed k.dom flag) × (j ≡ record k { tasks = drop (v.next + 1) (tasks_left_of v) }) =
     subst (λ (d : RunAction). ActionLeads (type_names c.head) k task.line (drop (v.next + 1) (tasks_left_of v)) d x j) does (line_leads (length r.told.items) (history_in hs) abreast.replayed (type_names c.head) k j v task choice x walks idle next leads) in
-    comes_quiet c hs ks r q x place k j v (record v { next = v.next + 1 }) (subst IsQuiet (sym deed.0) (waits k.dom flag)) abreast at there core types walkers (ap length told)
-    (subst (λ (i : Course). WalksAbreast (length r.told.items) (history_in hs) abreast.replayed i (record v { next = v.next + 1 })) (sym deed.1)
+    comes_quiet c hs ks r q x place k j v (record v { next = v.next + 1 }) (subst IsQuiet (sym run_action.0) (waits k.dom flag)) abreast at there core types walkers (ap length told)
+    (subst (λ (i : Course). WalksAbreast (length r.told.items) (history_in hs) abreast.replayed i (record v { next = v.next + 1 })) (sym run_action.1)
     (goes_past (length r.told.items) (history_in hs) abreast.replayed k v (drop (v.next + 1) (tasks_left_of v)) walks refl below.1))
-    (ap (λ (i : Course). i.dom) deed.1)
+    (ap (λ (i : Course). i.dom) run_action.1)
     (λ f before. elim (raised_or hs x f before) [
       | inl old ↦ ap (λ (l : List Bool). get_or l f false) told ∙ abreast.told f old
-      | inr (d, same) ↦ absurd (no_flag k.dom d flag f (sym deed.0 ∙ same))
+      | inr (d, same) ↦ absurd (no_flag k.dom d flag f (sym run_action.0 ∙ same))
     ])
   where
     no_flag : (d e : DomId) (a b : ℕ) → passed d a ≡ raised e b → ⊥

@@ -67,7 +67,7 @@ GivesAt k choice x j =
 -- by this happening a domain at rest moves
 abbrev pub RestLeads : List (List ℕ) → Course → List RunTask → ℕ → Happening → Course → Type 0
 RestLeads types k [] choice x j = GivesAt k choice x j
-RestLeads types k (t ∷ ts) choice x j = (choice ≡ 0) × ActionLeads types k t.line ts t.deed x j
+RestLeads types k (t ∷ ts) choice x j = (choice ≡ 0) × ActionLeads types k t.line ts t.run_action x j
 
 -- by this happening a domain with this open moves
 abbrev pub OpenLeads : List (List ℕ) → Course → Opened → ℕ → Happening → Course → Type 0

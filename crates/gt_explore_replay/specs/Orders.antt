@@ -100,13 +100,13 @@ Prints line Rest text = (rest : List ℕ) × (text ≡ line ++ rest) × Rest res
 
 -- a domain takes the action of a line, and the rest follows with what its labels then name, the handles that it then
 -- has, and what it prints after that
-abbrev pub DeedHappens : List (List ℕ) → DomId → List Named → List Handle → ℕ → RunAction
+abbrev pub ActionHappens : List (List ℕ) → DomId → List Named → List Handle → ℕ → RunAction
     → (List Named → List Handle → List Happening → List ℕ → Type 0) → List Happening → List ℕ → Type 0
-DeedHappens types dom named held line (Tell flag) Next hs text =
+ActionHappens types dom named held line (Tell flag) Next hs text =
     (more : List Happening) × (hs ≡ raised dom flag ∷ more) × Next named held more text
-DeedHappens types dom named held line (Await flag) Next hs text =
+ActionHappens types dom named held line (Await flag) Next hs text =
     (more : List Happening) × (hs ≡ passed dom flag ∷ more) × Next named held more text
-DeedHappens types dom named held line (Do call) Next hs text =
+ActionHappens types dom named held line (Do call) Next hs text =
     (request : Request) × MakesRequest named dom call request
     × CallHappens dom request (λ answer more.
     Prints (answer_line types line dom answer)
@@ -117,7 +117,7 @@ DeedHappens types dom named held line (Do call) Next hs text =
 abbrev pub FollowsList : List (List ℕ) → DomId → List Named → List Handle → List RunTask → List Happening → List ℕ → Type 0
 FollowsList types dom named held [] hs text = (order : List Handle) × GivesMappingsBack dom order held hs × (text ≡ [])
 FollowsList types dom named held (t ∷ ts) hs text =
-    DeedHappens types dom named held t.line t.deed
+    ActionHappens types dom named held t.line t.run_action
     (λ names holds more rest. FollowsList types dom names holds ts more rest) hs text
 
 -- scripts

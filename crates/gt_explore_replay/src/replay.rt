@@ -164,7 +164,7 @@ impl<'s, 'a> Replay<'s, 'a> {
         let Some(task) = walker.task() else {
             return walker.give_back(&mut self.core, turn.choice);
         };
-        match &task.deed {
+        match &task.run_action {
             RunAction::Do(call) => walker.begin(self.alloc, &mut self.core, types, task, call),
             RunAction::Tell(flag) => {
                 if raise(&mut self.told, *flag) {

@@ -217,7 +217,7 @@ impl<'s, 'a> Walker<'s, 'a> {
     ) -> Result<Option<Moved>, Memory>
         requires next { slice_get (tasks_left_of self.old) self.old.next ≡ Some task.now }
         requires room { self.old.next < length self.old.tasks.items }
-        requires does { task.now.deed ≡ run_actions.Do call.now }
+        requires does { task.now.run_action ≡ run_actions.Do call.now }
         requires idle { self.old.doing ≡ open_tasks.Nothing }
         ensures makes { IfOk result (λ m. IfSome m (λ moved. WalksTo (setting_in may_by core.old) types.now
             core.old.state self.old moved core.new.state self.new)) }

@@ -95,7 +95,7 @@ written-back n ws xs same all =
 pub many-after : (ds : List DomainConfig) (first at : ℕ) (step : Step) (seen : Observation) (old new : List SparseTable) → TablesAfter ds first at step seen old new → length new ≡ length old
 many-after ds first at (call_steps.Pin p) Taken old new t = t.many
 many-after ds first at (Unpin p holder) seen old new t = t.many
-many-after ds first at (StoreBody gref half word) seen old new t = t.many
+many-after ds first at (StoreBody gref body_word word) seen old new t = t.many
 many-after ds first at (StoreHeader version frames) seen old new t = t.many
 many-after ds first at (Exchange gref looked change) Taken old new t = t.many
 many-after ds first at step seen old new t = ap length t

@@ -48,7 +48,7 @@ module _ (s : Setting) (h : History) (xs : List State) (x : State) (o : OpenCall
   pub looks : (z : Step) → o.step ≡ z → LooksInRun s x.id z
   looks (LookHeader dom) e = of-state s h xs dom st (within (LookHeader dom) e)
   looks (LookControl dom gref) e = of-state s h xs dom st (within (LookControl dom gref) e).0
-  looks (LookBody dom gref half) e = of-state s h xs dom st (within (LookBody dom gref half) e).0
+  looks (LookBody dom gref body_word) e = of-state s h xs dom st (within (LookBody dom gref body_word) e).0
   looks (call_steps.Pin p) e = of-state s h xs p.dom st (within (call_steps.Pin p) e).0
   looks (Exchange gref looked change) e = of-state s h xs x.id st (within (Exchange gref looked change) e).0
   looks z e = tt

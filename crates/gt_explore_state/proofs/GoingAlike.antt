@@ -142,8 +142,8 @@ access-granted : (s : Setting) (h : History) (d : DomId) (r : OpenRequest) (so_f
 access-granted s h d r so_far (Accessing c source dest) z v a p place e = giving-granted (last_first (record { source = source; dest = dest })) v e
 access-granted s h d r so_far (Last last verdict) z v a p place e = let same : last ≡ z = makes-same last z p in
     let g : verdict ≡ Granted = last-granted r last verdict (subst IsAccess (sym same) a) place in let f : Done verdict ≡ Done v = e in cc
-access-granted s h d r so_far (Walking aim l at) z v a p place e =
-    absurd (by-leg (λ (y : Step). y ≡ z → ⊥) (λ dom f. subst IsAccess (sym f) a) (λ dom gref f. subst IsAccess (sym f) a) (λ dom gref half f. subst IsAccess (sym f) a) (λ q f. subst IsAccess (sym f) a) l at (makes-same _ z p))
+access-granted s h d r so_far (Walking pin_purpose l at) z v a p place e =
+    absurd (by-leg (λ (y : Step). y ≡ z → ⊥) (λ dom f. subst IsAccess (sym f) a) (λ dom gref f. subst IsAccess (sym f) a) (λ dom gref body_word f. subst IsAccess (sym f) a) (λ q f. subst IsAccess (sym f) a) l at (makes-same _ z p))
 access-granted s h d r so_far (Ending pins verdict) z v a p place e = absurd (by-giving (λ (y : Step). y ≡ z → ⊥) (λ q n f. subst IsAccess (sym f) a) (last_first pins) verdict z p refl)
 access-granted s h d r so_far (Storing gref entry) z v a p place e = absurd (subst IsAccess (sym (makes-same _ z p)) a)
 access-granted s h d r so_far (StoringSecond gref entry) z v a p place e = absurd (subst IsAccess (sym (makes-same _ z p)) a)

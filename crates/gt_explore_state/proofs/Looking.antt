@@ -62,14 +62,14 @@ module _ (s : Setting) (h : History) (c : Config) (ts : List SparseTable) (set :
       ∙ ap (λ (n : ℕ). control_word (control_with (entry_at h d.0 r) (generation_at s h d.0 r) n (counts_in t.0.counts.items r).writes)) z.reads
       ∙ ap (λ (n : ℕ). control_word (control_with (entry_at h d.0 r) (generation_at s h d.0 r) (reads_at h d.0 r) n)) z.writes
 
-  body-is : (d : DomId) (r : ℕ) (half : BodyWord) → IsInRun s d → body_in_table (table_in c.domains.items ts d.0) r half ≡ body_at h d.0 r half
+  body-is : (d : DomId) (r : ℕ) (body_word : BodyWord) → IsInRun s d → body_in_table (table_in c.domains.items ts d.0) r body_word ≡ body_at h d.0 r body_word
   body-is d r body_words.First some = let t = there d some in ap (λ (o : Option SparseTable). body_in_table o r body_words.First) t.1 ∙ (t.2.counts r).first
   body-is d r body_words.Second some = let t = there d some in ap (λ (o : Option SparseTable). body_in_table o r body_words.Second) t.1 ∙ (t.2.counts r).second
 
   pub saw : (d : DomId) (step : Step) → LooksInRun s d step → step_sees c.domains.items c.first_gen ts d step ≡ seen_by s h d step
   saw d (LookHeader dom) run = let t = there dom run in ap (λ (n : ℕ). Word n) (ap header_in_table t.1 ∙ ap header_word t.2.header)
   saw d (LookControl dom gref) run = ap (λ (n : ℕ). Word n) (word-is dom gref.0 run)
-  saw d (LookBody dom gref half) run = ap (λ (n : ℕ). Word n) (body-is dom gref.0 half run)
+  saw d (LookBody dom gref body_word) run = ap (λ (n : ℕ). Word n) (body-is dom gref.0 body_word run)
   saw d (call_steps.Pin p) run = ap (λ (n : ℕ). exchange_sees n p.word) (word-is p.dom p.gref.0 run)
   saw d (Exchange gref looked change) run = ap (λ (n : ℕ). exchange_sees n looked) (word-is d gref.0 run)
   saw d step run = refl

@@ -73,13 +73,13 @@ moves-down s h d p holder seen answer loses = λ u q c a. let i = stepped d (Unp
     counted-down h (i ∷ h) u q p.dir ((p.dom.0 == u) && (p.gref.0 == q)) c a (λ which. unstored i h u q which refl)
     (λ k. loses u q k ∙ ap (λ ps. cond (((p.dom.0 == u) && (p.gref.0 == q)) && same_dir p.dir k) 1 0 + count_by (is_pin_on u q k) ps) (sym (unpinned-live h d p holder seen answer)))
 
-stores-known : (d : DomId) (gref : GrantRef) (half : BodyWord) (word : ℕ) (seen : Observation) (answer : Option Answer) (h : History) → live (stepped d (StoreBody gref half word) seen answer ∷ h) ≡ live h
+stores-known : (d : DomId) (gref : GrantRef) (body_word : BodyWord) (word : ℕ) (seen : Observation) (answer : Option Answer) (h : History) → live (stepped d (StoreBody gref body_word word) seen answer ∷ h) ≡ live h
 unfolding live
-stores-known d gref half word seen answer h = append-nil (live h)
+stores-known d gref body_word word seen answer h = append-nil (live h)
 
-moves-stored : (d : DomId) (gref : GrantRef) (half : BodyWord) (word : ℕ) (seen : Observation) (answer : Option Answer) (h : History) → Moves h (stepped d (StoreBody gref half word) seen answer ∷ h) d.0 gref.0 (Stored half word)
+moves-stored : (d : DomId) (gref : GrantRef) (body_word : BodyWord) (word : ℕ) (seen : Observation) (answer : Option Answer) (h : History) → Moves h (stepped d (StoreBody gref body_word word) seen answer ∷ h) d.0 gref.0 (Stored body_word word)
 unfolding body_at
-moves-stored d gref half word seen answer h = λ u q c a. grind (arith, stores-known d gref half word seen answer h)
+moves-stored d gref body_word word seen answer h = λ u q c a. grind (arith, stores-known d gref body_word word seen answer h)
 
 -- tables
 
@@ -239,8 +239,8 @@ module _ (s : Setting) (apart : AllPairs (λ d e. d.id.0 ≢ e.id.0) s.domains) 
       (record { changes = λ r. refl; header = refl }) (moves-up s h actor.id p answer fits) t
   step-shown at actor answer is (Unpin p holder) seen fits t = counts-shown s apart h old new shows (stepped actor.id (Unpin p holder) seen answer) (place_of_domain s.domains p.dom.0) p.dom.0 p.gref.0 (Unpinned p.dir) refl
       (record { changes = λ r. refl; header = refl }) (moves-down s h actor.id p holder seen answer fits) t
-  step-shown at actor answer is (StoreBody gref half word) seen fits t = counts-shown s apart h old new shows (stepped actor.id (StoreBody gref half word) seen answer) (Some at) actor.id.0 gref.0 (Stored half word)
-      (sym (placed s.domains apart at actor is)) (record { changes = λ r. refl; header = refl }) (moves-stored actor.id gref half word seen answer h) t
+  step-shown at actor answer is (StoreBody gref body_word word) seen fits t = counts-shown s apart h old new shows (stepped actor.id (StoreBody gref body_word word) seen answer) (Some at) actor.id.0 gref.0 (Stored body_word word)
+      (sym (placed s.domains apart at actor is)) (record { changes = λ r. refl; header = refl }) (moves-stored actor.id gref body_word word seen answer h) t
   step-shown at actor answer is (StoreHeader version frames) seen fits t = one-shown s apart h old new shows (stepped actor.id (StoreHeader version frames) seen answer) at actor (HeaderStored version frames) is t
       (λ d y x e z a. header-shows s h actor.id version frames seen answer d.id y x a (z.header ∙ fits-header version frames fits.0 fits.1 ∙ sym (header-now s h actor.id version frames seen answer d.id true e)) z.own z.counts)
       (λ d x e a. header-shows s h actor.id version frames seen answer d.id x x a (a.header ∙ sym (header-now s h actor.id version frames seen answer d.id false e)) refl refl)

@@ -38,4 +38,4 @@ pub record OwnBecomes (first : ℕ) (old new : List OwnerEntry) (at : ℕ) (chan
 
 -- a body word of entry r
 abbrev pub body_in_rows : List PinCounts → ℕ → BodyWord → ℕ
-body_in_rows counts r half = slot_body (Some (counts_in counts r)) half
+body_in_rows counts r body_word = slot_body (Some (counts_in counts r)) body_word

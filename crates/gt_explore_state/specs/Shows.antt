@@ -54,7 +54,7 @@ IsInRun s d = domain_of s.domains d ≢ None
 abbrev pub LooksInRun : Setting → DomId → Step → Type 0
 LooksInRun s d (LookHeader dom) = IsInRun s dom
 LooksInRun s d (LookControl dom gref) = IsInRun s dom
-LooksInRun s d (LookBody dom gref half) = IsInRun s dom
+LooksInRun s d (LookBody dom gref body_word) = IsInRun s dom
 LooksInRun s d (call_steps.Pin p) = IsInRun s p.dom
 LooksInRun s d (Exchange gref looked change) = IsInRun s d
 LooksInRun s d step = Unit {0}

@@ -65,8 +65,8 @@ TablesAfter ds first at (Pin p) Taken old new =
     OneBecomes (place_of_domain ds p.dom.0) (CountsChangeOf p.gref.0 (Pinned p.dir)) old new
 TablesAfter ds first at (Unpin p holder) seen old new =
     OneBecomes (place_of_domain ds p.dom.0) (CountsChangeOf p.gref.0 (Unpinned p.dir)) old new
-TablesAfter ds first at (StoreBody gref half word) seen old new =
-    OneBecomes (Some at) (CountsChangeOf gref.0 (Stored half word)) old new
+TablesAfter ds first at (StoreBody gref body_word word) seen old new =
+    OneBecomes (Some at) (CountsChangeOf gref.0 (Stored body_word word)) old new
 TablesAfter ds first at (StoreHeader version frames) seen old new =
     OneBecomes (Some at) (HeaderStored version frames) old new
 TablesAfter ds first at (Exchange gref looked change) Taken old new =
@@ -89,18 +89,18 @@ word_seen first (Some t) r = word_in first t.own.items t.counts.items r
 
 -- a body word of entry r of a table, 0 if there is none
 abbrev pub body_in_table : Option SparseTable → ℕ → BodyWord → ℕ
-body_in_table None r half = 0
-body_in_table (Some t) r half = body_in_rows t.counts.items r half
+body_in_table None r body_word = 0
+body_in_table (Some t) r body_word = body_in_rows t.counts.items r body_word
 
 -- what a step of domain d sees
 abbrev pub step_sees : List DomainConfig → ℕ → List SparseTable → DomId → Step → Observation
 step_sees ds first ts d (LookHeader dom) = Word (header_in_table (table_in ds ts dom.0))
 step_sees ds first ts d (LookControl dom gref) = Word (word_seen first (table_in ds ts dom.0) gref.0)
-step_sees ds first ts d (LookBody dom gref half) = Word (body_in_table (table_in ds ts dom.0) gref.0 half)
+step_sees ds first ts d (LookBody dom gref body_word) = Word (body_in_table (table_in ds ts dom.0) gref.0 body_word)
 step_sees ds first ts d (Pin p) = exchange_sees (word_seen first (table_in ds ts p.dom.0) p.gref.0) p.word
 step_sees ds first ts d (Exchange gref looked change) = exchange_sees (word_seen first (table_in ds ts d.0) gref.0) looked
 step_sees ds first ts d (Unpin p holder) = Nothing
-step_sees ds first ts d (StoreBody gref half word) = Nothing
+step_sees ds first ts d (StoreBody gref body_word word) = Nothing
 step_sees ds first ts d (StoreHeader version frames) = Nothing
 step_sees ds first ts d (call_steps.Read dom frame off len) = Nothing
 step_sees ds first ts d (call_steps.Write dom frame off len) = Nothing

@@ -77,8 +77,20 @@ pub fn apply_to(
             let place = config.position(held.dom);
             change_counts(tables, place, held.gref, CountsChange::Unpinned(held.dir))
         }
-        (Step::StoreBody { gref, half, word }, _) => {
-            change_counts(tables, Some(at), gref, CountsChange::Stored(half, word))
+        (
+            Step::StoreBody {
+                gref,
+                body_word,
+                word,
+            },
+            _,
+        ) => {
+            change_counts(
+                tables,
+                Some(at),
+                gref,
+                CountsChange::Stored(body_word, word),
+            )
         }
         (Step::StoreHeader { version, frames }, _) => {
             store_header(tables, Some(at), version, frames);

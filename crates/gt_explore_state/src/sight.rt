@@ -43,12 +43,12 @@ fn look_body(
     tables: &[SparseTable],
     dom: DomId,
     gref: GrantRef,
-    half: BodyWord,
+    body_word: BodyWord,
 ) -> u64
-    ensures { result ≡ body_in_table (table_in config.now.domains.items tables.now dom.0) gref.0 half }
+    ensures { result ≡ body_in_table (table_in config.now.domains.items tables.now dom.0) gref.0 body_word }
 {
     match table_of(config, tables, dom) {
-        Some(table) => table.body(gref, half),
+        Some(table) => table.body(gref, body_word),
         None => 0,
     }
 }
@@ -62,9 +62,11 @@ pub fn see_in(config: &Roster, tables: &[SparseTable], actor: DomId, step: Step)
         Step::LookControl { dom, gref } => Observation::Word(look_control(
             config, tables, dom, gref,
         )),
-        Step::LookBody { dom, gref, half } => {
-            Observation::Word(look_body(config, tables, dom, gref, half))
-        }
+        Step::LookBody {
+            dom,
+            gref,
+            body_word,
+        } => { Observation::Word(look_body(config, tables, dom, gref, body_word)) }
         Step::Pin { held } => exchange_sees(
             look_control(config, tables, held.dom, held.gref),
             held.word,

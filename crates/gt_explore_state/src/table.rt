@@ -69,10 +69,10 @@ impl SparseTable {
     }
 
     /// Returns a body word of an entry.
-    pub fn body(&self, gref: GrantRef, half: BodyWord) -> u64
-        ensures { result ≡ body_in_rows self.now.counts.items gref.0 half }
+    pub fn body(&self, gref: GrantRef, body_word: BodyWord) -> u64
+        ensures { result ≡ body_in_rows self.now.counts.items gref.0 body_word }
     {
-        counts_at(self.counts.as_slice(), gref).body(half)
+        counts_at(self.counts.as_slice(), gref).body(body_word)
     }
 
     /// Changes the pins or a body word of an entry.

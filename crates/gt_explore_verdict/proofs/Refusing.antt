@@ -79,9 +79,9 @@ fits_somewhere : (form : AnswerForm) (at : ℕ) (answer : List (List ℕ)) (w : 
     → list_any (λ word. bytes_eq word w) answer ≡ true → (i : ℕ) × (fits form i w ≡ true)
 fits_somewhere form at [] w fit is = absurd (clash is)
 fits_somewhere form at (a ∷ answer) w fit is =
-    let halves = both (fits form at a) (fits_from form (at + 1) answer) fit in
-    somewhere form at a w halves.0 (bytes_eq a w) (list_any (λ word. bytes_eq word w) answer)
-    (fits_somewhere form (at + 1) answer w halves.1) refl is
+    let body_words = both (fits form at a) (fits_from form (at + 1) answer) fit in
+    somewhere form at a w body_words.0 (bytes_eq a w) (list_any (λ word. bytes_eq word w) answer)
+    (fits_somewhere form (at + 1) answer w body_words.1) refl is
 
 -- the kind of a word past the fifth one
 no_kind : (form : AnswerForm) (k : ℕ) → (k == 0) ≡ false → (k == 1) ≡ false → (k == 2) ≡ false → (k == 3) ≡ false

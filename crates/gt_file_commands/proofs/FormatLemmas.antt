@@ -1,6 +1,6 @@
 -- What was written, as the command that was asked for.
 use Rattle.std.proofs.Common.{◌≡◌, ℕ, Bool, List, Option, Result, sym, subst}
-use Rattle.gt_commands.specs.declared.invocation.Format.{Format}
+use Rattle.gt_command_line.specs.declared.invocation.Format.{Format}
 use Rattle.gt_file_commands.specs.AsJson.{Promise}
 use Rattle.gt_policy_check.specs.declared.report.ReportForm.{ReportForm}
 use Rattle.gt_policy_list.specs.declared.fault.ListingFault.{ListingFault}

@@ -1,6 +1,6 @@
 -- Texts that were read whole.
 use Rattle.std.proofs.Common.{◌≡◌, ℕ, ◌≤◌, List, length, take, Option, None, Some, IfOk, IfSome, Result, Ok, Err, subst, sym}
-use Rattle.gt_checks.proofs.Advised.{whole_read}
+use Rattle.gt_check_command.proofs.Advised.{whole_read}
 
 -- at most 1,048,576 bytes that are the first 1,048,577 of a text are the text
 pub whole_text : (known : Option (List ℕ)) (bytes : List ℕ) → IfSome known (λ all. bytes ≡ take 1048577 all) → length bytes ≤ 1048576 → IfSome known (λ all. bytes ≡ all)

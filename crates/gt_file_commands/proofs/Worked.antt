@@ -5,7 +5,7 @@ use Rattle.gt_text.specs.Streams.{OfInput}
 use Rattle.gt_policy_check.specs.declared.asking.WhyQuestion.{WhyQuestion}
 use Rattle.gt_policy_flow.specs.declared.asking.FlowQuestion.{FlowQuestion}
 use Rattle.gt_entries.specs.declared.asked.DumpOptions.{DumpOptions}
-use Rattle.gt_commands.specs.declared.invocation.Format.{Format}
+use Rattle.gt_command_line.specs.declared.invocation.Format.{Format}
 use Rattle.gt_policy_check.specs.declared.report.ReportForm.{ReportForm}
 use Rattle.gt_file_commands.specs.Formats.{IsFormOf}
 use Rattle.gt_file_commands.specs.Laws.{worked}

@@ -1,10 +1,10 @@
 -- The output of a command in a format.
 use Rattle.std.specs.Prelude.{◌≡◌, ◌⊎◌, ℕ, Bool, true, false, List, Option, Result}
-use Rattle.gt_checks.specs.Checking.{Checked}
-use Rattle.gt_checks.specs.Scripts.{CheckedScript}
+use Rattle.gt_check_command.specs.Checking.{Checked}
+use Rattle.gt_check_command.specs.Scripts.{CheckedScript}
 use Rattle.gt_file_commands.specs.AsJson.{Promise, ListedAsJson, PlayedAsJson, WroteDumpAsJson}
-use Rattle.gt_commands.specs.declared.invocation.Format.{Format}
-use Rattle.gt_commands.specs.declared.invocation.Format.TheVariants.{Text, Json}
+use Rattle.gt_command_line.specs.declared.invocation.Format.{Format}
+use Rattle.gt_command_line.specs.declared.invocation.Format.TheVariants.{Text, Json}
 use Rattle.gt_entries.specs.Dumps.{WroteDump}
 use Rattle.gt_entries.specs.declared.asked.DumpOptions.{DumpOptions}
 use Rattle.gt_entries.specs.declared.fault.DumpFault.{DumpFault}

@@ -2,11 +2,11 @@
 pub use Rattle.gt_policy_check.specs.Why.{perm_asked, source_asked, target_asked}
 pub use Rattle.gt_policy_check.specs.declared.asking.WhyQuestion.{WhyQuestion}
 pub use Rattle.gt_policy_check.specs.declared.report.ReportForm.{ReportForm}
-pub use Rattle.gt_checks.specs.Explaining.{Explained}
-pub use Rattle.gt_checks.specs.Breaking.{CheckedNever}
-pub use Rattle.gt_checks.specs.Faults.{breach_fault_text, why_fault_text}
-pub use Rattle.gt_commands.specs.Commands.{type_of}
-pub use Rattle.gt_commands.specs.declared.invocation.Format.{Format}
+pub use Rattle.gt_check_command.specs.Explaining.{Explained}
+pub use Rattle.gt_check_command.specs.Breaking.{CheckedNever}
+pub use Rattle.gt_check_command.specs.Faults.{breach_fault_text, why_fault_text}
+pub use Rattle.gt_command_line.specs.Commands.{type_of}
+pub use Rattle.gt_command_line.specs.declared.invocation.Format.{Format}
 pub use Rattle.gt_entries.specs.Faults.{dump_fault_text}
 pub use Rattle.gt_entries.specs.declared.asked.DumpOptions.{DumpOptions}
 pub use Rattle.gt_explore_faults.specs.Faults.{explore_fault_text}

@@ -1,7 +1,7 @@
 //! The execution of each command, with the text that it names.
 ghost use Rattle.std.specs.Prelude.{◌≡◌, IfSome};
 ghost use Rattle.gt_text.specs.Streams.{OfInput};
-ghost use Rattle.gt_commands.specs.Files.{file_name_of};
+ghost use Rattle.gt_command_line.specs.Files.{file_name_of};
 ghost use Rattle.gt_file_commands.specs.Working.{failed_work, known_input, DoesOnFile, Performs, Works};
 
 use crate::checking::{CheckKind, perform_check};
@@ -15,7 +15,7 @@ use crate::reasons::Reasons;
 use crate::reporting::finish;
 use crate::style::Style;
 use crate::texts::{TextSource, read_fault};
-use gt_commands::Format;
+use gt_command_line::Format;
 use gt_entries::DumpOptions;
 use gt_policy_check::WhyQuestion;
 use gt_policy_flow::FlowQuestion;

@@ -1,14 +1,14 @@
 //! Commands that explain their faults.
 ghost use Rattle.gt_text.specs.Streams.{OfInput};
-ghost use Rattle.gt_checks.specs.Breaking.{CheckedNever};
-ghost use Rattle.gt_checks.specs.Explaining.{Explained};
+ghost use Rattle.gt_check_command.specs.Breaking.{CheckedNever};
+ghost use Rattle.gt_check_command.specs.Explaining.{Explained};
 ghost use Rattle.gt_policy_flow.specs.Answering.{Flowed};
 ghost use Rattle.gt_file_commands.specs.Formats.{CheckedAs, ListedAs, PlayedAs, WroteDumpAs};
 
 use crate::formats::{ReportSettings, check_as, entries_as, list_as, play_as};
 use crate::reasons::{CopyingReader, Reasons};
-use gt_checks::{BreachFault, NeverText, WhyFault, check_never, why};
-use gt_commands::Format;
+use gt_check_command::{BreachFault, NeverText, WhyFault, check_never, why};
+use gt_command_line::Format;
 use gt_entries::{DumpFault, DumpOptions};
 use gt_policy_check::WhyQuestion;
 use gt_policy_flow::{FlowFault, FlowQuestion};

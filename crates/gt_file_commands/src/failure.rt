@@ -1,5 +1,5 @@
 //! Failures of commands.
-use gt_checks::{BreachFault, WhyFault};
+use gt_check_command::{BreachFault, WhyFault};
 use gt_entries::DumpFault;
 use gt_explore_faults::ExploreFault;
 use gt_policy_flow::FlowFault;

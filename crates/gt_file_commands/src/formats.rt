@@ -3,8 +3,8 @@ ghost use Rattle.gt_text.specs.Streams.{OfInput};
 ghost use Rattle.gt_file_commands.specs.Formats.{CheckedAs, ListedAs, PlayedAs, WroteDumpAs};
 
 use crate::json::{entries_json, play_json, policy_json};
-use gt_checks::{check, check_script};
-use gt_commands::Format;
+use gt_check_command::{check, check_script};
+use gt_command_line::Format;
 use gt_entries::{DumpFault, DumpOptions, entries};
 use gt_host::play;
 use gt_policy_check::ReportForm;

@@ -4,7 +4,7 @@ ghost use Rattle.std.specs.Option.{option_map};
 ghost use Rattle.std.specs.Str.Lines.{lines as lines_in};
 ghost use Rattle.std.specs.Io.KnownBytes.{Appends};
 ghost use Rattle.gt_text.specs.Streams.{AppendsBeginning};
-ghost use Rattle.gt_commands.specs.Commands.{type_of};
+ghost use Rattle.gt_command_line.specs.Commands.{type_of};
 ghost use Rattle.gt_file_commands.specs.Working.{AnswersAbout, AnswersAboutFile, AnswersInputLine, AnswersLines};
 ghost use Rattle.gt_file_commands.specs.Working.{AnswersQuestion, AnswersWords, AnswersUnderHeading, IsPolicyText};
 ghost use Rattle.gt_file_commands.specs.Working.{OrNothing, WithFile};

@@ -5,7 +5,7 @@
 //! [`CopyingReader`], which keeps what it read ([`KeptInput`]).
 //!
 //! A reason that can't be allocated is left out. No contract specifies what a reason is, since none depends on it:
-//! tests compare the lines. The words for scripts and policies are those of `gt_reasons`.
+//! tests compare the lines. The words for scripts and policies are those of `gt_fault_reasons`.
 mod collecting;
 mod copying;
 mod given;

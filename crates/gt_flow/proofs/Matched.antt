@@ -47,19 +47,19 @@ pub record Matched (s : Setting) (high : TypeId → Bool) (g h : History) : Type
   pub ruled : (d : ℕ) → stood s g d ≡ stood s h d
 
 -- the events are the same, but for the bytes that a request passes if they are hidden
-abbrev pub SameDeed : Bool → ItemEvent → ItemEvent → Type 0
-SameDeed b (Began q) (Began r) =
+abbrev pub SameRunAction : Bool → ItemEvent → ItemEvent → Type 0
+SameRunAction b (Began q) (Began r) =
     (asked q ≡ asked r) × ((k : CallerKnowledge) (d : DomId) → begun_of k d q ≡ begun_of k d r) × (b ≡ false → bytes_given_by q ≡ bytes_given_by r)
     × (length (bytes_given_by q) ≡ length (bytes_given_by r))
-SameDeed b (Stepped z v) (Stepped y w) = Stepped z v ≡ Stepped y w
-SameDeed b (Began q) (Stepped y w) = ⊥
-SameDeed b (Stepped z v) (Began r) = ⊥
+SameRunAction b (Stepped z v) (Stepped y w) = Stepped z v ≡ Stepped y w
+SameRunAction b (Began q) (Stepped y w) = ⊥
+SameRunAction b (Stepped z v) (Began r) = ⊥
 
-same-deed : {A : Type 0} (f : ItemEvent → A) → ((q r : Request) → f (Began q) ≡ f (Began r)) → (b : Bool) (x y : ItemEvent) → SameDeed b x y → f x ≡ f y
-same-deed f begins b (Began q) (Began r) same = begins q r
-same-deed f begins b (Stepped z v) (Stepped y w) same = ap f same
-same-deed f begins b (Began q) (Stepped y w) same = absurd same
-same-deed f begins b (Stepped z v) (Began r) same = absurd same
+same-run_action : {A : Type 0} (f : ItemEvent → A) → ((q r : Request) → f (Began q) ≡ f (Began r)) → (b : Bool) (x y : ItemEvent) → SameRunAction b x y → f x ≡ f y
+same-run_action f begins b (Began q) (Began r) same = begins q r
+same-run_action f begins b (Stepped z v) (Stepped y w) same = ap f same
+same-run_action f begins b (Began q) (Stepped y w) same = absurd same
+same-run_action f begins b (Stepped z v) (Began r) same = absurd same
 
 -- answers
 
@@ -137,7 +137,7 @@ module _ (s : Setting) (high : TypeId → Bool) (g h : History) (m : Matched s h
   pub sees-same : (d : DomId) (step : Step) → seen_by s g d step ≡ seen_by s h d step
   sees-same d (LookHeader dom) = ap (λ (x : Header). Word (header_word x)) (m.table dom)
   sees-same d (LookControl dom gref) = ap (λ (w : ℕ). Word w) (word-same dom.0 gref.0)
-  sees-same d (LookBody dom gref half) = ap (λ (w : ℕ). Word w) (m.body dom.0 gref.0 half)
+  sees-same d (LookBody dom gref body_word) = ap (λ (w : ℕ). Word w) (m.body dom.0 gref.0 body_word)
   sees-same d (call_steps.Pin p) = ap (λ (w : ℕ). exchange_sees w p.word) (word-same p.dom.0 p.gref.0)
   sees-same d (Exchange gref looked change) = ap (λ (w : ℕ). exchange_sees w looked) (word-same d.0 gref.0)
   sees-same d step = refl
@@ -178,7 +178,7 @@ module _ (s : Setting) (high : TypeId → Bool) (g h : History) (m : Matched s h
   first-stripped l d (Stepped z v) None = refl
   first-stripped l d (Stepped z v) (Some c) = refl
 
-  first-in : (b : Bool) (d : DomId) (x y : ItemEvent) (c : Option Underway) → SameDeed b x y → first_in_call s g d x c ≡ first_in_call s h d y c
+  first-in : (b : Bool) (d : DomId) (x y : ItemEvent) (c : Option Underway) → SameRunAction b x y → first_in_call s g d x c ≡ first_in_call s h d y c
   first-in b d (Began q) (Began r) c same = ap refusal_in (ap (λ (k : CallerKnowledge). begun_of k d q) (known-same d) ∙ same.1 (known_at s h d) d)
   first-in b d (Stepped z v) (Stepped y w) None same = refl
   first-in b d (Stepped z v) (Stepped y w) (Some c) same = first-same d c.request (reverse c.steps) z ∙ ap (λ (x : ItemEvent). first_in_call s h d x (Some c)) same
@@ -186,7 +186,7 @@ module _ (s : Setting) (high : TypeId → Bool) (g h : History) (m : Matched s h
   first-in b d (Stepped z v) (Began r) c same = absurd same
 
   -- one more item on both
-  module _ (d : DomId) (x y : ItemEvent) (a c : Option Answer) (same : SameDeed (is_high s high d) x y) (st : Option Step) (again : c ≡ option_map (reanswered (is_high s high d) h st) a) where
+  module _ (d : DomId) (x y : ItemEvent) (a c : Option Answer) (same : SameRunAction (is_high s high d) x y) (st : Option Step) (again : c ≡ option_map (reanswered (is_high s high d) h st) a) where
     abbrev one : Item
     one = record { actor = d; happened = x; answer = a }
 
@@ -200,7 +200,7 @@ module _ (s : Setting) (high : TypeId → Bool) (g h : History) (m : Matched s h
     strip-with z v None = refl
     strip-with z v (Some o) = refl
 
-    with-same : (x y : ItemEvent) (o p : Option Underway) → SameDeed b x y → option_map strip o ≡ option_map strip p → option_map strip (underway_with x o) ≡ option_map strip (underway_with y p)
+    with-same : (x y : ItemEvent) (o p : Option Underway) → SameRunAction b x y → option_map strip o ≡ option_map strip p → option_map strip (underway_with x o) ≡ option_map strip (underway_with y p)
     with-same (Began q) (Began r) o p same e = ap (λ (z : OpenRequest). Some (record { request = z; given = []; steps = [] })) same.0
     with-same (Stepped z v) (Stepped y w) o p same e =
         strip-with z v o ∙ ap (λ (k : Option Underway). underway_with (Stepped z v) k) e ∙ sym (strip-with z v p) ∙ ap (λ (k : ItemEvent). option_map strip (underway_with k p)) same
@@ -209,9 +209,9 @@ module _ (s : Setting) (high : TypeId → Bool) (g h : History) (m : Matched s h
 
     -- what begins now passes bytes with the same of this
     abbrev Begins : {A : Type 0} → (List ℕ → A) → Type 0
-    Begins f = (q r : Request) → SameDeed b (Began q) (Began r) → f (bytes_given_by q) ≡ f (bytes_given_by r)
+    Begins f = (q r : Request) → SameRunAction b (Began q) (Began r) → f (bytes_given_by q) ≡ f (bytes_given_by r)
 
-    given-with : {A : Type 0} (f : List ℕ → A) → Begins f → (x y : ItemEvent) (o p : Option Underway) → SameDeed b x y → f (given_in o) ≡ f (given_in p) → f (given_in (underway_with x o)) ≡ f (given_in (underway_with y p))
+    given-with : {A : Type 0} (f : List ℕ → A) → Begins f → (x y : ItemEvent) (o p : Option Underway) → SameRunAction b x y → f (given_in o) ≡ f (given_in p) → f (given_in (underway_with x o)) ≡ f (given_in (underway_with y p))
     given-with f begins (Began q) (Began r) o p same e = begins q r same
     given-with f begins (Stepped z v) (Stepped y w) None None same e = refl
     given-with f begins (Stepped z v) (Stepped y w) None (Some p) same e = e
@@ -244,28 +244,28 @@ module _ (s : Setting) (high : TypeId → Bool) (g h : History) (m : Matched s h
     pub matched-grows : Matched s high (one ∷ g) (other ∷ h)
     unfolding entry_at raises_at body_at table_at maps_answered_at live open_call stood
     matched-grows = record {
-      entry = λ t r. ap (λ (k : Option EntryChange). changed_entry_of (cond (d.0 == t) k None) (entry_at g t r)) (same-deed (λ z. change_at z r) (λ q p. refl) b x y same)
+      entry = λ t r. ap (λ (k : Option EntryChange). changed_entry_of (cond (d.0 == t) k None) (entry_at g t r)) (same-run_action (λ z. change_at z r) (λ q p. refl) b x y same)
           ∙ ap (λ (k : Entry). changed_entry_of (change_of other t r) k) (m.entry t r);
-      raises = λ t r. ap (λ (k : Option EntryChange). raises_at g t r + raise_after (cond (d.0 == t) k None)) (same-deed (λ z. change_at z r) (λ q p. refl) b x y same)
+      raises = λ t r. ap (λ (k : Option EntryChange). raises_at g t r + raise_after (cond (d.0 == t) k None)) (same-run_action (λ z. change_at z r) (λ q p. refl) b x y same)
           ∙ ap (λ (n : ℕ). n + raise_after (change_of other t r)) (m.raises t r);
-      body = λ t r which. ap (λ (o : Option ℕ). or_else (cond (d.0 == t) o None) (body_at g t r which)) (same-deed (λ z. stored_at z r which) (λ q p. refl) b x y same)
+      body = λ t r which. ap (λ (o : Option ℕ). or_else (cond (d.0 == t) o None) (body_at g t r which)) (same-run_action (λ z. stored_at z r which) (λ q p. refl) b x y same)
           ∙ ap (λ (n : ℕ). or_else (cond (d.0 == t) (stored_at y r which) None) n) (m.body t r which);
-      table = λ t. ap (λ (o : Option Header). header_or (cond (d.0 == t.0) o None) (table_at s g t)) (same-deed header_stored (λ q p. refl) b x y same)
+      table = λ t. ap (λ (o : Option Header). header_or (cond (d.0 == t.0) o None) (table_at s g t)) (same-run_action header_stored (λ q p. refl) b x y same)
           ∙ ap (λ (z : Header). header_or (cond (d.0 == t.0) (header_stored y) None) z) (m.table t);
       maps = λ t. ap (λ (n : ℕ). cond (d.0 == t) n 0 + maps_answered_at g t) (mapped-again b h st a ∙ ap one_if_mapped (sym again))
           ∙ ap (λ (n : ℕ). cond (d.0 == t) (one_if_mapped c) 0 + n) (m.maps t);
       pins = ap (λ (ps : List Pin). unpinned_by d x ps ++ pinned_by d x a g ps) m.pins
-          ∙ ap (λ (ps : List Pin). ps ++ pinned_by d x a g (live h)) (same-deed (λ z. unpinned_by d z (live h)) (λ q p. refl) b x y same)
+          ∙ ap (λ (ps : List Pin). ps ++ pinned_by d x a g (live h)) (same-run_action (λ z. unpinned_by d z (live h)) (λ q p. refl) b x y same)
           ∙ ap (λ (ps : List Pin). unpinned_by d y (live h) ++ ps)
-          (same-deed (λ z. pinned_by d z a g (live h)) (λ q p. refl) b x y same ∙ pinned-entries d y a g h (live h) m.entry
+          (same-run_action (λ z. pinned_by d z a g (live h)) (λ q p. refl) b x y same ∙ pinned-entries d y a g h (live h) m.entry
           ∙ pinned-again d y a c h (live h) (λ n. holder-again b h st a n ∙ ap (λ (k : Option Answer). holder_after k n) (sym again)));
       calls = λ t. either (option_map strip) (d.0 == t) (underway_after one (open_call g t)) (open_call g t) (underway_after other (open_call h t)) (open_call h t)
           (after-same a (open_call g t) (open_call h t) (m.calls t) ∙ ap (λ (z : Option Answer). option_map strip (underway_after (record other { answer = z }) (open_call h t))) (sym again)) (m.calls t);
-      given = λ t low. owner-given (λ (l : List ℕ). l) t (d.0 == t) refl (λ own q r deed. deed.2 (subst (λ (n : ℕ). hides s high n ≡ false) (sym (eqb-true d.0 t own)) low)) (m.given t low);
-      lengths = λ t. owner-given length t (d.0 == t) refl (λ own q r deed. deed.3) (m.lengths t);
+      given = λ t low. owner-given (λ (l : List ℕ). l) t (d.0 == t) refl (λ own q r run_action. run_action.2 (subst (λ (n : ℕ). hides s high n ≡ false) (sym (eqb-true d.0 t own)) low)) (m.given t low);
+      lengths = λ t. owner-given length t (d.0 == t) refl (λ own q r run_action. run_action.3) (m.lengths t);
       ruled = λ t. let first : first_of_item s g one ≡ first_of_item s h other =
           first-stripped g d x (open_call g d.0) ∙ ap (λ (o : Option Underway). first_in_call s g d x o) (m.calls d.0) ∙ sym (first-stripped g d x (open_call h d.0)) ∙ first-in b d x y (open_call h d.0) same in
           ap (λ (o : Option Denial). cond (d.0 == t) (stood_with x (stood s g t) o) (stood s g t)) first
           ∙ ap (λ (o : Option Denial). cond (d.0 == t) (stood_with x o (first_of_item s h other)) o) (m.ruled t)
-          ∙ ap (λ (o : Option Denial). cond (d.0 == t) o (stood s h t)) (same-deed (λ z. stood_with z (stood s h t) (first_of_item s h other)) (λ q p. refl) b x y same);
+          ∙ ap (λ (o : Option Denial). cond (d.0 == t) o (stood s h t)) (same-run_action (λ z. stood_with z (stood s h t) (first_of_item s h other)) (λ q p. refl) b x y same);
     }

@@ -44,7 +44,7 @@ use Rattle.gt_flow.specs.OtherBytes.{SameButHighBytes, SameButPassed, byteless_e
 use Rattle.gt_flow.proofs.Allowed.{IsReading, IsWriting, read-flows, write-flows}
 use Rattle.gt_flow.proofs.Frames.{Passes, PassesIn, copied-low, hides, low-source, open-passes, patch-same}
 use Rattle.gt_flow.proofs.Veiled.{asked-hidden, begun-hidden}
-use Rattle.gt_flow.proofs.Matched.{Matched, SameDeed, control-same, known-same, leg-same, matched-grows, reads-same}
+use Rattle.gt_flow.proofs.Matched.{Matched, SameRunAction, control-same, known-same, leg-same, matched-grows, reads-same}
 use Rattle.gt_flow.proofs.Matched.{reanswered, reread, sees-same, fitted, fitted-all, strip, writes-same}
 
 -- the writes to frames of low domains are the same after both
@@ -158,7 +158,7 @@ module _ (s : Setting) (high : TypeId → Bool) (g h : History) (m : Matched s h
   safe-same : (d : DomId) (z : Step) (v : Observation) (a c : Option Answer)
       → IsSafe s g (record { actor = d; happened = Stepped z v; answer = a }) → IsSafe s h (record { actor = d; happened = Stepped z v; answer = c })
   safe-same d (Exchange gref looked change) Taken a c x = change-same d.0 gref.0 change x
-  safe-same d (StoreBody gref half word) v a c x = sym (m.entry d.0 gref.0) ∙ x
+  safe-same d (StoreBody gref body_word word) v a c x = sym (m.entry d.0 gref.0) ∙ x
   safe-same d z v a c x = tt
 
   none-same : (d : DomId) (dom : DomId) (p : HeldPin) (leg : Option LegNow) → NoneStands s g p.dom p.gref leg → NoneStands s h p.dom p.gref leg
@@ -329,14 +329,14 @@ module _ (s : Setting) (high : TypeId → Bool) (g h : History) (m : Matched s h
 
     -- a beginning
 
-    begin-right : (q r : Request) (a : Option Answer) → SameDeed b (Began q) (Began r) → ((k : Header) → SpellsItsEntry k q → SpellsItsEntry k r) → BeginsRight s g (item (Began q) a) q
+    begin-right : (q r : Request) (a : Option Answer) → SameRunAction b (Began q) (Began r) → ((k : Header) → SpellsItsEntry k q → SpellsItsEntry k r) → BeginsRight s g (item (Began q) a) q
         → Matched s high (item (Began q) a ∷ g) (item (Began r) (again None a) ∷ h) → BeginsRight s h (item (Began r) (again None a)) r
-    begin-right q r a deed spells right next = (
+    begin-right q r a run_action spells right next = (
       stripped-none (open_call g d.0) (open_call h d.0) (m.calls d.0) right.0,
       subst (λ (o : Option Denial). AnsweredBy s h d (asked r) None false (begun_of (known_at s h d) d r) (again None a) o) (next.ruled d.0)
           (subst (λ (o : Option CallResult). AnsweredBy s h d (asked r) None false o (again None a) (stood s (item (Began q) a ∷ g) d.0))
-          (ap (λ (k : CallerKnowledge). begun_of k d q) (known-same s high g h m d) ∙ deed.1 (known_at s h d) d)
-          (subst (λ (u : OpenRequest). AnsweredBy s h d u None false (begun_of (known_at s g d) d q) (again None a) (stood s (item (Began q) a ∷ g) d.0)) deed.0
+          (ap (λ (k : CallerKnowledge). begun_of k d q) (known-same s high g h m d) ∙ run_action.1 (known_at s h d) d)
+          (subst (λ (u : OpenRequest). AnsweredBy s h d u None false (begun_of (known_at s g d) d q) (again None a) (stood s (item (Began q) a ∷ g) d.0)) run_action.0
           (answered-same (asked q) None false _ a _ (λ t f o n is. absurd (none-some _ is)) right.1))),
       λ e. subst (λ (k : Header). SpellsItsEntry k r) (m.table d) (spells (table_at s g d) (right.2 (none-back (reanswered b h None) a e))),
     )
@@ -370,7 +370,7 @@ hidden-length (requests.Store handle off bytes) = length-map bytes.now (λ (b : 
 hidden-length (requests.Poke frame off bytes) = length-map bytes.now (λ (b : ℕ). 0)
 hidden-length q = refl
 
-same-asked : (b : Bool) (q r : Request) → cond b (hidden_request q) q ≡ cond b (hidden_request r) r → SameDeed b (Began q) (Began r)
+same-asked : (b : Bool) (q r : Request) → cond b (hidden_request q) q ≡ cond b (hidden_request r) r → SameRunAction b (Began q) (Began r)
 same-asked b q r e = let f = same-request b q r e in (
   sym (asked-hidden q) ∙ ap asked f ∙ asked-hidden r,
   λ k d. sym (begun-hidden k d q) ∙ ap (begun_of k d) f ∙ begun-hidden k d r,
@@ -428,15 +428,15 @@ module _ (s : Setting) (high : TypeId → Bool) (g h : History) (closed : IsClos
 
   begins-too : (d : DomId) (q r : Request) (a : Option Answer) → cond (is_high s high d) (hidden_request q) q ≡ cond (is_high s high d) (hidden_request r) r → domain_of s.domains d ≢ None
       → IsRight s g (parts d (Began q) a) → DoesToo s high g h (elements.Item (parts d (Began q) a)) (Begin d r)
-  begins-too d q r a e named right = let b = is_high s high d in let c = option_map (reanswered b h None) a in let deed = same-asked b q r e in
-      let next = matched-grows s high g h pair.matched d (Began q) (Began r) a c deed None refl in
+  begins-too d q r a e named right = let b = is_high s high d in let c = option_map (reanswered b h None) a in let run_action = same-asked b q r e in
+      let next = matched-grows s high g h pair.matched d (Began q) (Began r) a c run_action None refl in
       let f = same-request b q r e in
       record {
         y = elements.Item (parts d (Began r) c);
         may = (
           named,
           (refl, refl),
-          begin-right s high g h pair.matched d q r a deed (λ k x. let z : SpellsItsEntry k (hidden_request q) = subst (λ (t : Type 0). t) (sym (spells-hidden k q)) x in
+          begin-right s high g h pair.matched d q r a run_action (λ k x. let z : SpellsItsEntry k (hidden_request q) = subst (λ (t : Type 0). t) (sym (spells-hidden k q)) x in
               subst (λ (t : Type 0). t) (spells-hidden k r) (subst (λ (p : Request). SpellsItsEntry k p) f z)) right next,
         );
         same = ap {B = KeylessItem ⊎ Element} (λ (i : KeylessItem). inl i) (same-item b h None d (Began q) (Began r) a (same-began b q r e));

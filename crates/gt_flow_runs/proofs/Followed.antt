@@ -25,7 +25,7 @@ use Rattle.gt_script_runs.specs.Printing.{answer_line}
 use Rattle.gt_script_runs.specs.Runs.{AnswerNothing, EndsWith, MakesRequest, Named, answer_in, handle_given}
 use Rattle.gt_script_runs.specs.Runs.{label_given, request_of, with_name}
 use Rattle.gt_explore_replay.specs.Orders.{Happening, did, raised, passed, doer, own_happenings, ticks_of}
-use Rattle.gt_explore_replay.specs.Orders.{CallHappens, GivesMappingsBack, FollowsList, DeedHappens, Prints, given_up}
+use Rattle.gt_explore_replay.specs.Orders.{CallHappens, GivesMappingsBack, FollowsList, ActionHappens, Prints, given_up}
 use Rattle.gt_explore_replay.specs.Orders.{held_after}
 use Rattle.gt_flow.specs.Low.{is_high}
 use Rattle.gt_flow.specs.OtherBytes.{unread}
@@ -221,21 +221,21 @@ module _ (s : Setting) (high : TypeId → Bool) where
   SameCall true call other = SameButStored call other
   SameCall false call other = call ≡ other
 
-  do-same : (b : Bool) (call : ScriptCall) (deed : RunAction) → SameAction b (Do call) deed → (other : ScriptCall) × (deed ≡ Do other) × SameCall b call other
+  do-same : (b : Bool) (call : ScriptCall) (run_action : RunAction) → SameAction b (Do call) run_action → (other : ScriptCall) × (run_action ≡ Do other) × SameCall b call other
   do-same true call (Do other) same = (other, refl, same)
   do-same true call (Tell flag) same = absurd (let f = same in cc)
   do-same true call (Await flag) same = absurd (let f = same in cc)
-  do-same false call deed same = (call, sym same, refl)
+  do-same false call run_action same = (call, sym same, refl)
 
-  tell-same : (b : Bool) (flag : ℕ) (deed : RunAction) → SameAction b (Tell flag) deed → Tell flag ≡ deed
-  tell-same true flag deed same = same
-  tell-same false flag deed same = same
+  tell-same : (b : Bool) (flag : ℕ) (run_action : RunAction) → SameAction b (Tell flag) run_action → Tell flag ≡ run_action
+  tell-same true flag run_action same = same
+  tell-same false flag run_action same = same
 
-  await-same : (b : Bool) (flag : ℕ) (deed : RunAction) → SameAction b (Await flag) deed → Await flag ≡ deed
-  await-same true flag deed same = same
-  await-same false flag deed same = same
+  await-same : (b : Bool) (flag : ℕ) (run_action : RunAction) → SameAction b (Await flag) run_action → Await flag ≡ run_action
+  await-same true flag run_action same = same
+  await-same false flag run_action same = same
 
-  asks-redone : (b : Bool) (u : RunTask) (us : List RunTask) (named : List Named) (dom : DomId) (q : Request) (call other : ScriptCall) → u.deed ≡ Do other → SameCall b call other → MakesRequest named dom call q
+  asks-redone : (b : Bool) (u : RunTask) (us : List RunTask) (named : List Named) (dom : DomId) (q : Request) (call other : ScriptCall) → u.run_action ≡ Do other → SameCall b call other → MakesRequest named dom call q
       → Asks named dom q call other (redone_request b (u ∷ us) q)
   asks-redone true u us named dom q call other is same makes =
       subst (λ (z : RunAction). Asks named dom q call other (with_action z q)) (sym is) (asks-stored named dom q call other same makes)
@@ -260,23 +260,23 @@ module _ (s : Setting) (high : TypeId → Bool) where
         → (new : List ℕ) × CallHappens dom q (P new) ks × Q new
     pull q P Q ks (first, trace, a, more, is, ends, rest) = (rest.0, (first, trace, a, more, is, ends, rest.1), rest.2)
 
-    line-too : (deed : RunAction) (u : RunTask) (us : List RunTask) (line : ℕ) (named : List Named) (held : List Handle) (Next New : After) (hs ks : List Happening) (text : List ℕ) → SameAction b deed u.deed
-        → DeedHappens types dom named held line deed Next hs text → IsOwn b (u ∷ us) hs ks → Goes us Next New → (new : List ℕ) × DeedHappens types dom named held line u.deed New ks new × SameAnswerLines b types dom text new
+    line-too : (run_action : RunAction) (u : RunTask) (us : List RunTask) (line : ℕ) (named : List Named) (held : List Handle) (Next New : After) (hs ks : List Happening) (text : List ℕ) → SameAction b run_action u.run_action
+        → ActionHappens types dom named held line run_action Next hs text → IsOwn b (u ∷ us) hs ks → Goes us Next New → (new : List ℕ) × ActionHappens types dom named held line u.run_action New ks new × SameAnswerLines b types dom text new
     line-too (Tell flag) u us line named held Next New hs ks text same (more, is, next) own goes = by ks (subst (λ (l : List Happening). IsOwn b (u ∷ us) l ks) is own) where
-      by : (ks : List Happening) → IsOwn b (u ∷ us) (raised dom flag ∷ more) ks → (new : List ℕ) × DeedHappens types dom named held line u.deed New ks new × SameAnswerLines b types dom text new
+      by : (ks : List Happening) → IsOwn b (u ∷ us) (raised dom flag ∷ more) ks → (new : List ℕ) × ActionHappens types dom named held line u.run_action New ks new × SameAnswerLines b types dom text new
       by [] o = absurd o
       by (did f y ∷ ks) o = absurd o
       by (passed k other ∷ ks) o = absurd o
       by (raised k other ∷ ks) o = let (new, rest, part) = goes named held more ks text next o.1 in
-          (new, subst (λ (z : RunAction). DeedHappens types dom named held line z New (raised k other ∷ ks) new) (tell-same b flag u.deed same) (ks, ap (λ (z : Happening). z ∷ ks) (sym o.0), rest), part)
+          (new, subst (λ (z : RunAction). ActionHappens types dom named held line z New (raised k other ∷ ks) new) (tell-same b flag u.run_action same) (ks, ap (λ (z : Happening). z ∷ ks) (sym o.0), rest), part)
     line-too (Await flag) u us line named held Next New hs ks text same (more, is, next) own goes = by ks (subst (λ (l : List Happening). IsOwn b (u ∷ us) l ks) is own) where
-      by : (ks : List Happening) → IsOwn b (u ∷ us) (passed dom flag ∷ more) ks → (new : List ℕ) × DeedHappens types dom named held line u.deed New ks new × SameAnswerLines b types dom text new
+      by : (ks : List Happening) → IsOwn b (u ∷ us) (passed dom flag ∷ more) ks → (new : List ℕ) × ActionHappens types dom named held line u.run_action New ks new × SameAnswerLines b types dom text new
       by [] o = absurd o
       by (did f y ∷ ks) o = absurd o
       by (raised k other ∷ ks) o = absurd o
       by (passed k other ∷ ks) o = let (new, rest, part) = goes named held more ks text next o.1 in
-          (new, subst (λ (z : RunAction). DeedHappens types dom named held line z New (passed k other ∷ ks) new) (await-same b flag u.deed same) (ks, ap (λ (z : Happening). z ∷ ks) (sym o.0), rest), part)
-    line-too (Do call) u us line named held Next New hs ks text same (q, makes, happens) own goes = let (other, is, same-call) = do-same b call u.deed same in
+          (new, subst (λ (z : RunAction). ActionHappens types dom named held line z New (passed k other ∷ ks) new) (await-same b flag u.run_action same) (ks, ap (λ (z : Happening). z ∷ ks) (sym o.0), rest), part)
+    line-too (Do call) u us line named held Next New hs ks text same (q, makes, happens) own goes = let (other, is, same-call) = do-same b call u.run_action same in
         let r = redone_request b (u ∷ us) q in let asks = asks-redone b u us named dom q call other is same-call makes in
         let P : List ℕ → Answer → List Happening → Type 0 = λ new c less. Prints (answer_line types line dom c) (New (with_name named dom (label_given other) (handle_given c)) (held_after held (given_up r) c) less) new in
         let again = call-too b (u ∷ us) dom q
@@ -284,7 +284,7 @@ module _ (s : Setting) (high : TypeId → Bool) where
         (λ c less. (new : List ℕ) × P new c less × SameAnswerLines b types dom text new) hs ks happens own
         (λ a c more less so rest after. answered a c more less so rest after asks) in
         let (new, call-again, part) = pull r P (SameAnswerLines b types dom text) ks again in
-        (new, subst (λ (z : RunAction). DeedHappens types dom named held line z New ks new) (sym is) (r, asks.makes, call-again), part)
+        (new, subst (λ (z : RunAction). ActionHappens types dom named held line z New ks new) (sym is) (r, asks.makes, call-again), part)
       where
         answered : {other : ScriptCall} {r : Request} (a c : Answer) (more less : List Happening) → SameAnswer b a c → IsOwn b us more less
             → Prints (answer_line types line dom a) (Next (with_name named dom (label_given call) (handle_given a)) (held_after held (given_up q) a) more) text → Asks named dom q call other r
@@ -302,7 +302,7 @@ module _ (s : Setting) (high : TypeId → Bool) where
     -- the lists are the same line by line, except for bytes that a high domain stores
     abbrev pub SameList : List RunTask → List RunTask → Type 0
     SameList [] [] = Unit {0}
-    SameList (t ∷ ts) (u ∷ us) = (t.line ≡ u.line) × SameAction b t.deed u.deed × SameList ts us
+    SameList (t ∷ ts) (u ∷ us) = (t.line ≡ u.line) × SameAction b t.run_action u.run_action × SameList ts us
     SameList _ _ = ⊥
 
     no-answers : (b : Bool) → SameAnswers b [] []
@@ -313,8 +313,8 @@ module _ (s : Setting) (high : TypeId → Bool) where
         → (new : List ℕ) × FollowsList types dom named held us ks new × SameAnswerLines b types dom text new
     follows-too [] [] named held hs ks text same (order, gives, is) own = ([], (order, back-too b dom order held hs ks gives own, refl), ([], [], is, refl, no-answers b))
     follows-too (t ∷ ts) (u ∷ us) named held hs ks text same follows own =
-        subst (λ (n : ℕ). (new : List ℕ) × DeedHappens types dom named held n u.deed (λ names holds more rest. FollowsList types dom names holds us more rest) ks new × SameAnswerLines b types dom text new) same.0
-        (line-too t.deed u us t.line named held (λ names holds more rest. FollowsList types dom names holds ts more rest) (λ names holds more rest. FollowsList types dom names holds us more rest) hs ks text same.1 follows own
+        subst (λ (n : ℕ). (new : List ℕ) × ActionHappens types dom named held n u.run_action (λ names holds more rest. FollowsList types dom names holds us more rest) ks new × SameAnswerLines b types dom text new) same.0
+        (line-too t.run_action u us t.line named held (λ names holds more rest. FollowsList types dom names holds ts more rest) (λ names holds more rest. FollowsList types dom names holds us more rest) hs ks text same.1 follows own
         (λ names holds more less rest next rest-own. follows-too ts us names holds more less rest same.2 next rest-own))
     follows-too [] (u ∷ us) named held hs ks text same follows own = absurd same
     follows-too (t ∷ ts) [] named held hs ks text same follows own = absurd same

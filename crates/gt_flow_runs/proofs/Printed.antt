@@ -2,7 +2,7 @@
 use Rattle.std.proofs.Common.{List, ℕ}
 use Rattle.gt_flow_runs.specs.Secrets.{PrintedTextsHaveOthers}
 use Rattle.gt_flow_runs.proofs.Texts.{texts-have-others}
-use Rattle.gt_order.specs.Printed.{GivenTextsArePrinted, PrintedTextsAreGiven}
+use Rattle.gt_linearization.specs.Printed.{GivenTextsArePrinted, PrintedTextsAreGiven}
 
 pub printed-have-others : GivenTextsArePrinted → PrintedTextsAreGiven → PrintedTextsHaveOthers
 printed-have-others printed given refuses high one other text closed same prints calm =

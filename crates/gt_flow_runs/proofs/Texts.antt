@@ -40,7 +40,7 @@ module _ (s : Setting) (high : TypeId → Bool) where
       subst (λ (d : DomId). SameList s high types dom (is_high s high dom) (cond (t.dom.0 == dom.0) (t ∷ list_of ts dom) (list_of ts dom)) (cond (d.0 == dom.0) (u ∷ list_of us dom) (list_of us dom))) same.1
       (by (same-lists types dom ts us same.3) (t.dom.0 == dom.0) refl) where
         by : SameList s high types dom (is_high s high dom) (list_of ts dom) (list_of us dom) → (c : Bool) → (t.dom.0 == dom.0) ≡ c → SameList s high types dom (is_high s high dom) (cond c (t ∷ list_of ts dom) (list_of ts dom)) (cond c (u ∷ list_of us dom) (list_of us dom))
-        by rest true own = (same.0, subst (λ (d : DomId). SameAction (is_high s high d) t.deed u.deed) (ap {B = DomId} (λ (n : ℕ). record { 0 = n }) (eqb-true t.dom.0 dom.0 own)) same.2, rest)
+        by rest true own = (same.0, subst (λ (d : DomId). SameAction (is_high s high d) t.run_action u.run_action) (ap {B = DomId} (λ (n : ℕ). record { 0 = n }) (eqb-true t.dom.0 dom.0 own)) same.2, rest)
         by rest false own = rest
   same-lists types dom [] (u ∷ us) same = absurd same
   same-lists types dom (t ∷ ts) [] same = absurd same
@@ -144,18 +144,18 @@ stored-back call other same = subst (λ (c : ScriptCall). SameButStored c call) 
   plain (script_calls.Poke frame off hex) same = (refl, refl, refl)
   plain call same = refl
 
-action-back : (b : Bool) (deed other : RunAction) → SameAction b deed other → SameAction b other deed
+action-back : (b : Bool) (run_action other : RunAction) → SameAction b run_action other → SameAction b other run_action
 action-back true (Do call) (Do other) same = stored-back call other same
 action-back true (Do call) (Tell flag) same = absurd (let f = same in cc)
 action-back true (Do call) (Await flag) same = absurd (let f = same in cc)
 action-back true (Tell flag) other same = subst (λ (z : RunAction). SameAction true z (Tell flag)) same refl
 action-back true (Await flag) other same = subst (λ (z : RunAction). SameAction true z (Await flag)) same refl
-action-back false deed other same = sym same
+action-back false run_action other same = sym same
 
 tasks-back : (s : Setting) (high : TypeId → Bool) (ts us : List RunTask) → SameTasks s high ts us → SameTasks s high us ts
 tasks-back s high [] [] same = tt
 tasks-back s high (t ∷ ts) (u ∷ us) same =
-    (sym same.0, sym same.1, action-back (is_high s high u.dom) t.deed u.deed (subst (λ (d : DomId). SameAction (is_high s high d) t.deed u.deed) same.1 same.2), tasks-back s high ts us same.3)
+    (sym same.0, sym same.1, action-back (is_high s high u.dom) t.run_action u.run_action (subst (λ (d : DomId). SameAction (is_high s high d) t.run_action u.run_action) same.1 same.2), tasks-back s high ts us same.3)
 tasks-back s high [] (u ∷ us) same = absurd same
 tasks-back s high (t ∷ ts) [] same = absurd same
 

@@ -15,7 +15,7 @@ use Rattle.gt_script.specs.declared.tasks.RunActionBy.TheVariants.{Do}
 use Rattle.gt_script_runs.specs.Playing.{setting_of_script}
 use Rattle.gt_script_runs.specs.Printing.{answer_line}
 use Rattle.gt_explore_replay.specs.Orders.{MayGive}
-use Rattle.gt_order.specs.Printed.{IsUndisturbed, MayPrint}
+use Rattle.gt_linearization.specs.Printed.{IsUndisturbed, MayPrint}
 use Rattle.gt_flow.specs.Flow.{IsClosed}
 use Rattle.gt_flow.specs.Low.{is_high}
 use Rattle.gt_flow.specs.OtherBytes.{unread}
@@ -39,7 +39,7 @@ SameAction high one other = one ≡ other
 abbrev pub SameTasks : Setting → (TypeId → Bool) → List RunTask → List RunTask → Type 0
 SameTasks s high [] [] = Unit {0}
 SameTasks s high (t ∷ ts) (u ∷ us) =
-    (t.line ≡ u.line) × (t.dom ≡ u.dom) × SameAction (is_high s high t.dom) t.deed u.deed × SameTasks s high ts us
+    (t.line ≡ u.line) × (t.dom ≡ u.dom) × SameAction (is_high s high t.dom) t.run_action u.run_action × SameTasks s high ts us
 SameTasks s high _ _ = ⊥
 
 -- the scripts are the same, except for the bytes that high domains store and poke

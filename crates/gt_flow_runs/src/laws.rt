@@ -1,7 +1,7 @@
 //! Laws about the texts of scripts. Each law is a function with an empty body, whose contract is the law.
 ghost use Rattle.gt_flow_runs.specs.Secrets.{OthersAreAlike, PrintedTextsHaveOthers, TextsHaveOthers};
 
-use gt_order::{given_texts_are_printed, printed_texts_are_given};
+use gt_linearization::{given_texts_are_printed, printed_texts_are_given};
 
 /// Proves that for each text that a script may give, a script that is the same except for the bytes that high domains
 /// store and poke may give one in which each line of a low domain is the same.

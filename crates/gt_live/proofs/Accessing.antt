@@ -22,7 +22,7 @@ use Rattle.gt_words.specs.Conditions.{Board, SeatOf}
 use Rattle.gt_word_history.specs.Rule.{Layout}
 use Rattle.gt_word_history.specs.History.{Moment}
 use Rattle.gt_word_history.specs.declared.view.View.{View}
-use Rattle.gt_access.specs.Routes.{IsPinnedFor, ServesAccess}
+use Rattle.gt_access.specs.AccessPaths.{IsPinnedFor, ServesAccess}
 use Rattle.gt_frames.specs.Receipts.{Writing}
 use Rattle.gt_model.specs.declared.action.Observation.TheVariants.{Nothing}
 use Rattle.gt_model.specs.declared.action.Step.{Step}
@@ -40,7 +40,7 @@ use Rattle.gt_model.specs.Path.{Continuation, after_beginning, by_mapping, ended
 use Rattle.gt_model.specs.Rules.{CallerKnowledge, begun}
 use Rattle.gt_live.specs.Accesses.{EndsAfterAccess, AnsweredAtAccess, ComesTo, HasCause, IsAccess, IsOfAccess}
 use Rattle.gt_live.specs.Accesses.{IsOfMissing}
-use Rattle.gt_live.specs.Accesses.{IsUnmade, IsWrittenBy, NamesRoute, WritesFrame, frame_named, onward}
+use Rattle.gt_live.specs.Accesses.{IsUnmade, IsWrittenBy, NamesAccessPath, WritesFrame, frame_named, onward}
 use Rattle.gt_live.specs.Domains.{IsRefused, IsRefusedWithoutMemory, AllowRelation, denial_in}
 use Rattle.gt_live.specs.Prelude.{Domain, Monitor}
 use Rattle.gt_live.specs.Ending.{IsAccessing, IsWordless}
@@ -184,11 +184,11 @@ pub one-access : {R : Type 0} (b : Board) (way : Continuation) (access : Step) (
 one-access b way access tells (Ok r) v w is e ok same err cause = (access, whole b.layout way access (tells access r) v w is e ok)
 one-access b way access tells (Err denial) v w is e ok same err cause = inr (access, whole b.layout way access IsUnmade v w is e same, err, cause)
 
--- a write by the route that its request names
-pub named-route : (k : Layout) (d : Domain) (request : Request) (dom : DomId) (frame off len : ℕ) (route : AccessPath) (result : Result Writing Denial) (v w : View) → NamesRoute d request route
-    → IfOk result (λ (r : Writing). WritesFrame k (frame_named dom frame) off (bytes_given_by request) d.seat.dom route r v w) → IfOk result (λ (r : Writing). IsWrittenBy k d request (call_steps.Write dom frame off len) r v w)
-named-route k d request dom frame off len route (Ok r) v w named written = (route, named, written)
-named-route k d request dom frame off len route (Err denial) v w named written = tt
+-- a write by the access path that its request names
+pub named-access_path : (k : Layout) (d : Domain) (request : Request) (dom : DomId) (frame off len : ℕ) (access_path : AccessPath) (result : Result Writing Denial) (v w : View) → NamesAccessPath d request access_path
+    → IfOk result (λ (r : Writing). WritesFrame k (frame_named dom frame) off (bytes_given_by request) d.seat.dom access_path r v w) → IfOk result (λ (r : Writing). IsWrittenBy k d request (call_steps.Write dom frame off len) r v w)
+named-access_path k d request dom frame off len access_path (Ok r) v w named written = (access_path, named, written)
+named-access_path k d request dom frame off len access_path (Err denial) v w named written = tt
 
 -- the way of a call through a mapping
 pub mapped-way : (k : CallerKnowledge) (caller : DomId) (request : Request) (handle : Handle) (p : HeldPin) (step : HeldPin → Step) → begun_of k caller request ≡ None → k.mapping handle ≡ Some p

@@ -145,7 +145,7 @@ module _ (c : CallerKnowledge) (k : Layout) (caller : DomId) (v : View) (knows :
   row w same q lt = same.records q ∙ knows.rows q lt
 
   tried : (request : OpenRequest) (held : CallPins) (steps : List Moment) (way : Continuation) (p : HeldPin) → WaitsForNobody request → IsWalk k way v steps → RestsOnTry c caller request held way (all_shown steps) p → Tried c k caller request p (view_after steps v)
-  tried request held steps way p waits walk r = by r.aim r.aimed
+  tried request held steps way p waits walk r = by r.pin_purpose r.purposed
     where
       of-map : IsOfMap c caller request r.leg → Tried c k caller request p (view_after steps v)
       of-map m =
@@ -180,7 +180,7 @@ module _ (c : CallerKnowledge) (k : Layout) (caller : DomId) (v : View) (knows :
             in_frames = ap (λ (d : DomId). nat_le (frame_count_of c.domains d) (frame_of p.entry)) owner ∙ (ap (λ (n : ℕ). nat_le n (frame_of p.entry)) (sym (ap (λ (x : Leg). x.frames) m.leg_is)) ∙ lets.1);
           }
 
-      by : (aim : PinPurpose) → IsLegFor c caller request aim r.leg → Tried c k caller request p (view_after steps v)
+      by : (pin_purpose : PinPurpose) → IsLegFor c caller request pin_purpose r.leg → Tried c k caller request p (view_after steps v)
       by Mapping is = of-map is
       by (Source copy via) is = absurd (no-copy request copy is.0 waits)
       by (Dest copy source via) is = absurd (no-copy request copy is.0 waits)
@@ -194,8 +194,8 @@ module _ (c : CallerKnowledge) (k : Layout) (caller : DomId) (v : View) (knows :
   grant-opens : (request : OpenRequest) (q : GrantRef) (e : Entry) → begun c caller request ≡ None → request ≡ asks.Grant q e → OpensGrant c q e
   grant-opens request q e none is = opens c caller (asks.Grant q e) (subst (λ (x : OpenRequest). begun c caller x ≡ None) is none)
 
-  can-store : (request : OpenRequest) (q : GrantRef) (half : BodyWord) (word : ℕ) (w : View) → IsSame v w → begun c caller request ≡ None → RestsOnGrant request q half word → (q.0 < TABLE_ENTRIES) × ((last_of q.0 w).entry ≡ Invalid)
-  can-store request q half word w same none r = by half r
+  can-store : (request : OpenRequest) (q : GrantRef) (body_word : BodyWord) (word : ℕ) (w : View) → IsSame v w → begun c caller request ≡ None → RestsOnGrant request q body_word word → (q.0 < TABLE_ENTRIES) × ((last_of q.0 w).entry ≡ Invalid)
+  can-store request q body_word word w same none r = by body_word r
     where
       here : (e : Entry) → request ≡ asks.Grant q e → (q.0 < TABLE_ENTRIES) × ((last_of q.0 w).entry ≡ Invalid)
       here e is =
@@ -215,7 +215,7 @@ module _ (c : CallerKnowledge) (k : Layout) (caller : DomId) (v : View) (knows :
       let e = Sub dom ro frame off len in
       let two = made-last k way v steps (Nothing ∷ []) Nothing (StoreBody q body_words.Second (second_body e)) walk r.0 r.2 in
       let one = made-last k way v two.rest [] Nothing (StoreBody q body_words.First (first_body e)) two.walked two.shown_is r.1 in
-      let first : own_body q.0 body_words.First (view_after steps v) ≡ own_body q.0 body_words.First (view_after two.rest v) = two.made.other_half body_words.First (λ z. cc) in
+      let first : own_body q.0 body_words.First (view_after steps v) ≡ own_body q.0 body_words.First (view_after two.rest v) = two.made.other_body_word body_words.First (λ z. cc) in
       (first ∙ one.made.stored, two.made.stored)
 
   -- an owner's exchange that is tried once
@@ -305,7 +305,7 @@ module _ (c : CallerKnowledge) (k : Layout) (caller : DomId) (v : View) (knows :
       by : (IsOfRun c d × HasSeenTable (path c caller request) d q (all_shown steps)) ⊎ ((d ≡ caller) × (q.0 < size_of c.header)) → HasDomain k d × (q.0 < TABLE_ENTRIES)
       by (inl x) = (named-run d x.0, in-seen-table k (path c caller request) v steps d q walk x.1)
       by (inr x) = (own-of-run k v caller d knows.named knows.inside x.0, in-own q.0 x.1)
-  can-make request held steps (LookBody d q half) waits walk same free r = (named-run d r.1.0, in-seen-table k (path c caller request) v steps d q walk r.1.1)
+  can-make request held steps (LookBody d q body_word) waits walk same free r = (named-run d r.1.0, in-seen-table k (path c caller request) v steps d q walk r.1.1)
   can-make request held steps (Pin p) waits walk same free r =
       let t = tried request held steps (path c caller request) p waits walk r.1 in (
         t.run,
@@ -326,7 +326,7 @@ module _ (c : CallerKnowledge) (k : Layout) (caller : DomId) (v : View) (knows :
   can-make request held steps (Unpin p (holders.Mapping handle)) waits walk same free r =
       let pin = knows.mapped handle p r.1.1 in (pin.run, pin.inside, still-held (view_after steps v) p same pin)
   can-make request held steps (Unpin p (holders.Leg place)) waits walk same free r = let some = r.1.held in absurd (cc)
-  can-make request held steps (StoreBody q half word) waits walk same free r = can-store request q half word (view_after steps v) same r.0 r.1
+  can-make request held steps (StoreBody q body_word word) waits walk same free r = can-store request q body_word word (view_after steps v) same r.0 r.1
   can-make request held steps (StoreHeader version frames) waits walk same free r = can-header request version frames r.0 r.1
   can-make request held steps (Exchange q looked (Publish e)) waits walk same free r = can-publish request steps (path c caller request) q looked e walk same r.0 r.1
   can-make request held steps (Exchange q looked changes.Revoke) waits walk same free r = can-revoke request (view_after steps v) q looked same r.0 r.1
@@ -402,8 +402,8 @@ module _ (c : CallerKnowledge) (k : Layout) (caller : DomId) (v : View) (knows :
       → Rests c caller request held (all_shown steps) (actions.Step s) → Made k s x (view_after steps v) w' → Leaves c k caller request v w' (effect_of s x)
   leaves request held steps (LookHeader d) (Word n) w' waits walk same free r m = same-then v (view_after steps v) w' same (look-same k (LookHeader d) (Word n) (view_after steps v) w' m tt)
   leaves request held steps (LookControl d q) (Word n) w' waits walk same free r m = same-then v (view_after steps v) w' same (look-same k (LookControl d q) (Word n) (view_after steps v) w' m tt)
-  leaves request held steps (LookBody d q half) (Word n) w' waits walk same free r m = same-then v (view_after steps v) w' same (look-same k (LookBody d q half) (Word n) (view_after steps v) w' m tt)
-  leaves request held steps (StoreBody q half n) Nothing w' waits walk same free r m = same-then v (view_after steps v) w' same (look-same k (StoreBody q half n) Nothing (view_after steps v) w' m tt)
+  leaves request held steps (LookBody d q body_word) (Word n) w' waits walk same free r m = same-then v (view_after steps v) w' same (look-same k (LookBody d q body_word) (Word n) (view_after steps v) w' m tt)
+  leaves request held steps (StoreBody q body_word n) Nothing w' waits walk same free r m = same-then v (view_after steps v) w' same (look-same k (StoreBody q body_word n) Nothing (view_after steps v) w' m tt)
   leaves request held steps (StoreHeader version frames) Nothing w' waits walk same free r m = (same-then v (view_after steps v) w' same (look-same k (StoreHeader version frames) Nothing (view_after steps v) w' m tt), header-asked request version frames r.1)
   leaves request held steps (Pin p) Taken w' waits walk same free r m = left-pinned request held steps p w' waits walk same r m
   leaves request held steps (Pin p) (Missed n) w' waits walk same free r m = same-then v (view_after steps v) w' same (look-same k (Pin p) (Missed n) (view_after steps v) w' m tt)

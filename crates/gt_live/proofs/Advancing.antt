@@ -75,8 +75,8 @@ held-none caller (Unpin p (holders.Mapping handle)) x old new action e h free en
 held-none caller (Unpin p (holders.Leg place)) x old new action e h free ends = cc
 held-none caller (LookHeader d) x old new action e h free ends = h ∙ e
 held-none caller (LookControl d q) x old new action e h free ends = h ∙ e
-held-none caller (LookBody d q half) x old new action e h free ends = h ∙ e
-held-none caller (StoreBody q half n) x old new action e h free ends = h ∙ e
+held-none caller (LookBody d q body_word) x old new action e h free ends = h ∙ e
+held-none caller (StoreBody q body_word n) x old new action e h free ends = h ∙ e
 held-none caller (StoreHeader version frames) x old new action e h free ends = h ∙ e
 held-none caller (Exchange q looked change) x old new action e h free ends = h ∙ e
 held-none caller (Read d frame off len) x old new action e h free ends = h ∙ e

@@ -1,4 +1,4 @@
--- A copy at its access: what its routes reach, what the policy allows of it, and how it is answered.
+-- A copy at its access: what its access paths reach, what the policy allows of it, and how it is answered.
 use Rattle.gt_live.proofs.Moments.{only-access, walk-moments}
 use Rattle.std.proofs.Common.{◌≡◌, ◌+◌, ◌≤◌, ℕ, Bool, true, false, cond, refl, sym, ap, ◌∙◌, subst, List, [], ◌∷◌}
 use Rattle.std.proofs.Common.{◌++◌, Option, Some, None, inl, inr, arith}
@@ -21,7 +21,7 @@ use Rattle.gt_word_history.specs.Rule.{Layout}
 use Rattle.gt_word_history.specs.Views.{IsAmong}
 use Rattle.gt_word_history.specs.declared.view.View.{View}
 use Rattle.gt_frames.specs.Receipts.{Copying}
-use Rattle.gt_access.specs.Routes.{MayCopyBy, MayCopyEach, ReachesBy, named_by, pair_beyond}
+use Rattle.gt_access.specs.AccessPaths.{MayCopyBy, MayCopyEach, ReachesBy, named_by, pair_beyond}
 use Rattle.gt_types.specs.declared.places.Spot.{Spot}
 use Rattle.gt_model.specs.declared.action.Step.TheVariants as call_steps
 use Rattle.gt_model.specs.declared.action.CallResult.{CallResult}
@@ -64,9 +64,9 @@ pub in-source : {A : Type 0} (a : A) (xs ys : List A) → IsAmong a ys → IsAmo
 in-source a [] ys is = is
 in-source a (x ∷ xs) ys is = inr (in-source a xs ys is)
 
--- the route to an end reaches its range
-pub reaches-end : (c : CallerKnowledge) (k : Layout) (s : SeatOf) (granted : Bool) (end : End) (dir : Dir) (len : ℕ) (pair : DomId → DomId × DomId) (route : AccessPath) (taken : List HeldPin) (v : View) → IsReached c s.dom granted end dir len pair route → HasTaken k taken v s.view
-    → AreOfRun k taken → ((p : HeldPin) → IsAmong p (held_by route) → IsAmong p taken) → ReachesBy k s dir uses.Copy (frame_named (owner_by s.dom route) (frame_by end.ptr route)) end.offset len route
+-- the access path to an end reaches its range
+pub reaches-end : (c : CallerKnowledge) (k : Layout) (s : SeatOf) (granted : Bool) (end : End) (dir : Dir) (len : ℕ) (pair : DomId → DomId × DomId) (access_path : AccessPath) (taken : List HeldPin) (v : View) → IsReached c s.dom granted end dir len pair access_path → HasTaken k taken v s.view
+    → AreOfRun k taken → ((p : HeldPin) → IsAmong p (held_by access_path) → IsAmong p taken) → ReachesBy k s dir uses.Copy (frame_named (owner_by s.dom access_path) (frame_by end.ptr access_path)) end.offset len access_path
 reaches-end c k s granted end dir len pair Own taken v r x all among = refl
 reaches-end c k s granted end dir len pair (Direct p) taken v r x all among = record {
   pin = has-pin k taken v s.view p x all (among p (inl refl));
@@ -89,7 +89,7 @@ reaches-end c k s granted end dir len pair (Through via p) taken v r x all among
     )
 
 -- the domain that an end names
-names-end : (c : CallerKnowledge) (caller : DomId) (granted : Bool) (end : End) (dir : Dir) (len : ℕ) (pair : DomId → DomId × DomId) (route : AccessPath) → IsReached c caller granted end dir len pair route → (granted ≡ false → IsOwnEnd c caller end) → named_by caller route ≡ resolved caller end.domid
+names-end : (c : CallerKnowledge) (caller : DomId) (granted : Bool) (end : End) (dir : Dir) (len : ℕ) (pair : DomId → DomId × DomId) (access_path : AccessPath) → IsReached c caller granted end dir len pair access_path → (granted ≡ false → IsOwnEnd c caller end) → named_by caller access_path ≡ resolved caller end.domid
 names-end c caller granted end dir len pair Own r own = ap numbered (sym (own r.0).owned)
   where
     numbered : ℕ → DomId
@@ -119,15 +119,15 @@ via-allowed c pair dom e = one-allowed c.may (record { source = label_of c.domai
 abbrev pub Allows : CallerKnowledge → DomId × DomId → Type 0
 Allows c pair = IsAllowed c.may (rights_to_copy c pair.0 pair.1)
 
-beyond-source : (c : CallerKnowledge) (caller : DomId) (granted : Bool) (a : CopyArgs) (dir : Dir) (len : ℕ) (route : AccessPath) (to : DomId) (rest : List (DomId × DomId)) → IsReached c caller granted a.source dir len (source_pair caller a) route → to ≡ resolved caller a.dest.domid
-    → MayCopyEach c.domains c.may rest → MayCopyEach c.domains c.may (pair_beyond route (owner_by caller route, to) ++ rest)
+beyond-source : (c : CallerKnowledge) (caller : DomId) (granted : Bool) (a : CopyArgs) (dir : Dir) (len : ℕ) (access_path : AccessPath) (to : DomId) (rest : List (DomId × DomId)) → IsReached c caller granted a.source dir len (source_pair caller a) access_path → to ≡ resolved caller a.dest.domid
+    → MayCopyEach c.domains c.may rest → MayCopyEach c.domains c.may (pair_beyond access_path (owner_by caller access_path, to) ++ rest)
 beyond-source c caller granted a dir len Own to rest r named more = more
 beyond-source c caller granted a dir len (Direct p) to rest r named more = more
 beyond-source c caller granted a dir len (Through via p) to rest r named more =
     (subst (λ (d : DomId). Allows c (p.dom, d)) (sym named) (via-allowed c (p.dom, resolved caller a.dest.domid) p.dom r.4), more)
 
-beyond-dest : (c : CallerKnowledge) (caller : DomId) (granted : Bool) (end : End) (dir : Dir) (len : ℕ) (source route : AccessPath) → IsReached c caller granted end dir len (dest_pair caller source) route
-    → MayCopyEach c.domains c.may (pair_beyond route (owner_by caller source, owner_by caller route))
+beyond-dest : (c : CallerKnowledge) (caller : DomId) (granted : Bool) (end : End) (dir : Dir) (len : ℕ) (source access_path : AccessPath) → IsReached c caller granted end dir len (dest_pair caller source) access_path
+    → MayCopyEach c.domains c.may (pair_beyond access_path (owner_by caller source, owner_by caller access_path))
 beyond-dest c caller granted end dir len source Own r = tt
 beyond-dest c caller granted end dir len source (Direct p) r = tt
 beyond-dest c caller granted end dir len source (Through via p) r = (via-allowed c (owner_by caller source, p.dom) p.dom r.4, tt)
@@ -161,7 +161,7 @@ whole-copy c k call from to len v mid w a g = (copy-whole c k call from to len I
 abbrev pub at_access : DomId → CopyArgs → CallPins → Call
 at_access caller copy pins = copy_call caller copy (Accessing copy pins.source pins.dest)
 
--- a copy that came to its access by these routes and gave its pins back
+-- a copy that came to its access by these access paths and gave its pins back
 pub made-whole : (c : CallerKnowledge) (b : Board) (d : Domain) (copy : CopyArgs) (pins : CallPins) (from to : Spot) (len : ℕ) (at mid w : View) (way : Continuation) (result : Result Copying Denial) → AtAccess c b.layout (at_access d.seat.dom copy pins) from to len d.seat.view at → GivesBack b.layout pins mid w
     → way ≡ path c d.seat.dom (asks.Copy copy) → IfOk result (λ (r : Copying). CopiesBetween b.layout from to len d.seat.dom pins r at mid) → OnErr result (mid ≡ at) → IfErr result IsOfAccess → IfErr result (IsIfOneMissing b from.frame to.frame)
     → AnsweredAtAccess b way (IsCopiedBy c b.layout d copy) result d.seat.view w
@@ -188,7 +188,7 @@ taken-still k taken v at mid x same = record {
   ids = same.ids ∙ x.ids;
 }
 
--- what the routes to both ends reach
+-- what the access paths to both ends reach
 pub reaches-source : (c : CallerKnowledge) (k : Layout) (s : SeatOf) (request : OpenRequest) (pins : CallPins) (from to : Spot) (len : ℕ) (v : View) → RestsOnWays c s.dom request pins from to len → HasTaken k (last_first pins) v s.view → AreOfRun k (last_first pins)
     → ReachesBy k s Read uses.Copy from.frame from.off len pins.source
 reaches-source c k s request pins from to len v r x all =

@@ -161,7 +161,7 @@ IsEnd Mapping = ⊥
 IsEnd (Source copy via) = Unit {0}
 IsEnd (Dest copy source via) = Unit {0}
 
-an-end : (k : Layout) (v : View) (steps : List Moment) (aim : PinPurpose) (l : Leg) (at : LegPhase) → StandsInCopy k v steps (Walking aim l at) → IsEnd aim
+an-end : (k : Layout) (v : View) (steps : List Moment) (pin_purpose : PinPurpose) (l : Leg) (at : LegPhase) → StandsInCopy k v steps (Walking pin_purpose l at) → IsEnd pin_purpose
 an-end k v steps Mapping l at is = absurd is
 an-end k v steps (Source copy via) l at is = tt
 an-end k v steps (Dest copy source via) l at is = tt
@@ -216,8 +216,8 @@ module _ (c : CallerKnowledge) (k : Layout) (caller : DomId) (v : View) (knows :
         permits = (l.purpose, l.off, l.len, ap (λ (d : DomId). permits p.entry d l.dir l.purpose l.off l.len) owner ∙ lets-second l p.entry on.beyond lets);
       }))
 
-  may-pin : (request : OpenRequest) → IsCopy request → (aim : PinPurpose) (l : Leg) (p : HeldPin) (w : View) → IsLegFor c caller request aim l → id_at k.ids w.position ≡ caller → p.dom ≡ l.dom → p.gref ≡ l.gref → HasDomain k p.dom
-      → HasTaken k (last_first (pins_so_far aim)) v w → AreOfRun k (last_first (pins_so_far aim)) → Lets l p.entry → MayPin k (position_in k.ids p.dom) p.gref.0 w l.dir (entry_record_of p)
+  may-pin : (request : OpenRequest) → IsCopy request → (pin_purpose : PinPurpose) (l : Leg) (p : HeldPin) (w : View) → IsLegFor c caller request pin_purpose l → id_at k.ids w.position ≡ caller → p.dom ≡ l.dom → p.gref ≡ l.gref → HasDomain k p.dom
+      → HasTaken k (last_first (pins_so_far pin_purpose)) v w → AreOfRun k (last_first (pins_so_far pin_purpose)) → Lets l p.entry → MayPin k (position_in k.ids p.dom) p.gref.0 w l.dir (entry_record_of p)
   may-pin request copies Mapping l p w is me dom gref run x all lets = absurd (subst (λ (y : OpenRequest). IsCopy y) is.of_map copies)
   may-pin request copies (Source copy None) l p w is me dom gref run x all lets = by-first p l w me (ap (λ (y : Leg). y.grantee) is.1.1) lets
   may-pin request copies (Source copy (Some via)) l p w is me dom gref run x all lets =
@@ -245,7 +245,7 @@ module _ (c : CallerKnowledge) (k : Layout) (caller : DomId) (v : View) (knows :
       let here : record_seen (last_seen at p.gref.0 w) ≡ entry_record_of p = ap record_seen last ∙ spelled in
       let dirs : p.dir ≡ l.dir = ap (λ (y : HeldPin). y.dir) r.pin_is in
       let run = named-run c k caller v knows p.dom r.of_run in
-      let may = may-pin request copies r.aim l p w r.aimed (ap (λ (i : ℕ). id_at k.ids i) (after-position steps v) ∙ knows.named) (ap (λ (y : HeldPin). y.dom) r.pin_is) (ap (λ (y : HeldPin). y.gref) r.pin_is) run
+      let may = may-pin request copies r.pin_purpose l p w r.purposed (ap (λ (i : ℕ). id_at k.ids i) (after-position steps v) ∙ knows.named) (ap (λ (y : HeldPin). y.dom) r.pin_is) (ap (λ (y : HeldPin). y.gref) r.pin_is) run
       (subst (λ (h : CallPins). HasTaken k (last_first h) v w) r.held x) (subst (λ (h : CallPins). AreOfRun k (last_first h)) r.held all) r.lets in
       let valid = none-stands (is_kind (control_of p.word).kind kinds.Invalid) N10 _ r.first in
       let second_too : kind_of p.word ≡ kinds.Sub → IsSome s.second = λ e. subst (λ (b : Bool). IsSome (cond b (Some r.second) None)) (sym (ap (λ (y : EntryKind). is_kind y kinds.Sub) e)) refl in
@@ -270,7 +270,7 @@ module _ (c : CallerKnowledge) (k : Layout) (caller : DomId) (v : View) (knows :
       by : (IsOfRun c d × HasSeenTable (path c caller request) d q (all_shown steps)) ⊎ ((d ≡ caller) × (q.0 < size_of c.header)) → HasDomain k d × (q.0 < TABLE_ENTRIES)
       by (inl y) = (named-run c k caller v knows d y.0, in-seen-table k (path c caller request) v steps d q walk y.1)
       by (inr y) = (own-of-run k v caller d knows.named knows.inside y.0, in-own c k caller v knows q.0 y.1)
-  can-walk request copies held steps (LookBody d q half) walk x all r other = (named-run c k caller v knows d r.1.0, in-seen-table k (path c caller request) v steps d q walk r.1.1)
+  can-walk request copies held steps (LookBody d q body_word) walk x all r other = (named-run c k caller v knows d r.1.0, in-seen-table k (path c caller request) v steps d q walk r.1.1)
   can-walk request copies held steps (Pin p) walk x all r other = let t = tries-pin request copies held steps p walk x all r.1 in (t.run, t.inside, t.can)
   can-walk request copies held steps (Unpin p (holders.Mapping handle)) walk x all r other = by r.1.0
     where
@@ -307,7 +307,7 @@ module _ (c : CallerKnowledge) (k : Layout) (caller : DomId) (v : View) (knows :
   -- where a copy stands after a step
 
   module _ (w : View) (steps : List Moment) where
-    walking-stands : (aim : PinPurpose) (l : Leg) (at : LegPhase) → IsEnd aim → HasTaken k (last_first (pins_so_far aim)) v w → AreOfRun k (last_first (pins_so_far aim)) → StandsWell k v w steps (Walking aim l at)
+    walking-stands : (pin_purpose : PinPurpose) (l : Leg) (at : LegPhase) → IsEnd pin_purpose → HasTaken k (last_first (pins_so_far pin_purpose)) v w → AreOfRun k (last_first (pins_so_far pin_purpose)) → StandsWell k v w steps (Walking pin_purpose l at)
     walking-stands Mapping l at is x all = absurd is
     walking-stands (Source copy via) l at is x all = record { stays = tt; taken = x; of_run = all }
     walking-stands (Dest copy source via) l at is x all = record { stays = tt; taken = x; of_run = all }
@@ -319,18 +319,18 @@ module _ (c : CallerKnowledge) (k : Layout) (caller : DomId) (v : View) (knows :
         by true = record { stays = tt; taken = x; of_run = all }
         by false = record { stays = tt; taken = x; of_run = all }
 
-    via-stands : (aim : PinPurpose) (l : Leg) (pair : DomId × DomId) (dom : DomId) (second : Leg) → IsEnd aim → HasTaken k (last_first (pins_so_far aim)) v w → AreOfRun k (last_first (pins_so_far aim))
-        → StandsWell k v w steps (where_via (via_judged c pair dom) aim second)
-    via-stands aim l pair dom second is x all = by (via_judged c pair dom) refl
+    via-stands : (pin_purpose : PinPurpose) (l : Leg) (pair : DomId × DomId) (dom : DomId) (second : Leg) → IsEnd pin_purpose → HasTaken k (last_first (pins_so_far pin_purpose)) v w → AreOfRun k (last_first (pins_so_far pin_purpose))
+        → StandsWell k v w steps (where_via (via_judged c pair dom) pin_purpose second)
+    via-stands pin_purpose l pair dom second is x all = by (via_judged c pair dom) refl
       where
-        by : (o : Option CallResult) → via_judged c pair dom ≡ o → StandsWell k v w steps (where_via o aim second)
-        by None e = walking-stands aim second Header is x all
+        by : (o : Option CallResult) → via_judged c pair dom ≡ o → StandsWell k v w steps (where_via o pin_purpose second)
+        by None e = walking-stands pin_purpose second Header is x all
         by (Some verdict) e =
             let no_word = via-refused c caller pair dom verdict e in
-            subst (λ (y : CallResult). StandsWell k v w steps (Ending (pins_so_far aim) y)) (sym no_word.1)
+            subst (λ (y : CallResult). StandsWell k v w steps (Ending (pins_so_far pin_purpose) y)) (sym no_word.1)
             (record { stays = wordless-found k v steps no_word.0.facts no_word.2; taken = x; of_run = all })
 
-    pin-stands : (aim : PinPurpose) (l : Leg) (p : HeldPin) → IsEnd aim → HasTaken k (p ∷ last_first (pins_so_far aim)) v w → AreOfRun k (p ∷ last_first (pins_so_far aim)) → StandsWell k v w steps (after_pin_of c caller aim l p)
+    pin-stands : (pin_purpose : PinPurpose) (l : Leg) (p : HeldPin) → IsEnd pin_purpose → HasTaken k (p ∷ last_first (pins_so_far pin_purpose)) v w → AreOfRun k (p ∷ last_first (pins_so_far pin_purpose)) → StandsWell k v w steps (after_pin_of c caller pin_purpose l p)
     pin-stands Mapping l p is x all = absurd is
     pin-stands (Source copy None) l p is x all = by p.entry
       where
@@ -351,67 +351,67 @@ module _ (c : CallerKnowledge) (k : Layout) (caller : DomId) (v : View) (knows :
 
   module _ (u w : View) (steps : List Moment) (low : SeesNoEarlier v u) (still : u.position ≡ v.position) where
     -- a leg that goes on, or is refused by the word that its step found
-    module _ (aim : PinPurpose) (l : Leg) (s : Step) (x : Observation) (m : Made k s x u w) (is : IsEnd aim) (taken : HasTaken k (last_first (pins_so_far aim)) v w) (all : AreOfRun k (last_first (pins_so_far aim))) where
+    module _ (pin_purpose : PinPurpose) (l : Leg) (s : Step) (x : Observation) (m : Made k s x u w) (is : IsEnd pin_purpose) (taken : HasTaken k (last_first (pins_so_far pin_purpose)) v w) (all : AreOfRun k (last_first (pins_so_far pin_purpose))) where
       abbrev pub now : List Moment
       now = (made-gains k s x u w m).step ∷ steps
 
-      goes : (at : LegPhase) → StandsWell k v w now (after_leg c caller aim l (Going at))
-      goes at = walking-stands w now aim l at is taken all
+      goes : (at : LegPhase) → StandsWell k v w now (after_leg c caller pin_purpose l (Going at))
+      goes at = walking-stands w now pin_purpose l at is taken all
 
-      refused : (denial : Denial) → CarriesFound k v now denial.facts → StandsWell k v w now (after_leg c caller aim l (leg_outcomes.Refused denial))
+      refused : (denial : Denial) → CarriesFound k v now denial.facts → StandsWell k v w now (after_leg c caller pin_purpose l (leg_outcomes.Refused denial))
       refused denial found = record { stays = found; taken = taken; of_run = all }
 
-      missed : (more n : ℕ) → CarriesFound k v now (facts.Entry l.dom l.gref n) → StandsWell k v w now (after_leg c caller aim l (after_miss l more n))
+      missed : (more n : ℕ) → CarriesFound k v now (facts.Entry l.dom l.gref n) → StandsWell k v w now (after_leg c caller pin_purpose l (after_miss l more n))
       missed more n found = by (nat_lt 0 more)
         where
-          by : (b : Bool) → StandsWell k v w now (after_leg c caller aim l (cond b (Going (Look (more - 1))) (leg_outcomes.Refused (entry_refusal l.dom l.gref N18 n))))
+          by : (b : Bool) → StandsWell k v w now (after_leg c caller pin_purpose l (cond b (Going (Look (more - 1))) (leg_outcomes.Refused (entry_refusal l.dom l.gref N18 n))))
           by true = goes (Look (more - 1))
           by false = refused (entry_refusal l.dom l.gref N18 n) found
 
-      words : (more word body second : ℕ) (o : Option Rule) → StandsWell k v w now (after_leg c caller aim l (after_words more word body second o))
+      words : (more word body second : ℕ) (o : Option Rule) → StandsWell k v w now (after_leg c caller pin_purpose l (after_words more word body second o))
       words more word body second (Some rule) = goes (Relook more word rule)
       words more word body second None = goes (Pinning more word body second)
 
-    looked : (aim : PinPurpose) (s : Step) (x : Observation) → Made k s x u w → IsLook s x → HasTaken k (last_first (pins_so_far aim)) v u → HasTaken k (last_first (pins_so_far aim)) v w
-    looked aim s x m is taken = taken-look k (last_first (pins_so_far aim)) v u w taken (look-same k s x u w m is)
+    looked : (pin_purpose : PinPurpose) (s : Step) (x : Observation) → Made k s x u w → IsLook s x → HasTaken k (last_first (pins_so_far pin_purpose)) v u → HasTaken k (last_first (pins_so_far pin_purpose)) v w
+    looked pin_purpose s x m is taken = taken-look k (last_first (pins_so_far pin_purpose)) v u w taken (look-same k s x u w m is)
 
-    leg-stands : (aim : PinPurpose) (l : Leg) (at : LegPhase) (x : Observation) (m : Made k (leg_step l at) x u w) → IsEnd aim → HasTaken k (last_first (pins_so_far aim)) v u → AreOfRun k (last_first (pins_so_far aim))
-        → ((p : HeldPin) → leg_step l at ≡ Pin p → Tries p u) → StandsWell k v w ((made-gains k (leg_step l at) x u w m).step ∷ steps) (after_leg c caller aim l (leg_after l at x))
-    leg-stands aim l Header (Word n) m is x all tries = by (nat_lt l.gref.0 (size_of (header_of n)))
+    leg-stands : (pin_purpose : PinPurpose) (l : Leg) (at : LegPhase) (x : Observation) (m : Made k (leg_step l at) x u w) → IsEnd pin_purpose → HasTaken k (last_first (pins_so_far pin_purpose)) v u → AreOfRun k (last_first (pins_so_far pin_purpose))
+        → ((p : HeldPin) → leg_step l at ≡ Pin p → Tries p u) → StandsWell k v w ((made-gains k (leg_step l at) x u w m).step ∷ steps) (after_leg c caller pin_purpose l (leg_after l at x))
+    leg-stands pin_purpose l Header (Word n) m is x all tries = by (nat_lt l.gref.0 (size_of (header_of n)))
       where
-        by : (b : Bool) → StandsWell k v w ((made-gains k (LookHeader l.dom) (Word n) u w m).step ∷ steps) (after_leg c caller aim l (cond b (Going (Look 3)) (leg_outcomes.Refused (denial_of N9 (facts.Header l.dom n)))))
-        by true = goes aim l (LookHeader l.dom) (Word n) m is (looked aim (LookHeader l.dom) (Word n) m tt x) all (Look 3)
-        by false = refused aim l (LookHeader l.dom) (Word n) m is (looked aim (LookHeader l.dom) (Word n) m tt x) all (denial_of N9 (facts.Header l.dom n)) (carried-facts k caller v u w (LookHeader l.dom) (Word n) steps m (facts.Header l.dom n) low (still ∙ knows.stands) (refl, refl))
-    leg-stands aim l (Look more) (Word n) m is x all tries = by (first_look l (control_of n))
+        by : (b : Bool) → StandsWell k v w ((made-gains k (LookHeader l.dom) (Word n) u w m).step ∷ steps) (after_leg c caller pin_purpose l (cond b (Going (Look 3)) (leg_outcomes.Refused (denial_of N9 (facts.Header l.dom n)))))
+        by true = goes pin_purpose l (LookHeader l.dom) (Word n) m is (looked pin_purpose (LookHeader l.dom) (Word n) m tt x) all (Look 3)
+        by false = refused pin_purpose l (LookHeader l.dom) (Word n) m is (looked pin_purpose (LookHeader l.dom) (Word n) m tt x) all (denial_of N9 (facts.Header l.dom n)) (carried-facts k caller v u w (LookHeader l.dom) (Word n) steps m (facts.Header l.dom n) low (still ∙ knows.stands) (refl, refl))
+    leg-stands pin_purpose l (Look more) (Word n) m is x all tries = by (first_look l (control_of n))
       where
-        by : (o : Option Rule) → StandsWell k v w ((made-gains k (LookControl l.dom l.gref) (Word n) u w m).step ∷ steps) (after_leg c caller aim l (on_control_word l more n o))
-        by None = goes aim l (LookControl l.dom l.gref) (Word n) m is (looked aim (LookControl l.dom l.gref) (Word n) m tt x) all (Body more n)
-        by (Some rule) = refused aim l (LookControl l.dom l.gref) (Word n) m is (looked aim (LookControl l.dom l.gref) (Word n) m tt x) all (entry_refusal l.dom l.gref rule n)
+        by : (o : Option Rule) → StandsWell k v w ((made-gains k (LookControl l.dom l.gref) (Word n) u w m).step ∷ steps) (after_leg c caller pin_purpose l (on_control_word l more n o))
+        by None = goes pin_purpose l (LookControl l.dom l.gref) (Word n) m is (looked pin_purpose (LookControl l.dom l.gref) (Word n) m tt x) all (Body more n)
+        by (Some rule) = refused pin_purpose l (LookControl l.dom l.gref) (Word n) m is (looked pin_purpose (LookControl l.dom l.gref) (Word n) m tt x) all (entry_refusal l.dom l.gref rule n)
             (carried-facts k caller v u w (LookControl l.dom l.gref) (Word n) steps m (facts.Entry l.dom l.gref n) low (still ∙ knows.stands) (refl, refl, refl))
-    leg-stands aim l (Body more word) (Word n) m is x all tries = by (is_kind (control_of word).kind kinds.Sub)
+    leg-stands pin_purpose l (Body more word) (Word n) m is x all tries = by (is_kind (control_of word).kind kinds.Sub)
       where
-        by : (b : Bool) → StandsWell k v w ((made-gains k (LookBody l.dom l.gref body_words.First) (Word n) u w m).step ∷ steps) (after_leg c caller aim l (cond b (Going (Second more word n)) (after_words more word n 0 (rule_of_try l word n 0))))
-        by true = goes aim l (LookBody l.dom l.gref body_words.First) (Word n) m is (looked aim (LookBody l.dom l.gref body_words.First) (Word n) m tt x) all (Second more word n)
-        by false = words aim l (LookBody l.dom l.gref body_words.First) (Word n) m is (looked aim (LookBody l.dom l.gref body_words.First) (Word n) m tt x) all more word n 0 (rule_of_try l word n 0)
-    leg-stands aim l (Second more word body) (Word n) m is x all tries =
-        words aim l (LookBody l.dom l.gref body_words.Second) (Word n) m is (looked aim (LookBody l.dom l.gref body_words.Second) (Word n) m tt x) all more word body n (rule_of_try l word body n)
-    leg-stands aim l (Relook more word rule) (Word n) m is x all tries = by (n == word) refl
+        by : (b : Bool) → StandsWell k v w ((made-gains k (LookBody l.dom l.gref body_words.First) (Word n) u w m).step ∷ steps) (after_leg c caller pin_purpose l (cond b (Going (Second more word n)) (after_words more word n 0 (rule_of_try l word n 0))))
+        by true = goes pin_purpose l (LookBody l.dom l.gref body_words.First) (Word n) m is (looked pin_purpose (LookBody l.dom l.gref body_words.First) (Word n) m tt x) all (Second more word n)
+        by false = words pin_purpose l (LookBody l.dom l.gref body_words.First) (Word n) m is (looked pin_purpose (LookBody l.dom l.gref body_words.First) (Word n) m tt x) all more word n 0 (rule_of_try l word n 0)
+    leg-stands pin_purpose l (Second more word body) (Word n) m is x all tries =
+        words pin_purpose l (LookBody l.dom l.gref body_words.Second) (Word n) m is (looked pin_purpose (LookBody l.dom l.gref body_words.Second) (Word n) m tt x) all more word body n (rule_of_try l word body n)
+    leg-stands pin_purpose l (Relook more word rule) (Word n) m is x all tries = by (n == word) refl
       where
         found : CarriesFound k v ((made-gains k (LookControl l.dom l.gref) (Word n) u w m).step ∷ steps) (facts.Entry l.dom l.gref n)
         found = carried-facts k caller v u w (LookControl l.dom l.gref) (Word n) steps m (facts.Entry l.dom l.gref n) low (still ∙ knows.stands) (refl, refl, refl)
 
-        by : (b : Bool) → (n == word) ≡ b → StandsWell k v w ((made-gains k (LookControl l.dom l.gref) (Word n) u w m).step ∷ steps) (after_leg c caller aim l (cond b (leg_outcomes.Refused (entry_refusal l.dom l.gref rule word)) (after_miss l more n)))
-        by true e = refused aim l (LookControl l.dom l.gref) (Word n) m is (looked aim (LookControl l.dom l.gref) (Word n) m tt x) all (entry_refusal l.dom l.gref rule word)
+        by : (b : Bool) → (n == word) ≡ b → StandsWell k v w ((made-gains k (LookControl l.dom l.gref) (Word n) u w m).step ∷ steps) (after_leg c caller pin_purpose l (cond b (leg_outcomes.Refused (entry_refusal l.dom l.gref rule word)) (after_miss l more n)))
+        by true e = refused pin_purpose l (LookControl l.dom l.gref) (Word n) m is (looked pin_purpose (LookControl l.dom l.gref) (Word n) m tt x) all (entry_refusal l.dom l.gref rule word)
             (subst (λ (y : ℕ). CarriesFound k v ((made-gains k (LookControl l.dom l.gref) (Word n) u w m).step ∷ steps) (facts.Entry l.dom l.gref y)) (eqb-true n word e) found)
-        by false e = missed aim l (LookControl l.dom l.gref) (Word n) m is (looked aim (LookControl l.dom l.gref) (Word n) m tt x) all more n found
-    leg-stands aim l (Pinning more word body second) Taken m is x all tries =
+        by false e = missed pin_purpose l (LookControl l.dom l.gref) (Word n) m is (looked pin_purpose (LookControl l.dom l.gref) (Word n) m tt x) all more n found
+    leg-stands pin_purpose l (Pinning more word body second) Taken m is x all tries =
         let p = held_of l word body second in let t = tries p refl in
-        pin-stands w ((made-gains k (Pin p) Taken u w m).step ∷ steps) aim l p is (taken-pin k p (last_first (pins_so_far aim)) v u w m t.spelled x) ((t.run, t.inside), all)
-    leg-stands aim l (Pinning more word body second) (Missed n) m is x all tries =
+        pin-stands w ((made-gains k (Pin p) Taken u w m).step ∷ steps) pin_purpose l p is (taken-pin k p (last_first (pins_so_far pin_purpose)) v u w m t.spelled x) ((t.run, t.inside), all)
+    leg-stands pin_purpose l (Pinning more word body second) (Missed n) m is x all tries =
         let p = held_of l word body second in
-        missed aim l (Pin p) (Missed n) m is (looked aim (Pin p) (Missed n) m tt x) all more n
+        missed pin_purpose l (Pin p) (Missed n) m is (looked pin_purpose (Pin p) (Missed n) m tt x) all more n
         (carried-facts k caller v u w (Pin p) (Missed n) steps m (facts.Entry l.dom l.gref n) low (still ∙ knows.stands) (refl, refl, refl))
-    leg-stands aim l _ _ m is x all tries = absurd m
+    leg-stands pin_purpose l _ _ m is x all tries = absurd m
 
     -- at the end the last pin is given back
     end-stands : (pins : CallPins) (denial : Denial) (p : HeldPin) (ps : List HeldPin) (place : ℕ) (x : Observation) (m : Made k (Unpin p (holders.Leg place)) x u w) → last_first pins ≡ p ∷ ps → StandsWell k v u steps (Ending pins (Refused denial))
@@ -438,7 +438,7 @@ module _ (c : CallerKnowledge) (k : Layout) (caller : DomId) (v : View) (knows :
     OnSo phase x s = (m : Made k s x u w) → ((p : HeldPin) → s ≡ Pin p → Tries p u) → StandsWell k v w ((made-gains k s x u w m).step ∷ steps) (phase_after c caller phase x)
 
     pub step-stands : (phase : Phase) (s : Step) (x : Observation) → actions.Step s ≡ action_at caller phase → StandsWell k v u steps phase → OnSo phase x s
-    step-stands (Walking aim l at) s x acts st = let same : s ≡ leg_step l at = cc in subst (λ (y : Step). OnSo (Walking aim l at) x y) (sym same) (λ m tries. leg-stands aim l at x m (an-end k v steps aim l at st.stays) st.taken st.of_run tries)
+    step-stands (Walking pin_purpose l at) s x acts st = let same : s ≡ leg_step l at = cc in subst (λ (y : Step). OnSo (Walking pin_purpose l at) x y) (sym same) (λ m tries. leg-stands pin_purpose l at x m (an-end k v steps pin_purpose l at st.stays) st.taken st.of_run tries)
     step-stands (Accessing copy source dest) s x acts st = by acts
       where
         by : actions.Step s ≡ action_at caller (Accessing copy source dest) → OnSo (Accessing copy source dest) x s

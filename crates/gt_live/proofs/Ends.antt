@@ -317,10 +317,10 @@ module _ (caller : DomId) where
   turns-sound change gref (suc more) =
       turn-sound change gref (λ found. turns change caller gref more) (λ w. turns-sound change gref more) (λ s x idle w found. turns-opens change gref more s x idle)
 
-  store-sound : (k : CallerKnowledge) (gref : GrantRef) (entry : Entry) (half : BodyWord) (word : ℕ) → Sound OkOrRefused (makes (StoreBody gref half word) (publishes k caller gref entry))
-  store-sound k gref entry half word =
-      makes-sound OkOrRefused (StoreBody gref half word) (publishes k caller gref entry)
-      (then-step (StoreBody gref half word) Nothing (publishes k caller gref entry) (Exchange gref (idle_word k gref) (Publish entry)) refl refl) (once-sound gref (idle_word k gref) (Publish entry))
+  store-sound : (k : CallerKnowledge) (gref : GrantRef) (entry : Entry) (body_word : BodyWord) (word : ℕ) → Sound OkOrRefused (makes (StoreBody gref body_word word) (publishes k caller gref entry))
+  store-sound k gref entry body_word word =
+      makes-sound OkOrRefused (StoreBody gref body_word word) (publishes k caller gref entry)
+      (then-step (StoreBody gref body_word word) Nothing (publishes k caller gref entry) (Exchange gref (idle_word k gref) (Publish entry)) refl refl) (once-sound gref (idle_word k gref) (Publish entry))
 
   grants-sound : (k : CallerKnowledge) (gref : GrantRef) (entry : Entry) → Sound OkOrRefused (grant_path k caller gref entry)
   grants-sound k gref Invalid = store-sound k gref Invalid First (first_body Invalid)

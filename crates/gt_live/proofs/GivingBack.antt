@@ -83,9 +83,9 @@ module _ (k : Layout) where
   given-both (p ∷ ps) qs v u w x y = (x.0, x.1, given-both ps qs x.0 u w x.2 y)
 
   -- the pins of a copy at its access
-  pub gives-back : (routes : CallPins) (v w : View) → IsGivenBack k (last_first routes) v w → GivesBack k routes v w
-  gives-back routes v w x =
-      let all = last_first routes in
+  pub gives-back : (access_paths : CallPins) (v w : View) → IsGivenBack k (last_first access_paths) v w → GivesBack k access_paths v w
+  gives-back access_paths v w x =
+      let all = last_first access_paths in
       let g = giving-all all v v w all (record { steps = []; view = refl; walked = tt; leads = λ vs. refl }) x in
       record {
         steps = g.steps;
@@ -97,9 +97,9 @@ module _ (k : Layout) where
       }
 
   -- the same, by what the pins are
-  pub gives-routes : (routes others : CallPins) (v w : View) → routes ≡ others → GivesBack k routes v w
+  pub gives-access_paths : (access_paths others : CallPins) (v w : View) → access_paths ≡ others → GivesBack k access_paths v w
       → GivesBack k others v w
-  gives-routes routes others v w is x = subst (λ (p : CallPins). GivesBack k p v w) is x
+  gives-access_paths access_paths others v w is x = subst (λ (p : CallPins). GivesBack k p v w) is x
 
   -- pins that were taken can be given back
   pub can-give : (ps rest : List HeldPin) (base v : View) → HasTaken k (ps ++ rest) base v → AreOfRun k ps

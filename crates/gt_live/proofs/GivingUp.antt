@@ -147,13 +147,13 @@ module _ (k : Layout) (p : ℕ) where
   abbrev Is : Step → SeatStep → Type 0
   Is (LookHeader d) x = (n : ℕ) × (x ≡ on_header (position_in k.ids d) (header.Looked n))
   Is (LookControl d q) x = (n : ℕ) × (x ≡ on_entry (position_in k.ids d) q.0 (Looked n))
-  Is (LookBody d q half) x = (n : ℕ) × (x ≡ on_entry (position_in k.ids d) q.0 (ReadBody half n))
+  Is (LookBody d q body_word) x = (n : ℕ) × (x ≡ on_entry (position_in k.ids d) q.0 (ReadBody body_word n))
   Is (Pin h) x = ((y : EntryRecord) × (x ≡ on_entry (position_in k.ids h.dom) h.gref.0 (Pinned h.dir h.word y)))
       ⊎ ((f : ℕ) × (n : ℕ) × (x ≡ on_entry (position_in k.ids h.dom) h.gref.0 (PinMissed h.dir h.word f n)) × (n ≢ h.word))
   Is (Unpin h holder) x = (g : ℕ) × (x ≡ on_entry (position_in k.ids h.dom) h.gref.0 (Unpinned h.dir g))
   Is (Exchange q looked c) x = ((n : ℕ) × (y : EntryRecord) × (x ≡ on_entry p q.0 (Changed c looked n y)))
       ⊎ ((f : ℕ) × (n : ℕ) × (x ≡ on_entry p q.0 (ChangeMissed c looked f n)) × (n ≢ looked))
-  Is (StoreBody q half n) x = Unit {0}
+  Is (StoreBody q body_word n) x = Unit {0}
   Is (StoreHeader version frames) x = Unit {0}
   Is (call_steps.Read dom frame off len) x = ⊥
   Is (call_steps.Write dom frame off len) x = ⊥
@@ -169,11 +169,11 @@ module _ (k : Layout) (p : ℕ) where
     made-is : (s : Step) (seen : Observation) → Made k s seen v w → Is s x
     made-is (LookHeader d) (Word n) m = (n, same _ _ m.steps.adds.view)
     made-is (LookControl d q) (Word n) m = (n, same _ _ m.0.steps.adds.view)
-    made-is (LookBody d q half) (Word n) m = (n, same _ _ m.steps.adds.view)
+    made-is (LookBody d q body_word) (Word n) m = (n, same _ _ m.steps.adds.view)
     made-is (Pin h) Taken m = inl (_, same _ _ m.steps.adds.view)
     made-is (Pin h) (Missed n) m = inr (_, n, same _ _ m.steps.adds.view, m.another)
     made-is (Unpin h holder) Nothing m = (_, same _ _ m.steps.adds.view)
-    made-is (StoreBody q half n) Nothing m = tt
+    made-is (StoreBody q body_word n) Nothing m = tt
     made-is (StoreHeader version frames) Nothing m = tt
     made-is (Exchange q looked (Publish e)) Taken m = inl (_, _, own _ _ (same _ _ m.changes.steps.adds.view))
     made-is (Exchange q looked (Publish e)) (Missed n) m = inr (_, n, own _ _ (same _ _ m.missed.steps.adds.view), m.missed.another)
@@ -498,7 +498,7 @@ module _ (k : Layout) (p : ℕ) where
     via-refused c pair dom (Some verdict) is held goes_on ys rest e = let b = gives-back held verdict ys e in
         absurd (not-via c pair dom d (is ∙ ap (λ (v : CallResult). Some v) b.0) is18)
 
-    module _ (c : CallerKnowledge) (pair : DomId → DomId × DomId) (held : List HeldPin) (reached : AccessPath → Continuation) (on : (route : AccessPath) (ys : List SeatStep) → Ends (reached route) ys → LegTried ys) where
+    module _ (c : CallerKnowledge) (pair : DomId → DomId × DomId) (held : List HeldPin) (reached : AccessPath → Continuation) (on : (access_path : AccessPath) (ys : List SeatStep) → Ends (reached access_path) ys → LegTried ys) where
       beyond-found : (l : Leg) (h : HeldPin) (entry : Entry) (ys : List SeatStep) → Ends (beyond c l pair held reached h entry) ys → LegTried ys
       beyond-found l h (Via dom ro dom2 gref) ys e = via-refused c (pair dom2) dom2 (via_judged c (pair dom2) dom2) refl (h ∷ held) (leg (second_leg c l dom2 gref) (refused_holding (h ∷ held)) (λ q. reached (Through h q))) ys
           (λ f. leg-found (second_leg c l dom2 gref) (refused_holding (h ∷ held)) (holding (h ∷ held)) (λ q. reached (Through h q)) (λ q zs g. on (Through h q) zs g) ys f) e

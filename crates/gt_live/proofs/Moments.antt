@@ -73,10 +73,10 @@ released-moments k (h ∷ hs) old v new w r =
 no_access : (k : Layout) (s : Step) (seen : Observation) (v w : View) → Made k s seen v w → IsAccess s → ⊥
 no_access k (LookHeader d) seen v w m is = absurd is
 no_access k (LookControl d q) seen v w m is = absurd is
-no_access k (LookBody d q half) seen v w m is = absurd is
+no_access k (LookBody d q body_word) seen v w m is = absurd is
 no_access k (Pin p) seen v w m is = absurd is
 no_access k (Unpin p holder) seen v w m is = absurd is
-no_access k (StoreBody q half n) seen v w m is = absurd is
+no_access k (StoreBody q body_word n) seen v w m is = absurd is
 no_access k (StoreHeader version frames) seen v w m is = absurd is
 no_access k (Exchange q looked change) seen v w m is = absurd is
 no_access k (call_steps.Read dom frame off len) (Word n) v w m is = absurd m

@@ -66,24 +66,24 @@ module _ (c : CallerKnowledge) (k : Layout) (caller : DomId) where
   runs-then start mid phase v u w x y = runs-after start mid v u x y.0 phase w y.1
 
   -- the steps of a leg are those of a call that walks it
-  leg-by : (aim : PinPurpose) (l : Leg) (v : View) (xs : List LegStep) (next : LegNext) (w : View)
-      → ComesBy k l v xs next w → Runs c k caller (Walking aim l Header) v (after_leg c caller aim l next) w
-  leg-by aim l v [] next w x =
-      subst (λ (n : LegNext). Runs c k caller (Walking aim l Header) v (after_leg c caller aim l n) w) (sym x.0)
-      (subst (λ (z : View). Runs c k caller (Walking aim l Header) v (Walking aim l Header) z) (sym x.1)
-      (runs-none (Walking aim l Header) v))
-  leg-by aim l v ((at, seen, u) ∷ xs) next w x =
-      subst (λ (n : LegNext). Runs c k caller (Walking aim l Header) v (after_leg c caller aim l n) w) (sym x.1)
-      (runs-on (Walking aim l Header) (Walking aim l at) seen v u w (leg-by aim l v xs (Going at) u x.2) x.0)
+  leg-by : (pin_purpose : PinPurpose) (l : Leg) (v : View) (xs : List LegStep) (next : LegNext) (w : View)
+      → ComesBy k l v xs next w → Runs c k caller (Walking pin_purpose l Header) v (after_leg c caller pin_purpose l next) w
+  leg-by pin_purpose l v [] next w x =
+      subst (λ (n : LegNext). Runs c k caller (Walking pin_purpose l Header) v (after_leg c caller pin_purpose l n) w) (sym x.0)
+      (subst (λ (z : View). Runs c k caller (Walking pin_purpose l Header) v (Walking pin_purpose l Header) z) (sym x.1)
+      (runs-none (Walking pin_purpose l Header) v))
+  leg-by pin_purpose l v ((at, seen, u) ∷ xs) next w x =
+      subst (λ (n : LegNext). Runs c k caller (Walking pin_purpose l Header) v (after_leg c caller pin_purpose l n) w) (sym x.1)
+      (runs-on (Walking pin_purpose l Header) (Walking pin_purpose l at) seen v u w (leg-by pin_purpose l v xs (Going at) u x.2) x.0)
 
-  pub leg-runs : (aim : PinPurpose) (l : Leg) (v : View) (next : LegNext) (w : View) → WalksLeg k l v next w
-      → Runs c k caller (Walking aim l Header) v (after_leg c caller aim l next) w
-  leg-runs aim l v next w x = leg-by aim l v x.0 next w x.1
+  pub leg-runs : (pin_purpose : PinPurpose) (l : Leg) (v : View) (next : LegNext) (w : View) → WalksLeg k l v next w
+      → Runs c k caller (Walking pin_purpose l Header) v (after_leg c caller pin_purpose l next) w
+  leg-runs pin_purpose l v next w x = leg-by pin_purpose l v x.0 next w x.1
 
   -- a call that may run on may walk its leg
-  pub leg-can : (aim : PinPurpose) (l : Leg) (v : View) → CanRun c k caller (Walking aim l Header) v → CanWalkLeg k l v
-  leg-can aim l v can = λ at w x.
-      can (Walking aim l at) w (leg_step l at) (leg-runs aim l v (Going at) w x) refl
+  pub leg-can : (pin_purpose : PinPurpose) (l : Leg) (v : View) → CanRun c k caller (Walking pin_purpose l Header) v → CanWalkLeg k l v
+  leg-can pin_purpose l v can = λ at w x.
+      can (Walking pin_purpose l at) w (leg_step l at) (leg-runs pin_purpose l v (Going at) w x) refl
       (λ from to len e. no-leg l at from to len (ap (λ (s : Step). actions.Step s) (sym e)))
 
   pub can-from : (start other : Phase) (v : View) → start ≡ other → CanRun c k caller start v

@@ -1,4 +1,4 @@
--- The routes of a copy, walked on the words: what each part of the walk comes to.
+-- The access paths of a copy, walked on the words: what each part of the walk comes to.
 use Rattle.std.proofs.Common.{◌≡◌, ◌∙◌, Bool, true, false, if◌then◌else◌, refl, sym, ap, subst, Option, Some, None}
 use Rattle.gt_types.specs.declared.DomId.{DomId}
 use Rattle.gt_types.specs.declared.GrantRef.{GrantRef}
@@ -54,48 +54,48 @@ module _ (c : CallerKnowledge) (k : Layout) (caller : DomId) where
       let n = via-refused c caller pair dom verdict e in
       n.1 ∙ ap (λ (d : Denial). Refused d) (sym (is ∙ ap denial_in n.1))
 
-  pub through-refused : (aim : PinPurpose) (first : Leg) (pair : DomId × DomId) (dom : DomId) (gref : GrantRef)
+  pub through-refused : (pin_purpose : PinPurpose) (first : Leg) (pair : DomId × DomId) (dom : DomId) (gref : GrantRef)
       (verdict : CallResult) (denial : Denial) → via_judged c pair dom ≡ Some verdict → denial ≡ denial_in verdict
-      → through_via c aim first pair dom gref ≡ Ending (pins_so_far aim) (Refused denial)
-  through-refused aim first pair dom gref verdict denial e is =
-      ap (λ (o : Option CallResult). where_via o aim (second_leg c first dom gref)) e
-      ∙ ap (λ (y : CallResult). Ending (pins_so_far aim) y) (said pair dom verdict denial e is)
+      → through_via c pin_purpose first pair dom gref ≡ Ending (pins_so_far pin_purpose) (Refused denial)
+  through-refused pin_purpose first pair dom gref verdict denial e is =
+      ap (λ (o : Option CallResult). where_via o pin_purpose (second_leg c first dom gref)) e
+      ∙ ap (λ (y : CallResult). Ending (pins_so_far pin_purpose) y) (said pair dom verdict denial e is)
 
-  pub refused-runs : (aim : PinPurpose) (first : Leg) (pair : DomId × DomId) (dom : DomId) (gref : GrantRef)
+  pub refused-runs : (pin_purpose : PinPurpose) (first : Leg) (pair : DomId × DomId) (dom : DomId) (gref : GrantRef)
       (verdict : CallResult) (denial : Denial) (v : View) → via_judged c pair dom ≡ Some verdict
       → denial ≡ denial_in verdict
-      → Runs c k caller (through_via c aim first pair dom gref) v (Ending (pins_so_far aim) (Refused denial)) v
-  refused-runs aim first pair dom gref verdict denial v e is =
-      let start = through_via c aim first pair dom gref in
-      runs-to c k caller start start (Ending (pins_so_far aim) (Refused denial)) v v
-      (through-refused aim first pair dom gref verdict denial e is) (runs-none c k caller start v)
+      → Runs c k caller (through_via c pin_purpose first pair dom gref) v (Ending (pins_so_far pin_purpose) (Refused denial)) v
+  refused-runs pin_purpose first pair dom gref verdict denial v e is =
+      let start = through_via c pin_purpose first pair dom gref in
+      runs-to c k caller start start (Ending (pins_so_far pin_purpose) (Refused denial)) v v
+      (through-refused pin_purpose first pair dom gref verdict denial e is) (runs-none c k caller start v)
 
   -- a Via whose pair is allowed: its second leg is walked
-  pub through-passed : (aim : PinPurpose) (first : Leg) (pair : DomId × DomId) (dom : DomId) (gref : GrantRef)
+  pub through-passed : (pin_purpose : PinPurpose) (first : Leg) (pair : DomId × DomId) (dom : DomId) (gref : GrantRef)
       → via_judged c pair dom ≡ None
-      → through_via c aim first pair dom gref ≡ Walking aim (second_leg c first dom gref) Header
-  through-passed aim first pair dom gref e =
-      ap (λ (o : Option CallResult). where_via o aim (second_leg c first dom gref)) e
+      → through_via c pin_purpose first pair dom gref ≡ Walking pin_purpose (second_leg c first dom gref) Header
+  through-passed pin_purpose first pair dom gref e =
+      ap (λ (o : Option CallResult). where_via o pin_purpose (second_leg c first dom gref)) e
 
-  pub through-can : (aim : PinPurpose) (first second : Leg) (pair : DomId × DomId) (dom : DomId) (gref : GrantRef) (v : View)
+  pub through-can : (pin_purpose : PinPurpose) (first second : Leg) (pair : DomId × DomId) (dom : DomId) (gref : GrantRef) (v : View)
       → via_judged c pair dom ≡ None → second ≡ second_leg c first dom gref
-      → CanRun c k caller (through_via c aim first pair dom gref) v → CanWalkLeg k second v
-  through-can aim first second pair dom gref v e is can =
+      → CanRun c k caller (through_via c pin_purpose first pair dom gref) v → CanWalkLeg k second v
+  through-can pin_purpose first second pair dom gref v e is can =
       subst (λ (l : Leg). CanWalkLeg k l v) (sym is)
-      (leg-can c k caller aim (second_leg c first dom gref) v
-      (can-from c k caller (through_via c aim first pair dom gref) (Walking aim (second_leg c first dom gref) Header) v
-      (through-passed aim first pair dom gref e) can))
+      (leg-can c k caller pin_purpose (second_leg c first dom gref) v
+      (can-from c k caller (through_via c pin_purpose first pair dom gref) (Walking pin_purpose (second_leg c first dom gref) Header) v
+      (through-passed pin_purpose first pair dom gref e) can))
 
-  pub through-runs : (aim : PinPurpose) (first second : Leg) (pair : DomId × DomId) (dom : DomId) (gref : GrantRef)
+  pub through-runs : (pin_purpose : PinPurpose) (first second : Leg) (pair : DomId × DomId) (dom : DomId) (gref : GrantRef)
       (next : LegNext) (v w : View) → via_judged c pair dom ≡ None → second ≡ second_leg c first dom gref
       → WalksLeg k second v next w
-      → Runs c k caller (through_via c aim first pair dom gref) v
-      (after_leg c caller aim (second_leg c first dom gref) next) w
-  through-runs aim first second pair dom gref next v w e is x =
+      → Runs c k caller (through_via c pin_purpose first pair dom gref) v
+      (after_leg c caller pin_purpose (second_leg c first dom gref) next) w
+  through-runs pin_purpose first second pair dom gref next v w e is x =
       let l = second_leg c first dom gref in
-      runs-from c k caller (Walking aim l Header) (through_via c aim first pair dom gref)
-      (after_leg c caller aim l next) v w (sym (through-passed aim first pair dom gref e))
-      (leg-runs c k caller aim l v next w (subst (λ (m : Leg). WalksLeg k m v next w) is x))
+      runs-from c k caller (Walking pin_purpose l Header) (through_via c pin_purpose first pair dom gref)
+      (after_leg c caller pin_purpose l next) v w (sym (through-passed pin_purpose first pair dom gref e))
+      (leg-runs c k caller pin_purpose l v next w (subst (λ (m : Leg). WalksLeg k m v next w) is x))
 
   -- the leg to the source of a copy
   module _ (copy : CopyArgs) (leg : Leg) (is : leg ≡ end_leg c caller copy.source Read copy.len) where

@@ -159,7 +159,7 @@ ends-refused c k v w call verdict u = by u.phase u.acts u.stands
     at-end pins denial (p ∷ ps) e a well = cc
 
     by : (phase : Phase) → Done verdict ≡ action_at call.caller phase → StandsWell k v w u.steps phase → EndsRefused c k call verdict v w
-    by (Walking aim l at) a well = cc
+    by (Walking pin_purpose l at) a well = cc
     by (Accessing copy source dest) a well = cc
     by (Ending pins (Refused denial)) a well = at-end pins denial (last_first pins) refl a well
     by (Ending pins Granted) a well = absurd well.stays
@@ -209,7 +209,7 @@ comes-there c k v w call from to len u = by u.phase u.there u.acts u.stands
         }
 
     by : (phase : Phase) → call.phase ≡ Some phase → actions.Step (call_steps.Copy from to len) ≡ action_at call.caller phase → StandsWell k v w u.steps phase → AtAccess c k call from to len v w
-    by (Walking aim l at) there a well = absurd (no-leg l at from to len a)
+    by (Walking pin_purpose l at) there a well = absurd (no-leg l at from to len a)
     by (Accessing copy source dest) there a well = here copy source dest there well
     by (Ending pins verdict) there a well = absurd (no-end (last_first pins) verdict from to len a)
     by (Storing gref entry) there a well = absurd well.stays

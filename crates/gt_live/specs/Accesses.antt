@@ -15,7 +15,7 @@ use Rattle.gt_words.specs.Conditions.{Board}
 use Rattle.gt_words.specs.Frames.{AccessesFrame, CopiesFrames, KeepsFrame}
 use Rattle.gt_live.specs.Taken.{HasTaken}
 use Rattle.gt_live.specs.Walks.{AreMoments, Called, IsWalk, view_after, all_shown}
-pub use Rattle.gt_access.specs.Routes.{writ_by}
+pub use Rattle.gt_access.specs.AccessPaths.{writ_by}
 pub use Rattle.gt_calls.specs.Standing.{IsAccess}
 
 -- the rest of this path after these observations
@@ -100,31 +100,31 @@ ReadsFrame k name off len r v w =
     IsReadOf r name off len
     × AccessesFrame k (position_in k.ids name.owner) name.number (frame_steps.Read off r.bytes) v w
 
--- at this view the domain reaches this range by the route: the frame is its own, or the view has the pins of the route,
+-- at this view the domain reaches this range by the access path: the frame is its own, or the view has the pins of the access path,
 -- and they permit the access
 pub record ReachesAt (k : Layout) (v : View) (caller : DomId) (dir : Dir) (purpose : Use) (name : FrameName)
-    (off len : ℕ) (route : AccessPath) : Type 0 where
+    (off len : ℕ) (access_path : AccessPath) : Type 0 where
   pub seat : SeatOf
   pub dom : seat.dom ≡ caller
   pub view : seat.view ≡ v
-  pub reaches : ReachesBy k seat dir purpose name off len route
+  pub reaches : ReachesBy k seat dir purpose name off len access_path
 
--- the writer wrote these bytes to the frame, as one step of the history, by the writ of this route
+-- the writer wrote these bytes to the frame, as one step of the history, by the writ of this access path
 abbrev pub WritesFrame : Layout → FrameName → ℕ → List ℕ → DomId → AccessPath → Writing → View → View → Type 0
-WritesFrame k name off bytes writer route r v w =
+WritesFrame k name off bytes writer access_path r v w =
     (r ≡ writing_at name off bytes writer)
-    × ReachesAt k v writer Write uses.Map name off (length bytes) route
+    × ReachesAt k v writer Write uses.Map name off (length bytes) access_path
     × AccessesFrame k (position_in k.ids name.owner) name.number
-    (frame_steps.Wrote (record { writ = writ_by writer route; off = off; bytes = bytes })) v w
+    (frame_steps.Wrote (record { writ = writ_by writer access_path; off = off; bytes = bytes })) v w
 
--- the writer copied this many bytes from one place to the other, as one step of the history: it read by the route to
--- the source, and wrote by the writ of the route to the destination
+-- the writer copied this many bytes from one place to the other, as one step of the history: it read by the access path to
+-- the source, and wrote by the writ of the access path to the destination
 abbrev pub CopiesBetween : Layout → Spot → Spot → ℕ → DomId → CallPins → Copying → View → View → Type 0
-CopiesBetween k from to len writer routes r v w =
+CopiesBetween k from to len writer access_paths r v w =
     (r ≡ copying_at from to len writer)
-    × ReachesAt k v writer Read uses.Copy from.frame from.off len routes.source
-    × ReachesAt k v writer Write uses.Copy to.frame to.off len routes.dest
-    × CopiesFrames k from to len (writ_by writer routes.dest) v w
+    × ReachesAt k v writer Read uses.Copy from.frame from.off len access_paths.source
+    × ReachesAt k v writer Write uses.Copy to.frame to.off len access_paths.dest
+    × CopiesFrames k from to len (writ_by writer access_paths.dest) v w
 
 -- the access read exactly its frame and range
 abbrev pub IsReadBy : Layout → Step → Reading → View → View → Type 0
@@ -136,33 +136,33 @@ abbrev pub FillsBuffer : Result Reading Denial → List ℕ → List ℕ → Typ
 FillsBuffer (Ok r) old new = new ≡ r.bytes
 FillsBuffer (Err denial) old new = new ≡ old
 
--- the route that a request to write names: a store names the pin of the mapping under its handle, and a poke a frame
+-- the access path that a request to write names: a store names the pin of the mapping under its handle, and a poke a frame
 -- that the domain owns
-abbrev pub NamesRoute : Domain → Request → AccessPath → Type 0
-NamesRoute d (requests.Store handle off bytes) route =
-    (p : HeldPin) × (value_of d.mappings handle ≡ Some p) × (route ≡ Direct p)
-NamesRoute d (requests.Poke frame off bytes) route = route ≡ Own
-NamesRoute d request route = ⊥
+abbrev pub NamesAccessPath : Domain → Request → AccessPath → Type 0
+NamesAccessPath d (requests.Store handle off bytes) access_path =
+    (p : HeldPin) × (value_of d.mappings handle ≡ Some p) × (access_path ≡ Direct p)
+NamesAccessPath d (requests.Poke frame off bytes) access_path = access_path ≡ Own
+NamesAccessPath d request access_path = ⊥
 
--- the domain wrote the bytes of this request to exactly the frame and range of the access, by the route that the
+-- the domain wrote the bytes of this request to exactly the frame and range of the access, by the access path that the
 -- request names
 abbrev pub IsWrittenBy : Layout → Domain → Request → Step → Writing → View → View → Type 0
 IsWrittenBy k d request (call_steps.Write dom frame off len) r v w =
-    (route : AccessPath) × NamesRoute d request route
-    × WritesFrame k (frame_named dom frame) off (bytes_given_by request) d.seat.dom route r v w
+    (access_path : AccessPath) × NamesAccessPath d request access_path
+    × WritesFrame k (frame_named dom frame) off (bytes_given_by request) d.seat.dom access_path r v w
 IsWrittenBy k d request step r v w = ⊥
 
--- the copy came by these routes from the view v to its access at the view w: they lead to its two ends, and their pins
+-- the copy came by these access paths from the view v to its access at the view w: they lead to its two ends, and their pins
 -- are those that it took
 pub record CameBy (c : CallerKnowledge) (k : Layout) (caller : DomId) (copy : CopyArgs) (from to : Spot) (len : ℕ)
-    (routes : CallPins) (v w : View) : Type 0 where
-  pub ends : RestsOnWays c caller (Copy copy) routes from to len
-  pub taken : HasTaken k (last_first routes) v w
+    (access_paths : CallPins) (v w : View) : Type 0 where
+  pub ends : RestsOnWays c caller (Copy copy) access_paths from to len
+  pub taken : HasTaken k (last_first access_paths) v w
 
--- the domain copied exactly the access's number of bytes between the access's places, by the routes by which this copy
+-- the domain copied exactly the access's number of bytes between the access's places, by the access paths by which this copy
 -- came to it
 abbrev pub IsCopiedBy : CallerKnowledge → Layout → Domain → CopyArgs → Step → Copying → View → View → Type 0
 IsCopiedBy c k d copy (call_steps.Copy from to len) r v w =
-    (routes : CallPins) × CameBy c k d.seat.dom copy from to len routes d.seat.view v
-    × CopiesBetween k from to len d.seat.dom routes r v w
+    (access_paths : CallPins) × CameBy c k d.seat.dom copy from to len access_paths d.seat.view v
+    × CopiesBetween k from to len d.seat.dom access_paths r v w
 IsCopiedBy c k d copy step r v w = ⊥

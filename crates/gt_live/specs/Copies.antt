@@ -21,13 +21,13 @@ unmoved_copy caller copy = record { caller = caller; request = Copy copy; phase 
 
 -- the pin of this Via is the last one held for the purpose
 abbrev pub IsLastOf : HeldPin → PinPurpose → Type 0
-IsLastOf via aim = (others : List HeldPin) × (last_first (pins_so_far aim) ≡ via ∷ others)
+IsLastOf via pin_purpose = (others : List HeldPin) × (last_first (pins_so_far pin_purpose) ≡ via ∷ others)
 
 -- the phase after the second leg of an end: the one after its pin, or the end of the call, where the pin of the Via is
 -- released
 abbrev pub after_through : CallerKnowledge → DomId → PinPurpose → Leg → DomId → GrantRef → Result HeldPin Denial → Phase
-after_through c caller aim first dom gref (Ok p) = after_pin_of c caller aim (second_leg c first dom gref) p
-after_through c caller aim first dom gref (Err denial) = Ending (without_last (pins_so_far aim)) (Refused denial)
+after_through c caller pin_purpose first dom gref (Ok p) = after_pin_of c caller pin_purpose (second_leg c first dom gref) p
+after_through c caller pin_purpose first dom gref (Err denial) = Ending (without_last (pins_so_far pin_purpose)) (Refused denial)
 
 -- a result together with the value that was written
 abbrev pub filled : {A : Type 0} → Result (Unit {0}) Denial → A → Result A Denial
@@ -75,8 +75,8 @@ CanGiveBack k (p ∷ ps) v =
     × ((u : View) → Made k (Unpin p (holders.Leg 0)) Nothing v u → CanGiveBack k ps u)
 
 -- a copy of this caller at its access, with these pins
-abbrev pub halfway_with : DomId → CopyArgs → CallPins → PendingCopy
-halfway_with caller copy pins =
+abbrev pub pending_with : DomId → CopyArgs → CallPins → PendingCopy
+pending_with caller copy pins =
     record {
       call = copy_call caller copy (Accessing copy pins.source pins.dest);
       copy = copy;

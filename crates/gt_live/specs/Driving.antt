@@ -21,13 +21,13 @@ use Rattle.gt_live.specs.Mappings.{HasPin, IsMappingOf, entry_record_of}
 abbrev pub CanMake : Layout → View → Step → Type 0
 CanMake k v (LookHeader d) = HasDomain k d
 CanMake k v (LookControl d q) = HasDomain k d × (q.0 < TABLE_ENTRIES)
-CanMake k v (LookBody d q half) = HasDomain k d × (q.0 < TABLE_ENTRIES)
+CanMake k v (LookBody d q body_word) = HasDomain k d × (q.0 < TABLE_ENTRIES)
 CanMake k v (Pin p) =
     HasDomain k p.dom × (p.gref.0 < TABLE_ENTRIES) × CanPin k (position_in k.ids p.dom) p.gref.0 p.dir p.word v
 CanMake k v (Unpin p holder) =
     HasDomain k p.dom × (p.gref.0 < TABLE_ENTRIES)
     × Holds (position_in k.ids p.dom) p.gref.0 p.dir (generation_of p.word) v
-CanMake k v (StoreBody q half n) = (q.0 < TABLE_ENTRIES) × ((last_of q.0 v).entry ≡ Invalid)
+CanMake k v (StoreBody q body_word n) = (q.0 < TABLE_ENTRIES) × ((last_of q.0 v).entry ≡ Invalid)
 CanMake k v (StoreHeader version frames) = IsKeptHeader (record { version = version; frames = frames })
 CanMake k v (Exchange q looked change) = (q.0 < TABLE_ENTRIES) × CanChange change q.0 looked v
 CanMake k v step = ⊥

@@ -23,7 +23,7 @@ done_copy d c = record { dom = d.seat.dom; call = copy_hypercall c; reply = repl
 -- the domain d was asked for this copy and reached its access, and is then e. Its steps are those of the copy's path.
 -- The pins that it holds reach both places, and the policy allows the copy by them; each place is inside its frame.
 -- Nothing else of the domain has changed
-pub record ComesHalfway {P : Type 0} (may : P → AllowRelation) (m : Monitor P) (d : Domain) (copy : CopyArgs)
+pub record BecomesPending {P : Type 0} (may : P → AllowRelation) (m : Monitor P) (d : Domain) (copy : CopyArgs)
     (h : PendingCopy) (e : Domain) : Type 0 where
   pub asked : h.copy ≡ copy
   pub way : path_of (known_on may m d) d.seat.dom (requests.Copy copy)
@@ -39,12 +39,12 @@ pub record ComesHalfway {P : Type 0} (may : P → AllowRelation) (m : Monitor P)
   pub kept : IsUnsettled d e
 
 -- the domain is at the access of this copy: it belonged to this monitor's run when it was asked for it
-abbrev pub IsHalfway : {P : Type 0} → (P → AllowRelation) → Monitor P → PendingCopy → Domain → Type 0
-IsHalfway may m h e = (d : Domain) × BelongsTo may m d × ComesHalfway may m d h.copy h e
+abbrev pub IsPending : {P : Type 0} → (P → AllowRelation) → Monitor P → PendingCopy → Domain → Type 0
+IsPending may m h e = (d : Domain) × BelongsTo may m d × BecomesPending may m d h.copy h e
 
 -- the pins of a copy at its access were released, one after another, the last one first, and nothing else changed but
 -- the trail
-pub record EndsHalfway (k : Layout) (h : PendingCopy) (e f : Domain) : Type 0 where
+pub record EndsPending (k : Layout) (h : PendingCopy) (e f : Domain) : Type 0 where
   pub gives : GivesBack k (pins_by_call h.call) e.seat.view f.seat.view
   pub seat : IsSameSeat e.seat f.seat
   pub own : f.own ≡ e.own

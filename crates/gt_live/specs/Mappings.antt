@@ -5,7 +5,7 @@ use Rattle.gt_live.specs.Prelude.{generation_of, Layout, position_in, held, is_s
 use Rattle.gt_live.specs.Prelude.{IsInserted, IsTaken, count_passing, Handle, HeldPin, frame_of, IsAllowed}
 use Rattle.gt_live.specs.Prelude.{frame_count_of, label_of, map_perms, triples, TypeId, Domain, DomainConfig}
 use Rattle.gt_types.specs.declared.Use.TheVariants as uses
-pub use Rattle.gt_access.specs.Routes.{HasPin, entry_record_of}
+pub use Rattle.gt_access.specs.AccessPaths.{HasPin, entry_record_of}
 
 -- a mapping: its pin is held, of an entry that permits the caller and is of one of its owner's frames, and the policy
 -- allows what its map asked

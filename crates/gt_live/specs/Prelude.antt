@@ -1,6 +1,6 @@
 -- Names from other crates, and from the code, that these definitions use.
 pub use Rattle.gt_access.specs.Accesses.{IsReadOf, copying_at, writing_at}
-pub use Rattle.gt_access.specs.Routes.{MayCopyBy, ReachesBy}
+pub use Rattle.gt_access.specs.AccessPaths.{MayCopyBy, ReachesBy}
 pub use Rattle.gt_words.specs.declared.frames.AccessFault.{AccessFault}
 pub use Rattle.gt_words.specs.declared.frames.AccessFault.TheVariants.{Gone}
 pub use Rattle.gt_audit.specs.declared.record.Hypercall.{Hypercall}

@@ -47,7 +47,7 @@ pub record IsUnderway (c : CallerKnowledge) (k : Layout) (v w : View) (call : Ca
   pub acts : action ≡ action_at call.caller phase
   pub stands : StandsWell k v w steps phase
 
--- a copy reached its access: it holds the pins of the routes to its ends, which justify the access, and the rest of its
+-- a copy reached its access: it holds the pins of the access paths to its ends, which justify the access, and the rest of its
 -- path releases them
 pub record AtAccess (c : CallerKnowledge) (k : Layout) (call : Call) (from to : Spot) (len : ℕ)
     (v w : View) : Type 0 where
@@ -68,9 +68,9 @@ pub record EndsRefused (c : CallerKnowledge) (k : Layout) (call : Call) (verdict
   pub same : IsSame v w
 
 -- the pins that a copy held at its access were released, one after another, and nothing else was done
-pub record GivesBack (k : Layout) (routes : CallPins) (v w : View) : Type 0 where
+pub record GivesBack (k : Layout) (access_paths : CallPins) (v w : View) : Type 0 where
   pub steps : List Moment
   pub view : w ≡ view_after steps v
-  pub walked : IsWalk k (give_back (last_first routes) Granted) v steps
-  pub ended : give_back (last_first routes) Granted (all_shown steps) ≡ Some (actions.Done Granted)
-  pub back : (base : View) → HasTaken k (last_first routes) base v → HasTaken k [] base w
+  pub walked : IsWalk k (give_back (last_first access_paths) Granted) v steps
+  pub ended : give_back (last_first access_paths) Granted (all_shown steps) ≡ Some (actions.Done Granted)
+  pub back : (base : View) → HasTaken k (last_first access_paths) base v → HasTaken k [] base w

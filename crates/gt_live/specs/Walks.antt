@@ -52,11 +52,11 @@ abbrev pub Made : Layout → Step → Observation → View → View → Type 0
 Made k (LookHeader d) (Word n) v w = LooksAtHeader k (position_in k.ids d) n v w
 Made k (LookControl d q) (Word n) v w =
     LooksAtControl k (position_in k.ids d) q.0 n v w × (d ≡ id_at k.ids v.position → IsWordOf (last_of q.0 w) n)
-Made k (LookBody d q half) (Word n) v w = LooksAtBody k (position_in k.ids d) q.0 half n v w
+Made k (LookBody d q body_word) (Word n) v w = LooksAtBody k (position_in k.ids d) q.0 body_word n v w
 Made k (Pin p) Taken v w = Pins k (position_in k.ids p.dom) p.gref.0 p.dir p.word v w
 Made k (Pin p) (Missed n) v w = MissesPin k (position_in k.ids p.dom) p.gref.0 p.dir p.word n v w
 Made k (Unpin p holder) Nothing v w = Unpins k (position_in k.ids p.dom) p.gref.0 p.dir (generation_of p.word) v w
-Made k (StoreBody q half n) Nothing v w = StoresBody k q.0 half n v w
+Made k (StoreBody q body_word n) Nothing v w = StoresBody k q.0 body_word n v w
 Made k (StoreHeader version frames) Nothing v w = StoresHeader k (record { version = version; frames = frames }) v w
 Made k (Exchange q looked (Publish e)) Taken v w = Publishes k q.0 e looked v w
 Made k (Exchange q looked (Publish e)) (Missed n) v w = MissesBusy k q.0 (Publish e) looked n v w

@@ -93,15 +93,21 @@ fn leg_control(words: &Words, seat: &mut Seat, leg: &Leg, at: usize) -> u64
 }
 
 #[inline(always)]
-fn look_at_half(words: &Words, seat: &mut Seat, leg: &Leg, half: BodyWord, at: usize) -> u64
+fn look_at_body_word(
+    words: &Words,
+    seat: &mut Seat,
+    leg: &Leg,
+    body_word: BodyWord,
+    at: usize,
+) -> u64
     requires seat { IsSeatOf words.now seat.old }
     requires place { at ≡ position_at words.now leg.now.dom }
-    requires can { CanMake words.now.layout seat.old.view (Step.LookBody leg.now.dom leg.now.gref half) }
+    requires can { CanMake words.now.layout seat.old.view (Step.LookBody leg.now.dom leg.now.gref body_word) }
     ensures seat { IsSameSeat seat.old seat.new }
-    ensures made { Made words.now.layout (Step.LookBody leg.now.dom leg.now.gref half) (Observation.Word result)
+    ensures made { Made words.now.layout (Step.LookBody leg.now.dom leg.now.gref body_word) (Observation.Word result)
         seat.old.view seat.new.view }
 {
-    words.load_body_at(seat, leg.dom, leg.gref, half, at)
+    words.load_body_at(seat, leg.dom, leg.gref, body_word, at)
 }
 
 // The body words of a try. The second is 0 unless the entry is a sub-page.
@@ -120,10 +126,10 @@ fn look_at_body(words: &Words, seat: &mut Seat, leg: &Leg, word: u64, at: usize)
     ensures seat { IsSameSeat seat.old seat.new }
     ensures read { ReadsBody words.now.layout leg.now word result.first result.second seat.old.view seat.new.view }
 {
-    let first = look_at_half(words, seat, leg, BodyWord::First, at);
+    let first = look_at_body_word(words, seat, leg, BodyWord::First, at);
     match Control::unpack(word).kind {
         EntryKind::Sub => {
-            let second = look_at_half(words, seat, leg, BodyWord::Second, at);
+            let second = look_at_body_word(words, seat, leg, BodyWord::Second, at);
             BodyWords { first, second }
         }
         _ => BodyWords { first, second: 0 },

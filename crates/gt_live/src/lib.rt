@@ -15,6 +15,7 @@
 //! `byteorder`.
 #![tactic(auto)]
 
+mod access_paths;
 mod domain;
 mod driving;
 mod gathering;
@@ -22,7 +23,6 @@ mod headers;
 mod laws;
 mod monitor;
 mod owning;
-mod routes;
 mod start;
 
 pub use domain::{Departed, Domain, Followed, PendingCopy};

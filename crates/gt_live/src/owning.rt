@@ -94,13 +94,19 @@ fn change_once(
 
 // Stores a body word of an entry.
 #[inline(always)]
-fn store_half(words: &Words, seat: &mut Seat, gref: GrantRef, half: BodyWord, word: u64)
+fn store_one_body_word(
+    words: &Words,
+    seat: &mut Seat,
+    gref: GrantRef,
+    body_word: BodyWord,
+    word: u64,
+)
     requires seat { IsSeatOf words.now seat.old }
-    requires can { CanMake words.now.layout seat.old.view (Step.StoreBody gref half word) }
+    requires can { CanMake words.now.layout seat.old.view (Step.StoreBody gref body_word word) }
     ensures seat { IsSameSeat seat.old seat.new }
-    ensures made { Made words.now.layout (Step.StoreBody gref half word) Observation.Nothing seat.old.view seat.new.view }
+    ensures made { Made words.now.layout (Step.StoreBody gref body_word word) Observation.Nothing seat.old.view seat.new.view }
 {
-    words.store_body(seat, gref, half, word);
+    words.store_body(seat, gref, body_word, word);
 }
 
 // Drives a revocation to its end. Requires that it is not decided at its beginning.
@@ -147,10 +153,10 @@ fn drive_grant<P: Allows>(
         seat.old.view seat.new.view (change_effect idle.gref (EntryChange.Publish entry) result) }
 {
     every_call_goes_on_by_its_phase();
-    store_half(words, seat, idle.gref, BodyWord::First, entry.first_body());
+    store_one_body_word(words, seat, idle.gref, BodyWord::First, entry.first_body());
     match entry {
         Entry::Sub { .. } => {
-            store_half(
+            store_one_body_word(
                 words,
                 seat,
                 idle.gref,

@@ -55,7 +55,7 @@ second_now k n entry = None
 abbrev pub source_now : CallerKnowledge → DomId → CopyArgs → LegNow
 source_now k d c = record { leg = end_leg k d c.source Read c.len; pair = source_pair d c }
 
--- the first leg of a copy to its destination, if this route reached its source
+-- the first leg of a copy to its destination, if this access path reached its source
 abbrev pub dest_now : CallerKnowledge → DomId → CopyArgs → AccessPath → LegNow
 dest_now k d c source = record { leg = end_leg k d c.dest Write c.len; pair = dest_pair d source }
 
@@ -113,7 +113,7 @@ looked_at (s ∷ more) = looked_at more
 
 -- the next look at the control word is a second one: a body word was just read
 abbrev pub is_in_body : StepsSoFar → Bool
-is_in_body ((LookBody dom gref half, v) ∷ more) = true
+is_in_body ((LookBody dom gref body_word, v) ∷ more) = true
 is_in_body _ = false
 
 -- the word differs from that of the last look, if there was one

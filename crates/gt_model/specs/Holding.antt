@@ -1,4 +1,4 @@
--- Pins that are held, and the routes by them to frames.
+-- Pins that are held, and the access paths by them to frames.
 use Rattle.std.specs.Prelude.{ℕ, List, [], ◌∷◌, ◌++◌, ◌≡◌}
 use Rattle.gt_model.specs.declared.entry.Entry.{Entry}
 use Rattle.gt_model.specs.declared.entry.Entry.TheVariants.{Via}
@@ -9,7 +9,7 @@ use Rattle.gt_model.specs.declared.held.HeldPin.{HeldPin}
 use Rattle.gt_types.specs.declared.DomId.{DomId}
 pub use Rattle.gt_model.specs.Entries.{frame_of}
 
--- the pins of a route, the last one first
+-- the pins of an access path, the last one first
 abbrev pub held_by : AccessPath → List HeldPin
 held_by Own = []
 held_by (Direct p) = p ∷ []
@@ -23,19 +23,19 @@ last_first pins = held_by pins.dest ++ held_by pins.source
 abbrev pub no_pins : CallPins
 no_pins = record { source = Own; dest = Own }
 
--- the owner of the frame that a route leads to
+-- the owner of the frame that an access path leads to
 abbrev pub owner_by : DomId → AccessPath → DomId
 owner_by caller Own = caller
 owner_by caller (Direct p) = p.dom
 owner_by caller (Through via p) = p.dom
 
--- the number of the frame that a route leads to; `own` if it leads to one of the caller's frames
+-- the number of the frame that an access path leads to; `own` if it leads to one of the caller's frames
 abbrev pub frame_by : ℕ → AccessPath → ℕ
 frame_by own Own = own
 frame_by own (Direct p) = frame_of p.entry
 frame_by own (Through via p) = frame_of p.entry
 
--- the route without its last pin
+-- the access path without its last pin
 abbrev pub shortened : AccessPath → AccessPath
 shortened Own = Own
 shortened (Direct p) = Own

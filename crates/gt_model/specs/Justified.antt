@@ -147,5 +147,5 @@ IsSafe s before i = IsSafeStep i.happened
   where
     IsSafeStep : ItemEvent → Type 0
     IsSafeStep (Stepped (Exchange gref looked change) Taken) = IsSafeChange before i.actor.0 gref.0 change
-    IsSafeStep (Stepped (StoreBody gref half word) seen) = entry_at before i.actor.0 gref.0 ≡ Invalid
+    IsSafeStep (Stepped (StoreBody gref body_word word) seen) = entry_at before i.actor.0 gref.0 ≡ Invalid
     IsSafeStep _ = Unit {0}

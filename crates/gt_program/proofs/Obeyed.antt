@@ -14,26 +14,26 @@ use Rattle.clap.specs.declared.error.kind.ErrorKind.TheVariants.{ArgumentConflic
 use Rattle.clap.specs.declared.error.kind.ErrorKind.TheVariants.{OutOfMemory, InvalidSubcommand, InvalidValue}
 use Rattle.clap.specs.declared.error.kind.ErrorKind.TheVariants.{MissingRequiredArgument, MissingSubcommand}
 use Rattle.clap.specs.declared.error.kind.ErrorKind.TheVariants.{TooManyValues, UnknownArgument}
-use Rattle.gt_commands.specs.Commands.{Request, to_play, to_run, to_explore, to_list, to_tell_rules, to_check}
-use Rattle.gt_commands.specs.Commands.{flow_with, to_check_never, to_explain, to_explain_each, to_find_text, to_show_flow}
-use Rattle.gt_commands.specs.Commands.{to_tell_entries, for_help, for_version, nothing, asked_by_plan, refusals}
-use Rattle.gt_commands.specs.Commands.{request_in_words, request_by, asked_of, asked_of_none, mode_of, read, usage_of}
-use Rattle.gt_commands.specs.Commands.{Sought}
-use Rattle.gt_commands.specs.Commands.{play_with, run_with, list_with, explore_for, explore_with, check_with}
-use Rattle.gt_commands.specs.Commands.{why_with}
-use Rattle.gt_commands.specs.Commands.{entries_with}
-use Rattle.gt_commands.specs.Leading.{command_first, first_or, flag_behind, help_first, is_help, is_verbose}
-use Rattle.gt_commands.specs.Leading.{leading_word, word_behind}
-use Rattle.gt_commands.specs.Letters.{long_flag, long_word, with_long_flags}
-use Rattle.gt_commands.specs.Usage.{Line, Word, asks_help, gives, line, long, mark, plain, short, usage_word}
-use Rattle.gt_commands.specs.Usage.{value_given, wrong}
-use Rattle.gt_commands.specs.declared.invocation.Format.TheVariants as formats
-use Rattle.gt_commands.specs.declared.invocation.Mode.{Mode}
-use Rattle.gt_commands.specs.declared.invocation.Mode.TheVariants as modes
+use Rattle.gt_command_line.specs.Commands.{Request, to_play, to_run, to_explore, to_list, to_tell_rules, to_check}
+use Rattle.gt_command_line.specs.Commands.{flow_with, to_check_never, to_explain, to_explain_each, to_find_text, to_show_flow}
+use Rattle.gt_command_line.specs.Commands.{to_tell_entries, for_help, for_version, nothing, asked_by_plan, refusals}
+use Rattle.gt_command_line.specs.Commands.{request_in_words, request_by, asked_of, asked_of_none, mode_of, read, usage_of}
+use Rattle.gt_command_line.specs.Commands.{Sought}
+use Rattle.gt_command_line.specs.Commands.{play_with, run_with, list_with, explore_for, explore_with, check_with}
+use Rattle.gt_command_line.specs.Commands.{why_with}
+use Rattle.gt_command_line.specs.Commands.{entries_with}
+use Rattle.gt_command_line.specs.Leading.{command_first, first_or, flag_behind, help_first, is_help, is_verbose}
+use Rattle.gt_command_line.specs.Leading.{leading_word, word_behind}
+use Rattle.gt_command_line.specs.Letters.{long_flag, long_word, with_long_flags}
+use Rattle.gt_command_line.specs.Usage.{Line, Word, asks_help, gives, line, long, mark, plain, short, usage_word}
+use Rattle.gt_command_line.specs.Usage.{value_given, wrong}
+use Rattle.gt_command_line.specs.declared.invocation.Format.TheVariants as formats
+use Rattle.gt_command_line.specs.declared.invocation.Mode.{Mode}
+use Rattle.gt_command_line.specs.declared.invocation.Mode.TheVariants as modes
 use Rattle.std.specs.Str.{bytes_eq}
 use Rattle.std.proofs.lemmas.Slice.Eq.{bytes_eq-Decides}
-use Rattle.gt_commands.specs.declared.invocation.Invocation.{Invocation}
-use Rattle.gt_commands.specs.declared.invocation.Format.{Format}
+use Rattle.gt_command_line.specs.declared.invocation.Invocation.{Invocation}
+use Rattle.gt_command_line.specs.declared.invocation.Format.{Format}
 use Rattle.gt_file_commands.specs.Names.{shown_name}
 use Rattle.gt_explore_verdict.specs.declared.judging.Verdict.{Verdict}
 use Rattle.gt_explore_verdict.specs.declared.judging.Verdict.TheVariants.{Holds, Fails, Undecided}

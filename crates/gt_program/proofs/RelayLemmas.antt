@@ -6,8 +6,8 @@ use Rattle.std.proofs.lemmas.List.{append-nil}
 use Rattle.std.specs.Io.KnownBytes.{Appends, Keeps}
 use Rattle.gt_file_commands.specs.AsJson.{AsJson, Failed, Promise}
 use Rattle.gt_file_commands.specs.JsonNames.{Run, json_text}
-use Rattle.gt_commands.specs.declared.invocation.Format.{Format}
-use Rattle.gt_commands.specs.declared.invocation.Format.TheVariants.{Text, Json}
+use Rattle.gt_command_line.specs.declared.invocation.Format.{Format}
+use Rattle.gt_command_line.specs.declared.invocation.Format.TheVariants.{Text, Json}
 use Rattle.gt_script_runs.specs.Rights.{may_by}
 use Rattle.gt_script_runs.specs.declared.rights.ScriptPolicy.{ScriptPolicy}
 use Rattle.gt_script_runs.specs.declared.fault.PlayFault.TheVariants.{Memory, Read, Write, Script, Policy}
@@ -20,7 +20,7 @@ use Rattle.gt_script.specs.RunContents.{RunContents}
 use Rattle.gt_script.specs.RunScripts.{ReadsAsRun}
 use Rattle.gt_script.specs.Script.{Wrong}
 use Rattle.gt_text.specs.Streams.{AppendsBeginning, OfInput}
-use Rattle.gt_order.specs.Running.{AppendsText, RanInOrder, WroteIfOk}
+use Rattle.gt_linearization.specs.Running.{AppendsText, RanInOrder, WroteIfOk}
 use Rattle.gt_program.specs.Runs.{RanAs, Relays, fault_in_memory}
 
 -- where all stays nothing went out, which is a beginning of any text

@@ -1,6 +1,6 @@
 -- From what a run wrote to what was asked for.
 use Rattle.std.proofs.Common.{◌≡◌, ℕ, Bool, List, Option, Result, Ok, Err, subst}
-use Rattle.gt_commands.specs.declared.invocation.Format.{Format}
+use Rattle.gt_command_line.specs.declared.invocation.Format.{Format}
 use Rattle.gt_file_commands.proofs.JsonLemmas.{of_input_more}
 use Rattle.gt_text.specs.Laws.{keeps_same, of_any_input}
 use Rattle.gt_text.specs.Streams.{OfInput}

@@ -8,8 +8,8 @@ use Rattle.gt_explore_answers.specs.Outputs.{Found}
 use Rattle.gt_explore_answers.specs.Texts.{IsTextAmong}
 use Rattle.gt_explore_answers.specs.declared.asking.ExploreOptions.{ExploreOptions}
 use Rattle.gt_explore_verdict.specs.declared.judging.Verdict.{Verdict}
-use Rattle.gt_order.specs.Printed.{IsUndisturbed}
-use Rattle.gt_order.specs.Running.{RanInOrder}
+use Rattle.gt_linearization.specs.Printed.{IsUndisturbed}
+use Rattle.gt_linearization.specs.Running.{RanInOrder}
 
 -- the output of `run` at Ok, for these bytes
 abbrev pub RunWrote : (ℕ → Bool) → Bool → List ℕ → Option (List ℕ) → Option (List ℕ) → Type 0

@@ -13,8 +13,8 @@ use Rattle.gt_file_commands.specs.Working.{ChecksAs}
 use Rattle.gt_file_commands.specs.Working.{ChecksIn, ChecksNever, OutputEffect, Doing, Lists, Plays, WithFile, Works, known_text}
 use Rattle.gt_file_commands.specs.declared.failure.Failure.TheVariants as failures
 use Rattle.gt_program.specs.Runs.{RunsDomains}
-use Rattle.gt_commands.specs.declared.invocation.Format.TheVariants.{Text, Json}
-use Rattle.gt_commands.specs.declared.invocation.Mode.TheVariants as modes
+use Rattle.gt_command_line.specs.declared.invocation.Format.TheVariants.{Text, Json}
+use Rattle.gt_command_line.specs.declared.invocation.Mode.TheVariants as modes
 use Rattle.gt_explore_answers.specs.declared.asking.ExploreFormat.TheVariants as explore_formats
 use Rattle.gt_explore_answers.specs.declared.asking.ExploreRequest.TheVariants as explore_requests
 use Rattle.std.specs.declared.io.ErrorKind.{ErrorKind as IoErrorKind}

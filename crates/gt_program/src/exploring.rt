@@ -3,15 +3,15 @@ ghost use Rattle.std.specs.Prelude.{◌≡◌, IfSome};
 ghost use Rattle.std.specs.Option.{option_map};
 ghost use Rattle.gt_text.specs.Streams.{OfInput};
 ghost use Rattle.gt_script.specs.RunScripts.{ReadsAsRun};
-ghost use Rattle.gt_commands.specs.Commands.{sought_by};
+ghost use Rattle.gt_command_line.specs.Commands.{sought_by};
 ghost use Rattle.gt_explore.specs.Writing.{Explored};
-ghost use Rattle.gt_commands.specs.Files.{file_name_of};
+ghost use Rattle.gt_command_line.specs.Files.{file_name_of};
 ghost use Rattle.gt_file_commands.specs.Working.{known_input, DoesOnFile, Works};
 ghost use Rattle.gt_file_commands.specs.declared.outcome.Outcome.TheVariants.{Unknown};
 ghost use Rattle.gt_program.specs.Obeying.{explore_format, verdict_outcome, FindsText, IsRequestFor, Searches, Seeks};
 ghost use Rattle.gt_program.specs.Obeying.{SeeksText};
 
-use gt_commands::{Exploration, Format, SearchOptions};
+use gt_command_line::{Exploration, Format, SearchOptions};
 use gt_explore::explore as explore_reader;
 use gt_explore_answers::{ExploreFormat, ExploreOptions as Searched, ExploreRequest};
 use gt_explore_faults::ExploreFault;

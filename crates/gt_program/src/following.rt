@@ -1,10 +1,10 @@
 //! The execution of a plan.
-ghost use Rattle.gt_commands.specs.Commands.{asked_by_plan};
+ghost use Rattle.gt_command_line.specs.Commands.{asked_by_plan};
 ghost use Rattle.gt_program.specs.Obeying.{Obeys};
 
 use crate::exploring::{explore, find_text};
 use crate::running::run_asked;
-use gt_commands::Invocation;
+use gt_command_line::Invocation;
 use gt_file_commands::{
     Context, Outcome, Reasons, TextSource, answer, answer_each, check_files, check_never_files,
     list, play, print_rules, show_entries, show_flow,

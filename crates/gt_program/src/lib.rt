@@ -1,6 +1,6 @@
 //! The program `gthost` over texts: from the words of a command line to the output and the exit status.
 //!
-//! [`obey`] does what the words ask for (`plan` of `gt_commands`): it plays, runs or explores a script, lists or checks
+//! [`obey`] does what the words ask for (`plan` of `gt_command_line`): it plays, runs or explores a script, lists or checks
 //! a policy, explains why a policy allows something, prints the entries of a dump, or lists the rules. It returns an
 //! [`Outcome`], which the mains turn into the exit status: 0 for yes and for what was done, 1 for no and for a fault of
 //! `play`, `run` and `policy`, and 2 for a fault of another command and for a wrong command line. A fault goes to the
@@ -11,7 +11,7 @@
 //! known bytes, what is written for which words and with which status. That an error comes only if there is one is
 //! tested.
 //!
-//! It uses `gt_commands` (plans) and `clap` (their errors), `gt_file_commands`, `gt_order` and `gt_explore` (the
+//! It uses `gt_command_line` (plans) and `clap` (their errors), `gt_file_commands`, `gt_linearization` and `gt_explore` (the
 //! commands), `gt_run` and `gt_script_runs` (gates and faults of runs), `gt_audit` (their log), `gt_json` (their JSON),
 //! `gt_explore_answers`, `gt_explore_faults` and `gt_explore_verdict` (requests, faults and verdicts of `explore`),
 //! `gt_policy_check` (questions) and `gt_text`. Its definitions also name `gt_script`.

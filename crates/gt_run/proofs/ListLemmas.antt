@@ -20,7 +20,7 @@ use Rattle.gt_word_history.specs.declared.view.FlagStep.{FlagStep}
 use Rattle.gt_word_history.specs.declared.view.FlagStep.TheVariants.{Passed, Raised}
 use Rattle.gt_script.specs.Lists.{RunAction, RunTask}
 use Rattle.gt_script.specs.declared.tasks.RunActionBy.TheVariants.{Do, Tell, Await}
-use Rattle.gt_run.specs.Serving.{ServesCall, DoesDeed, DoesWhere, HasCome, IsKeptAt, IsReady, LogsOutcomes}
+use Rattle.gt_run.specs.Serving.{ServesCall, DoesAction, DoesWhere, HasCome, IsKeptAt, IsReady, LogsOutcomes}
 use Rattle.gt_run.specs.Serving.{ListLeadsTo}
 use Rattle.gt_run.specs.Serving.{ListProgress, Serves, ServesSome, StartsLogged, answer_lines, list_start, counted}
 use Rattle.gt_run.specs.Serving.{AwaitsRefusedFlag, gate_line}
@@ -52,10 +52,10 @@ quiet_more may job d true i l text e labels t within is does (q, leads, kept, pr
 quiet_more may job d false i l text e labels t within is does come = come
 
 -- what a line of the domain does
-own_does : {P : Type 0} (may : P → AllowRelation) (job : ThreadJob P) (l : RunTask) (deed : RunAction) (q r : ListProgress) → (l.dom.0 == job.part.dom.0) ≡ true → l.deed ≡ deed
-    → DoesDeed may job l.line deed q r → DoesWhere (l.dom.0 == job.part.dom.0) may job l q r
-own_does may job l deed q r own is does =
-    subst (λ (b : Bool). DoesWhere b may job l q r) (sym own) (subst (λ (x : RunAction). DoesDeed may job l.line x q r) (sym is) does)
+own_does : {P : Type 0} (may : P → AllowRelation) (job : ThreadJob P) (l : RunTask) (run_action : RunAction) (q r : ListProgress) → (l.dom.0 == job.part.dom.0) ≡ true → l.run_action ≡ run_action
+    → DoesAction may job l.line run_action q r → DoesWhere (l.dom.0 == job.part.dom.0) may job l q r
+own_does may job l run_action q r own is does =
+    subst (λ (b : Bool). DoesWhere b may job l q r) (sym own) (subst (λ (x : RunAction). DoesAction may job l.line x q r) (sym is) does)
 
 -- a line of another domain
 pub other_more : {P : Type 0} (may : P → AllowRelation) (job : ThreadJob P) (d : Domain) (whole : Bool) (i : ℕ) (l : RunTask) (text : List ℕ) (e : Domain) (labels : Labels) (t : Option TrailLogger)
@@ -84,9 +84,9 @@ flag_more may k job d i l text e f labels t flag m within is stepped does (q, le
 
 -- a line that tells a flag
 pub tell_more : {P : Type 0} (may : P → AllowRelation) (job : ThreadJob P) (d : Domain) (whole : Bool) (i : ℕ) (l : RunTask) (text : List ℕ) (e f : Domain) (labels : Labels) (t : Option TrailLogger) (flag : ℕ)
-    → i < length job.part.tasks.now → l ≡ get_or job.part.tasks.now i l → (l.dom.0 == job.part.dom.0) ≡ true → l.deed ≡ Tell flag → RaisesFlag may job.monitor.now flag e f
+    → i < length job.part.tasks.now → l ≡ get_or job.part.tasks.now i l → (l.dom.0 == job.part.dom.0) ≡ true → l.run_action ≡ Tell flag → RaisesFlag may job.monitor.now flag e f
     → HasCome may job d whole i text e labels t → HasCome may job d whole (i + 1) text f labels t
-unfolding DoesDeed
+unfolding DoesAction
 tell_more may job d false i l text e f labels t flag within is own tells raises come = come
 tell_more {P} may job d true i l text e f labels t flag within is own tells raises come = by (nat_lt flag job.monitor.now.words.flags) refl raises
   where
@@ -98,9 +98,9 @@ tell_more {P} may job d true i l text e f labels t flag within is own tells rais
 
 -- a line that awaits a flag
 pub await_more : {P : Type 0} (may : P → AllowRelation) (job : ThreadJob P) (d : Domain) (whole : Bool) (i : ℕ) (l : RunTask) (text : List ℕ) (e f : Domain) (labels : Labels) (t : Option TrailLogger) (flag : ℕ)
-    → i < length job.part.tasks.now → l ≡ get_or job.part.tasks.now i l → (l.dom.0 == job.part.dom.0) ≡ true → l.deed ≡ Await flag → MakesFlagStep may job.monitor.now flag Passed e f
+    → i < length job.part.tasks.now → l ≡ get_or job.part.tasks.now i l → (l.dom.0 == job.part.dom.0) ≡ true → l.run_action ≡ Await flag → MakesFlagStep may job.monitor.now flag Passed e f
     → HasCome may job d whole i text e labels t → HasCome may job d whole (i + 1) text f labels t
-unfolding DoesDeed
+unfolding DoesAction
 await_more may job d false i l text e f labels t flag within is own awaits step come = come
 await_more may job d true i l text e f labels t flag within is own awaits step come = flag_more may job.monitor.now.words.layout job d i l text e f labels t flag Passed within is step.0
     (λ q at. own_does may job l (Await flag) q (record q { domain = f }) own awaits (refl, subst (λ (x : Domain). MakesFlagStep may job.monitor.now flag Passed x f) (sym at) step)) come
@@ -114,10 +114,10 @@ breaks_off may job d false i old new e labels t come same = subst (λ (l : List 
 -- a line that makes a call
 pub do_more : {P V E : Type 0} (may : P → AllowRelation) (items : V → List ℕ) (job : ThreadJob P) (d : Domain) (whole r : Bool) (i : ℕ) (l : RunTask) (line : Result V E) (old new : List ℕ) (e f : Domain)
     (before after : Labels) (t u : Option TrailLogger) (call : ScriptCall)
-    → i < length job.part.tasks.now → l ≡ get_or job.part.tasks.now i l → (l.dom.0 == job.part.dom.0) ≡ true → l.deed ≡ Do call
+    → i < length job.part.tasks.now → l ≡ get_or job.part.tasks.now i l → (l.dom.0 == job.part.dom.0) ≡ true → l.run_action ≡ Do call
     → IfOk line (λ v. ServesCall may job l.line call e f before after t u (items v)) → HasCome may job d whole i old e before t
     → (IsTrue r → IsTrue whole × IsOk line × IfOk line (λ v. new ≡ old ++ items v)) → (r ≡ false → new ≡ old) → HasCome may job d r (i + 1) new f after u
-unfolding DoesDeed
+unfolding DoesAction
 do_more may items job d true true i l (Ok v) old new e f before after t u call within is own does calls (q, leads, kept, prints) more same =
     let next = calls q kept in (
       next.0,
@@ -133,7 +133,7 @@ do_more may items job d whole false i l line old new e f before after t u call w
 -- the gate answers false at a line
 pub gate_stops : {P V E : Type 0} (may : P → AllowRelation) (refuses : ℕ → Bool) (items : V → List ℕ) (job : ThreadJob P) (d : Domain) (whole r : Bool) (i : ℕ) (l : RunTask) (line : Result V E) (old new : List ℕ) (e : Domain)
     (labels : Labels) (t : Option TrailLogger) (flag : ℕ)
-    → i < length job.part.tasks.now → l ≡ get_or job.part.tasks.now i l → (l.dom.0 == job.part.dom.0) ≡ true → l.deed ≡ Await flag → IsTrue (refuses flag)
+    → i < length job.part.tasks.now → l ≡ get_or job.part.tasks.now i l → (l.dom.0 == job.part.dom.0) ≡ true → l.run_action ≡ Await flag → IsTrue (refuses flag)
     → IfOk line (λ v. items v ≡ gate_line l.line job.part.dom) → HasCome may job d whole i old e labels t
     → (IsTrue r → IsTrue whole × IsOk line × IfOk line (λ v. new ≡ old ++ items v)) → (r ≡ false → new ≡ old) → Serves may refuses job d r new e t
 unfolding AwaitsRefusedFlag

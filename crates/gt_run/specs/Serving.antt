@@ -69,16 +69,16 @@ pub record MakesCall {P : Type 0} (may : P → AllowRelation) (job : ThreadJob P
       ≡ p.outcomes ++ record { line = line; answer = answer; recorded = recorded; lost = lost } ∷ []
 
 -- the effect of a line's action: a call is made, or a flag is raised or passed by a step of the domain
-unfoldable pub DoesDeed : {P : Type 0} → (P → AllowRelation) → ThreadJob P → ℕ → RunAction → ListProgress → ListProgress → Type 0
-DoesDeed may job line (Do call) p q = MakesCall may job line call p q
-DoesDeed may job line (Tell flag) p q =
+unfoldable pub DoesAction : {P : Type 0} → (P → AllowRelation) → ThreadJob P → ℕ → RunAction → ListProgress → ListProgress → Type 0
+DoesAction may job line (Do call) p q = MakesCall may job line call p q
+DoesAction may job line (Tell flag) p q =
     (q ≡ record p { domain = q.domain }) × RaisesFlag may job.monitor.now flag p.domain q.domain
-DoesDeed may job line (Await flag) p q =
+DoesAction may job line (Await flag) p q =
     (q ≡ record p { domain = q.domain }) × MakesFlagStep may job.monitor.now flag Passed p.domain q.domain
 
 -- the effect of a line that is the domain's, or is not: another's changes nothing
 abbrev pub DoesWhere : {P : Type 0} → Bool → (P → AllowRelation) → ThreadJob P → RunTask → ListProgress → ListProgress → Type 0
-DoesWhere true may job task p q = DoesDeed may job task.line task.deed p q
+DoesWhere true may job task p q = DoesAction may job task.line task.run_action p q
 DoesWhere false may job task p q = q ≡ p
 
 -- these lines, one after the other, lead from one point of a list to another
@@ -146,7 +146,7 @@ pub record Stops (refuses : ℕ → Bool) (dom : DomId) (tasks : List RunTask) (
   pub at : RunTask
   pub own : (at.dom.0 == dom.0) ≡ true
   pub stands : slice_get tasks number ≡ Some at
-  pub refused : AwaitsRefusedFlag refuses at.deed
+  pub refused : AwaitsRefusedFlag refuses at.run_action
   pub last_is : last ≡ gate_line at.line dom
 
 -- a list ends after this number of lines: they are all, and nothing more is printed; or it stops there

@@ -180,7 +180,7 @@ fn serve<'a, R: Wait, P: Allows, G: Gate>(
     let dom = job.part.dom;
     'tasks: for task in job.part.tasks {
         if task.dom.0 == dom.0 {
-            match &task.deed {
+            match &task.run_action {
                 RunAction::Do(call) => {
                     let line = task.line;
                     let at = CallLine { line, call };

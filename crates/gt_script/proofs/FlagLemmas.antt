@@ -11,7 +11,7 @@ use Rattle.std.proofs.lemmas.List.Sums.{fold-append}
 use Rattle.gt_types.specs.declared.DomId.{DomId}
 use Rattle.gt_script.specs.Flags.{borrowed_names, with_flag, with_flag_of, flag_in, flag_names_of, flag_number}
 use Rattle.gt_script.specs.Stuck.{IsBelow, AreNumbered}
-use Rattle.gt_script.specs.Tasks.{deed_of, task_of, tasks_for}
+use Rattle.gt_script.specs.Tasks.{action_of, task_of, tasks_for}
 use Rattle.gt_script.specs.Lists.{NamedRunTask, NamedRunAction, RunAction, RunTask}
 use Rattle.gt_script.specs.declared.tasks.RunActionBy.TheVariants as run_actions
 use Rattle.gt_script.proofs.TypeLemmas.{same_bytes}
@@ -51,11 +51,11 @@ named-one names (run_actions.Do call) = refl
 named-one names (run_actions.Tell flag) = refl
 named-one names (run_actions.Await flag) = refl
 
-flags-more : (orders : List NamedRunTask) (o : NamedRunTask) → flag_names_of (orders ++ o ∷ []) ≡ with_flag_of (flag_names_of orders) o.deed
-flags-more orders o =
-    ap (fold with_flag []) (filter_map-append (λ (x : NamedRunTask). flag_in x.deed) orders (o ∷ []))
-    ∙ fold-append with_flag [] (filter_map (λ (x : NamedRunTask). flag_in x.deed) orders) (cons_option (flag_in o.deed) [])
-    ∙ named-one (flag_names_of orders) o.deed
+flags-more : (named_tasks : List NamedRunTask) (o : NamedRunTask) → flag_names_of (named_tasks ++ o ∷ []) ≡ with_flag_of (flag_names_of named_tasks) o.run_action
+flags-more named_tasks o =
+    ap (fold with_flag []) (filter_map-append (λ (x : NamedRunTask). flag_in x.run_action) named_tasks (o ∷ []))
+    ∙ fold-append with_flag [] (filter_map (λ (x : NamedRunTask). flag_in x.run_action) named_tasks) (cons_option (flag_in o.run_action) [])
+    ∙ named-one (flag_names_of named_tasks) o.run_action
 
 -- each flag that is named has a number
 
@@ -107,8 +107,8 @@ number-below : (names : List (List ℕ)) (name : List ℕ) → Has names name �
 unfolding flag_number
 number-below names name h = position-below (bytes_eq name) names h
 
-line-below : (names : List (List ℕ)) (line : NamedRunAction) → ((name : List ℕ) → flag_in line ≡ Some name → Has names name) → IsBelow (length names) (deed_of names line)
-unfolding deed_of
+line-below : (names : List (List ℕ)) (line : NamedRunAction) → ((name : List ℕ) → flag_in line ≡ Some name → Has names name) → IsBelow (length names) (action_of names line)
+unfolding action_of
 line-below names (run_actions.Do call) h = tt
 line-below names (run_actions.Tell flag) h = number-below names flag (h flag refl)
 line-below names (run_actions.Await flag) h = number-below names flag (h flag refl)
@@ -121,12 +121,12 @@ rest-named : (names : List (List ℕ)) (o : Option (List ℕ)) (more : List (Lis
 rest-named names None more h = h
 rest-named names (Some other) more h = All-tail (Has names) other more h
 
-lines-below : (names : List (List ℕ)) (orders : List NamedRunTask) → All (Has names) (filter_map (λ o. flag_in o.deed) orders) → All (λ (o : NamedRunTask). IsBelow (length names) (deed_of names o.deed)) orders
-lines-below names [] h = All-nil (λ (o : NamedRunTask). IsBelow (length names) (deed_of names o.deed))
-lines-below names (o ∷ orders) h =
-    All-cons (λ (o : NamedRunTask). IsBelow (length names) (deed_of names o.deed)) o orders
-    (line-below names o.deed (first-named names (flag_in o.deed) _ h))
-    (lines-below names orders (rest-named names (flag_in o.deed) _ h))
+lines-below : (names : List (List ℕ)) (named_tasks : List NamedRunTask) → All (Has names) (filter_map (λ o. flag_in o.run_action) named_tasks) → All (λ (o : NamedRunTask). IsBelow (length names) (action_of names o.run_action)) named_tasks
+lines-below names [] h = All-nil (λ (o : NamedRunTask). IsBelow (length names) (action_of names o.run_action))
+lines-below names (o ∷ named_tasks) h =
+    All-cons (λ (o : NamedRunTask). IsBelow (length names) (action_of names o.run_action)) o named_tasks
+    (line-below names o.run_action (first-named names (flag_in o.run_action) _ h))
+    (lines-below names named_tasks (rest-named names (flag_in o.run_action) _ h))
 
 -- a name keeps its number when others are added
 
@@ -179,48 +179,48 @@ flag-new names new flag bytes n same named number =
     number ∙ sym (number-new names bytes) ∙ ap (λ (l : List (List ℕ)). flag_number l bytes) (sym named) ∙ ap (λ (w : List ℕ). flag_number new w) same
 
 -- the action of a line, by the number that its flag had before it was added
-pub tell-new : (names new : List (List ℕ)) (deed : NamedRunAction) (flag bytes : List ℕ) (n : ℕ) → deed ≡ run_actions.Tell flag → bytes ≡ flag → new ≡ with_flag names bytes → n ≡ flag_number names bytes → told n ≡ deed_of new deed
-unfolding deed_of
-tell-new names new deed flag bytes n is same named number = rw is (ap told (flag-new names new flag bytes n same named number))
+pub tell-new : (names new : List (List ℕ)) (run_action : NamedRunAction) (flag bytes : List ℕ) (n : ℕ) → run_action ≡ run_actions.Tell flag → bytes ≡ flag → new ≡ with_flag names bytes → n ≡ flag_number names bytes → told n ≡ action_of new run_action
+unfolding action_of
+tell-new names new run_action flag bytes n is same named number = rw is (ap told (flag-new names new flag bytes n same named number))
 
-pub await-new : (names new : List (List ℕ)) (deed : NamedRunAction) (flag bytes : List ℕ) (n : ℕ) → deed ≡ run_actions.Await flag → bytes ≡ flag → new ≡ with_flag names bytes → n ≡ flag_number names bytes → awaited n ≡ deed_of new deed
-unfolding deed_of
-await-new names new deed flag bytes n is same named number = rw is (ap awaited (flag-new names new flag bytes n same named number))
+pub await-new : (names new : List (List ℕ)) (run_action : NamedRunAction) (flag bytes : List ℕ) (n : ℕ) → run_action ≡ run_actions.Await flag → bytes ≡ flag → new ≡ with_flag names bytes → n ≡ flag_number names bytes → awaited n ≡ action_of new run_action
+unfolding action_of
+await-new names new run_action flag bytes n is same named number = rw is (ap awaited (flag-new names new flag bytes n same named number))
 
-deed-kept : (names : List (List ℕ)) (other : List ℕ) (line : NamedRunAction) → ((name : List ℕ) → flag_in line ≡ Some name → Has names name) → deed_of (with_flag names other) line ≡ deed_of names line
-unfolding deed_of
-deed-kept names other (run_actions.Do call) h = refl
-deed-kept names other (run_actions.Tell flag) h = ap told (number-kept names other flag (h flag refl))
-deed-kept names other (run_actions.Await flag) h = ap awaited (number-kept names other flag (h flag refl))
+run_action-kept : (names : List (List ℕ)) (other : List ℕ) (line : NamedRunAction) → ((name : List ℕ) → flag_in line ≡ Some name → Has names name) → action_of (with_flag names other) line ≡ action_of names line
+unfolding action_of
+run_action-kept names other (run_actions.Do call) h = refl
+run_action-kept names other (run_actions.Tell flag) h = ap told (number-kept names other flag (h flag refl))
+run_action-kept names other (run_actions.Await flag) h = ap awaited (number-kept names other flag (h flag refl))
 
-tasks-kept : (names : List (List ℕ)) (other : List ℕ) (orders : List NamedRunTask) → All (Has names) (filter_map (λ o. flag_in o.deed) orders) → tasks_for (with_flag names other) orders ≡ tasks_for names orders
+tasks-kept : (names : List (List ℕ)) (other : List ℕ) (named_tasks : List NamedRunTask) → All (Has names) (filter_map (λ o. flag_in o.run_action) named_tasks) → tasks_for (with_flag names other) named_tasks ≡ tasks_for names named_tasks
 tasks-kept names other [] h = refl
-tasks-kept names other (o ∷ orders) h =
-    ap (λ (d : RunAction). let t : RunTask = record { line = o.line; dom = o.dom; deed = d } in t ∷ tasks_for (with_flag names other) orders) (deed-kept names other o.deed (first-named names (flag_in o.deed) _ h))
-    ∙ ap (λ (ts : List RunTask). task_of names o ∷ ts) (tasks-kept names other orders (rest-named names (flag_in o.deed) _ h))
+tasks-kept names other (o ∷ named_tasks) h =
+    ap (λ (d : RunAction). let t : RunTask = record { line = o.line; dom = o.dom; run_action = d } in t ∷ tasks_for (with_flag names other) named_tasks) (run_action-kept names other o.run_action (first-named names (flag_in o.run_action) _ h))
+    ∙ ap (λ (ts : List RunTask). task_of names o ∷ ts) (tasks-kept names other named_tasks (rest-named names (flag_in o.run_action) _ h))
 
-tasks-kept-of : (names : List (List ℕ)) (line : NamedRunAction) (orders : List NamedRunTask) → All (Has names) (filter_map (λ o. flag_in o.deed) orders) → tasks_for (with_flag_of names line) orders ≡ tasks_for names orders
-tasks-kept-of names (run_actions.Do call) orders h = refl
-tasks-kept-of names (run_actions.Tell flag) orders h = tasks-kept names flag orders h
-tasks-kept-of names (run_actions.Await flag) orders h = tasks-kept names flag orders h
+tasks-kept-of : (names : List (List ℕ)) (line : NamedRunAction) (named_tasks : List NamedRunTask) → All (Has names) (filter_map (λ o. flag_in o.run_action) named_tasks) → tasks_for (with_flag_of names line) named_tasks ≡ tasks_for names named_tasks
+tasks-kept-of names (run_actions.Do call) named_tasks h = refl
+tasks-kept-of names (run_actions.Tell flag) named_tasks h = tasks-kept names flag named_tasks h
+tasks-kept-of names (run_actions.Await flag) named_tasks h = tasks-kept names flag named_tasks h
 
 -- the names and tasks after one line more
-pub one-more : (orders : List NamedRunTask) (o : NamedRunTask) (names new : List (List ℕ)) (tasks made : List RunTask) → names ≡ flag_names_of orders → tasks ≡ tasks_for names orders → new ≡ with_flag_of names o.deed
-    → made ≡ tasks ++ task_of new o ∷ [] → (new ≡ flag_names_of (orders ++ o ∷ [])) × (made ≡ tasks_for new (orders ++ o ∷ []))
-one-more orders o names new tasks made so_far were named is =
-    let have : All (Has names) (filter_map (λ x. flag_in x.deed) orders) =
-    subst (λ (l : List (List ℕ)). All (Has l) (filter_map (λ x. flag_in x.deed) orders)) (sym so_far) (has-all (filter_map (λ (x : NamedRunTask). flag_in x.deed) orders) []) in
-    let kept : tasks_for new orders ≡ tasks_for names orders = ap (λ (l : List (List ℕ)). tasks_for l orders) named ∙ tasks-kept-of names o.deed orders have in (
-      named ∙ ap (λ (l : List (List ℕ)). with_flag_of l o.deed) so_far ∙ sym (flags-more orders o),
-      is ∙ ap (λ (ts : List RunTask). ts ++ task_of new o ∷ []) (were ∙ sym kept) ∙ sym (map-append (task_of new) orders (o ∷ [])),
+pub one-more : (named_tasks : List NamedRunTask) (o : NamedRunTask) (names new : List (List ℕ)) (tasks made : List RunTask) → names ≡ flag_names_of named_tasks → tasks ≡ tasks_for names named_tasks → new ≡ with_flag_of names o.run_action
+    → made ≡ tasks ++ task_of new o ∷ [] → (new ≡ flag_names_of (named_tasks ++ o ∷ [])) × (made ≡ tasks_for new (named_tasks ++ o ∷ []))
+one-more named_tasks o names new tasks made so_far were named is =
+    let have : All (Has names) (filter_map (λ x. flag_in x.run_action) named_tasks) =
+    subst (λ (l : List (List ℕ)). All (Has l) (filter_map (λ x. flag_in x.run_action) named_tasks)) (sym so_far) (has-all (filter_map (λ (x : NamedRunTask). flag_in x.run_action) named_tasks) []) in
+    let kept : tasks_for new named_tasks ≡ tasks_for names named_tasks = ap (λ (l : List (List ℕ)). tasks_for l named_tasks) named ∙ tasks-kept-of names o.run_action named_tasks have in (
+      named ∙ ap (λ (l : List (List ℕ)). with_flag_of l o.run_action) so_far ∙ sym (flags-more named_tasks o),
+      is ∙ ap (λ (ts : List RunTask). ts ++ task_of new o ∷ []) (were ∙ sym kept) ∙ sym (map-append (task_of new) named_tasks (o ∷ [])),
     )
 
 -- the tasks of a script name no flag past the last
-pub tasks-numbered : (orders : List NamedRunTask) → AreNumbered (length (flag_names_of orders)) (tasks_for (flag_names_of orders) orders)
-tasks-numbered orders =
-    All-map (λ (t : RunTask). IsBelow (length (flag_names_of orders)) t.deed) (task_of (flag_names_of orders)) orders
-    (lines-below (flag_names_of orders) orders (has-all (filter_map (λ (o : NamedRunTask). flag_in o.deed) orders) []))
+pub tasks-numbered : (named_tasks : List NamedRunTask) → AreNumbered (length (flag_names_of named_tasks)) (tasks_for (flag_names_of named_tasks) named_tasks)
+tasks-numbered named_tasks =
+    All-map (λ (t : RunTask). IsBelow (length (flag_names_of named_tasks)) t.run_action) (task_of (flag_names_of named_tasks)) named_tasks
+    (lines-below (flag_names_of named_tasks) named_tasks (has-all (filter_map (λ (o : NamedRunTask). flag_in o.run_action) named_tasks) []))
 
 -- each task is one of a domain that each order is of
-pub tasks-known : (P : DomId → Type 0) (names : List (List ℕ)) (orders : List NamedRunTask) → All (λ (o : NamedRunTask). P o.dom) orders → All (λ (t : RunTask). P t.dom) (tasks_for names orders)
-tasks-known P names orders h = All-map (λ (t : RunTask). P t.dom) (task_of names) orders h
+pub tasks-known : (P : DomId → Type 0) (names : List (List ℕ)) (named_tasks : List NamedRunTask) → All (λ (o : NamedRunTask). P o.dom) named_tasks → All (λ (t : RunTask). P t.dom) (tasks_for names named_tasks)
+tasks-known P names named_tasks h = All-map (λ (t : RunTask). P t.dom) (task_of names) named_tasks h

@@ -24,10 +24,10 @@ use Rattle.gt_policy.specs.Allowing.{Allowed, type_named}
 use Rattle.gt_script.specs.Contents.{Contents, type_names_with}
 use Rattle.gt_script.specs.Script.{is_empty, is_misplaced, has_no_rights, or_config, or_mode, configured}
 use Rattle.gt_script.specs.Script.{domain_written, with_triple, type_named_in, with_domain, with_domain_line}
-use Rattle.gt_script.specs.Script.{with_order}
+use Rattle.gt_script.specs.Script.{with_named_task}
 use Rattle.gt_script.specs.Script.{with_asked}
 use Rattle.gt_script.specs.Script.{with_body_line, with_placed, with_script_line, with_words, with_lines}
-use Rattle.gt_script.specs.Laws.{lines_said, triple_in, wear_in, domain_in, step_for, step_on, order_for, order_on}
+use Rattle.gt_script.specs.Laws.{lines_said, triple_in, wear_in, domain_in, step_for, step_on, named_task_for, named_task_on}
 use Rattle.gt_script.specs.Laws.{asks_for}
 use Rattle.gt_script.specs.Laws.{is_for, IsLine}
 use Rattle.gt_script_lines.specs.declared.numbers.Number.{Number}
@@ -112,11 +112,11 @@ record Adds (n : ℕ) (l : Option ScriptLine) (c d : Contents) : Type 0 where
   domains : (types : List (List ℕ)) → Grown d.types types → d.domains ≡ c.domains ++ option_to_list (l >>= domain_in (type_names_with c.policy types))
   command : d.command ≡ c.command
   steps : d.steps ≡ c.steps ++ option_to_list (l >>= step_on c.command n)
-  orders : d.orders ≡ c.orders ++ option_to_list (l >>= order_on c.command n)
+  named_tasks : d.named_tasks ≡ c.named_tasks ++ option_to_list (l >>= named_task_on c.command n)
   suited : Suits c.command l
   faultless : AreFaultless c.domains → AreFaultless d.domains
   configured : All (λ (s : ScriptStep). IsTrue (is_taken c.domains s.dom)) c.steps → All (λ (s : ScriptStep). IsTrue (is_taken d.domains s.dom)) d.steps
-  ordered : All (λ (o : NamedRunTask). IsTrue (is_taken c.domains o.dom)) c.orders → All (λ (o : NamedRunTask). IsTrue (is_taken d.domains o.dom)) d.orders
+  ordered : All (λ (o : NamedRunTask). IsTrue (is_taken c.domains o.dom)) c.named_tasks → All (λ (o : NamedRunTask). IsTrue (is_taken d.domains o.dom)) d.named_tasks
 
 adds-nothing : (n : ℕ) (c : Contents) → Adds n None c c
 adds-nothing n c = record {
@@ -128,7 +128,7 @@ adds-nothing n c = record {
   domains = λ types g. sym (append-nil c.domains);
   command = refl;
   steps = sym (append-nil c.steps);
-  orders = sym (append-nil c.orders);
+  named_tasks = sym (append-nil c.named_tasks);
   suited = tt;
   faultless = λ h. h;
   configured = λ h. h;
@@ -156,7 +156,7 @@ adds-triple-of n c d t source target free s r same =
       domains = λ types g. sym (append-nil c.domains);
       command = refl;
       steps = sym (append-nil c.steps);
-      orders = sym (append-nil c.orders);
+      named_tasks = sym (append-nil c.named_tasks);
       suited = refl;
       faultless = λ h. h;
       configured = λ h. h;
@@ -200,11 +200,11 @@ adds-domain-of n c d l label domain t w fine same =
           ap (λ (o : Option DomainConfig). c.domains ++ option_to_list o) (sym lines_said);
       command = refl;
       steps = sym (append-nil c.steps);
-      orders = sym (append-nil c.orders);
+      named_tasks = sym (append-nil c.named_tasks);
       suited = refl;
       faultless = λ h. faultless-push c.domains domain h (none-is _ fine);
       configured = λ h. All-weaker _ _ (λ s k. taken-push c.domains domain s.dom k) c.steps h;
-      ordered = λ h. All-weaker _ _ (λ o k. taken-push c.domains domain o.dom k) c.orders h;
+      ordered = λ h. All-weaker _ _ (λ o k. taken-push c.domains domain o.dom k) c.named_tasks h;
     })
 
 adds-domain : (n : ℕ) (c d : Contents) (l : DomainLine) → with_domain c l ≡ Ok d → Adds n (Some (script_lines.Domain l)) c d
@@ -240,19 +240,19 @@ adds-step n c d number asks dom play small taken e =
           let lines_said : step_on c.command n (script_lines.Body number asks) ≡ Some (record { line = n; dom = dom; action = p.0 }) =
           ap (λ (k : ScriptCommand). step_for k n number asks) play ∙ bind-at _ _ _ small ∙ bind-at _ _ _ p.1 in
           ap (λ (o : Option ScriptStep). c.steps ++ option_to_list o) (sym lines_said);
-      orders =
-          let lines_said : order_on c.command n (script_lines.Body number asks) ≡ None = ap (λ (k : ScriptCommand). order_for k n number asks) play in
-          sym (append-nil c.orders) ∙ ap (λ (o : Option NamedRunTask). c.orders ++ option_to_list o) (sym lines_said);
+      named_tasks =
+          let lines_said : named_task_on c.command n (script_lines.Body number asks) ≡ None = ap (λ (k : ScriptCommand). named_task_for k n number asks) play in
+          sym (append-nil c.named_tasks) ∙ ap (λ (o : Option NamedRunTask). c.named_tasks ++ option_to_list o) (sym lines_said);
       suited = ap (λ (k : ScriptCommand). asks_for k asks) play ∙ ap (λ (o : Option ScriptAction). is_some o) p.1;
       faultless = λ h. h;
       configured = λ h. All-push (λ (s : ScriptStep). IsTrue (is_taken c.domains s.dom)) c.steps _ h taken;
       ordered = λ h. h;
     })
 
-adds-order : (n : ℕ) (c d : Contents) (number : Number) (asks : BodyLine) (dom : DomId) → c.command ≡ Run → number_below (2 ^ 16) number ≡ Some dom.0 → is_taken c.domains dom ≡ true
-    → with_order c n dom asks ≡ Ok d → Adds n (Some (script_lines.Body number asks)) c d
-unfolding with_order
-adds-order n c d number asks dom run small taken e =
+adds-named_task : (n : ℕ) (c d : Contents) (number : Number) (asks : BodyLine) (dom : DomId) → c.command ≡ Run → number_below (2 ^ 16) number ≡ Some dom.0 → is_taken c.domains dom ≡ true
+    → with_named_task c n dom asks ≡ Ok d → Adds n (Some (script_lines.Body number asks)) c d
+unfolding with_named_task
+adds-named_task n c d number asks dom run small taken e =
     let p = bind-Some _ _ d (or_mode-Ok _ d e) in
     subst (λ (x : Contents). Adds n (Some (script_lines.Body number asks)) c x) (same_Some _ _ p.2) (record {
       policy = refl;
@@ -265,20 +265,20 @@ adds-order n c d number asks dom run small taken e =
       steps =
           let lines_said : step_on c.command n (script_lines.Body number asks) ≡ None = ap (λ (k : ScriptCommand). step_for k n number asks) run in
           sym (append-nil c.steps) ∙ ap (λ (o : Option ScriptStep). c.steps ++ option_to_list o) (sym lines_said);
-      orders =
-          let lines_said : order_on c.command n (script_lines.Body number asks) ≡ Some (record { line = n; dom = dom; deed = p.0 }) =
-          ap (λ (k : ScriptCommand). order_for k n number asks) run ∙ bind-at _ _ _ small ∙ bind-at _ _ _ p.1 in
-          ap (λ (o : Option NamedRunTask). c.orders ++ option_to_list o) (sym lines_said);
+      named_tasks =
+          let lines_said : named_task_on c.command n (script_lines.Body number asks) ≡ Some (record { line = n; dom = dom; run_action = p.0 }) =
+          ap (λ (k : ScriptCommand). named_task_for k n number asks) run ∙ bind-at _ _ _ small ∙ bind-at _ _ _ p.1 in
+          ap (λ (o : Option NamedRunTask). c.named_tasks ++ option_to_list o) (sym lines_said);
       suited = ap (λ (k : ScriptCommand). asks_for k asks) run ∙ ap (λ (o : Option NamedRunAction). is_some o) p.1;
       faultless = λ h. h;
       configured = λ h. h;
-      ordered = λ h. All-push (λ (o : NamedRunTask). IsTrue (is_taken c.domains o.dom)) c.orders _ h taken;
+      ordered = λ h. All-push (λ (o : NamedRunTask). IsTrue (is_taken c.domains o.dom)) c.named_tasks _ h taken;
     })
 
 adds-asked : (n : ℕ) (c d : Contents) (number : Number) (asks : BodyLine) (dom : DomId) (command : ScriptCommand) → c.command ≡ command → number_below (2 ^ 16) number ≡ Some dom.0
     → is_taken c.domains dom ≡ true → with_asked command c n dom asks ≡ Ok d → Adds n (Some (script_lines.Body number asks)) c d
 adds-asked n c d number asks dom Play is small taken e = adds-step n c d number asks dom is small taken e
-adds-asked n c d number asks dom Run is small taken e = adds-order n c d number asks dom is small taken e
+adds-asked n c d number asks dom Run is small taken e = adds-named_task n c d number asks dom is small taken e
 
 adds-known : (n : ℕ) (c d : Contents) (number : Number) (asks : BodyLine) (known : Option DomId) → configured c.domains number ≡ known
     → (let r : Result Contents ScriptFaultKind = elim known [ None ↦ Err Config | Some dom ↦ with_asked c.command c n dom asks ] in r ≡ Ok d) → Adds n (Some (script_lines.Body number asks)) c d
@@ -317,7 +317,7 @@ adds-wear n c d first fresh same =
       domains = λ types g. sym (append-nil c.domains);
       command = refl;
       steps = sym (append-nil c.steps);
-      orders = sym (append-nil c.orders);
+      named_tasks = sym (append-nil c.named_tasks);
       suited = refl;
       faultless = λ h. h;
       configured = λ h. h;
@@ -366,11 +366,11 @@ pub record Extends (n : ℕ) (ls : List (List ℕ)) (c d : Contents) : Type 0 wh
   pub domains : (types : List (List ℕ)) → Grown d.types types → d.domains ≡ c.domains ++ filter_map (λ l. domain_in (type_names_with c.policy types) l.1) (lines_said n ls)
   pub command : d.command ≡ c.command
   pub steps : d.steps ≡ c.steps ++ filter_map (λ l. step_on c.command l.0 l.1) (lines_said n ls)
-  pub orders : d.orders ≡ c.orders ++ filter_map (λ l. order_on c.command l.0 l.1) (lines_said n ls)
+  pub named_tasks : d.named_tasks ≡ c.named_tasks ++ filter_map (λ l. named_task_on c.command l.0 l.1) (lines_said n ls)
   pub suited : All (λ l. IsTrue (is_for c.command l.1)) (lines_said n ls)
   pub faultless : AreFaultless c.domains → AreFaultless d.domains
   pub configured : All (λ (s : ScriptStep). IsTrue (is_taken c.domains s.dom)) c.steps → All (λ (s : ScriptStep). IsTrue (is_taken d.domains s.dom)) d.steps
-  pub ordered : All (λ (o : NamedRunTask). IsTrue (is_taken c.domains o.dom)) c.orders → All (λ (o : NamedRunTask). IsTrue (is_taken d.domains o.dom)) d.orders
+  pub ordered : All (λ (o : NamedRunTask). IsTrue (is_taken c.domains o.dom)) c.named_tasks → All (λ (o : NamedRunTask). IsTrue (is_taken d.domains o.dom)) d.named_tasks
 
 cons-list : {X : Type 0} (o : Option X) (xs : List X) → cons_option o xs ≡ option_to_list o ++ xs
 cons-list None xs = refl
@@ -407,8 +407,8 @@ extends-cons n l ls c d e a x =
       command = x.command ∙ here.command;
       steps = joined c.steps d.steps e.steps _ _ here.steps (subst (λ (k : ScriptCommand). e.steps ≡ d.steps ++ filter_map (λ l. step_on k l.0 l.1) (lines_said (n + 1) ls)) here.command x.steps)
           ∙ ap (λ (ss : List ScriptStep). c.steps ++ ss) (sym (filter-cons (step_on c.command) n (line_of (words l)) (lines_said (n + 1) ls)));
-      orders = joined c.orders d.orders e.orders _ _ here.orders (subst (λ (k : ScriptCommand). e.orders ≡ d.orders ++ filter_map (λ l. order_on k l.0 l.1) (lines_said (n + 1) ls)) here.command x.orders)
-          ∙ ap (λ (os : List NamedRunTask). c.orders ++ os) (sym (filter-cons (order_on c.command) n (line_of (words l)) (lines_said (n + 1) ls)));
+      named_tasks = joined c.named_tasks d.named_tasks e.named_tasks _ _ here.named_tasks (subst (λ (k : ScriptCommand). e.named_tasks ≡ d.named_tasks ++ filter_map (λ l. named_task_on k l.0 l.1) (lines_said (n + 1) ls)) here.command x.named_tasks)
+          ∙ ap (λ (os : List NamedRunTask). c.named_tasks ++ os) (sym (filter-cons (named_task_on c.command) n (line_of (words l)) (lines_said (n + 1) ls)));
       suited = suits-cons c.command n (line_of (words l)) (lines_said (n + 1) ls) here.suited (subst (λ (k : ScriptCommand). All (λ l. IsTrue (is_for k l.1)) (lines_said (n + 1) ls)) here.command x.suited);
       faultless = λ h. x.faultless (here.faultless h);
       configured = λ h. x.configured (here.configured h);
@@ -434,7 +434,7 @@ with_lines-Extends n [] c e h =
       domains = λ types g. sym (append-nil c.domains);
       command = refl;
       steps = sym (append-nil c.steps);
-      orders = sym (append-nil c.orders);
+      named_tasks = sym (append-nil c.named_tasks);
       suited = All-nil (λ l. IsTrue (is_for c.command l.1));
       faultless = λ k. k;
       configured = λ k. k;

@@ -29,10 +29,10 @@ use Rattle.gt_script.specs.declared.tasks.RunActionBy.TheVariants.{Do, Tell, Awa
 -- a place further on
 
 comes-more : (tasks : List RunTask) (dom : DomId) (place : ℕ) (told : List Bool) (x : RunTask) → place < length tasks → Comes tasks dom place told
-    → ((get_or tasks place x).dom.0 ≡ dom.0 → IsDone told (get_or tasks place x).deed) → Comes tasks dom (place + 1) told
+    → ((get_or tasks place x).dom.0 ≡ dom.0 → IsDone told (get_or tasks place x).run_action) → Comes tasks dom (place + 1) told
 comes-more tasks dom place told x within so_far here =
-    subst (λ (l : List RunTask). All (λ t. t.dom.0 ≡ dom.0 → IsDone told t.deed) l) (sym (rw add-one (take-suc tasks place x within)))
-    (All-push (λ (t : RunTask). t.dom.0 ≡ dom.0 → IsDone told t.deed) (take place tasks) (get_or tasks place x) so_far here)
+    subst (λ (l : List RunTask). All (λ t. t.dom.0 ≡ dom.0 → IsDone told t.run_action) l) (sym (rw add-one (take-suc tasks place x within)))
+    (All-push (λ (t : RunTask). t.dom.0 ≡ dom.0 → IsDone told t.run_action) (take place tasks) (get_or tasks place x) so_far here)
 
 done-grown : (old new : List Bool) → ((flag : ℕ) → HasFlag old flag → HasFlag new flag) → (d : RunAction) → IsDone old d → IsDone new d
 done-grown old new grown (Do call) h = tt
@@ -41,7 +41,7 @@ done-grown old new grown (Await flag) h = grown flag h
 
 comes-grown : (tasks : List RunTask) (dom : DomId) (place : ℕ) (old new : List Bool) → ((flag : ℕ) → HasFlag old flag → HasFlag new flag) → Comes tasks dom place old → Comes tasks dom place new
 comes-grown tasks dom place old new grown come =
-    All-weaker (λ (t : RunTask). t.dom.0 ≡ dom.0 → IsDone old t.deed) (λ (t : RunTask). t.dom.0 ≡ dom.0 → IsDone new t.deed) (λ t h own. done-grown old new grown t.deed (h own)) (take place tasks) come
+    All-weaker (λ (t : RunTask). t.dom.0 ≡ dom.0 → IsDone old t.run_action) (λ (t : RunTask). t.dom.0 ≡ dom.0 → IsDone new t.run_action) (λ t h own. done-grown old new grown t.run_action (h own)) (take place tasks) come
 
 pub way-start : (tasks : List RunTask) (dom : DomId) (told : List Bool) (place : ℕ) → Comes tasks dom place told → WayTo tasks dom told told place false
 way-start tasks dom told place come = record {
@@ -55,7 +55,7 @@ way-start tasks dom told place come = record {
 
 -- past a task of another domain, or one whose flag is told
 pub way-past : (tasks : List RunTask) (dom : DomId) (old new : List Bool) (place : ℕ) (news : Bool) (x : RunTask) → WayTo tasks dom old new place news → place < length tasks
-    → ((get_or tasks place x).dom.0 ≡ dom.0 → IsDone new (get_or tasks place x).deed) → WayTo tasks dom old new (place + 1) news
+    → ((get_or tasks place x).dom.0 ≡ dom.0 → IsDone new (get_or tasks place x).run_action) → WayTo tasks dom old new (place + 1) news
 way-past tasks dom old new place news x w within here = record {
   comes = comes-more tasks dom place new x within w.comes here;
   grown = w.grown;
@@ -114,20 +114,20 @@ passes told set within (Await flag) h = within flag h
 passes-all : (tasks : List RunTask) (dom own : DomId) (place : ℕ) (told : List Bool) (set : ℕ → Bool) → Within told set → own.0 ≡ dom.0 → Comes tasks dom place told
     → PassesAll (λ f. IsTrue (set f)) own (take place tasks)
 passes-all tasks dom own place told set within same come =
-    All-weaker (λ (t : RunTask). t.dom.0 ≡ dom.0 → IsDone told t.deed) (λ (t : RunTask). t.dom.0 ≡ own.0 → IsPassed (λ f. IsTrue (set f)) t.deed)
-    (λ t h e. passes told set within t.deed (h (e ∙ same))) (take place tasks) come
+    All-weaker (λ (t : RunTask). t.dom.0 ≡ dom.0 → IsDone told t.run_action) (λ (t : RunTask). t.dom.0 ≡ own.0 → IsPassed (λ f. IsTrue (set f)) t.run_action)
+    (λ t h e. passes told set within t.run_action (h (e ∙ same))) (take place tasks) come
 
 pub way-tell : (tasks : List RunTask) (dom : DomId) (old new : List Bool) (place flag : ℕ) (news : Bool) (x : RunTask) → WayTo tasks dom old new place news → place < length tasks
-    → (get_or tasks place x).deed ≡ Tell flag → (get_or tasks place x).dom.0 ≡ dom.0 → flag < length new → WayTo tasks dom old (set new flag true) (place + 1) (news || not (flag_holds new flag))
-way-tell tasks dom old new place flag news x w within deed own below =
+    → (get_or tasks place x).run_action ≡ Tell flag → (get_or tasks place x).dom.0 ≡ dom.0 → flag < length new → WayTo tasks dom old (set new flag true) (place + 1) (news || not (flag_holds new flag))
+way-tell tasks dom old new place flag news x w within run_action own below =
     let grown : (f : ℕ) → HasFlag new f → HasFlag (set new flag true) f = λ f h. told-more new flag f below h in
     record {
       comes = comes-more tasks dom place (set new flag true) x within (comes-grown tasks dom place new (set new flag true) grown w.comes)
-          (λ e. subst (λ (d : RunAction). IsDone (set new flag true) d) (sym deed) (get_or-set_same new flag true false below));
+          (λ e. subst (λ (d : RunAction). IsDone (set new flag true) d) (sym run_action) (get_or-set_same new flag true false below));
       grown = λ f h. grown f (w.grown f h);
       sound = λ all closed inside f h. elim (told-before new flag f h) [
         | inl e ↦ subst (λ (k : ℕ). IsTrue (all k)) (sym e)
-            (closed place (get_or tasks place x) flag (slice_get-get_or tasks place x within) deed (passes-all tasks dom (get_or tasks place x).dom place new all (w.sound all closed inside) own w.comes))
+            (closed place (get_or tasks place x) flag (slice_get-get_or tasks place x within) run_action (passes-all tasks dom (get_or tasks place x).dom place new all (w.sound all closed inside) own w.comes))
         | inr k ↦ w.sound all closed inside f k
       ];
       many = length-set new flag true ∙ w.many;
@@ -145,28 +145,28 @@ or-false : (b : Bool) → (b || false) ≡ b
 or-false true = refl
 or-false false = refl
 
-way-by : (tasks : List RunTask) (dom : DomId) (old new : List Bool) (place : ℕ) (news : Bool) (x : RunTask) (d : RunAction) → WayTo tasks dom old new place news → place < length tasks → (get_or tasks place x).deed ≡ d
+way-by : (tasks : List RunTask) (dom : DomId) (old new : List Bool) (place : ℕ) (news : Bool) (x : RunTask) (d : RunAction) → WayTo tasks dom old new place news → place < length tasks → (get_or tasks place x).run_action ≡ d
     → (get_or tasks place x).dom.0 ≡ dom.0 → IsBelow (length new) d → is_waiting new d ≡ false → WayTo tasks dom old (raised_after new d) (place + 1) (news || is_new new d)
 unfolding is_waiting raised_after is_new
-way-by tasks dom old new place news x (Do call) w within deed own below waits =
+way-by tasks dom old new place news x (Do call) w within run_action own below waits =
     subst (λ (b : Bool). WayTo tasks dom old new (place + 1) b) (sym (or-false news))
-    (way-past tasks dom old new place news x w within (λ e. subst (λ (k : RunAction). IsDone new k) (sym deed) tt))
-way-by tasks dom old new place news x (Tell flag) w within deed own below waits = way-tell tasks dom old new place flag news x w within deed own below
-way-by tasks dom old new place news x (Await flag) w within deed own below waits =
+    (way-past tasks dom old new place news x w within (λ e. subst (λ (k : RunAction). IsDone new k) (sym run_action) tt))
+way-by tasks dom old new place news x (Tell flag) w within run_action own below waits = way-tell tasks dom old new place flag news x w within run_action own below
+way-by tasks dom old new place news x (Await flag) w within run_action own below waits =
     subst (λ (b : Bool). WayTo tasks dom old new (place + 1) b) (sym (or-false news))
-    (way-past tasks dom old new place news x w within (λ e. done-await new _ flag deed (not-true (flag_holds new flag) waits)))
+    (way-past tasks dom old new place news x w within (λ e. done-await new _ flag run_action (not-true (flag_holds new flag) waits)))
 
 pub below-at : (tasks : List RunTask) (old new : List Bool) (dom : DomId) (place : ℕ) (news : Bool) (x : RunTask) → AreNumbered (length old) tasks → WayTo tasks dom old new place news → place < length tasks → x ≡ get_or tasks place x
-    → IsBelow (length new) x.deed
+    → IsBelow (length new) x.run_action
 below-at tasks old new dom place news x numbered w within is =
-    subst (λ (k : ℕ). IsBelow k x.deed) (sym w.many) (subst (λ (t : RunTask). IsBelow (length old) t.deed) (sym is) (numbered place x within))
+    subst (λ (k : ℕ). IsBelow k x.run_action) (sym w.many) (subst (λ (t : RunTask). IsBelow (length old) t.run_action) (sym is) (numbered place x within))
 
 pub way-own : (tasks : List RunTask) (dom : DomId) (old new newer : List Bool) (place : ℕ) (news more : Bool) (x : RunTask) → WayTo tasks dom old new place news → place < length tasks → x ≡ get_or tasks place x
-    → x.dom.0 ≡ dom.0 → IsBelow (length new) x.deed → is_waiting new x.deed ≡ false → newer ≡ raised_after new x.deed → more ≡ is_new new x.deed → WayTo tasks dom old newer (place + 1) (news || more)
+    → x.dom.0 ≡ dom.0 → IsBelow (length new) x.run_action → is_waiting new x.run_action ≡ false → newer ≡ raised_after new x.run_action → more ≡ is_new new x.run_action → WayTo tasks dom old newer (place + 1) (news || more)
 way-own tasks dom old new newer place news more x w within is own below waits told new_one =
     subst (λ (l : List Bool). WayTo tasks dom old l (place + 1) (news || more)) (sym told)
-    (subst (λ (b : Bool). WayTo tasks dom old (raised_after new x.deed) (place + 1) (news || b)) (sym new_one)
-    (way-by tasks dom old new place news x x.deed w within (ap (λ (t : RunTask). t.deed) (sym is)) (ap (λ (t : RunTask). t.dom.0) (sym is) ∙ own) below waits))
+    (subst (λ (b : Bool). WayTo tasks dom old (raised_after new x.run_action) (place + 1) (news || b)) (sym new_one)
+    (way-by tasks dom old new place news x x.run_action w within (ap (λ (t : RunTask). t.run_action) (sym is)) (ap (λ (t : RunTask). t.dom.0) (sym is) ∙ own) below waits))
 
 pub way-other : (tasks : List RunTask) (dom : DomId) (old new : List Bool) (place : ℕ) (news : Bool) (x : RunTask) → WayTo tasks dom old new place news → place < length tasks → x ≡ get_or tasks place x
     → (x.dom.0 ≡ dom.0 → ⊥) → WayTo tasks dom old new (place + 1) news
@@ -175,13 +175,13 @@ way-other tasks dom old new place news x w within is other = way-past tasks dom 
 -- where a domain stops
 
 pub goes-on : (tasks : List RunTask) (dom : DomId) (old new : List Bool) (place flag : ℕ) (news : Bool) (x : RunTask) → WayTo tasks dom old new place news → place < length tasks
-    → (get_or tasks place x).deed ≡ Await flag → (get_or tasks place x).dom.0 ≡ dom.0 → flag_holds new flag ≡ false → TurnGoesOn tasks dom old new place news
-goes-on tasks dom old new place flag news x w within deed own unraised = (
+    → (get_or tasks place x).run_action ≡ Await flag → (get_or tasks place x).dom.0 ≡ dom.0 → flag_holds new flag ≡ false → TurnGoesOn tasks dom old new place news
+goes-on tasks dom old new place flag news x w within run_action own unraised = (
   let le : place ≤ length tasks = omega arith in le,
   w,
   λ task there.
       let is : get_or tasks place x ≡ task = get_or_from_slice_get tasks place task x there in
-      (flag, subst (λ (t : RunTask). t.deed ≡ Await flag) is deed, subst (λ (t : RunTask). t.dom.0 ≡ dom.0) is own, unraised),
+      (flag, subst (λ (t : RunTask). t.run_action ≡ Await flag) is run_action, subst (λ (t : RunTask). t.dom.0 ≡ dom.0) is own, unraised),
 )
 
 waits-at : (told : List Bool) (d : RunAction) → is_waiting told d ≡ true → (flag : ℕ) × (d ≡ Await flag) × (flag_holds told flag ≡ false)
@@ -195,10 +195,10 @@ waits-at told (Await flag) e = (flag, refl, not-false (flag_holds told flag) e)
     not-false false e = refl
 
 pub stops-at : (tasks : List RunTask) (dom : DomId) (old new : List Bool) (place : ℕ) (news : Bool) (x : RunTask) → WayTo tasks dom old new place news → place < length tasks → x ≡ get_or tasks place x
-    → x.dom.0 ≡ dom.0 → is_waiting new x.deed ≡ true → TurnGoesOn tasks dom old new place news
+    → x.dom.0 ≡ dom.0 → is_waiting new x.run_action ≡ true → TurnGoesOn tasks dom old new place news
 stops-at tasks dom old new place news x w within is own waits =
-    let f = waits-at new x.deed waits in
-    goes-on tasks dom old new place f.0 news x w within (ap (λ (t : RunTask). t.deed) (sym is) ∙ f.1) (ap (λ (t : RunTask). t.dom.0) (sym is) ∙ own) f.2
+    let f = waits-at new x.run_action waits in
+    goes-on tasks dom old new place f.0 news x w within (ap (λ (t : RunTask). t.run_action) (sym is) ∙ f.1) (ap (λ (t : RunTask). t.dom.0) (sym is) ∙ own) f.2
 
 pub goes-to-end : (tasks : List RunTask) (dom : DomId) (old new : List Bool) (place : ℕ) (news : Bool) → WayTo tasks dom old new place news → place ≡ length tasks → TurnGoesOn tasks dom old new (length tasks) news
 goes-to-end tasks dom old new place news w e =
@@ -294,7 +294,7 @@ none-passed n i = elim (cases_lt i n) [
 pub nobody-went : (tasks : List RunTask) (domains : List DomainConfig) (n : ℕ) (told : List Bool) → HaveCome tasks domains (replicate n 0) told
 nobody-went tasks domains n told i d there = (
   subst (λ (k : ℕ). k ≤ length tasks) (sym (none-passed n i)) (omega arith),
-  subst (λ (k : ℕ). Comes tasks d.id k told) (sym (none-passed n i)) (All-nil (λ (t : RunTask). t.dom.0 ≡ d.id.0 → IsDone told t.deed)),
+  subst (λ (k : ℕ). Comes tasks d.id k told) (sym (none-passed n i)) (All-nil (λ (t : RunTask). t.dom.0 ≡ d.id.0 → IsDone told t.run_action)),
 )
 
 -- after a turn without news the told flags are closed
@@ -309,50 +309,50 @@ tell-or-await : (d : RunAction) (f g : ℕ) → d ≡ Tell f → d ≡ Await g �
 tell-or-await d f g e h = cc
 
 -- the task at this place tells its flag, where the domain has come further
-behind : (tasks : List RunTask) (dom : DomId) (place at : ℕ) (task : RunTask) (flag : ℕ) (told : List Bool) → Comes tasks dom place told → slice_get tasks at ≡ Some task → task.dom.0 ≡ dom.0 → task.deed ≡ Tell flag
+behind : (tasks : List RunTask) (dom : DomId) (place at : ℕ) (task : RunTask) (flag : ℕ) (told : List Bool) → Comes tasks dom place told → slice_get tasks at ≡ Some task → task.dom.0 ≡ dom.0 → task.run_action ≡ Tell flag
     → at < place → HasFlag told flag
-behind tasks dom place at task flag told come there own deed less =
+behind tasks dom place at task flag told come there own run_action less =
     let within : at < length tasks = slice_get_within tasks at task there in
     let inside : at < length (take place tasks) = rw length-take (omega arith) in
     let is : get_or (take place tasks) at task ≡ task = get_or-take place tasks at task less ∙ get_or_from_slice_get tasks at task task there in
-    at-tell told task.deed flag deed (subst (λ (t : RunTask). t.dom.0 ≡ dom.0 → IsDone told t.deed) is (come at task inside) own)
+    at-tell told task.run_action flag run_action (subst (λ (t : RunTask). t.dom.0 ≡ dom.0 → IsDone told t.run_action) is (come at task inside) own)
 
 -- it can't stand where the domain waits, nor behind that place, past which the domain would have gone
-ahead : (tasks : List RunTask) (dom : DomId) (place at : ℕ) (task : RunTask) (flag : ℕ) (told : List Bool) → WaitsFor tasks dom place told → slice_get tasks at ≡ Some task → task.dom.0 ≡ dom.0 → task.deed ≡ Tell flag
+ahead : (tasks : List RunTask) (dom : DomId) (place at : ℕ) (task : RunTask) (flag : ℕ) (told : List Bool) → WaitsFor tasks dom place told → slice_get tasks at ≡ Some task → task.dom.0 ≡ dom.0 → task.run_action ≡ Tell flag
     → PassesAll (HasFlag told) task.dom (take at tasks) → place ≤ at → ⊥
-ahead tasks dom place at task flag told waits there own deed before le =
+ahead tasks dom place at task flag told waits there own run_action before le =
     let within : at < length tasks = slice_get_within tasks at task there in
     let w = waits (get_or tasks place task) (slice_get-get_or tasks place task (omega arith)) in
     elim (cases_eq place at) [
       | inl e ↦
           let is : get_or tasks place task ≡ task = ap (λ (k : ℕ). get_or tasks k task) e ∙ get_or_from_slice_get tasks at task task there in
-          tell-or-await task.deed flag w.0 deed (ap (λ (t : RunTask). t.deed) (sym is) ∙ w.1)
+          tell-or-await task.run_action flag w.0 run_action (ap (λ (t : RunTask). t.run_action) (sym is) ∙ w.1)
       | inr n ↦
           let less : place < at = omega (arith, n) in
           let inside : place < length (take at tasks) = rw length-take (omega arith) in
           let is : get_or (take at tasks) place task ≡ get_or tasks place task = get_or-take at tasks place task less in
-          let passed = subst (λ (t : RunTask). t.dom.0 ≡ task.dom.0 → IsPassed (HasFlag told) t.deed) is (before place task inside) (w.2 ∙ sym own) in
+          let passed = subst (λ (t : RunTask). t.dom.0 ≡ task.dom.0 → IsPassed (HasFlag told) t.run_action) is (before place task inside) (w.2 ∙ sym own) in
           cc (at-await told _ w.0 w.1 passed, w.3)
     ]
 
 closed-at : (tasks : List RunTask) (domains : List DomainConfig) (places : List ℕ) (told : List Bool) → HaveCome tasks domains places told
     → ((i : ℕ) (d : DomainConfig) → i < length domains → slice_get domains i ≡ Some d → WaitsFor tasks d.id (get_or places i 0) told)
-    → (i at : ℕ) (d : DomainConfig) (task : RunTask) (flag : ℕ) → slice_get domains i ≡ Some d → task.dom.0 ≡ d.id.0 → slice_get tasks at ≡ Some task → task.deed ≡ Tell flag
+    → (i at : ℕ) (d : DomainConfig) (task : RunTask) (flag : ℕ) → slice_get domains i ≡ Some d → task.dom.0 ≡ d.id.0 → slice_get tasks at ≡ Some task → task.run_action ≡ Tell flag
     → PassesAll (HasFlag told) task.dom (take at tasks) → HasFlag told flag
-closed-at tasks domains places told have rest i at d task flag known own there deed before = elim (cases_lt at (get_or places i 0)) [
-  | inl less ↦ behind tasks d.id (get_or places i 0) at task flag told (have i d known).1 there own deed less
-  | inr past ↦ absurd (ahead tasks d.id (get_or places i 0) at task flag told (rest i d (slice_get_within domains i d known) known) there own deed before past)
+closed-at tasks domains places told have rest i at d task flag known own there run_action before = elim (cases_lt at (get_or places i 0)) [
+  | inl less ↦ behind tasks d.id (get_or places i 0) at task flag told (have i d known).1 there own run_action less
+  | inr past ↦ absurd (ahead tasks d.id (get_or places i 0) at task flag told (rest i d (slice_get_within domains i d known) known) there own run_action before past)
 ]
 
 pub closed-told : (tasks : List RunTask) (domains : List DomainConfig) (places : List ℕ) (old told : List Bool) (news : Bool) → All (λ (t : RunTask). IsTrue (is_taken domains t.dom)) tasks
     → Turning tasks domains places old told (length domains) news → news ≡ false → IsClosedFlagSet tasks (flag_holds told)
-closed-told tasks domains places old told news known t e at task flag there deed before =
+closed-told tasks domains places old told news known t e at task flag there run_action before =
     let within : at < length tasks = slice_get_within tasks at task there in
     let is : get_or tasks at task ≡ task = get_or_from_slice_get tasks at task task there in
     let taken : is_taken domains task.dom ≡ true = subst (λ (x : RunTask). is_taken domains x.dom ≡ true) is (known at task within) in
     let (i, d, below, same, own) = Any-from_list_any (λ (y : DomainConfig). y.id.0 == task.dom.0) domains taken in
     let here : slice_get domains i ≡ Some d = slice_get-get_or domains i d below ∙ ap Some same in
-    closed-at tasks domains places told t.have (t.rest e) i at d task flag here (sym (eqb-true d.id.0 task.dom.0 own)) there deed before
+    closed-at tasks domains places told t.have (t.rest e) i at d task flag here (sym (eqb-true d.id.0 task.dom.0 own)) there run_action before
 
 -- flags that are told in the least closed set
 
@@ -366,7 +366,7 @@ passed-as A B to (Await flag) h = to flag h
 
 all-passed-as : (A B : ℕ → Type 0) → ((f : ℕ) → A f → B f) → (dom : DomId) (tasks : List RunTask) → PassesAll A dom tasks → PassesAll B dom tasks
 all-passed-as A B to dom tasks h =
-    All-weaker (λ (t : RunTask). t.dom.0 ≡ dom.0 → IsPassed A t.deed) (λ (t : RunTask). t.dom.0 ≡ dom.0 → IsPassed B t.deed) (λ t p own. passed-as A B to t.deed (p own)) tasks h
+    All-weaker (λ (t : RunTask). t.dom.0 ≡ dom.0 → IsPassed A t.run_action) (λ (t : RunTask). t.dom.0 ≡ dom.0 → IsPassed B t.run_action) (λ t p own. passed-as A B to t.run_action (p own)) tasks h
 
 all-end-as : (A B : ℕ → Type 0) → ((f : ℕ) → A f → B f) → (tasks : List RunTask) (domains : List DomainConfig) → AllEnd A tasks domains → AllEnd B tasks domains
 all-end-as A B to tasks domains h =

@@ -24,28 +24,28 @@ use Rattle.gt_script.specs.declared.run_script.RunScript.{RunScript}
 use Rattle.gt_script.proofs.FlagLemmas.{tasks-numbered, tasks-known}
 
 -- the numbers of the flags of these tasks are below their count
-pub numbered : (orders : List NamedRunTask) (count : ℕ) (tasks : List RunTask) → count ≡ length (flag_names_of orders) → tasks ≡ tasks_numbered orders → AreNumbered count tasks
-numbered orders count tasks many is =
-    subst (λ (n : ℕ). AreNumbered n tasks) (sym many) (subst (λ (ts : List RunTask). AreNumbered (length (flag_names_of orders)) ts) (sym is) (tasks-numbered orders))
+pub numbered : (named_tasks : List NamedRunTask) (count : ℕ) (tasks : List RunTask) → count ≡ length (flag_names_of named_tasks) → tasks ≡ tasks_numbered named_tasks → AreNumbered count tasks
+numbered named_tasks count tasks many is =
+    subst (λ (n : ℕ). AreNumbered n tasks) (sym many) (subst (λ (ts : List RunTask). AreNumbered (length (flag_names_of named_tasks)) ts) (sym is) (tasks-numbered named_tasks))
 
 -- their domains are those of the lines
-pub known : (orders : List NamedRunTask) (domains : List DomainConfig) (tasks : List RunTask) → tasks ≡ tasks_numbered orders → All (λ (o : NamedRunTask). IsTrue (is_taken domains o.dom)) orders
+pub known : (named_tasks : List NamedRunTask) (domains : List DomainConfig) (tasks : List RunTask) → tasks ≡ tasks_numbered named_tasks → All (λ (o : NamedRunTask). IsTrue (is_taken domains o.dom)) named_tasks
     → All (λ (t : RunTask). IsTrue (is_taken domains t.dom)) tasks
-known orders domains tasks is h =
-    subst (λ (ts : List RunTask). All (λ (t : RunTask). IsTrue (is_taken domains t.dom)) ts) (sym is) (tasks-known (λ dom. IsTrue (is_taken domains dom)) (flag_names_of orders) orders h)
+known named_tasks domains tasks is h =
+    subst (λ (ts : List RunTask). All (λ (t : RunTask). IsTrue (is_taken domains t.dom)) ts) (sym is) (tasks-known (λ dom. IsTrue (is_taken domains dom)) (flag_names_of named_tasks) named_tasks h)
 
 -- what contents say whose lines are these
 
-ends-in : (c : Contents) (orders : List NamedRunTask) (domains : List DomainConfig) → orders ≡ c.orders → domains ≡ c.domains → ComeToEnd (tasks_numbered orders) domains → ComeToEnd (tasks_of c) c.domains
-ends-in c orders domains same set h =
+ends-in : (c : Contents) (named_tasks : List NamedRunTask) (domains : List DomainConfig) → named_tasks ≡ c.named_tasks → domains ≡ c.domains → ComeToEnd (tasks_numbered named_tasks) domains → ComeToEnd (tasks_of c) c.domains
+ends-in c named_tasks domains same set h =
     subst (λ (ds : List DomainConfig). ComeToEnd (tasks_of c) ds) set (subst (λ (os : List NamedRunTask). ComeToEnd (tasks_numbered os) domains) same h)
 
-pub says-run : (c head : Contents) (orders : List NamedRunTask) (domains : List DomainConfig) (tasks : List RunTask) (flags : ℕ) → orders ≡ c.orders → head ≡ without_orders c → domains ≡ head.domains
-    → tasks ≡ tasks_numbered orders → flags ≡ length (flag_names_of orders) → ComeToEnd (tasks_numbered orders) domains → ContentsReadAs c (Ok (record { head = head; tasks = tasks; flags = flags }))
-says-run c head orders domains tasks flags same front set made many h =
+pub says-run : (c head : Contents) (named_tasks : List NamedRunTask) (domains : List DomainConfig) (tasks : List RunTask) (flags : ℕ) → named_tasks ≡ c.named_tasks → head ≡ without_orders c → domains ≡ head.domains
+    → tasks ≡ tasks_numbered named_tasks → flags ≡ length (flag_names_of named_tasks) → ComeToEnd (tasks_numbered named_tasks) domains → ContentsReadAs c (Ok (record { head = head; tasks = tasks; flags = flags }))
+says-run c head named_tasks domains tasks flags same front set made many h =
     let made_in : tasks ≡ tasks_of c = made ∙ ap (λ (os : List NamedRunTask). tasks_numbered os) same in
-    let many_in : flags ≡ length (flag_names_of c.orders) = many ∙ ap (λ (os : List NamedRunTask). length (flag_names_of os)) same in
-    (ends-in c orders domains same (set ∙ ap (λ (k : Contents). k.domains) front) h, rw (made_in, front, many_in) refl)
+    let many_in : flags ≡ length (flag_names_of c.named_tasks) = many ∙ ap (λ (os : List NamedRunTask). length (flag_names_of os)) same in
+    (ends-in c named_tasks domains same (set ∙ ap (λ (k : Contents). k.domains) front) h, rw (made_in, front, many_in) refl)
 
 -- what the bytes tell
 
@@ -77,13 +77,13 @@ head-configures lines c (Ok s) of h =
     subst (λ (k : Contents). CanConfigure k) (sym head) (can-configure lines c of)
 head-configures lines c (Err e) of h = tt
 
-pub ordered : (lines : List (List ℕ)) (c : Contents) → IsScriptFor Run lines c → All (λ (o : NamedRunTask). IsTrue (is_taken c.domains o.dom)) c.orders
+pub ordered : (lines : List (List ℕ)) (c : Contents) → IsScriptFor Run lines c → All (λ (o : NamedRunTask). IsTrue (is_taken c.domains o.dom)) c.named_tasks
 ordered lines c (inl s) = s.parts.ordered
 ordered lines c (inr s) = s.parts.ordered
 
 -- each flag that a task of a script for `run` names is one of the script's
 pub flags-numbered : (c : Contents) (r : Result RunScript ScriptError) → RunAnswers r (ContentsReadAs c) → IfOk r (λ s. AreNumbered s.flags s.tasks)
-flags-numbered c (Ok s) h = numbered c.orders s.flags s.tasks (ap (λ (k : RunContents). k.flags) h.1) (ap (λ (k : RunContents). k.tasks) h.1)
+flags-numbered c (Ok s) h = numbered c.named_tasks s.flags s.tasks (ap (λ (k : RunContents). k.flags) h.1) (ap (λ (k : RunContents). k.tasks) h.1)
 flags-numbered c (Err e) h = tt
 
 -- the list of a domain after one task more

@@ -30,8 +30,8 @@ module _ (Told : ℕ → Type 0) (tasks : List RunTask) where
   waits-not dom line all w =
       let within : w.at < length tasks = slice_get_within tasks w.at w.task w.there in
       let is : get_or tasks w.at w.task ≡ w.task = get_or_from_slice_get tasks w.at w.task w.task w.there in
-      w.unraised (passed w.task.deed w.flag w.awaits
-      (subst (λ (t : RunTask). t.dom.0 ≡ dom.0 → IsPassed Told t.deed) is (all w.at w.task within) w.own))
+      w.unraised (passed w.task.run_action w.flag w.awaits
+      (subst (λ (t : RunTask). t.dom.0 ≡ dom.0 → IsPassed Told t.run_action) is (all w.at w.task within) w.own))
 
   -- nor at one of those that it got beyond
   waits-later : (dom : DomId) (one other : ℕ) (v : WaitsAt Told tasks dom one) (w : WaitsAt Told tasks dom other) → v.at < w.at → ⊥
@@ -39,8 +39,8 @@ module _ (Told : ℕ → Type 0) (tasks : List RunTask) where
       let within : w.at < length tasks = slice_get_within tasks w.at w.task w.there in
       let inside : v.at < length (take w.at tasks) = rw length-take (omega arith) in
       let is : get_or (take w.at tasks) v.at v.task ≡ v.task = get_or-take w.at tasks v.at v.task less ∙ get_or_from_slice_get tasks v.at v.task v.task v.there in
-      v.unraised (passed v.task.deed v.flag v.awaits
-      (subst (λ (t : RunTask). t.dom.0 ≡ dom.0 → IsPassed Told t.deed) is (w.before v.at v.task inside) v.own))
+      v.unraised (passed v.task.run_action v.flag v.awaits
+      (subst (λ (t : RunTask). t.dom.0 ≡ dom.0 → IsPassed Told t.run_action) is (w.before v.at v.task inside) v.own))
 
   same-task : (at : ℕ) (one other : RunTask) → slice_get tasks at ≡ Some one → slice_get tasks at ≡ Some other → one ≡ other
   same-task at one other there also =

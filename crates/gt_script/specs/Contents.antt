@@ -11,7 +11,7 @@ use Rattle.gt_script.specs.declared.script.ScriptStep.{ScriptStep}
 
 -- the command of the script; the policy of its block, if it has one; else the names of its types, by their
 -- numbers, and its triples; the number of its line `wear`, if it has one; its domains; the lines of its body,
--- which are steps for `play` and orders for `run`; all in the order of their lines
+-- which are steps for `play` and tasks for `run`; all in the order of their lines
 pub record Contents : Type 0 where
   pub command : ScriptCommand
   pub policy : Option Allowed
@@ -20,7 +20,7 @@ pub record Contents : Type 0 where
   pub wear : Option ℕ
   pub domains : List DomainConfig
   pub steps : List ScriptStep
-  pub orders : List NamedRunTask
+  pub named_tasks : List NamedRunTask
 
 -- the same, with the policy as it is kept
 pub record KeptContents : Type 0 where
@@ -31,7 +31,7 @@ pub record KeptContents : Type 0 where
   pub wear : Option ℕ
   pub domains : List DomainConfig
   pub steps : List ScriptStep
-  pub orders : List NamedRunTask
+  pub named_tasks : List NamedRunTask
 
 -- the contents of a kept script
 abbrev pub contents_of : KeptContents → Contents
@@ -43,7 +43,7 @@ contents_of k = record {
   wear = k.wear;
   domains = k.domains;
   steps = k.steps;
-  orders = k.orders;
+  named_tasks = k.named_tasks;
 }
 
 -- a script without lines, for this command
@@ -57,7 +57,7 @@ empty command =
       wear = None;
       domains = [];
       steps = [];
-      orders = [];
+      named_tasks = [];
     }
 
 -- a script with only a policy block
@@ -66,7 +66,7 @@ with_policy command p = record (empty command) { policy = Some p }
 
 -- a script without the lines of its body for `run`
 abbrev pub without_orders : Contents → Contents
-without_orders c = record c { orders = [] }
+without_orders c = record c { named_tasks = [] }
 
 -- the names of the types: those of the policy, or else these
 abbrev pub type_names_with : Option Allowed → List (List ℕ) → List (List ℕ)

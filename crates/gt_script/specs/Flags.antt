@@ -28,7 +28,7 @@ with_flag_of names (run_actions.Await flag) = with_flag names flag
 
 -- the names of the flags of these lines, each once, in the order in which they first appear
 abbrev pub flag_names_of : List NamedRunTask → List (List ℕ)
-flag_names_of orders = fold with_flag [] (filter_map (λ o. flag_in o.deed) orders)
+flag_names_of named_tasks = fold with_flag [] (filter_map (λ o. flag_in o.run_action) named_tasks)
 
 -- the number of a flag: the index of its name
 unfoldable pub flag_number : List (List ℕ) → List ℕ → ℕ

@@ -52,13 +52,13 @@ step_for Play n number asks = do
   Some (record { line = n; dom = record { 0 = id }; action = action })
 step_for Run n number asks = None
 
--- the order of line n in a script for this command, if it is one
-abbrev pub order_for : ScriptCommand → ℕ → Number → BodyLine → Option NamedRunTask
-order_for Play n number asks = None
-order_for Run n number asks = do
+-- the task of line n in a script for this command, if it is one
+abbrev pub named_task_for : ScriptCommand → ℕ → Number → BodyLine → Option NamedRunTask
+named_task_for Play n number asks = None
+named_task_for Run n number asks = do
   id ← number_below (2 ^ 16) number
-  order ← run_action_in asks
-  Some (record { line = n; dom = record { 0 = id }; deed = order })
+  action ← run_action_in asks
+  Some (record { line = n; dom = record { 0 = id }; run_action = action })
 
 -- the step of line n, if it is a line of the body of a script for `play`
 abbrev pub step_on : ScriptCommand → ℕ → ScriptLine → Option ScriptStep
@@ -67,12 +67,12 @@ step_on command n (script_lines.Wear first) = None
 step_on command n (script_lines.Domain d) = None
 step_on command n (script_lines.Body number asks) = step_for command n number asks
 
--- the order of line n, if it is a line of the body of a script for `run`
-abbrev pub order_on : ScriptCommand → ℕ → ScriptLine → Option NamedRunTask
-order_on command n (script_lines.Triple t) = None
-order_on command n (script_lines.Wear first) = None
-order_on command n (script_lines.Domain d) = None
-order_on command n (script_lines.Body number asks) = order_for command n number asks
+-- the task of line n, if it is a line of the body of a script for `run`
+abbrev pub named_task_on : ScriptCommand → ℕ → ScriptLine → Option NamedRunTask
+named_task_on command n (script_lines.Triple t) = None
+named_task_on command n (script_lines.Wear first) = None
+named_task_on command n (script_lines.Domain d) = None
+named_task_on command n (script_lines.Body number asks) = named_task_for command n number asks
 
 -- a line of the body is for this command
 abbrev pub asks_for : ScriptCommand → BodyLine → Bool
@@ -98,12 +98,12 @@ pub record GiveParts (n : ℕ) (lines : List (List ℕ)) (c : Contents) : Type 0
   pub wear : option_to_list c.wear ≡ filter_map (λ l. wear_in l.1) (lines_said n lines)
   pub domains : c.domains ≡ filter_map (λ l. domain_in (type_names c) l.1) (lines_said n lines)
   pub steps : c.steps ≡ filter_map (λ l. step_on c.command l.0 l.1) (lines_said n lines)
-  pub orders : c.orders ≡ filter_map (λ l. order_on c.command l.0 l.1) (lines_said n lines)
+  pub named_tasks : c.named_tasks ≡ filter_map (λ l. named_task_on c.command l.0 l.1) (lines_said n lines)
   pub suited : All (λ l. IsTrue (is_for c.command l.1)) (lines_said n lines)
   pub faultless : AreFaultless c.domains
   pub generation : first_gen c ≤ LAST_GENERATION
   pub configured : All (λ s. IsTrue (is_taken c.domains s.dom)) c.steps
-  pub ordered : All (λ o. IsTrue (is_taken c.domains o.dom)) c.orders
+  pub ordered : All (λ o. IsTrue (is_taken c.domains o.dom)) c.named_tasks
   pub some_domain : 1 ≤ length c.domains
 
 -- The lines are those of this script for the command, and its rights are triples:

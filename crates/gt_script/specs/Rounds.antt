@@ -55,7 +55,7 @@ is_new told (Await flag) = false
 
 -- the domain has come to this position: the flags of its tasks before it are raised
 abbrev pub Comes : List RunTask → DomId → ℕ → List Bool → Type 0
-Comes tasks dom place told = All (λ t. t.dom.0 ≡ dom.0 → IsDone told t.deed) (take place tasks)
+Comes tasks dom place told = All (λ t. t.dom.0 ≡ dom.0 → IsDone told t.run_action) (take place tasks)
 
 -- a domain moved to this position and raised the flags of its tasks there; `is_news`: one was new
 pub record WayTo (tasks : List RunTask) (dom : DomId) (old new : List Bool) (place : ℕ) (is_news : Bool) : Type 0 where
@@ -69,7 +69,7 @@ pub record WayTo (tasks : List RunTask) (dom : DomId) (old new : List Bool) (pla
 -- a domain at this position waits for a flag that is not raised, unless it is at the end of the tasks
 abbrev pub WaitsFor : List RunTask → DomId → ℕ → List Bool → Type 0
 WaitsFor tasks dom place told = (task : RunTask) → slice_get tasks place ≡ Some task
-    → (flag : ℕ) × (task.deed ≡ Await flag) × (task.dom.0 ≡ dom.0) × (flag_holds told flag ≡ false)
+    → (flag : ℕ) × (task.run_action ≡ Await flag) × (task.dom.0 ≡ dom.0) × (flag_holds told flag ≡ false)
 
 -- a domain moved as far as the raised flags let it
 abbrev pub TurnGoesOn : List RunTask → DomId → List Bool → List Bool → ℕ → Bool → Type 0

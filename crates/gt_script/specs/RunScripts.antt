@@ -29,7 +29,7 @@ list_of tasks dom = filter (λ t. t.dom.0 == dom.0) tasks
 
 -- the script for `run` of contents that were read for `run`; flags are numbered as they first appear
 abbrev pub run_of : Contents → RunContents
-run_of c = record { head = without_orders c; tasks = tasks_of c; flags = length (flag_names_of c.orders) }
+run_of c = record { head = without_orders c; tasks = tasks_of c; flags = length (flag_names_of c.named_tasks) }
 
 -- each domain comes to the end of its list
 abbrev pub ComeToEnd : List RunTask → List DomainConfig → Type 0

@@ -37,7 +37,7 @@ has_no_rights c = is_none c.policy && is_empty c.triples
 
 -- a line of the body was read
 unfoldable pub has_body : Contents → Bool
-has_body c = not (is_empty c.steps) || not (is_empty c.orders)
+has_body c = not (is_empty c.steps) || not (is_empty c.named_tasks)
 
 -- the policy or triples come first, then at most one line `wear`, then domains, then the body
 unfoldable pub is_misplaced : Contents → ScriptLine → Bool
@@ -123,16 +123,16 @@ with_domain_line c n dom asks = or_mode (do
   action ← play_action_in asks
   Some (record c { steps = c.steps ++ record { line = n; dom = dom; action = action } ∷ [] }))
 
--- a script for `run` with one more order, on line n
-unfoldable pub with_order : Contents → ℕ → DomId → BodyLine → Result Contents ScriptFaultKind
-with_order c n dom asks = or_mode (do
-  order ← run_action_in asks
-  Some (record c { orders = c.orders ++ record { line = n; dom = dom; deed = order } ∷ [] }))
+-- a script for `run` with one more task, on line n
+unfoldable pub with_named_task : Contents → ℕ → DomId → BodyLine → Result Contents ScriptFaultKind
+with_named_task c n dom asks = or_mode (do
+  action ← run_action_in asks
+  Some (record c { named_tasks = c.named_tasks ++ record { line = n; dom = dom; run_action = action } ∷ [] }))
 
 -- a script for this command with one more line of the body
 abbrev pub with_asked : ScriptCommand → Contents → ℕ → DomId → BodyLine → Result Contents ScriptFaultKind
 with_asked Play c n dom asks = with_domain_line c n dom asks
-with_asked Run c n dom asks = with_order c n dom asks
+with_asked Run c n dom asks = with_named_task c n dom asks
 
 -- the script with one more line of the body, whose domain is configured
 unfoldable pub with_body_line : Contents → ℕ → Number → BodyLine → Result Contents ScriptFaultKind

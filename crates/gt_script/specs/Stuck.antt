@@ -13,7 +13,7 @@ IsBelow count (Await flag) = flag < count
 
 -- the flags of these tasks are below this number
 abbrev pub AreNumbered : ℕ → List RunTask → Type 0
-AreNumbered count tasks = All (λ t. IsBelow count t.deed) tasks
+AreNumbered count tasks = All (λ t. IsBelow count t.run_action) tasks
 
 -- A domain gets beyond a task if these flags are raised: it waits only at a
 -- task that awaits another flag.
@@ -24,13 +24,13 @@ IsPassed Told (Await flag) = Told flag
 
 -- a domain gets beyond all its own tasks among these
 abbrev pub PassesAll : (ℕ → Type 0) → DomId → List RunTask → Type 0
-PassesAll Told dom tasks = All (λ t. t.dom.0 ≡ dom.0 → IsPassed Told t.deed) tasks
+PassesAll Told dom tasks = All (λ t. t.dom.0 ≡ dom.0 → IsPassed Told t.run_action) tasks
 
 -- A set of flags is closed: it has each flag that a task raises, if the
 -- domain gets beyond all its tasks before that one.
 abbrev pub IsClosedFlagSet : List RunTask → (ℕ → Bool) → Type 0
 IsClosedFlagSet tasks set = (at : ℕ) (task : RunTask) (flag : ℕ) → slice_get tasks at ≡ Some task
-    → task.deed ≡ Tell flag → PassesAll (λ f. IsTrue (set f)) task.dom (take at tasks) → IsTrue (set flag)
+    → task.run_action ≡ Tell flag → PassesAll (λ f. IsTrue (set f)) task.dom (take at tasks) → IsTrue (set flag)
 
 -- a flag comes to be raised: it is in each closed set, so in the least one
 abbrev pub IsRaisable : List RunTask → ℕ → Type 0
@@ -48,7 +48,7 @@ pub record WaitsAt (Told : ℕ → Type 0) (tasks : List RunTask) (dom : DomId) 
   pub there : slice_get tasks at ≡ Some task
   pub own : task.dom.0 ≡ dom.0
   pub number : task.line ≡ line
-  pub awaits : task.deed ≡ Await flag
+  pub awaits : task.run_action ≡ Await flag
   pub before : PassesAll Told dom (take at tasks)
   pub unraised : ¬ Told flag
 

@@ -78,16 +78,16 @@ impl<'a> RunScript<'a> {
 // Numbers the flags of tasks, and checks that each domain can reach the end of its list.
 fn tasks_to_end<'a>(
     alloc: Global,
-    orders: Vec<NamedRunTask<'a>>,
+    named_tasks: Vec<NamedRunTask<'a>>,
     domains: &[DomainConfig],
 ) -> Result<(Vec<RunTask<'a>>, usize), ScriptError>
-    requires { All (λ o. IsTrue (is_taken domains.now o.dom)) orders.items }
-    ensures tasks { IfOk result (λ made. made.0.items ≡ tasks_numbered orders.entry.items) }
-    ensures flags { IfOk result (λ made. made.1 ≡ length (flag_names_of orders.entry.items)) }
-    ensures end { IfOk result (λ _. ComeToEnd (tasks_numbered orders.entry.items) domains.now) }
-    ensures stuck { IfErr result (λ e. IsStuckError (tasks_numbered orders.entry.items) domains.now e) }
+    requires { All (λ o. IsTrue (is_taken domains.now o.dom)) named_tasks.items }
+    ensures tasks { IfOk result (λ made. made.0.items ≡ tasks_numbered named_tasks.entry.items) }
+    ensures flags { IfOk result (λ made. made.1 ≡ length (flag_names_of named_tasks.entry.items)) }
+    ensures end { IfOk result (λ _. ComeToEnd (tasks_numbered named_tasks.entry.items) domains.now) }
+    ensures stuck { IfErr result (λ e. IsStuckError (tasks_numbered named_tasks.entry.items) domains.now e) }
 {
-    let (tasks, flags) = tasks_for(alloc, orders)?;
+    let (tasks, flags) = tasks_for(alloc, named_tasks)?;
     match stuck_line(alloc, tasks.as_slice(), domains, flags)? {
         None => Ok((tasks, flags)),
         Some(line) => Err(ScriptError::Fault(ScriptFault {
@@ -99,11 +99,11 @@ fn tasks_to_end<'a>(
 
 // Makes the script for `run` of a script that was parsed for `run`.
 fn of_script<'a>(alloc: Global, mut script: Script<'a>) -> Result<RunScript<'a>, ScriptError>
-    requires { All (λ o. IsTrue (is_taken (contents_of script).domains o.dom)) (contents_of script).orders }
+    requires { All (λ o. IsTrue (is_taken (contents_of script).domains o.dom)) (contents_of script).named_tasks }
     ensures { RunAnswers result (ContentsReadAs (contents_of script.entry)) }
 {
-    let orders = script.take_orders(alloc);
-    match tasks_to_end(alloc, orders, script.domains()) {
+    let named_tasks = script.take_named_tasks(alloc);
+    match tasks_to_end(alloc, named_tasks, script.domains()) {
         Ok((tasks, flags)) => Ok(RunScript {
             head: script,
             tasks,

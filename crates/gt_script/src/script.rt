@@ -36,7 +36,7 @@ pub struct Script<'a> {
     wear: Option<u32>,
     domains: Vec<DomainConfig>,
     steps: Vec<ScriptStep<'a>>,
-    orders: Vec<NamedRunTask<'a>>,
+    named_tasks: Vec<NamedRunTask<'a>>,
 }
 
 impl<'a> Model for Script<'a> {
@@ -52,7 +52,7 @@ impl<'a> Model for Script<'a> {
       wear = s.wear;
       domains = s.domains.items;
       steps = s.steps.items;
-      orders = s.orders.items;
+      named_tasks = s.named_tasks.items;
     } };
 }
 
@@ -120,7 +120,7 @@ impl<'a> Script<'a> {
     ghost use Rattle.gt_policy.specs.Kept.{allowed_of};
     ghost use Rattle.gt_script.specs.Contents.{contents_of, empty, with_policy, without_orders, type_names};
     ghost use Rattle.gt_script.specs.Contents.{first_gen};
-    ghost use Rattle.gt_script.specs.Script.{with_triple, GivesTypeNumber, with_domain, with_domain_line, with_order};
+    ghost use Rattle.gt_script.specs.Script.{with_triple, GivesTypeNumber, with_domain, with_domain_line, with_named_task};
     ghost use Rattle.gt_script.specs.Script.{with_body_line, with_script_line, with_words};
     ghost use Rattle.gt_script.specs.Script.{completed, whole_script};
     ghost use Rattle.gt_script.specs.Script.{has_no_rights, has_body, is_misplaced};
@@ -137,7 +137,7 @@ impl<'a> Script<'a> {
             wear: None,
             domains: Vec::new(alloc),
             steps: Vec::new(alloc),
-            orders: Vec::new(alloc),
+            named_tasks: Vec::new(alloc),
         }
     }
 
@@ -190,11 +190,11 @@ impl<'a> Script<'a> {
     }
 
     // Takes the lines of the body for `run` out of the script.
-    pub(crate) fn take_orders(&mut self, alloc: Global) -> Vec<NamedRunTask<'a>>
+    pub(crate) fn take_named_tasks(&mut self, alloc: Global) -> Vec<NamedRunTask<'a>>
         ensures head { contents_of self.new ≡ without_orders (contents_of self.old) }
-        ensures orders { result.items ≡ (contents_of self.old).orders }
+        ensures named_tasks { result.items ≡ (contents_of self.old).named_tasks }
     {
-        mem::replace(&mut self.orders, Vec::new(alloc))
+        mem::replace(&mut self.named_tasks, Vec::new(alloc))
     }
 
     /// Returns the steps of the body, in order.
@@ -258,15 +258,24 @@ impl<'a> Script<'a> {
         Ok(())
     }
 
-    #[tactic(auto, unfolding(crate::specs::Script::with_order))]
-    fn add_order(&mut self, line: usize, dom: DomId, asks: BodyLine<'a>) -> Result<(), AddError>
+    #[tactic(auto, unfolding(crate::specs::Script::with_named_task))]
+    fn add_named_task(
+        &mut self,
+        line: usize,
+        dom: DomId,
+        asks: BodyLine<'a>,
+    ) -> Result<(), AddError>
         ensures { AddsLine result (contents_of self.new)
-            (with_order (contents_of self.old) line dom asks.entry) }
+            (with_named_task (contents_of self.old) line dom asks.entry) }
     {
-        let Some(deed) = run_action_in(asks) else {
+        let Some(run_action) = run_action_in(asks) else {
             return Err(AddError::Fault(ScriptFaultKind::Mode));
         };
-        self.orders.push(NamedRunTask { line, dom, deed })?;
+        self.named_tasks.push(NamedRunTask {
+            line,
+            dom,
+            run_action,
+        })?;
         Ok(())
     }
 
@@ -280,7 +289,7 @@ impl<'a> Script<'a> {
         };
         match self.command {
             ScriptCommand::Play => self.add_step(line, dom, asks),
-            ScriptCommand::Run => self.add_order(line, dom, asks),
+            ScriptCommand::Run => self.add_named_task(line, dom, asks),
         }
     }
 
@@ -295,7 +304,7 @@ impl<'a> Script<'a> {
     fn has_body(&self) -> bool
         ensures { result ≡ has_body (contents_of self.now) }
     {
-        !self.steps.is_empty() || !self.orders.is_empty()
+        !self.steps.is_empty() || !self.named_tasks.is_empty()
     }
 
     #[tactic(auto, unfolding(crate::specs::Script::is_misplaced))]

@@ -37,11 +37,11 @@ impl ListPositions {
 
     // Returns whether a domain waits at this action.
     #[tactic(auto, unfolding(crate::specs::Rounds::is_waiting))]
-    fn is_waiting(&self, deed: &RunAction) -> bool
-        requires { IsBelow (length self.now.told.items) deed.now }
-        ensures { result ≡ is_waiting self.now.told.items deed.now }
+    fn is_waiting(&self, run_action: &RunAction) -> bool
+        requires { IsBelow (length self.now.told.items) run_action.now }
+        ensures { result ≡ is_waiting self.now.told.items run_action.now }
     {
-        match deed {
+        match run_action {
             RunAction::Do(_) | RunAction::Tell(_) => false,
             RunAction::Await(flag) => !self.told[*flag],
         }
@@ -49,13 +49,13 @@ impl ListPositions {
 
     // Raises the flag of this action, if it raises one. Returns whether the flag is newly raised.
     #[tactic(auto, unfolding(crate::specs::Rounds::raised_after, crate::specs::Rounds::is_new))]
-    fn tell(&mut self, deed: &RunAction) -> bool
-        requires { IsBelow (length self.old.told.items) deed.now }
-        ensures told { self.new.told.items ≡ raised_after self.old.told.items deed.now }
+    fn tell(&mut self, run_action: &RunAction) -> bool
+        requires { IsBelow (length self.old.told.items) run_action.now }
+        ensures told { self.new.told.items ≡ raised_after self.old.told.items run_action.now }
         ensures places { self.new.places.items ≡ self.old.places.items }
-        ensures news { result ≡ is_new self.old.told.items deed.now }
+        ensures news { result ≡ is_new self.old.told.items run_action.now }
     {
-        match deed {
+        match run_action {
             RunAction::Do(_) | RunAction::Await(_) => false,
             RunAction::Tell(flag) => {
                 let was_told = self.told[*flag];
@@ -77,10 +77,10 @@ impl ListPositions {
         'tasks: for place in from..tasks.len() {
             let task = &tasks[place];
             if is_own(task, dom) {
-                if self.is_waiting(&task.deed) {
+                if self.is_waiting(&task.run_action) {
                     return DomainProgress { place, is_news };
                 }
-                is_news |= self.tell(&task.deed);
+                is_news |= self.tell(&task.run_action);
             }
         }
         DomainProgress {
@@ -140,7 +140,7 @@ fn waiting_line(tasks: &[RunTask], dom: DomId, told: &[bool]) -> Option<usize>
 {
     'tasks: for task in tasks {
         if task.dom == dom {
-            if let RunAction::Await(flag) = task.deed {
+            if let RunAction::Await(flag) = task.run_action {
                 if !told[flag] {
                     return Some(task.line);
                 }

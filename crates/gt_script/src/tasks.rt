@@ -1,7 +1,7 @@
 //! The tasks of the domains of a script for `run`.
 ghost use Rattle.std.specs.Prelude.{◌≡◌, [], ◌∷◌, ◌++◌, length, IfOk, OnOk};
 ghost use Rattle.gt_script.specs.Flags.{flag_names_of, with_flag_of};
-ghost use Rattle.gt_script.specs.Tasks.{deed_of, task_of, tasks_numbered};
+ghost use Rattle.gt_script.specs.Tasks.{action_of, task_of, tasks_numbered};
 
 use crate::flags::FlagNames;
 use gt_script_lines::{ScriptCall, Text};
@@ -24,7 +24,7 @@ pub enum RunActionBy<'a, F> {
 pub struct RunTaskBy<'a, F> {
     pub line: usize,
     pub dom: DomId,
-    pub deed: RunActionBy<'a, F>,
+    pub run_action: RunActionBy<'a, F>,
 }
 
 /// A task as it is written, its flag by name.
@@ -37,15 +37,15 @@ pub type RunAction<'a> = RunActionBy<'a, usize>;
 pub type RunTask<'a> = RunTaskBy<'a, usize>;
 
 // Replaces the name of a flag by its number.
-#[tactic(auto, unfolding(crate::specs::Tasks::deed_of))]
-fn deed_of<'a>(
+#[tactic(auto, unfolding(crate::specs::Tasks::action_of))]
+fn action_of<'a>(
     flags: &mut FlagNames<'a>,
-    deed: RunActionBy<'a, Text<'a>>,
+    run_action: RunActionBy<'a, Text<'a>>,
 ) -> Result<RunAction<'a>, AllocError>
-    ensures flags { OnOk result (flags.new ≡ with_flag_of flags.old deed.entry) }
-    ensures deed { IfOk result (λ d. d ≡ deed_of flags.new deed.entry) }
+    ensures flags { OnOk result (flags.new ≡ with_flag_of flags.old run_action.entry) }
+    ensures run_action { IfOk result (λ d. d ≡ action_of flags.new run_action.entry) }
 {
-    match deed {
+    match run_action {
         RunActionBy::Do(call) => Ok(RunAction::Do(call)),
         RunActionBy::Tell(flag) => Ok(RunAction::Tell(flags.number(flag.as_bytes())?)),
         RunActionBy::Await(flag) => Ok(RunAction::Await(flags.number(flag.as_bytes())?)),
@@ -55,15 +55,23 @@ fn deed_of<'a>(
 fn push_task<'a>(
     tasks: &mut Vec<RunTask<'a>>,
     flags: &mut FlagNames<'a>,
-    order: NamedRunTask<'a>,
+    named_task: NamedRunTask<'a>,
 ) -> Result<(), AllocError>
-    ensures flags { OnOk result (flags.new ≡ with_flag_of flags.old order.entry.deed) }
-    ensures tasks { OnOk result (tasks.new.items ≡ tasks.old.items ++ task_of flags.new order.entry ∷ []) }
+    ensures flags { OnOk result (flags.new ≡ with_flag_of flags.old named_task.entry.run_action) }
+    ensures tasks { OnOk result (tasks.new.items ≡ tasks.old.items ++ task_of flags.new named_task.entry ∷ []) }
 {
-    let RunTaskBy { line, dom, deed } = order;
-    let deed = deed_of(flags, deed)?;
+    let RunTaskBy {
+        line,
+        dom,
+        run_action,
+    } = named_task;
+    let run_action = action_of(flags, run_action)?;
     tasks
-        .push(RunTask { line, dom, deed })
+        .push(RunTask {
+            line,
+            dom,
+            run_action,
+        })
         .map_err(AllocError::from)
 }
 
@@ -71,15 +79,15 @@ fn push_task<'a>(
 /// number of flags.
 pub fn tasks_for<'a>(
     alloc: Global,
-    orders: Vec<NamedRunTask<'a>>,
+    named_tasks: Vec<NamedRunTask<'a>>,
 ) -> Result<(Vec<RunTask<'a>>, usize), AllocError>
-    ensures tasks { IfOk result (λ made. made.0.items ≡ tasks_numbered orders.entry.items) }
-    ensures flags { IfOk result (λ made. made.1 ≡ length (flag_names_of orders.entry.items)) }
+    ensures tasks { IfOk result (λ made. made.0.items ≡ tasks_numbered named_tasks.entry.items) }
+    ensures flags { IfOk result (λ made. made.1 ≡ length (flag_names_of named_tasks.entry.items)) }
 {
     let mut flags = FlagNames::new(alloc);
     let mut tasks = Vec::new(alloc);
-    'orders: for order in orders {
-        push_task(&mut tasks, &mut flags, order)?;
+    'named_tasks: for named_task in named_tasks {
+        push_task(&mut tasks, &mut flags, named_task)?;
     }
     Ok((tasks, flags.len()))
 }

@@ -6,7 +6,7 @@ ghost use Rattle.gt_word_history.specs.Joining.{Learns};
 ghost use Rattle.gt_word_history.specs.Moves.{MayTake, Takes, TakesStored};
 ghost use Rattle.gt_word_history.specs.Places.{IsInside, IsWide};
 ghost use Rattle.gt_word_history.specs.Rule.{header_place, layout_of, place};
-ghost use Rattle.gt_word_history.specs.Steps.{half_index};
+ghost use Rattle.gt_word_history.specs.Steps.{body_word_index};
 ghost use Rattle.gt_shared_table.specs.Bytes.{IsOnWords};
 ghost use Rattle.gt_shared_table.specs.Words.{IsAlone};
 
@@ -16,11 +16,11 @@ use gt_types::Dir;
 use gt_word_history::{DOMAIN_WORDS, ENTRY_WORDS, EntryAt, Purpose};
 
 // Returns the index of a body word among the words of its entry.
-fn index_of(half: BodyWord) -> usize
-    ensures index { result ≡ half_index half }
+fn index_of(body_word: BodyWord) -> usize
+    ensures index { result ≡ body_word_index body_word }
     ensures inside { result < 3 }
 {
-    match half {
+    match body_word {
         BodyWord::First => 1,
         BodyWord::Second => 2,
     }
@@ -55,7 +55,7 @@ pub(crate) fn load_body_word<J: OfKind>(
     cells: &Cells,
     seat: &mut CellSeat,
     entry: EntryAt,
-    half: BodyWord,
+    body_word: BodyWord,
 ) -> u64
     requires table { (seat.old.table_id ≡ cells.now.table_id)
         × IsWide cells.now.table_id.words (layout_of cells.now.key) }
@@ -63,16 +63,19 @@ pub(crate) fn load_body_word<J: OfKind>(
     requires alone { IsAlone seat.old.me }
     requires kind { (J.kind.layout ≡ layout_of cells.now.key) × (J.kind.leaves ≡ λ n. n)
         × ((n : ℕ) → IsOnWords (J.kind.step n)) }
-    requires may { MayTake J.kind (place entry.position entry.gref (half_index half)) seat.old.me.0.own.own }
+    requires may { MayTake J.kind (place entry.position entry.gref (body_word_index body_word)) seat.old.me.0.own.own }
     ensures table { seat.new.table_id ≡ seat.old.table_id }
-    ensures step { Takes J.kind (place entry.position entry.gref (half_index half)) result
+    ensures step { Takes J.kind (place entry.position entry.gref (body_word_index body_word)) result
         seat.old.me.0.own.own seat.new.me.0.own.own }
     ensures alone { IsAlone seat.new.me }
     ensures locks { seat.new.me.0.locks ≡ seat.old.me.0.locks }
 {
     cells.load::<StepOnWord<J>>(
         seat,
-        entry.position * DOMAIN_WORDS + entry.gref * ENTRY_WORDS + ENTRY_WORDS + index_of(half),
+        entry.position * DOMAIN_WORDS
+            + entry.gref * ENTRY_WORDS
+            + ENTRY_WORDS
+            + index_of(body_word),
     )
 }
 
@@ -81,7 +84,7 @@ pub(crate) fn store_body_word<J: OfKind>(
     cells: &Cells,
     seat: &mut CellSeat,
     entry: EntryAt,
-    half: BodyWord,
+    body_word: BodyWord,
     new: u64,
 )
     requires table { (seat.old.table_id ≡ cells.now.table_id)
@@ -90,16 +93,19 @@ pub(crate) fn store_body_word<J: OfKind>(
     requires alone { IsAlone seat.old.me }
     requires kind { (J.kind.layout ≡ layout_of cells.now.key) × (J.kind.leaves ≡ λ _. new)
         × ((n : ℕ) → IsOnWords (J.kind.step n)) }
-    requires may { MayTake J.kind (place entry.position entry.gref (half_index half)) seat.old.me.0.own.own }
+    requires may { MayTake J.kind (place entry.position entry.gref (body_word_index body_word)) seat.old.me.0.own.own }
     ensures table { seat.new.table_id ≡ seat.old.table_id }
-    ensures step { TakesStored J.kind (place entry.position entry.gref (half_index half))
+    ensures step { TakesStored J.kind (place entry.position entry.gref (body_word_index body_word))
         seat.old.me.0.own.own seat.new.me.0.own.own }
     ensures alone { IsAlone seat.new.me }
     ensures locks { seat.new.me.0.locks ≡ seat.old.me.0.locks }
 {
     cells.store::<StoreOnWord<J>>(
         seat,
-        entry.position * DOMAIN_WORDS + entry.gref * ENTRY_WORDS + ENTRY_WORDS + index_of(half),
+        entry.position * DOMAIN_WORDS
+            + entry.gref * ENTRY_WORDS
+            + ENTRY_WORDS
+            + index_of(body_word),
         new,
     )
 }

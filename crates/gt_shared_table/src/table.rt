@@ -3,7 +3,7 @@ ghost use Rattle.std.specs.Prelude.{◌≡◌, ◌<◌};
 ghost use Rattle.gt_word_history.specs.Moves.{MayTake, Takes, TakesStored};
 ghost use Rattle.gt_word_history.specs.Places.{Board, IsInside, SeatAt};
 ghost use Rattle.gt_word_history.specs.Rule.{header_place, layout_of, place};
-ghost use Rattle.gt_word_history.specs.Steps.{exchanging, half_index, looking, looking_at_header, reading, storing};
+ghost use Rattle.gt_word_history.specs.Steps.{exchanging, body_word_index, looking, looking_at_header, reading, storing};
 ghost use Rattle.gt_word_history.specs.Steps.{storing_header, unpinning};
 ghost use Rattle.gt_shared_table.specs.Rule.{flag_place, places_of};
 ghost use Rattle.gt_shared_table.specs.Words.{HasWordsAndFlags, HasTable, IsAlone, first_slots, frames_kept};
@@ -90,32 +90,32 @@ impl SharedTable {
 
     /// Loads a body word of an entry.
     #[inline]
-    pub fn load_body(&self, seat: &mut TableSeat, entry: EntryAt, half: BodyWord) -> u64
+    pub fn load_body(&self, seat: &mut TableSeat, entry: EntryAt, body_word: BodyWord) -> u64
         requires table { seat.old.table ≡ self.now.table }
         requires inside { IsInside self.now.layout entry }
-        requires may { MayTake (reading self.now.layout entry.position entry.gref half)
-            (place entry.position entry.gref (half_index half)) seat.old.view }
+        requires may { MayTake (reading self.now.layout entry.position entry.gref body_word)
+            (place entry.position entry.gref (body_word_index body_word)) seat.old.view }
         ensures table { seat.new.table ≡ seat.old.table }
         ensures locks { seat.new.locks ≡ seat.old.locks }
-        ensures step { Takes (reading self.now.layout entry.position entry.gref half)
-            (place entry.position entry.gref (half_index half)) result seat.old.view seat.new.view }
+        ensures step { Takes (reading self.now.layout entry.position entry.gref body_word)
+            (place entry.position entry.gref (body_word_index body_word)) result seat.old.view seat.new.view }
     {
-        load_body_word::<Brand>(&self.table.shared, &mut seat.seat, entry, half)
+        load_body_word::<Brand>(&self.table.shared, &mut seat.seat, entry, body_word)
     }
 
     /// Stores a body word of an entry.
     #[inline]
-    pub fn store_body(&self, seat: &mut TableSeat, entry: EntryAt, half: BodyWord, value: u64)
+    pub fn store_body(&self, seat: &mut TableSeat, entry: EntryAt, body_word: BodyWord, value: u64)
         requires table { seat.old.table ≡ self.now.table }
         requires inside { IsInside self.now.layout entry }
-        requires may { MayTake (storing self.now.layout entry.position entry.gref half value)
-            (place entry.position entry.gref (half_index half)) seat.old.view }
+        requires may { MayTake (storing self.now.layout entry.position entry.gref body_word value)
+            (place entry.position entry.gref (body_word_index body_word)) seat.old.view }
         ensures table { seat.new.table ≡ seat.old.table }
         ensures locks { seat.new.locks ≡ seat.old.locks }
-        ensures step { TakesStored (storing self.now.layout entry.position entry.gref half value)
-            (place entry.position entry.gref (half_index half)) seat.old.view seat.new.view }
+        ensures step { TakesStored (storing self.now.layout entry.position entry.gref body_word value)
+            (place entry.position entry.gref (body_word_index body_word)) seat.old.view seat.new.view }
     {
-        store_body_word::<Brand>(&self.table.shared, &mut seat.seat, entry, half, value)
+        store_body_word::<Brand>(&self.table.shared, &mut seat.seat, entry, body_word, value)
     }
 
     /// Exchanges the control word of an entry if it is `old`, and returns the word found. The step in the view has the

@@ -35,9 +35,9 @@ initial k i =
     (cond (i % DOMAIN_WORDS % ENTRY_WORDS == 0) (17592186044416 * k.first) 0)
 
 -- the index of a body word among the words of an entry
-abbrev pub half_index : BodyWord → ℕ
-half_index First = 1
-half_index Second = 2
+abbrev pub body_word_index : BodyWord → ℕ
+body_word_index First = 1
+body_word_index Second = 2
 
 -- the steps of all seats in their one order, each with the position of its seat
 abbrev pub StepHistory : Type 0
@@ -59,8 +59,8 @@ up_to i (p ∷ h) = cond (p.0 == i) (p ∷ h) (up_to i h)
 
 -- the word of its entry that a step is on: the control word or a body word, by its index
 abbrev pub word_on : EntryStep → ℕ
-word_on (ReadBody h n) = half_index h
-word_on (StoredBody h n) = half_index h
+word_on (ReadBody h n) = body_word_index h
+word_on (StoredBody h n) = body_word_index h
 word_on _ = 0
 
 -- the index of the word that a step is on

@@ -8,7 +8,7 @@ use Rattle.atomic_table.specs.Table.{Step as TableStep}
 use Rattle.gt_word_history.specs.Controls.{demoted_word, invalid_word, promoted_word, withdrawn_word}
 use Rattle.gt_word_history.specs.Events.{Happens}
 use Rattle.gt_word_history.specs.History.{StepHistory, PinsLast, RecordsWord, word_after}
-pub use Rattle.gt_word_history.specs.History.{half_index}
+pub use Rattle.gt_word_history.specs.History.{body_word_index}
 use Rattle.gt_word_history.specs.Rule.{HasStood, Layout, Stands}
 use Rattle.gt_word_history.specs.Views.{last_of, last_seen, record_seen, with_step}
 use Rattle.gt_model.specs.declared.change.EntryChange.TheVariants as changes

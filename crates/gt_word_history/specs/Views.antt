@@ -117,15 +117,15 @@ exchanged (Changed _ e _ _ ∷ ms) = e ∷ exchanged ms
 exchanged (_ ∷ ms) = exchanged ms
 
 -- both are the same body word
-abbrev pub is_half : BodyWord → BodyWord → Bool
-is_half First First = true
-is_half Second Second = true
-is_half _ _ = false
+abbrev pub is_body_word : BodyWord → BodyWord → Bool
+is_body_word First First = true
+is_body_word Second Second = true
+is_body_word _ _ = false
 
 -- the body word that the owner stored last, 0 if it stored none
 abbrev pub stored_body : BodyWord → List EntryStep → ℕ
 stored_body h [] = 0
-stored_body h (StoredBody k v ∷ ms) = cond (is_half h k) v (stored_body h ms)
+stored_body h (StoredBody k v ∷ ms) = cond (is_body_word h k) v (stored_body h ms)
 stored_body h (_ ∷ ms) = stored_body h ms
 
 -- the header that the owner stored last, w if it stored none

@@ -35,7 +35,7 @@ use Rattle.gt_word_history.specs.Events.{IsByOwner}
 use Rattle.gt_word_history.specs.History.{IsOfRecord, RecordsFound, owner_steps, left_on_entry, word_place_of}
 use Rattle.gt_word_history.specs.History.{word_on}
 use Rattle.gt_word_history.specs.Rule.{id_at, IsRecord, Layout, Shows, ShowsEntry, place, total_pins}
-use Rattle.gt_word_history.specs.Steps.{StepKind, TakesStep, changed, entry_kind, exchanging, half_index, looking}
+use Rattle.gt_word_history.specs.Steps.{StepKind, TakesStep, changed, entry_kind, exchanging, body_word_index, looking}
 use Rattle.gt_word_history.specs.Steps.{missed, reading, storing, taken, promises_step, unpinning}
 use Rattle.gt_words.specs.Sight.{SawRecord}
 use Rattle.gt_word_history.specs.Views.{earlier_records, invalid_at, last_of, last_record, last_seen, live_pins}
@@ -185,7 +185,7 @@ module _ {S : Type 0} (k : Layout) (slots id : ℕ) (me : Me S View) (t r : ℕ)
   read_second_owes : Allows (Shows k) slots id me (place t r 2) (λ n. n) (promises_step (reading k t r Second) (step slots (place t r 2) 0 0 none) me)
   read_second_owes = second_owes k t r (λ n. ReadBody Second n) (λ n. n) slots id me (λ n. n) (step slots (place t r 2) 0 0 none) tn rn refl (λ n. refl) (λ n. (refl, refl, refl)) (λ w a b hs z. (entry_reads k.first t hs id _ z.1 w a b z.0 Second b, tt, tt))
 
-  pub read_owes : (h : BodyWord) → Allows (Shows k) slots id me (place t r (half_index h)) (λ n. n) (promises_step (reading k t r h) (step slots (place t r (half_index h)) 0 0 none) me)
+  pub read_owes : (h : BodyWord) → Allows (Shows k) slots id me (place t r (body_word_index h)) (λ n. n) (promises_step (reading k t r h) (step slots (place t r (body_word_index h)) 0 0 none) me)
   read_owes First = read_first_owes
   read_owes Second = read_second_owes
 
@@ -257,7 +257,7 @@ module _ {S : Type 0} (k : Layout) (slots id : ℕ) (me : Me S View) (t r : ℕ)
     store_second_owes v none_yet = second_owes k t r (λ n. StoredBody Second v) (λ n. v) slots id me (λ _. v) (step slots (place t r 2) v 0 none) tn rn refl (λ n. refl) (λ n. (refl, refl, tt))
         (λ w a b hs z. (to_seat w a v hs (StoredBody Second v) z.2 (entry_stores_second k.first t hs (steps_on t r me.0) (at_home hs z.1 z.2) w a b z.0 v (ap (λ (x : EntryRecord). x.entry) (sym (last_is z.3)) ∙ none_yet)), sym z.2 ∙ own, tt))
 
-    pub store_owes : (h : BodyWord) (v : ℕ) → (last_of r me.0).entry ≡ Invalid → Allows (Shows k) slots id me (place t r (half_index h)) (λ _. v) (promises_step (storing k t r h v) (step slots (place t r (half_index h)) v 0 none) me)
+    pub store_owes : (h : BodyWord) (v : ℕ) → (last_of r me.0).entry ≡ Invalid → Allows (Shows k) slots id me (place t r (body_word_index h)) (λ _. v) (promises_step (storing k t r h v) (step slots (place t r (body_word_index h)) v 0 none) me)
     store_owes First v none_yet = store_first_owes v none_yet
     store_owes Second v none_yet = store_second_owes v none_yet
 

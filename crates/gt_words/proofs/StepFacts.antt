@@ -39,9 +39,9 @@ use Rattle.gt_word_history.specs.History.{StepHistory, part_of}
 use Rattle.gt_word_history.specs.Rule.{IsRecord, Layout, ShowsEntry, ShowsRecord, Stands, owner_steps, place}
 use Rattle.gt_word_history.specs.Rule.{total_pins}
 use Rattle.gt_words.specs.Sight.{SawRecord}
-use Rattle.gt_word_history.specs.Steps.{TakesStep, changed, changed_word, exchanging, half_index, missed, on_entry}
+use Rattle.gt_word_history.specs.Steps.{TakesStep, changed, changed_word, exchanging, body_word_index, missed, on_entry}
 use Rattle.gt_word_history.specs.Steps.{taken}
-use Rattle.gt_word_history.specs.Views.{IsAmong, LivePin, Seen, earlier_records, entry_steps, is_half, last_of}
+use Rattle.gt_word_history.specs.Views.{IsAmong, LivePin, Seen, earlier_records, entry_steps, is_body_word, last_of}
 use Rattle.gt_word_history.specs.Views.{last_record, last_seen, own, own_body, pin_count, live_pins, record_seen}
 use Rattle.gt_word_history.specs.Views.{seen, steps_on, steps_on_header, stored_body, with_step}
 use Rattle.gt_model.specs.declared.change.EntryChange.{EntryChange}
@@ -330,7 +330,7 @@ word_generation x word h = ap (λ (c : Control). c.generation) h.control ∙ of_
 
 -- a body word was read
 pub reads_body : (k : Layout) (t r : ℕ) (h : BodyWord) (n : ℕ) (v w : View) → (past : StepHistory) → w ≡ with_step past (on_entry t r (ReadBody h n)) v
-    → TakesStep (Unit {0}) k v past (on_entry t r (ReadBody h n)) (place t r (half_index h)) n n → LooksAtBody k t r h n v w
+    → TakesStep (Unit {0}) k v past (on_entry t r (ReadBody h n)) (place t r (body_word_index h)) n n → LooksAtBody k t r h n v w
 reads_body k t r h n v w past view step = let a = adds_to_entry past t r (ReadBody h n) v w view in
     let same = body_generation h n (seen (steps_on t r v)) in record {
       steps = record { past = past; adds = a; step = step };
@@ -339,14 +339,14 @@ reads_body k t r h n v w past view step = let a = adds_to_entry past t r (ReadBo
 
 -- the owner stored a body word
 pub stores_body : (k : Layout) (t r : ℕ) (h : BodyWord) (value found : ℕ) (v w : View) → v.position ≡ t → (past : StepHistory) → w ≡ with_step past (on_entry t r (StoredBody h value)) v
-    → TakesStep (Unit {0}) k v past (on_entry t r (StoredBody h value)) (place t r (half_index h)) found value → StoresBody k r h value v w
+    → TakesStep (Unit {0}) k v past (on_entry t r (StoredBody h value)) (place t r (body_word_index h)) found value → StoresBody k r h value v w
 stores_body k t r h value found v w own_is past view step = let m : EntryStep = StoredBody h value in
     let a : AddsToEntry past v.position r m v w = subst (λ (u : ℕ). AddsToEntry past u r m v w) (sym own_is) (adds_to_entry past t r m v w view) in
     let here : steps_on w.position r w ≡ m ∷ steps_on v.position r v = ap (λ (u : View). steps_on u.position r w) view ∙ a.here in record {
       found = found;
-      steps = record { past = past; adds = a; step = subst (λ (u : ℕ). TakesStep (Unit {0}) k v past (on_entry u r m) (place u r (half_index h)) found value) (sym own_is) step };
+      steps = record { past = past; adds = a; step = subst (λ (u : ℕ). TakesStep (Unit {0}) k v past (on_entry u r m) (place u r (body_word_index h)) found value) (sym own_is) step };
       stored = ap (stored_body h) here ∙ same h;
-      other_half = λ i n. ap (stored_body i) here ∙ ap (λ (b : Bool). cond b value (stored_body i (steps_on v.position r v))) (not_same i h n);
+      other_body_word = λ i n. ap (stored_body i) here ∙ ap (λ (b : Bool). cond b value (stored_body i (steps_on v.position r v))) (not_same i h n);
       unchanged = ap (λ (u : View). own u.first (steps_on w.position r w)) view ∙ ap (own v.first) here;
       last = ap (λ (u : View). last_record u.first (steps_on w.position r w)) view ∙ ap (last_record v.first) here;
       rows = keeps_others r m v w a;
@@ -355,12 +355,12 @@ stores_body k t r h value found v w own_is past view step = let m : EntryStep = 
       seen = sees_no_earlier v.position r m v w a (omega arith);
     }
   where
-    not_same : (i h : BodyWord) → h ≢ i → is_half i h ≡ false
+    not_same : (i h : BodyWord) → h ≢ i → is_body_word i h ≡ false
     not_same First First n = absurd (n refl)
     not_same First Second n = refl
     not_same Second First n = refl
     not_same Second Second n = absurd (n refl)
 
-    same : (h : BodyWord) → cond (is_half h h) value (stored_body h (steps_on v.position r v)) ≡ value
+    same : (h : BodyWord) → cond (is_body_word h h) value (stored_body h (steps_on v.position r v)) ≡ value
     same First = refl
     same Second = refl

@@ -9,7 +9,7 @@ use Rattle.gt_words.specs.Keeping.{Holds, HoldsOneMore, Keeps, KeepsOtherRows, K
 use Rattle.gt_words.specs.Keeping.{SeesNoEarlier}
 use Rattle.gt_word_history.specs.History.{StepHistory, entry_made}
 use Rattle.gt_word_history.specs.Rule.{IsKeptHeader, Layout, header_place, place}
-use Rattle.gt_word_history.specs.Steps.{TakesStep, changed, changed_word, half_index, on_entry, on_header}
+use Rattle.gt_word_history.specs.Steps.{TakesStep, changed, changed_word, body_word_index, on_entry, on_header}
 use Rattle.gt_word_history.specs.Views.{IsAmong, last_of, last_seen, own_body, own_header, own_list, live_pins}
 use Rattle.gt_word_history.specs.Views.{record_seen}
 use Rattle.gt_word_history.specs.Views.{steps_on, steps_on_header, with_step}
@@ -42,7 +42,7 @@ pub record StepsOnControl (k : Layout) (t r : ℕ) (m : EntryStep) (found left :
 pub record StepsOnBody (k : Layout) (t r : ℕ) (h : BodyWord) (m : EntryStep) (found left : ℕ) (v w : View) : Type 0 where
   pub past : StepHistory
   pub adds : AddsToEntry past t r m v w
-  pub step : TakesStep (Unit {0}) k v past (on_entry t r m) (place t r (half_index h)) found left
+  pub step : TakesStep (Unit {0}) k v past (on_entry t r m) (place t r (body_word_index h)) found left
 
 -- the step m was taken on the header word of the domain t: it found one number there and left the other
 pub record StepsOnHeader (k : Layout) (t : ℕ) (m : HeaderStep) (found left : ℕ) (v w : View) : Type 0 where
@@ -75,7 +75,7 @@ pub record StoresBody (k : Layout) (r : ℕ) (h : BodyWord) (value : ℕ) (v w :
   pub found : ℕ
   pub steps : StepsOnBody k v.position r h (StoredBody h value) found value v w
   pub stored : own_body r h w ≡ value
-  pub other_half : (i : BodyWord) → h ≢ i → own_body r i w ≡ own_body r i v
+  pub other_body_word : (i : BodyWord) → h ≢ i → own_body r i w ≡ own_body r i v
   pub unchanged : own_list r w ≡ own_list r v
   pub last : last_of r w ≡ last_of r v
   pub rows : KeepsOtherRows r v w

@@ -52,7 +52,7 @@ impl Words {
         seat: &mut Seat,
         dom: DomId,
         gref: GrantRef,
-        half: BodyWord,
+        body_word: BodyWord,
         at: usize,
     ) -> u64
         requires seat { IsSeatOf self.now seat.old }
@@ -60,14 +60,14 @@ impl Words {
         requires entry { IsEntryOf self.now dom gref }
         ensures seat { IsSameSeat seat.old seat.new }
         ensures fits { IsSeatOf self.now seat.new }
-        ensures look { LooksAtBody self.now.layout (position_at self.now dom) gref.0 half result
+        ensures look { LooksAtBody self.now.layout (position_at self.now dom) gref.0 body_word result
             seat.old.view seat.new.view }
     {
         let entry = EntryAt {
             position: at,
             gref: gref.0 as usize,
         };
-        calls::load_body(&self.words, &mut seat.place, entry, half)
+        calls::load_body(&self.words, &mut seat.place, entry, body_word)
     }
 
     /// Takes a pin as [`pin`](Words::pin) does, on an entry of `dom`, whose position is `at`.

@@ -53,14 +53,14 @@ pub(crate) fn load_body(
     words: &SharedTable,
     seat: &mut TableSeat,
     at: EntryAt,
-    half: BodyWord,
+    body_word: BodyWord,
 ) -> u64
     requires mine { seat.old.table ≡ words.now.table }
     requires entry { IsInside words.now.layout at }
     ensures seat { IsSamePlace seat.old seat.new }
-    ensures look { LooksAtBody words.now.layout at.position at.gref half result seat.old.view seat.new.view }
+    ensures look { LooksAtBody words.now.layout at.position at.gref body_word result seat.old.view seat.new.view }
 {
-    words.load_body(seat, at, half)
+    words.load_body(seat, at, body_word)
 }
 
 /// Takes a pin if the control word still is `looked`. Otherwise returns the word found.
@@ -108,16 +108,16 @@ pub(crate) fn store_body(
     words: &SharedTable,
     seat: &mut TableSeat,
     at: EntryAt,
-    half: BodyWord,
+    body_word: BodyWord,
     value: u64,
 )
     requires mine { (seat.old.table ≡ words.now.table) × (seat.old.view.position ≡ at.position) }
     requires entry { IsInside words.now.layout at }
     requires invalid { (last_of at.gref seat.old.view).entry ≡ Entry.Invalid }
     ensures seat { IsSamePlace seat.old seat.new }
-    ensures step { StoresBody words.now.layout at.gref half value seat.old.view seat.new.view }
+    ensures step { StoresBody words.now.layout at.gref body_word value seat.old.view seat.new.view }
 {
-    words.store_body(seat, at, half, value);
+    words.store_body(seat, at, body_word, value);
 }
 
 /// Publishes an entry whose body words the owner has stored, if the invalid entry has no pins. Otherwise returns the

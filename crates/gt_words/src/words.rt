@@ -274,16 +274,16 @@ impl Words {
     }
 
     /// Loads a body word of an entry.
-    pub fn load_body(&self, seat: &mut Seat, dom: DomId, gref: GrantRef, half: BodyWord) -> u64
+    pub fn load_body(&self, seat: &mut Seat, dom: DomId, gref: GrantRef, body_word: BodyWord) -> u64
         requires seat { IsSeatOf self.now seat.old }
         requires entry { IsEntryOf self.now dom gref }
         ensures seat { IsSameSeat seat.old seat.new }
         ensures fits { IsSeatOf self.now seat.new }
-        ensures look { LooksAtBody self.now.layout (position_at self.now dom) gref.0 half result
+        ensures look { LooksAtBody self.now.layout (position_at self.now dom) gref.0 body_word result
             seat.old.view seat.new.view }
     {
         let at = self.position(seat, dom);
-        self.load_body_at(seat, dom, gref, half, at)
+        self.load_body_at(seat, dom, gref, body_word, at)
     }
 
     /// Takes a pin by one exchange from `looked`, the control word of the seat's last look. The seat has read the body
@@ -336,19 +336,19 @@ impl Words {
     }
 
     /// Stores a body word of the owner's invalid entry.
-    pub fn store_body(&self, seat: &mut Seat, gref: GrantRef, half: BodyWord, value: u64)
+    pub fn store_body(&self, seat: &mut Seat, gref: GrantRef, body_word: BodyWord, value: u64)
         requires seat { IsSeatOf self.now seat.old }
         requires entry { gref.0 < TABLE_ENTRIES }
         requires invalid { (last_of gref.0 seat.old.view).entry ≡ Entry.Invalid }
         ensures seat { IsSameSeat seat.old seat.new }
         ensures fits { IsSeatOf self.now seat.new }
-        ensures step { StoresBody self.now.layout gref.0 half value seat.old.view seat.new.view }
+        ensures step { StoresBody self.now.layout gref.0 body_word value seat.old.view seat.new.view }
     {
         let at = EntryAt {
             position: seat.position,
             gref: gref.0 as usize,
         };
-        calls::store_body(&self.words, &mut seat.place, at, half, value);
+        calls::store_body(&self.words, &mut seat.place, at, body_word, value);
     }
 
     /// Publishes an entry at the next generation, by one exchange from the invalid word without pins. The owner has

@@ -392,9 +392,11 @@ fn step_said(alloc: Global, step: Step) -> Result<String, AllocError> {
     match step {
         Step::LookHeader { dom } => format!(in alloc; "H {}", dom.0),
         Step::LookControl { dom, gref } => format!(in alloc; "C {} {}", dom.0, gref.0),
-        Step::LookBody { dom, gref, half } => {
-            format!(in alloc; "B {} {} {half:?}", dom.0, gref.0)
-        }
+        Step::LookBody {
+            dom,
+            gref,
+            body_word,
+        } => { format!(in alloc; "B {} {} {body_word:?}", dom.0, gref.0) }
         Step::Pin { held } => {
             format!(in alloc; "P {} {} {:?}", held.dom.0, held.gref.0, held.dir)
         }
@@ -407,9 +409,11 @@ fn step_said(alloc: Global, step: Step) -> Result<String, AllocError> {
             format!(in alloc; "A {from} to {to} len {len}")
         }
         Step::StoreHeader { version, frames } => format!(in alloc; "S {version} {frames}"),
-        Step::StoreBody { gref, half, word } => {
-            format!(in alloc; "W {} {half:?} {word}", gref.0)
-        }
+        Step::StoreBody {
+            gref,
+            body_word,
+            word,
+        } => { format!(in alloc; "W {} {body_word:?} {word}", gref.0) }
         Step::Exchange {
             gref,
             looked,

@@ -2,7 +2,7 @@
 //! `gt_allow`, `gt_policy_list`, `gt_policy_flow`, `gt_policy_check`), over their public items.
 //!
 //! They test what no contract specifies: names and numbers of types, texts at the limits and texts that are cut off,
-//! and readers and writers that fail. Worked texts with what they allow are in `cases_host`.
+//! and readers and writers that fail. Worked texts with what they allow are in `cases_play`.
 #![tactic(auto)]
 
 #[cfg(test)]

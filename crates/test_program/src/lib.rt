@@ -1,9 +1,9 @@
-//! Tests of parts of the program, over the public items of `gt_commands` (the command line), `gt_script` (the parser of
+//! Tests of parts of the program, over the public items of `gt_command_line` (the command line), `gt_script` (the parser of
 //! scripts) and `gt_host` (`play`, from a reader to a writer).
 //!
 //! They test what no contract specifies: that a command line is answered if there is memory, and texts that are too
 //! long for a file and are made here by repetition: texts at the limits, and as many pins as there can be. Worked
-//! scripts are in `cases_host`: with their parsed form, whole and cut off, and played, also with their audit and over
+//! scripts are in `cases_play`: with their parsed form, whole and cut off, and played, also with their audit and over
 //! readers, writers and allocators that fail.
 #![tactic(auto)]
 

@@ -1,6 +1,6 @@
 //! Command lines, and their plans.
 use crate::words::words_of;
-use gt_commands::{
+use gt_command_line::{
     CheckedFiles, EntriesOptions, Exploration, Format, Invocation, MoreFiles, ScriptOptions,
     SearchOptions, plan,
 };

@@ -1,5 +1,5 @@
 //! The words of command lines: flags by their letters, and commands after their flags.
-use gt_commands::{command_first, leading_word, with_long_flags};
+use gt_command_line::{command_first, leading_word, with_long_flags};
 use std::alloc::{AllocError, Global};
 use std::test::Fail;
 

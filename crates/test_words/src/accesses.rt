@@ -45,7 +45,7 @@ fn wrote<R: Wait>(rt: &R, run: &AccessContext<'_, Everything>, seat: &mut Seat, 
     ensures { IsSeatOf run.now.words.now seat.new }
 {
     let access = Access {
-        route: &AccessPath::Own,
+        access_path: &AccessPath::Own,
         at: own(seat, (number, 0)),
     };
     write_under(rt, run, seat, &access, &BYTES).is_ok()
@@ -76,12 +76,12 @@ fn copied<R: Wait>(
     ensures { IsSeatOf run.now.words.now seat.new }
 {
     let (source, dest) = (own(seat, from), own(seat, to));
-    let routes = CallPins {
+    let access_paths = CallPins {
         source: AccessPath::Own,
         dest: AccessPath::Own,
     };
     let copy = CopyAccess {
-        routes: &routes,
+        access_paths: &access_paths,
         from: source,
         to: dest,
         len: 4,
@@ -100,7 +100,7 @@ fn first_bytes<R: Wait>(
     ensures { IsSeatOf run.now.words.now seat.new }
 {
     let access = Access {
-        route: &AccessPath::Own,
+        access_path: &AccessPath::Own,
         at: own(seat, (number, 0)),
     };
     let mut out = [7; 6];

@@ -136,23 +136,23 @@ leg-pin h d m a = any-map (IsBy leg-keyed d.0 m) (IsOwnPin d m) (live h) (λ p b
 via-may : (k : CallerKnowledge) (pair : DomId × DomId) (dom : DomId) → via_judged k pair dom ≡ None → IsAllowed k.may (rights_to_copy k pair.0 pair.1)
 via-may k pair dom e = grind arith
 
-reached-frame : (s : Setting) (h : History) (d : DomId) (granted : Bool) (end : End) (dir : Dir) (len : ℕ) (pair : DomId → DomId × DomId) (route : AccessPath) → IsReached (known_at s h d) d granted end dir len pair route → end.offset + len ≤ FRAME_SIZE
-    → IsInFrame s (place_of d end route) len
-reached-frame s h d granted end dir len pair route a range = grind arith
+reached-frame : (s : Setting) (h : History) (d : DomId) (granted : Bool) (end : End) (dir : Dir) (len : ℕ) (pair : DomId → DomId × DomId) (access_path : AccessPath) → IsReached (known_at s h d) d granted end dir len pair access_path → end.offset + len ≤ FRAME_SIZE
+    → IsInFrame s (place_of d end access_path) len
+reached-frame s h d granted end dir len pair access_path a range = grind arith
 
 reaches-by : (s : Setting) (h : History) (d judged : DomId) (dir : Dir) (off len : ℕ) (p : HeldPin) (q : Pin) → IsPermitted (known_at s h d) p judged dir off len → IsOwnPin d p q
     → Reaches d judged dir uses.Copy (record { frame = record { owner = p.dom; number = frame_of p.entry }; off = off }) len q
 reaches-by s h d judged dir off len p q a own = grind arith
 
--- the pins of a route are among these
-abbrev HasRoute : List (ℕ × HeldPin) → AccessPath → Type 0
-HasRoute legs Own = Unit {0}
-HasRoute legs (Direct p) = IsHeldIn p legs
-HasRoute legs (Through via p) = IsHeldIn via legs × IsHeldIn p legs
+-- the pins of an access path are among these
+abbrev HasAccessPath : List (ℕ × HeldPin) → AccessPath → Type 0
+HasAccessPath legs Own = Unit {0}
+HasAccessPath legs (Direct p) = IsHeldIn p legs
+HasAccessPath legs (Through via p) = IsHeldIn via legs × IsHeldIn p legs
 
-end-justified : (s : Setting) (h : History) (d : DomId) (granted : Bool) (end : End) (dir : Dir) (len : ℕ) (pair : DomId → DomId × DomId) (owners : DomId × DomId) (route : AccessPath) → HasRoute (legs_at h d.0) route
-    → IsReached (known_at s h d) d granted end dir len pair route → ((p : HeldPin) (via : HeldPin) → route ≡ Through via p → pair p.dom ≡ owners)
-    → EndIsJustified s h d granted dir (place_of d end route) len (resolved d end.domid) owners
+end-justified : (s : Setting) (h : History) (d : DomId) (granted : Bool) (end : End) (dir : Dir) (len : ℕ) (pair : DomId → DomId × DomId) (owners : DomId × DomId) (access_path : AccessPath) → HasAccessPath (legs_at h d.0) access_path
+    → IsReached (known_at s h d) d granted end dir len pair access_path → ((p : HeldPin) (via : HeldPin) → access_path ≡ Through via p → pair p.dom ≡ owners)
+    → EndIsJustified s h d granted dir (place_of d end access_path) len (resolved d end.domid) owners
 end-justified s h d granted end dir len pair owners Own has a same = inl (a.0, refl)
 end-justified s h d granted end dir len pair owners (Direct p) has a same =
     inr (inl (a.0, a.1, any-map (IsOwnPin d p) (Reaches d d dir uses.Copy (place_of d end (Direct p)) len) (live h) (λ q own. reaches-by s h d d dir end.offset len p q a.2 own) (leg-pin h d p has)))
@@ -175,14 +175,14 @@ end-justified s h d granted end dir len pair owners (Through via p) has a same =
     writes = λ w. ap (λ (x : HeldPin). x.dir) of_via.1 ∙ a.1.taken_for ∙ w;
   }
 
--- the pins of both routes are held
-routes-held : (a b : AccessPath) → let legs = numbered 0 (reverse (last_first (record { source = a; dest = b }))) in HasRoute legs a × HasRoute legs b
-routes-held a b = grind arith
+-- the pins of both access paths are held
+access_paths-held : (a b : AccessPath) → let legs = numbered 0 (reverse (last_first (record { source = a; dest = b }))) in HasAccessPath legs a × HasAccessPath legs b
+access_paths-held a b = grind arith
 
 pub copy-justified : (s : Setting) (h : History) (d : DomId) (r : OpenRequest) (pins : CallPins) (from to : Spot) (len : ℕ) → begun (known_at s h d) d r ≡ None → legs_at h d.0 ≡ numbered 0 (reverse (last_first pins))
     → RestsOnWays (known_at s h d) d r pins from to len → CopyIsJustified s h d r from to len
 copy-justified s h d r pins from to len none legs a = let k = known_at s h d in let c = a.copy in
-    let has = subst (λ (l : List (ℕ × HeldPin)). HasRoute l pins.source × HasRoute l pins.dest) (sym legs) (routes-held pins.source pins.dest) in let o = opens k d (Copy c) (none-of k d r (Copy c) a.of_copy none) in
+    let has = subst (λ (l : List (ℕ × HeldPin)). HasAccessPath l pins.source × HasAccessPath l pins.dest) (sym legs) (access_paths-held pins.source pins.dest) in let o = opens k d (Copy c) (none-of k d r (Copy c) a.of_copy none) in
     let f = place_of d c.source pins.source in let t = place_of d c.dest pins.dest in
     let fits : CopyIsJustified s h d (Copy c) f t c.len = (
       reached-frame s h d (is_source_granted c) c.source Read c.len (source_pair d c) pins.source a.source_reached o.source_range,

@@ -158,8 +158,8 @@ publish-spelled : (s : Setting) (h : History) (d : DomId) (r : OpenRequest) (way
     → action_at d p ≡ actions.Step (Exchange gref looked (Publish entry)) → IsSpelled entry (body_at h d.0 gref.0 body_words.First) (body_at h d.0 gref.0 body_words.Second)
 publish-spelled s h d r way shown so_far (Exchanging g w (Publish e)) gref looked entry a b acts = let same : e ≡ entry = cc in let at : g ≡ gref = cc in rw (← same, ← at) b
 publish-spelled s h d r way shown so_far (Changing g (Publish e) more w) gref looked entry a b acts = absurd a.1
-publish-spelled s h d r way shown so_far (Walking aim l at) gref looked entry a b acts =
-    absurd (by-leg (λ (z : Step). z ≡ Exchange gref looked (Publish entry) → ⊥) (λ dom f. cc) (λ dom x f. cc) (λ dom x half f. cc) (λ p f. cc) l at (makes-same _ _ acts))
+publish-spelled s h d r way shown so_far (Walking pin_purpose l at) gref looked entry a b acts =
+    absurd (by-leg (λ (z : Step). z ≡ Exchange gref looked (Publish entry) → ⊥) (λ dom f. cc) (λ dom x f. cc) (λ dom x body_word f. cc) (λ p f. cc) l at (makes-same _ _ acts))
 publish-spelled s h d r way shown so_far (Last last verdict) gref looked entry a b acts = absurd (subst IsQuiet (makes-same _ _ acts) a.0)
 publish-spelled s h d r way shown so_far (Ending pins verdict) gref looked entry a b acts = absurd (by-giving (λ (z : Step). z ≡ Exchange gref looked (Publish entry) → ⊥) (λ p n f. cc) (last_first pins) verdict _ acts refl)
 publish-spelled s h d r way shown so_far p gref looked entry a b acts = cc
@@ -249,7 +249,7 @@ pub taken-ends : (k : CallerKnowledge) (way : Continuation) (d : DomId) (r : Ope
     → phase_after k d phase Taken ≡ Ending no_pins Granted
 taken-ends k way d r shown (Exchanging g w c) gref looked change a e = refl
 taken-ends k way d r shown (Changing g c more w) gref looked change a e = refl
-taken-ends k way d r shown (Walking aim l at) gref looked change a e = absurd (by-leg (λ (z : Step). z ≡ Exchange gref looked change → ⊥) (λ dom f. cc) (λ dom x f. cc) (λ dom x half f. cc) (λ p f. cc) l at (makes-same _ _ e))
+taken-ends k way d r shown (Walking pin_purpose l at) gref looked change a e = absurd (by-leg (λ (z : Step). z ≡ Exchange gref looked change → ⊥) (λ dom f. cc) (λ dom x f. cc) (λ dom x body_word f. cc) (λ p f. cc) l at (makes-same _ _ e))
 taken-ends k way d r shown (Last last verdict) gref looked change a e = absurd (subst IsQuiet (makes-same _ _ e) a.0)
 taken-ends k way d r shown (Ending pins verdict) gref looked change a e = absurd (by-giving (λ (z : Step). z ≡ Exchange gref looked change → ⊥) (λ p n f. cc) (last_first pins) verdict _ e refl)
 taken-ends k way d r shown phase gref looked change a e = cc

@@ -87,14 +87,14 @@ module _ (s : Setting) (h : History) (l : Leg) (ws : Words s h l) where
 
   -- at body words
 
-  body-looked : (more word : ℕ) (so_far : StepsSoFar) (half : BodyWord) (v : Observation) → LegHasLooked s h l so_far more word → LegHasLooked s h l ((LookBody l.dom l.gref half, v) ∷ so_far) more word
+  body-looked : (more word : ℕ) (so_far : StepsSoFar) (body_word : BodyWord) (v : Observation) → LegHasLooked s h l so_far more word → LegHasLooked s h l ((LookBody l.dom l.gref body_word, v) ∷ so_far) more word
   unfolding misses looked_at
-  body-looked more word so_far half v a = let t = a.turn in record { within = a.within; turn = (omega arith); looked = a.looked; passed = a.passed; reached = a.reached; shown = a.shown }
+  body-looked more word so_far body_word v a = let t = a.turn in record { within = a.within; turn = (omega arith); looked = a.looked; passed = a.passed; reached = a.reached; shown = a.shown }
 
-  words-come : (more word body second : ℕ) (half : BodyWord) (v : Observation) (so_far : StepsSoFar) (o : Option Rule) → rule_of_try l word body second ≡ o → LegHasLooked s h l so_far more word
-      → WhileSame s h l word (λ (e : Entry). entry_of (control_of word) body second ≡ e) → ComesTo s h l ((LookBody l.dom l.gref half, v) ∷ so_far) None (after_words more word body second o)
-  words-come more word body second half v so_far None e a same = (refl, (body-looked more word so_far half v a, record { in_body = refl; judged = e; spelled = same }))
-  words-come more word body second half v so_far (Some rule) e a same = (refl, (body-looked more word so_far half v a, (body, second, record { in_body = refl; judged = e; spelled = same })))
+  words-come : (more word body second : ℕ) (body_word : BodyWord) (v : Observation) (so_far : StepsSoFar) (o : Option Rule) → rule_of_try l word body second ≡ o → LegHasLooked s h l so_far more word
+      → WhileSame s h l word (λ (e : Entry). entry_of (control_of word) body second ≡ e) → ComesTo s h l ((LookBody l.dom l.gref body_word, v) ∷ so_far) None (after_words more word body second o)
+  words-come more word body second body_word v so_far None e a same = (refl, (body-looked more word so_far body_word v a, record { in_body = refl; judged = e; spelled = same }))
+  words-come more word body second body_word v so_far (Some rule) e a same = (refl, (body-looked more word so_far body_word v a, (body, second, record { in_body = refl; judged = e; spelled = same })))
 
   body-comes : (more word : ℕ) (so_far : StepsSoFar) (b : Bool) → is_kind (control_of word).kind kinds.Sub ≡ b → LegHasLooked s h l so_far more word → let body = body_at h l.dom.0 l.gref.0 body_words.First in
       ComesTo s h l ((LookBody l.dom l.gref body_words.First, Word body) ∷ so_far) None (cond b (Going (Second more word body)) (after_words more word body 0 (rule_of_try l word body 0)))

@@ -35,8 +35,8 @@ use Rattle.gt_core.proofs.{AgreementKept.slots-stand, AgreementKept.keeps-stands
 use Rattle.gt_core.proofs.{Mappings.mappings-added, Mappings.mappings-same, AgreementKept.counts-fit, Phases.none-of}
 use Rattle.gt_core.proofs.{Phases.IsHere, Phases.makes-same, Phases.by-giving, Phases.of-run, Phases.words-of}
 use Rattle.gt_core.proofs.{Phases.Leads, Legs.alone, Legs.control-parts, Legs.IsAsTried, Legs.as-tried}
-use Rattle.gt_core.proofs.{Legs.still-judged, Legs.IsLegOf, Legs.ComesTo, Legs.miss-comes, Aims.pair_of}
-use Rattle.gt_core.proofs.{Aims.leg-here}
+use Rattle.gt_core.proofs.{Legs.still-judged, Legs.IsLegOf, Legs.ComesTo, Legs.miss-comes, PinPurposes.pair_of}
+use Rattle.gt_core.proofs.{PinPurposes.leg-here}
 use Rattle.gt_core.specs.declared.pin_counts.CountsChange.TheVariants.{Pinned}
 use Rattle.gt_model.specs.declared.held.AccessPath.TheVariants.{Own}
 use Rattle.gt_calls.specs.Resting.{IsCopyOf}
@@ -129,10 +129,10 @@ pins-now : (s : Setting) (h : History) (t r : ℕ) (dir : Dir) → (reads_at h t
 pins-now s h t r Read a = ((control-parts (entry_at h t r) (generation_at s h t r) (reads_at h t r) (writes_at h t r)).1, a.0)
 pins-now s h t r Write a = ((control-parts (entry_at h t r) (generation_at s h t r) (reads_at h t r) (writes_at h t r)).2, a.1)
 
-taken-pin : (s : Setting) (h : History) (xs : List State) (d : DomId) (r : OpenRequest) (so_far : StepsSoFar) (aim : PinPurpose) (l : Leg) (more word body second : ℕ) → IsLegalHistory s h → DomainsStand s h xs → IsLegFor (known_at s h d) d r aim l
-    → legs_at h d.0 ≡ numbered 0 (reverse (last_first (pins_so_far aim))) → PhaseStands s h d r so_far (Walking aim l (Pinning more word body second)) → word_at s h l.dom.0 l.gref.0 ≡ word
+taken-pin : (s : Setting) (h : History) (xs : List State) (d : DomId) (r : OpenRequest) (so_far : StepsSoFar) (pin_purpose : PinPurpose) (l : Leg) (more word body second : ℕ) → IsLegalHistory s h → DomainsStand s h xs → IsLegFor (known_at s h d) d r pin_purpose l
+    → legs_at h d.0 ≡ numbered 0 (reverse (last_first (pins_so_far pin_purpose))) → PhaseStands s h d r so_far (Walking pin_purpose l (Pinning more word body second)) → word_at s h l.dom.0 l.gref.0 ≡ word
     → CanPin s h d r (held_of l word body second)
-taken-pin s h xs d r so_far aim l more word body second legal st is held place same =
+taken-pin s h xs d r so_far pin_purpose l more word body second legal st is held place same =
     let a : IsAsTried s h l word body second = as-tried s h l so_far more word body second None place.1.0 place.1.1 (words-of s h xs l legal st) same in
     let p : HeldPin = held_of l word body second in
     let judged : rule_before_pin s h l l.dom l.gref ≡ None = still-judged s h l word body second a ∙ place.1.1.judged in
@@ -142,7 +142,7 @@ taken-pin s h xs d r so_far aim l more word body second legal st is held place s
       is = ap (λ (e : Entry). record p { entry = e }) (sym a.entry);
       valid = a.valid;
       few = omega arith;
-      sound = subst (NoneStands s h l.dom l.gref) (sym (leg-here s h d r aim l is held)) (ap (first_look l) (sym a.control) ∙ place.1.0.passed, judged);
+      sound = subst (NoneStands s h l.dom l.gref) (sym (leg-here s h d r pin_purpose l is held)) (ap (first_look l) (sym a.control) ∙ place.1.0.passed, judged);
     }
 
 pub can-pin : (s : Setting) (h : History) (xs : List State) (d : DomId) (r : OpenRequest) (shown : List Observation) (so_far : StepsSoFar) (phase : Phase) (p : HeldPin) → IsHere s h xs d r shown so_far phase (call_steps.Pin p)
@@ -150,9 +150,9 @@ pub can-pin : (s : Setting) (h : History) (xs : List State) (d : DomId) (r : Ope
 can-pin s h xs d r shown so_far phase p i same = by phase i.at.has_shown i.place i.acts i.held where
   by : (z : Phase) → HasShown (known_at s h d) (path (known_at s h d) d r) d r shown z → PhaseStands s h d r so_far z → action_at d z ≡ actions.Step (call_steps.Pin p)
       → legs_at h d.0 ≡ numbered 0 (reverse (last_first (Rattle.gt_calls.specs.Standing.pins_at z))) → CanPin s h d r p
-  by (Walking aim l (Pinning more word body second)) a b e held = let q : held_of l word body second ≡ p = cc in
-      subst (CanPin s h d r) q (taken-pin s h xs d r so_far aim l more word body second i.legal i.st a.1 held b (subst (λ (z : HeldPin). word_at s h z.dom.0 z.gref.0 ≡ z.word) (sym q) same))
-  by (Walking aim l at) a b e held = cc
+  by (Walking pin_purpose l (Pinning more word body second)) a b e held = let q : held_of l word body second ≡ p = cc in
+      subst (CanPin s h d r) q (taken-pin s h xs d r so_far pin_purpose l more word body second i.legal i.st a.1 held b (subst (λ (z : HeldPin). word_at s h z.dom.0 z.gref.0 ≡ z.word) (sym q) same))
+  by (Walking pin_purpose l at) a b e held = cc
   by (Last last verdict) a b e held = absurd (subst IsQuiet (makes-same _ _ e) a.0)
   by (Ending pins verdict) a b e held = absurd (by-giving (λ (z : Step). z ≡ call_steps.Pin p → ⊥) (λ q n f. cc) (last_first pins) verdict _ e refl)
   by z a b e held = cc
@@ -173,14 +173,14 @@ not-map r dom gref flags c is (inr a) = let f : Map dom gref flags ≡ Probe c =
 pub map-lawful : (s : Setting) (h : History) (d : DomId) (r : OpenRequest) (p : HeldPin) (shown : List Observation) (pins : CallPins) → begun (known_at s h d) d r ≡ None → RestsOnTry (known_at s h d) d r pins (path (known_at s h d) d r) shown p
     → (dom : DomId) (gref : GrantRef) (flags : ℕ) → r ≡ Map dom gref flags
     → (permits p.entry d p.dir uses.Map 0 0 ≡ true) × MayUse s d p.dom p.dir × (frame_of p.entry < frame_count_of s.domains p.dom) × (domain_of s.domains p.dom ≢ None)
-map-lawful s h d r p shown pins none t dom gref flags is = by t.aim t.aimed where
+map-lawful s h d r p shown pins none t dom gref flags is = by t.pin_purpose t.purposed where
   k : CallerKnowledge
   k = known_at s h d
 
   Lawful : HeldPin → Type 0
   Lawful q = (permits p.entry d q.dir uses.Map 0 0 ≡ true) × MayUse s d q.dom q.dir × (frame_of p.entry < frame_count_of s.domains q.dom) × (domain_of s.domains q.dom ≢ None)
 
-  by : (aim : PinPurpose) → IsLegFor k d r aim t.leg → Lawful p
+  by : (pin_purpose : PinPurpose) → IsLegFor k d r pin_purpose t.leg → Lawful p
   by Mapping a = let l = map_leg k d a.dom a.gref a.flags in let lets = map-lets k d a.dom a.gref a.flags p.entry (subst (λ (l : Leg). Lets l p.entry) a.leg_is t.lets) in
       let o = opens k d (Map a.dom a.gref a.flags) (none-of k d r (Map a.dom a.gref a.flags) a.of_map none) in
       let q : held_of l p.word t.body t.second ≡ p = sym (t.pin_is ∙ ap (λ (l : Leg). held_of l p.word t.body t.second) a.leg_is) in
@@ -202,7 +202,7 @@ missed-comes s h l d r more word body second so_far false e a = let w = word_at 
 abbrev pub IsFirstLeg : PinPurpose → Type 0
 IsFirstLeg (Source c None) = Unit {0}
 IsFirstLeg (Dest c source None) = Unit {0}
-IsFirstLeg aim = ⊥
+IsFirstLeg pin_purpose = ⊥
 
 -- the entry is a Via
 abbrev pub IsVia : Entry → Type 0
@@ -225,15 +225,15 @@ second-beyond : (k : CallerKnowledge) (n : Leg) (e : Entry) (l : Leg) → IsOnFr
 second-beyond k n (Via dom ro dom2 gref) l is = ap (λ (z : Leg). z.beyond_via) is
 second-beyond k n e l is = absurd is
 
-first-leg-of : (k : CallerKnowledge) (d : DomId) (r : OpenRequest) (aim : PinPurpose) (l : Leg) → IsLegFor k d r aim l → is_copying l.purpose ≡ true → l.beyond_via ≡ false → IsFirstLeg aim
+first-leg-of : (k : CallerKnowledge) (d : DomId) (r : OpenRequest) (pin_purpose : PinPurpose) (l : Leg) → IsLegFor k d r pin_purpose l → is_copying l.purpose ≡ true → l.beyond_via ≡ false → IsFirstLeg pin_purpose
 first-leg-of k d r Mapping l is copying beyond = false≢true (ap (λ (z : Leg). is_copying z.purpose) (sym is.leg_is) ∙ copying)
 first-leg-of k d r (Source c (Some via)) l is copying beyond = true≢false (sym (second-beyond k (end_leg k d c.source Read c.len) via.entry l is.1.2) ∙ beyond)
 first-leg-of k d r (Dest c source (Some via)) l is copying beyond = true≢false (sym (second-beyond k (end_leg k d c.dest Write c.len) via.entry l is.2.2) ∙ beyond)
-first-leg-of k d r aim l is copying beyond = tt
+first-leg-of k d r pin_purpose l is copying beyond = tt
 
-pub met-first : (k : CallerKnowledge) (d : DomId) (r : OpenRequest) (aim : PinPurpose) (l : Leg) (e : Entry) (g n m : ℕ) → IsLegFor k d r aim l → first_look l (control_with e g n m) ≡ None → IsVia e → IsFirstLeg aim
-met-first k d r aim l (Via dom ro dom2 gref) g n m is passed v = let f = via-passed l dom ro dom2 gref g n m passed in first-leg-of k d r aim l is f.0 f.1
-met-first k d r aim l e g n m is passed v = absurd v
+pub met-first : (k : CallerKnowledge) (d : DomId) (r : OpenRequest) (pin_purpose : PinPurpose) (l : Leg) (e : Entry) (g n m : ℕ) → IsLegFor k d r pin_purpose l → first_look l (control_with e g n m) ≡ None → IsVia e → IsFirstLeg pin_purpose
+met-first k d r pin_purpose l (Via dom ro dom2 gref) g n m is passed v = let f = via-passed l dom ro dom2 gref g n m passed in first-leg-of k d r pin_purpose l is f.0 f.1
+met-first k d r pin_purpose l e g n m is passed v = absurd v
 
 -- the rule that applies at a Via ends the copy with a refusal
 denied-ends : (may : TypeId → TypeId → Perms → Bool) (ts : List Triple) (v : CallResult) → denied may ts ≡ Some v → EndsCopy v
@@ -254,10 +254,10 @@ copy-opens k d r c (inr is) none = (opens k d (Probe c) (subst (λ (z : OpenRequ
 
 -- the next leg, the access, or the end
 module _ (s : Setting) (h : History) (d : DomId) (r : OpenRequest) where
-  where-leads : (c : CopyArgs) (now : StepsSoFar) (aim : PinPurpose) (l : Leg) (pair : DomId × DomId) (o : Option CallResult) → IsCopyOf r c → via_judged (known_at s h d) pair l.dom ≡ o
-      → Leads s h d r now (refusal_in o) (where_via o aim l)
-  where-leads c now aim l pair None is e = (refl, (of-run (domain_of s.domains l.dom) (holds-first (is_none (domain_of s.domains l.dom)) N1 (copy_denied (known_at s h d) pair.0 pair.1 ∷ []) e), tt))
-  where-leads c now aim l pair (Some v) is e = (refl, inr (c, is, via-ends (known_at s h d) pair l.dom v e))
+  where-leads : (c : CopyArgs) (now : StepsSoFar) (pin_purpose : PinPurpose) (l : Leg) (pair : DomId × DomId) (o : Option CallResult) → IsCopyOf r c → via_judged (known_at s h d) pair l.dom ≡ o
+      → Leads s h d r now (refusal_in o) (where_via o pin_purpose l)
+  where-leads c now pin_purpose l pair None is e = (refl, (of-run (domain_of s.domains l.dom) (holds-first (is_none (domain_of s.domains l.dom)) N1 (copy_denied (known_at s h d) pair.0 pair.1 ∷ []) e), tt))
+  where-leads c now pin_purpose l pair (Some v) is e = (refl, inr (c, is, via-ends (known_at s h d) pair l.dom v e))
 
   pub dest-leads : (c : CopyArgs) (source : AccessPath) (now : StepsSoFar) → IsCopyOf r c → begun (known_at s h d) d r ≡ None → Leads s h d r now None (at_dest (known_at s h d) d c source)
   dest-leads c source now is none =
@@ -276,8 +276,8 @@ module _ (s : Setting) (h : History) (d : DomId) (r : OpenRequest) where
       where-leads c now (Dest c source (Some p)) (second_leg (known_at s h d) l dom2 gref) (dest_pair d source dom2) _ is refl
   dest-pin-leads c source l p e now is = (refl, tt)
 
-  pin-leads : (aim : PinPurpose) (l : Leg) (p : HeldPin) (e : Entry) (now : StepsSoFar) → p.entry ≡ e → (IsVia e → IsFirstLeg aim) → IsLegFor (known_at s h d) d r aim l → begun (known_at s h d) d r ≡ None
-      → Leads s h d r now (rule_at_via (known_at s h d) (Some (record { leg = l; pair = pair_of d aim })) e) (after_pin_of (known_at s h d) d aim l p)
+  pin-leads : (pin_purpose : PinPurpose) (l : Leg) (p : HeldPin) (e : Entry) (now : StepsSoFar) → p.entry ≡ e → (IsVia e → IsFirstLeg pin_purpose) → IsLegFor (known_at s h d) d r pin_purpose l → begun (known_at s h d) d r ≡ None
+      → Leads s h d r now (rule_at_via (known_at s h d) (Some (record { leg = l; pair = pair_of d pin_purpose })) e) (after_pin_of (known_at s h d) d pin_purpose l p)
   pin-leads Mapping l p e now same first is none = (no-via (known_at s h d) l (pair_of d Mapping) e (λ v. first v), inl refl)
   pin-leads (Source c None) l p e now same first is none = let k = known_at s h d in
       subst (λ (z : Entry). Leads s h d r now (rule_at_via k (Some (record { leg = l; pair = source_pair d c })) e) (after_source_pin k d c l p z)) (sym same) (source-pin-leads c l p e now is.0 none)
@@ -287,11 +287,11 @@ module _ (s : Setting) (h : History) (d : DomId) (r : OpenRequest) where
       subst (λ (z : Entry). Leads s h d r now (rule_at_via k (Some (record { leg = l; pair = dest_pair d source })) e) (after_dest_pin k d c source l p z)) (sym same) (dest-pin-leads c source l p e now is.0)
   pin-leads (Dest c source (Some via)) l p e now same first is none = (no-via (known_at s h d) l (pair_of d (Dest c source (Some via))) e (λ v. first v), tt)
 
-  pub taken-leads : (so_far now : StepsSoFar) (aim : PinPurpose) (l : Leg) (more word body second : ℕ) (b : Bool) → b ≡ true → IsLegFor (known_at s h d) d r aim l → IsLegOf s h d r l (pair_of d aim) → begun (known_at s h d) d r ≡ None
+  pub taken-leads : (so_far now : StepsSoFar) (pin_purpose : PinPurpose) (l : Leg) (more word body second : ℕ) (b : Bool) → b ≡ true → IsLegFor (known_at s h d) d r pin_purpose l → IsLegOf s h d r l (pair_of d pin_purpose) → begun (known_at s h d) d r ≡ None
       → first_look l (control_of word) ≡ None → IsAsTried s h l word body second
       → Leads s h d r now (rule_at_pin s h d r so_far (held_of l word body second) (cond b Taken (Missed (word_at s h l.dom.0 l.gref.0))))
-      (phase_after (known_at s h d) d (Walking aim l (Pinning more word body second)) (cond b Taken (Missed (word_at s h l.dom.0 l.gref.0))))
-  taken-leads so_far now aim l more word body second false e is leg none passed tried = absurd (false≢true e)
-  taken-leads so_far now aim l more word body second true e is leg none passed tried = let p = held_of l word body second in let entry = entry_at h l.dom.0 l.gref.0 in
-      subst (λ (o : Option LegNow). Leads s h d r now (rule_at_via (known_at s h d) o entry) (after_pin_of (known_at s h d) d aim l p)) (sym leg)
-      (pin-leads aim l p entry now tried.entry (met-first (known_at s h d) d r aim l entry (generation_at s h l.dom.0 l.gref.0) (reads_at h l.dom.0 l.gref.0) (writes_at h l.dom.0 l.gref.0) is (ap (first_look l) (sym tried.control) ∙ passed)) is none)
+      (phase_after (known_at s h d) d (Walking pin_purpose l (Pinning more word body second)) (cond b Taken (Missed (word_at s h l.dom.0 l.gref.0))))
+  taken-leads so_far now pin_purpose l more word body second false e is leg none passed tried = absurd (false≢true e)
+  taken-leads so_far now pin_purpose l more word body second true e is leg none passed tried = let p = held_of l word body second in let entry = entry_at h l.dom.0 l.gref.0 in
+      subst (λ (o : Option LegNow). Leads s h d r now (rule_at_via (known_at s h d) o entry) (after_pin_of (known_at s h d) d pin_purpose l p)) (sym leg)
+      (pin-leads pin_purpose l p entry now tried.entry (met-first (known_at s h d) d r pin_purpose l entry (generation_at s h l.dom.0 l.gref.0) (reads_at h l.dom.0 l.gref.0) (writes_at h l.dom.0 l.gref.0) is (ap (first_look l) (sym tried.control) ∙ passed)) is none)

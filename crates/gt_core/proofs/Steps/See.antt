@@ -61,7 +61,7 @@ body-agrees s h x r body_words.First a within = let here = some-at x.slots r (le
 abbrev pub IsWithin : List State → DomId → Step → Type 0
 IsWithin xs d (LookHeader dom) = state_of xs dom.0 ≢ None
 IsWithin xs d (LookControl dom gref) = (state_of xs dom.0 ≢ None) × (gref.0 < TABLE_ENTRIES)
-IsWithin xs d (LookBody dom gref half) = (state_of xs dom.0 ≢ None) × (gref.0 < TABLE_ENTRIES)
+IsWithin xs d (LookBody dom gref body_word) = (state_of xs dom.0 ≢ None) × (gref.0 < TABLE_ENTRIES)
 IsWithin xs d (call_steps.Pin p) = (state_of xs p.dom.0 ≢ None) × (p.gref.0 < TABLE_ENTRIES)
 IsWithin xs d (Exchange gref looked change) = (state_of xs d.0 ≢ None) × (gref.0 < TABLE_ENTRIES)
 IsWithin xs d step = Unit {0}
@@ -81,8 +81,8 @@ pub sees-agree : (s : Setting) (h : History) (xs : List State) (d : DomId) (step
 sees-agree s h xs d (LookHeader dom) st w = let x = state-there s h xs dom st w in
     ap (λ (n : ℕ). Word n) (seen-state (λ l. header_seen l dom.0) (λ z. header_word z.header) dom.0 x.0 (λ y ys. refl) xs x.1 ∙ ap header_word (x.3.header) ∙ ap (λ (t : DomId). header_word (table_at s h t)) x.2)
 sees-agree s h xs d (LookControl dom gref) st w = ap (λ (n : ℕ). Word n) (control-agrees s h xs dom gref.0 st w.0 w.1)
-sees-agree s h xs d (LookBody dom gref half) st w = let x = state-there s h xs dom st w.0 in
-    ap (λ (n : ℕ). Word n) (seen-state (λ l. body_seen l dom.0 gref.0 half) (λ z. body_in z.slots gref.0 half) dom.0 x.0 (λ y ys. refl) xs x.1 ∙ body-agrees s h x.0 gref.0 half x.3 w.1 ∙ ap (λ (t : DomId). body_at h t.0 gref.0 half) x.2)
+sees-agree s h xs d (LookBody dom gref body_word) st w = let x = state-there s h xs dom st w.0 in
+    ap (λ (n : ℕ). Word n) (seen-state (λ l. body_seen l dom.0 gref.0 body_word) (λ z. body_in z.slots gref.0 body_word) dom.0 x.0 (λ y ys. refl) xs x.1 ∙ body-agrees s h x.0 gref.0 body_word x.3 w.1 ∙ ap (λ (t : DomId). body_at h t.0 gref.0 body_word) x.2)
 sees-agree s h xs d (call_steps.Pin p) st w = ap (λ (n : ℕ). exchange_sees n p.word) (control-agrees s h xs p.dom p.gref.0 st w.0 w.1)
 sees-agree s h xs d (Exchange gref looked change) st w = ap (λ (n : ℕ). exchange_sees n looked) (control-agrees s h xs d gref.0 st w.0 w.1)
 sees-agree s h xs d step st w = refl

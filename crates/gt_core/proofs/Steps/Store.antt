@@ -56,40 +56,40 @@ header-stands s h xs ys x version frames answer o st here a becomes m fits call 
 
 -- the item of a store
 abbrev pub stores : DomId → GrantRef → BodyWord → ℕ → Item
-stores d gref half word = stepped d (StoreBody gref half word) Nothing None
+stores d gref body_word word = stepped d (StoreBody gref body_word word) Nothing None
 
-pub store-keeps : (d : DomId) (gref : GrantRef) (half : BodyWord) (word : ℕ) → KeepsKnown (stores d gref half word)
-store-keeps d gref half word = record { changes = λ r. refl; pins = λ before ps. refl; unpins = λ pins. refl; maps = refl }
+pub store-keeps : (d : DomId) (gref : GrantRef) (body_word : BodyWord) (word : ℕ) → KeepsKnown (stores d gref body_word word)
+store-keeps d gref body_word word = record { changes = λ r. refl; pins = λ before ps. refl; unpins = λ pins. refl; maps = refl }
 
 -- the body word that is stored is the word, and the first one stays if it is the second
-pub half-stored : (d : DomId) (gref : GrantRef) (half : BodyWord) (word : ℕ) (h : History) → body_at (stores d gref half word ∷ h) d.0 gref.0 half ≡ word
+pub body_word-stored : (d : DomId) (gref : GrantRef) (body_word : BodyWord) (word : ℕ) (h : History) → body_at (stores d gref body_word word ∷ h) d.0 gref.0 body_word ≡ word
 unfolding body_at
-half-stored d gref half word h = grind arith
+body_word-stored d gref body_word word h = grind arith
 
 pub first-stays : (d : DomId) (gref : GrantRef) (word r : ℕ) (h : History) → body_at (stores d gref body_words.Second word ∷ h) d.0 r body_words.First ≡ body_at h d.0 r body_words.First
 unfolding body_at
 first-stays d gref word r h = grind arith
 
 -- each slot agrees, with the word stored
-moves-stored : (d : DomId) (gref : GrantRef) (half : BodyWord) (word : ℕ) (h : History) → Moves h (stores d gref half word ∷ h) d.0 gref.0 (Stored half word)
+moves-stored : (d : DomId) (gref : GrantRef) (body_word : BodyWord) (word : ℕ) (h : History) → Moves h (stores d gref body_word word ∷ h) d.0 gref.0 (Stored body_word word)
 unfolding body_at
-moves-stored d gref half word h q r old a = grind (arith, kept-live, store-keeps)
+moves-stored d gref body_word word h q r old a = grind (arith, kept-live, store-keeps)
 
 -- after a store of a body word the core represents the history with it
-pub store-stands : (s : Setting) (h : History) (xs ys : List State) (x : State) (gref : GrantRef) (half : BodyWord) (word : ℕ) (o : Option OpenCall) → DomainsStand s h xs
+pub store-stands : (s : Setting) (h : History) (xs ys : List State) (x : State) (gref : GrantRef) (body_word : BodyWord) (word : ℕ) (o : Option OpenCall) → DomainsStand s h xs
     → state_of xs x.id.0 ≡ Some x → StateStands s h x → ((q : ℕ) → state_of ys q ≡ cond (x.id.0 == q) (Some (record x { underway = o })) (state_of xs q))
-    → CallAgrees s (stores x.id gref half word ∷ h) x.id o (open_call (stores x.id gref half word ∷ h) x.id.0) → GivenAgrees (stores x.id gref half word ∷ h) x.id.0 x.given
-    → DomainsStand s (stores x.id gref half word ∷ h) (changed_in x.id.0 (with_slot gref.0 (Stored half word)) ys)
-store-stands s h xs ys x gref half word o st here a becomes call given = let i = stores x.id gref half word in let k = store-keeps x.id gref half word in
+    → CallAgrees s (stores x.id gref body_word word ∷ h) x.id o (open_call (stores x.id gref body_word word ∷ h) x.id.0) → GivenAgrees (stores x.id gref body_word word ∷ h) x.id.0 x.given
+    → DomainsStand s (stores x.id gref body_word word ∷ h) (changed_in x.id.0 (with_slot gref.0 (Stored body_word word)) ys)
+store-stands s h xs ys x gref body_word word o st here a becomes call given = let i = stores x.id gref body_word word in let k = store-keeps x.id gref body_word word in
     kept-stands s i h xs _ k st
-    (slots-stand s i h xs _ x x.mappings o x.id.0 gref.0 (Stored half word) k.changes refl refl st here a (becomes-changed xs ys x (record x { underway = o }) x.id.0 (with_slot gref.0 (Stored half word)) (λ y. refl) becomes)
-    (moves-stored x.id gref half word h) (mappings-stay i h x.id.0 x.mappings k a.mappings) call given)
+    (slots-stand s i h xs _ x x.mappings o x.id.0 gref.0 (Stored body_word word) k.changes refl refl st here a (becomes-changed xs ys x (record x { underway = o }) x.id.0 (with_slot gref.0 (Stored body_word word)) (λ y. refl) becomes)
+    (moves-stored x.id gref body_word word h) (mappings-stay i h x.id.0 x.mappings k a.mappings) call given)
     (λ dom. subst FitsTable (sym (kept-table s i h dom refl)) (st.tables dom))
 
 -- what a store depends on
 
 -- a body word is stored on an invalid entry
-pub store-invalid : (s : Setting) (h : History) (d : DomId) (r : OpenRequest) (gref : GrantRef) (half : BodyWord) (word : ℕ) → begun (known_at s h d) d r ≡ None → RestsOnGrant r gref half word → entry_at h d.0 gref.0 ≡ Invalid
+pub store-invalid : (s : Setting) (h : History) (d : DomId) (r : OpenRequest) (gref : GrantRef) (body_word : BodyWord) (word : ℕ) → begun (known_at s h d) d r ≡ None → RestsOnGrant r gref body_word word → entry_at h d.0 gref.0 ≡ Invalid
 store-invalid s h d r gref body_words.First word none a = grant-invalid s h d gref a.0 (none-of (known_at s h d) d r (Grant gref a.0) a.1 none)
 store-invalid s h d r gref body_words.Second word none a = grant-invalid s h d gref a.0 (none-of (known_at s h d) d r (Grant gref a.0) a.1 none)
 
@@ -109,7 +109,7 @@ header-fits s h xs d r version frames st none (inr a) =
 
 -- a step that stores a body word
 abbrev pub IsStore : Step → Type 0
-IsStore (StoreBody gref half word) = Unit {0}
+IsStore (StoreBody gref body_word word) = Unit {0}
 IsStore step = ⊥
 
 pub stored-refusal : (k : CallerKnowledge) (gref : GrantRef) (entry : Entry) → None ≡ phase_refusal (after_store k gref entry)
@@ -121,12 +121,12 @@ pub by-storing : (s : Setting) (h : History) (d : DomId) (r : OpenRequest) (way 
     → ((g : GrantRef) (entry : Entry) → P (StoringSecond g entry) (StoreBody g body_words.Second (second_body entry))) → (phase : Phase) (step : Step) → HasShown (known_at s h d) way d r shown phase → action_at d phase ≡ actions.Step step → IsStore step → P phase step
 by-storing s h d r way shown P first second (Storing g entry) step a e n = subst (P (Storing g entry)) (makes-same _ _ e) (first g entry)
 by-storing s h d r way shown P first second (StoringSecond g entry) step a e n = subst (P (StoringSecond g entry)) (makes-same _ _ e) (second g entry)
-by-storing s h d r way shown P first second (Walking aim l at) step a e n = absurd (by-leg (λ (z : Step). IsStore z → ⊥) (λ dom n. n) (λ dom gref n. n) (λ dom gref half n. n) (λ p n. n) l at (subst IsStore (sym (makes-same _ _ e)) n))
+by-storing s h d r way shown P first second (Walking pin_purpose l at) step a e n = absurd (by-leg (λ (z : Step). IsStore z → ⊥) (λ dom n. n) (λ dom gref n. n) (λ dom gref body_word n. n) (λ p n. n) l at (subst IsStore (sym (makes-same _ _ e)) n))
 by-storing s h d r way shown P first second (Last last verdict) step a e n =
     absurd (subst (λ (z : Step). IsStore z → RestsOnRequest (known_at s h d) d r z → ⊥) (sym (makes-same _ _ e)) (by step n) (subst IsStore (sym (makes-same _ _ e)) n) a.1)
   where
     by : (z : Step) → IsStore z → IsStore z → RestsOnRequest (known_at s h d) d r z → ⊥
-    by (StoreBody gref half word) m k rests = rests
+    by (StoreBody gref body_word word) m k rests = rests
     by z m k rests = m
 by-storing s h d r way shown P first second (Ending held verdict) step a e n = absurd (by-giving (λ (z : Step). IsStore z → ⊥) (λ p m f. f) (last_first held) verdict step e n)
 by-storing s h d r way shown P first second phase step a e n = absurd (subst IsStore (sym (makes-same _ _ e)) n)
@@ -135,10 +135,10 @@ abbrev pub StoreLeads : Setting → History → DomId → OpenRequest → List O
 StoreLeads s h d r shown so_far now phase step = HasShown (known_at s h d) (path (known_at s h d) d r) d r shown phase → PhaseStands s h d r so_far phase → PhaseStands s (stepped d step Nothing None ∷ h) d r now (phase_after (known_at s h d) d phase Nothing)
 
 pub first-leads : (s : Setting) (h : History) (d : DomId) (r : OpenRequest) (shown : List Observation) (so_far now : StepsSoFar) (g : GrantRef) (entry : Entry) → StoreLeads s h d r shown so_far now (Storing g entry) (StoreBody g body_words.First (first_body entry))
-first-leads s h d r shown so_far now g (Sub dom ro frame off len) a b = half-stored d g body_words.First (first_body (Sub dom ro frame off len)) h
+first-leads s h d r shown so_far now g (Sub dom ro frame off len) a b = body_word-stored d g body_words.First (first_body (Sub dom ro frame off len)) h
 first-leads s h d r shown so_far now g Invalid a b = tt
-first-leads s h d r shown so_far now g y a b = half-stored d g body_words.First (first_body y) h
+first-leads s h d r shown so_far now g y a b = body_word-stored d g body_words.First (first_body y) h
 
 pub second-leads : (s : Setting) (h : History) (d : DomId) (r : OpenRequest) (shown : List Observation) (so_far now : StepsSoFar) (g : GrantRef) (entry : Entry) → StoreLeads s h d r shown so_far now (StoringSecond g entry) (StoreBody g body_words.Second (second_body entry))
-second-leads s h d r shown so_far now g (Sub dom ro frame off len) a b = let w = second_body (Sub dom ro frame off len) in (first-stays d g w g.0 h ∙ b, half-stored d g body_words.Second w h)
+second-leads s h d r shown so_far now g (Sub dom ro frame off len) a b = let w = second_body (Sub dom ro frame off len) in (first-stays d g w g.0 h ∙ b, body_word-stored d g body_words.Second w h)
 second-leads s h d r shown so_far now g y a b = absurd a.3

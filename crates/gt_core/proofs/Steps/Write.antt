@@ -14,7 +14,7 @@ use Rattle.gt_core.proofs.Words.{Underway, values, known_at, IsInFrame, CopyIsJu
 use Rattle.gt_core.proofs.Words.{FramesStand, StateStands, OpenAgrees, FitsGiven, begun_element, le-leb, unwrap_or}
 use Rattle.gt_core.proofs.Words.{overlay, replay, zeros, FrameState, patch_of, patches, permits_writing, suffices}
 use Rattle.gt_core.proofs.Words.{all_rightful, pool_number, frames_of, is_name, has_frame, admits, WritesTo, journal_in}
-use Rattle.gt_core.proofs.Words.{basis_of, begun_route, route_of, IsWritOf, FrameName, Writ, WriteRecord, cond_both}
+use Rattle.gt_core.proofs.Words.{basis_of, begun_access_path, access_path_of, IsWritOf, FrameName, Writ, WriteRecord, cond_both}
 use Rattle.gt_model.specs.declared.action.Action.TheVariants as actions
 use Rattle.gt_core.specs.declared.core_state.Begun.TheVariants as beginnings
 use Rattle.gt_model.specs.declared.action.Step.TheVariants as call_steps
@@ -53,14 +53,14 @@ map-writes : (e : Entry) (d : DomId) (frame off len : ℕ) → frame ≡ frame_o
 map-writes e d frame off len is a = grind arith
 
 -- the entries of a copy's pins permit it to write
-way-covers : (k : CallerKnowledge) (d : DomId) (granted : Bool) (end : End) (len : ℕ) (pair : DomId → DomId × DomId) (route : AccessPath) → IsReached k d granted end Write len pair route
-    → suffices (basis_of route) d (place_of d end route).frame.owner (place_of d end route).frame.number end.offset len ≡ true
-way-covers k d granted end len pair route a = grind arith
+way-covers : (k : CallerKnowledge) (d : DomId) (granted : Bool) (end : End) (len : ℕ) (pair : DomId → DomId × DomId) (access_path : AccessPath) → IsReached k d granted end Write len pair access_path
+    → suffices (basis_of access_path) d (place_of d end access_path).frame.owner (place_of d end access_path).frame.number end.offset len ≡ true
+way-covers k d granted end len pair access_path a = grind arith
 
--- the route of a call, which suffices, is that of its writ
-admitted-by : (fs : FrameSet) (x : State) (call : Call) (name : FrameName) (off len : ℕ) (route : AccessPath) → has_frame fs name ≡ true → off + len ≤ FRAME_SIZE → route_of x.mappings call ≡ route
-    → suffices (basis_of route) call.caller name.owner name.number off len ≡ true → (w : Writ) → IsWritOf x call w → IsTrue (admits fs name w off len)
-admitted-by fs x call name off len route there within is right w of_call = grind arith
+-- the access path of a call, which suffices, is that of its writ
+admitted-by : (fs : FrameSet) (x : State) (call : Call) (name : FrameName) (off len : ℕ) (access_path : AccessPath) → has_frame fs name ≡ true → off + len ≤ FRAME_SIZE → access_path_of x.mappings call ≡ access_path
+    → suffices (basis_of access_path) call.caller name.owner name.number off len ≡ true → (w : Writ) → IsWritOf x call w → IsTrue (admits fs name w off len)
+admitted-by fs x call name off len access_path there within is right w of_call = grind arith
 
 -- what the next step of an open call writes is by right
 pub open-admitted : (s : Setting) (h : History) (xs : List State) (fs : FrameSet) (x : State) (o : OpenCall) (c : Underway) → DomainsStand s h xs → FramesStand s h fs → StateStands s h x → open_call h x.id.0 ≡ Some c → OpenAgrees s h x.id o c
@@ -89,13 +89,13 @@ open-admitted s h xs fs x o c st fr a call here = subst (λ (z : Call). IsAdmitt
       let within : off + length x.given ≤ FRAME_SIZE = let e = fits.0 in let room = fits.1 in omega arith in
       let below : frame < frame_count_of s.domains dom = subst (λ (n : ℕ). n < frame_count_of s.domains dom) (sym mapped.of_frame) (subst (λ (z : DomId). frame_of m.entry < frame_count_of s.domains z) (sym mapped.of_dom) one.lets.2) in
       admitted-by fs x now (record { owner = dom; number = frame }) off (length x.given) (Direct m)
-      (frame-there s h fs (record { owner = dom; number = frame }) fr below) within (ap (λ (q : OpenRequest). route_of x.mappings (asked_so q)) is ∙ ap begun_route held)
+      (frame-there s h fs (record { owner = dom; number = frame }) fr below) within (ap (λ (q : OpenRequest). access_path_of x.mappings (asked_so q)) is ∙ ap begun_access_path held)
       (map-writes m.entry x.id frame off (length x.given) mapped.of_frame (permits-as m.entry x.id m.dir Write off (length x.given) (λ w. writable) one.lets.0))
   writes dom frame off len none (inr (is, own)) = let o = opens k x.id (Poke frame off len) (none-of k x.id c.request (Poke frame off len) is none) in
       let fits : FitsGiven (Poke frame off len) x.given = subst (λ (q : OpenRequest). FitsGiven q x.given) is given in
       let within : off + length x.given ≤ FRAME_SIZE = let e = fits.0 in let room = fits.1 in omega arith in
       admitted-by fs x now (record { owner = dom; number = frame }) off (length x.given) Own
-      (frame-there s h fs (record { owner = dom; number = frame }) fr (subst (λ (z : DomId). frame < frame_count_of s.domains z) (sym own) o.framed)) within (ap (λ (q : OpenRequest). route_of x.mappings (asked_so q)) is)
+      (frame-there s h fs (record { owner = dom; number = frame }) fr (subst (λ (z : DomId). frame < frame_count_of s.domains z) (sym own) o.framed)) within (ap (λ (q : OpenRequest). access_path_of x.mappings (asked_so q)) is)
       (eq-eqb x.id.0 dom.0 (ap (λ (z : DomId). z.0) (sym own)))
 
   -- a copy writes by the pins of its destination
@@ -106,7 +106,7 @@ open-admitted s h xs fs x o c st fr a call here = subst (λ (z : Call). IsAdmitt
       let right : suffices (basis_of pins.dest) x.id t.frame.owner t.frame.number t.off c'.len ≡ true = way-covers k x.id (is_dest_granted c') c'.dest c'.len (dest_pair x.id pins.source) pins.dest w.dest_reached in
       let right_to : suffices (basis_of pins.dest) x.id to.frame.owner to.frame.number to.off len ≡ true = subst (λ (z : Spot). suffices (basis_of pins.dest) x.id z.frame.owner z.frame.number z.off len ≡ true) (sym w.to_is)
       (subst (λ (n : ℕ). suffices (basis_of pins.dest) x.id t.frame.owner t.frame.number t.off n ≡ true) (sym w.len_is) right) in
-      (range-there s h fs from len fr inside.0, admitted-by fs x now to.frame to.off len pins.dest (frame-there s h fs to.frame fr inside.1.0) inside.1.1 (ap (λ (q : OpenRequest). route_of x.mappings (asked_so q)) w.of_copy) right_to)
+      (range-there s h fs from len fr inside.0, admitted-by fs x now to.frame to.off len pins.dest (frame-there s h fs to.frame fr inside.1.0) inside.1.1 (ap (λ (q : OpenRequest). access_path_of x.mappings (asked_so q)) w.of_copy) right_to)
 
   by : (step : Step) → Rests k x.id c.request (pins_at here.phase) (values c) (actions.Step step) → IsAdmitted fs x now step
   by (call_steps.Write dom frame off len) r = writes dom frame off len r.0 r.1

@@ -45,7 +45,7 @@ pub fn begun_name(task: Option<&RunTask>) -> &'static str
     ensures { result.now ≡ begun_name (option_map (λ u. u.now) task.entry) }
 {
     match task {
-        Some(task) => action_name(&task.deed),
+        Some(task) => action_name(&task.run_action),
         None => "release",
     }
 }

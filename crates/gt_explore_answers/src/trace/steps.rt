@@ -100,19 +100,19 @@ fn push_to(out: &mut Vec<u8>, form: TraceForm, at: Spot) -> Result<(), AllocErro
     push_number_part(out, form, "to_off", at.off)
 }
 
-fn look_letters(half: BodyWord) -> &'static str
-    ensures { result.now ≡ look_letters half }
+fn look_letters(body_word: BodyWord) -> &'static str
+    ensures { result.now ≡ look_letters body_word }
 {
-    match half {
+    match body_word {
         BodyWord::First => "B0",
         BodyWord::Second => "B1",
     }
 }
 
-fn store_letters(half: BodyWord) -> &'static str
-    ensures { result.now ≡ store_letters half }
+fn store_letters(body_word: BodyWord) -> &'static str
+    ensures { result.now ≡ store_letters body_word }
 {
-    match half {
+    match body_word {
         BodyWord::First => "S0",
         BodyWord::Second => "S1",
     }
@@ -213,15 +213,19 @@ pub fn push_step(
         Step::LookBody {
             dom: owner,
             gref,
-            half,
-        } => push_look(out, form, look_letters(half), owner, gref),
+            body_word,
+        } => push_look(out, form, look_letters(body_word), owner, gref),
         Step::Pin { held } => {
             push_pin(out, form, "P", held)?;
             push_word_part(alloc, out, form, "from", held.word)
         }
         Step::Unpin { held, .. } => push_pin(out, form, "U", held),
-        Step::StoreBody { gref, half, word } => {
-            push_move_part(out, form, store_letters(half))?;
+        Step::StoreBody {
+            gref,
+            body_word,
+            word,
+        } => {
+            push_move_part(out, form, store_letters(body_word))?;
             push_entry(out, form, dom, gref)?;
             push_word_part(alloc, out, form, "word", word)
         }

@@ -207,7 +207,7 @@ impl WitnessScript {
         held: &[Handle],
         task: &RunTask,
     ) -> Result<(), AllocError> {
-        match &task.deed {
+        match &task.run_action {
             RunAction::Do(call) => {
                 let name = self.names.begin(place, held, task.line, call)?;
                 push_begin(self.alloc, &mut self.out, lines, task.line, shown(&name))

@@ -37,7 +37,7 @@ impl<'s, 'a> SearchContext<'s, 'a> {
         let Some(task) = self.task(place, actor.next) else {
             return NextMove::Free;
         };
-        match &task.deed {
+        match &task.run_action {
             RunAction::Await(flag) if !is_set(told, *flag) => NextMove::Awaits(*flag),
             _ => NextMove::Free,
         }

@@ -139,7 +139,7 @@ fn same_via(one: Option<HeldPin>, other: Option<HeldPin>) -> bool
     }
 }
 
-fn same_route(one: AccessPath, other: AccessPath) -> bool
+fn same_access_path(one: AccessPath, other: AccessPath) -> bool
     ensures { IsTrue result → other ≡ one }
 {
     match (one, other) {
@@ -155,7 +155,7 @@ fn same_route(one: AccessPath, other: AccessPath) -> bool
 fn same_pins(one: CallPins, other: CallPins) -> bool
     ensures { IsTrue result → other ≡ one }
 {
-    same_route(one.source, other.source) && same_route(one.dest, other.dest)
+    same_access_path(one.source, other.source) && same_access_path(one.dest, other.dest)
 }
 
 fn same_leg(one: Leg, other: Leg) -> bool
@@ -215,7 +215,7 @@ fn same_leg_phase(one: LegPhase, other: LegPhase) -> bool
     }
 }
 
-fn same_aim(one: PinPurpose, other: PinPurpose) -> bool
+fn same_purpose(one: PinPurpose, other: PinPurpose) -> bool
     ensures { IsTrue result → other ≡ one }
 {
     match (one, other) {
@@ -230,7 +230,7 @@ fn same_aim(one: PinPurpose, other: PinPurpose) -> bool
                 source: s,
                 via: v,
             },
-        ) => copy == c && same_route(source, s) && same_via(via, v),
+        ) => copy == c && same_access_path(source, s) && same_via(via, v),
         _ => false,
     }
 }
@@ -288,13 +288,17 @@ fn same_other_phase(one: Phase, other: Phase) -> bool
 {
     match (one, other) {
         (
-            Phase::Walking { aim, leg, at },
             Phase::Walking {
-                aim: a,
+                pin_purpose,
+                leg,
+                at,
+            },
+            Phase::Walking {
+                pin_purpose: a,
                 leg: l,
                 at: p,
             },
-        ) => same_aim(aim, a) && same_leg(leg, l) && same_leg_phase(at, p),
+        ) => same_purpose(pin_purpose, a) && same_leg(leg, l) && same_leg_phase(at, p),
         (
             Phase::Accessing { copy, source, dest },
             Phase::Accessing {
@@ -302,7 +306,7 @@ fn same_other_phase(one: Phase, other: Phase) -> bool
                 source: s,
                 dest: d,
             },
-        ) => copy == c && same_route(source, s) && same_route(dest, d),
+        ) => copy == c && same_access_path(source, s) && same_access_path(dest, d),
         (
             Phase::Asking { dom, question },
             Phase::Asking {

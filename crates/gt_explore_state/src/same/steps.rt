@@ -14,13 +14,17 @@ fn same_look(one: Step, other: Step) -> bool
             dom == d && gref == g
         }
         (
-            Step::LookBody { dom, gref, half },
+            Step::LookBody {
+                dom,
+                gref,
+                body_word,
+            },
             Step::LookBody {
                 dom: d,
                 gref: g,
-                half: h,
+                body_word: h,
             },
-        ) => dom == d && gref == g && half == h,
+        ) => dom == d && gref == g && body_word == h,
         _ => false,
     }
 }
@@ -35,13 +39,17 @@ fn same_change(one: Step, other: Step) -> bool
             same_held(held, h) && holder == o
         }
         (
-            Step::StoreBody { gref, half, word },
+            Step::StoreBody {
+                gref,
+                body_word,
+                word,
+            },
             Step::StoreBody {
                 gref: g,
-                half: h,
+                body_word: h,
                 word: w,
             },
-        ) => gref == g && half == h && word == w,
+        ) => gref == g && body_word == h && word == w,
         (
             Step::Exchange {
                 gref,

@@ -2,18 +2,18 @@
 use super::copying::KeptInput;
 use super::given::{given_reason, never_reason, nothing_reason, question_reason, text_reason};
 use super::names::shown_name;
-use gt_checks::{BreachFault, WhyFault};
-use gt_commands::Invocation;
+use gt_check_command::{BreachFault, WhyFault};
+use gt_command_line::Invocation;
 use gt_entries::{DumpFault, DumpLook, DumpOptions, look_of};
 use gt_explore_faults::{ExploreFault, TextsFault};
+use gt_fault_reasons::{
+    push_block_reason, push_permission_reason, push_policy_reason, push_read_reason, push_refusals,
+    push_script_reason, push_type_reason, push_utf8_reason,
+};
 use gt_host::play;
 use gt_policy_check::WhyQuestion;
 use gt_policy_flow::{FlowFault, FlowQuestion};
 use gt_policy_list::ListingFault;
-use gt_reasons::{
-    push_block_reason, push_permission_reason, push_policy_reason, push_read_reason, push_refusals,
-    push_script_reason, push_type_reason, push_utf8_reason,
-};
 use gt_script_runs::PlayFault;
 use gt_text::ReadFault;
 use std::alloc::{AllocError, Global};

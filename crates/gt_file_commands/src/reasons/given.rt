@@ -1,9 +1,9 @@
 //! The reasons of faults of texts beside the one that a command is about.
 use super::collecting::read_words;
 use super::copying::KeptInput;
+use gt_fault_reasons::{push_policy_reason, push_read_reason, push_utf8_reason};
 use gt_policy::{PolicyFault, PolicyFaultKind};
 use gt_policy_list::ListingFault;
-use gt_reasons::{push_policy_reason, push_read_reason, push_utf8_reason};
 use gt_text::ReadFault;
 use std::alloc::{AllocError, Global};
 

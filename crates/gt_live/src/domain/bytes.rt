@@ -3,7 +3,7 @@ ghost use Rattle.std.specs.Prelude.{◌≡◌, ◌+◌, ◌≤◌, length, IfOk,
 ghost use Rattle.gt_types.specs.declared.Dir.TheVariants as dirs;
 ghost use Rattle.gt_types.specs.declared.Use.TheVariants as uses;
 ghost use Rattle.gt_words.specs.Conditions.{IsSameSeat, IsSeatOf};
-ghost use Rattle.gt_access.specs.Routes.{MayAccessBy, ReachesBy};
+ghost use Rattle.gt_access.specs.AccessPaths.{MayAccessBy, ReachesBy};
 ghost use Rattle.gt_model.specs.declared.request.Request.TheVariants as requests;
 ghost use Rattle.gt_live.specs.Accesses.{FillsBuffer, IsIfMissing, IsOfAccess, IsOfMissing, IsReadBy, IsWrittenBy};
 ghost use Rattle.gt_live.specs.Accesses.{ReadsFrame, WritesFrame};
@@ -56,9 +56,9 @@ fn fill_through<R: Wait, P: Allows>(
 ) -> Result<Filled, Denial>
     requires seat { IsSeatOf monitor.now.words seat.old }
     requires reached { ReachesBy monitor.now.words.layout seat.old dirs.Read uses.Map
-        access.now.at.frame access.now.at.off (length out.old) access.now.route.now }
+        access.now.at.frame access.now.at.off (length out.old) access.now.access_path.now }
     requires may { MayAccessBy monitor.now.config.domains.items (P.may monitor.now.rights)
-        seat.old.dom access.now.route.now }
+        seat.old.dom access.now.access_path.now }
     requires range { access.now.at.off + length out.old ≤ FRAME_SIZE }
     ensures seat { IsSameSeat seat.old seat.new }
     ensures read { IfOk result (λ r. ReadsFrame monitor.now.words.layout access.now.at.frame access.now.at.off
@@ -87,9 +87,9 @@ fn read_through<R: Wait, P: Allows>(
 ) -> Result<Read, Denial>
     requires seat { IsSeatOf monitor.now.words seat.old }
     requires reached { ReachesBy monitor.now.words.layout seat.old dirs.Read uses.Map
-        access.now.at.frame access.now.at.off len access.now.route.now }
+        access.now.at.frame access.now.at.off len access.now.access_path.now }
     requires may { MayAccessBy monitor.now.config.domains.items (P.may monitor.now.rights)
-        seat.old.dom access.now.route.now }
+        seat.old.dom access.now.access_path.now }
     requires range { access.now.at.off + len ≤ FRAME_SIZE }
     ensures seat { IsSameSeat seat.old seat.new }
     ensures read { IfOk result (λ r. ReadsFrame monitor.now.words.layout access.now.at.frame access.now.at.off len r
@@ -119,13 +119,13 @@ fn write_through<'a, R: Wait, P: Allows>(
 ) -> Result<Written<'a>, Denial>
     requires seat { IsSeatOf monitor.now.words seat.old }
     requires reached { ReachesBy monitor.now.words.layout seat.old dirs.Write uses.Map
-        access.now.at.frame access.now.at.off (length bytes.now) access.now.route.now }
+        access.now.at.frame access.now.at.off (length bytes.now) access.now.access_path.now }
     requires may { MayAccessBy monitor.now.config.domains.items (P.may monitor.now.rights)
-        seat.old.dom access.now.route.now }
+        seat.old.dom access.now.access_path.now }
     requires range { access.now.at.off + length bytes.now ≤ FRAME_SIZE }
     ensures seat { IsSameSeat seat.old seat.new }
     ensures written { IfOk result (λ r. WritesFrame monitor.now.words.layout access.now.at.frame access.now.at.off
-        bytes.entry.now seat.old.dom access.now.route.now r seat.old.view seat.new.view) }
+        bytes.entry.now seat.old.dom access.now.access_path.now r seat.old.view seat.new.view) }
     ensures refused { IfErr result IsOfAccess }
     ensures cause { IfErr result (IsIfMissing monitor.now.words access.now.at.frame) }
     ensures unmade { OnErr result (seat.new.view ≡ seat.old.view) }
@@ -164,9 +164,9 @@ impl Domain {
             owner: held.dom,
             number: held.entry.frame(),
         };
-        let route = AccessPath::Direct(held);
+        let access_path = AccessPath::Direct(held);
         let access = Access {
-            route: &route,
+            access_path: &access_path,
             at: Spot { frame: name, off },
         };
         read_through(rt, monitor, self.alloc, &mut self.seat, &access, len)
@@ -201,9 +201,9 @@ impl Domain {
             owner: held.dom,
             number: held.entry.frame(),
         };
-        let route = AccessPath::Direct(held);
+        let access_path = AccessPath::Direct(held);
         let access = Access {
-            route: &route,
+            access_path: &access_path,
             at: Spot { frame: name, off },
         };
         fill_through(rt, monitor, &mut self.seat, &access, buffer)
@@ -236,7 +236,7 @@ impl Domain {
             number: frame,
         };
         let own = Access {
-            route: &AccessPath::Own,
+            access_path: &AccessPath::Own,
             at: Spot { frame: name, off },
         };
         read_through(rt, monitor, self.alloc, &mut self.seat, &own, len)
@@ -273,7 +273,7 @@ impl Domain {
             number: frame,
         };
         let own = Access {
-            route: &AccessPath::Own,
+            access_path: &AccessPath::Own,
             at: Spot { frame: name, off },
         };
         fill_through(rt, monitor, &mut self.seat, &own, buffer)
@@ -306,9 +306,9 @@ impl Domain {
             owner: held.dom,
             number: held.entry.frame(),
         };
-        let route = AccessPath::Direct(held);
+        let access_path = AccessPath::Direct(held);
         let access = Access {
-            route: &route,
+            access_path: &access_path,
             at: Spot { frame: name, off },
         };
         write_through(rt, monitor, &mut self.seat, &access, bytes)
@@ -343,7 +343,7 @@ impl Domain {
             number: frame,
         };
         let own = Access {
-            route: &AccessPath::Own,
+            access_path: &AccessPath::Own,
             at: Spot { frame: name, off },
         };
         write_through(rt, monitor, &mut self.seat, &own, bytes)

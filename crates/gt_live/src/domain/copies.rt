@@ -5,7 +5,7 @@ ghost use Rattle.gt_types.specs.declared.Dir.TheVariants as dirs;
 ghost use Rattle.gt_types.specs.declared.Use.TheVariants as uses;
 ghost use Rattle.gt_words.specs.Conditions.{IsSameSeat, IsSeatOf};
 ghost use Rattle.gt_word_history.specs.declared.view.View.{View};
-ghost use Rattle.gt_access.specs.Routes.{MayCopyBy, ReachesBy};
+ghost use Rattle.gt_access.specs.AccessPaths.{MayCopyBy, ReachesBy};
 ghost use Rattle.gt_audit.specs.Trails.{AppendsRecord};
 ghost use Rattle.gt_model.specs.declared.action.CallResult.TheVariants.{Refused};
 ghost use Rattle.gt_model.specs.declared.request.Request.TheVariants as requests;
@@ -16,15 +16,15 @@ ghost use Rattle.gt_live.specs.Driving.{IsSame};
 ghost use Rattle.gt_live.specs.Domains.{AnswersWithAccess, Answered, BelongsTo, IsUnsettled, KeepsPinned, known_on};
 ghost use Rattle.gt_live.specs.Domains.{record_of_copy};
 ghost use Rattle.gt_live.specs.Halves.{copy_hypercall};
-ghost use Rattle.gt_live.specs.Copies.{CopyStopsWith, filled, halfway_with};
-ghost use Rattle.gt_live.specs.Halves.{ComesHalfway, EndsHalfway, IsHalfway, done_copy};
+ghost use Rattle.gt_live.specs.Copies.{CopyStopsWith, filled, pending_with};
+ghost use Rattle.gt_live.specs.Halves.{BecomesPending, EndsPending, IsPending, done_copy};
 ghost use Rattle.gt_live.specs.Underway.{AreOfRun, GivesBack, HasTaken};
 ghost use Rattle.gt_live.specs.Parts.{copy_at_access, seat_of, trail_of, words_of};
 
 use super::bytes::{not_made, run_of};
 use super::{Domain, known_with, record_done, record_refusal, refusal_of};
+use crate::access_paths::{drive_copy, give_back};
 use crate::monitor::Monitor;
-use crate::routes::{drive_copy, give_back};
 use gt_access::{CopyAccess, copy_under};
 use gt_audit::{Hypercall, Record, Reply};
 use gt_calls::{
@@ -36,7 +36,7 @@ use gt_types::{Allows, Denial, DomId, FRAME_SIZE};
 use gt_words::Seat;
 use std::sync::Wait;
 
-// Copies between the positions that the routes of the access reach.
+// Copies between the positions that the access paths of the access reach.
 #[tactic(auto, using(crate::proofs::Making::accessed_same, crate::proofs::Making::viewed_same))]
 #[inline(always)]
 fn copy_through<R: Wait, P: Allows>(
@@ -47,16 +47,16 @@ fn copy_through<R: Wait, P: Allows>(
 ) -> Result<Copied, Denial>
     requires seat { IsSeatOf monitor.now.words seat.old }
     requires source { ReachesBy monitor.now.words.layout seat.old dirs.Read uses.Copy
-        access.now.from.frame access.now.from.off access.now.len access.now.routes.now.source }
+        access.now.from.frame access.now.from.off access.now.len access.now.access_paths.now.source }
     requires dest { ReachesBy monitor.now.words.layout seat.old dirs.Write uses.Copy
-        access.now.to.frame access.now.to.off access.now.len access.now.routes.now.dest }
+        access.now.to.frame access.now.to.off access.now.len access.now.access_paths.now.dest }
     requires may { MayCopyBy monitor.now.config.domains.items (P.may monitor.now.rights)
-        seat.old.dom access.now.routes.now }
+        seat.old.dom access.now.access_paths.now }
     requires source_range { access.now.from.off + access.now.len ≤ FRAME_SIZE }
     requires dest_range { access.now.to.off + access.now.len ≤ FRAME_SIZE }
     ensures seat { IsSameSeat seat.old seat.new }
     ensures copied { IfOk result (λ r. CopiesBetween monitor.now.words.layout access.now.from access.now.to
-        access.now.len seat.old.dom access.now.routes.now r seat.old.view seat.new.view) }
+        access.now.len seat.old.dom access.now.access_paths.now r seat.old.view seat.new.view) }
     ensures refused { IfErr result IsOfAccess }
     ensures cause { IfErr result (IsIfOneMissing monitor.now.words access.now.from.frame access.now.to.frame) }
     ensures unmade { OnErr result (seat.new.view ≡ seat.old.view) }
@@ -93,7 +93,7 @@ fn no_pins() -> CallPins
 
 // Makes a copy at its access, with the pins that it holds.
 fn at_access(caller: DomId, copy: CopyArgs, pins: CallPins) -> PendingCopy
-    ensures { result ≡ halfway_with caller copy pins }
+    ensures { result ≡ pending_with caller copy pins }
 {
     let phase = Phase::Accessing {
         copy,
@@ -209,7 +209,7 @@ impl Domain {
         let from = place_of(caller, copy.source, pins.source);
         let to = place_of(caller, copy.dest, pins.dest);
         let access = CopyAccess {
-            routes: &pins,
+            access_paths: &pins,
             from,
             to,
             len: copy.len,
@@ -249,7 +249,7 @@ impl Domain {
         let from = place_of(caller, copy.source, pins.source);
         let to = place_of(caller, copy.dest, pins.dest);
         let home = CopyAccess {
-            routes: &pins,
+            access_paths: &pins,
             from,
             to,
             len: copy.len,
@@ -318,13 +318,13 @@ impl Domain {
     }
 
     // Drives a copy to its access, without a record.
-    fn come_halfway<P: Allows>(
+    fn begin_pending<P: Allows>(
         &mut self,
         monitor: &Monitor<P>,
         copy: &CopyArgs,
     ) -> Result<PendingCopy, Denial>
         requires mine { BelongsTo P.may monitor.now self.old }
-        ensures comes { IfOk result (λ h. ComesHalfway P.may monitor.now self.old copy.now h self.new) }
+        ensures comes { IfOk result (λ h. BecomesPending P.may monitor.now self.old copy.now h self.new) }
         ensures mine { OnErr result (BelongsTo P.may monitor.now self.new) }
         ensures refused { IfErr result
             (λ denial. Answered P.may monitor.now self.old (requests.Copy copy.now) (Refused denial) self.new) }
@@ -355,7 +355,7 @@ impl Domain {
         copy: &CopyArgs,
     ) -> Result<PendingCopy, Denial>
         requires mine { BelongsTo P.may monitor.now self.old }
-        ensures comes { IfOk result (λ h. ComesHalfway P.may monitor.now self.old copy.now h self.new) }
+        ensures comes { IfOk result (λ h. BecomesPending P.may monitor.now self.old copy.now h self.new) }
         ensures mine { OnErr result (BelongsTo P.may monitor.now self.new) }
         ensures refused { IfErr result
             (λ denial. Answered P.may monitor.now self.old (requests.Copy copy.now) (Refused denial) self.new) }
@@ -364,8 +364,8 @@ impl Domain {
         ensures recorded { IfErr result (λ denial.
             AppendsRecord (trail_of self.old) (record_of_copy self.old copy.now (Err denial)) (trail_of self.new)) }
     {
-        match self.come_halfway(monitor, copy) {
-            Ok(halfway) => Ok(halfway),
+        match self.begin_pending(monitor, copy) {
+            Ok(pending) => Ok(pending),
             Err(denial) => {
                 let dom = self.seat.dom();
                 self.trail.push(Record {
@@ -379,26 +379,26 @@ impl Domain {
     }
 
     // Releases the pins of a copy at its access, without a record.
-    fn end_halfway<P: Allows>(&mut self, monitor: &Monitor<P>, halfway: PendingCopy)
-        requires halfway { IsHalfway P.may monitor.now halfway self.old }
+    fn end_pending<P: Allows>(&mut self, monitor: &Monitor<P>, pending: PendingCopy)
+        requires pending { IsPending P.may monitor.now pending self.old }
         ensures mine { BelongsTo P.may monitor.now self.new }
-        ensures ends { EndsHalfway monitor.now.words.layout halfway self.old self.new }
+        ensures ends { EndsPending monitor.now.words.layout pending self.old self.new }
         ensures silent { self.new.trail ≡ self.old.trail }
     {
-        let pins = halfway.call.pins();
+        let pins = pending.call.pins();
         self.give_back(monitor, &pins);
     }
 
     /// Makes the second half of a copy: its pins are released, the last one first, and the copy is recorded as Ok.
-    pub fn copy_end<P: Allows>(&mut self, monitor: &Monitor<P>, halfway: PendingCopy)
-        requires halfway { IsHalfway P.may monitor.now halfway self.old }
+    pub fn copy_end<P: Allows>(&mut self, monitor: &Monitor<P>, pending: PendingCopy)
+        requires pending { IsPending P.may monitor.now pending self.old }
         ensures mine { BelongsTo P.may monitor.now self.new }
-        ensures ends { EndsHalfway (words_of monitor.now).layout halfway self.old self.new }
+        ensures ends { EndsPending (words_of monitor.now).layout pending self.old self.new }
         ensures recorded { AppendsRecord (trail_of self.old)
-            (done_copy self.old (copy_at_access halfway)) (trail_of self.new) }
+            (done_copy self.old (copy_at_access pending)) (trail_of self.new) }
     {
-        let copy = halfway.copy;
-        self.end_halfway(monitor, halfway);
+        let copy = pending.copy;
+        self.end_pending(monitor, pending);
         let dom = self.seat.dom();
         self.trail.push(Record {
             dom,

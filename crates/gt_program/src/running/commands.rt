@@ -1,16 +1,16 @@
 //! The command `run`, with the text that it names.
 ghost use Rattle.std.specs.Prelude.{◌≡◌, ℕ, Bool, IfSome, List, Option, is_some};
 ghost use Rattle.gt_text.specs.Streams.{OfInput};
-ghost use Rattle.gt_commands.specs.Files.{file_name_of};
+ghost use Rattle.gt_command_line.specs.Files.{file_name_of};
 ghost use Rattle.gt_file_commands.specs.Working.{known_input, DoesOnFile, Works};
 ghost use Rattle.gt_file_commands.specs.declared.outcome.Outcome.TheVariants.{No};
-ghost use Rattle.gt_commands.specs.declared.invocation.Format.{Format};
+ghost use Rattle.gt_command_line.specs.declared.invocation.Format.{Format};
 ghost use Rattle.gt_program.specs.Runs.{RanAs, RunsDomains, no_flag};
 
 use super::formats::RunSettings;
 use super::reasons::run_with_reasons;
 use gt_audit::SharedLog;
-use gt_commands::{Format, ScriptOptions};
+use gt_command_line::{Format, ScriptOptions};
 use gt_file_commands::{Context, Failure, Outcome, Reasons, TextSource, read_fault, report};
 use gt_run::{FlagGate, RunFault};
 use std::io::{Read, Write};

@@ -5,8 +5,8 @@ ghost use Rattle.gt_program.specs.Runs.{RanAs};
 
 use super::json::run_json;
 use gt_audit::SharedLog;
-use gt_commands::Format;
-use gt_order::run;
+use gt_command_line::Format;
+use gt_linearization::run;
 use gt_run::{Gate, RunFault};
 use std::alloc::Global;
 use std::io::{Read, Write};

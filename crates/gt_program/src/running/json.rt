@@ -10,7 +10,7 @@ ghost use Rattle.gt_script_runs.specs.declared.fault.PlayFault.TheVariants as pl
 
 use gt_audit::SharedLog;
 use gt_json::{JsonFault, PrintedText, write_json};
-use gt_order::run;
+use gt_linearization::run;
 use gt_run::{Gate, RunFault};
 use gt_script_runs::PlayFault;
 use gt_text::every_writer_keeps_what_it_has;

@@ -79,7 +79,7 @@ macro_rules! exchange {
 // A grant stores the body of the page.
 const STORES_BODY: Part = unseen!(CallStep::StoreBody {
     gref: GrantRef(0),
-    half: BodyWord::First,
+    body_word: BodyWord::First,
     word: 5,
 });
 

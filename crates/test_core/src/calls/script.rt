@@ -144,10 +144,10 @@ impl Script {
     }
 
     fn body(&mut self, held: HeldPin) -> Result<(), Memory> {
-        self.half(held, BodyWord::First, first_body(held.entry))?;
+        self.body_word(held, BodyWord::First, first_body(held.entry))?;
         match held.entry {
             Entry::Sub { off, len, .. } => {
-                self.half(
+                self.body_word(
                     held,
                     BodyWord::Second,
                     u64::from(off) + u64::from(len) * 65_536,
@@ -157,11 +157,11 @@ impl Script {
         }
     }
 
-    fn half(&mut self, held: HeldPin, half: BodyWord, word: u64) -> Result<(), Memory> {
+    fn body_word(&mut self, held: HeldPin, body_word: BodyWord, word: u64) -> Result<(), Memory> {
         let step = Step::LookBody {
             dom: held.dom,
             gref: held.gref,
-            half,
+            body_word,
         };
         self.step(step, Observation::Word(word))
     }

@@ -4,9 +4,9 @@ use Rattle.gt_core.proofs.sight.look_body.Goals as goal
 
 pub returns-in-Some : goal.returns-in-Some
 returns-in-Some c =
-    c.body_word.ensures ∙ ap (λ (l : List PinCounts). body_in l c.args.gref.0 c.args.half) c.deref.ensures.value
-    ∙ ap (λ (z : State). body_in z.slots c.args.gref.0 c.args.half) c.domain.view_is
-    ∙ sym (seen-there (λ (l : List State). body_seen l c.args.dom.0 c.args.gref.0 c.args.half) (λ (z : State). body_in z.slots c.args.gref.0 c.args.half) c.args.dom.0 (λ y ys. refl) c.args.domains.now c.in-Some.at c.index-domains-at.result (sym c.find.ensures ∙ c.in-Some.is) c.index-domains-at.is)
+    c.body_in_slots.ensures ∙ ap (λ (l : List PinCounts). body_in l c.args.gref.0 c.args.body_word) c.deref.ensures.value
+    ∙ ap (λ (z : State). body_in z.slots c.args.gref.0 c.args.body_word) c.domain.view_is
+    ∙ sym (seen-there (λ (l : List State). body_seen l c.args.dom.0 c.args.gref.0 c.args.body_word) (λ (z : State). body_in z.slots c.args.gref.0 c.args.body_word) c.args.dom.0 (λ y ys. refl) c.args.domains.now c.in-Some.at c.index-domains-at.result (sym c.find.ensures ∙ c.in-Some.is) c.index-domains-at.is)
 
 pub returns-in-None : goal.returns-in-None
-returns-in-None c = sym (seen-nowhere (λ (l : List State). body_seen l c.args.dom.0 c.args.gref.0 c.args.half) (λ (z : State). body_in z.slots c.args.gref.0 c.args.half) c.args.dom.0 (λ y ys. refl) c.args.domains.now (sym c.find.ensures ∙ c.in-None.is))
+returns-in-None c = sym (seen-nowhere (λ (l : List State). body_seen l c.args.dom.0 c.args.gref.0 c.args.body_word) (λ (z : State). body_in z.slots c.args.gref.0 c.args.body_word) c.args.dom.0 (λ y ys. refl) c.args.domains.now (sym c.find.ensures ∙ c.in-None.is))

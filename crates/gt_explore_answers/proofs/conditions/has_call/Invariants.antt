@@ -7,5 +7,5 @@ use Rattle.gt_explore_answers.proofs.conditions.has_call.Given as goal
 
 abbrev pub invariant-tasks : goal.invariant-tasks
 invariant-tasks l =
-    list_any (λ t. is_call t.deed && bytes_eq (decimal t.line) l.number) l.tasks
-    ≡ list_any (λ t. is_call t.deed && bytes_eq (decimal t.line) l.number) (drop l.task-index l.tasks)
+    list_any (λ t. is_call t.run_action && bytes_eq (decimal t.line) l.number) l.tasks
+    ≡ list_any (λ t. is_call t.run_action && bytes_eq (decimal t.line) l.number) (drop l.task-index l.tasks)

@@ -1,5 +1,5 @@
 use Rattle.std.specs.Option.{option_map}
-use Rattle.gt_commands.specs.Files.{file_names_of}
+use Rattle.gt_command_line.specs.Files.{file_names_of}
 use Rattle.gt_file_commands.proofs.Worked.{checked_kind}
 use Rattle.gt_file_commands.proofs.checking.check_files.Goals as goal
 

@@ -1,6 +1,6 @@
 use Rattle.std.proofs.Common.{inr}
 use Rattle.std.specs.Option.{option_map}
-use Rattle.gt_commands.specs.Files.{file_names_of}
+use Rattle.gt_command_line.specs.Files.{file_names_of}
 use Rattle.gt_text.specs.Laws.{keeps_same}
 use Rattle.gt_file_commands.proofs.Worked.{checked_never}
 use Rattle.gt_file_commands.proofs.checking.check_never_bytes.Goals as goal

@@ -1,5 +1,5 @@
 use Rattle.std.proofs.Common.{ℕ, List}
-use Rattle.gt_checks.specs.Breaking.{CheckedNever}
+use Rattle.gt_check_command.specs.Breaking.{CheckedNever}
 use Rattle.gt_file_commands.proofs.Worked.{answered_input}
 use Rattle.gt_file_commands.proofs.checking.perform_never.Goals as goal
 

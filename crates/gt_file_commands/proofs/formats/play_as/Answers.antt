@@ -1,5 +1,5 @@
 use Rattle.std.proofs.Common.{ℕ, List}
-use Rattle.gt_commands.specs.declared.invocation.Format.{Format}
+use Rattle.gt_command_line.specs.declared.invocation.Format.{Format}
 use Rattle.gt_file_commands.specs.Formats.{PlayedAs}
 use Rattle.gt_file_commands.proofs.FormatLemmas.{in_format}
 use Rattle.gt_file_commands.proofs.formats.play_as.Goals as goal

@@ -1,7 +1,7 @@
 use Rattle.gt_script.proofs.FlagLemmas.{one-more}
 use Rattle.gt_script.proofs.tasks.tasks_for.Goals as goal
 
-pub orders-preserved : goal.orders-preserved
-orders-preserved c =
-    one-more c.orders.yielded c.in-Some.order c.orders.flags c.push_task.new.flags c.orders.tasks.items c.push_task.new.tasks.items c.orders.invariant.0 c.orders.invariant.1 c.in_ok-push_task.ensures.flags
+pub named_tasks-preserved : goal.named_tasks-preserved
+named_tasks-preserved c =
+    one-more c.named_tasks.yielded c.in-Some.named_task c.named_tasks.flags c.push_task.new.flags c.named_tasks.tasks.items c.push_task.new.tasks.items c.named_tasks.invariant.0 c.named_tasks.invariant.1 c.in_ok-push_task.ensures.flags
     c.in_ok-push_task.ensures.tasks

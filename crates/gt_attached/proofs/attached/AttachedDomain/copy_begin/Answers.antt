@@ -4,5 +4,5 @@ use Rattle.gt_attached.proofs.attached.AttachedDomain.copy_begin.Goals as goal
 
 pub invariant_of-self : goal.invariant_of-self
 invariant_of-self g c =
-    stands-there g.P.Allows.may c.deref.result.now (arc_value c.self.inside.monitor) c.self.inside.attachment.domain c.copy_begin.new.self c.args.copy.now c.in-Ok.halfway
+    stands-there g.P.Allows.may c.deref.result.now (arc_value c.self.inside.monitor) c.self.inside.attachment.domain c.copy_begin.new.self c.args.copy.now c.in-Ok.pending
     c.deref.ensures (idle g.P.Allows.may c.deref.ensures c.self.view_is c.requires.idle c.self.invariant) c.in-Ok.ensures.comes

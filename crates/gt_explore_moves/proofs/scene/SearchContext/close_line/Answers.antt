@@ -14,7 +14,7 @@ returns c = λ h a there shows fits. let at = c.args.at in let x = c.in-Some.act
       prints = prints;
       actor = c.close.new.self;
       becomes = refl;
-      closed = subst (λ (z : Actor). CallIsOver (label_given_by c.args.task.now.deed) c.args.verdict z c.close.new.self) same
+      closed = subst (λ (z : Actor). CallIsOver (label_given_by c.args.task.now.run_action) c.args.verdict z c.close.new.self) same
           (subst (λ (l : Option (List ℕ)). CallIsOver l c.args.verdict x c.close.new.self) c.label_of.ensures c.in_ok-close.ensures);
       ground = refl;
       told = refl;

@@ -7,7 +7,7 @@ use Rattle.gt_model.specs.declared.request.Request.TheVariants as requests
 use Rattle.gt_live.specs.Accesses.{frame_named, IsIfMissing, IsWrittenBy, WritesFrame}
 use Rattle.gt_live.specs.Domains.{knowledge}
 use Rattle.gt_model.specs.declared.held.AccessPath.TheVariants.{Own}
-use Rattle.gt_live.proofs.Accessing.{named-route, none-left, one-access, own-way, refused-access}
+use Rattle.gt_live.proofs.Accessing.{named-access_path, none-left, one-access, own-way, refused-access}
 use Rattle.gt_frames.specs.Receipts.{Writing}
 use Rattle.gt_live.proofs.DomainKept.{reseated}
 use Rattle.gt_live.proofs.Making.{same_seat-self}
@@ -22,7 +22,7 @@ returns-clause-answers g c =
     let access = call_steps.Write d.seat.dom c.args.frame c.args.off (length c.args.bytes.now) in
     let way = own-way k d.seat.dom (requests.Poke c.args.frame c.args.off c.args.bytes) access (sym judged ∙ none-left c.judge_own_access.result c.in_default.not-Some) refl in (
       one-access m.words _ access (IsWrittenBy m.words.layout d (requests.Poke c.args.frame c.args.off c.args.bytes)) c.write_through.result d.seat.view c.write_through.new.seat.view tt way
-          (named-route m.words.layout d (requests.Poke c.args.frame c.args.off c.args.bytes) d.seat.dom c.args.frame c.args.off (length c.args.bytes.now) Own c.write_through.result d.seat.view c.write_through.new.seat.view refl
+          (named-access_path m.words.layout d (requests.Poke c.args.frame c.args.off c.args.bytes) d.seat.dom c.args.frame c.args.off (length c.args.bytes.now) Own c.write_through.result d.seat.view c.write_through.new.seat.view refl
           (subst (λ (x : DomId). IfOk c.write_through.result (λ (r : Writing). WritesFrame m.words.layout (frame_named x c.args.frame) c.args.off c.args.bytes.now d.seat.dom Own r d.seat.view c.write_through.new.seat.view)) c.dom-caller.ensures c.write_through.ensures.written))
           c.write_through.ensures.unmade c.write_through.ensures.refused
           (subst (λ (x : DomId). IfErr c.write_through.result (IsIfMissing m.words (frame_named x c.args.frame))) c.dom-caller.ensures c.write_through.ensures.cause),

@@ -10,7 +10,7 @@ use Rattle.gt_model.specs.declared.request.Request.TheVariants as requests
 use Rattle.gt_handles.specs.Handles.{value_of}
 use Rattle.gt_live.specs.Accesses.{frame_named, IsIfMissing, IsWrittenBy, WritesFrame}
 use Rattle.gt_live.specs.Domains.{knowledge}
-use Rattle.gt_live.proofs.Accessing.{mapped-way, named-route, none-left, one-access, refused-access, reaches-mapped}
+use Rattle.gt_live.proofs.Accessing.{mapped-way, named-access_path, none-left, one-access, refused-access, reaches-mapped}
 use Rattle.gt_live.proofs.Accessing.{writes-by}
 use Rattle.gt_live.proofs.DomainKept.{reseated}
 use Rattle.gt_live.proofs.Making.{same_seat-self}
@@ -36,7 +36,7 @@ returns-clause-answers g c =
     let k = knowledge m.config may d in
     let way = mapped-way k d.seat.dom (requests.Store c.args.handle c.args.off c.args.bytes) c.args.handle held (λ (p : HeldPin). call_steps.Write p.dom (frame_of p.entry) c.args.off (length c.args.bytes.now)) (sym c.judge_store.ensures ∙ none-left c.judge_store.result c.in_default.not-Some) there refl in (
       one-access m.words _ (call_steps.Write held.dom (frame_of held.entry) c.args.off (length c.args.bytes.now)) (IsWrittenBy m.words.layout d (requests.Store c.args.handle c.args.off c.args.bytes)) c.write_through.result d.seat.view c.write_through.new.seat.view tt way
-          (named-route m.words.layout d (requests.Store c.args.handle c.args.off c.args.bytes) held.dom (frame_of held.entry) c.args.off (length c.args.bytes.now) (Direct held) c.write_through.result d.seat.view c.write_through.new.seat.view (held, there, refl)
+          (named-access_path m.words.layout d (requests.Store c.args.handle c.args.off c.args.bytes) held.dom (frame_of held.entry) c.args.off (length c.args.bytes.now) (Direct held) c.write_through.result d.seat.view c.write_through.new.seat.view (held, there, refl)
           (subst (λ (n : ℕ). IfOk c.write_through.result (λ (r : Writing). WritesFrame m.words.layout (frame_named held.dom n) c.args.off c.args.bytes.now d.seat.dom (Direct held) r d.seat.view c.write_through.new.seat.view)) c.frame.ensures c.write_through.ensures.written))
           c.write_through.ensures.unmade c.write_through.ensures.refused
           (subst (λ (n : ℕ). IfErr c.write_through.result (IsIfMissing m.words (frame_named held.dom n))) c.frame.ensures c.write_through.ensures.cause),

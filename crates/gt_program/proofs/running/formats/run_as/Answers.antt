@@ -1,6 +1,6 @@
 use Rattle.std.proofs.Common.{ℕ, List}
 use Rattle.std.specs.Prelude.{is_some}
-use Rattle.gt_commands.specs.declared.invocation.Format.{Format}
+use Rattle.gt_command_line.specs.declared.invocation.Format.{Format}
 use Rattle.gt_program.specs.Runs.{RanAs}
 use Rattle.gt_file_commands.proofs.FormatLemmas.{in_format}
 use Rattle.gt_program.proofs.running.formats.run_as.Goals as goal

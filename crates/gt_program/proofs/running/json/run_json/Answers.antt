@@ -3,7 +3,7 @@ use Rattle.std.specs.Prelude.{is_some}
 use Rattle.gt_script.specs.RunScripts.{ReadsAsRun}
 use Rattle.gt_script_runs.specs.declared.fault.PlayFault.TheVariants as play_faults
 use Rattle.gt_run.specs.declared.fault.RunFault.TheVariants as run_faults
-use Rattle.gt_order.specs.Running.{RanInOrder}
+use Rattle.gt_linearization.specs.Running.{RanInOrder}
 use Rattle.gt_json.specs.declared.places.PrintedText.TheVariants.{Run}
 use Rattle.gt_file_commands.proofs.JsonLemmas.{passed}
 use Rattle.gt_program.proofs.running.json.run_json.Goals as goal

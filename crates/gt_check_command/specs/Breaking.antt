@@ -1,0 +1,67 @@
+-- What is written for a policy that is checked against neverallow statements.
+use Rattle.std.specs.Prelude.{◌≡◌, ◌==◌, ℕ, Bool, List, vec_len, Option, Some, Result, Ok, Err}
+use Rattle.std.specs.Io.KnownBytes.{Appends, Keeps}
+use Rattle.std.specs.Str.{IsUtf8}
+use Rattle.gt_policy.specs.Shown.{fault_shown}
+use Rattle.gt_policy.specs.Whole.{ReadsAs}
+use Rattle.gt_policy.specs.declared.fault.TokenFault.{TokenFault}
+use Rattle.gt_policy_check.specs.declared.report.ReportForm.{ReportForm}
+use Rattle.gt_policy_list.specs.declared.fault.ListingFault.TheVariants as listing_faults
+use Rattle.gt_neverallow.specs.Breaking.{AreBreaches, IsNeverFault}
+use Rattle.gt_neverallow.specs.Printing.{IsNeverReport}
+use Rattle.gt_neverallow.specs.declared.breaking.NeverFindings.{NeverFindings}
+use Rattle.gt_neverallow.specs.declared.fault.NeverFault.TheVariants as never_faults
+use Rattle.gt_text.specs.Streams.{AppendsBeginning}
+use Rattle.gt_check_command.specs.Checking.{Checked}
+use Rattle.gt_check_command.specs.declared.fault.BreachFault.{BreachFault}
+use Rattle.gt_check_command.specs.declared.fault.BreachFault.TheVariants.{ForbidsNothing, Policy, Statements}
+
+-- the report of what was found went out, or a prefix of it; the result is whether there are no breaches
+abbrev pub WritesBreaches : ReportForm → List ℕ → List ℕ → List ℕ → List ℕ → NeverFindings → Option (List ℕ)
+    → Option (List ℕ) → Result Bool BreachFault → Type 0
+WritesBreaches form file text never given found old new (Ok clean) =
+    (clean ≡ (vec_len found.breaches == 0))
+    × ((report : List ℕ) × IsNeverReport form file text never given found report × Appends old new report)
+WritesBreaches form file text never given found old new (Err (Policy listing_faults.Write)) =
+    (report : List ℕ) × IsNeverReport form file text never given found report × AppendsBeginning old new report
+WritesBreaches form file text never given found old new (Err (Policy listing_faults.Memory)) = Keeps old new
+WritesBreaches form file text never given found old new (Err (Policy listing_faults.Read)) = ⊥
+WritesBreaches form file text never given found old new (Err (Policy (listing_faults.Utf8 line))) = ⊥
+WritesBreaches form file text never given found old new (Err (Policy (listing_faults.Policy shown))) = ⊥
+WritesBreaches form file text never given found old new (Err (Statements shown)) = ⊥
+WritesBreaches form file text never given found old new (Err (ForbidsNothing line)) = ⊥
+
+-- What was written for a policy text and a text of neverallow statements, each after its name, by the result: at Ok the
+-- report of what was found, and the result is whether there are no breaches; after a failed write a prefix of the
+-- report; otherwise nothing.
+abbrev pub CheckedNeverText : ReportForm → List ℕ → List ℕ → List ℕ → List ℕ → Option (List ℕ) → Option (List ℕ)
+    → Result Bool BreachFault → Type 0
+CheckedNeverText form never given file text old new (Ok clean) =
+    (found : NeverFindings) × (report : List ℕ) × AreBreaches text given found
+    × (clean ≡ (vec_len found.breaches == 0)) × IsNeverReport form file text never given found report
+    × Appends old new report
+CheckedNeverText form never given file text old new (Err (Policy listing_faults.Write)) =
+    (found : NeverFindings) × (report : List ℕ) × AreBreaches text given found
+    × IsNeverReport form file text never given found report × AppendsBeginning old new report
+CheckedNeverText form never given file text old new (Err (Policy listing_faults.Memory)) = Keeps old new
+CheckedNeverText form never given file text old new (Err (Policy listing_faults.Read)) = ⊥
+CheckedNeverText form never given file text old new (Err (Policy (listing_faults.Utf8 line))) = ⊥
+CheckedNeverText form never given file text old new (Err (Policy (listing_faults.Policy shown))) =
+    (f : TokenFault) × (fault_shown shown ≡ Some f) × ReadsAs text (Err f) × Keeps old new
+CheckedNeverText form never given file text old new (Err (Statements shown)) =
+    IsNeverFault text given (never_faults.Statements shown) × Keeps old new
+CheckedNeverText form never given file text old new (Err (ForbidsNothing line)) =
+    IsNeverFault text given (never_faults.ForbidsNothing line) × Keeps old new
+
+-- the same for bytes; a fault of the policy is one of a check
+abbrev pub CheckedNever : ReportForm → List ℕ → List ℕ → List ℕ → List ℕ → Option (List ℕ) → Option (List ℕ)
+    → Result Bool BreachFault → Type 0
+CheckedNever form never given file bytes old new (Ok clean) =
+    IsUtf8 bytes × CheckedNeverText form never given file bytes old new (Ok clean)
+CheckedNever form never given file bytes old new (Err (Policy listing_faults.Write)) =
+    IsUtf8 bytes × CheckedNeverText form never given file bytes old new (Err (Policy listing_faults.Write))
+CheckedNever form never given file bytes old new (Err (Policy fault)) = Checked form file bytes old new (Err fault)
+CheckedNever form never given file bytes old new (Err (Statements shown)) =
+    IsUtf8 bytes × CheckedNeverText form never given file bytes old new (Err (Statements shown))
+CheckedNever form never given file bytes old new (Err (ForbidsNothing line)) =
+    IsUtf8 bytes × CheckedNeverText form never given file bytes old new (Err (ForbidsNothing line))

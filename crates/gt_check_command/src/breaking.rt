@@ -1,0 +1,128 @@
+//! Checks a policy against `neverallow` statements, and writes the breaches.
+ghost use Rattle.std.specs.Prelude.{◌≡◌, ◌+◌, ℕ, List, take, IfOk};
+ghost use Rattle.gt_types.specs.declared.limits.TheConstants.{LONGEST_TEXT};
+ghost use Rattle.gt_neverallow.specs.Printing.{IsNeverReport};
+ghost use Rattle.gt_text.specs.Streams.{OfInput};
+ghost use Rattle.gt_check_command.specs.Breaking.{CheckedNever, CheckedNeverText, WritesBreaches};
+
+use crate::fault::BreachFault;
+use gt_neverallow::{BrokenTexts, NeverFault, NeverFindings, breaches, push_never_findings};
+use gt_policy_check::ReportForm;
+use gt_policy_list::{ListingFault, policy_text};
+use gt_text::{finish, read_text};
+use std::alloc::{AllocError, Global};
+use std::io::{Read, Write};
+
+/// A text of `neverallow` statements, with the name with which lines about it begin.
+#[derive(Clone, Copy)]
+pub struct NeverText<'t> {
+    pub file: &'t str,
+    pub text: &'t str,
+}
+
+// Prints what was found.
+fn report(
+    alloc: Global,
+    form: ReportForm,
+    texts: &BrokenTexts,
+    found: &NeverFindings,
+) -> Result<Vec<u8>, AllocError>
+    ensures { IfOk result (λ said.
+        IsNeverReport form texts.now.file.now texts.now.policy.now texts.now.never_file.now texts.now.never.now
+        found.now said.items) }
+{
+    let mut out = Vec::new(alloc);
+    push_never_findings(alloc, &mut out, form, texts, found)?;
+    Ok(out)
+}
+
+// Writes what was found, and returns whether there are no breaches.
+fn write_breaches<W: Write>(
+    alloc: Global,
+    form: ReportForm,
+    texts: &BrokenTexts,
+    found: &NeverFindings,
+    writer: &mut W,
+) -> Result<bool, BreachFault>
+    ensures { WritesBreaches form texts.now.file.now texts.now.policy.now texts.now.never_file.now texts.now.never.now
+        found.now (W.contents writer.old) (W.contents writer.new) result }
+{
+    let Ok(said) = report(alloc, form, texts, found) else {
+        return Err(BreachFault::Policy(ListingFault::Memory));
+    };
+    match finish(writer, said.as_slice()) {
+        Ok(()) => Ok(found.breaches.is_empty()),
+        Err(_) => Err(BreachFault::Policy(ListingFault::Write)),
+    }
+}
+
+// Checks a text.
+fn check_never_text<W: Write>(
+    alloc: Global,
+    form: ReportForm,
+    texts: &BrokenTexts,
+    writer: &mut W,
+) -> Result<bool, BreachFault>
+    ensures { CheckedNeverText form texts.now.never_file.now texts.now.never.now texts.now.file.now
+        texts.now.policy.now (W.contents writer.old) (W.contents writer.new) result }
+{
+    match breaches(alloc, texts.policy, texts.never) {
+        Ok(found) => write_breaches(alloc, form, texts, &found, writer),
+        Err(NeverFault::Policy(fault)) => Err(BreachFault::Policy(ListingFault::from(fault))),
+        Err(NeverFault::Statements(fault)) => Err(BreachFault::Statements(fault)),
+        Err(NeverFault::ForbidsNothing(line)) => Err(BreachFault::ForbidsNothing(line)),
+    }
+}
+
+// Checks the policy of the bytes that were read: all, or the first up to the read limit.
+fn check_never_bytes<W: Write>(
+    alloc: Global,
+    file: &str,
+    form: ReportForm,
+    never: NeverText,
+    input: &[u8],
+    writer: &mut W,
+) -> Result<bool, BreachFault>
+    ensures { (all : List ℕ) → input.now ≡ take (LONGEST_TEXT + 1) all →
+        CheckedNever form never.entry.file.now never.entry.text.now file.now all
+        (W.contents writer.old) (W.contents writer.new) result }
+{
+    match policy_text(input) {
+        Ok(policy) => {
+            let texts = BrokenTexts {
+                file,
+                policy,
+                never_file: never.file,
+                never: never.text,
+            };
+            check_never_text(alloc, form, &texts, writer)
+        }
+        Err(fault) => Err(BreachFault::Policy(fault)),
+    }
+}
+
+/// Checks a policy against `neverallow` statements, and writes each allow statement that breaks one, in the layout of
+/// compilers or as JSON Lines. The lines about the policy begin with the name `file`. Returns whether no statement is
+/// broken. At most 1,048,577 bytes are read.
+///
+/// # Errors
+/// The first fault of the policy, or else of the `neverallow` statements, whose names must be those of the policy; or a
+/// read or an allocation that failed. Then nothing was written. After a failed write, a prefix of the breaches was
+/// written.
+pub fn check_never<R: Read, W: Write>(
+    alloc: Global,
+    file: &str,
+    form: ReportForm,
+    never: NeverText,
+    reader: &mut R,
+    writer: &mut W,
+) -> Result<bool, BreachFault>
+    ensures { OfInput (R.remaining reader.old) (λ input.
+        CheckedNever form never.entry.file.now never.entry.text.now file.now input
+        (W.contents writer.old) (W.contents writer.new) result) }
+{
+    match read_text(alloc, reader) {
+        Ok(input) => check_never_bytes(alloc, file, form, never, input.as_slice(), writer),
+        Err(fault) => Err(BreachFault::Policy(ListingFault::from(fault))),
+    }
+}

@@ -1,0 +1,65 @@
+//! The errors of `why` and of a check against `neverallow` statements.
+use gt_policy::PolicyFault;
+use gt_policy_list::ListingFault;
+use std::error::Error;
+use std::fmt;
+
+/// The error of `why`. It prints as one line, without a line feed.
+#[derive(Debug, Drop)]
+pub enum WhyFault {
+    /// The text is not a policy or was not read, the lines were not written, or an allocation failed.
+    Text(ListingFault),
+    /// The source is not a declared type, nor the attribute of one. Nothing was written.
+    NoSource,
+    /// The target is not a declared type, nor the attribute of one. Nothing was written.
+    NoTarget,
+    /// The word is not one of the seven permissions. Nothing was written.
+    NoPermission,
+}
+
+impl fmt::Display for WhyFault {
+    ghost use Rattle.std.specs.Prelude.{Some};
+    ghost use Rattle.gt_check_command.specs.Faults.{why_fault_text};
+
+    ghost output = { λ fault. Some (why_fault_text fault) };
+
+    fn fmt<W: fmt::Write>(&self, f: &mut fmt::Formatter<W>) -> fmt::Result {
+        match self {
+            WhyFault::Text(fault) => write!(f, "{fault}"),
+            WhyFault::NoSource => f.write_str("the source is not a type of the policy"),
+            WhyFault::NoTarget => f.write_str("the target is not a type of the policy"),
+            WhyFault::NoPermission => f.write_str("the permission is not one of the seven"),
+        }
+    }
+}
+
+impl Error for WhyFault {}
+
+/// The error of a check against `neverallow` statements. It prints as one line, without a line feed.
+#[derive(Debug, Drop)]
+pub enum BreachFault {
+    /// The text is not a policy or was not read, the breaches were not written, or an allocation failed.
+    Policy(ListingFault),
+    /// The first fault of the `neverallow` statements, or a failed allocation. Nothing was written.
+    Statements(PolicyFault),
+    /// No `neverallow` statement forbids permissions of class `grant`. It has the line of the first one, or 1. Nothing
+    /// was written.
+    ForbidsNothing(u32),
+}
+
+impl fmt::Display for BreachFault {
+    ghost use Rattle.std.specs.Prelude.{Some};
+    ghost use Rattle.gt_check_command.specs.Faults.{breach_fault_text};
+
+    ghost output = { λ fault. Some (breach_fault_text fault) };
+
+    fn fmt<W: fmt::Write>(&self, f: &mut fmt::Formatter<W>) -> fmt::Result {
+        match self {
+            BreachFault::Policy(fault) => write!(f, "{fault}"),
+            BreachFault::Statements(fault) => write!(f, "{fault}"),
+            BreachFault::ForbidsNothing(line) => { write!(f, "line {line}: neverallow nothing") }
+        }
+    }
+}
+
+impl Error for BreachFault {}

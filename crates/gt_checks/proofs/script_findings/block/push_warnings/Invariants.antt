@@ -1,6 +1,0 @@
-use Rattle.std.proofs.Common.{◌≡◌}
-use Rattle.gt_policy_check.specs.Check.{error_lines}
-use Rattle.gt_checks.proofs.script_findings.block.push_warnings.Given as goal
-
-abbrev pub invariant-more : goal.invariant-more
-invariant-more l = error_lines l.found.items ≡ error_lines l.initial.found.items

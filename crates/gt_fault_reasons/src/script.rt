@@ -1,0 +1,237 @@
+//! The reasons for the faults of a script.
+ghost use Rattle.std.specs.Prelude.{◌≡◌, ◌++◌, OnOk, codes};
+ghost use Rattle.gt_fault_reasons.specs.Reasons.{AppendsReasonAt};
+
+use crate::blocks::{block_text, has_policy};
+use crate::limits::{config_reason, mode_reason};
+use crate::reason::{Reason, ReasonNote};
+use crate::syntax::syntax_reason;
+use crate::texts::push_heading;
+use crate::waits::stuck_reason;
+use gt_policy::PolicyFault;
+use gt_policy_check::{Finding, FindingKind, check};
+use gt_script::{BlockFault, ScriptFault, ScriptFaultKind};
+use gt_script_lines::text_lines;
+use gt_text::{push_number, push_text, text_of};
+use gt_types::LONGEST_TEXT;
+use std::alloc::{AllocError, Global};
+
+// Appends the limit of a text.
+fn push_limit(out: &mut Vec<u8>, what: &str) -> Result<(), AllocError> {
+    push_text(out, what)?;
+    push_text(out, " has at most ")?;
+    push_number(out, LONGEST_TEXT)?;
+    push_text(out, " bytes")
+}
+
+fn limit_reason(alloc: Global, what: &str) -> Result<Reason, AllocError> {
+    let mut message = Vec::new(alloc);
+    push_limit(&mut message, what)?;
+    Ok(Reason::at(1, message))
+}
+
+// Returns the column after these bytes, counted from 1.
+fn column_after(front: &[u8]) -> usize {
+    let mut column: usize = 1;
+    for byte in front {
+        column = if *byte == b'\n' {
+            1
+        } else {
+            column.saturating_add(1)
+        };
+    }
+    column
+}
+
+// Explains bytes that are not UTF-8, with the column of the first bad byte.
+fn utf8_reason(alloc: Global, input: &[u8]) -> Result<Reason, AllocError> {
+    let mut reason = Reason::of_line(alloc, "invalid UTF-8")?;
+    if let Err(error) = str::from_utf8(input) {
+        reason.column = column_after(&input[..error.valid_up_to()]);
+    }
+    Ok(reason)
+}
+
+// Explains a fault at the end of a script.
+fn end_reason(alloc: Global, lines: &[&str], kind: ScriptFaultKind) -> Result<Reason, AllocError> {
+    let text = if kind == ScriptFaultKind::Config {
+        "the script has no line domain"
+    } else if has_policy(alloc, lines)? {
+        "the policy block is not closed by a line end"
+    } else {
+        "the script has neither a policy block nor a line triple"
+    };
+    Reason::of_line(alloc, text)
+}
+
+// Explains a fault of a line.
+fn line_reason(alloc: Global, lines: &[&str], fault: &ScriptFault) -> Result<Reason, AllocError> {
+    let place = fault.line.saturating_sub(1);
+    if place >= lines.len() {
+        return end_reason(alloc, lines, fault.kind);
+    }
+    let line = lines[place];
+    match fault.kind {
+        ScriptFaultKind::Limit | ScriptFaultKind::Utf8 => limit_reason(alloc, "a script"),
+        ScriptFaultKind::Syntax => syntax_reason(alloc, line),
+        ScriptFaultKind::Config => config_reason(alloc, &lines[..place], line),
+        ScriptFaultKind::Mode => mode_reason(alloc, line),
+        ScriptFaultKind::Stuck => stuck_reason(alloc, lines, line),
+    }
+}
+
+/// Returns the reason for a fault that `parse` or `parse_run` found in these bytes.
+pub fn script_reason(
+    alloc: Global,
+    input: &[u8],
+    fault: &ScriptFault,
+) -> Result<Reason, AllocError> {
+    match (fault.kind, text_of(input)) {
+        (ScriptFaultKind::Limit, _) => limit_reason(alloc, "a script"),
+        (_, Err(_)) => utf8_reason(alloc, input),
+        (_, Ok(text)) => {
+            let lines = text_lines(alloc, text)?;
+            line_reason(alloc, lines.as_slice(), fault)
+        }
+    }
+}
+
+// Appends a reason for a line.
+fn push_reason(
+    out: &mut Vec<u8>,
+    file: &str,
+    line: usize,
+    reason: &Reason,
+) -> Result<(), AllocError>
+    ensures { OnOk result (AppendsReasonAt file.now line out.old.items out.new.items) }
+{
+    push_heading(out, file, line, reason.column)?;
+    out.extend_from_slice(reason.message.as_slice())?;
+    push_text(out, "\n")
+}
+
+/// Appends the reason for a fault that `parse` or `parse_run` found in these bytes: a line `FILE:LINE:COLUMN: REASON`,
+/// at the line of the fault. After an Err, part of it may have been appended.
+pub fn push_script_reason(
+    alloc: Global,
+    out: &mut Vec<u8>,
+    file: &str,
+    input: &[u8],
+    fault: &ScriptFault,
+) -> Result<(), AllocError>
+    ensures { OnOk result (AppendsReasonAt file.now fault.now.line out.old.items out.new.items) }
+{
+    let reason = script_reason(alloc, input, fault)?;
+    push_reason(out, file, fault.line, &reason)
+}
+
+// Returns the note of an error, if this finding is a note.
+fn note_found(alloc: Global, finding: Option<&Finding>) -> Result<Option<ReasonNote>, AllocError> {
+    match finding {
+        Some(note) if matches!(note.kind, FindingKind::Note) => Ok(Some(ReasonNote {
+            line: note.line as usize,
+            column: note.column as usize,
+            message: Vec::from_slice(alloc, note.message.as_slice())?,
+        })),
+        _ => Ok(None),
+    }
+}
+
+// Makes the reason of the findings in a policy block: its error, and the note after it.
+fn reason_found(alloc: Global, found: &[Finding]) -> Result<Reason, AllocError> {
+    let [error, others @ ..] = found else {
+        return Reason::of_line(alloc, "the policy block has a fault");
+    };
+    Ok(Reason {
+        column: error.column as usize,
+        message: Vec::from_slice(alloc, error.message.as_slice())?,
+        note: note_found(alloc, others.first())?,
+    })
+}
+
+// Returns the reason for the fault of a text that is not a policy.
+fn text_reason(alloc: Global, text: &str) -> Result<Reason, AllocError> {
+    match check(alloc, text) {
+        Ok(found) => reason_found(alloc, found.as_slice()),
+        Err(_) => Err(AllocError),
+    }
+}
+
+/// Returns the reason for the fault of a script's policy block.
+pub fn block_reason(alloc: Global, input: &[u8]) -> Result<Reason, AllocError> {
+    let Ok(text) = text_of(input) else {
+        return utf8_reason(alloc, input);
+    };
+    let lines = text_lines(alloc, text)?;
+    match block_text(alloc, lines.as_slice())? {
+        Some(block) => text_reason(alloc, block.as_str()),
+        None => Reason::of_line(alloc, "the script has no policy block"),
+    }
+}
+
+/// Appends the reason for a fault of a script's policy block: a line `FILE:LINE:COLUMN: REASON`, at the line of the
+/// fault. After an Err, part of it may have been appended.
+pub fn push_block_reason(
+    alloc: Global,
+    out: &mut Vec<u8>,
+    file: &str,
+    input: &[u8],
+    fault: &BlockFault,
+) -> Result<(), AllocError>
+    ensures { OnOk result (AppendsReasonAt file.now fault.now.line out.old.items out.new.items) }
+{
+    let reason = block_reason(alloc, input)?;
+    push_reason(out, file, fault.line, &reason)
+}
+
+/// Returns the reason for the fault of a policy text.
+pub fn policy_reason(alloc: Global, input: &[u8]) -> Result<Reason, AllocError> {
+    if input.len() > LONGEST_TEXT {
+        return limit_reason(alloc, "a policy");
+    }
+    match text_of(input) {
+        Ok(text) => text_reason(alloc, text),
+        Err(_) => utf8_reason(alloc, input),
+    }
+}
+
+/// Appends the reason for a fault of a policy text: a line `FILE:LINE:COLUMN: REASON`, at the line of the fault. After
+/// an Err, part of it may have been appended.
+pub fn push_policy_reason(
+    alloc: Global,
+    out: &mut Vec<u8>,
+    file: &str,
+    input: &[u8],
+    fault: &PolicyFault,
+) -> Result<(), AllocError>
+    ensures { OnOk result (AppendsReasonAt file.now fault.now.line out.old.items out.new.items) }
+{
+    let reason = policy_reason(alloc, input)?;
+    push_reason(out, file, fault.line as usize, &reason)
+}
+
+/// Appends where bytes are not UTF-8: a line `FILE:LINE:COLUMN: REASON`, at this line. After an Err, part of it may
+/// have been appended.
+pub fn push_utf8_reason(
+    alloc: Global,
+    out: &mut Vec<u8>,
+    file: &str,
+    input: &[u8],
+    line: usize,
+) -> Result<(), AllocError>
+    ensures { OnOk result (AppendsReasonAt file.now line out.old.items out.new.items) }
+{
+    let reason = utf8_reason(alloc, input)?;
+    push_reason(out, file, line, &reason)
+}
+
+/// Appends why a file was not read: a line `FILE: REASON`, in the words of the system. After an Err, part of it may
+/// have been appended.
+pub fn push_read_reason(out: &mut Vec<u8>, file: &str, said: &[u8]) -> Result<(), AllocError>
+    ensures { OnOk result (out.new.items ≡ out.old.items ++ file.now ++ codes ": " ++ said.now ++ codes "\n") }
+{
+    push_text(out, file)?;
+    push_text(out, ": ")?;
+    out.extend_from_slice(said)?;
+    push_text(out, "\n")
+}

@@ -1,5 +1,0 @@
-use Rattle.gt_order.proofs.Seeing.{core-sees}
-use Rattle.gt_order.proofs.laws.core_sees_the_words.Goals as goal
-
-pub returns : goal.returns
-returns c = core-sees

@@ -1,5 +1,0 @@
-use Rattle.gt_order.proofs.Order.{runs-have-legal-orders}
-use Rattle.gt_order.proofs.laws.every_run_has_a_legal_order.Goals as goal
-
-pub returns : goal.returns
-returns c = runs-have-legal-orders

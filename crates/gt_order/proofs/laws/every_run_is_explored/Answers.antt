@@ -1,5 +1,0 @@
-use Rattle.gt_order.proofs.Explored.{runs-explored}
-use Rattle.gt_order.proofs.laws.every_run_is_explored.Goals as goal
-
-pub returns : goal.returns
-returns c = runs-explored

@@ -1,5 +1,0 @@
-use Rattle.gt_order.proofs.Unlogged.{unlogged-print}
-use Rattle.gt_order.proofs.laws.every_unlogged_run_is_printed.Goals as goal
-
-pub returns : goal.returns
-returns c = unlogged-print

@@ -1,5 +1,0 @@
-use Rattle.gt_order.proofs.Followed.{following-made}
-use Rattle.gt_order.proofs.laws.following_is_calling.Goals as goal
-
-pub returns : goal.returns
-returns g c = following-made _ _

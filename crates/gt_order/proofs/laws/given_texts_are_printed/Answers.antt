@@ -1,5 +1,0 @@
-use Rattle.gt_order.proofs.Served.{given-printed}
-use Rattle.gt_order.proofs.laws.given_texts_are_printed.Goals as goal
-
-pub returns : goal.returns
-returns c = given-printed

@@ -1,5 +1,0 @@
-use Rattle.gt_order.proofs.Served.{printed-given}
-use Rattle.gt_order.proofs.laws.printed_texts_are_given.Goals as goal
-
-pub returns : goal.returns
-returns c = printed-given
