@@ -3,9 +3,11 @@
 #
 #   map N    N domains map, store to and unmap a page each, while the owner grants and revokes all of them
 #   copy N   N domains copy from a page each, while the owner grants and revokes all of them
+#   bytes N  the same as copy N, with a grant by bytes of a page that no domain uses
 #   race N   an owner revokes and grants a page N times against a domain that maps and unmaps it N times
 #   pairs N  N pairs of domains that share nothing with each other
 #   ring N   N domains grant a page to the next one and revoke it, and map that of the one before and unmap it
+#   relay N  N domains hand a token on: each awaits that of the one before, maps its page, and grants one of its own
 #   text N   an owner pokes a frame N times against a domain that loads it N times: few states, many texts
 #
 # A program that meets more states than the limit, or takes more than a minute, is reported as such. The gate does
@@ -48,8 +50,9 @@ write() {
         printf 'await %d granted\ndo %d map h 1 %d rw\ndo %d store h 0 01\ndo %d unmap h\n' \
           "$dom" "$dom" $((dom - 2)) "$dom" "$dom"
       done ;;
-    copy)
+    copy | bytes)
       head_of $((size + 1))
+      if [ "$family" = bytes ]; then echo 'do 1 bytes 7 0100020007000000'; fi
       echo 'do 1 poke 5 0 5a'
       granted_and_revoked ro "$size" 0
       for ((dom = 2; dom <= size + 1; dom++)); do
@@ -78,6 +81,16 @@ write() {
         printf 'do %d revoke 0\nawait %d g%d\n' "$dom" "$dom" "$before"
         printf 'do %d map h %d 0 rw\ndo %d unmap h\n' "$dom" "$before" "$dom"
       done ;;
+    relay)
+      head_of "$size"
+      for ((dom = 1; dom <= size; dom++)); do
+        before=$((dom - 1))
+        if [ "$dom" -gt 1 ]; then
+          printf 'await %d t%d\ndo %d map h %d 0 rw\ndo %d store h 0 %02x\ndo %d unmap h\n' \
+            "$dom" "$before" "$dom" "$before" "$dom" "$dom" "$dom"
+        fi
+        printf 'do %d grant 0 page %d rw 1\ntell %d t%d\n' "$dom" $((dom % size + 1)) "$dom" "$dom"
+      done ;;
     text)
       head_of 2
       printf 'do 1 grant 0 page 2 ro 5\ntell 1 granted\n'
@@ -105,8 +118,10 @@ measure() {
 }
 
 for size in 1 2 3 4 5 6; do measure map "$size"; done
-for size in 1 2 3 4; do measure copy "$size"; done
+for size in 1 2 3 4 7; do measure copy "$size"; done
+for size in 4; do measure bytes "$size"; done
 for size in 1 2 3 4; do measure race "$size"; done
 for size in 1 2 3; do measure pairs "$size"; done
-for size in 2 3 4 5; do measure ring "$size"; done
+for size in 2 3 4 5 6; do measure ring "$size"; done
+for size in 4 8 16; do measure relay "$size"; done
 for size in 4 6 7 8; do measure text "$size"; done

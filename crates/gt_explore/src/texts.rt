@@ -21,6 +21,17 @@ use gt_script::RunScript;
 use std::alloc::{AllocError, Global};
 use std::cmp::Ordering;
 
+// The bytes of a block that is freed before the first replay. The C library then keeps freed memory up to twice as much,
+// so that the core of a replay takes the memory of the one before it, and no page is asked of the system again.
+const FREED_BLOCK: usize = 16 * 1024 * 1024;
+
+// Frees a block of that size. No byte of it is written.
+fn keep_freed_memory(alloc: Global) -> Result<(), AllocError> {
+    let block: Vec<u8> = Vec::with_capacity(alloc, FREED_BLOCK)?;
+    drop(block);
+    Ok(())
+}
+
 // Compares the last of these texts with a text. If there is none, the result is `Less`.
 fn last_compared(texts: &[FoundText], text: &[u8]) -> Ordering
     ensures { result ≡ last_compared (texts_of_orders texts.now) text.now }
@@ -112,6 +123,7 @@ pub fn texts_within(
     let depth = partial.depth;
     let states = partial.found.states;
     let orders = in_order(partial.found.orders)?;
+    keep_freed_memory(alloc)?;
     let texts = distinct(alloc, script, orders)?;
     Ok(FoundTexts {
         texts,

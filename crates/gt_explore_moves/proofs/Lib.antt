@@ -25,6 +25,7 @@ pub mod OpenAlong
 pub mod OthersStay
 pub mod PathSteps
 pub mod Placing
+pub mod Reaching
 pub mod Renaming
 pub mod SameStep
 pub mod SetsFound

@@ -17,7 +17,7 @@ use Rattle.gt_model.specs.declared.entry.Entry.{Entry}
 use Rattle.gt_model.specs.Spelling.{entry_of}
 use Rattle.gt_model.specs.Words.{control_of}
 use Rattle.gt_model.specs.declared.handle.Handle.{Handle}
-use Rattle.gt_model.specs.Asking.{asked}
+use Rattle.gt_model.specs.Asking.{asked, entry_spelled}
 use Rattle.gt_model.specs.Holding.{frame_by, held_by, owner_by}
 use Rattle.gt_model.specs.Path.{accesses, after_beginning, asks, copies, dest_pair, end_leg, ended, give_back}
 use Rattle.gt_model.specs.Path.{gref_of, map_leg, path, place_of, refused_holding, second_leg, source_pair, steps_of}
@@ -58,7 +58,7 @@ use Rattle.gt_model.specs.declared.trace.Item.{Item}
 use Rattle.gt_model.specs.declared.trace.ItemEvent.TheVariants.{Stepped}
 use Rattle.gt_core.proofs.Steps.Unpin.{loses-mapping}
 use Rattle.gt_explore_moves.proofs.Swapping.{Releases, keeps-elsewhere, steps-apart-in}
-use Rattle.gt_script_runs.specs.Runs.{Named, MakesRequest, request_of}
+use Rattle.gt_script_runs.specs.Runs.{Named, MakesRequest, call_bytes, request_of}
 use Rattle.gt_script_lines.specs.declared.calls.ScriptCall.{ScriptCall}
 use Rattle.gt_script_lines.specs.declared.calls.ScriptCall.TheVariants as script_calls
 use Rattle.gt_script.specs.Lists.{RunAction, RunTask}
@@ -67,7 +67,8 @@ use Rattle.gt_explore_moves.specs.Touches.{is_access_step, is_load, is_on, is_st
 use Rattle.gt_explore_moves.specs.Touches.{meets_call, meets_dest, meets_reads, meets_source, meets_writes, meets_leg}
 use Rattle.gt_explore_moves.specs.Touches.{meets_mapping, meets_task, next_accesses, next_writes, reads_frame_at}
 use Rattle.gt_explore_moves.specs.Touches.{step_meets, writes_frame_at}
-use Rattle.gt_explore_moves.specs.Transitive.{grants_via, is_via}
+use Rattle.gt_explore_moves.specs.Transitive.{grants_via, is_via, spells_via}
+use Rattle.gt_script_lines.specs.Hexadecimal.{hex_bytes}
 use Rattle.gt_explore_moves.specs.declared.touches.MappingUse.{MappingUse}
 use Rattle.gt_explore_moves.specs.Renaming.{step_under}
 use Rattle.gt_explore_moves.specs.declared.touches.NextMove.{NextMove}
@@ -362,7 +363,8 @@ path-opened k d r vs step e = by (begun k d r) refl e where
 -- what a call may touch is such
 abbrev pub CallTouches : (Touch → Type 0) → MappingUse → DomId → ScriptCall → Type 0
 CallTouches A uses d (script_calls.Grant gref entry) = A (touches.Entry d gref) × IsNoVia uses entry
-CallTouches A uses d (script_calls.GrantBytes gref hex) = A (touches.Entry d gref) × (uses.vias ≡ true)
+CallTouches A uses d (script_calls.GrantBytes gref hex) =
+    A (touches.Entry d gref) × IsNoVia uses (entry_spelled (hex_bytes hex))
 CallTouches A uses d (script_calls.Revoke gref) = A (touches.Entry d gref)
 CallTouches A uses d (script_calls.Withdraw gref) = A (touches.Entry d gref)
 CallTouches A uses d (script_calls.Demote gref) = A (touches.Entry d gref)
@@ -383,26 +385,28 @@ pub said-touches : (A : Touch
     → Type 0) (uses : MappingUse) (named : List Named) (d : DomId) (call : ScriptCall) (q : Request)
     → MakesRequest named d call q → CallTouches A uses d call → RequestTouches A uses d (asked q)
 unfolding request_of
-said-touches A uses named d call q (bytes, hex, is) t = subst (λ r. RequestTouches A uses d (asked r)) (sym is)
-    (by call t) where
-      by : (c : ScriptCall) → CallTouches A uses d c → RequestTouches A uses d (asked (request_of named d bytes c))
-      by (script_calls.Grant gref entry) t = t
-      by (script_calls.GrantBytes gref hex) t = (t.0, λ none. absurd (false≢true (sym none ∙ t.1)))
-      by (script_calls.Revoke gref) t = t
-      by (script_calls.Withdraw gref) t = t
-      by (script_calls.Demote gref) t = t
-      by (script_calls.Promote gref) t = t
-      by (script_calls.Map label dom gref flags) t = t
-      by (script_calls.Unmap label) t = tt
-      by (script_calls.Load label off len) t = t
-      by (script_calls.Store label off hex) t = t
-      by (script_calls.Peek frame off len) t = t
-      by (script_calls.Poke frame off hex) t = t
-      by (script_calls.Copy c) t = t
-      by (script_calls.SetVersion version) t = t
-      by (script_calls.SetupTable frames) t = t
-      by (script_calls.QuerySize dom) t = t
-      by (script_calls.GetVersion dom) t = t
+said-touches A uses named d call q (bytes, given, is) t = subst (λ r. RequestTouches A uses d (asked r)) (sym is)
+    (by call given t) where
+      by : (c : ScriptCall) → bytes.now ≡ call_bytes c → CallTouches A uses d c
+          → RequestTouches A uses d (asked (request_of named d bytes c))
+      by (script_calls.Grant gref entry) e t = t
+      by (script_calls.GrantBytes gref hex) e t =
+          (t.0, subst (λ (bs : List ℕ). IsNoVia uses (entry_spelled bs)) (sym e) t.1)
+      by (script_calls.Revoke gref) e t = t
+      by (script_calls.Withdraw gref) e t = t
+      by (script_calls.Demote gref) e t = t
+      by (script_calls.Promote gref) e t = t
+      by (script_calls.Map label dom gref flags) e t = t
+      by (script_calls.Unmap label) e t = tt
+      by (script_calls.Load label off len) e t = t
+      by (script_calls.Store label off hex) e t = t
+      by (script_calls.Peek frame off len) e t = t
+      by (script_calls.Poke frame off hex) e t = t
+      by (script_calls.Copy c) e t = t
+      by (script_calls.SetVersion version) e t = t
+      by (script_calls.SetupTable frames) e t = t
+      by (script_calls.QuerySize dom) e t = t
+      by (script_calls.GetVersion dom) e t = t
 
 -- what the action of a line may touch is such
 abbrev pub ActionTouches : (Touch → Type 0) → MappingUse → DomId → RunAction → Type 0
@@ -533,7 +537,7 @@ unmet-dest move d c e = by (resolved d c.dest.domid) (is_dest_granted c) e where
 -- the uses that a call makes of mappings are among these, and it grants no transitive entry unless they have some
 abbrev pub CallUses : MappingUse → ScriptCall → Type 0
 CallUses uses (script_calls.Grant gref entry) = IsNoVia uses entry
-CallUses uses (script_calls.GrantBytes gref hex) = uses.vias ≡ true
+CallUses uses (script_calls.GrantBytes gref hex) = IsNoVia uses (entry_spelled (hex_bytes hex))
 CallUses uses (script_calls.Load label off len) = uses.loads ≡ true
 CallUses uses (script_calls.Store label off hex) = uses.stores ≡ true
 CallUses uses call = Unit {0}
@@ -576,7 +580,8 @@ unmet-run_action uses move d t own used e = subst (λ x. ActionTouches (Unmet mo
   call-uses : (call : ScriptCall) → TaskUses uses (record t { run_action = Do call }) → CallUses uses call
   call-uses (script_calls.Grant gref entry) u = λ none. not-true (is_via entry)
       (λ is. false≢true (sym none ∙ u.2 is))
-  call-uses (script_calls.GrantBytes gref hex) u = u.2 refl
+  call-uses (script_calls.GrantBytes gref hex) u = λ none. not-true (spells_via (hex_bytes hex))
+      (λ is. false≢true (sym none ∙ u.2 is))
   call-uses (script_calls.Load label off len) u = u.0 refl
   call-uses (script_calls.Store label off hex) u = u.1 refl
   call-uses call u = tt

@@ -58,7 +58,9 @@ use Rattle.gt_explore_moves.specs.Scenes.{IsSceneOf, SceneShows}
 use Rattle.gt_explore_moves.specs.Spaces.{Point, printed_by, scene_ways}
 use Rattle.gt_explore_moves.specs.Touches.{AreOfSet, AreToBeTried, AreUndisturbed, first_left, first_of, is_load}
 use Rattle.gt_explore_moves.specs.Touches.{is_store, may_meet, meets, meets_mapping, meets_task, next_at_rest}
-use Rattle.gt_explore_moves.specs.Touches.{next_move, step_meets, tasks_unfinished, use_of}
+use Rattle.gt_explore_moves.specs.Touches.{next_move, step_meets, tasks_unfinished, use_of, StayShut, awaits_shut}
+use Rattle.gt_explore_moves.specs.Touches.{reachable, tasks_in_reach}
+use Rattle.gt_script_lines.specs.declared.calls.ScriptCall.{ScriptCall}
 use Rattle.gt_explore_moves.specs.declared.touches.MappingUse.{MappingUse}
 use Rattle.gt_explore_moves.specs.declared.actor.Actor.{Actor}
 use Rattle.gt_explore_moves.specs.declared.actor.ActorCall.{ActorCall}
@@ -74,6 +76,8 @@ use Rattle.gt_explore_moves.proofs.LineBegins.{tasks-short}
 use Rattle.gt_explore_moves.proofs.MovesAlong.{none-open}
 use Rattle.gt_explore_moves.proofs.MovesListed.{turn-listed}
 use Rattle.gt_explore_moves.proofs.OpenAlong.{run-makes}
+use Rattle.gt_explore_moves.proofs.Reaching.{NoneRaised, RaisesNone, TellNone, cut, cut-leads, leads-tells, none-more}
+use Rattle.gt_explore_moves.proofs.Reaching.{reach-first, tell-later}
 use Rattle.gt_explore_moves.proofs.SameStep.{along-of}
 use Rattle.gt_explore_moves.proofs.SpaceMoves.{each-turn}
 use Rattle.gt_explore_moves.proofs.StateComesOn.{raised-here, raised-still, task-own}
@@ -643,18 +647,19 @@ module _ (c : RunContents) where
         )
 
     module _ (p : ℕ) (k : Course) (move : NextMove) (on : inside p ≡ true) (use_at : ℕ → MappingUse) (vias : Bool)
-        (same_vias : (e : ℕ) → (use_at e).vias ≡ vias) where
-      -- what the domains outside may still touch, the next move does not meet
+        (same_vias : (e : ℕ) → (use_at e).vias ≡ vias) (shut : List Bool) where
+      -- what the domains outside may touch before a shut flag is raised, the next move does not meet, and they raise none
       abbrev OthersUnmet : List Happening → List Course → Type 0
       OthersUnmet hs ks = (e : ℕ) (l : Course) → slice_get ks e ≡ Some l → inside e ≡ false
-          → Within (Unmet move) (use_at e) hs l.dom l.tasks
+          → Within (Unmet move) (use_at e) hs l.dom (reachable shut l.tasks) × TellNone shut (reachable shut l.tasks)
 
       -- what the domain does can be pulled to the front
       pull : (hs : List Happening) (ks : List Course) (us : List Turn) (ls : List Course) → AllDiffer (numbers ks)
-          → slice_get ks p ≡ Some k → IsNext hs k move → OthersUnmet hs ks → Grew (Unmet move) vias set (history_in hs)
+          → slice_get ks p ≡ Some k → IsNext hs k move → OthersUnmet hs ks → NoneRaised shut hs
+          → Grew (Unmet move) vias set (history_in hs)
           → IsFirst inside p us → Goes hs ks us ls → GoesFirst p k hs ks ls
-      pull hs ks [] ls differ here next unmet grew first goes = absurd first
-      pull hs ks (u ∷ us) ls differ here next unmet grew (inl same) (l, i, y, there, leads, may, goes) =
+      pull hs ks [] ls differ here next unmet none grew first goes = absurd first
+      pull hs ks (u ∷ us) ls differ here next unmet none grew (inl same) (l, i, y, there, leads, may, goes) =
           let is : l ≡ k = same_Some l k (sym there ∙ ap (λ n. slice_get ks n) same ∙ here) in (
             u.choice,
             i,
@@ -664,11 +669,11 @@ module _ (c : RunContents) where
             may,
             subst (λ n. Goes (hs ++ y ∷ []) (slice_set ks n i) us ls) same goes,
           )
-      pull hs ks (u ∷ us) ls differ here next unmet grew (inr (out, first)) (l, i, y, there, leads, may, goes) =
+      pull hs ks (u ∷ us) ls differ here next unmet none grew (inr (out, first)) (l, i, y, there, leads, may, goes) =
           later (pull (hs ++ y ∷ []) (slice_set ks u.place i) us ls
           (subst AllDiffer (sym (numbers-set ks u.place l i there dom.0)) differ) (get-apart ks u.place p i apart
           ∙ here)
-          (next-still hs k move y others may next) now
+          (next-still hs k move y others may next) now (none-more shut hs y none told.1)
           (happening-grew (Unmet move) vias set hs y may mine.1 grew) first goes)
         where
           dom : (i.dom ≡ l.dom) × (doer y ≡ l.dom)
@@ -688,25 +693,40 @@ module _ (c : RunContents) where
           sound : IsSound vias set (history_in hs)
           sound = grew-sound (Unmet move) vias set (history_in hs) grew
 
-          mine : Within (Unmet move) (use_at u.place) (hs ++ y ∷ []) i.dom i.tasks
+          -- what the domain does before a shut flag is raised
+          way : CourseLeads (type_names c.head) (cut shut l) u.choice y (cut shut i)
+          way = cut-leads shut (type_names c.head) set hs none l i u.choice y may leads
+
+          mine : Within (Unmet move) (use_at u.place) (hs ++ y ∷ []) i.dom (reachable shut i.tasks)
               × HappeningTouches (Unmet move) vias hs y
-          mine = subst (λ b. Within (Unmet move) (use_at u.place) (hs ++ y ∷ []) i.dom i.tasks
+          mine = subst (λ b. Within (Unmet move) (use_at u.place) (hs ++ y ∷ []) i.dom (reachable shut i.tasks)
               × HappeningTouches (Unmet move) b hs y) (same_vias u.place)
-              (course-within (Unmet move) (use_at u.place) (type_names c.head) set hs l i u.choice y leads may
-              (unmet u.place l there out)
+              (course-within (Unmet move) (use_at u.place) (type_names c.head) set hs (cut shut l) (cut shut i) u.choice y
+              way may (unmet u.place l there out).0
               (subst (λ b. IsSound b set (history_in hs)) (sym (same_vias u.place)) sound))
+
+          told : TellNone shut (reachable shut i.tasks) × RaisesNone shut y
+          told = leads-tells shut (type_names c.head) (cut shut l) (cut shut i) u.choice y way (unmet u.place l there out).1
 
           now : OthersUnmet (hs ++ y ∷ []) (slice_set ks u.place i)
           now e m at off = by (get_set ks u.place e i m at) where
             by : ((e ≡ u.place) × (i ≡ m)) ⊎ ((e ≢ u.place) × (slice_get ks e ≡ Some m))
-                → Within (Unmet move) (use_at e) (hs ++ y ∷ []) m.dom m.tasks
-            by (inl (same, is)) = subst (λ n. Within (Unmet move) (use_at n) (hs ++ y ∷ []) m.dom m.tasks) (sym same)
-                (subst (λ (z : Course). Within (Unmet move) (use_at u.place) (hs ++ y ∷ []) z.dom z.tasks) is mine.0)
-            by (inr (other, was)) = others-within (Unmet move) (use_at e) set hs y m.dom m.tasks
-                (differs e m was (λ same. other (sym same))) may (unmet e m was off)
+                → Within (Unmet move) (use_at e) (hs ++ y ∷ []) m.dom (reachable shut m.tasks)
+                × TellNone shut (reachable shut m.tasks)
+            by (inl (same, is)) = (
+              subst (λ n. Within (Unmet move) (use_at n) (hs ++ y ∷ []) m.dom (reachable shut m.tasks)) (sym same)
+                  (subst (λ (z : Course). Within (Unmet move) (use_at u.place) (hs ++ y ∷ []) z.dom
+                  (reachable shut z.tasks)) is mine.0),
+              subst (λ (z : Course). TellNone shut (reachable shut z.tasks)) is told.0,
+            )
+            by (inr (other, was)) = (
+              others-within (Unmet move) (use_at e) set hs y m.dom (reachable shut m.tasks)
+                  (differs e m was (λ same. other (sym same))) may (unmet e m was off).0,
+              (unmet e m was off).1,
+            )
 
           later : GoesFirst p k (hs ++ y ∷ []) (slice_set ks u.place i) ls → GoesFirst p k hs ks ls
-          later (choice, j, x, more, lead, come, way) =
+          later (choice, j, x, more, lead, come, rest) =
               let own = leads-dom (type_names c.head) k j choice x lead in
               let free = move-free vias hs k move choice y x j next mine.1 sound lead may come in
               let both = swap-first set hs y x free.0 free.1
@@ -726,7 +746,7 @@ module _ (c : RunContents) where
                   both.1,
                   follow ((hs ++ y ∷ []) ++ x ∷ []) ((hs ++ x ∷ []) ++ y ∷ [])
                       (slice_set (slice_set ks p j) u.place i) more ls both.2
-                      (subst (λ z. Goes ((hs ++ y ∷ []) ++ x ∷ []) z more ls) (set-apart ks u.place p i j apart) way),
+                      (subst (λ z. Goes ((hs ++ y ∷ []) ++ x ∷ []) z more ls) (set-apart ks u.place p i j apart) rest),
                 ),
               )
 
@@ -795,6 +815,11 @@ drop-none (suc n) [] is = refl
 drop-none zero (x ∷ xs) is = absurd (none-some x (sym is))
 drop-none (suc n) (x ∷ xs) is = drop-none n xs is
 
+told-get : (told : List Bool) (flag : ℕ) → slice_get told flag ≡ Some true → get_or told flag false ≡ true
+told-get [] flag is = absurd (none-some true is)
+told-get (b ∷ told) zero is = same_Some b true is
+told-get (b ∷ told) (suc flag) is = told-get told flag is
+
 module _ (c : RunContents) (scene : SearchContext) (hs : List Happening) (place : ℕ) (k : Course) (a : Actor)
     (show : ShowsCalls (setting_of_script c.head) (history_in hs) (tasks_at scene place) k a) where
   abbrev h : History
@@ -859,33 +884,90 @@ module _ (c : RunContents) (scene : SearchContext) (hs : List Happening) (place 
       by None has = rest-next (slice_get tasks a.next)
           (none-open s h tasks k a.next k.opened (open_call h k.dom.0) a.«open» has show.opens).0 refl
 
-  -- what the state takes for what a domain may still touch is what it may
+  -- what the state takes for what a domain may touch before a shut flag is raised is what it may
 
-  module _ (move : NextMove) (own : (n : ℕ) (t : RunTask) → slice_get tasks n ≡ Some t → t.dom ≡ k.dom)
+  module _ (shut : List Bool) where
+    abbrev reach : List RunTask → List RunTask
+    reach = reachable shut
+
+    line-on-way : (t : RunTask) (call : ScriptCall) → t.run_action ≡ Do call → awaits_shut shut t ≡ false
+    line-on-way t call is = ap (λ (x : RunAction). awaits_shut shut (record t { run_action = x })) is
+
+    -- what holds of the tasks in reach, and behind each first task, holds of those that were not begun
+    module _ (P : List RunTask → Type 0) (later : (t : RunTask) (ts : List RunTask) → P (t ∷ ts) → P ts) where
+      begun-left : (o : ActorCall) (u : Underway) (opened : Opened)
+          → ShowsOpen s h tasks k a.next opened (Some u) (Some o) → P (reach (drop (first_of a.next o.task) tasks))
+          → P (reach (drop a.next tasks))
+      begun-left o u resting opens all = absurd opens
+      begun-left o u (calling line call lost) (along, task, said, held) all =
+          subst (λ n. P (reach (drop n tasks))) task.last
+          (later task.of_task (reach (drop (suc task.place) tasks))
+          (subst P (reach-first shut task.of_task (drop (suc task.place) tasks)
+          (line-on-way task.of_task call task.action_is))
+          (subst (λ (ts : List RunTask). P (reach ts))
+          (ap (λ (t : Option ℕ). drop (first_of a.next t) tasks) task.task_is
+          ∙ drop_here tasks task.place task.of_task task.there) all)))
+      begun-left o u giving (along, task, released) all =
+          subst (λ (t : Option ℕ). P (reach (drop (first_of a.next t) tasks))) task all
+
+      pub not-begun : P (reach (tasks_unfinished scene place a)) → P (reach k.tasks)
+      not-begun all = subst (λ (ts : List RunTask). P (reach ts)) (sym show.left)
+          (by a.«open» (open_call h k.dom.0) show.opens all)
+        where
+          by : (o : Option ActorCall) (u : Option Underway) → ShowsOpen s h tasks k a.next k.opened u o
+              → P (reach (drop (first_left (record a { «open» = o })) tasks)) → P (reach (drop a.next tasks))
+          by None u opens found = found
+          by (Some o) (Some u) opens found = begun-left o u k.opened opens found
+          by (Some o) None opens found = absurd (closed k.opened opens) where
+            closed : (opened : Opened) → ShowsOpen s h tasks k a.next opened None (Some o) → ⊥
+            closed resting x = x
+            closed (calling line call lost) x = x
+            closed giving x = x
+
+    pub is-untold : TellNone shut (tasks_in_reach scene shut place a) → TellNone shut (reach k.tasks)
+    is-untold none = not-begun (TellNone shut) (tell-later shut) none
+
+  module _ (shut : List Bool) (move : NextMove)
+      (own : (n : ℕ) (t : RunTask) → slice_get tasks n ≡ Some t → t.dom ≡ k.dom)
       (some : (n : ℕ) (t : RunTask) → slice_get tasks n ≡ Some t → grants_via t ≡ true → scene.vias ≡ true) where
     abbrev uses : MappingUse
-    uses = use_of scene.vias (tasks_unfinished scene place a)
+    uses = use_of scene.vias (tasks_in_reach scene shut place a)
+
+    -- these tasks load and store only so, and the move meets none of them
+    abbrev AreUnmet : List RunTask → Type 0
+    AreUnmet ts = (list_any is_load ts ≡ true → uses.loads ≡ true) × (list_any is_store ts ≡ true → uses.stores ≡ true)
+        × (list_any (meets_task uses move) ts ≡ false)
+
+    task-unmet : (t : RunTask) (ts : List RunTask) → t.dom ≡ k.dom → (grants_via t ≡ true → scene.vias ≡ true)
+        → (AreUnmet (reach shut ts) → TasksTouch (Unmet move) uses k.dom (reach shut ts))
+        → AreUnmet (reach shut (t ∷ ts)) → TasksTouch (Unmet move) uses k.dom (reach shut (t ∷ ts))
+    task-unmet t ts mine vias more = by (awaits_shut shut t) where
+      by : (b : Bool) → AreUnmet (cond b [] (t ∷ reach shut ts))
+          → TasksTouch (Unmet move) uses k.dom (cond b [] (t ∷ reach shut ts))
+      by true unmet = tt
+      by false unmet =
+          let both = or-false (meets_task uses move t) (list_any (meets_task uses move) (reach shut ts)) unmet.2 in (
+            unmet-run_action uses move k.dom t mine (
+              (λ e. unmet.0 (or-first (is_load t) (list_any is_load (reach shut ts)) e)),
+              (λ e. unmet.1 (or-first (is_store t) (list_any is_store (reach shut ts)) e)),
+              vias,
+            ) both.0,
+            more (
+              (λ e. unmet.0 (or-second (is_load t) (list_any is_load (reach shut ts)) e)),
+              (λ e. unmet.1 (or-second (is_store t) (list_any is_store (reach shut ts)) e)),
+              both.1,
+            ),
+          )
 
     tasks-unmet : (n : ℕ) (ts : List RunTask) → ((m : ℕ) (t : RunTask) → slice_get ts m ≡ Some t → t.dom ≡ k.dom)
         → ((m : ℕ) (t : RunTask) → slice_get ts m ≡ Some t → grants_via t ≡ true → scene.vias ≡ true)
-        → (list_any is_load (drop n ts) ≡ true → uses.loads ≡ true)
-        → (list_any is_store (drop n ts) ≡ true → uses.stores ≡ true)
-        → list_any (meets_task uses move) (drop n ts) ≡ false → TasksTouch (Unmet move) uses k.dom (drop n ts)
-    tasks-unmet zero [] mine vias loads stores none = tt
-    tasks-unmet (suc n) [] mine vias loads stores none = tt
-    tasks-unmet zero (t ∷ ts) mine vias loads stores none =
-        let both = or-false (meets_task uses move t) (list_any (meets_task uses move) ts) none in (
-          unmet-run_action uses move k.dom t (mine 0 t refl) (
-            (λ e. loads (or-first (is_load t) (list_any is_load ts) e)),
-            (λ e. stores (or-first (is_store t) (list_any is_store ts) e)),
-            vias 0 t refl,
-          ) both.0,
-          tasks-unmet zero ts (λ m. mine (suc m)) (λ m. vias (suc m))
-              (λ e. loads (or-second (is_load t) (list_any is_load ts) e))
-              (λ e. stores (or-second (is_store t) (list_any is_store ts) e)) both.1,
-        )
-    tasks-unmet (suc n) (t ∷ ts) mine vias loads stores none =
-        tasks-unmet n ts (λ m. mine (suc m)) (λ m. vias (suc m)) loads stores none
+        → AreUnmet (reach shut (drop n ts)) → TasksTouch (Unmet move) uses k.dom (reach shut (drop n ts))
+    tasks-unmet zero [] mine vias unmet = tt
+    tasks-unmet (suc n) [] mine vias unmet = tt
+    tasks-unmet zero (t ∷ ts) mine vias unmet =
+        task-unmet t ts (mine 0 t refl) (vias 0 t refl)
+        (tasks-unmet zero ts (λ m. mine (suc m)) (λ m. vias (suc m))) unmet
+    tasks-unmet (suc n) (t ∷ ts) mine vias unmet = tasks-unmet n ts (λ m. mine (suc m)) (λ m. vias (suc m)) unmet
 
     pins-unmet : (ls : List LabelledMapping) (ms : List (Handle × HeldPin))
         → mapping_pins ls ≡ map (λ (m : Handle × HeldPin). m.1) ms
@@ -901,35 +983,30 @@ module _ (c : RunContents) (scene : SearchContext) (hs : List Happening) (place 
         let more : mapping_pins ls ≡ map (λ (m : Handle × HeldPin). m.1) ms = cc in
         (subst (PinTouches (Unmet move) uses) one (unmet-mapping uses move l.held both.0), pins-unmet ls ms more both.1)
 
+    -- what an open call may touch
+
     later-unmet : (o : ActorCall) (u : Underway) (opened : Opened)
         → ShowsOpen s h tasks k a.next opened (Some u) (Some o)
-        → TasksTouch (Unmet move) uses k.dom (drop (first_of a.next o.task) tasks)
-        → TasksTouch (Unmet move) uses k.dom (drop a.next tasks) × RequestTouches (Unmet move) uses k.dom u.request
+        → TasksTouch (Unmet move) uses k.dom (reach shut (drop (first_of a.next o.task) tasks))
+        → RequestTouches (Unmet move) uses k.dom u.request
     later-unmet o u resting opens all = absurd opens
     later-unmet o u (calling line call lost) (along, task, said, held) all =
         let whole = subst (TasksTouch (Unmet move) uses k.dom)
-        (ap (λ (t : Option ℕ). drop (first_of a.next t) tasks) task.task_is
-        ∙ drop_here tasks task.place task.of_task task.there)
-        all in (
-          subst (λ n. TasksTouch (Unmet move) uses k.dom (drop n tasks)) task.last whole.1,
-          subst (RequestTouches (Unmet move) uses k.dom) (sym said.asks)
-              (said-touches (Unmet move) uses said.named k.dom call said.request said.makes
-              (subst (ActionTouches (Unmet move) uses k.dom) task.action_is whole.0)),
-        )
-    later-unmet o u giving (along, task, released) all = (
-      subst (λ (t : Option ℕ). TasksTouch (Unmet move) uses k.dom (drop (first_of a.next t) tasks)) task all,
-      subst (RequestTouches (Unmet move) uses k.dom) (sym released.1) tt,
-    )
+        (ap (λ (t : Option ℕ). reach shut (drop (first_of a.next t) tasks)) task.task_is
+        ∙ ap (reach shut) (drop_here tasks task.place task.of_task task.there)
+        ∙ reach-first shut task.of_task (drop (suc task.place) tasks)
+        (line-on-way shut task.of_task call task.action_is))
+        all in
+        subst (RequestTouches (Unmet move) uses k.dom) (sym said.asks)
+        (said-touches (Unmet move) uses said.named k.dom call said.request said.makes
+        (subst (ActionTouches (Unmet move) uses k.dom) task.action_is whole.0))
+    later-unmet o u giving (along, task, released) all =
+        subst (RequestTouches (Unmet move) uses k.dom) (sym released.1) tt
 
     left-unmet : (o : Option ActorCall) (u : Option Underway) → ShowsOpen s h tasks k a.next k.opened u o
-        → TasksTouch (Unmet move) uses k.dom (drop (first_left (record a { «open» = o })) tasks)
-        → TasksTouch (Unmet move) uses k.dom (drop a.next tasks) × CallWithin (Unmet move) uses k.dom u
-    left-unmet None None opens all = (all, tt)
-    left-unmet (Some o) None opens all = absurd (closed k.opened opens) where
-      closed : (opened : Opened) → ShowsOpen s h tasks k a.next opened None (Some o) → ⊥
-      closed resting x = x
-      closed (calling line call lost) x = x
-      closed giving x = x
+        → TasksTouch (Unmet move) uses k.dom (reach shut (drop (first_left (record a { «open» = o })) tasks))
+        → CallWithin (Unmet move) uses k.dom u
+    left-unmet o None opens all = tt
     left-unmet None (Some u) opens all = absurd (closed k.opened opens) where
       closed : (opened : Opened) → ShowsOpen s h tasks k a.next opened (Some u) None → ⊥
       closed resting x = x
@@ -937,17 +1014,16 @@ module _ (c : RunContents) (scene : SearchContext) (hs : List Happening) (place 
       closed giving x = x
     left-unmet (Some o) (Some u) opens all = later-unmet o u k.opened opens all
 
-    pub is-within : may_meet move scene place a ≡ false → Within (Unmet move) uses hs k.dom k.tasks
+    pub is-within : may_meet move scene shut place a ≡ false → Within (Unmet move) uses hs k.dom (reach shut k.tasks)
     is-within none =
         let both = or-false (list_any (λ (m : LabelledMapping). meets_mapping uses move m.held) a.mappings.items)
-        (list_any (meets_task uses move) (drop (first_left a) tasks)) none in
-        let left = left-unmet a.«open» (open_call h k.dom.0) show.opens
-        (tasks-unmet (first_left a) tasks own some (λ e. e) (λ e. e) both.1) in
+        (list_any (meets_task uses move) (tasks_in_reach scene shut place a)) none in
+        let all = tasks-unmet (first_left a) tasks own some ((λ e. e), (λ e. e), both.1) in
         record {
-          tasks_touch = subst (TasksTouch (Unmet move) uses k.dom) (sym show.left) left.0;
+          tasks_touch = not-begun shut (TasksTouch (Unmet move) uses k.dom) (λ t ts touch. touch.1) all;
           past = record {
             maps = pins-unmet a.mappings.items (mappings_at h k.dom.0) show.pins both.0;
-            call = left.1;
+            call = left-unmet a.«open» (open_call h k.dom.0) show.opens all;
           };
         }
 
@@ -975,8 +1051,8 @@ unfolding IsRun IsLegalHistory
 run-legal s [] run = tt
 run-legal s (i ∷ h) run = (run.0, run-legal s h run.2)
 
-module _ (scene : SearchContext) (w : SearchState) (turns : List Turn) (members : List Bool)
-    (undisturbed : AreUndisturbed scene w members) (c : RunContents) (hs : List Happening) (ks : List Course)
+module _ (scene : SearchContext) (w : SearchState) (turns : List Turn) (members shut : List Bool)
+    (stay : StayShut scene w members shut) (undisturbed : AreUndisturbed scene w members shut) (c : RunContents) (hs : List Happening) (ks : List Course)
     (is : IsSceneOf c scene) (shows : SceneShows c scene hs ks w) where
   course-at : (e : ℕ) (d : Actor) → slice_get w.actors.items e ≡ Some d → (l : Course) × (slice_get ks e ≡ Some l)
   course-at e d at = let lt = slice_get_within w.actors.items e d at in let many = shows.many in
@@ -992,7 +1068,7 @@ module _ (scene : SearchContext) (w : SearchState) (turns : List Turn) (members 
   -- what the domain at this position does through its mappings
   abbrev use_in : Option Actor → ℕ → MappingUse
   use_in None e = record { loads = true; stores = true; vias = scene.vias }
-  use_in (Some b) e = use_of scene.vias (tasks_unfinished scene e b)
+  use_in (Some b) e = use_of scene.vias (tasks_in_reach scene shut e b)
 
   abbrev use_at : ℕ → MappingUse
   use_at e = use_in (slice_get w.actors.items e) e
@@ -1002,6 +1078,11 @@ module _ (scene : SearchContext) (w : SearchState) (turns : List Turn) (members 
     by : (o : Option Actor) → (use_in o e).vias ≡ scene.vias
     by None = refl
     by (Some b) = refl
+
+  -- no shut flag was raised
+  none-raised : NoneRaised shut hs
+  none-raised flag is was = false≢true (sym (stay.unraised flag
+      (told-get w.told.items flag (shows.told flag was))) ∙ is)
 
   -- what happened is a legal history of calls of the script
   grew : (move : NextMove) → Grew (Unmet move) scene.vias (setting_of_script c.head) (history_in hs)
@@ -1018,9 +1099,9 @@ module _ (scene : SearchContext) (w : SearchState) (turns : List Turn) (members 
   by-first p k us ls on here first way =
       let a = actor-at p k here in
       let show = shows.each p k a.0 here a.1 in
-      let it = pull c member p k (next_move scene w.told.items p a.0) on use_at scene.vias same-vias hs ks us ls
+      let it = pull c member p k (next_move scene w.told.items p a.0) on use_at scene.vias same-vias shut hs ks us ls
       (numbered c ks shows.domains is.setting.apart) here
-      (is-next c scene hs p k a.0 show w.told.items shows.heard) (others a.0 a.1)
+      (is-next c scene hs p k a.0 show w.told.items shows.heard) (others a.0 a.1) none-raised
       (grew (next_move scene w.told.items p a.0)) first way in (
         a.0,
         a.1,
@@ -1032,13 +1113,18 @@ module _ (scene : SearchContext) (w : SearchState) (turns : List Turn) (members 
       )
     where
       others : (a : Actor) → slice_get w.actors.items p ≡ Some a
-          → OthersUnmet c member p k (next_move scene w.told.items p a) on use_at scene.vias same-vias hs ks
+          → OthersUnmet c member p k (next_move scene w.told.items p a) on use_at scene.vias same-vias shut hs ks
       others a there e l at out =
           let other = actor-at e l at in
-          subst (λ o. Within (Unmet (next_move scene w.told.items p a)) (use_in o e) hs l.dom l.tasks) (sym other.1)
-          (is-within c scene hs e l other.0 (shows.each e l other.0 at other.1) (next_move scene w.told.items p a)
-          (task-own c scene hs ks w e l other.0 is shows at other.1) (task-vias c scene is e)
-          (undisturbed p e a other.0 there other.1 on out))
+          let show = shows.each e l other.0 at other.1 in (
+            subst (λ o. Within (Unmet (next_move scene w.told.items p a)) (use_in o e) hs l.dom
+                (reachable shut l.tasks)) (sym other.1)
+                (is-within c scene hs e l other.0 show shut (next_move scene w.told.items p a)
+                (task-own c scene hs ks w e l other.0 is shows at other.1) (task-vias c scene is e)
+                (undisturbed p e a other.0 there other.1 on out)),
+            is-untold c scene hs e l other.0 show shut
+                (stay.untold e other.0 (slice_get_within w.actors.items e other.0 other.1) other.1 out),
+          )
 
   going : (q : ℕ) (b : Actor) (l : Course) → slice_get w.actors.items q ≡ Some b → slice_get ks q ≡ Some l
       → is_done scene q b ≡ false → CourseEnds l → ⊥
@@ -1078,13 +1164,13 @@ ends-by scene w turns members c hs ks end p k a on here there are (choice, j, x,
 
 set-enough : (scene : SearchContext) (w : SearchState) (turns : List Turn) → AreOfSet scene w turns
     → HasEnoughTurns (scene_ways scene) w turns
-set-enough scene w turns (members, undisturbed, (q, b, there, in-q, not-done), are) p turn m more end shows next goes =
+set-enough scene w turns (members, shut, stay, undisturbed, (q, b, there, in-q, not-done), are) p turn m more end shows next goes =
     let way = to-goes scene p.script p.happened p.courses (turn ∷ more) end (m, next, goes) in
-    let l = course-at scene w turns members undisturbed p.script p.happened p.courses shows.0 shows.1 q b there in
+    let l = course-at scene w turns members shut stay undisturbed p.script p.happened p.courses shows.0 shows.1 q b there in
     let first = some-first p.script (λ n. get_or members n false) p.happened p.courses (turn ∷ more) end.courses q l.0
-    in-q l.1 (going scene w turns members undisturbed p.script p.happened p.courses shows.0 shows.1 q b l.0 there l.1
+    in-q l.1 (going scene w turns members shut stay undisturbed p.script p.happened p.courses shows.0 shows.1 q b l.0 there l.1
     not-done) way in
-    let it = by-first scene w turns members undisturbed p.script p.happened p.courses shows.0 shows.1 first.0 first.1
+    let it = by-first scene w turns members shut stay undisturbed p.script p.happened p.courses shows.0 shows.1 first.0 first.1
     (turn ∷ more) end.courses first.2 first.3 first.4 way in
     ends-by scene w turns members p.script p.happened p.courses end first.0 first.1 it.0 first.2 first.3 it.1 are it.2.0
     it.2.1

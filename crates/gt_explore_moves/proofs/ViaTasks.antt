@@ -9,7 +9,7 @@ use Rattle.gt_types.specs.declared.DomId.{DomId}
 use Rattle.gt_types.specs.declared.config.DomainConfig.{DomainConfig}
 use Rattle.gt_model.specs.Asking.{asked}
 use Rattle.gt_model.specs.declared.request.Request.{Request}
-use Rattle.gt_script_runs.specs.Runs.{Named, MakesRequest, request_of}
+use Rattle.gt_script_runs.specs.Runs.{Named, MakesRequest, call_bytes, request_of}
 use Rattle.gt_script_lines.specs.declared.calls.ScriptCall.{ScriptCall}
 use Rattle.gt_script_lines.specs.declared.calls.ScriptCall.TheVariants as script_calls
 use Rattle.gt_script.specs.Lists.{RunTask}
@@ -17,7 +17,7 @@ use Rattle.gt_script.specs.RunContents.{RunContents}
 use Rattle.gt_script.specs.RunScripts.{list_of}
 use Rattle.gt_explore_moves.specs.Ends.{tasks_at}
 use Rattle.gt_explore_moves.specs.Scenes.{IsSceneOf}
-use Rattle.gt_explore_moves.specs.Transitive.{IsOfScript, call_grants_via, grants_via, is_via}
+use Rattle.gt_explore_moves.specs.Transitive.{IsOfScript, call_grants_via, grants_via, is_via, spells_via}
 use Rattle.gt_explore_moves.specs.declared.scene.SearchContext.{SearchContext}
 
 not-true : (b : Bool) → (b ≡ true → ⊥) → b ≡ false
@@ -60,25 +60,26 @@ task-vias c scene is place n t at grants = is.vias ∙ in-lists c.tasks c.head.d
 pub said-of-script : (vias : Bool) (named : List Named) (dom : DomId) (call : ScriptCall) (q : Request)
     → MakesRequest named dom call q → (call_grants_via call ≡ true → vias ≡ true) → IsOfScript vias (asked q)
 unfolding request_of
-said-of-script vias named dom call q (bytes, hex, is) some =
-    subst (λ (r : Request). IsOfScript vias (asked r)) (sym is) (by call some)
+said-of-script vias named dom call q (bytes, given, is) some =
+    subst (λ (r : Request). IsOfScript vias (asked r)) (sym is) (by call given some)
   where
-    by : (x : ScriptCall) → (call_grants_via x ≡ true → vias ≡ true)
+    by : (x : ScriptCall) → bytes.now ≡ call_bytes x → (call_grants_via x ≡ true → vias ≡ true)
         → IsOfScript vias (asked (request_of named dom bytes x))
-    by (script_calls.Grant gref entry) may = λ none. not-true (is_via entry) (λ e. false≢true (sym none ∙ may e))
-    by (script_calls.GrantBytes gref hex) may = λ none. absurd (false≢true (sym none ∙ may refl))
-    by (script_calls.Revoke gref) may = tt
-    by (script_calls.Withdraw gref) may = tt
-    by (script_calls.Demote gref) may = tt
-    by (script_calls.Promote gref) may = tt
-    by (script_calls.Map label to gref flags) may = tt
-    by (script_calls.Unmap label) may = tt
-    by (script_calls.Load label off len) may = tt
-    by (script_calls.Store label off hex) may = tt
-    by (script_calls.Peek frame off len) may = tt
-    by (script_calls.Poke frame off hex) may = tt
-    by (script_calls.Copy c) may = tt
-    by (script_calls.SetVersion version) may = tt
-    by (script_calls.SetupTable frames) may = tt
-    by (script_calls.QuerySize to) may = tt
-    by (script_calls.GetVersion to) may = tt
+    by (script_calls.Grant gref entry) e may = λ none. not-true (is_via entry) (λ e. false≢true (sym none ∙ may e))
+    by (script_calls.GrantBytes gref hex) e may = λ none. not-true (spells_via bytes.now)
+        (λ is. false≢true (sym none ∙ may (ap spells_via (sym e) ∙ is)))
+    by (script_calls.Revoke gref) e may = tt
+    by (script_calls.Withdraw gref) e may = tt
+    by (script_calls.Demote gref) e may = tt
+    by (script_calls.Promote gref) e may = tt
+    by (script_calls.Map label to gref flags) e may = tt
+    by (script_calls.Unmap label) e may = tt
+    by (script_calls.Load label off len) e may = tt
+    by (script_calls.Store label off hex) e may = tt
+    by (script_calls.Peek frame off len) e may = tt
+    by (script_calls.Poke frame off hex) e may = tt
+    by (script_calls.Copy c) e may = tt
+    by (script_calls.SetVersion version) e may = tt
+    by (script_calls.SetupTable frames) e may = tt
+    by (script_calls.QuerySize to) e may = tt
+    by (script_calls.GetVersion to) e may = tt

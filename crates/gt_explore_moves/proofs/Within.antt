@@ -116,6 +116,17 @@ module _ (A : Touch → Type 0) (vias : Bool) where
   pub grew-sound : (s : Setting) (h : History) → Grew s h → IsSound vias s h
   grew-sound s h grew = is-sound vias s h grew.legal grew.asked
 
+-- what a domain has still to do after a call of a line, or a release, began or continued
+
+pub after-tasks : (types : List (List ℕ)) (line : ℕ) (call : ScriptCall) (lost : Option Handle) (k : Course)
+    (answer : Option Answer) → (course_after types line call lost k answer).tasks ≡ k.tasks
+after-tasks types line call lost k None = refl
+after-tasks types line call lost k (Some answer) = refl
+
+pub back-tasks : (k : Course) (answer : Option Answer) → (back_after k answer).tasks ≡ k.tasks
+back-tasks k None = refl
+back-tasks k (Some answer) = refl
+
 module _ (A : Touch → Type 0) (uses : MappingUse) where
   -- the pins of these mappings are on such entries
   abbrev pub PinsTouch : List (Handle × HeldPin) → Type 0
@@ -436,15 +447,6 @@ module _ (A : Touch → Type 0) (uses : MappingUse) where
       (subst (λ ts. Within (hs ++ did e y ∷ []) j.dom ts × HappeningTouches A uses.vias hs (did e y)) (sym left)
       (subst (λ d. Within (hs ++ did e y ∷ []) d tasks × HappeningTouches A uses.vias hs (did e y)) (sym dom)
       (did-within s hs e y tasks touch (subst (CanComeNext s hs) is may) all past sound)))
-
-  after-tasks : (types : List (List ℕ)) (line : ℕ) (call : ScriptCall) (lost : Option Handle) (k : Course)
-      (answer : Option Answer) → (course_after types line call lost k answer).tasks ≡ k.tasks
-  after-tasks types line call lost k None = refl
-  after-tasks types line call lost k (Some answer) = refl
-
-  back-tasks : (k : Course) (answer : Option Answer) → (back_after k answer).tasks ≡ k.tasks
-  back-tasks k None = refl
-  back-tasks k (Some answer) = refl
 
   line-within : (types : List (List ℕ)) (s : Setting) (hs : List Happening) (k j : Course) (line : ℕ)
       (left : List RunTask)

@@ -1,5 +1,6 @@
 -- What the next step of a domain touches, and what another domain may still touch.
-use Rattle.std.specs.Prelude.{◌≡◌, ◌==◌, ◌&&◌, ◌||◌, ◌<◌, ℕ, Bool, true, false, if◌then◌else◌, List, drop, ◌⊎◌}
+use Rattle.std.specs.Prelude.{◌≡◌, ◌==◌, ◌&&◌, ◌||◌, ◌<◌, ℕ, Bool, true, false, if◌then◌else◌, List, [], ◌∷◌, drop, ◌⊎◌}
+use Rattle.std.specs.Prelude.{length}
 use Rattle.std.specs.Prelude.{Option, Some, None, slice_get, get_or}
 use Rattle.std.specs.List.{list_any}
 use Rattle.gt_types.specs.Copies.{is_dest_granted, is_source_granted}
@@ -214,13 +215,39 @@ first_left a = by a.«open»
 abbrev pub tasks_unfinished : SearchContext → ℕ → Actor → List RunTask
 tasks_unfinished s place a = drop (first_left a) (tasks_at s place)
 
--- it meets something that the domain at this position may still touch: an entry on which a mapping has its pin, the
--- frame of a mapping, or what a task touches that is not finished
-abbrev pub may_meet : NextMove → SearchContext → ℕ → Actor → Bool
-may_meet next s place a =
-    list_any (λ (m : LabelledMapping). meets_mapping (use_of s.vias (tasks_unfinished s place a)) next m.held)
+-- shut flags: those that nobody raises before a domain of some set moves
+
+-- the task awaits a shut flag; it raises one
+abbrev pub awaits_shut : List Bool → RunTask → Bool
+awaits_shut shut t = by t.run_action
+  where
+    by : RunAction → Bool
+    by (Await flag) = get_or shut flag false
+    by run_action = false
+
+abbrev pub tells_shut : List Bool → RunTask → Bool
+tells_shut shut t = by t.run_action
+  where
+    by : RunAction → Bool
+    by (Tell flag) = get_or shut flag false
+    by run_action = false
+
+-- the tasks before the first one that awaits a shut flag
+abbrev pub reachable : List Bool → List RunTask → List RunTask
+reachable shut [] = []
+reachable shut (t ∷ ts) = if awaits_shut shut t then [] else (t ∷ reachable shut ts)
+
+-- the tasks that a domain may come to before a shut flag is raised
+abbrev pub tasks_in_reach : SearchContext → List Bool → ℕ → Actor → List RunTask
+tasks_in_reach s shut place a = reachable shut (tasks_unfinished s place a)
+
+-- it meets something that the domain at this position may touch before a shut flag is raised: an entry on which a
+-- mapping has its pin, the frame of a mapping, or what a task in reach touches
+abbrev pub may_meet : NextMove → SearchContext → List Bool → ℕ → Actor → Bool
+may_meet next s shut place a =
+    list_any (λ (m : LabelledMapping). meets_mapping (use_of s.vias (tasks_in_reach s shut place a)) next m.held)
     a.mappings.items
-    || list_any (meets_task (use_of s.vias (tasks_unfinished s place a)) next) (tasks_unfinished s place a)
+    || list_any (meets_task (use_of s.vias (tasks_in_reach s shut place a)) next) (tasks_in_reach s shut place a)
 
 -- what a domain without an open call does next: it waits, unless the flag was raised, or is free to go on
 abbrev pub next_at_rest : List Bool → Option RunTask → NextMove
@@ -241,26 +268,42 @@ next_move s told place a = by a.«open»
 
 -- sets of domains
 
--- no domain outside may still touch what this next move meets, if it is one of this number of first domains
-abbrev pub NoneMeets : SearchContext → SearchState → List Bool → NextMove → ℕ → Type 0
-NoneMeets s w inside next n =
+-- no domain outside may touch what this next move meets before a shut flag is raised, if it is one of this number of
+-- first domains
+abbrev pub NoneMeets : SearchContext → SearchState → List Bool → List Bool → NextMove → ℕ → Type 0
+NoneMeets s w inside shut next n =
     (e : ℕ) (b : Actor) → e < n → slice_get w.actors.items e ≡ Some b → get_or inside e false ≡ false
-    → may_meet next s e b ≡ false
+    → may_meet next s shut e b ≡ false
 
--- no domain outside may still touch what the next move of one inside meets, if that is one of this number of first
--- domains
-abbrev pub UndisturbedTo : SearchContext → SearchState → List Bool → ℕ → Type 0
-UndisturbedTo s w inside n =
+-- no domain outside may touch what the next move of one inside meets before a shut flag is raised, if that is one of
+-- this number of first domains
+abbrev pub UndisturbedTo : SearchContext → SearchState → List Bool → List Bool → ℕ → Type 0
+UndisturbedTo s w inside shut n =
     (p e : ℕ) (a b : Actor) → p < n → slice_get w.actors.items p ≡ Some a → slice_get w.actors.items e ≡ Some b
     → get_or inside p false ≡ true → get_or inside e false ≡ false
-    → may_meet (next_move s w.told.items p a) s e b ≡ false
+    → may_meet (next_move s w.told.items p a) s shut e b ≡ false
 
--- no domain outside may still touch what the next move of one inside meets
-abbrev pub AreUndisturbed : SearchContext → SearchState → List Bool → Type 0
-AreUndisturbed s w inside =
+-- no domain outside may touch what the next move of one inside meets before a shut flag is raised
+abbrev pub AreUndisturbed : SearchContext → SearchState → List Bool → List Bool → Type 0
+AreUndisturbed s w inside shut =
     (p e : ℕ) (a b : Actor) → slice_get w.actors.items p ≡ Some a → slice_get w.actors.items e ≡ Some b
     → get_or inside p false ≡ true → get_or inside e false ≡ false
-    → may_meet (next_move s w.told.items p a) s e b ≡ false
+    → may_meet (next_move s w.told.items p a) s shut e b ≡ false
+
+-- no flag is one of both
+abbrev pub ShareNoFlag : List Bool → List Bool → Type 0
+ShareNoFlag some others = (flag : ℕ) → get_or others flag false ≡ true → get_or some flag false ≡ false
+
+-- no domain outside has a task in reach that raises a shut flag, if it is one of this number of first domains
+abbrev pub NoneTells : SearchContext → SearchState → List Bool → List Bool → ℕ → Type 0
+NoneTells s w inside shut n =
+    (e : ℕ) (b : Actor) → e < n → slice_get w.actors.items e ≡ Some b → get_or inside e false ≡ false
+    → list_any (tells_shut shut) (tasks_in_reach s shut e b) ≡ false
+
+-- the shut flags stay so until a domain inside moves: none is raised, and none outside can raise one before it awaits one
+pub record StayShut (s : SearchContext) (w : SearchState) (inside shut : List Bool) : Type 0 where
+  pub unraised : ShareNoFlag shut w.told.items
+  pub untold : NoneTells s w inside shut (length w.actors.items)
 
 -- some domain inside is not at its end
 abbrev pub SomeGoesOn : SearchContext → SearchState → List Bool → Type 0
@@ -271,7 +314,8 @@ SomeGoesOn s w inside =
 -- the turns are those of such a set
 abbrev pub AreOfSet : SearchContext → SearchState → List Turn → Type 0
 AreOfSet s w turns =
-    (inside : List Bool) × AreUndisturbed s w inside × SomeGoesOn s w inside
+    (inside : List Bool) × (shut : List Bool) × StayShut s w inside shut × AreUndisturbed s w inside shut
+    × SomeGoesOn s w inside
     × (turns ≡ turns_by (choices_in s inside) 0 w.actors.items)
 
 -- the turns to try: those of a set of domains that no domain outside can disturb, or all

@@ -1,8 +1,9 @@
 -- Transitive entries: which lines of a script may grant one, and which calls.
-use Rattle.std.specs.Prelude.{◌≡◌, Bool, true, false, [], ◌∷◌}
+use Rattle.std.specs.Prelude.{◌≡◌, ℕ, Bool, true, false, List, [], ◌∷◌}
 use Rattle.gt_model.specs.declared.entry.Entry.{Entry}
 use Rattle.gt_model.specs.declared.entry.Entry.TheVariants.{Invalid, Page, Sub, Via}
-use Rattle.gt_model.specs.Asking.{asked}
+use Rattle.gt_model.specs.Asking.{asked, entry_spelled}
+use Rattle.gt_script_lines.specs.Hexadecimal.{hex_bytes}
 use Rattle.gt_model.specs.declared.request.OpenRequest.{OpenRequest}
 use Rattle.gt_model.specs.declared.request.OpenRequest.TheVariants.{Grant, Probe}
 use Rattle.gt_model.specs.History.{History}
@@ -20,10 +21,14 @@ is_via (Page dom ro frame) = false
 is_via (Sub dom ro frame off len) = false
 is_via (Via dom ro dom2 gref) = true
 
--- the call may grant a transitive entry; the bytes of a grant by bytes are not looked at
+-- the bytes encode a transitive entry, if they encode one
+abbrev pub spells_via : List ℕ → Bool
+spells_via bytes = is_via (entry_spelled bytes)
+
+-- the call may grant a transitive entry
 abbrev pub call_grants_via : ScriptCall → Bool
 call_grants_via (script_calls.Grant gref entry) = is_via entry
-call_grants_via (script_calls.GrantBytes gref hex) = true
+call_grants_via (script_calls.GrantBytes gref hex) = spells_via (hex_bytes hex)
 call_grants_via call = false
 
 -- the action of a task may grant one; the task may

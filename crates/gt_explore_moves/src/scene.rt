@@ -118,7 +118,7 @@ impl<'s, 'a> SearchContext<'s, 'a> {
     {
         let head = script.head();
         let lists = lists_of(alloc, script, head.domains())?;
-        let vias = any_grants_via(script.tasks());
+        let vias = any_grants_via(alloc, script.tasks())?;
         Ok(SearchContext {
             alloc,
             roster: roster_of(alloc, head)?,

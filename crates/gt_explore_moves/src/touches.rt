@@ -1,5 +1,5 @@
 //! What the next move of a domain touches, and what tasks of another domain may touch.
-ghost use Rattle.std.specs.Prelude.{◌≡◌};
+ghost use Rattle.std.specs.Prelude.{◌≡◌, IfOk};
 ghost use Rattle.std.specs.List.{list_any};
 ghost use Rattle.gt_explore_moves.specs.declared.actor.LabelledMapping.{LabelledMapping};
 ghost use Rattle.gt_model.specs.Path.{gref_of};
@@ -9,14 +9,15 @@ ghost use Rattle.gt_explore_moves.specs.Touches.{meets_bytes};
 ghost use Rattle.gt_explore_moves.specs.Touches.{meets_call, meets_dest, meets_leg, meets_mapping, meets_reads};
 ghost use Rattle.gt_explore_moves.specs.Touches.{meets_source, meets_task, meets_writes, next_accesses};
 ghost use Rattle.gt_explore_moves.specs.Touches.{next_writes, reads_frame_at, step_meets, writes_frame_at};
-ghost use Rattle.gt_explore_moves.specs.Transitive.{call_grants_via, grants_via, is_via};
+ghost use Rattle.gt_explore_moves.specs.Transitive.{call_grants_via, grants_via, is_via, spells_via};
 
 use crate::actor::LabelledMapping;
 use gt_calls::{CopyArgs, HeldPin, Step, resolve};
 use gt_entry::Entry;
 use gt_script::{RunAction, RunTask};
-use gt_script_lines::ScriptCall;
+use gt_script_lines::{ScriptCall, hex_bytes};
 use gt_types::{DomId, GrantRef};
+use std::alloc::{AllocError, Global};
 
 /// A part of a run's state, and what is done to it.
 #[derive(Clone, Copy)]
@@ -351,35 +352,48 @@ fn is_via(entry: Entry) -> bool
     matches!(entry, Entry::Via { .. })
 }
 
-// Returns whether a call may grant a transitive entry. The bytes of a grant by bytes are not looked at.
-fn call_grants_via(call: &ScriptCall<'_>) -> bool
-    ensures { result ≡ call_grants_via call.now }
+// Returns whether bytes encode a transitive entry, if they encode an entry: 16 bytes whose type bits are 3.
+fn spells_via(bytes: &[u8]) -> bool
+    ensures { result ≡ spells_via bytes.now }
+{
+    bytes.len() == 16 && bytes[0] % 4 == 3
+}
+
+// Returns whether a call may grant a transitive entry.
+fn call_grants_via(alloc: Global, call: &ScriptCall<'_>) -> Result<bool, AllocError>
+    ensures { IfOk result (λ may. may ≡ call_grants_via call.now) }
 {
     match call {
-        ScriptCall::Grant { entry, .. } => is_via(*entry),
-        ScriptCall::GrantBytes { .. } => true,
-        _ => false,
+        ScriptCall::Grant { entry, .. } => Ok(is_via(*entry)),
+        ScriptCall::GrantBytes { hex, .. } => {
+            let bytes = hex_bytes(alloc, hex)?;
+            Ok(spells_via(bytes.as_slice()))
+        }
+        _ => Ok(false),
     }
 }
 
 // Returns whether a task may grant a transitive entry.
-fn grants_via(task: &RunTask<'_>) -> bool
-    ensures { result ≡ grants_via task.now }
+fn grants_via(alloc: Global, task: &RunTask<'_>) -> Result<bool, AllocError>
+    ensures { IfOk result (λ may. may ≡ grants_via task.now) }
 {
     match &task.run_action {
-        RunAction::Do(call) => call_grants_via(call),
-        _ => false,
+        RunAction::Do(call) => call_grants_via(alloc, call),
+        _ => Ok(false),
     }
 }
 
 /// Returns whether one of these tasks may grant a transitive entry.
-pub fn any_grants_via(tasks: &[RunTask<'_>]) -> bool
-    ensures { result ≡ list_any grants_via tasks.now }
+///
+/// # Errors
+/// An allocation failed.
+pub fn any_grants_via(alloc: Global, tasks: &[RunTask<'_>]) -> Result<bool, AllocError>
+    ensures { IfOk result (λ some. some ≡ list_any grants_via tasks.now) }
 {
     'tasks: for task in tasks {
-        if grants_via(task) {
-            return true;
+        if grants_via(alloc, task)? {
+            return Ok(true);
         }
     }
-    false
+    Ok(false)
 }

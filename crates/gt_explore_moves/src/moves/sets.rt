@@ -1,13 +1,20 @@
 //! Sets of domains whose moves need no alternative, since no domain outside can disturb them.
-ghost use Rattle.std.specs.Prelude.{◌≡◌};
-ghost use Rattle.gt_explore_moves.specs.Touches.{first_left};
+ghost use Rattle.std.specs.Prelude.{◌≡◌, IsTrue};
+ghost use Rattle.gt_explore_moves.specs.Touches.{ShareNoFlag, awaits_shut, first_left, tells_shut};
 
 use super::flags::is_set;
 use crate::actor::Actor;
 use crate::scene::{SearchContext, SearchState};
 use crate::touches::{MappingUse, NextMove, any_mapping_meets, is_load, is_store, meets_task};
-use gt_script::RunAction;
+use gt_script::{RunAction, RunTask};
 use std::alloc::AllocError;
+
+/// A set of domains, and the flags that stay shut until one of them moves.
+#[derive(Drop)]
+pub(super) struct LoneSet {
+    pub(super) inside: Vec<bool>,
+    pub(super) shut: Vec<bool>,
+}
 
 // Returns the index of the first task that a domain has not finished: that of its open call, or the next one.
 fn first_left(actor: &Actor<'_>) -> usize
@@ -19,13 +26,45 @@ fn first_left(actor: &Actor<'_>) -> usize
     }
 }
 
+// Returns whether no flag is one of both.
+fn share_none(some: &[bool], others: &[bool]) -> bool
+    ensures { IsTrue result → ShareNoFlag some.now others.now }
+{
+    for (flag, is_other) in others.iter().enumerate() {
+        if *is_other && is_set(some, flag) {
+            return false;
+        }
+    }
+    true
+}
+
+// Returns whether a task awaits one of these shut flags.
+fn awaits_shut(shut: &[bool], task: &RunTask<'_>) -> bool
+    ensures { result ≡ awaits_shut shut.now task.now }
+{
+    match &task.run_action {
+        RunAction::Await(flag) => is_set(shut, *flag),
+        _ => false,
+    }
+}
+
+// Returns whether a task raises one of these shut flags.
+fn tells_shut(shut: &[bool], task: &RunTask<'_>) -> bool
+    ensures { result ≡ tells_shut shut.now task.now }
+{
+    match &task.run_action {
+        RunAction::Tell(flag) => is_set(shut, *flag),
+        _ => false,
+    }
+}
+
 impl<'s, 'a> SearchContext<'s, 'a> {
     ghost use Rattle.std.specs.Prelude.{◌≡◌, IfNone, IsTrue, drop, length, slice_get};
     ghost use Rattle.std.specs.List.{list_any};
     ghost use Rattle.gt_explore_moves.specs.Ends.{tasks_at};
-    ghost use Rattle.gt_explore_moves.specs.Touches.{AreUndisturbed, NoneMeets, SomeGoesOn, is_load, is_store, may_meet};
-    ghost use Rattle.gt_explore_moves.specs.Touches.{meets_task, of_task};
-    ghost use Rattle.gt_explore_moves.specs.Touches.{next_move};
+    ghost use Rattle.gt_explore_moves.specs.Touches.{AreUndisturbed, NoneMeets, SomeGoesOn, StayShut, is_load, is_store};
+    ghost use Rattle.gt_explore_moves.specs.Touches.{NoneTells, awaits_shut, may_meet, meets_task, of_task, tells_shut};
+    ghost use Rattle.gt_explore_moves.specs.Touches.{next_move, reachable};
 
     // Returns what the domain at this position does next.
     fn next_move(&self, told: &[bool], place: usize, actor: &Actor<'a>) -> NextMove
@@ -54,6 +93,42 @@ impl<'s, 'a> SearchContext<'s, 'a> {
         }
     }
 
+    // Returns whether the task at this index of a domain's list, if there is one, awaits one of these shut flags.
+    fn awaits_at(&self, shut: &[bool], place: usize, at: usize) -> bool
+        ensures { result ≡ of_task (awaits_shut shut.now) (slice_get (tasks_at self.now place) at) }
+    {
+        match self.task(place, at) {
+            Some(task) => awaits_shut(shut, task),
+            None => false,
+        }
+    }
+
+    // Returns whether the task at this index of a domain's list, if there is one, raises one of these shut flags.
+    fn tells_at(&self, shut: &[bool], place: usize, at: usize) -> bool
+        ensures { result ≡ of_task (tells_shut shut.now) (slice_get (tasks_at self.now place) at) }
+    {
+        match self.task(place, at) {
+            Some(task) => tells_shut(shut, task),
+            None => false,
+        }
+    }
+
+    // Returns whether a task of the domain at this position, from this index on, raises a shut flag before one awaits
+    // a shut flag.
+    fn tasks_tell(&self, shut: &[bool], place: usize, first: usize) -> bool
+        ensures { result ≡ list_any (tells_shut shut.now) (reachable shut.now (drop first (tasks_at self.now place))) }
+    {
+        for at in first..self.task_count(place) {
+            if self.awaits_at(shut, place, at) {
+                return false;
+            }
+            if self.tells_at(shut, place, at) {
+                return true;
+            }
+        }
+        false
+    }
+
     // Returns whether the task at this index of a domain's list, if there is one, loads through a mapping.
     fn loads_at(&self, place: usize, at: usize) -> bool
         ensures { result ≡ of_task is_load (slice_get (tasks_at self.now place) at) }
@@ -64,11 +139,15 @@ impl<'s, 'a> SearchContext<'s, 'a> {
         }
     }
 
-    // Returns whether a task of the domain at this position, from this index on, loads through a mapping.
-    fn tasks_load(&self, place: usize, first: usize) -> bool
-        ensures { result ≡ list_any is_load (drop first (tasks_at self.now place)) }
+    // Returns whether a task of the domain at this position, from this index on, loads through a mapping before one
+    // awaits a shut flag.
+    fn tasks_load(&self, shut: &[bool], place: usize, first: usize) -> bool
+        ensures { result ≡ list_any is_load (reachable shut.now (drop first (tasks_at self.now place))) }
     {
         for at in first..self.task_count(place) {
+            if self.awaits_at(shut, place, at) {
+                return false;
+            }
             if self.loads_at(place, at) {
                 return true;
             }
@@ -86,11 +165,15 @@ impl<'s, 'a> SearchContext<'s, 'a> {
         }
     }
 
-    // Returns whether a task of the domain at this position, from this index on, stores through a mapping.
-    fn tasks_store(&self, place: usize, first: usize) -> bool
-        ensures { result ≡ list_any is_store (drop first (tasks_at self.now place)) }
+    // Returns whether a task of the domain at this position, from this index on, stores through a mapping before one
+    // awaits a shut flag.
+    fn tasks_store(&self, shut: &[bool], place: usize, first: usize) -> bool
+        ensures { result ≡ list_any is_store (reachable shut.now (drop first (tasks_at self.now place))) }
     {
         for at in first..self.task_count(place) {
+            if self.awaits_at(shut, place, at) {
+                return false;
+            }
             if self.stores_at(place, at) {
                 return true;
             }
@@ -108,11 +191,22 @@ impl<'s, 'a> SearchContext<'s, 'a> {
         }
     }
 
-    // Returns whether a task of the domain at this position, from this index on, may touch what a next move meets.
-    fn tasks_may_meet(&self, uses: MappingUse, next: NextMove, place: usize, first: usize) -> bool
-        ensures { result ≡ list_any (meets_task uses next) (drop first (tasks_at self.now place)) }
+    // Returns whether a task of the domain at this position, from this index on, may touch what a next move meets before
+    // one awaits a shut flag.
+    fn tasks_may_meet(
+        &self,
+        uses: MappingUse,
+        next: NextMove,
+        shut: &[bool],
+        place: usize,
+        first: usize,
+    ) -> bool
+        ensures { result ≡ list_any (meets_task uses next) (reachable shut.now (drop first (tasks_at self.now place))) }
     {
         for at in first..self.task_count(place) {
+            if self.awaits_at(shut, place, at) {
+                return false;
+            }
             if self.meets_task_at(uses, next, place, at) {
                 return true;
             }
@@ -120,46 +214,73 @@ impl<'s, 'a> SearchContext<'s, 'a> {
         false
     }
 
-    // Returns whether the domain at this position may still touch what a next move meets.
-    fn may_meet(&self, next: NextMove, place: usize, actor: &Actor<'a>) -> bool
-        ensures { result ≡ may_meet next self.now place actor.now }
+    // Returns whether the domain at this position may touch what a next move meets, before it awaits a shut flag.
+    fn may_meet(&self, next: NextMove, shut: &[bool], place: usize, actor: &Actor<'a>) -> bool
+        ensures { result ≡ may_meet next self.now shut.now place actor.now }
     {
         let first = first_left(actor);
         let uses = MappingUse {
-            loads: self.tasks_load(place, first),
-            stores: self.tasks_store(place, first),
+            loads: self.tasks_load(shut, place, first),
+            stores: self.tasks_store(shut, place, first),
             vias: self.vias,
         };
         any_mapping_meets(uses, next, actor.mappings.as_slice())
-            || self.tasks_may_meet(uses, next, place, first)
+            || self.tasks_may_meet(uses, next, shut, place, first)
     }
 
-    // Returns a domain outside the set that may still touch what this next move meets.
-    fn who_meets(&self, world: &SearchState<'a>, inside: &[bool], next: NextMove) -> Option<usize>
-        ensures { IfNone result (NoneMeets self.now world.now inside.now next (length world.now.actors.items)) }
+    // Returns a domain outside the set that may touch what this next move meets, before it awaits a shut flag.
+    fn who_meets(
+        &self,
+        world: &SearchState<'a>,
+        inside: &[bool],
+        shut: &[bool],
+        next: NextMove,
+    ) -> Option<usize>
+        ensures { IfNone result
+            (NoneMeets self.now world.now inside.now shut.now next (length world.now.actors.items)) }
     {
         for (place, actor) in world.actors.as_slice().iter().enumerate() {
-            if !is_set(inside, place) && self.may_meet(next, place, actor) {
+            if !is_set(inside, place) && self.may_meet(next, shut, place, actor) {
                 return Some(place);
             }
         }
         None
     }
 
-    // Returns a domain outside the set that may disturb a next move of one inside.
-    fn who_disturbs(&self, world: &SearchState<'a>, inside: &[bool]) -> Option<usize>
-        ensures { IfNone result (AreUndisturbed self.now world.now inside.now) }
+    // Returns a domain outside the set that may disturb a next move of one inside, before it awaits a shut flag.
+    fn who_disturbs(&self, world: &SearchState<'a>, inside: &[bool], shut: &[bool]) -> Option<usize>
+        ensures { IfNone result (AreUndisturbed self.now world.now inside.now shut.now) }
     {
         let told = world.told.as_slice();
         for (place, actor) in world.actors.as_slice().iter().enumerate() {
             if is_set(inside, place) {
                 let next = self.next_move(told, place, actor);
-                if let Some(other) = self.who_meets(world, inside, next) {
+                if let Some(other) = self.who_meets(world, inside, shut, next) {
                     return Some(other);
                 }
             }
         }
         None
+    }
+
+    // Returns whether no domain outside the set raises a shut flag before it awaits one.
+    fn none_tells(&self, world: &SearchState<'a>, inside: &[bool], shut: &[bool]) -> bool
+        ensures { IsTrue result → NoneTells self.now world.now inside.now shut.now (length world.now.actors.items) }
+    {
+        for (place, actor) in world.actors.as_slice().iter().enumerate() {
+            if !is_set(inside, place) && self.tasks_tell(shut, place, first_left(actor)) {
+                return false;
+            }
+        }
+        true
+    }
+
+    // Returns whether these flags stay shut until a domain of the set moves: none of them is raised, and no domain
+    // outside raises one before it awaits one.
+    fn stay_shut(&self, world: &SearchState<'a>, inside: &[bool], shut: &[bool]) -> bool
+        ensures { IsTrue result → StayShut self.now world.now inside.now shut.now }
+    {
+        share_none(shut, world.told.as_slice()) && self.none_tells(world, inside, shut)
     }
 
     // Returns whether some domain of the set is not at its end.
@@ -174,27 +295,91 @@ impl<'s, 'a> SearchContext<'s, 'a> {
         false
     }
 
-    // Returns whether the moves of a set need no alternative: some domain of it is not at its end, and none outside can
-    // disturb one inside.
-    pub(super) fn goes_alone(&self, world: &SearchState<'a>, inside: &[bool]) -> bool
-        ensures undisturbed { IsTrue result → AreUndisturbed self.now world.now inside.now }
+    // Returns whether the moves of a set need no alternative: these flags stay shut until one of them moves, some domain
+    // of it is not at its end, and none outside can disturb one inside before it awaits a shut flag.
+    pub(super) fn goes_alone(&self, world: &SearchState<'a>, inside: &[bool], shut: &[bool]) -> bool
+        ensures shut { IsTrue result → StayShut self.now world.now inside.now shut.now }
+        ensures undisturbed { IsTrue result → AreUndisturbed self.now world.now inside.now shut.now }
         ensures some { IsTrue result → SomeGoesOn self.now world.now inside.now }
     {
-        self.some_goes_on(world, inside) && self.who_disturbs(world, inside).is_none()
+        self.stay_shut(world, inside, shut)
+            && self.some_goes_on(world, inside)
+            && self.who_disturbs(world, inside, shut).is_none()
     }
 
-    // Returns the set that grows from this domain: each domain that may disturb one inside comes in.
-    fn set_from(&self, world: &SearchState<'a>, place: usize) -> Result<Vec<bool>, AllocError> {
-        let count = world.actors.len();
-        let mut inside = vec![in self.alloc; false; count]?;
-        put_in(&mut inside, place);
-        for _round in 0..count {
-            match self.who_disturbs(world, inside.as_slice()) {
-                Some(other) => put_in(&mut inside, other),
-                None => return Ok(inside),
+    // Opens each flag that the domain at this position can raise before it awaits a shut one. Returns whether there was
+    // one.
+    fn open_flags_of(&self, shut: &mut Vec<bool>, place: usize, first: usize) -> bool {
+        let mut some = false;
+        for at in first..self.task_count(place) {
+            if self.awaits_at(shut.as_slice(), place, at) {
+                return some;
+            }
+            if self.tells_at(shut.as_slice(), place, at) {
+                self.open_flag(shut, place, at);
+                some = true;
             }
         }
-        Ok(inside)
+        some
+    }
+
+    // Opens each flag that a domain outside the set can raise before it awaits a shut one. Returns whether there was
+    // one.
+    fn open_flags(&self, world: &SearchState<'a>, inside: &[bool], shut: &mut Vec<bool>) -> bool {
+        let mut some = false;
+        for (place, actor) in world.actors.as_slice().iter().enumerate() {
+            if !is_set(inside, place) && self.open_flags_of(shut, place, first_left(actor)) {
+                some = true;
+            }
+        }
+        some
+    }
+
+    // Returns the flags that stay shut until a domain of the set moves.
+    fn shut_by(&self, world: &SearchState<'a>, inside: &[bool]) -> Result<Vec<bool>, AllocError> {
+        let mut shut = Vec::new(self.alloc);
+        for is_told in world.told.as_slice() {
+            shut.push(!*is_told)?;
+        }
+        for _round in 0..shut.len() {
+            if !self.open_flags(world, inside, &mut shut) {
+                return Ok(shut);
+            }
+        }
+        Ok(shut)
+    }
+
+    // Opens the flag that the task at this index of a domain's list raises.
+    fn open_flag(&self, shut: &mut Vec<bool>, place: usize, at: usize) {
+        let Some(task) = self.task(place, at) else {
+            return;
+        };
+        let RunAction::Tell(flag) = &task.run_action else {
+            return;
+        };
+        if let Some(is_shut) = shut.get_mut(*flag) {
+            *is_shut = false;
+        }
+    }
+
+    // Returns the set that grows from this domain, if it has fewer than `most` domains: each domain that may disturb one
+    // inside comes in.
+    fn set_from(
+        &self,
+        world: &SearchState<'a>,
+        place: usize,
+        most: usize,
+    ) -> Result<Option<LoneSet>, AllocError> {
+        let mut inside = vec![in self.alloc; false; world.actors.len()]?;
+        put_in(&mut inside, place);
+        for _size in 1..most {
+            let shut = self.shut_by(world, inside.as_slice())?;
+            match self.who_disturbs(world, inside.as_slice(), shut.as_slice()) {
+                Some(other) => put_in(&mut inside, other),
+                None => return Ok(Some(LoneSet { inside, shut })),
+            }
+        }
+        Ok(None)
     }
 
     // Returns whether the domain at this position can move.
@@ -204,17 +389,18 @@ impl<'s, 'a> SearchContext<'s, 'a> {
     }
 
     // Returns the smallest of the sets that grow from a domain that can move.
-    pub(super) fn smallest_set(&self, world: &SearchState<'a>) -> Result<Vec<bool>, AllocError> {
+    pub(super) fn smallest_set(&self, world: &SearchState<'a>) -> Result<LoneSet, AllocError> {
         let told = world.told.as_slice();
-        let mut smallest = Vec::new(self.alloc);
-        let mut size = usize::MAX;
+        let mut smallest = LoneSet {
+            inside: Vec::new(self.alloc),
+            shut: Vec::new(self.alloc),
+        };
+        let mut most = world.actors.len().saturating_add(1);
         for (place, actor) in world.actors.as_slice().iter().enumerate() {
-            if size > 1 && self.can_move(told, place, actor) {
-                let inside = self.set_from(world, place)?;
-                let count = size_of(inside.as_slice());
-                if count < size {
-                    smallest = inside;
-                    size = count;
+            if most > 1 && self.can_move(told, place, actor) {
+                if let Some(grown) = self.set_from(world, place, most)? {
+                    most = size_of(grown.inside.as_slice());
+                    smallest = grown;
                 }
             }
         }

@@ -92,9 +92,9 @@ impl<'s, 'a> SearchContext<'s, 'a> {
     pub fn turns(&self, world: &SearchState<'a>) -> Result<Vec<Turn>, AllocError>
         ensures { IfOk result (λ turns. AreToBeTried self.now world.now turns.items) }
     {
-        let inside = self.smallest_set(world)?;
-        if self.goes_alone(world, inside.as_slice()) {
-            self.turns_of(world, inside.as_slice())
+        let set = self.smallest_set(world)?;
+        if self.goes_alone(world, set.inside.as_slice(), set.shut.as_slice()) {
+            self.turns_of(world, set.inside.as_slice())
         } else {
             self.all_turns(world)
         }

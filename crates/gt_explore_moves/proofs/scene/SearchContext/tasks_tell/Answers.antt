@@ -1,0 +1,23 @@
+use Rattle.std.proofs.Common.{sym, ◌∙◌}
+use Rattle.gt_explore_moves.specs.Ends.{tasks_at}
+use Rattle.gt_explore_moves.specs.Touches.{tells_shut}
+use Rattle.gt_explore_moves.proofs.SetsFound.{any-here, any-step, any-stop}
+use Rattle.gt_explore_moves.proofs.scene.SearchContext.tasks_tell.Goals as goal
+
+pub returns-then-awaits_at : goal.returns-then-awaits_at
+returns-then-awaits_at c =
+    sym (any-stop c.args.shut.now (tells_shut c.args.shut.now) c.loop-at.at (tasks_at c.args.self.now c.args.place)
+    (sym c.awaits_at.ensures ∙ c.if-awaits_at.true))
+    ∙ c.loop-at.invariant
+
+pub returns-then-tells_at : goal.returns-then-tells_at
+returns-then-tells_at c =
+    sym (any-here c.args.shut.now (tells_shut c.args.shut.now) c.loop-at.at (tasks_at c.args.self.now c.args.place)
+    (sym c.awaits_at.ensures ∙ c.if-awaits_at.false) (sym c.tells_at.ensures ∙ c.if-tells_at.true))
+    ∙ c.loop-at.invariant
+
+pub loop-at-preserved : goal.loop-at-preserved
+loop-at-preserved c =
+    any-step c.args.shut.now (tells_shut c.args.shut.now) c.loop-at.at (tasks_at c.args.self.now c.args.place)
+    (sym c.awaits_at.ensures ∙ c.if-awaits_at.false) (sym c.tells_at.ensures ∙ c.if-tells_at.false)
+    ∙ c.loop-at.invariant
