@@ -58,6 +58,8 @@ fn end_reason(alloc: Global, lines: &[&str], kind: ScriptFaultKind) -> Result<Re
         "the script has no line domain"
     } else if has_policy(alloc, lines)? {
         "the policy block is not closed by a line end"
+    } else if lines.iter().any(|line| line.as_bytes().contains(&b'\r')) {
+        "a line ends with a line feed, and this text has carriage returns alone"
     } else {
         "the script has neither a policy block nor a line triple"
     };

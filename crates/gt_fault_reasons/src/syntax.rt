@@ -71,14 +71,18 @@ fn push_expected(
     Ok(told)
 }
 
-// Appends which word of these parts a misspelt word may be meant as.
+// Appends which word of these parts a misspelt word may be meant as. The first word of a line may be `policy`, too.
 fn push_meant(
     alloc: Global,
     out: &mut Vec<u8>,
     word: &[u8],
+    is_first: bool,
     expected: &[&'static [u8]],
 ) -> Result<(), AllocError> {
     let mut names: Vec<&str> = Vec::new(alloc);
+    if is_first {
+        names.push("policy")?;
+    }
     for part in expected {
         if is_word(part, "PERMISSION") {
             for name in permission_names(alloc)? {
@@ -126,7 +130,7 @@ fn push_unfit(
     push_word(out, word)?;
     push_text(out, ": ")?;
     let expected = push_expected(alloc, out, words, number)?;
-    push_meant(alloc, out, word, expected.as_slice())
+    push_meant(alloc, out, word, number == 0, expected.as_slice())
 }
 
 // Appends what is expected after the last word.
@@ -141,9 +145,37 @@ fn push_incomplete(
     Ok(())
 }
 
+// Returns whether a word begins a statement of a policy.
+fn is_of_policy(word: &[u8]) -> bool {
+    ["type", "attribute", "typeattribute", "allow", "neverallow"]
+        .iter()
+        .any(|keyword| is_word(word, *keyword))
+}
+
+// Returns of what other kind of text a line is that begins with this word, if the word shows it.
+fn other_text(word: &[u8]) -> Option<&'static str> {
+    match word {
+        [0xef, 0xbb, 0xbf, ..] => Some(
+            "the text begins with a byte order mark, and a script has none",
+        ),
+        _ if word.contains(&b'\r') => {
+            Some("a line ends with a line feed, and this one has a carriage return inside")
+        }
+        _ if is_of_policy(word) => {
+            Some("this is a line of a policy, which a script has between policy and end")
+        }
+        _ => None,
+    }
+}
+
 // Explains words that are not a line of a script.
 fn misfit_reason(alloc: Global, line: &str, words: &[&[u8]]) -> Result<Reason, AllocError> {
     let number = first_misfit(alloc, words)?;
+    if let (0, [first, ..]) = (number, words) {
+        if let Some(text) = other_text(*first) {
+            return Reason::of_line(alloc, text);
+        }
+    }
     let mut message = Vec::new(alloc);
     match words.get(number) {
         Some(word) => push_unfit(alloc, &mut message, words, number, word)?,

@@ -46,6 +46,7 @@ quoted_column text finding_kinds.NeverNamed x is has = has
 quoted_column text finding_kinds.NoDomain x is has = has
 quoted_column text finding_kinds.NeverMatters x is has = absurd (cc)
 quoted_column text finding_kinds.NeverMapped x is has = tt
+quoted_column text finding_kinds.AlwaysRefused x is has = absurd (cc)
 quoted_column text finding_kinds.Note x is has = absurd (cc)
 
 -- a finding about a word that its message quotes

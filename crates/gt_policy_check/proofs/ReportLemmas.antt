@@ -1,12 +1,14 @@
 -- Texts that are appended one after the other.
 use Rattle.std.proofs.Common.{◌≡◌, ◌⊎◌, ℕ, ◌<◌, ◌+◌, List, [], ◌∷◌, ◌++◌, length, take, get_or, refl, sym, subst, ap, ◌∙◌}
-use Rattle.std.proofs.Common.{append_assoc, codes, inl, inr, true, OnOk, Result, Ok, Err}
+use Rattle.std.proofs.Common.{append_assoc, arith, codes, inl, inr, true, OnOk, Result, Ok, Err}
 use Rattle.std.proofs.lemmas.List.{append-nil, take_more}
+use Rattle.std.proofs.lemmas.List.Concat.{flat_map-append}
 use Rattle.std.proofs.lemmas.List.Elements.{All-append}
 use Rattle.std.proofs.lemmas.Slice.Zip.{all_zipped_more}
 use Rattle.std.specs.List.{AllPass, concat, flat_map}
 use Rattle.gt_policy_check.specs.Report.{AddsText, IsTextOfAll, IsExcerpt, IsReport, IsFindingText, object_text, caret_text, excerpt_text, heading_text}
-use Rattle.gt_policy_check.specs.Report.{is_space_or_tab, shown_text}
+use Rattle.gt_policy_check.specs.Report.{is_space_or_tab, shown_letter, shown_text, IsShownText}
+use Rattle.std.specs.Prelude.{encode_utf8}
 use Rattle.gt_policy_check.specs.declared.findings.Finding.{Finding}
 use Rattle.gt_policy_check.specs.declared.findings.FindingKind.{FindingKind}
 use Rattle.gt_policy_check.specs.declared.report.ReportForm.{ReportForm}
@@ -45,11 +47,32 @@ pub more_blanks : (old mid new : List ℕ) → AddsText (AllPass is_space_or_tab
 more_blanks old mid new before added =
     adds_both (AllPass is_space_or_tab) (AllPass is_space_or_tab) (AllPass is_space_or_tab) old mid new (λ a b p q. All-append (λ x. is_space_or_tab x ≡ true) a b p q) before added
 
+-- characters as they are shown, one after the other
+shown_both : (a b : List ℕ) → IsShownText a → IsShownText b → IsShownText (a ++ b)
+shown_both a b (x, is) (y, so) =
+    (x ++ y, ap (λ (l : List ℕ). l ++ b) is ∙ ap (λ (l : List ℕ). shown_text x ++ l) so ∙ sym (flat_map-append (λ c. encode_utf8 (shown_letter c)) x y))
+
+pub shown_then : (old mid new : List ℕ) → AddsText IsShownText old mid → AddsText IsShownText mid new → AddsText IsShownText old new
+shown_then old mid new before added = adds_both IsShownText IsShownText IsShownText old mid new shown_both before added
+
+pub shown_all : (old new letters : List ℕ) → new ≡ old ++ shown_text letters → AddsText IsShownText old new
+shown_all old new letters is = (shown_text letters, (letters, refl), is)
+
+pub shown_none : (old : List ℕ) → AddsText IsShownText old old
+shown_none old = ([], ([], refl), sym (append-nil old))
+
+pub shown_char : (old new : List ℕ) (c : ℕ) → new ≡ old ++ encode_utf8 (shown_letter c) → AddsText IsShownText old new
+shown_char old new c is = shown_all old new (c ∷ []) (is ∙ ap (λ (l : List ℕ). old ++ l) (sym (append-nil _)))
+
+pub no_blanks : (old : List ℕ) → AddsText (AllPass is_space_or_tab) old old
+no_blanks old = ([], (λ k d h. absurd (omega (arith, h))), sym (append-nil old))
+
 -- a line, a line end, blanks and a caret are an excerpt
-pub excerpt_added : (form : ReportForm) (kind : FindingKind) (letters caret old line start mid new : List ℕ) → line ≡ old ++ shown_text letters → start ≡ line ++ codes "\n" → AddsText (AllPass is_space_or_tab) start mid
+pub excerpt_added : (form : ReportForm) (kind : FindingKind) (caret old line start mid new : List ℕ) → AddsText IsShownText old line → start ≡ line ++ codes "\n" → AddsText (AllPass is_space_or_tab) start mid
     → caret ≡ caret_text form kind → new ≡ mid ++ caret → AddsText (IsExcerpt form kind) old new
 unfolding excerpt_text
-excerpt_added form kind letters caret old line start mid new shown ended (blanks, blank, is) same put =
+excerpt_added form kind caret old line start mid new (said, (letters, so), there) ended (blanks, blank, is) same put =
+    let shown : line ≡ old ++ shown_text letters = there ∙ ap (λ (l : List ℕ). old ++ l) so in
     let whole : new ≡ old ++ excerpt_text form kind letters blanks =
     put ∙ ap (λ (l : List ℕ). mid ++ l) same ∙ ap (λ (l : List ℕ). l ++ caret_text form kind) (is ∙ ap (λ (l : List ℕ). l ++ blanks) (ended ∙ ap (λ (l : List ℕ). l ++ codes "\n") shown)) ∙ simp append_assoc in
     (excerpt_text form kind letters blanks, inr (letters, blanks, blank, refl), whole)

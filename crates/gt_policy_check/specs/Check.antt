@@ -6,7 +6,7 @@ use Rattle.gt_policy_check.specs.Prelude.{statement_grants, IsLined, statements_
 use Rattle.gt_policy_check.specs.Prelude.{TokenFault, LinedStatement, Statement, DeclareType, DeclareAttribute}
 use Rattle.gt_policy_check.specs.Prelude.{GiveAttributes, Allow, Finding, FindingKind, Fault, OtherClass}
 use Rattle.gt_policy_check.specs.Prelude.{OtherPermission, AllowsNothing, NeverAsked, Repeats, NeverNamed, NoDomain}
-use Rattle.gt_policy_check.specs.Prelude.{NeverMatters, NeverMapped, Note, Member}
+use Rattle.gt_policy_check.specs.Prelude.{NeverMatters, NeverMapped, AlwaysRefused, Note, Member}
 use Rattle.gt_policy.specs.declared.fault.TokenFaultKind.{TokenFaultKind}
 use Rattle.gt_policy.specs.declared.fault.TokenFaultKind.TheVariants as token_fault_kinds
 use Rattle.gt_policy_check.specs.Columns.{IsColumnOf, IsEndOf}
@@ -25,6 +25,7 @@ is_error NeverNamed = false
 is_error NoDomain = false
 is_error NeverMatters = false
 is_error NeverMapped = false
+is_error AlwaysRefused = false
 is_error Note = false
 
 -- the finding is a statement that allows nothing
@@ -39,6 +40,7 @@ is_of_nothing NeverNamed = false
 is_of_nothing NoDomain = false
 is_of_nothing NeverMatters = false
 is_of_nothing NeverMapped = false
+is_of_nothing AlwaysRefused = false
 is_of_nothing Note = false
 
 -- the finding is a statement that repeats an earlier one
@@ -53,6 +55,7 @@ is_of_repeat NeverNamed = false
 is_of_repeat NoDomain = false
 is_of_repeat NeverMatters = false
 is_of_repeat NeverMapped = false
+is_of_repeat AlwaysRefused = false
 is_of_repeat Note = false
 
 -- the lines of the errors
@@ -164,7 +167,7 @@ abbrev pub IsAtAllow : List ℕ → Finding → Type 0
 IsAtAllow text x = IsColumnOf text x.line (codes "allow") x.column
 
 -- The column of a warning or a note is that of the word that it is about: of an allow statement the word `allow`, and
--- otherwise the word that its message quotes. (A fault has a column of its kind, and a label is that of a script.)
+-- otherwise the word that its message quotes. (A fault has a column of its kind, and labels and calls are those of a script.)
 abbrev pub HasColumnAs : FindingKind → List ℕ → Finding → Type 0
 HasColumnAs Fault text x = Unit {0}
 HasColumnAs OtherClass text x = IsAtQuoted text x
@@ -176,6 +179,7 @@ HasColumnAs NeverNamed text x = IsAtQuoted text x
 HasColumnAs NoDomain text x = IsAtQuoted text x
 HasColumnAs NeverMatters text x = IsAtAllow text x
 HasColumnAs NeverMapped text x = Unit {0}
+HasColumnAs AlwaysRefused text x = Unit {0}
 HasColumnAs Note text x = IsAtAllow text x ⊎ IsAtQuoted text x
 
 abbrev pub HasColumn : List ℕ → Finding → Type 0
@@ -193,6 +197,7 @@ is_of_word NeverNamed = true
 is_of_word NoDomain = true
 is_of_word NeverMatters = false
 is_of_word NeverMapped = false
+is_of_word AlwaysRefused = false
 is_of_word Note = false
 
 -- each finding that was added has the column of its word

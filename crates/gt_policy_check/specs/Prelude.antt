@@ -1,7 +1,7 @@
 -- The names of other crates, and of the code, that the definitions here use.
 pub use Rattle.gt_policy_check.specs.declared.findings.Finding.{Finding}
 pub use Rattle.gt_policy_check.specs.declared.findings.FindingKind.{FindingKind}
-pub use Rattle.gt_policy_check.specs.declared.findings.FindingKind.TheVariants.{AllowsNothing, Fault, NeverAsked}
+pub use Rattle.gt_policy_check.specs.declared.findings.FindingKind.TheVariants.{AllowsNothing, AlwaysRefused, Fault, NeverAsked}
 pub use Rattle.gt_policy_check.specs.declared.findings.FindingKind.TheVariants.{NeverMapped, NeverMatters, NeverNamed}
 pub use Rattle.gt_policy_check.specs.declared.findings.FindingKind.TheVariants.{NoDomain, OtherClass, Note}
 pub use Rattle.gt_policy_check.specs.declared.findings.FindingKind.TheVariants.{OtherPermission, Repeats}

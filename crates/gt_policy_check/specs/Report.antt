@@ -10,7 +10,7 @@ use Rattle.gt_policy_check.specs.declared.findings.FindingKind.{FindingKind}
 use Rattle.gt_policy_check.specs.declared.findings.FindingKind.TheVariants.{Fault, OtherClass, OtherPermission}
 use Rattle.gt_policy_check.specs.declared.findings.FindingKind.TheVariants.{AllowsNothing, NeverAsked, Repeats}
 use Rattle.gt_policy_check.specs.declared.findings.FindingKind.TheVariants.{NeverNamed, NoDomain, NeverMatters}
-use Rattle.gt_policy_check.specs.declared.findings.FindingKind.TheVariants.{NeverMapped, Note}
+use Rattle.gt_policy_check.specs.declared.findings.FindingKind.TheVariants.{AlwaysRefused, NeverMapped, Note}
 use Rattle.gt_policy_check.specs.declared.report.ReportForm.{ReportForm}
 use Rattle.gt_policy_check.specs.declared.report.ReportForm.TheVariants.{Colored, Json, Text}
 
@@ -26,6 +26,7 @@ severity_text NeverNamed = codes "warning"
 severity_text NoDomain = codes "warning"
 severity_text NeverMatters = codes "warning"
 severity_text NeverMapped = codes "warning"
+severity_text AlwaysRefused = codes "warning"
 severity_text Note = codes "note"
 
 -- the line and the column, with a text between them
@@ -53,6 +54,10 @@ shown_letter c = if is_control c && not (c == 9) then 0xFFFD else c
 -- these characters as they are shown
 abbrev pub shown_text : List ℕ → List ℕ
 shown_text letters = flat_map (λ c. encode_utf8 (shown_letter c)) letters
+
+-- some characters as they are shown
+abbrev pub IsShownText : List ℕ → Type 0
+IsShownText text = (letters : List ℕ) × (text ≡ shown_text letters)
 
 -- a space or a tab
 abbrev pub is_space_or_tab : ℕ → Bool

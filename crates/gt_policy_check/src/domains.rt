@@ -6,7 +6,7 @@ ghost use Rattle.gt_policy_check.specs.Placing.{IsAtStatement, IsOnLine};
 use crate::adding::{Place, push_of_word, push_quiet};
 use crate::fault::{message_of, said_of};
 use crate::findings::{Finding, FindingKind};
-use crate::granting::names_type;
+use crate::granting::{gives_of, names_type};
 use crate::members::{Member, is_same, members_of, push_members};
 use crate::useless::allows_something;
 use gt_policy::{LinedStatement, Statement, TextPiece};
@@ -66,6 +66,22 @@ fn is_named(policy: &Judged, name: &TextPiece) -> bool {
     }
 }
 
+// Returns what is wrong with a type that no allow statement names. The caller of a copy is not asked, so it may copy
+// between others.
+fn unnamed_text(policy: &Judged) -> &'static str {
+    for stated in policy.statements {
+        if gives_of(
+            &stated.statement,
+            policy.members,
+            policy.members,
+            Some("copy"),
+        ) {
+            return " is not named by any allow statement, yet its domains may copy between other types";
+        }
+    }
+    " is not named by any allow statement"
+}
+
 /// Warns of a type that no allow statement names, or that no domain has.
 #[tactic(auto, using(crate::proofs::KeepLemmas::keeps_same, crate::proofs::KeepLemmas::keeps_then))]
 pub(crate) fn warn_type(
@@ -81,7 +97,7 @@ pub(crate) fn warn_type(
 {
     let word = name.as_str();
     if !is_named(policy, name) {
-        let message = said_of(alloc, word, " is not named by any allow statement")?;
+        let message = said_of(alloc, word, unnamed_text(policy))?;
         return push_of_word(found, FindingKind::NeverNamed, place, word, message);
     }
     if member_named(policy.worn, name).is_none() {

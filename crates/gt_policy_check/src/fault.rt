@@ -278,6 +278,29 @@ fn end_before(bytes: &[u8], line: &LineTokens, misfit: usize) -> (usize, u32)
     (0, first_column(bytes_of(bytes, line.span)))
 }
 
+// Appends what a token is that begins nothing in a policy.
+fn push_stray(out: &mut Vec<u8>, token: &[u8]) -> Result<(), AllocError> {
+    match token {
+        [0xef, 0xbb, 0xbf, ..] => push_text(out, "; a byte order mark is not part of a policy"),
+        [b'/', ..] => push_text(out, "; a comment begins with #"),
+        [b'[', ..] => push_text(out, "; [ begins nothing in a policy"),
+        _ => Ok(()),
+    }
+}
+
+// Appends what the token of this number in a line is, if it begins nothing in a policy.
+fn push_stray_at(
+    out: &mut Vec<u8>,
+    bytes: &[u8],
+    line: &LineTokens,
+    number: usize,
+) -> Result<(), AllocError> {
+    match line.tokens.get(number) {
+        Some(token) => push_stray(out, bytes_of(bytes_of(bytes, line.span), *token)),
+        None => Ok(()),
+    }
+}
+
 // Explains a token that fits nowhere, by what was expected after the token before it.
 fn explain_syntax(
     alloc: Global,
@@ -289,11 +312,13 @@ fn explain_syntax(
     ensures column { OnOk result (IsEndOf bytes.now line.now.number explained.new.column) }
     ensures note { OnOk result (explained.new.note ≡ explained.old.note) }
 {
-    let (end, column) = end_before(bytes, line, misfit(alloc, bytes, line)?);
+    let number = misfit(alloc, bytes, line)?;
+    let (end, column) = end_before(bytes, line, number);
     explained.column = column;
     let front = front_of(bytes, line, end);
     push_all_expected(alloc, &mut explained.message, front)?;
-    push_after(&mut explained.message, last_token(alloc, front)?)
+    push_after(&mut explained.message, last_token(alloc, front)?)?;
+    push_stray_at(&mut explained.message, bytes, line, number)
 }
 
 // Returns the column of the token that does not fit, which is this word.

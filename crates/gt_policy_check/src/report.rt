@@ -5,7 +5,7 @@ ghost use Rattle.gt_json.specs.Strings.{quoted};
 ghost use Rattle.gt_policy_check.specs.Report.{heading_text, object_text, position_text, said_text, severity_text};
 ghost use Rattle.gt_policy_check.specs.Report.{caret_text, is_space_or_tab, shown_letter, shown_text, AddsText};
 ghost use Rattle.gt_policy_check.specs.Report.{IsTextOfAll};
-ghost use Rattle.gt_policy_check.specs.Report.{IsExcerpt, IsReport, IsFindingText};
+ghost use Rattle.gt_policy_check.specs.Report.{IsExcerpt, IsReport, IsFindingText, IsShownText};
 
 use crate::findings::{Finding, FindingKind};
 use crate::places::{bytes_of, line_span};
@@ -106,17 +106,117 @@ pub(crate) fn push_all_shown(out: &mut Vec<u8>, line: &str) -> Result<(), AllocE
     Ok(())
 }
 
-// Appends blanks as wide as the characters of a line before a column.
-fn push_blanks(out: &mut Vec<u8>, line: &str, column: u32) -> Result<(), AllocError>
+// The most bytes of a line that are shown.
+const SHOWN: usize = 160;
+
+// What marks that a line goes on.
+const MORE: &str = "...";
+
+// The bytes of a line that are shown, from `start` up to `end`.
+#[derive(Clone, Copy)]
+struct Window {
+    start: usize,
+    end: usize,
+}
+
+// Returns the part of a line of this length that is shown: all of it, or if it is long the part around the column.
+fn window_of(length: usize, column: u32) -> Window {
+    let place = (column as usize).saturating_sub(1);
+    let last = length.saturating_sub(SHOWN);
+    let start = place.saturating_sub(SHOWN / 2).min(last);
+    Window {
+        start,
+        end: start.saturating_add(SHOWN).min(length),
+    }
+}
+
+// Appends the mark that a line goes on, if it does.
+#[tactic(auto, using(crate::proofs::ReportLemmas::shown_all, crate::proofs::ReportLemmas::shown_none))]
+fn push_more(out: &mut Vec<u8>, goes_on: bool) -> Result<(), AllocError>
+    ensures { OnOk result (AddsText IsShownText out.old.items out.new.items) }
+{
+    if goes_on {
+        return push_all_shown(out, MORE);
+    }
+    Ok(())
+}
+
+// Appends a character of a line, if it is in a window or after it.
+#[tactic(auto, using(crate::proofs::ReportLemmas::shown_char, crate::proofs::ReportLemmas::shown_none))]
+fn push_shown_from(
+    out: &mut Vec<u8>,
+    window: Window,
+    place: usize,
+    letter: char,
+) -> Result<(), AllocError>
+    ensures { OnOk result (AddsText IsShownText out.old.items out.new.items) }
+{
+    if place < window.start {
+        return Ok(());
+    }
+    push_shown(out, letter)
+}
+
+// Appends the characters of a line in a window.
+fn push_inside(out: &mut Vec<u8>, line: &str, window: Window) -> Result<(), AllocError>
+    ensures { OnOk result (AddsText IsShownText out.old.items out.new.items) }
+{
+    'letters: for (place, letter) in line.char_indices() {
+        if place >= window.end {
+            break;
+        }
+        push_shown_from(out, window, place, letter)?;
+    }
+    Ok(())
+}
+
+// Appends the part of a line in a window, with marks where the line goes on.
+fn push_window(out: &mut Vec<u8>, line: &str, window: Window) -> Result<(), AllocError>
+    ensures { OnOk result (AddsText IsShownText out.old.items out.new.items) }
+{
+    push_more(out, window.start > 0)?;
+    push_inside(out, line, window)?;
+    push_more(out, window.end < line.len())
+}
+
+// Appends blanks as wide as a character of a line, if it is in a window or after it.
+#[tactic(auto, using(crate::proofs::ReportLemmas::no_blanks))]
+fn push_blank_from(
+    out: &mut Vec<u8>,
+    window: Window,
+    place: usize,
+    letter: char,
+) -> Result<(), AllocError>
+    ensures { OnOk result (AddsText (AllPass is_space_or_tab) out.old.items out.new.items) }
+{
+    if place < window.start {
+        return Ok(());
+    }
+    push_blank(out, letter)
+}
+
+// Appends blanks as wide as the characters of a line in a window before a column.
+fn push_blanks(out: &mut Vec<u8>, line: &str, window: Window, column: u32) -> Result<(), AllocError>
     ensures { OnOk result (AddsText (AllPass is_space_or_tab) out.old.items out.new.items) }
 {
     'letters: for (place, letter) in line.char_indices() {
         if place + 1 >= column as usize {
             break;
         }
-        push_blank(out, letter)?;
+        push_blank_from(out, window, place, letter)?;
     }
     Ok(())
+}
+
+// Appends the blanks below the mark that a line began before its window, and below the characters before a column.
+fn push_indent(out: &mut Vec<u8>, line: &str, window: Window, column: u32) -> Result<(), AllocError>
+    ensures { OnOk result (AddsText (AllPass is_space_or_tab) out.old.items out.new.items) }
+{
+    if window.start > 0 {
+        push_blanks(out, MORE, window_of(MORE.len(), 1), u32::MAX)?;
+        return push_blanks(out, line, window, column);
+    }
+    push_blanks(out, line, window, column)
 }
 
 /// The form in which findings are printed.
@@ -142,7 +242,7 @@ fn caret(kind: FindingKind, form: ReportForm) -> &'static str
     }
 }
 
-// Appends the line of a finding, and a caret below its column.
+// Appends the line of a finding, or of a long line the part around the column, and a caret below the column.
 fn push_excerpt(
     out: &mut Vec<u8>,
     text: &str,
@@ -155,9 +255,10 @@ fn push_excerpt(
     if line.is_empty() {
         return Ok(());
     }
-    push_all_shown(out, line)?;
+    let window = window_of(line.len(), finding.column);
+    push_window(out, line, window)?;
     push_text(out, "\n")?;
-    push_blanks(out, line, finding.column)?;
+    push_indent(out, line, window, finding.column)?;
     push_text(out, caret(finding.kind, form))
 }
 
@@ -175,8 +276,8 @@ fn push_finding(
     push_excerpt(out, text, finding, form)
 }
 
-/// Appends the findings of a text in the layout of compilers: each with its line, and a caret below its column, which
-/// is coloured in the form `Colored`. After an Err, part of them may have been appended.
+/// Appends the findings of a text in the layout of compilers: each with its line, or at most 160 bytes of it, and a
+/// caret below its column, which is coloured in the form `Colored`. After an Err, part of them may have been appended.
 pub fn push_report(
     out: &mut Vec<u8>,
     file: &str,

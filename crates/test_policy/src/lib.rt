@@ -1,5 +1,6 @@
-//! Tests of policies, of their tables, of the listing of what they allow, of paths, and of findings (`gt_policy`,
-//! `gt_allow`, `gt_policy_list`, `gt_policy_flow`, `gt_policy_check`), over their public items.
+//! Tests of policies, of their tables, of the listing of what they allow, of paths, of pairs of types, and of findings
+//! (`gt_policy`, `gt_allow`, `gt_policy_list`, `gt_policy_flow`, `gt_policy_pairs`, `gt_policy_check`), over their public
+//! items.
 //!
 //! They test what no contract specifies: names and numbers of types, texts at the limits and texts that are cut off,
 //! and readers and writers that fail. Worked texts with what they allow are in `cases_play`.
@@ -13,6 +14,8 @@ mod findings;
 mod flows;
 #[cfg(test)]
 mod listing;
+#[cfg(test)]
+mod pairs;
 #[cfg(test)]
 mod policy;
 #[cfg(test)]

@@ -5,6 +5,8 @@ ghost use Rattle.gt_policy_check.specs.Check.{error_lines};
 ghost use Rattle.gt_check_command.specs.Judging.{JudgesScript};
 
 use crate::script_findings::block::warn_block;
+use crate::script_findings::calls::warn_call;
+use crate::script_findings::configured::ScriptDomains;
 use crate::script_findings::faults::errors;
 use crate::script_findings::labels::{label_in, warn_label};
 use crate::script_findings::triples::warn_triple;
@@ -23,6 +25,7 @@ fn warn_lines(
     lines: &[&str],
     start: usize,
     worn: &[&str],
+    domains: &ScriptDomains,
 ) -> Result<(), AllocError>
     ensures { OnOk result (error_lines found.new.items ≡ error_lines found.old.items) }
 {
@@ -34,6 +37,7 @@ fn warn_lines(
             continue;
         }
         warn_triple(alloc, found, number, line, worn)?;
+        warn_call(alloc, found, number, line, domains)?;
         let Some(label) = label_in(alloc, line)? else {
             continue;
         };
@@ -55,9 +59,18 @@ fn warnings(alloc: Global, input: &[u8]) -> Result<Vec<Finding>, Memory>
     };
     let lines = text_lines(alloc, text)?;
     let start = body_start(alloc, lines.as_slice())?;
-    let worn = worn_types(alloc, lines.as_slice().get(start..).unwrap_or(&[]))?;
+    let body = lines.as_slice().get(start..).unwrap_or(&[]);
+    let worn = worn_types(alloc, body)?;
+    let domains = ScriptDomains::of(alloc, body)?;
     warn_block(alloc, &mut found, lines.as_slice(), worn.as_slice())?;
-    warn_lines(alloc, &mut found, lines.as_slice(), start, worn.as_slice())?;
+    warn_lines(
+        alloc,
+        &mut found,
+        lines.as_slice(),
+        start,
+        worn.as_slice(),
+        &domains,
+    )?;
     Ok(found)
 }
 

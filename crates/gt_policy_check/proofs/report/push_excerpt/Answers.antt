@@ -1,9 +1,9 @@
-use Rattle.std.proofs.Common.{chars}
 use Rattle.gt_policy_check.proofs.ReportLemmas.{excerpt_added, on_ok}
 use Rattle.gt_policy_check.proofs.report.push_excerpt.Goals as goal
 
 pub returns : goal.returns
 returns c =
     on_ok c.push_text-2.result
-    (excerpt_added c.args.form c.args.finding.now.kind (chars c.line_of-line.result.now) c.caret.result.now _ c.push_all_shown.new.out.items c.push_text.new.out.items c.push_blanks.new.out.items c.push_text-2.new.out.items
-    c.in_ok-push_all_shown.ensures c.in_ok-push_text.ensures.ok c.in_ok-push_blanks.ensures c.caret.ensures) c.push_text-2.ensures.ok
+    (excerpt_added c.args.form c.args.finding.now.kind c.caret.result.now _ c.push_window.new.out.items
+    c.push_text.new.out.items c.push_indent.new.out.items c.push_text-2.new.out.items c.in_ok-push_window.ensures
+    c.in_ok-push_text.ensures.ok c.in_ok-push_indent.ensures c.caret.ensures) c.push_text-2.ensures.ok
