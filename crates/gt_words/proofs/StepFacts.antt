@@ -31,7 +31,7 @@ use Rattle.gt_words.proofs.Seeing.{saw_there}
 use Rattle.gt_words.proofs.Looking.{seen_is_last}
 use Rattle.gt_words.specs.Answers.{AddsToEntry, Changes, Demotes, LooksAtBody, LooksAtControl, MissesBusy}
 use Rattle.gt_words.specs.Answers.{MissesChange, MissesPin, Pins, Publishes, Revokes, StepsOnControl, StoresBody}
-use Rattle.gt_words.specs.Answers.{Unpins}
+use Rattle.gt_words.specs.Answers.{Unpins, UnpinsTo}
 use Rattle.gt_words.specs.Conditions.{CountsPins, HasLooked, HasNoPins, HasNoWritePins, Holds, IsBusyOf, IsIdleOf}
 use Rattle.gt_words.specs.Conditions.{IsNotEarlier, IsWordOf, MayPin}
 use Rattle.gt_word_history.specs.Controls.{IsTurnable, IsValid, generation_of, pins_in}
@@ -268,6 +268,11 @@ lowered : (d : Dir) (w : ℕ) → 0 < pins_in d w → w < 18446744073709551616 �
 lowered Read w a b = omega arith
 lowered Write w a b = omega arith
 
+-- a word that counts a pin is at least that pin's unit
+unit-there : (d : Dir) (w : ℕ) → 0 < pins_in d w → unit_of d ≤ w
+unit-there Read w a = omega arith
+unit-there Write w a = omega arith
+
 -- a pin was given back
 pub unpins : (k : Layout) (t r : ℕ) (d : Dir) (g : ℕ) (v : View) (found : ℕ) (w : View) → t < k.domains → r < TABLE_ENTRIES → Holds t r d g v → found < 18446744073709551616
     → (past : StepHistory) → w ≡ with_step past (on_entry t r (Unpinned d g)) v → TakesStep (Unit {0}) k v past (on_entry t r (Unpinned d g)) (place t r 0) found ((found + (2 ^ 64 - unit_of d)) % 2 ^ 64) → Unpins k t r d g v w
@@ -285,6 +290,18 @@ unpins k t r d g v found w tn rn holds fits past view step = let p = there_is d 
       header = keeps_header t r m v w a;
       seen = sees_no_earlier t r m v w a (omega arith);
     }
+
+-- the word that this left
+pub unpins-to : (k : Layout) (t r : ℕ) (d : Dir) (g : ℕ) (v : View) (found : ℕ) (w : View) → t < k.domains → r < TABLE_ENTRIES → Holds t r d g v → found < 18446744073709551616
+    → (past : StepHistory) → w ≡ with_step past (on_entry t r (Unpinned d g)) v → TakesStep (Unit {0}) k v past (on_entry t r (Unpinned d g)) (place t r 0) found ((found + (2 ^ 64 - unit_of d)) % 2 ^ 64) → UnpinsTo k t r d g (found - unit_of d) v w
+unfolding unpins
+unpins-to k t r d g v found w tn rn holds fits past view step = (unpins k t r d g v found w tn rn holds fits past view step, refl)
+
+-- the word that was found is at least the pin's unit
+pub unit-counted : (k : Layout) (t r : ℕ) (d : Dir) (g : ℕ) (v : View) (found : ℕ) (w : View) → t < k.domains → r < TABLE_ENTRIES → Holds t r d g v → found < 18446744073709551616
+    → (past : StepHistory) → w ≡ with_step past (on_entry t r (Unpinned d g)) v → TakesStep (Unit {0}) k v past (on_entry t r (Unpinned d g)) (place t r 0) found ((found + (2 ^ 64 - unit_of d)) % 2 ^ 64) → unit_of d ≤ found
+unfolding unpins
+unit-counted k t r d g v found w tn rn holds fits past view step = unit-there d found (unpins k t r d g v found w tn rn holds fits past view step).counted
 
 module _ (k : Layout) (t r : ℕ) (word : ℕ) (v : View) (w : View) (tn : t < k.domains) (rn : r < TABLE_ENTRIES) (own_is : v.position ≡ t) where
   vn : v.position < k.domains

@@ -107,6 +107,14 @@ pub record Unpins (k : Layout) (t r : ℕ) (d : Dir) (g : ℕ) (v w : View) : Ty
 abbrev pub UnpinsPin : Board → Pin → View → View → Type 0
 UnpinsPin b p v w = Unpins b.layout (position_at b p.dom) p.gref.0 p.dir (generation_of p.word) v w
 
+-- a pin was released by one step, which left this control word
+abbrev pub UnpinsTo : Layout → ℕ → ℕ → Dir → ℕ → ℕ → View → View → Type 0
+UnpinsTo k t r d g left v w = (u : Unpins k t r d g v w) × (left ≡ u.found - unit_of d)
+
+-- this pin was released, and the control word is then this one
+abbrev pub UnpinsPinTo : Board → Pin → ℕ → View → View → Type 0
+UnpinsPinTo b p left v w = UnpinsTo b.layout (position_at b p.dom) p.gref.0 p.dir (generation_of p.word) left v w
+
 -- a pin was taken by one step: of the entry as it was last seen, which was then the last record of its owner's list,
 -- and which the seat may pin
 pub record Pins (k : Layout) (t r : ℕ) (d : Dir) (word : ℕ) (v w : View) : Type 0 where

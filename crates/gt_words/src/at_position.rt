@@ -5,6 +5,7 @@ ghost use Rattle.gt_word_history.specs.Controls.{generation_of};
 ghost use Rattle.gt_words.specs.Conditions.{CanPin, CountsPins, HasDomain, Holds, IsEntryOf, IsSameSeat, IsSeatOf};
 ghost use Rattle.gt_words.specs.Conditions.{IsWordOf, position_at};
 ghost use Rattle.gt_words.specs.Answers.{LooksAtBody, LooksAtControl, LooksAtHeader, MissesPin, Pins, UnpinsPin};
+ghost use Rattle.gt_words.specs.Answers.{UnpinsPinTo};
 
 use crate::calls;
 use crate::words::{Pin, Seat, Words};
@@ -103,9 +104,10 @@ impl Words {
         calls::pin(&self.words, &mut seat.place, entry, looked, dir)
     }
 
-    /// Releases a pin as [`unpin`](Words::unpin) does. `at` is the position of the domain `pin.dom`.
+    /// Releases a pin as [`unpin`](Words::unpin) does, and returns the control word that this left. `at` is the position
+    /// of the domain `pin.dom`.
     #[inline(always)]
-    pub fn unpin_at(&self, seat: &mut Seat, pin: Pin, at: usize)
+    pub fn unpin_at(&self, seat: &mut Seat, pin: Pin, at: usize) -> u64
         requires seat { IsSeatOf self.now seat.old }
         requires place { at ≡ position_at self.now pin.dom }
         requires entry { IsEntryOf self.now pin.dom pin.gref }
@@ -113,12 +115,13 @@ impl Words {
         ensures seat { IsSameSeat seat.old seat.new }
         ensures fits { IsSeatOf self.now seat.new }
         ensures step { UnpinsPin self.now pin seat.old.view seat.new.view }
+        ensures left { UnpinsPinTo self.now pin result seat.old.view seat.new.view }
     {
         let entry = EntryAt {
             position: at,
             gref: pin.gref.0 as usize,
         };
         let generation = u64::from(Control::unpack(pin.word).generation);
-        calls::unpin(&self.words, &mut seat.place, entry, pin.dir, generation);
+        calls::unpin(&self.words, &mut seat.place, entry, pin.dir, generation)
     }
 }

@@ -3,7 +3,7 @@ ghost use Rattle.std.specs.Prelude.{◌≡◌, ◌<◌, true, MatchResult};
 ghost use Rattle.gt_model.specs.Entries.{IsEntry};
 ghost use Rattle.gt_words.specs.Answers.{Changes, Demotes, LooksAtBody, LooksAtControl, LooksAtHeader, MissesBusy};
 ghost use Rattle.gt_words.specs.Answers.{MissesChange, MissesPin, Pins, Publishes, Revokes, StoresBody, StoresHeader};
-ghost use Rattle.gt_words.specs.Answers.{Unpins};
+ghost use Rattle.gt_words.specs.Answers.{Unpins, UnpinsTo};
 ghost use Rattle.gt_words.specs.Conditions.{CanDemote, CanPin, CanPublish, CanRevoke, CanTurn, CanWithdraw};
 ghost use Rattle.gt_words.specs.Conditions.{CountsPins, Holds, IsWordOf};
 ghost use Rattle.gt_word_history.specs.Controls.{IsTurnable, generation_of, turned_word, withdrawn_word};
@@ -86,21 +86,23 @@ pub(crate) fn pin(
     if found == looked { Ok(()) } else { Err(found) }
 }
 
-/// Releases a pin.
+/// Releases a pin, and returns the control word that this left.
 pub(crate) fn unpin(
     words: &SharedTable,
     seat: &mut TableSeat,
     at: EntryAt,
     dir: Dir,
     generation: u64,
-)
+) -> u64
     requires mine { seat.old.table ≡ words.now.table }
     requires entry { IsInside words.now.layout at }
     requires held { Holds at.position at.gref dir generation seat.old.view }
     ensures seat { IsSamePlace seat.old seat.new }
     ensures step { Unpins words.now.layout at.position at.gref dir generation seat.old.view seat.new.view }
+    ensures left { UnpinsTo words.now.layout at.position at.gref dir generation result seat.old.view seat.new.view }
 {
-    words.subtract_pin(seat, at, dir, generation);
+    let found = words.subtract_pin(seat, at, dir, generation);
+    found - pin_unit(dir)
 }
 
 /// Stores a body word of the owner's invalid entry.

@@ -16,6 +16,7 @@ ghost use Rattle.gt_words.specs.Conditions.{IsEntryOf, position_at, with_version
 ghost use Rattle.gt_words.specs.Conditions.{CanPin, CanPublish, CanRevoke, CanWithdraw, CanDemote, CanTurn, CountsPins};
 ghost use Rattle.gt_words.specs.Answers.{LooksAtHeader, LooksAtControl, LooksAtBody, StoresBody, StoresHeader};
 ghost use Rattle.gt_words.specs.Answers.{UnpinsPin, Pins, MissesPin, Changes, MissesChange, MissesBusy, Revokes};
+ghost use Rattle.gt_words.specs.Answers.{UnpinsPinTo};
 ghost use Rattle.gt_words.specs.Answers.{Demotes, Publishes};
 
 use crate::calls;
@@ -321,18 +322,20 @@ impl Words {
         })
     }
 
-    /// Releases a pin of the seat, by one subtraction.
+    /// Releases a pin of the seat, by one subtraction, and returns the control word that this left: whether the entry is
+    /// valid, and the pins that it still has.
     #[inline(always)]
-    pub fn unpin(&self, seat: &mut Seat, pin: Pin)
+    pub fn unpin(&self, seat: &mut Seat, pin: Pin) -> u64
         requires seat { IsSeatOf self.now seat.old }
         requires entry { IsEntryOf self.now pin.dom pin.gref }
         requires held { Holds (position_at self.now pin.dom) pin.gref.0 pin.dir (generation_of pin.word) seat.old.view }
         ensures seat { IsSameSeat seat.old seat.new }
         ensures fits { IsSeatOf self.now seat.new }
         ensures step { UnpinsPin self.now pin seat.old.view seat.new.view }
+        ensures left { UnpinsPinTo self.now pin result seat.old.view seat.new.view }
     {
         let at = self.position(seat, pin.dom);
-        self.unpin_at(seat, pin, at);
+        self.unpin_at(seat, pin, at)
     }
 
     /// Stores a body word of the owner's invalid entry.
