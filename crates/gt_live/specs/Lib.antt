@@ -17,6 +17,7 @@ pub mod Domains
 pub mod Starting
 pub mod Tries
 pub mod Halves
+pub mod Releasing
 pub mod Prelude
 pub mod Questions
 pub mod Unmarked

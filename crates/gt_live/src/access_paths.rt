@@ -13,6 +13,7 @@ ghost use Rattle.gt_live.specs.Copies.{CanGiveBack, IsGivenBack, IsLastOf, CopyS
 ghost use Rattle.gt_live.specs.Copies.{after_copy, after_dest, phase_after_source, after_through, filled};
 ghost use Rattle.gt_live.specs.Driving.{CanMake, Knows};
 ghost use Rattle.gt_live.specs.Phases.{CanRun, Runs};
+ghost use Rattle.gt_live.specs.Releasing.{AccessPathLeaves, CopyLeaves, ReleasesTo};
 ghost use Rattle.gt_live.specs.Underway.{AreOfRun, GivesBack, HasTaken};
 ghost use Rattle.gt_live.specs.Walks.{Made};
 
@@ -26,16 +27,25 @@ use gt_entry::Entry;
 use gt_types::{Allows, Denial, Dir, DomId, GrantRef};
 use gt_words::{Seat, Words};
 
-// Releases a pin that a copy took, whatever its index among the copy's pins.
+/// The control words that the end of a copy left in the entries that it named, one for each end. For a transitive entry
+/// it is the word of that entry, and not of the one that it leads to. 0 for an end that is a frame of the caller.
+#[derive(Clone, Copy)]
+pub struct CopyWords {
+    pub source: u64,
+    pub dest: u64,
+}
+
+// Releases a pin that a copy took, whatever its index among the copy's pins. Returns the control word that this left.
 #[inline(always)]
-fn give_pin_back(words: &Words, seat: &mut Seat, held: &HeldPin)
+fn give_pin_back(words: &Words, seat: &mut Seat, held: &HeldPin) -> u64
     requires seat { IsSeatOf words.now seat.old }
     requires can { CanMake words.now.layout seat.old.view (Step.Unpin held.now (PinHolder.Leg 0)) }
     ensures seat { IsSameSeat seat.old seat.new }
     ensures made { (place : ℕ) → Made words.now.layout (Step.Unpin held.now (PinHolder.Leg place)) Observation.Nothing
         seat.old.view seat.new.view }
+    ensures left { ReleasesTo words.now.layout held.now result seat.old.view seat.new.view }
 {
-    words.unpin(seat, pin_of(*held));
+    words.unpin(seat, pin_of(*held))
 }
 
 // Where a Via leads: the two domains between which the policy has to allow the copy, and the entry.
@@ -265,33 +275,37 @@ pub(crate) fn drive_copy<P: Allows>(
     walk(words, known, seat, caller, copy, granted, pins)
 }
 
-// Releases the pins of an access path, the last one first.
+// Releases the pins of an access path, the last one first. Returns the control word that the release of the first one
+// left, 0 if there is none.
 #[inline(always)]
-fn give_back_access_path(words: &Words, seat: &mut Seat, access_path: &AccessPath)
+fn give_back_access_path(words: &Words, seat: &mut Seat, access_path: &AccessPath) -> u64
     requires seat { IsSeatOf words.now seat.old }
     requires can { CanGiveBack words.now.layout (held_by access_path.now) seat.old.view }
     ensures seat { IsSameSeat seat.old seat.new }
     ensures given { IsGivenBack words.now.layout (held_by access_path.now) seat.old.view seat.new.view }
+    ensures left { AccessPathLeaves words.now.layout access_path.now result seat.old.view seat.new.view }
 {
     match access_path {
-        AccessPath::Own => {}
+        AccessPath::Own => 0,
         AccessPath::Direct(held) => give_pin_back(words, seat, held),
         AccessPath::Through { via, held } => {
             give_pin_back(words, seat, held);
-            give_pin_back(words, seat, via);
+            give_pin_back(words, seat, via)
         }
     }
 }
 
-// Releases the pins that a copy held at its access, the last one first.
+// Releases the pins that a copy held at its access, the last one first. Returns the control words that this left.
 #[inline(always)]
-pub(crate) fn give_back(words: &Words, seat: &mut Seat, pins: &CallPins)
+pub(crate) fn give_back(words: &Words, seat: &mut Seat, pins: &CallPins) -> CopyWords
     requires seat { IsSeatOf words.now seat.old }
     requires taken { (base : View) × HasTaken words.now.layout (last_first pins.now) base seat.old.view }
     requires of_run { AreOfRun words.now.layout (last_first pins.now) }
     ensures seat { IsSameSeat seat.old seat.new }
     ensures gives { GivesBack words.now.layout pins.now seat.old.view seat.new.view }
+    ensures left { CopyLeaves words.now.layout pins.now result seat.old.view seat.new.view }
 {
-    give_back_access_path(words, seat, &pins.dest);
-    give_back_access_path(words, seat, &pins.source);
+    let dest = give_back_access_path(words, seat, &pins.dest);
+    let source = give_back_access_path(words, seat, &pins.source);
+    CopyWords { source, dest }
 }

@@ -37,6 +37,7 @@ use gt_calls::{
 use gt_entry::EntryChange;
 use gt_types::{Allows, Denial, DomId, Facts, GrantRef, Memory, Rule, Size, TypeId};
 use gt_words::Seat;
+pub use mappings::{LeftWord, NewMapping};
 use std::alloc::Global;
 
 /// A domain of the run: its seat, and what it knows without a look. It can't be dropped: `finish` takes it apart.

@@ -25,7 +25,8 @@ mod monitor;
 mod owning;
 mod start;
 
-pub use domain::{Departed, Domain, Followed, PendingCopy};
+pub use access_paths::CopyWords;
+pub use domain::{Departed, Domain, Followed, LeftWord, NewMapping, PendingCopy};
 pub use laws::{
     every_call_that_gives_up_missed_four_tries, every_change_makes_four_tries,
     every_leg_makes_four_tries, following_makes_calls, marks_change_no_meaning,

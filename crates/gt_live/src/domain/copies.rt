@@ -18,12 +18,13 @@ ghost use Rattle.gt_live.specs.Domains.{record_of_copy};
 ghost use Rattle.gt_live.specs.Halves.{copy_hypercall};
 ghost use Rattle.gt_live.specs.Copies.{CopyStopsWith, filled, pending_with};
 ghost use Rattle.gt_live.specs.Halves.{BecomesPending, EndsPending, IsPending, done_copy};
+ghost use Rattle.gt_live.specs.Releasing.{CopyLeaves, PendingLeaves};
 ghost use Rattle.gt_live.specs.Underway.{AreOfRun, GivesBack, HasTaken};
 ghost use Rattle.gt_live.specs.Parts.{copy_at_access, seat_of, trail_of, words_of};
 
 use super::bytes::{not_made, run_of};
 use super::{Domain, known_with, record_done, record_refusal, refusal_of};
-use crate::access_paths::{drive_copy, give_back};
+use crate::access_paths::{CopyWords, drive_copy, give_back};
 use crate::monitor::Monitor;
 use gt_access::{CopyAccess, copy_under};
 use gt_audit::{Hypercall, Record, Reply};
@@ -165,17 +166,18 @@ impl Domain {
         )
     }
 
-    // Releases the pins that a copy held at its access.
+    // Releases the pins that a copy held at its access. Returns the control words that this left.
     #[inline(always)]
-    fn give_back<P: Allows>(&mut self, monitor: &Monitor<P>, pins: &CallPins)
+    fn give_back<P: Allows>(&mut self, monitor: &Monitor<P>, pins: &CallPins) -> CopyWords
         requires seat { IsSeatOf monitor.now.words self.old.seat }
         requires taken { (base : View)
             × HasTaken monitor.now.words.layout (last_first pins.now) base self.old.seat.view }
         requires of_run { AreOfRun monitor.now.words.layout (last_first pins.now) }
         ensures kept { IsUnsettled self.old self.new }
         ensures gives { GivesBack monitor.now.words.layout pins.now self.old.seat.view self.new.seat.view }
+        ensures left { CopyLeaves monitor.now.words.layout pins.now result self.old.seat.view self.new.seat.view }
     {
-        give_back(&monitor.words, &mut self.seat, pins);
+        give_back(&monitor.words, &mut self.seat, pins)
     }
 
     // Copies to a granted page, without a record. It is a separate function: its pins are in memory for the walk to its
@@ -378,32 +380,36 @@ impl Domain {
         }
     }
 
-    // Releases the pins of a copy at its access, without a record.
-    fn end_pending<P: Allows>(&mut self, monitor: &Monitor<P>, pending: PendingCopy)
+    // Releases the pins of a copy at its access, without a record. Returns the control words that this left.
+    fn end_pending<P: Allows>(&mut self, monitor: &Monitor<P>, pending: PendingCopy) -> CopyWords
         requires pending { IsPending P.may monitor.now pending self.old }
         ensures mine { BelongsTo P.may monitor.now self.new }
         ensures ends { EndsPending monitor.now.words.layout pending self.old self.new }
+        ensures left { PendingLeaves monitor.now.words.layout pending result self.old self.new }
         ensures silent { self.new.trail ≡ self.old.trail }
     {
         let pins = pending.call.pins();
-        self.give_back(monitor, &pins);
+        self.give_back(monitor, &pins)
     }
 
     /// Makes the second half of a copy: its pins are released, the last one first, and the copy is recorded as Ok.
-    pub fn copy_end<P: Allows>(&mut self, monitor: &Monitor<P>, pending: PendingCopy)
+    /// Returns the control words that this left in the entries that the copy named.
+    pub fn copy_end<P: Allows>(&mut self, monitor: &Monitor<P>, pending: PendingCopy) -> CopyWords
         requires pending { IsPending P.may monitor.now pending self.old }
         ensures mine { BelongsTo P.may monitor.now self.new }
         ensures ends { EndsPending (words_of monitor.now).layout pending self.old self.new }
+        ensures left { PendingLeaves (words_of monitor.now).layout pending result self.old self.new }
         ensures recorded { AppendsRecord (trail_of self.old)
             (done_copy self.old (copy_at_access pending)) (trail_of self.new) }
     {
         let copy = pending.copy;
-        self.end_pending(monitor, pending);
+        let left = self.end_pending(monitor, pending);
         let dom = self.seat.dom();
         self.trail.push(Record {
             dom,
             call: copy_hypercall(copy),
             reply: Reply::Done,
         });
+        left
     }
 }

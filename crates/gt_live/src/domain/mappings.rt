@@ -13,6 +13,22 @@ use gt_audit::{Hypercall, Record, Reply, Trail};
 use gt_calls::{CallResult, Handle, HeldPin, Leg, judge_map, judge_release, judge_unmap, map_leg};
 use gt_types::{Allows, Denial, DomId, Facts, GrantRef, Rule, TypeId};
 
+/// A mapping that a map added: its handle, and the pin that it holds.
+#[derive(Clone, Copy)]
+pub struct NewMapping {
+    pub handle: Handle,
+    pub held: HeldPin,
+}
+
+/// What an unmap left: the entry that the mapping was of, and its control word just after the release of the pin. The
+/// word has whether the entry is valid, and the pins that it still has.
+#[derive(Clone, Copy)]
+pub struct LeftWord {
+    pub dom: DomId,
+    pub gref: GrantRef,
+    pub word: u64,
+}
+
 // Returns the position of a domain in the run, or the number of domains if the run does not have it. A map has looked
 // its owner up for the rules just before, so this look costs nothing.
 #[inline(always)]
@@ -84,8 +100,11 @@ fn record_unmap_refusal(
 }
 
 impl Domain {
-    ghost use Rattle.std.specs.Prelude.{◌≡◌, OnOk, OnErr, None, Some};
+    ghost use Rattle.std.specs.Prelude.{◌≡◌, IfOk, OnOk, OnErr, None, Some};
     ghost use Rattle.gt_live.specs.Domains.{mapping_reply, subject_of, record_of_result, Answered, BelongsTo};
+    ghost use Rattle.gt_live.specs.Domains.{outcome_of, reply_of};
+    ghost use Rattle.gt_live.specs.Releasing.{DropsTo, MapAdds};
+    ghost use Rattle.gt_live.specs.Parts.{words_of};
     ghost use Rattle.gt_live.specs.Domains.{Drops, IsUnsettled, KeepsPinned, MapAnswered};
     ghost use Rattle.gt_live.specs.Maps.{pin_effect, pin_verdict};
     ghost use Rattle.gt_model.specs.Path.{map_leg, path};
@@ -148,11 +167,11 @@ impl Domain {
         dom: DomId,
         gref: GrantRef,
         flags: u32,
-    ) -> Result<Handle, Denial>
+    ) -> Result<NewMapping, Denial>
         requires mine { BelongsTo P.may monitor.now self.old }
         ensures mine { BelongsTo P.may monitor.now self.new }
         ensures seat { IsSameSeat self.old.seat self.new.seat }
-        ensures answered { MapAnswered P.may monitor.now self.old (Request.Map dom gref flags) result self.new }
+        ensures answered { MapAdds P.may monitor.now self.old (Request.Map dom gref flags) result self.new }
         ensures silent { self.new.trail ≡ self.old.trail }
     {
         if let Some(verdict) = self.judge_map(monitor, dom, flags) {
@@ -166,8 +185,48 @@ impl Domain {
             return Err(Denial::new(Rule::N26, Facts::None));
         }
         match self.drive_map(monitor, map, &placed) {
-            Ok(held) => Ok(self.mappings.insert(held)),
+            Ok(held) => {
+                let handle = self.mappings.insert(held);
+                Ok(NewMapping { handle, held })
+            }
             Err(denial) => Err(denial),
+        }
+    }
+
+    /// Maps an entry of a domain as [`map`](Domain::map) does, and returns the mapping that was added.
+    ///
+    /// # Errors
+    /// Those of [`map`](Domain::map).
+    #[inline(always)]
+    pub fn map_with_pin<P: Allows>(
+        &mut self,
+        monitor: &Monitor<P>,
+        dom: DomId,
+        gref: GrantRef,
+        flags: u32,
+    ) -> Result<NewMapping, Denial>
+        requires mine { BelongsTo P.may monitor.now self.old }
+        ensures mine { BelongsTo P.may monitor.now self.new }
+        ensures seat { IsSameSeat (seat_of self.old) (seat_of self.new) }
+        ensures answered { MapAdds P.may monitor.now self.old (Request.Map dom gref flags) result self.new }
+        ensures recorded { AppendsRecord (trail_of self.old)
+            (record {
+              dom = (seat_of self.old).dom;
+              call = Hypercall.Map dom gref flags;
+              reply = reply_of (outcome_of result);
+            })
+            (trail_of self.new) }
+    {
+        let caller = self.seat.dom();
+        match self.make_mapping(monitor, dom, gref, flags) {
+            Ok(made) => {
+                record_map(&mut self.trail, caller, dom, gref, flags);
+                Ok(made)
+            }
+            Err(denial) => {
+                record_map_refusal(&mut self.trail, caller, dom, gref, flags, denial);
+                Err(denial)
+            }
         }
     }
 
@@ -194,16 +253,9 @@ impl Domain {
             (record { dom = (seat_of self.old).dom; call = Hypercall.Map dom gref flags; reply = mapping_reply result })
             (trail_of self.new) }
     {
-        let caller = self.seat.dom();
-        match self.make_mapping(monitor, dom, gref, flags) {
-            Ok(handle) => {
-                record_map(&mut self.trail, caller, dom, gref, flags);
-                Ok(handle)
-            }
-            Err(denial) => {
-                record_map_refusal(&mut self.trail, caller, dom, gref, flags, denial);
-                Err(denial)
-            }
+        match self.map_with_pin(monitor, dom, gref, flags) {
+            Ok(made) => Ok(made.handle),
+            Err(denial) => Err(denial),
         }
     }
 
@@ -259,20 +311,27 @@ impl Domain {
         judge_unmap(&self.known(monitor), source, target, handle)
     }
 
-    // Drops the mapping that the handle names, and releases its pin.
+    // Drops the mapping that the handle names, and releases its pin. Returns its entry, and the word that this left.
     #[inline(always)]
-    fn drop_mapping<P: Allows>(&mut self, monitor: &Monitor<P>, handle: Handle)
+    fn drop_mapping<P: Allows>(&mut self, monitor: &Monitor<P>, handle: Handle) -> LeftWord
         requires mine { BelongsTo P.may monitor.now self.old }
         requires there { IsSome (value_of self.old.mappings handle) }
         ensures mine { BelongsTo P.may monitor.now self.new }
         ensures seat { IsSameSeat self.old.seat self.new.seat }
         ensures dropped { Drops monitor.now.words.layout handle self.old.mappings self.old.seat.view
             self.new.mappings self.new.seat.view }
+        ensures left { DropsTo monitor.now.words.layout handle result self.old.mappings self.old.seat.view
+            self.new.mappings self.new.seat.view }
         ensures silent { self.new.trail ≡ self.old.trail }
     {
         let at = self.position_under(monitor, handle);
         let held = self.mappings.take(handle).unwrap();
-        monitor.words.unpin_at(&mut self.seat, pin_of(held), at);
+        let word = monitor.words.unpin_at(&mut self.seat, pin_of(held), at);
+        LeftWord {
+            dom: held.dom,
+            gref: held.gref,
+            word,
+        }
     }
 
     // Unmaps a mapping, without a record.
@@ -281,20 +340,20 @@ impl Domain {
         &mut self,
         monitor: &Monitor<P>,
         handle: Handle,
-    ) -> Result<(), Denial>
+    ) -> Result<LeftWord, Denial>
         requires mine { BelongsTo P.may monitor.now self.old }
         ensures mine { BelongsTo P.may monitor.now self.new }
         ensures seat { IsSameSeat self.old.seat self.new.seat }
-        ensures answered { Answered P.may monitor.now self.old (Request.Unmap handle) (verdict_of result) self.new }
-        ensures removed { OnOk result ((p : HeldPin) × Removes self.old.mappings self.new.mappings handle p) }
+        ensures answered { Answered P.may monitor.now self.old (Request.Unmap handle) (outcome_of result) self.new }
+        ensures removed { IfOk result (λ left. DropsTo monitor.now.words.layout handle left
+            self.old.mappings self.old.seat.view self.new.mappings self.new.seat.view) }
         ensures refused { OnErr result (KeepsPinned self.old self.new) }
         ensures silent { self.new.trail ≡ self.old.trail }
     {
         if let Some(verdict) = self.judge_unmap(monitor, handle) {
             return Err(refusal_of(verdict));
         }
-        self.drop_mapping(monitor, handle);
-        Ok(())
+        Ok(self.drop_mapping(monitor, handle))
     }
 
     /// Drops a mapping, and releases its pin, without asking the policy and without a record. [`Domain::finish`] does
@@ -325,28 +384,58 @@ impl Domain {
         monitor: &Monitor<P>,
         handle: Handle,
         subject: Option<(DomId, GrantRef)>,
-    ) -> Result<(), Denial>
+    ) -> Result<LeftWord, Denial>
         requires mine { BelongsTo P.may monitor.now self.old }
         requires subject { subject ≡ subject_of self.old handle }
         ensures mine { BelongsTo P.may monitor.now self.new }
         ensures seat { IsSameSeat self.old.seat self.new.seat }
-        ensures answered { Answered P.may monitor.now self.old (Request.Unmap handle) (verdict_of result) self.new }
-        ensures removed { OnOk result ((p : HeldPin) × Removes self.old.mappings self.new.mappings handle p) }
+        ensures answered { Answered P.may monitor.now self.old (Request.Unmap handle) (outcome_of result) self.new }
+        ensures removed { IfOk result (λ left. DropsTo monitor.now.words.layout handle left
+            self.old.mappings self.old.seat.view self.new.mappings self.new.seat.view) }
         ensures refused { OnErr result (KeepsPinned self.old self.new) }
         ensures recorded { AppendsRecord self.old.trail
-            (record_of_result self.old (Hypercall.Unmap (subject_of self.old handle)) (verdict_of result))
+            (record_of_result self.old (Hypercall.Unmap (subject_of self.old handle)) (outcome_of result))
             self.new.trail }
     {
         let caller = self.seat.dom();
         match self.unmap_unrecorded(monitor, handle) {
-            Ok(()) => {
+            Ok(left) => {
                 record_unmap(&mut self.trail, caller, subject);
-                Ok(())
+                Ok(left)
             }
             Err(denial) => {
                 record_unmap_refusal(&mut self.trail, caller, subject, denial);
                 Err(denial)
             }
+        }
+    }
+
+    /// Unmaps a mapping as [`unmap`](Domain::unmap) does, and returns its entry with the control word that the release of
+    /// the pin left. So the caller sees whether it was the last one.
+    ///
+    /// # Errors
+    /// Those of [`unmap`](Domain::unmap).
+    #[inline(always)]
+    pub fn unmap_with_word<P: Allows>(
+        &mut self,
+        monitor: &Monitor<P>,
+        handle: Handle,
+    ) -> Result<LeftWord, Denial>
+        requires mine { BelongsTo P.may monitor.now self.old }
+        ensures mine { BelongsTo P.may monitor.now self.new }
+        ensures seat { IsSameSeat (seat_of self.old) (seat_of self.new) }
+        ensures answered { Answered P.may monitor.now self.old (Request.Unmap handle) (outcome_of result) self.new }
+        ensures removed { IfOk result (λ left. DropsTo (words_of monitor.now).layout handle left
+            (mappings_of self.old) (seat_of self.old).view (mappings_of self.new) (seat_of self.new).view) }
+        ensures refused { OnErr result (KeepsPinned self.old self.new) }
+        ensures recorded { AppendsRecord (trail_of self.old)
+            (record_of_result self.old (Hypercall.Unmap (subject_of self.old handle)) (outcome_of result))
+            (trail_of self.new) }
+    {
+        // Each arm has its own copy of the call, so a handle with a mapping is looked up only once.
+        match self.subject(handle) {
+            Some(subject) => self.unmap_of(monitor, handle, Some(subject)),
+            None => self.unmap_of(monitor, handle, None),
         }
     }
 
@@ -365,10 +454,9 @@ impl Domain {
             (record_of_result self.old (Hypercall.Unmap (subject_of self.old handle)) (verdict_of result))
             (trail_of self.new) }
     {
-        // Each arm has its own copy of the call, so a handle with a mapping is looked up only once.
-        match self.subject(handle) {
-            Some(subject) => self.unmap_of(monitor, handle, Some(subject)),
-            None => self.unmap_of(monitor, handle, None),
+        match self.unmap_with_word(monitor, handle) {
+            Ok(_left) => Ok(()),
+            Err(denial) => Err(denial),
         }
     }
 }

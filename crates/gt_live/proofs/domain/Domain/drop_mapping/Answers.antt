@@ -6,7 +6,7 @@ use Rattle.gt_model.specs.declared.handle.Handle.{Handle}
 use Rattle.gt_handles.specs.Handles.{HandleMap, Updates, count_of, value_of}
 use Rattle.gt_handles.specs.Listing.{IsTaken}
 use Rattle.gt_words.specs.Conditions.{HasDomain, Holds, position_at}
-use Rattle.gt_words.specs.Answers.{Unpins}
+use Rattle.gt_words.specs.Answers.{Unpins, UnpinsTo}
 use Rattle.gt_word_history.specs.Controls.{generation_of}
 use Rattle.gt_word_history.specs.Rule.{position_in}
 use Rattle.gt_words.specs.declared.words.Pin.{Pin}
@@ -28,22 +28,22 @@ taken-out old new h m r there value updates count given = record {
 pub unwrap-held-requires : goal.unwrap-held-requires
 unwrap-held-requires g c = subst (λ (x : Option HeldPin). IsSome x) (sym c.take.ensures.value) c.requires.there
 
-pub unpin_at-requires-clause-entry : goal.unpin_at-requires-clause-entry
-unpin_at-requires-clause-entry g c =
+pub unpin_at-word-requires-clause-entry : goal.unpin_at-word-requires-clause-entry
+unpin_at-word-requires-clause-entry g c =
     let m = c.args.monitor.now in let d = c.args.self.now in let held = c.unwrap-held.result in
     let there : value_of d.mappings c.args.handle ≡ Some held = sym c.take.ensures.value ∙ c.unwrap-held.ensures in
     let pin = (c.requires.mine.mapped c.args.handle held there).pin in
     subst (λ (x : Pin). HasDomain m.words.layout x.dom × (x.gref.0 < TABLE_ENTRIES)) (sym c.pin_of.ensures) (pin.run, pin.inside)
 
-pub unpin_at-requires-clause-held : goal.unpin_at-requires-clause-held
-unpin_at-requires-clause-held g c =
+pub unpin_at-word-requires-clause-held : goal.unpin_at-word-requires-clause-held
+unpin_at-word-requires-clause-held g c =
     let m = c.args.monitor.now in let d = c.args.self.now in let k = m.words.layout in let held = c.unwrap-held.result in
     let there : value_of d.mappings c.args.handle ≡ Some held = sym c.take.ensures.value ∙ c.unwrap-held.ensures in
     subst (λ (x : Pin). Holds (position_in k.ids x.dom) x.gref.0 x.dir (generation_of x.word) d.seat.view) (sym c.pin_of.ensures)
     (some-pins k d.seat.view d.mappings c.requires.mine.pins c.args.handle held there)
 
-pub unpin_at-requires-clause-place : goal.unpin_at-requires-clause-place
-unpin_at-requires-clause-place g c =
+pub unpin_at-word-requires-clause-place : goal.unpin_at-word-requires-clause-place
+unpin_at-word-requires-clause-place g c =
     let m = c.args.monitor.now in let held = c.unwrap-held.result in
     c.position_under-at.ensures held (sym c.take.ensures.value ∙ c.unwrap-held.ensures)
     ∙ sym (ap (λ (x : Pin). position_at m.words x.dom) c.pin_of.ensures)
@@ -51,13 +51,15 @@ unpin_at-requires-clause-place g c =
 pub returns : goal.returns
 returns g c =
     let m = c.args.monitor.now in let d = c.args.self.now in let k = m.words.layout in
-    let held = c.unwrap-held.result in let new = c.take.new.self in let seat = c.unpin_at.new.seat in let t = c.take.ensures in
+    let held = c.unwrap-held.result in let new = c.take.new.self in let seat = c.unpin_at-word.new.seat in let t = c.take.ensures in
     let there : value_of d.mappings c.args.handle ≡ Some held = sym t.value ∙ c.unwrap-held.ensures in
-    let step = subst (λ (p : Pin). Unpins k (position_in k.ids p.dom) p.gref.0 p.dir (generation_of p.word) d.seat.view seat.view) c.pin_of.ensures c.unpin_at.ensures.step in
+    let step = subst (λ (p : Pin). Unpins k (position_in k.ids p.dom) p.gref.0 p.dir (generation_of p.word) d.seat.view seat.view) c.pin_of.ensures c.unpin_at-word.ensures.step in
     let taken = taken-out d.mappings new c.args.handle held c.take.result there t.value t.updates t.count t.given in
+    let to = subst (λ (p : Pin). UnpinsTo k (position_in k.ids p.dom) p.gref.0 p.dir (generation_of p.word) c.unpin_at-word.result d.seat.view seat.view) c.pin_of.ensures c.unpin_at-word.ensures.left in
     record {
-      mine = unmapped m.words m.config (g.P.Allows.may m.rights) d (record d { seat = seat; mappings = new }) c.args.handle held c.requires.mine (still_seat m.words d.seat seat c.requires.mine.seat c.unpin_at.ensures.seat) c.unpin_at.ensures.seat.dom refl taken step;
-      seat = c.unpin_at.ensures.seat;
+      mine = unmapped m.words m.config (g.P.Allows.may m.rights) d (record d { seat = seat; mappings = new }) c.args.handle held c.requires.mine (still_seat m.words d.seat seat c.requires.mine.seat c.unpin_at-word.ensures.seat) c.unpin_at-word.ensures.seat.dom refl taken step;
+      seat = c.unpin_at-word.ensures.seat;
       dropped = (held, record { taken = taken; spent = t.still_spent }, step);
+      left = (held, record { taken = taken; spent = t.still_spent }, refl, refl, to);
       silent = refl;
     }

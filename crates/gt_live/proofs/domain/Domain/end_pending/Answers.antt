@@ -2,6 +2,7 @@ use Rattle.std.proofs.Common.{ap, ◌∙◌, subst, sym}
 use Rattle.gt_model.specs.declared.held.CallPins.{CallPins}
 use Rattle.gt_model.specs.Holding.{last_first}
 use Rattle.gt_calls.specs.Standing.{pins_by_call}
+use Rattle.gt_live.specs.Releasing.{CopyLeaves}
 use Rattle.gt_live.specs.Underway.{AreOfRun, HasTaken}
 use Rattle.gt_live.proofs.GivingBack.{gives-access_paths}
 use Rattle.gt_model.specs.declared.held.HeldPin.{HeldPin}
@@ -37,3 +38,8 @@ pub returns-clause-ends : goal.returns-clause-ends
 returns-clause-ends g c =
     let two = c.give_back.ensures.kept in
     record { gives = gives-access_paths c.args.monitor.now.words.layout c.pins-pins.result (pins_by_call c.args.pending.call) c.args.self.now.seat.view c.give_back.new.self.seat.view c.pins-pins.ensures c.give_back.ensures.gives; seat = two.seat; own = two.own; mappings = two.mappings }
+
+pub returns-clause-left : goal.returns-clause-left
+returns-clause-left g c =
+    subst (λ (p : CallPins). CopyLeaves c.args.monitor.now.words.layout p c.give_back.result c.args.self.now.seat.view c.give_back.new.self.seat.view)
+    c.pins-pins.ensures c.give_back.ensures.left

@@ -72,13 +72,13 @@ drive_map-requires-clause-unanswered g c =
     sym c.judge_map.ensures ∙ none-left c.judge_map.result c.in_default.not-Some in
     subst (λ (z : HandleMap HeldPin). map_begun (knowledge m.config may (record d { mappings = z })) d.seat.dom c.args.dom c.args.flags ≡ None) (sym c.reserve.ensures.kept) begun
 
-pub insert-requires-clause-room : goal.insert-requires-clause-room
-insert-requires-clause-room g c =
+pub insert-handle-requires-clause-room : goal.insert-handle-requires-clause-room
+insert-handle-requires-clause-room g c =
     subst (λ (z : HandleMap HeldPin). 1 ≤ z.room) (sym c.drive_map.ensures.kept.mappings)
     (on-ok c.reserve.result (1 ≤ c.reserve.new.self.room) (sym c.is_err.ensures.value ∙ c.if-is_err.false) c.reserve.ensures.room)
 
-pub insert-requires-clause-serial : goal.insert-requires-clause-serial
-insert-requires-clause-serial g c =
+pub insert-handle-requires-clause-serial : goal.insert-handle-requires-clause-serial
+insert-handle-requires-clause-serial g c =
     let left = c.in-Ok.ensures.leaves in
     subst (λ (z : HandleMap HeldPin). z.given + 1 < 2 ^ 64) (sym c.drive_map.ensures.kept.mappings) left.serial
 
@@ -104,8 +104,8 @@ returns-in-Err g c =
 pub returns-in-Ok : goal.returns-in-Ok
 returns-in-Ok g c =
     let m = c.args.monitor.now in let d = c.args.self.now in let may = g.P.Allows.may m.rights in let f = c.drive_map.new.self in
-    let one = c.reserve.ensures.kept in let e = c.drive_map.ensures.kept in let i = c.insert.ensures in let h = c.insert.result in
-    let new = c.insert.new.self in let p = c.in-Ok.held in
+    let one = c.reserve.ensures.kept in let e = c.drive_map.ensures.kept in let i = c.insert-handle.ensures in let h = c.insert-handle.result in
+    let new = c.insert-handle.new.self in let p = c.in-Ok.held in
     let d' : Domain = record d { mappings = c.reserve.new.self } in
     let known : knowledge m.config may d' ≡ knowledge m.config may d = ap (λ (x : HandleMap HeldPin). knowledge m.config may (record d { mappings = x })) one in
     let request = asks.Map c.args.dom c.args.gref c.args.flags in
@@ -116,7 +116,6 @@ returns-in-Ok g c =
       mine = mapped m.words m.config may d' (record f { mappings = new }) h request p mine' e.seat (ap (λ v. v.items) e.own) c.in-Ok.ensures.leaves inserted;
       seat = e.seat;
       answered = (
-        p,
         subst (λ (k : CallerKnowledge). Called m.words.layout (path k d.seat.dom request) (pin_verdict (Ok p)) d.seat.view f.seat.view) known c.in-Ok.ensures.called,
         record {
           serial = i.serial ∙ ap (λ (z : HandleMap HeldPin). z.given) (e.mappings ∙ one);

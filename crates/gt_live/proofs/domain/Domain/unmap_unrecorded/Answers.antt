@@ -47,7 +47,7 @@ returns g c =
       mine = did.mine;
       seat = did.seat;
       answered = one-step m.words.layout _ (call_steps.Unpin held (holders.Mapping h)) d.seat.view c.drop_mapping.new.self.seat.view way did.dropped.2;
-      removed = (held, did.dropped.1);
+      removed = did.left;
       refused = tt;
       silent = did.silent;
     }
