@@ -6,11 +6,14 @@ use Rattle.std.specs.Io.KnownBytes.{Appends}
 use Rattle.std.specs.Str.{IsUtf8}
 use Rattle.gt_policy_check.specs.Check.{Judges, faulty, sound, error_lines, is_error}
 use Rattle.gt_policy_check.specs.declared.asking.Explanation.{Explanation}
-use Rattle.gt_policy_check.specs.declared.asking.WhyQuestion.{WhyQuestion}
 use Rattle.gt_policy_check.specs.declared.findings.Finding.{Finding}
 use Rattle.gt_policy_check.specs.declared.report.ReportForm.{ReportForm}
 use Rattle.gt_check_command.specs.Checking.{Checked, CheckedText, IsCleanText}
-use Rattle.gt_check_command.specs.Explaining.{AnswersWhy, AskedOf, Explained, WritesLines, answer_for}
+use Rattle.gt_check_command.specs.Explaining.{AnswersWhy, AskedOf, Explained, WritesAnswer, WritesLines, answer_for}
+use Rattle.gt_check_command.specs.Explaining.{pairs_question, says_yes, why_text}
+use Rattle.gt_check_command.specs.declared.explaining.WhyRequest.{WhyRequest}
+use Rattle.gt_policy_pairs.specs.Pairs.{ArePairsOf}
+use Rattle.gt_policy_pairs.specs.declared.asking.PairsReport.{PairsReport}
 use Rattle.gt_check_command.specs.Reporting.{WritesFindings}
 use Rattle.gt_check_command.specs.declared.fault.WhyFault.{WhyFault}
 use Rattle.gt_check_command.specs.declared.fault.WhyFault.TheVariants.{Text, NoSource, NoTarget, NoPermission}
@@ -121,23 +124,59 @@ checked_unread form file known old error fault is =
 
 -- ---- a question
 
--- the lines of an answer went out
-pub asked_lines : (file text lines : List ℕ) (q : WhyQuestion) (e : Explanation) (allowed : Bool) (old new : Option (List ℕ)) (r : Result Bool WhyFault) → lines ≡ e.lines.items → AnswersWhy file text q (answer_for allowed) e
-    → WritesLines lines allowed old new r → AskedOf file q text old new r
-asked_lines file text lines q e allowed old new (Ok answer) same is (of, went) =
-    (e, subst (λ (b : Bool). AnswersWhy file text q (answer_for b) e) (sym of) is, subst (λ (l : List ℕ). Appends old new l) same went)
-asked_lines file text lines q e allowed old new (Err NoSource) same is w = absurd w
-asked_lines file text lines q e allowed old new (Err NoTarget) same is w = absurd w
-asked_lines file text lines q e allowed old new (Err NoPermission) same is w = absurd w
-asked_lines file text lines q e allowed old new (Err (Text listing_faults.Write)) same is w =
-    (allowed, e, is, subst (λ (l : List ℕ). AppendsBeginning old new l) same w)
-asked_lines file text lines q e allowed old new (Err (Text listing_faults.Memory)) same is w = absurd w
-asked_lines file text lines q e allowed old new (Err (Text listing_faults.Read)) same is w = absurd w
-asked_lines file text lines q e allowed old new (Err (Text (listing_faults.Utf8 line))) same is w = absurd w
-asked_lines file text lines q e allowed old new (Err (Text (listing_faults.Policy shown))) same is w = absurd w
+-- the text of an answer went out
+pub answer-lines : (q : WhyRequest) (text lines : List ℕ) (e : Explanation) (allowed wanted : Bool) (report : PairsReport)
+    (old new : Option (List ℕ)) (r : Result Bool WhyFault) → lines ≡ why_text q.each e.lines.items report
+    → wanted ≡ says_yes q.each allowed report → ArePairsOf text (pairs_question q.question) report
+    → WritesLines lines wanted old new r → WritesAnswer q text e allowed old new r
+answer-lines q text lines e allowed wanted report old new (Ok answer) same is pairs (of, went) =
+    (report, pairs, of ∙ is, subst (λ (l : List ℕ). Appends old new l) same went)
+answer-lines q text lines e allowed wanted report old new (Err NoSource) same is pairs w = absurd w
+answer-lines q text lines e allowed wanted report old new (Err NoTarget) same is pairs w = absurd w
+answer-lines q text lines e allowed wanted report old new (Err NoPermission) same is pairs w = absurd w
+answer-lines q text lines e allowed wanted report old new (Err (Text listing_faults.Write)) same is pairs w =
+    (report, pairs, subst (λ (l : List ℕ). AppendsBeginning old new l) same w)
+answer-lines q text lines e allowed wanted report old new (Err (Text listing_faults.Memory)) same is pairs w = absurd w
+answer-lines q text lines e allowed wanted report old new (Err (Text listing_faults.Read)) same is pairs w = absurd w
+answer-lines q text lines e allowed wanted report old new (Err (Text (listing_faults.Utf8 line))) same is pairs w = absurd w
+answer-lines q text lines e allowed wanted report old new (Err (Text (listing_faults.Policy shown))) same is pairs w = absurd w
+
+-- the policy is the one that was read, so its second reading has no fault but want of memory
+answer-refused : (q : WhyRequest) (text : List ℕ) (e : Explanation) (allowed : Bool) (line : ℕ) (kind : PolicyFaultKind)
+    (old : Option (List ℕ)) → ((f : TokenFault) → fault_shown (record { line = line; kind = kind }) ≡ Some f → ReadsAs text (Err f))
+    → WritesAnswer q text e allowed old old (Err (Text (listing_fault_of line kind)))
+answer-refused q text e allowed line policy_fault_kinds.Memory old says = keeps_same old
+answer-refused q text e allowed line policy_fault_kinds.Syntax old says = (_, refl, says _ refl, keeps_same old)
+answer-refused q text e allowed line (policy_fault_kinds.Unknown name) old says = (_, refl, says _ refl, keeps_same old)
+answer-refused q text e allowed line (policy_fault_kinds.Twice name) old says = (_, refl, says _ refl, keeps_same old)
+answer-refused q text e allowed line (policy_fault_kinds.Permission name) old says = (_, refl, says _ refl, keeps_same old)
+answer-refused q text e allowed line (policy_fault_kinds.Outside word) old says = (_, refl, says _ refl, keeps_same old)
+answer-refused q text e allowed line policy_fault_kinds.Limit old says = (_, refl, says _ refl, keeps_same old)
+
+pub answer-no : (q : WhyRequest) (text : List ℕ) (e : Explanation) (allowed : Bool) (line : ℕ) (kind : PolicyFaultKind)
+    (fault : ListingFault) (old : Option (List ℕ)) → fault ≡ listing_fault_of line kind
+    → ((f : TokenFault) → fault_shown (record { line = line; kind = kind }) ≡ Some f → ReadsAs text (Err f))
+    → WritesAnswer q text e allowed old old (Err (Text fault))
+answer-no q text e allowed line kind fault old is says =
+    subst (λ (f : ListingFault). WritesAnswer q text e allowed old old (Err (Text f))) (sym is)
+    (answer-refused q text e allowed line kind old says)
+
+-- the answer of the policy was written
+pub asked-answer : (file text : List ℕ) (q : WhyRequest) (e : Explanation) (allowed : Bool) (old new : Option (List ℕ))
+    (r : Result Bool WhyFault) → AnswersWhy file text q.question (answer_for allowed) e
+    → WritesAnswer q text e allowed old new r → AskedOf file q text old new r
+asked-answer file text q e allowed old new (Ok reply) is w = (allowed, e, is, w)
+asked-answer file text q e allowed old new (Err NoSource) is w = absurd w
+asked-answer file text q e allowed old new (Err NoTarget) is w = absurd w
+asked-answer file text q e allowed old new (Err NoPermission) is w = absurd w
+asked-answer file text q e allowed old new (Err (Text listing_faults.Write)) is w = (allowed, e, is, w)
+asked-answer file text q e allowed old new (Err (Text listing_faults.Memory)) is w = w
+asked-answer file text q e allowed old new (Err (Text listing_faults.Read)) is w = absurd w
+asked-answer file text q e allowed old new (Err (Text (listing_faults.Utf8 line))) is w = absurd w
+asked-answer file text q e allowed old new (Err (Text (listing_faults.Policy shown))) is w = w
 
 -- the text is not a policy
-refused : (file text : List ℕ) (q : WhyQuestion) (line : ℕ) (kind : PolicyFaultKind) (old : Option (List ℕ)) → ((f : TokenFault) → fault_shown (record { line = line; kind = kind }) ≡ Some f → ReadsAs text (Err f))
+refused : (file text : List ℕ) (q : WhyRequest) (line : ℕ) (kind : PolicyFaultKind) (old : Option (List ℕ)) → ((f : TokenFault) → fault_shown (record { line = line; kind = kind }) ≡ Some f → ReadsAs text (Err f))
     → AskedOf file q text old old (Err (Text (listing_fault_of line kind)))
 refused file text q line policy_fault_kinds.Memory old says = keeps_same old
 refused file text q line policy_fault_kinds.Syntax old says = (_, refl, says _ refl, keeps_same old)
@@ -147,11 +186,11 @@ refused file text q line (policy_fault_kinds.Permission name) old says = (_, ref
 refused file text q line (policy_fault_kinds.Outside word) old says = (_, refl, says _ refl, keeps_same old)
 refused file text q line policy_fault_kinds.Limit old says = (_, refl, says _ refl, keeps_same old)
 
-pub asked_no : (file text : List ℕ) (q : WhyQuestion) (line : ℕ) (kind : PolicyFaultKind) (fault : ListingFault) (old : Option (List ℕ)) → fault ≡ listing_fault_of line kind
+pub asked_no : (file text : List ℕ) (q : WhyRequest) (line : ℕ) (kind : PolicyFaultKind) (fault : ListingFault) (old : Option (List ℕ)) → fault ≡ listing_fault_of line kind
     → ((f : TokenFault) → fault_shown (record { line = line; kind = kind }) ≡ Some f → ReadsAs text (Err f)) → AskedOf file q text old old (Err (Text fault))
 asked_no file text q line kind fault old is says = subst (λ (f : ListingFault). AskedOf file q text old old (Err (Text f))) (sym is) (refused file text q line kind old says)
 
-answered_from : (file bytes : List ℕ) (q : WhyQuestion) (old new : Option (List ℕ)) (r : Result Bool WhyFault) → IsUtf8 bytes → AskedOf file q bytes old new r → Explained file q bytes old new r
+answered_from : (file bytes : List ℕ) (q : WhyRequest) (old new : Option (List ℕ)) (r : Result Bool WhyFault) → IsUtf8 bytes → AskedOf file q bytes old new r → Explained file q bytes old new r
 answered_from file bytes q old new (Ok answer) utf8 c = (utf8, c)
 answered_from file bytes q old new (Err NoSource) utf8 c = (utf8, c)
 answered_from file bytes q old new (Err NoTarget) utf8 c = (utf8, c)
@@ -162,12 +201,12 @@ answered_from file bytes q old new (Err (Text listing_faults.Read)) utf8 c = abs
 answered_from file bytes q old new (Err (Text (listing_faults.Utf8 line))) utf8 c = absurd c
 answered_from file bytes q old new (Err (Text (listing_faults.Policy shown))) utf8 c = (c.0, c.1, (inr utf8, c.2), c.3)
 
-pub explained_bytes : (file all bytes text : List ℕ) (q : WhyQuestion) (old new : Option (List ℕ)) (r : Result Bool WhyFault) → bytes ≡ take 1048577 all → text ≡ bytes → length bytes ≤ 1048576 → IsUtf8 bytes
+pub explained_bytes : (file all bytes text : List ℕ) (q : WhyRequest) (old new : Option (List ℕ)) (r : Result Bool WhyFault) → bytes ≡ take 1048577 all → text ≡ bytes → length bytes ≤ 1048576 → IsUtf8 bytes
     → AskedOf file q text old new r → Explained file q all old new r
 explained_bytes file all bytes text q old new r read same short utf8 c =
     subst (λ (l : List ℕ). Explained file q l old new r) (whole_read all bytes read short) (answered_from file bytes q old new r utf8 (subst (λ (l : List ℕ). AskedOf file q l old new r) same c))
 
-pub explained_no : (file all bytes : List ℕ) (q : WhyQuestion) (fault : ListingFault) (old : Option (List ℕ)) → bytes ≡ take 1048577 all → IsNoText bytes fault → Explained file q all old old (Err (Text fault))
+pub explained_no : (file all bytes : List ℕ) (q : WhyRequest) (fault : ListingFault) (old : Option (List ℕ)) → bytes ≡ take 1048577 all → IsNoText bytes fault → Explained file q all old old (Err (Text fault))
 explained_no file all bytes q (listing_faults.Utf8 line) old read h = subst (λ (l : List ℕ). Explained file q l old old (Err (Text (listing_faults.Utf8 line)))) (whole_read all bytes read h.0) (h, keeps_same old)
 explained_no file all bytes q (listing_faults.Policy shown) old read h =
     let long = too_many all bytes read h.0 in (at 1 Limit, h.1, (inl long, too_long all long), keeps_same old)
@@ -175,11 +214,11 @@ explained_no file all bytes q listing_faults.Memory old read h = absurd h
 explained_no file all bytes q listing_faults.Read old read h = absurd h
 explained_no file all bytes q listing_faults.Write old read h = absurd h
 
-unasked : (file all : List ℕ) (q : WhyQuestion) (old : Option (List ℕ)) (error : ReadFault) → Explained file q all old old (Err (Text (listing_read_fault error)))
+unasked : (file all : List ℕ) (q : WhyRequest) (old : Option (List ℕ)) (error : ReadFault) → Explained file q all old old (Err (Text (listing_read_fault error)))
 unasked file all q old read_faults.Memory = keeps_same old
 unasked file all q old read_faults.Read = keeps_same old
 
-pub explained_unread : (file : List ℕ) (q : WhyQuestion) (known old : Option (List ℕ)) (error : ReadFault) (fault : ListingFault) → fault ≡ listing_read_fault error → OfInput known (λ input. Explained file q input old old (Err (Text fault)))
+pub explained_unread : (file : List ℕ) (q : WhyRequest) (known old : Option (List ℕ)) (error : ReadFault) (fault : ListingFault) → fault ≡ listing_read_fault error → OfInput known (λ input. Explained file q input old old (Err (Text fault)))
 explained_unread file q known old error fault is =
     of_any_input known (λ (input : List ℕ). Explained file q input old old (Err (Text fault)))
     (λ (input : List ℕ). subst (λ (f : ListingFault). Explained file q input old old (Err (Text f))) (sym is) (unasked file input q old error))

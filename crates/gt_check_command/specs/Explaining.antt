@@ -1,5 +1,7 @@
 -- What is written for a question.
-use Rattle.std.specs.Prelude.{◌≡◌, ℕ, Bool, true, false, List, Option, Some, Result, Ok, Err}
+use Rattle.std.specs.Prelude.{◌≡◌, ℕ, ◌==◌, ◌<◌, Bool, true, false, List, [], ◌++◌, codes, decimal, nat_lt, Option, Some}
+use Rattle.std.specs.Prelude.{None, Result, Ok, Err, if◌then◌else◌}
+use Rattle.std.specs.Option.{option_map}
 use Rattle.std.specs.Io.KnownBytes.{Appends, Keeps}
 use Rattle.std.specs.Str.{IsUtf8}
 use Rattle.gt_policy_check.specs.Why.{IsExplained}
@@ -9,6 +11,7 @@ use Rattle.gt_policy_check.specs.declared.asking.Explanation.{Explanation}
 use Rattle.gt_policy_check.specs.declared.asking.WhyQuestion.{WhyQuestion}
 use Rattle.gt_check_command.specs.declared.fault.WhyFault.{WhyFault}
 use Rattle.gt_check_command.specs.declared.fault.WhyFault.TheVariants.{Text, NoSource, NoTarget, NoPermission}
+use Rattle.gt_check_command.specs.declared.explaining.WhyRequest.{WhyRequest}
 use Rattle.gt_policy_list.specs.Reading.{IsNotUtf8At, IsFaulty}
 use Rattle.gt_policy_list.specs.declared.fault.ListingFault.TheVariants.{Utf8, Policy, Memory, Read, Write}
 use Rattle.gt_policy.specs.Allowing.{Meaning}
@@ -17,6 +20,12 @@ use Rattle.gt_policy.specs.Shown.{fault_shown}
 use Rattle.gt_policy.specs.Whole.{ReadsAs}
 use Rattle.gt_policy.specs.declared.fault.TokenFault.{TokenFault}
 use Rattle.gt_policy.specs.declared.lined.LinedStatement.{LinedStatement}
+use Rattle.gt_policy_check.specs.Why.{perm_asked}
+use Rattle.gt_policy_pairs.specs.Pairs.{ArePairsOf}
+use Rattle.gt_policy_pairs.specs.declared.asking.PairsQuestion.{PairsQuestion}
+use Rattle.gt_policy_pairs.specs.declared.asking.PairsReport.{PairsReport}
+use Rattle.gt_types.specs.Names.{permission_of}
+use Rattle.gt_types.specs.declared.perms.Perms.{Perms}
 use Rattle.gt_text.specs.Streams.{AppendsBeginning}
 
 -- the text is a policy, and the answer of its statements is this one
@@ -29,32 +38,80 @@ abbrev pub answer_for : Bool → WhyAnswer
 answer_for true = why_answers.Allowed
 answer_for false = why_answers.Denied
 
+-- the permission that is asked for; none for any
+abbrev pub pairs_perm : Option (List ℕ) → Option Perms
+pairs_perm (Some word) = permission_of word
+pairs_perm None = None
+
+-- the same question, of each pair of types
+abbrev pub pairs_question : WhyQuestion → PairsQuestion
+pairs_question q = record { source = q.source; target = q.target; perm = pairs_perm (perm_asked q) }
+
+-- how many of the pairs are allowed, if there are several
+abbrev pub share_word : ℕ → ℕ → List ℕ
+share_word allowed pairs =
+    if allowed == 0 then codes "none: " else (if allowed == pairs then codes "all: " else codes "some: ")
+
+abbrev pub share_text : ℕ → ℕ → List ℕ
+share_text allowed pairs = if nat_lt pairs 2 then []
+    else share_word allowed pairs ++ decimal allowed ++ codes " of " ++ decimal pairs ++ codes " pairs\n"
+
+-- what is written for an answer with these lines: they and how many pairs are allowed, or a line for each pair
+abbrev pub why_text : Bool → List ℕ → PairsReport → List ℕ
+why_text false lines report = lines ++ share_text report.allowed report.pairs
+why_text true lines report = report.lines.items
+
+-- the result: that one of the pairs is allowed, or that all are
+abbrev pub says_yes : Bool → Bool → PairsReport → Bool
+says_yes false allowed report = allowed
+says_yes true allowed report = report.allowed == report.pairs
+
 -- the lines went out, or a prefix of them
 abbrev pub WritesLines : List ℕ → Bool → Option (List ℕ) → Option (List ℕ) → Result Bool WhyFault → Type 0
-WritesLines lines allowed old new (Ok answer) = (answer ≡ allowed) × Appends old new lines
-WritesLines lines allowed old new (Err NoSource) = ⊥
-WritesLines lines allowed old new (Err NoTarget) = ⊥
-WritesLines lines allowed old new (Err NoPermission) = ⊥
-WritesLines lines allowed old new (Err (Text Write)) = AppendsBeginning old new lines
-WritesLines lines allowed old new (Err (Text Memory)) = ⊥
-WritesLines lines allowed old new (Err (Text Read)) = ⊥
-WritesLines lines allowed old new (Err (Text (Utf8 line))) = ⊥
-WritesLines lines allowed old new (Err (Text (Policy shown))) = ⊥
+WritesLines lines wanted old new (Ok answer) = (answer ≡ wanted) × Appends old new lines
+WritesLines lines wanted old new (Err NoSource) = ⊥
+WritesLines lines wanted old new (Err NoTarget) = ⊥
+WritesLines lines wanted old new (Err NoPermission) = ⊥
+WritesLines lines wanted old new (Err (Text Write)) = AppendsBeginning old new lines
+WritesLines lines wanted old new (Err (Text Memory)) = ⊥
+WritesLines lines wanted old new (Err (Text Read)) = ⊥
+WritesLines lines wanted old new (Err (Text (Utf8 line))) = ⊥
+WritesLines lines wanted old new (Err (Text (Policy shown))) = ⊥
 
--- What was written for a question about a text, by the result: at Ok the lines of its answer, allowed or denied; after
--- a failed write a prefix of these lines; nothing if a name of the question is unknown.
-abbrev pub AskedOf : List ℕ → WhyQuestion → List ℕ → Option (List ℕ) → Option (List ℕ) → Result Bool WhyFault → Type 0
-AskedOf file q text old new (Ok allowed) =
-    (e : Explanation) × AnswersWhy file text q (answer_for allowed) e × Appends old new e.lines.items
+-- the text of an answer went out, by the result: at Ok all of it, and whether the answer is yes; after a failed write a
+-- prefix of it
+abbrev pub WritesAnswer : WhyRequest → List ℕ → Explanation → Bool → Option (List ℕ) → Option (List ℕ)
+    → Result Bool WhyFault → Type 0
+WritesAnswer q text e allowed old new (Ok reply) =
+    (report : PairsReport) × ArePairsOf text (pairs_question q.question) report
+    × (reply ≡ says_yes q.each allowed report) × Appends old new (why_text q.each e.lines.items report)
+WritesAnswer q text e allowed old new (Err NoSource) = ⊥
+WritesAnswer q text e allowed old new (Err NoTarget) = ⊥
+WritesAnswer q text e allowed old new (Err NoPermission) = ⊥
+WritesAnswer q text e allowed old new (Err (Text Write)) =
+    (report : PairsReport) × ArePairsOf text (pairs_question q.question) report
+    × AppendsBeginning old new (why_text q.each e.lines.items report)
+WritesAnswer q text e allowed old new (Err (Text Memory)) = Keeps old new
+WritesAnswer q text e allowed old new (Err (Text Read)) = ⊥
+WritesAnswer q text e allowed old new (Err (Text (Utf8 line))) = ⊥
+WritesAnswer q text e allowed old new (Err (Text (Policy shown))) =
+    (f : TokenFault) × (fault_shown shown ≡ Some f) × ReadsAs text (Err f) × Keeps old new
+
+-- What was written for a question about a text, by the result: at Ok the text of its answer, allowed or denied; after
+-- a failed write a prefix of this text; nothing if a name of the question is unknown.
+abbrev pub AskedOf : List ℕ → WhyRequest → List ℕ → Option (List ℕ) → Option (List ℕ) → Result Bool WhyFault → Type 0
+AskedOf file q text old new (Ok reply) =
+    (allowed : Bool) × (e : Explanation) × AnswersWhy file text q.question (answer_for allowed) e
+    × WritesAnswer q text e allowed old new (Ok reply)
 AskedOf file q text old new (Err NoSource) =
-    ((e : Explanation) × AnswersWhy file text q why_answers.NoSource e) × Keeps old new
+    ((e : Explanation) × AnswersWhy file text q.question why_answers.NoSource e) × Keeps old new
 AskedOf file q text old new (Err NoTarget) =
-    ((e : Explanation) × AnswersWhy file text q why_answers.NoTarget e) × Keeps old new
+    ((e : Explanation) × AnswersWhy file text q.question why_answers.NoTarget e) × Keeps old new
 AskedOf file q text old new (Err NoPermission) =
-    ((e : Explanation) × AnswersWhy file text q why_answers.NoPermission e) × Keeps old new
+    ((e : Explanation) × AnswersWhy file text q.question why_answers.NoPermission e) × Keeps old new
 AskedOf file q text old new (Err (Text Write)) =
-    (allowed : Bool) × (e : Explanation) × AnswersWhy file text q (answer_for allowed) e
-    × AppendsBeginning old new e.lines.items
+    (allowed : Bool) × (e : Explanation) × AnswersWhy file text q.question (answer_for allowed) e
+    × WritesAnswer q text e allowed old new (Err (Text Write))
 AskedOf file q text old new (Err (Text Memory)) = Keeps old new
 AskedOf file q text old new (Err (Text Read)) = ⊥
 AskedOf file q text old new (Err (Text (Utf8 line))) = ⊥
@@ -62,7 +119,7 @@ AskedOf file q text old new (Err (Text (Policy shown))) =
     (f : TokenFault) × (fault_shown shown ≡ Some f) × ReadsAs text (Err f) × Keeps old new
 
 -- the same for bytes; nothing if they are too many or not UTF-8
-abbrev pub Explained : List ℕ → WhyQuestion → List ℕ → Option (List ℕ) → Option (List ℕ) → Result Bool WhyFault → Type 0
+abbrev pub Explained : List ℕ → WhyRequest → List ℕ → Option (List ℕ) → Option (List ℕ) → Result Bool WhyFault → Type 0
 Explained file q bytes old new (Ok allowed) = IsUtf8 bytes × AskedOf file q bytes old new (Ok allowed)
 Explained file q bytes old new (Err NoSource) = IsUtf8 bytes × AskedOf file q bytes old new (Err NoSource)
 Explained file q bytes old new (Err NoTarget) = IsUtf8 bytes × AskedOf file q bytes old new (Err NoTarget)

@@ -24,6 +24,6 @@ mod scripts;
 
 pub use breaking::{NeverText, check_never};
 pub use checking::check;
-pub use explaining::why;
+pub use explaining::{WhyRequest, why};
 pub use fault::{BreachFault, WhyFault};
 pub use scripts::check_script;

@@ -93,6 +93,7 @@ read_rows mode given rows is = ap (λ (rs : List Row). read mode (λ id. first_o
       value_at_end (usage_of Why) given (codes "source") refl,
       value_at_end (usage_of Why) given (codes "target") refl,
       value_at_end (usage_of Why) given (codes "permission") refl,
+      flag_at_end (usage_of Why) given (codes "each"),
       value_at_end (usage_of Why) given (codes "file") refl,
     ) refl
     by Flow = rw (

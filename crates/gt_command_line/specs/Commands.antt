@@ -69,6 +69,7 @@ usage_of Check = record file_usage {
   words = codes "file" ∷ more_files;
 }
 usage_of Why = record common_usage {
+  flags = codes "each" ∷ codes "verbose" ∷ [];
   words = codes "source" ∷ codes "target" ∷ codes "permission" ∷ codes "file" ∷ [];
 }
 usage_of Flow = record common_usage {
@@ -133,8 +134,8 @@ pub data Request : Type 0 where
   to_tell_rules : Option Text → Request
   to_check : Bool → Format → Option Text → List (Option Text) → Request
   to_check_never : Text → Format → Option Text → List (Option Text) → Request
-  to_explain : Option Text → Option Text → Option Text → Option Text → Request
-  to_explain_each : Text → Request
+  to_explain : Option Text → Option Text → Option Text → Bool → Option Text → Request
+  to_explain_lines : Bool → Text → Request
   to_show_flow : Option Text → Option Text → Option Text → Option Text → Request
   to_tell_entries : ℕ → Bool → Bool → Option ℕ → Format → Option Text → Request
   for_help : Request
@@ -277,14 +278,14 @@ check_with (Some format) false (Some never) file more = to_check_never never for
 check_with (Some format) true (Some never) file more = nothing
 
 -- `SOURCE TARGET PERMISSION [FILE]`; or one word, which is then the FILE
-abbrev pub why_with : Option Text → Option Text → Option Text → Option Text → Request
-why_with None target permission file = nothing
-why_with (Some source) None None None = to_explain_each source
-why_with (Some source) None None (Some file) = nothing
-why_with (Some source) None (Some permission) file = nothing
-why_with (Some source) (Some target) None file = nothing
-why_with (Some source) (Some target) (Some permission) file =
-    to_explain (type_of (Some source)) (type_of (Some target)) (type_of (Some permission)) file
+abbrev pub why_with : Option Text → Option Text → Option Text → Bool → Option Text → Request
+why_with None target permission each file = nothing
+why_with (Some source) None None each None = to_explain_lines each source
+why_with (Some source) None None each (Some file) = nothing
+why_with (Some source) None (Some permission) each file = nothing
+why_with (Some source) (Some target) None each file = nothing
+why_with (Some source) (Some target) (Some permission) each file =
+    to_explain (type_of (Some source)) (type_of (Some target)) (type_of (Some permission)) each file
 
 -- `SOURCE TARGET [FILE]`, with `--trust TYPES` or without
 abbrev pub flow_with : Option Text → Option Text → Option Text → Option Text → Request
@@ -322,7 +323,7 @@ read Rules value = to_tell_rules (value (codes "file"))
 read Check value = check_with (format_of (value (codes "format"))) (is_true (value (codes "script")))
     (value (codes "never")) (value (codes "file")) (map value more_files)
 read Why value = why_with (value (codes "source")) (value (codes "target")) (value (codes "permission"))
-    (value (codes "file"))
+    (is_true (value (codes "each"))) (value (codes "file"))
 read Flow value = flow_with (value (codes "source")) (value (codes "target")) (value (codes "trust"))
     (value (codes "file"))
 read Entries value = entries_with (version_of (value (codes "version"))) (script_of (value (codes "script")))
@@ -392,9 +393,9 @@ asked_by_plan (invocations.Check script files) =
     to_check script files.format (option_map (λ f. f.now) files.file) (file_names_of files.more)
 asked_by_plan (invocations.CheckNever never files) =
     to_check_never never.now files.format (option_map (λ f. f.now) files.file) (file_names_of files.more)
-asked_by_plan (invocations.Why source target permission file) = to_explain (option_map (λ f. f.now) source)
-    (option_map (λ f. f.now) target) (option_map (λ f. f.now) permission) (option_map (λ f. f.now) file)
-asked_by_plan (invocations.WhyEach file) = to_explain_each file.now
+asked_by_plan (invocations.Why source target permission each file) = to_explain (option_map (λ f. f.now) source)
+    (option_map (λ f. f.now) target) (option_map (λ f. f.now) permission) each (option_map (λ f. f.now) file)
+asked_by_plan (invocations.WhyLines each file) = to_explain_lines each file.now
 asked_by_plan (invocations.Flow source target trusted file) = to_show_flow (option_map (λ f. f.now) source)
     (option_map (λ f. f.now) target) (option_map (λ f. f.now) trusted) (option_map (λ f. f.now) file)
 asked_by_plan (invocations.Entries dump format file) =

@@ -149,11 +149,15 @@ Arguments:
   [FILE]        The policy [default: standard input]
 
 Options:
+      --each     Answer for each pair of types, a line each
   -v, --verbose  Explain faults on stderr [always on]
   -h, --help     Print help
 
 A - as SOURCE, TARGET or PERMISSION means any. With one word alone, it is the
 FILE, and the questions are lines SOURCE TARGET PERMISSION of standard input.
+
+If the question is about several pairs of types, `allowed` means that some pair
+is allowed, and the last line is how many. With --each it means that all are.
 ";
 
 pub(crate) const FLOW: &str =

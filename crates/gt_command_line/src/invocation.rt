@@ -201,15 +201,17 @@ pub enum Invocation<'a> {
         never: &'a str,
         files: CheckedFiles<'a>,
     },
-    /// `None` is any type or any permission.
+    /// `None` is any type or any permission. `each`: with an answer for each pair of types.
     Why {
         source: Option<&'a str>,
         target: Option<&'a str>,
         permission: Option<&'a str>,
+        each: bool,
         file: Option<&'a str>,
     },
     /// Answer the questions of the standard input, a line each, about the policy of the file.
-    WhyEach {
+    WhyLines {
+        each: bool,
         file: &'a str,
     },
     /// `None` is any type. `trusted`: the names of trusted types, joined by commas.

@@ -76,11 +76,12 @@ static CHECK_PARTS: [Part; 12] = [
     FORMAT,
 ];
 
-static WHY_PARTS: [Part; 5] = [
+static WHY_PARTS: [Part; 6] = [
     Part::Word("source", "SOURCE"),
     Part::Word("target", "TARGET"),
     Part::Word("permission", "PERMISSION"),
     FILE,
+    Part::Flag("each"),
     VERBOSE,
 ];
 

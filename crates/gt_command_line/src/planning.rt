@@ -142,10 +142,11 @@ fn why_with<'a>(
     source: Option<&'a str>,
     target: Option<&'a str>,
     permission: Option<&'a str>,
+    each: bool,
     file: Option<&'a str>,
 ) -> Option<Invocation<'a>>
     ensures { asked_by_some result ≡ why_with (option_map (λ v. v.now) source.entry)
-        (option_map (λ v. v.now) target.entry) (option_map (λ v. v.now) permission.entry)
+        (option_map (λ v. v.now) target.entry) (option_map (λ v. v.now) permission.entry) each
         (option_map (λ v. v.now) file.entry) }
 {
     match (source, target, permission, file) {
@@ -153,9 +154,10 @@ fn why_with<'a>(
             source: type_of(Some(source)),
             target: type_of(Some(target)),
             permission: type_of(Some(permission)),
+            each,
             file,
         }),
-        (Some(file), None, None, None) => Some(Invocation::WhyEach { file }),
+        (Some(file), None, None, None) => Some(Invocation::WhyLines { each, file }),
         _ => None,
     }
 }
@@ -243,6 +245,20 @@ fn read_explore<'a>(matches: &ArgMatches<'a>) -> Option<Invocation<'a>>
     )
 }
 
+// Returns what the values of `why` ask for, or None if it doesn't take one of them.
+fn read_why<'a>(matches: &ArgMatches<'a>) -> Option<Invocation<'a>>
+    ensures { asked_by_some result ≡ read modes.Why (λ id. first_of id (rows_of (found_of matches.now))) }
+{
+    let each = is_set(matches, "each");
+    why_with(
+        value_of(matches, "source"),
+        value_of(matches, "target"),
+        value_of(matches, "permission"),
+        each,
+        value_of(matches, "file"),
+    )
+}
+
 // Returns what the values of a command ask for, or None if the command doesn't take one of them.
 fn read<'a>(mode: Mode, matches: &ArgMatches<'a>) -> Option<Invocation<'a>>
     ensures { asked_by_some result ≡ read mode (λ id. first_of id (rows_of (found_of matches.now))) }
@@ -272,12 +288,7 @@ fn read<'a>(mode: Mode, matches: &ArgMatches<'a>) -> Option<Invocation<'a>>
             file,
             more_files(matches),
         ),
-        Mode::Why => why_with(
-            value_of(matches, "source"),
-            value_of(matches, "target"),
-            value_of(matches, "permission"),
-            file,
-        ),
+        Mode::Why => read_why(matches),
         Mode::Flow => flow_with(
             value_of(matches, "source"),
             value_of(matches, "target"),

@@ -2,7 +2,7 @@
 use Rattle.std.proofs.Common.{◌≡◌, ℕ, Bool, List, Option, None, Some, Result, Ok, IfSome, sym, subst, inl, inr, true}
 use Rattle.std.proofs.Common.{false}
 use Rattle.gt_text.specs.Streams.{OfInput}
-use Rattle.gt_policy_check.specs.declared.asking.WhyQuestion.{WhyQuestion}
+use Rattle.gt_check_command.specs.declared.explaining.WhyRequest.{WhyRequest}
 use Rattle.gt_policy_flow.specs.declared.asking.FlowQuestion.{FlowQuestion}
 use Rattle.gt_entries.specs.declared.asked.DumpOptions.{DumpOptions}
 use Rattle.gt_command_line.specs.declared.invocation.Format.{Format}
@@ -74,21 +74,21 @@ pub for_kind : (known old new : Option (List ℕ)) (form : ReportForm) (file : L
 for_kind known old new form file kind other r is does = subst (λ (k : CheckKind). OfInput known (λ input. Checks k form file input old new r)) (sym is) does
 
 -- a question of these names was answered
-explains_names : (file : List ℕ) (q : WhyQuestion) (source target permission : Option (List ℕ)) (name : Option (List ℕ)) (input : List ℕ) (old new : Option (List ℕ)) (r : Ending) → IsQuestion source target permission q
-    → DoesOnFile (Explains file q) name input old new r → DoesOnFile (AnswersQuestion file source target permission) name input old new r
-explains_names file q source target permission name input old new r is (inl does) = inl (q, is, does)
-explains_names file q source target permission name input old new r is (inr unopened) = inr unopened
+explains_names : (file : List ℕ) (q : WhyRequest) (each : Bool) (source target permission : Option (List ℕ)) (name : Option (List ℕ)) (input : List ℕ) (old new : Option (List ℕ)) (r : Ending) → IsQuestion each source target permission q
+    → DoesOnFile (Explains file q) name input old new r → DoesOnFile (AnswersQuestion each file source target permission) name input old new r
+explains_names file q each source target permission name input old new r is (inl does) = inl (q, is, does)
+explains_names file q each source target permission name input old new r is (inr unopened) = inr unopened
 
-question_by : (file : List ℕ) (q : WhyQuestion) (source target permission : Option (List ℕ)) (name known old new : Option (List ℕ)) (outcome : Outcome) → IsQuestion source target permission q
-    → Works (Explains file q) Unknown name known old new outcome → Works (AnswersQuestion file source target permission) Unknown name known old new outcome
-question_by file q source target permission name None old new outcome asks works = tt
-question_by file q source target permission name (Some bytes) old new outcome asks (r, is, inl does) = (r, is, inl (explains_names file q source target permission name bytes old new r asks does))
-question_by file q source target permission name (Some bytes) old new outcome asks (r, is, inr none) = (r, is, inr none)
+question_by : (file : List ℕ) (q : WhyRequest) (each : Bool) (source target permission : Option (List ℕ)) (name known old new : Option (List ℕ)) (outcome : Outcome) → IsQuestion each source target permission q
+    → Works (Explains file q) Unknown name known old new outcome → Works (AnswersQuestion each file source target permission) Unknown name known old new outcome
+question_by file q each source target permission name None old new outcome asks works = tt
+question_by file q each source target permission name (Some bytes) old new outcome asks (r, is, inl does) = (r, is, inl (explains_names file q each source target permission name bytes old new r asks does))
+question_by file q each source target permission name (Some bytes) old new outcome asks (r, is, inr none) = (r, is, inr none)
 
-pub answered : (file same : List ℕ) (q : WhyQuestion) (source target permission : Option (List ℕ)) (name known old new : Option (List ℕ)) (outcome : Outcome) → file ≡ same → IsQuestion source target permission q
-    → Works (Explains file q) Unknown name known old new outcome → Works (AnswersQuestion same source target permission) Unknown name known old new outcome
-answered file same q source target permission name known old new outcome shown asks works =
-    subst (λ (f : List ℕ). Works (AnswersQuestion f source target permission) Unknown name known old new outcome) shown (question_by file q source target permission name known old new outcome asks works)
+pub answered : (file same : List ℕ) (q : WhyRequest) (each : Bool) (source target permission : Option (List ℕ)) (name known old new : Option (List ℕ)) (outcome : Outcome) → file ≡ same → IsQuestion each source target permission q
+    → Works (Explains file q) Unknown name known old new outcome → Works (AnswersQuestion each same source target permission) Unknown name known old new outcome
+answered file same q each source target permission name known old new outcome shown asks works =
+    subst (λ (f : List ℕ). Works (AnswersQuestion each f source target permission) Unknown name known old new outcome) shown (question_by file q each source target permission name known old new outcome asks works)
 
 -- a question about flows was answered as it was asked
 flow_asked : (q : FlowQuestion) (source target trusted : Option (List ℕ)) (name : Option (List ℕ)) (input : List ℕ) (old new : Option (List ℕ)) (r : Ending) → IsFlowQuestion source target trusted q

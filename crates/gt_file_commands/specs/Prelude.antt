@@ -1,6 +1,6 @@
 -- Names of other crates, and of the code, that the definitions here use.
 pub use Rattle.gt_policy_check.specs.Why.{perm_asked, source_asked, target_asked}
-pub use Rattle.gt_policy_check.specs.declared.asking.WhyQuestion.{WhyQuestion}
+pub use Rattle.gt_check_command.specs.declared.explaining.WhyRequest.{WhyRequest}
 pub use Rattle.gt_policy_check.specs.declared.report.ReportForm.{ReportForm}
 pub use Rattle.gt_check_command.specs.Explaining.{Explained}
 pub use Rattle.gt_check_command.specs.Breaking.{CheckedNever}

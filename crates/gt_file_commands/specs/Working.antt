@@ -8,7 +8,7 @@ use Rattle.gt_policy.specs.Whole.{ReadsAs}
 use Rattle.gt_file_commands.specs.Formats.{CheckedAs, IsFormOf, ListedAs, PlayedAs, WroteDumpAs}
 use Rattle.gt_file_commands.specs.Names.{shown_name}
 use Rattle.gt_file_commands.specs.Prelude.{Keeps, option_map, Appends, AppendsBeginning, Format, DumpOptions}
-use Rattle.gt_file_commands.specs.Prelude.{WhyQuestion, perm_asked, source_asked, target_asked, Explained, CheckedNever}
+use Rattle.gt_file_commands.specs.Prelude.{WhyRequest, perm_asked, source_asked, target_asked, Explained, CheckedNever}
 use Rattle.gt_file_commands.specs.Prelude.{type_of, words, play_fault_text, explore_fault_text, listing_fault_text}
 use Rattle.gt_file_commands.specs.Prelude.{why_fault_text, breach_fault_text, dump_fault_text, read_word}
 use Rattle.gt_file_commands.specs.Prelude.{CheckKind, Failure, Outcome, ReportForm, Work, No, Unknown, Yes}
@@ -106,7 +106,7 @@ abbrev pub ChecksIn : (ReportForm → List ℕ → Doing) → Format → List �
 ChecksIn P format file input old new r = (form : ReportForm) × IsFormOf format form × P form file input old new r
 
 -- the answer is whether it is allowed
-abbrev pub Explains : List ℕ → WhyQuestion → Doing
+abbrev pub Explains : List ℕ → WhyRequest → Doing
 Explains file q input old new (Ok outcome) = AnswersYesOrNo (Explained file q input old new) outcome
 Explains file q input old new (Err (failures.Why fault)) = Explained file q input old new (Err fault)
 Explains file q input old new (Err failure) = ⊥
@@ -128,7 +128,7 @@ abbrev pub Performs : Work → Doing
 Performs (works.Play audited format) = Plays format audited
 Performs (works.List format) = Lists format
 Performs (works.Check kind report) = Checks kind report.form report.file.now
-Performs (works.Why file question) = Explains file.now question
+Performs (works.Why file request) = Explains file.now request
 Performs (works.Flow question) = ShowsFlow question
 Performs (works.Entries asked format) = AnswersEntries format asked
 
@@ -137,7 +137,7 @@ abbrev pub failed_work : Work → Outcome
 failed_work (works.Play audited format) = No
 failed_work (works.List format) = No
 failed_work (works.Check kind report) = Unknown
-failed_work (works.Why file question) = Unknown
+failed_work (works.Why file request) = Unknown
 failed_work (works.Flow question) = Unknown
 failed_work (works.Entries asked format) = Unknown
 
@@ -170,10 +170,11 @@ Works P failed name known old new outcome =
     (λ bytes. (r : Ending) × (outcome ≡ outcome_of_command failed r)
     × (DoesOnFile P name bytes old new r ⊎ ((r ≡ Err failures.Memory) × Keeps old new)))
 
--- the question has these names
-abbrev pub IsQuestion : Option (List ℕ) → Option (List ℕ) → Option (List ℕ) → WhyQuestion → Type 0
-IsQuestion source target permission q =
-    (source_asked q ≡ source) × (target_asked q ≡ target) × (perm_asked q ≡ permission)
+-- the question has these names, and each pair of types is answered for or not
+abbrev pub IsQuestion : Bool → Option (List ℕ) → Option (List ℕ) → Option (List ℕ) → WhyRequest → Type 0
+IsQuestion each source target permission q =
+    (source_asked q.question ≡ source) × (target_asked q.question ≡ target) × (perm_asked q.question ≡ permission)
+    × (q.each ≡ each)
 
 -- the question about flows has these names
 abbrev pub IsFlowQuestion : Option (List ℕ) → Option (List ℕ) → Option (List ℕ) → FlowQuestion → Type 0
@@ -188,9 +189,9 @@ IsAsked version hex every script asked =
     × (option_map (λ d. d.0) asked.script ≡ script)
 
 -- a question of these names is answered
-abbrev pub AnswersQuestion : List ℕ → Option (List ℕ) → Option (List ℕ) → Option (List ℕ) → Doing
-AnswersQuestion file source target permission input old new r =
-    (q : WhyQuestion) × IsQuestion source target permission q × Explains file q input old new r
+abbrev pub AnswersQuestion : Bool → List ℕ → Option (List ℕ) → Option (List ℕ) → Option (List ℕ) → Doing
+AnswersQuestion each file source target permission input old new r =
+    (q : WhyRequest) × IsQuestion each source target permission q × Explains file q input old new r
 
 -- a question about flows of these names is answered
 abbrev pub AnswersFlow : Option (List ℕ) → Option (List ℕ) → Option (List ℕ) → Doing
@@ -249,31 +250,31 @@ question_heading source target permission =
     codes "# " ++ source ++ codes " " ++ target ++ codes " " ++ permission ++ codes "\n"
 
 -- the line went out, and then the question was answered about the policy of a file; or a prefix of the line went out
-abbrev pub AnswersUnderHeading : List ℕ → Option (List ℕ) → List ℕ → List ℕ → List ℕ → OutputEffect
-AnswersUnderHeading file known source target permission old new outcome =
+abbrev pub AnswersUnderHeading : Bool → List ℕ → Option (List ℕ) → List ℕ → List ℕ → List ℕ → OutputEffect
+AnswersUnderHeading each file known source target permission old new outcome =
     ((middle : Option (List ℕ)) × Appends old middle (question_heading source target permission)
-    × Works (AnswersQuestion file (type_of (Some source)) (type_of (Some target)) (type_of (Some permission))) Unknown
+    × Works (AnswersQuestion each file (type_of (Some source)) (type_of (Some target)) (type_of (Some permission))) Unknown
     None known middle new outcome)
     ⊎ (AppendsBeginning old new (question_heading source target permission) × (outcome ≡ Unknown))
 
 -- a line of three words is a question, one without words is skipped, and any other has no answer
-abbrev pub AnswersWords : List ℕ → Option (List ℕ) → List (List ℕ) → OutputEffect
-AnswersWords file known [] old new outcome = Keeps old new × (outcome ≡ Yes)
-AnswersWords file known (source ∷ []) old new outcome = Keeps old new × (outcome ≡ Unknown)
-AnswersWords file known (source ∷ target ∷ []) old new outcome = Keeps old new × (outcome ≡ Unknown)
-AnswersWords file known (source ∷ target ∷ permission ∷ []) old new outcome =
-    AnswersUnderHeading file known source target permission old new outcome
-AnswersWords file known (source ∷ target ∷ permission ∷ word ∷ more) old new outcome =
+abbrev pub AnswersWords : Bool → List ℕ → Option (List ℕ) → List (List ℕ) → OutputEffect
+AnswersWords each file known [] old new outcome = Keeps old new × (outcome ≡ Yes)
+AnswersWords each file known (source ∷ []) old new outcome = Keeps old new × (outcome ≡ Unknown)
+AnswersWords each file known (source ∷ target ∷ []) old new outcome = Keeps old new × (outcome ≡ Unknown)
+AnswersWords each file known (source ∷ target ∷ permission ∷ []) old new outcome =
+    AnswersUnderHeading each file known source target permission old new outcome
+AnswersWords each file known (source ∷ target ∷ permission ∷ word ∷ more) old new outcome =
     Keeps old new × (outcome ≡ Unknown)
 
-abbrev pub AnswersInputLine : List ℕ → Option (List ℕ) → List ℕ → OutputEffect
-AnswersInputLine file known line = OrNothing (AnswersWords file known (words line))
+abbrev pub AnswersInputLine : Bool → List ℕ → Option (List ℕ) → List ℕ → OutputEffect
+AnswersInputLine each file known line = OrNothing (AnswersWords each file known (words line))
 
 -- the questions of the lines are answered one after the other
-abbrev pub AnswersLines : List ℕ → Option (List ℕ) → List (List ℕ) → OutputEffect
-AnswersLines file known [] old new outcome = Keeps old new × (outcome ≡ Yes)
-AnswersLines file known (line ∷ more) old new outcome =
-    OneAfterOther (AnswersInputLine file known line) (AnswersLines file known more) old new outcome
+abbrev pub AnswersLines : Bool → List ℕ → Option (List ℕ) → List (List ℕ) → OutputEffect
+AnswersLines each file known [] old new outcome = Keeps old new × (outcome ≡ Yes)
+AnswersLines each file known (line ∷ more) old new outcome =
+    OneAfterOther (AnswersInputLine each file known line) (AnswersLines each file known more) old new outcome
 
 -- ---- the policy of a file
 
@@ -282,13 +283,13 @@ abbrev pub IsPolicyText : List ℕ → Type 0
 IsPolicyText text = (m : Meaning) × ReadsAs text (Ok m)
 
 -- the questions of the input are answered about this policy; if it is none, nothing is answered
-abbrev pub AnswersAbout : List ℕ → List ℕ → Option (List ℕ) → OutputEffect
-AnswersAbout file policy input old new outcome =
-    (IsPolicyText policy × WithFile input (λ asked. AnswersLines file (Some policy) (lines asked)) old new outcome)
+abbrev pub AnswersAbout : Bool → List ℕ → List ℕ → Option (List ℕ) → OutputEffect
+AnswersAbout each file policy input old new outcome =
+    (IsPolicyText policy × WithFile input (λ asked. AnswersLines each file (Some policy) (lines asked)) old new outcome)
     ⊎ ((outcome ≡ Unknown) × Keeps old new)
 
 -- the same about the text of the file, whose bytes may be known; if the file can't be read, nothing is answered
-abbrev pub AnswersAboutFile : List ℕ → Option (List ℕ) → Option (List ℕ) → OutputEffect
-AnswersAboutFile file known input old new outcome =
-    ((policy : List ℕ) × IfSome known (λ all. policy ≡ all) × AnswersAbout file policy input old new outcome)
+abbrev pub AnswersAboutFile : Bool → List ℕ → Option (List ℕ) → Option (List ℕ) → OutputEffect
+AnswersAboutFile each file known input old new outcome =
+    ((policy : List ℕ) × IfSome known (λ all. policy ≡ all) × AnswersAbout each file policy input old new outcome)
     ⊎ ((outcome ≡ Unknown) × Keeps old new)

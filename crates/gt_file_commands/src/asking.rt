@@ -9,9 +9,9 @@ use crate::commands::{Context, Work, work_asked};
 use crate::outcome::Outcome;
 use crate::reasons::{Reasons, shown_name};
 use crate::texts::TextSource;
+use gt_check_command::WhyRequest;
 use gt_command_line::{EntriesOptions, Format, ScriptOptions};
 use gt_entries::DumpOptions;
-use gt_policy_check::WhyQuestion;
 use gt_policy_flow::FlowQuestion;
 use gt_types::DomId;
 use std::io::Write;
@@ -50,25 +50,25 @@ pub fn list<R, T: TextSource, W: Write, E: Eprint>(
     work_asked(context, Work::List { format }, file, out, reasons)
 }
 
-/// Answers a question about the policy of the named file, or of the standard input, and returns the outcome: the
-/// answer, or unknown after a failure.
+/// Answers a question about the policy of the named file, or of the standard input, or each pair of types that it asks
+/// for, and returns the outcome: the answer, or unknown after a failure.
 pub fn answer<'a, R, T: TextSource, W: Write, E: Eprint>(
     context: &Context<R, T, E>,
-    question: WhyQuestion<'a>,
+    request: WhyRequest<'a>,
     file: Option<&'a str>,
     out: &mut W,
     reasons: &mut Reasons<'a>,
 ) -> Outcome
-    ensures { Works (AnswersQuestion (shown_name (file_name_of file.entry))
-        (option_map (λ a. a.now) question.entry.source) (option_map (λ a. a.now) question.entry.target)
-        (option_map (λ a. a.now) question.entry.perm)) Outcome.Unknown (file_name_of file.entry)
+    ensures { Works (AnswersQuestion request.entry.each (shown_name (file_name_of file.entry))
+        (option_map (λ a. a.now) request.entry.question.source) (option_map (λ a. a.now) request.entry.question.target)
+        (option_map (λ a. a.now) request.entry.question.perm)) Outcome.Unknown (file_name_of file.entry)
         (known_input (T.file context.now.texts.now) (T.input context.now.texts.now) file.entry)
         (W.contents out.old) (W.contents out.new) result }
 {
     let file_name = shown_name(file);
     let work = Work::Why {
         file: file_name,
-        question,
+        request,
     };
     work_asked(context, work, file, out, reasons)
 }

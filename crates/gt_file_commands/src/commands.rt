@@ -15,9 +15,9 @@ use crate::reasons::Reasons;
 use crate::reporting::finish;
 use crate::style::Style;
 use crate::texts::{TextSource, read_fault};
+use gt_check_command::WhyRequest;
 use gt_command_line::Format;
 use gt_entries::DumpOptions;
-use gt_policy_check::WhyQuestion;
 use gt_policy_flow::FlowQuestion;
 use std::alloc::Global;
 use std::io::{Read, Write};
@@ -43,7 +43,7 @@ pub(crate) enum Work<'w> {
     /// Answer the question about the policy. The lines begin with the name.
     Why {
         file: &'w str,
-        question: WhyQuestion<'w>,
+        request: WhyRequest<'w>,
     },
     /// Answer the question about the flows of the policy.
     Flow {
@@ -92,8 +92,8 @@ pub(crate) fn perform<R: Read, W: Write>(
             Err(fault) => Err(Failure::List(fault)),
         },
         Work::Check { kind, report } => perform_check(alloc, kind, report, reader, out, reasons),
-        Work::Why { file, question } => match why_explained(
-            alloc, file, &question, reader, out, reasons,
+        Work::Why { file, request } => match why_explained(
+            alloc, file, &request, reader, out, reasons,
         ) {
             Ok(allowed) => Ok(Outcome::of_answer(allowed)),
             Err(fault) => Err(Failure::Why(fault)),

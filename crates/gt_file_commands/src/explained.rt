@@ -7,10 +7,9 @@ ghost use Rattle.gt_file_commands.specs.Formats.{CheckedAs, ListedAs, PlayedAs, 
 
 use crate::formats::{ReportSettings, check_as, entries_as, list_as, play_as};
 use crate::reasons::{CopyingReader, Reasons};
-use gt_check_command::{BreachFault, NeverText, WhyFault, check_never, why};
+use gt_check_command::{BreachFault, NeverText, WhyFault, WhyRequest, check_never, why};
 use gt_command_line::Format;
 use gt_entries::{DumpFault, DumpOptions};
-use gt_policy_check::WhyQuestion;
 use gt_policy_flow::{FlowFault, FlowQuestion};
 use gt_policy_list::ListingFault;
 use gt_script_runs::PlayFault;
@@ -106,18 +105,18 @@ pub fn check_never_explained<R: Read, W: Write>(
 pub fn why_explained<R: Read, W: Write>(
     alloc: Global,
     file: &str,
-    question: &WhyQuestion,
+    request: &WhyRequest,
     reader: &mut R,
     out: &mut W,
     reasons: &mut Reasons,
 ) -> Result<bool, WhyFault>
     ensures { OfInput (R.remaining reader.old) (λ input.
-        Explained file.now question.now input (W.contents out.old) (W.contents out.new) result) }
+        Explained file.now request.now input (W.contents out.old) (W.contents out.new) result) }
 {
     let mut input = CopyingReader::new(alloc, reader);
-    let ending = why(alloc, file, question, &mut input, out);
+    let ending = why(alloc, file, request, &mut input, out);
     if let Err(fault) = &ending {
-        reasons.add_why(&input.kept, question, fault);
+        reasons.add_why(&input.kept, &request.question, fault);
     }
     ending
 }

@@ -1,7 +1,7 @@
 //! The commands of gthost on named texts, except `run` and `explore`: the output and the outcome.
 //!
 //! [`play`], [`list`], [`answer`] and [`show_entries`] work on the text of the named file, or of the standard input.
-//! [`check_files`] and [`check_never_files`] check several, and [`answer_each`] answers the questions of the standard
+//! [`check_files`] and [`check_never_files`] check several, and [`answer_lines`] answers the questions of the standard
 //! input. [`print_rules`] lists the rules. Each returns an [`Outcome`]: yes, no, or no answer. A failure goes to the
 //! standard error in one line ([`finish`]): that of the [`Failure`], or its reason ([`Reasons`]).
 //!
@@ -38,7 +38,7 @@ pub use commands::Context;
 pub use failure::Failure;
 pub use given::read_given;
 pub use outcome::{Outcome, outcome_of};
-pub use questions::answer_each;
+pub use questions::answer_lines;
 pub use reasons::{CopyingReader, KeptInput, Reasons};
 pub use reporting::{finish, report};
 pub use rules::print_rules;

@@ -19,6 +19,7 @@ use crate::reading::read_whole;
 use crate::reasons::Reasons;
 use crate::reporting::{fail, finish};
 use crate::texts::TextSource;
+use gt_check_command::WhyRequest;
 use gt_policy::Policy;
 use gt_policy_check::WhyQuestion;
 use gt_policy_list::{ListingFault, policy_text};
@@ -27,11 +28,12 @@ use gt_text::{ReadFault, push_text, text_of, write_text};
 use std::alloc::{AllocError, Global};
 use std::io::Write;
 
-// The policy that is asked about: the name of its file, and its bytes.
+// The policy that is asked about: the name of its file, and its bytes. And whether each pair of types is answered for.
 #[derive(Clone, Copy)]
 struct NamedPolicy<'a, 'p> {
     file: &'a str,
     bytes: &'p [u8],
+    each: bool,
 }
 
 // The three words of a question, as they were read.
@@ -121,7 +123,7 @@ fn answer_asked<'a, R, T, W: Write, E: Eprint>(
     out: &mut W,
     reasons: &mut Reasons<'a>,
 ) -> Outcome
-    ensures { Works (AnswersQuestion policy.entry.file.now (type_of (Some words.now.source.now))
+    ensures { Works (AnswersQuestion policy.entry.each policy.entry.file.now (type_of (Some words.now.source.now))
         (type_of (Some words.now.target.now)) (type_of (Some words.now.perm.now))) Unknown None
         (Some policy.entry.bytes.now) (W.contents out.old) (W.contents out.new) result }
 {
@@ -132,7 +134,10 @@ fn answer_asked<'a, R, T, W: Write, E: Eprint>(
     };
     let work = Work::Why {
         file: policy.file,
-        question,
+        request: WhyRequest {
+            question,
+            each: policy.each,
+        },
     };
     reasons.begin(Some(policy.file));
     let mut reader = policy.bytes;
@@ -148,7 +153,7 @@ fn ask<'a, R, T, W: Write, E: Eprint>(
     out: &mut W,
     reasons: &mut Reasons<'a>,
 ) -> Outcome
-    ensures { AnswersUnderHeading policy.entry.file.now (Some policy.entry.bytes.now) words.now.source.now
+    ensures { AnswersUnderHeading policy.entry.each policy.entry.file.now (Some policy.entry.bytes.now) words.now.source.now
         words.now.target.now words.now.perm.now (W.contents out.old) (W.contents out.new) result }
 {
     match write_heading(context.alloc, words, out) {
@@ -165,7 +170,7 @@ fn ask_words<'a, R, T, W: Write, E: Eprint>(
     out: &mut W,
     reasons: &mut Reasons<'a>,
 ) -> Outcome
-    ensures { OrNothing (AnswersUnderHeading policy.entry.file.now (Some policy.entry.bytes.now) words.entry.source.now
+    ensures { OrNothing (AnswersUnderHeading policy.entry.each policy.entry.file.now (Some policy.entry.bytes.now) words.entry.source.now
         words.entry.target.now words.entry.perm.now) (W.contents out.old) (W.contents out.new) result }
 {
     match asked_words(words) {
@@ -195,7 +200,7 @@ fn answer_words<'a, R, T, W: Write, E: Eprint>(
     out: &mut W,
     reasons: &mut Reasons<'a>,
 ) -> Outcome
-    ensures { OrNothing (AnswersWords policy.entry.file.now (Some policy.entry.bytes.now)
+    ensures { OrNothing (AnswersWords policy.entry.each policy.entry.file.now (Some policy.entry.bytes.now)
         (map (λ w. w.now) words.now)) (W.contents out.old) (W.contents out.new) result }
 {
     match words {
@@ -223,7 +228,7 @@ fn answer_line<'a, R, T, W: Write, E: Eprint>(
     out: &mut W,
     reasons: &mut Reasons<'a>,
 ) -> Outcome
-    ensures { AnswersInputLine policy.entry.file.now (Some policy.entry.bytes.now) line.now
+    ensures { AnswersInputLine policy.entry.each policy.entry.file.now (Some policy.entry.bytes.now) line.now
         (W.contents out.old) (W.contents out.new) result }
 {
     match line_words(context.alloc, line) {
@@ -233,14 +238,14 @@ fn answer_line<'a, R, T, W: Write, E: Eprint>(
 }
 
 // Answers the questions of these lines, and returns the worst outcome.
-fn answer_lines<'a, R, T, W: Write, E: Eprint>(
+fn answer_those<'a, R, T, W: Write, E: Eprint>(
     context: &Context<R, T, E>,
     policy: NamedPolicy<'a, '_>,
     lines: &[&str],
     out: &mut W,
     reasons: &mut Reasons<'a>,
 ) -> Outcome
-    ensures { AnswersLines policy.entry.file.now (Some policy.entry.bytes.now)
+    ensures { AnswersLines policy.entry.each policy.entry.file.now (Some policy.entry.bytes.now)
         (map (λ l. l.now) lines.now) (W.contents out.old) (W.contents out.new) result }
 {
     let mut outcome = Outcome::Yes;
@@ -261,11 +266,11 @@ fn answer_text<'a, R, T, W: Write, E: Eprint>(
     out: &mut W,
     reasons: &mut Reasons<'a>,
 ) -> Outcome
-    ensures { OrNothing (AnswersLines policy.entry.file.now (Some policy.entry.bytes.now)
+    ensures { OrNothing (AnswersLines policy.entry.each policy.entry.file.now (Some policy.entry.bytes.now)
         (lines_in text.now)) (W.contents out.old) (W.contents out.new) result }
 {
     match text_lines(context.alloc, text) {
-        Ok(lines) => answer_lines(context, policy, lines.as_slice(), out, reasons),
+        Ok(lines) => answer_those(context, policy, lines.as_slice(), out, reasons),
         Err(_) => fail(context, Failure::Memory, reasons),
     }
 }
@@ -278,7 +283,7 @@ fn answer_bytes<'a, R, T, W: Write, E: Eprint>(
     out: &mut W,
     reasons: &mut Reasons<'a>,
 ) -> Outcome
-    ensures { OrNothing (AnswersLines policy.entry.file.now (Some policy.entry.bytes.now)
+    ensures { OrNothing (AnswersLines policy.entry.each policy.entry.file.now (Some policy.entry.bytes.now)
         (lines_in bytes.now)) (W.contents out.old) (W.contents out.new) result }
 {
     match text_of(bytes) {
@@ -309,7 +314,7 @@ fn answer_input<'a, R, T: TextSource, W: Write, E: Eprint>(
     out: &mut W,
     reasons: &mut Reasons<'a>,
 ) -> Outcome
-    ensures { WithFile (T.input context.now.texts.now) (λ asked. AnswersLines policy.entry.file.now
+    ensures { WithFile (T.input context.now.texts.now) (λ asked. AnswersLines policy.entry.each policy.entry.file.now
         (Some policy.entry.bytes.now) (lines_in asked)) (W.contents out.old) (W.contents out.new) result }
 {
     reasons.begin(None);
@@ -326,7 +331,7 @@ fn answer_about<'a, R, T: TextSource, W: Write, E: Eprint>(
     out: &mut W,
     reasons: &mut Reasons<'a>,
 ) -> Outcome
-    ensures { AnswersAbout policy.entry.file.now policy.entry.bytes.now (T.input context.now.texts.now)
+    ensures { AnswersAbout policy.entry.each policy.entry.file.now policy.entry.bytes.now (T.input context.now.texts.now)
         (W.contents out.old) (W.contents out.new) result }
 {
     match read_policy(context.alloc, policy.bytes) {
@@ -341,14 +346,15 @@ fn answer_about<'a, R, T: TextSource, W: Write, E: Eprint>(
 /// Answers each question of the standard input about the policy of the file, and returns the worst outcome. Blank lines
 /// and comments are skipped. Each answer comes after a line `# SOURCE TARGET PERMISSION`. A line that is not a question
 /// is reported with its number, and its outcome is unknown. If the file has no policy, that is reported once, no
-/// question is answered, and the outcome is unknown.
-pub fn answer_each<'a, R, T: TextSource, W: Write, E: Eprint>(
+/// question is answered, and the outcome is unknown. `each`: with an answer for each pair of types.
+pub fn answer_lines<'a, R, T: TextSource, W: Write, E: Eprint>(
     context: &Context<R, T, E>,
+    each: bool,
     file: &'a str,
     out: &mut W,
     reasons: &mut Reasons<'a>,
 ) -> Outcome
-    ensures { AnswersAboutFile file.entry.now (T.file context.now.texts.now file.entry.now)
+    ensures { AnswersAboutFile each file.entry.now (T.file context.now.texts.now file.entry.now)
         (T.input context.now.texts.now) (W.contents out.old) (W.contents out.new) result }
 {
     match read_given(context, file, reasons) {
@@ -356,6 +362,7 @@ pub fn answer_each<'a, R, T: TextSource, W: Write, E: Eprint>(
             let policy = NamedPolicy {
                 file,
                 bytes: bytes.as_slice(),
+                each,
             };
             answer_about(context, policy, out, reasons)
         }

@@ -15,7 +15,7 @@ use Rattle.clap.specs.declared.error.kind.ErrorKind.TheVariants.{OutOfMemory, In
 use Rattle.clap.specs.declared.error.kind.ErrorKind.TheVariants.{MissingRequiredArgument, MissingSubcommand}
 use Rattle.clap.specs.declared.error.kind.ErrorKind.TheVariants.{TooManyValues, UnknownArgument}
 use Rattle.gt_command_line.specs.Commands.{Request, to_play, to_run, to_explore, to_list, to_tell_rules, to_check}
-use Rattle.gt_command_line.specs.Commands.{flow_with, to_check_never, to_explain, to_explain_each, to_find_text, to_show_flow}
+use Rattle.gt_command_line.specs.Commands.{flow_with, to_check_never, to_explain, to_explain_lines, to_find_text, to_show_flow}
 use Rattle.gt_command_line.specs.Commands.{to_tell_entries, for_help, for_version, nothing, asked_by_plan, refusals}
 use Rattle.gt_command_line.specs.Commands.{request_in_words, request_by, asked_of, asked_of_none, mode_of, read, usage_of}
 use Rattle.gt_command_line.specs.Commands.{Sought}
@@ -103,8 +103,8 @@ FailedFor (to_list verbose format name) failed = failed ≡ No
 FailedFor (to_tell_rules name) failed = failed ≡ Unknown
 FailedFor (to_check script format name more) failed = failed ≡ Unknown
 FailedFor (to_check_never never format name more) failed = failed ≡ Unknown
-FailedFor (to_explain source target permission name) failed = failed ≡ Unknown
-FailedFor (to_explain_each name) failed = failed ≡ Unknown
+FailedFor (to_explain source target permission each name) failed = failed ≡ Unknown
+FailedFor (to_explain_lines each name) failed = failed ≡ Unknown
 FailedFor (to_show_flow source target trusted name) failed = failed ≡ Unknown
 FailedFor (to_tell_entries version hex every script format name) failed = failed ≡ Unknown
 FailedFor for_help failed = (failed ≡ Unknown) ⊎ (failed ≡ No)
@@ -149,9 +149,9 @@ out_of_memory (to_check script format name more) failed width file input old new
     (new, Unknown, others.0, nothing_without_memory (ChecksIn (ChecksAs script) format (shown_name name)) Unknown name (known_text file input name) old new Unknown refl kept, others.1, is ∙ for)
 out_of_memory (to_check_never never format name more) failed width file input old new outcome for is kept =
     nothing_done (file never) (λ given. ChecksAll (ChecksIn (ChecksNever never given) format) file input name more) old new outcome (is ∙ for) kept
-out_of_memory (to_explain source target permission name) failed width file input old new outcome for is kept =
-    nothing_without_memory (AnswersQuestion (shown_name name) source target permission) Unknown name (known_text file input name) old new outcome (is ∙ for) kept
-out_of_memory (to_explain_each name) failed width file input old new outcome for is kept = inr (is ∙ for, kept)
+out_of_memory (to_explain source target permission each name) failed width file input old new outcome for is kept =
+    nothing_without_memory (AnswersQuestion each (shown_name name) source target permission) Unknown name (known_text file input name) old new outcome (is ∙ for) kept
+out_of_memory (to_explain_lines each name) failed width file input old new outcome for is kept = inr (is ∙ for, kept)
 out_of_memory (to_show_flow source target trusted name) failed width file input old new outcome for is kept =
     nothing_without_memory (AnswersFlow source target trusted) Unknown name (known_text file input name) old new outcome (is ∙ for) kept
 out_of_memory (to_tell_entries version hex every script format name) failed width file input old new outcome for is kept =
@@ -192,7 +192,7 @@ module _ (failed : Outcome) where
   failed_check (Some f) false (Some never) file more is = is
   failed_check (Some f) true (Some never) file more is = inl is
 
-  failed_why : (source target permission file : Option (List ℕ)) → failed ≡ Unknown → FailedFor (why_with source target permission file) failed
+  failed_why : (source target permission : Option (List ℕ)) (each : Bool) (file : Option (List ℕ)) → failed ≡ Unknown → FailedFor (why_with source target permission each file) failed
   failed_why None target permission file is = inl is
   failed_why (Some source) None None None is = is
   failed_why (Some source) None None (Some file) is = inl is
@@ -351,10 +351,10 @@ refused (to_check script format name more) width file input old new error failed
 refused (to_check script format name more) width file input old new error failed outcome for (inr none) fits = absurd none
 refused (to_check_never never format name more) width file input old new error failed outcome for (inl memory) fits = by_memory (to_check_never never format name more) width file input old new error failed outcome for memory fits
 refused (to_check_never never format name more) width file input old new error failed outcome for (inr none) fits = absurd none
-refused (to_explain source target permission name) width file input old new error failed outcome for (inl memory) fits = by_memory (to_explain source target permission name) width file input old new error failed outcome for memory fits
-refused (to_explain source target permission name) width file input old new error failed outcome for (inr none) fits = absurd none
-refused (to_explain_each name) width file input old new error failed outcome for (inl memory) fits = by_memory (to_explain_each name) width file input old new error failed outcome for memory fits
-refused (to_explain_each name) width file input old new error failed outcome for (inr none) fits = absurd none
+refused (to_explain source target permission each name) width file input old new error failed outcome for (inl memory) fits = by_memory (to_explain source target permission each name) width file input old new error failed outcome for memory fits
+refused (to_explain source target permission each name) width file input old new error failed outcome for (inr none) fits = absurd none
+refused (to_explain_lines each name) width file input old new error failed outcome for (inl memory) fits = by_memory (to_explain_lines each name) width file input old new error failed outcome for memory fits
+refused (to_explain_lines each name) width file input old new error failed outcome for (inr none) fits = absurd none
 refused (to_show_flow source target trusted name) width file input old new error failed outcome for (inl memory) fits = by_memory (to_show_flow source target trusted name) width file input old new error failed outcome for memory fits
 refused (to_show_flow source target trusted name) width file input old new error failed outcome for (inr none) fits = absurd none
 refused (to_tell_entries version hex every script format name) width file input old new error failed outcome for (inl memory) fits = by_memory (to_tell_entries version hex every script format name) width file input old new error failed outcome for memory fits

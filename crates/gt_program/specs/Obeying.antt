@@ -1,7 +1,7 @@
 -- The result of a command line: the output, and the exit status.
 use Rattle.std.specs.Prelude.{◌≡◌, ◌⊎◌, ℕ, List, [], ◌∷◌, Option, Some, None, Result, Ok, Err}
 use Rattle.gt_program.specs.Prelude.{Keeps, ErrorKind, DisplayHelp, DisplayVersion, OutOfMemory, Format, Mode, Request}
-use Rattle.gt_program.specs.Prelude.{to_check, to_check_never, to_explain, to_explain_each, to_explore, to_find_text}
+use Rattle.gt_program.specs.Prelude.{to_check, to_check_never, to_explain, to_explain_lines, to_explore, to_find_text}
 use Rattle.gt_program.specs.Prelude.{to_list, to_play, to_run, to_tell_entries, to_tell_rules, for_help, for_version}
 use Rattle.gt_program.specs.Prelude.{nothing, to_show_flow, mode_of, Sought, all_texts, a_claim, one_script, one_trace}
 use Rattle.gt_program.specs.Prelude.{one_diagram, all_scripts, Explored, ReadsAsRun, ExploreOptions, ExploreFormat}
@@ -157,11 +157,11 @@ Obeys (to_check script format name more) failed width file input old new outcome
 Obeys (to_check_never never format name more) failed width file input old new outcome =
     WithFile (file never) (λ given. ChecksAll (ChecksIn (ChecksNever never given) format) file input name more) old new
     outcome
-Obeys (to_explain source target permission name) failed width file input old new outcome =
-    Works (AnswersQuestion (shown_name name) source target permission) Unknown name (known_text file input name)
+Obeys (to_explain source target permission each name) failed width file input old new outcome =
+    Works (AnswersQuestion each (shown_name name) source target permission) Unknown name (known_text file input name)
     old new outcome
-Obeys (to_explain_each name) failed width file input old new outcome =
-    AnswersAboutFile name (file name) input old new outcome
+Obeys (to_explain_lines each name) failed width file input old new outcome =
+    AnswersAboutFile each name (file name) input old new outcome
 Obeys (to_show_flow source target trusted name) failed width file input old new outcome =
     Works (AnswersFlow source target trusted) Unknown name (known_text file input name) old new outcome
 Obeys (to_tell_entries version hex every script format name) failed width file input old new outcome =

@@ -2,7 +2,7 @@
 pub use Rattle.clap.specs.declared.error.kind.ErrorKind.{ErrorKind}
 pub use Rattle.clap.specs.declared.error.kind.ErrorKind.TheVariants.{DisplayHelp, DisplayVersion, OutOfMemory}
 pub use Rattle.gt_command_line.specs.Commands.{Request, for_help, for_version, nothing, to_check, to_explain, to_explore}
-pub use Rattle.gt_command_line.specs.Commands.{to_check_never, to_explain_each, to_find_text}
+pub use Rattle.gt_command_line.specs.Commands.{to_check_never, to_explain_lines, to_find_text}
 pub use Rattle.gt_command_line.specs.Commands.{mode_of, to_list, to_play, to_run, to_show_flow, to_tell_entries, to_tell_rules}
 pub use Rattle.gt_command_line.specs.Commands.{Sought, all_texts, a_claim, one_diagram, one_script, one_trace, all_scripts}
 pub use Rattle.gt_command_line.specs.declared.invocation.Mode.{Mode}

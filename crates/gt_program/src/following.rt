@@ -4,9 +4,10 @@ ghost use Rattle.gt_program.specs.Obeying.{Obeys};
 
 use crate::exploring::{explore, find_text};
 use crate::running::run_asked;
+use gt_check_command::WhyRequest;
 use gt_command_line::Invocation;
 use gt_file_commands::{
-    Context, Outcome, Reasons, TextSource, answer, answer_each, check_files, check_never_files,
+    Context, Outcome, Reasons, TextSource, answer, answer_lines, check_files, check_never_files,
     list, play, print_rules, show_entries, show_flow,
 };
 use gt_policy_check::WhyQuestion;
@@ -45,6 +46,7 @@ pub(crate) fn follow<'a, R: Threads + Wait + Sync, T: TextSource, W: Write, E: E
             source,
             target,
             permission: perm,
+            each,
             file,
         } => {
             let question = WhyQuestion {
@@ -52,9 +54,10 @@ pub(crate) fn follow<'a, R: Threads + Wait + Sync, T: TextSource, W: Write, E: E
                 target,
                 perm,
             };
-            answer(context, question, file, out, reasons)
+            let request = WhyRequest { question, each };
+            answer(context, request, file, out, reasons)
         }
-        Invocation::WhyEach { file } => answer_each(context, file, out, reasons),
+        Invocation::WhyLines { each, file } => answer_lines(context, each, file, out, reasons),
         Invocation::Flow {
             source,
             target,

@@ -98,13 +98,20 @@ static PLANS: [(&str, Invocation<'static>); 43] = [
             },
         },
     ),
-    ("gthost why a.te", Invocation::WhyEach { file: "a.te" }),
+    (
+        "gthost why a.te",
+        Invocation::WhyLines {
+            each: false,
+            file: "a.te",
+        },
+    ),
     (
         "gthost why a_t - - a.te",
         Invocation::Why {
             source: Some("a_t"),
             target: None,
             permission: None,
+            each: false,
             file: Some("a.te"),
         },
     ),
@@ -196,6 +203,7 @@ static PLANS: [(&str, Invocation<'static>); 43] = [
             source: Some("driver_t"),
             target: None,
             permission: Some("map_read"),
+            each: false,
             file: None,
         },
     ),
@@ -205,6 +213,17 @@ static PLANS: [(&str, Invocation<'static>); 43] = [
             source: None,
             target: Some("guest_t"),
             permission: Some("copy"),
+            each: false,
+            file: Some("a.te"),
+        },
+    ),
+    (
+        "gthost why --each driver_t guest copy a.te",
+        Invocation::Why {
+            source: Some("driver_t"),
+            target: Some("guest"),
+            permission: Some("copy"),
+            each: true,
             file: Some("a.te"),
         },
     ),

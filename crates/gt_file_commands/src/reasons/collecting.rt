@@ -294,7 +294,7 @@ impl<'a> Reasons<'a> {
             Invocation::Why { file, .. } => (true, named(true, *file)),
             Invocation::Flow { file, .. } => (true, named(true, *file)),
             Invocation::Entries { file, .. } => (true, named(true, *file)),
-            Invocation::WhyEach { file } => (true, Some(*file)),
+            Invocation::WhyLines { file, .. } => (true, Some(*file)),
             Invocation::Rules { .. } => (false, None),
         };
         Reasons {

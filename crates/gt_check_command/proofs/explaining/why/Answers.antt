@@ -10,4 +10,4 @@ returns-in-Ok g c =
     of_input _ c.in-Ok.input.items (λ (input : List ℕ). Explained _ _ input _ _ c.explain_bytes.result) c.in-Ok.ensures.limit c.in-Ok.ensures.text explained
 
 pub returns-in-Err : goal.returns-in-Err
-returns-in-Err g c = explained_unread c.args.file.now c.args.question.now _ _ c.in-Err.fault _ c.from.ensures
+returns-in-Err g c = explained_unread c.args.file.now c.args.request.now _ _ c.in-Err.fault _ c.from.ensures

@@ -15,7 +15,7 @@ returns-in-Check g c = for_work _ _ _ _ _ _ c.in-Check.is c.perform_check.ensure
 
 pub returns-in-Ok-why_explained : goal.returns-in-Ok-why_explained
 returns-in-Ok-why_explained g c = for_work _ _ _ _ _ _ c.in-Why.is
-    (answered_input _ (λ (input : List ℕ). Explained c.in-Why.file.now c.in-Why.question input (g.W.Write.contents c.args.out.now) (g.W.Write.contents c.why_explained.new.out)) _ _
+    (answered_input _ (λ (input : List ℕ). Explained c.in-Why.file.now c.in-Why.request input (g.W.Write.contents c.args.out.now) (g.W.Write.contents c.why_explained.new.out)) _ _
     c.of_answer.ensures c.in-Ok-why_explained.ensures)
 
 pub returns-in-Err-why_explained : goal.returns-in-Err-why_explained

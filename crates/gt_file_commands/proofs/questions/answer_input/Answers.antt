@@ -8,5 +8,5 @@ use Rattle.gt_file_commands.proofs.questions.answer_input.Goals as goal
 pub returns-in-Ok : goal.returns-in-Ok
 returns-in-Ok g c =
     let answered = rw c.as_slice.ensures.value at c.answer_bytes.ensures in
-    with_text _ (λ (asked : List ℕ). AnswersLines c.args.policy.file.now (Some c.args.policy.bytes.now) (lines asked)) c.in-Ok.bytes.items _ _ _
+    with_text _ (λ (asked : List ℕ). AnswersLines c.args.policy.each c.args.policy.file.now (Some c.args.policy.bytes.now) (lines asked)) c.in-Ok.bytes.items _ _ _
     (known_read _ _ c.in-Ok.bytes.items c.input.ensures c.in-Ok.ensures) answered

@@ -28,8 +28,8 @@ returns-in-CheckNever g c = λ failed. as_planned _ _ failed _ _ _ _ _ _ c.in-Ch
 pub returns-in-Why : goal.returns-in-Why
 returns-in-Why g c = λ failed. as_planned _ _ failed _ _ _ _ _ _ c.in-Why.is c.answer.ensures
 
-pub returns-in-WhyEach : goal.returns-in-WhyEach
-returns-in-WhyEach g c = λ failed. as_planned _ _ failed _ _ _ _ _ _ c.in-WhyEach.is c.answer_each.ensures
+pub returns-in-WhyLines : goal.returns-in-WhyLines
+returns-in-WhyLines g c = λ failed. as_planned _ _ failed _ _ _ _ _ _ c.in-WhyLines.is c.answer_lines.ensures
 
 pub returns-in-Flow : goal.returns-in-Flow
 returns-in-Flow g c = λ failed. as_planned _ _ failed _ _ _ _ _ _ c.in-Flow.is c.show_flow.ensures
