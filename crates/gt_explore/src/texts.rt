@@ -25,11 +25,10 @@ use std::cmp::Ordering;
 // so that the core of a replay takes the memory of the one before it, and no page is asked of the system again.
 const FREED_BLOCK: usize = 16 * 1024 * 1024;
 
-// Frees a block of that size. No byte of it is written.
-fn keep_freed_memory(alloc: Global) -> Result<(), AllocError> {
-    let block: Vec<u8> = Vec::with_capacity(alloc, FREED_BLOCK)?;
+// Frees a block of that size, if it can be had. No byte of it is written.
+fn keep_freed_memory(alloc: Global) {
+    let block: Result<Vec<u8>, AllocError> = Vec::with_capacity(alloc, FREED_BLOCK);
     drop(block);
-    Ok(())
 }
 
 // Compares the last of these texts with a text. If there is none, the result is `Less`.
@@ -123,7 +122,7 @@ pub fn texts_within(
     let depth = partial.depth;
     let states = partial.found.states;
     let orders = in_order(partial.found.orders)?;
-    keep_freed_memory(alloc)?;
+    keep_freed_memory(alloc);
     let texts = distinct(alloc, script, orders)?;
     Ok(FoundTexts {
         texts,

@@ -1,4 +1,4 @@
-//! Warnings about calls that are refused whatever comes before them, and about grants that permit nobody.
+//! Warnings about calls that are refused whatever comes before them, and about grants that permit no domain.
 ghost use Rattle.std.specs.Prelude.{◌≡◌, OnOk};
 ghost use Rattle.gt_policy_check.specs.Check.{error_lines};
 
@@ -12,7 +12,7 @@ use gt_text::{push_number, push_text};
 use gt_types::{CopyArgs, DOMID_SELF, DomId, End, FRAME_SIZE, GrantRef, MAX_TABLE_FRAMES};
 use std::alloc::{AllocError, Global};
 
-/// Why a call is always refused, or its grant permits nobody.
+/// Why a call is always refused, or its grant permits no domain.
 #[derive(Clone, Copy)]
 enum CallFault {
     /// The script has no domain of this number (N1).
@@ -31,8 +31,8 @@ enum CallFault {
     NoFrame(DomId, u64),
     /// A table can't have this number of frames (N23).
     TableFrames(u32),
-    /// An entry names no domain of the script, so it permits nobody.
-    ForNobody(DomId),
+    /// An entry names no domain of the script, so it permits no domain.
+    PermitsNone(DomId),
 }
 
 /// A fault of a call, and the index of its word in the line.
@@ -121,7 +121,7 @@ fn fault_of_entry(
         Entry::Via { dom, .. } => (*dom, None),
     };
     if domains.find(dom).is_none() {
-        return placed(CallFault::ForNobody(dom), 5);
+        return placed(CallFault::PermitsNone(dom), 5);
     }
     match frame {
         Some(frame) => fault_of_frame(owner, frame, 7),
@@ -197,7 +197,7 @@ fn bytes_in(hex: &[u8]) -> usize {
     hex.len() / 2
 }
 
-// Returns why a call on the table of its caller is always refused, or its grant permits nobody.
+// Returns why a call on the table of its caller is always refused, or its grant permits no domain.
 fn fault_of_owner(
     domains: &ScriptDomains,
     caller: &Configured,
@@ -223,7 +223,7 @@ fn fault_of_owner(
     }
 }
 
-// Returns why a call of this domain is always refused, or its grant permits nobody.
+// Returns why a call of this domain is always refused, or its grant permits no domain.
 fn fault_of(
     domains: &ScriptDomains,
     caller: &Configured,
@@ -257,85 +257,87 @@ fn push_three(out: &mut Vec<u8>, front: &str, number: u64, back: &str) -> Result
     push_text(out, back)
 }
 
-// Appends why a call is always refused, or its grant permits nobody.
-fn push_fault(out: &mut Vec<u8>, fault: CallFault) -> Result<(), AllocError> {
+// Appends a text, a number, a text and the number of a domain.
+fn push_of_domain(
+    out: &mut Vec<u8>,
+    front: &str,
+    number: u64,
+    middle: &str,
+    dom: DomId,
+) -> Result<(), AllocError> {
+    push_three(out, front, number, middle)?;
+    push_number(out, u64::from(dom.0))
+}
+
+// Appends the fact that a fault is.
+fn push_fact(out: &mut Vec<u8>, fault: CallFault) -> Result<(), AllocError> {
     match fault {
-        CallFault::NoDomain(dom) => {
-            push_three(
-                out,
-                "no domain ",
-                u64::from(dom.0),
-                " in this script, so this is refused with N1",
-            )
+        CallFault::NoDomain(dom) | CallFault::PermitsNone(dom) => {
+            push_three(out, "no domain ", u64::from(dom.0), " in this script")
         }
-        CallFault::Flags(flags) => {
-            push_three(
-                out,
-                "flags ",
-                u64::from(flags),
-                " are neither 2 (rw) nor 6 (ro), so this is refused with N2",
-            )
-        }
+        CallFault::Flags(flags) => push_three(
+            out,
+            "flags ",
+            u64::from(flags),
+            " are neither 2 (rw) nor 6 (ro)",
+        ),
         CallFault::Version(version) => {
-            push_three(
-                out,
-                "no version ",
-                u64::from(version),
-                " of a table, so this is refused with N2",
-            )
+            push_three(out, "no version ", u64::from(version), " of a table")
         }
         CallFault::PastEnd => {
             push_three(
                 out,
                 "these bytes end after byte ",
                 u64::from(FRAME_SIZE),
-                ", so this is refused with N3",
+                "",
             )
         }
         CallFault::OtherFrame(dom) => push_three(
             out,
             "a frame of domain ",
             u64::from(dom.0),
-            " needs a grant reference (gref), so this is refused with N4",
+            " needs a grant reference (gref)",
         ),
-        CallFault::NoReference(dom, gref) => {
-            push_three(
-                out,
-                "no grant reference ",
-                u64::from(gref.0),
-                " in the table of domain ",
-            )?;
-            push_three(out, "", u64::from(dom.0), ", so this is refused with N9")
-        }
+        CallFault::NoReference(dom, gref) => push_of_domain(
+            out,
+            "no grant reference ",
+            u64::from(gref.0),
+            " in the table of domain ",
+            dom,
+        ),
         CallFault::NoFrame(dom, frame) => {
-            push_three(out, "no frame ", frame, " of domain ")?;
-            push_three(
-                out,
-                "",
-                u64::from(dom.0),
-                ", so its use is refused with N16",
-            )
+            push_of_domain(out, "no frame ", frame, " of domain ", dom)
         }
-        CallFault::TableFrames(frames) => {
-            push_three(
-                out,
-                "a table has at most 16 frames, not ",
-                u64::from(frames),
-                ", so this is refused with N23",
-            )
-        }
-        CallFault::ForNobody(dom) => {
-            push_three(
-                out,
-                "no domain ",
-                u64::from(dom.0),
-                " in this script, so this grant permits nobody",
-            )
-        }
+        CallFault::TableFrames(frames) => push_three(
+            out,
+            "a table has at most 16 frames, not ",
+            u64::from(frames),
+            "",
+        ),
     }
 }
 
-/// Warns of the call of a line, if it is always refused, or if its grant permits nobody.
+// Returns the rule of a fault, if it is one of a call, and what follows from it. Another rule may refuse the call first.
+fn consequence(fault: CallFault) -> &'static str {
+    match fault {
+        CallFault::NoDomain(_) => " (N1), so this is always refused",
+        CallFault::Flags(_) | CallFault::Version(_) => " (N2), so this is always refused",
+        CallFault::PastEnd => " (N3), so this is always refused",
+        CallFault::OtherFrame(_) => " (N4), so this is always refused",
+        CallFault::NoReference(..) => " (N9), so this is always refused",
+        CallFault::NoFrame(..) => " (N16), so its use is always refused",
+        CallFault::TableFrames(_) => " (N23), so this is always refused",
+        CallFault::PermitsNone(_) => ", so this grant permits no domain",
+    }
+}
+
+// Appends why a call is always refused, or its grant permits no domain.
+fn push_fault(out: &mut Vec<u8>, fault: CallFault) -> Result<(), AllocError> {
+    push_fact(out, fault)?;
+    push_text(out, consequence(fault))
+}
+
+/// Warns of the call of a line, if it is always refused, or if its grant permits no domain.
 pub(crate) fn warn_call(
     alloc: Global,
     found: &mut Vec<Finding>,

@@ -19,7 +19,7 @@ pub(crate) struct ScriptDomains {
     domains: Vec<Configured>,
 }
 
-// Returns the number of a domain, if it has 16 bits.
+// Returns the number of a domain, if it has at most 16 bits.
 fn id_of(id: Number) -> Option<DomId> {
     match u16::try_from(id.below(1 << 16)?) {
         Ok(id) => Some(DomId(id)),
@@ -59,7 +59,7 @@ impl Configured {
 }
 
 impl ScriptDomains {
-    // Takes the table of this domain as one that may have the most entries.
+    // Gives this domain the largest number of entries that any table has.
     fn grow(&mut self, id: DomId) {
         for domain in self.domains.iter_mut() {
             if domain.id.0 == id.0 {
