@@ -100,8 +100,8 @@ Each line is a body that the proofs refuse: an edit of a crate, and what it woul
 $(count must-fail) of them (\`must-fail/\`), those that a definition of meaning refuses. The other $(count wrong-bodies)
 (\`wrong-bodies/\`) are tried by \`tools/wrong_bodies.sh CRATE\`, which whoever changes a crate runs for it. Those of
 \`gt_command_line\`, two of \`gt_c\`, nine of \`gt_live\`, two of \`gt_words\`, seven of \`gt_explore_moves\`, six of
-\`gt_explore_answers\`, one of \`gt_explore\`, those of \`gt_policy_pairs\`, and most of \`gt_program\` and
-\`gt_file_commands\` wait for such a run.
+\`gt_explore_answers\`, one of \`gt_explore\`, and most of \`gt_program\` and \`gt_file_commands\`
+wait for such a run.
 
 A lock round the words of an entry can't be written as an edit: taking one asks for a bound \`Wait\`, and
 no call of \`gt_words\` on words has it.
