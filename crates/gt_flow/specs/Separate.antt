@@ -1,0 +1,78 @@
+-- Separation of runs: what low domains do is what they do without the high ones, if neither looks at the other.
+use Rattle.std.specs.Prelude.{◌≡◌, Bool, false, if◌then◌else◌, List, [], ◌∷◌}
+use Rattle.gt_types.specs.declared.TypeId.{TypeId}
+use Rattle.gt_model.specs.declared.action.Step.{Step}
+use Rattle.gt_model.specs.declared.action.Step.TheVariants.{LookBody, LookControl, LookHeader}
+use Rattle.gt_model.specs.declared.action.Step.TheVariants as call_steps
+use Rattle.gt_model.specs.History.{History, Setting}
+use Rattle.gt_model.specs.Legal.{Legal, actor_of, history_after}
+use Rattle.gt_model.specs.declared.trace.Element.{Element}
+use Rattle.gt_model.specs.declared.trace.Event.{Event}
+use Rattle.gt_model.specs.declared.trace.ItemEvent.{ItemEvent}
+use Rattle.gt_model.specs.declared.trace.ItemEvent.TheVariants.{Began, Stepped}
+use Rattle.gt_flow.specs.Apart.{CopiesApart, LowDomainsKeep, StaysApart}
+use Rattle.gt_flow.specs.Low.{NamesKnown, is_high}
+use Rattle.gt_flow.specs.Purged.{SameElements, SameEvents}
+
+-- the step is no look at a table of a high domain, and no pin on an entry of one
+abbrev pub IsAtLow : Setting → (TypeId → Bool) → Step → Type 0
+IsAtLow s high (LookHeader dom) = is_high s high dom ≡ false
+IsAtLow s high (LookControl dom gref) = is_high s high dom ≡ false
+IsAtLow s high (LookBody dom gref body_word) = is_high s high dom ≡ false
+IsAtLow s high (call_steps.Pin p) = is_high s high p.dom ≡ false
+IsAtLow s high step = Unit {0}
+
+-- the same of an event of a call: a beginning looks at no table but the caller's
+abbrev pub HappensAtLow : Setting → (TypeId → Bool) → ItemEvent → Type 0
+HappensAtLow s high (Began request) = Unit {0}
+HappensAtLow s high (Stepped step seen) = IsAtLow s high step
+
+-- up to now no low domain looked at a table of a high one, nor took a pin there
+unfoldable pub LooksApart : Setting → (TypeId → Bool) → History → Type 0
+LooksApart s high [] = Unit {0}
+LooksApart s high (i ∷ before) =
+    (is_high s high i.actor ≡ false → HappensAtLow s high i.happened) × LooksApart s high before
+
+-- the events of low domains
+abbrev pub low_events : Setting → (TypeId → Bool) → List Event → List Event
+low_events s high [] = []
+low_events s high (e ∷ es) =
+    if is_high s high (actor_of e) then low_events s high es else e ∷ low_events s high es
+
+-- what the events of low domains did
+abbrev pub low_elements : Setting → (TypeId → Bool) → List Event → List Element → List Element
+low_elements s high (e ∷ es) (x ∷ xs) =
+    if is_high s high (actor_of e) then low_elements s high es xs else x ∷ low_elements s high es xs
+low_elements s high _ _ = []
+
+-- Separation, for whole runs. In a legal trace no low domain shared with a high one, and none looked at a table of one.
+-- Then the events of low domains alone, with what they did, are a legal trace too: with the same steps, answers, bytes
+-- and handles. After it each word, table and frame of low domains is the same. So high domains are as if they were not
+-- there.
+abbrev pub LowPartsAreLegal : Type 0
+LowPartsAreLegal =
+    (s : Setting) (high : TypeId → Bool) (es : List Event) (xs : List Element)
+    → Legal s es xs → StaysApart s high (history_after [] xs) → LooksApart s high (history_after [] xs)
+    → Legal s (low_events s high es) (low_elements s high es xs)
+    × LowDomainsKeep s high (history_after [] xs) (history_after [] (low_elements s high es xs))
+
+-- up to now no open copy of a high domain had an end at an entry of a low one
+unfoldable pub CopiesStayApart : Setting → (TypeId → Bool) → History → Type 0
+CopiesStayApart s high [] = CopiesApart s high []
+CopiesStayApart s high (i ∷ before) = CopiesApart s high (i ∷ before) × CopiesStayApart s high before
+
+-- Separation, for two runs. The events of low domains are the same in two legal traces: all calls of high domains may be
+-- made or not, at any time. In the first trace no low domain shared with a high one, and none looked at a table of one;
+-- in the second no copy of a high domain named an entry of a low one. Then what the events of low domains did is the
+-- same, answers and bytes included, and so is each word, table and frame of low domains. Keys of handles may differ.
+abbrev pub HighCallsMakeNoDifference : Type 0
+HighCallsMakeNoDifference =
+    (s : Setting) (high : TypeId → Bool) (es fs : List Event) (xs ys : List Element)
+    → Legal s es xs → Legal s fs ys
+    → NamesKnown [] (low_events s high es) (low_elements s high es xs)
+    → NamesKnown [] (low_events s high fs) (low_elements s high fs ys)
+    → SameEvents (low_events s high es) (low_events s high fs)
+    → StaysApart s high (history_after [] xs) → LooksApart s high (history_after [] xs)
+    → CopiesStayApart s high (history_after [] ys)
+    → SameElements (low_elements s high es xs) (low_elements s high fs ys)
+    × LowDomainsKeep s high (history_after [] xs) (history_after [] ys)
