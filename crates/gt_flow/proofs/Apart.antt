@@ -1,5 +1,5 @@
 -- Items of high domains leave what low domains have, if no low domain shares with a high one.
-use Rattle.std.proofs.Common.{◌≡◌, ◌⊎◌, inl, inr, ℕ, ◌+◌, ◌<◌, refl, Bool, true, false, cond, ◌&&◌, ◌==◌, not, List, []}
+use Rattle.std.proofs.Common.{◌≡◌, ◌⊎◌, inl, inr, ℕ, ◌+◌, refl, Bool, true, false, cond, ◌&&◌, ◌==◌, not, List, []}
 use Rattle.std.proofs.Common.{◌∷◌, ◌++◌, map, length, Option, Some, None, All, Any, count_by, ap, sym, subst, ◌∙◌}
 use Rattle.std.proofs.Common.{if◌then◌else◌, arith, eqb-true}
 use Rattle.std.proofs.lemmas.Bool.{true≢false}
@@ -21,12 +21,12 @@ use Rattle.gt_types.specs.declared.places.Spot.{Spot}
 use Rattle.gt_model.proofs.Observers.{all-without, other-body, other-entry, other-raises, other-table}
 use Rattle.gt_model.specs.FirstRule.{LegNow, after_source, copy_now, dest_now, from_source, leg_at, leg_now}
 use Rattle.gt_model.specs.FirstRule.{second_now, source_now, toward_dest, toward_source}
-use Rattle.gt_model.specs.History.{History, Pin, Setting, Underway, WriteMade, body_at, by_leg, contents_at, entry_at}
+use Rattle.gt_model.specs.History.{History, Pin, Setting, Underway, WriteMade, body_at, by_leg, entry_at}
 use Rattle.gt_model.specs.History.{gather, holder_after, same_dir, table_at}
 use Rattle.gt_model.specs.History.{generation_at, given_in, is_holder, is_pin_on, known_at, legs_at, live, open_call}
 use Rattle.gt_model.specs.History.{patches_at, patches_by, pinned_by, raises_at, reads_at, unpinned_by, without, word_at}
 use Rattle.gt_model.specs.History.{writes_at, written_by}
-use Rattle.gt_model.specs.Justified.{AccessIsJustified, CopyIsJustified, EndIsJustified, MayAccess, Reaches}
+use Rattle.gt_model.specs.Justified.{CopyIsJustified, EndIsJustified, MayAccess, Reaches}
 use Rattle.gt_model.specs.Legal.{IsLegalHistory, IsRight, NoneStands, StepsRightIn}
 use Rattle.gt_model.specs.Rules.{CallerKnowledge, first, first_look, stands}
 use Rattle.gt_model.specs.Spelling.{control_with}
@@ -34,7 +34,6 @@ use Rattle.gt_model.specs.Words.{control_word}
 use Rattle.gt_model.specs.Written.{Patch, written}
 use Rattle.gt_model.specs.declared.action.Observation.{Observation}
 use Rattle.gt_model.specs.declared.action.Observation.TheVariants.{Taken}
-use Rattle.gt_model.specs.declared.action.Step.{Step}
 use Rattle.gt_model.specs.declared.action.Step.TheVariants as call_steps
 use Rattle.gt_model.specs.declared.change.BodyWord.{BodyWord}
 use Rattle.gt_model.specs.declared.entry.Entry.{Entry}
@@ -49,7 +48,7 @@ use Rattle.gt_model.specs.declared.request.PinHolder.{PinHolder}
 use Rattle.gt_model.specs.declared.trace.Answer.{Answer}
 use Rattle.gt_model.specs.declared.trace.Item.{Item}
 use Rattle.gt_model.specs.declared.trace.ItemEvent.{ItemEvent}
-use Rattle.gt_model.specs.declared.trace.ItemEvent.TheVariants.{Began, Stepped}
+use Rattle.gt_model.specs.declared.trace.ItemEvent.TheVariants.{Stepped}
 use Rattle.gt_flow.specs.Apart.{CallCopiesHigh, CopiesApart, CopiesHigh, EndsAreHigh, LowDomainsKeep, NamesLow}
 use Rattle.gt_flow.specs.Apart.{SharesNothing, StaysApart, TakesOrReleasesPin}
 use Rattle.gt_flow.specs.Low.{is_high}

@@ -1,15 +1,14 @@
 -- Two runs whose low domains have the same events: these did the same, whatever high domains did.
-use Rattle.gt_core.proofs.Words.{◌≡◌, ◌≢◌, ◌⊎◌, inl, inr, ℕ, refl, Bool, true, false, List, [], ◌∷◌, Option, Some, None}
+use Rattle.gt_core.proofs.Words.{◌≡◌, ◌≢◌, inr, ℕ, refl, Bool, true, false, List, [], ◌∷◌, Option, Some, None}
 use Rattle.gt_core.proofs.Words.{cond, map, ap, sym, ◌∙◌, subst, option_map, DomId, TypeId, domain_of, Observation}
 use Rattle.gt_core.proofs.Words.{CallerKnowledge, Step, Unpin, path, History, Setting, Underway, values, entry_at}
 use Rattle.gt_core.proofs.Words.{open_call, known_at, seen_by, body_at, table_at, word_at, contents_at, keyless_items, MayDo, IsRight, StepsRightIn}
 use Rattle.gt_core.proofs.Words.{LegalAfter, grown, history_after, AreAlike, IsRun, keyless_item, KeylessItem}
-use Rattle.gt_core.proofs.Words.{bare_event, bare_happened, bare_step, SameElement, Entry, BodyWord, Header}
+use Rattle.gt_core.proofs.Words.{bare_event, bare_happened, bare_step, SameElement}
 use Rattle.gt_core.proofs.AlikeRuns.{alike-grows, bare_action, does, does-alike, does-bare, doing, element_told}
 use Rattle.gt_core.proofs.Pins.{word-bare}
-use Rattle.gt_core.proofs.WithoutKeys.{bare, bare-same, bared, contents-bare}
+use Rattle.gt_core.proofs.WithoutKeys.{bare-same, bared, contents-bare}
 use Rattle.gt_model.specs.Legal.{Legal, actor_of}
-use Rattle.gt_model.specs.declared.action.Action.{Action}
 use Rattle.gt_model.specs.declared.action.Action.TheVariants as actions
 use Rattle.gt_model.specs.declared.request.PinHolder.TheVariants as holders
 use Rattle.gt_model.specs.declared.trace.Answer.{Answer}
@@ -28,7 +27,7 @@ use Rattle.gt_flow.specs.Separate.{CopiesStayApart, HappensAtLow, IsAtLow, Looks
 use Rattle.gt_flow.proofs.Apart.{now-apart}
 use Rattle.gt_flow.proofs.Separate.{AtLow, IsLowPart, high-event, keeps, known-low, looks-before, looks-now, low-event}
 use Rattle.gt_flow.proofs.Separate.{contents-low, nothing-yet, stays-before, word-low}
-use Rattle.gt_flow.proofs.Steps.{step_told, stepped_told, tick_told, within, within-some}
+use Rattle.gt_flow.proofs.Steps.{step_told, stepped_told, tick_told, within-some}
 
 cons_parts : {A : Type 0} (x y : A) (xs ys : List A) → x ∷ xs ≡ y ∷ ys → (x ≡ y) × (xs ≡ ys)
 cons_parts x y xs ys e = (cc, cc)
@@ -60,7 +59,7 @@ module _ (s : Setting) (high : TypeId → Bool) where
   clean-looks h (elements.Item i) clean = clean.1
   clean-looks h x clean = tt
 
-  shares-part : (p g : History) → ((t : DomId) (r : ℕ) → Lo t → entry_at p t.0 r ≡ entry_at g t.0 r)
+  pub shares-part : (p g : History) → ((t : DomId) (r : ℕ) → Lo t → entry_at p t.0 r ≡ entry_at g t.0 r)
       → SharesNothing s high g → SharesNothing s high p
   shares-part p g same shares t r low = subst (NamesLow s high) (sym (same t r low)) (shares t r low)
 
@@ -108,7 +107,7 @@ module _ (s : Setting) (high : TypeId → Bool) where
 
   -- ---- the step of a low domain is the same in both
 
-  bare-at : (z y : Step) → bare_step z ≡ bare_step y → IsAtLow s high z → IsAtLow s high y
+  pub bare-at : (z y : Step) → bare_step z ≡ bare_step y → IsAtLow s high z → IsAtLow s high y
   bare-at z y same at = there y (subst (IsAtLow s high) same (here z at))
     where
       here : (z : Step) → IsAtLow s high z → IsAtLow s high (bare_step z)
@@ -140,7 +139,7 @@ module _ (s : Setting) (high : TypeId → Bool) where
   told-at NoDomain t z v told is at = absurd (let e = told in cc)
 
   -- what a step does next, by the low part
-  step-at : (p h : History) (d : DomId) (z : Step) (v : Observation) (a : Option Answer) (c : Option Underway)
+  pub step-at : (p h : History) (d : DomId) (z : Step) (v : Observation) (a : Option Answer) (c : Option Underway)
       → known_at s h d ≡ known_at s p d
       → StepsRightIn s h (record { actor = d; happened = Stepped z v; answer = a }) z v c
       → (t : KeylessItem) × (w : Observation) × (tick_told s p d c ≡ inr t) × (t.happened ≡ Stepped (bare_step z) w)

@@ -1,12 +1,12 @@
 -- The part of a run that low domains make is a run, if no low domain shares with a high one or looks at its tables.
-use Rattle.gt_core.proofs.Words.{◌≡◌, ◌≢◌, ◌⊎◌, inl, inr, ◌+◌, ◌<◌, ℕ, refl, Bool, true, false, List, [], ◌∷◌, ◌++◌}
+use Rattle.gt_core.proofs.Words.{◌≡◌, inl, inr, ◌+◌, ◌<◌, ℕ, refl, Bool, true, false, List, [], ◌∷◌, ◌++◌}
 use Rattle.gt_core.proofs.Words.{Option, Some, None, cond, ap, sym, ◌∙◌, subst, ◌==◌, ◌&&◌, length, count_by, gather}
 use Rattle.gt_core.proofs.Words.{by_leg, map, take, drop, reverse, mapping_named, true≢false, not, All, Any}
-use Rattle.gt_core.proofs.Words.{All-head, All-tail, All-nil, append-nil, eqb-true, none-some}
+use Rattle.gt_core.proofs.Words.{All-head, All-tail, All-nil, append-nil, eqb-true}
 use Rattle.gt_core.proofs.Words.{DomId, TypeId, Dir, Entry, Header, EntryChange, BodyWord, Denial, asked, begun_of}
-use Rattle.gt_core.proofs.Words.{CallerKnowledge, Request, OpenRequest, Map, Load, Store, Peek, Poke, Copy, SetupTable}
+use Rattle.gt_core.proofs.Words.{CallerKnowledge, OpenRequest, Map, Load, Store, Peek, Copy, SetupTable}
 use Rattle.gt_core.proofs.Words.{QuerySize, GetVersion, Word, Taken, Step, LookHeader, LookControl, LookBody, StoreHeader}
-use Rattle.gt_core.proofs.Words.{Exchange, Unpin, Read, Write, Control, HeldPin, Observation, StepsSoFar, path, domain_of}
+use Rattle.gt_core.proofs.Words.{Exchange, Unpin, Read, Write, Control, HeldPin, Observation, StepsSoFar, path}
 use Rattle.gt_core.proofs.Words.{History, Setting, Underway, Pin, entry_at, changed_entry_of, change_of, raises_at}
 use Rattle.gt_core.proofs.Words.{raise_after, body_at, or_else, stored_at, table_at, header_or, header_stored}
 use Rattle.gt_core.proofs.Words.{header_word, open_call, underway_after, maps_answered_at, one_if_mapped, live, without}
@@ -14,7 +14,7 @@ use Rattle.gt_core.proofs.Words.{is_holder, holder_after, is_pin_on, pinned_by, 
 use Rattle.gt_core.proofs.Words.{reads_at, writes_at, control_at, mappings_at, mapping_of, legs_at, exchange_sees}
 use Rattle.gt_core.proofs.Words.{given_in, values, stood, stood_with, first_at, first_in_call, first_of_item, leg_at}
 use Rattle.gt_core.proofs.Words.{LegNow, leg_now, refusal_in, contents_at, patches_at, patches_by, written_by, written}
-use Rattle.gt_core.proofs.Words.{Patch, Spot, IsRight, StepsRight, StepsRightIn, BeginsRight, AnsweredBy, GivesValue}
+use Rattle.gt_core.proofs.Words.{Patch, Spot, IsRight, StepsRightIn, AnsweredBy, GivesValue}
 use Rattle.gt_core.proofs.Words.{Justified, MayAsk, MayUseMapping, EndIsJustified, CopyIsJustified, Reaches, Forwards}
 use Rattle.gt_core.proofs.Words.{IsSafe, IsSafeChange, PinIsSound, NoneStands, IsSpelled, gives_back, verdict_in}
 use Rattle.gt_core.proofs.Words.{CallResult, MayDo, LegalAfter, grown, history_after, SpellsItsEntry, MAX_TABLE_FRAMES}
@@ -23,11 +23,11 @@ use Rattle.gt_core.proofs.AgreementKept.{open_call-other, stood-other}
 use Rattle.gt_core.specs.Prelude.{GrantRef, Rule, N9, N18, N19, denial_of, size_of, stands, first, first_look}
 use Rattle.gt_core.specs.Prelude.{before_pin, pins_of, MAX_TRIES, StoreBody, Publish, resolved, is_source_granted}
 use Rattle.gt_core.specs.Prelude.{is_dest_granted}
-use Rattle.gt_model.proofs.Observers.{all-without, known-as, other-body, other-entry, other-maps, other-raises, other-table, stepped}
+use Rattle.gt_model.proofs.Observers.{all-without, known-as, other-body, other-entry, other-maps, other-raises, other-table}
 use Rattle.gt_model.specs.FirstRule.{at_entry, is_demote, is_in_body, is_other, looked_at, misses, rule_at_exchange}
 use Rattle.gt_model.specs.FirstRule.{rule_at_header, rule_at_look, rule_at_pin, rule_at_via}
 use Rattle.gt_model.specs.Justified.{MayAccess, ReachesThrough}
-use Rattle.gt_model.specs.Legal.{IsLegalHistory, Legal, actor_of}
+use Rattle.gt_model.specs.Legal.{Legal, actor_of}
 use Rattle.gt_model.specs.declared.action.Step.TheVariants as call_steps
 use Rattle.gt_model.specs.declared.change.BodyWord.TheVariants as body_words
 use Rattle.gt_model.specs.declared.change.EntryChange.TheVariants as changes
@@ -53,7 +53,7 @@ use Rattle.gt_flow.specs.Separate.{HappensAtLow, IsAtLow, LooksApart, low_elemen
 use Rattle.gt_flow.proofs.Apart.{IsAmong, IsApart, access-of, count-one, end-of, frame-kept, now-apart, other-number}
 use Rattle.gt_flow.proofs.Apart.{pinned-apart, same-domain, skipped}
 use Rattle.gt_flow.proofs.Purged.{and-true}
-use Rattle.gt_flow.proofs.Frames.{hides, patch-same}
+use Rattle.gt_flow.proofs.Frames.{hides}
 use Rattle.gt_flow.proofs.Matched.{four}
 
 -- an element that passes a test is among those that do
@@ -206,7 +206,7 @@ module _ (s : Setting) (high : TypeId → Bool) where
   pinned-aside h d (Stepped (call_steps.Pin p) Taken) a ps at = All-cons IsAside _ [] at (All-nil IsAside)
   pinned-aside h d x a ps at = All-nil IsAside
 
-  all-unpinned : (P : Pin → Type 0) (d : DomId) (x : ItemEvent) (ps : List Pin) → All P ps → All P (unpinned_by d x ps)
+  pub all-unpinned : (P : Pin → Type 0) (d : DomId) (x : ItemEvent) (ps : List Pin) → All P ps → All P (unpinned_by d x ps)
   all-unpinned P d (Stepped (Unpin p holder) seen) ps all = all-without P d.0 holder ps all
   all-unpinned P d x ps all = all
 
