@@ -24,7 +24,8 @@ use Rattle.gt_model.specs.FirstRule.{second_now, source_now, toward_dest, toward
 use Rattle.gt_model.specs.History.{History, Pin, Setting, Underway, WriteMade, body_at, by_leg, entry_at}
 use Rattle.gt_model.specs.History.{gather, holder_after, same_dir, table_at}
 use Rattle.gt_model.specs.History.{generation_at, given_in, is_holder, is_pin_on, known_at, legs_at, live, open_call}
-use Rattle.gt_model.specs.History.{patches_at, patches_by, pinned_by, raises_at, reads_at, unpinned_by, without, word_at}
+use Rattle.gt_model.specs.History.{patches_at, patches_by, pinned_by, raises_at, reads_at, unpinned_by, without}
+use Rattle.gt_model.specs.History.{word_at}
 use Rattle.gt_model.specs.History.{writes_at, written_by}
 use Rattle.gt_model.specs.Justified.{CopyIsJustified, EndIsJustified, MayAccess, Reaches}
 use Rattle.gt_model.specs.Legal.{IsLegalHistory, IsRight, NoneStands, StepsRightIn}

@@ -1,14 +1,16 @@
 -- Low domains whose calls name no high domain look at tables of low ones only.
 use Rattle.gt_core.proofs.Words.{◌≡◌, ◌≢◌, ◌⊎◌, inl, inr, ℕ, refl, Bool, true, false, List, [], ◌∷◌, ◌++◌, Option}
 use Rattle.gt_core.proofs.Words.{Some, None, cond, ap, sym, ◌∙◌, subst, ◌==◌, option_map, reverse, All, All-head}
-use Rattle.gt_core.proofs.Words.{All-tail, All-nil, All-cons, eqb-true, none-some, same_Some, true≢false, gather, by_leg}
+use Rattle.gt_core.proofs.Words.{All-tail, All-nil, All-cons, eqb-true, none-some, same_Some, true≢false, gather}
+use Rattle.gt_core.proofs.Words.{by_leg}
 use Rattle.gt_core.proofs.Words.{DomId, TypeId, Entry, HeldPin, Pin, PinHolder, asked, Request, OpenRequest}
 use Rattle.gt_core.proofs.Words.{Step, Unpin, LookHeader, LookControl, LookBody}
 use Rattle.gt_core.proofs.Words.{Observation, Taken, Read, Write, Action, CallerKnowledge, path, CallResult}
 use Rattle.gt_core.proofs.Words.{next_to_give, length, arith}
 use Rattle.gt_core.proofs.Words.{History, Setting, setting_of, Underway, open_call, known_at, live, values}
 use Rattle.gt_core.proofs.Words.{pinned_by, unpinned_by, domain_of, MayDo, IsRight, LegalAfter, grown, history_after}
-use Rattle.gt_core.proofs.Words.{AreAlike, KeylessItem, bare_step, Leg, PinPurpose, Mapping, Source, Dest, Phase, Storing}
+use Rattle.gt_core.proofs.Words.{AreAlike, KeylessItem, bare_step, Leg, PinPurpose, Mapping, Source, Dest, Phase}
+use Rattle.gt_core.proofs.Words.{Storing}
 use Rattle.gt_core.proofs.Words.{StoringSecond, Exchanging, Looking, Changing, Walking, Accessing, Asking, Last, Ending}
 use Rattle.gt_core.proofs.Words.{IsLegFor, action_at, held_in, last_first, numbered, pins_so_far, OpenAgrees}
 use Rattle.gt_core.proofs.Words.{CallAgrees, StateAgrees, State, state_of, DomainsStand, CoreStands, CoreState}
@@ -315,7 +317,7 @@ module _ (s : Setting) (high : TypeId → Bool) where
       by (Some c) here =
           let o = opened g core.domains d c st.domains named here in
           let at = open-low g d o.0 c low
-              (asking c (open_call p d.0) (calls ∙ ap (option_map bare_call) here) asks) (names-alike p g alike all) o.1 in
+          (asking c (open_call p d.0) (calls ∙ ap (option_map bare_call) here) asks) (names-alike p g alike all) o.1 in
           stepped o.0 o.1.follows at
         where
           stepped : (o : OpenCall) → path (known_at s g d) d c.request (values c) ≡ Some (actions.Step o.step)
@@ -323,9 +325,9 @@ module _ (s : Setting) (high : TypeId → Bool) where
           stepped o way at =
               let there : tick_told s g d (Some c) ≡ inr t = sym (ap (tick_told s g d) here) ∙ same in
               let made : stepped_told s g d c (Some (actions.Step (bare_step o.step))) ≡ inr t =
-                  sym (ap (λ (a : Option Action). stepped_told s g d c (option_map bare_action a)) way) ∙ there in
+              sym (ap (λ (a : Option Action). stepped_told s g d c (option_map bare_action a)) way) ∙ there in
               let one : Stepped (bare_step o.step) (seen_by s g d (bare_step o.step)) ≡ Stepped (bare_step z) w =
-                  ap (λ (k : KeylessItem). k.happened) (same-told _ t made) ∙ is in
+              ap (λ (k : KeylessItem). k.happened) (same-told _ t made) ∙ is in
               let e : bare_step o.step ≡ bare_step z = cc in
               bare-at s high o.step z e at
 
@@ -395,12 +397,12 @@ module _ (s : Setting) (high : TypeId → Bool) where
   goes-on p e Idle goes shares at may known asks = goes
   goes-on p (Begin d q) (elements.Item i) goes shares at may known asks =
       let b = begun-goes p d q i i.happened refl may.1.1 may.1.0 known asks in
-      item-goes p i goes shares at (subst (λ (k : DomId). domain_of s.domains k ≢ None) (sym may.1.0) may.0) may.2 b.0 b.1
-      b.2
+      item-goes p i goes shares at (subst (λ (k : DomId). domain_of s.domains k ≢ None) (sym may.1.0) may.0) may.2
+      b.0 b.1 b.2
   goes-on p (Tick d) (elements.Item i) goes shares at may known asks =
       let b = ticked-goes p d i.happened i.answer i.actor may in
-      item-goes p i goes shares at (subst (λ (k : DomId). domain_of s.domains k ≢ None) (sym may.1.0) may.0) may.2 b.0 b.1
-      b.2
+      item-goes p i goes shares at (subst (λ (k : DomId). domain_of s.domains k ≢ None) (sym may.1.0) may.0) may.2
+      b.0 b.1 b.2
 
   begins-head : (e : Event) (es : List Event) → BeginLow s high (e ∷ es) → BeginsLow e × BeginLow s high es
   begins-head (Begin d q) es begin = begin

@@ -2,7 +2,8 @@
 use Rattle.gt_core.proofs.Words.{◌≡◌, ◌≢◌, inr, ℕ, refl, Bool, true, false, List, [], ◌∷◌, Option, Some, None}
 use Rattle.gt_core.proofs.Words.{cond, map, ap, sym, ◌∙◌, subst, option_map, DomId, TypeId, domain_of, Observation}
 use Rattle.gt_core.proofs.Words.{CallerKnowledge, Step, Unpin, path, History, Setting, Underway, values, entry_at}
-use Rattle.gt_core.proofs.Words.{open_call, known_at, seen_by, body_at, table_at, word_at, contents_at, keyless_items, MayDo, IsRight, StepsRightIn}
+use Rattle.gt_core.proofs.Words.{open_call, known_at, seen_by, body_at, table_at, word_at, contents_at}
+use Rattle.gt_core.proofs.Words.{keyless_items, MayDo, IsRight, StepsRightIn}
 use Rattle.gt_core.proofs.Words.{LegalAfter, grown, history_after, AreAlike, IsRun, keyless_item, KeylessItem}
 use Rattle.gt_core.proofs.Words.{bare_event, bare_happened, bare_step, SameElement}
 use Rattle.gt_core.proofs.AlikeRuns.{alike-grows, bare_action, does, does-alike, does-bare, doing, element_told}
@@ -102,7 +103,7 @@ module _ (s : Setting) (high : TypeId → Bool) where
           let next = low-event s high p g e x m now.0 now.1 low at legal.0 in
           let then = (now-apart s high (grown g x) (stays-before s high (grown g x) xs stays)).0 in
           let after = rest (grown p x) next.1
-              (clean-grows p x clean (shares-part (grown p x) (grown g x) next.1.entry then) at) in
+          (clean-grows p x clean (shares-part (grown p x) (grown g x) next.1.entry then) at) in
           ((next.0, after.0), after.1, after.2)
 
   -- ---- the step of a low domain is the same in both
@@ -145,11 +146,15 @@ module _ (s : Setting) (high : TypeId → Bool) where
       → (t : KeylessItem) × (w : Observation) × (tick_told s p d c ≡ inr t) × (t.happened ≡ Stepped (bare_step z) w)
   step-at p h d z v a None known right = absurd right
   step-at p h d z v a (Some c) known right =
-      let way : option_map bare_action (path (known_at s p d) d c.request (values c)) ≡ Some (actions.Step (bare_step z)) =
-          ap (option_map bare_action)
-          (ap (λ (k : CallerKnowledge). path k d c.request (values c)) (sym known) ∙ right.continues) in
-      (step_told s p d c.request (values c) (bare_step z), seen_by s p d (bare_step z),
-      ap (stepped_told s p d c) way, refl)
+      let way : option_map bare_action (path (known_at s p d) d c.request (values c))
+      ≡ Some (actions.Step (bare_step z)) =
+      ap (option_map bare_action)
+      (ap (λ (k : CallerKnowledge). path k d c.request (values c)) (sym known) ∙ right.continues) in (
+        step_told s p d c.request (values c) (bare_step z),
+        seen_by s p d (bare_step z),
+        ap (stepped_told s p d c) way,
+        refl,
+      )
 
   item-at : (q p h : History) (d : DomId) (x : Element) (z : Step) (v : Observation) (a : Option Answer)
       → AreAlike s q p → IsLowPart s high p h → Lo d → MayDo s q (Tick d) x → AtLow s high x
@@ -158,11 +163,11 @@ module _ (s : Setting) (high : TypeId → Bool) where
   item-at q p h d x z v a alike m low may at named right =
       let next = step-at p h d z v a (open_call h d.0) (sym (known-low s high p h m d low)) right in
       let told : element_told x ≡ inr next.0 =
-          does s q (Tick d) x may ∙ sym (does-bare s q (Tick d) alike.first tt)
-          ∙ ap (λ (l : History). doing s l (Tick d)) (bare-same q p alike.same)
-          ∙ does-bare s p (Tick d) alike.second tt
-          ∙ within-some (domain_of s.domains d) (tick_told s p d (open_call p d.0)) named
-          ∙ ap (tick_told s p d) (m.calls d low) ∙ next.2 in
+      does s q (Tick d) x may ∙ sym (does-bare s q (Tick d) alike.first tt)
+      ∙ ap (λ (l : History). doing s l (Tick d)) (bare-same q p alike.same)
+      ∙ does-bare s p (Tick d) alike.second tt
+      ∙ within-some (domain_of s.domains d) (tick_told s p d (open_call p d.0)) named
+      ∙ ap (tick_told s p d) (m.calls d low) ∙ next.2 in
       told-at x next.0 z next.1 told next.3 at
 
   -- the same of the element of an event
@@ -216,8 +221,8 @@ module _ (s : Setting) (high : TypeId → Bool) where
   together q p h es xs (f ∷ fs) [] alike m legal clean known other names copies same = absurd other
   together q p h es xs (f ∷ fs) (y ∷ ys) alike m legal clean known other names copies same =
       by (is_high s high (actor_of f)) refl es xs legal clean known names same
-      (λ one two ds ws like part lawful tidy kin call match. together one two (grown h y) ds ws fs ys like part lawful tidy
-      kin other.1 call copies match)
+      (λ one two ds ws like part lawful tidy kin call match.
+      together one two (grown h y) ds ws fs ys like part lawful tidy kin other.1 call copies match)
     where
       copied : CopiesApart s high h
       copied = copies-now h (copies-before h (y ∷ ys) copies)
@@ -252,14 +257,14 @@ module _ (s : Setting) (high : TypeId → Bool) where
           clean known names same
       by false low (e ∷ es) (x ∷ xs) legal clean known names same rest =
           let events = cons_parts (bare_event e) (bare_event f) (map bare_event es)
-              (map bare_event (low_events s high fs)) same in
+          (map bare_event (low_events s high fs)) same in
           let before = clean-before (grown q x) xs clean in
           let at = other-at q p h e f x y alike m events.0 low legal.0 (clean-looks q x before) other.0 in
           let next = low-event s high p h f y m (shared (clean-before q (x ∷ xs) clean)) copied low at other.0 in
           let here : SameElement x y = does-alike s q p e f x y alike events.0 known.0 names.0 legal.0 next.0 in
           let after = rest (grown q x) (grown p y) es xs
-              (alike-grows s q p e f x y alike known.0 names.0 legal.0 next.0 here) next.1 legal.1 clean known.1 names.1
-              events.1 in
+          (alike-grows s q p e f x y alike known.0 names.0 legal.0 next.0 here) next.1 legal.1 clean known.1 names.1
+          events.1 in
           ((here, after.0), after.1, after.2)
       by false low [] xs legal clean known names same rest = absurd (let e = same in cc)
       by false low (e ∷ es) [] legal clean known names same rest = absurd legal
@@ -299,7 +304,9 @@ module _ (s : Setting) (high : TypeId → Bool) where
       let starts = clean-starts (now-apart s high [] (stays-before s high [] xs stays)).0 in
       let part = part-clean [] [] es xs (nothing-yet s high) starts legal stays looks in
       let both = together [] [] [] (low_events s high es) (low_elements s high es xs) fs ys starts-alike
-          (nothing-yet s high) part.0 part.1 known other names copies same in
-      (both.0, all-keep (history_after [] xs) (history_after [] (low_elements s high es xs))
-          (history_after [] (low_elements s high fs ys)) (history_after [] ys)
-          (keeps s high (history_after [] (low_elements s high es xs)) (history_after [] xs) part.2) both.1 both.2)
+      (nothing-yet s high) part.0 part.1 known other names copies same in (
+        both.0,
+        all-keep (history_after [] xs) (history_after [] (low_elements s high es xs))
+            (history_after [] (low_elements s high fs ys)) (history_after [] ys)
+            (keeps s high (history_after [] (low_elements s high es xs)) (history_after [] xs) part.2) both.1 both.2,
+      )

@@ -5,7 +5,8 @@ use Rattle.gt_core.proofs.Words.{by_leg, map, take, drop, reverse, mapping_named
 use Rattle.gt_core.proofs.Words.{All-head, All-tail, All-nil, append-nil, eqb-true}
 use Rattle.gt_core.proofs.Words.{DomId, TypeId, Dir, Entry, Header, EntryChange, BodyWord, Denial, asked, begun_of}
 use Rattle.gt_core.proofs.Words.{CallerKnowledge, OpenRequest, Map, Load, Store, Peek, Copy, SetupTable}
-use Rattle.gt_core.proofs.Words.{QuerySize, GetVersion, Word, Taken, Step, LookHeader, LookControl, LookBody, StoreHeader}
+use Rattle.gt_core.proofs.Words.{QuerySize, GetVersion, Word, Taken, Step, LookHeader, LookControl, LookBody}
+use Rattle.gt_core.proofs.Words.{StoreHeader}
 use Rattle.gt_core.proofs.Words.{Exchange, Unpin, Read, Write, Control, HeldPin, Observation, StepsSoFar, path}
 use Rattle.gt_core.proofs.Words.{History, Setting, Underway, Pin, entry_at, changed_entry_of, change_of, raises_at}
 use Rattle.gt_core.proofs.Words.{raise_after, body_at, or_else, stored_at, table_at, header_or, header_stored}
@@ -23,7 +24,8 @@ use Rattle.gt_core.proofs.AgreementKept.{open_call-other, stood-other}
 use Rattle.gt_core.specs.Prelude.{GrantRef, Rule, N9, N18, N19, denial_of, size_of, stands, first, first_look}
 use Rattle.gt_core.specs.Prelude.{before_pin, pins_of, MAX_TRIES, StoreBody, Publish, resolved, is_source_granted}
 use Rattle.gt_core.specs.Prelude.{is_dest_granted}
-use Rattle.gt_model.proofs.Observers.{all-without, known-as, other-body, other-entry, other-maps, other-raises, other-table}
+use Rattle.gt_model.proofs.Observers.{all-without, known-as, other-body, other-entry, other-maps}
+use Rattle.gt_model.proofs.Observers.{other-raises, other-table}
 use Rattle.gt_model.specs.FirstRule.{at_entry, is_demote, is_in_body, is_other, looked_at, misses, rule_at_exchange}
 use Rattle.gt_model.specs.FirstRule.{rule_at_header, rule_at_look, rule_at_pin, rule_at_via}
 use Rattle.gt_model.specs.Justified.{MayAccess, ReachesThrough}
@@ -160,7 +162,8 @@ module _ (s : Setting) (high : TypeId → Bool) where
       by ((p.actor == d.0) && is_holder p.holder holder) refl (without-high d holder ps up)
     where
       by : (c : Bool) → ((p.actor == d.0) && is_holder p.holder holder) ≡ c
-          → low_pins (without d.0 holder ps) ≡ low_pins ps → low_pins (cond c ps (p ∷ without d.0 holder ps)) ≡ low_pins (p ∷ ps)
+          → low_pins (without d.0 holder ps) ≡ low_pins ps
+          → low_pins (cond c ps (p ∷ without d.0 holder ps)) ≡ low_pins (p ∷ ps)
       by true own rest = sym (left-pin p ps (same-number d p.actor
           (eqb-true p.actor d.0 ((and-true (p.actor == d.0) (is_holder p.holder holder) own).0)) up))
       by false own rest = ap (λ (l : List Pin). cond (is_low_pin p) (p ∷ l) l) rest
@@ -206,10 +209,10 @@ module _ (s : Setting) (high : TypeId → Bool) where
   pinned-aside h d (Stepped (call_steps.Pin p) Taken) a ps at = All-cons IsAside _ [] at (All-nil IsAside)
   pinned-aside h d x a ps at = All-nil IsAside
 
-  pub all-unpinned : (P : Pin → Type 0) (d : DomId) (x : ItemEvent) (ps : List Pin) → All P ps → All P (unpinned_by d x ps)
+  pub all-unpinned : (P : Pin → Type 0) (d : DomId) (x : ItemEvent) (ps : List Pin) → All P ps
+      → All P (unpinned_by d x ps)
   all-unpinned P d (Stepped (Unpin p holder) seen) ps all = all-without P d.0 holder ps all
   all-unpinned P d x ps all = all
-
 
 -- Two histories, of which the first has the part of the second that low domains made. What low domains have is the same
 -- after both, and no pin is between a low domain and a high one.
@@ -394,12 +397,16 @@ module _ (s : Setting) (high : TypeId → Bool) (p g : History) (m : IsLowPart s
   copy-low d r from to len low x = absurd x
 
   justified-low : (d : DomId) (r : OpenRequest) (step : Step) → Low d → Justified s g d r step → Justified s p d r step
-  justified-low d r (call_steps.Read dom frame off len) low x =
-      (x.0, may-access d Read (record { frame = record { owner = dom; number = frame }; off = off }) len low x.1,
-      may-ask d r low x.2)
-  justified-low d r (call_steps.Write dom frame off len) low x =
-      (x.0, may-access d Write (record { frame = record { owner = dom; number = frame }; off = off }) len low x.1,
-      may-ask d r low x.2)
+  justified-low d r (call_steps.Read dom frame off len) low x = (
+    x.0,
+    may-access d Read (record { frame = record { owner = dom; number = frame }; off = off }) len low x.1,
+    may-ask d r low x.2,
+  )
+  justified-low d r (call_steps.Write dom frame off len) low x = (
+    x.0,
+    may-access d Write (record { frame = record { owner = dom; number = frame }; off = off }) len low x.1,
+    may-ask d r low x.2,
+  )
   justified-low d r (call_steps.Copy from to len) low x = copy-low d r from to len low x
   justified-low d r (Unpin q (holders.Mapping handle)) low x = x
   justified-low d r step low x = tt
@@ -465,7 +472,8 @@ module _ (s : Setting) (high : TypeId → Bool) (p g : History) (m : IsLowPart s
       v ∙ ap (λ (bytes : List ℕ). take n (drop o bytes)) (sym (contents-low t f at))
   value-low d (Peek frame off len) (Some (call_steps.Read t f o n)) (answers.Bytes x) low at v =
       v ∙ ap (λ (bytes : List ℕ). take n (drop o bytes)) (sym (contents-low t f at))
-  value-low d (SetupTable frames) None a low at v = v ∙ ap (λ (x : Header). answers.Frames x.frames) (sym (m.table d low))
+  value-low d (SetupTable frames) None a low at v =
+      v ∙ ap (λ (x : Header). answers.Frames x.frames) (sym (m.table d low))
   value-low d (SetupTable frames) (Some (StoreHeader version stored)) a low at v = v
   value-low d (QuerySize dom) (Some (LookHeader t)) a low at v =
       v ∙ ap (λ (x : Header). answers.Size (record { frames = x.frames; max = MAX_TABLE_FRAMES })) (sym (m.table t at))
@@ -490,7 +498,8 @@ module _ (s : Setting) (high : TypeId → Bool) (p g : History) (m : IsLowPart s
   reads-at-low : (d : DomId) (r : OpenRequest) (z : Step) → Low d → IsAtLow s high z → Justified s g d r z
       → ReadsLow (Some z)
   reads-at-low d r (call_steps.Read t f o n) low at just =
-      access-of s high false g d Read (record { frame = record { owner = t; number = f }; off = o }) n low m.aside just.1
+      access-of s high false g d Read (record { frame = record { owner = t; number = f }; off = o }) n low m.aside
+      just.1
   reads-at-low d r (LookHeader t) low at just = at
   reads-at-low d r z low at just = tt
 
@@ -575,13 +584,17 @@ module _ (s : Setting) (high : TypeId → Bool) (p g : History) (m : IsLowPart s
       raises = λ t r is. ap (λ (n : ℕ). n + raise_after (change_of i t.0 r)) (m.raises t r is);
       body = λ t r which is. ap (λ (n : ℕ). or_else (cond (d.0 == t.0) (stored_at i.happened r which) None) n)
           (m.body t r which is);
-      table = λ t is. ap (λ (z : Header). header_or (cond (d.0 == t.0) (header_stored i.happened) None) z) (m.table t is);
+      table = λ t is. ap (λ (z : Header). header_or (cond (d.0 == t.0) (header_stored i.happened) None) z)
+          (m.table t is);
       maps = λ t is. ap (λ (n : ℕ). cond (d.0 == t.0) (one_if_mapped i.answer) 0 + n) (m.maps t is);
       calls = λ t is. ap (λ (o : Option Underway). cond (d.0 == t.0) (underway_after i o) o) (m.calls t is);
-      ruled = λ t is. ap (λ (o : Option Denial). cond (d.0 == t.0) (stood_with i.happened (stood s p t.0) o) (stood s p t.0))
+      ruled = λ t is. ap (λ (o : Option Denial). cond (d.0 == t.0) (stood_with i.happened (stood s p t.0) o)
+          (stood s p t.0))
           (first-of i low at)
-          ∙ ap (λ (o : Option Denial). cond (d.0 == t.0) (stood_with i.happened o (first_of_item s g i)) o) (m.ruled t is);
-      patches = λ t f is. ap (λ (ps : List Patch). patches_at p t.0 f ++ ps) (same-writes i.happened i.answer t f is right)
+          ∙ ap (λ (o : Option Denial). cond (d.0 == t.0) (stood_with i.happened o (first_of_item s g i)) o)
+          (m.ruled t is);
+      patches = λ t f is. ap (λ (ps : List Patch). patches_at p t.0 f ++ ps)
+          (same-writes i.happened i.answer t f is right)
           ∙ ap (λ (ps : List Patch). ps ++ patches_by (written_by i.happened (given_in (open_call g d.0))
           (λ u k. written (patches_at g u k))) t.0 f) (m.patches t f is);
       pins = ap (λ (ps : List Pin). unpinned_by d i.happened ps ++ pinned_by d i.happened i.answer p ps) m.pins
@@ -593,7 +606,8 @@ module _ (s : Setting) (high : TypeId → Bool) (p g : History) (m : IsLowPart s
           (pinned_by d i.happened i.answer g (live g)));
       apart = apart;
       aside = All-append (IsAmong s high false) (unpinned_by d i.happened (live g))
-          (pinned_by d i.happened i.answer g (live g)) (all-unpinned s high (IsAmong s high false) d i.happened (live g) m.aside)
+          (pinned_by d i.happened i.answer g (live g))
+          (all-unpinned s high (IsAmong s high false) d i.happened (live g) m.aside)
           (pinned-aside s high g d i.happened i.answer (live g) (λ is. at));
     }
 
@@ -620,7 +634,8 @@ module _ (s : Setting) (high : TypeId → Bool) where
   high-grows p g i m up right apart = record {
     entry = λ t r low. m.entry t r low ∙ sym (other-entry i g t.0 r (other-number s high i.actor t up low));
     raises = λ t r low. m.raises t r low ∙ sym (other-raises i g t.0 r (other-number s high i.actor t up low));
-    body = λ t r which low. m.body t r which low ∙ sym (other-body i g t.0 r which (other-number s high i.actor t up low));
+    body = λ t r which low.
+        m.body t r which low ∙ sym (other-body i g t.0 r which (other-number s high i.actor t up low));
     table = λ t low. m.table t low ∙ sym (other-table s i g t (other-number s high i.actor t up low));
     maps = λ d low. m.maps d low ∙ sym (other-maps i g d.0 (other-number s high i.actor d up low));
     calls = λ d low. m.calls d low ∙ sym (open_call-other i g d.0 (other-number s high i.actor d up low));
@@ -700,7 +715,8 @@ module _ (s : Setting) (high : TypeId → Bool) where
   looks-before h (elements.Item i ∷ xs) looks = (looks-before (i ∷ h) xs looks).1
   looks-before h (x ∷ xs) looks = looks-before h xs looks
 
-  pub looks-now : (g : History) (e : Event) (x : Element) → Lo (actor_of e) → MayDo s g e x → LooksApart s high (grown g x)
+  pub looks-now : (g : History) (e : Event) (x : Element) → Lo (actor_of e) → MayDo s g e x
+      → LooksApart s high (grown g x)
       → AtLow x
   unfolding LooksApart
   looks-now g (Begin d q) (elements.Item i) low may looks = looks.0 (subst Lo (sym may.1.0) low)
@@ -732,7 +748,7 @@ module _ (s : Setting) (high : TypeId → Bool) where
       by true up rest = rest p (high-event p g e x m now.0 now.1 up legal.0)
       by false low rest =
           let next = low-event p g e x m now.0 now.1 low
-              (looks-now g e x low legal.0 (looks-before (grown g x) xs looks)) legal.0 in
+          (looks-now g e x low legal.0 (looks-before (grown g x) xs looks)) legal.0 in
           let after = rest (grown p x) next.1 in
           ((next.0, after.0), after.1)
 

@@ -82,18 +82,20 @@ AsksLow s high d (QuerySize dom) = is_high s high (resolved d dom) ≡ false
 AsksLow s high d (GetVersion dom) = is_high s high (resolved d dom) ≡ false
 AsksLow s high d request = Unit {0}
 
--- each of the events begins only such a call; the numbers of an entry that it grants fit their types, as in each value of
--- the program
+-- each of the events begins only such a call; the numbers of an entry that it grants fit their types, as in each value
+-- of the program
 abbrev pub BeginLow : Setting → (TypeId → Bool) → List Event → Type 0
 BeginLow s high [] = Unit {0}
-BeginLow s high (Begin d request ∷ es) = (AsksLow s high d (asked request) × FitsAsked (asked request)) × BeginLow s high es
+BeginLow s high (Begin d request ∷ es) =
+    (AsksLow s high d (asked request) × FitsAsked (asked request)) × BeginLow s high es
 BeginLow s high (Tick d ∷ es) = BeginLow s high es
 
--- Low domains that name no high ones do not look at them: not by the second entry behind a Via either, since no low entry
--- names a high domain.
+-- Low domains that name no high ones do not look at their tables: not by the second entry behind a Via either, since no
+-- low entry names a high domain.
 abbrev pub LowCallsLookLow : Type 0
 LowCallsLookLow =
-    (config : Config) (may : TypeId → TypeId → Perms → Bool) (high : TypeId → Bool) (es : List Event) (xs : List Element)
+    (config : Config) (may : TypeId → TypeId → Perms → Bool) (high : TypeId → Bool)
+    (es : List Event) (xs : List Element)
     → let s = setting_of config may in IsWithinLimits config → Legal s es xs
     → BeginLow s high (low_events s high es) → NamesKnown [] (low_events s high es) (low_elements s high es xs)
     → StaysApart s high (history_after [] xs) → LooksApart s high (history_after [] xs)
@@ -103,10 +105,11 @@ unfoldable pub CopiesStayApart : Setting → (TypeId → Bool) → History → T
 CopiesStayApart s high [] = CopiesApart s high []
 CopiesStayApart s high (i ∷ before) = CopiesApart s high (i ∷ before) × CopiesStayApart s high before
 
--- Separation, for two runs. The events of low domains are the same in two legal traces: all calls of high domains may be
--- made or not, at any time. In the first trace no low domain shared with a high one, and none looked at a table of one;
--- in the second no copy of a high domain named an entry of a low one. Then what the events of low domains did is the
--- same, answers and bytes included, and so is each word, table and frame of low domains. Keys of handles may differ.
+-- Separation, for two runs. The events of low domains are the same in two legal traces: all calls of high domains may
+-- be made or not, at any time. In the first trace no low domain shared with a high one, and none looked at a table of
+-- one; in the second no copy of a high domain named an entry of a low one. Then what the events of low domains did is
+-- the same, answers and bytes included, and so is each word, table and frame of low domains. Keys of handles may
+-- differ.
 abbrev pub HighCallsMakeNoDifference : Type 0
 HighCallsMakeNoDifference =
     (s : Setting) (high : TypeId → Bool) (es fs : List Event) (xs ys : List Element)
@@ -119,8 +122,8 @@ HighCallsMakeNoDifference =
     → SameElements (low_elements s high es xs) (low_elements s high fs ys)
     × LowDomainsKeep s high (history_after [] xs) (history_after [] ys)
 
--- The same by what low domains name: no entry and no call of a low domain names a high one, and no copy of a high domain
--- an entry of a low one. So a guest with which nobody shares is as if it were not there.
+-- The same by what low domains name: no entry and no call of a low domain names a high one, and no copy of a high
+-- domain an entry of a low one. So a guest with which nobody shares is as if it were not there.
 abbrev pub UnsharedDomainsMakeNoDifference : Type 0
 UnsharedDomainsMakeNoDifference =
     (config : Config) (may : TypeId → TypeId → Perms → Bool) (high : TypeId → Bool)
