@@ -1,9 +1,7 @@
 -- A domain that prints its list in an order, with N26 and gates, prints the changed list in the order done again.
-use Rattle.std.proofs.Common.{◌≡◌, ◌≢◌, ◌⊎◌, inl, inr, ℕ, suc, ◌<◌, Bool, true, false, cond, List, [], ◌∷◌, ◌++◌, map}
-use Rattle.std.proofs.Common.{length, Option, Some, None, refl, ap, sym, ◌∙◌, subst, append_assoc, append-nil, arith}
-use Rattle.std.proofs.Common.{slice_index_or}
+use Rattle.std.proofs.Common.{◌≡◌, ◌≢◌, ◌⊎◌, inl, inr, ℕ, suc, Bool, true, false, cond, List, [], ◌∷◌, ◌++◌}
+use Rattle.std.proofs.Common.{Option, None, refl, ap, sym, ◌∙◌, subst, append_assoc, arith}
 use Rattle.std.specs.Prelude.{◌==◌, All}
-use Rattle.std.specs.List.{AllPairs}
 use Rattle.std.proofs.lemmas.Bool.{eq-eqb}
 use Rattle.std.proofs.lemmas.List.Elements.{All-from_recursion, All-head, All-tail, recursion_from_All}
 use Rattle.gt_core.proofs.Words.{eqb-true}
@@ -35,13 +33,13 @@ use Rattle.gt_explore_replay.specs.Orders.{ActionHappens, CallHappens, Happening
 use Rattle.gt_explore_replay.specs.Orders.{given_up, held_after, own_happenings, passed, raised, trace_in}
 use Rattle.gt_explore_replay.specs.Walking.{HaveOwnIds}
 use Rattle.gt_run.specs.Serving.{AwaitsRefusedFlag, gate_line}
-use Rattle.gt_linearization.specs.Printed.{AllPrint, GetsNoMemory, IsAllocating, PrintsList, ReleasesMappings, Starves}
+use Rattle.gt_linearization.specs.Printed.{AllPrint, GetsNoMemory, IsAllocating, IsRunOf, PrintsList}
+use Rattle.gt_linearization.specs.Printed.{ReleasesMappings, Starves}
 use Rattle.gt_linearization.specs.Printed.{StopsAtGate, no_memory_answer}
 use Rattle.gt_flow.specs.Low.{is_high}
-use Rattle.gt_flow.specs.OtherBytes.{unread}
 use Rattle.gt_flow.proofs.OtherBytes.{each-has-others}
-use Rattle.gt_flow_runs.specs.Secrets.{IsListEnd, SameAction, SameAnswers, SamePrintedForLow, SamePrintedLines, SameTasks}
-use Rattle.gt_flow_runs.specs.Secrets.{RunTextsHaveOthers, lines_of_answers}
+use Rattle.gt_flow_runs.specs.Secrets.{IsListEnd, SameAction, SamePrintedForLow, SamePrintedLines, SameTasks}
+use Rattle.gt_flow_runs.specs.Secrets.{RunTextsHaveOthers, SameButHigh, lines_of_answers}
 use Rattle.gt_flow_runs.proofs.Redone.{IsRedone, done-again, redone_events, redone_request, same-passed, with_action}
 use Rattle.gt_flow_runs.proofs.Redone.{with_stored}
 use Rattle.gt_flow_runs.proofs.Followed.{Asks, IsOwn, SameAnswer, SameCall, SameList, asks-redone, await-same, back-too}
@@ -91,12 +89,13 @@ copy-redone true (t ∷ ts) q is = by t.run_action
     by (Await flag) = refl
 copy-redone false ts q is = refl
 
-starves-so : (dom : DomId) (q : Request) (Rest : List Happening → Type 0) (hs : List Happening) → IsAllocating q → Rest hs
-    → Starves dom q Rest hs
+starves-so : (dom : DomId) (q : Request) (Rest : List Happening → Type 0) (hs : List Happening) → IsAllocating q
+    → Rest hs → Starves dom q Rest hs
 starves-so dom (requests.Copy c) Rest hs is rest = absurd is
 starves-so dom q Rest hs is rest = (is, rest)
 
-module _ (s : Setting) (high : TypeId → Bool) (refuses : ℕ → Bool) (types : List (List ℕ)) (dom : DomId) (b : Bool) where
+module _ (s : Setting) (high : TypeId → Bool) (refuses : ℕ → Bool) (types : List (List ℕ)) (dom : DomId)
+    (b : Bool) where
   abbrev Lines : List ℕ → List ℕ → Type 0
   Lines one other = SamePrintedLines b types dom one other
 
@@ -170,10 +169,14 @@ module _ (s : Setting) (high : TypeId → Bool) (refuses : ℕ → Bool) (types 
       by (did f y ∷ ks) own = absurd own
       by (passed k other ∷ ks) own = absurd own
       by (raised k other ∷ ks) own =
-          let (new, prints, lines) = again ks own.1 in
-          (new, inl (subst (λ (z : RunAction). ActionHappens types dom named held line z (Next us) (raised k other ∷ ks) new)
-          (tell-same s high b flag u.run_action same)
-          (ks, ap (λ (z : Happening). z ∷ ks) (sym own.0), prints)), lines)
+          let (new, prints, lines) = again ks own.1 in (
+            new,
+            inl (subst (λ (z : RunAction).
+                ActionHappens types dom named held line z (Next us) (raised k other ∷ ks) new)
+                (tell-same s high b flag u.run_action same)
+                (ks, ap (λ (z : Happening). z ∷ ks) (sym own.0), prints)),
+            lines,
+          )
 
   await-again : (flag line : ℕ) (u : RunTask) (us : List RunTask) (named : List Named) (held : List Handle)
       (hs more : List Happening) (text : List ℕ) → SameAction b (Await flag) u.run_action
@@ -187,10 +190,14 @@ module _ (s : Setting) (high : TypeId → Bool) (refuses : ℕ → Bool) (types 
       by (did f y ∷ ks) own = absurd own
       by (raised k other ∷ ks) own = absurd own
       by (passed k other ∷ ks) own =
-          let (new, prints, lines) = again ks own.1 in
-          (new, inl (subst (λ (z : RunAction). ActionHappens types dom named held line z (Next us) (passed k other ∷ ks) new)
-          (await-same s high b flag u.run_action same)
-          (ks, ap (λ (z : Happening). z ∷ ks) (sym own.0), prints)), lines)
+          let (new, prints, lines) = again ks own.1 in (
+            new,
+            inl (subst (λ (z : RunAction).
+                ActionHappens types dom named held line z (Next us) (passed k other ∷ ks) new)
+                (await-same s high b flag u.run_action same)
+                (ks, ap (λ (z : Happening). z ∷ ks) (sym own.0), prints)),
+            lines,
+          )
 
   -- a call, whose answer and rest are these
   the-call : (q : Request) (u : RunTask) (served : List RunTask) (New : Answer → List Happening → Type 0)
@@ -222,19 +229,20 @@ module _ (s : Setting) (high : TypeId → Bool) (refuses : ℕ → Bool) (types 
           × Lines text new
       answered other asks c less so rest =
           let names : with_name named dom (label_given call) (handle_given a)
-                  ≡ with_name named dom (label_given other) (handle_given c) =
-              ap (λ (l : Option (List ℕ)). with_name named dom l (handle_given a)) (sym asks.labels)
-              ∙ ap (with_name named dom (label_given other)) (same-given s high b a c so) in
+          ≡ with_name named dom (label_given other) (handle_given c) =
+          ap (λ (l : Option (List ℕ)). with_name named dom l (handle_given a)) (sym asks.labels)
+          ∙ ap (with_name named dom (label_given other)) (same-given s high b a c so) in
           let holds : held_after held (given_up q) a ≡ held_after held (given_up r) c =
-              ap (λ (o : Option Handle). held_after held o a) (sym asks.gives)
-              ∙ same-held s high b held (given_up r) a c so in
+          ap (λ (o : Option Handle). held_after held o a) (sym asks.gives)
+          ∙ same-held s high b held (given_up r) a c so in
           let (new, prints, lines) = again less rest in (
             answer_line types line dom c ++ new,
             (
               new,
               refl,
               subst (λ (n : List Named). Next us n (held_after held (given_up r) c) less new) names
-                  (subst (λ (h : List Handle). Next us (with_name named dom (label_given call) (handle_given a)) h less new)
+                  (subst (λ (h : List Handle).
+                  Next us (with_name named dom (label_given call) (handle_given a)) h less new)
                   holds prints),
             ),
             same-more line a c text tail new so told lines,
@@ -246,13 +254,17 @@ module _ (s : Setting) (high : TypeId → Bool) (refuses : ℕ → Bool) (types 
       by ks own (other, is, same-call) =
           let asks = asks-redone s high b u served named dom q call other is same-call makes in
           let P : List ℕ → Answer → List Happening → Type 0 = λ new c less. Prints (answer_line types line dom c)
-              (Next us (with_name named dom (label_given other) (handle_given c)) (held_after held (given_up r) c) less)
-              new in
-          let made = the-call q u served (λ c less. (new : List ℕ) × P new c less × Lines text new) hs ks more a happens own
-              (answered other asks) in
-          let (new, call-again, lines) = pull s high types dom b r P (Lines text) ks made in
-          (new, inl (subst (λ (z : RunAction). ActionHappens types dom named held line z (Next us) ks new) (sym is)
-          (r, asks.makes, call-again)), lines)
+          (Next us (with_name named dom (label_given other) (handle_given c)) (held_after held (given_up r) c) less)
+          new in
+          let made = the-call q u served (λ c less. (new : List ℕ) × P new c less × Lines text new) hs ks more a happens
+          own
+          (answered other asks) in
+          let (new, call-again, lines) = pull s high types dom b r P (Lines text) ks made in (
+            new,
+            inl (subst (λ (z : RunAction). ActionHappens types dom named held line z (Next us) ks new) (sym is)
+                (r, asks.makes, call-again)),
+            lines,
+          )
 
   -- a copy that got no memory: its probe happened
   probe-again : (call : ScriptCall) (line : ℕ) (u : RunTask) (us : List RunTask) (named : List Named)
@@ -271,27 +283,31 @@ module _ (s : Setting) (high : TypeId → Bool) (refuses : ℕ → Bool) (types 
       by ks own (other, is, same-call) =
           let asks = asks-redone s high b u served named dom (requests.Copy c) call other is same-call makes in
           let asked : MakesRequest named dom other (requests.Copy c) =
-              subst (MakesRequest named dom other) (copy-redone b (u ∷ served) (requests.Copy c) tt) asks.makes in
+          subst (MakesRequest named dom other) (copy-redone b (u ∷ served) (requests.Copy c) tt) asks.makes in
           let P : List ℕ → Answer → List Happening → Type 0 = λ new z less. (z ≡ answers.Done)
-              × Prints (answer_line types line dom no_memory_answer) (Next us named held less) new in
-          let made = the-call (requests.Probe c) u served (λ z less. (new : List ℕ) × P new z less × Lines text new) hs ks
-              more answers.Done happens own (λ z less so rest. let (new, prints, lines) = again less rest in (
-                answer_line types line dom no_memory_answer ++ new,
-                (done-same z so, (new, refl, prints)),
-                same-more line no_memory_answer no_memory_answer text tail new (same-answer no_memory_answer) told lines,
-              )) in
+          × Prints (answer_line types line dom no_memory_answer) (Next us named held less) new in
+          let made = the-call (requests.Probe c) u served (λ z less. (new : List ℕ) × P new z less × Lines text new) hs
+          ks
+          more answers.Done happens own (λ z less so rest. let (new, prints, lines) = again less rest in (
+            answer_line types line dom no_memory_answer ++ new,
+            (done-same z so, (new, refl, prints)),
+            same-more line no_memory_answer no_memory_answer text tail new (same-answer no_memory_answer) told lines,
+          )) in
           let (new, call-again, lines) =
-              pull s high types dom b (redone_request b (u ∷ served) (requests.Probe c)) P (Lines text) ks made in
+          pull s high types dom b (redone_request b (u ∷ served) (requests.Probe c)) P (Lines text) ks made in
           let probed : CallHappens dom (requests.Probe c) (P new) ks =
-              subst (λ (z : Request). CallHappens dom z (P new) ks) (copy-redone b (u ∷ served) (requests.Probe c) tt)
-              call-again in
-          (new, inr (inl (subst (λ (z : RunAction). GetsNoMemory types dom named held line z (Next us) ks new) (sym is)
-          (requests.Copy c, asked, probed))), lines)
+          subst (λ (z : Request). CallHappens dom z (P new) ks) (copy-redone b (u ∷ served) (requests.Probe c) tt)
+          call-again in (
+            new,
+            inr (inl (subst (λ (z : RunAction). GetsNoMemory types dom named held line z (Next us) ks new) (sym is)
+                (requests.Copy c, asked, probed))),
+            lines,
+          )
 
   -- any other call that got no memory: nothing happened
   starved-again : (call : ScriptCall) (line : ℕ) (u : RunTask) (us : List RunTask) (named : List Named)
-      (held : List Handle) (hs : List Happening) (text tail : List ℕ) (q : Request) → SameAction b (Do call) u.run_action
-      → MakesRequest named dom call q → IsAllocating q
+      (held : List Handle) (hs : List Happening) (text tail : List ℕ) (q : Request)
+      → SameAction b (Do call) u.run_action → MakesRequest named dom call q → IsAllocating q
       → text ≡ answer_line types line dom no_memory_answer ++ tail → Again us named held hs tail
       → LineAgain named held u us line hs text
   starved-again call line u us named held hs text tail q same makes allocates told (served, again) =
@@ -306,11 +322,13 @@ module _ (s : Setting) (high : TypeId → Bool) (refuses : ℕ → Bool) (types 
           let (new, prints, lines) = again ks own in
           let whole = answer_line types line dom no_memory_answer ++ new in
           let starves = starves-so dom r
-              (λ more. Prints (answer_line types line dom no_memory_answer) (Next us named held more) whole) ks
-              (alloc-redone b (u ∷ []) q allocates) (new, refl, prints) in
-          (whole, inr (inl (subst (λ (z : RunAction). GetsNoMemory types dom named held line z (Next us) ks whole) (sym is)
-          (r, asks.makes, starves))),
-          same-more line no_memory_answer no_memory_answer text tail new (same-answer no_memory_answer) told lines)
+          (λ more. Prints (answer_line types line dom no_memory_answer) (Next us named held more) whole) ks
+          (alloc-redone b (u ∷ []) q allocates) (new, refl, prints) in (
+            whole,
+            inr (inl (subst (λ (z : RunAction). GetsNoMemory types dom named held line z (Next us) ks whole) (sym is)
+                (r, asks.makes, starves))),
+            same-more line no_memory_answer no_memory_answer text tail new (same-answer no_memory_answer) told lines,
+          )
 
   gate-again : (run_action : RunAction) (line : ℕ) (u : RunTask) (us : List RunTask) (named : List Named)
       (held : List Handle) (hs : List Happening) (text : List ℕ) → SameAction b run_action u.run_action
@@ -319,15 +337,18 @@ module _ (s : Setting) (high : TypeId → Bool) (refuses : ℕ → Bool) (types 
   unfolding AwaitsRefusedFlag
   gate-again (Do call) line u us named held hs text same awaits releases is = absurd awaits
   gate-again (Tell flag) line u us named held hs text same awaits releases is = absurd awaits
-  gate-again (Await flag) line u us named held hs text same awaits (order, gives) is = ([], λ ks own. (
-    text,
-    inr (inr (
-      subst (AwaitsRefusedFlag refuses) (await-same s high b flag u.run_action same) awaits,
-      (order, back-too s high b dom order held hs ks gives own),
-      is,
-    )),
-    same-ended text (inr (line, is)),
-  ))
+  gate-again (Await flag) line u us named held hs text same awaits (order, gives) is = (
+    [],
+    λ ks own. (
+      text,
+      inr (inr (
+        subst (AwaitsRefusedFlag refuses) (await-same s high b flag u.run_action same) awaits,
+        (order, back-too s high b dom order held hs ks gives own),
+        is,
+      )),
+      same-ended text (inr (line, is)),
+    ),
+  )
 
   -- ---- a list
 
@@ -345,10 +366,12 @@ module _ (s : Setting) (high : TypeId → Bool) (refuses : ℕ → Bool) (types 
           → IsAllocating q → Prints (answer_line types t.line dom no_memory_answer) (Then named held hs) text
           → LineAgain named held u us t.line hs text
       other call q same makes allocates (tail, told, next) =
-          starved-again call t.line u us named held hs text tail q same makes allocates told (rest named held hs tail next)
+          starved-again call t.line u us named held hs text tail q same makes allocates told
+          (rest named held hs tail next)
 
       starve : (call : ScriptCall) (q : Request) → SameAction b (Do call) u.run_action → MakesRequest named dom call q
-          → Starves dom q (λ more. Prints (answer_line types t.line dom no_memory_answer) (Then named held more) text) hs
+          → Starves dom q
+          (λ more. Prints (answer_line types t.line dom no_memory_answer) (Then named held more) text) hs
           → LineAgain named held u us t.line hs text
       starve call (requests.Copy c) same makes (first, trace, a, more, is, ends, (done, (tail, told, next))) =
           probe-again call t.line u us named held hs more text tail c same makes
@@ -365,8 +388,9 @@ module _ (s : Setting) (high : TypeId → Bool) (refuses : ℕ → Bool) (types 
       by (Await flag) same (inl (more, is, next)) =
           await-again flag t.line u us named held hs more text same is (rest named held more text next)
       by (Do call) same (inl (q, makes, (first, trace, a, more, is, ends, (tail, told, next)))) =
-          do-again call t.line u us named held hs more text tail q a same makes (first, trace, a, more, is, ends, (refl, refl))
-          told (rest (with_name named dom (label_given call) (handle_given a)) (held_after held (given_up q) a) more tail next)
+          do-again call t.line u us named held hs more text tail q a same makes
+          (first, trace, a, more, is, ends, (refl, refl)) told
+          (rest (with_name named dom (label_given call) (handle_given a)) (held_after held (given_up q) a) more tail next)
       by (Do call) same (inr (inl (q, makes, starves))) = starve call q same makes starves
       by (Tell flag) same (inr (inl none)) = absurd none
       by (Await flag) same (inr (inl none)) = absurd none
@@ -376,17 +400,22 @@ module _ (s : Setting) (high : TypeId → Bool) (refuses : ℕ → Bool) (types 
   pub prints-again : (ts us : List RunTask) (named : List Named) (held : List Handle) (hs : List Happening)
       (text : List ℕ) → SameList s high types dom b ts us → PrintsList refuses types dom named held ts hs text
       → Again us named held hs text
-  prints-again [] [] named held hs text same ((order, gives), is) = ([], λ ks own. (
-    text,
-    ((order, back-too s high b dom order held hs ks gives own), is),
-    same-ended text (inl is),
-  ))
+  prints-again [] [] named held hs text same ((order, gives), is) = (
+    [],
+    λ ks own. (
+      text,
+      ((order, back-too s high b dom order held hs ks gives own), is),
+      same-ended text (inl is),
+    ),
+  )
   prints-again (t ∷ ts) (u ∷ us) named held hs text same prints =
       let (served, again) = line-again t u us named held hs text
-          (λ names holds more rest. PrintsList refuses types dom names holds ts more rest) same.1 prints
-          (λ n h more tail next. prints-again ts us n h more tail same.2 next) in
-      (served, λ ks own. let (new, line, lines) = again ks own in
-      (new, subst (λ (n : ℕ). Line named held u us n ks new) same.0 line, lines))
+      (λ names holds more rest. PrintsList refuses types dom names holds ts more rest) same.1 prints
+      (λ n h more tail next. prints-again ts us n h more tail same.2 next) in (
+        served,
+        λ ks own. let (new, line, lines) = again ks own in
+            (new, subst (λ (n : ℕ). Line named held u us n ks new) same.0 line, lines),
+      )
   prints-again [] (u ∷ us) named held hs text same prints = absurd same
   prints-again (t ∷ ts) [] named held hs text same prints = absurd same
 
@@ -395,7 +424,8 @@ module _ (s : Setting) (high : TypeId → Bool) where
   abbrev AllOwn : (ℕ → List RunTask) → List Happening → List Happening → List DomainConfig → Type 0
   AllOwn l hs ks [] = Unit {0}
   AllOwn l hs ks (d ∷ ds) =
-      IsOwn s high (is_high s high d.id) (l d.id.0) (own_happenings d.id hs) (own_happenings d.id ks) × AllOwn l hs ks ds
+      IsOwn s high (is_high s high d.id) (l d.id.0) (own_happenings d.id hs) (own_happenings d.id ks)
+      × AllOwn l hs ks ds
 
   all-own : (l : ℕ → List RunTask) (hs ks : List Happening) → IsRedone s high l hs ks → (ds : List DomainConfig)
       → AllOwn l hs ks ds
@@ -437,43 +467,54 @@ module _ (s : Setting) (high : TypeId → Bool) where
   all-again refuses types one other hs (d ∷ ds) text same mine theirs apart (part, (rest, is, more), prints) =
       let (l, again) = all-again refuses types one other hs ds rest same mine theirs (tail-apart d ds apart) more in
       let (served, first) = prints-again s high refuses types d.id (is_high s high d.id) (list_of one.tasks d.id)
-          (list_of other.tasks d.id) [] [] (own_happenings d.id hs) part
-          (same-lists s high types d.id one.tasks other.tasks same)
-          (subst (λ (t : List (List ℕ)). PrintsList refuses t d.id [] [] (list_of one.tasks d.id) (own_happenings d.id hs)
-          part) (sym mine) prints) in
-      ((λ n. cond (n == d.id.0) served (l n)), λ ks own.
-      let (new, printed, lines) = first (own_happenings d.id ks) (subst (λ (c : Bool). IsOwn s high (is_high s high d.id)
-          (cond c served (l d.id.0)) (own_happenings d.id hs) (own_happenings d.id ks)) (eq-eqb d.id.0 d.id.0 refl) own.0) in
-      let (after, all, low) = again ks (own-rest l served d hs ks ds (head-apart d ds apart) own.1) in (
-        new ++ after,
-        (new, (after, refl, all), subst (λ (t : List (List ℕ)). PrintsList refuses t d.id [] [] (list_of other.tasks d.id)
-            (own_happenings d.id ks) new) theirs printed),
-        (part, rest, new, after, is, refl, lines, low),
-      ))
+      (list_of other.tasks d.id) [] [] (own_happenings d.id hs) part
+      (same-lists s high types d.id one.tasks other.tasks same)
+      (subst (λ (t : List (List ℕ)). PrintsList refuses t d.id [] [] (list_of one.tasks d.id) (own_happenings d.id hs)
+      part) (sym mine) prints) in (
+        (λ n. cond (n == d.id.0) served (l n)),
+        λ ks own.
+            let (new, printed, lines) = first (own_happenings d.id ks) (subst (λ (c : Bool).
+            IsOwn s high (is_high s high d.id) (cond c served (l d.id.0)) (own_happenings d.id hs)
+            (own_happenings d.id ks)) (eq-eqb d.id.0 d.id.0 refl) own.0) in
+            let (after, all, low) = again ks (own-rest l served d hs ks ds (head-apart d ds apart) own.1) in (
+              new ++ after,
+              (
+                new,
+                (after, refl, all),
+                subst (λ (t : List (List ℕ)). PrintsList refuses t d.id [] [] (list_of other.tasks d.id)
+                    (own_happenings d.id ks) new) theirs printed,
+              ),
+              (part, rest, new, after, is, refl, lines, low),
+            ),
+      )
+
+-- the other order, with what it prints, is one of a run of the other script
+run-again : (refuses : ℕ → Bool) (high : TypeId → Bool) (one other : RunContents) (l : ℕ → List RunTask)
+    (hs ks : List Happening) (ys : List Element) (text new : List ℕ) → SameButHigh high one other
+    → IsRunOf refuses one hs text → IsRedone (setting_of_script one.head) high l hs ks
+    → Legal (setting_of_script one.head) (redone_events (setting_of_script one.head) high l hs) ys
+    → events_in ks ≡ redone_events (setting_of_script one.head) high l hs → trace_in ks ≡ ys
+    → AllPrint refuses other ks one.head.domains new → IsRunOf refuses other ks new
+run-again refuses high one other l hs ks ys text new same run redone legal events trace all =
+    let s : Setting = setting_of_script one.head in
+    let known = known-too s high one.head.domains l hs ks redone
+    (recursion_from_All (λ x. domain_of one.head.domains (doer x) ≢ None) hs run.known) in record {
+      legal = subst (λ (h : Contents). Legal (setting_of_script h) (events_in ks) (trace_in ks)) (sym same.head)
+          (subst (λ (es : List Event). Legal s es (trace_in ks)) (sym events)
+          (subst (λ (xs : List Element). Legal s (redone_events s high l hs) xs) (sym trace) legal));
+      print = subst (λ (h : Contents). AllPrint refuses other ks h.domains new) (sym same.head) all;
+      known = subst (λ (h : Contents). All (λ x. domain_of h.domains (doer x) ≢ None) ks) (sym same.head)
+          (All-from_recursion (λ x. domain_of one.head.domains (doer x) ≢ None) ks known);
+      flags = flags-too s high hs ks (flags-same s high l hs ks redone) run.flags;
+    }
 
 pub run-texts-have-others : RunTextsHaveOthers
 run-texts-have-others refuses high one other text closed same apart (hs, run) =
     let s : Setting = setting_of_script one.head in
     let (l, again) = all-again s high refuses (type_names one.head) one other hs one.head.domains text same.tasks refl
-        (ap type_names (sym same.head)) apart run.print in
+    (ap type_names (sym same.head)) apart run.print in
     let (ys, legal, alike, low) = each-has-others s high (events_in hs) (redone_events s high l hs) (trace_in hs) closed
-        (same-passed s high l hs) run.legal in
+    (same-passed s high l hs) run.legal in
     let (ks, redone, events, trace) = done-again s high [] l hs ys run.legal alike in
-    let (new, all, for-low) = again ks (all-own s high l hs ks redone one.head.domains) in (
-      new,
-      (
-        ks,
-        record {
-          legal = subst (λ (h : Contents). Legal (setting_of_script h) (events_in ks) (trace_in ks)) (sym same.head)
-              (subst (λ (es : List Event). Legal s es (trace_in ks)) (sym events)
-              (subst (λ (xs : List Element). Legal s (redone_events s high l hs) xs) (sym trace) legal));
-          print = subst (λ (h : Contents). AllPrint refuses other ks h.domains new) (sym same.head) all;
-          known = subst (λ (h : Contents). All (λ x. domain_of h.domains (doer x) ≢ None) ks) (sym same.head)
-              (All-from_recursion (λ x. domain_of one.head.domains (doer x) ≢ None) ks
-              (known-too s high one.head.domains l hs ks redone
-              (recursion_from_All (λ x. domain_of one.head.domains (doer x) ≢ None) hs run.known)));
-          flags = flags-too s high hs ks (flags-same s high l hs ks redone) run.flags;
-        },
-      ),
-      for-low,
-    )
+    let (new, all, for-low) = again ks (all-own s high l hs ks redone one.head.domains) in
+    (new, (ks, run-again refuses high one other l hs ks ys text new same run redone legal events trace all), for-low)

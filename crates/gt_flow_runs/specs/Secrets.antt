@@ -41,7 +41,8 @@ SameAction high one other = one ≡ other
 abbrev pub SameTasks : Setting → (TypeId → Bool) → List RunTask → List RunTask → Type 0
 SameTasks s high [] [] = Unit {0}
 SameTasks s high (t ∷ ts) (u ∷ us) =
-    (t.line ≡ u.line) × (t.dom ≡ u.dom) × SameAction (is_high s high t.dom) t.run_action u.run_action × SameTasks s high ts us
+    (t.line ≡ u.line) × (t.dom ≡ u.dom) × SameAction (is_high s high t.dom) t.run_action u.run_action
+    × SameTasks s high ts us
 SameTasks s high _ _ = ⊥
 
 -- the scripts are the same, except for the bytes that high domains store and poke
@@ -94,10 +95,11 @@ TextsHaveOthers =
 -- both scripts differ from each other so. By the law above each of them then has the low lines of the other: what low
 -- domains may be answered is the same
 abbrev pub OthersAreAlike : Type 0
-OthersAreAlike = (high : TypeId → Bool) (one other : RunContents) → SameButHigh high one other → SameButHigh high other one
+OthersAreAlike =
+    (high : TypeId → Bool) (one other : RunContents) → SameButHigh high one other → SameButHigh high other one
 
--- The same of what `run` prints, at a gate that may refuse these flags: for each text of a run of the one script without
--- a line of N26 and of a gate, a run of the other may print one that is the same for low domains.
+-- The same of what `run` prints, at a gate that may refuse these flags: for each text of a run of the one script
+-- without a line of N26 and of a gate, a run of the other may print one that is the same for low domains.
 abbrev pub PrintedTextsHaveOthers : Type 0
 PrintedTextsHaveOthers =
     (refuses : ℕ → Bool) (high : TypeId → Bool) (one other : RunContents) (text : List ℕ)
@@ -126,8 +128,8 @@ SamePrintedForLow s high types (d ∷ ds) one other =
     × SamePrintedLines (is_high s high d.id) types d.id part piece × SamePrintedForLow s high types ds rest more
 
 -- Noninterference of what `run` prints, with lines of N26 and of gates. For each text that a run of the one script may
--- print, a run of the other may print one in which each line of a low domain is the same, and each line of a high domain
--- is the same except for bytes that it read: N26 and the lines of gates are where they were.
+-- print, a run of the other may print one in which each line of a low domain is the same, and each line of a high
+-- domain is the same except for bytes that it read: N26 and the lines of gates are where they were.
 abbrev pub RunTextsHaveOthers : Type 0
 RunTextsHaveOthers =
     (refuses : ℕ → Bool) (high : TypeId → Bool) (one other : RunContents) (text : List ℕ)
