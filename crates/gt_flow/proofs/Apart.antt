@@ -1,5 +1,5 @@
 -- Items of high domains leave what low domains have, if no low domain shares with a high one.
-use Rattle.std.proofs.Common.{◌≡◌, ◌⊎◌, inl, inr, ℕ, ◌+◌, ◌<◌, refl, Bool, true, false, cond, ◌&&◌, ◌==◌, not, List, []}
+use Rattle.std.proofs.Common.{◌≡◌, ◌⊎◌, inl, inr, ℕ, ◌+◌, refl, Bool, true, false, cond, ◌&&◌, ◌==◌, not, List, []}
 use Rattle.std.proofs.Common.{◌∷◌, ◌++◌, map, length, Option, Some, None, All, Any, count_by, ap, sym, subst, ◌∙◌}
 use Rattle.std.proofs.Common.{if◌then◌else◌, arith, eqb-true}
 use Rattle.std.proofs.lemmas.Bool.{true≢false}
@@ -21,12 +21,13 @@ use Rattle.gt_types.specs.declared.places.Spot.{Spot}
 use Rattle.gt_model.proofs.Observers.{all-without, other-body, other-entry, other-raises, other-table}
 use Rattle.gt_model.specs.FirstRule.{LegNow, after_source, copy_now, dest_now, from_source, leg_at, leg_now}
 use Rattle.gt_model.specs.FirstRule.{second_now, source_now, toward_dest, toward_source}
-use Rattle.gt_model.specs.History.{History, Pin, Setting, Underway, WriteMade, body_at, by_leg, contents_at, entry_at}
+use Rattle.gt_model.specs.History.{History, Pin, Setting, Underway, WriteMade, body_at, by_leg, entry_at}
 use Rattle.gt_model.specs.History.{gather, holder_after, same_dir, table_at}
 use Rattle.gt_model.specs.History.{generation_at, given_in, is_holder, is_pin_on, known_at, legs_at, live, open_call}
-use Rattle.gt_model.specs.History.{patches_at, patches_by, pinned_by, raises_at, reads_at, unpinned_by, without, word_at}
+use Rattle.gt_model.specs.History.{patches_at, patches_by, pinned_by, raises_at, reads_at, unpinned_by, without}
+use Rattle.gt_model.specs.History.{word_at}
 use Rattle.gt_model.specs.History.{writes_at, written_by}
-use Rattle.gt_model.specs.Justified.{AccessIsJustified, CopyIsJustified, EndIsJustified, MayAccess, Reaches}
+use Rattle.gt_model.specs.Justified.{CopyIsJustified, EndIsJustified, MayAccess, Reaches}
 use Rattle.gt_model.specs.Legal.{IsLegalHistory, IsRight, NoneStands, StepsRightIn}
 use Rattle.gt_model.specs.Rules.{CallerKnowledge, first, first_look, stands}
 use Rattle.gt_model.specs.Spelling.{control_with}
@@ -34,7 +35,6 @@ use Rattle.gt_model.specs.Words.{control_word}
 use Rattle.gt_model.specs.Written.{Patch, written}
 use Rattle.gt_model.specs.declared.action.Observation.{Observation}
 use Rattle.gt_model.specs.declared.action.Observation.TheVariants.{Taken}
-use Rattle.gt_model.specs.declared.action.Step.{Step}
 use Rattle.gt_model.specs.declared.action.Step.TheVariants as call_steps
 use Rattle.gt_model.specs.declared.change.BodyWord.{BodyWord}
 use Rattle.gt_model.specs.declared.entry.Entry.{Entry}
@@ -49,12 +49,12 @@ use Rattle.gt_model.specs.declared.request.PinHolder.{PinHolder}
 use Rattle.gt_model.specs.declared.trace.Answer.{Answer}
 use Rattle.gt_model.specs.declared.trace.Item.{Item}
 use Rattle.gt_model.specs.declared.trace.ItemEvent.{ItemEvent}
-use Rattle.gt_model.specs.declared.trace.ItemEvent.TheVariants.{Began, Stepped}
+use Rattle.gt_model.specs.declared.trace.ItemEvent.TheVariants.{Stepped}
 use Rattle.gt_flow.specs.Apart.{CallCopiesHigh, CopiesApart, CopiesHigh, EndsAreHigh, LowDomainsKeep, NamesLow}
 use Rattle.gt_flow.specs.Apart.{SharesNothing, StaysApart, TakesOrReleasesPin}
 use Rattle.gt_flow.specs.Low.{is_high}
 
-any-meets : {X : Type 0} (P Q : X → Type 0) (xs : List X) → Any P xs → All Q xs → (x : X) × P x × Q x
+pub any-meets : {X : Type 0} (P Q : X → Type 0) (xs : List X) → Any P xs → All Q xs → (x : X) × P x × Q x
 any-meets P Q xs any all = (any.1, any.4, subst Q any.3 (all any.0 any.1 any.2))
 
 -- the rules at a first look
@@ -69,11 +69,11 @@ module _ (s : Setting) (high : TypeId → Bool) where
   abbrev IsLow : DomId → Type 0
   IsLow d = is_high s high d ≡ false
 
-  same-domain : (P : DomId → Type 0) (a b : DomId) → a.0 ≡ b.0 → P a → P b
+  pub same-domain : (P : DomId → Type 0) (a b : DomId) → a.0 ≡ b.0 → P a → P b
   same-domain P a b same = subst P (ap {B = DomId} (λ (n : ℕ). record { 0 = n }) same)
 
   -- two domains, of which one is high and the other low, have other numbers
-  other-number : (d t : DomId) → IsHigh d → IsLow t → (d.0 == t.0) ≡ false
+  pub other-number : (d t : DomId) → IsHigh d → IsLow t → (d.0 == t.0) ≡ false
   other-number d t up low = by (d.0 == t.0) refl
     where
       by : (b : Bool) → (d.0 == t.0) ≡ b → b ≡ false
@@ -167,10 +167,10 @@ module _ (s : Setting) (high : TypeId → Bool) where
       right.sound
 
   -- a pin of a high domain is on an entry of a high one
-  abbrev IsApart : Pin → Type 0
+  abbrev pub IsApart : Pin → Type 0
   IsApart p = IsHigh (record { 0 = p.actor }) → IsHigh p.held.dom
 
-  pinned-apart : (h : History) (d : DomId) (x : ItemEvent) (a : Option Answer) (ps : List Pin)
+  pub pinned-apart : (h : History) (d : DomId) (x : ItemEvent) (a : Option Answer) (ps : List Pin)
       → SharesNothing s high h → CopiesApart s high h → IsRight s h (record { actor = d; happened = x; answer = a })
       → All IsApart (pinned_by d x a h ps)
   pinned-apart h d (Stepped (call_steps.Pin p) Taken) a ps shares copies right =
@@ -182,7 +182,7 @@ module _ (s : Setting) (high : TypeId → Bool) where
   unpinned-apart d (Stepped (call_steps.Unpin p holder) seen) ps all = all-without IsApart d.0 holder ps all
   unpinned-apart d x ps all = all
 
-  now-apart : (h : History) → StaysApart s high h → SharesNothing s high h × CopiesApart s high h
+  pub now-apart : (h : History) → StaysApart s high h → SharesNothing s high h × CopiesApart s high h
   unfolding StaysApart
   now-apart [] stays = stays
   now-apart (i ∷ h) stays = stays.0
@@ -216,10 +216,10 @@ module _ (s : Setting) (high : TypeId → Bool) where
     plus-none : (n : ℕ) → n + 0 ≡ n
     plus-none n = omega arith
 
-    count-one : (p : Pin) (ps : List Pin) → counts (p ∷ ps) ≡ cond (is_pin_on t.0 r dir p) 1 0 + counts ps
+    pub count-one : (p : Pin) (ps : List Pin) → counts (p ∷ ps) ≡ cond (is_pin_on t.0 r dir p) 1 0 + counts ps
     count-one p ps = sum_by-cons (λ (q : Pin). cond (is_pin_on t.0 r dir q) 1 0) p ps
 
-    skipped : (p : Pin) (ps : List Pin) → IsHigh p.held.dom → counts (p ∷ ps) ≡ counts ps
+    pub skipped : (p : Pin) (ps : List Pin) → IsHigh p.held.dom → counts (p ∷ ps) ≡ counts ps
     skipped p ps up =
         count-one p ps ∙ ap (λ (b : Bool). cond b 1 0 + counts ps) (uncounted p up) ∙ none-plus (counts ps)
 
@@ -277,34 +277,44 @@ module _ (s : Setting) (high : TypeId → Bool) where
 
   -- ---- frames
 
-  reached-high : (h : History) (d judged : DomId) (dir : Dir) (purpose : Use) (at : Spot) (len : ℕ) → IsHigh d
-      → All IsApart (live h) → Any (Reaches d judged dir purpose at len) (live h) → IsHigh at.frame.owner
-  reached-high h d judged dir purpose at len up all any =
-      let found = any-meets (Reaches d judged dir purpose at len) IsApart (live h) any all in
-      same-domain IsHigh found.0.held.dom at.frame.owner found.1.of_owner
-      (found.2 (same-domain IsHigh d (record { 0 = found.0.actor }) (sym found.1.of_actor) up))
+  -- the frames that pins reach, if those of all domains of this kind, high or low, are on entries of such a domain
+  module _ (b : Bool) where
+    abbrev Is : DomId → Type 0
+    Is d = is_high s high d ≡ b
 
-  access-high : (h : History) (d : DomId) (dir : Dir) (at : Spot) (len : ℕ) → IsHigh d → All IsApart (live h)
-      → MayAccess h d dir at len → IsHigh at.frame.owner
-  access-high h d dir at len up all (inl own) = same-domain IsHigh d at.frame.owner (sym own) up
-  access-high h d dir at len up all (inr any) = reached-high h d d dir _ at len up all any
+    -- a pin of such a domain is on an entry of such a one
+    abbrev pub IsAmong : Pin → Type 0
+    IsAmong p = Is (record { 0 = p.actor }) → Is p.held.dom
 
-  end-high : (h : History) (d : DomId) (is : Bool) (dir : Dir) (at : Spot) (len : ℕ) (named : DomId)
-      (owners : DomId × DomId) → IsHigh d → All IsApart (live h) → EndIsJustified s h d is dir at len named owners
-      → IsHigh at.frame.owner
-  end-high h d is dir at len named owners up all (inl own) = subst IsHigh (sym own.1) up
-  end-high h d is dir at len named owners up all (inr (inl direct)) = reached-high h d d dir _ at len up all direct.2
-  end-high h d is dir at len named owners up all (inr (inr through)) =
-      let found = any-meets _ IsApart (live h) through.1 all in
-      let via = any-meets _ IsApart (live h) found.1 all in
-      same-domain IsHigh found.0.held.dom at.frame.owner via.1.1.of_owner
-      (found.2 (same-domain IsHigh d (record { 0 = found.0.actor }) (sym via.1.1.of_actor) up))
+    reached-of : (h : History) (d judged : DomId) (dir : Dir) (purpose : Use) (at : Spot) (len : ℕ) → Is d
+        → All IsAmong (live h) → Any (Reaches d judged dir purpose at len) (live h) → Is at.frame.owner
+    reached-of h d judged dir purpose at len is all any =
+        let found = any-meets (Reaches d judged dir purpose at len) IsAmong (live h) any all in
+        same-domain Is found.0.held.dom at.frame.owner found.1.of_owner
+        (found.2 (same-domain Is d (record { 0 = found.0.actor }) (sym found.1.of_actor) is))
+
+    pub access-of : (h : History) (d : DomId) (dir : Dir) (at : Spot) (len : ℕ) → Is d → All IsAmong (live h)
+        → MayAccess h d dir at len → Is at.frame.owner
+    access-of h d dir at len is all (inl own) = same-domain Is d at.frame.owner (sym own) is
+    access-of h d dir at len is all (inr any) = reached-of h d d dir _ at len is all any
+
+    pub end-of : (h : History) (d : DomId) (granted : Bool) (dir : Dir) (at : Spot) (len : ℕ) (named : DomId)
+        (owners : DomId × DomId) → Is d → All IsAmong (live h)
+        → EndIsJustified s h d granted dir at len named owners → Is at.frame.owner
+    end-of h d granted dir at len named owners is all (inl own) = subst Is (sym own.1) is
+    end-of h d granted dir at len named owners is all (inr (inl direct)) =
+        reached-of h d d dir _ at len is all direct.2
+    end-of h d granted dir at len named owners is all (inr (inr through)) =
+        let found = any-meets _ IsAmong (live h) through.1 all in
+        let via = any-meets _ IsAmong (live h) found.1 all in
+        same-domain Is found.0.held.dom at.frame.owner via.1.1.of_owner
+        (found.2 (same-domain Is d (record { 0 = found.0.actor }) (sym via.1.1.of_actor) is))
 
   copy-to-high : (h : History) (d : DomId) (r : OpenRequest) (from to : Spot) (len : ℕ) → IsHigh d
       → All IsApart (live h) → CopyIsJustified s h d r from to len → IsHigh to.frame.owner
   copy-to-high h d (Copy c) from to len up all just =
-      end-high h d (is_dest_granted c) Write to len (resolved d c.dest.domid) (from.frame.owner, to.frame.owner) up all
-      just.4
+      end-of true h d (is_dest_granted c) Write to len (resolved d c.dest.domid) (from.frame.owner, to.frame.owner) up
+      all just.4
   copy-to-high h d r from to len up all just = absurd just
 
   no-patch : (t : DomId) (f : ℕ) (w : WriteMade) → IsLow t → IsHigh w.at.frame.owner → patches_by (Some w) t.0 f ≡ []
@@ -317,7 +327,7 @@ module _ (s : Setting) (high : TypeId → Bool) where
       → StepsRightIn s h i (call_steps.Write dom frame off len) seen c → IsHigh dom
   write-high h i dom frame off len seen None up all right = absurd right
   write-high h i dom frame off len seen (Some c) up all right =
-      access-high h i.actor Write (record { frame = record { owner = dom; number = frame }; off = off }) len up all
+      access-of true h i.actor Write (record { frame = record { owner = dom; number = frame }; off = off }) len up all
       right.justified.1
 
   copied-high : (h : History) (i : Item) (from to : Spot) (len : ℕ) (seen : Observation) (c : Option Underway)
@@ -344,7 +354,7 @@ module _ (s : Setting) (high : TypeId → Bool) where
       }) from to len seen (open_call h d.0) up all right)
   none-written h d x a t f given contents up low all right = refl
 
-  frame-kept : (h : History) (i : Item) (t : DomId) (f : ℕ) → IsHigh i.actor → IsLow t → All IsApart (live h)
+  pub frame-kept : (h : History) (i : Item) (t : DomId) (f : ℕ) → IsHigh i.actor → IsLow t → All IsApart (live h)
       → IsRight s h i → patches_at (i ∷ h) t.0 f ≡ patches_at h t.0 f
   unfolding patches_at
   frame-kept h i t f up low all right =

@@ -114,7 +114,7 @@ pinned-again d y a c h ps same = refl
 
 -- what follows from it
 
-four : {A B C D E : Type 0} (f : A → B → C → D → E) {a i : A} {b j : B} {c k : C} {d l : D} → a ≡ i → b ≡ j → c ≡ k → d ≡ l → f a b c d ≡ f i j k l
+pub four : {A B C D E : Type 0} (f : A → B → C → D → E) {a i : A} {b j : B} {c k : C} {d l : D} → a ≡ i → b ≡ j → c ≡ k → d ≡ l → f a b c d ≡ f i j k l
 four {A = A} {B = B} {C = C} {D = D} f {a = a} {i = i} {b = b} {j = j} {c = c} {k = k} {d = d} {l = l} p q r t =
     ap (λ (x : A). f x b c d) p ∙ ap (λ (x : B). f i x c d) q ∙ ap (λ (x : C). f i j x d) r ∙ ap (λ (x : D). f i j k x) t
 

@@ -95,7 +95,7 @@ module _ (s : Setting) (high : TypeId → Bool) where
   AllSame b _ _ = ⊥
 
   -- the same for one answer
-  abbrev SameAnswer : Bool → Answer → Answer → Type 0
+  abbrev pub SameAnswer : Bool → Answer → Answer → Type 0
   SameAnswer true a c = unread a ≡ unread c
   SameAnswer false a c = a ≡ c
 
@@ -135,7 +135,7 @@ module _ (s : Setting) (high : TypeId → Bool) where
       (y ∷ ys, less, ap (λ (z : Event). did z y ∷ ks) own.0 ∙ ap (λ (l : List Happening). did (Tick dom) y ∷ l) is, (own.1, same), rest)
 
   -- a call, done again
-  call-too : (b : Bool) (ts : List RunTask) (dom : DomId) (q : Request) (After New : Answer → List Happening → Type 0) (hs ks : List Happening) → CallHappens dom q After hs → IsOwn b ts hs ks
+  pub call-too : (b : Bool) (ts : List RunTask) (dom : DomId) (q : Request) (After New : Answer → List Happening → Type 0) (hs ks : List Happening) → CallHappens dom q After hs → IsOwn b ts hs ks
       → ((a c : Answer) (more less : List Happening) → SameAnswer b a c → IsOwn b (later ts) more less → After a more → New c less)
       → CallHappens dom (redone_request b ts q) New ks
   call-too b ts dom q After New hs ks (first, trace, a, more, is, ends, after) own goes = by ks (subst (λ (l : List Happening). IsOwn b ts l ks) is own) where
@@ -148,7 +148,7 @@ module _ (s : Setting) (high : TypeId → Bool) where
         (y, ys, c, less, ap (λ (z : Event). did z y ∷ ks) o.0 ∙ ap (λ (l : List Happening). did (Begin dom (redone_request b ts q)) y ∷ l) split, end, goes a c more less so rest after)
 
   -- the end of a list
-  back-too : (b : Bool) (dom : DomId) (order held : List Handle) (hs ks : List Happening) → GivesMappingsBack dom order held hs → IsOwn b [] hs ks → GivesMappingsBack dom order held ks
+  pub back-too : (b : Bool) (dom : DomId) (order held : List Handle) (hs ks : List Happening) → GivesMappingsBack dom order held hs → IsOwn b [] hs ks → GivesMappingsBack dom order held ks
   back-too b dom [] held hs ks gives own = (gives.0, by ks (subst (λ (l : List Happening). IsOwn b [] l ks) gives.1 own)) where
     by : (ks : List Happening) → IsOwn b [] [] ks → ks ≡ []
     by [] o = refl
@@ -184,19 +184,19 @@ module _ (s : Setting) (high : TypeId → Bool) where
   held-shown held None (answers.Bytes x) = refl
   held-shown held lost z = refl
 
-  same-given : (b : Bool) (a c : Answer) → SameAnswer b a c → handle_given a ≡ handle_given c
+  pub same-given : (b : Bool) (a c : Answer) → SameAnswer b a c → handle_given a ≡ handle_given c
   same-given true a c so = handle-shown a ∙ ap handle_shown so ∙ sym (handle-shown c)
   same-given false a c so = ap handle_given so
 
-  same-held : (b : Bool) (held : List Handle) (lost : Option Handle) (a c : Answer) → SameAnswer b a c → held_after held lost a ≡ held_after held lost c
+  pub same-held : (b : Bool) (held : List Handle) (lost : Option Handle) (a c : Answer) → SameAnswer b a c → held_after held lost a ≡ held_after held lost c
   same-held true held lost a c so = held-shown held lost a ∙ ap (held_shown held lost) so ∙ sym (held-shown held lost c)
   same-held false held lost a c so = ap (held_after held lost) so
 
   -- a call with other bytes asks for a request with these bytes
-  record Asks (named : List Named) (dom : DomId) (q : Request) (call other : ScriptCall) (new : Request) : Type 0 where
-    makes : MakesRequest named dom other new
-    gives : given_up new ≡ given_up q
-    labels : label_given other ≡ label_given call
+  pub record Asks (named : List Named) (dom : DomId) (q : Request) (call other : ScriptCall) (new : Request) : Type 0 where
+    pub makes : MakesRequest named dom other new
+    pub gives : given_up new ≡ given_up q
+    pub labels : label_given other ≡ label_given call
 
   fits : (bytes : List ℕ) (hex other : List ℕ) → bytes ≡ hex_bytes hex → length (hex_bytes hex) ≡ length (hex_bytes other) → fitted (length bytes) (hex_bytes other) ≡ hex_bytes other
   fits bytes hex other is same = ap (λ (n : ℕ). fitted n (hex_bytes other)) (ap length is ∙ same) ∙ fitted-all (hex_bytes other)
@@ -217,31 +217,31 @@ module _ (s : Setting) (high : TypeId → Bool) where
   asks-stored named dom q (script_calls.Poke frame off hex) other same makes = absurd (let f = same in cc)
   asks-stored named dom q call other same makes = subst (λ (c : ScriptCall). Asks named dom q call c (with_stored c q)) same (record { makes = makes; gives = refl; labels = refl })
 
-  abbrev SameCall : Bool → ScriptCall → ScriptCall → Type 0
+  abbrev pub SameCall : Bool → ScriptCall → ScriptCall → Type 0
   SameCall true call other = SameButStored call other
   SameCall false call other = call ≡ other
 
-  do-same : (b : Bool) (call : ScriptCall) (run_action : RunAction) → SameAction b (Do call) run_action → (other : ScriptCall) × (run_action ≡ Do other) × SameCall b call other
+  pub do-same : (b : Bool) (call : ScriptCall) (run_action : RunAction) → SameAction b (Do call) run_action → (other : ScriptCall) × (run_action ≡ Do other) × SameCall b call other
   do-same true call (Do other) same = (other, refl, same)
   do-same true call (Tell flag) same = absurd (let f = same in cc)
   do-same true call (Await flag) same = absurd (let f = same in cc)
   do-same false call run_action same = (call, sym same, refl)
 
-  tell-same : (b : Bool) (flag : ℕ) (run_action : RunAction) → SameAction b (Tell flag) run_action → Tell flag ≡ run_action
+  pub tell-same : (b : Bool) (flag : ℕ) (run_action : RunAction) → SameAction b (Tell flag) run_action → Tell flag ≡ run_action
   tell-same true flag run_action same = same
   tell-same false flag run_action same = same
 
-  await-same : (b : Bool) (flag : ℕ) (run_action : RunAction) → SameAction b (Await flag) run_action → Await flag ≡ run_action
+  pub await-same : (b : Bool) (flag : ℕ) (run_action : RunAction) → SameAction b (Await flag) run_action → Await flag ≡ run_action
   await-same true flag run_action same = same
   await-same false flag run_action same = same
 
-  asks-redone : (b : Bool) (u : RunTask) (us : List RunTask) (named : List Named) (dom : DomId) (q : Request) (call other : ScriptCall) → u.run_action ≡ Do other → SameCall b call other → MakesRequest named dom call q
+  pub asks-redone : (b : Bool) (u : RunTask) (us : List RunTask) (named : List Named) (dom : DomId) (q : Request) (call other : ScriptCall) → u.run_action ≡ Do other → SameCall b call other → MakesRequest named dom call q
       → Asks named dom q call other (redone_request b (u ∷ us) q)
   asks-redone true u us named dom q call other is same makes =
       subst (λ (z : RunAction). Asks named dom q call other (with_action z q)) (sym is) (asks-stored named dom q call other same makes)
   asks-redone false u us named dom q call other is same makes = subst (λ (c : ScriptCall). Asks named dom q call c q) same (record { makes = makes; gives = refl; labels = refl })
 
-  same-cons : (b : Bool) (line : ℕ) (a c : Answer) (ls ks : List (ℕ × Answer)) → SameAnswer b a c → SameAnswers b ls ks → SameAnswers b ((line, a) ∷ ls) ((line, c) ∷ ks)
+  pub same-cons : (b : Bool) (line : ℕ) (a c : Answer) (ls ks : List (ℕ × Answer)) → SameAnswer b a c → SameAnswers b ls ks → SameAnswers b ((line, a) ∷ ls) ((line, c) ∷ ks)
   same-cons true line a c ls ks so same =
       ap (λ (z : Answer ⊎ List ℕ). (line, z) ∷ map unread_line ls) so ∙ ap (λ (l : List (ℕ × (Answer ⊎ List ℕ))). (line, unread c) ∷ l) same
   same-cons false line a c ls ks so same = ap (λ (z : Answer). (line, z) ∷ ls) so ∙ ap (λ (l : List (ℕ × Answer)). (line, c) ∷ l) same
@@ -256,7 +256,7 @@ module _ (s : Setting) (high : TypeId → Bool) where
     Goes us Next New = (named : List Named) (held : List Handle) (more less : List Happening) (rest : List ℕ) → Next named held more rest → IsOwn b us more less
         → (new : List ℕ) × New named held less new × SameAnswerLines b types dom rest new
 
-    pull : (q : Request) (P : List ℕ → Answer → List Happening → Type 0) (Q : List ℕ → Type 0) (ks : List Happening) → CallHappens dom q (λ c less. (new : List ℕ) × P new c less × Q new) ks
+    pub pull : (q : Request) (P : List ℕ → Answer → List Happening → Type 0) (Q : List ℕ → Type 0) (ks : List Happening) → CallHappens dom q (λ c less. (new : List ℕ) × P new c less × Q new) ks
         → (new : List ℕ) × CallHappens dom q (P new) ks × Q new
     pull q P Q ks (first, trace, a, more, is, ends, rest) = (rest.0, (first, trace, a, more, is, ends, rest.1), rest.2)
 
@@ -305,7 +305,7 @@ module _ (s : Setting) (high : TypeId → Bool) where
     SameList (t ∷ ts) (u ∷ us) = (t.line ≡ u.line) × SameAction b t.run_action u.run_action × SameList ts us
     SameList _ _ = ⊥
 
-    no-answers : (b : Bool) → SameAnswers b [] []
+    pub no-answers : (b : Bool) → SameAnswers b [] []
     no-answers true = refl
     no-answers false = refl
 

@@ -1,5 +1,4 @@
 -- The texts of runs with other bytes of high domains, by way of the texts that the scripts may give.
-use Rattle.std.proofs.Common.{List, ℕ}
 use Rattle.gt_flow_runs.specs.Secrets.{PrintedTextsHaveOthers}
 use Rattle.gt_flow_runs.proofs.Texts.{texts-have-others}
 use Rattle.gt_linearization.specs.Printed.{GivenTextsArePrinted, PrintedTextsAreGiven}

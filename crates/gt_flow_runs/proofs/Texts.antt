@@ -34,7 +34,7 @@ use Rattle.gt_flow_runs.proofs.Followed.{IsOwn, SameList, follows-too, own-redon
 module _ (s : Setting) (high : TypeId → Bool) where
   -- the lists of a domain
 
-  same-lists : (types : List (List ℕ)) (dom : DomId) (ts us : List RunTask) → SameTasks s high ts us → SameList s high types dom (is_high s high dom) (list_of ts dom) (list_of us dom)
+  pub same-lists : (types : List (List ℕ)) (dom : DomId) (ts us : List RunTask) → SameTasks s high ts us → SameList s high types dom (is_high s high dom) (list_of ts dom) (list_of us dom)
   same-lists types dom [] [] same = tt
   same-lists types dom (t ∷ ts) (u ∷ us) same =
       subst (λ (d : DomId). SameList s high types dom (is_high s high dom) (cond (t.dom.0 == dom.0) (t ∷ list_of ts dom) (list_of ts dom)) (cond (d.0 == dom.0) (u ∷ list_of us dom) (list_of us dom))) same.1
@@ -47,7 +47,7 @@ module _ (s : Setting) (high : TypeId → Bool) where
 
   -- who does it, and flags
 
-  known-too : (ds : List DomainConfig) (l : ℕ → List RunTask) (hs ks : List Happening) → IsRedone s high l hs ks → AllByRecursion (λ x. domain_of ds (doer x) ≢ None) hs → AllByRecursion (λ x. domain_of ds (doer x) ≢ None) ks
+  pub known-too : (ds : List DomainConfig) (l : ℕ → List RunTask) (hs ks : List Happening) → IsRedone s high l hs ks → AllByRecursion (λ x. domain_of ds (doer x) ≢ None) hs → AllByRecursion (λ x. domain_of ds (doer x) ≢ None) ks
   known-too ds l [] [] r known = known
   known-too ds l (did e x ∷ hs) (did f y ∷ ks) r known =
       (subst (λ (d : DomId). domain_of ds d ≢ None) (sym (ap actor_of r.0 ∙ same-doer s high (is_high s high (actor_of e)) (l (actor_of e).0) e)) known.0, known-too ds (lists_after l (did e x)) hs ks r.2 known.1)
@@ -77,7 +77,7 @@ module _ (s : Setting) (high : TypeId → Bool) where
   no-flag : (d : DomId) (flag : ℕ) (e f : Event) (x y : Element) → (did f y ≡ passed d flag → did e x ≡ passed d flag) × (did e x ≡ raised d flag → did f y ≡ raised d flag)
   no-flag d flag e f x y = (λ z. absurd (let w = z in cc), λ z. absurd (let w = z in cc))
 
-  flags-same : (l : ℕ → List RunTask) (hs ks : List Happening) → IsRedone s high l hs ks → SameFlags hs ks
+  pub flags-same : (l : ℕ → List RunTask) (hs ks : List Happening) → IsRedone s high l hs ks → SameFlags hs ks
   flags-same l [] [] r = λ at d flag. (λ e. e, λ e. e)
   flags-same l (did e x ∷ hs) (did f y ∷ ks) r = more-flags (did e x) (did f y) hs ks (λ d flag. no-flag d flag e f x y) (flags-same (lists_after l (did e x)) hs ks r.2)
   flags-same l (raised k flag ∷ hs) (raised n other ∷ ks) r = more-flags (raised k flag) (raised n other) hs ks (λ d g. (λ e. r.0 ∙ e, λ e. sym r.0 ∙ e)) (flags-same (lists_after l (raised k flag)) hs ks r.1)
@@ -93,7 +93,7 @@ module _ (s : Setting) (high : TypeId → Bool) where
   flags-same l (passed d flag ∷ hs) (did f y ∷ ks) r = absurd r
   flags-same l (passed d flag ∷ hs) (raised k other ∷ ks) r = absurd r
 
-  flags-too : (hs ks : List Happening) → SameFlags hs ks → FlagsAreRaised hs → FlagsAreRaised ks
+  pub flags-too : (hs ks : List Happening) → SameFlags hs ks → FlagsAreRaised hs → FlagsAreRaised ks
   flags-too hs ks same are at d flag e = let (place, k, before, is) = are at d flag ((same at d flag).0 e) in (place, k, before, (same place k flag).1 is)
 
   -- all domains

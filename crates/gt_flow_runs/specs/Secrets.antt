@@ -15,7 +15,9 @@ use Rattle.gt_script.specs.declared.tasks.RunActionBy.TheVariants.{Do}
 use Rattle.gt_script_runs.specs.Playing.{setting_of_script}
 use Rattle.gt_script_runs.specs.Printing.{answer_line}
 use Rattle.gt_explore_replay.specs.Orders.{MayGive}
+use Rattle.gt_explore_replay.specs.Walking.{HaveOwnIds}
 use Rattle.gt_linearization.specs.Printed.{IsUndisturbed, MayPrint}
+use Rattle.gt_run.specs.Serving.{gate_line}
 use Rattle.gt_flow.specs.Flow.{IsClosed}
 use Rattle.gt_flow.specs.Low.{is_high}
 use Rattle.gt_flow.specs.OtherBytes.{unread}
@@ -39,7 +41,8 @@ SameAction high one other = one ≡ other
 abbrev pub SameTasks : Setting → (TypeId → Bool) → List RunTask → List RunTask → Type 0
 SameTasks s high [] [] = Unit {0}
 SameTasks s high (t ∷ ts) (u ∷ us) =
-    (t.line ≡ u.line) × (t.dom ≡ u.dom) × SameAction (is_high s high t.dom) t.run_action u.run_action × SameTasks s high ts us
+    (t.line ≡ u.line) × (t.dom ≡ u.dom) × SameAction (is_high s high t.dom) t.run_action u.run_action
+    × SameTasks s high ts us
 SameTasks s high _ _ = ⊥
 
 -- the scripts are the same, except for the bytes that high domains store and poke
@@ -92,10 +95,11 @@ TextsHaveOthers =
 -- both scripts differ from each other so. By the law above each of them then has the low lines of the other: what low
 -- domains may be answered is the same
 abbrev pub OthersAreAlike : Type 0
-OthersAreAlike = (high : TypeId → Bool) (one other : RunContents) → SameButHigh high one other → SameButHigh high other one
+OthersAreAlike =
+    (high : TypeId → Bool) (one other : RunContents) → SameButHigh high one other → SameButHigh high other one
 
--- The same of what `run` prints, at a gate that may refuse these flags: for each text of a run of the one script without
--- a line of N26 and of a gate, a run of the other may print one that is the same for low domains.
+-- The same of what `run` prints, at a gate that may refuse these flags: for each text of a run of the one script
+-- without a line of N26 and of a gate, a run of the other may print one that is the same for low domains.
 abbrev pub PrintedTextsHaveOthers : Type 0
 PrintedTextsHaveOthers =
     (refuses : ℕ → Bool) (high : TypeId → Bool) (one other : RunContents) (text : List ℕ)
@@ -103,3 +107,33 @@ PrintedTextsHaveOthers =
     → MayPrint refuses one text → IsUndisturbed refuses (type_names one.head) text
     → (new : List ℕ) × MayPrint refuses other new
     × SameForLow (setting_of_script one.head) high (type_names one.head) one.head.domains text new
+
+-- the text is that of a domain's list after its answers: nothing, or the line of a gate that stopped the list
+abbrev pub IsListEnd : DomId → List ℕ → Type 0
+IsListEnd dom text = (text ≡ []) ⊎ ((line : ℕ) × (text ≡ gate_line line dom))
+
+-- both are lines of answers of the domain, which are the same so, and then the same end
+abbrev pub SamePrintedLines : Bool → List (List ℕ) → DomId → List ℕ → List ℕ → Type 0
+SamePrintedLines high types dom one other =
+    (ls : List (ℕ × Answer)) × (ks : List (ℕ × Answer)) × (end : List ℕ)
+    × (one ≡ lines_of_answers types dom ls ++ end) × (other ≡ lines_of_answers types dom ks ++ end)
+    × IsListEnd dom end × SameAnswers high ls ks
+
+-- both texts have a part of each of the domains, in their order, which are the same so
+abbrev pub SamePrintedForLow : Setting → (TypeId → Bool) → List (List ℕ) → List DomainConfig → List ℕ → List ℕ → Type 0
+SamePrintedForLow s high types [] one other = (one ≡ []) × (other ≡ [])
+SamePrintedForLow s high types (d ∷ ds) one other =
+    (part : List ℕ) × (rest : List ℕ) × (piece : List ℕ) × (more : List ℕ)
+    × (one ≡ part ++ rest) × (other ≡ piece ++ more)
+    × SamePrintedLines (is_high s high d.id) types d.id part piece × SamePrintedForLow s high types ds rest more
+
+-- Noninterference of what `run` prints, with lines of N26 and of gates. For each text that a run of the one script may
+-- print, a run of the other may print one in which each line of a low domain is the same, and each line of a high
+-- domain is the same except for bytes that it read: N26 and the lines of gates are where they were.
+abbrev pub RunTextsHaveOthers : Type 0
+RunTextsHaveOthers =
+    (refuses : ℕ → Bool) (high : TypeId → Bool) (one other : RunContents) (text : List ℕ)
+    → IsClosed (setting_of_script one.head).may high → SameButHigh high one other → HaveOwnIds one.head.domains
+    → MayPrint refuses one text
+    → (new : List ℕ) × MayPrint refuses other new
+    × SamePrintedForLow (setting_of_script one.head) high (type_names one.head) one.head.domains text new

@@ -1,5 +1,6 @@
 //! Laws about the texts of scripts. Each law is a function with an empty body, whose contract is the law.
-ghost use Rattle.gt_flow_runs.specs.Secrets.{OthersAreAlike, PrintedTextsHaveOthers, TextsHaveOthers};
+ghost use Rattle.gt_flow_runs.specs.Secrets.{OthersAreAlike, PrintedTextsHaveOthers, RunTextsHaveOthers};
+ghost use Rattle.gt_flow_runs.specs.Secrets.{TextsHaveOthers};
 
 use gt_linearization::{given_texts_are_printed, printed_texts_are_given};
 
@@ -24,3 +25,10 @@ pub fn each_printed_text_has_others()
     printed_texts_are_given();
     given_texts_are_printed();
 }
+
+/// Proves the same of all texts that a run prints, with lines of N26 and of gates. For each text of a run, a run of the
+/// other script may print one in which each line of a low domain is the same, and each line of a high domain is the
+/// same except for bytes that it read. No two domains of the script have the same number.
+pub fn each_run_text_has_others()
+    ensures { RunTextsHaveOthers }
+{}

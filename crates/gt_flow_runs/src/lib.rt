@@ -4,4 +4,6 @@
 
 mod laws;
 
-pub use laws::{each_printed_text_has_others, each_text_has_others, others_are_alike};
+pub use laws::{
+    each_printed_text_has_others, each_run_text_has_others, each_text_has_others, others_are_alike,
+};

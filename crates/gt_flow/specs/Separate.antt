@@ -1,0 +1,138 @@
+-- Separation of runs: what low domains do is what they do without the high ones, if neither looks at the other.
+use Rattle.std.specs.Prelude.{◌≡◌, Bool, true, false, if◌then◌else◌, List, [], ◌∷◌}
+use Rattle.gt_types.specs.Config.{IsWithinLimits}
+use Rattle.gt_types.specs.Copies.{is_dest_granted, is_source_granted}
+use Rattle.gt_types.specs.Names.{resolved}
+use Rattle.gt_types.specs.declared.DomId.{DomId}
+use Rattle.gt_types.specs.declared.TypeId.{TypeId}
+use Rattle.gt_types.specs.declared.config.Config.{Config}
+use Rattle.gt_types.specs.declared.copies.CopyArgs.{CopyArgs}
+use Rattle.gt_types.specs.declared.perms.Perms.{Perms}
+use Rattle.gt_model.specs.Asking.{FitsAsked, asked}
+use Rattle.gt_model.specs.declared.request.OpenRequest.{OpenRequest}
+use Rattle.gt_model.specs.declared.request.OpenRequest.TheVariants.{Copy, GetVersion, Map, Probe, QuerySize}
+use Rattle.gt_model.specs.declared.action.Step.{Step}
+use Rattle.gt_model.specs.declared.action.Step.TheVariants.{LookBody, LookControl, LookHeader}
+use Rattle.gt_model.specs.declared.action.Step.TheVariants as call_steps
+use Rattle.gt_model.specs.History.{History, Setting, setting_of}
+use Rattle.gt_model.specs.Legal.{Legal, actor_of, history_after}
+use Rattle.gt_model.specs.declared.trace.Element.{Element}
+use Rattle.gt_model.specs.declared.trace.Event.{Event}
+use Rattle.gt_model.specs.declared.trace.Event.TheVariants.{Begin, Tick}
+use Rattle.gt_model.specs.declared.trace.ItemEvent.{ItemEvent}
+use Rattle.gt_model.specs.declared.trace.ItemEvent.TheVariants.{Began, Stepped}
+use Rattle.gt_flow.specs.Apart.{CopiesApart, LowDomainsKeep, StaysApart}
+use Rattle.gt_flow.specs.Low.{NamesKnown, is_high}
+use Rattle.gt_flow.specs.Purged.{SameElements, SameEvents}
+
+-- the step is no look at a table of a high domain, and no pin on an entry of one
+abbrev pub IsAtLow : Setting → (TypeId → Bool) → Step → Type 0
+IsAtLow s high (LookHeader dom) = is_high s high dom ≡ false
+IsAtLow s high (LookControl dom gref) = is_high s high dom ≡ false
+IsAtLow s high (LookBody dom gref body_word) = is_high s high dom ≡ false
+IsAtLow s high (call_steps.Pin p) = is_high s high p.dom ≡ false
+IsAtLow s high step = Unit {0}
+
+-- the same of an event of a call: a beginning looks at no table but the caller's
+abbrev pub HappensAtLow : Setting → (TypeId → Bool) → ItemEvent → Type 0
+HappensAtLow s high (Began request) = Unit {0}
+HappensAtLow s high (Stepped step seen) = IsAtLow s high step
+
+-- up to now no low domain looked at a table of a high one, nor took a pin there
+unfoldable pub LooksApart : Setting → (TypeId → Bool) → History → Type 0
+LooksApart s high [] = Unit {0}
+LooksApart s high (i ∷ before) =
+    (is_high s high i.actor ≡ false → HappensAtLow s high i.happened) × LooksApart s high before
+
+-- the events of low domains
+abbrev pub low_events : Setting → (TypeId → Bool) → List Event → List Event
+low_events s high [] = []
+low_events s high (e ∷ es) =
+    if is_high s high (actor_of e) then low_events s high es else e ∷ low_events s high es
+
+-- what the events of low domains did
+abbrev pub low_elements : Setting → (TypeId → Bool) → List Event → List Element → List Element
+low_elements s high (e ∷ es) (x ∷ xs) =
+    if is_high s high (actor_of e) then low_elements s high es xs else x ∷ low_elements s high es xs
+low_elements s high _ _ = []
+
+-- Separation, for whole runs. In a legal trace no low domain shared with a high one, and none looked at a table of one.
+-- Then the events of low domains alone, with what they did, are a legal trace too: with the same steps, answers, bytes
+-- and handles. After it each word, table and frame of low domains is the same. So high domains are as if they were not
+-- there.
+abbrev pub LowPartsAreLegal : Type 0
+LowPartsAreLegal =
+    (s : Setting) (high : TypeId → Bool) (es : List Event) (xs : List Element)
+    → Legal s es xs → StaysApart s high (history_after [] xs) → LooksApart s high (history_after [] xs)
+    → Legal s (low_events s high es) (low_elements s high es xs)
+    × LowDomainsKeep s high (history_after [] xs) (history_after [] (low_elements s high es xs))
+
+-- each end of a copy of domain d that a reference names is one of a low domain
+abbrev pub EndsAreLow : Setting → (TypeId → Bool) → DomId → CopyArgs → Type 0
+EndsAreLow s high d c =
+    (is_source_granted c ≡ true → is_high s high (resolved d c.source.domid) ≡ false)
+    × (is_dest_granted c ≡ true → is_high s high (resolved d c.dest.domid) ≡ false)
+
+-- the request of domain d names no high domain as the owner of an entry or a table
+abbrev pub AsksLow : Setting → (TypeId → Bool) → DomId → OpenRequest → Type 0
+AsksLow s high d (Map dom gref flags) = is_high s high (resolved d dom) ≡ false
+AsksLow s high d (Copy c) = EndsAreLow s high d c
+AsksLow s high d (Probe c) = EndsAreLow s high d c
+AsksLow s high d (QuerySize dom) = is_high s high (resolved d dom) ≡ false
+AsksLow s high d (GetVersion dom) = is_high s high (resolved d dom) ≡ false
+AsksLow s high d request = Unit {0}
+
+-- each of the events begins only such a call; the numbers of an entry that it grants fit their types, as in each value
+-- of the program
+abbrev pub BeginLow : Setting → (TypeId → Bool) → List Event → Type 0
+BeginLow s high [] = Unit {0}
+BeginLow s high (Begin d request ∷ es) =
+    (AsksLow s high d (asked request) × FitsAsked (asked request)) × BeginLow s high es
+BeginLow s high (Tick d ∷ es) = BeginLow s high es
+
+-- Low domains that name no high ones do not look at their tables: not by the second entry behind a Via either, since no
+-- low entry names a high domain.
+abbrev pub LowCallsLookLow : Type 0
+LowCallsLookLow =
+    (config : Config) (may : TypeId → TypeId → Perms → Bool) (high : TypeId → Bool)
+    (es : List Event) (xs : List Element)
+    → let s = setting_of config may in IsWithinLimits config → Legal s es xs
+    → BeginLow s high (low_events s high es) → NamesKnown [] (low_events s high es) (low_elements s high es xs)
+    → StaysApart s high (history_after [] xs) → LooksApart s high (history_after [] xs)
+
+-- up to now no open copy of a high domain had an end at an entry of a low one
+unfoldable pub CopiesStayApart : Setting → (TypeId → Bool) → History → Type 0
+CopiesStayApart s high [] = CopiesApart s high []
+CopiesStayApart s high (i ∷ before) = CopiesApart s high (i ∷ before) × CopiesStayApart s high before
+
+-- Separation, for two runs. The events of low domains are the same in two legal traces: all calls of high domains may
+-- be made or not, at any time. In the first trace no low domain shared with a high one, and none looked at a table of
+-- one; in the second no copy of a high domain named an entry of a low one. Then what the events of low domains did is
+-- the same, answers and bytes included, and so is each word, table and frame of low domains. Keys of handles may
+-- differ.
+abbrev pub HighCallsMakeNoDifference : Type 0
+HighCallsMakeNoDifference =
+    (s : Setting) (high : TypeId → Bool) (es fs : List Event) (xs ys : List Element)
+    → Legal s es xs → Legal s fs ys
+    → NamesKnown [] (low_events s high es) (low_elements s high es xs)
+    → NamesKnown [] (low_events s high fs) (low_elements s high fs ys)
+    → SameEvents (low_events s high es) (low_events s high fs)
+    → StaysApart s high (history_after [] xs) → LooksApart s high (history_after [] xs)
+    → CopiesStayApart s high (history_after [] ys)
+    → SameElements (low_elements s high es xs) (low_elements s high fs ys)
+    × LowDomainsKeep s high (history_after [] xs) (history_after [] ys)
+
+-- The same by what low domains name: no entry and no call of a low domain names a high one, and no copy of a high
+-- domain an entry of a low one. So a guest with which nobody shares is as if it were not there.
+abbrev pub UnsharedDomainsMakeNoDifference : Type 0
+UnsharedDomainsMakeNoDifference =
+    (config : Config) (may : TypeId → TypeId → Perms → Bool) (high : TypeId → Bool)
+    (es fs : List Event) (xs ys : List Element)
+    → let s = setting_of config may in IsWithinLimits config → Legal s es xs → Legal s fs ys
+    → BeginLow s high (low_events s high es)
+    → NamesKnown [] (low_events s high es) (low_elements s high es xs)
+    → NamesKnown [] (low_events s high fs) (low_elements s high fs ys)
+    → SameEvents (low_events s high es) (low_events s high fs)
+    → StaysApart s high (history_after [] xs) → CopiesStayApart s high (history_after [] ys)
+    → SameElements (low_elements s high es xs) (low_elements s high fs ys)
+    × LowDomainsKeep s high (history_after [] xs) (history_after [] ys)
