@@ -23,7 +23,8 @@
  * gthost_reserve_records and the records that are kept allocate. A run of one domain takes 1 MB. A run of 64 domains
  * takes 51 MB, and 68 MB while it starts. A domain keeps no records until gthost_keep_at_most asks for some. Records
  * take 48 bytes each, in pieces of 12 KiB. They are kept until gthost_take_records, which keeps their room for later
- * ones, or until gthost_finish. A mapping takes less than 100 bytes. gthost_start needs 64 KiB of stack, and every other call 16 KiB.
+ * ones, or until gthost_finish. A mapping takes less than 100 bytes. gthost_start needs 64 KiB of stack, and every other
+ * call 16 KiB.
  *
  * Threads. A handle may be in one call at a time. Different threads may call for different domains of a monitor at the
  * same time. A handle may pass to another thread by anything that orders the last call of one thread before the next
@@ -225,8 +226,8 @@ static inline struct gthost_answer gthost_reset(struct gthost_domain *domain)
 /*
  * Grants a page to the domain `to`, for reading only if `ro` is not 0: publishes an entry instead of an invalid one
  * that has no pins left. Neither the frame nor the domain is checked here. If the owner has no such frame, each map or
- * copy by the entry is refused (N16). If the run has no such domain, the entry permits no one. N1 (a number above 65,535),
- * N9, N19, N20, N21, N22.
+ * copy by the entry is refused (N16). If the run has no such domain, the entry permits no one; only a number above
+ * 65,535 is refused (N1). N1, N9, N19, N20, N21, N22.
  */
 static inline struct gthost_answer gthost_grant_page(struct gthost_domain *domain, uint32_t gref, uint32_t to,
                                                      uint64_t frame, uint32_t ro)
@@ -366,11 +367,10 @@ static inline struct gthost_found_mapping gthost_mapping(struct gthost_domain *d
 }
 
 /*
- * Begins a copy: takes its pins, and returns the places that may be touched until gthost_copy_end. Asks for the
- * permission copy. Until then every
- * other call on this handle gives GTHOST_BUSY, except gthost_finish and gthost_reset, which end the copy. The program
- * must touch only these bytes, and only until the end; the library can't check it. `len` may be 0. After a refusal, by
- * N1 to N5, N9 to N11, or N13 to N18, no pin is kept.
+ * Begins a copy: takes its pins, and returns the places that may be touched until gthost_copy_end. Until then every
+ * other call on this handle gives GTHOST_BUSY, except gthost_finish and gthost_reset, which end the copy. Asks for the
+ * permission copy. The program must touch only these bytes, and only until the end; the library can't check it. `len`
+ * may be 0. After a refusal, by N1 to N5, N9 to N11, or N13 to N18, no pin is kept.
  */
 static inline struct gthost_begun_copy gthost_copy_begin(struct gthost_domain *domain, struct gthost_copy copy)
 {

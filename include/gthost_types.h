@@ -171,7 +171,8 @@ enum gthost_permission {
 /*
  * The result of a call. A field without a meaning is 0. No two results have the same answer. The `word` of an entry has
  * bit 0 set if it is valid, its read pins in bits 4 to 15, its write pins in 16 to 27, the domain that it permits in 28
- * to 43, and its generation in 44 to 63. The `word` of a header has the version in bits 0 and 1, and the number of frames in 2 to 9.
+ * to 43, and its generation in 44 to 63. The `word` of a header has the version in bits 0 and 1, and the number of
+ * frames in 2 to 9.
  */
 struct gthost_answer {
     uint32_t rule;   /* enum gthost_rule */

@@ -265,7 +265,7 @@ bool xg_start(const struct xg_domain *domains, size_t count, const char *policy,
             return false;
         }
         settings[i].id = domains[i].id;
-        settings[i].label = (uint16_t)type.label;
+        settings[i].label = type.label;
         settings[i].frames = domains[i].frames;
         settings[i].table_frames = domains[i].table;
         settings[i].version = domains[i].version;
@@ -416,7 +416,7 @@ static void reap(struct dom *dom)
     dom->laters = kept;
 }
 
-static uint32_t grant(struct dom *dom, uint64_t frame, uint16_t to, bool read_only)
+static uint32_t grant(struct dom *dom, uint64_t frame, uint32_t to, bool read_only)
 {
     if (dom->laters && dom->free < 64) {
         reap(dom);
@@ -430,7 +430,9 @@ static uint32_t grant(struct dom *dom, uint64_t frame, uint16_t to, bool read_on
         } else {
             __tsan_release(dom->base + frame * PAGE);
             const struct gthost_answer answer = gthost_grant_page(&dom->gt, ref, to, frame, read_only);
-            trace(dom, answer, "grant %u page %u %s %llu", ref, to, read_only ? "ro" : "rw", (unsigned long long)frame);
+            if (to < NUMBERS) {
+                trace(dom, answer, "grant %u page %u %s %llu", ref, to, read_only ? "ro" : "rw", (unsigned long long)frame);
+            }
             if (answer.rule == GTHOST_N22) {
                 continue; /* worn: it is lost for the rest of the run */
             }
@@ -494,7 +496,7 @@ static void end_later(struct dom *dom, uint32_t ref, bool frees)
     dom->counts.deferred++;
 }
 
-uint32_t xg_grant(uint64_t frame, uint16_t to, bool read_only)
+uint32_t xg_grant(uint64_t frame, uint32_t to, bool read_only)
 {
     lock(current);
     const uint32_t ref = grant(current, frame, to, read_only);
@@ -1054,7 +1056,7 @@ static void *share(xengntshr_handle *xgs, uint32_t domid, int count, uint32_t *r
     region->notify_port = port;
     memset(region->at, 0, (size_t)count * PAGE);
     for (int i = 0; i < count; i++) {
-        const uint32_t ref = grant(dom, frame + (uint64_t)i, (uint16_t)domid, !writable);
+        const uint32_t ref = grant(dom, frame + (uint64_t)i, domid, !writable);
         if (!ref) {
             const int why = errno;
             for (int j = i; j < count; j++) {
