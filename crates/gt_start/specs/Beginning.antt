@@ -1,7 +1,8 @@
 -- How a run starts, and why one does not.
-use Rattle.std.specs.Prelude.{◌≡◌, ◌⊎◌, ℕ, min, Bool, nat_le, List, length, map, position, slice_get, Some, None, Ok, Err}
+use Rattle.std.specs.Prelude.{◌≡◌, ◌⊎◌, ℕ, min, Bool, nat_le, List, length, map, position, slice_get, Some, None}
+use Rattle.std.specs.Prelude.{Ok, Err}
 use Rattle.std.specs.Str.{IsUtf8}
-use Rattle.gt_roster.specs.Frameless.{HasOneFrameEach}
+use Rattle.gt_roster.specs.Frameless.{HasOneFrameEach, IsRunnable}
 use Rattle.gt_types.specs.Config.{IsFirstFault}
 use Rattle.gt_types.specs.declared.TypeId.{TypeId}
 use Rattle.gt_types.specs.declared.config.Config.{Config}
@@ -51,11 +52,12 @@ abbrev pub IsPolicyMeaning : List ℕ → Meaning → Type 0
 IsPolicyMeaning text m = IsUtf8 text × ReadsAs text (Ok m)
 
 -- a run started with these settings under this text: the attached domains are those of a new run of the settings'
--- domains, whose labels are types of the policy, and whose rights are those of the text
+-- domains, which are within the limits, whose labels are types of the policy, and whose rights are those of the text
 pub record Begins (settings : List DomainSettings) (first_gen : ℕ) (text : List ℕ) (guests : List (Seated Table))
     : Type 0 where
   pub config : Config
   pub set : IsSetBy settings first_gen config
+  pub runnable : IsRunnable config
   pub meaning : Meaning
   pub reads : IsPolicyMeaning text meaning
   pub labels : AreTypes (length meaning.types) settings
