@@ -6,10 +6,9 @@ use Rattle.gt_model.specs.declared.control.Control.{Control}
 use Rattle.gt_model.specs.declared.control.EntryKind.TheVariants as kinds
 use Rattle.gt_model.specs.Rules.{size_of}
 use Rattle.gt_model.specs.Words.{is_kind}
-use Rattle.gt_word_history.specs.Rule.{Layout}
-use Rattle.gt_word_history.specs.Views.{own_table}
 use Rattle.gt_live.specs.Closing.{LooksAtOwn, has_pins}
 use Rattle.gt_live.specs.Parts.{seat_of}
+use Rattle.gt_live.specs.Prelude.{Layout, own_table}
 use Rattle.gt_live.specs.declared.domain.Domain.{Domain}
 
 -- the entry is invalid, and has pins of some kind
