@@ -21,15 +21,23 @@
  *
  * Memory comes from the program's malloc. Only gthost_start, gthost_type_of, gthost_map (for its mapping),
  * gthost_reserve_records and the records that are kept allocate. A run of one domain takes 1 MB. A run of 64 domains
- * takes 51 MB, and 68 MB while it starts. Records take 48 bytes each, in pieces of 12 KiB. They are kept until
- * gthost_take_records, which keeps their room for later ones, or until gthost_finish. A mapping takes less than 100
- * bytes. gthost_start needs 64 KiB of stack, and every other call 16 KiB.
+ * takes 51 MB, and 68 MB while it starts. A domain keeps no records until gthost_keep_at_most asks for some. Records
+ * take 48 bytes each, in pieces of 12 KiB. They are kept until gthost_take_records, which keeps their room for later
+ * ones, or until gthost_finish. A mapping takes less than 100 bytes. gthost_start needs 64 KiB of stack, and every other
+ * call 16 KiB.
  *
  * Threads. A handle may be in one call at a time. Different threads may call for different domains of a monitor at the
  * same time. A handle may pass to another thread by anything that orders the last call of one thread before the next
  * call of the other: a lock, the start or the join of a thread, or a store with release and a load with acquire. Make
  * no call from a signal handler, or from the forked child of a process with threads. gthost_start and gthost_finish
  * write handles, and the other calls only read theirs, so handles of several threads may lie next to each other.
+ *
+ * Locks. If several threads make calls for one domain, as the processors of a guest or the queues of a back end do, take
+ * a lock for each handle, and hold it for one call at a time; a copy holds its handle from gthost_copy_begin to
+ * gthost_copy_end. Some uses need two handles, as gthost_follow of the owner's entry before the mapper's gthost_map.
+ * Take two locks in the order of the domains' numbers: otherwise two domains that map each other's pages wait for each
+ * other. Calls for different domains need no common lock. So a back end with several workers is faster with a domain for
+ * each worker, all of one type.
  *
  * The order of bytes. All steps of the monitor are sequentially consistent. If gthost_revoke returns GTHOST_OK, every
  * access that another thread made before its unmap (or its gthost_copy_end) happens before that return, in the sense of
@@ -46,7 +54,9 @@
  * wrote. A domain has one handle. Everything else is tested when a call is made. The inline functions of this header
  * return GTHOST_NULL_POINTER for a null pointer, and pass none to the library. The library, which is proved, tests the
  * rest: a wrong number is refused by a rule, a handle without a domain gives GTHOST_NO_DOMAIN, and one in a copy
- * GTHOST_BUSY. A program in another language calls the exports of the library, whose names end in _at, and tests for
+ * GTHOST_BUSY. Domains, offsets, lengths and the flags of a copy have 16 bits, and are passed in 32, so that none is cut:
+ * a larger domain is refused by N1, an offset or a length by N3 (N21 in a grant), and flags by N2. Such a call is not
+ * recorded. A program in another language calls the exports of the library, whose names end in _at, and tests for
  * null itself.
  *
  * After a refusal the domain's mappings, its pins and its table are unchanged. Only a refused gthost_follow may have
@@ -121,11 +131,11 @@ uint32_t gthost_version(void);
  */
 struct gthost_answer gthost_finish_at(struct gthost_domain *domain);
 struct gthost_answer gthost_reset_at(struct gthost_domain *domain);
-struct gthost_answer gthost_grant_page_at(struct gthost_domain *domain, uint32_t gref, uint16_t to, uint64_t frame,
+struct gthost_answer gthost_grant_page_at(struct gthost_domain *domain, uint32_t gref, uint32_t to, uint64_t frame,
                                           uint32_t ro);
-struct gthost_answer gthost_grant_sub_at(struct gthost_domain *domain, uint32_t gref, uint16_t to, uint64_t frame,
-                                         uint16_t off, uint16_t len, uint32_t ro);
-struct gthost_answer gthost_grant_via_at(struct gthost_domain *domain, uint32_t gref, uint16_t to, uint16_t dom2,
+struct gthost_answer gthost_grant_sub_at(struct gthost_domain *domain, uint32_t gref, uint32_t to, uint64_t frame,
+                                         uint32_t off, uint32_t len, uint32_t ro);
+struct gthost_answer gthost_grant_via_at(struct gthost_domain *domain, uint32_t gref, uint32_t to, uint32_t dom2,
                                          uint32_t ref2, uint32_t ro);
 struct gthost_answer gthost_grant_bytes_at(struct gthost_domain *domain, uint32_t gref,
                                            struct gthost_entry_bytes bytes);
@@ -135,7 +145,8 @@ struct gthost_answer gthost_withdraw_at(struct gthost_domain *domain, uint32_t g
 struct gthost_answer gthost_demote_at(struct gthost_domain *domain, uint32_t gref);
 struct gthost_answer gthost_promote_at(struct gthost_domain *domain, uint32_t gref);
 struct gthost_found_entry gthost_entry_at(struct gthost_domain *domain, uint32_t gref);
-void gthost_map_at(struct gthost_domain *domain, uint16_t dom, uint32_t gref, uint32_t flags,
+struct gthost_answer gthost_unused_at(struct gthost_domain *domain, uint32_t from);
+void gthost_map_at(struct gthost_domain *domain, uint32_t dom, uint32_t gref, uint32_t flags,
                    struct gthost_answer *answer);
 void gthost_unmap_at(struct gthost_domain *domain, const struct gthost_handle *name, struct gthost_answer *answer);
 struct gthost_found_mapping gthost_mapping_at(struct gthost_domain *domain, struct gthost_handle name);
@@ -143,8 +154,8 @@ struct gthost_begun_copy gthost_copy_begin_at(struct gthost_domain *domain, stru
 struct gthost_answer gthost_copy_end_at(struct gthost_domain *domain);
 struct gthost_answer gthost_set_version_at(struct gthost_domain *domain, uint32_t version);
 struct gthost_answer gthost_setup_table_at(struct gthost_domain *domain, uint32_t frames);
-struct gthost_answer gthost_query_size_at(struct gthost_domain *domain, uint16_t dom);
-struct gthost_answer gthost_get_version_at(struct gthost_domain *domain, uint16_t dom);
+struct gthost_answer gthost_query_size_at(struct gthost_domain *domain, uint32_t dom);
+struct gthost_answer gthost_get_version_at(struct gthost_domain *domain, uint32_t dom);
 struct gthost_found_record gthost_record_at(struct gthost_domain *domain, size_t index);
 struct gthost_answer gthost_take_records_at(struct gthost_domain *domain);
 struct gthost_answer gthost_keep_at_most_at(struct gthost_domain *domain, size_t records);
@@ -215,24 +226,28 @@ static inline struct gthost_answer gthost_reset(struct gthost_domain *domain)
 /*
  * Grants a page to the domain `to`, for reading only if `ro` is not 0: publishes an entry instead of an invalid one
  * that has no pins left. Neither the frame nor the domain is checked here. If the owner has no such frame, each map or
- * copy by the entry is refused (N16). If the run has no such domain, the entry permits no one. N9, N19, N20, N21, N22.
+ * copy by the entry is refused (N16). If the run has no such domain, the entry permits no one; only a number above
+ * 65,535 is refused (N1). N1, N9, N19, N20, N21, N22.
  */
-static inline struct gthost_answer gthost_grant_page(struct gthost_domain *domain, uint32_t gref, uint16_t to,
+static inline struct gthost_answer gthost_grant_page(struct gthost_domain *domain, uint32_t gref, uint32_t to,
                                                      uint64_t frame, uint32_t ro)
 {
     return domain ? gthost_grant_page_at(domain, gref, to, frame, ro) : gthost_null_answer();
 }
 
-/* Grants `len` bytes of a page, starting at `off`, for copies only. Needs a table of version 2. N9, N19 to N22. */
-static inline struct gthost_answer gthost_grant_sub(struct gthost_domain *domain, uint32_t gref, uint16_t to,
-                                                    uint64_t frame, uint16_t off, uint16_t len, uint32_t ro)
+/* Grants `len` bytes of a page, starting at `off`, for copies only. Needs a table of version 2. N1, N9, N19 to N22. */
+static inline struct gthost_answer gthost_grant_sub(struct gthost_domain *domain, uint32_t gref, uint32_t to,
+                                                    uint64_t frame, uint32_t off, uint32_t len, uint32_t ro)
 {
     return domain ? gthost_grant_sub_at(domain, gref, to, frame, off, len, ro) : gthost_null_answer();
 }
 
-/* Grants the copies that the entry `ref2` of `dom2` permits the caller. Needs a table of version 2. N9, N19 to N22. */
-static inline struct gthost_answer gthost_grant_via(struct gthost_domain *domain, uint32_t gref, uint16_t to,
-                                                    uint16_t dom2, uint32_t ref2, uint32_t ro)
+/*
+ * Grants the copies that the entry `ref2` of `dom2` permits the caller. Needs a table of version 2. N1 (a number above
+ * 65,535), N9, N19 to N22.
+ */
+static inline struct gthost_answer gthost_grant_via(struct gthost_domain *domain, uint32_t gref, uint32_t to,
+                                                    uint32_t dom2, uint32_t ref2, uint32_t ro)
 {
     return domain ? gthost_grant_via_at(domain, gref, to, dom2, ref2, ro) : gthost_null_answer();
 }
@@ -292,7 +307,8 @@ static inline struct gthost_answer gthost_promote(struct gthost_domain *domain, 
 
 /*
  * Looks once at one of the domain's entries: its kind, its generation and its pins. A withdrawn entry keeps its pins
- * until the others release them. GTHOST_ABSENT if the reference is beyond the table.
+ * until the others release them; whom it permitted is then no longer known, and `to` is 0. GTHOST_ABSENT if the
+ * reference is beyond the table.
  */
 static inline struct gthost_found_entry gthost_entry(struct gthost_domain *domain, uint32_t gref)
 {
@@ -300,11 +316,21 @@ static inline struct gthost_found_entry gthost_entry(struct gthost_domain *domai
 }
 
 /*
+ * Returns the least reference from `from` on (GTHOST_REFERENCE) whose entry is invalid and still has pins: its owner
+ * withdrew it, and others still use its page. GTHOST_ABSENT if the table has none. It looks at each entry up to that one.
+ */
+static inline struct gthost_answer gthost_unused(struct gthost_domain *domain, uint32_t from)
+{
+    return domain ? gthost_unused_at(domain, from) : gthost_null_answer();
+}
+
+/*
  * Maps the entry `gref` of the domain `dom`. `flags` is GTHOST_MAP_WRITABLE, which asks for map_read and map_write, or
- * GTHOST_MAP_READ_ONLY, which asks for map_read. The answer is a GTHOST_HANDLE; gthost_handle_of reads the name of the
+ * GTHOST_MAP_READ_ONLY, which asks for map_read. The answer is a GTHOST_HANDLE: gthost_handle_of reads the name of the
+ * mapping, and gthost_mapped_of its owner, its frame and its right. The domain may touch the frame until it unmaps the
  * mapping. N1, N2, N5, N8 to N13, N16 to N18, N26.
  */
-static inline struct gthost_answer gthost_map(struct gthost_domain *domain, uint16_t dom, uint32_t gref, uint32_t flags)
+static inline struct gthost_answer gthost_map(struct gthost_domain *domain, uint32_t dom, uint32_t gref, uint32_t flags)
 {
     struct gthost_answer answer;
     if (domain) {
@@ -315,7 +341,11 @@ static inline struct gthost_answer gthost_map(struct gthost_domain *domain, uint
     return answer;
 }
 
-/* Unmaps a mapping: releases its pin. Its name is never used again. After N5 the mapping stays. N5, N6. */
+/*
+ * Unmaps a mapping: releases its pin. Its name is never used again. The answer is a GTHOST_RELEASED, with the entry and
+ * the control word that this left. If that counts no pins (gthost_reads_in, gthost_writes_in), this was the last one:
+ * tell the owner, which may wait for that. Asks for the permission unmap. After N5 the mapping stays. N5, N6.
+ */
 static inline struct gthost_answer gthost_unmap(struct gthost_domain *domain, struct gthost_handle name)
 {
     struct gthost_answer answer;
@@ -338,16 +368,19 @@ static inline struct gthost_found_mapping gthost_mapping(struct gthost_domain *d
 
 /*
  * Begins a copy: takes its pins, and returns the places that may be touched until gthost_copy_end. Until then every
- * other call on this handle gives GTHOST_BUSY, except gthost_finish and gthost_reset, which end the copy. The program
- * must touch only these bytes, and only until the end; the library can't check it. `len` may be 0. After a refusal, by
- * N1 to N5, N9 to N11, or N13 to N18, no pin is kept.
+ * other call on this handle gives GTHOST_BUSY, except gthost_finish and gthost_reset, which end the copy. Asks for the
+ * permission copy. The program must touch only these bytes, and only until the end; the library can't check it. `len`
+ * may be 0. After a refusal, by N1 to N5, N9 to N11, or N13 to N18, no pin is kept.
  */
 static inline struct gthost_begun_copy gthost_copy_begin(struct gthost_domain *domain, struct gthost_copy copy)
 {
     return domain ? gthost_copy_begin_at(domain, copy) : gthost_null_copy();
 }
 
-/* Ends the copy: releases its pins, the last one first. GTHOST_NO_COPY if there is none. */
+/*
+ * Ends the copy: releases its pins, the last one first. The answer is a GTHOST_ENDED, with the control words that this
+ * left in the entries that the copy named. GTHOST_NO_COPY if there is none.
+ */
 static inline struct gthost_answer gthost_copy_end(struct gthost_domain *domain)
 {
     return domain ? gthost_copy_end_at(domain) : gthost_null_answer();
@@ -366,13 +399,13 @@ static inline struct gthost_answer gthost_setup_table(struct gthost_domain *doma
 }
 
 /* Returns the number of frames of a domain's table, and the maximum (GTHOST_SIZE). N1, N5. */
-static inline struct gthost_answer gthost_query_size(struct gthost_domain *domain, uint16_t dom)
+static inline struct gthost_answer gthost_query_size(struct gthost_domain *domain, uint32_t dom)
 {
     return domain ? gthost_query_size_at(domain, dom) : gthost_null_answer();
 }
 
 /* Returns the version of a domain's table (GTHOST_TABLE_VERSION). N1, N5. */
-static inline struct gthost_answer gthost_get_version(struct gthost_domain *domain, uint16_t dom)
+static inline struct gthost_answer gthost_get_version(struct gthost_domain *domain, uint32_t dom)
 {
     return domain ? gthost_get_version_at(domain, dom) : gthost_null_answer();
 }
@@ -400,8 +433,8 @@ static inline struct gthost_answer gthost_take_records(struct gthost_domain *dom
 
 /*
  * Bounds the number of records. A call is recorded while there are fewer than `records`; otherwise its record is lost.
- * With 0 none is kept. Records that are there stay. At the start there is no bound, so a program that runs for long
- * sets one, or calls gthost_take_records from time to time.
+ * With 0, the bound at the start, none is kept. Records that are there stay. A program that runs for long sets a bound,
+ * or calls gthost_take_records from time to time.
  */
 static inline struct gthost_answer gthost_keep_at_most(struct gthost_domain *domain, size_t records)
 {

@@ -30,8 +30,8 @@ enum {
 
 /* A domain of a run to start. */
 struct gthost_settings {
-    uint16_t id;           /* its number: below GTHOST_DOMID_SELF, and not that of another domain */
-    uint16_t label;        /* the number of its type in the policy: types count from 0, attributes don't count */
+    uint32_t id;           /* its number: below GTHOST_DOMID_SELF, and not that of another domain */
+    uint32_t label;        /* the number of its type in the policy: types count from 0, attributes don't count */
     uint32_t frames;       /* the number of its frames, 1 to GTHOST_MAX_FRAMES */
     uint32_t table_frames; /* the number of its grant table's frames, 1 to GTHOST_MAX_TABLE_FRAMES */
     uint32_t version;      /* of its grant table: 1 or GTHOST_LAST_VERSION */
@@ -51,7 +51,7 @@ enum gthost_fault_kind {
     GTHOST_FAULT_TEXT = 9,         /* the policy is not UTF-8 */
     GTHOST_FAULT_NO_DOMAINS = 10,
     GTHOST_FAULT_TOO_MANY = 11,    /* domains: `dom` is the first too many */
-    GTHOST_FAULT_ID = 12,          /* the number `dom` is out of range */
+    GTHOST_FAULT_ID = 12,          /* the number `dom` is out of range; 65,535 for a larger one */
     GTHOST_FAULT_REPEATED = 13,    /* the number `dom` is given twice */
     GTHOST_FAULT_FRAMES = 14,      /* of `dom` are out of range */
     GTHOST_FAULT_TABLE_FRAMES = 15,/* of `dom` are out of range */
@@ -74,9 +74,9 @@ struct gthost_fault {
  */
 enum gthost_rule {
     GTHOST_OK = 0,
-    GTHOST_N1 = 1,   /* the domain named is not in the run */
+    GTHOST_N1 = 1,   /* the domain named is not in the run, or its number is above 65,535 */
     GTHOST_N2 = 2,   /* flags or a version that the call does not accept */
-    GTHOST_N3 = 3,   /* offset plus length is above GTHOST_FRAME_SIZE */
+    GTHOST_N3 = 3,   /* offset plus length is above GTHOST_FRAME_SIZE, or one of them is above 65,535 */
     GTHOST_N4 = 4,   /* a copy names a frame of another domain by its number */
     GTHOST_N5 = 5,   /* the policy denies it */
     GTHOST_N6 = 6,   /* the domain has no mapping with this name */
@@ -117,7 +117,7 @@ enum { GTHOST_COPY_SOURCE_GREF = 1, GTHOST_COPY_DEST_GREF = 2 };
 /* The kind of an answer: what its other fields mean. */
 enum gthost_kind {
     GTHOST_NOTHING = 0,
-    GTHOST_HANDLE = 1,  /* Ok: the name of a mapping; gthost_handle_of reads it */
+    GTHOST_HANDLE = 1,  /* Ok: a new mapping; gthost_handle_of reads its name, gthost_mapped_of what it maps */
     GTHOST_FRAMES = 2,  /* Ok: `value` frames */
     GTHOST_TABLE_VERSION = 3, /* Ok: the version `value` */
     GTHOST_SIZE = 4,    /* Ok: `value` frames of at most `more` */
@@ -128,7 +128,11 @@ enum gthost_kind {
     GTHOST_ENTRY = 8,   /* refused: the control `word` of the entry `gref` of the domain `dom` */
     GTHOST_LEFT = 9,    /* Ok: the domain left or was reset; `value` records were lost, `more` entries are in use */
     GTHOST_TAKEN = 10,  /* Ok: `value` records were taken; `more` were lost before */
-    GTHOST_FOLLOWED = 11 /* Ok: the entry is what its guest has written; `value` was done (enum gthost_followed) */
+    GTHOST_FOLLOWED = 11, /* Ok: the entry is what its guest has written; `value` was done (enum gthost_followed) */
+    GTHOST_RELEASED = 12, /* Ok: an unmap; the control `word` of the entry `gref` of the domain `dom` just after it */
+    GTHOST_ENDED = 13,    /* Ok: a copy ended; the control words of the entries that it named just after it: `word` of
+                             the source, `value` of the destination, 0 for an end that is a frame */
+    GTHOST_REFERENCE = 14 /* Ok: the reference `gref` */
 };
 
 /* What gthost_follow did to an entry. */
@@ -166,8 +170,9 @@ enum gthost_permission {
 
 /*
  * The result of a call. A field without a meaning is 0. No two results have the same answer. The `word` of an entry has
- * its read pins in bits 4 to 15, its write pins in 16 to 27, the domain that it permits in 28 to 43, and its generation
- * in 44 to 63. The `word` of a header has the version in bits 0 and 1, and the number of frames in 2 to 9.
+ * bit 0 set if it is valid, its read pins in bits 4 to 15, its write pins in 16 to 27, the domain that it permits in 28
+ * to 43, and its generation in 44 to 63. The `word` of a header has the version in bits 0 and 1, and the number of
+ * frames in 2 to 9.
  */
 struct gthost_answer {
     uint32_t rule;   /* enum gthost_rule */
@@ -191,13 +196,13 @@ struct gthost_handle {
     uint64_t serial;
     size_t key;
     uint32_t run; /* the number of the run (gthost_start) */
-    uint16_t dom; /* the domain that has the mapping */
+    uint32_t dom; /* the domain that has the mapping */
 };
 
 /* Returns the name in an answer of the kind GTHOST_HANDLE. */
 static inline struct gthost_handle gthost_handle_of(struct gthost_answer answer)
 {
-    const struct gthost_handle name = {answer.value, (size_t)answer.more, answer.detail, (uint16_t)answer.dom};
+    const struct gthost_handle name = {answer.value, (size_t)answer.more, answer.detail, answer.dom};
     return name;
 }
 
@@ -205,9 +210,34 @@ static inline struct gthost_handle gthost_handle_of(struct gthost_answer answer)
 struct gthost_mapping {
     uint64_t frame;
     uint32_t gref;
-    uint16_t owner;
-    uint16_t writes;
+    uint32_t owner;
+    uint32_t writes;
 };
+
+/* Returns what the new mapping maps, from an answer of the kind GTHOST_HANDLE. */
+static inline struct gthost_mapping gthost_mapped_of(struct gthost_answer answer)
+{
+    const struct gthost_mapping mapping = {answer.word, answer.gref, answer.source, answer.target};
+    return mapping;
+}
+
+/* Returns the pins for reading that a control word counts. */
+static inline uint32_t gthost_reads_in(uint64_t word)
+{
+    return (uint32_t)(word >> 4) & 0xFFF;
+}
+
+/* Returns the pins for writing that a control word counts. */
+static inline uint32_t gthost_writes_in(uint64_t word)
+{
+    return (uint32_t)(word >> 16) & 0xFFF;
+}
+
+/* Returns whether the control word is of a valid entry. */
+static inline bool gthost_is_valid(uint64_t word)
+{
+    return (word & 1) != 0;
+}
 
 /* The kinds of entries. */
 enum gthost_entry_kind {
@@ -221,39 +251,39 @@ enum gthost_entry_kind {
 struct gthost_entry_status {
     uint32_t kind;       /* enum gthost_entry_kind */
     uint32_t generation; /* GTHOST_LAST_GENERATION: the reference is worn */
-    uint16_t reads;      /* live pins for reading: each mapping for reading is one, and each copy from the entry */
-    uint16_t writes;     /* live pins for writing */
-    uint16_t to;         /* the domain that it permits; 0 if it is invalid */
-    uint16_t read_only;  /* 1 if it is read-only, else 0 */
+    uint32_t reads;      /* live pins for reading: each mapping for reading is one, and each copy from the entry */
+    uint32_t writes;     /* live pins for writing */
+    uint32_t to;         /* the domain that it permits; 0 if it is invalid */
+    uint32_t read_only;  /* 1 if it is read-only, else 0 */
 };
 
 /* An end of a copy: `ptr` is a reference of the domain `dom`, or the number of one of the caller's own frames. */
 struct gthost_end {
     uint64_t ptr;
-    uint16_t dom;
-    uint16_t off;
+    uint32_t dom;
+    uint32_t off;
 };
 
 /* The arguments of a copy. */
 struct gthost_copy {
     struct gthost_end source;
     struct gthost_end dest;
-    uint16_t len;
-    uint16_t flags; /* GTHOST_COPY_SOURCE_GREF and GTHOST_COPY_DEST_GREF: which ends are references */
+    uint32_t len;
+    uint32_t flags; /* GTHOST_COPY_SOURCE_GREF and GTHOST_COPY_DEST_GREF: which ends are references */
 };
 
 /* A place: the byte `off` of the frame `frame` of `owner`. */
 struct gthost_place {
     uint64_t frame;
-    uint16_t owner;
-    uint16_t off;
+    uint32_t owner;
+    uint32_t off;
 };
 
 /* The places of a copy: `len` bytes may be read at `from` and written at `to`. */
 struct gthost_places {
     struct gthost_place from;
     struct gthost_place to;
-    uint16_t len;
+    uint32_t len;
 };
 
 /* The call of a record. */

@@ -41,7 +41,7 @@ ZEROS = {"GTHOST_OK", "GTHOST_NOTHING", "GTHOST_FAULT_NONE"}
 # Functions of the header that call no export.
 OWN = {
     "gthost_handle_of", "gthost_null_answer", "gthost_null_mapping", "gthost_null_entry", "gthost_null_record",
-    "gthost_null_copy",
+    "gthost_null_copy", "gthost_mapped_of", "gthost_reads_in", "gthost_writes_in", "gthost_is_valid",
 }
 # The limits of gt_types that the header names.
 LIMITS = {
@@ -194,8 +194,12 @@ def numbers(text):
     """Each number that the Rattle side has a word for, by its name in the header."""
     for word, number in re.findall(r"AttachedOutcome::(\w+)\(\w+\) => given\((\d+),", text):
         yield f"GTHOST_{KINDS.get(word, spelled(word))}", number
-    for number in re.findall(r"fn mapped\(name: MappingName\).*?kind: (\d+),", text, re.S):
+    for number in re.findall(r"fn mapped\(made: NamedMapping\).*?kind: (\d+),", text, re.S):
         yield "GTHOST_HANDLE", number
+    for number in re.findall(r"fn released\(left: LeftWord\).*?kind: (\d+),", text, re.S):
+        yield "GTHOST_RELEASED", number
+    for word, number in re.findall(r"AttachedOutcome::(Ended|Reference)\(\w+\) => EncodedAnswer \{\s*kind: (\d+),", text):
+        yield f"GTHOST_{spelled(word)}", number
     for number, word in enumerate(re.findall(r"^\s*(N\d+)(?: = 1)?,$", text, re.M), 1):
         yield f"GTHOST_{word}", str(number)
     for word, number in re.findall(r"\bFollowed::(\w+) => (\d+),", text):
@@ -210,7 +214,7 @@ def numbers(text):
         yield f"GTHOST_{word}", number
     for word, number in re.findall(r"(?:PolicyFaultKind|ConfigFault)::(\w+)(?:\(\w+\))? => fault_at\((\d+),", text):
         yield f"GTHOST_FAULT_{spelled(word)}", number
-    for number in re.findall(r"fn label_fault.*?fault_at\((\d+),", text, re.S):
+    for number in re.findall(r"fn label_fault.*?kind: (\d+),", text, re.S):
         yield "GTHOST_FAULT_LABEL", number
     for word, number in re.findall(r"const (MEMORY|HANDLES|TEXT|NO_TYPE): EncodedFault = EncodedFault \{\s*kind: (\d+),", text):
         yield f"GTHOST_FAULT_{word}", number

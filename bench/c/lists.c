@@ -4,6 +4,7 @@
  * It reads one script from standard input, in the form of docs/FORMATS.md: a policy block, `wear`, `domain` lines, and
  * `do` lines of the calls that the library has. `begin` and two lines `tick` are a copy in two halves: it begins, comes
  * to its access, and ends. A script that is out of this form is the fault of its writer, and ends the program.
+ * Before each call it makes the same with each of its numbers above 65,535 in turn, which the library has to refuse.
  */
 #include "gthost.h"
 
@@ -20,7 +21,7 @@ struct named {
 };
 
 struct member {
-    uint16_t id;
+    uint32_t id;
     struct gthost_domain *domain;
     struct named named[LABELS];
     size_t named_count, recorded;
@@ -67,9 +68,18 @@ static uint64_t number(size_t place)
     return strtoull(at(place), NULL, 10);
 }
 
-static uint16_t dom(size_t place)
+/* What is added to the domains, offsets and lengths of a call: 0, or a number that makes one of them too large. */
+static uint32_t excess;
+static size_t excess_place;
+
+static uint32_t narrow(size_t place)
 {
-    return strcmp(at(place), "self") == 0 ? SELF : (uint16_t)number(place);
+    return (uint32_t)number(place) + (place == excess_place ? excess : 0);
+}
+
+static uint32_t dom(size_t place)
+{
+    return (strcmp(at(place), "self") == 0 ? SELF : (uint32_t)number(place)) + (place == excess_place ? excess : 0);
 }
 
 static bool is(size_t place, const char *what)
@@ -255,7 +265,7 @@ static void grant(struct gthost_domain *domain, struct gthost_answer *answer)
     if (is(4, "page")) {
         *answer = gthost_grant_page(domain, gref, dom(5), number(7), ro);
     } else if (is(4, "sub")) {
-        *answer = gthost_grant_sub(domain, gref, dom(5), number(7), (uint16_t)number(8), (uint16_t)number(9), ro);
+        *answer = gthost_grant_sub(domain, gref, dom(5), number(7), narrow(8), narrow(9), ro);
     } else {
         *answer = gthost_grant_via(domain, gref, dom(5), dom(7), (uint32_t)number(8), ro);
     }
@@ -264,10 +274,10 @@ static void grant(struct gthost_domain *domain, struct gthost_answer *answer)
 static void copy_begin(struct gthost_domain *domain, struct gthost_answer *answer)
 {
     const struct gthost_copy copy = {
-        {number(5), dom(4), (uint16_t)number(6)},
-        {number(9), dom(8), (uint16_t)number(10)},
-        (uint16_t)number(11),
-        (uint16_t)((is(3, "gref") ? GTHOST_COPY_SOURCE_GREF : 0) | (is(7, "gref") ? GTHOST_COPY_DEST_GREF : 0)),
+        {number(5), dom(4), narrow(6)},
+        {number(9), dom(8), narrow(10)},
+        narrow(11),
+        (is(3, "gref") ? GTHOST_COPY_SOURCE_GREF : 0) | (is(7, "gref") ? GTHOST_COPY_DEST_GREF : 0),
     };
     *answer = gthost_copy_begin(domain, copy).answer;
 }
@@ -329,6 +339,37 @@ static struct member *caller(void)
     return NULL;
 }
 
+/*
+ * The same call with one number above 65,535, drawn by the line: it is refused by the rule of that number, is not
+ * recorded, and changes nothing, as the answers and the audit of all later calls show.
+ */
+static void refused_wide(struct member *member)
+{
+    static const struct {
+        const char *call, *kind;
+        size_t place;
+        uint32_t rule;
+    } numbers[] = {
+        {"map", NULL, 4, GTHOST_N1},     {"size", NULL, 3, GTHOST_N1},   {"getversion", NULL, 3, GTHOST_N1},
+        {"grant", NULL, 5, GTHOST_N1},   {"grant", "sub", 8, GTHOST_N21}, {"grant", "sub", 9, GTHOST_N21},
+        {"grant", "via", 7, GTHOST_N1},  {"copy", NULL, 4, GTHOST_N1},   {"copy", NULL, 8, GTHOST_N1},
+        {"copy", NULL, 6, GTHOST_N3},    {"copy", NULL, 10, GTHOST_N3},  {"copy", NULL, 11, GTHOST_N3},
+    };
+    struct gthost_answer answer;
+    for (size_t i = 0; i < sizeof numbers / sizeof numbers[0]; i++) {
+        if (!is(2, numbers[i].call) || (numbers[i].kind && !is(4, numbers[i].kind))) {
+            continue;
+        }
+        excess_place = numbers[i].place;
+        excess = 0x10000u << (line_number + i) % 16;
+        call(member, &answer);
+        excess = 0;
+        if (answer.rule != (member->open ? (uint32_t)GTHOST_BUSY : numbers[i].rule)) {
+            stop("a number above 65,535 is not refused");
+        }
+    }
+}
+
 /* A whole call. The domain of a copy that has begun makes none: the library says so itself. */
 static void whole(struct member *member)
 {
@@ -336,6 +377,7 @@ static void whole(struct member *member)
     if (member->open && member->is_refused) {
         stop("a call between a copy and its first tick");
     }
+    refused_wide(member);
     call(member, &answer);
     if ((answer.rule == GTHOST_BUSY) != (member->open != 0)) {
         stop("busy, or not");
@@ -397,7 +439,7 @@ static void domain(void)
     while (place < type_count && strcmp(types[place], label + 1) != 0) {
         place++;
     }
-    struct gthost_settings one = {(uint16_t)number(1), (uint16_t)place, (uint32_t)number(3), (uint32_t)number(4),
+    struct gthost_settings one = {(uint32_t)number(1), (uint32_t)place, (uint32_t)number(3), (uint32_t)number(4),
                                   (uint32_t)number(5)};
     settings[member_count] = one;
     members[member_count++].id = one.id;
@@ -413,6 +455,7 @@ static void start(void)
     }
     for (size_t i = 0; i < member_count; i++) {
         members[i].domain = &handles[i];
+        gthost_keep_at_most(&handles[i], SIZE_MAX);
     }
 }
 

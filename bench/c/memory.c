@@ -144,10 +144,9 @@ static void counts(bool is_ahead)
         return;
     }
     for (int i = 0; i < 2; i++) {
-        if (is_ahead) {
+        if (is_ahead) { /* otherwise none is kept: the bound at the start is 0 */
+            answer = gthost_keep_at_most(&domains[i], 100);
             answer = gthost_reserve_records(&domains[i], 100);
-        } else {
-            answer = gthost_keep_at_most(&domains[i], 0);
         }
     }
     warm(&domains[0], &domains[1]);
@@ -166,6 +165,7 @@ static void refused(void)
         failures++;
         return;
     }
+    answer = gthost_keep_at_most(&domains[1], 100);
     answer = gthost_grant_page(&domains[0], 7, 2, 5, 0);
     left = 0;
     NONE(26, answer = gthost_map(&domains[1], 1, 7, GTHOST_MAP_READ_ONLY));

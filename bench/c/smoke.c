@@ -35,7 +35,13 @@ static bool starts(const struct gthost_settings *settings, size_t count, const c
                    struct gthost_domain *out, size_t out_count, struct gthost_fault *fault)
 {
     *fault = gthost_start(settings, count, 0, 7, (const uint8_t *)policy, policy ? strlen(policy) : 0, out, out_count);
-    return fault->kind == GTHOST_FAULT_NONE;
+    if (fault->kind != GTHOST_FAULT_NONE) {
+        return false;
+    }
+    for (size_t i = 0; i < count; i++) {
+        gthost_keep_at_most(&out[i], SIZE_MAX);
+    }
+    return true;
 }
 
 static void faults(void)
@@ -67,6 +73,7 @@ static void shares(void)
     struct gthost_fault fault;
     struct gthost_answer answer;
     struct gthost_handle name;
+    struct gthost_mapping mapping;
     struct gthost_entry_bytes entry = {8, {1, 0, 2, 0, 5}};
     HOLDS(starts(two, COUNT(two), POLICY, domain, COUNT(domain), &fault));
     HOLDS(fault.kind == GTHOST_FAULT_NONE);
@@ -87,10 +94,20 @@ static void shares(void)
     answer = gthost_map(&domain[1], 1, 7, GTHOST_MAP_WRITABLE);
     WANT(GTHOST_OK, 0, GTHOST_HANDLE);
     name = gthost_handle_of(answer);
+    mapping = gthost_mapped_of(answer);
+    HOLDS(mapping.owner == 1 && mapping.gref == 7 && mapping.frame == 5 && mapping.writes == 1);
+    answer = gthost_map(&domain[1], 1, 7, GTHOST_MAP_READ_ONLY);
+    WANT(GTHOST_OK, 0, GTHOST_HANDLE);
+    HOLDS(gthost_mapped_of(answer).writes == 0);
+    answer = gthost_unmap(&domain[1], gthost_handle_of(answer));
+    WANT(GTHOST_OK, 0, GTHOST_RELEASED);
+    HOLDS(gthost_is_valid(answer.word) && gthost_writes_in(answer.word) == 1 && gthost_reads_in(answer.word) == 1);
     answer = gthost_revoke(&domain[0], 7);
     WANT(19, -1, GTHOST_ENTRY);
     answer = gthost_unmap(&domain[1], name);
-    WANT(GTHOST_OK, 0, GTHOST_NOTHING);
+    WANT(GTHOST_OK, 0, GTHOST_RELEASED);
+    HOLDS(answer.dom == 1 && answer.gref == 7 && gthost_is_valid(answer.word));
+    HOLDS(gthost_writes_in(answer.word) == 0 && gthost_reads_in(answer.word) == 0);
     answer = gthost_unmap(&domain[1], name);
     WANT(6, -4, GTHOST_NOTHING);
     answer = gthost_revoke(&domain[0], 7);
@@ -216,9 +233,17 @@ static void leaves(void)
     answer = gthost_map(&domain[1], 1, 8, GTHOST_MAP_READ_ONLY);
     WANT(GTHOST_N10, -1, GTHOST_ENTRY);
     found = gthost_entry(&domain[0], 7);
-    HOLDS(found.entry.kind == GTHOST_ENTRY_INVALID && found.entry.reads == 1);
+    HOLDS(found.entry.kind == GTHOST_ENTRY_INVALID && found.entry.reads == 1 && found.entry.to == 0);
+    answer = gthost_unused(&domain[0], 0);
+    WANT(GTHOST_OK, 0, GTHOST_REFERENCE);
+    HOLDS(answer.gref == 7);
+    answer = gthost_unused(&domain[0], 8);
+    WANT(GTHOST_ABSENT, 0, GTHOST_NOTHING);
+    answer = gthost_unused(&domain[0], UINT32_MAX);
+    WANT(GTHOST_ABSENT, 0, GTHOST_NOTHING);
     answer = gthost_unmap(&domain[1], name);
-    WANT(GTHOST_OK, 0, GTHOST_NOTHING);
+    WANT(GTHOST_OK, 0, GTHOST_RELEASED);
+    HOLDS(!gthost_is_valid(answer.word) && gthost_reads_in(answer.word) == 0);
     HOLDS(gthost_entry(&domain[0], 7).entry.reads == 0);
     answer = gthost_grant_page(&domain[0], 7, 2, 5, 0);
     WANT(GTHOST_OK, 0, GTHOST_NOTHING);
@@ -271,7 +296,8 @@ static void copies(void)
     answer = gthost_revoke(&domain[0], 7);
     WANT(19, -1, GTHOST_ENTRY);
     answer = gthost_copy_end(&domain[1]);
-    WANT(GTHOST_OK, 0, GTHOST_NOTHING);
+    WANT(GTHOST_OK, 0, GTHOST_ENDED);
+    HOLDS(gthost_is_valid(answer.word) && gthost_reads_in(answer.word) == 0 && answer.value == 0);
     answer = gthost_copy_end(&domain[1]);
     WANT(GTHOST_NO_COPY, 0, GTHOST_NOTHING);
     answer = gthost_revoke(&domain[0], 7);
@@ -362,6 +388,79 @@ static void large(void)
     HOLDS(!starts(two, 2, POLICY, domain, 2, &fault) && fault.kind == GTHOST_FAULT_FRAMES && fault.dom == 2);
 }
 
+/* Numbers of more than 16 bits are refused and not cut. Such a call is not recorded. */
+static void wide(void)
+{
+    struct gthost_settings two[] = {{1, 0, 8, 1, 2}, {2, 1, 8, 1, 2}};
+    const struct gthost_copy fits = {{7, 1, 0}, {3, 2, 0}, 16, GTHOST_COPY_SOURCE_GREF};
+    const uint32_t wides[] = {0x10000, 0x10001, 0x7FFFFFFF, 0xFFFF0001, UINT32_MAX};
+    struct gthost_domain domain[2] = {{0}};
+    struct gthost_copy copy;
+    struct gthost_fault fault;
+    struct gthost_answer answer;
+    HOLDS(starts(two, 2, POLICY, domain, 2, &fault));
+    answer = gthost_grant_page(&domain[0], 7, 2, 5, 0);
+    WANT(GTHOST_OK, 0, GTHOST_NOTHING);
+    for (size_t i = 0; i < COUNT(wides); i++) {
+        const uint32_t big = wides[i];
+        answer = gthost_map(&domain[1], big, 7, GTHOST_MAP_WRITABLE);
+        WANT(GTHOST_N1, -2, GTHOST_NOTHING);
+        answer = gthost_query_size(&domain[1], big);
+        WANT(GTHOST_N1, -2, GTHOST_NOTHING);
+        answer = gthost_get_version(&domain[1], big);
+        WANT(GTHOST_N1, -2, GTHOST_NOTHING);
+        answer = gthost_grant_page(&domain[0], 8, big, 5, 0);
+        WANT(GTHOST_N1, -2, GTHOST_NOTHING);
+        answer = gthost_grant_sub(&domain[0], 8, big, 5, 0, 1, 0);
+        WANT(GTHOST_N1, -2, GTHOST_NOTHING);
+        answer = gthost_grant_sub(&domain[0], 8, 2, 5, big, 1, 0);
+        WANT(GTHOST_N21, -1, GTHOST_NOTHING);
+        answer = gthost_grant_sub(&domain[0], 8, 2, 5, 0, big, 0);
+        WANT(GTHOST_N21, -1, GTHOST_NOTHING);
+        answer = gthost_grant_via(&domain[0], 8, big, 1, 7, 0);
+        WANT(GTHOST_N1, -2, GTHOST_NOTHING);
+        answer = gthost_grant_via(&domain[0], 8, 2, big, 7, 0);
+        WANT(GTHOST_N1, -2, GTHOST_NOTHING);
+        for (unsigned which = 0; which < 6; which++) {
+            static const uint32_t rules[] = {GTHOST_N1, GTHOST_N1, GTHOST_N2, GTHOST_N3, GTHOST_N3, GTHOST_N3};
+            static const int32_t statuses[] = {-2, -2, -1, -10, -10, -10};
+            copy = fits;
+            uint32_t *fields[] = {&copy.source.dom, &copy.dest.dom, &copy.flags, &copy.source.off, &copy.dest.off, &copy.len};
+            *fields[which] += big & 0xFFFF0000;
+            answer = gthost_copy_begin(&domain[1], copy).answer;
+            WANT(rules[which], statuses[which], GTHOST_NOTHING);
+        }
+    }
+    HOLDS(gthost_entry(&domain[0], 8).entry.kind == GTHOST_ENTRY_INVALID);
+    HOLDS(gthost_record(&domain[1], 0).answer.rule == GTHOST_ABSENT);
+    HOLDS(gthost_finish(&domain[0]).more == 0 && gthost_finish(&domain[1]).value == 0);
+    two[0].id = 0x10001;
+    HOLDS(!starts(two, 2, POLICY, domain, 2, &fault) && fault.kind == GTHOST_FAULT_ID && fault.dom == 65535);
+    two[0].id = 1;
+    two[1].label = 0x10001;
+    HOLDS(!starts(two, 2, POLICY, domain, 2, &fault) && fault.kind == GTHOST_FAULT_LABEL && fault.dom == 2);
+}
+
+/* No call is recorded until the program asks for records. */
+static void records(void)
+{
+    struct gthost_settings one[] = {{1, 0, 8, 1, 1}};
+    struct gthost_domain domain[1] = {{0}};
+    struct gthost_answer answer;
+    const struct gthost_fault fault = gthost_start(one, 1, 0, 7, (const uint8_t *)POLICY, strlen(POLICY), domain, 1);
+    HOLDS(fault.kind == GTHOST_FAULT_NONE);
+    answer = gthost_query_size(&domain[0], 1);
+    WANT(GTHOST_OK, 0, GTHOST_SIZE);
+    HOLDS(gthost_record(&domain[0], 0).answer.rule == GTHOST_ABSENT);
+    answer = gthost_keep_at_most(&domain[0], 1);
+    WANT(GTHOST_OK, 0, GTHOST_NOTHING);
+    answer = gthost_query_size(&domain[0], 1);
+    answer = gthost_get_version(&domain[0], 1);
+    HOLDS(gthost_record(&domain[0], 0).kept.call == GTHOST_CALL_QUERY_SIZE);
+    HOLDS(gthost_record(&domain[0], 1).answer.rule == GTHOST_ABSENT);
+    HOLDS(gthost_finish(&domain[0]).value == 2);
+}
+
 static bool is_nothing(struct gthost_answer a)
 {
     return !a.status && !a.kind && !a.dom && !a.gref && !a.source && !a.target && !a.detail && !a.word && !a.value &&
@@ -414,6 +513,7 @@ static void nulls(void)
         gthost_copy_begin(NULL, copy).answer,  gthost_copy_end(NULL),
         gthost_entry(NULL, 0).answer,          gthost_take_records(NULL),
         gthost_reset(NULL),                    gthost_finish(NULL),
+        gthost_unused(NULL, 0),
     };
     for (size_t i = 0; i < COUNT(answers); i++) {
         struct gthost_answer answer = answers[i];
@@ -433,6 +533,8 @@ int main(void)
     shares();
     copies();
     large();
+    wide();
+    records();
     printf(failures ? "FAILED\n" : "smoke ok\n");
     return failures != 0;
 }

@@ -28,7 +28,7 @@ static struct gthost_answer finish(struct gthost_domain *domain)
     return OK;
 }
 
-static struct gthost_answer grant_page(struct gthost_domain *domain, uint32_t gref, uint16_t to, uint64_t frame,
+static struct gthost_answer grant_page(struct gthost_domain *domain, uint32_t gref, uint32_t to, uint64_t frame,
                                        uint32_t ro)
 {
     uint64_t *frames = domain->at;
@@ -43,7 +43,7 @@ static struct gthost_answer revoke(struct gthost_domain *domain, uint32_t gref)
     return OK;
 }
 
-static struct gthost_answer map(struct gthost_domain *domain, uint16_t dom, uint32_t gref, uint32_t flags)
+static struct gthost_answer map(struct gthost_domain *domain, uint32_t dom, uint32_t gref, uint32_t flags)
 {
     struct gthost_answer answer = OK;
     (void)domain, (void)flags;

@@ -10,10 +10,10 @@ struct monitor {
                                  uint32_t run, const uint8_t *policy, size_t policy_len, struct gthost_domain *out,
                                  size_t out_count);
     struct gthost_answer (*finish)(struct gthost_domain *domain);
-    struct gthost_answer (*grant_page)(struct gthost_domain *domain, uint32_t gref, uint16_t to, uint64_t frame,
+    struct gthost_answer (*grant_page)(struct gthost_domain *domain, uint32_t gref, uint32_t to, uint64_t frame,
                                        uint32_t ro);
     struct gthost_answer (*revoke)(struct gthost_domain *domain, uint32_t gref);
-    struct gthost_answer (*map)(struct gthost_domain *domain, uint16_t dom, uint32_t gref, uint32_t flags);
+    struct gthost_answer (*map)(struct gthost_domain *domain, uint32_t dom, uint32_t gref, uint32_t flags);
     struct gthost_answer (*unmap)(struct gthost_domain *domain, struct gthost_handle name);
     struct gthost_found_mapping (*mapping)(struct gthost_domain *domain, struct gthost_handle name);
     struct gthost_begun_copy (*copy_begin)(struct gthost_domain *domain, struct gthost_copy copy);

@@ -86,12 +86,11 @@ static bool mark(struct vmm *vmm, uint32_t ref, uint64_t word, bool writes)
                                        __ATOMIC_ACQUIRE);
 }
 
-/* Clears the marks of the pins that are gone from a reference of the monitor. Requires the lock. */
-static void clear_marks(struct vmm *vmm, uint32_t number)
+/* Clears the marks of the pins that are gone from a reference, whose control word is this one. Requires the lock. */
+static void clear_marks(struct vmm *vmm, uint32_t number, uint64_t word)
 {
     const uint32_t ref = vmm->guests[number];
-    const struct gthost_entry_status entry = gthost_entry(&vmm->domains[FRONT - 1], number).entry;
-    const bool writes = entry.writes > 0, reads = entry.reads > 0 || writes;
+    const bool writes = gthost_writes_in(word) > 0, reads = gthost_reads_in(word) > 0 || writes;
     const unsigned gone = (writes ? 0u : GTF_writing) | (reads ? 0u : GTF_reading);
     __atomic_fetch_and(&vmm->guest->table[ref].v1.flags, (uint16_t)~gone, __ATOMIC_RELEASE);
 }
@@ -140,12 +139,11 @@ uint8_t *vmm_page(struct vmm *vmm, struct gthost_handle name)
 
 bool vmm_unmap(struct vmm *vmm, struct gthost_handle name)
 {
-    const uint32_t number = gthost_mapping(&vmm->domains[BACK - 1], name).mapping.gref;
     pthread_mutex_lock(&vmm->lock);
-    const bool is_done = gthost_unmap(&vmm->domains[BACK - 1], name).rule == GTHOST_OK;
-    if (is_done) {
-        clear_marks(vmm, number);
+    const struct gthost_answer answer = gthost_unmap(&vmm->domains[BACK - 1], name);
+    if (answer.rule == GTHOST_OK) {
+        clear_marks(vmm, answer.gref, answer.word); /* the word that this unmap left */
     }
     pthread_mutex_unlock(&vmm->lock);
-    return is_done;
+    return answer.rule == GTHOST_OK;
 }

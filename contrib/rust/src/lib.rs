@@ -15,7 +15,7 @@ use std::fmt;
 
 pub use rule::{rule_text, Rule};
 pub use types::{Access, Call, End, Entry, Facts, Fault, Followed, Handle, Kind, Mapping, Place, Places, Record, Refusal};
-pub use types::{Remains, Settings, Side, Size, Status, Taken};
+pub use types::{Released, Remains, Settings, Side, Size, Status, Taken};
 
 /// A domain of a run. It leaves the run when it is dropped.
 pub struct Domain {
@@ -65,9 +65,9 @@ fn fault(fault: raw::Fault) -> Result<(), Fault> {
 ///
 /// # Errors
 /// The first fault of the policy, or that it declares no such type.
-pub fn type_of(policy: &str, name: &str) -> Result<u16, Fault> {
+pub fn type_of(policy: &str, name: &str) -> Result<u32, Fault> {
     let report = unsafe { raw::gthost_type_of_at(policy.as_ptr(), policy.len(), name.as_ptr(), name.len()) };
-    fault(report.fault).map(|()| report.label as u16)
+    fault(report.fault).map(|()| report.label)
 }
 
 /// Starts a run under a policy's text. All entries begin at the generation `first_gen`. The names of its mappings carry
@@ -200,21 +200,32 @@ impl Domain {
         judged(found.answer).map(|_| status(found.entry))
     }
 
+    /// Returns the least reference from this one on whose entry is invalid and still has pins. `ABSENT` if there is none.
+    pub fn unused(&mut self, from: u32) -> Result<u32, Refusal> {
+        self.call(|d| unsafe { raw::gthost_unused_at(d, from) }).map(|answer| answer.gref)
+    }
+
     /// Maps an entry of a domain.
-    pub fn map(&mut self, dom: u16, gref: u32, access: Access) -> Result<Handle, Refusal> {
+    pub fn map(&mut self, dom: u32, gref: u32, access: Access) -> Result<Handle, Refusal> {
+        self.map_page(dom, gref, access).map(|(handle, _)| handle)
+    }
+
+    /// Maps an entry of a domain, and returns what is mapped beside its name.
+    pub fn map_page(&mut self, dom: u32, gref: u32, access: Access) -> Result<(Handle, Mapping), Refusal> {
         let flags = if access == Access::Write { 2 } else { 6 };
         let mut answer = raw::Answer::default();
         unsafe { raw::gthost_map_at(&mut self.raw, dom, gref, flags, &mut answer) };
         let answer = judged(answer)?;
-        let (key, dom) = (answer.more as usize, answer.dom as u16);
-        Ok(Handle { serial: answer.value, key, run: answer.detail, dom })
+        let handle = Handle { serial: answer.value, key: answer.more as usize, run: answer.detail, dom: answer.dom };
+        let mapping = Mapping { frame: answer.word, gref: answer.gref, owner: answer.source, writes: answer.target };
+        Ok((handle, mapping))
     }
 
-    /// Unmaps a mapping.
-    pub fn unmap(&mut self, handle: Handle) -> Result<(), Refusal> {
+    /// Unmaps a mapping. If the entry has no pins then, this was the last one: tell its owner.
+    pub fn unmap(&mut self, handle: Handle) -> Result<Released, Refusal> {
         let mut answer = raw::Answer::default();
         unsafe { raw::gthost_unmap_at(&mut self.raw, &handle, &mut answer) };
-        judged(answer).map(drop)
+        judged(answer).map(|answer| Released { dom: answer.dom, gref: answer.gref, word: answer.word })
     }
 
     /// Returns what is mapped under a name. `ABSENT` if this domain has no such mapping.
@@ -224,13 +235,13 @@ impl Domain {
     }
 
     /// Begins a copy: takes its pins, and holds them until the guard is dropped.
-    pub fn copy(&mut self, from: Side, to: Side, len: u16) -> Result<Copying<'_>, Refusal> {
+    pub fn copy(&mut self, from: Side, to: Side, len: u32) -> Result<Copying<'_>, Refusal> {
         let end = |side| match side {
             Side::Reference { dom, gref, off } => (End { ptr: gref.into(), dom, off }, true),
             Side::Frame { dom, frame, off } => (End { ptr: frame, dom, off }, false),
         };
         let ((source, by_source), (dest, by_dest)) = (end(from), end(to));
-        let asked = raw::Copying { source, dest, len, flags: u16::from(by_source) | u16::from(by_dest) << 1 };
+        let asked = raw::Copying { source, dest, len, flags: u32::from(by_source) | u32::from(by_dest) << 1 };
         let begun = unsafe { raw::gthost_copy_begin_at(&mut self.raw, asked) };
         judged(begun.answer)?;
         Ok(Copying { domain: self, places: begun.places })
@@ -247,13 +258,13 @@ impl Domain {
     }
 
     /// Returns the size of a domain's table.
-    pub fn query_size(&mut self, dom: u16) -> Result<Size, Refusal> {
+    pub fn query_size(&mut self, dom: u32) -> Result<Size, Refusal> {
         let answer = self.call(|d| unsafe { raw::gthost_query_size_at(d, dom) })?;
         Ok(Size { frames: answer.value, most: answer.more })
     }
 
     /// Returns the version of a domain's table.
-    pub fn get_version(&mut self, dom: u16) -> Result<u64, Refusal> {
+    pub fn get_version(&mut self, dom: u32) -> Result<u64, Refusal> {
         self.call(|d| unsafe { raw::gthost_get_version_at(d, dom) }).map(|answer| answer.value)
     }
 
@@ -270,7 +281,8 @@ impl Domain {
         Ok(Taken { records: answer.value, lost: answer.more })
     }
 
-    /// Bounds the records: a call is recorded while there are fewer than `records`, otherwise its record is lost.
+    /// Bounds the records: a call is recorded while there are fewer than `records`, otherwise its record is lost. At the
+    /// start the bound is 0: none is kept.
     pub fn keep_at_most(&mut self, records: usize) -> Result<(), Refusal> {
         self.call(|d| unsafe { raw::gthost_keep_at_most_at(d, records) }).map(drop)
     }

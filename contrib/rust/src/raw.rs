@@ -36,8 +36,8 @@ pub struct Answer {
 pub struct Copying {
     pub source: super::End,
     pub dest: super::End,
-    pub len: u16,
-    pub flags: u16,
+    pub len: u32,
+    pub flags: u32,
 }
 
 #[repr(C)]
@@ -94,10 +94,10 @@ pub struct FoundEntry {
 pub struct EntryStatus {
     pub kind: u32,
     pub generation: u32,
-    pub reads: u16,
-    pub writes: u16,
-    pub to: u16,
-    pub read_only: u16,
+    pub reads: u32,
+    pub writes: u32,
+    pub to: u32,
+    pub read_only: u32,
 }
 
 #[repr(C)]
@@ -133,28 +133,29 @@ extern "C" {
     pub fn gthost_version() -> u32;
     pub fn gthost_reset_at(domain: &mut Domain) -> Answer;
     pub fn gthost_entry_at(domain: &mut Domain, gref: u32) -> FoundEntry;
+    pub fn gthost_unused_at(domain: &mut Domain, from: u32) -> Answer;
     pub fn gthost_take_records_at(domain: &mut Domain) -> Answer;
     pub fn gthost_finish_at(domain: &mut Domain) -> Answer;
-    pub fn gthost_grant_page_at(domain: &mut Domain, gref: u32, to: u16, frame: u64, ro: u32) -> Answer;
+    pub fn gthost_grant_page_at(domain: &mut Domain, gref: u32, to: u32, frame: u64, ro: u32) -> Answer;
     pub fn gthost_grant_sub_at(
-        domain: &mut Domain, gref: u32, to: u16, frame: u64, off: u16, len: u16, ro: u32,
+        domain: &mut Domain, gref: u32, to: u32, frame: u64, off: u32, len: u32, ro: u32,
     ) -> Answer;
-    pub fn gthost_grant_via_at(domain: &mut Domain, gref: u32, to: u16, dom2: u16, ref2: u32, ro: u32) -> Answer;
+    pub fn gthost_grant_via_at(domain: &mut Domain, gref: u32, to: u32, dom2: u32, ref2: u32, ro: u32) -> Answer;
     pub fn gthost_grant_bytes_at(domain: &mut Domain, gref: u32, bytes: EntryBytes) -> Answer;
     pub fn gthost_follow_at(domain: &mut Domain, gref: u32, bytes: EntryBytes) -> Answer;
     pub fn gthost_revoke_at(domain: &mut Domain, gref: u32) -> Answer;
     pub fn gthost_withdraw_at(domain: &mut Domain, gref: u32) -> Answer;
     pub fn gthost_demote_at(domain: &mut Domain, gref: u32) -> Answer;
     pub fn gthost_promote_at(domain: &mut Domain, gref: u32) -> Answer;
-    pub fn gthost_map_at(domain: &mut Domain, dom: u16, gref: u32, flags: u32, answer: &mut Answer);
+    pub fn gthost_map_at(domain: &mut Domain, dom: u32, gref: u32, flags: u32, answer: &mut Answer);
     pub fn gthost_unmap_at(domain: &mut Domain, name: &super::Handle, answer: &mut Answer);
     pub fn gthost_mapping_at(domain: &mut Domain, name: super::Handle) -> FoundMapping;
     pub fn gthost_copy_begin_at(domain: &mut Domain, copy: Copying) -> BegunCopy;
     pub fn gthost_copy_end_at(domain: &mut Domain) -> Answer;
     pub fn gthost_set_version_at(domain: &mut Domain, version: u32) -> Answer;
     pub fn gthost_setup_table_at(domain: &mut Domain, frames: u32) -> Answer;
-    pub fn gthost_query_size_at(domain: &mut Domain, dom: u16) -> Answer;
-    pub fn gthost_get_version_at(domain: &mut Domain, dom: u16) -> Answer;
+    pub fn gthost_query_size_at(domain: &mut Domain, dom: u32) -> Answer;
+    pub fn gthost_get_version_at(domain: &mut Domain, dom: u32) -> Answer;
     pub fn gthost_record_at(domain: &mut Domain, index: usize) -> FoundRecord;
     pub fn gthost_keep_at_most_at(domain: &mut Domain, records: usize) -> Answer;
     pub fn gthost_reserve_records_at(domain: &mut Domain, records: usize) -> Answer;

@@ -7,8 +7,8 @@ use std::fmt;
 #[repr(C)]
 #[derive(Clone, Copy, Debug, PartialEq, Eq)]
 pub struct Settings {
-    pub id: u16,
-    pub label: u16,
+    pub id: u32,
+    pub label: u32,
     pub frames: u32,
     pub table_frames: u32,
     pub version: u32,
@@ -26,9 +26,9 @@ pub enum Fault {
 /// An entry to grant.
 #[derive(Clone, Copy, Debug, PartialEq, Eq)]
 pub enum Entry<'b> {
-    Page { to: u16, frame: u64, read_only: bool },
-    Sub { to: u16, frame: u64, off: u16, len: u16, read_only: bool },
-    Via { to: u16, dom: u16, gref: u32, read_only: bool },
+    Page { to: u32, frame: u64, read_only: bool },
+    Sub { to: u32, frame: u64, off: u32, len: u32, read_only: bool },
+    Via { to: u32, dom: u32, gref: u32, read_only: bool },
     /// The bytes of an entry, as a guest writes it: 8 in a table of version 1, 16 in version 2.
     Bytes(&'b [u8]),
 }
@@ -68,7 +68,7 @@ pub struct Handle {
     pub(crate) serial: u64,
     pub(crate) key: usize,
     pub(crate) run: u32,
-    pub(crate) dom: u16,
+    pub(crate) dom: u32,
 }
 
 /// What is mapped: a frame of its owner, by the owner's entry `gref`.
@@ -77,15 +77,15 @@ pub struct Handle {
 pub struct Mapping {
     pub frame: u64,
     pub gref: u32,
-    pub owner: u16,
-    writes: u16,
+    pub owner: u32,
+    pub(crate) writes: u32,
 }
 
 /// An end of a copy to ask for: a reference of a domain, or the number of one of the caller's own frames.
 #[derive(Clone, Copy, Debug, PartialEq, Eq)]
 pub enum Side {
-    Reference { dom: u16, gref: u32, off: u16 },
-    Frame { dom: u16, frame: u64, off: u16 },
+    Reference { dom: u32, gref: u32, off: u32 },
+    Frame { dom: u32, frame: u64, off: u32 },
 }
 
 /// An end of a copy in a record: `ptr` is a reference, or the number of a frame, by the copy's flags.
@@ -93,8 +93,8 @@ pub enum Side {
 #[derive(Clone, Copy, Debug, Default, PartialEq, Eq)]
 pub struct End {
     pub ptr: u64,
-    pub dom: u16,
-    pub off: u16,
+    pub dom: u32,
+    pub off: u32,
 }
 
 /// A place: the byte `off` of the frame `frame` of `owner`.
@@ -102,8 +102,8 @@ pub struct End {
 #[derive(Clone, Copy, Debug, Default, PartialEq, Eq)]
 pub struct Place {
     pub frame: u64,
-    pub owner: u16,
-    pub off: u16,
+    pub owner: u32,
+    pub off: u32,
 }
 
 /// The places of a copy: `len` bytes may be read at `from` and written at `to`.
@@ -112,7 +112,7 @@ pub struct Place {
 pub struct Places {
     pub from: Place,
     pub to: Place,
-    pub len: u16,
+    pub len: u32,
 }
 
 /// The size of a table, in frames, and the largest size.
@@ -136,10 +136,10 @@ pub enum Kind {
 pub struct Status {
     pub kind: Kind,
     pub generation: u32,
-    pub reads: u16,
-    pub writes: u16,
+    pub reads: u32,
+    pub writes: u32,
     /// The domain that it permits, if it is valid.
-    pub to: u16,
+    pub to: u32,
     pub read_only: bool,
 }
 
@@ -153,6 +153,14 @@ pub enum Followed {
     Withdrawn,
     /// It is now the entry that the bytes encode. Another valid one was withdrawn before.
     Granted,
+}
+
+/// What an unmap left: the control word of the entry just after it.
+#[derive(Clone, Copy, Debug, PartialEq, Eq)]
+pub struct Released {
+    pub dom: u32,
+    pub gref: u32,
+    pub word: u64,
 }
 
 /// The number of records that a domain lost, and the number of its entries that others still use.
@@ -195,6 +203,13 @@ impl Mapping {
     /// Whether the frame may be written.
     pub fn writes(&self) -> bool {
         self.writes != 0
+    }
+}
+
+impl Released {
+    /// The pins that the entry still has.
+    pub fn pins(&self) -> u64 {
+        (self.word >> 4 & 0xfff) + (self.word >> 16 & 0xfff)
     }
 }
 

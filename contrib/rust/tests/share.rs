@@ -26,17 +26,18 @@ fn a_fault_has_its_line() {
 #[test]
 fn a_page_in_use_is_not_revoked() {
     let (mut front, mut back) = two();
+    back.keep_at_most(usize::MAX).unwrap();
     let page = Entry::Page { to: 2, frame: 5, read_only: true };
     front.grant(7, page).unwrap();
     assert_eq!(front.grant(7, page).unwrap_err().rule, Rule::N20);
     let refused = back.map(1, 7, Access::Write).unwrap_err();
     assert_eq!((refused.rule, refused.status), (Rule::N13, -1));
     assert!(matches!(refused.facts, Facts::Entry { dom: 1, gref: 7, .. }));
-    let handle = back.map(1, 7, Access::Read).unwrap();
-    let mapping = back.mapping(handle).unwrap();
+    let (handle, mapping) = back.map_page(1, 7, Access::Read).unwrap();
+    assert_eq!(back.mapping(handle), Ok(mapping));
     assert_eq!((mapping.owner, mapping.frame, mapping.gref, mapping.writes()), (1, 5, 7, false));
     assert_eq!(front.revoke(7).unwrap_err().to_string(), "N19 -1");
-    back.unmap(handle).unwrap();
+    assert_eq!(back.unmap(handle).unwrap().pins(), 0);
     assert_eq!(back.unmap(handle).unwrap_err().rule, Rule::N6);
     assert_eq!(back.mapping(handle).unwrap_err().to_string(), "ABSENT");
     front.revoke(7).unwrap();
@@ -86,10 +87,12 @@ fn a_guest_that_leaves_is_mapped_no_more() {
     assert_eq!((entry.kind, entry.reads, entry.writes, entry.to, entry.read_only), (Kind::Page, 0, 1, 2, false));
     assert_eq!(front.entry(512).unwrap_err().rule, Rule::ABSENT);
     assert_eq!(front.reset().in_use, 1);
+    assert_eq!(front.unused(0), Ok(3));
     assert_eq!(back.map(1, 4, Access::Read).unwrap_err().rule, Rule::N10);
     assert_eq!(front.unmap(handle).unwrap_err().rule, Rule::N6);
-    back.unmap(handle).unwrap();
+    assert_eq!(back.unmap(handle).unwrap().pins(), 0);
     assert_eq!(front.entry(3).unwrap().writes, 0);
+    assert_eq!(front.unused(0).unwrap_err().rule, Rule::ABSENT);
     assert_eq!(front.finish().in_use, 0);
 }
 
@@ -102,7 +105,7 @@ fn an_entry_follows_what_its_guest_has_written() {
     assert_eq!(front.follow(3, &entry(1 + 8 + 16, 4)), Ok(Followed::Same));
     assert_eq!(front.follow(3, &entry(1, 5)).unwrap_err().rule, Rule::N19);
     assert_eq!(front.entry(3).unwrap().kind, Kind::Invalid);
-    back.unmap(handle).unwrap();
+    assert_eq!(back.unmap(handle).unwrap().pins(), 0);
     assert_eq!(front.follow(3, &entry(1, 5)), Ok(Followed::Granted));
     assert_eq!(front.follow(3, &entry(5, 5)), Ok(Followed::Demoted));
     assert_eq!(front.follow(3, &entry(1, 5)), Ok(Followed::Promoted));
@@ -114,5 +117,5 @@ fn an_entry_follows_what_its_guest_has_written() {
 fn rules_have_words() {
     assert!(rule_text(Rule::N19).starts_with("N19 -1 GNTST_general_error: "));
     assert_eq!((Rule::N7.to_string(), Rule::BUSY.number()), ("N7".to_string(), 257));
-    assert_eq!(version().0, 1);
+    assert_eq!(version().0, 2);
 }

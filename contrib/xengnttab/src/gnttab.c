@@ -265,7 +265,7 @@ bool xg_start(const struct xg_domain *domains, size_t count, const char *policy,
             return false;
         }
         settings[i].id = domains[i].id;
-        settings[i].label = (uint16_t)type.label;
+        settings[i].label = type.label;
         settings[i].frames = domains[i].frames;
         settings[i].table_frames = domains[i].table;
         settings[i].version = domains[i].version;
@@ -314,7 +314,6 @@ bool xg_start(const struct xg_domain *domains, size_t count, const char *policy,
         for (uint32_t ref = FIRST_REF; ref < refs; ref++) {
             dom->refs[dom->free++] = ref;
         }
-        gthost_keep_at_most(&dom->gt, 0);
         doms[dom->id] = dom;
         ids[i] = dom->id;
     }
@@ -417,7 +416,7 @@ static void reap(struct dom *dom)
     dom->laters = kept;
 }
 
-static uint32_t grant(struct dom *dom, uint64_t frame, uint16_t to, bool read_only)
+static uint32_t grant(struct dom *dom, uint64_t frame, uint32_t to, bool read_only)
 {
     if (dom->laters && dom->free < 64) {
         reap(dom);
@@ -431,7 +430,9 @@ static uint32_t grant(struct dom *dom, uint64_t frame, uint16_t to, bool read_on
         } else {
             __tsan_release(dom->base + frame * PAGE);
             const struct gthost_answer answer = gthost_grant_page(&dom->gt, ref, to, frame, read_only);
-            trace(dom, answer, "grant %u page %u %s %llu", ref, to, read_only ? "ro" : "rw", (unsigned long long)frame);
+            if (to < NUMBERS) {
+                trace(dom, answer, "grant %u page %u %s %llu", ref, to, read_only ? "ro" : "rw", (unsigned long long)frame);
+            }
             if (answer.rule == GTHOST_N22) {
                 continue; /* worn: it is lost for the rest of the run */
             }
@@ -495,7 +496,7 @@ static void end_later(struct dom *dom, uint32_t ref, bool frees)
     dom->counts.deferred++;
 }
 
-uint32_t xg_grant(uint64_t frame, uint16_t to, bool read_only)
+uint32_t xg_grant(uint64_t frame, uint32_t to, bool read_only)
 {
     lock(current);
     const uint32_t ref = grant(current, frame, to, read_only);
@@ -700,11 +701,12 @@ static bool mark(struct dom *guest, uint32_t ref, uint64_t word, bool writes)
     return is_done;
 }
 
-static void clear_marks(struct dom *guest, uint32_t alias)
+/* The control word is that of the monitor's entry just after an unmap. */
+static void clear_marks(struct dom *guest, uint32_t alias, uint64_t word)
 {
     const uint32_t ref = guest->origin[alias];
-    const struct gthost_entry_status entry = gthost_entry(&guest->gt, alias).entry;
-    const unsigned gone = (entry.writes ? 0u : GTF_writing) | (entry.reads || entry.writes ? 0u : GTF_reading);
+    const bool writes = gthost_writes_in(word) > 0, reads = gthost_reads_in(word) > 0 || writes;
+    const unsigned gone = (writes ? 0u : GTF_writing) | (reads ? 0u : GTF_reading);
     __atomic_fetch_and((uint16_t *)&guest->table[ref], (uint16_t)~gone, __ATOMIC_RELEASE);
 }
 
@@ -751,7 +753,7 @@ static struct gthost_answer unmap_name(struct dom *dom, struct gthost_handle nam
     pthread_mutex_lock(&guest->table_lock);
     const struct gthost_answer answer = gthost_unmap(&dom->gt, name);
     if (answer.rule == GTHOST_OK) {
-        clear_marks(guest, mapping.gref);
+        clear_marks(guest, answer.gref, answer.word);
     }
     pthread_mutex_unlock(&guest->table_lock);
     return answer;
@@ -786,18 +788,15 @@ static bool map_one(struct dom *dom, uint32_t owner, uint32_t ref, int prot, str
     }
     const uint32_t flags = prot & PROT_WRITE ? GTHOST_MAP_WRITABLE : GTHOST_MAP_READ_ONLY;
     struct gthost_answer answer = {GTHOST_N1, 0, 0, 0, 0, 0, 0, 0, 0, 0, 0};
-    if (owner < NUMBERS) { /* the library takes 16 bits, the API 32 */
-        for (int i = 0; i < 4; i++) {
-            struct dom *guest = has_guests ? doms[owner] : NULL;
-            answer = guest && guest->table ? map_of_guest(dom, guest, ref, flags)
-                                           : gthost_map(&dom->gt, (uint16_t)owner, ref, flags);
-            if (owner != GTHOST_DOMID_SELF) {
-                trace(dom, answer, "map m%llu_%llu %u %u %u", (unsigned long long)answer.value,
-                      (unsigned long long)answer.more, owner, ref, flags);
-            }
-            if (answer.rule != GTHOST_N18) {
-                break;
-            }
+    for (int i = 0; i < 4; i++) {
+        struct dom *guest = has_guests && owner < NUMBERS ? doms[owner] : NULL;
+        answer = guest && guest->table ? map_of_guest(dom, guest, ref, flags) : gthost_map(&dom->gt, owner, ref, flags);
+        if (owner < NUMBERS && owner != GTHOST_DOMID_SELF) {
+            trace(dom, answer, "map m%llu_%llu %u %u %u", (unsigned long long)answer.value,
+                  (unsigned long long)answer.more, owner, ref, flags);
+        }
+        if (answer.rule != GTHOST_N18) {
+            break;
         }
     }
     if (answer.rule != GTHOST_OK) {
@@ -805,7 +804,7 @@ static bool map_one(struct dom *dom, uint32_t owner, uint32_t ref, int prot, str
         return false;
     }
     *name = gthost_handle_of(answer);
-    const struct gthost_mapping mapping = gthost_mapping(&dom->gt, *name).mapping;
+    const struct gthost_mapping mapping = gthost_mapped_of(answer);
     *of = doms[mapping.owner];
     *frame = mapping.frame;
     return true;
@@ -1057,7 +1056,7 @@ static void *share(xengntshr_handle *xgs, uint32_t domid, int count, uint32_t *r
     region->notify_port = port;
     memset(region->at, 0, (size_t)count * PAGE);
     for (int i = 0; i < count; i++) {
-        const uint32_t ref = grant(dom, frame + (uint64_t)i, (uint16_t)domid, !writable);
+        const uint32_t ref = grant(dom, frame + (uint64_t)i, domid, !writable);
         if (!ref) {
             const int why = errno;
             for (int j = i; j < count; j++) {

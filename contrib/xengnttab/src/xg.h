@@ -53,7 +53,7 @@ uint8_t *xg_page(uint16_t dom, uint64_t frame);
 uint64_t xg_alloc(uint32_t count);
 void xg_free(uint64_t frame, uint32_t count);
 /* Grants a page of the current domain. Returns the reference, or 0 with errno. */
-uint32_t xg_grant(uint64_t frame, uint16_t to, bool read_only);
+uint32_t xg_grant(uint64_t frame, uint32_t to, bool read_only);
 /* Ends access. False if it is in use; then the entry stays valid. */
 bool xg_end(uint32_t ref);
 /* Ends access, and frees the reference and (with free_page) the page as soon as no one uses them. */

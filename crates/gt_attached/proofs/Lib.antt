@@ -1,3 +1,4 @@
 pub mod Beside
 pub mod ReadBack
 pub mod NoMapping
+mod Searching

@@ -16,7 +16,7 @@ use Rattle.gt_model.specs.declared.action.CallResult.TheVariants.{Refused}
 use Rattle.gt_model.specs.declared.action.Observation.{Observation}
 use Rattle.gt_model.specs.declared.held.HeldPin.{HeldPin}
 use Rattle.gt_model.specs.declared.request.Request.TheVariants as requests
-use Rattle.gt_live.specs.Domains.{verdict_of}
+use Rattle.gt_live.specs.Domains.{outcome_of}
 use Rattle.gt_live.specs.Prelude.{Layout, View}
 use Rattle.gt_live.specs.Walks.{Called, all_shown}
 
@@ -42,12 +42,12 @@ no-mapping k n caller h said v w e called =
     (sym (ap (λ (o : Option CallResult). after_beginning o (steps_of n caller (asked request)) (all_shown called.steps))
     (begins n caller h e)) ∙ called.answered)
 
-is-refused : (result : Result (Unit {0}) Denial) → verdict_of result ≡ Refused n6 → result ≡ Err n6
+is-refused : {R : Type 0} (result : Result R Denial) → outcome_of result ≡ Refused n6 → result ≡ Err n6
 is-refused (Ok done) e = absurd cc
 is-refused (Err denial) e = cc
 
-pub refused-by-n6 : (k : Layout) (n : CallerKnowledge) (caller : DomId) (h : Handle) (result : Result (Unit {0}) Denial) (v w : View)
-    → n.mapping h ≡ None → Called k (path_of n caller (requests.Unmap h)) (verdict_of result) v w
+pub refused-by-n6 : {R : Type 0} (k : Layout) (n : CallerKnowledge) (caller : DomId) (h : Handle) (result : Result R Denial) (v w : View)
+    → n.mapping h ≡ None → Called k (path_of n caller (requests.Unmap h)) (outcome_of result) v w
     → result ≡ Err (denial_of N6 facts.None)
 refused-by-n6 k n caller h result v w e called =
-    is-refused result (no-mapping k n caller h (verdict_of result) v w e called)
+    is-refused result (no-mapping k n caller h (outcome_of result) v w e called)

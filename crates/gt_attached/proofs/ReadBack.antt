@@ -1,5 +1,10 @@
 -- An outcome is read back from its answer.
-use Rattle.std.proofs.Common.{◌≡◌, refl}
+use Rattle.std.proofs.Common.{◌≡◌, ℕ, refl}
+use Rattle.gt_types.specs.declared.Dir.{Dir}
+use Rattle.gt_types.specs.declared.Dir.TheVariants.{Read, Write}
+use Rattle.gt_types.specs.declared.DomId.{DomId}
+use Rattle.gt_types.specs.declared.GrantRef.{GrantRef}
+use Rattle.gt_attached.specs.declared.answer.MappingName.{MappingName}
 use Rattle.std.specs.Prelude.{◌==◌, if◌then◌else◌}
 use Rattle.gt_types.specs.declared.denial.Rule.{Rule}
 use Rattle.gt_types.specs.declared.denial.Rule.TheVariants.{N1, N2, N3, N4, N5, N6, N7, N8, N9, N10, N11, N12, N13, N14}
@@ -90,9 +95,15 @@ read_refusal r s (facts.Field f) =
 read_refusal r s (facts.Header d w) = denied r s (facts.Header d w) (facts.Header d w) Done refl
 read_refusal r s (facts.Entry d g w) = denied r s (facts.Entry d g w) (facts.Entry d g w) Done refl
 
+read_mapping : (name : MappingName) (owner : DomId) (gref : GrantRef) (frame : ℕ) (dir : Dir)
+    → decoded (encoded (Mapped (record { name = name; owner = owner; gref = gref; frame = frame; dir = dir })))
+    ≡ Mapped (record { name = name; owner = owner; gref = gref; frame = frame; dir = dir })
+read_mapping name owner gref frame Read = refl
+read_mapping name owner gref frame Write = refl
+
 pub read_back : AnswersAreReadBack
 read_back Done = refl
-read_back (Mapped name) = refl
+read_back (Mapped made) = read_mapping made.name made.owner made.gref made.frame made.dir
 read_back (Frames frames) = refl
 read_back (Version version) = refl
 read_back (Size size) = refl
@@ -109,3 +120,6 @@ read_back (outcomes.Followed follows.Demoted) = refl
 read_back (outcomes.Followed follows.Promoted) = refl
 read_back (outcomes.Followed follows.Withdrawn) = refl
 read_back (outcomes.Followed follows.Granted) = refl
+read_back (outcomes.Released left) = refl
+read_back (outcomes.Ended left) = refl
+read_back (outcomes.Reference gref) = refl

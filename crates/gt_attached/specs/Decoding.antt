@@ -12,7 +12,9 @@ use Rattle.gt_types.specs.declared.denial.Field.TheVariants as fields
 use Rattle.gt_live.specs.declared.domain.following.Followed.{Followed}
 use Rattle.gt_live.specs.declared.domain.following.Followed.TheVariants as follows
 use Rattle.gt_attached.specs.declared.answer.EncodedAnswer.{EncodedAnswer}
-use Rattle.gt_attached.specs.declared.answer.MappingName.{MappingName}
+use Rattle.gt_types.specs.declared.Dir.{Dir}
+use Rattle.gt_types.specs.declared.Dir.TheVariants.{Read, Write}
+use Rattle.gt_attached.specs.declared.answer.NamedMapping.{NamedMapping}
 use Rattle.gt_attached.specs.declared.answer.AttachedOutcome.{AttachedOutcome}
 use Rattle.gt_attached.specs.declared.answer.AttachedOutcome.TheVariants.{Done, Mapped, Frames, Version, Denied}
 use Rattle.gt_attached.specs.declared.answer.AttachedOutcome.TheVariants.{NoDomain, Busy, NoMemory, NoCopy, Absent}
@@ -99,13 +101,24 @@ facts_in a =
     if a.kind == 8 then facts.Entry (record { 0 = a.dom }) (record { 0 = a.gref }) a.word else
     facts.None
 
--- the name of a mapping
-abbrev pub named : EncodedAnswer → MappingName
+-- for writing, or only for reading
+abbrev pub dir_named : ℕ → Dir
+dir_named n = if n == 1 then Write else Read
+
+-- a mapping with its name
+abbrev pub named : EncodedAnswer → NamedMapping
 named a =
     record {
-      handle = record { serial = a.value; key = a.more };
-      dom = record { 0 = a.dom };
-      run = a.detail;
+      name =
+          record {
+            handle = record { serial = a.value; key = a.more };
+            dom = record { 0 = a.dom };
+            run = a.detail;
+          };
+      owner = record { 0 = a.source };
+      gref = record { 0 = a.gref };
+      frame = a.word;
+      dir = dir_named a.target;
     }
 
 -- the result of a call that is Ok
@@ -118,6 +131,10 @@ decoded_answer a =
     if a.kind == 9 then Left (record { lost = a.value; in_use = a.more }) else
     if a.kind == 10 then outcomes.Taken (record { records = a.value; lost = a.more }) else
     if a.kind == 11 then outcomes.Followed (followed_named a.value) else
+    if a.kind == 12 then
+    outcomes.Released (record { dom = record { 0 = a.dom }; gref = record { 0 = a.gref }; word = a.word }) else
+    if a.kind == 13 then outcomes.Ended (record { source = a.word; dest = a.value }) else
+    if a.kind == 14 then outcomes.Reference (record { 0 = a.gref }) else
     Done
 
 -- the result that is encoded

@@ -9,7 +9,10 @@ use Rattle.gt_types.specs.Denial.{rule_number, status_number}
 use Rattle.gt_live.specs.declared.domain.following.Followed.{Followed}
 use Rattle.gt_live.specs.declared.domain.following.Followed.TheVariants as follows
 use Rattle.gt_attached.specs.declared.answer.EncodedAnswer.{EncodedAnswer}
-use Rattle.gt_attached.specs.declared.answer.MappingName.{MappingName}
+use Rattle.gt_types.specs.declared.Dir.{Dir}
+use Rattle.gt_types.specs.declared.Dir.TheVariants.{Read, Write}
+use Rattle.gt_live.specs.declared.domain.mappings.LeftWord.{LeftWord}
+use Rattle.gt_attached.specs.declared.answer.NamedMapping.{NamedMapping}
 use Rattle.gt_attached.specs.declared.answer.AttachedOutcome.{AttachedOutcome}
 use Rattle.gt_attached.specs.declared.answer.AttachedOutcome.TheVariants.{Done, Mapped, Frames, Version, Denied}
 use Rattle.gt_attached.specs.declared.answer.AttachedOutcome.TheVariants.{NoDomain, Busy, NoMemory, NoCopy, Absent}
@@ -57,13 +60,26 @@ bare rule status =
 abbrev pub given : ℕ → ℕ → ℕ → EncodedAnswer
 given kind value more = record (bare 0 (pos 0)) { kind = kind; value = value; more = more }
 
--- Ok with the name of a mapping
-abbrev pub mapped : MappingName → EncodedAnswer
-mapped name =
-    record (given 1 name.handle.serial name.handle.key) {
-      dom = name.dom.0;
-      detail = name.run;
+-- 1 for a mapping that may be written, 0 for one that may only be read
+abbrev pub writes : Dir → ℕ
+writes Read = 0
+writes Write = 1
+
+-- Ok with a mapping and its name
+abbrev pub mapped : NamedMapping → EncodedAnswer
+mapped m =
+    record (given 1 m.name.handle.serial m.name.handle.key) {
+      dom = m.name.dom.0;
+      gref = m.gref.0;
+      source = m.owner.0;
+      target = writes m.dir;
+      detail = m.name.run;
+      word = m.frame;
     }
+
+-- Ok with the control word that an unmap left in an entry
+abbrev pub released : LeftWord → EncodedAnswer
+released left = record (given 12 0 0) { dom = left.dom.0; gref = left.gref.0; word = left.word }
 
 -- a result with the facts of a refusal
 abbrev pub with_facts : Facts → EncodedAnswer → EncodedAnswer
@@ -81,7 +97,7 @@ refusal d = with_facts d.facts (bare (rule_number d.rule) (status_number d.statu
 -- the encoding of a result
 abbrev pub encoded : AttachedOutcome → EncodedAnswer
 encoded Done = bare 0 (pos 0)
-encoded (Mapped name) = mapped name
+encoded (Mapped made) = mapped made
 encoded (Frames frames) = given 2 frames 0
 encoded (Version version) = given 3 version 0
 encoded (outcomes.Size size) = given 4 size.frames size.max
@@ -94,3 +110,6 @@ encoded Absent = bare 260 (pos 0)
 encoded (Left remains) = given 9 remains.lost remains.in_use
 encoded (outcomes.Taken taken) = given 10 taken.records taken.lost
 encoded (outcomes.Followed followed) = given 11 (followed_number followed) 0
+encoded (outcomes.Released left) = released left
+encoded (outcomes.Ended left) = record (given 13 left.dest 0) { word = left.source }
+encoded (outcomes.Reference gref) = record (given 14 0 0) { gref = gref.0 }

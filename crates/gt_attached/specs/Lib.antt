@@ -3,3 +3,4 @@ pub mod Encoding
 pub mod Recording
 pub mod Seated
 pub mod Starting
+pub mod Unused

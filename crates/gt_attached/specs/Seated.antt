@@ -12,7 +12,9 @@ use Rattle.gt_live.specs.declared.monitor.Monitor.{Monitor}
 use Rattle.gt_live.specs.Closing.{Resets}
 use Rattle.gt_live.specs.Domains.{AllowRelation, Answered, BelongsTo, HasLeft, KeepsPinned, record_of_copy}
 use Rattle.gt_live.specs.Halves.{BecomesPending, EndsPending, IsPending, done_copy}
-use Rattle.gt_live.specs.Parts.{seat_of, trail_left, trail_of, words_of}
+use Rattle.gt_live.specs.Releasing.{PendingLeaves}
+use Rattle.gt_live.specs.declared.access_paths.CopyWords.{CopyWords}
+use Rattle.gt_live.specs.Parts.{seat_of, trail_left, trail_of, with_trail, words_of}
 use Rattle.gt_attached.specs.declared.answer.TakenCounts.{TakenCounts}
 use Rattle.gt_attached.specs.declared.attachment.CopyPlaces.{CopyPlaces}
 use Rattle.gt_attached.specs.declared.attachment.LeftDomain.{LeftDomain}
@@ -26,6 +28,10 @@ pub record Seated (P : Type 0) : Type 0 where
 -- a domain beside its monitor, in this copy if there is one
 abbrev pub seated : {P : Type 0} → Monitor P → Domain → Option PendingCopy → Seated P
 seated m d copying = record { monitor = m; domain = d; copying = copying }
+
+-- the domain, which records no call
+abbrev pub unrecorded : Domain → Domain
+unrecorded d = with_trail d (record (trail_of d) { most = 0 })
 
 -- the domain came with this monitor, or is at the access of this copy
 abbrev pub StandsBy : {P : Type 0} → (P → AllowRelation) → Monitor P → Domain → Option PendingCopy → Type 0
@@ -58,6 +64,11 @@ EndsAccess s t =
     (h : PendingCopy) × (s.copying ≡ Some h) × StaysIdle s t
     × EndsPending (words_of s.monitor).layout h s.domain t.domain
     × AppendsRecord (trail_of s.domain) (done_copy s.domain h.copy) (trail_of t.domain)
+
+-- the pins of the copy that the domain was in were released, which left these control words
+abbrev pub EndsAccessTo : {P : Type 0} → CopyWords → Seated P → Seated P → Type 0
+EndsAccessTo left s t =
+    (h : PendingCopy) × (s.copying ≡ Some h) × PendingLeaves (words_of s.monitor).layout h left s.domain t.domain
 
 -- a domain released its mappings, closed its table and left its run by the seat that is given, with this many entries
 -- still in use and this many records lost; it did nothing else

@@ -8,14 +8,14 @@ use Rattle.gt_live.specs.Parts.{config_of, rights_of, words_of}
 use Rattle.gt_live.specs.Starting.{IsNewDomain}
 use Rattle.gt_live.specs.declared.domain.Domain.{Domain}
 use Rattle.gt_live.specs.declared.monitor.Monitor.{Monitor}
-use Rattle.gt_attached.specs.Seated.{Seated}
+use Rattle.gt_attached.specs.Seated.{Seated, unrecorded}
 
--- a domain attached to a monitor, in no copy
+-- a domain attached to a monitor, in no copy, which records no call
 abbrev pub attached_to : {P : Type 0} → Monitor P → Domain → Seated P
-attached_to m d = record { monitor = m; domain = d; copying = None }
+attached_to m d = record { monitor = m; domain = unrecorded d; copying = None }
 
 -- the attached domains of a new run: they share one monitor, which has this configuration and these rights and keeps no
--- frame, and each is the new domain at its position in the configuration
+-- frame, and each is the new domain at its position in the configuration, but records no call
 pub record AreNewGuests {P : Type 0} (may : P → AllowRelation) (c : Config) (rights : P) (guests : List (Seated P))
     : Type 0 where
   pub monitor : Monitor P

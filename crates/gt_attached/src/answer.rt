@@ -1,12 +1,13 @@
 //! The result of a call, in a layout that C reads.
 ghost use Rattle.std.specs.Prelude.{◌≡◌, pos};
 ghost use Rattle.gt_attached.specs.Encoding.{bare, encoded, field_number, followed_number, given, mapped, refusal};
+ghost use Rattle.gt_attached.specs.Encoding.{released, writes};
 ghost use Rattle.gt_attached.specs.Decoding.{AnswersAreReadBack};
 
 use bitflags::Flags;
 use gt_calls::Handle;
-use gt_live::Followed;
-use gt_types::{Denial, DomId, Facts, Field, Size};
+use gt_live::{CopyWords, Followed, LeftWord};
+use gt_types::{Denial, Dir, DomId, Facts, Field, GrantRef, Size};
 
 /// The name of a mapping: its handle, the domain that has it, and the number of its run.
 #[derive(Clone, Copy)]
@@ -14,6 +15,16 @@ pub struct MappingName {
     pub handle: Handle,
     pub dom: DomId,
     pub run: u32,
+}
+
+/// A mapping: its name, and what is mapped: this frame of this owner, by this entry, for reading or for writing.
+#[derive(Clone, Copy)]
+pub struct NamedMapping {
+    pub name: MappingName,
+    pub owner: DomId,
+    pub gref: GrantRef,
+    pub frame: u64,
+    pub dir: Dir,
 }
 
 /// What remains of a domain that has left its run or was reset: the number of its records that were lost, and the
@@ -36,8 +47,8 @@ pub struct TakenCounts {
 pub enum AttachedOutcome {
     /// Ok, without a value.
     Done,
-    /// Ok: the mapping has this name.
-    Mapped(MappingName),
+    /// Ok: this mapping was added.
+    Mapped(NamedMapping),
     /// Ok: the table has this many frames.
     Frames(u32),
     /// Ok: the table has this version.
@@ -62,6 +73,12 @@ pub enum AttachedOutcome {
     Taken(TakenCounts),
     /// Ok: an entry followed the bytes of its guest, by this change.
     Followed(Followed),
+    /// Ok: a mapping's pin was released, which left this control word in this entry.
+    Released(LeftWord),
+    /// Ok: a copy ended, which left these control words in the entries that it named.
+    Ended(CopyWords),
+    /// Ok: this is the reference that was searched for.
+    Reference(GrantRef),
 }
 
 /// The result of a call, in a layout that C reads. A field without a meaning is 0.
@@ -75,23 +92,24 @@ pub struct EncodedAnswer {
     pub status: i32,
     /// The kind of the other fields: 0 none, 1 a handle, 2 a number of frames, 3 a version, 4 a size, 5 what the policy
     /// denies, 6 a field of an entry's bytes, 7 a header's word, 8 an entry's word, 9 what remains of a domain that
-    /// left or was reset, 10 taken records, 11 what was done to an entry that followed its guest's bytes.
+    /// left or was reset, 10 taken records, 11 what was done to an entry that followed its guest's bytes, 12 the word
+    /// that an unmap left, 13 the words that a copy left, 14 a reference.
     pub kind: u32,
     /// The domain of the header or entry whose word this carries, or the domain that has the mapping.
     pub dom: u32,
-    /// The reference of the entry whose word this carries.
+    /// The reference of the entry whose word this carries, or of the entry that is mapped; or the reference found.
     pub gref: u32,
-    /// The source type that the policy denies the permission.
+    /// The source type that the policy denies the permission, or the owner of the frame that is mapped.
     pub source: u32,
-    /// The target type of the denied permission.
+    /// The target type of the denied permission; or 1 for a mapping that may be written, else 0.
     pub target: u32,
     /// The denied permission, as its bit; the number of the field, starting at 1; or the number of the mapping's run.
     pub detail: u32,
-    /// The word of the deciding look or exchange.
+    /// The word of the deciding look or exchange, the word that a release left, or the number of the mapped frame.
     pub word: u64,
     /// The serial of a handle, a number of frames, a version, the number of records that a domain had lost when it left
-    /// or was reset, the number of records taken, or the number of what was done to an entry that followed its guest's
-    /// bytes.
+    /// or was reset, the number of records taken, the number of what was done to an entry that followed its guest's
+    /// bytes, or the word that the end of a copy left at its destination.
     pub value: u64,
     /// The key of a handle, the maximum number of frames of a table, the number of entries still in use of a domain
     /// that left or was reset, or the number of records lost before those taken.
@@ -219,17 +237,46 @@ fn given(kind: u32, value: u64, more: u64) -> EncodedAnswer
     }
 }
 
-// Makes an Ok with the name of a mapping.
+/// Returns 1 for a mapping that may be written, 0 for one that may only be read.
 #[inline(always)]
-fn mapped(name: MappingName) -> EncodedAnswer
-    ensures { result ≡ mapped name }
+pub fn writes(dir: Dir) -> u32
+    ensures { result ≡ writes dir }
+{
+    match dir {
+        Dir::Read => 0,
+        Dir::Write => 1,
+    }
+}
+
+// Makes an Ok with a mapping and its name.
+#[inline(always)]
+fn mapped(made: NamedMapping) -> EncodedAnswer
+    ensures { result ≡ mapped made }
 {
     EncodedAnswer {
         kind: 1,
-        dom: u32::from(name.dom.0),
-        detail: name.run,
-        value: name.handle.serial,
-        more: name.handle.key as u64,
+        dom: u32::from(made.name.dom.0),
+        gref: made.gref.0,
+        source: u32::from(made.owner.0),
+        target: writes(made.dir),
+        detail: made.name.run,
+        word: made.frame,
+        value: made.name.handle.serial,
+        more: made.name.handle.key as u64,
+        ..DONE
+    }
+}
+
+// Makes an Ok with the word that a release left in an entry.
+#[inline(always)]
+fn released(left: LeftWord) -> EncodedAnswer
+    ensures { result ≡ released left }
+{
+    EncodedAnswer {
+        kind: 12,
+        dom: u32::from(left.dom.0),
+        gref: left.gref.0,
+        word: left.word,
         ..DONE
     }
 }
@@ -245,7 +292,7 @@ impl EncodedAnswer {
     {
         match outcome {
             AttachedOutcome::Done => DONE,
-            AttachedOutcome::Mapped(name) => mapped(name),
+            AttachedOutcome::Mapped(made) => mapped(made),
             AttachedOutcome::Frames(frames) => given(2, u64::from(frames), 0),
             AttachedOutcome::Version(version) => given(3, u64::from(version), 0),
             AttachedOutcome::Size(size) => given(4, u64::from(size.frames), u64::from(size.max)),
@@ -258,6 +305,18 @@ impl EncodedAnswer {
             AttachedOutcome::Left(remains) => given(9, remains.lost, remains.in_use),
             AttachedOutcome::Taken(taken) => given(10, taken.records, taken.lost),
             AttachedOutcome::Followed(followed) => given(11, followed_number(followed), 0),
+            AttachedOutcome::Released(left) => released(left),
+            AttachedOutcome::Ended(left) => EncodedAnswer {
+                kind: 13,
+                word: left.source,
+                value: left.dest,
+                ..DONE
+            },
+            AttachedOutcome::Reference(found) => EncodedAnswer {
+                kind: 14,
+                gref: found.0,
+                ..DONE
+            },
         }
     }
 }

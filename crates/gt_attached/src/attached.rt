@@ -2,7 +2,7 @@
 ghost use Rattle.std.specs.Prelude.{◌≡◌, None};
 ghost use Rattle.std.specs.Arc.{arc_value};
 ghost use Rattle.gt_live.specs.Domains.{BelongsTo};
-ghost use Rattle.gt_attached.specs.Seated.{LeavesSettled};
+ghost use Rattle.gt_attached.specs.Seated.{LeavesSettled, unrecorded};
 ghost use Rattle.gt_attached.specs.declared.attachment.LeftDomain.{LeftDomain as Gone};
 
 use crate::attachment::{Attachment, LeftDomain};
@@ -43,11 +43,13 @@ impl<P: Allows + Drop> Drop for AttachedDomain<P> {
 }
 
 impl<P: Allows + Drop> AttachedDomain<P> {
-    /// Attaches the domain to its monitor.
+    /// Attaches the domain to its monitor. It records no call until `keep_at_most` asks for records.
     pub(crate) fn new(monitor: Arc<Monitor<P>, Global>, domain: Domain) -> Self
         requires { BelongsTo P.may (arc_value monitor) domain }
-        ensures { result ≡ record { monitor = arc_value monitor; domain = domain; copying = None } }
+        ensures { result ≡ record { monitor = arc_value monitor; domain = unrecorded domain; copying = None } }
     {
+        let mut domain = domain;
+        domain.keep_at_most(0);
         AttachedDomain {
             monitor,
             attachment: Attachment::new(domain),

@@ -8,7 +8,7 @@ use crate::attached::AttachedDomain;
 use gt_audit::{Record, Trail};
 use gt_calls::{CopyArgs, Handle, HeldPin, Spot};
 use gt_entry::{Control, Entry};
-use gt_live::{Departed, Domain, Followed, Monitor, PendingCopy};
+use gt_live::{CopyWords, Departed, Domain, Followed, LeftWord, Monitor, NewMapping, PendingCopy};
 use gt_types::{Allows, Denial, DomId, GrantRef, Memory, Size};
 use std::alloc::Global;
 
@@ -86,25 +86,25 @@ impl Attachment {
 }
 
 impl<P: Allows + Drop> AttachedDomain<P> {
-    ghost use Rattle.std.specs.Prelude.{◌≡◌, ◌≤◌, Err, IsSome, None, OnOk, OnErr, is_some};
+    ghost use Rattle.std.specs.Prelude.{◌≡◌, ◌≤◌, Err, IfOk, IsSome, None, OnOk, OnErr, is_some};
     ghost use Rattle.gt_audit.specs.Trails.{HasNone, AppendsRecord, KeepsRoom};
     ghost use Rattle.gt_audit.specs.declared.pieces.TheConstants.{MOST_RESERVED};
     ghost use Rattle.gt_audit.specs.declared.record.Hypercall.TheVariants as hypercalls;
-    ghost use Rattle.gt_model.specs.declared.held.HeldPin.{HeldPin as Mapping};
     ghost use Rattle.gt_model.specs.declared.request.Request.TheVariants as requests;
     ghost use Rattle.gt_live.specs.Domains.{Answered, AnswersQuietly, AnswersRecorded};
     ghost use Rattle.gt_live.specs.Closing.{LooksAtOwn, Resets};
     ghost use Rattle.gt_live.specs.Following.{Follows};
-    ghost use Rattle.gt_live.specs.Domains.{KeepsPinned, MapAnswered, mapping_reply, subject_of};
+    ghost use Rattle.gt_live.specs.Domains.{KeepsPinned, outcome_of, reply_of, subject_of};
+    ghost use Rattle.gt_live.specs.Releasing.{DropsTo, MapAdds};
     ghost use Rattle.gt_live.specs.Domains.{record_of_result, verdict_of, verdict_of_frames, verdict_of_size};
     ghost use Rattle.gt_live.specs.Domains.{verdict_of_version};
-    ghost use Rattle.gt_live.specs.Mappings.{Removes, unused_handle};
+    ghost use Rattle.gt_live.specs.Mappings.{unused_handle};
     ghost use Rattle.gt_live.specs.Parts.{mappings_of, seat_of, trail_of, with_trail, words_of};
     ghost use Rattle.gt_types.specs.Denial.{denial_of};
     ghost use Rattle.gt_types.specs.declared.denial.Facts.TheVariants as facts;
     ghost use Rattle.gt_types.specs.declared.denial.Rule.TheVariants.{N6};
     ghost use Rattle.gt_handles.specs.Handles.{value_of};
-    ghost use Rattle.gt_attached.specs.Seated.{BeginsAccess, EndsAccess, StaysIdle, taken_of};
+    ghost use Rattle.gt_attached.specs.Seated.{BeginsAccess, EndsAccess, EndsAccessTo, StaysIdle, taken_of};
     ghost use Rattle.std.specs.List.{slice_get};
 
     /// Publishes an entry instead of an invalid one that has no pins left. Neither the frame nor the domain that it
@@ -256,45 +256,50 @@ impl<P: Allows + Drop> AttachedDomain<P> {
     }
 
     /// Maps an entry of a domain, for reading and writing (flags 2) or for reading (flags 6): `GNTMAP_host_map` and
-    /// `GNTMAP_readonly` of `grant_table.h`.
+    /// `GNTMAP_readonly` of `grant_table.h`. Returns the mapping that was added.
     ///
     /// # Errors
     /// N1, N2, N5, N8 to N13, N16 to N18, or N26. Mappings and pins are unchanged.
-    pub fn map(&mut self, dom: DomId, gref: GrantRef, flags: u32) -> Result<Handle, Denial>
+    pub fn map(&mut self, dom: DomId, gref: GrantRef, flags: u32) -> Result<NewMapping, Denial>
         requires idle { self.old.copying ≡ None }
         ensures stays { StaysIdle self.old self.new }
-        ensures answered { MapAnswered P.may self.old.monitor self.old.domain
+        ensures answered { MapAdds P.may self.old.monitor self.old.domain
             (requests.Map dom gref flags) result self.new.domain }
         ensures recorded { AppendsRecord (trail_of self.old.domain)
             (record {
               dom = (seat_of self.old.domain).dom;
               call = hypercalls.Map dom gref flags;
-              reply = mapping_reply result;
+              reply = reply_of (outcome_of result);
             })
             (trail_of self.new.domain) }
     {
-        self.attachment.domain.map(&self.monitor, dom, gref, flags)
+        self.attachment
+            .domain
+            .map_with_pin(&self.monitor, dom, gref, flags)
     }
 
-    /// Unmaps a mapping, and releases its pin.
+    /// Unmaps a mapping, and releases its pin. Returns its entry, with the control word that this left.
     ///
     /// # Errors
     /// N6 if the handle names no mapping of the domain, or N5. Mappings and pins are unchanged.
-    pub fn unmap(&mut self, handle: Handle) -> Result<(), Denial>
+    pub fn unmap(&mut self, handle: Handle) -> Result<LeftWord, Denial>
         requires idle { self.old.copying ≡ None }
         ensures stays { StaysIdle self.old self.new }
         ensures answered { Answered P.may self.old.monitor self.old.domain
-            (requests.Unmap handle) (verdict_of result) self.new.domain }
-        ensures removed { OnOk result ((p : Mapping)
-            × Removes (mappings_of self.old.domain) (mappings_of self.new.domain) handle p) }
+            (requests.Unmap handle) (outcome_of result) self.new.domain }
+        ensures removed { IfOk result (λ left. DropsTo (words_of self.old.monitor).layout handle left
+            (mappings_of self.old.domain) (seat_of self.old.domain).view
+            (mappings_of self.new.domain) (seat_of self.new.domain).view) }
         ensures refused { OnErr result (KeepsPinned self.old.domain self.new.domain) }
         ensures absent { value_of (mappings_of self.old.domain) handle ≡ None → result ≡ Err (denial_of N6 facts.None) }
         ensures recorded { AppendsRecord (trail_of self.old.domain)
             (record_of_result self.old.domain
-            (hypercalls.Unmap (subject_of self.old.domain handle)) (verdict_of result))
+            (hypercalls.Unmap (subject_of self.old.domain handle)) (outcome_of result))
             (trail_of self.new.domain) }
     {
-        self.attachment.domain.unmap(&self.monitor, handle)
+        self.attachment
+            .domain
+            .unmap_with_word(&self.monitor, handle)
     }
 
     /// Returns the mapping under a handle, or `None` if the domain has no such mapping.
@@ -313,8 +318,8 @@ impl<P: Allows + Drop> AttachedDomain<P> {
         self.attachment.domain.unused_handle()
     }
 
-    /// Bounds the trail: a call is recorded only while the trail has fewer than `records` records. With 0 no call is
-    /// recorded. Records that are there already stay. A new domain has no bound.
+    /// Bounds the trail: a call is recorded only while the trail has fewer than `records` records. With 0, the bound of a
+    /// new domain, no call is recorded. Records that are there already stay.
     pub fn keep_at_most(&mut self, records: usize)
         requires idle { self.old.copying ≡ None }
         ensures stays { StaysIdle self.old self.new }
@@ -385,16 +390,20 @@ impl<P: Allows + Drop> AttachedDomain<P> {
         }
     }
 
-    /// Ends the copy that the domain is in: releases its pins, the last one first. The domain must be in a copy.
-    pub fn copy_end(&mut self)
+    /// Ends the copy that the domain is in: releases its pins, the last one first. The domain must be in a copy. Returns
+    /// the control words that this left in the entries that the copy named.
+    pub fn copy_end(&mut self) -> CopyWords
         requires copying { IsSome self.old.copying }
         ensures ends { EndsAccess self.old self.new }
+        ensures left { EndsAccessTo result self.old self.new }
     {
         let copying = self.attachment.copying;
         if let Some(pending) = copying {
-            self.attachment.domain.copy_end(&self.monitor, pending);
+            let left = self.attachment.domain.copy_end(&self.monitor, pending);
             self.attachment.copying = None;
+            return left;
         }
+        CopyWords { source: 0, dest: 0 }
     }
 
     /// Releases each of the domain's mappings and closes its table, for the next guest in its place. Its records stay.

@@ -17,9 +17,11 @@ mod attached;
 mod attachment;
 mod record;
 mod starting;
+mod unused;
 
 pub use answer::{
-    AttachedOutcome, Departure, EncodedAnswer, MappingName, TakenCounts, answers_are_read_back,
+    AttachedOutcome, Departure, EncodedAnswer, MappingName, NamedMapping, TakenCounts,
+    answers_are_read_back, writes,
 };
 pub use attached::AttachedDomain;
 pub use attachment::{CopyPlaces, LeftDomain};

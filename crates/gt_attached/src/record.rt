@@ -12,8 +12,8 @@ use gt_types::End;
 #[derive(Clone, Copy)]
 pub struct CopyEnd {
     pub ptr: u64,
-    pub dom: u16,
-    pub off: u16,
+    pub dom: u32,
+    pub off: u32,
 }
 
 /// The audit record of a call, in a layout that C reads. A field without a meaning is 0.
@@ -63,8 +63,8 @@ fn end_recorded(end: End) -> CopyEnd
 {
     CopyEnd {
         ptr: end.ptr,
-        dom: end.domid.0,
-        off: end.offset,
+        dom: u32::from(end.domid.0),
+        off: u32::from(end.offset),
     }
 }
 

@@ -56,7 +56,7 @@ fn all_guests<P: Allows + Drop>(
 
 /// Starts a run whose frames the caller keeps, and returns an attached domain for each one configured, in order. They
 /// share one monitor, which has this configuration and these rights and keeps no frame. A domain may have any number of
-/// frames from 1 on.
+/// frames from 1 on. None of them records its calls until `keep_at_most` asks for it.
 ///
 /// # Errors
 /// The first fault of the configuration, or `Memory` if allocation fails, which may be before the check. No domain is

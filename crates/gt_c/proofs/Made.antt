@@ -40,6 +40,21 @@ made-telling {before = Some d} {between} {x} {g} answer N Q may lent holds =
       holds = subst (λ (y : CDomain). Q y (record x { attached = g })) (same_Some x d (lent ∙ may.0)) holds;
     })
 
+-- a call that changes nothing was made on the domain
+pub unmade : {before after : Option CDomain} (answer : EncodedAnswer) (Q : CDomain → CDomain → Type 0)
+    → MayBeCalled before after → ((d : CDomain) → Q d d) → CallsAttached before after answer Q
+unmade {before = None} answer Q may holds = absurd may
+unmade {before = Some d} answer Q may holds =
+    inr (record {
+      was = d;
+      is = d;
+      before_is = refl;
+      after_is = may.0;
+      idle = may.1;
+      run = refl;
+      holds = holds d;
+    })
+
 pub idle-there : (before : Option CDomain) {between : Option CDomain} {x : CDomain} → MayBeCalled before between → Some x ≡ between
     → x.attached.copying ≡ None
 idle-there None may lent = absurd may

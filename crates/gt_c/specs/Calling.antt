@@ -1,12 +1,15 @@
 -- The answer of an export, for the call that it made.
-use Rattle.std.specs.Prelude.{◌≡◌, ◌≤◌, ◌⊎◌, ℕ, List, Option, Some, None, IsSome, Result, Ok, Err, OnOk, OnErr}
+use Rattle.std.specs.Prelude.{◌≡◌, ◌≤◌, ◌<◌, ◌⊎◌, ℕ, List, Option, Some, None, IsSome, Result, Ok, Err, IfOk, OnOk}
+use Rattle.std.specs.Prelude.{OnErr}
 use Rattle.gt_c.specs.Prelude.{GrantRef, DomId, Memory, Size, Denial, Table, may, Hypercall, Record, HasNone}
-use Rattle.gt_c.specs.Prelude.{AppendsRecord, KeepsRoom, CallResult, HeldPin, Request, Handle, Domain, Answered}
+use Rattle.gt_c.specs.Prelude.{AppendsRecord, KeepsRoom, CallResult, Request, Handle, Domain, Answered}
 use Rattle.gt_c.specs.Prelude.{AnswersQuietly, AnswersRecorded, KeepsPinned, LeavesSettled, Settles, Departure}
-use Rattle.gt_c.specs.Prelude.{LeftDomain, Resets, taken_of, MapAnswered, mapping_reply, subject_of, record_of_result}
-use Rattle.gt_c.specs.Prelude.{verdict_of, Removes, encoded, Seated, StaysIdle, EncodedAnswer, AttachedOutcome, CDomain}
+use Rattle.gt_c.specs.Prelude.{LeftDomain, Resets, taken_of, MapAdds, outcome_of, reply_of, subject_of, record_of_result}
+use Rattle.gt_c.specs.Prelude.{DropsTo, LeftWord, NewMapping, NamedMapping, Rule, denial_of, frame_of}
+use Rattle.gt_c.specs.Prelude.{verdict_of, encoded, Seated, StaysIdle, EncodedAnswer, AttachedOutcome, CDomain}
 use Rattle.gt_attached.specs.declared.answer.AttachedOutcome.TheVariants as outcomes
 use Rattle.gt_audit.specs.declared.pieces.TheConstants.{MOST_RESERVED}
+use Rattle.gt_types.specs.declared.denial.Facts.TheVariants as facts
 use Rattle.gt_live.specs.Following.{Follows}
 use Rattle.gt_live.specs.declared.domain.following.Followed.{Followed}
 
@@ -46,14 +49,40 @@ abbrev pub CallsReporting : Option CDomain → Option CDomain → EncodedAnswer 
 CallsReporting before after answer ReportsNothing Holds =
     (TurnedAway before after answer × ReportsNothing) ⊎ MadeOn before after Holds
 
+-- the call was not made, since a number does not fit: this rule refuses it, and nothing has changed
+abbrev pub RefusesNumber : Rule → EncodedAnswer → Option CDomain → Option CDomain → Type 0
+RefusesNumber rule answer before after =
+    CallsAttached before after answer
+    (λ d e. (e ≡ d) × (answer ≡ encoded (outcomes.Denied (denial_of rule facts.None))))
+
+-- this holds, if the number has 16 bits; otherwise this rule refuses the call
+abbrev pub Within16 : Rule → ℕ → EncodedAnswer → Option CDomain → Option CDomain → Type 0 → Type 0
+Within16 rule n answer before after Holds =
+    ((n ≤ 65535) × Holds) ⊎ ((65535 < n) × RefusesNumber rule answer before after)
+
 -- the results of calls without a value, and of calls with one
 abbrev pub outcome : Result (Unit {0}) Denial → AttachedOutcome
 outcome (Ok done) = outcomes.Done
 outcome (Err denial) = outcomes.Denied denial
 
-abbrev pub outcome_mapped : DomId → ℕ → Result Handle Denial → AttachedOutcome
-outcome_mapped dom run (Ok handle) = outcomes.Mapped (record { handle = handle; dom = dom; run = run })
+-- a new mapping of this domain in this run, with its name
+abbrev pub named_mapping : DomId → ℕ → NewMapping → NamedMapping
+named_mapping dom run n =
+    record {
+      name = record { handle = n.handle; dom = dom; run = run };
+      owner = n.held.dom;
+      gref = n.held.gref;
+      frame = frame_of n.held.entry;
+      dir = n.held.dir;
+    }
+
+abbrev pub outcome_mapped : DomId → ℕ → Result NewMapping Denial → AttachedOutcome
+outcome_mapped dom run (Ok n) = outcomes.Mapped (named_mapping dom run n)
 outcome_mapped dom run (Err denial) = outcomes.Denied denial
+
+abbrev pub outcome_released : Result LeftWord Denial → AttachedOutcome
+outcome_released (Ok left) = outcomes.Released left
+outcome_released (Err denial) = outcomes.Denied denial
 
 abbrev pub outcome_frames : Result ℕ Denial → AttachedOutcome
 outcome_frames (Ok frames) = outcomes.Frames frames
@@ -99,25 +128,27 @@ EncodesRecorded said verdict request call answer d e =
     answer d e
 
 -- the record of a map
-abbrev pub record_of_map : Domain → Hypercall → Result Handle Denial → Record
-record_of_map d call r = record { dom = d.seat.dom; call = call; reply = mapping_reply r }
+abbrev pub record_of_map : Domain → Hypercall → Result NewMapping Denial → Record
+record_of_map d call r = record { dom = d.seat.dom; call = call; reply = reply_of (outcome_of r) }
 
--- the same for a map, whose mapping is kept, and is named by its domain and run
+-- the same for a map, whose mapping is kept, and is named by its domain and run; the answer has what is mapped
 abbrev pub EncodesMapped : Request → Hypercall → EncodedAnswer → CDomain → CDomain → Type 0
 EncodesMapped request call answer d e =
     EncodesResult (outcome_mapped d.attached.domain.seat.dom d.run) (λ r.
-    MapAnswered may d.attached.monitor d.attached.domain request r e.attached.domain
+    MapAdds may d.attached.monitor d.attached.domain request r e.attached.domain
     × AppendsRecord d.attached.domain.trail (record_of_map d.attached.domain call r) e.attached.domain.trail) answer d e
 
--- the same for an unmap, whose mapping is removed
+-- the same for an unmap, whose mapping is removed; the answer has its entry, and the control word that its release left
 abbrev pub EncodesUnmapped : Request → (Option (DomId × GrantRef) → Hypercall) → Handle → EncodedAnswer → CDomain
     → CDomain → Type 0
 EncodesUnmapped request call name answer d e =
-    EncodesResult outcome (λ r. Answered may d.attached.monitor d.attached.domain request (verdict_of r) e.attached.domain
-    × OnOk r ((p : HeldPin) × Removes d.attached.domain.mappings e.attached.domain.mappings name p)
+    EncodesResult outcome_released (λ r.
+    Answered may d.attached.monitor d.attached.domain request (outcome_of r) e.attached.domain
+    × IfOk r (λ left. DropsTo d.attached.monitor.words.layout name left d.attached.domain.mappings
+    d.attached.domain.seat.view e.attached.domain.mappings e.attached.domain.seat.view)
     × OnErr r (KeepsPinned d.attached.domain e.attached.domain)
     × AppendsRecord d.attached.domain.trail
-    (record_of_result d.attached.domain (call (subject_of d.attached.domain name)) (verdict_of r))
+    (record_of_result d.attached.domain (call (subject_of d.attached.domain name)) (outcome_of r))
     e.attached.domain.trail) answer d e
 
 -- the domain keeps at most this many records, and nothing else changed

@@ -26,17 +26,22 @@ pub use Rattle.gt_model.specs.declared.control.EntryKind.{EntryKind}
 pub use Rattle.gt_handles.specs.Handles.{value_of}
 pub use Rattle.gt_model.specs.declared.handle.Handle.{Handle}
 pub use Rattle.gt_live.specs.Closing.{LooksAtOwn, Resets}
-pub use Rattle.gt_live.specs.Domains.{Answered, AnswersQuietly, AnswersRecorded, KeepsPinned, MapAnswered}
-pub use Rattle.gt_live.specs.Domains.{mapping_reply, subject_of, record_of_result, verdict_of}
-pub use Rattle.gt_live.specs.Mappings.{Removes}
+pub use Rattle.gt_live.specs.Domains.{Answered, AnswersQuietly, AnswersRecorded, KeepsPinned, outcome_of, reply_of}
+pub use Rattle.gt_live.specs.Domains.{subject_of, record_of_result, verdict_of}
+pub use Rattle.gt_live.specs.Releasing.{DropsTo, MapAdds}
+pub use Rattle.gt_live.specs.declared.access_paths.CopyWords.{CopyWords}
+pub use Rattle.gt_live.specs.declared.domain.mappings.LeftWord.{LeftWord}
+pub use Rattle.gt_live.specs.declared.domain.mappings.NewMapping.{NewMapping}
 pub use Rattle.gt_live.specs.declared.domain.Domain.{Domain}
-pub use Rattle.gt_attached.specs.Encoding.{encoded}
+pub use Rattle.gt_attached.specs.Encoding.{encoded, writes}
 pub use Rattle.gt_attached.specs.Recording.{no_end, record_kept}
-pub use Rattle.gt_attached.specs.Seated.{BeginsAccess, EndsAccess, LeavesSettled, Seated, Settles, StaysIdle}
+pub use Rattle.gt_attached.specs.Seated.{BeginsAccess, EndsAccess, EndsAccessTo, LeavesSettled, Seated, Settles}
+pub use Rattle.gt_attached.specs.Seated.{StaysIdle}
 pub use Rattle.gt_attached.specs.Seated.{taken_of}
 pub use Rattle.gt_attached.specs.declared.answer.EncodedAnswer.{EncodedAnswer}
 pub use Rattle.gt_attached.specs.declared.answer.AttachedOutcome.{AttachedOutcome}
 pub use Rattle.gt_attached.specs.declared.answer.Departure.{Departure}
+pub use Rattle.gt_attached.specs.declared.answer.NamedMapping.{NamedMapping}
 pub use Rattle.gt_attached.specs.declared.attachment.CopyPlaces.{CopyPlaces}
 pub use Rattle.gt_attached.specs.declared.attachment.LeftDomain.{LeftDomain}
 pub use Rattle.gt_attached.specs.declared.record.CopyEnd.{CopyEnd}
@@ -47,5 +52,7 @@ pub use Rattle.gt_types.specs.declared.DomId.{DomId}
 pub use Rattle.gt_types.specs.declared.GrantRef.{GrantRef}
 pub use Rattle.gt_types.specs.declared.Memory.{Memory}
 pub use Rattle.gt_types.specs.declared.Size.{Size}
+pub use Rattle.gt_types.specs.Denial.{denial_of}
 pub use Rattle.gt_types.specs.declared.denial.Denial.{Denial}
+pub use Rattle.gt_types.specs.declared.denial.Rule.{Rule}
 pub use Rattle.std.specs.List.{slice_get}

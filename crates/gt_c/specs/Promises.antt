@@ -2,6 +2,7 @@
 use Rattle.std.specs.Prelude.{◌≡◌, ℕ, List, Option}
 use Rattle.std.specs.Borrow.{Bor}
 use Rattle.gt_audit.specs.declared.record.Hypercall.TheVariants as hypercalls
+use Rattle.gt_model.specs.declared.entry.Entry.{Entry}
 use Rattle.gt_model.specs.declared.request.Request.TheVariants as requests
 use Rattle.gt_live.specs.Domains.{verdict_of, verdict_of_frames, verdict_of_size, verdict_of_version}
 use Rattle.gt_attached.specs.declared.answer.EncodedAnswer.{EncodedAnswer}
@@ -21,23 +22,27 @@ use Rattle.gt_c.specs.Asking.{RefusesForeign, handle_named, page, spelled, sub, 
 use Rattle.gt_c.specs.Calling.{CallsAttached, CallsReporting, EncodesDone, EncodesFollowed, EncodesMapped}
 use Rattle.gt_c.specs.Calling.{EncodesRecorded, EncodesUnmapped, KeepsAtMost, Reserves, TakesAll, dom_of, ref_at}
 use Rattle.gt_c.specs.Calling.{outcome, outcome_frames, outcome_size, outcome_version}
-use Rattle.gt_c.specs.Reports.{EncodesBegun, EncodesEntry, EncodesMapping, EncodesRecord, copy_asked, no_entry}
+use Rattle.gt_c.specs.Reports.{BeginsAsked, EncodesUnused}
+use Rattle.gt_c.specs.Reports.{EncodesEntry, EncodesMapping, EncodesRecord, copy_asked, no_entry}
 use Rattle.gt_c.specs.Reports.{no_mapping, no_copy_places, no_record}
+
+-- this entry is granted
+abbrev pub GrantsEntry : ℕ → Entry → EncodedAnswer → Option CDomain → Option CDomain → Type 0
+GrantsEntry gref entry answer before after =
+    CallsAttached before after answer (EncodesDone (requests.Grant (ref_at gref) entry) answer)
 
 -- one of the domain's pages is granted
 abbrev pub GrantsPage : ℕ → ℕ → ℕ → ℕ → EncodedAnswer → Option CDomain → Option CDomain → Type 0
-GrantsPage gref to frame ro answer before after =
-    CallsAttached before after answer (EncodesDone (requests.Grant (ref_at gref) (page to frame ro)) answer)
+GrantsPage gref to frame ro answer before after = GrantsEntry gref (page to frame ro) answer before after
 
 -- bytes of one of the domain's pages are granted
 abbrev pub GrantsSub : ℕ → ℕ → ℕ → ℕ → ℕ → ℕ → EncodedAnswer → Option CDomain → Option CDomain → Type 0
 GrantsSub gref to frame off len ro answer before after =
-    CallsAttached before after answer (EncodesDone (requests.Grant (ref_at gref) (sub to frame off len ro)) answer)
+    GrantsEntry gref (sub to frame off len ro) answer before after
 
 -- a grant of another domain is granted on
 abbrev pub GrantsVia : ℕ → ℕ → ℕ → ℕ → ℕ → EncodedAnswer → Option CDomain → Option CDomain → Type 0
-GrantsVia gref to dom2 ref2 ro answer before after =
-    CallsAttached before after answer (EncodesDone (requests.Grant (ref_at gref) (via to dom2 ref2 ro)) answer)
+GrantsVia gref to dom2 ref2 ro answer before after = GrantsEntry gref (via to dom2 ref2 ro) answer before after
 
 -- the entry that the bytes encode is granted
 abbrev pub GrantsBytes : ℕ → EntryBytes → EncodedAnswer → Option CDomain → Option CDomain → Type 0
@@ -122,6 +127,10 @@ ReportsEntry gref report before after =
     CallsReporting before after report.answer (report.entry ≡ no_entry)
     (EncodesEntry (ref_at gref) report.entry report.answer)
 
+-- an unused entry is searched for
+abbrev pub SearchesUnused : ℕ → EncodedAnswer → Option CDomain → Option CDomain → Type 0
+SearchesUnused from answer before after = CallsAttached before after answer (EncodesUnused from answer)
+
 -- the records are taken
 abbrev pub TakesRecords : EncodedAnswer → Option CDomain → Option CDomain → Type 0
 TakesRecords answer before after = CallsAttached before after answer (TakesAll answer)
@@ -133,8 +142,8 @@ Bounds records answer before after = CallsAttached before after answer (KeepsAtM
 abbrev pub MakesRoom : ℕ → EncodedAnswer → Option CDomain → Option CDomain → Type 0
 MakesRoom records answer before after = CallsAttached before after answer (Reserves records answer)
 
--- a copy begins
+-- a copy begins; if a number of it does not fit, it is refused
 abbrev pub BeginsCopy : CopySettings → BegunReport → Option CDomain → Option CDomain → Type 0
 BeginsCopy copy report before after =
     CallsReporting before after report.answer (report.places ≡ no_copy_places)
-    (EncodesBegun (copy_asked copy) report.places report.answer)
+    (BeginsAsked (copy_asked copy) report.places report.answer)

@@ -1,21 +1,39 @@
 -- What exports return in layouts of C: the places of a copy, a mapping, a record, an entry.
-use Rattle.std.specs.Prelude.{◌≡◌, ◌⊎◌, ℕ, Bool, true, false, Option, Some, None, Result, Ok, Err}
-use Rattle.gt_c.specs.Prelude.{slice_get, Dir, Read, Write, Denial, Record, Spot, HeldPin, CopyArgs, End, frame_of}
+use Rattle.std.specs.Prelude.{◌≡◌, ◌⊎◌, ◌||◌, ℕ, Bool, true, false, nat_lt, if◌then◌else◌, Option, Some, None}
+use Rattle.std.specs.Prelude.{Result, Ok, Err}
+use Rattle.gt_c.specs.Prelude.{CopyWords, EndsAccessTo, Rule, denial_of, writes}
+use Rattle.gt_types.specs.declared.denial.Facts.TheVariants as facts
+use Rattle.gt_types.specs.declared.denial.Rule.TheVariants.{N1, N2, N3}
+use Rattle.gt_c.specs.Prelude.{slice_get, Denial, Record, Spot, HeldPin, CopyArgs, End, frame_of}
 use Rattle.gt_c.specs.Prelude.{Handle, value_of, encoded, no_end, record_kept, BeginsAccess, EndsAccess, EncodedAnswer}
 use Rattle.gt_c.specs.Prelude.{AttachedOutcome, CopyPlaces, CopyEnd, may, Control, EntryKind, EntryStatus, GrantRef}
 use Rattle.gt_c.specs.Prelude.{LooksAtOwn, StaysIdle, EncodedRecord, CopySettings, PlaceReport, PlacesReport}
 use Rattle.gt_c.specs.Prelude.{MappedFrame, CDomain}
 use Rattle.gt_model.specs.declared.control.EntryKind.TheVariants.{Invalid, Page, Sub, Via}
 use Rattle.gt_attached.specs.declared.answer.AttachedOutcome.TheVariants as outcomes
+use Rattle.gt_attached.specs.Unused.{FindsUnused}
 use Rattle.gt_c.specs.Calling.{KeepsRun}
 
 -- an end of a copy as C passes it
 abbrev pub end_asked : CopyEnd → End
 end_asked end = record { ptr = end.ptr; domid = record { 0 = end.dom }; offset = end.off }
 
--- the copy that C asks for
-abbrev pub copy_asked : CopySettings → CopyArgs
-copy_asked c = record { source = end_asked c.source; dest = end_asked c.dest; len = c.len; flags = c.flags }
+-- the copy that C asks for, if its numbers fit
+abbrev pub copy_args : CopySettings → CopyArgs
+copy_args c = record { source = end_asked c.source; dest = end_asked c.dest; len = c.len; flags = c.flags }
+
+-- the number has more than 16 bits
+abbrev pub is_wide : ℕ → Bool
+is_wide n = nat_lt 65535 n
+
+-- the copy that C asks for, or the rule that refuses it because a number does not fit: that of a domain, the flags, an
+-- offset or the length
+abbrev pub copy_asked : CopySettings → Result CopyArgs Rule
+copy_asked c =
+    if is_wide c.source.dom || is_wide c.dest.dom then Err N1 else
+    if is_wide c.flags then Err N2 else
+    if is_wide c.source.off || (is_wide c.dest.off || is_wide c.len) then Err N3 else
+    Ok (copy_args c)
 
 -- a place as C reads it
 abbrev pub place_report : Spot → PlaceReport
@@ -46,18 +64,21 @@ pub record EncodesBegun (copy : CopyArgs) (places : PlacesReport) (answer : Enco
   pub shown : places ≡ places_report result
   pub begins : BeginsAccess may d.attached copy result e.attached
 
--- the copy of a handle's domain was ended; or there was none, or no domain, and the answer is that
+-- this copy of the domain was begun, as above; or a number does not fit, this rule refuses it, and nothing has changed
+abbrev pub BeginsAsked : Result CopyArgs Rule → PlacesReport → EncodedAnswer → CDomain → CDomain → Type 0
+BeginsAsked (Ok copy) places answer d e = EncodesBegun copy places answer d e
+BeginsAsked (Err rule) places answer d e =
+    (e ≡ d) × (answer ≡ encoded (outcomes.Denied (denial_of rule facts.None))) × (places ≡ no_copy_places)
+
+-- the copy of a handle's domain was ended, and the answer has the control words that this left; or there was none, or no
+-- domain, and the answer is that
 abbrev pub CopyEnds : EncodedAnswer → Option CDomain → Option CDomain → Type 0
 CopyEnds answer None after = (after ≡ None) × (answer ≡ encoded outcomes.NoDomain)
 CopyEnds answer (Some d) None = ⊥
 CopyEnds answer (Some d) (Some e) =
     ((d.attached.copying ≡ None) × (e ≡ d) × (answer ≡ encoded outcomes.NoCopy))
-    ⊎ (KeepsRun d e × EndsAccess d.attached e.attached × (answer ≡ encoded outcomes.Done))
-
--- 1 for a mapping that writes, 0 for one that reads
-abbrev pub writes : Dir → ℕ
-writes Read = 0
-writes Write = 1
+    ⊎ (KeepsRun d e × EndsAccess d.attached e.attached
+    × ((left : CopyWords) × EndsAccessTo left d.attached e.attached × (answer ≡ encoded (outcomes.Ended left))))
 
 -- no mapping
 abbrev pub no_mapping : MappedFrame
@@ -134,6 +155,18 @@ entry_status (Some c) =
       to = c.dom.0;
       read_only = read_only_code c.ro;
     }
+
+-- the result of a search for a reference
+abbrev pub outcome_reference : Option GrantRef → AttachedOutcome
+outcome_reference None = outcomes.Absent
+outcome_reference (Some gref) = outcomes.Reference gref
+
+-- the first unused entry of the domain from this one on was searched for, and the answer encodes what was found
+pub record EncodesUnused (from : ℕ) (answer : EncodedAnswer) (d e : CDomain) : Type 0 where
+  pub found : Option GrantRef
+  pub encodes : answer ≡ encoded (outcome_reference found)
+  pub stays : StaysIdle d.attached e.attached
+  pub finds : FindsUnused d.attached.monitor.words.layout d.attached.domain from found e.attached.domain
 
 -- a look at this entry, if the domain's table has it, found this
 pub record EncodesEntry (gref : GrantRef) (entry : EntryStatus) (answer : EncodedAnswer) (d e : CDomain) : Type 0 where

@@ -3,21 +3,23 @@ ghost use Rattle.std.specs.Prelude.{◌≡◌, true, false, IfSome, None};
 ghost use Rattle.gt_attached.specs.Encoding.{encoded};
 ghost use Rattle.gt_attached.specs.declared.answer.AttachedOutcome.TheVariants as outcomes;
 ghost use Rattle.gt_handles.specs.Handles.{value_of};
+ghost use Rattle.gt_types.specs.declared.denial.Rule.TheVariants.{N1, N21};
 ghost use Rattle.gt_c.specs.Asking.{handle_named, is_of_domain, page, spelled, sub, via};
 ghost use Rattle.gt_c.specs.Calling.{MayBeCalled, TurnedAway, outcome, outcome_followed, outcome_frames};
-ghost use Rattle.gt_c.specs.Calling.{outcome_mapped, outcome_size, outcome_version};
+ghost use Rattle.gt_c.specs.Calling.{RefusesNumber, Within16, outcome_mapped, outcome_released, outcome_size};
+ghost use Rattle.gt_c.specs.Calling.{outcome_version};
 ghost use Rattle.gt_c.specs.Promises.{AsksSize, AsksVersion, DemotesEntry, FollowsEntryBytes, GrantsBytes, GrantsPage};
-ghost use Rattle.gt_c.specs.Promises.{GrantsSub, GrantsVia};
+ghost use Rattle.gt_c.specs.Promises.{GrantsEntry, GrantsSub, GrantsVia};
 ghost use Rattle.gt_c.specs.Promises.{Maps, Promotes, RevokesEntry, SetsUp, SetsVersion, Unmaps, WithdrawsEntry};
 
 use crate::c_domain::CDomain;
 use crate::handle::DomainHandle;
 use crate::lending::lent_mut;
-use gt_attached::{AttachedOutcome, EncodedAnswer, MappingName as Named};
+use gt_attached::{AttachedOutcome, EncodedAnswer, MappingName, NamedMapping};
 use gt_calls::Handle as Name;
 use gt_entry::Entry;
-use gt_live::Followed;
-use gt_types::{Denial, DomId, GrantRef, Size};
+use gt_live::{Followed, LeftWord, NewMapping};
+use gt_types::{Denial, DomId, Facts, GrantRef, Rule, Size};
 
 /// The name of a mapping: its handle, the number of its run, and the domain that has it.
 #[repr(C)]
@@ -26,8 +28,12 @@ pub struct MapHandle {
     pub serial: u64,
     pub key: usize,
     pub run: u32,
-    pub dom: u16,
+    pub dom: u32,
 }
+
+/// The largest number of a domain, an offset, a length or a copy's flags: they have 16 bits. C passes them in 32, so
+/// that a larger one is refused and not cut.
+pub(crate) const MOST: u32 = 65535;
 
 // Returns the handle in a name, for a call of this domain. For a name of another domain or another run it returns a
 // handle under which the domain has no mapping.
@@ -35,7 +41,7 @@ pub(crate) fn handle_named(lent: &CDomain, name: MapHandle) -> Name
     ensures value { result ≡ handle_named lent.now name }
     ensures foreign { is_of_domain lent.now name ≡ false → value_of lent.now.attached.domain.mappings result ≡ None }
 {
-    if name.run != lent.run || name.dom != lent.attached.dom().0 {
+    if name.run != lent.run || name.dom != u32::from(lent.attached.dom().0) {
         return lent.attached.unused_handle();
     }
     Name {
@@ -123,25 +129,53 @@ fn is_turned_away(domain: &mut DomainHandle, answer: &mut EncodedAnswer) -> bool
 }
 
 #[inline(always)]
-fn store_mapped(answer: &mut EncodedAnswer, answered: Result<Name, Denial>, dom: DomId, run: u32)
+fn store_mapped(
+    answer: &mut EncodedAnswer,
+    answered: Result<NewMapping, Denial>,
+    dom: DomId,
+    run: u32,
+)
     ensures { answer.new ≡ encoded (outcome_mapped dom run answered) }
 {
     match answered {
-        Ok(handle) => {
-            *answer = EncodedAnswer::of(AttachedOutcome::Mapped(Named { handle, dom, run }));
+        Ok(made) => {
+            *answer = EncodedAnswer::of(AttachedOutcome::Mapped(NamedMapping {
+                name: MappingName {
+                    handle: made.handle,
+                    dom,
+                    run,
+                },
+                owner: made.held.dom,
+                gref: made.held.gref,
+                frame: made.held.entry.frame(),
+                dir: made.held.dir,
+            }));
         }
         Err(denial) => store_refusal(answer, denial),
     }
 }
 
 #[inline(always)]
-fn store_done(answer: &mut EncodedAnswer, answered: Result<(), Denial>)
-    ensures { answer.new ≡ encoded (outcome answered) }
+fn store_released(answer: &mut EncodedAnswer, answered: Result<LeftWord, Denial>)
+    ensures { answer.new ≡ encoded (outcome_released answered) }
 {
     match answered {
-        Ok(()) => *answer = EncodedAnswer::of(AttachedOutcome::Done),
+        Ok(left) => *answer = EncodedAnswer::of(AttachedOutcome::Released(left)),
         Err(denial) => store_refusal(answer, denial),
     }
+}
+
+// Returns the answer to a call with a number that does not fit: it is not made, and this rule refuses it, unless the
+// handle has no domain, or one in a copy.
+#[cold]
+#[inline(never)]
+pub(crate) fn refused_number(domain: &mut DomainHandle, rule: Rule) -> EncodedAnswer
+    ensures { RefusesNumber rule result domain.old.held.value domain.new.held.value }
+{
+    if let Some(answer) = turned_away(domain) {
+        return answer;
+    }
+    EncodedAnswer::of(AttachedOutcome::Denied(Denial::new(rule, Facts::None)))
 }
 
 #[inline(always)]
@@ -224,22 +258,33 @@ fn via(to: u16, dom2: u16, ref2: u32, ro: u32) -> Entry
     }
 }
 
-/// Grants a page of the caller to a domain, for reading only if `ro` is not 0.
-#[unsafe(no_mangle)]
-pub extern "C" fn gthost_grant_page_at(
-    domain: &mut DomainHandle,
-    gref: u32,
-    to: u16,
-    frame: u64,
-    ro: u32,
-) -> EncodedAnswer
-    ensures { GrantsPage gref to frame ro result domain.old.held.value domain.new.held.value }
+// Grants an entry of the caller.
+fn grant_entry(domain: &mut DomainHandle, gref: u32, entry: Entry) -> EncodedAnswer
+    ensures { GrantsEntry gref entry result domain.old.held.value domain.new.held.value }
 {
     if let Some(answer) = turned_away(domain) {
         return answer;
     }
     let lent = lent_mut(&mut domain.held);
-    EncodedAnswer::of(done(lent.attached.grant(GrantRef(gref), &page(to, frame, ro))))
+    EncodedAnswer::of(done(lent.attached.grant(GrantRef(gref), &entry)))
+}
+
+/// Grants a page of the caller to a domain, for reading only if `ro` is not 0.
+#[unsafe(no_mangle)]
+pub extern "C" fn gthost_grant_page_at(
+    domain: &mut DomainHandle,
+    gref: u32,
+    to: u32,
+    frame: u64,
+    ro: u32,
+) -> EncodedAnswer
+    ensures { Within16 N1 to result domain.old.held.value domain.new.held.value
+        (GrantsPage gref to frame ro result domain.old.held.value domain.new.held.value) }
+{
+    if to > MOST {
+        return refused_number(domain, Rule::N1);
+    }
+    grant_entry(domain, gref, page(to as u16, frame, ro))
 }
 
 /// Grants bytes of a page of the caller to a domain, for copies only.
@@ -247,22 +292,31 @@ pub extern "C" fn gthost_grant_page_at(
 pub extern "C" fn gthost_grant_sub_at(
     domain: &mut DomainHandle,
     gref: u32,
-    to: u16,
+    to: u32,
     frame: u64,
-    off: u16,
-    len: u16,
+    off: u32,
+    len: u32,
     ro: u32,
 ) -> EncodedAnswer
-    ensures { GrantsSub gref to frame off len ro result domain.old.held.value domain.new.held.value }
+    ensures { Within16 N1 to result domain.old.held.value domain.new.held.value
+        (Within16 N21 off result domain.old.held.value domain.new.held.value
+        (Within16 N21 len result domain.old.held.value domain.new.held.value
+        (GrantsSub gref to frame off len ro result domain.old.held.value domain.new.held.value))) }
 {
-    if let Some(answer) = turned_away(domain) {
-        return answer;
+    if to > MOST {
+        return refused_number(domain, Rule::N1);
     }
-    let lent = lent_mut(&mut domain.held);
-    EncodedAnswer::of(done(
-        lent.attached
-            .grant(GrantRef(gref), &sub(to, frame, off, len, ro)),
-    ))
+    if off > MOST {
+        return refused_number(domain, Rule::N21);
+    }
+    if len > MOST {
+        return refused_number(domain, Rule::N21);
+    }
+    grant_entry(
+        domain,
+        gref,
+        sub(to as u16, frame, off as u16, len as u16, ro),
+    )
 }
 
 /// Grants a domain the copies that the entry `ref2` of the domain `dom2` permits the caller.
@@ -270,21 +324,22 @@ pub extern "C" fn gthost_grant_sub_at(
 pub extern "C" fn gthost_grant_via_at(
     domain: &mut DomainHandle,
     gref: u32,
-    to: u16,
-    dom2: u16,
+    to: u32,
+    dom2: u32,
     ref2: u32,
     ro: u32,
 ) -> EncodedAnswer
-    ensures { GrantsVia gref to dom2 ref2 ro result domain.old.held.value domain.new.held.value }
+    ensures { Within16 N1 to result domain.old.held.value domain.new.held.value
+        (Within16 N1 dom2 result domain.old.held.value domain.new.held.value
+        (GrantsVia gref to dom2 ref2 ro result domain.old.held.value domain.new.held.value)) }
 {
-    if let Some(answer) = turned_away(domain) {
-        return answer;
+    if to > MOST {
+        return refused_number(domain, Rule::N1);
     }
-    let lent = lent_mut(&mut domain.held);
-    EncodedAnswer::of(done(
-        lent.attached
-            .grant(GrantRef(gref), &via(to, dom2, ref2, ro)),
-    ))
+    if dom2 > MOST {
+        return refused_number(domain, Rule::N1);
+    }
+    grant_entry(domain, gref, via(to as u16, dom2 as u16, ref2, ro))
 }
 
 /// Grants the entry that the bytes encode.
@@ -367,15 +422,9 @@ pub extern "C" fn gthost_promote_at(domain: &mut DomainHandle, gref: u32) -> Enc
     EncodedAnswer::of(done(lent.attached.promote(GrantRef(gref))))
 }
 
-/// Maps an entry of a domain, for reading and writing (flags 2) or for reading (flags 6).
-#[unsafe(no_mangle)]
-pub extern "C" fn gthost_map_at(
-    domain: &mut DomainHandle,
-    dom: u16,
-    gref: u32,
-    flags: u32,
-    answer: &mut EncodedAnswer,
-)
+// Maps an entry of a domain whose number fits.
+#[inline(always)]
+fn map_of(domain: &mut DomainHandle, dom: u16, gref: u32, flags: u32, answer: &mut EncodedAnswer)
     ensures { Maps dom gref flags answer.new domain.old.held.value domain.new.held.value }
 {
     if is_turned_away(domain, answer) {
@@ -385,6 +434,25 @@ pub extern "C" fn gthost_map_at(
     let caller = lent.attached.dom();
     let answered = lent.attached.map(DomId(dom), GrantRef(gref), flags);
     store_mapped(answer, answered, caller, lent.run);
+}
+
+/// Maps an entry of a domain, for reading and writing (flags 2) or for reading (flags 6).
+#[unsafe(no_mangle)]
+pub extern "C" fn gthost_map_at(
+    domain: &mut DomainHandle,
+    dom: u32,
+    gref: u32,
+    flags: u32,
+    answer: &mut EncodedAnswer,
+)
+    ensures { Within16 N1 dom answer.new domain.old.held.value domain.new.held.value
+        (Maps dom gref flags answer.new domain.old.held.value domain.new.held.value) }
+{
+    if dom > MOST {
+        *answer = refused_number(domain, Rule::N1);
+        return;
+    }
+    map_of(domain, dom as u16, gref, flags, answer);
 }
 
 /// Unmaps a mapping.
@@ -402,7 +470,7 @@ pub extern "C" fn gthost_unmap_at(
     let lent = lent_mut(&mut domain.held);
     let handle = handle_named(lent, *name);
     let answered = lent.attached.unmap(handle);
-    store_done(answer, answered);
+    store_released(answer, answered);
 }
 
 /// Gives the caller's table this version, 1 or 2.
@@ -429,9 +497,8 @@ pub extern "C" fn gthost_setup_table_at(domain: &mut DomainHandle, frames: u32) 
     EncodedAnswer::of(frames_outcome(lent.attached.setup_table(frames)))
 }
 
-/// Returns the size of a domain's table.
-#[unsafe(no_mangle)]
-pub extern "C" fn gthost_query_size_at(domain: &mut DomainHandle, dom: u16) -> EncodedAnswer
+// Returns the size of the table of a domain whose number fits.
+fn size_of(domain: &mut DomainHandle, dom: u16) -> EncodedAnswer
     ensures { AsksSize dom result domain.old.held.value domain.new.held.value }
 {
     if let Some(answer) = turned_away(domain) {
@@ -441,9 +508,20 @@ pub extern "C" fn gthost_query_size_at(domain: &mut DomainHandle, dom: u16) -> E
     EncodedAnswer::of(size_outcome(lent.attached.query_size(DomId(dom))))
 }
 
-/// Returns the version of a domain's table.
+/// Returns the size of a domain's table.
 #[unsafe(no_mangle)]
-pub extern "C" fn gthost_get_version_at(domain: &mut DomainHandle, dom: u16) -> EncodedAnswer
+pub extern "C" fn gthost_query_size_at(domain: &mut DomainHandle, dom: u32) -> EncodedAnswer
+    ensures { Within16 N1 dom result domain.old.held.value domain.new.held.value
+        (AsksSize dom result domain.old.held.value domain.new.held.value) }
+{
+    if dom > MOST {
+        return refused_number(domain, Rule::N1);
+    }
+    size_of(domain, dom as u16)
+}
+
+// Returns the version of the table of a domain whose number fits.
+fn version_of(domain: &mut DomainHandle, dom: u16) -> EncodedAnswer
     ensures { AsksVersion dom result domain.old.held.value domain.new.held.value }
 {
     if let Some(answer) = turned_away(domain) {
@@ -451,4 +529,16 @@ pub extern "C" fn gthost_get_version_at(domain: &mut DomainHandle, dom: u16) -> 
     }
     let lent = lent_mut(&mut domain.held);
     EncodedAnswer::of(version_outcome(lent.attached.get_version(DomId(dom))))
+}
+
+/// Returns the version of a domain's table.
+#[unsafe(no_mangle)]
+pub extern "C" fn gthost_get_version_at(domain: &mut DomainHandle, dom: u32) -> EncodedAnswer
+    ensures { Within16 N1 dom result domain.old.held.value domain.new.held.value
+        (AsksVersion dom result domain.old.held.value domain.new.held.value) }
+{
+    if dom > MOST {
+        return refused_number(domain, Rule::N1);
+    }
+    version_of(domain, dom as u16)
 }

@@ -2,16 +2,17 @@
 ghost use Rattle.std.specs.Prelude.{◌≡◌};
 ghost use Rattle.gt_c.specs.Calling.{outcome_reserved};
 ghost use Rattle.gt_c.specs.Promises.{Bounds, MakesRoom, TakesRecords, ReportsEntry, ReportsMapping, ReportsRecord};
+ghost use Rattle.gt_c.specs.Promises.{SearchesUnused};
 ghost use Rattle.gt_c.specs.Reports.{entry_status, kept_record, kind_code, mapping_report, no_entry, no_mapping};
-ghost use Rattle.gt_c.specs.Reports.{no_record, outcome_present, read_only_code, writes};
+ghost use Rattle.gt_c.specs.Reports.{no_record, outcome_present, outcome_reference, read_only_code};
 
 use crate::calls::{MapHandle, handle_named, turned_away};
 use crate::handle::DomainHandle;
 use crate::lending::lent_mut;
-use gt_attached::{AttachedOutcome, CopyEnd, EncodedAnswer, EncodedRecord};
+use gt_attached::{AttachedOutcome, CopyEnd, EncodedAnswer, EncodedRecord, writes};
 use gt_calls::HeldPin;
 use gt_entry::{Control, EntryKind};
-use gt_types::{Dir, GrantRef, Memory};
+use gt_types::{GrantRef, Memory};
 use std::alloc::Global;
 
 /// What is mapped: this frame of this owner, by this entry. `writes` is 1 if it may be written, else 0.
@@ -20,8 +21,8 @@ use std::alloc::Global;
 pub struct MappedFrame {
     pub frame: u64,
     pub gref: u32,
-    pub owner: u16,
-    pub writes: u16,
+    pub owner: u32,
+    pub writes: u32,
 }
 
 /// Whether there is such a mapping, and what it maps: all zeros if there is none.
@@ -39,10 +40,10 @@ pub struct MappingReport {
 pub struct EntryStatus {
     pub kind: u32,
     pub generation: u32,
-    pub reads: u16,
-    pub writes: u16,
-    pub to: u16,
-    pub read_only: u16,
+    pub reads: u32,
+    pub writes: u32,
+    pub to: u32,
+    pub read_only: u32,
 }
 
 /// Whether the table has such an entry, and what a look found: all zeros if it has none.
@@ -59,15 +60,6 @@ pub struct EntryReport {
 pub struct RecordReport {
     pub answer: EncodedAnswer,
     pub kept: EncodedRecord,
-}
-
-fn writes(dir: Dir) -> u16
-    ensures { result ≡ writes dir }
-{
-    match dir {
-        Dir::Read => 0,
-        Dir::Write => 1,
-    }
 }
 
 // Returns the report of no mapping.
@@ -91,7 +83,7 @@ fn mapping_report(found: Option<HeldPin>) -> MappedFrame
         Some(held) => MappedFrame {
             frame: held.entry.frame(),
             gref: held.gref.0,
-            owner: held.dom.0,
+            owner: u32::from(held.dom.0),
             writes: writes(held.dir),
         },
     }
@@ -108,7 +100,7 @@ fn kind_code(kind: EntryKind) -> u32
     }
 }
 
-fn read_only_code(ro: bool) -> u16
+fn read_only_code(ro: bool) -> u32
     ensures { result ≡ read_only_code ro }
 {
     if ro { 1 } else { 0 }
@@ -137,9 +129,9 @@ fn entry_status(found: Option<Control>) -> EntryStatus
         Some(control) => EntryStatus {
             kind: kind_code(control.kind),
             generation: control.generation,
-            reads: control.reads,
-            writes: control.writes,
-            to: control.dom.0,
+            reads: u32::from(control.reads),
+            writes: u32::from(control.writes),
+            to: u32::from(control.dom.0),
             read_only: read_only_code(control.ro),
         },
     }
@@ -187,6 +179,15 @@ fn present<T>(found: &Option<T>) -> AttachedOutcome
     }
 }
 
+fn reference(found: Option<GrantRef>) -> AttachedOutcome
+    ensures { result ≡ outcome_reference found }
+{
+    match found {
+        None => AttachedOutcome::Absent,
+        Some(gref) => AttachedOutcome::Reference(gref),
+    }
+}
+
 fn reserved(answer: Result<(), Memory>) -> AttachedOutcome
     ensures { result ≡ outcome_reserved answer }
 {
@@ -227,6 +228,20 @@ pub extern "C" fn gthost_entry_at(domain: &mut DomainHandle, gref: u32) -> Entry
     let answer = EncodedAnswer::of(present(&found));
     let entry = entry_status(found);
     EntryReport { answer, entry }
+}
+
+/// Returns the least reference from `from` on whose entry is invalid and still has pins. Looks once at each entry up to
+/// that one.
+#[unsafe(no_mangle)]
+pub extern "C" fn gthost_unused_at(domain: &mut DomainHandle, from: u32) -> EncodedAnswer
+    ensures { SearchesUnused from result domain.old.held.value domain.new.held.value }
+{
+    if let Some(answer) = turned_away(domain) {
+        return answer;
+    }
+    let lent = lent_mut(&mut domain.held);
+    let found = lent.attached.unused(GrantRef(from));
+    EncodedAnswer::of(reference(found))
 }
 
 /// Returns the record at an index, starting at 0, in the order of the calls, or zeros if there is none.

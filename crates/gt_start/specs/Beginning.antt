@@ -1,7 +1,8 @@
 -- How a run starts, and why one does not.
-use Rattle.std.specs.Prelude.{◌≡◌, ◌⊎◌, ℕ, Bool, nat_le, List, length, map, position, slice_get, Some, None, Ok, Err}
+use Rattle.std.specs.Prelude.{◌≡◌, ◌⊎◌, ℕ, min, Bool, nat_le, List, length, map, position, slice_get, Some, None}
+use Rattle.std.specs.Prelude.{Ok, Err}
 use Rattle.std.specs.Str.{IsUtf8}
-use Rattle.gt_roster.specs.Frameless.{HasOneFrameEach}
+use Rattle.gt_roster.specs.Frameless.{HasOneFrameEach, IsRunnable}
 use Rattle.gt_types.specs.Config.{IsFirstFault}
 use Rattle.gt_types.specs.declared.TypeId.{TypeId}
 use Rattle.gt_types.specs.declared.config.Config.{Config}
@@ -22,12 +23,13 @@ use Rattle.gt_start.specs.Faults.{encoded_label, encoded_limit, no_memory, no_te
 abbrev pub may : Table → TypeId → TypeId → Perms → Bool
 may table source target perm = looks_up table source.0 target.0 perm
 
--- a domain of the configuration, from its settings
+-- a domain of the configuration, from its settings: a number of more than 16 bits becomes the largest of 16, which no
+-- domain and no type may have
 abbrev pub domain_set : DomainSettings → DomainConfig
 domain_set s =
     record {
-      id = record { 0 = s.id };
-      label = record { 0 = s.label };
+      id = record { 0 = min s.id 65535 };
+      label = record { 0 = min s.label 65535 };
       frames = s.frames;
       table_frames = s.table_frames;
       version = s.version;
@@ -50,11 +52,12 @@ abbrev pub IsPolicyMeaning : List ℕ → Meaning → Type 0
 IsPolicyMeaning text m = IsUtf8 text × ReadsAs text (Ok m)
 
 -- a run started with these settings under this text: the attached domains are those of a new run of the settings'
--- domains, whose labels are types of the policy, and whose rights are those of the text
+-- domains, which are within the limits, whose labels are types of the policy, and whose rights are those of the text
 pub record Begins (settings : List DomainSettings) (first_gen : ℕ) (text : List ℕ) (guests : List (Seated Table))
     : Type 0 where
   pub config : Config
   pub set : IsSetBy settings first_gen config
+  pub runnable : IsRunnable config
   pub meaning : Meaning
   pub reads : IsPolicyMeaning text meaning
   pub labels : AreTypes (length meaning.types) settings
@@ -73,7 +76,7 @@ IsTextFault text fault =
 abbrev pub IsLabelFault : ℕ → List DomainSettings → EncodedFault → Type 0
 IsLabelFault types settings fault =
     (i : ℕ) × (s : DomainSettings) × (position (is_past types) settings ≡ Some i) × (slice_get settings i ≡ Some s)
-    × (fault ≡ encoded_label (record { 0 = s.id }))
+    × (fault ≡ encoded_label s.id)
 
 -- the text is a policy, and the fault is that of the first label that is not one of its types
 abbrev pub IsUnlabelled : List DomainSettings → List ℕ → EncodedFault → Type 0

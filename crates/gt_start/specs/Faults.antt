@@ -71,5 +71,5 @@ encoded_config (start_faults.Config fault) = encoded_limit fault
 encoded_config start_faults.Memory = no_memory
 
 -- the label of a domain is beyond the policy's types
-abbrev pub encoded_label : DomId → EncodedFault
-encoded_label dom = encoded_domain 19 dom
+abbrev pub encoded_label : ℕ → EncodedFault
+encoded_label dom = record { kind = 19; line = 0; dom = dom }

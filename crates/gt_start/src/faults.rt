@@ -101,8 +101,12 @@ pub(crate) fn config_fault(refused: StartFault) -> EncodedFault
 }
 
 // Encodes that the label of a domain is beyond the policy's types.
-pub(crate) fn label_fault(dom: DomId) -> EncodedFault
+pub(crate) fn label_fault(dom: u32) -> EncodedFault
     ensures { result ≡ encoded_label dom }
 {
-    fault_at(19, 0, dom)
+    EncodedFault {
+        kind: 19,
+        line: 0,
+        dom,
+    }
 }

@@ -1,5 +1,5 @@
 //! The settings of a run.
-ghost use Rattle.std.specs.Prelude.{◌≡◌, position, map, MatchOption, None, IfOk};
+ghost use Rattle.std.specs.Prelude.{◌≡◌, min, position, map, MatchOption, None, IfOk};
 ghost use Rattle.gt_start.specs.Beginning.{IsLabelFault, IsSetBy, domain_set, is_past};
 
 use crate::faults::{EncodedFault, label_fault};
@@ -7,23 +7,31 @@ use gt_types::{Config, DomId, DomainConfig, TypeId};
 use std::alloc::{AllocError, Global};
 
 /// A domain of a run to start: its number, the number of its type in the policy, the number of its frames (from 1 on:
-/// the caller keeps them), the number of its table's frames, and the version of its table.
+/// the caller keeps them), the number of its table's frames, and the version of its table. A number or a type above
+/// 65,535 is refused, as one that is out of range.
 #[repr(C)]
 #[derive(Clone, Copy)]
 pub struct DomainSettings {
-    pub id: u16,
-    pub label: u16,
+    pub id: u32,
+    pub label: u32,
     pub frames: u32,
     pub table_frames: u32,
     pub version: u32,
+}
+
+// Returns a number of 16 bits. For a larger one it returns the largest, which no domain and no type has.
+fn narrowed(number: u32) -> u16
+    ensures { result ≡ min number 65535 }
+{
+    if number < 65535 { number as u16 } else { 65535 }
 }
 
 fn domain_set(one: &DomainSettings) -> DomainConfig
     ensures { result ≡ domain_set one.now }
 {
     DomainConfig {
-        id: DomId(one.id),
-        label: TypeId(one.label),
+        id: DomId(narrowed(one.id)),
+        label: TypeId(narrowed(one.label)),
         frames: one.frames,
         table_frames: one.table_frames,
         version: one.version,
@@ -49,7 +57,9 @@ pub(crate) fn configured(
 fn first_past(settings: &[DomainSettings], types: u16) -> Option<usize>
     ensures { result ≡ position (is_past types) settings.now }
 {
-    settings.iter().position(|one| one.label >= types)
+    settings
+        .iter()
+        .position(|one| one.label >= u32::from(types))
 }
 
 // Returns the fault of the first label that is not below the number of types, if there is one.
@@ -58,7 +68,7 @@ pub(crate) fn label_past(settings: &[DomainSettings], types: u16) -> Option<Enco
         (λ fault. IsLabelFault types settings.now fault) }
 {
     match first_past(settings, types) {
-        Some(place) => Some(label_fault(DomId(settings[place].id))),
+        Some(place) => Some(label_fault(settings[place].id)),
         None => None,
     }
 }

@@ -2,7 +2,7 @@
 use gt_allow::AllowTable;
 use gt_attached::AttachedDomain;
 use gt_calls::Handle;
-use gt_entry::{Entry, EntryKind};
+use gt_entry::{Control, Entry, EntryKind};
 use gt_live::Followed;
 use gt_start::{DomainSettings, begin, type_of};
 use gt_types::{DomId, GrantRef, Rule};
@@ -21,8 +21,8 @@ fn settings(alloc: Global, count: u16, label: u16) -> Result<Vec<DomainSettings>
     let mut all = Vec::new(alloc);
     for place in 0..count {
         all.push(DomainSettings {
-            id: place.saturating_add(1),
-            label,
+            id: u32::from(place.saturating_add(1)),
+            label: u32::from(label),
             frames: FRAMES,
             table_frames: 1,
             version: 1,
@@ -46,7 +46,10 @@ fn maps(guest: &mut AttachedDomain<AllowTable>, owner: u16) -> Option<Handle> {
     if guest.is_copying() {
         return None;
     }
-    guest.map(DomId(owner), PAGE, 2).ok()
+    guest
+        .map(DomId(owner), PAGE, 2)
+        .ok()
+        .map(|made| made.handle)
 }
 
 // Returns the rule by which a map of the page of a domain is refused.
@@ -63,6 +66,23 @@ fn map_refused_by(guest: &mut AttachedDomain<AllowTable>, owner: u16) -> Option<
 // Unmaps a mapping.
 fn unmaps(guest: &mut AttachedDomain<AllowTable>, handle: Handle) -> bool {
     !guest.is_copying() && guest.unmap(handle).is_ok()
+}
+
+// Returns the kind of the page's entry and its pins for writing, by the word that an unmap of it leaves.
+fn left_by(guest: &mut AttachedDomain<AllowTable>, handle: Handle) -> Option<(EntryKind, u16)> {
+    if guest.is_copying() {
+        return None;
+    }
+    let left = Control::unpack(guest.unmap(handle).ok()?.word);
+    Some((left.kind, left.writes))
+}
+
+// Returns the first of the guest's entries that is invalid and still has pins.
+fn unused(guest: &mut AttachedDomain<AllowTable>) -> Option<GrantRef> {
+    if guest.is_copying() {
+        return None;
+    }
+    guest.unused(GrantRef(0))
 }
 
 // Returns the rule by which a revocation of the page is refused.
@@ -237,8 +257,10 @@ enum Act {
     Grants,
     /// The mapper maps the page, if it may.
     Maps(bool),
-    /// The mapper unmaps it.
-    Unmaps,
+    /// The mapper unmaps it, which leaves a word of this kind without pins for writing.
+    Unmaps(EntryKind),
+    /// Whether the page's entry is the first of the owner's that is invalid and has pins, or there is none.
+    IsUnused(bool),
     /// The page's entry is of this kind, with this number of pins for writing.
     Is(EntryKind, u16),
     /// The owner is made ready for its successor, with this number of entries in use.
@@ -263,10 +285,11 @@ fn goes(pair: &mut Pair, act: Act) -> bool {
     match act {
         Act::Grants => grants(&mut pair.owner, 2),
         Act::Maps(may) => maps_page(pair) == may,
-        Act::Unmaps => match pair.mapped {
-            Some(handle) => unmaps(&mut pair.mapper, handle),
+        Act::Unmaps(kind) => match pair.mapped {
+            Some(handle) => left_by(&mut pair.mapper, handle) == Some((kind, 0)),
             None => false,
         },
+        Act::IsUnused(is) => unused(&mut pair.owner) == if is { Some(PAGE) } else { None },
         Act::Is(kind, writes) => status(&mut pair.owner) == Some((kind, writes)),
         Act::OwnerResets(in_use) => resets(&mut pair.owner) == Some(in_use),
         Act::MapperResets(in_use) => resets(&mut pair.mapper) == Some(in_use),
@@ -318,14 +341,17 @@ fn told(
 }
 
 // A place is made ready for the next guest while its page is mapped.
-static READY: [Act; 11] = [
+static READY: [Act; 14] = [
     Act::Grants,
     Act::Maps(true),
+    Act::IsUnused(false),
     Act::Is(EntryKind::Page, 1),
     Act::OwnerResets(1),
     Act::Is(EntryKind::Invalid, 1),
+    Act::IsUnused(true),
     Act::Maps(false),
-    Act::Unmaps,
+    Act::Unmaps(EntryKind::Invalid),
+    Act::IsUnused(false),
     Act::Is(EntryKind::Invalid, 0),
     Act::Grants,
     Act::Maps(true),
@@ -349,7 +375,7 @@ static FOLLOWING: [Act; 18] = [
     Act::Is(EntryKind::Page, 1),
     Act::Follows(1, 5, Err(Rule::N19)),
     Act::Is(EntryKind::Invalid, 1),
-    Act::Unmaps,
+    Act::Unmaps(EntryKind::Invalid),
     Act::Follows(1, 5, Ok(Followed::Granted)),
     Act::Follows(5, 5, Ok(Followed::Demoted)),
     Act::Maps(false),

@@ -9,7 +9,8 @@ use Rattle.gt_attached.specs.declared.answer.AttachedOutcome.TheVariants as outc
 use Rattle.gt_model.specs.declared.request.Request.TheVariants as requests
 use Rattle.gt_audit.specs.declared.record.Hypercall.TheVariants as hypercalls
 use Rattle.gt_c.specs.Asking.{RefusesForeign, handle_named}
-use Rattle.gt_c.specs.Calling.{EncodesUnmapped, outcome}
+use Rattle.gt_live.specs.declared.domain.mappings.LeftWord.{LeftWord}
+use Rattle.gt_c.specs.Calling.{EncodesUnmapped, outcome_released}
 use Rattle.gt_c.proofs.Made.{idle-there, made}
 use Rattle.gt_c.proofs.calls.gthost_unmap_at.Goals as goal
 
@@ -18,16 +19,16 @@ unmap-answered-requires c = record { idle = idle-there c.args.domain.now.held.va
 
 pub returns : goal.returns
 returns c =
-    let x = c.lent_mut-lent.result.now in let answer = c.store_done.new.answer in
+    let x = c.lent_mut-lent.result.now in let answer = c.store_released.new.answer in
     let refused : RefusesForeign x c.args.name.now (outcomes.Denied (denial_of N6 facts.None)) answer =
-    λ foreign. c.store_done.ensures
-    ∙ ap (λ (r : Result (Unit {0}) Denial). encoded (outcome r)) (c.unmap-answered.ensures.absent (c.handle_named-handle.ensures.foreign foreign)) in
+    λ foreign. c.store_released.ensures
+    ∙ ap (λ (r : Result LeftWord Denial). encoded (outcome_released r)) (c.unmap-answered.ensures.absent (c.handle_named-handle.ensures.foreign foreign)) in
     made answer (λ d e. EncodesUnmapped (requests.Unmap (handle_named d c.args.name.now)) hypercalls.Unmap (handle_named d c.args.name.now) answer d e × RefusesForeign d c.args.name.now (outcomes.Denied (denial_of N6 facts.None)) answer) (c.is_turned_away.ensures.may c.if-is_turned_away.false) c.lent_mut-lent.ensures.value (
       subst (λ (h : Handle). EncodesUnmapped (requests.Unmap h) hypercalls.Unmap h answer x (record { attached = c.unmap-answered.new.self; run = x.run }))
           c.handle_named-handle.ensures.value
           (record {
             result = c.unmap-answered.result;
-            encodes = c.store_done.ensures;
+            encodes = c.store_released.ensures;
             stays = c.unmap-answered.ensures.stays;
             holds = (c.unmap-answered.ensures.answered, c.unmap-answered.ensures.removed, c.unmap-answered.ensures.refused, c.unmap-answered.ensures.recorded);
           }),

@@ -9,6 +9,7 @@ returns-in-Ok-start-clause-begun c =
     record {
       config = c.in-Ok-configured.config;
       set = c.in-Ok-configured.ensures;
+      runnable = c.in-Ok-start.ensures.ok;
       meaning = said.0;
       reads = said.1;
       labels = of-types c.args.settings.now policy said.0 c.count.result said.2 c.count.ensures c.in_default.ensures;

@@ -1,5 +1,5 @@
 use Rattle.gt_attached.proofs.Beside.{at-access}
 use Rattle.gt_attached.proofs.attached.AttachedDomain.copy_end.Goals as goal
 
-pub copy_end-requires : goal.copy_end-requires
-copy_end-requires g c = record { pending = at-access g.P.Allows.may c.deref.ensures c.in-Some.is c.self.invariant }
+pub copy_end-left-requires : goal.copy_end-left-requires
+copy_end-left-requires g c = record { pending = at-access g.P.Allows.may c.deref.ensures c.in-Some.is c.self.invariant }

@@ -4,7 +4,7 @@ use Rattle.gt_model.specs.declared.request.Request.TheVariants as requests
 use Rattle.gt_audit.specs.declared.record.Hypercall.TheVariants as hypercalls
 use Rattle.gt_c.specs.Calling.{EncodesMapped, outcome_mapped, ref_at, dom_of}
 use Rattle.gt_c.proofs.Made.{idle-there, made}
-use Rattle.gt_c.proofs.calls.gthost_map_at.Goals as goal
+use Rattle.gt_c.proofs.calls.map_of.Goals as goal
 
 pub map-answered-requires : goal.map-answered-requires
 map-answered-requires c = record { idle = idle-there c.args.domain.now.held.value (c.is_turned_away.ensures.may c.if-is_turned_away.false) c.lent_mut-lent.ensures.value }

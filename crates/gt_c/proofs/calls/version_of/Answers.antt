@@ -5,7 +5,7 @@ use Rattle.gt_audit.specs.declared.record.Hypercall.TheVariants as hypercalls
 use Rattle.gt_live.specs.Domains.{verdict_of_version}
 use Rattle.gt_c.specs.Calling.{EncodesRecorded, dom_of, outcome_version}
 use Rattle.gt_c.proofs.Made.{idle-there, made}
-use Rattle.gt_c.proofs.calls.gthost_get_version_at.Goals as goal
+use Rattle.gt_c.proofs.calls.version_of.Goals as goal
 
 pub get_version-requires : goal.get_version-requires
 get_version-requires c = record { idle = idle-there c.args.domain.now.held.value (c.turned_away.ensures.may c.in_default.is) c.lent_mut-lent.ensures.value }
