@@ -1,3 +1,4 @@
+pub mod Calls
 pub mod Expressions
 pub mod Faults
 pub mod Forms

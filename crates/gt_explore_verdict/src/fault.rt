@@ -1,4 +1,6 @@
 //! Faults of an expression.
+use crate::calls::CallKind;
+use crate::forms::AnswerForm;
 use std::error::Error;
 use std::fmt;
 
@@ -19,6 +21,10 @@ pub enum ConditionFault {
     Beginning,
     /// No answer meets it and an earlier term on the same line.
     Excluded,
+    /// No answer to the call of the line has this form.
+    Unanswered { call: CallKind, form: AnswerForm },
+    /// No answer to a call of the domain has this form.
+    UnansweredByAll { form: AnswerForm },
     /// The script has no call on the line.
     NoCall,
     /// The script has no domain of the number.
@@ -51,6 +57,12 @@ impl fmt::Display for ConditionFault {
             ConditionFault::Word => f.write_str("no answer has this word"),
             ConditionFault::Beginning => f.write_str("no answer begins with these words"),
             ConditionFault::Excluded => f.write_str("an earlier term on its line excludes it"),
+            ConditionFault::Unanswered { call, form } => {
+                write!(f, "{} never answers {}", call.words(), form.word())
+            }
+            ConditionFault::UnansweredByAll { form } => {
+                write!(f, "no call of this domain answers {}", form.word())
+            }
             ConditionFault::NoCall => f.write_str("no call on this line"),
             ConditionFault::NoDomain => f.write_str("no such domain"),
         }

@@ -8,6 +8,7 @@
 //! `specs/`. It uses `gt_types` (rules, statuses and permissions).
 #![tactic(auto)]
 
+mod calls;
 mod conditions;
 mod fault;
 mod forms;
@@ -16,11 +17,13 @@ mod laws;
 mod lines;
 mod rules;
 
+pub use calls::{CallKind, PlacedCall, form_begun, may_answer};
 pub use conditions::{Condition, Place, conditions_of};
 pub use fault::{ConditionFault, ExpressionFault};
 pub use forms::{AnswerForm, may_begin};
 pub use judging::{Claim, Judgement, Verdict, judge, verdict_at};
 pub use laws::{
     every_impossible_condition_is_never_met, every_two_that_exclude_are_never_both_met,
+    every_unanswered_condition_is_never_met,
 };
 pub use lines::{line_words, lines_in, satisfies};
