@@ -1,2 +1,4 @@
 pub mod Judged
+pub mod Parts
 pub mod Refusing
+pub mod Values

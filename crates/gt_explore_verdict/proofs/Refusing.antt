@@ -6,14 +6,15 @@ use Rattle.std.proofs.lemmas.Option.{none-some, same_Some}
 use Rattle.std.proofs.lemmas.Slice.Eq.{bytes_eq-Decides}
 use Rattle.std.specs.List.{list_any}
 use Rattle.std.specs.Str.{bytes_eq}
-use Rattle.gt_explore_verdict.specs.Calls.{forms_of, is_answered, is_call_at, may_answer}
+use Rattle.gt_explore_verdict.specs.Calls.{forms_of, may_answer}
+use Rattle.gt_explore_verdict.specs.Placing.{is_answered, is_call_at}
 use Rattle.gt_explore_verdict.specs.Expressions.{Asked, ConditionScope, agree, excludes_at, may_be, of_all, of_domain}
 use Rattle.gt_explore_verdict.specs.Expressions.{of_line}
 use Rattle.gt_explore_verdict.specs.Forms.{begins_form, fits, fits_from, has_place, is_of_some, kind_at, may_begin, may_have}
-use Rattle.gt_explore_verdict.specs.Refusing.{AreNeverBothMet, HasAnswer, HasAnswerOf, HasItsWords, IsAnswerTo, IsForm}
-use Rattle.gt_explore_verdict.specs.Refusing.{IsFormOf, IsNeverAnswered, IsNeverMet, IsPlaced}
+use Rattle.gt_explore_verdict.specs.Refusing.{AreNeverBothMet, HasAnswer, HasAnswerOf, HasItsWords, IsAnswerToCall, IsForm}
+use Rattle.gt_explore_verdict.specs.Refusing.{IsFormOfCall, IsNeverAnswered, IsNeverMet, IsOfPlace}
 use Rattle.gt_explore_verdict.specs.Satisfying.{begins, is_asked_answer, is_met_by, is_met_in, line_words, lines_in}
-use Rattle.gt_explore_verdict.specs.declared.calls.CallKind.{CallKind}
+use Rattle.gt_explore_verdict.specs.declared.calls.CallName.{CallName}
 use Rattle.gt_explore_verdict.specs.declared.calls.PlacedCall.{PlacedCall}
 use Rattle.gt_explore_verdict.specs.declared.forms.AnswerForm.{AnswerForm}
 use Rattle.gt_explore_verdict.specs.declared.forms.TheConstants.{EVERY_FORM}
@@ -173,7 +174,7 @@ lines_fail asked (line ∷ lines) one never each =
     (lines_fail asked lines one never (λ at l is. each (suc at) l is))
 
 pub never_met : (asked : Asked) → IsNeverMet asked
-never_met asked one never text each = rw (lines_fail asked (lines_in text) one never each) refl
+never_met asked one never text each = lines_fail asked (lines_in text) one never each
 
 -- two lists of words with which one answer begins agree
 begins_agree : (answer words others : List (List ℕ)) → begins answer words ≡ true → begins answer others ≡ true
@@ -213,7 +214,7 @@ never_both one other e (line ∷ dom ∷ answer) p =
     (λ q. both_asked one.place other.place one.words other.words line dom answer e p q)
 
 -- a call can answer with words with which one of its answers begins
-may_answer_so : (call : CallKind) (form : AnswerForm) (answer words : List (List ℕ)) → IsFormOf call form
+may_answer_so : (call : CallName) (form : AnswerForm) (answer words : List (List ℕ)) → IsFormOfCall call form
     → begins_form form answer ≡ true → begins answer words ≡ true → may_answer call words ≡ true
 unfolding may_answer
 may_answer_so call form answer words one fit is =
@@ -221,7 +222,7 @@ may_answer_so call form answer words one fit is =
 
 -- an answer to a call that a condition is about begins with its words only if one of these calls can answer so
 answered_so : (calls : List PlacedCall) (place : ConditionScope) (words : List (List ℕ)) (at : ℕ) (p : PlacedCall)
-    (line dom : List ℕ) (answer : List (List ℕ)) → slice_get calls at ≡ Some p → IsAnswerTo p line dom answer
+    (line dom : List ℕ) (answer : List (List ℕ)) → slice_get calls at ≡ Some p → IsAnswerToCall p line dom answer
     → is_answered place words calls ≡ false → is_call_at place p ≡ true → begins answer words ≡ true → ⊥
 answered_so calls place words at p line dom answer there to none here is =
     clash (sym none ∙ any_at (λ q. is_call_at place q && may_answer q.call words) calls at p there
@@ -229,8 +230,8 @@ answered_so calls place words at p line dom answer there to none here is =
 
 -- no answer to these calls meets the condition
 unmet : (calls : List PlacedCall) (place : ConditionScope) (words : List (List ℕ)) (at : ℕ) (p : PlacedCall)
-    (line dom : List ℕ) (answer : List (List ℕ)) → slice_get calls at ≡ Some p → IsAnswerTo p line dom answer
-    → IsPlaced place → is_answered place words calls ≡ false → is_asked_answer place words line dom answer ≡ false
+    (line dom : List ℕ) (answer : List (List ℕ)) → slice_get calls at ≡ Some p → IsAnswerToCall p line dom answer
+    → IsOfPlace place → is_answered place words calls ≡ false → is_asked_answer place words line dom answer ≡ false
 unmet calls of_all words at p line dom answer there to placed none = absurd placed
 unmet calls (of_line number) words at p line dom answer there to placed none =
     is_false (bytes_eq line number && begins answer words) (λ is.
@@ -244,7 +245,7 @@ unmet calls (of_domain number) words at p line dom answer there to placed none =
     (subst (λ (l : List ℕ). bytes_eq l number ≡ true) to.by_dom b.0) b.1)
 
 line_unmet : (calls : List PlacedCall) (place : ConditionScope) (asked_words : List (List ℕ)) (words : List (List ℕ))
-    → IsPlaced place → is_answered place asked_words calls ≡ false → HasAnswerOf calls words
+    → IsOfPlace place → is_answered place asked_words calls ≡ false → HasAnswerOf calls words
     → is_met_by (record { place = place; words = asked_words }) words ≡ false
 unfolding is_met_by HasAnswerOf
 line_unmet calls place asked_words [] placed none answered = refl
@@ -252,7 +253,7 @@ line_unmet calls place asked_words (line ∷ []) placed none answered = refl
 line_unmet calls place asked_words (line ∷ dom ∷ answer) placed none answered =
     unmet calls place asked_words answered.0 answered.1 line dom answer answered.2 answered.3 placed none
 
-lines_unmet : (calls : List PlacedCall) (asked : Asked) (lines : List (List ℕ)) → IsPlaced asked.place
+lines_unmet : (calls : List PlacedCall) (asked : Asked) (lines : List (List ℕ)) → IsOfPlace asked.place
     → is_answered asked.place asked.words calls ≡ false
     → ((at : ℕ) (line : List ℕ) → slice_get lines at ≡ Some line → HasAnswerOf calls (line_words line))
     → is_met_in asked lines ≡ false
@@ -263,4 +264,4 @@ lines_unmet calls asked (line ∷ lines) placed none each =
     (lines_unmet calls asked lines placed none (λ at l is. each (suc at) l is))
 
 pub never_answered : (calls : List PlacedCall) (asked : Asked) → IsNeverAnswered calls asked
-never_answered calls asked placed none text each = rw (lines_unmet calls asked (lines_in text) placed none each) refl
+never_answered calls asked placed none text each = lines_unmet calls asked (lines_in text) placed none each

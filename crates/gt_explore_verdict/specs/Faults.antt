@@ -4,8 +4,8 @@ use Rattle.gt_explore_verdict.specs.Calls.{call_words}
 use Rattle.gt_explore_verdict.specs.Forms.{form_word}
 use Rattle.gt_explore_verdict.specs.declared.fault.ConditionFault.{ConditionFault}
 use Rattle.gt_explore_verdict.specs.declared.fault.ConditionFault.TheVariants.{Answer, Beginning, Empty, Excluded}
-use Rattle.gt_explore_verdict.specs.declared.fault.ConditionFault.TheVariants.{NoCall, NoDomain, Rule, Unanswered, UnansweredByAll, Word}
-use Rattle.gt_explore_verdict.specs.declared.fault.ConditionFault.TheVariants.{Words}
+use Rattle.gt_explore_verdict.specs.declared.fault.ConditionFault.TheVariants.{NoCall, NoDomain, Rule, Unanswered, Word}
+use Rattle.gt_explore_verdict.specs.declared.fault.ConditionFault.TheVariants.{UnansweredByAll, Unclosed, Unjoined, Unopened, Words}
 use Rattle.gt_explore_verdict.specs.declared.fault.ExpressionFault.{ExpressionFault}
 use Rattle.gt_explore_verdict.specs.declared.fault.ExpressionFault.TheVariants.{Memory, Term}
 
@@ -19,6 +19,9 @@ condition_fault_text Beginning = codes "no answer begins with these words"
 condition_fault_text Excluded = codes "an earlier term on its line excludes it"
 condition_fault_text (Unanswered call form) = call_words call ++ codes " never answers " ++ form_word form
 condition_fault_text (UnansweredByAll form) = codes "no call of this domain answers " ++ form_word form
+condition_fault_text Unjoined = codes "no & or | before it"
+condition_fault_text Unopened = codes "a ) after it has no ("
+condition_fault_text Unclosed = codes "a ( before it has no )"
 condition_fault_text NoCall = codes "no call on this line"
 condition_fault_text NoDomain = codes "no such domain"
 

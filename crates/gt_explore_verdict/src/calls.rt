@@ -7,7 +7,7 @@ use gt_types::{DomId, Rule};
 
 /// A kind of call.
 #[derive(Clone, Copy, Debug, PartialEq, Eq)]
-pub enum CallKind {
+pub enum CallName {
     Grant,
     GrantBytes,
     Revoke,
@@ -32,7 +32,7 @@ pub enum CallKind {
 pub struct PlacedCall {
     pub line: usize,
     pub dom: DomId,
-    pub call: CallKind,
+    pub call: CallName,
 }
 
 // The forms of the answers to each call.
@@ -178,33 +178,33 @@ const GETVERSION_FORMS: [AnswerForm; 3] = [
 ];
 
 // Returns the forms of the answers that a call can have.
-fn forms_of(call: CallKind) -> &'static [AnswerForm]
+fn forms_of(call: CallName) -> &'static [AnswerForm]
     ensures { result.now ≡ forms_of call }
 {
     match call {
-        CallKind::Grant => &GRANT_FORMS,
-        CallKind::GrantBytes => &BYTES_FORMS,
-        CallKind::Revoke => &REVOKE_FORMS,
-        CallKind::Withdraw => &WITHDRAW_FORMS,
-        CallKind::Demote => &DEMOTE_FORMS,
-        CallKind::Promote => &PROMOTE_FORMS,
-        CallKind::Map => &MAP_FORMS,
-        CallKind::Unmap => &UNMAP_FORMS,
-        CallKind::Load => &LOAD_FORMS,
-        CallKind::Store => &STORE_FORMS,
-        CallKind::Peek => &PEEK_FORMS,
-        CallKind::Poke => &POKE_FORMS,
-        CallKind::Copy => &COPY_FORMS,
-        CallKind::SetVersion => &VERSION_FORMS,
-        CallKind::SetupTable => &SETUP_FORMS,
-        CallKind::QuerySize => &SIZE_FORMS,
-        CallKind::GetVersion => &GETVERSION_FORMS,
+        CallName::Grant => &GRANT_FORMS,
+        CallName::GrantBytes => &BYTES_FORMS,
+        CallName::Revoke => &REVOKE_FORMS,
+        CallName::Withdraw => &WITHDRAW_FORMS,
+        CallName::Demote => &DEMOTE_FORMS,
+        CallName::Promote => &PROMOTE_FORMS,
+        CallName::Map => &MAP_FORMS,
+        CallName::Unmap => &UNMAP_FORMS,
+        CallName::Load => &LOAD_FORMS,
+        CallName::Store => &STORE_FORMS,
+        CallName::Peek => &PEEK_FORMS,
+        CallName::Poke => &POKE_FORMS,
+        CallName::Copy => &COPY_FORMS,
+        CallName::SetVersion => &VERSION_FORMS,
+        CallName::SetupTable => &SETUP_FORMS,
+        CallName::QuerySize => &SIZE_FORMS,
+        CallName::GetVersion => &GETVERSION_FORMS,
     }
 }
 
 /// Returns whether some answer to a call of this kind can begin with these words.
 #[tactic(auto, unfolding(crate::specs::Calls::may_answer))]
-pub fn may_answer(call: CallKind, first: &[u8], more: &[&[u8]]) -> bool
+pub fn may_answer(call: CallName, first: &[u8], more: &[&[u8]]) -> bool
     ensures { result ≡ may_answer call (first.now ∷ map (λ w. w.now) more.now) }
 {
     forms_of(call)
@@ -231,7 +231,7 @@ pub fn form_begun(first: &[u8], more: &[&[u8]]) -> AnswerForm
     form_begun_in(&EVERY_FORM, first, more)
 }
 
-impl CallKind {
+impl CallName {
     ghost use Rattle.std.specs.Prelude.{◌≡◌};
     ghost use Rattle.gt_explore_verdict.specs.Calls.{call_words};
 
@@ -240,23 +240,23 @@ impl CallKind {
         ensures { result.now ≡ call_words self }
     {
         match self {
-            CallKind::Grant => "a grant",
-            CallKind::GrantBytes => "a bytes",
-            CallKind::Revoke => "a revoke",
-            CallKind::Withdraw => "a withdraw",
-            CallKind::Demote => "a demote",
-            CallKind::Promote => "a promote",
-            CallKind::Map => "a map",
-            CallKind::Unmap => "an unmap",
-            CallKind::Load => "a load",
-            CallKind::Store => "a store",
-            CallKind::Peek => "a peek",
-            CallKind::Poke => "a poke",
-            CallKind::Copy => "a copy",
-            CallKind::SetVersion => "a version",
-            CallKind::SetupTable => "a setup",
-            CallKind::QuerySize => "a size",
-            CallKind::GetVersion => "a getversion",
+            CallName::Grant => "a grant",
+            CallName::GrantBytes => "a bytes",
+            CallName::Revoke => "a revoke",
+            CallName::Withdraw => "a withdraw",
+            CallName::Demote => "a demote",
+            CallName::Promote => "a promote",
+            CallName::Map => "a map",
+            CallName::Unmap => "an unmap",
+            CallName::Load => "a load",
+            CallName::Store => "a store",
+            CallName::Peek => "a peek",
+            CallName::Poke => "a poke",
+            CallName::Copy => "a copy",
+            CallName::SetVersion => "a version",
+            CallName::SetupTable => "a setup",
+            CallName::QuerySize => "a size",
+            CallName::GetVersion => "a getversion",
         }
     }
 }
