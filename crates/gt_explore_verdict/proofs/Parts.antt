@@ -1,7 +1,9 @@
 -- The parts of an expression, one after the other.
-use Rattle.std.proofs.Common.{◌≡◌, ◌∙◌, ◌+◌, ◌<◌, ap, ap₂, refl, subst, ℕ, zero, suc, List, [], ◌∷◌, Option, None, Some, Result, Ok, Err, drop, slice_get, add-one, map, Bor, length, drop-cons, get_or}
+use Rattle.std.proofs.Common.{◌≡◌, ◌∙◌, ◌+◌, ◌<◌, ap, ap₂, refl, subst, ℕ, zero, suc, List, [], ◌∷◌, Option}
+use Rattle.std.proofs.Common.{Result, Ok, Err, drop, slice_get, add-one, map, Bor, length, drop-cons, get_or}
 use Rattle.gt_explore_verdict.specs.Expressions.{words_in}
-use Rattle.gt_explore_verdict.specs.Reading.{IsFaultOfTerms, ReaderAsked, first_mark, later_marks, part_read, parts_read}
+use Rattle.gt_explore_verdict.specs.Reading.{IsFaultOfTerms, ReaderAsked, first_mark, later_marks, part_read}
+use Rattle.gt_explore_verdict.specs.Reading.{parts_read}
 use Rattle.gt_explore_verdict.specs.declared.fault.ConditionFault.{ConditionFault}
 use Rattle.gt_explore_verdict.specs.declared.fault.ExpressionFault.{ExpressionFault}
 use Rattle.gt_explore_verdict.specs.declared.fault.ExpressionFault.TheVariants.{Memory, Term}
@@ -35,15 +37,17 @@ pub parts_from : (r : ReaderAsked) (segments : List (Bor (List ℕ))) (i : ℕ) 
 parts_from r segments i d marks at to same here is =
     subst (λ (k : ℕ). parts_read (Ok r) (map (λ s. s.now) (drop k segments)) (drop at marks)
     ≡ parts_read to (map (λ s. s.now) (drop (at + 1) segments)) (drop (at + 1) marks)) same
-    (ap (λ (l : List (Bor (List ℕ))). parts_read (Ok r) (map (λ s. s.now) l) (drop at marks)) (drop-cons segments i d here)
+    (ap (λ (l : List (Bor (List ℕ))). parts_read (Ok r) (map (λ s. s.now) l) (drop at marks))
+    (drop-cons segments i d here)
     ∙ (part_and_rest r (get_or segments i d).now (map (λ s. s.now) (drop (suc i) segments)) marks at to is
     ∙ rw (same, add-one) refl))
 
 -- the fault of a part is that of all parts
-pub parts_fault : (x : Result ReaderAsked (ℕ × ConditionFault)) (r : ReaderAsked) (segments : List (Bor (List ℕ))) (i : ℕ)
-    (d : Bor (List ℕ)) (marks : List ℕ) (at : ℕ) (fault : ExpressionFault)
+pub parts_fault : (x : Result ReaderAsked (ℕ × ConditionFault)) (r : ReaderAsked) (segments : List (Bor (List ℕ)))
+    (i : ℕ) (d : Bor (List ℕ)) (marks : List ℕ) (at : ℕ) (fault : ExpressionFault)
     → x ≡ parts_read (Ok r) (map (λ s. s.now) (drop at segments)) (drop at marks) → i ≡ at → i < length segments
-    → IsFaultOfTerms (part_read r (words_in (get_or segments i d).now) (slice_get marks at)) fault → IsFaultOfTerms x fault
+    → IsFaultOfTerms (part_read r (words_in (get_or segments i d).now) (slice_get marks at)) fault
+    → IsFaultOfTerms x fault
 parts_fault x r segments i d marks at Memory e same here is = tt
 parts_fault x r segments i d marks at (Term number f) e same here is =
     e ∙ parts_from r segments i d marks at (Err (number, f)) same here is

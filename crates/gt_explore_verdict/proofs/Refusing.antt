@@ -1,5 +1,6 @@
 -- A condition that no answer can meet is met by no line of a text of answers.
-use Rattle.std.proofs.Common.{◌≡◌, ◌∙◌, ◌==◌, ℕ, zero, suc, ◌+◌, Option, None, Bool, not, true, false, ◌&&◌, ◌||◌, List, [], ◌∷◌, Some, refl, subst, sym}
+use Rattle.std.proofs.Common.{◌≡◌, ◌∙◌, ◌==◌, ℕ, zero, suc, ◌+◌, Option, None, Bool, not, true, false, ◌&&◌, ◌||◌}
+use Rattle.std.proofs.Common.{List, [], ◌∷◌, Some, refl, subst, sym}
 use Rattle.std.proofs.Common.{slice_get}
 use Rattle.std.proofs.lemmas.Bool.{eqb-true}
 use Rattle.std.proofs.lemmas.Option.{none-some, same_Some}
@@ -10,8 +11,10 @@ use Rattle.gt_explore_verdict.specs.Calls.{forms_of, may_answer}
 use Rattle.gt_explore_verdict.specs.Placing.{is_answered, is_call_at}
 use Rattle.gt_explore_verdict.specs.Expressions.{Asked, ConditionScope, agree, excludes_at, may_be, of_all, of_domain}
 use Rattle.gt_explore_verdict.specs.Expressions.{of_line}
-use Rattle.gt_explore_verdict.specs.Forms.{begins_form, fits, fits_from, has_place, is_of_some, kind_at, may_begin, may_have}
-use Rattle.gt_explore_verdict.specs.Refusing.{AreNeverBothMet, HasAnswer, HasAnswerOf, HasItsWords, IsAnswerToCall, IsForm}
+use Rattle.gt_explore_verdict.specs.Forms.{begins_form, fits, fits_from, has_place, is_of_some, kind_at, may_begin}
+use Rattle.gt_explore_verdict.specs.Forms.{may_have}
+use Rattle.gt_explore_verdict.specs.Refusing.{AreNeverBothMet, HasAnswer, HasAnswerOf, HasItsWords, IsAnswerToCall}
+use Rattle.gt_explore_verdict.specs.Refusing.{IsForm}
 use Rattle.gt_explore_verdict.specs.Refusing.{IsFormOfCall, IsNeverAnswered, IsNeverMet, IsOfPlace}
 use Rattle.gt_explore_verdict.specs.Satisfying.{begins, is_asked_answer, is_met_by, is_met_in, line_words, lines_in}
 use Rattle.gt_explore_verdict.specs.declared.calls.CallName.{CallName}

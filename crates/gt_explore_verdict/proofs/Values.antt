@@ -1,6 +1,7 @@
 -- The values of operations are those of their formulas.
 use Rattle.std.proofs.Common.{◌≡◌, ◌∙◌, ap, refl, Bool, ℕ, List, [], ◌∷◌, map}
-use Rattle.gt_explore_verdict.specs.Formulas.{Formula, Op, all_ready, all_values, first_formula, formula_of, is_true_of, last_value, op_and, op_not}
+use Rattle.gt_explore_verdict.specs.Formulas.{Formula, Op, all_ready, all_values, first_formula, formula_of}
+use Rattle.gt_explore_verdict.specs.Formulas.{is_true_of, last_value, op_and, op_not}
 use Rattle.gt_explore_verdict.specs.Formulas.{op_or, op_term, ready_after, values_after}
 
 values_step : (lines : List (List ℕ)) (fs : List Formula) (op : Op)
@@ -19,9 +20,11 @@ pub values_all : (lines : List (List ℕ)) (fs : List Formula) (ops : List Op)
     → all_values lines (map (is_true_of lines) fs) ops ≡ map (is_true_of lines) (all_ready fs ops)
 values_all lines fs [] = refl
 values_all lines fs (op ∷ ops) =
-    ap (λ (bs : List Bool). all_values lines bs ops) (values_step lines fs op) ∙ values_all lines (ready_after fs op) ops
+    ap (λ (bs : List Bool). all_values lines bs ops) (values_step lines fs op)
+    ∙ values_all lines (ready_after fs op) ops
 
-value_first : (lines : List (List ℕ)) (fs : List Formula) → last_value (map (is_true_of lines) fs) ≡ is_true_of lines (first_formula fs)
+value_first : (lines : List (List ℕ)) (fs : List Formula)
+    → last_value (map (is_true_of lines) fs) ≡ is_true_of lines (first_formula fs)
 value_first lines [] = refl
 value_first lines (f ∷ fs) = refl
 

@@ -5,7 +5,8 @@ use Rattle.gt_explore_verdict.specs.Forms.{form_word}
 use Rattle.gt_explore_verdict.specs.declared.fault.ConditionFault.{ConditionFault}
 use Rattle.gt_explore_verdict.specs.declared.fault.ConditionFault.TheVariants.{Answer, Beginning, Empty, Excluded}
 use Rattle.gt_explore_verdict.specs.declared.fault.ConditionFault.TheVariants.{NoCall, NoDomain, Rule, Unanswered, Word}
-use Rattle.gt_explore_verdict.specs.declared.fault.ConditionFault.TheVariants.{UnansweredByAll, Unclosed, Unjoined, Unopened, Words}
+use Rattle.gt_explore_verdict.specs.declared.fault.ConditionFault.TheVariants.{UnansweredByAll, Unclosed, Unjoined}
+use Rattle.gt_explore_verdict.specs.declared.fault.ConditionFault.TheVariants.{Unopened, Words}
 use Rattle.gt_explore_verdict.specs.declared.fault.ExpressionFault.{ExpressionFault}
 use Rattle.gt_explore_verdict.specs.declared.fault.ExpressionFault.TheVariants.{Memory, Term}
 

@@ -3,6 +3,7 @@ pub mod Expressions
 pub mod Faults
 pub mod Forms
 pub mod Formulas
+pub mod Grammar
 pub mod Judging
 pub mod Placing
 pub mod Reading

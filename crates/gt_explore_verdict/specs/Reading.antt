@@ -3,7 +3,7 @@ use Rattle.std.specs.Prelude.{◌≡◌, ℕ, ◌+◌, ◌==◌, ◌||◌, not, 
 use Rattle.std.specs.Prelude.{Option, Some, None, Result, Ok, Err, if◌then◌else◌}
 use Rattle.std.specs.List.{slice_split}
 use Rattle.gt_explore_verdict.specs.Expressions.{Asked, condition_asked, is_excluded, read_term, words_in}
-use Rattle.gt_explore_verdict.specs.Formulas.{Formula, Op, formula_of, op_and, op_not, op_or, op_term, operation_asked}
+use Rattle.gt_explore_verdict.specs.Formulas.{Op, op_and, op_not, op_or, op_term, operation_asked}
 use Rattle.gt_explore_verdict.specs.declared.fault.ConditionFault.{ConditionFault}
 use Rattle.gt_explore_verdict.specs.declared.fault.ConditionFault.TheVariants as condition_faults
 use Rattle.gt_explore_verdict.specs.declared.fault.ExpressionFault.{ExpressionFault}

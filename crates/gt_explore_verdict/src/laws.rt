@@ -1,6 +1,7 @@
-//! Laws about conditions that are refused.
-ghost use Rattle.std.specs.Prelude.{List};
+//! Laws about conditions that are refused, and about expressions that are read.
+ghost use Rattle.std.specs.Prelude.{ℕ, List};
 ghost use Rattle.gt_explore_verdict.specs.Expressions.{Asked};
+ghost use Rattle.gt_explore_verdict.specs.Grammar.{IsReadAsWritten, IsWrittenAsPhrase, Phrase, disjunction};
 ghost use Rattle.gt_explore_verdict.specs.Refusing.{AreNeverBothMet, IsNeverAnswered, IsNeverMet};
 ghost use Rattle.gt_explore_verdict.specs.declared.calls.PlacedCall.{PlacedCall};
 
@@ -21,4 +22,17 @@ pub fn every_two_that_exclude_are_never_both_met()
 #[tactic(auto, using(crate::proofs::Refusing::never_answered))]
 pub fn every_unanswered_condition_is_never_met()
     ensures { (calls : List PlacedCall) (asked : Asked) → IsNeverAnswered calls asked }
+{}
+
+/// A law: if an expression that is read is written as a phrase, the texts that satisfy it are those of which the phrase
+/// holds.
+#[tactic(auto, using(crate::proofs::ReadAsWritten::read_as_written))]
+pub fn every_expression_is_read_as_it_is_written()
+    ensures { (phrase : Phrase disjunction) (expression : List ℕ) → IsReadAsWritten phrase expression }
+{}
+
+/// A law: each expression that is read is written as a phrase.
+#[tactic(auto, using(crate::proofs::Written::written))]
+pub fn every_expression_that_is_read_is_a_phrase()
+    ensures { (expression : List ℕ) → IsWrittenAsPhrase expression }
 {}

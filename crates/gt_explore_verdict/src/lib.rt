@@ -26,6 +26,7 @@ pub use fault::{ConditionFault, ExpressionFault};
 pub use forms::{AnswerForm, may_begin};
 pub use judging::{Claim, Judgement, Verdict, judge, verdict_at};
 pub use laws::{
+    every_expression_is_read_as_it_is_written, every_expression_that_is_read_is_a_phrase,
     every_impossible_condition_is_never_met, every_two_that_exclude_are_never_both_met,
     every_unanswered_condition_is_never_met,
 };

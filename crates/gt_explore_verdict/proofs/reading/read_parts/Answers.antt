@@ -16,12 +16,14 @@ returns-in_err-read_part-clause-fault c =
 pub segments-preserved : goal.segments-preserved
 segments-preserved c =
     let d : Bor (List ℕ) = record { ref_ptr = (0, 0); now = [] } in
-    let is : part_read (reader_asked c.segments.reader) (words_in (get_or c.args.segments.now c.segments.segment-index d).now)
+    let is : part_read (reader_asked c.segments.reader)
+    (words_in (get_or c.args.segments.now c.segments.segment-index d).now)
     (slice_get c.args.marks.now c.segments.at) ≡ Ok (reader_asked c.read_part.new.reader) =
     rw c.mark_at.ensures at c.in_ok-read_part.ensures.ok in record {
       at = omega arith;
-      terms = omega arith;
+      terms = omega (arith, c.in_ok-read_part.ensures.one);
       read = c.segments.invariant.read
-          ∙ parts_from (reader_asked c.segments.reader) c.args.segments.now c.segments.segment-index d c.args.marks.now c.segments.at
-          (Ok (reader_asked c.read_part.new.reader)) (sym c.segments.invariant.at) c.segments-test.true is;
+          ∙ parts_from (reader_asked c.segments.reader) c.args.segments.now c.segments.segment-index d
+          c.args.marks.now c.segments.at (Ok (reader_asked c.read_part.new.reader))
+          (sym c.segments.invariant.at) c.segments-test.true is;
     }
