@@ -22,7 +22,7 @@ awk '
     if (at == "") return
     tried++
     command = plain(asked)
-    gsub(/"/, "", command)
+    gsub(/["\047]/, "", command)
     if (match(command, / \| tail -n [0-9]+$/)) {
       n = substr(command, RSTART + 10)
       command = substr(command, 1, RSTART - 1)

@@ -88,9 +88,9 @@ Options:
       --format <FORM>    Print text, json, or mermaid (--trace) [default: text]
   -h, --help             Print help
 
-EXPR is terms joined by `&`: WORD (an answer has it), LINE=ANSWER (the answer to
-this line of the script begins so), ID:ANSWER (an answer of this domain does). A
-term that no answer can meet is refused.
+EXPR is terms with ! (not), & (and), | (or) and brackets: WORD (an answer has
+it), LINE=ANSWER (the answer to this line of the script begins so), ID:ANSWER (an
+answer of this domain does). A term that no answer can meet is refused.
 
 Exit status: 0 if the claim holds, TEXT is an output, or all were found; 1 if it
 does not hold, or TEXT is none of them; 2 if it is not decided, or TEXT has not

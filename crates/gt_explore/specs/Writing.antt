@@ -8,7 +8,7 @@ use Rattle.gt_script.specs.Script.{Wrong, in_script, in_policy}
 use Rattle.gt_text.specs.Streams.{AppendsBeginning}
 use Rattle.gt_script_runs.specs.declared.fault.PlayFault.TheVariants.{Memory, Read, Write, Script, Policy}
 use Rattle.gt_explore_verdict.specs.declared.judging.Verdict.{Verdict}
-use Rattle.gt_explore_verdict.specs.Expressions.{Asked}
+use Rattle.gt_explore_verdict.specs.Formulas.{Op}
 use Rattle.gt_explore_answers.specs.Answering.{ShownAs}
 use Rattle.gt_explore_verdict.specs.declared.fault.ExpressionFault.TheVariants as expression_faults
 use Rattle.gt_explore_answers.specs.Exploring.{AreAsked, AreTextsOf, IsFaultAsked, has_its_text}
@@ -25,7 +25,7 @@ use Rattle.gt_explore_faults.specs.declared.fault.TextFault.{TextFault}
 pub record IsMade (c : RunContents) (asked : ExploreOptions) (text : List ℕ) (verdict : Verdict) : Type 0 where
   pub found : Found
   pub texts : AreTextsOf c found
-  pub conditions : List Asked
+  pub conditions : List Op
   pub read : AreAsked c asked.request conditions
   pub fit : refused_text c asked.request found ≡ None
   pub shown : ShownAs c asked.format asked.states asked.request conditions found text verdict

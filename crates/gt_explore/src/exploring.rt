@@ -6,7 +6,7 @@ ghost use Rattle.gt_script.specs.RunScripts.{CanConfigure, ReadsAsRun};
 ghost use Rattle.gt_text.specs.Streams.{ConsumesAtMost, OfInput};
 ghost use Rattle.gt_text.specs.declared.streams.TheConstants.{READ_LIMIT};
 ghost use Rattle.gt_script.specs.Stuck.{AreNumbered};
-ghost use Rattle.gt_explore_verdict.specs.Expressions.{condition_asked};
+ghost use Rattle.gt_explore_verdict.specs.Formulas.{operation_asked};
 ghost use Rattle.gt_explore_answers.specs.Exploring.{AreAsked};
 ghost use Rattle.gt_explore.specs.Writing.{Explored, Explores, MakesOutput};
 
@@ -15,7 +15,7 @@ use gt_explore_answers::{
     ExploreOptions, ExploreOutput, answer_request, conditions_asked, has_its_text, refused_text,
 };
 use gt_explore_faults::{ExploreFault, TextsFault};
-use gt_explore_verdict::{Condition, Verdict};
+use gt_explore_verdict::{Operation, Verdict};
 use gt_script::{RunScript, parse_run};
 use gt_script_runs::PlayFault;
 use gt_text::{read_text, write_text};
@@ -28,11 +28,11 @@ fn made_as(
     asked: &ExploreOptions,
     source: &[u8],
     script: &RunScript,
-    conditions: &[Condition<'_>],
+    conditions: &[Operation<'_>],
 ) -> Result<ExploreOutput, ExploreFault>
     requires fits { CanConfigure (contents_of script.now.head) }
     requires numbered { AreNumbered script.now.flags script.now.tasks }
-    requires read { AreAsked (run_contents script.now) asked.now.request (map condition_asked conditions.now) }
+    requires read { AreAsked (run_contents script.now) asked.now.request (map operation_asked conditions.now) }
     ensures { MakesOutput (run_contents script.now) asked.now result }
 {
     let found = match texts_found(alloc, script, asked.states) {

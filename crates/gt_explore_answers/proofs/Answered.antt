@@ -12,7 +12,7 @@ use Rattle.std.proofs.lemmas.Option.{none-some, same_Some, get_or_from_slice_get
 use Rattle.std.proofs.lemmas.Slice.Eq.{bytes_eq-Decides}
 use Rattle.gt_explore_replay.specs.Orders.{MayGive}
 use Rattle.gt_explore_search.specs.declared.exploring.FoundText.{FoundText}
-use Rattle.gt_explore_verdict.specs.Expressions.{Asked}
+use Rattle.gt_explore_verdict.specs.Formulas.{Op}
 use Rattle.gt_explore_verdict.specs.Judging.{judged, verdict_at}
 use Rattle.gt_explore_verdict.specs.declared.judging.Claim.{Claim}
 use Rattle.gt_explore_verdict.specs.declared.judging.Judgement.{Judgement}
@@ -117,13 +117,13 @@ told_by c f v shown at (Err fault) is told = tt
 told_by c f v shown at (Ok text) is told = subst (λ (s : Option ℕ). IsVerdictOutput c f v s text.items) (sym is) (told v)
 
 -- the output is that for the judgement on the conditions
-pub tells_by : (c : RunContents) (claim : Claim) (cs : List Asked) (f : Found) (met other : List Bool) (j : Judgement) (text : List ℕ) → met ≡ satisfied cs f → other ≡ satisfied cs f
+pub tells_by : (c : RunContents) (claim : Claim) (cs : List Op) (f : Found) (met other : List Bool) (j : Judgement) (text : List ℕ) → met ≡ satisfied cs f → other ≡ satisfied cs f
     → j ≡ judged claim other f.whole → IsClaimOutputBy c claim f met j text → IsClaimOutput c claim cs f text
 tells_by c claim cs f met other j text is also judges told =
     subst (λ (k : Judgement). IsClaimOutputBy c claim f (satisfied cs f) k text) (judges ∙ ap (λ (m : List Bool). judged claim m f.whole) also)
     (subst (λ (m : List Bool). IsClaimOutputBy c claim f m j text) is told)
 
 -- what was made answers the request
-pub made_so : (c : RunContents) (conditions : List Asked) (f : Found) (asked request : ExploreRequest) (r : Result ExploreOutput TextsFault) → asked ≡ request
+pub made_so : (c : RunContents) (conditions : List Op) (f : Found) (asked request : ExploreRequest) (r : Result ExploreOutput TextsFault) → asked ≡ request
     → IfOk r (λ made. IsOutputBy c request conditions f made.text.items made.verdict) → IfOk r (λ made. IsOutputBy c asked conditions f made.text.items made.verdict)
 made_so c conditions f asked request r is made = subst (λ (q : ExploreRequest). IfOk r (λ m. IsOutputBy c q conditions f m.text.items m.verdict)) (sym is) made

@@ -4,7 +4,7 @@ use Rattle.std.proofs.Common.{ap, append_assoc, subst, sym, IfOk, OnOk, Result, 
 use Rattle.std.proofs.lemmas.List.{drop_all, drop_more}
 use Rattle.gt_explore_search.specs.declared.exploring.FoundText.{FoundText}
 use Rattle.gt_explore_verdict.specs.declared.judging.Verdict.{Verdict}
-use Rattle.gt_explore_verdict.specs.Expressions.{Asked}
+use Rattle.gt_explore_verdict.specs.Formulas.{Op}
 use Rattle.gt_script.specs.Contents.{Contents}
 use Rattle.gt_script.specs.RunContents.{RunContents}
 use Rattle.gt_explore_answers.specs.Texts.{texts_of_orders}
@@ -52,6 +52,6 @@ pub object_first : (out object rest pushed : List ℕ) → pushed ≡ out ++ obj
 object_first out object rest pushed is = ap (λ (l : List ℕ). l ++ rest) is ∙ append_assoc out object rest
 
 -- what was shown answers the request
-pub shown_so : (c : RunContents) (limit : ℕ) (conditions : List Asked) (f : Found) (asked request : ExploreRequest) (r : Result ExploreOutput TextsFault) → asked ≡ request
+pub shown_so : (c : RunContents) (limit : ℕ) (conditions : List Op) (f : Found) (asked request : ExploreRequest) (r : Result ExploreOutput TextsFault) → asked ≡ request
     → IfOk r (λ made. ShowsBy c limit request conditions f made.text.items made.verdict) → IfOk r (λ made. ShowsBy c limit asked conditions f made.text.items made.verdict)
 shown_so c limit conditions f asked request r is shown = subst (λ (q : ExploreRequest). IfOk r (λ m. ShowsBy c limit q conditions f m.text.items m.verdict)) (sym is) shown

@@ -3,7 +3,7 @@ use Rattle.std.specs.Prelude.{◌≡◌, ◌+◌, ◌++◌, ℕ, Bool, true, fal
 use Rattle.gt_script.specs.Contents.{Contents}
 use Rattle.gt_script.specs.RunContents.{RunContents}
 use Rattle.gt_explore_replay.specs.Orders.{MayGive}
-use Rattle.gt_explore_verdict.specs.Expressions.{Asked}
+use Rattle.gt_explore_verdict.specs.Formulas.{Op, formula_of}
 use Rattle.gt_explore_verdict.specs.Judging.{VerdictMeans, judged, verdict_at}
 use Rattle.gt_explore_verdict.specs.declared.judging.Claim.{Claim}
 use Rattle.gt_explore_verdict.specs.declared.judging.Claim.TheVariants.{Find, Never, Always}
@@ -38,15 +38,15 @@ ShowsClaimedBy c Find met f shown_by objects = ShowsTexts c f false 0 f.texts me
 ShowsClaimedBy c Never met f shown_by objects = ShowsText c f true shown_by objects
 ShowsClaimedBy c Always met f shown_by objects = ShowsText c f true shown_by objects
 
-abbrev pub ShowsClaimed : RunContents → Claim → List Asked → Found → List ℕ → Type 0
+abbrev pub ShowsClaimed : RunContents → Claim → List Op → Found → List ℕ → Type 0
 ShowsClaimed c claim conditions f objects =
     ShowsClaimedBy c.head claim (satisfied conditions f) f (judged claim (satisfied conditions f) f.whole).shown_by objects
 
 -- a claim on these conditions is decided
-abbrev pub ShowsClaim : RunContents → Claim → List Asked → Showing
+abbrev pub ShowsClaim : RunContents → Claim → List Op → Showing
 ShowsClaim c claim conditions f verdict objects =
     (verdict ≡ (judged claim (satisfied conditions f) f.whole).verdict)
-    × VerdictMeans (MayGive c) claim conditions verdict × ShowsClaimed c claim conditions f objects
+    × VerdictMeans (MayGive c) claim (formula_of conditions) verdict × ShowsClaimed c claim conditions f objects
 
 -- a text that was asked about
 abbrev pub ShowsGiven : RunContents → List ℕ → Showing
@@ -64,7 +64,7 @@ abbrev pub ShowsTrace : RunContents → ℕ → Showing
 ShowsTrace c number f verdict objects = TracesText c f number objects × (verdict ≡ verdict_of_all f.whole)
 
 -- the output and the verdict, by the request
-abbrev pub ShowsBy : RunContents → ℕ → ExploreRequest → List Asked → Found → List ℕ → Verdict → Type 0
+abbrev pub ShowsBy : RunContents → ℕ → ExploreRequest → List Op → Found → List ℕ → Verdict → Type 0
 ShowsBy c limit explore_requests.Texts conditions = ShowsObjects limit (ShowsAll c false)
 ShowsBy c limit (explore_requests.Decide claim expression) conditions =
     ShowsObjects limit (ShowsClaim c claim conditions)

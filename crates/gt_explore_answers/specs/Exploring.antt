@@ -1,17 +1,23 @@
 -- The output of `explore` for a script.
 use Rattle.std.specs.Prelude.{◌≡◌, ◌+◌, ◌++◌, ◌&&◌, ℕ, Bool, true, false, List, [], ◌∷◌, All, length, map, Option, Some}
 use Rattle.std.specs.Prelude.{◌⊎◌, None, Ok, Err, codes, decimal, if◌then◌else◌, is_some, nat_le, nat_lt, slice_get}
-use Rattle.std.specs.List.{list_any, position}
+use Rattle.std.specs.List.{flat_map, position}
 use Rattle.std.specs.Str.{bytes_eq}
-use Rattle.gt_script.specs.Lists.{RunAction}
+use Rattle.gt_script.specs.Lists.{RunAction, RunTask}
 use Rattle.gt_script.specs.RunContents.{RunContents}
 use Rattle.gt_script.specs.declared.tasks.RunActionBy.TheVariants.{Do, Tell, Await}
+use Rattle.gt_script_lines.specs.declared.calls.ScriptCall.{ScriptCall}
+use Rattle.gt_script_lines.specs.declared.calls.ScriptCall.TheVariants as script_calls
+use Rattle.gt_types.specs.declared.DomId.{DomId}
 use Rattle.gt_explore_replay.specs.Orders.{MayGive}
-use Rattle.gt_explore_verdict.specs.Expressions.{ConditionScope, Asked, conditions_in, of_all, of_domain, of_line}
+use Rattle.gt_explore_verdict.specs.Formulas.{Op, formula_of, satisfies}
 use Rattle.gt_explore_verdict.specs.Judging.{VerdictMeans, judged, verdict_at}
-use Rattle.gt_explore_verdict.specs.Satisfying.{satisfies}
+use Rattle.gt_explore_verdict.specs.Placing.{first_unanswered}
+use Rattle.gt_explore_verdict.specs.Reading.{operations_in}
+use Rattle.gt_explore_verdict.specs.declared.calls.CallName.{CallName}
+use Rattle.gt_explore_verdict.specs.declared.calls.CallName.TheVariants as call_names
+use Rattle.gt_explore_verdict.specs.declared.calls.PlacedCall.{PlacedCall}
 use Rattle.gt_explore_verdict.specs.declared.fault.ConditionFault.{ConditionFault}
-use Rattle.gt_explore_verdict.specs.declared.fault.ConditionFault.TheVariants.{NoCall, NoDomain}
 use Rattle.gt_explore_verdict.specs.declared.fault.ExpressionFault.{ExpressionFault}
 use Rattle.gt_explore_verdict.specs.declared.fault.ExpressionFault.TheVariants as expression_faults
 use Rattle.gt_explore_verdict.specs.declared.judging.Claim.{Claim}
@@ -42,41 +48,63 @@ is_call (Do call) = true
 is_call (Tell flag) = false
 is_call (Await flag) = false
 
--- the script has a call on the line of a condition, or a domain of that number
-abbrev pub is_askable : RunContents → ConditionScope → Bool
-is_askable c of_all = true
-is_askable c (of_line number) = list_any (λ t. is_call t.run_action && bytes_eq (decimal t.line) number) c.tasks
-is_askable c (of_domain number) = list_any (λ d. bytes_eq (decimal d.id.0) number) c.head.domains
+-- the kind of a call
+abbrev pub name_of_call : ScriptCall → CallName
+name_of_call (script_calls.Grant gref entry) = call_names.Grant
+name_of_call (script_calls.GrantBytes gref hex) = call_names.GrantBytes
+name_of_call (script_calls.Revoke gref) = call_names.Revoke
+name_of_call (script_calls.Withdraw gref) = call_names.Withdraw
+name_of_call (script_calls.Demote gref) = call_names.Demote
+name_of_call (script_calls.Promote gref) = call_names.Promote
+name_of_call (script_calls.Map label dom gref flags) = call_names.Map
+name_of_call (script_calls.Unmap label) = call_names.Unmap
+name_of_call (script_calls.Load label off len) = call_names.Load
+name_of_call (script_calls.Store label off hex) = call_names.Store
+name_of_call (script_calls.Peek frame off len) = call_names.Peek
+name_of_call (script_calls.Poke frame off hex) = call_names.Poke
+name_of_call (script_calls.Copy c) = call_names.Copy
+name_of_call (script_calls.SetVersion version) = call_names.SetVersion
+name_of_call (script_calls.SetupTable frames) = call_names.SetupTable
+name_of_call (script_calls.QuerySize dom) = call_names.QuerySize
+name_of_call (script_calls.GetVersion dom) = call_names.GetVersion
 
--- the fault of a condition about a line or a domain that the script does not have
-abbrev pub place_fault : ConditionScope → ConditionFault
-place_fault of_all = NoCall
-place_fault (of_line number) = NoCall
-place_fault (of_domain number) = NoDomain
+-- the call of a task, if its action is one
+abbrev pub call_by : ℕ → DomId → RunAction → List PlacedCall
+call_by line dom (Do call) = record { line = line; dom = dom; call = name_of_call call } ∷ []
+call_by line dom (Tell flag) = []
+call_by line dom (Await flag) = []
 
--- the number and the fault of the first such condition, if the first of these has this number
-abbrev pub first_unplaced : RunContents → ℕ → List Asked → Option (ℕ × ConditionFault)
-first_unplaced c number [] = None
-first_unplaced c number (asked ∷ more) =
-    if is_askable c asked.place then first_unplaced c (number + 1) more else Some (number, place_fault asked.place)
+abbrev pub call_of_task : RunTask → List PlacedCall
+call_of_task t = call_by t.line t.dom t.run_action
 
--- the conditions of an expression, each of them about lines or domains that the script has
-pub record AreConditions (c : RunContents) (expression : List ℕ) (conditions : List Asked) : Type 0 where
-  pub read : conditions_in expression ≡ Ok conditions
-  pub placed : first_unplaced c 1 conditions ≡ None
+-- the calls of a script, and its domains
+abbrev pub calls_in : RunContents → List PlacedCall
+calls_in c = flat_map call_of_task c.tasks
 
--- the fault of an expression: its first term that is not a condition; if there is none, the first condition about a
--- line or a domain that the script does not have; or an allocation failed
+abbrev pub ids_in : RunContents → List DomId
+ids_in c = map (λ d. d.id) c.head.domains
+
+-- the number and the reason of the first term of an expression that no answer of the script meets
+abbrev pub first_unplaced : RunContents → List Op → Option (ℕ × ConditionFault)
+first_unplaced c conditions = first_unanswered (calls_in c) (ids_in c) 1 conditions
+
+-- the operations of an expression, of which an answer of the script may meet each term
+pub record AreConditions (c : RunContents) (expression : List ℕ) (conditions : List Op) : Type 0 where
+  pub read : operations_in expression ≡ Ok conditions
+  pub placed : first_unplaced c conditions ≡ None
+
+-- the fault of an expression: the first of its text; if there is none, that of the first term that no answer of the
+-- script meets; or an allocation failed
 abbrev pub IsExpressionFault : RunContents → List ℕ → ExpressionFault → Type 0
 IsExpressionFault c expression expression_faults.Memory = Unit {0}
 IsExpressionFault c expression (expression_faults.Term number fault) =
-    (conditions_in expression ≡ Err (number, fault))
-    ⊎ ((conditions : List Asked) × (conditions_in expression ≡ Ok conditions)
-    × (first_unplaced c 1 conditions ≡ Some (number, fault)))
+    (operations_in expression ≡ Err (number, fault))
+    ⊎ ((conditions : List Op) × (operations_in expression ≡ Ok conditions)
+    × (first_unplaced c conditions ≡ Some (number, fault)))
 
--- which of the texts satisfy the conditions
-abbrev pub satisfied : List Asked → Found → List Bool
-satisfied conditions f = map (satisfies conditions) f.texts
+-- which of the texts satisfy the formula of these operations
+abbrev pub satisfied : List Op → Found → List Bool
+satisfied conditions f = map (satisfies (formula_of conditions)) f.texts
 
 -- the verdict on all texts, if there is nothing to decide
 abbrev pub verdict_of_all : Bool → Verdict
@@ -103,7 +131,7 @@ IsClaimOutputBy c Never f met judgement text = IsVerdictOutput c f judgement.ver
 IsClaimOutputBy c Always f met judgement text = IsVerdictOutput c f judgement.verdict judgement.shown_by text
 
 -- the output for a claim on these conditions
-abbrev pub IsClaimOutput : RunContents → Claim → List Asked → Found → List ℕ → Type 0
+abbrev pub IsClaimOutput : RunContents → Claim → List Op → Found → List ℕ → Type 0
 IsClaimOutput c claim conditions f text =
     IsClaimOutputBy c claim f (satisfied conditions f) (judged claim (satisfied conditions f) f.whole) text
 
@@ -131,7 +159,7 @@ AreWitnessOutputs c f before (text ∷ texts) out =
     × ShowsAfter c.head [] script text × AreWitnessOutputs c f (before + 1) texts rest
 
 -- the conditions that a request states: those of the expression of a claim
-abbrev pub AreAsked : RunContents → ExploreRequest → List Asked → Type 0
+abbrev pub AreAsked : RunContents → ExploreRequest → List Op → Type 0
 AreAsked c explore_requests.Texts conditions = Unit {0}
 AreAsked c (explore_requests.Decide claim expression) conditions = AreConditions c expression.now conditions
 AreAsked c (explore_requests.Has given) conditions = Unit {0}
@@ -163,10 +191,10 @@ abbrev pub GivesTexts : Found → List ℕ → Verdict → Type 0
 GivesTexts f text verdict = (text ≡ texts_output f (satisfied [] f)) × (verdict ≡ verdict_of_all f.whole)
 
 -- a claim on these conditions is decided
-pub record DecidesClaim (c : RunContents) (claim : Claim) (conditions : List Asked) (f : Found) (text : List ℕ)
+pub record DecidesClaim (c : RunContents) (claim : Claim) (conditions : List Op) (f : Found) (text : List ℕ)
     (verdict : Verdict) : Type 0 where
   pub is : verdict ≡ (judged claim (satisfied conditions f) f.whole).verdict
-  pub means : VerdictMeans (MayGive c) claim conditions verdict
+  pub means : VerdictMeans (MayGive c) claim (formula_of conditions) verdict
   pub output : IsClaimOutput c claim conditions f text
 
 -- the number of a text that the script may give
@@ -196,7 +224,7 @@ abbrev pub GivesDiagram : RunContents → ℕ → Found → List ℕ → Verdict
 GivesDiagram c number f text verdict = IsDiagram c f number text × (verdict ≡ verdict_of_all f.whole)
 
 -- the output and the verdict, by the request
-abbrev pub IsOutputBy : RunContents → ExploreRequest → List Asked → Found → List ℕ → Verdict → Type 0
+abbrev pub IsOutputBy : RunContents → ExploreRequest → List Op → Found → List ℕ → Verdict → Type 0
 IsOutputBy c explore_requests.Texts conditions = GivesTexts
 IsOutputBy c (explore_requests.Decide claim expression) conditions = DecidesClaim c claim conditions
 IsOutputBy c (explore_requests.Has given) conditions = NumbersText c given.now

@@ -6,7 +6,7 @@ ghost use Rattle.std.specs.Str.{bytes_eq};
 ghost use Rattle.gt_script.specs.Contents.{contents_of};
 ghost use Rattle.gt_script.specs.RunContents.{RunContents, run_contents};
 ghost use Rattle.gt_script.specs.RunScripts.{CanConfigure};
-ghost use Rattle.gt_explore_verdict.specs.Expressions.{condition_asked};
+ghost use Rattle.gt_explore_verdict.specs.Formulas.{operation_asked};
 ghost use Rattle.gt_explore_answers.specs.Texts.{texts_of_orders};
 ghost use Rattle.gt_explore_verdict.specs.Judging.{verdict_at};
 ghost use Rattle.gt_explore_verdict.specs.declared.judging.Claim.TheVariants.{Find};
@@ -30,7 +30,7 @@ use crate::tracing::{moves_shown, numbered};
 use crate::witness::{gives_answers, may_not_unmap, witness_of};
 use gt_explore_faults::TextsFault;
 use gt_explore_search::FoundText;
-use gt_explore_verdict::{Claim, Condition, Judgement, Verdict, judge, verdict_at};
+use gt_explore_verdict::{Claim, Judgement, Operation, Verdict, judge, verdict_at};
 use gt_script::RunScript;
 use gt_text::text_of;
 use gt_types::DomId;
@@ -218,11 +218,11 @@ fn claim_made(
     script: &RunScript,
     found: &FoundTexts,
     claim: Claim,
-    conditions: &[Condition<'_>],
+    conditions: &[Operation<'_>],
 ) -> Result<ExploreOutput, TextsFault>
     requires fits { CanConfigure (contents_of script.now.head) }
     requires texts { AreTextsOf (run_contents script.now) (found_from found.now) }
-    ensures { IfOk result (λ made. DecidesClaim (run_contents script.now) claim (map condition_asked conditions.now)
+    ensures { IfOk result (λ made. DecidesClaim (run_contents script.now) claim (map operation_asked conditions.now)
         (found_from found.now) made.text.items made.verdict) }
 {
     let met = satisfied(alloc, conditions, found.texts.as_slice())?;
@@ -362,12 +362,12 @@ pub fn answer_in_text(
     source: &[u8],
     script: &RunScript,
     found: &FoundTexts,
-    conditions: &[Condition<'_>],
+    conditions: &[Operation<'_>],
 ) -> Result<ExploreOutput, TextsFault>
     requires fits { CanConfigure (contents_of script.now.head) }
     requires texts { AreTextsOf (run_contents script.now) (found_from found.now) }
     ensures { IfOk result (λ made. IsOutputBy (run_contents script.now) request.entry
-        (map condition_asked conditions.now) (found_from found.now) made.text.items made.verdict) }
+        (map operation_asked conditions.now) (found_from found.now) made.text.items made.verdict) }
 {
     match request {
         ExploreRequest::Texts => all_texts(alloc, found),

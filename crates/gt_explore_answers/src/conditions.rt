@@ -1,32 +1,22 @@
-//! The conditions of a claim about a script.
-ghost use Rattle.std.specs.Prelude.{◌≡◌, ◌&&◌, IfErr, IfOk, decimal, map};
-ghost use Rattle.std.specs.List.{list_any};
-ghost use Rattle.std.specs.Str.{bytes_eq};
+//! The expression of a claim about a script.
+ghost use Rattle.std.specs.Prelude.{◌≡◌, ◌++◌, IfErr, IfOk, OnOk, map};
+ghost use Rattle.std.specs.List.{flat_map};
 ghost use Rattle.gt_script.specs.RunContents.{run_contents};
-ghost use Rattle.gt_explore_verdict.specs.Expressions.{place_asked, condition_asked};
-ghost use Rattle.gt_explore_verdict.specs.Satisfying.{satisfies};
+ghost use Rattle.gt_explore_verdict.specs.Formulas.{formula_asked, operation_asked, satisfies};
 ghost use Rattle.gt_explore_answers.specs.Texts.{texts_of_orders};
 ghost use Rattle.gt_explore_answers.specs.Exploring.{AreAsked, AreConditions, IsExpressionFault, IsFaultAsked};
-ghost use Rattle.gt_explore_answers.specs.Exploring.{first_unplaced, is_askable, is_call, place_fault};
+ghost use Rattle.gt_explore_answers.specs.Exploring.{call_of_task, first_unplaced, is_call, name_of_call};
 
 use crate::asking::ExploreRequest;
 use gt_explore_search::FoundText;
 use gt_explore_verdict::{
-    Condition, ConditionFault, ExpressionFault, Place, conditions_of, satisfies,
+    CallName, ConditionFault, ExpressionFault, Operation, PlacedCall, first_unanswered,
+    operations_of, satisfies,
 };
 use gt_script::{RunAction, RunScript, RunTask};
-use gt_text::push_number;
-use gt_types::DomainConfig;
+use gt_script_lines::ScriptCall;
+use gt_types::{DomId, DomainConfig};
 use std::alloc::{AllocError, Global};
-
-/// Returns whether a number is written so.
-pub fn is_written(alloc: Global, number: usize, text: &[u8]) -> Result<bool, AllocError>
-    ensures { IfOk result (λ b. b ≡ bytes_eq (decimal number) text.now) }
-{
-    let mut digits = Vec::new(alloc);
-    push_number(&mut digits, number)?;
-    Ok(digits.as_slice() == text)
-}
 
 /// Returns whether an action is a call.
 pub fn is_call(action: &RunAction) -> bool
@@ -38,85 +28,99 @@ pub fn is_call(action: &RunAction) -> bool
     }
 }
 
-// Returns whether one of these tasks is a call on the line of this number.
-fn has_call(alloc: Global, tasks: &[RunTask], number: &[u8]) -> Result<bool, AllocError>
-    ensures { IfOk result (λ b. b ≡ list_any (λ t. is_call t.run_action && bytes_eq (decimal t.line) number.now) tasks.now) }
+// Returns the kind of a call.
+fn name_of_call(call: &ScriptCall) -> CallName
+    ensures { result ≡ name_of_call call.now }
 {
+    match call {
+        ScriptCall::Grant { .. } => CallName::Grant,
+        ScriptCall::GrantBytes { .. } => CallName::GrantBytes,
+        ScriptCall::Revoke { .. } => CallName::Revoke,
+        ScriptCall::Withdraw { .. } => CallName::Withdraw,
+        ScriptCall::Demote { .. } => CallName::Demote,
+        ScriptCall::Promote { .. } => CallName::Promote,
+        ScriptCall::Map { .. } => CallName::Map,
+        ScriptCall::Unmap { .. } => CallName::Unmap,
+        ScriptCall::Load { .. } => CallName::Load,
+        ScriptCall::Store { .. } => CallName::Store,
+        ScriptCall::Peek { .. } => CallName::Peek,
+        ScriptCall::Poke { .. } => CallName::Poke,
+        ScriptCall::Copy(_) => CallName::Copy,
+        ScriptCall::SetVersion { .. } => CallName::SetVersion,
+        ScriptCall::SetupTable { .. } => CallName::SetupTable,
+        ScriptCall::QuerySize { .. } => CallName::QuerySize,
+        ScriptCall::GetVersion { .. } => CallName::GetVersion,
+    }
+}
+
+// Appends the call of a task, if its action is one.
+fn push_call(calls: &mut Vec<PlacedCall>, task: &RunTask) -> Result<(), AllocError>
+    ensures { OnOk result (calls.new.items ≡ calls.old.items ++ call_of_task task.now) }
+{
+    match &task.run_action {
+        RunAction::Do(call) => {
+            calls.push(PlacedCall {
+                line: task.line,
+                dom: task.dom,
+                call: name_of_call(call),
+            })?;
+            Ok(())
+        }
+        RunAction::Tell(_) | RunAction::Await(_) => Ok(()),
+    }
+}
+
+// Returns the calls of these tasks.
+fn calls_in(alloc: Global, tasks: &[RunTask]) -> Result<Vec<PlacedCall>, AllocError>
+    ensures { IfOk result (λ calls. calls.items ≡ flat_map call_of_task tasks.now) }
+{
+    let mut calls = Vec::new(alloc);
     'tasks: for task in tasks {
-        if is_call(&task.run_action) && is_written(alloc, task.line, number)? {
-            return Ok(true);
-        }
+        push_call(&mut calls, task)?;
     }
-    Ok(false)
+    Ok(calls)
 }
 
-// Returns whether one of these domains has this number.
-fn has_domain(alloc: Global, domains: &[DomainConfig], number: &[u8]) -> Result<bool, AllocError>
-    ensures { IfOk result (λ b. b ≡ list_any (λ d. bytes_eq (decimal d.id.0) number.now) domains.now) }
+// Returns the numbers of these domains.
+fn ids_in(alloc: Global, domains: &[DomainConfig]) -> Result<Vec<DomId>, AllocError>
+    ensures { IfOk result (λ ids. ids.items ≡ map (λ d. d.id) domains.now) }
 {
+    let mut ids = Vec::new(alloc);
     'domains: for domain in domains {
-        if is_written(alloc, usize::from(domain.id.0), number)? {
-            return Ok(true);
-        }
+        ids.push(domain.id)?;
     }
-    Ok(false)
+    Ok(ids)
 }
 
-// Returns whether the script has the line or the domain that a condition is about.
-fn has_place(alloc: Global, script: &RunScript, place: Place<'_>) -> Result<bool, AllocError>
-    ensures { IfOk result (λ b. b ≡ is_askable (run_contents script.now) (place_asked place.entry)) }
-{
-    match place {
-        Place::Anywhere => Ok(true),
-        Place::Line(number) => has_call(alloc, script.tasks(), number),
-        Place::Domain(number) => has_domain(alloc, script.head().domains(), number),
-    }
-}
-
-// Returns the fault of a condition about a line or a domain that the script does not have.
-fn place_fault(place: Place<'_>) -> ConditionFault
-    ensures { result ≡ place_fault (place_asked place.entry) }
-{
-    match place {
-        Place::Anywhere | Place::Line(_) => ConditionFault::NoCall,
-        Place::Domain(_) => ConditionFault::NoDomain,
-    }
-}
-
-// Returns the number and the fault of the first condition about a line or a domain that the script does not have.
+// Returns the number and the reason of the first term that no answer of the script meets.
 fn first_unplaced(
     alloc: Global,
     script: &RunScript,
-    conditions: &[Condition<'_>],
+    conditions: &[Operation<'_>],
 ) -> Result<Option<(usize, ConditionFault)>, AllocError>
     ensures { IfOk result (λ found.
-        found ≡ first_unplaced (run_contents script.now) 1 (map condition_asked conditions.now)) }
+        found ≡ first_unplaced (run_contents script.now) (map operation_asked conditions.now)) }
 {
-    let mut number = 1;
-    'conditions: for condition in conditions {
-        if !has_place(alloc, script, condition.place)? {
-            return Ok(Some((number, place_fault(condition.place))));
-        }
-        number += 1;
-    }
-    Ok(None)
+    let calls = calls_in(alloc, script.tasks())?;
+    let ids = ids_in(alloc, script.head().domains())?;
+    first_unanswered(alloc, conditions, calls.as_slice(), ids.as_slice())
 }
 
-/// Reads an expression as conditions on the texts of a script.
+/// Reads an expression about the texts of a script.
 ///
 /// # Errors
-/// `Term` with the first term that is not a condition, or that names a line or a domain that the script does not have;
-/// and `Memory`.
+/// `Term` with the first fault of the expression, or with the first term that no answer of the script meets; and
+/// `Memory`.
 pub fn conditions_for<'e>(
     alloc: Global,
     script: &RunScript,
     expression: &'e str,
-) -> Result<Vec<Condition<'e>>, ExpressionFault>
+) -> Result<Vec<Operation<'e>>, ExpressionFault>
     ensures ok { IfOk result (λ cs.
-        AreConditions (run_contents script.now) expression.entry.now (map condition_asked cs.items)) }
+        AreConditions (run_contents script.now) expression.entry.now (map operation_asked cs.items)) }
     ensures fault { IfErr result (IsExpressionFault (run_contents script.now) expression.entry.now) }
 {
-    let conditions = conditions_of(alloc, expression)?;
+    let conditions = operations_of(alloc, expression)?;
     match first_unplaced(alloc, script, conditions.as_slice()) {
         Ok(None) => Ok(conditions),
         Ok(Some((number, fault))) => Err(ExpressionFault::Term { number, fault }),
@@ -124,7 +128,7 @@ pub fn conditions_for<'e>(
     }
 }
 
-/// Reads the conditions of a request. Only a claim has any.
+/// Reads the expression of a request. Only a claim has one.
 ///
 /// # Errors
 /// Those of `conditions_for`.
@@ -132,8 +136,8 @@ pub fn conditions_asked<'e>(
     alloc: Global,
     script: &RunScript,
     request: ExploreRequest<'e>,
-) -> Result<Vec<Condition<'e>>, ExpressionFault>
-    ensures ok { IfOk result (λ cs. AreAsked (run_contents script.now) request.entry (map condition_asked cs.items)) }
+) -> Result<Vec<Operation<'e>>, ExpressionFault>
+    ensures ok { IfOk result (λ cs. AreAsked (run_contents script.now) request.entry (map operation_asked cs.items)) }
     ensures fault { IfErr result (IsFaultAsked (run_contents script.now) request.entry) }
 {
     match request {
@@ -144,14 +148,14 @@ pub fn conditions_asked<'e>(
     }
 }
 
-/// Returns for each text whether it satisfies these conditions.
+/// Returns for each text whether it satisfies an expression.
 pub fn satisfied(
     alloc: Global,
-    conditions: &[Condition<'_>],
+    conditions: &[Operation<'_>],
     texts: &[FoundText],
 ) -> Result<Vec<bool>, AllocError>
     ensures { IfOk result (λ met.
-        met.items ≡ map (satisfies (map condition_asked conditions.now)) (texts_of_orders texts.now)) }
+        met.items ≡ map (satisfies (formula_asked conditions.now)) (texts_of_orders texts.now)) }
 {
     let mut met = Vec::new(alloc);
     'texts: for order in texts {

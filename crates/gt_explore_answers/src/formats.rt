@@ -3,7 +3,7 @@ ghost use Rattle.std.specs.Prelude.{IfOk, map};
 ghost use Rattle.gt_script.specs.Contents.{contents_of};
 ghost use Rattle.gt_script.specs.RunContents.{run_contents};
 ghost use Rattle.gt_script.specs.RunScripts.{CanConfigure};
-ghost use Rattle.gt_explore_verdict.specs.Expressions.{condition_asked};
+ghost use Rattle.gt_explore_verdict.specs.Formulas.{operation_asked};
 ghost use Rattle.gt_explore_answers.specs.Answering.{ShownAs};
 ghost use Rattle.gt_explore_answers.specs.Exploring.{AreTextsOf};
 ghost use Rattle.gt_explore_answers.specs.Outputs.{found_from};
@@ -13,7 +13,7 @@ use crate::asking::{ExploreFormat, ExploreOptions};
 use crate::found::FoundTexts;
 use crate::json::ObjectWriter;
 use gt_explore_faults::TextsFault;
-use gt_explore_verdict::Condition;
+use gt_explore_verdict::Operation;
 use gt_script::RunScript;
 use std::alloc::Global;
 
@@ -29,12 +29,12 @@ pub fn answer_request(
     source: &[u8],
     script: &RunScript,
     found: &FoundTexts,
-    conditions: &[Condition<'_>],
+    conditions: &[Operation<'_>],
 ) -> Result<ExploreOutput, TextsFault>
     requires fits { CanConfigure (contents_of script.now.head) }
     requires texts { AreTextsOf (run_contents script.now) (found_from found.now) }
     ensures { IfOk result (λ made. ShownAs (run_contents script.now) asked.now.format asked.now.states asked.now.request
-        (map condition_asked conditions.now) (found_from found.now) made.text.items made.verdict) }
+        (map operation_asked conditions.now) (found_from found.now) made.text.items made.verdict) }
 {
     match asked.format {
         ExploreFormat::Text => answer_in_text(

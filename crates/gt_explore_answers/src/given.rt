@@ -10,10 +10,10 @@ ghost use Rattle.gt_explore_answers.specs.Outputs.{found_from};
 
 use crate::answering::place_of;
 use crate::asking::ExploreRequest;
-use crate::conditions::{is_call, is_written};
+use crate::conditions::is_call;
 use crate::found::FoundTexts;
 use gt_explore_faults::TextFault;
-use gt_explore_verdict::{line_words, lines_in, may_begin};
+use gt_explore_verdict::{is_written, line_words, lines_in, may_begin};
 use gt_script::{RunScript, RunTask};
 use gt_types::{DomId, DomainConfig};
 use std::alloc::{AllocError, Global};

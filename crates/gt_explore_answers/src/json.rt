@@ -14,7 +14,7 @@ use crate::trace::TraceForm;
 use crate::tracing::moves_shown;
 use gt_explore_faults::TextsFault;
 use gt_explore_search::FoundText;
-use gt_explore_verdict::{Claim, Condition, Verdict, judge};
+use gt_explore_verdict::{Claim, Operation, Verdict, judge};
 use gt_script::RunScript;
 use std::alloc::Global;
 
@@ -46,7 +46,7 @@ impl ObjectWriter<'_, '_> {
     ghost use Rattle.gt_script.specs.Contents.{contents_of};
     ghost use Rattle.gt_script.specs.RunContents.{run_contents};
     ghost use Rattle.gt_script.specs.RunScripts.{CanConfigure};
-    ghost use Rattle.gt_explore_verdict.specs.Expressions.{condition_asked};
+    ghost use Rattle.gt_explore_verdict.specs.Formulas.{operation_asked};
     ghost use Rattle.gt_explore_answers.specs.AsObjects.{ShowsAll, ShowsBy, ShowsClaim, ShowsClaimedBy, ShowsGiven, ShowsObjects};
     ghost use Rattle.gt_explore_answers.specs.AsObjects.{ShowsTrace, ShowsWitness};
     ghost use Rattle.gt_explore_answers.specs.Exploring.{AreTextsOf};
@@ -182,12 +182,12 @@ impl ObjectWriter<'_, '_> {
         &self,
         limit: usize,
         claim: Claim,
-        conditions: &[Condition<'_>],
+        conditions: &[Operation<'_>],
     ) -> Result<ExploreOutput, TextsFault>
         requires fits { CanConfigure (contents_of self.now.script.now.head) }
         requires texts { AreTextsOf (run_contents self.now.script.now) (found_from self.now.found.now) }
         ensures { IfOk result (λ made. ShowsObjects limit
-            (ShowsClaim (run_contents self.now.script.now) claim (map condition_asked conditions.now))
+            (ShowsClaim (run_contents self.now.script.now) claim (map operation_asked conditions.now))
             (found_from self.now.found.now) made.text.items made.verdict) }
     {
         let met = satisfied(self.alloc, conditions, self.found.texts.as_slice())?;
@@ -246,12 +246,12 @@ impl ObjectWriter<'_, '_> {
         &self,
         request: ExploreRequest<'_>,
         limit: usize,
-        conditions: &[Condition<'_>],
+        conditions: &[Operation<'_>],
     ) -> Result<ExploreOutput, TextsFault>
         requires fits { CanConfigure (contents_of self.now.script.now.head) }
         requires texts { AreTextsOf (run_contents self.now.script.now) (found_from self.now.found.now) }
         ensures { IfOk result (λ made. ShowsBy (run_contents self.now.script.now) limit request.entry
-            (map condition_asked conditions.now) (found_from self.now.found.now) made.text.items made.verdict) }
+            (map operation_asked conditions.now) (found_from self.now.found.now) made.text.items made.verdict) }
     {
         match request {
             ExploreRequest::Texts => self.all(limit, false),

@@ -6,9 +6,8 @@ use Rattle.std.specs.Prelude.{is_some}
 use Rattle.std.proofs.lemmas.Iterator.Adapters.{position_from-zero}
 use Rattle.std.proofs.lemmas.Option.{none-some, same_Some, get_or_from_slice_get, slice_get_within}
 use Rattle.std.specs.List.{position, position_from}
-use Rattle.gt_explore_verdict.specs.Expressions.{Asked}
+use Rattle.gt_explore_verdict.specs.Formulas.{Formula, satisfies}
 use Rattle.gt_explore_verdict.specs.Judging.{VerdictMeans, judged, shows, verdict_at}
-use Rattle.gt_explore_verdict.specs.Satisfying.{satisfies}
 use Rattle.gt_explore_verdict.specs.declared.judging.Claim.{Claim}
 use Rattle.gt_explore_verdict.specs.declared.judging.Claim.TheVariants.{Find, Never, Always}
 
@@ -61,13 +60,13 @@ AreAll May texts = (text : List ℕ) → May text → (at : ℕ) × (slice_get t
 given : (May : List ℕ → Type 0) (texts : List (List ℕ)) (at : ℕ) (t : List ℕ) → All May texts → slice_get texts at ≡ Some t → May t
 given May texts at t all is = subst May (get_or_from_slice_get texts at t t is) (all at t (slice_get_within texts at t is))
 
-shown : (May : List ℕ → Type 0) (claim : Claim) (e : List Asked) (texts : List (List ℕ)) (whole : Bool) → All May texts
+shown : (May : List ℕ → Type 0) (claim : Claim) (e : Formula) (texts : List (List ℕ)) (whole : Bool) → All May texts
     → Passes (shows claim) (satisfies e) texts → VerdictMeans May claim e (verdict_at claim true whole)
 shown May Find e texts whole all p = (p.1, given May texts p.0 p.1 all p.2, p.3)
 shown May Never e texts whole all p = (p.1, given May texts p.0 p.1 all p.2, p.3)
 shown May Always e texts whole all p = (p.1, given May texts p.0 p.1 all p.2, not_true (satisfies e p.1) p.3)
 
-not_shown : (May : List ℕ → Type 0) (claim : Claim) (e : List Asked) (texts : List (List ℕ)) (whole : Bool)
+not_shown : (May : List ℕ → Type 0) (claim : Claim) (e : Formula) (texts : List (List ℕ)) (whole : Bool)
     → (whole ≡ true → AreAll May texts) → ((at : ℕ) (t : List ℕ) → slice_get texts at ≡ Some t → shows claim (satisfies e t) ≡ false)
     → VerdictMeans May claim e (verdict_at claim false whole)
 not_shown May Find e texts true every none = λ text may. let a = every refl text may in none a.0 text a.1
@@ -79,7 +78,7 @@ not_shown May Never e texts false every none = tt
 not_shown May Always e texts false every none = tt
 
 -- the verdict on texts that may be given, all of them if the search is over, means what it says
-pub judged_means : (May : List ℕ → Type 0) (claim : Claim) (e : List Asked) (texts : List (List ℕ)) (whole : Bool) → All May texts
+pub judged_means : (May : List ℕ → Type 0) (claim : Claim) (e : Formula) (texts : List (List ℕ)) (whole : Bool) → All May texts
     → (whole ≡ true → AreAll May texts) → VerdictMeans May claim e (judged claim (map (satisfies e) texts) whole).verdict
 judged_means May claim e texts whole all every =
     by (position (shows claim) (map (satisfies e) texts)) (sym (position_from-zero (shows claim) (map (satisfies e) texts)))

@@ -1,16 +1,24 @@
 -- A condition that no answer can meet is met by no line of a text of answers.
-use Rattle.std.proofs.Common.{◌≡◌, ◌∙◌, ◌==◌, ℕ, zero, suc, ◌+◌, Option, None, Bool, not, true, false, ◌&&◌, ◌||◌, List, [], ◌∷◌, Some, refl, subst, sym}
+use Rattle.std.proofs.Common.{◌≡◌, ◌∙◌, ◌==◌, ℕ, zero, suc, ◌+◌, Option, None, Bool, not, true, false, ◌&&◌, ◌||◌}
+use Rattle.std.proofs.Common.{List, [], ◌∷◌, Some, refl, subst, sym}
 use Rattle.std.proofs.Common.{slice_get}
 use Rattle.std.proofs.lemmas.Bool.{eqb-true}
 use Rattle.std.proofs.lemmas.Option.{none-some, same_Some}
 use Rattle.std.proofs.lemmas.Slice.Eq.{bytes_eq-Decides}
 use Rattle.std.specs.List.{list_any}
 use Rattle.std.specs.Str.{bytes_eq}
+use Rattle.gt_explore_verdict.specs.Calls.{forms_of, may_answer}
+use Rattle.gt_explore_verdict.specs.Placing.{is_answered, is_call_at}
 use Rattle.gt_explore_verdict.specs.Expressions.{Asked, ConditionScope, agree, excludes_at, may_be, of_all, of_domain}
 use Rattle.gt_explore_verdict.specs.Expressions.{of_line}
-use Rattle.gt_explore_verdict.specs.Forms.{begins_form, fits, fits_from, has_place, is_of_some, kind_at, may_begin, may_have}
-use Rattle.gt_explore_verdict.specs.Refusing.{AreNeverBothMet, HasAnswer, IsForm, IsNeverMet, HasItsWords}
+use Rattle.gt_explore_verdict.specs.Forms.{begins_form, fits, fits_from, has_place, is_of_some, kind_at, may_begin}
+use Rattle.gt_explore_verdict.specs.Forms.{may_have}
+use Rattle.gt_explore_verdict.specs.Refusing.{AreNeverBothMet, HasAnswer, HasAnswerOf, HasItsWords, IsAnswerToCall}
+use Rattle.gt_explore_verdict.specs.Refusing.{IsForm}
+use Rattle.gt_explore_verdict.specs.Refusing.{IsFormOfCall, IsNeverAnswered, IsNeverMet, IsOfPlace}
 use Rattle.gt_explore_verdict.specs.Satisfying.{begins, is_asked_answer, is_met_by, is_met_in, line_words, lines_in}
+use Rattle.gt_explore_verdict.specs.declared.calls.CallName.{CallName}
+use Rattle.gt_explore_verdict.specs.declared.calls.PlacedCall.{PlacedCall}
 use Rattle.gt_explore_verdict.specs.declared.forms.AnswerForm.{AnswerForm}
 use Rattle.gt_explore_verdict.specs.declared.forms.TheConstants.{EVERY_FORM}
 use Rattle.gt_explore_verdict.specs.declared.forms.WordKind.{WordKind}
@@ -44,11 +52,11 @@ neither : (a b : Bool) → a ≡ false → b ≡ false → (a || b) ≡ false
 neither a b p q = rw p (rw q refl)
 
 -- one of the list passes the test
-any_at : (p : AnswerForm → Bool) (forms : List AnswerForm) (at : ℕ) (form : AnswerForm) → slice_get forms at ≡ Some form
+any_at : {X : Type 0} (p : X → Bool) (forms : List X) (at : ℕ) (form : X) → slice_get forms at ≡ Some form
     → p form ≡ true → list_any p forms ≡ true
 any_at p [] at form there is = absurd (none-some form there)
-any_at p (f ∷ fs) zero form there is =
-    left (p f) (list_any p fs) (subst (λ (g : AnswerForm). p g ≡ true) (sym (same_Some f form there)) is)
+any_at {X = X} p (f ∷ fs) zero form there is =
+    left (p f) (list_any p fs) (subst (λ (g : X). p g ≡ true) (sym (same_Some f form there)) is)
 any_at p (f ∷ fs) (suc at) form there is = right (p f) (list_any p fs) (any_at p fs at form there is)
 
 -- if the test passes no form, it passes none of them
@@ -79,9 +87,9 @@ fits_somewhere : (form : AnswerForm) (at : ℕ) (answer : List (List ℕ)) (w : 
     → list_any (λ word. bytes_eq word w) answer ≡ true → (i : ℕ) × (fits form i w ≡ true)
 fits_somewhere form at [] w fit is = absurd (clash is)
 fits_somewhere form at (a ∷ answer) w fit is =
-    let body_words = both (fits form at a) (fits_from form (at + 1) answer) fit in
-    somewhere form at a w body_words.0 (bytes_eq a w) (list_any (λ word. bytes_eq word w) answer)
-    (fits_somewhere form (at + 1) answer w body_words.1) refl is
+    let halves = both (fits form at a) (fits_from form (at + 1) answer) fit in
+    somewhere form at a w halves.0 (bytes_eq a w) (list_any (λ word. bytes_eq word w) answer)
+    (fits_somewhere form (at + 1) answer w halves.1) refl is
 
 -- the kind of a word past the fifth one
 no_kind : (form : AnswerForm) (k : ℕ) → (k == 0) ≡ false → (k == 1) ≡ false → (k == 2) ≡ false → (k == 3) ≡ false
@@ -169,7 +177,7 @@ lines_fail asked (line ∷ lines) one never each =
     (lines_fail asked lines one never (λ at l is. each (suc at) l is))
 
 pub never_met : (asked : Asked) → IsNeverMet asked
-never_met asked one never text each = rw (lines_fail asked (lines_in text) one never each) refl
+never_met asked one never text each = lines_fail asked (lines_in text) one never each
 
 -- two lists of words with which one answer begins agree
 begins_agree : (answer words others : List (List ℕ)) → begins answer words ≡ true → begins answer others ≡ true
@@ -207,3 +215,56 @@ never_both one other e (line ∷ []) p = absurd (clash p)
 never_both one other e (line ∷ dom ∷ answer) p =
     is_false (is_asked_answer other.place other.words line dom answer)
     (λ q. both_asked one.place other.place one.words other.words line dom answer e p q)
+
+-- a call can answer with words with which one of its answers begins
+may_answer_so : (call : CallName) (form : AnswerForm) (answer words : List (List ℕ)) → IsFormOfCall call form
+    → begins_form form answer ≡ true → begins answer words ≡ true → may_answer call words ≡ true
+unfolding may_answer
+may_answer_so call form answer words one fit is =
+    any_at (λ f. begins_form f words) (forms_of call) one.0 form one.1 (begins_fits form 0 answer words fit is)
+
+-- an answer to a call that a condition is about begins with its words only if one of these calls can answer so
+answered_so : (calls : List PlacedCall) (place : ConditionScope) (words : List (List ℕ)) (at : ℕ) (p : PlacedCall)
+    (line dom : List ℕ) (answer : List (List ℕ)) → slice_get calls at ≡ Some p → IsAnswerToCall p line dom answer
+    → is_answered place words calls ≡ false → is_call_at place p ≡ true → begins answer words ≡ true → ⊥
+answered_so calls place words at p line dom answer there to none here is =
+    clash (sym none ∙ any_at (λ q. is_call_at place q && may_answer q.call words) calls at p there
+    (two (is_call_at place p) (may_answer p.call words) here (may_answer_so p.call to.form answer words to.possible to.fits is)))
+
+-- no answer to these calls meets the condition
+unmet : (calls : List PlacedCall) (place : ConditionScope) (words : List (List ℕ)) (at : ℕ) (p : PlacedCall)
+    (line dom : List ℕ) (answer : List (List ℕ)) → slice_get calls at ≡ Some p → IsAnswerToCall p line dom answer
+    → IsOfPlace place → is_answered place words calls ≡ false → is_asked_answer place words line dom answer ≡ false
+unmet calls of_all words at p line dom answer there to placed none = absurd placed
+unmet calls (of_line number) words at p line dom answer there to placed none =
+    is_false (bytes_eq line number && begins answer words) (λ is.
+    let b = both (bytes_eq line number) (begins answer words) is in
+    answered_so calls (of_line number) words at p line dom answer there to none
+    (subst (λ (l : List ℕ). bytes_eq l number ≡ true) to.on_line b.0) b.1)
+unmet calls (of_domain number) words at p line dom answer there to placed none =
+    is_false (bytes_eq dom number && begins answer words) (λ is.
+    let b = both (bytes_eq dom number) (begins answer words) is in
+    answered_so calls (of_domain number) words at p line dom answer there to none
+    (subst (λ (l : List ℕ). bytes_eq l number ≡ true) to.by_dom b.0) b.1)
+
+line_unmet : (calls : List PlacedCall) (place : ConditionScope) (asked_words : List (List ℕ)) (words : List (List ℕ))
+    → IsOfPlace place → is_answered place asked_words calls ≡ false → HasAnswerOf calls words
+    → is_met_by (record { place = place; words = asked_words }) words ≡ false
+unfolding is_met_by HasAnswerOf
+line_unmet calls place asked_words [] placed none answered = refl
+line_unmet calls place asked_words (line ∷ []) placed none answered = refl
+line_unmet calls place asked_words (line ∷ dom ∷ answer) placed none answered =
+    unmet calls place asked_words answered.0 answered.1 line dom answer answered.2 answered.3 placed none
+
+lines_unmet : (calls : List PlacedCall) (asked : Asked) (lines : List (List ℕ)) → IsOfPlace asked.place
+    → is_answered asked.place asked.words calls ≡ false
+    → ((at : ℕ) (line : List ℕ) → slice_get lines at ≡ Some line → HasAnswerOf calls (line_words line))
+    → is_met_in asked lines ≡ false
+lines_unmet calls asked [] placed none each = refl
+lines_unmet calls asked (line ∷ lines) placed none each =
+    neither (is_met_by asked (line_words line)) (is_met_in asked lines)
+    (line_unmet calls asked.place asked.words (line_words line) placed none (each zero line refl))
+    (lines_unmet calls asked lines placed none (λ at l is. each (suc at) l is))
+
+pub never_answered : (calls : List PlacedCall) (asked : Asked) → IsNeverAnswered calls asked
+never_answered calls asked placed none text each = lines_unmet calls asked (lines_in text) placed none each

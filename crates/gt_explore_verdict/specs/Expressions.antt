@@ -1,5 +1,5 @@
--- Expressions: conditions on a text, joined by `&`.
-use Rattle.std.specs.Prelude.{◌≡◌, ℕ, ◌+◌, ◌==◌, ◌&&◌, ◌||◌, not, Bool, true, false, List, [], ◌∷◌, ◌++◌, filter}
+-- Terms of an expression: conditions on the answers of a text.
+use Rattle.std.specs.Prelude.{ℕ, ◌==◌, ◌&&◌, ◌||◌, not, Bool, true, false, List, [], ◌∷◌, filter}
 use Rattle.std.specs.Prelude.{length, map, codes, Option, Some, None, Result, Ok, Err, if◌then◌else◌}
 use Rattle.std.specs.List.{list_any, slice_split}
 use Rattle.std.specs.Str.{bytes_eq}
@@ -10,8 +10,6 @@ use Rattle.gt_explore_verdict.specs.declared.conditions.Place.{Place}
 use Rattle.gt_explore_verdict.specs.declared.conditions.Place.TheVariants.{Anywhere, Line, Domain}
 use Rattle.gt_explore_verdict.specs.declared.fault.ConditionFault.{ConditionFault}
 use Rattle.gt_explore_verdict.specs.declared.fault.ConditionFault.TheVariants as condition_faults
-use Rattle.gt_explore_verdict.specs.declared.fault.ExpressionFault.{ExpressionFault}
-use Rattle.gt_explore_verdict.specs.declared.fault.ExpressionFault.TheVariants.{Memory, Term}
 
 -- the answers that a condition is about: all answers, the answer to a line, or those of a domain, by their numbers
 pub data ConditionScope : Type 0 where
@@ -103,10 +101,6 @@ is_nonempty_word word = not (length word == 0)
 abbrev pub words_in : List ℕ → List (List ℕ)
 words_in term = filter is_nonempty_word (slice_split (λ b. b == 32) term)
 
--- the terms of an expression: what is between its marks `&`
-abbrev pub terms_in : List ℕ → List (List ℕ)
-terms_in text = slice_split (λ b. b == 38) text
-
 -- these words are the same, as far as there are both
 abbrev pub agree : List (List ℕ) → List (List ℕ) → Bool
 agree [] others = true
@@ -124,23 +118,3 @@ excludes one other = excludes_at one.place other.place one.words other.words
 -- one of these conditions excludes another one
 abbrev pub is_excluded : List Asked → Asked → Bool
 is_excluded conditions asked = list_any (λ earlier. excludes earlier asked) conditions
-
--- these conditions, and then those of the terms, of which the first has this number; or the number and the fault of
--- the first term that is not a condition, or that an earlier one excludes
-abbrev pub read_terms : List Asked → ℕ → List (List ℕ) → Result (List Asked) (ℕ × ConditionFault)
-read_terms before number [] = Ok before
-read_terms before number (term ∷ terms) =
-    elim (read_term (words_in term)) [
-      | Ok asked ↦ if is_excluded before asked then Err (number, condition_faults.Excluded)
-          else read_terms (before ++ asked ∷ []) (number + 1) terms
-      | Err fault ↦ Err (number, fault)
-    ]
-
--- the conditions of an expression, or the first term that is not one
-abbrev pub conditions_in : List ℕ → Result (List Asked) (ℕ × ConditionFault)
-conditions_in text = read_terms [] 1 (terms_in text)
-
--- the fault is that of the first term that is not a condition, or an allocation failed
-abbrev pub IsFaultOfTerms : Result (List Asked) (ℕ × ConditionFault) → ExpressionFault → Type 0
-IsFaultOfTerms r Memory = Unit {0}
-IsFaultOfTerms r (Term number fault) = r ≡ Err (number, fault)

@@ -46,6 +46,15 @@ rule_word N24 = codes "N24"
 rule_word N25 = codes "N25"
 rule_word N26 = codes "N26"
 
+-- the word for what an answer of this form has: its rule, or its value
+abbrev pub form_word : AnswerForm → List ℕ
+form_word answer_forms.Done = codes "ok"
+form_word answer_forms.Bytes = codes "bytes"
+form_word answer_forms.Frames = codes "frames"
+form_word answer_forms.Size = codes "max"
+form_word answer_forms.Version = codes "version"
+form_word (answer_forms.Refused rule) = rule_word rule
+
 -- the number of a status (the GNTST_ constants of grant_table.h)
 abbrev pub status_word : Status → List ℕ
 status_word statuses.GeneralError = codes "-1"

@@ -1,20 +1,19 @@
 -- Claims about the texts of a script, and what is known of them.
 use Rattle.std.specs.Prelude.{◌≡◌, ℕ, not, Bool, true, false, List, is_some}
 use Rattle.std.specs.List.{position}
-use Rattle.gt_explore_verdict.specs.Expressions.{Asked}
-use Rattle.gt_explore_verdict.specs.Satisfying.{satisfies}
+use Rattle.gt_explore_verdict.specs.Formulas.{Formula, satisfies}
 use Rattle.gt_explore_verdict.specs.declared.judging.Claim.{Claim}
 use Rattle.gt_explore_verdict.specs.declared.judging.Claim.TheVariants.{Find, Never, Always}
 use Rattle.gt_explore_verdict.specs.declared.judging.Judgement.{Judgement}
 use Rattle.gt_explore_verdict.specs.declared.judging.Verdict.{Verdict}
 use Rattle.gt_explore_verdict.specs.declared.judging.Verdict.TheVariants.{Holds, Fails, Undecided}
 
--- a text satisfies all of these conditions, or it does not
-abbrev pub Satisfies : List Asked → List ℕ → Type 0
-Satisfies conditions text = satisfies conditions text ≡ true
+-- a text satisfies a formula, or it does not
+abbrev pub Satisfies : Formula → List ℕ → Type 0
+Satisfies formula text = satisfies formula text ≡ true
 
-abbrev pub Violates : List Asked → List ℕ → Type 0
-Violates conditions text = satisfies conditions text ≡ false
+abbrev pub Violates : Formula → List ℕ → Type 0
+Violates formula text = satisfies formula text ≡ false
 
 -- some text that may be given is such
 abbrev pub Some_text : (List ℕ → Type 0) → (List ℕ → Type 0) → Type 0
@@ -24,19 +23,19 @@ Some_text May P = (text : List ℕ) × May text × P text
 abbrev pub Each_text : (List ℕ → Type 0) → (List ℕ → Type 0) → Type 0
 Each_text May P = (text : List ℕ) → May text → P text
 
--- What a verdict means for the texts that may be given. A claim that some text satisfies the conditions holds if one
+-- What a verdict means for the texts that may be given. A claim that some text satisfies the formula holds if one
 -- does, and fails if each violates them. A claim that none does, or that each does, is the other way round. A claim
 -- that is not decided may hold or fail.
-abbrev pub VerdictMeans : (List ℕ → Type 0) → Claim → List Asked → Verdict → Type 0
-VerdictMeans May Find conditions Holds = Some_text May (Satisfies conditions)
-VerdictMeans May Find conditions Fails = Each_text May (Violates conditions)
-VerdictMeans May Never conditions Holds = Each_text May (Violates conditions)
-VerdictMeans May Never conditions Fails = Some_text May (Satisfies conditions)
-VerdictMeans May Always conditions Holds = Each_text May (Satisfies conditions)
-VerdictMeans May Always conditions Fails = Some_text May (Violates conditions)
-VerdictMeans May claim conditions Undecided = Unit {0}
+abbrev pub VerdictMeans : (List ℕ → Type 0) → Claim → Formula → Verdict → Type 0
+VerdictMeans May Find formula Holds = Some_text May (Satisfies formula)
+VerdictMeans May Find formula Fails = Each_text May (Violates formula)
+VerdictMeans May Never formula Holds = Each_text May (Violates formula)
+VerdictMeans May Never formula Fails = Some_text May (Satisfies formula)
+VerdictMeans May Always formula Holds = Each_text May (Satisfies formula)
+VerdictMeans May Always formula Fails = Some_text May (Violates formula)
+VerdictMeans May claim formula Undecided = Unit {0}
 
--- a text decides a claim, by whether it satisfies the conditions
+-- a text decides a claim, by whether it satisfies the formula
 abbrev pub shows : Claim → Bool → Bool
 shows Find satisfied = satisfied
 shows Never satisfied = satisfied
@@ -53,7 +52,7 @@ verdict_at Always false true = Holds
 verdict_at claim false false = Undecided
 
 -- the verdict on a claim, and the index of the first text that decides it, by whether each text that was found
--- satisfies the conditions
+-- satisfies the formula
 abbrev pub judged : Claim → List Bool → Bool → Judgement
 judged claim satisfied whole = record {
   verdict = verdict_at claim (is_some (position (shows claim) satisfied)) whole;

@@ -1,7 +1,12 @@
+pub mod Calls
 pub mod Expressions
 pub mod Faults
 pub mod Forms
+pub mod Formulas
+pub mod Grammar
 pub mod Judging
+pub mod Placing
+pub mod Reading
 pub mod Refusing
 pub mod Rules
 pub mod Satisfying

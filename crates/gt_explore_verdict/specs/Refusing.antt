@@ -1,8 +1,13 @@
 -- Conditions that no answer meets.
-use Rattle.std.specs.Prelude.{◌≡◌, ℕ, true, false, List, [], ◌∷◌, Some, slice_get}
+use Rattle.std.specs.Prelude.{◌≡◌, ℕ, decimal, true, false, List, [], ◌∷◌, Some, slice_get}
+use Rattle.gt_explore_verdict.specs.Calls.{forms_of}
+use Rattle.gt_explore_verdict.specs.Placing.{is_answered}
 use Rattle.gt_explore_verdict.specs.Expressions.{ConditionScope, Asked, excludes, may_be, of_all, of_domain, of_line}
 use Rattle.gt_explore_verdict.specs.Forms.{begins_form}
-use Rattle.gt_explore_verdict.specs.Satisfying.{is_met_by, line_words, lines_in, satisfies}
+use Rattle.gt_explore_verdict.specs.Formulas.{meets, satisfies}
+use Rattle.gt_explore_verdict.specs.Satisfying.{is_met_by, line_words, lines_in}
+use Rattle.gt_explore_verdict.specs.declared.calls.CallName.{CallName}
+use Rattle.gt_explore_verdict.specs.declared.calls.PlacedCall.{PlacedCall}
 use Rattle.gt_explore_verdict.specs.declared.forms.AnswerForm.{AnswerForm}
 use Rattle.gt_explore_verdict.specs.declared.forms.TheConstants.{EVERY_FORM}
 
@@ -31,9 +36,44 @@ HasItsWords (of_domain number) (word ∷ more) = Unit {0}
 -- no text of answers satisfies a condition that no answer can meet
 abbrev pub IsNeverMet : Asked → Type 0
 IsNeverMet asked = HasItsWords asked.place asked.words → may_be asked.place asked.words ≡ false
-    → (text : List ℕ) → HaveAnswers text → satisfies (asked ∷ []) text ≡ false
+    → (text : List ℕ) → HaveAnswers text → satisfies (meets asked) text ≡ false
 
 -- no line meets two conditions of which one excludes the other
 abbrev pub AreNeverBothMet : Asked → Asked → Type 0
 AreNeverBothMet one other = excludes one other ≡ true
     → (words : List (List ℕ)) → is_met_by one words ≡ true → is_met_by other words ≡ false
+
+-- a form is one of those that an answer to such a call can have
+abbrev pub IsFormOfCall : CallName → AnswerForm → Type 0
+IsFormOfCall call form = (at : ℕ) × (slice_get (forms_of call) at ≡ Some form)
+
+-- these words of a line are an answer of this domain to this call, on its line
+pub record IsAnswerToCall (p : PlacedCall) (line dom : List ℕ) (answer : List (List ℕ)) : Type 0 where
+  pub on_line : line ≡ decimal p.line
+  pub by_dom : dom ≡ decimal p.dom.0
+  pub form : AnswerForm
+  pub possible : IsFormOfCall p.call form
+  pub fits : begins_form form answer ≡ true
+
+-- these words of a line are an answer to one of these calls
+unfoldable pub HasAnswerOf : List PlacedCall → List (List ℕ) → Type 0
+HasAnswerOf calls [] = Unit {0}
+HasAnswerOf calls (line ∷ []) = Unit {0}
+HasAnswerOf calls (line ∷ dom ∷ answer) =
+    (at : ℕ) × (p : PlacedCall) × (slice_get calls at ≡ Some p) × IsAnswerToCall p line dom answer
+
+-- each line of a text is one
+abbrev pub HaveAnswersOf : List PlacedCall → List ℕ → Type 0
+HaveAnswersOf calls text =
+    (at : ℕ) (line : List ℕ) → slice_get (lines_in text) at ≡ Some line → HasAnswerOf calls (line_words line)
+
+-- a condition is on a line or on a domain
+abbrev pub IsOfPlace : ConditionScope → Type 0
+IsOfPlace of_all = ⊥
+IsOfPlace (of_line number) = Unit {0}
+IsOfPlace (of_domain number) = Unit {0}
+
+-- no text of answers to these calls satisfies a condition that none of the calls that it is about can meet
+abbrev pub IsNeverAnswered : List PlacedCall → Asked → Type 0
+IsNeverAnswered calls asked = IsOfPlace asked.place → is_answered asked.place asked.words calls ≡ false
+    → (text : List ℕ) → HaveAnswersOf calls text → satisfies (meets asked) text ≡ false

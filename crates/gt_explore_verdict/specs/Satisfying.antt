@@ -1,6 +1,6 @@
--- Whether a text satisfies conditions. A text has a line `LINE DOMAIN ANSWER` for each answer.
+-- Whether a line of a text meets a condition. A text has a line `LINE DOMAIN ANSWER` for each answer.
 use Rattle.std.specs.Prelude.{ℕ, ◌==◌, ◌&&◌, Bool, true, false, List, [], ◌∷◌}
-use Rattle.std.specs.List.{list_all, list_any, slice_split}
+use Rattle.std.specs.List.{list_any, slice_split}
 use Rattle.std.specs.Str.{bytes_eq}
 use Rattle.gt_explore_verdict.specs.Expressions.{ConditionScope, Asked, of_all, of_domain, of_line}
 
@@ -38,7 +38,3 @@ is_met_by asked (line ∷ dom ∷ answer) = is_asked_answer asked.place asked.wo
 -- one of these lines meets a condition
 abbrev pub is_met_in : Asked → List (List ℕ) → Bool
 is_met_in asked lines = list_any (λ line. is_met_by asked (line_words line)) lines
-
--- a text satisfies all of these conditions
-abbrev pub satisfies : List Asked → List ℕ → Bool
-satisfies all text = list_all (λ asked. is_met_in asked (lines_in text)) all

@@ -1,13 +1,13 @@
-//! Expressions: conditions joined by `&`.
-ghost use Rattle.std.specs.Prelude.{◌≡◌, [], ◌∷◌, IfErr, IfOk, map};
+//! Terms of an expression: conditions on the answers of a text.
+ghost use Rattle.std.specs.Prelude.{◌≡◌, ◌∷◌, IfOk, map};
 ghost use Rattle.std.specs.Option.{option_map};
-ghost use Rattle.gt_explore_verdict.specs.Expressions.{conditions_in, is_answer_word, is_nonempty_word};
+ghost use Rattle.gt_explore_verdict.specs.Expressions.{is_answer_word, is_nonempty_word};
 ghost use Rattle.gt_explore_verdict.specs.Expressions.{agree, condition_asked, excludes, is_excluded, may_be};
-ghost use Rattle.gt_explore_verdict.specs.Expressions.{number_after_mark, place_asked, placed, read_term, read_terms};
+ghost use Rattle.gt_explore_verdict.specs.Expressions.{number_after_mark, place_asked, placed, read_term};
 ghost use Rattle.gt_explore_verdict.specs.Expressions.{reason};
-ghost use Rattle.gt_explore_verdict.specs.Expressions.{term_asked, terms_in, words_in, IsFaultOfTerms};
+ghost use Rattle.gt_explore_verdict.specs.Expressions.{term_asked, words_in};
 
-use crate::fault::{ConditionFault, ExpressionFault};
+use crate::fault::ConditionFault;
 use crate::forms::{may_begin, may_have};
 use crate::lines::is_same;
 use crate::rules::{at_mark, is_number, is_rule, is_wrong_rule};
@@ -109,8 +109,8 @@ fn is_nonempty(word: &[u8]) -> bool
     !word.is_empty()
 }
 
-// Splits a term into its words, at spaces.
-fn words_in<'e>(alloc: Global, term: &'e [u8]) -> Result<Vec<&'e [u8]>, AllocError>
+/// Splits a term into its words, at spaces.
+pub fn words_in<'e>(alloc: Global, term: &'e [u8]) -> Result<Vec<&'e [u8]>, AllocError>
     ensures { IfOk result (λ words. map (λ w. w.now) words.items ≡ words_in term.entry.now) }
 {
     term.split(|b| *b == b' ')
@@ -118,15 +118,8 @@ fn words_in<'e>(alloc: Global, term: &'e [u8]) -> Result<Vec<&'e [u8]>, AllocErr
         .collect(alloc)
 }
 
-// Splits an expression into its terms, at each `&`.
-fn terms_in<'e>(alloc: Global, text: &'e [u8]) -> Result<Vec<&'e [u8]>, AllocError>
-    ensures { IfOk result (λ terms. map (λ t. t.now) terms.items ≡ terms_in text.entry.now) }
-{
-    text.split(|b| *b == b'&').collect(alloc)
-}
-
-// Reads the words of a term.
-fn read_term<'e>(mut words: Vec<&'e [u8]>) -> Result<Condition<'e>, ConditionFault>
+/// Reads the words of a term.
+pub fn read_term<'e>(mut words: Vec<&'e [u8]>) -> Result<Condition<'e>, ConditionFault>
     ensures { term_asked result ≡ read_term (map (λ w. w.now) words.entry.items) }
 {
     if words.is_empty() {
@@ -177,8 +170,8 @@ fn excludes(one: &Condition<'_>, other: &Condition<'_>) -> bool
     }
 }
 
-// Returns whether one of these conditions excludes this one.
-fn is_excluded(conditions: &[Condition<'_>], condition: &Condition<'_>) -> bool
+/// Returns whether one of these conditions excludes this one.
+pub fn is_excluded(conditions: &[Condition<'_>], condition: &Condition<'_>) -> bool
     ensures { result ≡ is_excluded (map condition_asked conditions.now) (condition_asked condition.now) }
 {
     'conditions: for earlier in conditions {
@@ -189,50 +182,14 @@ fn is_excluded(conditions: &[Condition<'_>], condition: &Condition<'_>) -> bool
     false
 }
 
-// Reads each of these terms.
-fn read_terms<'e>(alloc: Global, terms: &[&'e [u8]]) -> Result<Vec<Condition<'e>>, ExpressionFault>
-    ensures ok { IfOk result (λ cs. read_terms [] 1 (map (λ t. t.now) terms.now) ≡ Ok (map condition_asked cs.items)) }
-    ensures fault { IfErr result (IsFaultOfTerms (read_terms [] 1 (map (λ t. t.now) terms.now))) }
+/// Returns the same condition once more.
+pub fn copied<'e>(alloc: Global, condition: &Condition<'e>) -> Result<Condition<'e>, AllocError>
+    ensures { IfOk result (λ c. condition_asked c ≡ condition_asked condition.now) }
 {
-    let mut conditions = Vec::new(alloc);
-    let mut number = 1;
-    'terms: for term in terms {
-        let Ok(words) = words_in(alloc, term) else {
-            return Err(ExpressionFault::Memory);
-        };
-        match read_term(words) {
-            Ok(condition) => {
-                if is_excluded(conditions.as_slice(), &condition) {
-                    let fault = ConditionFault::Excluded;
-                    return Err(ExpressionFault::Term { number, fault });
-                }
-                if conditions.push(condition).is_err() {
-                    return Err(ExpressionFault::Memory);
-                }
-            }
-            Err(fault) => return Err(ExpressionFault::Term { number, fault }),
-        }
-        number += 1;
-    }
-    Ok(conditions)
-}
-
-/// Reads an expression: terms joined by `&`, each of them a condition. A term is a word, for an answer that has it;
-/// `LINE=ANSWER`, for an answer to this line of the script that begins with these words; or `ID:ANSWER`, for an answer
-/// of this domain that does. Two terms on one line that no answer meets are refused, and so is each term that no answer
-/// can meet.
-///
-/// # Errors
-/// The first term that is not a condition, and `Memory`.
-pub fn conditions_of<'e>(
-    alloc: Global,
-    text: &'e str,
-) -> Result<Vec<Condition<'e>>, ExpressionFault>
-    ensures ok { IfOk result (λ cs. conditions_in text.entry.now ≡ Ok (map condition_asked cs.items)) }
-    ensures fault { IfErr result (IsFaultOfTerms (conditions_in text.entry.now)) }
-{
-    let Ok(terms) = terms_in(alloc, text.as_bytes()) else {
-        return Err(ExpressionFault::Memory);
-    };
-    read_terms(alloc, terms.as_slice())
+    let more = Vec::from_slice(alloc, condition.more.as_slice())?;
+    Ok(Condition {
+        place: condition.place,
+        first: condition.first,
+        more,
+    })
 }

@@ -1,4 +1,7 @@
 //! Faults of an expression.
+use crate::calls::CallName;
+use crate::forms::AnswerForm;
+use std::alloc::AllocError;
 use std::error::Error;
 use std::fmt;
 
@@ -19,6 +22,16 @@ pub enum ConditionFault {
     Beginning,
     /// No answer meets it and an earlier term on the same line.
     Excluded,
+    /// No answer to the call of the line has this form.
+    Unanswered { call: CallName, form: AnswerForm },
+    /// No answer to a call of the domain has this form.
+    UnansweredByAll { form: AnswerForm },
+    /// No `&` or `|` is before it.
+    Unjoined,
+    /// After it, a `)` closes no bracket.
+    Unopened,
+    /// A `(` before it is not closed.
+    Unclosed,
     /// The script has no call on the line.
     NoCall,
     /// The script has no domain of the number.
@@ -36,6 +49,17 @@ pub enum ExpressionFault {
     },
 }
 
+impl From<AllocError> for ExpressionFault {
+    ghost use Rattle.std.specs.Prelude.{◌≡◌};
+    ghost use Rattle.gt_explore_verdict.specs.declared.fault.ExpressionFault.TheVariants.{Memory};
+
+    ghost from_gives = { λ error fault. fault ≡ Memory };
+
+    fn from(_error: AllocError) -> ExpressionFault {
+        ExpressionFault::Memory
+    }
+}
+
 impl fmt::Display for ConditionFault {
     ghost use Rattle.std.specs.Prelude.{Some};
     ghost use Rattle.gt_explore_verdict.specs.Faults.{condition_fault_text};
@@ -51,6 +75,15 @@ impl fmt::Display for ConditionFault {
             ConditionFault::Word => f.write_str("no answer has this word"),
             ConditionFault::Beginning => f.write_str("no answer begins with these words"),
             ConditionFault::Excluded => f.write_str("an earlier term on its line excludes it"),
+            ConditionFault::Unanswered { call, form } => {
+                write!(f, "{} never answers {}", call.words(), form.word())
+            }
+            ConditionFault::UnansweredByAll { form } => {
+                write!(f, "no call of this domain answers {}", form.word())
+            }
+            ConditionFault::Unjoined => f.write_str("no & or | before it"),
+            ConditionFault::Unopened => f.write_str("a ) after it has no ("),
+            ConditionFault::Unclosed => f.write_str("a ( before it has no )"),
             ConditionFault::NoCall => f.write_str("no call on this line"),
             ConditionFault::NoDomain => f.write_str("no such domain"),
         }

@@ -12,7 +12,7 @@ use crate::rules::{at_mark, is_number};
 use gt_types::{Field, Perms, Rule, Status};
 
 /// A form of an answer.
-#[derive(Clone, Copy)]
+#[derive(Clone, Copy, Debug, PartialEq, Eq)]
 pub enum AnswerForm {
     /// `ok`.
     Done,
@@ -44,8 +44,8 @@ enum WordKind {
     Field,
 }
 
-// The forms that an answer can have in a text. N26 is not among them: a text is that of a run with memory.
-const EVERY_FORM: [AnswerForm; 30] = [
+/// The forms that an answer can have in a text. N26 is not among them: a text is that of a run with memory.
+pub(crate) const EVERY_FORM: [AnswerForm; 30] = [
     AnswerForm::Done,
     AnswerForm::Bytes,
     AnswerForm::Frames,
@@ -122,6 +122,25 @@ fn rule_name(rule: Rule) -> &'static str
         Rule::N24 => "N24",
         Rule::N25 => "N25",
         Rule::N26 => "N26",
+    }
+}
+
+impl AnswerForm {
+    ghost use Rattle.std.specs.Prelude.{◌≡◌};
+    ghost use Rattle.gt_explore_verdict.specs.Forms.{form_word};
+
+    /// Returns the word for what an answer of this form has: its rule, or its value.
+    pub fn word(self) -> &'static str
+        ensures { result.now ≡ form_word self }
+    {
+        match self {
+            AnswerForm::Done => "ok",
+            AnswerForm::Bytes => "bytes",
+            AnswerForm::Frames => "frames",
+            AnswerForm::Size => "max",
+            AnswerForm::Version => "version",
+            AnswerForm::Refused(rule) => rule_name(rule),
+        }
     }
 }
 
@@ -297,8 +316,8 @@ fn fits_after_first(form: AnswerForm, words: &[&[u8]]) -> bool
     true
 }
 
-// Returns whether an answer of this form can begin with these words.
-fn begins_form(form: AnswerForm, first: &[u8], more: &[&[u8]]) -> bool
+/// Returns whether an answer of this form can begin with these words.
+pub(crate) fn begins_form(form: AnswerForm, first: &[u8], more: &[&[u8]]) -> bool
     ensures { result ≡ begins_form form (first.now ∷ map (λ w. w.now) more.now) }
 {
     fits(form, 0, first) && fits_after_first(form, more)

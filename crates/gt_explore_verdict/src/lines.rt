@@ -1,9 +1,9 @@
-//! Whether a text satisfies conditions.
+//! Lines and words of a text, and whether a line meets a condition.
 ghost use Rattle.std.specs.Prelude.{◌≡◌, IfOk, map};
-ghost use Rattle.std.specs.List.{list_all, list_any};
+ghost use Rattle.std.specs.List.{list_any};
 ghost use Rattle.std.specs.Str.{bytes_eq};
 ghost use Rattle.gt_explore_verdict.specs.Expressions.{condition_asked};
-ghost use Rattle.gt_explore_verdict.specs.Satisfying.{begins, is_met_by, is_met_in, line_words, lines_in, satisfies};
+ghost use Rattle.gt_explore_verdict.specs.Satisfying.{begins, is_met_by, is_met_in, line_words, lines_in};
 
 use crate::conditions::{Condition, Place};
 use std::alloc::{AllocError, Global};
@@ -93,8 +93,12 @@ fn line_meets(alloc: Global, condition: &Condition<'_>, line: &[u8]) -> Result<b
     Ok(is_met_by(condition, words.as_slice()))
 }
 
-// Returns whether one of these lines meets a condition.
-fn is_met_in(alloc: Global, condition: &Condition<'_>, lines: &[&[u8]]) -> Result<bool, AllocError>
+/// Returns whether one of these lines meets a condition.
+pub fn is_met_in(
+    alloc: Global,
+    condition: &Condition<'_>,
+    lines: &[&[u8]],
+) -> Result<bool, AllocError>
     ensures { IfOk result (λ b. b ≡ is_met_in (condition_asked condition.now) (map (λ l. l.now) lines.now)) }
 {
     'lines: for line in lines {
@@ -103,24 +107,4 @@ fn is_met_in(alloc: Global, condition: &Condition<'_>, lines: &[&[u8]]) -> Resul
         }
     }
     Ok(false)
-}
-
-/// Returns whether a text satisfies all of these conditions.
-///
-/// # Errors
-/// An allocation failed.
-pub fn satisfies(
-    alloc: Global,
-    conditions: &[Condition<'_>],
-    text: &[u8],
-) -> Result<bool, AllocError>
-    ensures { IfOk result (λ b. b ≡ satisfies (map condition_asked conditions.now) text.now) }
-{
-    let lines = lines_in(alloc, text)?;
-    'conditions: for condition in conditions {
-        if !is_met_in(alloc, condition, lines.as_slice())? {
-            return Ok(false);
-        }
-    }
-    Ok(true)
 }
