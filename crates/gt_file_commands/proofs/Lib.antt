@@ -1,3 +1,4 @@
+pub mod FlowLemmas
 pub mod FormatLemmas
 pub mod GivenLemmas
 pub mod JsonLemmas
