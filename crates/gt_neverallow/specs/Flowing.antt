@@ -1,0 +1,108 @@
+-- Which neverflow statements a policy breaks: bytes of a type may reach another one, and a statement forbids it.
+use Rattle.std.specs.Prelude.{◌≡◌, ◌==◌, ◌&&◌, ℕ, zero, suc, Bool, true, false, not, List, [], ◌∷◌, ◌++◌, length}
+use Rattle.std.specs.Prelude.{Option, Some, None, codes, if◌then◌else◌}
+use Rattle.std.specs.List.{flat_map, slice_get}
+use Rattle.gt_types.specs.declared.TypeId.{TypeId}
+use Rattle.gt_flow.specs.Flow.{FlowPolicy}
+use Rattle.gt_policy.specs.Allowing.{Meaning}
+use Rattle.gt_policy.specs.declared.lined.LinedStatement.{LinedStatement}
+use Rattle.gt_policy.specs.declared.statements.SetElement.{SetElement}
+use Rattle.gt_policy_check.specs.Granting.{elements_hold}
+use Rattle.gt_policy_check.specs.Members.{members_of}
+use Rattle.gt_policy_check.specs.declared.members.Member.{Member}
+use Rattle.gt_policy_flow.specs.Asking.{relation_of}
+use Rattle.gt_policy_flow.specs.Flows.{is_among}
+use Rattle.gt_policy_flow.specs.Paths.{HasPath}
+use Rattle.gt_policy_flow.specs.Steps.{type_name_in}
+use Rattle.gt_neverallow.specs.declared.flowing.FlowBreach.{FlowBreach}
+use Rattle.gt_neverallow.specs.declared.statement.Forbidden.{Forbidden}
+use Rattle.gt_neverallow.specs.declared.statement.Forbidden.TheVariants.{Flow, Grants}
+use Rattle.gt_neverallow.specs.declared.statement.NeverStatement.{NeverStatement}
+use Rattle.gt_neverallow.specs.declared.statement.TypeChoice.{TypeChoice}
+use Rattle.gt_neverallow.specs.declared.statement.TypeChoice.TheVariants.{But, Every, Of}
+
+-- the choice has a type, by the names that denote it: its own, and those of its attributes
+abbrev pub chosen_by : TypeChoice → List (List ℕ) → Bool
+chosen_by Every names = true
+chosen_by (Of items) names = elements_hold names items
+chosen_by (But items) names = not (elements_hold names items)
+
+-- the choice has the type of this number
+abbrev pub chosen_at : TypeChoice → Option Member → Bool
+chosen_at choice None = false
+chosen_at choice (Some member) = chosen_by choice member.names
+
+-- the statement is a neverflow statement
+abbrev pub forbids_flow : Forbidden → Bool
+forbids_flow (Grants classes perms) = false
+forbids_flow Flow = true
+
+-- the statement forbids that bytes of this type reach some others
+abbrev pub flow_from : List Member → TypeId → NeverStatement → Bool
+flow_from members source n = forbids_flow n.what && chosen_at n.source (slice_get members source.0)
+
+-- and the type is one of those; no statement forbids that bytes stay in their type
+abbrev pub flow_to : List Member → TypeId → NeverStatement → TypeId → Bool
+flow_to members source n target = chosen_at n.target (slice_get members target.0) && not (source.0 == target.0)
+
+-- a flow that a statement forbids, from the first type to the second
+pub record ForbiddenFlow : Type 0 where
+  pub statement : NeverStatement
+  pub source : TypeId
+  pub target : TypeId
+
+-- a flow to this type, if the statement forbids it
+abbrev pub flow_if : Bool → NeverStatement → TypeId → TypeId → List ForbiddenFlow
+flow_if true n source target = record { statement = n; source = source; target = target } ∷ []
+flow_if false n source target = []
+
+-- the flows from a type that a statement forbids, to types below this number
+unfoldable pub flows_to : List Member → TypeId → NeverStatement → ℕ → List ForbiddenFlow
+flows_to members source n zero = []
+flows_to members source n (suc k) =
+    flows_to members source n k
+    ++ flow_if (flow_to members source n (record { 0 = k })) n source (record { 0 = k })
+
+-- the flows from a type that a statement forbids
+abbrev pub flows_by : List Member → ℕ → TypeId → NeverStatement → List ForbiddenFlow
+flows_by members count source n = if flow_from members source n then flows_to members source n count else []
+
+-- the flows from a type that these statements forbid
+abbrev pub flows_of : List Member → List NeverStatement → ℕ → TypeId → List ForbiddenFlow
+flows_of members ns count source = flat_map (flows_by members count source) ns
+
+-- the same for the types below a number
+unfoldable pub flows_below : List Member → List NeverStatement → ℕ → ℕ → List ForbiddenFlow
+flows_below members ns count zero = []
+flows_below members ns count (suc k) =
+    flows_below members ns count k ++ flows_of members ns count (record { 0 = k })
+
+-- the names of the types of a path
+abbrev pub names_on : List Member → TypeId → List TypeId → List ℕ
+names_on members x [] = type_name_in members x
+names_on members x (y ∷ path) = type_name_in members x ++ codes " -> " ++ names_on members y path
+
+-- no type is trusted
+abbrev pub nobody : TypeId → Bool
+nobody = is_among []
+
+-- The breaches by these flows: each flow for which there is a path is one, with a shortest path, and no other is.
+pub data FlowsFound (may : FlowPolicy) (members : List Member) : List ForbiddenFlow → List FlowBreach → Type 0 where
+  no_flow : FlowsFound may members [] []
+  reached : (f : ForbiddenFlow) (b : FlowBreach) (path : List TypeId) (fs : List ForbiddenFlow) (bs : List FlowBreach)
+      → HasPath may nobody f.source f.target (Some path) → b.forbidden ≡ f.statement.line
+      → b.path.items ≡ names_on members f.source path → FlowsFound may members fs bs
+      → FlowsFound may members (f ∷ fs) (b ∷ bs)
+  kept_apart : (f : ForbiddenFlow) (fs : List ForbiddenFlow) (bs : List FlowBreach)
+      → HasPath may nobody f.source f.target None → FlowsFound may members fs bs → FlowsFound may members (f ∷ fs) bs
+
+-- the breaches of neverflow statements by a policy that means this: by the source, then by the statement, then by the
+-- target
+abbrev pub AreFlowBreaches : Meaning → List LinedStatement → List NeverStatement → List FlowBreach → Type 0
+AreFlowBreaches m xs ns found =
+    let members = members_of xs None in
+    FlowsFound (relation_of m) members (flows_below members ns (length m.types) (length m.types)) found
+
+-- the breaches by these flows were added
+abbrev pub AddsFlows : FlowPolicy → List Member → List ForbiddenFlow → List FlowBreach → List FlowBreach → Type 0
+AddsFlows may members flows old new = (more : List FlowBreach) × FlowsFound may members flows more × (new ≡ old ++ more)
