@@ -1,11 +1,6 @@
--- The policy block of a script, line by line, and the answers about it.
-use Rattle.std.proofs.Common.{◌≡◌, ◌⊎◌, inl, inr, ℕ, ◌+◌, ◌<◌, ◌≤◌, Bool, true, false, List, [], ◌∷◌, ◌++◌, length, map}
-use Rattle.std.proofs.Common.{drop, get_or, take, Option, Some, None, Result, Ok, Err, refl, ap, sym, subst, ◌∙◌}
-use Rattle.std.proofs.Common.{append_assoc, arith, if◌then◌else◌, length-take, ◌==◌}
-use Rattle.std.proofs.lemmas.List.{append-nil, at_drop_more}
-use Rattle.std.specs.Borrow.{Bor}
-use Rattle.std.specs.Option.{option_map}
-use Rattle.std.specs.Prelude.{codes}
+-- The answers about the policy block of a script.
+use Rattle.std.proofs.Common.{◌≡◌, inl, inr, ℕ, ◌<◌, ◌≤◌, Bool, List, length, length-take, take, Option, Some, None}
+use Rattle.std.proofs.Common.{Result, Ok, Err, refl, sym, subst, ◌∙◌, arith}
 use Rattle.std.specs.Str.{IsUtf8}
 use Rattle.gt_policy_flow.specs.declared.asking.FlowQuestion.{FlowQuestion}
 use Rattle.gt_policy_flow.specs.declared.fault.FlowFault.{FlowFault}
@@ -14,109 +9,11 @@ use Rattle.gt_policy_list.specs.Faults.{listing_read_fault}
 use Rattle.gt_policy_list.specs.Reading.{IsNoText}
 use Rattle.gt_policy_list.specs.declared.fault.ListingFault.{ListingFault}
 use Rattle.gt_policy_list.specs.declared.fault.ListingFault.TheVariants as listing_faults
-use Rattle.gt_script.specs.Blocks.{closed_block, is_just}
-use Rattle.gt_script_lines.specs.Words.{words}
 use Rattle.gt_text.specs.Laws.{keeps_same, of_any_input, take_whole}
 use Rattle.gt_text.specs.Streams.{OfInput}
 use Rattle.gt_text.specs.declared.fault.ReadFault.{ReadFault}
 use Rattle.gt_text.specs.declared.fault.ReadFault.TheVariants as read_faults
-use Rattle.gt_file_commands.specs.Blocks.{FlowedAs, FlowedBlock, FlowedScript, block_in_lines, lines_to_end, policy_block}
-
--- the texts of lines
-abbrev pub line_texts : List (Bor (List ℕ)) → List (List ℕ)
-line_texts lines = map (λ line. line.now) lines
-
--- the text before, and what follows it
-abbrev pub after : List ℕ → Option (List ℕ) → Option (List ℕ)
-after text rest = option_map (λ more. text ++ more) rest
-
--- one line of a block more
-one-line : (text line : List ℕ) (rest : Option (List ℕ))
-    → after text (after (closed_block line) rest) ≡ after ((text ++ line) ++ 10 ∷ []) rest
-one-line text line None = refl
-one-line text line (Some more) =
-    ap (λ (l : List ℕ). Some l) (sym (append_assoc text (line ++ 10 ∷ []) more)
-    ∙ ap (λ (l : List ℕ). l ++ more) (sym (append_assoc text line (10 ∷ []))))
-
--- one empty line more
-one-blank : (text : List ℕ) (rest : Option (List ℕ))
-    → after text (option_map (λ more. 10 ∷ more) rest) ≡ after (text ++ 10 ∷ []) rest
-one-blank text None = refl
-one-blank text (Some more) = ap (λ (l : List ℕ). Some l) (sym (append_assoc text (10 ∷ []) more))
-
-module _ (lines : List (Bor (List ℕ))) (i : ℕ) (line : Bor (List ℕ)) (within : i < length lines)
-    (is : line ≡ get_or lines i line) where
-  split : {A : Type 0} (f : List (List ℕ) → A)
-      → f (line_texts (drop i lines)) ≡ f (line.now ∷ line_texts (drop (i + 1) lines))
-  split f =
-      at_drop_more (λ (l : List (Bor (List ℕ))). f (line_texts l)) lines i line within
-      ∙ ap (λ (x : Bor (List ℕ)). f (x.now ∷ line_texts (drop (i + 1) lines))) (sym is)
-
-  -- ---- the lines up to a line `end`
-
-  pub to-end : (start : Option (List ℕ)) (text : List ℕ)
-      → start ≡ after text (lines_to_end (line_texts (drop i lines)))
-      → is_just (codes "end") (words line.now) ≡ true → start ≡ Some text
-  to-end start text before ends =
-      before ∙ split (λ ls. after text (lines_to_end ls))
-      ∙ ap (λ (b : Bool). after text (if b then Some [] else after (closed_block line.now)
-      (lines_to_end (line_texts (drop (i + 1) lines))))) ends
-      ∙ ap (λ (l : List ℕ). Some l) (append-nil text)
-
-  pub past-line : (start : Option (List ℕ)) (text new : List ℕ)
-      → start ≡ after text (lines_to_end (line_texts (drop i lines)))
-      → is_just (codes "end") (words line.now) ≡ false → new ≡ (text ++ line.now) ++ 10 ∷ []
-      → start ≡ after new (lines_to_end (line_texts (drop (i + 1) lines)))
-  past-line start text new before goes grown =
-      before ∙ split (λ ls. after text (lines_to_end ls))
-      ∙ ap (λ (b : Bool). after text (if b then Some [] else after (closed_block line.now)
-      (lines_to_end (line_texts (drop (i + 1) lines))))) goes
-      ∙ one-line text line.now (lines_to_end (line_texts (drop (i + 1) lines)))
-      ∙ ap (λ (l : List ℕ). after l (lines_to_end (line_texts (drop (i + 1) lines)))) (sym grown)
-
-  -- ---- the lines before a line `policy`
-
-  abbrev rest : List (List ℕ)
-  rest = line_texts (drop (i + 1) lines)
-
-  abbrev opens : List ℕ → Bool → Bool → Option (List ℕ)
-  opens text blank policy = after text (if blank then option_map (λ more. 10 ∷ more) (block_in_lines rest)
-      else (if policy then option_map (λ more. 10 ∷ more) (lines_to_end rest) else None))
-
-  here : (start : Option (List ℕ)) (text : List ℕ)
-      → start ≡ after text (block_in_lines (line_texts (drop i lines)))
-      → start ≡ opens text (length (words line.now) == 0) (is_just (codes "policy") (words line.now))
-  here start text before = before ∙ split (λ ls. after text (block_in_lines ls))
-
-  pub past-blank : (start : Option (List ℕ)) (text new : List ℕ)
-      → start ≡ after text (block_in_lines (line_texts (drop i lines))) → (length (words line.now) == 0) ≡ true
-      → new ≡ text ++ 10 ∷ [] → start ≡ after new (block_in_lines rest)
-  past-blank start text new before blank grown =
-      here start text before ∙ ap (λ (b : Bool). opens text b (is_just (codes "policy") (words line.now))) blank
-      ∙ one-blank text (block_in_lines rest) ∙ ap (λ (l : List ℕ). after l (block_in_lines rest)) (sym grown)
-
-  pub no-block : (start : Option (List ℕ)) (text : List ℕ)
-      → start ≡ after text (block_in_lines (line_texts (drop i lines))) → (length (words line.now) == 0) ≡ false
-      → is_just (codes "policy") (words line.now) ≡ false → start ≡ None
-  no-block start text before some other =
-      here start text before ∙ ap (λ (b : Bool). opens text b (is_just (codes "policy") (words line.now))) some
-      ∙ ap (λ (b : Bool). opens text false b) other
-
-  pub a-block : (start : Option (List ℕ)) (text new : List ℕ) (block : Option (List ℕ))
-      → start ≡ after text (block_in_lines (line_texts (drop i lines))) → (length (words line.now) == 0) ≡ false
-      → is_just (codes "policy") (words line.now) ≡ true → new ≡ text ++ 10 ∷ []
-      → after new (lines_to_end rest) ≡ block → start ≡ block
-  a-block start text new block before some policy grown ends =
-      here start text before ∙ ap (λ (b : Bool). opens text b (is_just (codes "policy") (words line.now))) some
-      ∙ ap (λ (b : Bool). opens text false b) policy
-      ∙ one-blank text (lines_to_end rest) ∙ ap (λ (l : List ℕ). after l (lines_to_end rest)) (sym grown) ∙ ends
-
--- what follows nothing
-pub after-nothing : (rest : Option (List ℕ)) → rest ≡ after [] rest
-after-nothing None = refl
-after-nothing (Some more) = refl
-
--- ---- answers
+use Rattle.gt_file_commands.specs.Blocks.{FlowedAs, FlowedBlock, FlowedScript, policy_block}
 
 pub no-memory : (block : Option (List ℕ)) (q : FlowQuestion) (old : Option (List ℕ))
     → FlowedBlock block q old old (Err (flow_faults.Text listing_faults.Memory))
@@ -143,7 +40,7 @@ pub script-bytes : (all bytes text : List ℕ) (q : FlowQuestion) (old new : Opt
     → FlowedBlock (policy_block text) q old new r → FlowedScript q all old new r
 script-bytes all bytes text q old new r read same short utf8 does =
     subst (λ (l : List ℕ). FlowedScript q l old new r) (whole-read all bytes read short)
-    (inl (utf8, subst (λ (l : List ℕ). FlowedBlock (policy_block l) q old new r) same does))
+    (inl (short, utf8, subst (λ (l : List ℕ). FlowedBlock (policy_block l) q old new r) same does))
 
 too-many : (all bytes : List ℕ) → bytes ≡ take 1048577 all → 1048576 < length bytes → 1048576 < length all
 too-many all bytes read long =
@@ -182,10 +79,3 @@ pub as-asked : (asked script : Bool) (q : FlowQuestion) (known old new : Option 
     → OfInput known (λ input. FlowedAs script q input old new r)
 as-asked asked script q known old new r is does =
     subst (λ (b : Bool). OfInput known (λ input. FlowedAs b q input old new r)) (sym is) does
-
--- the words of a line are just this one, as the code found them
-pub just-as : (word line : List ℕ) (slice items : List (Bor (List ℕ))) (said b : Bool) → slice ≡ items
-    → map (λ w. w.now) items ≡ words line → said ≡ is_just word (map (λ w. w.now) slice) → said ≡ b
-    → is_just word (words line) ≡ b
-just-as word line slice items said b same of asked is =
-    ap (is_just word) (sym of ∙ ap (λ (l : List (Bor (List ℕ))). map (λ w. w.now) l) (sym same)) ∙ sym asked ∙ is

@@ -1,3 +1,4 @@
+pub mod BlockLemmas
 pub mod FlowLemmas
 pub mod FormatLemmas
 pub mod GivenLemmas

@@ -1,14 +1,13 @@
 -- The policy block of a script, and the answers about it.
-use Rattle.std.specs.Prelude.{◌≡◌, ◌⊎◌, ◌==◌, ◌≤◌, ℕ, Bool, true, false, List, [], ◌∷◌, ◌++◌, length, codes}
-use Rattle.std.specs.Prelude.{Option, Some, None, Result, Ok, Err, if◌then◌else◌}
+use Rattle.std.specs.Prelude.{◌≡◌, ◌⊎◌, ◌+◌, ◌≤◌, ℕ, Bool, true, false, List, ◌++◌, length, drop, take, replicate}
+use Rattle.std.specs.Prelude.{Option, Some, None, Result, Ok, Err}
 use Rattle.std.specs.Io.KnownBytes.{Keeps}
-use Rattle.std.specs.Option.{option_map}
 use Rattle.std.specs.Str.{IsUtf8}
 use Rattle.std.specs.Str.Lines.{lines}
+use Rattle.gt_types.specs.declared.limits.TheConstants.{LONGEST_TEXT}
 use Rattle.gt_command_line.specs.declared.invocation.Format.{Format}
 use Rattle.gt_command_line.specs.declared.invocation.Format.TheVariants as formats
-use Rattle.gt_script.specs.Blocks.{closed_block, is_just}
-use Rattle.gt_script_lines.specs.Words.{words}
+use Rattle.gt_script.specs.Blocks.{block_text, closing, opening}
 use Rattle.gt_policy_flow.specs.Answering.{Flowed}
 use Rattle.gt_policy_flow.specs.declared.asking.FlowQuestion.{FlowQuestion}
 use Rattle.gt_policy_flow.specs.declared.fault.FlowFault.{FlowFault}
@@ -19,22 +18,20 @@ use Rattle.gt_policy_list.specs.Reading.{IsNoText}
 use Rattle.gt_policy_list.specs.declared.fault.ListingFault.{ListingFault}
 use Rattle.gt_policy_list.specs.declared.fault.ListingFault.TheVariants as listing_faults
 
--- the lines up to the first line `end`, each with a line feed; none if there is no such line
-abbrev pub lines_to_end : List (List ℕ) → Option (List ℕ)
-lines_to_end [] = None
-lines_to_end (l ∷ ls) = if is_just (codes "end") (words l) then Some []
-    else option_map (λ text. closed_block l ++ text) (lines_to_end ls)
+-- the block that the line `end` at this place closes, after an empty line for each of this number of lines
+abbrev pub block_to : ℕ → List (List ℕ) → Option ℕ → Option (List ℕ)
+block_to before ls None = None
+block_to before ls (Some end) = Some (replicate before 10 ++ block_text (take end ls))
 
--- the policy block of these lines, with an empty line for each line before it; none if the first line with words is not
--- `policy`, or if no line `end` closes the block
-abbrev pub block_in_lines : List (List ℕ) → Option (List ℕ)
-block_in_lines [] = None
-block_in_lines (l ∷ ls) = if length (words l) == 0 then option_map (λ text. 10 ∷ text) (block_in_lines ls)
-    else (if is_just (codes "policy") (words l) then option_map (λ text. 10 ∷ text) (lines_to_end ls) else None)
+-- the block that the line `policy` at this place opens
+abbrev pub block_from : List (List ℕ) → Option ℕ → Option (List ℕ)
+block_from ls None = None
+block_from ls (Some place) = block_to (place + 1) (drop (place + 1) ls) (closing (drop (place + 1) ls))
 
--- the policy block of a script, as a text whose lines have their numbers in the script
+-- the policy block of a script, as a text whose lines have their numbers in the script; none if no line opens a block or
+-- no line closes it
 abbrev pub policy_block : List ℕ → Option (List ℕ)
-policy_block text = block_in_lines (lines text)
+policy_block text = block_from (lines text) (opening (lines text))
 
 -- what was written for a question about a block: as about the policy that it is; nothing if there is none
 abbrev pub FlowedBlock : Option (List ℕ) → FlowQuestion → Option (List ℕ) → Option (List ℕ) → Result Bool FlowFault
@@ -50,10 +47,11 @@ IsUnreadScript bytes (Err (flow_faults.Text fault)) =
     IsNoText bytes fault ⊎ (fault ≡ listing_faults.Memory) ⊎ (fault ≡ listing_faults.Read)
 IsUnreadScript bytes r = ⊥
 
--- what was written for a question about the policy block of a script: nothing if the bytes are no text
+-- what was written for a question about the policy block of a script: nothing if the bytes are too many or not UTF-8
 abbrev pub FlowedScript : FlowQuestion → List ℕ → Option (List ℕ) → Option (List ℕ) → Result Bool FlowFault → Type 0
 FlowedScript q bytes old new r =
-    (IsUtf8 bytes × FlowedBlock (policy_block bytes) q old new r) ⊎ (IsUnreadScript bytes r × Keeps old new)
+    ((length bytes ≤ LONGEST_TEXT) × IsUtf8 bytes × FlowedBlock (policy_block bytes) q old new r)
+    ⊎ (IsUnreadScript bytes r × Keeps old new)
 
 -- what was written for a question about a policy, or about that of a script
 abbrev pub FlowedAs : Bool → FlowQuestion → List ℕ → Option (List ℕ) → Option (List ℕ) → Result Bool FlowFault → Type 0

@@ -16,6 +16,7 @@
 #![tactic(auto)]
 
 mod asking;
+mod blocks;
 mod checking;
 mod commands;
 mod explained;

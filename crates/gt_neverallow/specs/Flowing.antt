@@ -1,12 +1,11 @@
 -- Which neverflow statements a policy breaks: bytes of a type may reach another one, and a statement forbids it.
-use Rattle.std.specs.Prelude.{◌≡◌, ◌==◌, ◌&&◌, ℕ, zero, suc, Bool, true, false, not, List, [], ◌∷◌, ◌++◌, length}
-use Rattle.std.specs.Prelude.{Option, Some, None, codes, if◌then◌else◌}
-use Rattle.std.specs.List.{flat_map, slice_get}
+use Rattle.std.specs.Prelude.{◌≡◌, ◌==◌, ◌&&◌, ℕ, Bool, true, false, not, List, [], ◌∷◌, ◌++◌, filter, length, map}
+use Rattle.std.specs.Prelude.{Option, Some, None, codes}
+use Rattle.std.specs.List.{flat_map, range_with_len, slice_get}
 use Rattle.gt_types.specs.declared.TypeId.{TypeId}
 use Rattle.gt_flow.specs.Flow.{FlowPolicy}
 use Rattle.gt_policy.specs.Allowing.{Meaning}
 use Rattle.gt_policy.specs.declared.lined.LinedStatement.{LinedStatement}
-use Rattle.gt_policy.specs.declared.statements.SetElement.{SetElement}
 use Rattle.gt_policy_check.specs.Granting.{elements_hold}
 use Rattle.gt_policy_check.specs.Members.{members_of}
 use Rattle.gt_policy_check.specs.declared.members.Member.{Member}
@@ -32,18 +31,22 @@ abbrev pub chosen_at : TypeChoice → Option Member → Bool
 chosen_at choice None = false
 chosen_at choice (Some member) = chosen_by choice member.names
 
--- the statement is a neverflow statement
-abbrev pub forbids_flow : Forbidden → Bool
-forbids_flow (Grants classes perms) = false
-forbids_flow Flow = true
+-- what a statement forbids is that bytes flow
+abbrev pub is_about_flows : Forbidden → Bool
+is_about_flows (Grants classes perms) = false
+is_about_flows Flow = true
 
--- the statement forbids that bytes of this type reach some others
+-- the statement forbids bytes of this type to reach some others
 abbrev pub flow_from : List Member → TypeId → NeverStatement → Bool
-flow_from members source n = forbids_flow n.what && chosen_at n.source (slice_get members source.0)
+flow_from members source n = is_about_flows n.what && chosen_at n.source (slice_get members source.0)
 
--- and the type is one of those; no statement forbids that bytes stay in their type
+-- and this type is one of those; no statement forbids bytes to stay in their type
 abbrev pub flow_to : List Member → TypeId → NeverStatement → TypeId → Bool
 flow_to members source n target = chosen_at n.target (slice_get members target.0) && not (source.0 == target.0)
+
+-- the statement forbids bytes of the first type to reach the second
+abbrev pub forbids_flow : List Member → NeverStatement → TypeId → TypeId → Bool
+forbids_flow members n source target = flow_from members source n && flow_to members source n target
 
 -- a flow that a statement forbids, from the first type to the second
 pub record ForbiddenFlow : Type 0 where
@@ -51,31 +54,24 @@ pub record ForbiddenFlow : Type 0 where
   pub source : TypeId
   pub target : TypeId
 
--- a flow to this type, if the statement forbids it
-abbrev pub flow_if : Bool → NeverStatement → TypeId → TypeId → List ForbiddenFlow
-flow_if true n source target = record { statement = n; source = source; target = target } ∷ []
-flow_if false n source target = []
+abbrev pub flow_by : NeverStatement → TypeId → TypeId → ForbiddenFlow
+flow_by n source target = record { statement = n; source = source; target = target }
 
--- the flows from a type that a statement forbids, to types below this number
-unfoldable pub flows_to : List Member → TypeId → NeverStatement → ℕ → List ForbiddenFlow
-flows_to members source n zero = []
-flows_to members source n (suc k) =
-    flows_to members source n k
-    ++ flow_if (flow_to members source n (record { 0 = k })) n source (record { 0 = k })
+-- the types of a policy that has this number of them
+abbrev pub types_numbered : ℕ → List TypeId
+types_numbered count = map (λ id. record { 0 = id }) (range_with_len 0 count)
 
--- the flows from a type that a statement forbids
-abbrev pub flows_by : List Member → ℕ → TypeId → NeverStatement → List ForbiddenFlow
-flows_by members count source n = if flow_from members source n then flows_to members source n count else []
+-- the flows from a type to these types that a statement forbids
+abbrev pub flows_by : List Member → List TypeId → TypeId → NeverStatement → List ForbiddenFlow
+flows_by members targets source n = map (flow_by n source) (filter (forbids_flow members n source) targets)
 
--- the flows from a type that these statements forbid
-abbrev pub flows_of : List Member → List NeverStatement → ℕ → TypeId → List ForbiddenFlow
-flows_of members ns count source = flat_map (flows_by members count source) ns
+-- the same of these statements
+abbrev pub flows_of : List Member → List NeverStatement → List TypeId → TypeId → List ForbiddenFlow
+flows_of members ns targets source = flat_map (flows_by members targets source) ns
 
--- the same for the types below a number
-unfoldable pub flows_below : List Member → List NeverStatement → ℕ → ℕ → List ForbiddenFlow
-flows_below members ns count zero = []
-flows_below members ns count (suc k) =
-    flows_below members ns count k ++ flows_of members ns count (record { 0 = k })
+-- each flow between these types that a statement forbids: by its source, then by the statement, then by its target
+abbrev pub forbidden_flows : List Member → List NeverStatement → List TypeId → List ForbiddenFlow
+forbidden_flows members ns types = flat_map (flows_of members ns types) types
 
 -- the names of the types of a path
 abbrev pub names_on : List Member → TypeId → List TypeId → List ℕ
@@ -96,13 +92,21 @@ pub data FlowsFound (may : FlowPolicy) (members : List Member) : List ForbiddenF
   kept_apart : (f : ForbiddenFlow) (fs : List ForbiddenFlow) (bs : List FlowBreach)
       → HasPath may nobody f.source f.target None → FlowsFound may members fs bs → FlowsFound may members (f ∷ fs) bs
 
--- the breaches of neverflow statements by a policy that means this: by the source, then by the statement, then by the
--- target
+-- the breaches of neverflow statements by a policy that means this
 abbrev pub AreFlowBreaches : Meaning → List LinedStatement → List NeverStatement → List FlowBreach → Type 0
 AreFlowBreaches m xs ns found =
     let members = members_of xs None in
-    FlowsFound (relation_of m) members (flows_below members ns (length m.types) (length m.types)) found
+    FlowsFound (relation_of m) members (forbidden_flows members ns (types_numbered (length m.types))) found
 
 -- the breaches by these flows were added
 abbrev pub AddsFlows : FlowPolicy → List Member → List ForbiddenFlow → List FlowBreach → List FlowBreach → Type 0
 AddsFlows may members flows old new = (more : List FlowBreach) × FlowsFound may members flows more × (new ≡ old ++ more)
+
+-- a flow, if it is forbidden
+abbrev pub flow_if : Bool → NeverStatement → TypeId → TypeId → List ForbiddenFlow
+flow_if true n source target = flow_by n source target ∷ []
+flow_if false n source target = []
+
+-- the flows from a type that a statement forbids, if it is about that type
+abbrev pub flows_to : List Member → List TypeId → TypeId → NeverStatement → List ForbiddenFlow
+flows_to members targets source n = map (flow_by n source) (filter (flow_to members source n) targets)

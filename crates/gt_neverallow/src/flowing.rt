@@ -9,7 +9,8 @@ ghost use Rattle.gt_policy.specs.declared.fault.TokenFault.{TokenFault};
 ghost use Rattle.gt_policy_flow.specs.Flows.{AreAmong};
 ghost use Rattle.gt_policy_flow.specs.Paths.{IsSearched};
 ghost use Rattle.gt_neverallow.specs.Flowing.{AddsFlows, AreFlowBreaches, chosen_at, flow_from, flow_if, flow_to};
-ghost use Rattle.gt_neverallow.specs.Flowing.{flows_below, flows_by, flows_of, flows_to, forbids_flow, names_on, nobody};
+ghost use Rattle.gt_neverallow.specs.Flowing.{flows_by, flows_of, flows_to, forbidden_flows, is_about_flows};
+ghost use Rattle.gt_neverallow.specs.Flowing.{names_on, nobody, types_numbered};
 
 use crate::forbidding::is_chosen;
 use crate::statement::{Forbidden, NeverStatement, TypeChoice};
@@ -58,9 +59,9 @@ fn chosen_at(choice: &TypeChoice, members: &[Member], id: TypeId) -> bool
     }
 }
 
-// Returns whether a statement is a `neverflow` statement.
-fn forbids_flow(what: &Forbidden) -> bool
-    ensures { result ≡ forbids_flow what.now }
+// Returns whether a statement is about flows.
+fn is_about_flows(what: &Forbidden) -> bool
+    ensures { result ≡ is_about_flows what.now }
 {
     match what {
         Forbidden::Grants { .. } => false,
@@ -68,11 +69,11 @@ fn forbids_flow(what: &Forbidden) -> bool
     }
 }
 
-// Returns whether a statement forbids that bytes of the source reach some others.
+// Returns whether a statement forbids bytes of the source to reach some others.
 fn flow_from(never: &NeverStatement, members: &[Member], source: TypeId) -> bool
     ensures { result ≡ flow_from members.now source never.now }
 {
-    forbids_flow(&never.what) && chosen_at(&never.source, members, source)
+    is_about_flows(&never.what) && chosen_at(&never.source, members, source)
 }
 
 // Returns whether the target is one of those.
@@ -82,7 +83,7 @@ fn flow_to(never: &NeverStatement, members: &[Member], source: TypeId, target: T
     chosen_at(&never.target, members, target) && source.0 != target.0
 }
 
-// Returns whether one of these statements forbids that bytes of the source reach some others.
+// Returns whether one of these statements forbids bytes of the source to reach some others.
 fn some_flow_from(nevers: &[NeverStatement], members: &[Member], source: TypeId) -> bool
     ensures { result ≡ list_any (flow_from members.now source) nevers.now }
 {
@@ -113,7 +114,8 @@ fn push_names(
     }
 }
 
-// Adds a breach of a statement, if it forbids that bytes of the source reach the target, and they do.
+// Adds a breach of a statement that forbids bytes of the source to reach some others, if the target is one of those and
+// they may reach it.
 fn push_flow<P: Allows>(
     alloc: Global,
     found: &mut Vec<FlowBreach>,
@@ -150,7 +152,8 @@ fn push_flows_to<P: Allows>(
 ) -> Result<(), AllocError>
     requires { IsSearched (P.may source.now.policy.now) nobody source.now.id source.now.reached.now }
     ensures { OnOk result (AddsFlows (P.may source.now.policy.now) source.now.members.now
-        (flows_to source.now.members.now source.now.id never.now source.now.count) found.old.items found.new.items) }
+        (flows_to source.now.members.now (types_numbered source.now.count) source.now.id never.now)
+        found.old.items found.new.items) }
 {
     'targets: for id in 0..source.count {
         push_flow(alloc, found, never, source, TypeId(id))?;
@@ -167,7 +170,7 @@ fn push_flows_by<P: Allows>(
 ) -> Result<(), AllocError>
     requires { IsSearched (P.may source.now.policy.now) nobody source.now.id source.now.reached.now }
     ensures { OnOk result (AddsFlows (P.may source.now.policy.now) source.now.members.now
-        (flows_by source.now.members.now source.now.count source.now.id never.now)
+        (flows_by source.now.members.now (types_numbered source.now.count) source.now.id never.now)
         found.old.items found.new.items) }
 {
     if flow_from(never, source.members, source.id) {
@@ -186,7 +189,7 @@ fn push_flows_of<P: Allows>(
 ) -> Result<(), AllocError>
     requires { IsSearched (P.may source.now.policy.now) nobody source.now.id source.now.reached.now }
     ensures { OnOk result (AddsFlows (P.may source.now.policy.now) source.now.members.now
-        (flows_of source.now.members.now nevers.now source.now.count source.now.id)
+        (flows_of source.now.members.now nevers.now (types_numbered source.now.count) source.now.id)
         found.old.items found.new.items) }
 {
     'nevers: for never in nevers {
@@ -205,7 +208,7 @@ fn push_flows_from<P: Allows>(
 ) -> Result<(), AllocError>
     requires { AreAmong read.now.count (P.may read.now.policy.now) }
     ensures { OnOk result (AddsFlows (P.may read.now.policy.now) read.now.members.now
-        (flows_of read.now.members.now nevers.now read.now.count id) found.old.items found.new.items) }
+        (flows_of read.now.members.now nevers.now (types_numbered read.now.count) id) found.old.items found.new.items) }
 {
     if !some_flow_from(nevers, read.members, id) {
         return Ok(());
@@ -229,7 +232,7 @@ fn all_flows<P: Allows>(
 ) -> Result<Vec<FlowBreach>, AllocError>
     requires { AreAmong read.now.count (P.may read.now.policy.now) }
     ensures { IfOk result (λ found. AddsFlows (P.may read.now.policy.now) read.now.members.now
-        (flows_below read.now.members.now nevers.now read.now.count read.now.count) [] found.items) }
+        (forbidden_flows read.now.members.now nevers.now (types_numbered read.now.count)) [] found.items) }
 {
     let mut found = Vec::new(alloc);
     'sources: for id in 0..read.count {

@@ -1,5 +1,6 @@
 //! Answers whether bytes of a type reach another one by a policy text.
-ghost use Rattle.std.specs.Prelude.{◌≡◌, ◌==◌, ◌&&◌, ◌++◌, ◌<◌, [], IfErr, IfOk, IfSome, None, Ok, Err, Some, is_some, length, map};
+ghost use Rattle.std.specs.Prelude.{◌≡◌, ◌==◌, ◌&&◌, ◌++◌, ◌<◌, [], IfErr, IfOk, IfSome, None, Ok, Err, Some, is_some};
+ghost use Rattle.std.specs.Prelude.{length, map};
 ghost use Rattle.std.specs.List.{list_any, slice_split};
 ghost use Rattle.std.specs.Option.{option_map};
 ghost use Rattle.std.specs.Str.{bytes_eq};
@@ -8,7 +9,8 @@ ghost use Rattle.gt_policy.specs.Shown.{fault_shown, out_of_memory};
 ghost use Rattle.gt_policy.specs.Whole.{ReadsAs};
 ghost use Rattle.gt_policy.specs.declared.fault.TokenFault.{TokenFault};
 ghost use Rattle.gt_policy_check.specs.Members.{is_asked, members_of};
-ghost use Rattle.gt_policy_flow.specs.Asking.{IsFlowOf, IsFlowReport, Reports, asked_at, form_of, ids_asked, names_in, trusted_by, unknown_place};
+ghost use Rattle.gt_policy_flow.specs.Asking.{IsFlowOf, IsFlowReport, Reports, asked_at, form_of, ids_asked, names_in};
+ghost use Rattle.gt_policy_flow.specs.Asking.{trusted_by, unknown_place};
 ghost use Rattle.gt_policy_flow.specs.Flows.{AreAmong, is_among};
 
 use crate::format::FlowFormat;

@@ -8,7 +8,8 @@
 //! no path, the types that are reached are a set that no access leaves, except for stores by trusted types: the premise
 //! of the laws of `gt_flow` (noninterference).
 //!
-//! It uses `gt_flow` (which access brings bytes where), `gt_json` (strings) and `gt_types` (types, permissions, the trait of policies).
+//! It uses `gt_flow` (which access brings bytes where), `gt_json` (strings) and `gt_types` (types, permissions, the trait
+//! of policies).
 #![tactic(auto)]
 
 mod answering;

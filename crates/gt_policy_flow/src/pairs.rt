@@ -74,8 +74,8 @@ fn push_target<P: Allows>(
     target: TypeId,
 ) -> Result<bool, AllocError>
     requires { IsSearched (P.may read.now.policy.now) (is_among read.now.trusted.now) source found.now }
-    ensures { AppendsBlock read.now.format (P.may read.now.policy.now) (is_among read.now.trusted.now) read.now.statements.now
-        read.now.members.now form source target out.old.items out.new.items result }
+    ensures { AppendsBlock read.now.format (P.may read.now.policy.now) (is_among read.now.trusted.now)
+        read.now.statements.now read.now.members.now form source target out.old.items out.new.items result }
 {
     if leaves_out(form, source, target) {
         return Ok(false);
@@ -103,8 +103,8 @@ fn push_targets<P: Allows>(
     targets: &[TypeId],
 ) -> Result<bool, AllocError>
     requires { IsSearched (P.may read.now.policy.now) (is_among read.now.trusted.now) source found.now }
-    ensures { AppendsTargets read.now.format (P.may read.now.policy.now) (is_among read.now.trusted.now) read.now.statements.now
-        read.now.members.now form source targets.now out.old.items out.new.items result }
+    ensures { AppendsTargets read.now.format (P.may read.now.policy.now) (is_among read.now.trusted.now)
+        read.now.statements.now read.now.members.now form source targets.now out.old.items out.new.items result }
 {
     match targets {
         [] => Ok(false),
@@ -128,8 +128,9 @@ pub(crate) fn push_sources<P: Allows>(
     targets: &[TypeId],
 ) -> Result<bool, AllocError>
     requires { AreAmong count (P.may read.now.policy.now) }
-    ensures { AppendsSources read.now.format (P.may read.now.policy.now) (is_among read.now.trusted.now) read.now.statements.now
-        read.now.members.now form sources.now targets.now out.old.items out.new.items result }
+    ensures { AppendsSources read.now.format (P.may read.now.policy.now) (is_among read.now.trusted.now)
+        read.now.statements.now read.now.members.now form sources.now targets.now out.old.items out.new.items
+        result }
 {
     match sources {
         [] => Ok(false),

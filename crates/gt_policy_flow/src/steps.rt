@@ -2,8 +2,8 @@
 ghost use Rattle.std.specs.Prelude.{◌≡◌, ◌++◌, codes, OnOk, find};
 ghost use Rattle.gt_policy_check.specs.Granting.{gives_one};
 ghost use Rattle.gt_policy_flow.specs.Flows.{is_among};
-ghost use Rattle.gt_policy_flow.specs.Steps.{access_text, accesses_text, first_granting_line, line_between, path_line_text};
-ghost use Rattle.gt_policy_flow.specs.Steps.{path_text, permission_text, type_name_in, type_pair_text};
+ghost use Rattle.gt_policy_flow.specs.Steps.{access_text, accesses_text, first_granting_line, line_between};
+ghost use Rattle.gt_policy_flow.specs.Steps.{path_line_text, path_text, permission_text, type_name_in, type_pair_text};
 
 use crate::flows::{Access, access_between, is_among};
 use crate::format::{FlowFormat, push_mark, push_name};

@@ -1,5 +1,6 @@
 use Rattle.std.proofs.Common.{[]}
-use Rattle.gt_neverallow.specs.Flowing.{AddsFlows, flows_below}
+use Rattle.gt_neverallow.specs.Flowing.{AddsFlows}
+use Rattle.gt_neverallow.proofs.FlowingLemmas.{flows_below}
 use Rattle.gt_neverallow.proofs.flowing.all_flows.Given as goal
 
 abbrev pub invariant-sources : goal.invariant-sources
