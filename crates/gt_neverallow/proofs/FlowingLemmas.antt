@@ -166,7 +166,7 @@ module _ (may : FlowPolicy) (members : List Member) where
       ≡ flows_below members ns count k ++ flows_of members ns (types_numbered count) (record { 0 = k })
   one-source-more ns count k =
       ap (λ (ts : List TypeId). flat_map (flows_of members ns (types_numbered count)) ts)
-      (map-range_with_len_more (λ id. record { 0 = id }) 0 k k (omega arith))
+      (map-range_with_len_more {X = TypeId} (λ id. record { 0 = id }) 0 k k (omega arith))
       ∙ flat_map-append (flows_of members ns (types_numbered count)) (types_numbered k) (record { 0 = k } ∷ [])
       ∙ ap (λ (fs : List ForbiddenFlow). flows_below members ns count k ++ fs)
       (append-nil (flows_of members ns (types_numbered count) (record { 0 = k })))

@@ -26,7 +26,7 @@ module _ (members : List Member) (asked : Option (List ℕ)) where
 
 -- three pieces of text, one after another
 pub three-pieces : (old one two three first second new : List ℕ) → first ≡ old ++ one → second ≡ first ++ two
-    → new ≡ second ++ three → new ≡ old ++ one ++ two ++ three
+    → new ≡ second ++ three → new ≡ old ++ ((one ++ two) ++ three)
 three-pieces old one two three first second new a b e =
-    e ∙ ap (λ (l : List ℕ). l ++ three) (b ∙ ap (λ (l : List ℕ). l ++ two) a)
-    ∙ append_assoc (old ++ one) two three ∙ append_assoc old one (two ++ three)
+    e ∙ ap (λ (l : List ℕ). l ++ three) (b ∙ ap (λ (l : List ℕ). l ++ two) a ∙ append_assoc old one two)
+    ∙ append_assoc old (one ++ two) three
