@@ -1,14 +1,17 @@
 #!/usr/bin/env python3
-"""Compares `gthost flow` with a walk of its own over drawn policies.
+"""Compares `gthost flow`, and `neverflow` in `check --never`, with a walk of its own over drawn policies.
 
 usage: tools/flows.py PROGRAM [COUNT [SEED]]
 
 PROGRAM is a built gthost. Each policy has up to eight types, some attributes, and statements with sets, `self` and `-`.
-For each one the program lists all pairs, once more with trusted types, and shows the steps of one pair. The distances
-must be those of this walk, and each step one that a statement on its lines allows. The last line has the counts.
+For each one the program lists all pairs, once more with trusted types, and shows the steps of one pair, as text, as
+JSON and by a script. The distances must be those of this walk, and each step one that a statement on its lines allows.
+Then it checks drawn `neverflow` statements: its errors must be the pairs that have a path, each with one that is as
+short. The last line has the counts.
 """
 import collections
 import itertools
+import json
 import os
 import random
 import re
@@ -20,7 +23,7 @@ PERMISSIONS = ["map_read", "map_write", "unmap", "transfer", "setup", "copy", "q
 
 
 def drawn(draw):
-    """Returns the lines of a policy, its types, and what each line allows as triples."""
+    """Returns the lines of a policy, its types, their attributes, and what each line allows as triples."""
     types = [f"t{i}_t" for i in range(draw.randint(1, 8))]
     attributes = [f"a{i}" for i in range(draw.randint(0, 3))]
     has = {name: {a for a in attributes if draw.random() < 0.4} for name in types}
@@ -46,7 +49,7 @@ def drawn(draw):
         lines.append(f"allow {source} {target}:grant {{ {' '.join(perms)} }};")
         for s, p in itertools.product(sources, perms):
             allows[len(lines)] |= {(s, t, p) for t in targets | ({s} if itself else set())}
-    return lines, types, allows
+    return lines, types, has, allows
 
 
 def distances(types, allowed, trusted):
@@ -67,20 +70,63 @@ def distances(types, allowed, trusted):
     return found
 
 
+def as_objects(out):
+    """Returns what `--format json` must print for this text."""
+    found = []
+    for line in out.splitlines():
+        x, y, asks = re.fullmatch(r" *(\S+) -> (\S+)  (.*)", line).groups()
+        named = [{"perm": p, "line": int(at)} for p, at in re.findall(r"(\w+) \(line (\d+)\)", asks)]
+        if named:
+            access = {"map_read": "load", "copy": "copy"}.get(named[-1]["perm"], "store")
+            found.append({"source": x, "target": y, "access": access, "perms": named})
+        else:
+            found.append({"source": x, "target": y, "accesses": None if asks == "none" else int(asks)})
+    return found
+
+
+def drawn_nevers(draw, types, has):
+    """Returns the lines of some neverflow statements, and the types of each one's source and target."""
+    attributes = sorted(set().union(*has.values()))
+
+    def drawn_choice():
+        if draw.random() < 0.15:
+            return "*", set(types)
+        items = draw.sample(types + attributes, draw.randint(1, min(3, len(types) + len(attributes))))
+        minus = [it for it in draw.sample(types + attributes, 1) if draw.random() < 0.3 and it not in items]
+        meant = {t for t in types if any(t == it or it in has[t] for it in items)}
+        meant -= {t for t in types if any(t == it or it in has[t] for it in minus)}
+        text = "{ " + " ".join(items + [f"-{it}" for it in minus]) + " }" if len(items + minus) > 1 else items[0]
+        return ("~" + text, set(types) - meant) if draw.random() < 0.3 else (text, meant)
+
+    lines, meant = [], []
+    for _ in range(draw.randint(1, 3)):
+        (source, sources), (target, targets) = drawn_choice(), drawn_choice()
+        lines.append(f"neverflow {source} {target};")
+        meant.append((sources, targets))
+    return lines, meant
+
+
 def main(program, count=2000, seed=1):
-    draw, pairs, steps = random.Random(seed), 0, 0
+    draw, other, pairs, steps, breaches = random.Random(seed), random.Random(seed), 0, 0, 0
     with tempfile.TemporaryDirectory() as room:
-        file = os.path.join(room, "p.te")
+        file, script, never = (os.path.join(room, name) for name in ("p.te", "s.gt", "n.te"))
+
+        def ran(*words):
+            it = subprocess.run([program, *words], capture_output=True, text=True, check=False)
+            assert not it.stderr, (words, it.stderr)
+            return it.returncode, it.stdout
 
         def asked(*words):
-            ran = subprocess.run([program, "flow", *words, file], capture_output=True, text=True, check=False)
-            assert not ran.stderr, (words, ran.stderr)
-            return ran.returncode, ran.stdout
+            return ran("flow", *words, file)
+
+        def write(path, lines):
+            with open(path, "w", encoding="utf-8") as it:
+                it.write("\n".join(lines) + "\n")
 
         for number in range(count):
-            lines, types, allows = drawn(draw)
-            with open(file, "w", encoding="utf-8") as it:
-                it.write("\n".join(lines) + "\n")
+            lines, types, has, allows = drawn(draw)
+            write(file, lines)
+            write(script, ["# A script.", "policy", *lines, "end", f"domain 1 u:r:{types[0]} 1 1 1"])
             allowed = set().union(*allows.values()) if allows else set()
             for trusted in ([], draw.sample(types, draw.randint(1, len(types)))):
                 wanted = distances(types, allowed, trusted)
@@ -95,6 +141,11 @@ def main(program, count=2000, seed=1):
                 head, *rest = out.splitlines()
                 assert head == f"{source} -> {target}  {'none' if far is None else far}", (number, lines, out)
                 assert status == (1 if far is None else 0) and len(rest) == (far or 0), (number, lines, out)
+                objects = asked("--format", "json", *flag, source, target)
+                assert objects[0] == status, (number, lines, objects)
+                assert [json.loads(line) for line in objects[1].splitlines()] == as_objects(out), (number, objects)
+                there = re.sub(r"line (\d+)", lambda m: f"line {int(m[1]) + 2}", out)
+                assert ran("flow", "--script", *flag, source, target, script) == (status, there), (number, lines)
                 at = source
                 for step in rest:
                     x, y, asks = re.fullmatch(r"  (\S+) -> (\S+)  (.*)", step).groups()
@@ -108,7 +159,22 @@ def main(program, count=2000, seed=1):
                         assert first == int(line), (number, lines, out)
                     at, steps = y, steps + 1
                 assert far is None or at == target, (number, lines, out)
-    print(f"{count} policies, {pairs} pairs and {steps} steps are the same")
+            wanted = distances(types, allowed, [])
+            texts, meant = drawn_nevers(other, types, has)
+            write(never, texts)
+            status, out = ran("check", "--never", never, "--format", "json", file)
+            found = []
+            for it in map(json.loads, out.splitlines()):
+                path = re.search(r" flow (.*), which ", it["message"])[1].split(" -> ")
+                assert it["file"] == never and it["severity"] == "error" and it["column"] == 1, (number, it)
+                assert all(wanted[x, y] == 1 for x, y in zip(path, path[1:])), (number, lines, path)
+                assert len(path) == wanted[path[0], path[-1]] + 1, (number, lines, path)
+                found.append((path[0], it["line"], path[-1]))
+            broken = [(x, n, y) for x in types for n, (sources, targets) in enumerate(meant, 1) for y in types
+                      if x in sources and y in targets and (x, y) in wanted]
+            assert found == broken and status == (1 if broken else 0), (number, lines, texts, found, broken)
+            breaches += len(broken)
+    print(f"{count} policies, {pairs} pairs, {steps} steps and {breaches} breaches of neverflow are the same")
 
 
 if __name__ == "__main__":

@@ -34,6 +34,7 @@ _gthost() {
     "check --never") mapfile -t COMPREPLY < <(compgen -f -- "$word"); return ;;
     "check --format") mapfile -t COMPREPLY < <(compgen -W "text json" -- "$word"); return ;;
     "flow --trust") mapfile -t COMPREPLY < <(compgen -W "" -- "$word"); return ;;
+    "flow --format") mapfile -t COMPREPLY < <(compgen -W "text json" -- "$word"); return ;;
     "entries --version") mapfile -t COMPREPLY < <(compgen -W "1 2" -- "$word"); return ;;
     "entries --script") mapfile -t COMPREPLY < <(compgen -W "" -- "$word"); return ;;
     "entries --format") mapfile -t COMPREPLY < <(compgen -W "text json" -- "$word"); return ;;
@@ -46,7 +47,7 @@ _gthost() {
     rules) words="--verbose -v --help" ;;
     check) words="--script --verbose -v --never --format --help" ;;
     why) words="--verbose -v --help" ;;
-    flow) words="--verbose -v --trust --help" ;;
+    flow) words="--script --verbose -v --trust --format --help" ;;
     entries) words="--hex --all --verbose -v --version --script --format --help" ;;
     build | tour | install | library) words="" ;;
   esac

@@ -1,5 +1,5 @@
 -- What is written for a policy that is checked against neverallow statements.
-use Rattle.std.specs.Prelude.{◌≡◌, ◌==◌, ℕ, Bool, List, vec_len, Option, Some, Result, Ok, Err}
+use Rattle.std.specs.Prelude.{◌≡◌, ℕ, Bool, List, Option, Some, Result, Ok, Err}
 use Rattle.std.specs.Io.KnownBytes.{Appends, Keeps}
 use Rattle.std.specs.Str.{IsUtf8}
 use Rattle.gt_policy.specs.Shown.{fault_shown}
@@ -7,7 +7,7 @@ use Rattle.gt_policy.specs.Whole.{ReadsAs}
 use Rattle.gt_policy.specs.declared.fault.TokenFault.{TokenFault}
 use Rattle.gt_policy_check.specs.declared.report.ReportForm.{ReportForm}
 use Rattle.gt_policy_list.specs.declared.fault.ListingFault.TheVariants as listing_faults
-use Rattle.gt_neverallow.specs.Breaking.{AreBreaches, IsNeverFault}
+use Rattle.gt_neverallow.specs.Breaking.{AreBreaches, IsNeverFault, has_no_breach}
 use Rattle.gt_neverallow.specs.Printing.{IsNeverReport}
 use Rattle.gt_neverallow.specs.declared.breaking.NeverFindings.{NeverFindings}
 use Rattle.gt_neverallow.specs.declared.fault.NeverFault.TheVariants as never_faults
@@ -20,7 +20,7 @@ use Rattle.gt_check_command.specs.declared.fault.BreachFault.TheVariants.{Forbid
 abbrev pub WritesBreaches : ReportForm → List ℕ → List ℕ → List ℕ → List ℕ → NeverFindings → Option (List ℕ)
     → Option (List ℕ) → Result Bool BreachFault → Type 0
 WritesBreaches form file text never given found old new (Ok clean) =
-    (clean ≡ (vec_len found.breaches == 0))
+    (clean ≡ has_no_breach found)
     × ((report : List ℕ) × IsNeverReport form file text never given found report × Appends old new report)
 WritesBreaches form file text never given found old new (Err (Policy listing_faults.Write)) =
     (report : List ℕ) × IsNeverReport form file text never given found report × AppendsBeginning old new report
@@ -38,7 +38,7 @@ abbrev pub CheckedNeverText : ReportForm → List ℕ → List ℕ → List ℕ 
     → Result Bool BreachFault → Type 0
 CheckedNeverText form never given file text old new (Ok clean) =
     (found : NeverFindings) × (report : List ℕ) × AreBreaches text given found
-    × (clean ≡ (vec_len found.breaches == 0)) × IsNeverReport form file text never given found report
+    × (clean ≡ has_no_breach found) × IsNeverReport form file text never given found report
     × Appends old new report
 CheckedNeverText form never given file text old new (Err (Policy listing_faults.Write)) =
     (found : NeverFindings) × (report : List ℕ) × AreBreaches text given found

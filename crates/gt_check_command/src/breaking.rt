@@ -1,4 +1,4 @@
-//! Checks a policy against `neverallow` statements, and writes the breaches.
+//! Checks a policy against `neverallow` and `neverflow` statements, and writes the breaches.
 ghost use Rattle.std.specs.Prelude.{◌≡◌, ◌+◌, ℕ, List, take, IfOk};
 ghost use Rattle.gt_types.specs.declared.limits.TheConstants.{LONGEST_TEXT};
 ghost use Rattle.gt_neverallow.specs.Printing.{IsNeverReport};
@@ -13,7 +13,7 @@ use gt_text::{finish, read_text};
 use std::alloc::{AllocError, Global};
 use std::io::{Read, Write};
 
-/// A text of `neverallow` statements, with the name with which lines about it begin.
+/// A text of `neverallow` and `neverflow` statements, with the name with which lines about it begin.
 #[derive(Clone, Copy)]
 pub struct NeverText<'t> {
     pub file: &'t str,
@@ -36,7 +36,7 @@ fn report(
     Ok(out)
 }
 
-// Writes what was found, and returns whether there are no breaches.
+// Writes what was found, and returns whether no statement is broken.
 fn write_breaches<W: Write>(
     alloc: Global,
     form: ReportForm,
@@ -51,7 +51,7 @@ fn write_breaches<W: Write>(
         return Err(BreachFault::Policy(ListingFault::Memory));
     };
     match finish(writer, said.as_slice()) {
-        Ok(()) => Ok(found.breaches.is_empty()),
+        Ok(()) => Ok(found.is_clean()),
         Err(_) => Err(BreachFault::Policy(ListingFault::Write)),
     }
 }
@@ -101,12 +101,13 @@ fn check_never_bytes<W: Write>(
     }
 }
 
-/// Checks a policy against `neverallow` statements, and writes each allow statement that breaks one, in the layout of
-/// compilers or as JSON Lines. The lines about the policy begin with the name `file`. Returns whether no statement is
-/// broken. At most 1,048,577 bytes are read.
+/// Checks a policy against `neverallow` and `neverflow` statements, and writes each allow statement that breaks one of
+/// the first kind, and each flow that breaks one of the second, in the layout of compilers or as JSON Lines. The lines
+/// about the policy begin with the name `file`. Returns whether no statement is broken. At most 1,048,577 bytes are
+/// read.
 ///
 /// # Errors
-/// The first fault of the policy, or else of the `neverallow` statements, whose names must be those of the policy; or a
+/// The first fault of the policy, or else of the other statements, whose names must be those of the policy; or a
 /// read or an allocation that failed. Then nothing was written. After a failed write, a prefix of the breaches was
 /// written.
 pub fn check_never<R: Read, W: Write>(

@@ -49,7 +49,7 @@ command_words Rules words = command_tells (usage_of Rules) (command_name Rules) 
 command_words Check words = command_tells (usage_of Check) (command_name Check)
     (refl, refl, (refl, refl, (refl, refl, (refl, refl, (refl, refl, (refl, refl, (refl, refl, (refl, refl, refl)))))))) (refl, (refl, tt)) words
 command_words Why words = command_tells (usage_of Why) (command_name Why) (refl, refl, (refl, refl, (refl, refl, (refl, refl, refl)))) tt words
-command_words Flow words = command_tells (usage_of Flow) (command_name Flow) (refl, refl, (refl, refl, (refl, refl, refl))) (refl, tt) words
+command_words Flow words = command_tells (usage_of Flow) (command_name Flow) (refl, refl, (refl, refl, (refl, refl, refl))) (refl, (refl, tt)) words
 command_words Entries words = command_tells (usage_of Entries) (command_name Entries) (refl, refl, refl) (refl, (refl, (refl, tt))) words
 
 -- what a command asks for by the rows at the end is what it asks for by what was given
@@ -97,6 +97,8 @@ read_rows mode given rows is = ap (λ (rs : List Row). read mode (λ id. first_o
       value_at_end (usage_of Why) given (codes "file") refl,
     ) refl
     by Flow = rw (
+      value_at_end (usage_of Flow) given (codes "format") refl,
+      flag_at_end (usage_of Flow) given (codes "script"),
       value_at_end (usage_of Flow) given (codes "source") refl,
       value_at_end (usage_of Flow) given (codes "target") refl,
       value_at_end (usage_of Flow) given (codes "trust") refl,

@@ -72,8 +72,9 @@ usage_of Why = record common_usage {
   flags = codes "each" ∷ codes "verbose" ∷ [];
   words = codes "source" ∷ codes "target" ∷ codes "permission" ∷ codes "file" ∷ [];
 }
-usage_of Flow = record common_usage {
-  options = one (codes "trust");
+usage_of Flow = record file_usage {
+  flags = codes "script" ∷ codes "verbose" ∷ [];
+  options = codes "trust" ∷ codes "format" ∷ [];
   words = codes "source" ∷ codes "target" ∷ codes "file" ∷ [];
 }
 usage_of Entries = record file_usage {
@@ -136,7 +137,7 @@ pub data Request : Type 0 where
   to_check_never : Text → Format → Option Text → List (Option Text) → Request
   to_explain : Option Text → Option Text → Option Text → Bool → Option Text → Request
   to_explain_lines : Bool → Text → Request
-  to_show_flow : Option Text → Option Text → Option Text → Option Text → Request
+  to_show_flow : Bool → Format → Option Text → Option Text → Option Text → Option Text → Request
   to_tell_entries : ℕ → Bool → Bool → Option ℕ → Format → Option Text → Request
   for_help : Request
   for_version : Request
@@ -287,12 +288,13 @@ why_with (Some source) (Some target) None each file = nothing
 why_with (Some source) (Some target) (Some permission) each file =
     to_explain (type_of (Some source)) (type_of (Some target)) (type_of (Some permission)) each file
 
--- `SOURCE TARGET [FILE]`, with `--trust TYPES` or without
-abbrev pub flow_with : Option Text → Option Text → Option Text → Option Text → Request
-flow_with None target trusted file = nothing
-flow_with (Some source) None trusted file = nothing
-flow_with (Some source) (Some target) trusted file =
-    to_show_flow (type_of (Some source)) (type_of (Some target)) trusted file
+-- `SOURCE TARGET [FILE]`, with `--script` and `--trust TYPES` or without
+abbrev pub flow_with : Option Format → Bool → Option Text → Option Text → Option Text → Option Text → Request
+flow_with None script source target trusted file = nothing
+flow_with (Some format) script None target trusted file = nothing
+flow_with (Some format) script (Some source) None trusted file = nothing
+flow_with (Some format) script (Some source) (Some target) trusted file =
+    to_show_flow script format (type_of (Some source)) (type_of (Some target)) trusted file
 
 -- the lines of a script have no form as JSON
 abbrev pub entries_with : Option ℕ → Option (Option ℕ) → Option Format → Bool → Bool → Option Text → Request
@@ -324,8 +326,8 @@ read Check value = check_with (format_of (value (codes "format"))) (is_true (val
     (value (codes "never")) (value (codes "file")) (map value more_files)
 read Why value = why_with (value (codes "source")) (value (codes "target")) (value (codes "permission"))
     (is_true (value (codes "each"))) (value (codes "file"))
-read Flow value = flow_with (value (codes "source")) (value (codes "target")) (value (codes "trust"))
-    (value (codes "file"))
+read Flow value = flow_with (format_of (value (codes "format"))) (is_true (value (codes "script")))
+    (value (codes "source")) (value (codes "target")) (value (codes "trust")) (value (codes "file"))
 read Entries value = entries_with (version_of (value (codes "version"))) (script_of (value (codes "script")))
     (format_of (value (codes "format"))) (is_true (value (codes "hex"))) (is_true (value (codes "all"))) (value (codes "file"))
 
@@ -396,8 +398,9 @@ asked_by_plan (invocations.CheckNever never files) =
 asked_by_plan (invocations.Why source target permission each file) = to_explain (option_map (λ f. f.now) source)
     (option_map (λ f. f.now) target) (option_map (λ f. f.now) permission) each (option_map (λ f. f.now) file)
 asked_by_plan (invocations.WhyLines each file) = to_explain_lines each file.now
-asked_by_plan (invocations.Flow source target trusted file) = to_show_flow (option_map (λ f. f.now) source)
-    (option_map (λ f. f.now) target) (option_map (λ f. f.now) trusted) (option_map (λ f. f.now) file)
+asked_by_plan (invocations.Flow source target o file) =
+    to_show_flow o.script o.format (option_map (λ f. f.now) source) (option_map (λ f. f.now) target)
+    (option_map (λ f. f.now) o.trusted) (option_map (λ f. f.now) file)
 asked_by_plan (invocations.Entries dump format file) =
     to_tell_entries dump.version dump.hex dump.all dump.script format (option_map (λ f. f.now) file)
 

@@ -171,9 +171,11 @@ Arguments:
   [FILE]    The policy [default: standard input]
 
 Options:
-  -v, --verbose        Explain faults on stderr [always on]
-      --trust <TYPES>  Leave out stores by these types, joined by commas
-  -h, --help           Print help
+      --script              Take the policy block of a script
+  -v, --verbose             Explain faults on stderr [always on]
+      --trust <TYPES>       Leave out stores by these types, joined by commas
+      --format <text|json>  Print text, or a JSON object a line [default: text]
+  -h, --help                Print help
 
 SOURCE and TARGET are types, attributes, or `-` for each type. An access is a
 load, a store or a copy that the policy allows. For one pair the output is the

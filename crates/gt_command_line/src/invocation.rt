@@ -163,6 +163,16 @@ pub struct EntriesOptions {
     pub script: Option<u16>,
 }
 
+/// The options of `flow`.
+#[derive(Clone, Copy, PartialEq, Eq)]
+pub struct FlowOptions<'a> {
+    /// The text is a script, whose policy block is asked.
+    pub script: bool,
+    /// The names of trusted types, joined by commas.
+    pub trusted: Option<&'a str>,
+    pub format: Format,
+}
+
 /// A command with its options. `file` is the FILE, or None for the standard input. A command without `verbose` explains
 /// its faults in any case.
 #[derive(PartialEq, Eq, Drop)]
@@ -214,11 +224,11 @@ pub enum Invocation<'a> {
         each: bool,
         file: &'a str,
     },
-    /// `None` is any type. `trusted`: the names of trusted types, joined by commas.
+    /// `None` is any type.
     Flow {
         source: Option<&'a str>,
         target: Option<&'a str>,
-        trusted: Option<&'a str>,
+        options: FlowOptions<'a>,
         file: Option<&'a str>,
     },
     /// Print the entries of a dump.

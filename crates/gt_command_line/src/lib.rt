@@ -19,8 +19,8 @@ mod planning;
 mod values;
 
 pub use invocation::{
-    CheckedFiles, EntriesOptions, Exploration, Format, Invocation, Mode, MoreFiles, ScriptOptions,
-    SearchOptions,
+    CheckedFiles, EntriesOptions, Exploration, FlowOptions, Format, Invocation, Mode, MoreFiles,
+    ScriptOptions, SearchOptions,
 };
 pub use leading::{command_first, leading_word};
 pub use letters::with_long_flags;

@@ -85,12 +85,14 @@ static WHY_PARTS: [Part; 6] = [
     VERBOSE,
 ];
 
-static FLOW_PARTS: [Part; 5] = [
+static FLOW_PARTS: [Part; 7] = [
     Part::Word("source", "SOURCE"),
     Part::Word("target", "TARGET"),
     FILE,
+    Part::Flag("script"),
     VERBOSE,
     Part::Free("trust", "TYPES"),
+    FORMAT,
 ];
 
 static ENTRIES_PARTS: [Part; 7] = [

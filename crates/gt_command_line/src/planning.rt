@@ -14,7 +14,8 @@ ghost use Rattle.gt_command_line.specs.declared.invocation.Mode.TheVariants as m
 
 use crate::exploring::{explore_with, formed_of, one_sought};
 use crate::invocation::{
-    CheckedFiles, EntriesOptions, Format, Invocation, MODES, Mode, MoreFiles, ScriptOptions,
+    CheckedFiles, EntriesOptions, FlowOptions, Format, Invocation, MODES, Mode, MoreFiles,
+    ScriptOptions,
 };
 use crate::line::gthost_command;
 use crate::values::{
@@ -163,20 +164,26 @@ fn why_with<'a>(
 }
 
 fn flow_with<'a>(
+    format: Option<Format>,
+    script: bool,
     source: Option<&'a str>,
     target: Option<&'a str>,
     trusted: Option<&'a str>,
     file: Option<&'a str>,
 ) -> Option<Invocation<'a>>
-    ensures { asked_by_some result ≡ flow_with (option_map (λ v. v.now) source.entry)
+    ensures { asked_by_some result ≡ flow_with format script (option_map (λ v. v.now) source.entry)
         (option_map (λ v. v.now) target.entry) (option_map (λ v. v.now) trusted.entry)
         (option_map (λ v. v.now) file.entry) }
 {
-    match (source, target) {
-        (Some(source), Some(target)) => Some(Invocation::Flow {
+    match (format, source, target) {
+        (Some(format), Some(source), Some(target)) => Some(Invocation::Flow {
             source: type_of(Some(source)),
             target: type_of(Some(target)),
-            trusted,
+            options: FlowOptions {
+                script,
+                trusted,
+                format,
+            },
             file,
         }),
         _ => None,
@@ -259,6 +266,22 @@ fn read_why<'a>(matches: &ArgMatches<'a>) -> Option<Invocation<'a>>
     )
 }
 
+// Returns what the values of `flow` ask for, or None if it doesn't take one of them.
+fn read_flow<'a>(matches: &ArgMatches<'a>) -> Option<Invocation<'a>>
+    ensures { asked_by_some result ≡ read modes.Flow (λ id. first_of id (rows_of (found_of matches.now))) }
+{
+    let format = format_of(value_of(matches, "format"));
+    let script = is_set(matches, "script");
+    flow_with(
+        format,
+        script,
+        value_of(matches, "source"),
+        value_of(matches, "target"),
+        value_of(matches, "trust"),
+        value_of(matches, "file"),
+    )
+}
+
 // Returns what the values of a command ask for, or None if the command doesn't take one of them.
 fn read<'a>(mode: Mode, matches: &ArgMatches<'a>) -> Option<Invocation<'a>>
     ensures { asked_by_some result ≡ read mode (λ id. first_of id (rows_of (found_of matches.now))) }
@@ -289,12 +312,7 @@ fn read<'a>(mode: Mode, matches: &ArgMatches<'a>) -> Option<Invocation<'a>>
             more_files(matches),
         ),
         Mode::Why => read_why(matches),
-        Mode::Flow => flow_with(
-            value_of(matches, "source"),
-            value_of(matches, "target"),
-            value_of(matches, "trust"),
-            file,
-        ),
+        Mode::Flow => read_flow(matches),
         Mode::Entries => entries_with(
             version_of(value_of(matches, "version")),
             script_of(value_of(matches, "script")),
@@ -398,6 +416,18 @@ fn refused_by_entries<'a>(matches: &ArgMatches<'a>) -> (&'static str, Option<&'a
     }
 }
 
+// Returns what the words of `flow` are, or what its option takes whose value is refused, and the value.
+fn refused_by_flow<'a>(matches: &ArgMatches<'a>) -> (&'static str, Option<&'a str>) {
+    if value_of(matches, "target").is_none() {
+        (
+            "flow takes SOURCE and TARGET, each a type, an attribute or -",
+            None,
+        )
+    } else {
+        refused_format(matches)
+    }
+}
+
 // Returns what the option takes whose value a command refuses, and the value.
 fn refused_value<'a>(
     mode: Option<Mode>,
@@ -411,10 +441,7 @@ fn refused_value<'a>(
             "why takes SOURCE, TARGET and PERMISSION, or one FILE and questions on standard input",
             None,
         ),
-        Some(Mode::Flow) => (
-            "flow takes SOURCE and TARGET, each a type, an attribute or -",
-            None,
-        ),
+        Some(Mode::Flow) => refused_by_flow(matches),
         _ => refused_format(matches),
     }
 }

@@ -1,3 +1,5 @@
+pub mod BlockLemmas
+pub mod FlowLemmas
 pub mod FormatLemmas
 pub mod GivenLemmas
 pub mod JsonLemmas

@@ -4,6 +4,7 @@ use Rattle.std.proofs.Common.{false}
 use Rattle.gt_text.specs.Streams.{OfInput}
 use Rattle.gt_check_command.specs.declared.explaining.WhyRequest.{WhyRequest}
 use Rattle.gt_policy_flow.specs.declared.asking.FlowQuestion.{FlowQuestion}
+use Rattle.gt_policy_flow.specs.declared.format.FlowFormat.{FlowFormat}
 use Rattle.gt_entries.specs.declared.asked.DumpOptions.{DumpOptions}
 use Rattle.gt_command_line.specs.declared.invocation.Format.{Format}
 use Rattle.gt_policy_check.specs.declared.report.ReportForm.{ReportForm}
@@ -91,16 +92,16 @@ answered file same q each source target permission name known old new outcome sh
     subst (λ (f : List ℕ). Works (AnswersQuestion each f source target permission) Unknown name known old new outcome) shown (question_by file q each source target permission name known old new outcome asks works)
 
 -- a question about flows was answered as it was asked
-flow_asked : (q : FlowQuestion) (source target trusted : Option (List ℕ)) (name : Option (List ℕ)) (input : List ℕ) (old new : Option (List ℕ)) (r : Ending) → IsFlowQuestion source target trusted q
-    → DoesOnFile (ShowsFlow q) name input old new r → DoesOnFile (AnswersFlow source target trusted) name input old new r
-flow_asked q source target trusted name input old new r is (inl does) = inl (q, is, does)
-flow_asked q source target trusted name input old new r is (inr unopened) = inr unopened
+flow_asked : (script : Bool) (q : FlowQuestion) (format : FlowFormat) (source target trusted : Option (List ℕ)) (name : Option (List ℕ)) (input : List ℕ) (old new : Option (List ℕ)) (r : Ending) → IsFlowQuestion format source target trusted q
+    → DoesOnFile (ShowsFlow script q) name input old new r → DoesOnFile (AnswersFlow script format source target trusted) name input old new r
+flow_asked script q format source target trusted name input old new r is (inl does) = inl (q, is, does)
+flow_asked script q format source target trusted name input old new r is (inr unopened) = inr unopened
 
-pub flow_answered : (q : FlowQuestion) (source target trusted : Option (List ℕ)) (name known old new : Option (List ℕ)) (outcome : Outcome) → IsFlowQuestion source target trusted q
-    → Works (ShowsFlow q) Unknown name known old new outcome → Works (AnswersFlow source target trusted) Unknown name known old new outcome
-flow_answered q source target trusted name None old new outcome asks works = tt
-flow_answered q source target trusted name (Some bytes) old new outcome asks (r, is, inl does) = (r, is, inl (flow_asked q source target trusted name bytes old new r asks does))
-flow_answered q source target trusted name (Some bytes) old new outcome asks (r, is, inr none) = (r, is, inr none)
+pub flow_answered : (script : Bool) (q : FlowQuestion) (format : FlowFormat) (source target trusted : Option (List ℕ)) (name known old new : Option (List ℕ)) (outcome : Outcome) → IsFlowQuestion format source target trusted q
+    → Works (ShowsFlow script q) Unknown name known old new outcome → Works (AnswersFlow script format source target trusted) Unknown name known old new outcome
+flow_answered script q format source target trusted name None old new outcome asks works = tt
+flow_answered script q format source target trusted name (Some bytes) old new outcome asks (r, is, inl does) = (r, is, inl (flow_asked script q format source target trusted name bytes old new r asks does))
+flow_answered script q format source target trusted name (Some bytes) old new outcome asks (r, is, inr none) = (r, is, inr none)
 
 -- a dump was told as it was asked
 tells_asked : (asked : DumpOptions) (version : ℕ) (hex every : Bool) (script : Option ℕ) (format : Format) (name : Option (List ℕ)) (input : List ℕ) (old new : Option (List ℕ)) (r : Ending) → IsAsked version hex every script asked

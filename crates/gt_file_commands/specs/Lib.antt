@@ -1,4 +1,5 @@
 pub mod AsJson
+pub mod Blocks
 pub mod Formats
 pub mod JsonNames
 pub mod Laws

@@ -5,6 +5,7 @@ use Rattle.std.specs.Borrow.{Bor}
 use Rattle.std.specs.Str.Lines.{lines}
 use Rattle.gt_policy.specs.Allowing.{Meaning}
 use Rattle.gt_policy.specs.Whole.{ReadsAs}
+use Rattle.gt_file_commands.specs.Blocks.{FlowedAs}
 use Rattle.gt_file_commands.specs.Formats.{CheckedAs, IsFormOf, ListedAs, PlayedAs, WroteDumpAs}
 use Rattle.gt_file_commands.specs.Names.{shown_name}
 use Rattle.gt_file_commands.specs.Prelude.{Keeps, option_map, Appends, AppendsBeginning, Format, DumpOptions}
@@ -12,9 +13,9 @@ use Rattle.gt_file_commands.specs.Prelude.{WhyRequest, perm_asked, source_asked,
 use Rattle.gt_file_commands.specs.Prelude.{type_of, words, play_fault_text, explore_fault_text, listing_fault_text}
 use Rattle.gt_file_commands.specs.Prelude.{why_fault_text, breach_fault_text, dump_fault_text, read_word}
 use Rattle.gt_file_commands.specs.Prelude.{CheckKind, Failure, Outcome, ReportForm, Work, No, Unknown, Yes}
-use Rattle.gt_policy_flow.specs.Answering.{Flowed}
 use Rattle.gt_policy_flow.specs.Faults.{flow_fault_text}
 use Rattle.gt_policy_flow.specs.declared.asking.FlowQuestion.{FlowQuestion}
+use Rattle.gt_policy_flow.specs.declared.format.FlowFormat.{FlowFormat}
 use Rattle.gt_file_commands.specs.declared.checking.CheckKind.TheVariants as check_kinds
 use Rattle.gt_file_commands.specs.declared.commands.Work.TheVariants as works
 use Rattle.gt_file_commands.specs.declared.failure.Failure.TheVariants as failures
@@ -111,11 +112,11 @@ Explains file q input old new (Ok outcome) = AnswersYesOrNo (Explained file q in
 Explains file q input old new (Err (failures.Why fault)) = Explained file q input old new (Err fault)
 Explains file q input old new (Err failure) = ⊥
 
--- the answer is whether there is a path
-abbrev pub ShowsFlow : FlowQuestion → Doing
-ShowsFlow q input old new (Ok outcome) = AnswersYesOrNo (Flowed q input old new) outcome
-ShowsFlow q input old new (Err (failures.Flow fault)) = Flowed q input old new (Err fault)
-ShowsFlow q input old new (Err failure) = ⊥
+-- the answer is whether there is a path, by the policy or by that of the script
+abbrev pub ShowsFlow : Bool → FlowQuestion → Doing
+ShowsFlow script q input old new (Ok outcome) = AnswersYesOrNo (FlowedAs script q input old new) outcome
+ShowsFlow script q input old new (Err (failures.Flow fault)) = FlowedAs script q input old new (Err fault)
+ShowsFlow script q input old new (Err failure) = ⊥
 
 abbrev pub AnswersEntries : Format → DumpOptions → Doing
 AnswersEntries format asked input old new (Ok Yes) = WroteDumpAs format asked input old new (Ok tt)
@@ -129,7 +130,7 @@ Performs (works.Play audited format) = Plays format audited
 Performs (works.List format) = Lists format
 Performs (works.Check kind report) = Checks kind report.form report.file.now
 Performs (works.Why file request) = Explains file.now request
-Performs (works.Flow question) = ShowsFlow question
+Performs (works.Flow script question) = ShowsFlow script question
 Performs (works.Entries asked format) = AnswersEntries format asked
 
 -- the outcome of a failure of this work
@@ -138,7 +139,7 @@ failed_work (works.Play audited format) = No
 failed_work (works.List format) = No
 failed_work (works.Check kind report) = Unknown
 failed_work (works.Why file request) = Unknown
-failed_work (works.Flow question) = Unknown
+failed_work (works.Flow script question) = Unknown
 failed_work (works.Entries asked format) = Unknown
 
 -- a named file was not opened: nothing was written
@@ -176,10 +177,10 @@ IsQuestion each source target permission q =
     (source_asked q.question ≡ source) × (target_asked q.question ≡ target) × (perm_asked q.question ≡ permission)
     × (q.each ≡ each)
 
--- the question about flows has these names
-abbrev pub IsFlowQuestion : Option (List ℕ) → Option (List ℕ) → Option (List ℕ) → FlowQuestion → Type 0
-IsFlowQuestion source target trusted q =
-    (option_map (λ a. a.now) q.source ≡ source) × (option_map (λ a. a.now) q.target ≡ target)
+-- the question about flows has these names, and this form of the answer
+abbrev pub IsFlowQuestion : FlowFormat → Option (List ℕ) → Option (List ℕ) → Option (List ℕ) → FlowQuestion → Type 0
+IsFlowQuestion format source target trusted q =
+    (q.format ≡ format) × (option_map (λ a. a.now) q.source ≡ source) × (option_map (λ a. a.now) q.target ≡ target)
     × (option_map (λ a. a.now) q.trusted ≡ trusted)
 
 -- the options for a dump
@@ -193,10 +194,10 @@ abbrev pub AnswersQuestion : Bool → List ℕ → Option (List ℕ) → Option 
 AnswersQuestion each file source target permission input old new r =
     (q : WhyRequest) × IsQuestion each source target permission q × Explains file q input old new r
 
--- a question about flows of these names is answered
-abbrev pub AnswersFlow : Option (List ℕ) → Option (List ℕ) → Option (List ℕ) → Doing
-AnswersFlow source target trusted input old new r =
-    (q : FlowQuestion) × IsFlowQuestion source target trusted q × ShowsFlow q input old new r
+-- a question about flows of these names is answered in this form, by a policy or by that of a script
+abbrev pub AnswersFlow : Bool → FlowFormat → Option (List ℕ) → Option (List ℕ) → Option (List ℕ) → Doing
+AnswersFlow script format source target trusted input old new r =
+    (q : FlowQuestion) × IsFlowQuestion format source target trusted q × ShowsFlow script q input old new r
 
 -- a dump is printed with these options
 abbrev pub AnswersDump : ℕ → Bool → Bool → Option ℕ → Format → Doing

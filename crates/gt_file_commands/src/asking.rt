@@ -73,22 +73,23 @@ pub fn answer<'a, R, T: TextSource, W: Write, E: Eprint>(
     work_asked(context, work, file, out, reasons)
 }
 
-/// Answers whether bytes of a type reach another one by the policy of the named file, or of the standard input, and
-/// returns the outcome: the answer, or unknown after a failure.
+/// Answers whether bytes of a type reach another one by the policy of the named file, or of the standard input, or by
+/// that of its script, and returns the outcome: the answer, or unknown after a failure.
 pub fn show_flow<R, T: TextSource, W: Write, E: Eprint>(
     context: &Context<R, T, E>,
+    script: bool,
     question: FlowQuestion,
     file: Option<&str>,
     out: &mut W,
     reasons: &mut Reasons,
 ) -> Outcome
-    ensures { Works (AnswersFlow (option_map (λ a. a.now) question.entry.source)
+    ensures { Works (AnswersFlow script question.entry.format (option_map (λ a. a.now) question.entry.source)
         (option_map (λ a. a.now) question.entry.target) (option_map (λ a. a.now) question.entry.trusted)) Outcome.Unknown
         (file_name_of file.entry)
         (known_input (T.file context.now.texts.now) (T.input context.now.texts.now) file.entry)
         (W.contents out.old) (W.contents out.new) result }
 {
-    work_asked(context, Work::Flow { question }, file, out, reasons)
+    work_asked(context, Work::Flow { script, question }, file, out, reasons)
 }
 
 // Returns the domain of this number.

@@ -45,8 +45,9 @@ pub(crate) enum Work<'w> {
         file: &'w str,
         request: WhyRequest<'w>,
     },
-    /// Answer the question about the flows of the policy.
+    /// Answer the question about the flows of the policy, or of that of the script.
     Flow {
+        script: bool,
         question: FlowQuestion<'w>,
     },
     /// Print the entries of the dump.
@@ -98,7 +99,9 @@ pub(crate) fn perform<R: Read, W: Write>(
             Ok(allowed) => Ok(Outcome::of_answer(allowed)),
             Err(fault) => Err(Failure::Why(fault)),
         },
-        Work::Flow { question } => match flow_explained(alloc, &question, reader, out, reasons) {
+        Work::Flow { script, question } => match flow_explained(
+            alloc, script, &question, reader, out, reasons,
+        ) {
             Ok(has_path) => Ok(Outcome::of_answer(has_path)),
             Err(fault) => Err(Failure::Flow(fault)),
         },

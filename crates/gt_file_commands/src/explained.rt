@@ -2,9 +2,10 @@
 ghost use Rattle.gt_text.specs.Streams.{OfInput};
 ghost use Rattle.gt_check_command.specs.Breaking.{CheckedNever};
 ghost use Rattle.gt_check_command.specs.Explaining.{Explained};
-ghost use Rattle.gt_policy_flow.specs.Answering.{Flowed};
+ghost use Rattle.gt_file_commands.specs.Blocks.{FlowedAs};
 ghost use Rattle.gt_file_commands.specs.Formats.{CheckedAs, ListedAs, PlayedAs, WroteDumpAs};
 
+use crate::flows::flow_as;
 use crate::formats::{ReportSettings, check_as, entries_as, list_as, play_as};
 use crate::reasons::{CopyingReader, Reasons};
 use gt_check_command::{BreachFault, NeverText, WhyFault, WhyRequest, check_never, why};
@@ -121,21 +122,23 @@ pub fn why_explained<R: Read, W: Write>(
     ending
 }
 
-/// Answers a question about the flows of the policy of a reader, and adds the reason of a fault.
+/// Answers a question about the flows of the policy of a reader, or of that of its script, and adds the reason of a
+/// fault.
 pub fn flow_explained<R: Read, W: Write>(
     alloc: Global,
+    script: bool,
     question: &FlowQuestion,
     reader: &mut R,
     out: &mut W,
     reasons: &mut Reasons,
 ) -> Result<bool, FlowFault>
     ensures { OfInput (R.remaining reader.old) (λ input.
-        Flowed question.now input (W.contents out.old) (W.contents out.new) result) }
+        FlowedAs script question.now input (W.contents out.old) (W.contents out.new) result) }
 {
     let mut input = CopyingReader::new(alloc, reader);
-    let ending = gt_policy_flow::answer(alloc, question, &mut input, out);
+    let ending = flow_as(alloc, script, question, &mut input, out);
     if let Err(fault) = &ending {
-        reasons.add_flow(&input.kept, question, fault);
+        reasons.add_flow(script, &input.kept, question, fault);
     }
     ending
 }

@@ -30,10 +30,11 @@ use Rattle.gt_policy_check.specs.declared.members.Member.{Member}
 use Rattle.gt_policy_check.proofs.CheckLemmas.{filter_all}
 use Rattle.gt_policy_check.proofs.GrantLemmas.{any_and, any_asked, any_never, any_same, by_names, held}
 use Rattle.gt_neverallow.specs.Breaking.{breaks, breaks_by, breaks_some, breaks_with, broken, broken_by, example_text}
-use Rattle.gt_neverallow.specs.Breaking.{chooses_self, chosen_by, forbids, forbids_source, forbids_target, is_chosen, is_example}
+use Rattle.gt_neverallow.specs.Flowing.{chosen_by}
+use Rattle.gt_neverallow.specs.Breaking.{chooses_self, classes_in, denies, forbids, forbids_source, forbids_target, is_chosen, is_example}
 use Rattle.gt_neverallow.specs.Breaking.{pairs_if, shows_by, shows_some, shows_with, AddsBreaches, AreBroken, AreUnknown, IsBreach, IsBrokenOn, BreachIsShown}
 use Rattle.gt_neverallow.specs.declared.breaking.Breach.{Breach}
-use Rattle.gt_neverallow.specs.declared.statement.Neverallow.{Neverallow}
+use Rattle.gt_neverallow.specs.declared.statement.NeverStatement.{NeverStatement}
 use Rattle.gt_neverallow.specs.declared.statement.TypeChoice.{TypeChoice}
 use Rattle.gt_neverallow.specs.declared.statement.TypeChoice.TheVariants.{But, Every, Of}
 
@@ -43,9 +44,9 @@ chosen xs (Of items) t = held xs t items
 chosen xs (But items) t = ap not (held xs t items)
 
 -- what is forbidden by members is forbidden by names
-forbidden : (xs : List LinedStatement) (w s t : List ℕ) (n : Neverallow) → (forbids_source w (membership_of xs s) n && forbids_target (membership_of xs s) (membership_of xs t) n) ≡ forbids (statements_in xs) s t w n
+forbidden : (xs : List LinedStatement) (w s t : List ℕ) (n : NeverStatement) → (forbids_source w (membership_of xs s) n && forbids_target (membership_of xs s) (membership_of xs t) n) ≡ forbids (statements_in xs) s t w n
 forbidden xs w s t n =
-    ap₂ (λ (a b : Bool). ((has_grant n.classes && lists_word n.perms w) && a) && (b || (chooses_self n.target && bytes_eq s t))) (chosen xs n.source s) (chosen xs n.target t)
+    ap₂ (λ (a b : Bool). (denies n.what w && a) && (b || (chooses_self n.target && bytes_eq s t))) (chosen xs n.source s) (chosen xs n.target t)
 
 -- four tests in the order of the code, and in that of the definitions
 regroup : (a b c d : Bool) → ((a && b) && (c && d)) ≡ ((a && c) && (b && d))
@@ -54,7 +55,7 @@ regroup true false true d = refl
 regroup true false false d = refl
 regroup false b c d = refl
 
-module _ (xs : List LinedStatement) (w : List ℕ) (n : Neverallow) where
+module _ (xs : List LinedStatement) (w : List ℕ) (n : NeverStatement) where
   abbrev types : List (List ℕ)
   types = types_asked xs None
 
@@ -120,51 +121,51 @@ module _ (xs : List LinedStatement) (w : List ℕ) (n : Neverallow) where
         ≡ list_any (λ s. list_any (λ t. Names x s t) (types_in (statements_in xs))) (types_in (statements_in xs))
     shown_named x = shown_asked x ∙ ap (λ (ts : List (List ℕ)). list_any (λ s. list_any (λ t. Names x s t) ts) ts) (filter_all (statements_in xs) (types_in (statements_in xs)))
 
-breaks_same : (xs : List LinedStatement) (n : Neverallow) (x : Statement) → breaks_with (members_of xs None) n x ≡ breaks xs n x
+breaks_same : (xs : List LinedStatement) (n : NeverStatement) (x : Statement) → breaks_with (members_of xs None) n x ≡ breaks xs n x
 breaks_same xs n x =
     any_same (λ p. breaks_some (permission_name p) (members_of xs None) n x)
     (λ p. list_any (λ s. list_any (λ t. statement_grants (statements_in xs) s t (permission_name p) x && forbids (statements_in xs) s t (permission_name p) n) (types_in (statements_in xs))) (types_in (statements_in xs)))
     (λ p. breaks_named xs (permission_name p) n x) every_permission
 
-shown_same : (xs : List LinedStatement) (n : Neverallow) (x : Statement) (text : List ℕ) → shows_with text (members_of xs None) n x ≡ is_example xs n x text
+shown_same : (xs : List LinedStatement) (n : NeverStatement) (x : Statement) (text : List ℕ) → shows_with text (members_of xs None) n x ≡ is_example xs n x text
 shown_same xs n x text =
     any_same (λ p. shows_some text (permission_name p) (members_of xs None) n x)
     (λ p. list_any (λ s. list_any (λ t. (statement_grants (statements_in xs) s t (permission_name p) x && forbids (statements_in xs) s t (permission_name p) n) && bytes_eq text (example_text s (permission_name p) t)) (types_in (statements_in xs))) (types_in (statements_in xs)))
     (λ p. shown_named xs (permission_name p) n text x) every_permission
 
 -- the pairs of statements
-one_pair : (b : Bool) (x : LinedStatement) (n : Neverallow) (ns : List Neverallow) → (pairs_if b x n ++ map (λ m. (x, m)) ns) ≡ map (λ m. (x, m)) (if b then n ∷ ns else ns)
+one_pair : (b : Bool) (x : LinedStatement) (n : NeverStatement) (ns : List NeverStatement) → (pairs_if b x n ++ map (λ m. (x, m)) ns) ≡ map (λ m. (x, m)) (if b then n ∷ ns else ns)
 one_pair true x n ns = refl
 one_pair false x n ns = refl
 
-one_broken : (xs : List LinedStatement) (ns : List Neverallow) (x : LinedStatement) → broken_by (members_of xs None) ns x ≡ map (λ n. (x, n)) (filter (λ n. breaks xs n x.statement) ns)
+one_broken : (xs : List LinedStatement) (ns : List NeverStatement) (x : LinedStatement) → broken_by (members_of xs None) ns x ≡ map (λ n. (x, n)) (filter (λ n. breaks xs n x.statement) ns)
 one_broken xs [] x = refl
 one_broken xs (n ∷ ns) x =
-    ap₂ (λ (b : Bool) (l : List (LinedStatement × Neverallow)). pairs_if b x n ++ l) (breaks_same xs n x.statement) (one_broken xs ns x)
+    ap₂ (λ (b : Bool) (l : List (LinedStatement × NeverStatement)). pairs_if b x n ++ l) (breaks_same xs n x.statement) (one_broken xs ns x)
     ∙ one_pair (breaks xs n x.statement) x n (filter (λ m. breaks xs m x.statement) ns)
 
-all_same : (all : List LinedStatement) (ns : List Neverallow) (xs : List LinedStatement) → flat_map (λ x. broken_by (members_of all None) ns x) xs ≡ flat_map (λ x. map (λ n. (x, n)) (filter (λ n. breaks all n x.statement) ns)) xs
+all_same : (all : List LinedStatement) (ns : List NeverStatement) (xs : List LinedStatement) → flat_map (λ x. broken_by (members_of all None) ns x) xs ≡ flat_map (λ x. map (λ n. (x, n)) (filter (λ n. breaks all n x.statement) ns)) xs
 all_same all ns [] = refl
-all_same all ns (x ∷ xs) = ap₂ (λ (k l : List (LinedStatement × Neverallow)). k ++ l) (one_broken all ns x) (all_same all ns xs)
+all_same all ns (x ∷ xs) = ap₂ (λ (k l : List (LinedStatement × NeverStatement)). k ++ l) (one_broken all ns x) (all_same all ns xs)
 
 -- the breaches of pairs of statements
-all_shown : (xs : List LinedStatement) (pairs : List (LinedStatement × Neverallow)) (found : List Breach) → AllZip (BreachIsShown (members_of xs None)) pairs found → AllZip (IsBreach xs) pairs found
+all_shown : (xs : List LinedStatement) (pairs : List (LinedStatement × NeverStatement)) (found : List Breach) → AllZip (BreachIsShown (members_of xs None)) pairs found → AllZip (IsBreach xs) pairs found
 all_shown xs [] [] shown = shown
 all_shown xs [] (b ∷ found) shown = shown
 all_shown xs (p ∷ pairs) [] shown = shown
 all_shown xs (p ∷ pairs) (b ∷ found) ((one, other, names), shown) =
     ((one, other, sym (shown_same xs p.1 p.0.statement b.example.items) ∙ names), all_shown xs pairs found shown)
 
-pub broken_of : (xs : List LinedStatement) (ns : List Neverallow) (ms : List Member) (found : List Breach) → ms ≡ members_of xs None → AddsBreaches ms (flat_map (λ x. broken_by ms ns x) xs) [] found → AreBroken xs ns found
+pub broken_of : (xs : List LinedStatement) (ns : List NeverStatement) (ms : List Member) (found : List Breach) → ms ≡ members_of xs None → AddsBreaches ms (flat_map (λ x. broken_by ms ns x) xs) [] found → AreBroken xs ns found
 broken_of xs ns ms found same adds = of_members (subst (λ (m : List Member). AddsBreaches m (flat_map (λ x. broken_by m ns x) xs) [] found) same adds)
   where
     of_members : AddsBreaches (members_of xs None) (flat_map (λ x. broken_by (members_of xs None) ns x) xs) [] found → AreBroken xs ns found
     of_members (more, is, shown) =
         subst (λ (l : List Breach). AllZip (IsBreach xs) (broken xs ns) l) (sym is)
-        (subst (λ (ps : List (LinedStatement × Neverallow)). AllZip (IsBreach xs) ps more) (all_same xs ns xs) (all_shown xs (flat_map (λ x. broken_by (members_of xs None) ns x) xs) more shown))
+        (subst (λ (ps : List (LinedStatement × NeverStatement)). AllZip (IsBreach xs) ps more) (all_same xs ns xs) (all_shown xs (flat_map (λ x. broken_by (members_of xs None) ns x) xs) more shown))
 
 -- the items of one more element
-one_more : {X Y : Type 0} (f : X → List Y) (xs : List X) (i : ℕ) (x : X) → i < length xs → x ≡ get_or xs i x → flat_map f (take (i + 1) xs) ≡ flat_map f (take i xs) ++ f x
+pub one_more : {X Y : Type 0} (f : X → List Y) (xs : List X) (i : ℕ) (x : X) → i < length xs → x ≡ get_or xs i x → flat_map f (take (i + 1) xs) ≡ flat_map f (take i xs) ++ f x
 one_more f xs i x within is =
     ap (λ (l : List _). flat_map f l) (take_more xs i x within ∙ ap (λ (y : _). take i xs ++ y ∷ []) (sym is))
     ∙ flat_map-append f (take i xs) (x ∷ []) ∙ ap (λ (l : List _). flat_map f (take i xs) ++ l) (append-nil (f x))
@@ -179,17 +180,17 @@ zip_both R (x ∷ xs) us (y ∷ ys) vs (first, more) zipped = (first, zip_both R
 pub adds_none : (ms : List Member) (old new : List Breach) → new ≡ old → AddsBreaches ms [] old new
 adds_none ms old new same = ([], same ∙ sym (append-nil old), tt)
 
-pub adds_one : (ms : List Member) (x : LinedStatement) (n : Neverallow) (b : Bool) (one : Breach) (old new : List Breach) → b ≡ true → new ≡ old ++ one ∷ [] → BreachIsShown ms (x, n) one → AddsBreaches ms (pairs_if b x n) old new
+pub adds_one : (ms : List Member) (x : LinedStatement) (n : NeverStatement) (b : Bool) (one : Breach) (old new : List Breach) → b ≡ true → new ≡ old ++ one ∷ [] → BreachIsShown ms (x, n) one → AddsBreaches ms (pairs_if b x n) old new
 adds_one ms x n true one old new breaks is shows = (one ∷ [], is, (shows, tt))
 adds_one ms x n false one old new breaks is shows = absurd (true≢false (sym breaks))
 
-pub adds_nothing : (ms : List Member) (x : LinedStatement) (n : Neverallow) (b : Bool) (old new : List Breach) → b ≡ false → new ≡ old → AddsBreaches ms (pairs_if b x n) old new
+pub adds_nothing : (ms : List Member) (x : LinedStatement) (n : NeverStatement) (b : Bool) (old new : List Breach) → b ≡ false → new ≡ old → AddsBreaches ms (pairs_if b x n) old new
 adds_nothing ms x n false old new breaks same = adds_none ms old new same
 adds_nothing ms x n true old new breaks same = absurd (true≢false breaks)
 
-pub adds_both : (ms : List Member) (ps qs all : List (LinedStatement × Neverallow)) (old mid new : List Breach) → all ≡ ps ++ qs → AddsBreaches ms ps old mid → AddsBreaches ms qs mid new → AddsBreaches ms all old new
+pub adds_both : (ms : List Member) (ps qs all : List (LinedStatement × NeverStatement)) (old mid new : List Breach) → all ≡ ps ++ qs → AddsBreaches ms ps old mid → AddsBreaches ms qs mid new → AddsBreaches ms all old new
 adds_both ms ps qs all old mid new is (xs, first, shown) (ys, second, told) =
-    (xs ++ ys, second ∙ ap (λ (l : List Breach). l ++ ys) first ∙ append_assoc old xs ys, subst (λ (l : List (LinedStatement × Neverallow)). AllZip (BreachIsShown ms) l (xs ++ ys)) (sym is) (zip_both (BreachIsShown ms) ps qs xs ys shown told))
+    (xs ++ ys, second ∙ ap (λ (l : List Breach). l ++ ys) first ∙ append_assoc old xs ys, subst (λ (l : List (LinedStatement × NeverStatement)). AllZip (BreachIsShown ms) l (xs ++ ys)) (sym is) (zip_both (BreachIsShown ms) ps qs xs ys shown told))
 
 -- ---- an example
 
@@ -202,23 +203,23 @@ both_true true b one other = other
 both_true false b one other = one
 
 -- the names of a source, a permission and a target on which the statement is broken are an example
-pub shown_by : (text w : List ℕ) (ms : List Member) (n : Neverallow) (a : Allowance) (s t : Member) → IsBrokenOn w ms n a s t → text ≡ example_text s.name w t.name → shows_by text w ms n a s ≡ true
+pub shown_by : (text w : List ℕ) (ms : List Member) (n : NeverStatement) (a : Allowance) (s t : Member) → IsBrokenOn w ms n a s t → text ≡ example_text s.name w t.name → shows_by text w ms n a s ≡ true
 shown_by text w ms n a s t (among, sees, meets) is =
     both_true (gives_source w s a && forbids_source w s n) (list_any (λ u. (reaches_by s u a && forbids_target s u n) && bytes_eq text (example_text s.name w u.name)) ms) sees
     (any_contained (λ u. (reaches_by s u a && forbids_target s u n) && bytes_eq text (example_text s.name w u.name)) ms t among
     (both_true (reaches_by s t a && forbids_target s t n) (bytes_eq text (example_text s.name w t.name)) meets ((bytes_eq-Decides text (example_text s.name w t.name)).1 is)))
 
 -- breaches are added for one more item of a list
-pub adds_more : {X : Type 0} (ms : List Member) (f : X → List (LinedStatement × Neverallow)) (xs : List X) (i : ℕ) (x : X) (old mid new : List Breach) → i < length xs → x ≡ get_or xs i x → AddsBreaches ms (flat_map f (take i xs)) old mid → AddsBreaches ms (f x) mid new
+pub adds_more : {X : Type 0} (ms : List Member) (f : X → List (LinedStatement × NeverStatement)) (xs : List X) (i : ℕ) (x : X) (old mid new : List Breach) → i < length xs → x ≡ get_or xs i x → AddsBreaches ms (flat_map f (take i xs)) old mid → AddsBreaches ms (f x) mid new
     → AddsBreaches ms (flat_map f (take (i + 1) xs)) old new
 adds_more ms f xs i x old mid new within is before added = adds_both ms (flat_map f (take i xs)) (f x) (flat_map f (take (i + 1) xs)) old mid new (one_more f xs i x within is) before added
 
 -- ---- words that nothing knows
 
-pub unknown_more : (text : List ℕ) (ns : List Neverallow) (i : ℕ) (n : Neverallow) (classes : List (List ℕ)) (old new : List Finding) → i < length ns → n ≡ get_or ns i n → classes ≡ n.classes → AreUnknown text (take i ns) old → error_lines new ≡ error_lines old
+pub unknown_more : (text : List ℕ) (ns : List NeverStatement) (i : ℕ) (n : NeverStatement) (classes : List (List ℕ)) (old new : List Finding) → i < length ns → n ≡ get_or ns i n → classes ≡ classes_in n.what → AreUnknown text (take i ns) old → error_lines new ≡ error_lines old
     → class_lines new ≡ class_lines old ++ flat_map (unknown_line n.line) classes → KeepsColumns text old new → AreUnknown text (take (i + 1) ns) new
 unknown_more text ns i n classes old new within is same before quiet told columns = (
-  told ∙ ap₂ (λ (a b : List ℕ). a ++ b) before.0 (ap (λ (l : List (List ℕ)). flat_map (unknown_line n.line) l) same) ∙ sym (one_more (λ m. flat_map (unknown_line m.line) m.classes) ns i n within is),
+  told ∙ ap₂ (λ (a b : List ℕ). a ++ b) before.0 (ap (λ (l : List (List ℕ)). flat_map (unknown_line n.line) l) same) ∙ sym (one_more (λ m. flat_map (unknown_line m.line) (classes_in m.what)) ns i n within is),
   quiet ∙ before.1,
   columns.kept before.2,
 )

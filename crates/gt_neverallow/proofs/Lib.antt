@@ -2,3 +2,4 @@ pub mod BreakingLemmas
 pub mod NamingLemmas
 pub mod PrintingLemmas
 pub mod ReadingLemmas
+mod FlowingLemmas

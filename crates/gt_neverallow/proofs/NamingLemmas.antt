@@ -18,7 +18,7 @@ use Rattle.gt_neverallow.specs.Naming.{ReadsAsNever, is_declared_in, named_with,
 use Rattle.gt_neverallow.specs.Reading.{GivesNeverallows, ReadsTo, parse_fault_in, fault_kind}
 use Rattle.gt_neverallow.specs.declared.fault.ParseError.{ParseError}
 use Rattle.gt_neverallow.specs.declared.fault.ParseError.TheVariants as parse_errors
-use Rattle.gt_neverallow.specs.declared.statement.Neverallow.{Neverallow}
+use Rattle.gt_neverallow.specs.declared.statement.NeverStatement.{NeverStatement}
 
 -- the first name of two lists is that of the first list, or else of the second
 pub found_first : (xs : List LinedStatement) (one rest : List Mention) (m : Mention) → Some m ≡ undeclared xs one → undeclared xs (one ++ rest) ≡ Some m
@@ -28,18 +28,18 @@ pub found_later : (xs : List LinedStatement) (one rest : List Mention) → None 
 found_later xs one rest is = find-append (λ n. not (is_declared_in xs n.name)) one rest ∙ ap (λ (o : Option Mention). option_or o (undeclared xs rest)) (sym is)
 
 -- one statement more
-pub first_at : (xs : List LinedStatement) (ns : List Neverallow) (i : ℕ) (n : Neverallow) → i < length ns → n ≡ get_or ns i n
+pub first_at : (xs : List LinedStatement) (ns : List NeverStatement) (i : ℕ) (n : NeverStatement) → i < length ns → n ≡ get_or ns i n
     → undeclared xs (flat_map mentions_of (drop i ns)) ≡ undeclared xs (mentions_of n ++ flat_map mentions_of (drop (i + 1) ns))
 first_at xs ns i n within is =
-    at_drop_more (λ (l : List Neverallow). undeclared xs (flat_map mentions_of l)) ns i n within
-    ∙ ap (λ (x : Neverallow). undeclared xs (flat_map mentions_of (x ∷ drop (i + 1) ns))) (sym is)
+    at_drop_more (λ (l : List NeverStatement). undeclared xs (flat_map mentions_of l)) ns i n within
+    ∙ ap (λ (x : NeverStatement). undeclared xs (flat_map mentions_of (x ∷ drop (i + 1) ns))) (sym is)
 
 -- what was read of a text
-pub says_read : (xs : List LinedStatement) (text bytes : List ℕ) (ns : List Neverallow) (said : Result (List Neverallow) TokenFault) → bytes ≡ text → length text ≤ 1048576 → GivesNeverallows [] (lexemes_of bytes) (Ok ns)
+pub says_read : (xs : List LinedStatement) (text bytes : List ℕ) (ns : List NeverStatement) (said : Result (List NeverStatement) TokenFault) → bytes ≡ text → length text ≤ 1048576 → GivesNeverallows [] (lexemes_of bytes) (Ok ns)
     → named_with ns (undeclared xs (flat_map mentions_of ns)) ≡ said → ReadsAsNever xs text said
 says_read xs text bytes ns said same few follows is =
     let follows_text : GivesNeverallows [] (lexemes_of text) (Ok ns) = subst (λ (l : List ℕ). GivesNeverallows [] (lexemes_of l) (Ok ns)) same follows in
-    subst (λ (r : Result (List Neverallow) TokenFault). ReadsAsNever xs text r) is (read text ns few follows_text)
+    subst (λ (r : Result (List NeverStatement) TokenFault). ReadsAsNever xs text r) is (read text ns few follows_text)
 
 -- a fault of the text
 of_error : (xs : List LinedStatement) (text : List ℕ) (e : ParseError) (f : TokenFault) → length text ≤ 1048576 → ReadsTo (Err e) (lexemes_of text) → parse_fault_in e ≡ Some f → ReadsAsNever xs text (Err f)
@@ -57,11 +57,11 @@ says_long xs text f long is =
     subst (λ (g : TokenFault). ReadsAsNever xs text (Err g)) same (too_long text long)
 
 -- what was made of the statements says what the text does
-module _ (xs : List LinedStatement) (text : List ℕ) (named : Result (List Neverallow) TokenFault) (says : (said : Result (List Neverallow) TokenFault) → named ≡ said → ReadsAsNever xs text said) where
-  pub named_ok : (r : Result (List Neverallow) PolicyFault) → IfOk r (λ ns. named ≡ Ok ns) → IfOk r (λ ns. ReadsAsNever xs text (Ok ns))
+module _ (xs : List LinedStatement) (text : List ℕ) (named : Result (List NeverStatement) TokenFault) (says : (said : Result (List NeverStatement) TokenFault) → named ≡ said → ReadsAsNever xs text said) where
+  pub named_ok : (r : Result (List NeverStatement) PolicyFault) → IfOk r (λ ns. named ≡ Ok ns) → IfOk r (λ ns. ReadsAsNever xs text (Ok ns))
   named_ok (Ok ns) is = says (Ok ns) is
   named_ok (Err e) is = tt
 
-  pub named_err : (r : Result (List Neverallow) PolicyFault) → IfErr r (λ e. (f : TokenFault) → fault_shown e ≡ Some f → named ≡ Err f) → IfErr r (λ e. (f : TokenFault) → fault_shown e ≡ Some f → ReadsAsNever xs text (Err f))
+  pub named_err : (r : Result (List NeverStatement) PolicyFault) → IfErr r (λ e. (f : TokenFault) → fault_shown e ≡ Some f → named ≡ Err f) → IfErr r (λ e. (f : TokenFault) → fault_shown e ≡ Some f → ReadsAsNever xs text (Err f))
   named_err (Ok ns) is = tt
   named_err (Err e) is = λ f shown. says (Err f) (is f shown)

@@ -1,4 +1,5 @@
 pub mod Breaking
+pub mod Flowing
 pub mod Reading
 pub mod Naming
 pub mod Printing

@@ -17,7 +17,7 @@ use Rattle.gt_policy.specs.declared.statements.Statement.TheVariants.{DeclareTyp
 use Rattle.gt_policy.specs.declared.statements.Statement.TheVariants.{Allow}
 use Rattle.gt_policy_text.specs.Lexing.{lexemes_of}
 use Rattle.gt_neverallow.specs.Reading.{GivesNeverallows}
-use Rattle.gt_neverallow.specs.declared.statement.Neverallow.{Neverallow}
+use Rattle.gt_neverallow.specs.declared.statement.NeverStatement.{NeverStatement}
 use Rattle.gt_neverallow.specs.declared.statement.TypeChoice.{TypeChoice}
 use Rattle.gt_neverallow.specs.declared.statement.TypeChoice.TheVariants.{But, Every, Of}
 
@@ -45,7 +45,7 @@ names_chosen (Of items) = flat_map mentions_in items
 names_chosen (But items) = flat_map mentions_in items
 
 -- the names of the sets of a statement, in the order of the text
-abbrev pub mentions_of : Neverallow → List Mention
+abbrev pub mentions_of : NeverStatement → List Mention
 mentions_of n = names_chosen n.source ++ names_chosen n.target
 
 -- the first of these names that the policy does not declare
@@ -53,15 +53,15 @@ abbrev pub undeclared : List LinedStatement → List Mention → Option Mention
 undeclared xs ms = find (λ m. not (is_declared_in xs m.name)) ms
 
 -- the statements, or the fault of their first name that the policy does not declare
-abbrev pub named_with : List Neverallow → Option Mention → Result (List Neverallow) TokenFault
+abbrev pub named_with : List NeverStatement → Option Mention → Result (List NeverStatement) TokenFault
 named_with ns None = Ok ns
 named_with ns (Some m) = Err (at m.line (Unknown m.name))
 
 -- The meaning of a text for a policy of these statements: neverallow statements, or its first fault. An undeclared name
 -- is a fault only of a text without another fault. (SELinux policy language; faults and the limit own)
-pub data ReadsAsNever (xs : List LinedStatement) : List ℕ → Result (List Neverallow) TokenFault → Type 0 where
+pub data ReadsAsNever (xs : List LinedStatement) : List ℕ → Result (List NeverStatement) TokenFault → Type 0 where
   too_long : (text : List ℕ) → LONGEST_TEXT < length text → ReadsAsNever xs text (Err (at 1 Limit))
-  read : (text : List ℕ) (ns : List Neverallow) → length text ≤ LONGEST_TEXT
+  read : (text : List ℕ) (ns : List NeverStatement) → length text ≤ LONGEST_TEXT
       → GivesNeverallows [] (lexemes_of text) (Ok ns)
       → ReadsAsNever xs text (named_with ns (undeclared xs (flat_map mentions_of ns)))
   faulty : (text : List ℕ) (f : TokenFault) → length text ≤ LONGEST_TEXT → GivesNeverallows [] (lexemes_of text) (Err f)

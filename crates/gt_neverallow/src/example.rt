@@ -6,7 +6,7 @@ ghost use Rattle.gt_neverallow.specs.Breaking.{breaks_by, breaks_on, breaks_some
 ghost use Rattle.gt_neverallow.specs.Breaking.{forbids_target, shows_by, shows_some, shows_with, IsBrokenOn};
 
 use crate::forbidding::{forbids_source, forbids_target};
-use crate::statement::Neverallow;
+use crate::statement::NeverStatement;
 use gt_policy::{Allowance, Statement};
 use gt_policy_check::{Member, gives_source, reaches};
 use gt_text::push_text;
@@ -15,7 +15,7 @@ use std::alloc::{AllocError, Global};
 
 // Returns the first target that an allow statement reaches, and that is forbidden to the source.
 fn target_on<'m, 'a>(
-    never: &Neverallow,
+    never: &NeverStatement,
     allowed: &Allowance,
     source: &Member,
     targets: &'m [Member<'a>],
@@ -34,7 +34,7 @@ fn target_on<'m, 'a>(
 
 // Returns the first target on which an allow statement grants the source the permission though it is forbidden.
 fn target_of<'m, 'a>(
-    never: &Neverallow,
+    never: &NeverStatement,
     allowed: &Allowance,
     source: &Member,
     members: &'m [Member<'a>],
@@ -71,7 +71,7 @@ fn example_text(
 // Returns an example for the source and the permission.
 fn example_by(
     alloc: Global,
-    never: &Neverallow,
+    never: &NeverStatement,
     allowed: &Allowance,
     source: &Member,
     members: &[Member],
@@ -90,7 +90,7 @@ fn example_by(
 // Returns an example for the permission, of the first source that has one.
 fn example_for(
     alloc: Global,
-    never: &Neverallow,
+    never: &NeverStatement,
     allowed: &Allowance,
     members: &[Member],
     perm: &str,
@@ -112,7 +112,7 @@ fn example_for(
 // Returns an example of a statement for the permission.
 fn example_of(
     alloc: Global,
-    never: &Neverallow,
+    never: &NeverStatement,
     statement: &Statement,
     members: &[Member],
     perm: &str,
@@ -132,7 +132,7 @@ fn example_of(
 /// statement.
 pub(crate) fn breach_example(
     alloc: Global,
-    never: &Neverallow,
+    never: &NeverStatement,
     statement: &Statement,
     members: &[Member],
 ) -> Result<Option<Vec<u8>>, AllocError>

@@ -1,18 +1,19 @@
-//! What a `neverallow` statement forbids.
+//! What a `neverallow` or `neverflow` statement forbids.
 ghost use Rattle.std.specs.Prelude.{◌≡◌};
 ghost use Rattle.std.specs.List.{list_any};
 ghost use Rattle.gt_types.specs.Names.{every_permission, permission_name};
 ghost use Rattle.gt_policy.specs.Granting.{lists_word};
-ghost use Rattle.gt_neverallow.specs.Breaking.{chooses_self, chosen_by, first_line, forbids_grants, forbids_source};
-ghost use Rattle.gt_neverallow.specs.Breaking.{forbids_target};
+ghost use Rattle.gt_neverallow.specs.Breaking.{chooses_self, denies, first_line, forbids_some};
+ghost use Rattle.gt_neverallow.specs.Breaking.{forbids_source, forbids_target};
+ghost use Rattle.gt_neverallow.specs.Flowing.{chosen_by};
 
-use crate::statement::{Neverallow, TypeChoice};
+use crate::statement::{Forbidden, NeverStatement, TypeChoice};
 use gt_policy::Permissions;
 use gt_policy_check::{Member, has_grant, has_self, holds, is_same, lists};
 use gt_types::Perms;
 
-// Returns whether a choice of types has the type.
-fn is_chosen(choice: &TypeChoice, member: &Member) -> bool
+/// Returns whether a choice of types has the type.
+pub(crate) fn is_chosen(choice: &TypeChoice, member: &Member) -> bool
     ensures { result ≡ chosen_by choice.now member.now.names }
 {
     match choice {
@@ -33,17 +34,27 @@ fn chooses_self(choice: &TypeChoice) -> bool
     }
 }
 
+// Returns whether a permission of class `grant` is forbidden.
+fn denies(what: &Forbidden, perm: &str) -> bool
+    ensures { result ≡ denies what.now perm.now }
+{
+    match what {
+        Forbidden::Grants { classes, perms } => {
+            has_grant(classes.as_slice()) && lists(perms, perm)
+        }
+        Forbidden::Flow => false,
+    }
+}
+
 // Returns whether the permission is forbidden to the source, on whatever target.
-pub(crate) fn forbids_source(never: &Neverallow, source: &Member, perm: &str) -> bool
+pub(crate) fn forbids_source(never: &NeverStatement, source: &Member, perm: &str) -> bool
     ensures { result ≡ forbids_source perm.now source.now never.now }
 {
-    has_grant(never.classes.as_slice())
-        && lists(&never.perms, perm)
-        && is_chosen(&never.source, source)
+    denies(&never.what, perm) && is_chosen(&never.source, source)
 }
 
 // Returns whether the target is one of those on which the source is forbidden something.
-pub(crate) fn forbids_target(never: &Neverallow, source: &Member, target: &Member) -> bool
+pub(crate) fn forbids_target(never: &NeverStatement, source: &Member, target: &Member) -> bool
     ensures { result ≡ forbids_target source.now target.now never.now }
 {
     is_chosen(&never.target, target)
@@ -62,20 +73,22 @@ fn lists_some(perms: &Permissions) -> bool
     false
 }
 
-// Returns whether a statement forbids permissions of class `grant`.
-fn forbids_grants(never: &Neverallow) -> bool
-    ensures { result ≡ forbids_grants never.now }
+// Returns whether a statement forbids permissions of class `grant`, or flows.
+fn forbids_some(never: &NeverStatement) -> bool
+    ensures { result ≡ forbids_some never.now }
 {
-    let classes = never.classes.as_slice();
-    has_grant(classes) && lists_some(&never.perms)
+    match &never.what {
+        Forbidden::Grants { classes, perms } => has_grant(classes.as_slice()) && lists_some(perms),
+        Forbidden::Flow => true,
+    }
 }
 
-/// Returns whether some statement forbids permissions of class `grant`.
-pub(crate) fn some_forbids(nevers: &[Neverallow]) -> bool
-    ensures { result ≡ list_any forbids_grants nevers.now }
+/// Returns whether some statement forbids permissions of class `grant`, or flows.
+pub(crate) fn some_forbids(nevers: &[NeverStatement]) -> bool
+    ensures { result ≡ list_any forbids_some nevers.now }
 {
     'nevers: for never in nevers {
-        if forbids_grants(never) {
+        if forbids_some(never) {
             return true;
         }
     }
@@ -83,7 +96,7 @@ pub(crate) fn some_forbids(nevers: &[Neverallow]) -> bool
 }
 
 /// Returns the line of the first statement; 1 if there is none.
-pub(crate) fn first_line(nevers: &[Neverallow]) -> u32
+pub(crate) fn first_line(nevers: &[NeverStatement]) -> u32
     ensures { result ≡ first_line nevers.now }
 {
     match nevers {

@@ -17,6 +17,7 @@
 mod breaking;
 mod example;
 mod fault;
+mod flowing;
 mod forbidding;
 mod names;
 mod parser;
@@ -27,5 +28,6 @@ mod words;
 
 pub use breaking::{Breach, NeverFindings, breaches};
 pub use fault::NeverFault;
+pub use flowing::FlowBreach;
 pub use printing::{BrokenTexts, push_never_findings};
-pub use statement::{Neverallow, TypeChoice};
+pub use statement::{Forbidden, NeverStatement, TypeChoice};

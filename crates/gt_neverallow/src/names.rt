@@ -5,7 +5,7 @@ ghost use Rattle.std.specs.Option.{option_map};
 ghost use Rattle.gt_neverallow.specs.Naming.{declares, is_declared_in, names_chosen, mentions_in, mentions_of};
 ghost use Rattle.gt_neverallow.specs.Naming.{undeclared as first_undeclared};
 
-use crate::statement::{Neverallow, TypeChoice};
+use crate::statement::{NeverStatement, TypeChoice};
 use gt_policy::{LinedStatement, Mention, SetElement, Statement, TextPiece};
 use gt_policy_check::is_same;
 
@@ -87,7 +87,7 @@ fn undeclared_choice<'s, 'a>(
 
 fn undeclared_of<'s, 'a>(
     statements: &[LinedStatement],
-    never: &'s Neverallow<'a>,
+    never: &'s NeverStatement<'a>,
 ) -> Option<&'s Mention<'a>>
     ensures { option_map (λ m. m.now) result ≡ first_undeclared statements.now (mentions_of never.entry.now) }
 {
@@ -100,7 +100,7 @@ fn undeclared_of<'s, 'a>(
 /// Returns the first name of `neverallow` statements that the policy of these statements does not declare.
 pub(crate) fn undeclared<'s, 'a>(
     statements: &[LinedStatement],
-    nevers: &'s [Neverallow<'a>],
+    nevers: &'s [NeverStatement<'a>],
 ) -> Option<&'s Mention<'a>>
     ensures { option_map (λ m. m.now) result ≡ first_undeclared statements.now (flat_map mentions_of nevers.entry.now) }
 {

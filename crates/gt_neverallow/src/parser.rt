@@ -1,14 +1,15 @@
-//! The parser of `neverallow` statements.
+//! The parser of `neverallow` and `neverflow` statements.
 ghost use Rattle.std.specs.Prelude.{◌≡◌, ◌∷◌, ◌<◌, ◌≤◌, length, IfOk, IsSome, false, Some};
 ghost use Rattle.gt_policy.specs.Grammar.{at, classes_in_braces, classes_of, is_grant, is_grant_alone};
 ghost use Rattle.gt_policy.specs.Grammar.{is_refused_word, colon, misfit, misfit_name, perms_in_braces, perms_of};
 ghost use Rattle.gt_policy.specs.Grammar.{semicolon, set_in_braces, set_of, type_name};
 ghost use Rattle.gt_neverallow.specs.Reading.{Reads, ReadsNext, ReadsNothing, ReadsTo, parse_fault_in, fault_kind};
-ghost use Rattle.gt_neverallow.specs.Reading.{begins_statement, misfit_statement, never_statement, next_statement};
+ghost use Rattle.gt_neverallow.specs.Reading.{begins_flow, begins_statement, flow_statement, misfit_statement};
+ghost use Rattle.gt_neverallow.specs.Reading.{never_statement, next_statement};
 ghost use Rattle.gt_neverallow.specs.Reading.{types_of};
 
 use crate::fault::{ParseError, TokenKind};
-use crate::statement::{Neverallow, TypeChoice};
+use crate::statement::{Forbidden, NeverStatement, TypeChoice};
 use gt_policy::{Items, Mention, Permissions, SetElement, TextPiece};
 use gt_policy_text::{Lexeme, Lexer, Token, is_text};
 use gt_types::Perms;
@@ -302,13 +303,13 @@ fn perms<'a>(
     Ok(Permissions::Named(perms))
 }
 
-// Parses a statement whose first word is on this line, after that word.
+// Parses a statement `neverallow` whose first word is on this line, after that word.
 #[tactic(auto, unfolding(crate::specs::Reading::never_statement))]
 fn statement<'a>(
     lexer: &mut Lexer<'a>,
     alloc: Global,
     line: u32,
-) -> Result<Neverallow<'a>, ParseError<'a>>
+) -> Result<NeverStatement<'a>, ParseError<'a>>
     ensures value { Reads result lexer.new (never_statement line lexer.old) }
     ensures shorter { length lexer.new ≤ length lexer.old }
 {
@@ -318,12 +319,32 @@ fn statement<'a>(
     let classes = classes(lexer, alloc)?;
     let perms = perms(lexer, alloc, is_grant_alone(classes.as_slice()))?;
     semicolon(lexer)?;
-    Ok(Neverallow {
+    Ok(NeverStatement {
         line,
         source,
         target,
-        classes,
-        perms,
+        what: Forbidden::Grants { classes, perms },
+    })
+}
+
+// Parses a statement `neverflow` whose first word is on this line, after that word.
+#[tactic(auto, unfolding(crate::specs::Reading::flow_statement))]
+fn flow_statement<'a>(
+    lexer: &mut Lexer<'a>,
+    alloc: Global,
+    line: u32,
+) -> Result<NeverStatement<'a>, ParseError<'a>>
+    ensures value { Reads result lexer.new (flow_statement line lexer.old) }
+    ensures shorter { length lexer.new ≤ length lexer.old }
+{
+    let source = types(lexer, alloc, false)?;
+    let target = types(lexer, alloc, false)?;
+    semicolon(lexer)?;
+    Ok(NeverStatement {
+        line,
+        source,
+        target,
+        what: Forbidden::Flow,
     })
 }
 
@@ -337,12 +358,22 @@ fn is_neverallow(token: &Token) -> bool
     }
 }
 
+// Returns whether a token is the word `neverflow`.
+fn is_neverflow(token: &Token) -> bool
+    ensures { result ≡ begins_flow token.now }
+{
+    match token {
+        Token::Name(name) => is_text(name.as_bytes(), b"neverflow"),
+        _ => false,
+    }
+}
+
 // Parses the next statement, or returns None at the end of the text.
 #[tactic(auto, unfolding(crate::specs::Reading::next_statement))]
 fn next_statement<'a>(
     lexer: &mut Lexer<'a>,
     alloc: Global,
-) -> Result<Option<Neverallow<'a>>, ParseError<'a>>
+) -> Result<Option<NeverStatement<'a>>, ParseError<'a>>
     ensures value { ReadsNext result lexer.new (next_statement lexer.old) }
     ensures shorter { IfOk result (λ s. IsSome s → length lexer.new < length lexer.old) }
 {
@@ -350,17 +381,20 @@ fn next_statement<'a>(
     if let Token::End = token {
         return Ok(None);
     }
-    if !is_neverallow(&token) {
-        return Err(fault_at(line, misfit_statement(token)));
+    if is_neverallow(&token) {
+        return Ok(Some(statement(lexer, alloc, line)?));
     }
-    Ok(Some(statement(lexer, alloc, line)?))
+    if is_neverflow(&token) {
+        return Ok(Some(flow_statement(lexer, alloc, line)?));
+    }
+    Err(fault_at(line, misfit_statement(token)))
 }
 
 /// Parses the statements that are left.
 pub(crate) fn statements<'a>(
     lexer: &mut Lexer<'a>,
     alloc: Global,
-) -> Result<Items<Neverallow<'a>>, ParseError<'a>>
+) -> Result<Items<NeverStatement<'a>>, ParseError<'a>>
     ensures { ReadsTo result lexer.old }
 {
     let mut read = Items::new(alloc);

@@ -1,10 +1,12 @@
-//! Prints breaches: each as an error at the allow statement, with a note at the `neverallow` statement.
+//! Prints breaches: of a `neverallow` statement as an error at the allow statement, with a note at the `neverallow`
+//! statement, and of a `neverflow` statement as an error at that.
 ghost use Rattle.std.specs.Prelude.{◌∷◌, [], IfOk, OnOk};
 ghost use Rattle.gt_policy_check.specs.Report.{AddsText, IsReport};
 ghost use Rattle.gt_neverallow.specs.Printing.{IsBreachError, IsBreachNote, IsBreachReport, IsBreachText};
-ghost use Rattle.gt_neverallow.specs.Printing.{IsNeverReport};
+ghost use Rattle.gt_neverallow.specs.Printing.{IsFlowBreachReport, IsFlowError, IsFlowText, IsNeverReport};
 
 use crate::breaking::{Breach, NeverFindings};
+use crate::flowing::FlowBreach;
 use gt_policy_check::{Finding, FindingKind, ReportForm, column_on, push_findings};
 use gt_text::push_text;
 use std::alloc::{AllocError, Global};
@@ -96,8 +98,60 @@ fn push_breaches(
     Ok(())
 }
 
-/// Appends what was found, in this form: the words that nothing knows, and then the breaches, each as an error at the
-/// allow statement and a note at the `neverallow` statement. After an Err, part of it may have been appended.
+// Makes the error at a `neverflow` statement.
+fn flow_error_of(alloc: Global, never: &str, breach: &FlowBreach) -> Result<Finding, AllocError>
+    ensures { IfOk result (λ x. IsFlowError never.now breach.now x) }
+{
+    let mut message = Vec::new(alloc);
+    push_text(&mut message, "the policy lets bytes flow ")?;
+    message.extend_from_slice(breach.path.as_slice())?;
+    push_text(&mut message, ", which this statement forbids")?;
+    let kind = FindingKind::Fault;
+    let line = breach.forbidden;
+    let column = column_on(alloc, never, line, "neverflow")?;
+    Ok(Finding {
+        kind,
+        line,
+        column,
+        message,
+    })
+}
+
+// Appends a breach of a `neverflow` statement: its error.
+fn push_flow_breach(
+    alloc: Global,
+    out: &mut Vec<u8>,
+    form: ReportForm,
+    texts: &BrokenTexts,
+    breach: &FlowBreach,
+) -> Result<(), AllocError>
+    ensures { OnOk result (AddsText (IsFlowText form texts.now.never_file.now texts.now.never.now breach.now)
+        out.old.items out.new.items) }
+{
+    let error = flow_error_of(alloc, texts.never, breach)?;
+    push_finding(out, form, texts.never_file, texts.never, error)
+}
+
+// Appends the breaches of `neverflow` statements.
+fn push_flow_breaches(
+    alloc: Global,
+    out: &mut Vec<u8>,
+    form: ReportForm,
+    texts: &BrokenTexts,
+    found: &[FlowBreach],
+) -> Result<(), AllocError>
+    ensures { OnOk result (AddsText (IsFlowBreachReport form texts.now.never_file.now texts.now.never.now found.now)
+        out.old.items out.new.items) }
+{
+    'found: for breach in found {
+        push_flow_breach(alloc, out, form, texts, breach)?;
+    }
+    Ok(())
+}
+
+/// Appends what was found, in this form: the words that nothing knows, then the breaches of `neverallow` statements,
+/// each as an error at the allow statement and a note at the `neverallow` statement, and then those of `neverflow`
+/// statements, each as an error at that statement. After an Err, part of it may have been appended.
 pub fn push_never_findings(
     alloc: Global,
     out: &mut Vec<u8>,
@@ -115,5 +169,6 @@ pub fn push_never_findings(
         texts.never,
         found.words.as_slice(),
     )?;
-    push_breaches(alloc, out, form, texts, found.breaches.as_slice())
+    push_breaches(alloc, out, form, texts, found.breaches.as_slice())?;
+    push_flow_breaches(alloc, out, form, texts, found.flows.as_slice())
 }

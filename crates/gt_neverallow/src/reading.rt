@@ -10,13 +10,13 @@ ghost use Rattle.std.specs.List.{flat_map};
 use crate::fault::{ParseError, TokenKind, fault_of};
 use crate::names::undeclared;
 use crate::parser::statements;
-use crate::statement::Neverallow;
+use crate::statement::NeverStatement;
 use gt_policy::{Items, LinedStatement, PolicyFault, PolicyFaultKind};
 use gt_policy_text::Lexer;
 use gt_types::LONGEST_TEXT;
 use std::alloc::Global;
 
-fn parsed<'a>(alloc: Global, text: &'a [u8]) -> Result<Items<Neverallow<'a>>, ParseError<'a>>
+fn parsed<'a>(alloc: Global, text: &'a [u8]) -> Result<Items<NeverStatement<'a>>, ParseError<'a>>
     requires { length text.now ≤ LONGEST_TEXT }
     ensures { ReadsTo result (lexemes_of text.entry.now) }
 {
@@ -28,7 +28,7 @@ fn parsed<'a>(alloc: Global, text: &'a [u8]) -> Result<Items<Neverallow<'a>>, Pa
 fn fault_of_name(
     alloc: Global,
     policy: &[LinedStatement],
-    nevers: &[Neverallow],
+    nevers: &[NeverStatement],
 ) -> Option<PolicyFault>
     ensures none { result ≡ None → undeclared policy.now (flat_map mentions_of nevers.now) ≡ None }
     ensures fault { IfSome result (λ e. (f : TokenFault) → fault_shown e ≡ Some f →
@@ -44,8 +44,8 @@ fn fault_of_name(
 fn named<'a>(
     alloc: Global,
     policy: &[LinedStatement],
-    nevers: Items<Neverallow<'a>>,
-) -> Result<Items<Neverallow<'a>>, PolicyFault>
+    nevers: Items<NeverStatement<'a>>,
+) -> Result<Items<NeverStatement<'a>>, PolicyFault>
     ensures ok { IfOk result (λ ns.
         named_with nevers.entry (undeclared policy.now (flat_map mentions_of nevers.entry)) ≡ Ok ns) }
     ensures fault { IfErr result (λ e. (f : TokenFault) → fault_shown e ≡ Some f →
@@ -64,7 +64,7 @@ pub(crate) fn read_nevers<'a>(
     alloc: Global,
     policy: &[LinedStatement],
     text: &'a str,
-) -> Result<Items<Neverallow<'a>>, PolicyFault>
+) -> Result<Items<NeverStatement<'a>>, PolicyFault>
     ensures ok { IfOk result (λ ns. ReadsAsNever policy.now text.entry.now (Ok ns)) }
     ensures fault { IfErr result (λ e. (f : TokenFault) → fault_shown e ≡ Some f →
         ReadsAsNever policy.now text.entry.now (Err f)) }

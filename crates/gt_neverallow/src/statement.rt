@@ -1,4 +1,4 @@
-//! A `neverallow` statement, as it is written.
+//! A `neverallow` or `neverflow` statement, as it is written.
 use gt_policy::{Items, Permissions, SetElement, TextPiece};
 
 /// The types of a source or a target.
@@ -12,12 +12,23 @@ pub enum TypeChoice<'a> {
     But(Items<SetElement<'a>>),
 }
 
-/// A `neverallow` statement, with the line of its first token, counted from 1.
+/// What a statement forbids its sources on its targets.
 #[derive(Drop)]
-pub struct Neverallow<'a> {
+pub enum Forbidden<'a> {
+    /// `neverallow`: permissions of classes.
+    Grants {
+        classes: Items<TextPiece<'a>>,
+        perms: Permissions<'a>,
+    },
+    /// `neverflow`: that bytes of a source reach a target.
+    Flow,
+}
+
+/// A `neverallow` or `neverflow` statement, with the line of its first token, counted from 1.
+#[derive(Drop)]
+pub struct NeverStatement<'a> {
     pub line: u32,
     pub source: TypeChoice<'a>,
     pub target: TypeChoice<'a>,
-    pub classes: Items<TextPiece<'a>>,
-    pub perms: Permissions<'a>,
+    pub what: Forbidden<'a>,
 }

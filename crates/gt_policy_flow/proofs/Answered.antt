@@ -8,7 +8,7 @@ use Rattle.gt_policy_flow.specs.Asking.{flow_answer}
 use Rattle.gt_policy_flow.specs.declared.asking.FlowQuestion.{FlowQuestion}
 use Rattle.gt_policy_flow.specs.declared.asking.FlowReport.{FlowReport}
 use Rattle.gt_policy_flow.specs.declared.fault.FlowFault.{FlowFault}
-use Rattle.gt_policy_flow.specs.declared.fault.FlowFault.TheVariants.{NoSource, NoTarget, NoTrusted, Text}
+use Rattle.gt_policy_flow.specs.declared.fault.FlowFault.TheVariants.{NoBlock, NoSource, NoTarget, NoTrusted, Text}
 use Rattle.gt_policy_list.specs.Faults.{listing_fault_of, listing_read_fault}
 use Rattle.gt_policy_list.specs.Reading.{IsNoText}
 use Rattle.gt_policy_list.specs.declared.fault.ListingFault.{ListingFault}
@@ -36,7 +36,8 @@ flow-lines text lines q report has old new (Ok answer) same is (of, went) = (
 )
 flow-lines text lines q report has old new (Err NoSource) same is w = absurd w
 flow-lines text lines q report has old new (Err NoTarget) same is w = absurd w
-flow-lines text lines q report has old new (Err NoTrusted) same is w = absurd w
+flow-lines text lines q report has old new (Err (NoTrusted place)) same is w = absurd w
+flow-lines text lines q report has old new (Err NoBlock) same is w = absurd w
 flow-lines text lines q report has old new (Err (Text listing_faults.Write)) same is w =
     (has, report, is, subst (λ (l : List ℕ). AppendsBeginning old new l) same w)
 flow-lines text lines q report has old new (Err (Text listing_faults.Memory)) same is w = absurd w
@@ -68,7 +69,8 @@ answered-from : (bytes : List ℕ) (q : FlowQuestion) (old new : Option (List �
 answered-from bytes q old new (Ok answer) utf8 c = (utf8, c)
 answered-from bytes q old new (Err NoSource) utf8 c = (utf8, c)
 answered-from bytes q old new (Err NoTarget) utf8 c = (utf8, c)
-answered-from bytes q old new (Err NoTrusted) utf8 c = (utf8, c)
+answered-from bytes q old new (Err (NoTrusted place)) utf8 c = (utf8, c)
+answered-from bytes q old new (Err NoBlock) utf8 c = absurd c
 answered-from bytes q old new (Err (Text listing_faults.Write)) utf8 c = (utf8, c)
 answered-from bytes q old new (Err (Text listing_faults.Memory)) utf8 c = c
 answered-from bytes q old new (Err (Text listing_faults.Read)) utf8 c = absurd c

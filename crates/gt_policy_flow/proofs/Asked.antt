@@ -1,5 +1,5 @@
--- The types that are asked for, one after another.
-use Rattle.std.proofs.Common.{◌≡◌, ℕ, suc, ◌+◌, true, false, List, [], ◌∷◌, ◌++◌, Option, ap, sym, ◌∙◌, arith}
+-- The types that are asked for, one after another, and pieces of text.
+use Rattle.std.proofs.Common.{◌≡◌, ℕ, suc, ◌+◌, true, false, List, [], ◌∷◌, ◌++◌, Option, ap, sym, ◌∙◌, append_assoc, arith}
 use Rattle.std.proofs.lemmas.List.{append-nil}
 use Rattle.gt_types.specs.declared.TypeId.{TypeId}
 use Rattle.gt_policy_check.specs.declared.members.Member.{Member}
@@ -23,3 +23,10 @@ module _ (members : List Member) (asked : Option (List ℕ)) where
       → ids ≡ ids_asked members asked (n + 1)
   ids-no n ids h t = h ∙ sym (append-nil (ids_asked members asked n))
       ∙ ap (λ b. ids_asked members asked n ++ id_if b n) (sym t) ∙ sym (one-more n)
+
+-- three pieces of text, one after another
+pub three-pieces : (old one two three first second new : List ℕ) → first ≡ old ++ one → second ≡ first ++ two
+    → new ≡ second ++ three → new ≡ old ++ ((one ++ two) ++ three)
+three-pieces old one two three first second new a b e =
+    e ∙ ap (λ (l : List ℕ). l ++ three) (b ∙ ap (λ (l : List ℕ). l ++ two) a ∙ append_assoc old one two)
+    ∙ append_assoc old (one ++ two) three

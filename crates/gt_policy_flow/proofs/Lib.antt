@@ -1,5 +1,6 @@
 pub mod Answered
 pub mod Asked
+pub mod Reported
 pub mod Flowing
 pub mod Meant
 pub mod Pairing

@@ -14,7 +14,7 @@ use Rattle.gt_policy_flow.specs.declared.asking.FlowAnswer.TheVariants as flow_a
 use Rattle.gt_policy_flow.specs.declared.asking.FlowQuestion.{FlowQuestion}
 use Rattle.gt_policy_flow.specs.declared.asking.FlowReport.{FlowReport}
 use Rattle.gt_policy_flow.specs.declared.fault.FlowFault.{FlowFault}
-use Rattle.gt_policy_flow.specs.declared.fault.FlowFault.TheVariants.{NoSource, NoTarget, NoTrusted, Text}
+use Rattle.gt_policy_flow.specs.declared.fault.FlowFault.TheVariants.{NoBlock, NoSource, NoTarget, NoTrusted, Text}
 
 -- the policy of the text has this answer to the question
 abbrev pub PolicyHasAnswer : List ℕ → FlowQuestion → FlowAnswer → FlowReport → Type 0
@@ -25,7 +25,8 @@ abbrev pub WritesFlow : List ℕ → Bool → Option (List ℕ) → Option (List
 WritesFlow lines has old new (Ok answer) = (answer ≡ has) × Appends old new lines
 WritesFlow lines has old new (Err NoSource) = ⊥
 WritesFlow lines has old new (Err NoTarget) = ⊥
-WritesFlow lines has old new (Err NoTrusted) = ⊥
+WritesFlow lines has old new (Err (NoTrusted place)) = ⊥
+WritesFlow lines has old new (Err NoBlock) = ⊥
 WritesFlow lines has old new (Err (Text Write)) = AppendsBeginning old new lines
 WritesFlow lines has old new (Err (Text Memory)) = ⊥
 WritesFlow lines has old new (Err (Text Read)) = ⊥
@@ -41,8 +42,9 @@ FlowsOf q text old new (Err NoSource) =
     ((report : FlowReport) × PolicyHasAnswer text q flow_answers.NoSource report) × Keeps old new
 FlowsOf q text old new (Err NoTarget) =
     ((report : FlowReport) × PolicyHasAnswer text q flow_answers.NoTarget report) × Keeps old new
-FlowsOf q text old new (Err NoTrusted) =
-    ((report : FlowReport) × PolicyHasAnswer text q flow_answers.NoTrusted report) × Keeps old new
+FlowsOf q text old new (Err (NoTrusted place)) =
+    ((report : FlowReport) × PolicyHasAnswer text q (flow_answers.NoTrusted place) report) × Keeps old new
+FlowsOf q text old new (Err NoBlock) = ⊥
 FlowsOf q text old new (Err (Text Write)) =
     (has : Bool) × (report : FlowReport) × PolicyHasAnswer text q (flow_answer has) report
     × AppendsBeginning old new report.lines.items
@@ -57,7 +59,8 @@ abbrev pub Flowed : FlowQuestion → List ℕ → Option (List ℕ) → Option (
 Flowed q bytes old new (Ok has) = IsUtf8 bytes × FlowsOf q bytes old new (Ok has)
 Flowed q bytes old new (Err NoSource) = IsUtf8 bytes × FlowsOf q bytes old new (Err NoSource)
 Flowed q bytes old new (Err NoTarget) = IsUtf8 bytes × FlowsOf q bytes old new (Err NoTarget)
-Flowed q bytes old new (Err NoTrusted) = IsUtf8 bytes × FlowsOf q bytes old new (Err NoTrusted)
+Flowed q bytes old new (Err (NoTrusted place)) = IsUtf8 bytes × FlowsOf q bytes old new (Err (NoTrusted place))
+Flowed q bytes old new (Err NoBlock) = ⊥
 Flowed q bytes old new (Err (Text Write)) = IsUtf8 bytes × FlowsOf q bytes old new (Err (Text Write))
 Flowed q bytes old new (Err (Text Memory)) = Keeps old new
 Flowed q bytes old new (Err (Text Read)) = Keeps old new

@@ -1,7 +1,7 @@
 -- A question about a policy text, and its answer.
-use Rattle.std.specs.Prelude.{◌≡◌, ℕ, zero, suc, ◌==◌, ◌&&◌, not, Bool, true, false, List, [], ◌∷◌, ◌++◌, length, map}
+use Rattle.std.specs.Prelude.{◌≡◌, ◌+◌, ℕ, zero, suc, ◌==◌, ◌&&◌, Bool, true, false, List, [], ◌∷◌, ◌++◌, length}
 use Rattle.std.specs.Prelude.{Option, Some, None, is_some, if◌then◌else◌, Ok}
-use Rattle.std.specs.List.{flat_map, list_all, slice_get, slice_split}
+use Rattle.std.specs.List.{flat_map, slice_get, slice_split}
 use Rattle.std.specs.Option.{option_map}
 use Rattle.gt_types.specs.declared.TypeId.{TypeId}
 use Rattle.gt_flow.specs.Flow.{FlowPolicy}
@@ -17,6 +17,7 @@ use Rattle.gt_policy_flow.specs.declared.asking.FlowAnswer.{FlowAnswer}
 use Rattle.gt_policy_flow.specs.declared.asking.FlowAnswer.TheVariants as flow_answers
 use Rattle.gt_policy_flow.specs.declared.asking.FlowQuestion.{FlowQuestion}
 use Rattle.gt_policy_flow.specs.declared.asking.FlowReport.{FlowReport}
+use Rattle.gt_policy_flow.specs.declared.format.FlowFormat.{FlowFormat}
 use Rattle.gt_policy_flow.specs.declared.pairs.PairForm.{PairForm}
 use Rattle.gt_policy_flow.specs.declared.pairs.PairForm.TheVariants as pair_forms
 
@@ -47,9 +48,12 @@ names_in (Some text) = slice_split (λ b. b == 44) text
 abbrev pub trusted_by : List Member → ℕ → List (List ℕ) → List TypeId
 trusted_by members count names = flat_map (λ n. ids_asked members (Some n) count) names
 
--- each of these names is that of some type
-abbrev pub are_known : List Member → ℕ → List (List ℕ) → Bool
-are_known members count names = list_all (λ n. not (length (ids_asked members (Some n) count) == 0)) names
+-- the place of the first of these names that is not that of some type
+abbrev pub unknown_place : List Member → ℕ → List (List ℕ) → Option ℕ
+unknown_place members count [] = None
+unknown_place members count (name ∷ names) =
+    if length (ids_asked members (Some name) count) == 0 then Some 0
+    else option_map (λ n. n + 1) (unknown_place members count names)
 
 -- the form of the answers: for one source and one target that are asked for, for several pairs, or for what is reached
 abbrev pub form_of : Bool → ℕ → ℕ → PairForm
@@ -62,10 +66,10 @@ flow_answer true = flow_answers.Path
 flow_answer false = flow_answers.NoPath
 
 -- the lines are those of all pairs, and the answer is whether one of them has a path
-abbrev pub Reports : FlowPolicy → (TypeId → Bool) → List LinedStatement → List Member → PairForm → List TypeId
-    → List TypeId → FlowReport → Type 0
-Reports may trusted xs members form sources targets report =
-    (has : Bool) × AnswersAll may trusted xs members form targets sources report.lines.items has
+abbrev pub Reports : FlowFormat → FlowPolicy → (TypeId → Bool) → List LinedStatement → List Member → PairForm
+    → List TypeId → List TypeId → FlowReport → Type 0
+Reports format may trusted xs members form sources targets report =
+    (has : Bool) × AnswersAll format may trusted xs members form targets sources report.lines.items has
     × (report.answer ≡ flow_answer has)
 
 -- an answer without lines
@@ -73,11 +77,11 @@ abbrev pub IsBare : FlowAnswer → FlowReport → Type 0
 IsBare answer report = (report.answer ≡ answer) × (report.lines.items ≡ [])
 
 -- some name is not that of a type, of the trusted ones, the source or the target, in this order; or all are
-abbrev pub ReportsBy : Bool → ℕ → ℕ → (FlowReport → Type 0) → FlowReport → Type 0
-ReportsBy false sources targets Answered report = IsBare flow_answers.NoTrusted report
-ReportsBy true zero targets Answered report = IsBare flow_answers.NoSource report
-ReportsBy true (suc n) zero Answered report = IsBare flow_answers.NoTarget report
-ReportsBy true (suc n) (suc k) Answered report = Answered report
+abbrev pub ReportsBy : Option ℕ → ℕ → ℕ → (FlowReport → Type 0) → FlowReport → Type 0
+ReportsBy (Some place) sources targets Answered report = IsBare (flow_answers.NoTrusted place) report
+ReportsBy None zero targets Answered report = IsBare flow_answers.NoSource report
+ReportsBy None (suc n) zero Answered report = IsBare flow_answers.NoTarget report
+ReportsBy None (suc n) (suc k) Answered report = Answered report
 
 -- the answer to a question, for a policy with this number of types
 abbrev pub IsFlowReport : FlowPolicy → ℕ → List LinedStatement → FlowQuestion → FlowReport → Type 0
@@ -86,8 +90,8 @@ IsFlowReport may count xs q report =
     let sources = ids_asked members (option_map (λ a. a.now) q.source) count in
     let targets = ids_asked members (option_map (λ a. a.now) q.target) count in
     let names = names_in (option_map (λ t. t.now) q.trusted) in
-    ReportsBy (are_known members count names) (length sources) (length targets)
-    (Reports may (is_among (trusted_by members count names)) xs members
+    ReportsBy (unknown_place members count names) (length sources) (length targets)
+    (Reports q.format may (is_among (trusted_by members count names)) xs members
     (form_of (is_some q.source && is_some q.target) (length sources) (length targets)) sources targets) report
 
 -- what the types of a policy may do, by their numbers

@@ -8,4 +8,5 @@ abbrev pub flow_fault_text : FlowFault → List ℕ
 flow_fault_text (flow_faults.Text fault) = listing_fault_text fault
 flow_fault_text flow_faults.NoSource = codes "the source is not a type of the policy"
 flow_fault_text flow_faults.NoTarget = codes "the target is not a type of the policy"
-flow_fault_text flow_faults.NoTrusted = codes "a trusted type is not a type of the policy"
+flow_fault_text (flow_faults.NoTrusted place) = codes "a trusted type is not a type of the policy"
+flow_fault_text flow_faults.NoBlock = codes "the script has no policy block"

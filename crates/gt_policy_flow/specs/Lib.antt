@@ -1,3 +1,4 @@
+pub mod Format
 pub mod Flows
 pub mod Paths
 pub mod Laws

@@ -1,12 +1,13 @@
 -- The answers for pairs of types.
-use Rattle.std.specs.Prelude.{◌≡◌, ℕ, ◌==◌, ◌||◌, Bool, true, false, List, [], ◌∷◌, ◌++◌, codes, decimal, length}
+use Rattle.std.specs.Prelude.{◌≡◌, ℕ, ◌==◌, ◌||◌, Bool, true, false, List, [], ◌∷◌, ◌++◌, length}
 use Rattle.std.specs.Prelude.{Option, Some, None, is_some, Result, Ok, Err}
 use Rattle.gt_types.specs.declared.TypeId.{TypeId}
 use Rattle.gt_flow.specs.Flow.{FlowPolicy}
 use Rattle.gt_policy.specs.declared.lined.LinedStatement.{LinedStatement}
 use Rattle.gt_policy_check.specs.declared.members.Member.{Member}
 use Rattle.gt_policy_flow.specs.Paths.{HasPath}
-use Rattle.gt_policy_flow.specs.Steps.{type_pair_text, path_text}
+use Rattle.gt_policy_flow.specs.Steps.{accesses_text, no_path_text, path_text, type_pair_text}
+use Rattle.gt_policy_flow.specs.declared.format.FlowFormat.{FlowFormat}
 use Rattle.gt_policy_flow.specs.declared.pairs.PairForm.{PairForm}
 use Rattle.gt_policy_flow.specs.declared.pairs.PairForm.TheVariants.{Steps, Pairs, Reached}
 
@@ -16,24 +17,25 @@ leaves_out Steps source target = false
 leaves_out Pairs source target = source.0 == target.0
 leaves_out Reached source target = source.0 == target.0
 
-module _ (may : FlowPolicy) (trusted : TypeId → Bool) (xs : List LinedStatement) (members : List Member) where
+module _ (format : FlowFormat) (may : FlowPolicy) (trusted : TypeId → Bool) (xs : List LinedStatement)
+    (members : List Member) where
   -- the steps of a path, in the form that has them
   abbrev pub steps_text : PairForm → TypeId → List TypeId → List ℕ
-  steps_text Steps source path = path_text may trusted xs members source path
+  steps_text Steps source path = path_text format may trusted xs members source path
   steps_text Pairs source path = []
   steps_text Reached source path = []
 
   -- the answer for a pair with no path
   abbrev pub none_text : PairForm → TypeId → TypeId → List ℕ
-  none_text Steps source target = type_pair_text members source target ++ codes "none\n"
-  none_text Pairs source target = type_pair_text members source target ++ codes "none\n"
+  none_text Steps source target = type_pair_text format members source target ++ no_path_text format
+  none_text Pairs source target = type_pair_text format members source target ++ no_path_text format
   none_text Reached source target = []
 
   -- the answer for a pair, by its path
   abbrev pub pair_answer_text : PairForm → TypeId → TypeId → Option (List TypeId) → List ℕ
   pair_answer_text form source target None = none_text form source target
   pair_answer_text form source target (Some path) =
-      type_pair_text members source target ++ decimal (length path) ++ codes "\n" ++ steps_text form source path
+      type_pair_text format members source target ++ accesses_text format (length path) ++ steps_text form source path
 
   -- a pair was answered: by a shortest path, or since there is none; or it is left out
   pub data AnswersPair (form : PairForm) (source target : TypeId) : List ℕ → Bool → Type 0 where

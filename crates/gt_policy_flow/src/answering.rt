@@ -39,7 +39,7 @@ fn answer_text<W: Write>(
         FlowAnswer::NoPath => write_lines(lines.as_slice(), false, writer),
         FlowAnswer::NoSource => Err(FlowFault::NoSource),
         FlowAnswer::NoTarget => Err(FlowFault::NoTarget),
-        FlowAnswer::NoTrusted => Err(FlowFault::NoTrusted),
+        FlowAnswer::NoTrusted(place) => Err(FlowFault::NoTrusted(place)),
     }
 }
 

@@ -1,5 +1,6 @@
 //! Answers whether bytes of a type reach another one by a policy text.
-ghost use Rattle.std.specs.Prelude.{◌≡◌, ◌==◌, ◌&&◌, ◌++◌, [], IfErr, IfOk, None, OnOk, Ok, Err, Some, is_some, length, map};
+ghost use Rattle.std.specs.Prelude.{◌≡◌, ◌==◌, ◌&&◌, ◌++◌, ◌<◌, [], IfErr, IfOk, IfSome, None, Ok, Err, Some, is_some};
+ghost use Rattle.std.specs.Prelude.{length, map};
 ghost use Rattle.std.specs.List.{list_any, slice_split};
 ghost use Rattle.std.specs.Option.{option_map};
 ghost use Rattle.std.specs.Str.{bytes_eq};
@@ -8,9 +9,11 @@ ghost use Rattle.gt_policy.specs.Shown.{fault_shown, out_of_memory};
 ghost use Rattle.gt_policy.specs.Whole.{ReadsAs};
 ghost use Rattle.gt_policy.specs.declared.fault.TokenFault.{TokenFault};
 ghost use Rattle.gt_policy_check.specs.Members.{is_asked, members_of};
-ghost use Rattle.gt_policy_flow.specs.Asking.{IsFlowOf, IsFlowReport, Reports, are_known, asked_at, form_of, ids_asked, names_in, trusted_by};
+ghost use Rattle.gt_policy_flow.specs.Asking.{IsFlowOf, IsFlowReport, Reports, asked_at, form_of, ids_asked, names_in};
+ghost use Rattle.gt_policy_flow.specs.Asking.{trusted_by, unknown_place};
 ghost use Rattle.gt_policy_flow.specs.Flows.{AreAmong, is_among};
 
+use crate::format::FlowFormat;
 use crate::pairs::{PairForm, push_sources};
 use crate::steps::ReadPolicy;
 use gt_allow::AllowTable;
@@ -21,11 +24,13 @@ use std::alloc::{AllocError, Global};
 
 /// A question: do bytes of the source reach the target? The name of an attribute asks for each type that has it. None
 /// asks for each declared type. Stores by domains of the trusted types, whose names are joined by commas, are left out.
+/// The format is that of the answer.
 #[derive(Clone, Copy)]
 pub struct FlowQuestion<'q> {
     pub source: Option<&'q str>,
     pub target: Option<&'q str>,
     pub trusted: Option<&'q str>,
+    pub format: FlowFormat,
 }
 
 /// The answer of a policy to a question.
@@ -39,13 +44,14 @@ pub enum FlowAnswer {
     NoSource,
     /// The same of the target.
     NoTarget,
-    /// The same of a trusted type.
-    NoTrusted,
+    /// The same of a trusted type: the first such name, by its place among those of the question, counted from 0.
+    NoTrusted(usize),
 }
 
 /// An answer, with its lines. For one source and one target: `SOURCE -> TARGET  N`, where N is the number of accesses,
 /// and a line for each access of a shortest path; or `SOURCE -> TARGET  none`. For several pairs, a line for each. If
-/// the question asks for each type, only pairs with a path have a line. For the other answers there are no lines.
+/// the question asks for each type, only pairs with a path have a line. For the other answers there are no lines. As
+/// JSON each line is an object.
 #[derive(Drop)]
 pub struct FlowReport {
     pub answer: FlowAnswer,
@@ -120,26 +126,31 @@ fn names_in<'q>(alloc: Global, text: Option<&'q str>) -> Result<Vec<&'q [u8]>, A
     }
 }
 
-// Adds the types of these names, and returns whether each name is that of some type.
+// Adds the types of these names up to the first that is not that of some type, and returns the place of that one.
 fn push_trusted(
     alloc: Global,
     trusted: &mut Vec<TypeId>,
     members: &[Member],
     count: u16,
     names: &[&[u8]],
-) -> Result<bool, AllocError>
-    ensures ids { OnOk result (trusted.new.items
+) -> Result<Option<usize>, AllocError>
+    ensures place { IfOk result (λ place. place ≡ unknown_place members.now count (map (λ n. n.now) names.now)) }
+    ensures within { IfOk result (λ place. IfSome place (λ n. n < length names.now)) }
+    ensures ids { IfOk result (λ place. place ≡ None → trusted.new.items
         ≡ trusted.old.items ++ trusted_by members.now count (map (λ n. n.now) names.now)) }
-    ensures known { IfOk result (λ known. known ≡ are_known members.now count (map (λ n. n.now) names.now)) }
 {
     match names {
-        [] => Ok(true),
+        [] => Ok(None),
         [name, rest @ ..] => {
             let ids = ids_asked(alloc, members, count, Some(*name))?;
-            let is_known = !ids.is_empty();
+            if ids.is_empty() {
+                return Ok(Some(0));
+            }
             trusted.extend_from_slice(ids.as_slice())?;
-            let others = push_trusted(alloc, trusted, members, count, rest)?;
-            Ok(is_known && others)
+            match push_trusted(alloc, trusted, members, count, rest)? {
+                Some(place) => Ok(Some(place + 1)),
+                None => Ok(None),
+            }
         }
     }
 }
@@ -178,7 +189,7 @@ fn answered<P: Allows>(
     targets: &[TypeId],
 ) -> Result<FlowReport, AllocError>
     requires { AreAmong count (P.may read.now.policy.now) }
-    ensures { IfOk result (λ report. Reports (P.may read.now.policy.now) (is_among read.now.trusted.now)
+    ensures { IfOk result (λ report. Reports read.now.format (P.may read.now.policy.now) (is_among read.now.trusted.now)
         read.now.statements.now read.now.members.now form sources.now targets.now report) }
 {
     let mut lines = Vec::new(alloc);
@@ -207,15 +218,15 @@ fn report<P: Allows>(
     let targets = ids_asked(alloc, members.as_slice(), count, bytes_of(question.target))?;
     let names = names_in(alloc, question.trusted)?;
     let mut trusted = Vec::new(alloc);
-    let are_known = push_trusted(
+    let unknown = push_trusted(
         alloc,
         &mut trusted,
         members.as_slice(),
         count,
         names.as_slice(),
     )?;
-    if !are_known {
-        return Ok(bare(alloc, FlowAnswer::NoTrusted));
+    if let Some(place) = unknown {
+        return Ok(bare(alloc, FlowAnswer::NoTrusted(place)));
     }
     if sources.is_empty() {
         return Ok(bare(alloc, FlowAnswer::NoSource));
@@ -229,6 +240,7 @@ fn report<P: Allows>(
         members: members.as_slice(),
         statements,
         trusted: trusted.as_slice(),
+        format: question.format,
     };
     answered(
         alloc,

@@ -12,8 +12,11 @@ pub enum FlowFault {
     NoSource,
     /// The target is not a declared type, nor the attribute of one. Nothing was written.
     NoTarget,
-    /// A trusted type is not a declared type, nor the attribute of one. Nothing was written.
-    NoTrusted,
+    /// A trusted type is not a declared type, nor the attribute of one: the first such name, by its place among those
+    /// of the question, counted from 0. Nothing was written.
+    NoTrusted(usize),
+    /// The script has no policy block that ends. Nothing was written.
+    NoBlock,
 }
 
 impl fmt::Display for FlowFault {
@@ -27,7 +30,8 @@ impl fmt::Display for FlowFault {
             FlowFault::Text(fault) => write!(f, "{fault}"),
             FlowFault::NoSource => f.write_str("the source is not a type of the policy"),
             FlowFault::NoTarget => f.write_str("the target is not a type of the policy"),
-            FlowFault::NoTrusted => f.write_str("a trusted type is not a type of the policy"),
+            FlowFault::NoTrusted(_) => f.write_str("a trusted type is not a type of the policy"),
+            FlowFault::NoBlock => f.write_str("the script has no policy block"),
         }
     }
 }

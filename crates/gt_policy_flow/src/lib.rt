@@ -8,13 +8,15 @@
 //! no path, the types that are reached are a set that no access leaves, except for stores by trusted types: the premise
 //! of the laws of `gt_flow` (noninterference).
 //!
-//! It uses `gt_flow` (which access brings bytes where) and `gt_types` (types, permissions, the trait of policies).
+//! It uses `gt_flow` (which access brings bytes where), `gt_json` (strings) and `gt_types` (types, permissions, the trait
+//! of policies).
 #![tactic(auto)]
 
 mod answering;
 mod asking;
 mod fault;
 mod flows;
+mod format;
 mod laws;
 mod pairs;
 mod searching;
@@ -24,5 +26,7 @@ pub use answering::answer;
 pub use asking::{FlowAnswer, FlowQuestion, FlowReport, flow};
 pub use fault::FlowFault;
 pub use flows::{Access, access_between};
+pub use format::FlowFormat;
 pub use laws::{every_path_is_found, what_is_reached_is_closed};
 pub use searching::{Reach, ReachedTypes, search};
+pub use steps::name_in;

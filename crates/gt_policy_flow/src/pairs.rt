@@ -6,9 +6,9 @@ ghost use Rattle.gt_policy_flow.specs.Pairs.{AppendsBlock, AppendsSources, Appen
 ghost use Rattle.gt_policy_flow.specs.Pairs.{leaves_out};
 ghost use Rattle.gt_policy_flow.specs.Paths.{IsSearched};
 
+use crate::format::push_mark;
 use crate::searching::{ReachedTypes, search};
-use crate::steps::{ReadPolicy, push_pair, push_path};
-use gt_text::{push_number, push_text};
+use crate::steps::{ReadPolicy, push_accesses, push_pair, push_path};
 use gt_types::{Allows, TypeId};
 use std::alloc::{AllocError, Global};
 
@@ -32,20 +32,19 @@ fn push_block<P: Allows>(
     target: TypeId,
     path: Option<&[TypeId]>,
 ) -> Result<(), AllocError>
-    ensures { OnOk result (out.new.items ≡ out.old.items ++ pair_answer_text (P.may read.now.policy.now)
+    ensures { OnOk result (out.new.items ≡ out.old.items ++ pair_answer_text read.now.format (P.may read.now.policy.now)
         (is_among read.now.trusted.now) read.now.statements.now read.now.members.now form source target
         (option_map (λ p. p.now) path.entry)) }
 {
     match (path, form) {
         (None, PairForm::Reached) => Ok(()),
         (None, _) => {
-            push_pair(out, read.members, source, target)?;
-            push_text(out, "none\n")
+            push_pair(out, read, source, target)?;
+            push_mark(out, read.format, "none\n", "\"accesses\":null}\n")
         }
         (Some(path), form) => {
-            push_pair(out, read.members, source, target)?;
-            push_number(out, path.len())?;
-            push_text(out, "\n")?;
+            push_pair(out, read, source, target)?;
+            push_accesses(out, read.format, path.len())?;
             match form {
                 PairForm::Steps => push_path(out, read, source, path),
                 _ => Ok(()),
@@ -75,8 +74,8 @@ fn push_target<P: Allows>(
     target: TypeId,
 ) -> Result<bool, AllocError>
     requires { IsSearched (P.may read.now.policy.now) (is_among read.now.trusted.now) source found.now }
-    ensures { AppendsBlock (P.may read.now.policy.now) (is_among read.now.trusted.now) read.now.statements.now
-        read.now.members.now form source target out.old.items out.new.items result }
+    ensures { AppendsBlock read.now.format (P.may read.now.policy.now) (is_among read.now.trusted.now)
+        read.now.statements.now read.now.members.now form source target out.old.items out.new.items result }
 {
     if leaves_out(form, source, target) {
         return Ok(false);
@@ -104,8 +103,8 @@ fn push_targets<P: Allows>(
     targets: &[TypeId],
 ) -> Result<bool, AllocError>
     requires { IsSearched (P.may read.now.policy.now) (is_among read.now.trusted.now) source found.now }
-    ensures { AppendsTargets (P.may read.now.policy.now) (is_among read.now.trusted.now) read.now.statements.now
-        read.now.members.now form source targets.now out.old.items out.new.items result }
+    ensures { AppendsTargets read.now.format (P.may read.now.policy.now) (is_among read.now.trusted.now)
+        read.now.statements.now read.now.members.now form source targets.now out.old.items out.new.items result }
 {
     match targets {
         [] => Ok(false),
@@ -129,8 +128,9 @@ pub(crate) fn push_sources<P: Allows>(
     targets: &[TypeId],
 ) -> Result<bool, AllocError>
     requires { AreAmong count (P.may read.now.policy.now) }
-    ensures { AppendsSources (P.may read.now.policy.now) (is_among read.now.trusted.now) read.now.statements.now
-        read.now.members.now form sources.now targets.now out.old.items out.new.items result }
+    ensures { AppendsSources read.now.format (P.may read.now.policy.now) (is_among read.now.trusted.now)
+        read.now.statements.now read.now.members.now form sources.now targets.now out.old.items out.new.items
+        result }
 {
     match sources {
         [] => Ok(false),

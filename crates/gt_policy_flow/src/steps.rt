@@ -2,9 +2,11 @@
 ghost use Rattle.std.specs.Prelude.{◌≡◌, ◌++◌, codes, OnOk, find};
 ghost use Rattle.gt_policy_check.specs.Granting.{gives_one};
 ghost use Rattle.gt_policy_flow.specs.Flows.{is_among};
-ghost use Rattle.gt_policy_flow.specs.Steps.{access_text, first_granting_line, line_between, type_name_in, type_pair_text, path_text, permission_text, path_line_text};
+ghost use Rattle.gt_policy_flow.specs.Steps.{access_text, accesses_text, first_granting_line, line_between};
+ghost use Rattle.gt_policy_flow.specs.Steps.{path_line_text, path_text, permission_text, type_name_in, type_pair_text};
 
 use crate::flows::{Access, access_between, is_among};
+use crate::format::{FlowFormat, push_mark, push_name};
 use gt_policy::{LinedStatement, Statement};
 use gt_policy_check::{Member, gives_source, reaches};
 use gt_text::{push_number, push_text};
@@ -12,17 +14,18 @@ use gt_types::{Allows, Perms, TypeId};
 use std::alloc::AllocError;
 
 /// A policy with what it was read from: its types, in the order of their numbers, and its statements. And the types
-/// that are trusted.
+/// that are trusted, and the form of the answer.
 #[derive(Clone, Copy)]
 pub(crate) struct ReadPolicy<'t, 'a, P> {
     pub policy: &'t P,
     pub members: &'t [Member<'a>],
     pub statements: &'t [LinedStatement<'a>],
     pub trusted: &'t [TypeId],
+    pub format: FlowFormat,
 }
 
-// Returns the name of a type.
-fn name_in<'t>(members: &'t [Member<'_>], id: TypeId) -> &'t str
+/// Returns the name of a type, by its number; nothing if there is no such type.
+pub fn name_in<'t>(members: &'t [Member<'_>], id: TypeId) -> &'t str
     ensures { result.now ≡ type_name_in members.entry.now id }
 {
     match members.get(id.0 as usize) {
@@ -75,18 +78,32 @@ fn line_between(
 }
 
 /// Appends the names of two types.
-pub(crate) fn push_pair(
+pub(crate) fn push_pair<P>(
     out: &mut Vec<u8>,
-    members: &[Member],
+    read: &ReadPolicy<'_, '_, P>,
     x: TypeId,
     y: TypeId,
 ) -> Result<(), AllocError>
-    ensures { OnOk result (out.new.items ≡ out.old.items ++ type_pair_text members.now x y) }
+    ensures { OnOk result (out.new.items ≡ out.old.items ++ type_pair_text read.now.format read.now.members.now x y) }
 {
-    push_text(out, name_in(members, x))?;
-    push_text(out, " -> ")?;
-    push_text(out, name_in(members, y))?;
-    push_text(out, "  ")
+    push_mark(out, read.format, "", "{\"source\":")?;
+    push_name(out, read.format, name_in(read.members, x))?;
+    push_mark(out, read.format, " -> ", ",\"target\":")?;
+    push_name(out, read.format, name_in(read.members, y))?;
+    push_mark(out, read.format, "  ", ",")
+}
+
+/// Appends the number of accesses of a path, after the names of its types.
+pub(crate) fn push_accesses(
+    out: &mut Vec<u8>,
+    format: FlowFormat,
+    accesses: usize,
+) -> Result<(), AllocError>
+    ensures { OnOk result (out.new.items ≡ out.old.items ++ accesses_text format accesses) }
+{
+    push_mark(out, format, "", "\"accesses\":")?;
+    push_number(out, accesses)?;
+    push_mark(out, format, "\n", "}\n")
 }
 
 // Appends a permission of one type on another, with the line of the first statement that grants it.
@@ -97,16 +114,17 @@ fn push_permission<P>(
     target: TypeId,
     perm: &str,
 ) -> Result<(), AllocError>
-    ensures { OnOk result (out.new.items ≡ out.old.items ++ permission_text
+    ensures { OnOk result (out.new.items ≡ out.old.items ++ permission_text read.now.format
         read.now.statements.now read.now.members.now source target perm.now) }
 {
+    push_mark(out, read.format, "", "{\"perm\":\"")?;
     push_text(out, perm)?;
-    push_text(out, " (line ")?;
+    push_mark(out, read.format, " (line ", "\",\"line\":")?;
     push_number(
         out,
         line_between(read.statements, read.members, source, target, perm),
     )?;
-    push_text(out, ")")
+    push_mark(out, read.format, ")", "}")
 }
 
 // Appends what an access asks for.
@@ -118,15 +136,25 @@ fn push_access<P>(
     access: Option<Access>,
 ) -> Result<(), AllocError>
     ensures { OnOk result (out.new.items ≡ out.old.items
-        ++ access_text read.now.statements.now read.now.members.now x y access) }
+        ++ access_text read.now.format read.now.statements.now read.now.members.now x y access) }
 {
     match access {
-        Some(Access::Load) => push_permission(out, read, y, x, "map_read"),
-        Some(Access::Copy) => push_permission(out, read, x, y, "copy"),
+        Some(Access::Load) => {
+            push_mark(out, read.format, "", "\"access\":\"load\",\"perms\":[")?;
+            push_permission(out, read, y, x, "map_read")?;
+            push_mark(out, read.format, "", "]")
+        }
+        Some(Access::Copy) => {
+            push_mark(out, read.format, "", "\"access\":\"copy\",\"perms\":[")?;
+            push_permission(out, read, x, y, "copy")?;
+            push_mark(out, read.format, "", "]")
+        }
         Some(Access::Store) => {
+            push_mark(out, read.format, "", "\"access\":\"store\",\"perms\":[")?;
             push_permission(out, read, x, y, "map_read")?;
-            push_text(out, ", ")?;
-            push_permission(out, read, x, y, "map_write")
+            push_mark(out, read.format, ", ", ",")?;
+            push_permission(out, read, x, y, "map_write")?;
+            push_mark(out, read.format, "", "]")
         }
         None => Ok(()),
     }
@@ -139,20 +167,14 @@ fn push_step<P: Allows>(
     x: TypeId,
     y: TypeId,
 ) -> Result<(), AllocError>
-    ensures { OnOk result (out.new.items ≡ out.old.items ++ path_line_text (P.may read.now.policy.now)
+    ensures { OnOk result (out.new.items ≡ out.old.items ++ path_line_text read.now.format (P.may read.now.policy.now)
         (is_among read.now.trusted.now) read.now.statements.now read.now.members.now x y) }
 {
-    push_text(out, "  ")?;
-    push_pair(out, read.members, x, y)?;
-    let is_trusted = is_among(read.trusted, x);
-    push_access(
-        out,
-        read,
-        x,
-        y,
-        access_between(read.policy, is_trusted, x, y),
-    )?;
-    push_text(out, "\n")
+    let access = access_between(read.policy, is_among(read.trusted, x), x, y);
+    push_mark(out, read.format, "  ", "")?;
+    push_pair(out, read, x, y)?;
+    push_access(out, read, x, y, access)?;
+    push_mark(out, read.format, "\n", "}\n")
 }
 
 /// Appends the lines of a path from a type: one for each access, with what it asks for and the lines of the statements
@@ -163,7 +185,7 @@ pub(crate) fn push_path<P: Allows>(
     from: TypeId,
     path: &[TypeId],
 ) -> Result<(), AllocError>
-    ensures { OnOk result (out.new.items ≡ out.old.items ++ path_text (P.may read.now.policy.now)
+    ensures { OnOk result (out.new.items ≡ out.old.items ++ path_text read.now.format (P.may read.now.policy.now)
         (is_among read.now.trusted.now) read.now.statements.now read.now.members.now from path.now) }
 {
     match path {

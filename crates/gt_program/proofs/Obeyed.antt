@@ -40,6 +40,7 @@ use Rattle.gt_explore_verdict.specs.declared.judging.Verdict.TheVariants.{Holds,
 use Rattle.gt_explore_answers.specs.declared.asking.ExploreOptions.{ExploreOptions}
 use Rattle.gt_file_commands.specs.Laws.{nothing_without_memory, nothing_done}
 use Rattle.gt_file_commands.specs.Rules.{PrintsRules}
+use Rattle.gt_file_commands.specs.Blocks.{flow_format}
 use Rattle.gt_file_commands.specs.Working.{AnswersDump, AnswersFlow, AnswersQuestion, ChecksAll, ChecksAs, ChecksFiles}
 use Rattle.gt_file_commands.specs.Working.{ChecksIn, ChecksNever, DoesOnFile, Doing, Ending, Lists, Plays, Works}
 use Rattle.gt_file_commands.specs.Working.{known_text}
@@ -105,7 +106,7 @@ FailedFor (to_check script format name more) failed = failed ≡ Unknown
 FailedFor (to_check_never never format name more) failed = failed ≡ Unknown
 FailedFor (to_explain source target permission each name) failed = failed ≡ Unknown
 FailedFor (to_explain_lines each name) failed = failed ≡ Unknown
-FailedFor (to_show_flow source target trusted name) failed = failed ≡ Unknown
+FailedFor (to_show_flow script format source target trusted name) failed = failed ≡ Unknown
 FailedFor (to_tell_entries version hex every script format name) failed = failed ≡ Unknown
 FailedFor for_help failed = (failed ≡ Unknown) ⊎ (failed ≡ No)
 FailedFor for_version failed = (failed ≡ Unknown) ⊎ (failed ≡ No)
@@ -152,8 +153,8 @@ out_of_memory (to_check_never never format name more) failed width file input ol
 out_of_memory (to_explain source target permission each name) failed width file input old new outcome for is kept =
     nothing_without_memory (AnswersQuestion each (shown_name name) source target permission) Unknown name (known_text file input name) old new outcome (is ∙ for) kept
 out_of_memory (to_explain_lines each name) failed width file input old new outcome for is kept = inr (is ∙ for, kept)
-out_of_memory (to_show_flow source target trusted name) failed width file input old new outcome for is kept =
-    nothing_without_memory (AnswersFlow source target trusted) Unknown name (known_text file input name) old new outcome (is ∙ for) kept
+out_of_memory (to_show_flow script format source target trusted name) failed width file input old new outcome for is kept =
+    nothing_without_memory (AnswersFlow script (flow_format format) source target trusted) Unknown name (known_text file input name) old new outcome (is ∙ for) kept
 out_of_memory (to_tell_entries version hex every script format name) failed width file input old new outcome for is kept =
     nothing_without_memory (AnswersDump version hex every script format) Unknown name (known_text file input name) old new outcome (is ∙ for) kept
 out_of_memory for_help failed width file input old new outcome for is kept = helpless failed outcome old new for is kept
@@ -200,10 +201,11 @@ module _ (failed : Outcome) where
   failed_why (Some source) (Some target) None file is = inl is
   failed_why (Some source) (Some target) (Some permission) file is = is
 
-  failed_flow : (source target trusted file : Option (List ℕ)) → failed ≡ Unknown → FailedFor (flow_with source target trusted file) failed
-  failed_flow None target trusted file is = inl is
-  failed_flow (Some source) None trusted file is = inl is
-  failed_flow (Some source) (Some target) trusted file is = is
+  failed_flow : (f : Option Format) (script : Bool) (source target trusted file : Option (List ℕ)) → failed ≡ Unknown → FailedFor (flow_with f script source target trusted file) failed
+  failed_flow None script source target trusted file is = inl is
+  failed_flow (Some f) script None target trusted file is = inl is
+  failed_flow (Some f) script (Some source) None trusted file is = inl is
+  failed_flow (Some f) script (Some source) (Some target) trusted file is = is
 
   failed_entries : (version : Option ℕ) (script : Option (Option ℕ)) (f : Option Format) (hex every : Bool) (file : Option (List ℕ)) → failed ≡ Unknown → FailedFor (entries_with version script f hex every file) failed
   failed_entries None script f hex every file is = inl is
@@ -221,7 +223,7 @@ module _ (failed : Outcome) where
   failed_read modes.Rules value is = is
   failed_read modes.Check value is = failed_check _ _ _ _ _ is
   failed_read modes.Why value is = failed_why _ _ _ _ is
-  failed_read modes.Flow value is = failed_flow _ _ _ _ is
+  failed_read modes.Flow value is = failed_flow _ _ _ _ _ _ is
   failed_read modes.Entries value is = failed_entries _ _ _ _ _ _ is
 
   failed_either : (mode : Mode) → failed ≡ failed_mode mode → (failed ≡ Unknown) ⊎ (failed ≡ No)
@@ -355,8 +357,8 @@ refused (to_explain source target permission each name) width file input old new
 refused (to_explain source target permission each name) width file input old new error failed outcome for (inr none) fits = absurd none
 refused (to_explain_lines each name) width file input old new error failed outcome for (inl memory) fits = by_memory (to_explain_lines each name) width file input old new error failed outcome for memory fits
 refused (to_explain_lines each name) width file input old new error failed outcome for (inr none) fits = absurd none
-refused (to_show_flow source target trusted name) width file input old new error failed outcome for (inl memory) fits = by_memory (to_show_flow source target trusted name) width file input old new error failed outcome for memory fits
-refused (to_show_flow source target trusted name) width file input old new error failed outcome for (inr none) fits = absurd none
+refused (to_show_flow script format source target trusted name) width file input old new error failed outcome for (inl memory) fits = by_memory (to_show_flow script format source target trusted name) width file input old new error failed outcome for memory fits
+refused (to_show_flow script format source target trusted name) width file input old new error failed outcome for (inr none) fits = absurd none
 refused (to_tell_entries version hex every script format name) width file input old new error failed outcome for (inl memory) fits = by_memory (to_tell_entries version hex every script format name) width file input old new error failed outcome for memory fits
 refused (to_tell_entries version hex every script format name) width file input old new error failed outcome for (inr none) fits = absurd none
 refused for_help width file input old new error failed outcome for (inl memory) fits = by_memory for_help width file input old new error failed outcome for memory fits

@@ -6,6 +6,7 @@ use Rattle.gt_program.specs.Prelude.{to_list, to_play, to_run, to_tell_entries, 
 use Rattle.gt_program.specs.Prelude.{nothing, to_show_flow, mode_of, Sought, all_texts, a_claim, one_script, one_trace}
 use Rattle.gt_program.specs.Prelude.{one_diagram, all_scripts, Explored, ReadsAsRun, ExploreOptions, ExploreFormat}
 use Rattle.gt_program.specs.Prelude.{ExploreRequest, Verdict, Holds, Fails, Undecided, Outcome, No, Unknown, Yes}
+use Rattle.gt_file_commands.specs.Blocks.{flow_format}
 use Rattle.gt_file_commands.specs.Names.{shown_name}
 use Rattle.gt_file_commands.specs.Rules.{PrintsRules}
 use Rattle.gt_file_commands.specs.Working.{AnswersDump, AnswersAboutFile, AnswersFlow, AnswersQuestion, ChecksAll}
@@ -162,8 +163,9 @@ Obeys (to_explain source target permission each name) failed width file input ol
     old new outcome
 Obeys (to_explain_lines each name) failed width file input old new outcome =
     AnswersAboutFile each name (file name) input old new outcome
-Obeys (to_show_flow source target trusted name) failed width file input old new outcome =
-    Works (AnswersFlow source target trusted) Unknown name (known_text file input name) old new outcome
+Obeys (to_show_flow script format source target trusted name) failed width file input old new outcome =
+    Works (AnswersFlow script (flow_format format) source target trusted) Unknown name (known_text file input name)
+    old new outcome
 Obeys (to_tell_entries version hex every script format name) failed width file input old new outcome =
     Works (AnswersDump version hex every script format) Unknown name (known_text file input name) old new outcome
 Obeys for_help failed width file input old new outcome = IsHelped outcome ⊎ ((outcome ≡ Unknown) × Keeps old new)

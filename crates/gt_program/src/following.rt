@@ -8,7 +8,7 @@ use gt_check_command::WhyRequest;
 use gt_command_line::Invocation;
 use gt_file_commands::{
     Context, Outcome, Reasons, TextSource, answer, answer_lines, check_files, check_never_files,
-    list, play, print_rules, show_entries, show_flow,
+    flow_format, list, play, print_rules, show_entries, show_flow,
 };
 use gt_policy_check::WhyQuestion;
 use gt_policy_flow::FlowQuestion;
@@ -61,15 +61,16 @@ pub(crate) fn follow<'a, R: Threads + Wait + Sync, T: TextSource, W: Write, E: E
         Invocation::Flow {
             source,
             target,
-            trusted,
+            options,
             file,
         } => {
             let question = FlowQuestion {
                 source,
                 target,
-                trusted,
+                trusted: options.trusted,
+                format: flow_format(options.format),
             };
-            show_flow(context, question, file, out, reasons)
+            show_flow(context, options.script, question, file, out, reasons)
         }
         Invocation::Entries { dump, format, file } => {
             show_entries(context, dump, format, file, out, reasons)

@@ -1,5 +1,6 @@
 //! The reasons that are printed after the line of a fault, or as that line.
 use super::copying::KeptInput;
+use super::flows::flow_reason;
 use super::given::{given_reason, never_reason, nothing_reason, question_reason, text_reason};
 use super::names::shown_name;
 use gt_check_command::{BreachFault, WhyFault};
@@ -124,8 +125,8 @@ fn unread(
     Ok(said)
 }
 
-// Returns the reason for which the text of a policy that was read was refused.
-fn listing_reason(
+/// Returns the reason for which the text of a policy that was read was refused.
+pub(crate) fn listing_reason(
     alloc: Global,
     file: &str,
     is_line: bool,
@@ -145,8 +146,8 @@ fn listing_reason(
     Ok(said)
 }
 
-// Appends that a name is not a type of the policy that was read, or that it has no types.
-fn push_no_type(
+/// Appends that a name is not a type of the policy that was read, or that it has no types.
+pub(crate) fn push_no_type(
     alloc: Global,
     out: &mut Vec<u8>,
     file: &str,
@@ -177,25 +178,6 @@ fn why_reason(
             let word = question.perm.unwrap_or("-");
             push_permission_reason(alloc, &mut said, file, word)?;
         }
-    }
-    Ok(said)
-}
-
-// Returns the reason for which a question about flows was not answered.
-fn flow_reason(
-    alloc: Global,
-    file: &str,
-    input: &KeptInput,
-    question: &FlowQuestion,
-    fault: &FlowFault,
-) -> Result<Vec<u8>, AllocError> {
-    let mut said = Vec::new(alloc);
-    let bytes = input.bytes().unwrap_or(&[]);
-    match fault {
-        FlowFault::Text(fault) => return listing_reason(alloc, file, true, input, fault),
-        FlowFault::NoSource => push_no_type(alloc, &mut said, file, bytes, question.source)?,
-        FlowFault::NoTarget => push_no_type(alloc, &mut said, file, bytes, question.target)?,
-        FlowFault::NoTrusted => push_no_type(alloc, &mut said, file, bytes, question.trusted)?,
     }
     Ok(said)
 }
@@ -411,15 +393,17 @@ impl<'a> Reasons<'a> {
         }
     }
 
-    /// Adds the reason for which a question about the flows of the policy that was read was not answered.
+    /// Adds the reason for which a question about the flows of the policy that was read, or of that of the script, was
+    /// not answered.
     pub(crate) fn add_flow(
         &mut self,
+        script: bool,
         input: &KeptInput,
         question: &FlowQuestion,
         fault: &FlowFault,
     ) {
         if let Some(file) = self.file {
-            let said = flow_reason(self.alloc, file, input, question, fault);
+            let said = flow_reason(self.alloc, file, script, input, question, fault);
             self.add(said);
         }
     }

@@ -7,12 +7,12 @@ use gt_policy_list::ListingFault;
 use gt_text::ReadFault;
 use std::alloc::{AllocError, Global};
 
-// Returns what is wrong with `neverallow` statements.
+// Returns what is wrong with `neverallow` and `neverflow` statements.
 fn never_words(alloc: Global, kind: &PolicyFaultKind) -> Result<String, AllocError> {
     match kind {
         PolicyFaultKind::Syntax => String::from_str(
             alloc,
-            "expected neverallow SOURCE TARGET:CLASS PERMISSION;",
+            "expected neverallow SOURCE TARGET:CLASS PERMISSION; or neverflow SOURCE TARGET;",
         ),
         PolicyFaultKind::Unknown(name) => {
             format!(in alloc; "\"{name}\" is not declared in the policy")
@@ -22,7 +22,7 @@ fn never_words(alloc: Global, kind: &PolicyFaultKind) -> Result<String, AllocErr
             format!(in alloc; "\"{word}\" is not a permission of class grant")
         }
         PolicyFaultKind::Outside(word) => {
-            format!(in alloc; "\"{word}\" is not part of a neverallow statement")
+            format!(in alloc; "\"{word}\" is not part of a neverallow or neverflow statement")
         }
         PolicyFaultKind::Limit => String::from_str(alloc, "more than 1048576 bytes"),
         PolicyFaultKind::Memory => String::from_str(alloc, "memory"),

@@ -4,7 +4,7 @@ use Rattle.gt_check_command.proofs.breaking.write_breaches.Goals as goal
 
 pub returns-in-Ok-finish : goal.returns-in-Ok-finish
 returns-in-Ok-finish g c = (
-  c.is_empty.ensures,
+  c.is_clean.ensures,
   went_out (IsNeverReport c.args.form c.args.texts.now.file.now c.args.texts.now.policy.now c.args.texts.now.never_file.now c.args.texts.now.never.now c.args.found.now) _ _ c.in-Ok.said.items _ c.in-Ok.ensures c.as_slice.ensures.value c.in-Ok-finish.ensures.whole,
 )
 

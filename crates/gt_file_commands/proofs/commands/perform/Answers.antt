@@ -1,6 +1,6 @@
 use Rattle.std.proofs.Common.{ℕ, List}
 use Rattle.gt_check_command.specs.Explaining.{Explained}
-use Rattle.gt_policy_flow.specs.Answering.{Flowed}
+use Rattle.gt_file_commands.specs.Blocks.{FlowedAs}
 use Rattle.gt_file_commands.proofs.Worked.{answered_input, for_work}
 use Rattle.gt_file_commands.proofs.commands.perform.Goals as goal
 
@@ -23,7 +23,7 @@ returns-in-Err-why_explained g c = for_work _ _ _ _ _ _ c.in-Why.is c.in-Err-why
 
 pub returns-in-Ok-flow_explained : goal.returns-in-Ok-flow_explained
 returns-in-Ok-flow_explained g c = for_work _ _ _ _ _ _ c.in-Flow.is
-    (answered_input _ (λ (input : List ℕ). Flowed c.in-Flow.question input (g.W.Write.contents c.args.out.now) (g.W.Write.contents c.flow_explained.new.out)) _ _
+    (answered_input _ (λ (input : List ℕ). FlowedAs c.in-Flow.script c.in-Flow.question input (g.W.Write.contents c.args.out.now) (g.W.Write.contents c.flow_explained.new.out)) _ _
     c.of_answer-in-Ok-flow_explained.ensures c.in-Ok-flow_explained.ensures)
 
 pub returns-in-Err-flow_explained : goal.returns-in-Err-flow_explained

@@ -4,6 +4,8 @@ use Rattle.gt_neverallow.proofs.printing.push_never_findings.Goals as goal
 
 pub returns : goal.returns
 returns c =
-    on_ok c.push_breaches.result
-    (all_added c.args.form c.args.texts.now.file.now c.args.texts.now.policy.now c.args.texts.now.never_file.now c.args.texts.now.never.now c.args.found.now c.as_slice.result.now c.as_slice-2.result.now _ c.push_findings.new.out.items c.push_breaches.new.out.items
-    c.as_slice.ensures.value c.as_slice-2.ensures.value c.in_ok-push_findings.ensures) c.push_breaches.ensures
+    on_ok c.push_flow_breaches.result
+    (all_added c.args.form c.args.texts.now.file.now c.args.texts.now.policy.now c.args.texts.now.never_file.now c.args.texts.now.never.now c.args.found.now c.as_slice.result.now c.as_slice-2.result.now c.as_slice-3.result.now _
+    c.push_findings.new.out.items c.push_breaches.new.out.items c.push_flow_breaches.new.out.items c.as_slice.ensures.value c.as_slice-2.ensures.value c.as_slice-3.ensures.value c.in_ok-push_findings.ensures
+    c.in_ok-push_breaches.ensures)
+    c.push_flow_breaches.ensures

@@ -5,12 +5,12 @@ use Rattle.gt_policy_flow.proofs.pairs.+push_sources.Goals.{then-first, else-fir
 use Rattle.gt_policy_flow.proofs.pairs.+push_sources.Goals as goal
 
 pub returns-in-empty : goal.returns-in-empty
-returns-in-empty g t c = no-sources (g.P.Allows.may c.args.read.now.policy.now) (is_among c.args.read.now.trusted.now)
+returns-in-empty g t c = no-sources c.args.read.now.format (g.P.Allows.may c.args.read.now.policy.now) (is_among c.args.read.now.trusted.now)
     c.args.read.now.statements.now c.args.read.now.members.now c.args.form c.args.sources.now c.args.targets.now
     c.args.out.now.items c.in-empty.len_below
 
 pub returns-after-first : goal.returns-after-first
-returns-after-first g t c = one-source (g.P.Allows.may c.args.read.now.policy.now) (is_among c.args.read.now.trusted.now)
+returns-after-first g t c = one-source c.args.read.now.format (g.P.Allows.may c.args.read.now.policy.now) (is_among c.args.read.now.trusted.now)
     c.args.read.now.statements.now c.args.read.now.members.now c.args.form c.args.sources.now c.args.targets.now _
     c.args.out.now.items c.push_targets.new.out.items c.push_sources.new.out.items _ _ _ c.in-len1-up.len_at_least
     c.in_ok-first-in-len1-up.ensures c.in_ok-others-in-len1-up.ensures
