@@ -12,7 +12,7 @@ use Rattle.std.proofs.lemmas.Grind.{common_steps}
 use Rattle.std.proofs.lemmas.Slice.Eq.{bytes_eq-Decides}
 use Rattle.std.specs.Str.{bytes_eq}
 use Rattle.gt_policy_text.specs.Lexing.{is_blank}
-use Rattle.gt_policy_check.specs.Columns.{begins_row, column_number, continues_token, AreBounds, AreTokens, BeginsLine, HasWord, IsToken}
+use Rattle.gt_policy_check.specs.Columns.{begins_row, column_number, continues_token, AreBounds, AreTokens, BeginsTextLine, HasWord, IsToken}
 use Rattle.gt_policy_check.specs.Columns.{RunsTo, IsColumnIn, IsColumnOf, IsEndIn, IsEndOf, HasNoLine, no_line, of_row}
 use Rattle.gt_policy_check.specs.Columns.{of_word, on_line, ends_nowhere, ends_on_line, AreOfLine, IsFirstColumn}
 use Rattle.gt_policy_check.specs.declared.places.LineTokens.{LineTokens}
@@ -313,7 +313,7 @@ end_of_read text line lent i t column are same below is column_is =
 -- ---- where lines begin
 
 abbrev Begin : List ℕ → List ℕ → Type 0
-Begin bytes starts = (i : ℕ) → i < length starts → BeginsLine bytes (i + 1) (get_or starts i 0)
+Begin bytes starts = (i : ℕ) → i < length starts → BeginsTextLine bytes (i + 1) (get_or starts i 0)
 
 abbrev feeds : List ℕ → ℕ → ℕ
 feeds bytes place = count_by (λ b. b == 10) (take place bytes)
@@ -327,15 +327,15 @@ begins_more bytes starts more place below is begin many added =
     count : feeds bytes (place + 1) ≡ feeds bytes place + 1
     count = count_by_more_yes (λ b. b == 10) bytes place 0 below (ap (λ (b : ℕ). b == 10) is)
 
-    here : (i : ℕ) → length starts ≡ i → BeginsLine bytes (i + 1) (get_or (starts ++ (place + 1) ∷ []) i 0)
-    here i last = subst (λ (n : ℕ). BeginsLine bytes (i + 1) n) (sym (get_or_push starts (place + 1) 0 i last)) (record {
+    here : (i : ℕ) → length starts ≡ i → BeginsTextLine bytes (i + 1) (get_or (starts ++ (place + 1) ∷ []) i 0)
+    here i last = subst (λ (n : ℕ). BeginsTextLine bytes (i + 1) n) (sym (get_or_push starts (place + 1) 0 i last)) (record {
       within = omega (arith, below);
       number = ap (λ (n : ℕ). n + 1) (count ∙ sym many ∙ last);
       begins = let e : (place + 1) - 1 ≡ place = omega arith in inr (subst (λ (n : ℕ). get_or bytes n 0 ≡ 10) (sym e) is);
     })
 
-    by : (i : ℕ) → i < length (starts ++ (place + 1) ∷ []) → (i < length starts) ⊎ (length starts ≤ i) → BeginsLine bytes (i + 1) (get_or (starts ++ (place + 1) ∷ []) i 0)
-    by i l (inl within) = subst (λ (n : ℕ). BeginsLine bytes (i + 1) n) (sym (get_or-append starts ((place + 1) ∷ []) 0 i within)) (begin i within)
+    by : (i : ℕ) → i < length (starts ++ (place + 1) ∷ []) → (i < length starts) ⊎ (length starts ≤ i) → BeginsTextLine bytes (i + 1) (get_or (starts ++ (place + 1) ∷ []) i 0)
+    by i l (inl within) = subst (λ (n : ℕ). BeginsTextLine bytes (i + 1) n) (sym (get_or-append starts ((place + 1) ∷ []) 0 i within)) (begin i within)
     by i l (inr past) = let long = length_push starts (place + 1) in here i (omega (arith, l, past, long))
 
     each : Begin bytes (starts ++ (place + 1) ∷ [])

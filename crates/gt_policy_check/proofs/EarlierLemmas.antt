@@ -21,7 +21,7 @@ use Rattle.gt_policy_check.specs.Check.{exceeds_with, grants_with, no_more_with}
 use Rattle.gt_policy_check.specs.Granting.{elements_hold, exceeds_on, exceeds_some, gives_by, gives_one, gives_some}
 use Rattle.gt_policy_check.specs.Granting.{gives_source, reaches_by}
 use Rattle.gt_policy_check.specs.Earlier.{has_source, member_at, triple_grants, AreHeld, GrantsTriple}
-use Rattle.gt_policy_check.specs.Earlier.{HasNoTarget, IsPair, IsReached, IsRepeatAt}
+use Rattle.gt_policy_check.specs.Earlier.{HasNoTarget, IsPair, ReachesType, IsRepeatAt}
 use Rattle.gt_policy_check.specs.declared.earlier.Pair.{Pair}
 use Rattle.gt_policy_check.specs.declared.earlier.Triple.{Triple}
 use Rattle.gt_policy_check.specs.declared.members.Member.{Member}
@@ -272,7 +272,7 @@ past_by i n h = grind (arith, nat_tests)
 
 pub target_is : (members : List Member) (a : Allowance) (s : ℕ) (m : Member) (r : Option ℕ) → s < length members → m ≡ get_or members s m
     → MatchOption r (list_any (λ t. reaches_by m t a) members ≡ false) (λ t. (t < length members) × (reaches_by m (member_at members t) a ≡ true))
-    → MatchOption r (HasNoTarget members a s) (IsReached members a s)
+    → MatchOption r (HasNoTarget members a s) (ReachesType members a s)
 target_is members a s m None below is none = λ l. ap (λ (x : Member). list_any (λ t. reaches_by x t a) members) (at_any members s m below ∙ sym is) ∙ none
 target_is members a s m (Some t) below is found = record {
   source = below;

@@ -13,7 +13,7 @@ use Rattle.gt_policy.specs.declared.statements.Statement.{Statement}
 use Rattle.gt_policy.specs.declared.statements.Statement.TheVariants.{DeclareType, DeclareAttribute, GiveAttributes, Allow}
 use Rattle.gt_policy_check.specs.Check.{no_more_with, repeats_with, some_no_more_with}
 use Rattle.gt_policy_check.specs.Earlier.{has_source, list_at, member_at, AddsAt, AddsAtAll, AreSources, GrantsTriple}
-use Rattle.gt_policy_check.specs.Earlier.{IsRepeatAt, KeepsLists, Knows}
+use Rattle.gt_policy_check.specs.Earlier.{IsRepeatAt, KeepsLists, ListsEarlier}
 use Rattle.gt_policy_check.specs.declared.earlier.EarlierStatements.{EarlierStatements}
 use Rattle.gt_policy_check.specs.declared.earlier.Triple.{Triple}
 use Rattle.gt_policy_check.specs.declared.members.Member.{Member}
@@ -49,7 +49,7 @@ one_more old now next places k place number below is so adds = (
 -- ---- one statement more
 
 module _ (members : List Member) (before : List LinedStatement) (x : LinedStatement) (sources : List ℕ) (old : EarlierStatements)
-    (knows : Knows members before old) where
+    (knows : ListsEarlier members before old) where
   old_one : (i s : ℕ) (y : LinedStatement) → i < length before → s < length members
       → has_source (member_at members s) (get_or (before ++ x ∷ []) i y).statement ≡ true
       → Contains (list_at old.of_source.items s) i ⊎ Contains old.of_many.items i
@@ -60,7 +60,7 @@ module _ (members : List Member) (before : List LinedStatement) (x : LinedStatem
   last_one i below above = let long : length (before ++ x ∷ []) ≡ length before + 1 = length-append before (x ∷ []) in omega (arith, below, above, long)
 
   -- it is among those that have many
-  pub knows_many : (new : EarlierStatements) → new.of_source ≡ old.of_source → new.of_many.items ≡ old.of_many.items ++ length before ∷ [] → Knows members (before ++ x ∷ []) new
+  pub knows_many : (new : EarlierStatements) → new.of_source ≡ old.of_source → new.of_many.items ≡ old.of_many.items ++ length before ∷ [] → ListsEarlier members (before ++ x ∷ []) new
   knows_many new same is = record {
     lists = ap (λ (v : Vec (Vec ℕ)). length v.items) same ∙ knows.lists;
     every = λ i s y below in_types has. by i s y in_types has below (cases_lt i (length before));
@@ -81,7 +81,7 @@ module _ (members : List Member) (before : List LinedStatement) (x : LinedStatem
 
   -- it is in the lists of the types in its source set
   pub knows_few : (new : EarlierStatements) → AreSources members x.statement sources → AddsAtAll old.of_source.items sources (length before) new.of_source.items
-      → new.of_many ≡ old.of_many → Knows members (before ++ x ∷ []) new
+      → new.of_many ≡ old.of_many → ListsEarlier members (before ++ x ∷ []) new
   knows_few new are adds same = record {
     lists = adds.0.0 ∙ knows.lists;
     every = λ i s y below in_types has. by i s y in_types has below (cases_lt i (length before));
@@ -117,7 +117,7 @@ module _ (members : List Member) (before : List LinedStatement) (x : Statement) 
       list_any_at (λ y. no_more_with members x y.statement) before i (record { line = 0; statement = DeclareAttribute [] }) found.0 (found.1 (record { line = 0; statement = DeclareAttribute [] }))
 
   -- none is among those that are listed
-  pub no_repeat_found : (e : EarlierStatements) (t : Triple) → Knows members before e → GrantsTriple members x t
+  pub no_repeat_found : (e : EarlierStatements) (t : Triple) → ListsEarlier members before e → GrantsTriple members x t
       → All (λ i. IsRepeatAt members before x i → ⊥) (list_at e.of_source.items t.source) → All (λ i. IsRepeatAt members before x i → ⊥) e.of_many.items
       → some_no_more_with members before x ≡ false
   no_repeat_found known t knows has few many =
@@ -169,7 +169,7 @@ adds_nothing old p number past = (kept_lists old, λ below. absurd (omega (arith
 
 -- whether one is found is whether there is one
 pub repeated_is : (members : List Member) (before : List LinedStatement) (x : Statement) (known : EarlierStatements) (t : Triple) (few many : List ℕ) (a b r : Option ℕ)
-    → Knows members before known → GrantsTriple members x t → few ≡ list_at known.of_source.items t.source → many ≡ known.of_many.items
+    → ListsEarlier members before known → GrantsTriple members x t → few ≡ list_at known.of_source.items t.source → many ≡ known.of_many.items
     → MatchOption a (All (λ i. IsRepeatAt members before x i → ⊥) few) (IsRepeatAt members before x)
     → MatchOption b (All (λ i. IsRepeatAt members before x i → ⊥) many) (IsRepeatAt members before x)
     → is_some r ≡ (is_some a || is_some b) → is_some r ≡ repeats_with members before x

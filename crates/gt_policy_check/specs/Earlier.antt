@@ -36,7 +36,7 @@ abbrev pub HasNoTarget : List Member → Allowance → ℕ → Type 0
 HasNoTarget members a s = s < length members → list_any (λ t. reaches_by (member_at members s) t a) members ≡ false
 
 -- the statement reaches the second type from the first
-pub record IsReached (members : List Member) (a : Allowance) (s t : ℕ) : Type 0 where
+pub record ReachesType (members : List Member) (a : Allowance) (s t : ℕ) : Type 0 where
   pub source : s < length members
   pub target : t < length members
   pub reaches : reaches_by (member_at members s) (member_at members t) a ≡ true
@@ -44,7 +44,7 @@ pub record IsReached (members : List Member) (a : Allowance) (s t : ℕ) : Type 
 -- the statement reaches the second type from the first, which is one of these
 pub record IsPair (members : List Member) (a : Allowance) (sources : List ℕ) (p : Pair) : Type 0 where
   pub among : Contains sources p.source
-  pub reached : IsReached members a p.source p.target
+  pub reached : ReachesType members a p.source p.target
 
 -- a statement grants a triple
 abbrev pub triple_grants : List Member → Statement → Triple → Bool
@@ -90,7 +90,7 @@ AddsAtAll old places number new =
     KeepsLists old new × All (λ place. place < length old → Contains (list_at new place) number) places
 
 -- each statement is in the lists of the types in its source set, or among those that have many
-pub record Knows (members : List Member) (before : List LinedStatement) (e : EarlierStatements) : Type 0 where
+pub record ListsEarlier (members : List Member) (before : List LinedStatement) (e : EarlierStatements) : Type 0 where
   pub lists : length e.of_source.items ≡ length members
   pub every : (i s : ℕ) (y : LinedStatement) → i < length before → s < length members
       → has_source (member_at members s) (slice_index_or before i y).statement ≡ true

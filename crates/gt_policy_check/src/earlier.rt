@@ -11,8 +11,8 @@ ghost use Rattle.gt_policy.specs.declared.statements.Statement.TheVariants as st
 ghost use Rattle.gt_policy_check.specs.declared.members.Member.{Member};
 ghost use Rattle.gt_policy_check.specs.Granting.{reaches_by, elements_hold, gives_one};
 ghost use Rattle.gt_policy_check.specs.Check.{grants_with, no_more_with, repeats_with};
-ghost use Rattle.gt_policy_check.specs.Earlier.{AddsAt, AddsAtAll, AreHeld, AreSources, GrantsTriple, HasNoTarget, IsPair, IsReached};
-ghost use Rattle.gt_policy_check.specs.Earlier.{IsRepeatAt, member_at, triple_grants};
+ghost use Rattle.gt_policy_check.specs.Earlier.{AddsAt, AddsAtAll, AreHeld, AreSources, GrantsTriple, HasNoTarget};
+ghost use Rattle.gt_policy_check.specs.Earlier.{IsPair, IsRepeatAt, ReachesType, member_at, triple_grants};
 
 use crate::granting::{gives_source, has_grant, holds, lists, reaches};
 use crate::members::Member;
@@ -110,7 +110,7 @@ fn first_target(allowed: &Allowance, source: &Member, members: &[Member]) -> Opt
 // Returns the first type that a statement reaches from the source of this index.
 fn target_from(allowed: &Allowance, source: usize, members: &[Member]) -> Option<usize>
     ensures { MatchOption result (HasNoTarget members.now allowed.now source)
-        (λ t. IsReached members.now allowed.now source t) }
+        (λ t. ReachesType members.now allowed.now source t) }
 {
     match members.get(source) {
         Some(member) => first_target(allowed, member, members),
@@ -279,15 +279,16 @@ fn least(one: Option<usize>, other: Option<usize>) -> Option<usize>
 }
 
 impl EarlierStatements {
-    ghost use Rattle.std.specs.Prelude.{◌≡◌, ◌<◌, ◌++◌, ◌∷◌, [], List, length, is_some, IfOk, IfSome, MatchOption, OnOk};
+    ghost use Rattle.std.specs.Prelude.{◌≡◌, ◌<◌, ◌++◌, ◌∷◌, [], List, length, is_some, IfOk, IfSome};
+    ghost use Rattle.std.specs.Prelude.{MatchOption, OnOk};
     ghost use Rattle.gt_policy.specs.declared.lined.LinedStatement.{LinedStatement};
     ghost use Rattle.gt_policy_check.specs.declared.members.Member.{Member};
     ghost use Rattle.gt_policy_check.specs.Check.{grants_with, repeats_with};
-    ghost use Rattle.gt_policy_check.specs.Earlier.{AreSources, GrantsTriple, Knows, list_at};
+    ghost use Rattle.gt_policy_check.specs.Earlier.{AreSources, GrantsTriple, ListsEarlier, list_at};
 
     /// Returns the statements before the first one, for these types.
     pub(crate) fn new(alloc: Global, members: &[Member]) -> Result<EarlierStatements, AllocError>
-        ensures { IfOk result (λ e. Knows members.now [] e) }
+        ensures { IfOk result (λ e. ListsEarlier members.now [] e) }
     {
         let mut of_source = Vec::new(alloc);
         'members: for _ in members {
@@ -301,9 +302,9 @@ impl EarlierStatements {
 
     /// Adds the next statement. These are the types in its source set, and `number` is how many were added before.
     pub(crate) fn add(&mut self, number: usize, sources: &[usize]) -> Result<(), AllocError>
-        ensures { (members : List Member) (before : List LinedStatement) (x : LinedStatement) → Knows members before self.old
-            → length before ≡ number → AreSources members x.statement sources.now
-            → OnOk result (Knows members (before ++ x ∷ []) self.new) }
+        ensures { (members : List Member) (before : List LinedStatement) (x : LinedStatement)
+            → ListsEarlier members before self.old → length before ≡ number → AreSources members x.statement sources.now
+            → OnOk result (ListsEarlier members (before ++ x ∷ []) self.new) }
     {
         if sources.len() > FEW {
             self.of_many.push(number)?;
@@ -331,7 +332,7 @@ impl EarlierStatements {
         before: &[LinedStatement],
         members: &[Member],
     ) -> Option<usize>
-        requires knows { Knows members.now before.now self.now }
+        requires lists { ListsEarlier members.now before.now self.now }
         requires granted { MatchOption triple (grants_with members.now statement.now ≡ false)
             (GrantsTriple members.now statement.now) }
         ensures is { is_some result ≡ repeats_with members.now before.now statement.now }

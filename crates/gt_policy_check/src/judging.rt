@@ -4,7 +4,7 @@ ghost use Rattle.std.specs.Prelude.{Some, OnOk};
 ghost use Rattle.std.specs.List.{flat_map};
 ghost use Rattle.gt_policy_check.specs.Check.{HasColumn, KeepsColumns};
 ghost use Rattle.gt_policy_check.specs.Columns.{AreOfLine, AreStarts, IsColumnOf};
-ghost use Rattle.gt_policy_check.specs.Earlier.{IsStated, Knows};
+ghost use Rattle.gt_policy_check.specs.Earlier.{IsStated, ListsEarlier};
 ghost use Rattle.gt_policy.specs.declared.lined.LinedStatement.{LinedStatement};
 ghost use Rattle.gt_policy_check.specs.Placing.{IsAtStatement, IsOnLine};
 ghost use Rattle.gt_policy_check.specs.Check.{Quiet, AddsUseless, allows_nothing, error_lines, lines_repeated};
@@ -284,8 +284,9 @@ fn warn_next(
 ) -> Result<(), AllocError>
     requires lines { AreStarts policy.now.bytes.now policy.now.lines.now.starts.items }
     requires within { number < length policy.now.statements.now }
-    requires knows { Knows policy.now.members.now (take number policy.now.statements.now) earlier.old }
-    ensures knows { OnOk result (Knows policy.now.members.now (take (number + 1) policy.now.statements.now) earlier.new) }
+    requires lists { ListsEarlier policy.now.members.now (take number policy.now.statements.now) earlier.old }
+    ensures lists { OnOk result
+        (ListsEarlier policy.now.members.now (take (number + 1) policy.now.statements.now) earlier.new) }
     ensures useless { (x : LinedStatement) → slice_get policy.now.statements.now number ≡ Some x
         → OnOk result (AddsUseless found.old.items found.new.items
         (useless_line policy.now.members.now x)

@@ -1,10 +1,10 @@
 //! The lines and tokens of a text, as ranges of bytes.
-ghost use Rattle.std.specs.Prelude.{◌≡◌, ℕ, ◌+◌, ◌^◌, ◌<◌, ◌≤◌, ◌==◌, ◌++◌, ◌∷◌, [], true, false, length, take, count_by};
-ghost use Rattle.std.specs.Prelude.{slice_index, if◌then◌else◌, OnOk};
+ghost use Rattle.std.specs.Prelude.{◌≡◌, ℕ, ◌+◌, ◌^◌, ◌<◌, ◌≤◌, ◌==◌, ◌++◌, ◌∷◌, [], true, false, length, take};
+ghost use Rattle.std.specs.Prelude.{count_by, slice_index, if◌then◌else◌, OnOk};
 ghost use Rattle.std.specs.Prelude.{slice_range, IfOk, MatchOption};
 ghost use Rattle.gt_policy_text.specs.Lexing.{is_blank, is_letter};
-ghost use Rattle.gt_policy_check.specs.Columns.{column_number, continues_token, AreBounds, AreOfLine, AreStarts, AreTokens};
-ghost use Rattle.gt_policy_check.specs.Columns.{HasWord, IsColumnIn, IsColumnOf, IsFirstColumn};
+ghost use Rattle.gt_policy_check.specs.Columns.{column_number, continues_token, AreBounds, AreOfLine, AreStarts};
+ghost use Rattle.gt_policy_check.specs.Columns.{AreTokens, HasWord, IsColumnIn, IsColumnOf, IsFirstColumn};
 
 use std::alloc::{AllocError, Global};
 
