@@ -30,7 +30,7 @@ fn report(
     ensures { IfOk result (λ said. IsReport form file.now found.now said.items) }
 {
     let mut out = Vec::new(alloc);
-    push_findings(&mut out, form, file, text, found)?;
+    push_findings(alloc, &mut out, form, file, text, found)?;
     Ok(out)
 }
 

@@ -52,6 +52,7 @@ fn note_of(alloc: Global, texts: &BrokenTexts, breach: &Breach) -> Result<Findin
 
 // Appends a finding about one of the texts.
 fn push_finding(
+    alloc: Global,
     out: &mut Vec<u8>,
     form: ReportForm,
     file: &str,
@@ -61,7 +62,7 @@ fn push_finding(
     ensures { OnOk result (AddsText (IsReport form file.now (finding ∷ [])) out.old.items out.new.items) }
 {
     let found = [finding];
-    push_findings(out, form, file, text, found.as_slice())
+    push_findings(alloc, out, form, file, text, found.as_slice())
 }
 
 // Appends a breach: its error, and its note.
@@ -76,9 +77,9 @@ fn push_breach(
         texts.now.never_file.now texts.now.never.now breach.now) out.old.items out.new.items) }
 {
     let error = error_of(alloc, texts, breach)?;
-    push_finding(out, form, texts.file, texts.policy, error)?;
+    push_finding(alloc, out, form, texts.file, texts.policy, error)?;
     let note = note_of(alloc, texts, breach)?;
-    push_finding(out, form, texts.never_file, texts.never, note)
+    push_finding(alloc, out, form, texts.never_file, texts.never, note)
 }
 
 // Appends the breaches, each as an error at the allow statement and a note at the `neverallow` statement.
@@ -163,6 +164,7 @@ pub fn push_never_findings(
         texts.now.never_file.now texts.now.never.now found.now) out.old.items out.new.items) }
 {
     push_findings(
+        alloc,
         out,
         form,
         texts.never_file,

@@ -1,15 +1,18 @@
 -- Lines, tokens and columns of a text.
-use Rattle.std.proofs.Common.{◌≡◌, ◌⊎◌, inl, inr, ℕ, ◌+◌, ◌-◌, ◌<◌, ◌≤◌, Bool, true, false, List, [], ◌∷◌, ◌++◌}
+use Rattle.std.proofs.Common.{◌≡◌, ◌⊎◌, inl, inr, ℕ, ◌+◌, ◌-◌, ◌<◌, ◌≤◌, ◌==◌, Bool, true, false, List, [], ◌∷◌, ◌++◌}
 use Rattle.std.proofs.Common.{Option, Some, None, cond, drop, get_or, length, take, refl, sym, ap, subst, ◌∙◌, arith}
-use Rattle.std.specs.Prelude.{All, Contains, MatchOption, slice_range}
-use Rattle.std.proofs.lemmas.Bool.{cases_lt, cases_order, true≢false, false≢true}
+use Rattle.std.specs.Prelude.{count_by, if◌then◌else◌, All, Contains, MatchOption, slice_range}
+use Rattle.std.proofs.lemmas.List.{append-nil, get_or_push, length_push}
+use Rattle.std.proofs.lemmas.List.Sums.{count_by_more_no, count_by_more_yes}
+use Rattle.std.proofs.Math.ListN.{get_or-append}
+use Rattle.std.proofs.lemmas.Bool.{cases_lt, cases_order, true≢false}
 use Rattle.std.proofs.lemmas.Bool.Decides.{nat_tests}
 use Rattle.std.proofs.lemmas.List.Elements.{All-contains, All-more, All-push, Contains-append_left, Contains-push}
 use Rattle.std.proofs.lemmas.Grind.{common_steps}
 use Rattle.std.proofs.lemmas.Slice.Eq.{bytes_eq-Decides}
 use Rattle.std.specs.Str.{bytes_eq}
-use Rattle.gt_policy_text.specs.Lexing.{is_blank, is_letter, is_name_byte}
-use Rattle.gt_policy_check.specs.Columns.{begins_row, column_number, continues_token, AreBounds, AreTokens, HasWord, IsToken}
+use Rattle.gt_policy_text.specs.Lexing.{is_blank}
+use Rattle.gt_policy_check.specs.Columns.{begins_row, column_number, continues_token, AreBounds, AreTokens, BeginsTextLine, HasWord, IsToken}
 use Rattle.gt_policy_check.specs.Columns.{RunsTo, IsColumnIn, IsColumnOf, IsEndIn, IsEndOf, HasNoLine, no_line, of_row}
 use Rattle.gt_policy_check.specs.Columns.{of_word, on_line, ends_nowhere, ends_on_line, AreOfLine, IsFirstColumn}
 use Rattle.gt_policy_check.specs.declared.places.LineTokens.{LineTokens}
@@ -306,3 +309,52 @@ end_of_read text line lent i t column are same below is column_is =
     let inside : i < length line.tokens.items = subst (λ (l : List Span). i < length l) same below in
     let there : t ≡ get_or line.tokens.items i t = subst (λ (l : List Span). t ≡ get_or l i t) same is in
     end_of_token text line i t column are inside there column_is
+
+-- ---- where lines begin
+
+abbrev Begin : List ℕ → List ℕ → Type 0
+Begin bytes starts = (i : ℕ) → i < length starts → BeginsTextLine bytes (i + 1) (get_or starts i 0)
+
+abbrev feeds : List ℕ → ℕ → ℕ
+feeds bytes place = count_by (λ b. b == 10) (take place bytes)
+
+-- a line feed
+pub begins_more : (bytes starts more : List ℕ) (place : ℕ) → place < length bytes → get_or bytes place 0 ≡ 10 → Begin bytes starts
+    → length starts ≡ feeds bytes place + 1 → more ≡ starts ++ (place + 1) ∷ [] → Begin bytes more × (length more ≡ feeds bytes (place + 1) + 1)
+begins_more bytes starts more place below is begin many added =
+    (subst (λ (l : List ℕ). Begin bytes l) (sym added) each, ap length added ∙ length_push starts (place + 1) ∙ ap (λ (n : ℕ). n + 1) (many ∙ sym count))
+  where
+    count : feeds bytes (place + 1) ≡ feeds bytes place + 1
+    count = count_by_more_yes (λ b. b == 10) bytes place 0 below (ap (λ (b : ℕ). b == 10) is)
+
+    here : (i : ℕ) → length starts ≡ i → BeginsTextLine bytes (i + 1) (get_or (starts ++ (place + 1) ∷ []) i 0)
+    here i last = subst (λ (n : ℕ). BeginsTextLine bytes (i + 1) n) (sym (get_or_push starts (place + 1) 0 i last)) (record {
+      within = omega (arith, below);
+      number = ap (λ (n : ℕ). n + 1) (count ∙ sym many ∙ last);
+      begins = let e : (place + 1) - 1 ≡ place = omega arith in inr (subst (λ (n : ℕ). get_or bytes n 0 ≡ 10) (sym e) is);
+    })
+
+    by : (i : ℕ) → i < length (starts ++ (place + 1) ∷ []) → (i < length starts) ⊎ (length starts ≤ i) → BeginsTextLine bytes (i + 1) (get_or (starts ++ (place + 1) ∷ []) i 0)
+    by i l (inl within) = subst (λ (n : ℕ). BeginsTextLine bytes (i + 1) n) (sym (get_or-append starts ((place + 1) ∷ []) 0 i within)) (begin i within)
+    by i l (inr past) = let long = length_push starts (place + 1) in here i (omega (arith, l, past, long))
+
+    each : Begin bytes (starts ++ (place + 1) ∷ [])
+    each i l = by i l (cases_lt i (length starts))
+
+-- another byte
+pub begins_same : (bytes starts : List ℕ) (place : ℕ) → place < length bytes → (get_or bytes place 0 == 10) ≡ false
+    → length starts ≡ feeds bytes place + 1 → length starts ≡ feeds bytes (place + 1) + 1
+begins_same bytes starts place below is many = many ∙ ap (λ (n : ℕ). n + 1) (sym (count_by_more_no (λ b. b == 10) bytes place 0 below is))
+
+pub begins_next : (bytes starts more : List ℕ) (place : ℕ) → place < length bytes → Begin bytes starts → length starts ≡ feeds bytes place + 1
+    → more ≡ starts ++ (if get_or bytes place 0 == 10 then (place + 1) ∷ [] else []) → Begin bytes more × (length more ≡ feeds bytes (place + 1) + 1)
+begins_next bytes starts more place below begin many added = by (get_or bytes place 0 == 10) refl
+  where
+    on : (b : Bool) → (get_or bytes place 0 == 10) ≡ b → more ≡ starts ++ (if b then (place + 1) ∷ [] else [])
+    on b e = added ∙ ap (λ (c : Bool). starts ++ (if c then (place + 1) ∷ [] else [])) e
+
+    by : (b : Bool) → (get_or bytes place 0 == 10) ≡ b → Begin bytes more × (length more ≡ feeds bytes (place + 1) + 1)
+    by true e = let ten : get_or bytes place 0 ≡ 10 = grind (arith, nat_tests) in begins_more bytes starts more place below ten begin many (on true e)
+    by false e =
+        let same : more ≡ starts = on false e ∙ append-nil starts in
+        (subst (λ (l : List ℕ). Begin bytes l) (sym same) begin, ap length same ∙ begins_same bytes starts place below e many)

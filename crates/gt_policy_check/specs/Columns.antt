@@ -36,6 +36,17 @@ pub record IsTextLine (text : List ℕ) (line start end : ℕ) : Type 0 where
   pub inside : (k : ℕ) → start ≤ k → k < end → slice_index text k ≡ 10 → ⊥
   pub ends : (end ≡ length text) ⊎ (slice_index text end ≡ 10)
 
+-- the line of this number, counted from 1, begins at this place
+pub record BeginsTextLine (text : List ℕ) (line start : ℕ) : Type 0 where
+  pub within : start ≤ length text
+  pub number : count_by (λ b. b == 10) (take start text) + 1 ≡ line
+  pub begins : (start ≡ 0) ⊎ (slice_index text (start - 1) ≡ 10)
+
+-- these are the places where the lines of a text begin, in order
+pub record AreStarts (text : List ℕ) (starts : List ℕ) : Type 0 where
+  pub each : (i : ℕ) → i < length starts → BeginsTextLine text (i + 1) (slice_index starts i)
+  pub every : length starts ≡ count_by (λ b. b == 10) text + 1
+
 -- the text has no line of this number
 abbrev pub HasNoLine : List ℕ → ℕ → Type 0
 HasNoLine text line = (line ≡ 0) ⊎ (count_by (λ b. b == 10) text + 1 < line)

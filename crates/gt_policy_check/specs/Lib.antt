@@ -1,5 +1,6 @@
 pub mod Check
 pub mod Columns
+pub mod Earlier
 pub mod Granting
 pub mod Members
 pub mod Placing

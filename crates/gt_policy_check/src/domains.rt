@@ -7,30 +7,34 @@ use crate::adding::{Place, push_of_word, push_quiet};
 use crate::fault::{message_of, said_of};
 use crate::findings::{Finding, FindingKind};
 use crate::granting::{gives_of, names_type};
-use crate::members::{Member, is_same, members_of, push_members};
+use crate::members::{Member, is_same, push_members};
+use crate::places::LineStarts;
 use crate::useless::allows_something;
 use gt_policy::{LinedStatement, Statement, TextPiece};
 use std::alloc::{AllocError, Global};
 
-/// A policy that is checked: its text, statements and types, and those types that a domain may have.
+/// A policy that is checked: its text with where the lines begin, its statements and types, and if it is that of a
+/// script, those types that a domain has.
 #[derive(Clone, Copy)]
 pub(crate) struct Judged<'p, 'a> {
     pub bytes: &'p [u8],
+    pub lines: &'p LineStarts,
     pub statements: &'p [LinedStatement<'a>],
     pub members: &'p [Member<'a>],
+    pub of_script: bool,
     pub worn: &'p [Member<'a>],
 }
 
-/// Returns the types of a script's domains, by these names. Returns all types of the policy if no names are given.
+/// Returns the types of a script's domains, by these names; none if no names are given.
 pub(crate) fn worn_members<'a>(
     alloc: Global,
     statements: &[LinedStatement<'a>],
     worn: Option<&[&str]>,
 ) -> Result<Vec<Member<'a>>, AllocError> {
-    let Some(names) = worn else {
-        return members_of(alloc, statements, None);
-    };
     let mut members = Vec::new(alloc);
+    let Some(names) = worn else {
+        return Ok(members);
+    };
     for name in names {
         push_members(alloc, &mut members, statements, Some(*name))?;
     }
@@ -64,6 +68,11 @@ fn is_named(policy: &Judged, name: &TextPiece) -> bool {
         Some(member) => names_member(policy.statements, member),
         None => true,
     }
+}
+
+// Returns whether a domain of the script has the type, or the policy is not that of a script.
+fn is_worn(policy: &Judged, name: &TextPiece) -> bool {
+    !policy.of_script || member_named(policy.worn, name).is_some()
 }
 
 // Returns what is wrong with a type that no allow statement names. The caller of a copy is not asked, so it may copy
@@ -100,19 +109,19 @@ pub(crate) fn warn_type(
         let message = said_of(alloc, word, unnamed_text(policy))?;
         return push_of_word(found, FindingKind::NeverNamed, place, word, message);
     }
-    if member_named(policy.worn, name).is_none() {
+    if !is_worn(policy, name) {
         let message = said_of(alloc, word, " is not the type of any domain in this script")?;
         return push_of_word(found, FindingKind::NoDomain, place, word, message);
     }
     Ok(())
 }
 
-// Returns whether the statement allows something, but nothing to the types that a domain may have.
+// Returns whether a statement that allows something allows nothing to the types that a domain of the script has.
 fn never_matters(statement: &Statement, policy: &Judged) -> bool {
-    allows_something(statement, policy.members) && !allows_something(statement, policy.worn)
+    policy.of_script && !allows_something(statement, policy.worn)
 }
 
-/// Warns of a statement that allows nothing to the domains of the script.
+/// Warns of a statement that allows something, but nothing to the domains of the script.
 #[tactic(auto, using(crate::proofs::KeepLemmas::keeps_same, crate::proofs::KeepLemmas::keeps_then))]
 pub(crate) fn warn_matter(
     alloc: Global,

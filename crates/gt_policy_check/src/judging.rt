@@ -1,34 +1,51 @@
 //! Warnings about the statements of a policy.
-ghost use Rattle.std.specs.Prelude.{◌≡◌, ◌∷◌, [], codes, map, filter, All, IfOk, OnOk};
+ghost use Rattle.std.specs.Prelude.{◌≡◌, ◌+◌, ◌<◌, ◌∷◌, [], codes, length, map, filter, slice_get, take, All, IfOk};
+ghost use Rattle.std.specs.Prelude.{Some, OnOk};
 ghost use Rattle.std.specs.List.{flat_map};
 ghost use Rattle.gt_policy_check.specs.Check.{HasColumn, KeepsColumns};
-ghost use Rattle.gt_policy_check.specs.Columns.{AreOfLine, IsColumnOf};
+ghost use Rattle.gt_policy_check.specs.Columns.{AreOfLine, AreStarts, IsColumnOf};
+ghost use Rattle.gt_policy_check.specs.Earlier.{IsStated, ListsEarlier};
+ghost use Rattle.gt_policy.specs.declared.lined.LinedStatement.{LinedStatement};
 ghost use Rattle.gt_policy_check.specs.Placing.{IsAtStatement, IsOnLine};
 ghost use Rattle.gt_policy_check.specs.Check.{Quiet, AddsUseless, allows_nothing, error_lines, lines_repeated};
 ghost use Rattle.gt_policy_check.specs.Check.{nothing_lines, repeat_line, repeat_lines, repeated_with, useless_line};
 
 use crate::adding::{Place, push_note, push_nothing, push_repeat};
 use crate::domains::{Judged, warn_matter, warn_type, worn_members};
+use crate::earlier::{EarlierStatements, sources_of, triple_of};
 use crate::fault::{FindingNote, message_of};
 use crate::findings::{Finding, FindingKind};
 use crate::listed::warn_words;
 use crate::members::{Member, members_of};
-use crate::places::{LineTokens, column_of_word, line_tokens};
-use crate::useless::{UselessReason, is_useless, reason_of, repeated};
+use crate::places::{LineTokens, column_of_word, line_starts, tokens_of};
+use crate::useless::{UselessReason, is_useless, reason_of};
 use gt_policy::{LinedStatement, Statement};
 use gt_text::{push_number, push_text};
 use gt_types::Memory;
 use std::alloc::{AllocError, Global};
 
-// Counts the allow statements that begin on this line.
+// Counts the last allow statements of these that begin on this line. Statements are in the order of their lines.
 fn allows_on(statements: &[LinedStatement], line: u32) -> usize {
     let mut count: usize = 0;
-    for stated in statements {
-        if stated.line == line && matches!(stated.statement, Statement::Allow(_)) {
+    for stated in statements.iter().rev() {
+        if stated.line != line {
+            break;
+        }
+        if matches!(stated.statement, Statement::Allow(_)) {
             count = count.saturating_add(1);
         }
     }
     count
+}
+
+/// A statement that is judged, with those before it: whether it allows something, and the index of the first of them
+/// that allows all that it does.
+#[derive(Clone, Copy)]
+struct Stated<'s, 'a> {
+    stated: &'s LinedStatement<'a>,
+    before: &'s [LinedStatement<'a>],
+    allows: bool,
+    repeats: Option<usize>,
 }
 
 // Returns the message for a statement that allows nothing.
@@ -47,23 +64,24 @@ fn warn_nothing(
     alloc: Global,
     found: &mut Vec<Finding>,
     place: &Place,
-    stated: &LinedStatement,
+    it: &Stated,
     members: &[Member],
 ) -> Result<(), AllocError>
+    requires judged { IsStated members.now it.now }
     requires at_statement { IsAtStatement place.now }
-    requires on_line { place.now.line ≡ stated.now.line }
+    requires on_line { place.now.line ≡ it.now.stated.now.line }
     ensures useless { OnOk result (AddsUseless found.old.items found.new.items
-        (useless_line members.now stated.now) []) }
+        (useless_line members.now it.now.stated.now) []) }
     ensures columns { OnOk result (KeepsColumns place.now.bytes.now found.old.items found.new.items) }
 {
-    if is_useless(&stated.statement, members) {
-        let said = reason_text(reason_of(&stated.statement, members));
+    if is_useless(&it.stated.statement, it.allows, members) {
+        let said = reason_text(reason_of(&it.stated.statement, members));
         let message = message_of(alloc, said)?;
         return push_nothing(
             found,
             Finding {
                 kind: FindingKind::AllowsNothing,
-                line: stated.line,
+                line: it.stated.line,
                 column: place.column,
                 message,
             },
@@ -88,19 +106,22 @@ fn column_after(bytes: &[u8], tokens: &LineTokens, before: &[LinedStatement], li
     column_of_word(bytes, tokens, b"allow".as_slice(), allows_on(before, line))
 }
 
-// Adds the note at a repeated statement, which is on this line and comes after these.
+// Adds the note at the statement that is repeated, the one at this index.
 fn push_repeat_note(
     alloc: Global,
     found: &mut Vec<Finding>,
-    bytes: &[u8],
-    line: u32,
+    policy: &Judged,
     before: &[LinedStatement],
+    first: usize,
 ) -> Result<(), AllocError>
+    requires lines { AreStarts policy.now.bytes.now policy.now.lines.now.starts.items }
+    requires within { first < length before.now }
     ensures quiet { OnOk result (Quiet found.old.items found.new.items) }
-    ensures columns { OnOk result (KeepsColumns bytes.now found.old.items found.new.items) }
+    ensures columns { OnOk result (KeepsColumns policy.now.bytes.now found.old.items found.new.items) }
 {
-    let tokens = line_tokens(alloc, bytes, line)?;
-    let column = column_after(bytes, &tokens, before, line);
+    let line = before[first].line;
+    let tokens = tokens_of(alloc, policy.bytes, policy.lines, line)?;
+    let column = column_after(policy.bytes, &tokens, &before[..first], line);
     let message = message_of(alloc, "this statement allows it first")?;
     push_note(
         found,
@@ -112,19 +133,15 @@ fn push_repeat_note(
     )
 }
 
-// Adds the finding that the statement on `line` repeats the one on `first`, which comes after these.
-#[tactic(auto, using(crate::proofs::CheckLemmas::repeat_then_note, crate::proofs::KeepLemmas::keeps_then))]
+// Adds the finding that a statement repeats the one on this line.
 fn push_repeated(
     alloc: Global,
     found: &mut Vec<Finding>,
     place: &Place,
-    line: u32,
     first: u32,
-    before: &[LinedStatement],
 ) -> Result<(), AllocError>
-    requires at_statement { IsAtStatement place.now }
-    requires on_line { place.now.line ≡ line }
-    ensures useless { OnOk result (AddsUseless found.old.items found.new.items [] (line ∷ [])) }
+    requires { IsAtStatement place.now }
+    ensures useless { OnOk result (AddsUseless found.old.items found.new.items [] (place.now.line ∷ [])) }
     ensures columns { OnOk result (KeepsColumns place.now.bytes.now found.old.items found.new.items) }
 {
     let message = repeat_message(alloc, first)?;
@@ -132,36 +149,57 @@ fn push_repeated(
         found,
         Finding {
             kind: FindingKind::Repeats,
-            line,
+            line: place.line,
             column: place.column,
             message,
         },
-    )?;
-    push_repeat_note(alloc, found, place.bytes, first, before)
+    )
 }
 
 // Warns of a statement that repeats an earlier one.
-#[tactic(auto, using(crate::proofs::KeepLemmas::keeps_same, crate::proofs::KeepLemmas::keeps_then))]
+#[tactic(auto, using(crate::proofs::CheckLemmas::repeat_then_note, crate::proofs::KeepLemmas::keeps_same, crate::proofs::KeepLemmas::keeps_then))]
 fn warn_repeat(
     alloc: Global,
     found: &mut Vec<Finding>,
     place: &Place,
-    stated: &LinedStatement,
-    before: &[LinedStatement],
-    members: &[Member],
+    policy: &Judged,
+    it: &Stated,
 ) -> Result<(), AllocError>
+    requires text { place.now.bytes.now ≡ policy.now.bytes.now }
+    requires lines { AreStarts policy.now.bytes.now policy.now.lines.now.starts.items }
+    requires judged { IsStated policy.now.members.now it.now }
     requires at_statement { IsAtStatement place.now }
-    requires on_line { place.now.line ≡ stated.now.line }
+    requires on_line { place.now.line ≡ it.now.stated.now.line }
     ensures useless { OnOk result (AddsUseless found.old.items found.new.items []
-        (repeat_line members.now before.now stated.now)) }
+        (repeat_line policy.now.members.now it.now.before.now it.now.stated.now)) }
     ensures columns { OnOk result (KeepsColumns place.now.bytes.now found.old.items found.new.items) }
 {
-    match repeated(&stated.statement, before, members) {
+    match it.repeats {
         Some(first) => {
-            let line = before[first].line;
-            push_repeated(alloc, found, place, stated.line, line, &before[..first])
+            push_repeated(alloc, found, place, it.before[first].line)?;
+            push_repeat_note(alloc, found, policy, it.before, first)
         }
         None => Ok(()),
+    }
+}
+
+// Warns of a statement that allows something, but nothing to the domains of the script.
+#[tactic(auto, using(crate::proofs::KeepLemmas::keeps_same))]
+fn warn_if_no_matter(
+    alloc: Global,
+    found: &mut Vec<Finding>,
+    place: &Place,
+    policy: &Judged,
+    it: &Stated,
+) -> Result<(), AllocError>
+    requires { IsAtStatement place.now }
+    ensures quiet { OnOk result (Quiet found.old.items found.new.items) }
+    ensures columns { OnOk result (KeepsColumns place.now.bytes.now found.old.items found.new.items) }
+{
+    if it.allows {
+        warn_matter(alloc, found, place, policy, &it.stated.statement)
+    } else {
+        Ok(())
     }
 }
 
@@ -185,56 +223,95 @@ fn warn_parts(
     }
 }
 
-// Warns of what is useless in a statement at this position, which comes after these.
+// Warns of what is useless in a statement at this position.
 #[tactic(auto, using(crate::proofs::CheckLemmas::tells_all, crate::proofs::KeepLemmas::keeps_then))]
 fn warn_at(
     alloc: Global,
     found: &mut Vec<Finding>,
     place: &Place,
     policy: &Judged,
-    stated: &LinedStatement,
-    before: &[LinedStatement],
+    it: &Stated,
 ) -> Result<(), AllocError>
+    requires text { place.now.bytes.now ≡ policy.now.bytes.now }
+    requires lines { AreStarts policy.now.bytes.now policy.now.lines.now.starts.items }
+    requires judged { IsStated policy.now.members.now it.now }
     requires tokens { IsOnLine place.now }
     requires at_statement { IsAtStatement place.now }
-    requires on_line { place.now.line ≡ stated.now.line }
+    requires on_line { place.now.line ≡ it.now.stated.now.line }
     ensures useless { OnOk result (AddsUseless found.old.items found.new.items
-        (useless_line policy.now.members.now stated.now)
-        (repeat_line policy.now.members.now before.now stated.now)) }
+        (useless_line policy.now.members.now it.now.stated.now)
+        (repeat_line policy.now.members.now it.now.before.now it.now.stated.now)) }
     ensures columns { OnOk result (KeepsColumns place.now.bytes.now found.old.items found.new.items) }
 {
-    warn_parts(alloc, found, place, policy, &stated.statement)?;
-    warn_nothing(alloc, found, place, stated, policy.members)?;
-    warn_repeat(alloc, found, place, stated, before, policy.members)?;
-    warn_matter(alloc, found, place, policy, &stated.statement)
+    warn_parts(alloc, found, place, policy, &it.stated.statement)?;
+    warn_nothing(alloc, found, place, it, policy.members)?;
+    warn_repeat(alloc, found, place, policy, it)?;
+    warn_if_no_matter(alloc, found, place, policy, it)
 }
 
-// Warns of what is useless in a statement, which comes after these.
+// Warns of what is useless in a statement.
 fn warn(
     alloc: Global,
     found: &mut Vec<Finding>,
     policy: &Judged,
-    stated: &LinedStatement,
-    before: &[LinedStatement],
+    it: &Stated,
 ) -> Result<(), AllocError>
+    requires lines { AreStarts policy.now.bytes.now policy.now.lines.now.starts.items }
+    requires judged { IsStated policy.now.members.now it.now }
     ensures useless { OnOk result (AddsUseless found.old.items found.new.items
-        (useless_line policy.now.members.now stated.now)
-        (repeat_line policy.now.members.now before.now stated.now)) }
+        (useless_line policy.now.members.now it.now.stated.now)
+        (repeat_line policy.now.members.now it.now.before.now it.now.stated.now)) }
     ensures columns { OnOk result (KeepsColumns policy.now.bytes.now found.old.items found.new.items) }
 {
-    let tokens = line_tokens(alloc, policy.bytes, stated.line)?;
+    let line = it.stated.line;
+    let tokens = tokens_of(alloc, policy.bytes, policy.lines, line)?;
     let place = Place {
         bytes: policy.bytes,
         tokens: &tokens,
-        line: stated.line,
-        column: column_after(policy.bytes, &tokens, before, stated.line),
+        line,
+        column: column_after(policy.bytes, &tokens, it.before, line),
     };
-    warn_at(alloc, found, &place, policy, stated, before)
+    warn_at(alloc, found, &place, policy, it)
+}
+
+// Warns of what is useless in the next statement, and adds it to the earlier ones.
+fn warn_next(
+    alloc: Global,
+    found: &mut Vec<Finding>,
+    policy: &Judged,
+    earlier: &mut EarlierStatements,
+    number: usize,
+) -> Result<(), AllocError>
+    requires lines { AreStarts policy.now.bytes.now policy.now.lines.now.starts.items }
+    requires within { number < length policy.now.statements.now }
+    requires lists { ListsEarlier policy.now.members.now (take number policy.now.statements.now) earlier.old }
+    ensures lists { OnOk result
+        (ListsEarlier policy.now.members.now (take (number + 1) policy.now.statements.now) earlier.new) }
+    ensures useless { (x : LinedStatement) → slice_get policy.now.statements.now number ≡ Some x
+        → OnOk result (AddsUseless found.old.items found.new.items
+        (useless_line policy.now.members.now x)
+        (repeat_line policy.now.members.now (take number policy.now.statements.now) x)) }
+    ensures columns { OnOk result (KeepsColumns policy.now.bytes.now found.old.items found.new.items) }
+{
+    let stated = &policy.statements[number];
+    let before = &policy.statements[..number];
+    let members = policy.members;
+    let sources = sources_of(alloc, &stated.statement, members)?;
+    let triple = triple_of(&stated.statement, sources.as_slice(), members);
+    let it = Stated {
+        stated,
+        before,
+        allows: triple.is_some(),
+        repeats: earlier.repeated(&stated.statement, triple, before, members),
+    };
+    warn(alloc, found, policy, &it)?;
+    earlier.add(number, sources.as_slice())
 }
 
 // Warns of what is useless in the statements of a policy.
 #[tactic(auto, using(crate::proofs::KeepLemmas::keeps_same, crate::proofs::KeepLemmas::keeps_then))]
 fn warn_all(alloc: Global, policy: &Judged) -> Result<Vec<Finding>, Memory>
+    requires { AreStarts policy.now.bytes.now policy.now.lines.now.starts.items }
     ensures no_error { IfOk result (λ v. error_lines v.items ≡ []) }
     ensures nothing { IfOk result (λ v. nothing_lines v.items
         ≡ flat_map (λ x. useless_line policy.now.members.now x) policy.now.statements.now) }
@@ -242,10 +319,10 @@ fn warn_all(alloc: Global, policy: &Judged) -> Result<Vec<Finding>, Memory>
         ≡ repeated_with policy.now.members.now [] policy.now.statements.now) }
     ensures columns { IfOk result (λ v. All (HasColumn policy.now.bytes.now) v.items) }
 {
-    let statements = policy.statements;
     let mut found = Vec::new(alloc);
-    'statements: for (i, stated) in statements.iter().enumerate() {
-        warn(alloc, &mut found, policy, stated, &statements[..i])?;
+    let mut earlier = EarlierStatements::new(alloc, policy.members)?;
+    'statements: for i in 0..policy.statements.len() {
+        warn_next(alloc, &mut found, policy, &mut earlier, i)?;
     }
     Ok(found)
 }
@@ -264,11 +341,15 @@ pub(crate) fn warnings(
     ensures columns { IfOk result (λ v. All (HasColumn bytes.now) v.items) }
 {
     let members = members_of(alloc, statements, None)?;
+    let lines = line_starts(alloc, bytes)?;
+    let of_script = worn.is_some();
     let worn = worn_members(alloc, statements, worn)?;
     let policy = Judged {
         bytes,
+        lines: &lines,
         statements,
         members: members.as_slice(),
+        of_script,
         worn: worn.as_slice(),
     };
     warn_all(alloc, &policy)

@@ -17,6 +17,7 @@ mod adding;
 mod asking;
 mod declared;
 mod domains;
+mod earlier;
 mod fault;
 mod findings;
 mod granting;

@@ -1,9 +1,10 @@
 //! The lines and tokens of a text, as ranges of bytes.
-ghost use Rattle.std.specs.Prelude.{◌≡◌, ℕ, ◌+◌, ◌<◌, ◌≤◌, ◌==◌, true, false, length, take, count_by, slice_index};
+ghost use Rattle.std.specs.Prelude.{◌≡◌, ℕ, ◌+◌, ◌^◌, ◌<◌, ◌≤◌, ◌==◌, ◌++◌, ◌∷◌, [], true, false, length, take};
+ghost use Rattle.std.specs.Prelude.{count_by, slice_index, if◌then◌else◌, OnOk};
 ghost use Rattle.std.specs.Prelude.{slice_range, IfOk, MatchOption};
 ghost use Rattle.gt_policy_text.specs.Lexing.{is_blank, is_letter};
-ghost use Rattle.gt_policy_check.specs.Columns.{column_number, continues_token, AreBounds, AreOfLine, AreTokens};
-ghost use Rattle.gt_policy_check.specs.Columns.{HasWord, IsColumnIn, IsColumnOf, IsFirstColumn};
+ghost use Rattle.gt_policy_check.specs.Columns.{column_number, continues_token, AreBounds, AreOfLine, AreStarts};
+ghost use Rattle.gt_policy_check.specs.Columns.{AreTokens, HasWord, IsColumnIn, IsColumnOf, IsFirstColumn};
 
 use std::alloc::{AllocError, Global};
 
@@ -53,6 +54,57 @@ pub(crate) fn line_span(bytes: &[u8], line: u32) -> Span
     Span {
         start,
         end: line_end(bytes, start),
+    }
+}
+
+/// Where the lines of a text begin.
+#[derive(Drop)]
+pub(crate) struct LineStarts {
+    pub starts: Vec<usize>,
+}
+
+// Adds where the next line begins, if this byte is a line feed.
+fn push_start(starts: &mut Vec<usize>, place: usize, byte: u8) -> Result<(), AllocError>
+    requires { place + 1 < 2 ^ 64 }
+    ensures { OnOk result (starts.new.items ≡ starts.old.items ++ (if byte == 10 then (place + 1) ∷ [] else [])) }
+{
+    if byte == b'\n' {
+        starts.push(place + 1)?;
+    }
+    Ok(())
+}
+
+/// Returns where the lines of a text begin, so that the range of a line can be had without a walk through the text.
+pub(crate) fn line_starts(alloc: Global, bytes: &[u8]) -> Result<LineStarts, AllocError>
+    ensures { IfOk result (λ l. AreStarts bytes.now l.starts.items) }
+{
+    let mut starts = Vec::new(alloc);
+    starts.push(0)?;
+    'bytes: for place in 0..bytes.len() {
+        push_start(&mut starts, place, bytes[place])?;
+    }
+    Ok(LineStarts { starts })
+}
+
+/// Returns the range of a line, without its line feed. A line beyond the last is empty, at the end of the text.
+pub(crate) fn span_of(bytes: &[u8], lines: &LineStarts, line: u32) -> Span
+    requires { AreStarts bytes.now lines.now.starts.items }
+    ensures { AreBounds bytes.now line result }
+{
+    let last = bytes.len();
+    let none = Span {
+        start: last,
+        end: last,
+    };
+    if line == 0 {
+        return none;
+    }
+    match lines.starts.get(line as usize - 1) {
+        Some(start) => Span {
+            start: *start,
+            end: line_end(bytes, *start),
+        },
+        None => none,
     }
 }
 
@@ -154,18 +206,45 @@ pub(crate) struct LineTokens {
     pub tokens: Vec<Span>,
 }
 
-/// Returns the tokens of a line, counted from 1.
-pub(crate) fn line_tokens(alloc: Global, bytes: &[u8], line: u32) -> Result<LineTokens, AllocError>
+// Returns the tokens of a line, counted from 1, that is this range.
+fn tokens_of_span(
+    alloc: Global,
+    bytes: &[u8],
+    line: u32,
+    span: Span,
+) -> Result<LineTokens, AllocError>
+    requires { AreBounds bytes.now line span }
     ensures of_line { IfOk result (λ l. AreOfLine bytes.now l) }
     ensures number { IfOk result (λ l. l.number ≡ line) }
 {
-    let span = line_span(bytes, line);
     let tokens = tokens_in(alloc, bytes_of(bytes, span))?;
     Ok(LineTokens {
         number: line,
         span,
         tokens,
     })
+}
+
+/// Returns the tokens of a line, counted from 1.
+pub(crate) fn line_tokens(alloc: Global, bytes: &[u8], line: u32) -> Result<LineTokens, AllocError>
+    ensures of_line { IfOk result (λ l. AreOfLine bytes.now l) }
+    ensures number { IfOk result (λ l. l.number ≡ line) }
+{
+    tokens_of_span(alloc, bytes, line, line_span(bytes, line))
+}
+
+/// Returns the tokens of a line, counted from 1, by where the lines begin.
+pub(crate) fn tokens_of(
+    alloc: Global,
+    bytes: &[u8],
+    lines: &LineStarts,
+    line: u32,
+) -> Result<LineTokens, AllocError>
+    requires { AreStarts bytes.now lines.now.starts.items }
+    ensures of_line { IfOk result (λ l. AreOfLine bytes.now l) }
+    ensures number { IfOk result (λ l. l.number ≡ line) }
+{
+    tokens_of_span(alloc, bytes, line, span_of(bytes, lines, line))
 }
 
 /// Returns the column at which a word first occurs on a line, counted from 1; that of the line's first token if it does

@@ -2,17 +2,18 @@
 ghost use Rattle.std.specs.Prelude.{◌≡◌, ◌++◌, chars, codes, encode_utf8, OnOk};
 ghost use Rattle.std.specs.List.{flat_map, AllPass};
 ghost use Rattle.gt_json.specs.Strings.{quoted};
+ghost use Rattle.gt_policy_check.specs.Columns.{AreStarts};
 ghost use Rattle.gt_policy_check.specs.Report.{heading_text, object_text, position_text, said_text, severity_text};
 ghost use Rattle.gt_policy_check.specs.Report.{caret_text, is_space_or_tab, shown_letter, shown_text, AddsText};
 ghost use Rattle.gt_policy_check.specs.Report.{IsTextOfAll};
 ghost use Rattle.gt_policy_check.specs.Report.{IsExcerpt, IsReport, IsFindingText, IsShownText};
 
 use crate::findings::{Finding, FindingKind};
-use crate::places::{bytes_of, line_span};
+use crate::places::{LineStarts, bytes_of, line_starts, span_of};
 use crate::texts::push_both;
 use gt_json::push_quoted;
 use gt_text::{push_number, push_text, text_of};
-use std::alloc::AllocError;
+use std::alloc::{AllocError, Global};
 use unicode_width::UnicodeWidthChar;
 
 impl FindingKind {
@@ -88,9 +89,19 @@ fn push_blank(out: &mut Vec<u8>, letter: char) -> Result<(), AllocError>
     Ok(())
 }
 
+// A text, and where its lines begin.
+#[derive(Clone, Copy)]
+struct LinedText<'t> {
+    text: &'t str,
+    lines: &'t LineStarts,
+}
+
 // Returns the text of a line, without its line end.
-fn line_of<'a>(text: &'a str, line: u32) -> &'a str {
-    match text_of(bytes_of(text.as_bytes(), line_span(text.as_bytes(), line))) {
+fn line_of<'t>(lined: LinedText<'t>, line: u32) -> &'t str
+    requires { AreStarts lined.text.now lined.lines.now.starts.items }
+{
+    let bytes = lined.text.as_bytes();
+    match text_of(bytes_of(bytes, span_of(bytes, lined.lines, line))) {
         Ok(line) => line.trim_end_matches('\r'),
         Err(_) => "",
     }
@@ -245,13 +256,14 @@ fn caret(kind: FindingKind, form: ReportForm) -> &'static str
 // Appends the line of a finding, or of a long line the part around the column, and a caret below the column.
 fn push_excerpt(
     out: &mut Vec<u8>,
-    text: &str,
+    lined: LinedText,
     finding: &Finding,
     form: ReportForm,
 ) -> Result<(), AllocError>
+    requires { AreStarts lined.text.now lined.lines.now.starts.items }
     ensures { OnOk result (AddsText (IsExcerpt form finding.now.kind) out.old.items out.new.items) }
 {
-    let line = line_of(text, finding.line);
+    let line = line_of(lined, finding.line);
     if line.is_empty() {
         return Ok(());
     }
@@ -266,19 +278,21 @@ fn push_excerpt(
 fn push_finding(
     out: &mut Vec<u8>,
     file: &str,
-    text: &str,
+    lined: LinedText,
     finding: &Finding,
     form: ReportForm,
 ) -> Result<(), AllocError>
+    requires { AreStarts lined.text.now lined.lines.now.starts.items }
     ensures { OnOk result (AddsText (IsFindingText form file.now finding.now) out.old.items out.new.items) }
 {
     push_heading(out, file, finding)?;
-    push_excerpt(out, text, finding, form)
+    push_excerpt(out, lined, finding, form)
 }
 
 /// Appends the findings of a text in the layout of compilers: each with its line, or at most 160 bytes of it, and a
 /// caret below its column, which is coloured in the form `Colored`. After an Err, part of them may have been appended.
 pub fn push_report(
+    alloc: Global,
     out: &mut Vec<u8>,
     file: &str,
     text: &str,
@@ -287,8 +301,13 @@ pub fn push_report(
 ) -> Result<(), AllocError>
     ensures { OnOk result (AddsText (IsTextOfAll (IsFindingText form file.now) found.now) out.old.items out.new.items) }
 {
+    let lines = line_starts(alloc, text.as_bytes())?;
+    let lined = LinedText {
+        text,
+        lines: &lines,
+    };
     'found: for finding in found {
-        push_finding(out, file, text, finding, form)?;
+        push_finding(out, file, lined, finding, form)?;
     }
     Ok(())
 }
@@ -329,6 +348,7 @@ pub fn push_json(out: &mut Vec<u8>, file: &str, found: &[Finding]) -> Result<(),
 
 /// Appends the findings of a text in this form. After an Err, part of them may have been appended.
 pub fn push_findings(
+    alloc: Global,
     out: &mut Vec<u8>,
     form: ReportForm,
     file: &str,
@@ -339,6 +359,6 @@ pub fn push_findings(
 {
     match form {
         ReportForm::Json => push_json(out, file, found),
-        ReportForm::Text | ReportForm::Colored => push_report(out, file, text, found, form),
+        ReportForm::Text | ReportForm::Colored => push_report(alloc, out, file, text, found, form),
     }
 }

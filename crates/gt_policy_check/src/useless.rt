@@ -1,12 +1,11 @@
 //! Statements that allow nothing, or only what an earlier one allows.
-ghost use Rattle.std.specs.Prelude.{◌≡◌, ◌<◌, length, is_some, IfSome};
-ghost use Rattle.gt_policy_check.specs.Check.{exceeds_with, grants_with, is_useless_with, no_more_with, repeats_with};
-ghost use Rattle.gt_policy_check.specs.Check.{some_no_more_with};
+ghost use Rattle.std.specs.Prelude.{◌≡◌};
+ghost use Rattle.gt_policy_check.specs.Check.{exceeds_with, grants_with, is_useless_with, no_more_with};
 ghost use Rattle.gt_policy_check.specs.Useless.{holds_some, lists_some, IsReason, IsUselessFor};
 
 use crate::granting::{exceeds_some, gives_any_permission, has_grant, holds, lists};
 use crate::members::Member;
-use gt_policy::{Allowance, LinedStatement, SetElement, Statement};
+use gt_policy::{Allowance, SetElement, Statement};
 use gt_types::Perms;
 
 /// Returns whether a statement allows some of these types something on some of them.
@@ -16,14 +15,13 @@ pub(crate) fn allows_something(statement: &Statement, members: &[Member]) -> boo
     gives_any_permission(statement, members, members)
 }
 
-/// Returns whether a statement of class `grant` allows nothing.
-pub(crate) fn is_useless(statement: &Statement, members: &[Member]) -> bool
+/// Returns whether a statement of class `grant` allows nothing. `allows` is whether it allows something.
+pub(crate) fn is_useless(statement: &Statement, allows: bool, members: &[Member]) -> bool
+    requires { allows ≡ grants_with members.now statement.now }
     ensures { result ≡ is_useless_with members.now statement.now }
 {
     match statement {
-        Statement::Allow(allowed) => {
-            has_grant(allowed.classes.as_slice()) && !allows_something(statement, members)
-        }
+        Statement::Allow(allowed) => has_grant(allowed.classes.as_slice()) && !allows,
         _ => false,
     }
 }
@@ -97,43 +95,9 @@ fn exceeds(statement: &Statement, other: &Statement, members: &[Member]) -> bool
     false
 }
 
-// Returns whether a statement grants nothing that another does not.
-fn grants_no_more(statement: &Statement, other: &Statement, members: &[Member]) -> bool
+/// Returns whether a statement grants nothing that another does not.
+pub(crate) fn grants_no_more(statement: &Statement, other: &Statement, members: &[Member]) -> bool
     ensures { result ≡ no_more_with members.now statement.now other.now }
 {
     !exceeds(statement, other, members)
-}
-
-// Finds the first of these statements that grants all that this one does, and returns its index.
-fn first_giving(
-    statement: &Statement,
-    before: &[LinedStatement],
-    members: &[Member],
-) -> Option<usize>
-    ensures is { is_some result ≡ some_no_more_with members.now before.now statement.now }
-    ensures within { IfSome result (λ i. i < length before.now) }
-{
-    'statements: for (i, earlier) in before.iter().enumerate() {
-        if grants_no_more(statement, &earlier.statement, members) {
-            return Some(i);
-        }
-    }
-    None
-}
-
-/// Returns the index of the first earlier statement that grants all that this one does; None for a statement that
-/// grants nothing.
-pub(crate) fn repeated(
-    statement: &Statement,
-    before: &[LinedStatement],
-    members: &[Member],
-) -> Option<usize>
-    ensures is { is_some result ≡ repeats_with members.now before.now statement.now }
-    ensures within { IfSome result (λ i. i < length before.now) }
-{
-    if allows_something(statement, members) {
-        first_giving(statement, before, members)
-    } else {
-        None
-    }
 }

@@ -19,6 +19,7 @@ fn is_reported(alloc: Global, wanted: &str) -> Result<bool, AllocError> {
     })?;
     let mut report = Vec::new(alloc);
     push_report(
+        alloc,
         &mut report,
         "wide",
         WIDE,

@@ -1,4 +1,4 @@
-use Rattle.std.proofs.Common.{◌≡◌, ◌⊎◌, ℕ, ◌+◌, ◌-◌, ◌≤◌, ◌==◌, get_or, length, take}
+use Rattle.std.proofs.Common.{◌≡◌, ◌⊎◌, ◌+◌, ◌-◌, ◌≤◌, ◌==◌, get_or, length, take}
 use Rattle.std.specs.Prelude.{count_by}
 use Rattle.gt_policy_check.proofs.places.line_span.Given as goal
 

@@ -1,7 +1,7 @@
 use Rattle.std.proofs.Common.{◌≡◌, ℕ, ◌+◌, List, Option, arith, refl, sym, subst, take}
 use Rattle.std.specs.Prelude.{slice_index_or, slice_range}
 use Rattle.std.proofs.lemmas.List.{take_all}
-use Rattle.gt_policy_check.specs.Columns.{HasWord, IsToken}
+use Rattle.gt_policy_check.specs.Columns.{IsToken}
 use Rattle.gt_policy_check.specs.declared.places.Span.{Span}
 use Rattle.gt_policy_check.proofs.ColumnLemmas.{IsFound, has_word, found_all, found_last, found_more, other_word, same_word}
 use Rattle.gt_policy_check.proofs.places.place_of_word.Goals as goal

@@ -1,4 +1,4 @@
-use Rattle.std.proofs.Common.{◌≡◌, ℕ, ◌<◌, ◌≤◌, get_or, true}
+use Rattle.std.proofs.Common.{◌≡◌, ℕ, ◌<◌, get_or, true}
 use Rattle.gt_policy_check.specs.Columns.{continues_token}
 use Rattle.gt_policy_check.proofs.places.token_end.Given as goal
 

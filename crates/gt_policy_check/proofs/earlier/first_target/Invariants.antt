@@ -1,0 +1,7 @@
+use Rattle.std.proofs.Common.{◌≡◌, drop}
+use Rattle.std.specs.List.{list_any}
+use Rattle.gt_policy_check.specs.Granting.{reaches_by}
+use Rattle.gt_policy_check.proofs.earlier.first_target.Given as goal
+
+abbrev pub invariant-targets : goal.invariant-targets
+invariant-targets l = list_any (λ t. reaches_by l.source t l.allowed) l.members ≡ list_any (λ t. reaches_by l.source t l.allowed) (drop l.place l.members)

@@ -1,0 +1,20 @@
+use Rattle.std.proofs.Common.{get_or, subst, take}
+use Rattle.std.proofs.lemmas.Option.{get_or_from_slice_get}
+use Rattle.gt_policy.specs.declared.lined.LinedStatement.{LinedStatement}
+use Rattle.gt_policy_check.specs.Check.{repeat_line, useless_line, AddsUseless}
+use Rattle.gt_policy_check.proofs.EarlierLemmas.{allows_is, always}
+use Rattle.gt_policy_check.proofs.judging.warn_next.Goals as goal
+
+pub warn-requires-clause-judged : goal.warn-requires-clause-judged
+warn-requires-clause-judged c = record {
+  allows = allows_is c.args.policy.now.members.now (get_or c.args.policy.now.statements.now c.args.number c.index-policy-number.result).statement c.triple_of-triple.result c.is_some.result
+      c.triple_of-triple.ensures c.is_some.ensures;
+  repeats = c.repeated.ensures.is;
+  within = c.repeated.ensures.within;
+}
+
+pub returns-clause-useless : goal.returns-clause-useless
+returns-clause-useless c = λ x there. let members = c.args.policy.now.members.now in
+    always _ c.add.result
+    (subst (λ (y : LinedStatement). AddsUseless c.args.found.now.items c.warn.new.found.items (useless_line members y) (repeat_line members (take c.args.number c.args.policy.now.statements.now) y))
+    (get_or_from_slice_get c.args.policy.now.statements.now c.args.number x c.index-policy-number.result there) c.in_ok-warn.ensures.useless)
