@@ -130,7 +130,7 @@ fn push_flow_breach(
         out.old.items out.new.items) }
 {
     let error = flow_error_of(alloc, texts.never, breach)?;
-    push_finding(out, form, texts.never_file, texts.never, error)
+    push_finding(alloc, out, form, texts.never_file, texts.never, error)
 }
 
 // Appends the breaches of `neverflow` statements.
