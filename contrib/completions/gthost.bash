@@ -46,7 +46,7 @@ _gthost() {
     policy) words="--verbose -v --format --help" ;;
     rules) words="--verbose -v --help" ;;
     check) words="--script --verbose -v --never --format --help" ;;
-    why) words="--verbose -v --help" ;;
+    why) words="--each --verbose -v --help" ;;
     flow) words="--script --verbose -v --trust --format --help" ;;
     entries) words="--hex --all --verbose -v --version --script --format --help" ;;
     build | tour | install | library) words="" ;;

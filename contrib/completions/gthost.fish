@@ -39,6 +39,7 @@ complete -c gthost -n '__fish_seen_subcommand_from check' -s v -l verbose -d 'Ex
 complete -c gthost -n '__fish_seen_subcommand_from check' -l never -r -F -d 'Report what breaks a neverallow statement of NEVER'
 complete -c gthost -n '__fish_seen_subcommand_from check' -l format -x -a 'text json' -d 'Print text, or a JSON object a line [default: text]'
 complete -c gthost -n '__fish_seen_subcommand_from check' -l help -d 'Print help'
+complete -c gthost -n '__fish_seen_subcommand_from why' -l each -d 'Answer for each pair of types, a line each'
 complete -c gthost -n '__fish_seen_subcommand_from why' -s v -l verbose -d 'Explain faults on stderr [always on]'
 complete -c gthost -n '__fish_seen_subcommand_from why' -l help -d 'Print help'
 complete -c gthost -n '__fish_seen_subcommand_from flow' -l script -d 'Take the policy block of a script'
