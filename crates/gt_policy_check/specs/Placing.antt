@@ -4,18 +4,14 @@ use Rattle.gt_policy.specs.Shown.{fault_shown}
 use Rattle.gt_policy.specs.declared.fault.TokenFault.{TokenFault}
 use Rattle.gt_policy.specs.declared.parse.PolicyFault.{PolicyFault}
 use Rattle.gt_policy_check.specs.Check.{IsFaultColumn, QuotesWord}
-use Rattle.gt_policy_check.specs.Columns.{AreOfLine, IsColumnOf}
+use Rattle.gt_policy_check.specs.Columns.{AreStarts, IsColumnOf}
 use Rattle.gt_policy_check.specs.declared.adding.Place.{Place}
 use Rattle.gt_policy_check.specs.declared.fault.Explained.{Explained}
 use Rattle.gt_policy_check.specs.declared.fault.FindingNote.{FindingNote}
 
--- the tokens of the place are those of its line
-abbrev pub IsOnLine : Place → Type 0
-IsOnLine p = AreOfLine p.bytes.now p.tokens.now × (p.tokens.now.number ≡ p.line)
-
--- the column of the place is that of a word `allow`
-abbrev pub IsAtStatement : Place → Type 0
-IsAtStatement p = IsColumnOf p.bytes.now p.line (codes "allow") p.column
+-- the place has where the lines of its text begin
+abbrev pub HasLines : Place → Type 0
+HasLines p = AreStarts p.bytes.now p.lines.now.starts.items
 
 -- the column of a note is that of a word `allow`, or of the word that it quotes
 abbrev pub HasNoteColumn : List ℕ → FindingNote → Type 0

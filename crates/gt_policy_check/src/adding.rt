@@ -1,22 +1,48 @@
 //! Adds findings.
-ghost use Rattle.std.specs.Prelude.{◌≡◌, ◌∷◌, ◌++◌, [], ℕ, List, true, false, OnOk};
+ghost use Rattle.std.specs.Prelude.{◌≡◌, ◌∷◌, ◌++◌, [], ℕ, List, true, false, codes, IfOk, OnOk};
 ghost use Rattle.gt_policy_check.specs.Check.{Quiet, AddsUseless, is_error, is_of_nothing, is_of_repeat, is_of_word};
 ghost use Rattle.gt_policy_check.specs.Check.{HasColumn, KeepsColumns, QuotesWord, error_columns};
-ghost use Rattle.gt_policy_check.specs.Placing.{IsOnLine, HasNoteColumn};
+ghost use Rattle.gt_policy_check.specs.Columns.{IsColumnOf};
+ghost use Rattle.gt_policy_check.specs.Placing.{HasLines, HasNoteColumn};
 ghost use Rattle.gt_policy_check.specs.Words.{class_line, class_lines};
 
 use crate::fault::FindingNote;
 use crate::findings::{Finding, FindingKind};
-use crate::places::{LineTokens, column_of_word};
-use std::alloc::AllocError;
+use crate::places::{LineStarts, column_of_word, tokens_of};
+use gt_policy::{LinedStatement, Statement};
+use std::alloc::{AllocError, Global};
 
-/// The position of a finding: the text, its line with the tokens, and the column at which the statement begins.
+/// The position of a statement: the text with where its lines begin, a line, and the statements before.
 #[derive(Clone, Copy)]
-pub(crate) struct Place<'t> {
+pub(crate) struct Place<'t, 'a> {
     pub bytes: &'t [u8],
-    pub tokens: &'t LineTokens,
+    pub lines: &'t LineStarts,
     pub line: u32,
-    pub column: u32,
+    pub before: &'t [LinedStatement<'a>],
+}
+
+// Counts the last allow statements of these that begin on this line. Statements are in the order of their lines.
+fn allows_on(statements: &[LinedStatement], line: u32) -> usize {
+    let mut count: usize = 0;
+    for stated in statements.iter().rev() {
+        if stated.line != line {
+            break;
+        }
+        if matches!(stated.statement, Statement::Allow(_)) {
+            count = count.saturating_add(1);
+        }
+    }
+    count
+}
+
+/// Returns the column at which the allow statement of a place begins.
+pub(crate) fn statement_column(alloc: Global, place: &Place) -> Result<u32, AllocError>
+    requires { HasLines place.now }
+    ensures { IfOk result (λ column. IsColumnOf place.now.bytes.now place.now.line (codes "allow") column) }
+{
+    let tokens = tokens_of(alloc, place.bytes, place.lines, place.line)?;
+    let skipped = allows_on(place.before, place.line);
+    Ok(column_of_word(place.bytes, &tokens, b"allow".as_slice(), skipped))
 }
 
 /// Adds a finding other than an error, a statement that allows nothing, or a statement that repeats another.
@@ -56,6 +82,7 @@ pub(crate) fn push_note(found: &mut Vec<Finding>, note: FindingNote) -> Result<(
 /// statement that repeats another.
 #[tactic(auto, using(crate::proofs::CheckLemmas::quiet_push, crate::proofs::CheckLemmas::class_push))]
 pub(crate) fn push_of_word(
+    alloc: Global,
     found: &mut Vec<Finding>,
     kind: FindingKind,
     place: &Place,
@@ -67,13 +94,14 @@ pub(crate) fn push_of_word(
     requires no_repeat { is_of_repeat kind ≡ false }
     requires of_word { is_of_word kind ≡ true }
     requires quotes { QuotesWord word.now message.items }
-    requires on_line { IsOnLine place.now }
+    requires lines { HasLines place.now }
     ensures quiet { OnOk result (Quiet found.old.items found.new.items) }
     ensures columns { OnOk result (KeepsColumns place.now.bytes.now found.old.items found.new.items) }
     ensures classes { OnOk result (class_lines found.new.items
         ≡ class_lines found.old.items ++ class_line kind place.now.line) }
 {
-    let column = column_of_word(place.bytes, place.tokens, word.as_bytes(), 0);
+    let tokens = tokens_of(alloc, place.bytes, place.lines, place.line)?;
+    let column = column_of_word(place.bytes, &tokens, word.as_bytes(), 0);
     found.push(Finding {
         kind,
         line: place.line,

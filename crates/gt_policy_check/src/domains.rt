@@ -1,9 +1,9 @@
 //! Warnings about types that no statement names, and about types and statements that no domain of a script uses.
 ghost use Rattle.std.specs.Prelude.{OnOk};
 ghost use Rattle.gt_policy_check.specs.Check.{KeepsColumns, Quiet};
-ghost use Rattle.gt_policy_check.specs.Placing.{IsAtStatement, IsOnLine};
+ghost use Rattle.gt_policy_check.specs.Placing.{HasLines};
 
-use crate::adding::{Place, push_of_word, push_quiet};
+use crate::adding::{Place, push_of_word, push_quiet, statement_column};
 use crate::fault::{message_of, said_of};
 use crate::findings::{Finding, FindingKind};
 use crate::granting::{gives_of, names_type};
@@ -100,18 +100,18 @@ pub(crate) fn warn_type(
     policy: &Judged,
     name: &TextPiece,
 ) -> Result<(), AllocError>
-    requires { IsOnLine place.now }
+    requires { HasLines place.now }
     ensures quiet { OnOk result (Quiet found.old.items found.new.items) }
     ensures columns { OnOk result (KeepsColumns place.now.bytes.now found.old.items found.new.items) }
 {
     let word = name.as_str();
     if !is_named(policy, name) {
         let message = said_of(alloc, word, unnamed_text(policy))?;
-        return push_of_word(found, FindingKind::NeverNamed, place, word, message);
+        return push_of_word(alloc, found, FindingKind::NeverNamed, place, word, message);
     }
     if !is_worn(policy, name) {
         let message = said_of(alloc, word, " is not the type of any domain in this script")?;
-        return push_of_word(found, FindingKind::NoDomain, place, word, message);
+        return push_of_word(alloc, found, FindingKind::NoDomain, place, word, message);
     }
     Ok(())
 }
@@ -130,7 +130,7 @@ pub(crate) fn warn_matter(
     policy: &Judged,
     statement: &Statement,
 ) -> Result<(), AllocError>
-    requires { IsAtStatement place.now }
+    requires { HasLines place.now }
     ensures quiet { OnOk result (Quiet found.old.items found.new.items) }
     ensures columns { OnOk result (KeepsColumns place.now.bytes.now found.old.items found.new.items) }
 {
@@ -139,12 +139,13 @@ pub(crate) fn warn_matter(
     }
     let said = "this statement allows nothing to the domains in this script";
     let message = message_of(alloc, said)?;
+    let column = statement_column(alloc, place)?;
     push_quiet(
         found,
         Finding {
             kind: FindingKind::NeverMatters,
             line: place.line,
-            column: place.column,
+            column,
             message,
         },
     )

@@ -1,42 +1,28 @@
 //! Warnings about the statements of a policy.
-ghost use Rattle.std.specs.Prelude.{◌≡◌, ◌+◌, ◌<◌, ◌∷◌, [], codes, length, map, filter, slice_get, take, All, IfOk};
+ghost use Rattle.std.specs.Prelude.{◌≡◌, ◌+◌, ◌<◌, ◌∷◌, [], length, map, filter, slice_get, take, All, IfOk};
 ghost use Rattle.std.specs.Prelude.{Some, OnOk};
 ghost use Rattle.std.specs.List.{flat_map};
 ghost use Rattle.gt_policy_check.specs.Check.{HasColumn, KeepsColumns};
-ghost use Rattle.gt_policy_check.specs.Columns.{AreOfLine, AreStarts, IsColumnOf};
+ghost use Rattle.gt_policy_check.specs.Columns.{AreStarts};
 ghost use Rattle.gt_policy_check.specs.Earlier.{IsStated, ListsEarlier};
 ghost use Rattle.gt_policy.specs.declared.lined.LinedStatement.{LinedStatement};
-ghost use Rattle.gt_policy_check.specs.Placing.{IsAtStatement, IsOnLine};
+ghost use Rattle.gt_policy_check.specs.Placing.{HasLines};
 ghost use Rattle.gt_policy_check.specs.Check.{Quiet, AddsUseless, allows_nothing, error_lines, lines_repeated};
 ghost use Rattle.gt_policy_check.specs.Check.{nothing_lines, repeat_line, repeat_lines, repeated_with, useless_line};
 
-use crate::adding::{Place, push_note, push_nothing, push_repeat};
+use crate::adding::{Place, push_note, push_nothing, push_repeat, statement_column};
 use crate::domains::{Judged, warn_matter, warn_type, worn_members};
 use crate::earlier::{EarlierStatements, sources_of, triple_of};
 use crate::fault::{FindingNote, message_of};
 use crate::findings::{Finding, FindingKind};
 use crate::listed::warn_words;
 use crate::members::{Member, members_of};
-use crate::places::{LineTokens, column_of_word, line_starts, tokens_of};
+use crate::places::line_starts;
 use crate::useless::{UselessReason, is_useless, reason_of};
 use gt_policy::{LinedStatement, Statement};
 use gt_text::{push_number, push_text};
 use gt_types::Memory;
 use std::alloc::{AllocError, Global};
-
-// Counts the last allow statements of these that begin on this line. Statements are in the order of their lines.
-fn allows_on(statements: &[LinedStatement], line: u32) -> usize {
-    let mut count: usize = 0;
-    for stated in statements.iter().rev() {
-        if stated.line != line {
-            break;
-        }
-        if matches!(stated.statement, Statement::Allow(_)) {
-            count = count.saturating_add(1);
-        }
-    }
-    count
-}
 
 /// A statement that is judged, with those before it: whether it allows something, and the index of the first of them
 /// that allows all that it does.
@@ -68,7 +54,7 @@ fn warn_nothing(
     members: &[Member],
 ) -> Result<(), AllocError>
     requires judged { IsStated members.now it.now }
-    requires at_statement { IsAtStatement place.now }
+    requires lines { HasLines place.now }
     requires on_line { place.now.line ≡ it.now.stated.now.line }
     ensures useless { OnOk result (AddsUseless found.old.items found.new.items
         (useless_line members.now it.now.stated.now) []) }
@@ -77,12 +63,13 @@ fn warn_nothing(
     if is_useless(&it.stated.statement, it.allows, members) {
         let said = reason_text(reason_of(&it.stated.statement, members));
         let message = message_of(alloc, said)?;
+        let column = statement_column(alloc, place)?;
         return push_nothing(
             found,
             Finding {
                 kind: FindingKind::AllowsNothing,
                 line: it.stated.line,
-                column: place.column,
+                column,
                 message,
             },
         );
@@ -96,14 +83,6 @@ fn repeat_message(alloc: Global, line: u32) -> Result<Vec<u8>, AllocError> {
     push_number(&mut message, line)?;
     push_text(&mut message, " allows")?;
     Ok(message)
-}
-
-// Returns the column at which the allow statement after these begins, on this line.
-fn column_after(bytes: &[u8], tokens: &LineTokens, before: &[LinedStatement], line: u32) -> u32
-    requires { AreOfLine bytes.now tokens.now }
-    ensures { IsColumnOf bytes.now tokens.now.number (codes "allow") result }
-{
-    column_of_word(bytes, tokens, b"allow".as_slice(), allows_on(before, line))
 }
 
 // Adds the note at the statement that is repeated, the one at this index.
@@ -120,8 +99,13 @@ fn push_repeat_note(
     ensures columns { OnOk result (KeepsColumns policy.now.bytes.now found.old.items found.new.items) }
 {
     let line = before[first].line;
-    let tokens = tokens_of(alloc, policy.bytes, policy.lines, line)?;
-    let column = column_after(policy.bytes, &tokens, &before[..first], line);
+    let place = Place {
+        bytes: policy.bytes,
+        lines: policy.lines,
+        line,
+        before: &before[..first],
+    };
+    let column = statement_column(alloc, &place)?;
     let message = message_of(alloc, "this statement allows it first")?;
     push_note(
         found,
@@ -140,17 +124,18 @@ fn push_repeated(
     place: &Place,
     first: u32,
 ) -> Result<(), AllocError>
-    requires { IsAtStatement place.now }
+    requires { HasLines place.now }
     ensures useless { OnOk result (AddsUseless found.old.items found.new.items [] (place.now.line ∷ [])) }
     ensures columns { OnOk result (KeepsColumns place.now.bytes.now found.old.items found.new.items) }
 {
     let message = repeat_message(alloc, first)?;
+    let column = statement_column(alloc, place)?;
     push_repeat(
         found,
         Finding {
             kind: FindingKind::Repeats,
             line: place.line,
-            column: place.column,
+            column,
             message,
         },
     )
@@ -166,9 +151,9 @@ fn warn_repeat(
     it: &Stated,
 ) -> Result<(), AllocError>
     requires text { place.now.bytes.now ≡ policy.now.bytes.now }
-    requires lines { AreStarts policy.now.bytes.now policy.now.lines.now.starts.items }
+    requires starts { AreStarts policy.now.bytes.now policy.now.lines.now.starts.items }
     requires judged { IsStated policy.now.members.now it.now }
-    requires at_statement { IsAtStatement place.now }
+    requires lines { HasLines place.now }
     requires on_line { place.now.line ≡ it.now.stated.now.line }
     ensures useless { OnOk result (AddsUseless found.old.items found.new.items []
         (repeat_line policy.now.members.now it.now.before.now it.now.stated.now)) }
@@ -192,7 +177,7 @@ fn warn_if_no_matter(
     policy: &Judged,
     it: &Stated,
 ) -> Result<(), AllocError>
-    requires { IsAtStatement place.now }
+    requires { HasLines place.now }
     ensures quiet { OnOk result (Quiet found.old.items found.new.items) }
     ensures columns { OnOk result (KeepsColumns place.now.bytes.now found.old.items found.new.items) }
 {
@@ -212,7 +197,7 @@ fn warn_parts(
     policy: &Judged,
     statement: &Statement,
 ) -> Result<(), AllocError>
-    requires { IsOnLine place.now }
+    requires { HasLines place.now }
     ensures quiet { OnOk result (Quiet found.old.items found.new.items) }
     ensures columns { OnOk result (KeepsColumns place.now.bytes.now found.old.items found.new.items) }
 {
@@ -233,10 +218,9 @@ fn warn_at(
     it: &Stated,
 ) -> Result<(), AllocError>
     requires text { place.now.bytes.now ≡ policy.now.bytes.now }
-    requires lines { AreStarts policy.now.bytes.now policy.now.lines.now.starts.items }
+    requires starts { AreStarts policy.now.bytes.now policy.now.lines.now.starts.items }
     requires judged { IsStated policy.now.members.now it.now }
-    requires tokens { IsOnLine place.now }
-    requires at_statement { IsAtStatement place.now }
+    requires lines { HasLines place.now }
     requires on_line { place.now.line ≡ it.now.stated.now.line }
     ensures useless { OnOk result (AddsUseless found.old.items found.new.items
         (useless_line policy.now.members.now it.now.stated.now)
@@ -263,13 +247,11 @@ fn warn(
         (repeat_line policy.now.members.now it.now.before.now it.now.stated.now)) }
     ensures columns { OnOk result (KeepsColumns policy.now.bytes.now found.old.items found.new.items) }
 {
-    let line = it.stated.line;
-    let tokens = tokens_of(alloc, policy.bytes, policy.lines, line)?;
     let place = Place {
         bytes: policy.bytes,
-        tokens: &tokens,
-        line,
-        column: column_after(policy.bytes, &tokens, it.before, line),
+        lines: policy.lines,
+        line: it.stated.line,
+        before: it.before,
     };
     warn_at(alloc, found, &place, policy, it)
 }

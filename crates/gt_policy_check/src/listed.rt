@@ -2,14 +2,14 @@
 ghost use Rattle.std.specs.Prelude.{◌≡◌, ◌++◌, IfOk, OnOk};
 ghost use Rattle.std.specs.List.{flat_map};
 ghost use Rattle.gt_policy_check.specs.Check.{error_lines, KeepsColumns, QuotesWord, Quiet};
-ghost use Rattle.gt_policy_check.specs.Placing.{IsOnLine};
+ghost use Rattle.gt_policy_check.specs.Placing.{HasLines};
 ghost use Rattle.gt_policy_check.specs.Words.{class_lines, is_flask_class, is_known_class, unknown_line};
 
 use crate::adding::{Place, push_of_word};
 use crate::fault::{is_near_permission, push_hint, push_permission_hint, said_of};
 use crate::findings::{Finding, FindingKind};
 use crate::granting::has_grant;
-use crate::places::line_tokens;
+use crate::places::line_starts;
 use gt_policy::{Allowance, Permissions, TextPiece};
 use gt_types::Perms;
 use std::alloc::{AllocError, Global};
@@ -69,7 +69,7 @@ fn warn_class(
     place: &Place,
     class: &str,
 ) -> Result<(), AllocError>
-    requires { IsOnLine place.now }
+    requires { HasLines place.now }
     ensures quiet { OnOk result (Quiet found.old.items found.new.items) }
     ensures columns { OnOk result (KeepsColumns place.now.bytes.now found.old.items found.new.items) }
     ensures classes { OnOk result (class_lines found.new.items
@@ -79,7 +79,7 @@ fn warn_class(
         return Ok(());
     }
     let message = class_message(alloc, class)?;
-    push_of_word(found, FindingKind::OtherClass, place, class, message)
+    push_of_word(alloc, found, FindingKind::OtherClass, place, class, message)
 }
 
 // Makes the message about a word that is not a permission of class `grant`.
@@ -100,7 +100,7 @@ fn warn_other(
     word: &str,
     has_flask_class: bool,
 ) -> Result<(), AllocError>
-    requires { IsOnLine place.now }
+    requires { HasLines place.now }
     ensures quiet { OnOk result (Quiet found.old.items found.new.items) }
     ensures columns { OnOk result (KeepsColumns place.now.bytes.now found.old.items found.new.items) }
     ensures classes { OnOk result (class_lines found.new.items ≡ class_lines found.old.items) }
@@ -112,7 +112,14 @@ fn warn_other(
         return Ok(());
     }
     let message = permission_message(alloc, word)?;
-    push_of_word(found, FindingKind::OtherPermission, place, word, message)
+    push_of_word(
+        alloc,
+        found,
+        FindingKind::OtherPermission,
+        place,
+        word,
+        message,
+    )
 }
 
 // Warns of a word that is not a permission of class `grant`, or that no call asks for.
@@ -124,13 +131,13 @@ fn warn_perm(
     word: &str,
     has_flask_class: bool,
 ) -> Result<(), AllocError>
-    requires { IsOnLine place.now }
+    requires { HasLines place.now }
     ensures quiet { OnOk result (Quiet found.old.items found.new.items) }
     ensures columns { OnOk result (KeepsColumns place.now.bytes.now found.old.items found.new.items) }
 {
     if word == "transfer" {
         let message = said_of(alloc, word, " is not asked for by any call")?;
-        return push_of_word(found, FindingKind::NeverAsked, place, word, message);
+        return push_of_word(alloc, found, FindingKind::NeverAsked, place, word, message);
     }
     warn_other(alloc, found, place, word, has_flask_class)
 }
@@ -142,7 +149,7 @@ fn warn_classes(
     place: &Place,
     classes: &[TextPiece],
 ) -> Result<(), AllocError>
-    requires { IsOnLine place.now }
+    requires { HasLines place.now }
     ensures quiet { OnOk result (Quiet found.old.items found.new.items) }
     ensures columns { OnOk result (KeepsColumns place.now.bytes.now found.old.items found.new.items) }
     ensures classes { OnOk result (class_lines found.new.items
@@ -162,7 +169,7 @@ fn warn_perms(
     perms: &[TextPiece],
     has_flask_class: bool,
 ) -> Result<(), AllocError>
-    requires { IsOnLine place.now }
+    requires { HasLines place.now }
     ensures quiet { OnOk result (Quiet found.old.items found.new.items) }
     ensures columns { OnOk result (KeepsColumns place.now.bytes.now found.old.items found.new.items) }
 {
@@ -180,7 +187,7 @@ pub(crate) fn warn_words(
     place: &Place,
     allowed: &Allowance,
 ) -> Result<(), AllocError>
-    requires { IsOnLine place.now }
+    requires { HasLines place.now }
     ensures quiet { OnOk result (Quiet found.old.items found.new.items) }
     ensures columns { OnOk result (KeepsColumns place.now.bytes.now found.old.items found.new.items) }
 {
@@ -207,7 +214,7 @@ fn warn_others(
     perms: &[TextPiece],
     has_flask_class: bool,
 ) -> Result<(), AllocError>
-    requires { IsOnLine place.now }
+    requires { HasLines place.now }
     ensures quiet { OnOk result (Quiet found.old.items found.new.items) }
     ensures columns { OnOk result (KeepsColumns place.now.bytes.now found.old.items found.new.items) }
     ensures classes { OnOk result (class_lines found.new.items ≡ class_lines found.old.items) }
@@ -227,7 +234,7 @@ fn warn_unknown(
     classes: &[TextPiece],
     perms: &Permissions,
 ) -> Result<(), AllocError>
-    requires { IsOnLine place.now }
+    requires { HasLines place.now }
     ensures quiet { OnOk result (Quiet found.old.items found.new.items) }
     ensures columns { OnOk result (KeepsColumns place.now.bytes.now found.old.items found.new.items) }
     ensures classes { OnOk result (class_lines found.new.items
@@ -262,12 +269,12 @@ pub fn push_unknown_words(
     ensures classes { OnOk result (class_lines found.new.items
         ≡ class_lines found.old.items ++ flat_map (unknown_line line) classes.now) }
 {
-    let tokens = line_tokens(alloc, text.as_bytes(), line)?;
+    let lines = line_starts(alloc, text.as_bytes())?;
     let place = Place {
         bytes: text.as_bytes(),
-        tokens: &tokens,
+        lines: &lines,
         line,
-        column: 1,
+        before: &[],
     };
     warn_unknown(alloc, found, &place, classes, perms)
 }
