@@ -101,7 +101,7 @@ static void shares(void)
     HOLDS(gthost_mapped_of(answer).writes == 0);
     answer = gthost_unmap(&domain[1], gthost_handle_of(answer));
     WANT(GTHOST_OK, 0, GTHOST_RELEASED);
-    HOLDS(gthost_is_valid(answer.word) && gthost_writes_in(answer.word) == 1 && gthost_reads_in(answer.word) == 1);
+    HOLDS(gthost_is_valid(answer.word) && gthost_writes_in(answer.word) == 1 && gthost_reads_in(answer.word) == 0);
     answer = gthost_revoke(&domain[0], 7);
     WANT(19, -1, GTHOST_ENTRY);
     answer = gthost_unmap(&domain[1], name);
