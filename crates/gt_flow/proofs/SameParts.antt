@@ -27,7 +27,8 @@ use Rattle.gt_flow.specs.Purged.{SameElements, SameEvents}
 use Rattle.gt_flow.specs.Separate.{CopiesStayApart, HappensAtLow, IsAtLow, LooksApart, low_elements, low_events}
 use Rattle.gt_flow.proofs.Apart.{now-apart}
 use Rattle.gt_flow.proofs.Separate.{AtLow, IsLowPart, high-event, keeps, known-low, looks-before, looks-now, low-event}
-use Rattle.gt_flow.proofs.Separate.{contents-low, nothing-yet, stays-before, word-low}
+use Rattle.gt_flow.proofs.Agreeing.{word-same}
+use Rattle.gt_flow.proofs.Separate.{agrees, contents-low, nothing-yet, stays-before}
 use Rattle.gt_flow.proofs.Steps.{step_told, stepped_told, tick_told, within-some}
 
 cons_parts : {A : Type 0} (x y : A) (xs ys : List A) → x ∷ xs ≡ y ∷ ys → (x ≡ y) × (xs ≡ ys)
@@ -283,7 +284,7 @@ module _ (s : Setting) (high : TypeId → Bool) where
   all-keep g q p h kept alike m = let one = bare-same q p alike.same in record {
     words = λ t r low. kept.words t r low ∙ sym (word-bare s q t.0 r alike.first)
         ∙ ap (λ (l : History). word_at s l t.0 r) one ∙ word-bare s p t.0 r alike.second
-        ∙ word-low s high p h m t r low;
+        ∙ word-same s Lo p h (agrees s high p h m) t r low;
     bodies = λ t r which low. kept.bodies t r which low ∙ sym ((bared q).body t.0 r which)
         ∙ ap (λ (l : History). body_at l t.0 r which) one ∙ (bared p).body t.0 r which ∙ m.body t r which low;
     tables = λ t low. kept.tables t low ∙ sym ((bared q).table s t)

@@ -1,39 +1,31 @@
 -- The part of a run that low domains make is a run, if no low domain shares with a high one or looks at its tables.
-use Rattle.gt_core.proofs.Words.{◌≡◌, inl, inr, ◌+◌, ◌<◌, ℕ, refl, Bool, true, false, List, [], ◌∷◌, ◌++◌}
+use Rattle.gt_core.proofs.Words.{◌≡◌, ◌+◌, ◌<◌, ℕ, refl, Bool, true, false, List, [], ◌∷◌, ◌++◌}
 use Rattle.gt_core.proofs.Words.{Option, Some, None, cond, ap, sym, ◌∙◌, subst, ◌==◌, ◌&&◌, length, count_by, gather}
-use Rattle.gt_core.proofs.Words.{by_leg, map, take, drop, reverse, mapping_named, true≢false, not, All, Any}
+use Rattle.gt_core.proofs.Words.{by_leg, take, drop, mapping_named, true≢false, not, All, Any}
 use Rattle.gt_core.proofs.Words.{All-head, All-tail, All-nil, append-nil, eqb-true}
-use Rattle.gt_core.proofs.Words.{DomId, TypeId, Dir, Entry, Header, EntryChange, BodyWord, Denial, asked, begun_of}
-use Rattle.gt_core.proofs.Words.{CallerKnowledge, OpenRequest, Map, Load, Store, Peek, Copy, SetupTable}
-use Rattle.gt_core.proofs.Words.{QuerySize, GetVersion, Word, Taken, Step, LookHeader, LookControl, LookBody}
+use Rattle.gt_core.proofs.Words.{DomId, TypeId, Dir, Entry, Header, BodyWord, Denial, asked, begun_of}
+use Rattle.gt_core.proofs.Words.{CallerKnowledge, OpenRequest, Map, Load, Peek, Copy, SetupTable}
+use Rattle.gt_core.proofs.Words.{QuerySize, GetVersion, Taken, Step, LookHeader}
 use Rattle.gt_core.proofs.Words.{StoreHeader}
-use Rattle.gt_core.proofs.Words.{Exchange, Unpin, Read, Write, Control, HeldPin, Observation, StepsSoFar, path}
+use Rattle.gt_core.proofs.Words.{Unpin, Read, Write, HeldPin, Observation, path}
 use Rattle.gt_core.proofs.Words.{History, Setting, Underway, Pin, entry_at, changed_entry_of, change_of, raises_at}
 use Rattle.gt_core.proofs.Words.{raise_after, body_at, or_else, stored_at, table_at, header_or, header_stored}
-use Rattle.gt_core.proofs.Words.{header_word, open_call, underway_after, maps_answered_at, one_if_mapped, live, without}
-use Rattle.gt_core.proofs.Words.{is_holder, holder_after, is_pin_on, pinned_by, unpinned_by, known_at, seen_by, word_at}
-use Rattle.gt_core.proofs.Words.{reads_at, writes_at, control_at, mappings_at, mapping_of, legs_at, exchange_sees}
-use Rattle.gt_core.proofs.Words.{given_in, values, stood, stood_with, first_at, first_in_call, first_of_item, leg_at}
-use Rattle.gt_core.proofs.Words.{LegNow, leg_now, refusal_in, contents_at, patches_at, patches_by, written_by, written}
-use Rattle.gt_core.proofs.Words.{Patch, Spot, IsRight, StepsRightIn, AnsweredBy, GivesValue}
-use Rattle.gt_core.proofs.Words.{Justified, MayAsk, MayUseMapping, EndIsJustified, CopyIsJustified, Reaches, Forwards}
-use Rattle.gt_core.proofs.Words.{IsSafe, IsSafeChange, PinIsSound, NoneStands, IsSpelled, gives_back, verdict_in}
+use Rattle.gt_core.proofs.Words.{open_call, underway_after, maps_answered_at, one_if_mapped, live, without}
+use Rattle.gt_core.proofs.Words.{is_holder, holder_after, is_pin_on, pinned_by, unpinned_by, known_at}
+use Rattle.gt_core.proofs.Words.{legs_at}
+use Rattle.gt_core.proofs.Words.{given_in, values, stood, stood_with, first_in_call, first_of_item}
+use Rattle.gt_core.proofs.Words.{contents_at, patches_at, patches_by, written_by, written}
+use Rattle.gt_core.proofs.Words.{Patch, IsRight, StepsRightIn, AnsweredBy, GivesValue}
+use Rattle.gt_core.proofs.Words.{Justified, CopyIsJustified}
+use Rattle.gt_core.proofs.Words.{gives_back, verdict_in}
 use Rattle.gt_core.proofs.Words.{CallResult, MayDo, LegalAfter, grown, history_after, SpellsItsEntry, MAX_TABLE_FRAMES}
-use Rattle.gt_core.proofs.Words.{Handle, PinHolder, arith, suc, zero}
+use Rattle.gt_core.proofs.Words.{PinHolder, arith, suc, zero}
 use Rattle.gt_core.proofs.AgreementKept.{open_call-other, stood-other}
-use Rattle.gt_core.specs.Prelude.{GrantRef, Rule, N9, N18, N19, denial_of, size_of, stands, first, first_look}
-use Rattle.gt_core.specs.Prelude.{before_pin, pins_of, MAX_TRIES, StoreBody, Publish, resolved, is_source_granted}
-use Rattle.gt_core.specs.Prelude.{is_dest_granted}
+use Rattle.gt_core.specs.Prelude.{resolved, is_source_granted}
 use Rattle.gt_model.proofs.Observers.{all-without, known-as, other-body, other-entry, other-maps}
 use Rattle.gt_model.proofs.Observers.{other-raises, other-table}
-use Rattle.gt_model.specs.FirstRule.{at_entry, is_demote, is_in_body, is_other, looked_at, misses, rule_at_exchange}
-use Rattle.gt_model.specs.FirstRule.{rule_at_header, rule_at_look, rule_at_pin, rule_at_via}
-use Rattle.gt_model.specs.Justified.{MayAccess, ReachesThrough}
 use Rattle.gt_model.specs.Legal.{Legal, actor_of}
 use Rattle.gt_model.specs.declared.action.Step.TheVariants as call_steps
-use Rattle.gt_model.specs.declared.change.BodyWord.TheVariants as body_words
-use Rattle.gt_model.specs.declared.change.EntryChange.TheVariants as changes
-use Rattle.gt_model.specs.declared.request.PinHolder.TheVariants as holders
 use Rattle.gt_model.specs.declared.trace.Answer.{Answer}
 use Rattle.gt_model.specs.declared.trace.Answer.TheVariants as answers
 use Rattle.gt_model.specs.declared.trace.Element.{Element}
@@ -44,9 +36,7 @@ use Rattle.gt_model.specs.declared.trace.Event.TheVariants.{Begin, Tick}
 use Rattle.gt_model.specs.declared.trace.Item.{Item}
 use Rattle.gt_model.specs.declared.trace.ItemEvent.{ItemEvent}
 use Rattle.gt_model.specs.declared.trace.ItemEvent.TheVariants.{Began, Stepped}
-use Rattle.gt_types.specs.declared.Use.TheVariants as uses
-use Rattle.gt_types.specs.declared.denial.Facts.TheVariants as facts
-use Rattle.std.specs.Prelude.{filter, nat_le, nat_lt}
+use Rattle.std.specs.Prelude.{filter}
 use Rattle.std.proofs.Common.{slice_index_or}
 use Rattle.std.proofs.lemmas.List.Elements.{All-append, All-cons, filter-append}
 use Rattle.gt_flow.specs.Apart.{CopiesApart, LowDomainsKeep, SharesNothing, StaysApart}
@@ -56,7 +46,7 @@ use Rattle.gt_flow.proofs.Apart.{IsAmong, IsApart, access-of, count-one, end-of,
 use Rattle.gt_flow.proofs.Apart.{pinned-apart, same-domain, skipped}
 use Rattle.gt_flow.proofs.Purged.{and-true}
 use Rattle.gt_flow.proofs.Frames.{hides}
-use Rattle.gt_flow.proofs.Matched.{four}
+use Rattle.gt_flow.proofs.Agreeing.{Agree, first-in, justified-same, safe-same, sees-same, sound-same, word-same}
 
 -- an element that passes a test is among those that do
 any-passing : {X : Type 0} (P : X → Type 0) (test : X → Bool) (xs : List X) → ((x : X) → P x → test x ≡ true) → Any P xs
@@ -241,216 +231,32 @@ module _ (s : Setting) (high : TypeId → Bool) (p g : History) (m : IsLowPart s
       (ap (λ (ps : List Pin). gather mapping_named d.0 ps) m.pins ∙ gather-low s high mapping_named d (live g) low)
       (m.maps d low)
 
-  mappings-low : (d : DomId) → Low d → mappings_at p d.0 ≡ mappings_at g d.0
-  mappings-low d low =
-      ap (λ (ps : List Pin). gather mapping_named d.0 ps) m.pins ∙ gather-low s high mapping_named d (live g) low
-
-  legs-low : (d : DomId) → Low d → legs_at p d.0 ≡ legs_at g d.0
-  legs-low d low = ap (λ (ps : List Pin). gather by_leg d.0 ps) m.pins ∙ gather-low s high by_leg d (live g) low
-
-  reads-low : (t : DomId) (r : ℕ) → Low t → reads_at p t.0 r ≡ reads_at g t.0 r
-  reads-low t r low = ap (λ (ps : List Pin). count_by (is_pin_on t.0 r Read) ps) m.pins
-      ∙ counts-low s high t low r Read (live g) m.apart
-
-  writes-low : (t : DomId) (r : ℕ) → Low t → writes_at p t.0 r ≡ writes_at g t.0 r
-  writes-low t r low = ap (λ (ps : List Pin). count_by (is_pin_on t.0 r Write) ps) m.pins
-      ∙ counts-low s high t low r Write (live g) m.apart
-
-  control-low : (t : DomId) (r : ℕ) → Low t → control_at s p t.0 r ≡ control_at s g t.0 r
-  control-low t r low =
-      let e = m.entry t r low in let k = m.raises t r low in
-      let n = reads-low t r low in let w = writes-low t r low in cc
-
-  pub word-low : (t : DomId) (r : ℕ) → Low t → word_at s p t.0 r ≡ word_at s g t.0 r
-  word-low t r low =
-      let e = m.entry t r low in let k = m.raises t r low in
-      let n = reads-low t r low in let w = writes-low t r low in cc
-
-  sees-low : (d : DomId) (step : Step) → Low d → IsAtLow s high step → seen_by s p d step ≡ seen_by s g d step
-  sees-low d (LookHeader dom) low at = ap (λ (x : Header). Word (header_word x)) (m.table dom at)
-  sees-low d (LookControl dom gref) low at = ap (λ (w : ℕ). Word w) (word-low dom gref.0 at)
-  sees-low d (LookBody dom gref body_word) low at = ap (λ (w : ℕ). Word w) (m.body dom gref.0 body_word at)
-  sees-low d (call_steps.Pin q) low at = ap (λ (w : ℕ). exchange_sees w q.word) (word-low q.dom q.gref.0 at)
-  sees-low d (Exchange gref looked change) low at = ap (λ (w : ℕ). exchange_sees w looked) (word-low d gref.0 low)
-  sees-low d step low at = refl
-
-  -- ---- the first rule
-
-  leg-low : (d : DomId) (r : OpenRequest) → Low d → leg_at s p d r ≡ leg_at s g d r
-  leg-low d r low =
-      ap (λ (k : CallerKnowledge). leg_now k d r (map (λ (q : ℕ × HeldPin). q.1) (legs_at p d.0))) (known-low d low)
-      ∙ ap (λ (l : List (ℕ × HeldPin)). leg_now (known_at s g d) d r (map (λ (q : ℕ × HeldPin). q.1) l))
-      (legs-low d low)
-
-  look-low : (leg : Option LegNow) (dom : DomId) (gref : GrantRef) (so_far : StepsSoFar) → Low dom
-      → rule_at_look s p leg dom gref so_far ≡ rule_at_look s g leg dom gref so_far
-  look-low None dom gref so_far at = refl
-  look-low (Some n) dom gref so_far at =
-      four (λ (w : ℕ) (e : Entry) (k j : Control).
-      cond (is_in_body so_far) (cond (is_other w (looked_at so_far)) None (before_pin n.leg e (pins_of n.leg.dir k)))
-      (first_look n.leg j)) (word-low dom gref.0 at) (m.entry dom gref.0 at) (control-low dom gref.0 at)
-      (control-low dom gref.0 at)
-
-  header-low : (dom : DomId) (leg : Option LegNow) → Low dom
-      → rule_at_header s p dom leg ≡ rule_at_header s g dom leg
-  header-low dom None at = refl
-  header-low dom (Some n) at =
-      ap (λ (t : Header). cond {A = Option Denial} (nat_lt n.leg.gref.0 (size_of t)) None
-      (Some (denial_of N9 (facts.Header dom (header_word t))))) (m.table dom at)
-
-  pin-low : (d : DomId) (r : OpenRequest) (so_far : StepsSoFar) (q : HeldPin) (seen : Observation) → Low d → Low q.dom
-      → rule_at_pin s p d r so_far q seen ≡ rule_at_pin s g d r so_far q seen
-  pin-low d r so_far q Taken low at =
-      four (λ (k : CallerKnowledge) (l : Option LegNow) (e x : Entry). rule_at_via k l e) (known-low d low)
-      (leg-low d r low) (m.entry q.dom q.gref.0 at) (m.entry q.dom q.gref.0 at)
-  pin-low d r so_far q seen low at =
-      ap (λ (w : ℕ). at_entry q.dom q.gref w
-      (stands (nat_le MAX_TRIES (misses ((call_steps.Pin q, seen) ∷ so_far))) N18)) (word-low q.dom q.gref.0 at)
-
-  first-low : (d : DomId) (r : OpenRequest) (so_far : StepsSoFar) (step : Step) → Low d → IsAtLow s high step
-      → first_at s p d r so_far step ≡ first_at s g d r so_far step
-  first-low d r so_far (LookHeader dom) low at =
-      ap (λ (l : Option LegNow). rule_at_header s p dom l) (leg-low d r low) ∙ header-low dom (leg_at s g d r) at
-  first-low d r so_far (LookControl dom gref) low at =
-      four (λ (w n : ℕ) (rule : Option Rule) (v : Observation). at_entry dom gref w (first (
-      stands (is_demote r && nat_lt 0 n) N19
-      ∷ rule
-      ∷ stands (nat_le MAX_TRIES (misses ((LookControl dom gref, v) ∷ so_far))) N18 ∷ [])))
-      (word-low dom gref.0 at) (writes-low dom gref.0 at)
-      (ap (λ (l : Option LegNow). rule_at_look s p l dom gref so_far) (leg-low d r low)
-      ∙ look-low (leg_at s g d r) dom gref so_far at)
-      (sees-low d (LookControl dom gref) low at)
-  first-low d r so_far (call_steps.Pin q) low at =
-      ap (λ (v : Observation). rule_at_pin s p d r so_far q v) (sees-low d (call_steps.Pin q) low at)
-      ∙ pin-low d r so_far q (seen_by s g d (call_steps.Pin q)) low at
-  first-low d r so_far (Exchange gref looked change) low at =
-      four (λ (w n k : ℕ) (v : Observation). at_entry d gref w
-      (rule_at_exchange change (n + k) (misses ((Exchange gref looked change, v) ∷ so_far))))
-      (word-low d gref.0 low) (reads-low d gref.0 low) (writes-low d gref.0 low)
-      (sees-low d (Exchange gref looked change) low at)
-  first-low d r so_far step low at = refl
-
-  first-in : (d : DomId) (x : ItemEvent) (c : Option Underway) → Low d → HappensAtLow s high x
-      → first_in_call s p d x c ≡ first_in_call s g d x c
-  first-in d (Began q) c low at =
-      ap (λ (k : CallerKnowledge). refusal_in (begun_of k d q)) (known-low d low)
-  first-in d (Stepped z v) None low at = refl
-  first-in d (Stepped z v) (Some c) low at = first-low d c.request (reverse c.steps) z low at
-
-  first-of : (i : Item) → Low i.actor → HappensAtLow s high i.happened → first_of_item s p i ≡ first_of_item s g i
-  first-of i low at =
-      ap (λ (o : Option Underway). first_in_call s p i.actor i.happened o) (m.calls i.actor low)
-      ∙ first-in i.actor i.happened (open_call g i.actor.0) low at
-
-  -- ---- what a step of a low domain needs
-
   any-low : (P : Pin → Type 0) (d : DomId) → Low d → ((q : Pin) → P q → q.actor ≡ d.0) → Any P (live g)
       → Any P (live p)
   any-low P d low owns any = subst (Any P) (sym m.pins) (any-passing P (is_low_pin s high) (live g)
       (λ q here. ap (λ (n : ℕ). not (hides s high n)) (owns q here) ∙ ap not low) any)
 
-  any-more : (P Q : Pin → Type 0) (ps : List Pin) → ((q : Pin) → P q → Q q) → Any P ps → Any Q ps
-  any-more P Q ps more any = (any.0, any.1, any.2, any.3, more any.1 any.4)
+  pub agrees : Agree s Low p g
+  agrees = record {
+    entry = m.entry;
+    raises = m.raises;
+    body = m.body;
+    table = m.table;
+    reads = λ t r low. ap (λ (ps : List Pin). count_by (is_pin_on t.0 r Read) ps) m.pins
+        ∙ counts-low s high t low r Read (live g) m.apart;
+    writes = λ t r low. ap (λ (ps : List Pin). count_by (is_pin_on t.0 r Write) ps) m.pins
+        ∙ counts-low s high t low r Write (live g) m.apart;
+    known = known-low;
+    mappings = λ d low. ap (λ (ps : List Pin). gather mapping_named d.0 ps) m.pins
+        ∙ gather-low s high mapping_named d (live g) low;
+    legs = λ d low. ap (λ (ps : List Pin). gather by_leg d.0 ps) m.pins ∙ gather-low s high by_leg d (live g) low;
+    any = any-low;
+  }
 
-  may-access : (d : DomId) (dir : Dir) (at : Spot) (len : ℕ) → Low d → MayAccess g d dir at len
-      → MayAccess p d dir at len
-  may-access d dir at len low (inl own) = inl own
-  may-access d dir at len low (inr any) =
-      inr (any-low (Reaches d d dir uses.Map at len) d low (λ q reach. reach.of_actor) any)
-
-  through : (d : DomId) (dir : Dir) (at : Spot) (len : ℕ) (named : DomId) → Low d
-      → ReachesThrough g d dir at len named → ReachesThrough p d dir at len named
-  through d dir at len named low any =
-      any-low (λ q. Any (λ via. Forwards d dir named q via × Reaches d named dir uses.Copy at len q) (live p)) d low
-      (λ q here. here.4.1.of_actor)
-      (any-more (λ q. Any (λ via. Forwards d dir named q via × Reaches d named dir uses.Copy at len q) (live g))
-      (λ q. Any (λ via. Forwards d dir named q via × Reaches d named dir uses.Copy at len q) (live p)) (live g)
-      (λ q here. any-low (λ via. Forwards d dir named q via × Reaches d named dir uses.Copy at len q) d low
-      (λ via both. both.0.of_actor) here) any)
-
-  may-ask : (d : DomId) (r : OpenRequest) → Low d → MayAsk s g d r → MayAsk s p d r
-  may-ask d (Load handle off len) low x =
-      subst (λ (l : List (Handle × HeldPin)). MayUseMapping s d (mapping_of l handle)) (sym (mappings-low d low)) x
-  may-ask d (Store handle off len) low x =
-      subst (λ (l : List (Handle × HeldPin)). MayUseMapping s d (mapping_of l handle)) (sym (mappings-low d low)) x
-  may-ask d r low x = x
-
-  end-low : (d : DomId) (granted : Bool) (dir : Dir) (at : Spot) (len : ℕ) (named : DomId) (owners : DomId × DomId)
-      → Low d → EndIsJustified s g d granted dir at len named owners
-      → EndIsJustified s p d granted dir at len named owners
-  end-low d granted dir at len named owners low (inl e) = inl e
-  end-low d granted dir at len named owners low (inr (inl e)) =
-      inr (inl (e.0, e.1, any-low (Reaches d d dir uses.Copy at len) d low (λ q reach. reach.of_actor) e.2))
-  end-low d granted dir at len named owners low (inr (inr e)) =
-      inr (inr (e.0, through d dir at len named low e.1, e.2))
-
-  copy-low : (d : DomId) (r : OpenRequest) (from to : Spot) (len : ℕ) → Low d → CopyIsJustified s g d r from to len
-      → CopyIsJustified s p d r from to len
-  copy-low d (Copy c) from to len low x = (
-    x.0,
-    x.1,
-    x.2,
-    end-low d (is_source_granted c) Read from len (resolved d c.source.domid)
-        (from.frame.owner, resolved d c.dest.domid) low x.3,
-    end-low d (is_dest_granted c) Write to len (resolved d c.dest.domid) (from.frame.owner, to.frame.owner) low x.4,
-  )
-  copy-low d r from to len low x = absurd x
-
-  justified-low : (d : DomId) (r : OpenRequest) (step : Step) → Low d → Justified s g d r step → Justified s p d r step
-  justified-low d r (call_steps.Read dom frame off len) low x = (
-    x.0,
-    may-access d Read (record { frame = record { owner = dom; number = frame }; off = off }) len low x.1,
-    may-ask d r low x.2,
-  )
-  justified-low d r (call_steps.Write dom frame off len) low x = (
-    x.0,
-    may-access d Write (record { frame = record { owner = dom; number = frame }; off = off }) len low x.1,
-    may-ask d r low x.2,
-  )
-  justified-low d r (call_steps.Copy from to len) low x = copy-low d r from to len low x
-  justified-low d r (Unpin q (holders.Mapping handle)) low x = x
-  justified-low d r step low x = tt
-
-  change-low : (t : DomId) (r : ℕ) (change : EntryChange) → Low t → IsSafeChange g t.0 r change
-      → IsSafeChange p t.0 r change
-  change-low t r (Publish entry) low x = (
-    m.entry t r low ∙ x.0,
-    subst (λ (w : ℕ). IsSpelled entry w (body_at p t.0 r body_words.Second)) (sym (m.body t r body_words.First low))
-        (subst (λ (w : ℕ). IsSpelled entry (body_at g t.0 r body_words.First) w)
-        (sym (m.body t r body_words.Second low)) x.1),
-    reads-low t r low ∙ x.2,
-    writes-low t r low ∙ x.3,
-  )
-  change-low t r changes.Withdraw low x = tt
-  change-low t r changes.Revoke low x = (reads-low t r low ∙ x.0, writes-low t r low ∙ x.1)
-  change-low t r changes.Demote low x = writes-low t r low ∙ x
-  change-low t r changes.Promote low x = tt
-
-  safe-low : (d : DomId) (z : Step) (v : Observation) (a : Option Answer) → Low d
-      → IsSafe s g (record { actor = d; happened = Stepped z v; answer = a })
-      → IsSafe s p (record { actor = d; happened = Stepped z v; answer = a })
-  safe-low d (Exchange gref looked change) Taken a low x = change-low d gref.0 change low x
-  safe-low d (StoreBody gref body_word word) v a low x = m.entry d gref.0 low ∙ x
-  safe-low d z v a low x = tt
-
-  none-low : (q : HeldPin) (leg : Option LegNow) → Low q.dom → NoneStands s g q.dom q.gref leg
-      → NoneStands s p q.dom q.gref leg
-  none-low q None at x = absurd x
-  none-low q (Some n) at x = (
-    ap (λ (k : Control). first_look n.leg k) (control-low q.dom q.gref.0 at) ∙ x.0,
-    ap (λ (e : Entry). before_pin n.leg e (pins_of n.leg.dir (control_at s p q.dom.0 q.gref.0)))
-        (m.entry q.dom q.gref.0 at)
-        ∙ ap (λ (k : Control). before_pin n.leg (entry_at g q.dom.0 q.gref.0) (pins_of n.leg.dir k))
-        (control-low q.dom q.gref.0 at)
-        ∙ x.1,
-  )
-
-  sound-low : (d : DomId) (r : OpenRequest) (z : Step) (v : Observation) → Low d → IsAtLow s high z
-      → PinIsSound s g d r z v → PinIsSound s p d r z v
-  sound-low d r (call_steps.Pin q) Taken low at x =
-      subst (λ (l : Option LegNow). NoneStands s p q.dom q.gref l) (sym (leg-low d r low))
-      (none-low q (leg_at s g d r) at x)
-  sound-low d r z v low at x = tt
+  first-of : (i : Item) → Low i.actor → HappensAtLow s high i.happened → first_of_item s p i ≡ first_of_item s g i
+  first-of i low at =
+      ap (λ (o : Option Underway). first_in_call s p i.actor i.happened o) (m.calls i.actor low)
+      ∙ first-in s Low p g agrees i.actor i.happened (open_call g i.actor.0) low at
 
   -- ---- answers
 
@@ -515,10 +321,10 @@ module _ (s : Setting) (high : TypeId → Bool) (p g : History) (m : IsLowPart s
   step-right d z v a None low at ruled legs right = absurd right
   step-right d z v a (Some c) low at ruled legs right = record {
     continues = ap (λ (k : CallerKnowledge). path k d c.request (values c)) (known-low d low) ∙ right.continues;
-    sees = right.sees ∙ sym (sees-low d z low at);
-    justified = justified-low d c.request z low right.justified;
-    safe = safe-low d z v a low right.safe;
-    sound = sound-low d c.request z v low at right.sound;
+    sees = right.sees ∙ sym (sees-same s Low p g agrees d z low at);
+    justified = justified-same s Low p g agrees d c.request z low right.justified;
+    safe = safe-same s Low p g agrees d z v a a low right.safe;
+    sound = sound-same s Low p g agrees d c.request z v low at right.sound;
     soon = right.soon;
     left = λ refused. let l = right.left refused in (l.0, legs ∙ l.1);
     answered = subst (λ (o : Option Denial). AnsweredBy s p d c.request (Some z)
@@ -675,7 +481,7 @@ module _ (s : Setting) (high : TypeId → Bool) where
   low-item p g i m shares copies low at right =
       let next = low-grows s high p g m i low at right (apart-grows g i shares copies right m.apart) in (
         item-right s high p g m i.actor i.happened i.answer low at (next.ruled i.actor low)
-            (legs-low s high (i ∷ p) (i ∷ g) next i.actor low) right,
+            ((agrees s high (i ∷ p) (i ∷ g) next).legs i.actor low) right,
         next,
       )
 
@@ -770,7 +576,7 @@ module _ (s : Setting) (high : TypeId → Bool) where
 
   pub keeps : (p g : History) → IsLowPart s high p g → LowDomainsKeep s high g p
   keeps p g m = record {
-    words = λ t r low. sym (word-low s high p g m t r low);
+    words = λ t r low. sym (word-same s (λ d. is_high s high d ≡ false) p g (agrees s high p g m) t r low);
     bodies = λ t r which low. sym (m.body t r which low);
     tables = λ t low. sym (m.table t low);
     frames = λ t f low. ap written (sym (m.patches t f low));
