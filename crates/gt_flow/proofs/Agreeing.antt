@@ -33,6 +33,9 @@ use Rattle.gt_model.specs.declared.trace.ItemEvent.TheVariants.{Began, Stepped}
 use Rattle.gt_types.specs.declared.Use.TheVariants as uses
 use Rattle.gt_types.specs.declared.denial.Facts.TheVariants as facts
 use Rattle.std.specs.Prelude.{nat_le, nat_lt}
+use Rattle.gt_core.proofs.Words.{gather, by_leg, mapping_named, is_pin_on, count_by}
+use Rattle.gt_core.proofs.Words.{maps_answered_at}
+use Rattle.gt_model.proofs.Observers.{known-as}
 
 pub four : {A B C D E : Type 0} (f : A → B → C → D → E) {a i : A} {b j : B} {c k : C} {d l : D}
     → a ≡ i → b ≡ j → c ≡ k → d ≡ l → f a b c d ≡ f i j k l
@@ -65,6 +68,37 @@ pub record Agree (s : Setting) (L : DomId → Type 0) (p g : History) : Type 1 w
   pub mappings : (d : DomId) → L d → mappings_at p d.0 ≡ mappings_at g d.0
   pub legs : (d : DomId) → L d → legs_at p d.0 ≡ legs_at g d.0
   pub any : (P : Pin → Type 0) (d : DomId) → L d → ((q : Pin) → P q → q.actor ≡ d.0) → Any P (live g) → Any P (live p)
+
+-- each domain
+abbrev pub Every : DomId → Type 0
+Every d = Unit {0}
+
+pub every : (z : Step) → LooksAmong Every z
+every (LookHeader dom) = tt
+every (LookControl dom gref) = tt
+every (LookBody dom gref body_word) = tt
+every (call_steps.Pin p) = tt
+every z = tt
+
+-- histories that leave the same entries, words, tables and pins agree for all
+pub agree-all : (s : Setting) (p g : History) → ((t r : ℕ) → entry_at p t r ≡ entry_at g t r)
+    → ((t r : ℕ) → raises_at p t r ≡ raises_at g t r)
+    → ((t r : ℕ) (which : BodyWord) → body_at p t r which ≡ body_at g t r which)
+    → ((t : DomId) → table_at s p t ≡ table_at s g t) → ((d : ℕ) → maps_answered_at p d ≡ maps_answered_at g d)
+    → live p ≡ live g → Agree s Every p g
+agree-all s p g entries raises bodies tables maps pins = record {
+  entry = λ t r is. entries t.0 r;
+  raises = λ t r is. raises t.0 r;
+  body = λ t r which is. bodies t.0 r which;
+  table = λ t is. tables t;
+  reads = λ t r is. ap (λ (ps : List Pin). count_by (is_pin_on t.0 r Read) ps) pins;
+  writes = λ t r is. ap (λ (ps : List Pin). count_by (is_pin_on t.0 r Write) ps) pins;
+  known = λ d is. known-as s g p d (entries d.0) (raises d.0) (tables d)
+      (ap (λ (ps : List Pin). gather mapping_named d.0 ps) pins) (maps d.0);
+  mappings = λ d is. ap (λ (ps : List Pin). gather mapping_named d.0 ps) pins;
+  legs = λ d is. ap (λ (ps : List Pin). gather by_leg d.0 ps) pins;
+  any = λ P d is owns any. subst (Any P) (sym pins) any;
+}
 
 module _ (s : Setting) (L : DomId → Type 0) (p g : History) (m : Agree s L p g) where
   -- ---- what such domains see

@@ -1,14 +1,14 @@
 -- Two histories that are the same except for bytes of high domains: what they leave, but for bytes, is the same.
 use Rattle.gt_core.proofs.Words.{◌≡◌, ◌+◌, ℕ, zero, suc, refl, Bool, true, false, List, [], ◌∷◌, ◌++◌, Option, Some}
-use Rattle.gt_core.proofs.Words.{None, cond, ap, sym, ◌∙◌, subst, ◌==◌, option_map, eqb-true, length, count_by, gather}
+use Rattle.gt_core.proofs.Words.{None, cond, ap, sym, ◌∙◌, subst, ◌==◌, option_map, eqb-true, length, gather}
 use Rattle.gt_core.proofs.Words.{by_leg, reverse, DomId, TypeId, Entry, Header, EntryChange, BodyWord, Denial}
 use Rattle.gt_core.proofs.Words.{asked, begun_of, bytes_given_by, CallerKnowledge, Request, OpenRequest, Taken}
-use Rattle.gt_core.proofs.Words.{Step, LookHeader, LookControl, LookBody, Observation, Read, Write}
+use Rattle.gt_core.proofs.Words.{Step, Observation}
 use Rattle.gt_core.proofs.Words.{History, Setting, Underway, Pin, entry_at, changed_entry_of}
 use Rattle.gt_core.proofs.Words.{change_at, change_of, raises_at, raise_after, body_at, or_else, stored_at, table_at}
 use Rattle.gt_core.proofs.Words.{header_or, header_stored, open_call, underway_with, underway_after}
-use Rattle.gt_core.proofs.Words.{maps_answered_at, one_if_mapped, live, is_pin_on, pinned_by, unpinned_by, holder_after}
-use Rattle.gt_core.proofs.Words.{mapping_named, known_at}
+use Rattle.gt_core.proofs.Words.{maps_answered_at, one_if_mapped, live, pinned_by, unpinned_by, holder_after}
+use Rattle.gt_core.proofs.Words.{known_at}
 use Rattle.gt_core.proofs.Words.{given_in, stood, stood_with, first_in_call, first_of_item}
 use Rattle.gt_core.proofs.Words.{refusal_in, take, drop, contents_at, PinHolder}
 use Rattle.gt_model.specs.declared.action.Step.TheVariants as call_steps
@@ -18,10 +18,8 @@ use Rattle.gt_model.specs.declared.trace.Bytes.{Bytes}
 use Rattle.gt_model.specs.declared.trace.ItemEvent.{ItemEvent}
 use Rattle.gt_model.specs.declared.trace.ItemEvent.TheVariants.{Began, Stepped}
 use Rattle.gt_model.specs.declared.trace.Item.{Item}
-use Rattle.gt_model.proofs.Observers.{known-as}
-use Rattle.std.specs.Prelude.{Any}
 use Rattle.gt_flow.specs.Low.{is_high}
-use Rattle.gt_flow.proofs.Agreeing.{Agree, LooksAmong, first-same}
+use Rattle.gt_flow.proofs.Agreeing.{Agree, Every, agree-all, every, first-same}
 use Rattle.gt_flow.proofs.Frames.{hides}
 use Rattle.gt_flow.proofs.Veiled.{pinned-entries}
 
@@ -110,45 +108,13 @@ pinned-again d y a c h ps same = refl
 
 -- what follows from it
 
-abbrev pub Every : DomId → Type 0
-Every d = Unit {0}
-
-pub every : (z : Step) → LooksAmong Every z
-every (LookHeader dom) = tt
-every (LookControl dom gref) = tt
-every (LookBody dom gref body_word) = tt
-every (call_steps.Pin p) = tt
-every z = tt
-
 module _ (s : Setting) (high : TypeId → Bool) (g h : History) (m : Matched s high g h) where
   pub agrees : Agree s Every g h
-  agrees = record {
-    entry = λ t r every. m.entry t.0 r;
-    raises = λ t r every. m.raises t.0 r;
-    body = λ t r which every. m.body t.0 r which;
-    table = λ t every. m.table t;
-    reads = λ t r every. ap (λ (ps : List Pin). count_by (is_pin_on t.0 r Read) ps) m.pins;
-    writes = λ t r every. ap (λ (ps : List Pin). count_by (is_pin_on t.0 r Write) ps) m.pins;
-    known = λ d every. known-as s h g d (m.entry d.0) (m.raises d.0) (m.table d)
-        (ap (λ (ps : List Pin). gather mapping_named d.0 ps) m.pins) (m.maps d.0);
-    mappings = λ d every. ap (λ (ps : List Pin). gather mapping_named d.0 ps) m.pins;
-    legs = λ d every. ap (λ (ps : List Pin). gather by_leg d.0 ps) m.pins;
-    any = λ P d every owns any. subst (Any P) (sym m.pins) any;
-  }
+  agrees = agree-all s g h m.entry m.raises m.body m.table m.maps m.pins
 
   pub agrees-back : Agree s Every h g
-  agrees-back = let a = agrees in record {
-    entry = λ t r every. sym (a.entry t r every);
-    raises = λ t r every. sym (a.raises t r every);
-    body = λ t r which every. sym (a.body t r which every);
-    table = λ t every. sym (a.table t every);
-    reads = λ t r every. sym (a.reads t r every);
-    writes = λ t r every. sym (a.writes t r every);
-    known = λ d every. sym (a.known d every);
-    mappings = λ d every. sym (a.mappings d every);
-    legs = λ d every. sym (a.legs d every);
-    any = λ P d every owns any. subst (Any P) m.pins any;
-  }
+  agrees-back = agree-all s h g (λ t r. sym (m.entry t r)) (λ t r. sym (m.raises t r))
+      (λ t r which. sym (m.body t r which)) (λ t. sym (m.table t)) (λ d. sym (m.maps d)) (sym m.pins)
 
   first-stripped : (l : History) (d : DomId) (x : ItemEvent) (c : Option Underway) → first_in_call s l d x c ≡ first_in_call s l d x (option_map strip c)
   first-stripped l d (Began q) c = refl

@@ -36,8 +36,8 @@ use Rattle.gt_flow.specs.OtherBytes.{SameButHighBytes, SameButPassed, byteless_e
 use Rattle.gt_flow.proofs.Allowed.{IsReading, IsWriting, read-flows, write-flows}
 use Rattle.gt_flow.proofs.Frames.{Passes, PassesIn, copied-low, hides, low-source, open-passes, patch-same}
 use Rattle.gt_flow.proofs.Veiled.{asked-hidden, begun-hidden}
-use Rattle.gt_flow.proofs.Agreeing.{Agree, justified-same, safe-same, sees-same, sound-same}
-use Rattle.gt_flow.proofs.Matched.{Every, Matched, SameRunAction, agrees, agrees-back, every, fitted, fitted-all}
+use Rattle.gt_flow.proofs.Agreeing.{Agree, Every, every, justified-same, safe-same, sees-same, sound-same}
+use Rattle.gt_flow.proofs.Matched.{Matched, SameRunAction, agrees, agrees-back, fitted, fitted-all}
 use Rattle.gt_flow.proofs.Matched.{matched-grows, reanswered, reread, strip}
 
 -- the writes to frames of low domains are the same after both
