@@ -55,8 +55,8 @@ abbrev pub HappensAmong : (DomId → Type 0) → ItemEvent → Type 0
 HappensAmong L (Began request) = Unit {0}
 HappensAmong L (Stepped step seen) = LooksAmong L step
 
--- what such domains have is the same after both histories, and what holds for a pin of one after the second holds for one
--- after the first
+-- what such domains have is the same after both histories, and what holds for a pin of one after the second holds for
+-- one after the first
 pub record Agree (s : Setting) (L : DomId → Type 0) (p g : History) : Type 1 where
   pub entry : (t : DomId) (r : ℕ) → L t → entry_at p t.0 r ≡ entry_at g t.0 r
   pub raises : (t : DomId) (r : ℕ) → L t → raises_at p t.0 r ≡ raises_at g t.0 r
@@ -233,7 +233,8 @@ module _ (s : Setting) (L : DomId → Type 0) (p g : History) (m : Agree s L p g
   )
   copy-same d r from to len among x = absurd x
 
-  pub justified-same : (d : DomId) (r : OpenRequest) (step : Step) → L d → Justified s g d r step → Justified s p d r step
+  pub justified-same : (d : DomId) (r : OpenRequest) (step : Step) → L d → Justified s g d r step
+      → Justified s p d r step
   justified-same d r (call_steps.Read dom frame off len) among x = (
     x.0,
     may-access d Read (record { frame = record { owner = dom; number = frame }; off = off }) len among x.1,

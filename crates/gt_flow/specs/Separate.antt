@@ -10,7 +10,8 @@ use Rattle.gt_types.specs.declared.copies.CopyArgs.{CopyArgs}
 use Rattle.gt_types.specs.declared.perms.Perms.{Perms}
 use Rattle.gt_model.specs.Asking.{FitsAsked, asked}
 use Rattle.gt_model.specs.declared.request.OpenRequest.{OpenRequest}
-use Rattle.gt_model.specs.declared.request.OpenRequest.TheVariants.{Copy, GetVersion, Map, Probe, QuerySize}
+use Rattle.gt_model.specs.declared.request.OpenRequest.TheVariants.{Copy, GetVersion, Grant, Map, Probe}
+use Rattle.gt_model.specs.declared.request.OpenRequest.TheVariants.{QuerySize}
 use Rattle.gt_model.specs.declared.action.Step.{Step}
 use Rattle.gt_model.specs.declared.action.Step.TheVariants.{LookBody, LookControl, LookHeader}
 use Rattle.gt_model.specs.declared.action.Step.TheVariants as call_steps
@@ -21,7 +22,7 @@ use Rattle.gt_model.specs.declared.trace.Event.{Event}
 use Rattle.gt_model.specs.declared.trace.Event.TheVariants.{Begin, Tick}
 use Rattle.gt_model.specs.declared.trace.ItemEvent.{ItemEvent}
 use Rattle.gt_model.specs.declared.trace.ItemEvent.TheVariants.{Began, Stepped}
-use Rattle.gt_flow.specs.Apart.{CopiesApart, LowDomainsKeep, StaysApart}
+use Rattle.gt_flow.specs.Apart.{CopiesApart, CopiesHigh, LowDomainsKeep, NamesLow, StaysApart}
 use Rattle.gt_flow.specs.Low.{NamesKnown, is_high}
 use Rattle.gt_flow.specs.Purged.{SameElements, SameEvents}
 
@@ -73,8 +74,10 @@ EndsAreLow s high d c =
     (is_source_granted c ≡ true → is_high s high (resolved d c.source.domid) ≡ false)
     × (is_dest_granted c ≡ true → is_high s high (resolved d c.dest.domid) ≡ false)
 
--- the request of domain d names no high domain as the owner of an entry or a table
+-- the request of domain d names no high domain: not in an entry that it grants, and not as the owner of an entry or a
+-- table
 abbrev pub AsksLow : Setting → (TypeId → Bool) → DomId → OpenRequest → Type 0
+AsksLow s high d (Grant gref entry) = NamesLow s high entry
 AsksLow s high d (Map dom gref flags) = is_high s high (resolved d dom) ≡ false
 AsksLow s high d (Copy c) = EndsAreLow s high d c
 AsksLow s high d (Probe c) = EndsAreLow s high d c
@@ -82,23 +85,28 @@ AsksLow s high d (QuerySize dom) = is_high s high (resolved d dom) ≡ false
 AsksLow s high d (GetVersion dom) = is_high s high (resolved d dom) ≡ false
 AsksLow s high d request = Unit {0}
 
--- each of the events begins only such a call; the numbers of an entry that it grants fit their types, as in each value
--- of the program
-abbrev pub BeginLow : Setting → (TypeId → Bool) → List Event → Type 0
-BeginLow s high [] = Unit {0}
-BeginLow s high (Begin d request ∷ es) =
-    (AsksLow s high d (asked request) × FitsAsked (asked request)) × BeginLow s high es
-BeginLow s high (Tick d ∷ es) = BeginLow s high es
+-- The request of a low domain names no high one, and the numbers of an entry that it grants fit their types, as in each
+-- value of the program. The request of a high domain may be anything but a copy with an end at an entry of a low one.
+abbrev pub AsksApart : Setting → (TypeId → Bool) → DomId → OpenRequest → Type 0
+AsksApart s high d request =
+    (is_high s high d ≡ false → AsksLow s high d request × FitsAsked request)
+    × (is_high s high d ≡ true → CopiesHigh s high d request)
 
--- Low domains that name no high ones do not look at their tables: not by the second entry behind a Via either, since no
--- low entry names a high domain.
-abbrev pub LowCallsLookLow : Type 0
-LowCallsLookLow =
+-- each of the events that begins a call has such a request
+abbrev pub AllAskApart : Setting → (TypeId → Bool) → List Event → Type 0
+AllAskApart s high [] = Unit {0}
+AllAskApart s high (Begin d request ∷ es) = AsksApart s high d (asked request) × AllAskApart s high es
+AllAskApart s high (Tick d ∷ es) = AllAskApart s high es
+
+-- Requests are enough: if they keep apart, no entry of a low domain names a high one at any time, and no low domain
+-- looks at a table of a high one, not by the second entry behind a Via either.
+abbrev pub RequestsKeepApart : Type 0
+RequestsKeepApart =
     (config : Config) (may : TypeId → TypeId → Perms → Bool) (high : TypeId → Bool)
     (es : List Event) (xs : List Element)
-    → let s = setting_of config may in IsWithinLimits config → Legal s es xs
-    → BeginLow s high (low_events s high es) → NamesKnown [] (low_events s high es) (low_elements s high es xs)
-    → StaysApart s high (history_after [] xs) → LooksApart s high (history_after [] xs)
+    → let s = setting_of config may in IsWithinLimits config → Legal s es xs → AllAskApart s high es
+    → NamesKnown [] (low_events s high es) (low_elements s high es xs)
+    → StaysApart s high (history_after [] xs) × LooksApart s high (history_after [] xs)
 
 -- up to now no open copy of a high domain had an end at an entry of a low one
 unfoldable pub CopiesStayApart : Setting → (TypeId → Bool) → History → Type 0
@@ -122,17 +130,17 @@ HighCallsMakeNoDifference =
     → SameElements (low_elements s high es xs) (low_elements s high fs ys)
     × LowDomainsKeep s high (history_after [] xs) (history_after [] ys)
 
--- The same by what low domains name: no entry and no call of a low domain names a high one, and no copy of a high
--- domain an entry of a low one. So a guest with which nobody shares is as if it were not there.
+-- The same by what domains ask. No request of a low domain names a high one: not in an entry that it grants, and not as
+-- the owner of an entry or a table. No copy of a high domain names an entry of a low one. Then all calls of high
+-- domains may be made or not, at any time. So a guest with which nobody shares is as if it were not there.
 abbrev pub UnsharedDomainsMakeNoDifference : Type 0
 UnsharedDomainsMakeNoDifference =
     (config : Config) (may : TypeId → TypeId → Perms → Bool) (high : TypeId → Bool)
     (es fs : List Event) (xs ys : List Element)
     → let s = setting_of config may in IsWithinLimits config → Legal s es xs → Legal s fs ys
-    → BeginLow s high (low_events s high es)
+    → AllAskApart s high es → AllAskApart s high fs
     → NamesKnown [] (low_events s high es) (low_elements s high es xs)
     → NamesKnown [] (low_events s high fs) (low_elements s high fs ys)
     → SameEvents (low_events s high es) (low_events s high fs)
-    → StaysApart s high (history_after [] xs) → CopiesStayApart s high (history_after [] ys)
     → SameElements (low_elements s high es xs) (low_elements s high fs ys)
     × LowDomainsKeep s high (history_after [] xs) (history_after [] ys)

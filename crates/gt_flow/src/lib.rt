@@ -17,6 +17,7 @@ pub use laws::{
     each_run_has_others, events_do_not_interfere, every_flow_is_allowed,
     high_accesses_never_reach_low_domains, high_bytes_never_reach_low_domains,
     high_calls_make_no_difference, high_items_leave_low, high_items_show_only_pins,
-    low_calls_look_low, low_frames_are_the_same, low_parts_are_legal, reached_types_are_closed,
-    reached_types_are_least, trusted_domains_may_store, unshared_domains_make_no_difference,
+    low_frames_are_the_same, low_parts_are_legal, reached_types_are_closed,
+    reached_types_are_least, requests_keep_apart, trusted_domains_may_store,
+    unshared_domains_make_no_difference,
 };
