@@ -3,7 +3,7 @@ use Rattle.gt_core.proofs.Words.{◌≡◌, ◌≢◌, ◌⊎◌, inl, inr, ℕ,
 use Rattle.gt_core.proofs.Words.{Some, None, cond, ap, sym, ◌∙◌, subst, ◌==◌, option_map, reverse, All, All-head}
 use Rattle.gt_core.proofs.Words.{All-tail, All-nil, All-cons, eqb-true, none-some, same_Some, true≢false, gather}
 use Rattle.gt_core.proofs.Words.{by_leg}
-use Rattle.gt_core.proofs.Words.{DomId, TypeId, Entry, HeldPin, Pin, PinHolder, asked, Request, OpenRequest}
+use Rattle.gt_core.proofs.Words.{DomId, Entry, HeldPin, Pin, PinHolder, asked, Request, OpenRequest}
 use Rattle.gt_core.proofs.Words.{Step, Unpin, LookHeader, LookControl, LookBody}
 use Rattle.gt_core.proofs.Words.{Observation, Taken, Read, Write, Action, CallerKnowledge, path, CallResult}
 use Rattle.gt_core.proofs.Words.{next_to_give, length, arith}
@@ -52,7 +52,7 @@ use Rattle.gt_model.specs.declared.trace.ItemEvent.TheVariants.{Began, Stepped}
 use Rattle.gt_types.specs.declared.copies.CopyArgs.{CopyArgs}
 use Rattle.std.proofs.lemmas.List.Elements.{All-append}
 use Rattle.gt_flow.specs.Apart.{CopiesApart, NamesLow, SharesNothing, StaysApart}
-use Rattle.gt_flow.specs.Low.{NamesKnown, is_high}
+use Rattle.gt_flow.specs.Low.{NamesKnown}
 use Rattle.gt_flow.specs.Separate.{AsksLow, EndsAreLow, HappensAtLow, LooksApart, low_elements}
 use Rattle.gt_flow.specs.Separate.{AllAskApart, AsksApart, CopiesStayApart, RequestsKeepApart}
 use Rattle.gt_flow.specs.Separate.{UnsharedDomainsMakeNoDifference, low_events}
@@ -65,37 +65,37 @@ use Rattle.gt_flow.proofs.SameParts.{high-calls-make-no-difference, shares-part,
 use Rattle.gt_flow.proofs.Separate.{AtLow, IsLowPart, all-unpinned, high-event, known-low, low-event, nothing-yet}
 use Rattle.gt_flow.proofs.Steps.{stepped_told, tick_told, within-some}
 
-module _ (s : Setting) (high : TypeId → Bool) where
+module _ (s : Setting) (high : DomId → Bool) where
   abbrev Lo : DomId → Type 0
-  Lo d = is_high s high d ≡ false
+  Lo d = high d ≡ false
 
   -- ---- the leg of a call
 
   -- the entry of a pin that a call holds names low domains only
   abbrev HeldLow : ℕ × HeldPin → Type 0
-  HeldLow l = NamesLow s high l.1.entry
+  HeldLow l = NamesLow high l.1.entry
 
   -- the first end of an access path is the pin of this Via
   via-low : (source : AccessPath) (via : HeldPin)
       → All HeldLow (numbered 0 (reverse (last_first (record { source = source; dest = Direct via }))))
-      → NamesLow s high via.entry
+      → NamesLow high via.entry
   via-low Own via all = all 0 (0, via) (omega arith)
   via-low (Direct p) via all = all 1 (0, via) (omega arith)
   via-low (Through v p) via all = all 2 (0, via) (omega arith)
 
-  on-low : (k : CallerKnowledge) (first l : Leg) (e : Entry) → NamesLow s high e → IsOnFrom k first e l → Lo l.dom
+  on-low : (k : CallerKnowledge) (first l : Leg) (e : Entry) → NamesLow high e → IsOnFrom k first e l → Lo l.dom
   on-low k first l (Via dom ro dom2 gref) names is = subst (λ (x : Leg). Lo x.dom) (sym is) names.1
   on-low k first l e names is = absurd is
 
-  copy-ends : (d : DomId) (r : OpenRequest) (c : CopyArgs) → IsCopyOf r c → AsksLow s high d r → EndsAreLow s high d c
-  copy-ends d r c (inl is) asks = subst (AsksLow s high d) is asks
-  copy-ends d r c (inr is) asks = subst (AsksLow s high d) is asks
+  copy-ends : (d : DomId) (r : OpenRequest) (c : CopyArgs) → IsCopyOf r c → AsksLow high d r → EndsAreLow high d c
+  copy-ends d r c (inl is) asks = subst (AsksLow high d) is asks
+  copy-ends d r c (inr is) asks = subst (AsksLow high d) is asks
 
   leg-low : (k : CallerKnowledge) (d : DomId) (r : OpenRequest) (purpose : PinPurpose) (l : Leg)
-      → IsLegFor k d r purpose l → AsksLow s high d r
+      → IsLegFor k d r purpose l → AsksLow high d r
       → All HeldLow (numbered 0 (reverse (last_first (pins_so_far purpose)))) → Lo l.dom
   leg-low k d r Mapping l is asks all =
-      subst (λ (x : Leg). Lo x.dom) (sym is.leg_is) (subst (AsksLow s high d) is.of_map asks)
+      subst (λ (x : Leg). Lo x.dom) (sym is.leg_is) (subst (AsksLow high d) is.of_map asks)
   leg-low k d r (Source c None) l is asks all =
       subst (λ (x : Leg). Lo x.dom) (sym is.1.1) ((copy-ends d r c is.0 asks).0 is.1.0)
   leg-low k d r (Source c (Some via)) l is asks all =
@@ -111,14 +111,14 @@ module _ (s : Setting) (high : TypeId → Bool) where
   IsLowStep (LookControl dom gref) = Lo dom
   IsLowStep (LookBody dom gref body_word) = Lo dom
   IsLowStep (call_steps.Pin p) = Lo p.dom
-  IsLowStep (Exchange gref looked (Publish entry)) = NamesLow s high entry
+  IsLowStep (Exchange gref looked (Publish entry)) = NamesLow high entry
   IsLowStep z = Unit {0}
 
   abbrev HappensLow : ItemEvent → Type 0
   HappensLow (Began q) = Unit {0}
   HappensLow (Stepped z v) = IsLowStep z
 
-  at-low : (x : ItemEvent) → HappensLow x → HappensAtLow s high x
+  at-low : (x : ItemEvent) → HappensLow x → HappensAtLow high x
   at-low (Began q) is = tt
   at-low (Stepped (LookHeader dom) v) is = is
   at-low (Stepped (LookControl dom gref) v) is = is
@@ -143,15 +143,15 @@ module _ (s : Setting) (high : TypeId → Bool) where
   quiet-low z quiet = tt
 
   asked-low : (d : DomId) (r : OpenRequest) (dom : DomId) (question : HeaderQuery) → AsksTable d r dom question
-      → AsksLow s high d r → Lo dom
-  asked-low d r dom queries.Size (named, is, same) asks = subst Lo (sym same) (subst (AsksLow s high d) is asks)
-  asked-low d r dom queries.Version (named, is, same) asks = subst Lo (sym same) (subst (AsksLow s high d) is asks)
+      → AsksLow high d r → Lo dom
+  asked-low d r dom queries.Size (named, is, same) asks = subst Lo (sym same) (subst (AsksLow high d) is asks)
+  asked-low d r dom queries.Version (named, is, same) asks = subst Lo (sym same) (subst (AsksLow high d) is asks)
 
   -- an entry that a low domain publishes is the one that it asked for
   exchange-low : (k : CallerKnowledge) (grammar : Continuation) (d : DomId) (r : OpenRequest)
-      (shown : List Observation) (gref : GrantRef) (looked : ℕ) (change : EntryChange) → AsksLow s high d r
+      (shown : List Observation) (gref : GrantRef) (looked : ℕ) (change : EntryChange) → AsksLow high d r
       → RestsOnWord k grammar d r shown gref looked change → IsLowStep (Exchange gref looked change)
-  exchange-low k grammar d r shown gref looked (Publish entry) asks rests = subst (AsksLow s high d) rests.0 asks
+  exchange-low k grammar d r shown gref looked (Publish entry) asks rests = subst (AsksLow high d) rests.0 asks
   exchange-low k grammar d r shown gref looked changes.Revoke asks rests = tt
   exchange-low k grammar d r shown gref looked changes.Withdraw asks rests = tt
   exchange-low k grammar d r shown gref looked changes.Demote asks rests = tt
@@ -167,7 +167,7 @@ module _ (s : Setting) (high : TypeId → Bool) where
 
   -- what a call does in this phase
   phase-low : (g : History) (d : DomId) (r : OpenRequest) (grammar : Continuation) (shown : List Observation)
-      (so_far : StepsSoFar) (phase : Phase) (z : Step) → Lo d → AsksLow s high d r
+      (so_far : StepsSoFar) (phase : Phase) (z : Step) → Lo d → AsksLow high d r
       → HasShown (known_at s g d) grammar d r shown phase → PhaseStands s g d r so_far phase
       → All HeldLow (numbered 0 (reverse (held_in phase)))
       → action_at d phase ≡ actions.Step z → IsLowStep z
@@ -195,14 +195,14 @@ module _ (s : Setting) (high : TypeId → Bool) where
 
   -- a pin of a low domain is on an entry that names low domains only
   abbrev Names : Pin → Type 0
-  Names q = Lo (record { 0 = q.actor }) → NamesLow s high q.held.entry
+  Names q = Lo (record { 0 = q.actor }) → NamesLow high q.held.entry
 
   legs-named : (d : DomId) (ps : List Pin) → Lo d → All Names ps → All HeldLow (gather by_leg d.0 ps)
   unfolding gather
   legs-named d [] low all = All-nil HeldLow
   legs-named d (q ∷ qs) low all = by (q.actor == d.0) refl (legs-named d qs low (All-tail Names q qs all))
     where
-      one : (x : PinHolder) → NamesLow s high q.held.entry → All HeldLow (by_leg x q.held)
+      one : (x : PinHolder) → NamesLow high q.held.entry → All HeldLow (by_leg x q.held)
       one (holders.Mapping handle) names = All-nil HeldLow
       one (holders.Leg n) names = All-cons HeldLow (n, q.held) [] names (All-nil HeldLow)
 
@@ -214,12 +214,12 @@ module _ (s : Setting) (high : TypeId → Bool) where
       by false own rest = rest
 
   pinned-named : (p : History) (d : DomId) (x : ItemEvent) (a : Option Answer) (ps : List Pin)
-      → SharesNothing s high p → (Lo d → HappensAtLow s high x) → All Names (pinned_by d x a p ps)
+      → SharesNothing high p → (Lo d → HappensAtLow high x) → All Names (pinned_by d x a p ps)
   pinned-named p d (Stepped (call_steps.Pin q) Taken) a ps shares at =
       All-cons Names _ [] (λ low. shares q.dom q.gref.0 (at low)) (All-nil Names)
   pinned-named p d x a ps shares at = All-nil Names
 
-  names-grow : (p : History) (i : Item) → SharesNothing s high p → HappensAtLow s high i.happened
+  names-grow : (p : History) (i : Item) → SharesNothing high p → HappensAtLow high i.happened
       → All Names (live p) → All Names (live (i ∷ p))
   unfolding live
   names-grow p i shares at all = All-append Names (unpinned_by i.actor i.happened (live p))
@@ -281,23 +281,23 @@ module _ (s : Setting) (high : TypeId → Bool) where
         by false own = was
 
   abbrev AsksOnlyLow : DomId → OpenRequest → Type 0
-  AsksOnlyLow d r = AsksLow s high d r
+  AsksOnlyLow d r = AsksLow high d r
 
   -- each open call of a low domain names low ones only
   abbrev AllAskLow : History → Type 0
   AllAskLow p = (d : DomId) → Lo d → CallAsks AsksOnlyLow d (open_call p d.0)
 
-  asks-bare : (d : DomId) (r q : OpenRequest) → bare_asked r ≡ bare_asked q → AsksLow s high d r → AsksLow s high d q
-  asks-bare d r q same asks = from q (subst (AsksLow s high d) same (to r asks))
+  asks-bare : (d : DomId) (r q : OpenRequest) → bare_asked r ≡ bare_asked q → AsksLow high d r → AsksLow high d q
+  asks-bare d r q same asks = from q (subst (AsksLow high d) same (to r asks))
     where
-      to : (r : OpenRequest) → AsksLow s high d r → AsksLow s high d (bare_asked r)
+      to : (r : OpenRequest) → AsksLow high d r → AsksLow high d (bare_asked r)
       to (Unmap handle) asks = tt
       to (Release handle) asks = tt
       to (Load handle off len) asks = tt
       to (Store handle off len) asks = tt
       to r asks = asks
 
-      from : (q : OpenRequest) → AsksLow s high d (bare_asked q) → AsksLow s high d q
+      from : (q : OpenRequest) → AsksLow high d (bare_asked q) → AsksLow high d q
       from (Unmap handle) asks = tt
       from (Release handle) asks = tt
       from (Load handle off len) asks = tt
@@ -319,7 +319,7 @@ module _ (s : Setting) (high : TypeId → Bool) where
       by (Some x) agrees = call x.underway (subst (CallAgrees s g d x.underway) here
           (subst (λ (k : DomId). CallAgrees s g k x.underway (open_call g k.0)) agrees.1 agrees.2.call))
 
-  open-low : (g : History) (d : DomId) (o : OpenCall) (c : Underway) → Lo d → AsksLow s high d c.request
+  open-low : (g : History) (d : DomId) (o : OpenCall) (c : Underway) → Lo d → AsksLow high d c.request
       → All Names (live g) → OpenAgrees s g d o c → IsLowStep o.step
   open-low g d o c low asks all a =
       phase-low g d c.request (path (known_at s g d) d c.request) (values c) (reverse c.steps) a.phase o.step low asks
@@ -362,7 +362,7 @@ module _ (s : Setting) (high : TypeId → Bool) where
 
       asking : (c : Underway) (o : Option Underway) → option_map bare_call o ≡ Some (bare_call c)
           → CallAsks AsksOnlyLow d o
-          → AsksLow s high d c.request
+          → AsksLow high d c.request
       asking c None e asks = absurd (none-some _ e)
       asking c (Some u) e asks = asks-bare d u.request c.request
           (ap (λ (x : Underway). x.request) (same_Some (bare_call u) (bare_call c) e)) asks
@@ -391,39 +391,39 @@ module _ (s : Setting) (high : TypeId → Bool) where
 
   -- ---- entries of low domains
 
-  names-ro : (ro : Bool) (e : Entry) → NamesLow s high e → NamesLow s high (with_ro ro e)
+  names-ro : (ro : Bool) (e : Entry) → NamesLow high e → NamesLow high (with_ro ro e)
   names-ro ro Invalid names = tt
   names-ro ro (Page dom old frame) names = names
   names-ro ro (Sub dom old frame off len) names = names
   names-ro ro (Via dom old dom2 gref) names = names
 
   names-changed : (gref : GrantRef) (looked : ℕ) (change : EntryChange) (old : Entry)
-      → IsLowStep (Exchange gref looked change) → NamesLow s high old → NamesLow s high (changed_entry change old)
+      → IsLowStep (Exchange gref looked change) → NamesLow high old → NamesLow high (changed_entry change old)
   names-changed gref looked (Publish entry) old is names = is
   names-changed gref looked changes.Revoke old is names = tt
   names-changed gref looked changes.Withdraw old is names = tt
   names-changed gref looked changes.Demote old is names = names-ro true old names
   names-changed gref looked changes.Promote old is names = names-ro false old names
 
-  names-after : (x : ItemEvent) (r : ℕ) (old : Entry) → HappensLow x → NamesLow s high old
-      → NamesLow s high (changed_entry_of (change_at x r) old)
+  names-after : (x : ItemEvent) (r : ℕ) (old : Entry) → HappensLow x → NamesLow high old
+      → NamesLow high (changed_entry_of (change_at x r) old)
   names-after (Stepped (Exchange gref looked change) Taken) r old is names = by (gref.0 == r)
     where
-      by : (b : Bool) → NamesLow s high (changed_entry_of (cond b (Some change) None) old)
+      by : (b : Bool) → NamesLow high (changed_entry_of (cond b (Some change) None) old)
       by true = names-changed gref looked change old is names
       by false = names
   names-after x r old is names = names
 
-  shares-grow : (p : History) (i : Item) → HappensLow i.happened → SharesNothing s high p → SharesNothing s high (i ∷ p)
+  shares-grow : (p : History) (i : Item) → HappensLow i.happened → SharesNothing high p → SharesNothing high (i ∷ p)
   unfolding entry_at
   shares-grow p i is shares t r low = by (i.actor.0 == t.0)
     where
       by : (b : Bool)
-          → NamesLow s high (changed_entry_of (cond b (change_at i.happened r) None) (entry_at p t.0 r))
+          → NamesLow high (changed_entry_of (cond b (change_at i.happened r) None) (entry_at p t.0 r))
       by true = names-after i.happened r (entry_at p t.0 r) is (shares t r low)
       by false = shares t r low
 
-  shares-first : SharesNothing s high []
+  shares-first : SharesNothing high []
   unfolding entry_at
   shares-first t r low = tt
 
@@ -461,7 +461,7 @@ module _ (s : Setting) (high : TypeId → Bool) where
     pub reached : IsLikeReached s p
     pub asks : AllAskLow p
     pub names : All Names (live p)
-    pub shares : SharesNothing s high p
+    pub shares : SharesNothing high p
 
   item-goes : (p : History) (i : Item) → Goes p → HappensLow i.happened → domain_of s.domains i.actor ≢ None
       → IsRight s p i → HappensKnown p i → AsksFit i.happened → HappensAsking AsksOnlyLow i.actor i.happened
@@ -474,7 +474,7 @@ module _ (s : Setting) (high : TypeId → Bool) where
   }
 
   begun-goes : (p : History) (d : DomId) (q : Request) (i : Item) (x : ItemEvent) → i.happened ≡ x → x ≡ Began q
-      → i.actor ≡ d → IsOfKnown p (Begin d q) → AsksLow s high d (asked q) × FitsAsked (asked q)
+      → i.actor ≡ d → IsOfKnown p (Begin d q) → AsksLow high d (asked q) × FitsAsked (asked q)
       → HappensKnown p i × AsksFit i.happened × HappensAsking AsksOnlyLow i.actor i.happened
   begun-goes p d q i x is same own known asks = (
     subst (λ (k : DomId). HappensKnown p (record i { actor = k })) (sym own)
@@ -493,7 +493,7 @@ module _ (s : Setting) (high : TypeId → Bool) where
 
   -- the event begins a call that keeps apart
   abbrev BeginsApart : Event → Type 0
-  BeginsApart (Begin d q) = AsksApart s high d (asked q)
+  BeginsApart (Begin d q) = AsksApart high d (asked q)
   BeginsApart (Tick d) = Unit {0}
 
   goes-on : (p : History) (e : Event) (x : Element) → Goes p → Lo (actor_of e) → LowDoes x → MayDo s p e x
@@ -511,28 +511,28 @@ module _ (s : Setting) (high : TypeId → Bool) where
   -- ---- copies of high domains
 
   abbrev Copying : DomId → OpenRequest → Type 0
-  Copying d r = CopiesHigh s high d r
+  Copying d r = CopiesHigh high d r
 
   copies-grow : (g : History) (i : Item)
-      → (is_high s high i.actor ≡ true → HappensAsking Copying i.actor i.happened) → CopiesApart s high g
-      → CopiesApart s high (i ∷ g)
+      → (high i.actor ≡ true → HappensAsking Copying i.actor i.happened) → CopiesApart high g
+      → CopiesApart high (i ∷ g)
   copies-grow g i asks copies d up = back d (open_call (i ∷ g) d.0)
-      (call-grows Copying g i d (λ same. asks (subst (λ (k : DomId). is_high s high k ≡ true) (sym same) up))
+      (call-grows Copying g i d (λ same. asks (subst (λ (k : DomId). high k ≡ true) (sym same) up))
       (there d (open_call g d.0) (copies d up)))
     where
-      there : (d : DomId) (c : Option Underway) → CallCopiesHigh s high d c → CallAsks Copying d c
+      there : (d : DomId) (c : Option Underway) → CallCopiesHigh high d c → CallAsks Copying d c
       there d None asks = tt
       there d (Some c) asks = asks
 
-      back : (d : DomId) (c : Option Underway) → CallAsks Copying d c → CallCopiesHigh s high d c
+      back : (d : DomId) (c : Option Underway) → CallAsks Copying d c → CallCopiesHigh high d c
       back d None asks = tt
       back d (Some c) asks = asks
 
-  copies-first : CopiesApart s high []
+  copies-first : CopiesApart high []
   unfolding open_call
   copies-first d up = tt
 
-  begun-copying : (d : DomId) (x : ItemEvent) (q : Request) → x ≡ Began q → CopiesHigh s high d (asked q)
+  begun-copying : (d : DomId) (x : ItemEvent) (q : Request) → x ≡ Began q → CopiesHigh high d (asked q)
       → HappensAsking Copying d x
   begun-copying d x q is asks = subst (HappensAsking Copying d) (sym is) asks
 
@@ -542,38 +542,38 @@ module _ (s : Setting) (high : TypeId → Bool) where
   ticked-copying p d (Began q) a k may = absurd may.1.1
   ticked-copying p d (Stepped z v) a k may = tt
 
-  copies-go : (g : History) (e : Event) (x : Element) → MayDo s g e x → BeginsApart e → CopiesApart s high g
-      → CopiesApart s high (grown g x)
+  copies-go : (g : History) (e : Event) (x : Element) → MayDo s g e x → BeginsApart e → CopiesApart high g
+      → CopiesApart high (grown g x)
   copies-go g e NoDomain may asks copies = copies
   copies-go g e Busy may asks copies = copies
   copies-go g e Idle may asks copies = copies
   copies-go g (Begin d q) (elements.Item i) may asks copies = copies-grow g i (λ up.
       begun-copying i.actor i.happened q may.1.1
       (subst (λ (k : DomId). Copying k (asked q)) (sym may.1.0)
-      (asks.1 (subst (λ (k : DomId). is_high s high k ≡ true) may.1.0 up)))) copies
+      (asks.1 (subst (λ (k : DomId). high k ≡ true) may.1.0 up)))) copies
   copies-go g (Tick d) (elements.Item i) may asks copies =
       copies-grow g i (λ up. ticked-copying g d i.happened i.answer i.actor may) copies
 
-  asks-head : (e : Event) (es : List Event) → AllAskApart s high (e ∷ es) → BeginsApart e × AllAskApart s high es
+  asks-head : (e : Event) (es : List Event) → AllAskApart high (e ∷ es) → BeginsApart e × AllAskApart high es
   asks-head (Begin d q) es asks = asks
   asks-head (Tick d) es asks = (tt, asks)
 
   -- ---- runs
 
-  looks-grow : (g : History) (e : Event) (x : Element) → MayDo s g e x → LooksApart s high g
-      → (Lo (actor_of e) → AtLow s high x) → LooksApart s high (grown g x)
+  looks-grow : (g : History) (e : Event) (x : Element) → MayDo s g e x → LooksApart high g
+      → (Lo (actor_of e) → AtLow s high x) → LooksApart high (grown g x)
   unfolding LooksApart
   looks-grow g (Begin d q) (elements.Item i) may looks at = (λ low. at (subst Lo may.1.0 low), looks)
   looks-grow g (Tick d) (elements.Item i) may looks at = (λ low. at (subst Lo may.1.0 low), looks)
   looks-grow g e x may looks at = looks
 
-  stays-grow : (g : History) (x : Element) → StaysApart s high g → SharesNothing s high (grown g x)
-      → CopiesApart s high (grown g x) → StaysApart s high (grown g x)
+  stays-grow : (g : History) (x : Element) → StaysApart high g → SharesNothing high (grown g x)
+      → CopiesApart high (grown g x) → StaysApart high (grown g x)
   unfolding StaysApart
   stays-grow g (elements.Item i) stays shares copies = ((shares, copies), stays)
   stays-grow g x stays shares copies = stays
 
-  stays-start : SharesNothing s high [] → CopiesApart s high [] → StaysApart s high []
+  stays-start : SharesNothing high [] → CopiesApart high [] → StaysApart high []
   unfolding StaysApart
   stays-start shares copies = (shares, copies)
 
@@ -581,14 +581,14 @@ module _ (s : Setting) (high : TypeId → Bool) where
   record IsSoFar (p g : History) : Type 0 where
     pub part : IsLowPart s high p g
     pub goes : Goes p
-    pub copies : CopiesApart s high g
-    pub stays : StaysApart s high g
-    pub looks : LooksApart s high g
+    pub copies : CopiesApart high g
+    pub stays : StaysApart high g
+    pub looks : LooksApart high g
 
-  shares-of : (p g : History) → IsLowPart s high p g → SharesNothing s high p → SharesNothing s high g
+  shares-of : (p g : History) → IsLowPart s high p g → SharesNothing high p → SharesNothing high g
   shares-of p g m shares = shares-part s high g p (λ t r low. sym (m.entry t r low)) shares
 
-  high-goes : (p g : History) (e : Event) (x : Element) → IsSoFar p g → is_high s high (actor_of e) ≡ true
+  high-goes : (p g : History) (e : Event) (x : Element) → IsSoFar p g → high (actor_of e) ≡ true
       → MayDo s g e x → BeginsApart e → IsSoFar p (grown g x)
   high-goes p g e x so up may asks =
       let part = high-event s high p g e x so.part (shares-of p g so.part so.goes.shares) so.copies up may in
@@ -616,21 +616,21 @@ module _ (s : Setting) (high : TypeId → Bool) where
       }
 
   all-apart : (p g : History) (es : List Event) (xs : List Element) → IsSoFar p g → LegalAfter s g es xs
-      → AllAskApart s high es → NamesKnown p (low_events s high es) (low_elements s high es xs)
-      → StaysApart s high (history_after g xs) × LooksApart s high (history_after g xs)
+      → AllAskApart high es → NamesKnown p (low_events high es) (low_elements high es xs)
+      → StaysApart high (history_after g xs) × LooksApart high (history_after g xs)
   all-apart p g [] [] so legal asks known = (so.stays, so.looks)
   all-apart p g [] (x ∷ xs) so legal asks known = absurd legal
   all-apart p g (e ∷ es) [] so legal asks known = absurd legal
-  all-apart p g (e ∷ es) (x ∷ xs) so legal asks known = by (is_high s high (actor_of e)) refl known
+  all-apart p g (e ∷ es) (x ∷ xs) so legal asks known = by (high (actor_of e)) refl known
       (λ q after ids. all-apart q (grown g x) es xs after legal.1 (asks-head e es asks).1 ids)
     where
-      by : (b : Bool) → is_high s high (actor_of e) ≡ b
-          → NamesKnown p (cond b (low_events s high es) (e ∷ low_events s high es))
-          (cond b (low_elements s high es xs) (x ∷ low_elements s high es xs))
+      by : (b : Bool) → high (actor_of e) ≡ b
+          → NamesKnown p (cond b (low_events high es) (e ∷ low_events high es))
+          (cond b (low_elements high es xs) (x ∷ low_elements high es xs))
           → ((q : History) → IsSoFar q (grown g x)
-          → NamesKnown q (low_events s high es) (low_elements s high es xs)
-          → StaysApart s high (history_after (grown g x) xs) × LooksApart s high (history_after (grown g x) xs))
-          → StaysApart s high (history_after (grown g x) xs) × LooksApart s high (history_after (grown g x) xs)
+          → NamesKnown q (low_events high es) (low_elements high es xs)
+          → StaysApart high (history_after (grown g x) xs) × LooksApart high (history_after (grown g x) xs))
+          → StaysApart high (history_after (grown g x) xs) × LooksApart high (history_after (grown g x) xs)
       by true up known rest = rest p (high-goes p g e x so up legal.0 (asks-head e es asks).0) known
       by false low known rest =
           rest (grown p x) (low-goes p g e x so low legal.0 known.0 (asks-head e es asks).0) known.1
@@ -645,15 +645,15 @@ module _ (s : Setting) (high : TypeId → Bool) where
     looks = tt;
   }
 
-  stay-more : (g : History) (x : Element) → CopiesStayApart s high g → CopiesApart s high (grown g x)
-      → CopiesStayApart s high (grown g x)
+  stay-more : (g : History) (x : Element) → CopiesStayApart high g → CopiesApart high (grown g x)
+      → CopiesStayApart high (grown g x)
   unfolding CopiesStayApart
   stay-more g (elements.Item i) stay copies = (copies, stay)
   stay-more g x stay copies = stay
 
   -- the copies of a run, by its requests
-  copies-stay : (g : History) (es : List Event) (xs : List Element) → CopiesApart s high g → CopiesStayApart s high g
-      → LegalAfter s g es xs → AllAskApart s high es → CopiesStayApart s high (history_after g xs)
+  copies-stay : (g : History) (es : List Event) (xs : List Element) → CopiesApart high g → CopiesStayApart high g
+      → LegalAfter s g es xs → AllAskApart high es → CopiesStayApart high (history_after g xs)
   copies-stay g [] [] copies stay legal asks = stay
   copies-stay g [] (x ∷ xs) copies stay legal asks = absurd legal
   copies-stay g (e ∷ es) [] copies stay legal asks = absurd legal
@@ -662,7 +662,7 @@ module _ (s : Setting) (high : TypeId → Bool) where
       let next = copies-go g e x legal.0 head.0 copies in
       copies-stay (grown g x) es xs next (stay-more g x stay next) legal.1 head.1
 
-  copies-start : CopiesStayApart s high []
+  copies-start : CopiesStayApart high []
   unfolding CopiesStayApart
   copies-start = copies-first
 

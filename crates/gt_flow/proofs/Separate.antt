@@ -3,7 +3,7 @@ use Rattle.gt_core.proofs.Words.{◌≡◌, ◌+◌, ◌<◌, ℕ, refl, Bool, t
 use Rattle.gt_core.proofs.Words.{Option, Some, None, cond, ap, sym, ◌∙◌, subst, ◌==◌, ◌&&◌, length, count_by, gather}
 use Rattle.gt_core.proofs.Words.{by_leg, take, drop, mapping_named, true≢false, not, All, Any}
 use Rattle.gt_core.proofs.Words.{All-head, All-tail, All-nil, append-nil, eqb-true}
-use Rattle.gt_core.proofs.Words.{DomId, TypeId, Dir, Entry, Header, BodyWord, Denial, asked, begun_of}
+use Rattle.gt_core.proofs.Words.{DomId, Dir, Entry, Header, BodyWord, Denial, asked, begun_of}
 use Rattle.gt_core.proofs.Words.{CallerKnowledge, OpenRequest, Map, Load, Peek, Copy, SetupTable}
 use Rattle.gt_core.proofs.Words.{QuerySize, GetVersion, Taken, Step, LookHeader}
 use Rattle.gt_core.proofs.Words.{StoreHeader}
@@ -40,12 +40,10 @@ use Rattle.std.specs.Prelude.{filter}
 use Rattle.std.proofs.Common.{slice_index_or}
 use Rattle.std.proofs.lemmas.List.Elements.{All-append, All-cons, filter-append}
 use Rattle.gt_flow.specs.Apart.{CopiesApart, LowDomainsKeep, SharesNothing, StaysApart}
-use Rattle.gt_flow.specs.Low.{is_high}
 use Rattle.gt_flow.specs.Separate.{HappensAtLow, IsAtLow, LooksApart, low_elements, low_events}
 use Rattle.gt_flow.proofs.Apart.{IsAmong, IsApart, access-of, count-one, end-of, frame-kept, now-apart, other-number}
 use Rattle.gt_flow.proofs.Apart.{pinned-apart, same-domain, skipped}
 use Rattle.gt_flow.proofs.Purged.{and-true}
-use Rattle.gt_flow.proofs.Frames.{hides}
 use Rattle.gt_flow.proofs.Agreeing.{Agree, first-in, justified-same, safe-same, sees-same, sound-same, word-same}
 
 -- an element that passes a test is among those that do
@@ -67,38 +65,38 @@ any-passing {X} P test (x ∷ xs) passes any = by any.0 any.1 any.2 any.3 any.4 
     by zero y lt e p rest = here (subst P (sym e) p)
     by (suc k) y lt e p rest = later (test x) (rest (k, y, omega arith, e, p))
 
-module _ (s : Setting) (high : TypeId → Bool) where
+module _ (s : Setting) (high : DomId → Bool) where
   abbrev IsLow : DomId → Type 0
-  IsLow d = is_high s high d ≡ false
+  IsLow d = high d ≡ false
 
   abbrev IsHigh : DomId → Type 0
-  IsHigh d = is_high s high d ≡ true
+  IsHigh d = high d ≡ true
 
-  same-number : (d : DomId) (n : ℕ) → n ≡ d.0 → IsHigh d → hides s high n ≡ true
+  same-number : (d : DomId) (n : ℕ) → n ≡ d.0 → IsHigh d → high (record { 0 = n }) ≡ true
   same-number d n same up = same-domain s high IsHigh d (record { 0 = n }) (sym same) up
 
   -- ---- pins of low domains
 
   -- the pin is one of a low domain
   abbrev pub is_low_pin : Pin → Bool
-  is_low_pin p = not (hides s high p.actor)
+  is_low_pin p = not (high (record { 0 = p.actor }))
 
   abbrev pub low_pins : List Pin → List Pin
   low_pins ps = filter is_low_pin ps
 
-  kept-pin : (p : Pin) (ps : List Pin) → hides s high p.actor ≡ false → low_pins (p ∷ ps) ≡ p ∷ low_pins ps
+  kept-pin : (p : Pin) (ps : List Pin) → high (record { 0 = p.actor }) ≡ false → low_pins (p ∷ ps) ≡ p ∷ low_pins ps
   kept-pin p ps low = ap (λ (b : Bool). cond (not b) (p ∷ low_pins ps) (low_pins ps)) low
 
-  left-pin : (p : Pin) (ps : List Pin) → hides s high p.actor ≡ true → low_pins (p ∷ ps) ≡ low_pins ps
+  left-pin : (p : Pin) (ps : List Pin) → high (record { 0 = p.actor }) ≡ true → low_pins (p ∷ ps) ≡ low_pins ps
   left-pin p ps up = ap (λ (b : Bool). cond (not b) (p ∷ low_pins ps) (low_pins ps)) up
 
   gather-low : {A : Type 0} (give : PinHolder → HeldPin → List A) (d : DomId) (ps : List Pin) → IsLow d
       → gather give d.0 (low_pins ps) ≡ gather give d.0 ps
   unfolding gather
   gather-low give d [] low = refl
-  gather-low {A} give d (p ∷ ps) low = by (hides s high p.actor) refl (gather-low give d ps low)
+  gather-low {A} give d (p ∷ ps) low = by (high (record { 0 = p.actor })) refl (gather-low give d ps low)
     where
-      by : (b : Bool) → hides s high p.actor ≡ b → gather give d.0 (low_pins ps) ≡ gather give d.0 ps
+      by : (b : Bool) → high (record { 0 = p.actor }) ≡ b → gather give d.0 (low_pins ps) ≡ gather give d.0 ps
           → gather give d.0 (cond (not b) (p ∷ low_pins ps) (low_pins ps)) ≡ gather give d.0 (p ∷ ps)
       by false is rest = ap (λ (l : List A). cond (p.actor == d.0) (give p.holder p.held) [] ++ l) rest
       by true is rest = rest
@@ -109,9 +107,9 @@ module _ (s : Setting) (high : TypeId → Bool) where
       → count_by (is_pin_on t.0 r dir) (low_pins ps) ≡ count_by (is_pin_on t.0 r dir) ps
   counts-low t low r dir [] all = refl
   counts-low t low r dir (p ∷ ps) all =
-      by (hides s high p.actor) refl (counts-low t low r dir ps (All-tail (IsApart s high) p ps all))
+      by (high (record { 0 = p.actor })) refl (counts-low t low r dir ps (All-tail (IsApart s high) p ps all))
     where
-      by : (b : Bool) → hides s high p.actor ≡ b
+      by : (b : Bool) → high (record { 0 = p.actor }) ≡ b
           → count_by (is_pin_on t.0 r dir) (low_pins ps) ≡ count_by (is_pin_on t.0 r dir) ps
           → count_by (is_pin_on t.0 r dir) (cond (not b) (p ∷ low_pins ps) (low_pins ps))
           ≡ count_by (is_pin_on t.0 r dir) (p ∷ ps)
@@ -125,14 +123,14 @@ module _ (s : Setting) (high : TypeId → Bool) where
   unfolding without
   without-low d holder [] low = refl
   without-low d holder (p ∷ ps) low =
-      by (hides s high p.actor) refl ((p.actor == d.0) && is_holder p.holder holder) refl
+      by (high (record { 0 = p.actor })) refl ((p.actor == d.0) && is_holder p.holder holder) refl
       (without-low d holder ps low)
     where
       found : (c : Bool) → ((p.actor == d.0) && is_holder p.holder holder) ≡ c
           → without d.0 holder (p ∷ low_pins ps) ≡ cond c (low_pins ps) (p ∷ without d.0 holder (low_pins ps))
       found c own = ap (λ (c : Bool). cond c (low_pins ps) (p ∷ without d.0 holder (low_pins ps))) own
 
-      by : (b : Bool) → hides s high p.actor ≡ b → (c : Bool) → ((p.actor == d.0) && is_holder p.holder holder) ≡ c
+      by : (b : Bool) → high (record { 0 = p.actor }) ≡ b → (c : Bool) → ((p.actor == d.0) && is_holder p.holder holder) ≡ c
           → low_pins (without d.0 holder ps) ≡ without d.0 holder (low_pins ps)
           → low_pins (cond c ps (p ∷ without d.0 holder ps))
           ≡ without d.0 holder (cond (not b) (p ∷ low_pins ps) (low_pins ps))
@@ -178,7 +176,7 @@ module _ (s : Setting) (high : TypeId → Bool) where
   pinned-high d x a h ps up = refl
 
   pinned-low : (d : DomId) (x : ItemEvent) (a : Option Answer) (g p : History) (ps : List Pin) → IsLow d
-      → HappensAtLow s high x → ((t : DomId) (r : ℕ) → IsLow t → entry_at p t.0 r ≡ entry_at g t.0 r)
+      → HappensAtLow high x → ((t : DomId) (r : ℕ) → IsLow t → entry_at p t.0 r ≡ entry_at g t.0 r)
       → low_pins (pinned_by d x a g ps) ≡ pinned_by d x a p (low_pins ps)
   pinned-low d (Stepped (call_steps.Pin q) Taken) a g p ps low at entries =
       kept-pin (pin (length (gather by_leg d.0 ps)) (entry_at g q.dom.0 q.gref.0)) [] low
@@ -195,7 +193,7 @@ module _ (s : Setting) (high : TypeId → Bool) where
   IsAside p = IsLow (record { 0 = p.actor }) → IsLow p.held.dom
 
   pinned-aside : (h : History) (d : DomId) (x : ItemEvent) (a : Option Answer) (ps : List Pin)
-      → (IsLow d → HappensAtLow s high x) → All IsAside (pinned_by d x a h ps)
+      → (IsLow d → HappensAtLow high x) → All IsAside (pinned_by d x a h ps)
   pinned-aside h d (Stepped (call_steps.Pin p) Taken) a ps at = All-cons IsAside _ [] at (All-nil IsAside)
   pinned-aside h d x a ps at = All-nil IsAside
 
@@ -206,23 +204,23 @@ module _ (s : Setting) (high : TypeId → Bool) where
 
 -- Two histories, of which the first has the part of the second that low domains made. What low domains have is the same
 -- after both, and no pin is between a low domain and a high one.
-pub record IsLowPart (s : Setting) (high : TypeId → Bool) (p g : History) : Type 0 where
-  pub entry : (t : DomId) (r : ℕ) → is_high s high t ≡ false → entry_at p t.0 r ≡ entry_at g t.0 r
-  pub raises : (t : DomId) (r : ℕ) → is_high s high t ≡ false → raises_at p t.0 r ≡ raises_at g t.0 r
-  pub body : (t : DomId) (r : ℕ) (which : BodyWord) → is_high s high t ≡ false
+pub record IsLowPart (s : Setting) (high : DomId → Bool) (p g : History) : Type 0 where
+  pub entry : (t : DomId) (r : ℕ) → high t ≡ false → entry_at p t.0 r ≡ entry_at g t.0 r
+  pub raises : (t : DomId) (r : ℕ) → high t ≡ false → raises_at p t.0 r ≡ raises_at g t.0 r
+  pub body : (t : DomId) (r : ℕ) (which : BodyWord) → high t ≡ false
       → body_at p t.0 r which ≡ body_at g t.0 r which
-  pub table : (t : DomId) → is_high s high t ≡ false → table_at s p t ≡ table_at s g t
-  pub maps : (d : DomId) → is_high s high d ≡ false → maps_answered_at p d.0 ≡ maps_answered_at g d.0
-  pub calls : (d : DomId) → is_high s high d ≡ false → open_call p d.0 ≡ open_call g d.0
-  pub ruled : (d : DomId) → is_high s high d ≡ false → stood s p d.0 ≡ stood s g d.0
-  pub patches : (t : DomId) (f : ℕ) → is_high s high t ≡ false → patches_at p t.0 f ≡ patches_at g t.0 f
+  pub table : (t : DomId) → high t ≡ false → table_at s p t ≡ table_at s g t
+  pub maps : (d : DomId) → high d ≡ false → maps_answered_at p d.0 ≡ maps_answered_at g d.0
+  pub calls : (d : DomId) → high d ≡ false → open_call p d.0 ≡ open_call g d.0
+  pub ruled : (d : DomId) → high d ≡ false → stood s p d.0 ≡ stood s g d.0
+  pub patches : (t : DomId) (f : ℕ) → high t ≡ false → patches_at p t.0 f ≡ patches_at g t.0 f
   pub pins : live p ≡ low_pins s high (live g)
   pub apart : All (IsAmong s high true) (live g)
   pub aside : All (IsAmong s high false) (live g)
 
-module _ (s : Setting) (high : TypeId → Bool) (p g : History) (m : IsLowPart s high p g) where
+module _ (s : Setting) (high : DomId → Bool) (p g : History) (m : IsLowPart s high p g) where
   abbrev Low : DomId → Type 0
-  Low d = is_high s high d ≡ false
+  Low d = high d ≡ false
 
   -- ---- what low domains know and see
 
@@ -234,7 +232,7 @@ module _ (s : Setting) (high : TypeId → Bool) (p g : History) (m : IsLowPart s
   any-low : (P : Pin → Type 0) (d : DomId) → Low d → ((q : Pin) → P q → q.actor ≡ d.0) → Any P (live g)
       → Any P (live p)
   any-low P d low owns any = subst (Any P) (sym m.pins) (any-passing P (is_low_pin s high) (live g)
-      (λ q here. ap (λ (n : ℕ). not (hides s high n)) (owns q here) ∙ ap not low) any)
+      (λ q here. ap (λ (n : ℕ). not (high (record { 0 = n }))) (owns q here) ∙ ap not low) any)
 
   pub agrees : Agree s Low p g
   agrees = record {
@@ -253,7 +251,7 @@ module _ (s : Setting) (high : TypeId → Bool) (p g : History) (m : IsLowPart s
     any = any-low;
   }
 
-  first-of : (i : Item) → Low i.actor → HappensAtLow s high i.happened → first_of_item s p i ≡ first_of_item s g i
+  first-of : (i : Item) → Low i.actor → HappensAtLow high i.happened → first_of_item s p i ≡ first_of_item s g i
   first-of i low at =
       ap (λ (o : Option Underway). first_in_call s p i.actor i.happened o) (m.calls i.actor low)
       ∙ first-in s Low p g agrees i.actor i.happened (open_call g i.actor.0) low at
@@ -301,7 +299,7 @@ module _ (s : Setting) (high : TypeId → Bool) (p g : History) (m : IsLowPart s
   answered-low d r step giving (Some v) None against low at x = absurd x
   answered-low d r step giving (Some v) (Some z) against low at x = (x.0, x.1, value-low d r step z low at x.2)
 
-  reads-at-low : (d : DomId) (r : OpenRequest) (z : Step) → Low d → IsAtLow s high z → Justified s g d r z
+  reads-at-low : (d : DomId) (r : OpenRequest) (z : Step) → Low d → IsAtLow high z → Justified s g d r z
       → ReadsLow (Some z)
   reads-at-low d r (call_steps.Read t f o n) low at just =
       access-of s high false g d Read (record { frame = record { owner = t; number = f }; off = o }) n low m.aside
@@ -315,7 +313,7 @@ module _ (s : Setting) (high : TypeId → Bool) (p g : History) (m : IsLowPart s
   item d x a = record { actor = d; happened = x; answer = a }
 
   step-right : (d : DomId) (z : Step) (v : Observation) (a : Option Answer) (c : Option Underway) → Low d
-      → IsAtLow s high z → stood s (item d (Stepped z v) a ∷ p) d.0 ≡ stood s (item d (Stepped z v) a ∷ g) d.0
+      → IsAtLow high z → stood s (item d (Stepped z v) a ∷ p) d.0 ≡ stood s (item d (Stepped z v) a ∷ g) d.0
       → legs_at (item d (Stepped z v) a ∷ p) d.0 ≡ legs_at (item d (Stepped z v) a ∷ g) d.0
       → StepsRightIn s g (item d (Stepped z v) a) z v c → StepsRightIn s p (item d (Stepped z v) a) z v c
   step-right d z v a None low at ruled legs right = absurd right
@@ -337,7 +335,7 @@ module _ (s : Setting) (high : TypeId → Bool) (p g : History) (m : IsLowPart s
         right.answered));
   }
 
-  item-right : (d : DomId) (x : ItemEvent) (a : Option Answer) → Low d → HappensAtLow s high x
+  item-right : (d : DomId) (x : ItemEvent) (a : Option Answer) → Low d → HappensAtLow high x
       → stood s (item d x a ∷ p) d.0 ≡ stood s (item d x a ∷ g) d.0
       → legs_at (item d x a ∷ p) d.0 ≡ legs_at (item d x a ∷ g) d.0
       → IsRight s g (item d x a) → IsRight s p (item d x a)
@@ -353,7 +351,7 @@ module _ (s : Setting) (high : TypeId → Bool) (p g : History) (m : IsLowPart s
       subst (λ (c : Option Underway). StepsRightIn s p (item d (Stepped z v) a) z v c) (sym (m.calls d low))
       (step-right d z v a (open_call g d.0) low at ruled legs right)
 
-  module _ (i : Item) (low : Low i.actor) (at : HappensAtLow s high i.happened) where
+  module _ (i : Item) (low : Low i.actor) (at : HappensAtLow high i.happened) where
     abbrev d : DomId
     d = i.actor
 
@@ -417,16 +415,16 @@ module _ (s : Setting) (high : TypeId → Bool) (p g : History) (m : IsLowPart s
           (pinned-aside s high g d i.happened i.answer (live g) (λ is. at));
     }
 
-module _ (s : Setting) (high : TypeId → Bool) where
+module _ (s : Setting) (high : DomId → Bool) where
   abbrev Lo : DomId → Type 0
-  Lo d = is_high s high d ≡ false
+  Lo d = high d ≡ false
 
   abbrev Hi : DomId → Type 0
-  Hi d = is_high s high d ≡ true
+  Hi d = high d ≡ true
 
   -- ---- one more item of a high domain
 
-  apart-grows : (g : History) (i : Item) → SharesNothing s high g → CopiesApart s high g → IsRight s g i
+  apart-grows : (g : History) (i : Item) → SharesNothing high g → CopiesApart high g → IsRight s g i
       → All (IsAmong s high true) (live g) → All (IsAmong s high true) (live (i ∷ g))
   unfolding live
   apart-grows g i shares copies right all = All-append (IsAmong s high true) (unpinned_by i.actor i.happened (live g))
@@ -464,8 +462,8 @@ module _ (s : Setting) (high : TypeId → Bool) where
   -- ---- events
 
   -- an event of a high domain leaves the low part
-  pub high-event : (p g : History) (e : Event) (x : Element) → IsLowPart s high p g → SharesNothing s high g
-      → CopiesApart s high g → Hi (actor_of e) → MayDo s g e x → IsLowPart s high p (grown g x)
+  pub high-event : (p g : History) (e : Event) (x : Element) → IsLowPart s high p g → SharesNothing high g
+      → CopiesApart high g → Hi (actor_of e) → MayDo s g e x → IsLowPart s high p (grown g x)
   high-event p g e NoDomain m shares copies up may = m
   high-event p g e Busy m shares copies up may = m
   high-event p g e Idle m shares copies up may = m
@@ -475,8 +473,8 @@ module _ (s : Setting) (high : TypeId → Bool) where
       high-grows p g i m (subst Hi (sym may.1.0) up) may.2 (apart-grows g i shares copies may.2 m.apart)
 
   -- an item of a low domain is right after the low part too
-  low-item : (p g : History) (i : Item) → IsLowPart s high p g → SharesNothing s high g → CopiesApart s high g
-      → Lo i.actor → HappensAtLow s high i.happened → IsRight s g i
+  low-item : (p g : History) (i : Item) → IsLowPart s high p g → SharesNothing high g → CopiesApart high g
+      → Lo i.actor → HappensAtLow high i.happened → IsRight s g i
       → IsRight s p i × IsLowPart s high (i ∷ p) (i ∷ g)
   low-item p g i m shares copies low at right =
       let next = low-grows s high p g m i low at right (apart-grows g i shares copies right m.apart) in (
@@ -487,12 +485,12 @@ module _ (s : Setting) (high : TypeId → Bool) where
 
   -- what an item of this element happened at
   abbrev pub AtLow : Element → Type 0
-  AtLow (elements.Item i) = HappensAtLow s high i.happened
+  AtLow (elements.Item i) = HappensAtLow high i.happened
   AtLow x = Unit {0}
 
   -- an event of a low domain does the same after the low part
-  pub low-event : (p g : History) (e : Event) (x : Element) → IsLowPart s high p g → SharesNothing s high g
-      → CopiesApart s high g → Lo (actor_of e) → AtLow x → MayDo s g e x
+  pub low-event : (p g : History) (e : Event) (x : Element) → IsLowPart s high p g → SharesNothing high g
+      → CopiesApart high g → Lo (actor_of e) → AtLow x → MayDo s g e x
       → MayDo s p e x × IsLowPart s high (grown p x) (grown g x)
   low-event p g e NoDomain m shares copies low at may = (may, m)
   low-event p g (Begin d q) Busy m shares copies low at may =
@@ -509,20 +507,20 @@ module _ (s : Setting) (high : TypeId → Bool) where
 
   -- ---- runs
 
-  pub stays-before : (h : History) (xs : List Element) → StaysApart s high (history_after h xs) → StaysApart s high h
+  pub stays-before : (h : History) (xs : List Element) → StaysApart high (history_after h xs) → StaysApart high h
   unfolding StaysApart
   stays-before h [] stays = stays
   stays-before h (elements.Item i ∷ xs) stays = (stays-before (i ∷ h) xs stays).1
   stays-before h (x ∷ xs) stays = stays-before h xs stays
 
-  pub looks-before : (h : History) (xs : List Element) → LooksApart s high (history_after h xs) → LooksApart s high h
+  pub looks-before : (h : History) (xs : List Element) → LooksApart high (history_after h xs) → LooksApart high h
   unfolding LooksApart
   looks-before h [] looks = looks
   looks-before h (elements.Item i ∷ xs) looks = (looks-before (i ∷ h) xs looks).1
   looks-before h (x ∷ xs) looks = looks-before h xs looks
 
   pub looks-now : (g : History) (e : Event) (x : Element) → Lo (actor_of e) → MayDo s g e x
-      → LooksApart s high (grown g x)
+      → LooksApart high (grown g x)
       → AtLow x
   unfolding LooksApart
   looks-now g (Begin d q) (elements.Item i) low may looks = looks.0 (subst Lo (sym may.1.0) low)
@@ -530,26 +528,26 @@ module _ (s : Setting) (high : TypeId → Bool) where
   looks-now g e x low may looks = tt
 
   low-part : (p g : History) (es : List Event) (xs : List Element) → IsLowPart s high p g → LegalAfter s g es xs
-      → StaysApart s high (history_after g xs) → LooksApart s high (history_after g xs)
-      → LegalAfter s p (low_events s high es) (low_elements s high es xs)
-      × IsLowPart s high (history_after p (low_elements s high es xs)) (history_after g xs)
+      → StaysApart high (history_after g xs) → LooksApart high (history_after g xs)
+      → LegalAfter s p (low_events high es) (low_elements high es xs)
+      × IsLowPart s high (history_after p (low_elements high es xs)) (history_after g xs)
   low-part p g [] [] m legal stays looks = (tt, m)
   low-part p g [] (x ∷ xs) m legal stays looks = absurd legal
   low-part p g (e ∷ es) [] m legal stays looks = absurd legal
   low-part p g (e ∷ es) (x ∷ xs) m legal stays looks =
-      by (is_high s high (actor_of e)) refl (λ q part. low-part q (grown g x) es xs part legal.1 stays looks)
+      by (high (actor_of e)) refl (λ q part. low-part q (grown g x) es xs part legal.1 stays looks)
     where
-      now : SharesNothing s high g × CopiesApart s high g
+      now : SharesNothing high g × CopiesApart high g
       now = now-apart s high g (stays-before g (x ∷ xs) stays)
 
-      by : (b : Bool) → is_high s high (actor_of e) ≡ b
+      by : (b : Bool) → high (actor_of e) ≡ b
           → ((q : History) → IsLowPart s high q (grown g x)
-          → LegalAfter s q (low_events s high es) (low_elements s high es xs)
-          × IsLowPart s high (history_after q (low_elements s high es xs)) (history_after (grown g x) xs))
-          → LegalAfter s p (cond b (low_events s high es) (e ∷ low_events s high es))
-          (cond b (low_elements s high es xs) (x ∷ low_elements s high es xs))
+          → LegalAfter s q (low_events high es) (low_elements high es xs)
+          × IsLowPart s high (history_after q (low_elements high es xs)) (history_after (grown g x) xs))
+          → LegalAfter s p (cond b (low_events high es) (e ∷ low_events high es))
+          (cond b (low_elements high es xs) (x ∷ low_elements high es xs))
           × IsLowPart s high
-          (history_after p (cond b (low_elements s high es xs) (x ∷ low_elements s high es xs)))
+          (history_after p (cond b (low_elements high es xs) (x ∷ low_elements high es xs)))
           (history_after (grown g x) xs)
       by true up rest = rest p (high-event p g e x m now.0 now.1 up legal.0)
       by false low rest =
@@ -576,16 +574,16 @@ module _ (s : Setting) (high : TypeId → Bool) where
 
   pub keeps : (p g : History) → IsLowPart s high p g → LowDomainsKeep s high g p
   keeps p g m = record {
-    words = λ t r low. sym (word-same s (λ d. is_high s high d ≡ false) p g (agrees s high p g m) t r low);
+    words = λ t r low. sym (word-same s (λ d. high d ≡ false) p g (agrees s high p g m) t r low);
     bodies = λ t r which low. sym (m.body t r which low);
     tables = λ t low. sym (m.table t low);
     frames = λ t f low. ap written (sym (m.patches t f low));
   }
 
   pub low-parts-are-legal : (es : List Event) (xs : List Element) → Legal s es xs
-      → StaysApart s high (history_after [] xs) → LooksApart s high (history_after [] xs)
-      → Legal s (low_events s high es) (low_elements s high es xs)
-      × LowDomainsKeep s high (history_after [] xs) (history_after [] (low_elements s high es xs))
+      → StaysApart high (history_after [] xs) → LooksApart high (history_after [] xs)
+      → Legal s (low_events high es) (low_elements high es xs)
+      × LowDomainsKeep s high (history_after [] xs) (history_after [] (low_elements high es xs))
   low-parts-are-legal es xs legal stays looks =
       let part = low-part [] [] es xs nothing-yet legal stays looks in
-      (part.0, keeps (history_after [] (low_elements s high es xs)) (history_after [] xs) part.1)
+      (part.0, keeps (history_after [] (low_elements high es xs)) (history_after [] xs) part.1)
