@@ -12,7 +12,6 @@ use Rattle.gt_types.specs.declared.Dir.{Dir}
 use Rattle.gt_types.specs.declared.Dir.TheVariants.{Read, Write}
 use Rattle.gt_types.specs.declared.DomId.{DomId}
 use Rattle.gt_types.specs.declared.GrantRef.{GrantRef}
-use Rattle.gt_types.specs.declared.TypeId.{TypeId}
 use Rattle.gt_types.specs.declared.Use.{Use}
 use Rattle.gt_types.specs.declared.copies.CopyArgs.{CopyArgs}
 use Rattle.gt_types.specs.declared.denial.Rule.{Rule}
@@ -52,7 +51,6 @@ use Rattle.gt_model.specs.declared.trace.ItemEvent.{ItemEvent}
 use Rattle.gt_model.specs.declared.trace.ItemEvent.TheVariants.{Stepped}
 use Rattle.gt_flow.specs.Apart.{CallCopiesHigh, CopiesApart, CopiesHigh, EndsAreHigh, LowDomainsKeep, NamesLow}
 use Rattle.gt_flow.specs.Apart.{SharesNothing, StaysApart, TakesOrReleasesPin}
-use Rattle.gt_flow.specs.Low.{is_high}
 
 pub any-meets : {X : Type 0} (P Q : X → Type 0) (xs : List X) → Any P xs → All Q xs → (x : X) × P x × Q x
 any-meets P Q xs any all = (any.1, any.4, subst Q any.3 (all any.0 any.1 any.2))
@@ -62,12 +60,12 @@ granted : (b : Bool) (rest : List (Option Rule)) → first (stands (not b) N11 �
 granted true rest none = refl
 granted false rest none = cc none
 
-module _ (s : Setting) (high : TypeId → Bool) where
+module _ (s : Setting) (high : DomId → Bool) where
   abbrev IsHigh : DomId → Type 0
-  IsHigh d = is_high s high d ≡ true
+  IsHigh d = high d ≡ true
 
   abbrev IsLow : DomId → Type 0
-  IsLow d = is_high s high d ≡ false
+  IsLow d = high d ≡ false
 
   pub same-domain : (P : DomId → Type 0) (a b : DomId) → a.0 ≡ b.0 → P a → P b
   same-domain P a b same = subst P (ap {B = DomId} (λ (n : ℕ). record { 0 = n }) same)
@@ -92,7 +90,7 @@ module _ (s : Setting) (high : TypeId → Bool) where
   second-high k n (Sub dom ro frame off len) up = tt
   second-high k n (Via dom ro dom2 gref) up = up
 
-  module _ (k : CallerKnowledge) (d : DomId) (c : CopyArgs) (up : IsHigh d) (ends : EndsAreHigh s high d c) where
+  module _ (k : CallerKnowledge) (d : DomId) (c : CopyArgs) (up : IsHigh d) (ends : EndsAreHigh high d c) where
     dest-high : (source : AccessPath) (held : List HeldPin) → is_dest_granted c ≡ true
         → IsOfHigh (toward_dest k d c source held)
     dest-high source [] is = up
@@ -126,7 +124,7 @@ module _ (s : Setting) (high : TypeId → Bool) where
         by true is = source-high held is
         by false is = after-high Own held
 
-  leg-high : (k : CallerKnowledge) (d : DomId) (r : OpenRequest) (held : List HeldPin) → IsHigh d → CopiesHigh s high d r
+  leg-high : (k : CallerKnowledge) (d : DomId) (r : OpenRequest) (held : List HeldPin) → IsHigh d → CopiesHigh high d r
       → IsOfHigh (leg_now k d r held)
   leg-high k d (Map dom gref flags) held up ends = up
   leg-high k d (Copy c) held up ends = copy-high k d c up ends held
@@ -136,7 +134,7 @@ module _ (s : Setting) (high : TypeId → Bool) where
   -- ---- pins
 
   -- a first look at an entry that names low domains lets only legs of low ones go on
-  permits-low : (l : Leg) (e : Entry) (generation reads writes : ℕ) → NamesLow s high e
+  permits-low : (l : Leg) (e : Entry) (generation reads writes : ℕ) → NamesLow high e
       → first_look l (control_with e generation reads writes) ≡ None → IsLow l.grantee
   permits-low l Invalid generation reads writes names none = cc none
   permits-low l (Page dom ro frame) generation reads writes names none =
@@ -147,19 +145,19 @@ module _ (s : Setting) (high : TypeId → Bool) where
       same-domain IsLow dom l.grantee (eqb-true dom.0 l.grantee.0 (granted (dom.0 == l.grantee.0) _ none)) names.0
 
   -- a pin that a high domain takes is on an entry of a high one
-  sound-high : (h : History) (t : DomId) (r : GrantRef) (o : Option LegNow) → SharesNothing s high h → IsOfHigh o
+  sound-high : (h : History) (t : DomId) (r : GrantRef) (o : Option LegNow) → SharesNothing high h → IsOfHigh o
       → NoneStands s h t r o → IsHigh t
   sound-high h t r None shares good none = absurd none
-  sound-high h t r (Some n) shares good none = by (is_high s high t) refl
+  sound-high h t r (Some n) shares good none = by (high t) refl
     where
-      by : (b : Bool) → is_high s high t ≡ b → b ≡ true
+      by : (b : Bool) → high t ≡ b → b ≡ true
       by true is = refl
       by false is = absurd (true≢false (sym good
           ∙ permits-low n.leg (entry_at h t.0 r.0) (generation_at s h t.0 r.0) (reads_at h t.0 r.0) (writes_at h t.0 r.0)
           (shares t r.0 is) none.0))
 
-  pin-high : (h : History) (i : Item) (p : HeldPin) (c : Option Underway) → SharesNothing s high h
-      → CallCopiesHigh s high i.actor c → IsHigh i.actor → StepsRightIn s h i (call_steps.Pin p) Taken c → IsHigh p.dom
+  pin-high : (h : History) (i : Item) (p : HeldPin) (c : Option Underway) → SharesNothing high h
+      → CallCopiesHigh high i.actor c → IsHigh i.actor → StepsRightIn s h i (call_steps.Pin p) Taken c → IsHigh p.dom
   pin-high h i p None shares ends up right = absurd right
   pin-high h i p (Some c) shares ends up right =
       sound-high h p.dom p.gref (leg_at s h i.actor c.request) shares
@@ -171,7 +169,7 @@ module _ (s : Setting) (high : TypeId → Bool) where
   IsApart p = IsHigh (record { 0 = p.actor }) → IsHigh p.held.dom
 
   pub pinned-apart : (h : History) (d : DomId) (x : ItemEvent) (a : Option Answer) (ps : List Pin)
-      → SharesNothing s high h → CopiesApart s high h → IsRight s h (record { actor = d; happened = x; answer = a })
+      → SharesNothing high h → CopiesApart high h → IsRight s h (record { actor = d; happened = x; answer = a })
       → All IsApart (pinned_by d x a h ps)
   pinned-apart h d (Stepped (call_steps.Pin p) Taken) a ps shares copies right =
       All-cons IsApart _ [] (λ up. pin-high h (record { actor = d; happened = Stepped (call_steps.Pin p) Taken; answer = a })
@@ -182,12 +180,12 @@ module _ (s : Setting) (high : TypeId → Bool) where
   unpinned-apart d (Stepped (call_steps.Unpin p holder) seen) ps all = all-without IsApart d.0 holder ps all
   unpinned-apart d x ps all = all
 
-  pub now-apart : (h : History) → StaysApart s high h → SharesNothing s high h × CopiesApart s high h
+  pub now-apart : (h : History) → StaysApart high h → SharesNothing high h × CopiesApart high h
   unfolding StaysApart
   now-apart [] stays = stays
   now-apart (i ∷ h) stays = stays.0
 
-  pins-apart : (h : History) → IsLegalHistory s h → StaysApart s high h → All IsApart (live h)
+  pins-apart : (h : History) → IsLegalHistory s h → StaysApart high h → All IsApart (live h)
   unfolding StaysApart IsLegalHistory live
   pins-apart [] legal stays = All-nil IsApart
   pins-apart (i ∷ h) legal stays =
@@ -252,7 +250,7 @@ module _ (s : Setting) (high : TypeId → Bool) where
     count-unpinned d x ps up all = refl
 
     count-pinned : (h : History) (d : DomId) (x : ItemEvent) (a : Option Answer) (ps : List Pin) → IsHigh d
-        → SharesNothing s high h → CopiesApart s high h
+        → SharesNothing high h → CopiesApart high h
         → IsRight s h (record { actor = d; happened = x; answer = a }) → counts (pinned_by d x a h ps) ≡ 0
     count-pinned h d (Stepped (call_steps.Pin p) Taken) a ps up shares copies right =
         skipped (record {
@@ -263,7 +261,7 @@ module _ (s : Setting) (high : TypeId → Bool) where
         (open_call h d.0) shares (copies d up) up right)
     count-pinned h d x a ps up shares copies right = refl
 
-    count-after : (h : History) (i : Item) → IsHigh i.actor → IsLegalHistory s (i ∷ h) → StaysApart s high h
+    count-after : (h : History) (i : Item) → IsHigh i.actor → IsLegalHistory s (i ∷ h) → StaysApart high h
         → counts (live (i ∷ h)) ≡ counts (live h)
     unfolding live IsLegalHistory
     count-after h i up legal stays =
@@ -280,7 +278,7 @@ module _ (s : Setting) (high : TypeId → Bool) where
   -- the frames that pins reach, if those of all domains of this kind, high or low, are on entries of such a domain
   module _ (b : Bool) where
     abbrev Is : DomId → Type 0
-    Is d = is_high s high d ≡ b
+    Is d = high d ≡ b
 
     -- a pin of such a domain is on an entry of such a one
     abbrev pub IsAmong : Pin → Type 0
@@ -381,7 +379,7 @@ module _ (s : Setting) (high : TypeId → Bool) where
   unfolding IsLegalHistory
   right-of h i legal = legal
 
-  pub high-leaves-low : (h : History) (i : Item) → IsLegalHistory s (i ∷ h) → StaysApart s high h → IsHigh i.actor
+  pub high-leaves-low : (h : History) (i : Item) → IsLegalHistory s (i ∷ h) → StaysApart high h → IsHigh i.actor
       → LowDomainsKeep s high (i ∷ h) h
   high-leaves-low h i legal stays up =
       let right = right-of h i legal in

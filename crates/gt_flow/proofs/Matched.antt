@@ -1,16 +1,16 @@
 -- Two histories that are the same except for bytes of high domains: what they leave, but for bytes, is the same.
 use Rattle.gt_core.proofs.Words.{◌≡◌, ◌+◌, ℕ, zero, suc, refl, Bool, true, false, List, [], ◌∷◌, ◌++◌, Option, Some}
-use Rattle.gt_core.proofs.Words.{None, cond, ap, sym, ◌∙◌, subst, ◌==◌, option_map, eqb-true, length, count_by, gather}
-use Rattle.gt_core.proofs.Words.{by_leg, map, reverse, DomId, TypeId, Entry, Header, EntryChange, BodyWord, Denial}
-use Rattle.gt_core.proofs.Words.{asked, begun_of, bytes_given_by, CallerKnowledge, Request, OpenRequest, Word, Taken}
-use Rattle.gt_core.proofs.Words.{Step, LookHeader, LookControl, LookBody, Observation, Exchange, Read, Write, Control}
-use Rattle.gt_core.proofs.Words.{HeldPin, StepsSoFar, History, Setting, Underway, Pin, entry_at, changed_entry_of}
+use Rattle.gt_core.proofs.Words.{None, cond, ap, sym, ◌∙◌, subst, ◌==◌, option_map, eqb-true, length, gather}
+use Rattle.gt_core.proofs.Words.{by_leg, reverse, DomId, TypeId, Entry, Header, EntryChange, BodyWord, Denial}
+use Rattle.gt_core.proofs.Words.{asked, begun_of, bytes_given_by, CallerKnowledge, Request, OpenRequest, Taken}
+use Rattle.gt_core.proofs.Words.{Step, Observation}
+use Rattle.gt_core.proofs.Words.{History, Setting, Underway, Pin, entry_at, changed_entry_of}
 use Rattle.gt_core.proofs.Words.{change_at, change_of, raises_at, raise_after, body_at, or_else, stored_at, table_at}
-use Rattle.gt_core.proofs.Words.{header_or, header_stored, header_word, open_call, underway_with, underway_after}
-use Rattle.gt_core.proofs.Words.{maps_answered_at, one_if_mapped, live, is_pin_on, pinned_by, unpinned_by, holder_after}
-use Rattle.gt_core.proofs.Words.{mapping_named, known_at, seen_by, word_at, reads_at, control_at, writes_at}
-use Rattle.gt_core.proofs.Words.{exchange_sees, given_in, stood, stood_with, first_at, first_in_call, first_of_item}
-use Rattle.gt_core.proofs.Words.{leg_at, LegNow, leg_now, legs_at, refusal_in, take, drop, contents_at, PinHolder}
+use Rattle.gt_core.proofs.Words.{header_or, header_stored, open_call, underway_with, underway_after}
+use Rattle.gt_core.proofs.Words.{maps_answered_at, one_if_mapped, live, pinned_by, unpinned_by, holder_after}
+use Rattle.gt_core.proofs.Words.{known_at}
+use Rattle.gt_core.proofs.Words.{given_in, stood, stood_with, first_in_call, first_of_item}
+use Rattle.gt_core.proofs.Words.{refusal_in, take, drop, contents_at, PinHolder}
 use Rattle.gt_model.specs.declared.action.Step.TheVariants as call_steps
 use Rattle.gt_model.specs.declared.trace.Answer.{Answer}
 use Rattle.gt_model.specs.declared.trace.Answer.TheVariants as answers
@@ -18,14 +18,8 @@ use Rattle.gt_model.specs.declared.trace.Bytes.{Bytes}
 use Rattle.gt_model.specs.declared.trace.ItemEvent.{ItemEvent}
 use Rattle.gt_model.specs.declared.trace.ItemEvent.TheVariants.{Began, Stepped}
 use Rattle.gt_model.specs.declared.trace.Item.{Item}
-use Rattle.gt_model.proofs.Observers.{known-as}
-use Rattle.gt_core.specs.Prelude.{GrantRef, Rule, N9, N18, N19, denial_of, size_of, stands, first, first_look}
-use Rattle.gt_core.specs.Prelude.{before_pin, pins_of, MAX_TRIES}
-use Rattle.gt_types.specs.declared.denial.Facts.TheVariants as facts
-use Rattle.gt_model.specs.FirstRule.{looked_at, misses, is_in_body, is_other, is_demote, at_entry, rule_at_look}
-use Rattle.gt_model.specs.FirstRule.{rule_at_header, rule_at_pin, rule_at_via, rule_at_exchange}
-use Rattle.std.specs.Prelude.{◌&&◌, nat_lt, nat_le}
 use Rattle.gt_flow.specs.Low.{is_high}
+use Rattle.gt_flow.proofs.Agreeing.{Agree, Every, agree-all, every, first-same}
 use Rattle.gt_flow.proofs.Frames.{hides}
 use Rattle.gt_flow.proofs.Veiled.{pinned-entries}
 
@@ -114,64 +108,13 @@ pinned-again d y a c h ps same = refl
 
 -- what follows from it
 
-pub four : {A B C D E : Type 0} (f : A → B → C → D → E) {a i : A} {b j : B} {c k : C} {d l : D} → a ≡ i → b ≡ j → c ≡ k → d ≡ l → f a b c d ≡ f i j k l
-four {A = A} {B = B} {C = C} {D = D} f {a = a} {i = i} {b = b} {j = j} {c = c} {k = k} {d = d} {l = l} p q r t =
-    ap (λ (x : A). f x b c d) p ∙ ap (λ (x : B). f i x c d) q ∙ ap (λ (x : C). f i j x d) r ∙ ap (λ (x : D). f i j k x) t
-
 module _ (s : Setting) (high : TypeId → Bool) (g h : History) (m : Matched s high g h) where
-  pub known-same : (d : DomId) → known_at s g d ≡ known_at s h d
-  known-same d = known-as s h g d (m.entry d.0) (m.raises d.0) (m.table d) (ap (λ (ps : List Pin). gather mapping_named d.0 ps) m.pins) (m.maps d.0)
+  pub agrees : Agree s Every g h
+  agrees = agree-all s g h m.entry m.raises m.body m.table m.maps m.pins
 
-  pub reads-same : (t r : ℕ) → reads_at g t r ≡ reads_at h t r
-  reads-same t r = ap (λ (ps : List Pin). count_by (is_pin_on t r Read) ps) m.pins
-
-  pub writes-same : (t r : ℕ) → writes_at g t r ≡ writes_at h t r
-  writes-same t r = ap (λ (ps : List Pin). count_by (is_pin_on t r Write) ps) m.pins
-
-  pub control-same : (t r : ℕ) → control_at s g t r ≡ control_at s h t r
-  control-same t r = let e = m.entry t r in let k = m.raises t r in let n = reads-same t r in let w = writes-same t r in cc
-
-  pub word-same : (t r : ℕ) → word_at s g t r ≡ word_at s h t r
-  word-same t r = let e = m.entry t r in let k = m.raises t r in let n = reads-same t r in let w = writes-same t r in cc
-
-  pub sees-same : (d : DomId) (step : Step) → seen_by s g d step ≡ seen_by s h d step
-  sees-same d (LookHeader dom) = ap (λ (x : Header). Word (header_word x)) (m.table dom)
-  sees-same d (LookControl dom gref) = ap (λ (w : ℕ). Word w) (word-same dom.0 gref.0)
-  sees-same d (LookBody dom gref body_word) = ap (λ (w : ℕ). Word w) (m.body dom.0 gref.0 body_word)
-  sees-same d (call_steps.Pin p) = ap (λ (w : ℕ). exchange_sees w p.word) (word-same p.dom.0 p.gref.0)
-  sees-same d (Exchange gref looked change) = ap (λ (w : ℕ). exchange_sees w looked) (word-same d.0 gref.0)
-  sees-same d step = refl
-
-  pub leg-same : (d : DomId) (r : OpenRequest) → leg_at s g d r ≡ leg_at s h d r
-  leg-same d r = ap (λ (k : CallerKnowledge). leg_now k d r (map (λ (p : ℕ × HeldPin). p.1) (legs_at g d.0))) (known-same d)
-      ∙ ap (λ (ps : List Pin). leg_now (known_at s h d) d r (map (λ (p : ℕ × HeldPin). p.1) (gather by_leg d.0 ps))) m.pins
-
-  look-same : (leg : Option LegNow) (dom : DomId) (gref : GrantRef) (so_far : StepsSoFar) → rule_at_look s g leg dom gref so_far ≡ rule_at_look s h leg dom gref so_far
-  look-same None dom gref so_far = refl
-  look-same (Some n) dom gref so_far =
-      four (λ (w : ℕ) (e : Entry) (k j : Control). cond (is_in_body so_far) (cond (is_other w (looked_at so_far)) None (before_pin n.leg e (pins_of n.leg.dir k))) (first_look n.leg j))
-      (word-same dom.0 gref.0) (m.entry dom.0 gref.0) (control-same dom.0 gref.0) (control-same dom.0 gref.0)
-
-  header-same : (dom : DomId) (leg : Option LegNow) → rule_at_header s g dom leg ≡ rule_at_header s h dom leg
-  header-same dom None = refl
-  header-same dom (Some n) = ap (λ (t : Header). cond {A = Option Denial} (nat_lt n.leg.gref.0 (size_of t)) None (Some (denial_of N9 (facts.Header dom (header_word t))))) (m.table dom)
-
-  pin-same : (d : DomId) (r : OpenRequest) (so_far : StepsSoFar) (p : HeldPin) (seen : Observation) → rule_at_pin s g d r so_far p seen ≡ rule_at_pin s h d r so_far p seen
-  pin-same d r so_far p Taken = four (λ (k : CallerKnowledge) (l : Option LegNow) (e x : Entry). rule_at_via k l e) (known-same d) (leg-same d r) (m.entry p.dom.0 p.gref.0) (m.entry p.dom.0 p.gref.0)
-  pin-same d r so_far p seen = ap (λ (w : ℕ). at_entry p.dom p.gref w (stands (nat_le MAX_TRIES (misses ((call_steps.Pin p, seen) ∷ so_far))) N18)) (word-same p.dom.0 p.gref.0)
-
-  pub first-same : (d : DomId) (r : OpenRequest) (so_far : StepsSoFar) (step : Step) → first_at s g d r so_far step ≡ first_at s h d r so_far step
-  first-same d r so_far (LookHeader dom) = ap (λ (l : Option LegNow). rule_at_header s g dom l) (leg-same d r) ∙ header-same dom (leg_at s h d r)
-  first-same d r so_far (LookControl dom gref) =
-      four (λ (w n : ℕ) (rule : Option Rule) (v : Observation). at_entry dom gref w (first (
-      stands (is_demote r && nat_lt 0 n) N19 ∷ rule ∷ stands (nat_le MAX_TRIES (misses ((LookControl dom gref, v) ∷ so_far))) N18 ∷ [])))
-      (word-same dom.0 gref.0) (writes-same dom.0 gref.0)
-      (ap (λ (l : Option LegNow). rule_at_look s g l dom gref so_far) (leg-same d r) ∙ look-same (leg_at s h d r) dom gref so_far) (sees-same d (LookControl dom gref))
-  first-same d r so_far (call_steps.Pin p) = ap (λ (v : Observation). rule_at_pin s g d r so_far p v) (sees-same d (call_steps.Pin p)) ∙ pin-same d r so_far p (seen_by s h d (call_steps.Pin p))
-  first-same d r so_far (Exchange gref looked change) =
-      four (λ (w n k : ℕ) (v : Observation). at_entry d gref w (rule_at_exchange change (n + k) (misses ((Exchange gref looked change, v) ∷ so_far))))
-      (word-same d.0 gref.0) (reads-same d.0 gref.0) (writes-same d.0 gref.0) (sees-same d (Exchange gref looked change))
-  first-same d r so_far step = refl
+  pub agrees-back : Agree s Every h g
+  agrees-back = agree-all s h g (λ t r. sym (m.entry t r)) (λ t r. sym (m.raises t r))
+      (λ t r which. sym (m.body t r which)) (λ t. sym (m.table t)) (λ d. sym (m.maps d)) (sym m.pins)
 
   first-stripped : (l : History) (d : DomId) (x : ItemEvent) (c : Option Underway) → first_in_call s l d x c ≡ first_in_call s l d x (option_map strip c)
   first-stripped l d (Began q) c = refl
@@ -179,9 +122,9 @@ module _ (s : Setting) (high : TypeId → Bool) (g h : History) (m : Matched s h
   first-stripped l d (Stepped z v) (Some c) = refl
 
   first-in : (b : Bool) (d : DomId) (x y : ItemEvent) (c : Option Underway) → SameRunAction b x y → first_in_call s g d x c ≡ first_in_call s h d y c
-  first-in b d (Began q) (Began r) c same = ap refusal_in (ap (λ (k : CallerKnowledge). begun_of k d q) (known-same d) ∙ same.1 (known_at s h d) d)
+  first-in b d (Began q) (Began r) c same = ap refusal_in (ap (λ (k : CallerKnowledge). begun_of k d q) (agrees.known d tt) ∙ same.1 (known_at s h d) d)
   first-in b d (Stepped z v) (Stepped y w) None same = refl
-  first-in b d (Stepped z v) (Stepped y w) (Some c) same = first-same d c.request (reverse c.steps) z ∙ ap (λ (x : ItemEvent). first_in_call s h d x (Some c)) same
+  first-in b d (Stepped z v) (Stepped y w) (Some c) same = first-same s Every g h agrees d c.request (reverse c.steps) z tt (every z) ∙ ap (λ (x : ItemEvent). first_in_call s h d x (Some c)) same
   first-in b d (Began q) (Stepped y w) c same = absurd same
   first-in b d (Stepped z v) (Began r) c same = absurd same
 

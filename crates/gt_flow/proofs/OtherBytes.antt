@@ -1,29 +1,21 @@
 -- Each legal trace has another one for each choice of the bytes that high domains pass.
-use Rattle.gt_core.proofs.Words.{◌≡◌, ◌≢◌, ◌⊎◌, inl, inr, ◌+◌, ℕ, refl, Bool, true, false, List, [], ◌∷◌, ◌++◌, Option}
+use Rattle.gt_core.proofs.Words.{◌≡◌, ◌≢◌, ◌⊎◌, inl, ◌+◌, ℕ, refl, Bool, true, false, List, [], ◌∷◌, ◌++◌, Option}
 use Rattle.gt_core.proofs.Words.{Some, None, cond, ap, sym, ◌∙◌, subst, ◌==◌, option_map, none-some, same_Some, length}
-use Rattle.gt_core.proofs.Words.{gather, by_leg, map, take, drop, mapping_named, DomId, TypeId, Dir, Entry, Header}
-use Rattle.gt_core.proofs.Words.{EntryChange, Denial, asked, begun_of, bytes_given_by, CallerKnowledge, Request}
-use Rattle.gt_core.proofs.Words.{OpenRequest, Map, Load, Store, Peek, Poke, Copy, SetupTable, QuerySize, GetVersion}
-use Rattle.gt_core.proofs.Words.{Taken, Step, Unpin, LookHeader, StoreHeader, Exchange, Observation, HeldPin, path}
-use Rattle.gt_core.proofs.Words.{domain_of, History, Setting, Underway, Pin, entry_at, table_at, open_call, known_at}
-use Rattle.gt_core.proofs.Words.{body_at, mapping_of, values, given_in, stood, leg_at, LegNow, contents_at, patches_at}
-use Rattle.gt_core.proofs.Words.{patches_by, written_by, written, Patch, Spot, IsRight, StepsRight, StepsRightIn}
-use Rattle.gt_core.proofs.Words.{BeginsRight, AnsweredBy, GivesValue, Justified, MayAsk, MayUseMapping, EndIsJustified}
-use Rattle.gt_core.proofs.Words.{CopyIsJustified, Reaches, Forwards, IsSafe, IsSafeChange, PinIsSound, NoneStands}
-use Rattle.gt_core.proofs.Words.{IsSpelled, refusal_of, refusal_if, gives_back, verdict_in, CallResult, MayDo}
+use Rattle.gt_core.proofs.Words.{gather, by_leg, map, take, drop, DomId, TypeId, Header}
+use Rattle.gt_core.proofs.Words.{Denial, asked, begun_of, bytes_given_by, CallerKnowledge, Request}
+use Rattle.gt_core.proofs.Words.{OpenRequest, Map, Load, Store, Peek, Poke, SetupTable, QuerySize, GetVersion}
+use Rattle.gt_core.proofs.Words.{Step, LookHeader, StoreHeader, Observation, path}
+use Rattle.gt_core.proofs.Words.{domain_of, History, Setting, Underway, Pin, table_at, open_call, known_at}
+use Rattle.gt_core.proofs.Words.{values, given_in, stood, contents_at, patches_at}
+use Rattle.gt_core.proofs.Words.{patches_by, written_by, written, Patch, IsRight, StepsRight, StepsRightIn}
+use Rattle.gt_core.proofs.Words.{BeginsRight, AnsweredBy, GivesValue, Justified}
+use Rattle.gt_core.proofs.Words.{refusal_of, refusal_if, gives_back, verdict_in, CallResult, MayDo}
 use Rattle.gt_core.proofs.Words.{LegalAfter, grown, history_after, SpellsItsEntry, MAX_TABLE_FRAMES}
 use Rattle.gt_model.specs.declared.action.Action.TheVariants as actions
 use Rattle.gt_model.specs.declared.action.Step.TheVariants as call_steps
-use Rattle.gt_model.specs.declared.request.PinHolder.TheVariants as holders
 use Rattle.gt_core.specs.Alike.{KeylessItem}
-use Rattle.gt_model.specs.Justified.{MayAccess, ReachesThrough}
 use Rattle.gt_model.specs.Legal.{Legal, actor_of}
-use Rattle.gt_core.specs.Prelude.{StoreBody, Publish, Read, Write, resolved, is_source_granted, is_dest_granted}
-use Rattle.gt_core.specs.Prelude.{first_look, before_pin, pins_of, Control}
-use Rattle.gt_model.specs.declared.change.BodyWord.TheVariants as body_words
-use Rattle.gt_model.specs.declared.change.EntryChange.TheVariants as changes
-use Rattle.gt_types.specs.declared.Use.TheVariants as uses
-use Rattle.std.specs.Prelude.{Any, min, ◌-◌, ◌&&◌}
+use Rattle.std.specs.Prelude.{min, ◌-◌, ◌&&◌}
 use Rattle.std.proofs.lemmas.List.{length-append, length-drop, length-map, length-take, map-append}
 use Rattle.gt_model.specs.Written.{overlay, replay, zeros}
 use Rattle.gt_model.specs.declared.trace.Answer.{Answer}
@@ -44,8 +36,9 @@ use Rattle.gt_flow.specs.OtherBytes.{SameButHighBytes, SameButPassed, byteless_e
 use Rattle.gt_flow.proofs.Allowed.{IsReading, IsWriting, read-flows, write-flows}
 use Rattle.gt_flow.proofs.Frames.{Passes, PassesIn, copied-low, hides, low-source, open-passes, patch-same}
 use Rattle.gt_flow.proofs.Veiled.{asked-hidden, begun-hidden}
-use Rattle.gt_flow.proofs.Matched.{Matched, SameRunAction, control-same, known-same, leg-same, matched-grows, reads-same}
-use Rattle.gt_flow.proofs.Matched.{reanswered, reread, sees-same, fitted, fitted-all, strip, writes-same}
+use Rattle.gt_flow.proofs.Agreeing.{Agree, Every, every, justified-same, safe-same, sees-same, sound-same}
+use Rattle.gt_flow.proofs.Matched.{Matched, SameRunAction, agrees, agrees-back, fitted, fitted-all}
+use Rattle.gt_flow.proofs.Matched.{matched-grows, reanswered, reread, strip}
 
 -- the writes to frames of low domains are the same after both
 abbrev pub SameLow : Setting → (TypeId → Bool) → History → History → Type 0
@@ -105,73 +98,11 @@ none-back f None e = refl
 none-back f (Some a) e = absurd (none-some _ (sym e))
 
 module _ (s : Setting) (high : TypeId → Bool) (g h : History) (m : Matched s high g h) where
-  -- pins
+  forth : Agree s Every g h
+  forth = agrees s high g h m
 
-  may-access : (d : DomId) (dir : Dir) (at : Spot) (len : ℕ) → MayAccess g d dir at len → MayAccess h d dir at len
-  may-access d dir at len x = subst (λ (ps : List Pin). (at.frame.owner.0 ≡ d.0) ⊎ Any (Reaches d d dir uses.Map at len) ps) m.pins x
-
-  through : (d : DomId) (dir : Dir) (at : Spot) (len : ℕ) (named : DomId) → ReachesThrough g d dir at len named → ReachesThrough h d dir at len named
-  through d dir at len named x =
-      subst (λ (ps : List Pin). Any (λ p. Any (λ via. Forwards d dir named p via × Reaches d named dir uses.Copy at len p) ps) ps) m.pins x
-
-  may-ask : (d : DomId) (r : OpenRequest) → MayAsk s g d r → MayAsk s h d r
-  may-ask d (Load handle off len) x = subst (λ (ps : List Pin). MayUseMapping s d (mapping_of (gather mapping_named d.0 ps) handle)) m.pins x
-  may-ask d (Store handle off len) x = subst (λ (ps : List Pin). MayUseMapping s d (mapping_of (gather mapping_named d.0 ps) handle)) m.pins x
-  may-ask d r x = x
-
-  end-same : (d : DomId) (granted : Bool) (dir : Dir) (at : Spot) (len : ℕ) (named : DomId) (owners : DomId × DomId) → EndIsJustified s g d granted dir at len named owners → EndIsJustified s h d granted dir at len named owners
-  end-same d granted dir at len named owners (inl e) = inl e
-  end-same d granted dir at len named owners (inr (inl e)) = inr (inl (e.0, e.1, subst (λ (ps : List Pin). Any (Reaches d d dir uses.Copy at len) ps) m.pins e.2))
-  end-same d granted dir at len named owners (inr (inr e)) = inr (inr (e.0, through d dir at len named e.1, e.2))
-
-  copy-same : (d : DomId) (r : OpenRequest) (from to : Spot) (len : ℕ) → CopyIsJustified s g d r from to len → CopyIsJustified s h d r from to len
-  copy-same d (Copy c) from to len x = (
-    x.0,
-    x.1,
-    x.2,
-    end-same d (is_source_granted c) Read from len (resolved d c.source.domid) (from.frame.owner, resolved d c.dest.domid) x.3,
-    end-same d (is_dest_granted c) Write to len (resolved d c.dest.domid) (from.frame.owner, to.frame.owner) x.4,
-  )
-  copy-same d r from to len x = absurd x
-
-  justified-same : (d : DomId) (r : OpenRequest) (step : Step) → Justified s g d r step → Justified s h d r step
-  justified-same d r (call_steps.Read dom frame off len) x = (x.0, may-access d Read (record { frame = record { owner = dom; number = frame }; off = off }) len x.1, may-ask d r x.2)
-  justified-same d r (call_steps.Write dom frame off len) x = (x.0, may-access d Write (record { frame = record { owner = dom; number = frame }; off = off }) len x.1, may-ask d r x.2)
-  justified-same d r (call_steps.Copy from to len) x = copy-same d r from to len x
-  justified-same d r (Unpin p (holders.Mapping handle)) x = x
-  justified-same d r step x = tt
-
-  -- entries
-
-  change-same : (t r : ℕ) (change : EntryChange) → IsSafeChange g t r change → IsSafeChange h t r change
-  change-same t r (Publish entry) x = (
-    sym (m.entry t r) ∙ x.0,
-    subst (λ (w : ℕ). IsSpelled entry (body_at h t r body_words.First) w) (m.body t r body_words.Second) (subst (λ (w : ℕ). IsSpelled entry w (body_at g t r body_words.Second)) (m.body t r body_words.First) x.1),
-    sym (reads-same s high g h m t r) ∙ x.2,
-    sym (writes-same s high g h m t r) ∙ x.3,
-  )
-  change-same t r changes.Withdraw x = tt
-  change-same t r changes.Revoke x = (sym (reads-same s high g h m t r) ∙ x.0, sym (writes-same s high g h m t r) ∙ x.1)
-  change-same t r changes.Demote x = sym (writes-same s high g h m t r) ∙ x
-  change-same t r changes.Promote x = tt
-
-  safe-same : (d : DomId) (z : Step) (v : Observation) (a c : Option Answer)
-      → IsSafe s g (record { actor = d; happened = Stepped z v; answer = a }) → IsSafe s h (record { actor = d; happened = Stepped z v; answer = c })
-  safe-same d (Exchange gref looked change) Taken a c x = change-same d.0 gref.0 change x
-  safe-same d (StoreBody gref body_word word) v a c x = sym (m.entry d.0 gref.0) ∙ x
-  safe-same d z v a c x = tt
-
-  none-same : (d : DomId) (dom : DomId) (p : HeldPin) (leg : Option LegNow) → NoneStands s g p.dom p.gref leg → NoneStands s h p.dom p.gref leg
-  none-same d dom p None x = absurd x
-  none-same d dom p (Some n) x = (
-    sym (ap (λ (k : Control). first_look n.leg k) (control-same s high g h m p.dom.0 p.gref.0)) ∙ x.0,
-    sym (ap (λ (e : Entry). before_pin n.leg e (pins_of n.leg.dir (Rattle.gt_model.specs.History.control_at s g p.dom.0 p.gref.0))) (m.entry p.dom.0 p.gref.0)
-        ∙ ap (λ (k : Control). before_pin n.leg (entry_at h p.dom.0 p.gref.0) (pins_of n.leg.dir k)) (control-same s high g h m p.dom.0 p.gref.0)) ∙ x.1,
-  )
-
-  sound-same : (d : DomId) (r : OpenRequest) (z : Step) (v : Observation) → PinIsSound s g d r z v → PinIsSound s h d r z v
-  sound-same d r (call_steps.Pin p) Taken x = subst (λ (l : Option LegNow). NoneStands s h p.dom p.gref l) (leg-same s high g h m d r) (none-same d d p (leg_at s g d r) x)
-  sound-same d r z v x = tt
+  back : Agree s Every h g
+  back = agrees-back s high g h m
 
   -- answers
 
@@ -234,17 +165,17 @@ module _ (s : Setting) (high : TypeId → Bool) (g h : History) (m : Matched s h
         → Matched s high (item (Stepped z v) a ∷ g) (item (Stepped z v) (again (Some z) a) ∷ h)
         → StepsRight s h (item (Stepped z v) (again (Some z) a)) z v (record { request = c.request; given = w; steps = c.steps })
     step-right z v a c w closed same shapes right next = record {
-      continues = sym (ap (λ (k : CallerKnowledge). path k d c.request (values c)) (known-same s high g h m d)) ∙ right.continues;
-      sees = right.sees ∙ sees-same s high g h m d z;
-      justified = justified-same d c.request z right.justified;
-      safe = safe-same d z v a (again (Some z) a) right.safe;
-      sound = sound-same d c.request z v right.sound;
+      continues = sym (ap (λ (k : CallerKnowledge). path k d c.request (values c)) (forth.known d tt)) ∙ right.continues;
+      sees = right.sees ∙ sees-same s Every g h forth d z tt (every z);
+      justified = justified-same s Every h g back d c.request z tt right.justified;
+      safe = safe-same s Every h g back d z v a (again (Some z) a) tt right.safe;
+      sound = sound-same s Every h g back d c.request z v tt (every z) right.sound;
       soon = λ e. right.soon (none-back (reanswered b h (Some z)) a e);
       left = λ e. let l = right.left (λ n. e (refusal-if-again b h (Some z) a ∙ n)) in (l.0, subst (λ (ps : List Pin). gather by_leg d.0 ps ≡ []) next.pins l.1);
       answered = subst (λ (o : Option Denial). AnsweredBy s h d c.request (Some z) (gives_back (path (known_at s h d) d c.request (values c ++ v ∷ []))) (verdict_in (path (known_at s h d) d c.request (values c ++ v ∷ []))) (again (Some z) a) o)
           (next.ruled d.0)
           (subst (λ (k : CallerKnowledge). AnsweredBy s h d c.request (Some z) (gives_back (path k d c.request (values c ++ v ∷ []))) (verdict_in (path k d c.request (values c ++ v ∷ []))) (again (Some z) a) (stood s (item (Stepped z v) a ∷ g) d.0))
-          (known-same s high g h m d)
+          (forth.known d tt)
           (answered-same c.request (Some z) _ _ a _ (reads-low z v a c closed same shapes right) right.answered));
     }
 
@@ -335,7 +266,7 @@ module _ (s : Setting) (high : TypeId → Bool) (g h : History) (m : Matched s h
       stripped-none (open_call g d.0) (open_call h d.0) (m.calls d.0) right.0,
       subst (λ (o : Option Denial). AnsweredBy s h d (asked r) None false (begun_of (known_at s h d) d r) (again None a) o) (next.ruled d.0)
           (subst (λ (o : Option CallResult). AnsweredBy s h d (asked r) None false o (again None a) (stood s (item (Began q) a ∷ g) d.0))
-          (ap (λ (k : CallerKnowledge). begun_of k d q) (known-same s high g h m d) ∙ run_action.1 (known_at s h d) d)
+          (ap (λ (k : CallerKnowledge). begun_of k d q) (forth.known d tt) ∙ run_action.1 (known_at s h d) d)
           (subst (λ (u : OpenRequest). AnsweredBy s h d u None false (begun_of (known_at s g d) d q) (again None a) (stood s (item (Began q) a ∷ g) d.0)) run_action.0
           (answered-same (asked q) None false _ a _ (λ t f o n is. absurd (none-some _ is)) right.1))),
       λ e. subst (λ (k : Header). SpellsItsEntry k r) (m.table d) (spells (table_at s g d) (right.2 (none-back (reanswered b h None) a e))),

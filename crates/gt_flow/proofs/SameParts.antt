@@ -1,6 +1,6 @@
 -- Two runs whose low domains have the same events: these did the same, whatever high domains did.
 use Rattle.gt_core.proofs.Words.{◌≡◌, ◌≢◌, inr, ℕ, refl, Bool, true, false, List, [], ◌∷◌, Option, Some, None}
-use Rattle.gt_core.proofs.Words.{cond, map, ap, sym, ◌∙◌, subst, option_map, DomId, TypeId, domain_of, Observation}
+use Rattle.gt_core.proofs.Words.{cond, map, ap, sym, ◌∙◌, subst, option_map, DomId, domain_of, Observation}
 use Rattle.gt_core.proofs.Words.{CallerKnowledge, Step, Unpin, path, History, Setting, Underway, values, entry_at}
 use Rattle.gt_core.proofs.Words.{open_call, known_at, seen_by, body_at, table_at, word_at, contents_at}
 use Rattle.gt_core.proofs.Words.{keyless_items, MayDo, IsRight, StepsRightIn}
@@ -22,27 +22,28 @@ use Rattle.gt_model.specs.declared.trace.Item.{Item}
 use Rattle.gt_model.specs.declared.trace.ItemEvent.{ItemEvent}
 use Rattle.gt_model.specs.declared.trace.ItemEvent.TheVariants.{Began, Stepped}
 use Rattle.gt_flow.specs.Apart.{CopiesApart, LowDomainsKeep, NamesLow, SharesNothing, StaysApart}
-use Rattle.gt_flow.specs.Low.{NamesKnown, is_high}
+use Rattle.gt_flow.specs.Low.{NamesKnown}
 use Rattle.gt_flow.specs.Purged.{SameElements, SameEvents}
 use Rattle.gt_flow.specs.Separate.{CopiesStayApart, HappensAtLow, IsAtLow, LooksApart, low_elements, low_events}
 use Rattle.gt_flow.proofs.Apart.{now-apart}
 use Rattle.gt_flow.proofs.Separate.{AtLow, IsLowPart, high-event, keeps, known-low, looks-before, looks-now, low-event}
-use Rattle.gt_flow.proofs.Separate.{contents-low, nothing-yet, stays-before, word-low}
+use Rattle.gt_flow.proofs.Agreeing.{word-same}
+use Rattle.gt_flow.proofs.Separate.{agrees, contents-low, nothing-yet, stays-before}
 use Rattle.gt_flow.proofs.Steps.{step_told, stepped_told, tick_told, within-some}
 
 cons_parts : {A : Type 0} (x y : A) (xs ys : List A) → x ∷ xs ≡ y ∷ ys → (x ≡ y) × (xs ≡ ys)
 cons_parts x y xs ys e = (cc, cc)
 
-module _ (s : Setting) (high : TypeId → Bool) where
+module _ (s : Setting) (high : DomId → Bool) where
   abbrev Lo : DomId → Type 0
-  Lo d = is_high s high d ≡ false
+  Lo d = high d ≡ false
 
   -- ---- a run of low domains that looks at their tables only
 
   -- up to now no entry of a low domain named a high one, and each item looked at tables of low domains only
   unfoldable IsClean : History → Type 0
-  IsClean [] = SharesNothing s high []
-  IsClean (i ∷ before) = SharesNothing s high (i ∷ before) × HappensAtLow s high i.happened × IsClean before
+  IsClean [] = SharesNothing high []
+  IsClean (i ∷ before) = SharesNothing high (i ∷ before) × HappensAtLow high i.happened × IsClean before
 
   clean-before : (h : History) (xs : List Element) → IsClean (history_after h xs) → IsClean h
   unfolding IsClean
@@ -50,7 +51,7 @@ module _ (s : Setting) (high : TypeId → Bool) where
   clean-before h (elements.Item i ∷ xs) clean = (clean-before (i ∷ h) xs clean).2
   clean-before h (x ∷ xs) clean = clean-before h xs clean
 
-  clean-now : (h : History) → IsClean h → SharesNothing s high h
+  clean-now : (h : History) → IsClean h → SharesNothing high h
   unfolding IsClean
   clean-now [] clean = clean
   clean-now (i ∷ h) clean = clean.0
@@ -61,10 +62,10 @@ module _ (s : Setting) (high : TypeId → Bool) where
   clean-looks h x clean = tt
 
   pub shares-part : (p g : History) → ((t : DomId) (r : ℕ) → Lo t → entry_at p t.0 r ≡ entry_at g t.0 r)
-      → SharesNothing s high g → SharesNothing s high p
-  shares-part p g same shares t r low = subst (NamesLow s high) (sym (same t r low)) (shares t r low)
+      → SharesNothing high g → SharesNothing high p
+  shares-part p g same shares t r low = subst (NamesLow high) (sym (same t r low)) (shares t r low)
 
-  clean-grows : (p : History) (x : Element) → IsClean p → SharesNothing s high (grown p x) → AtLow s high x
+  clean-grows : (p : History) (x : Element) → IsClean p → SharesNothing high (grown p x) → AtLow s high x
       → IsClean (grown p x)
   unfolding IsClean
   clean-grows p (elements.Item i) clean shares at = (shares, at, clean)
@@ -72,30 +73,30 @@ module _ (s : Setting) (high : TypeId → Bool) where
 
   -- the low part of a run is one
   part-clean : (p g : History) (es : List Event) (xs : List Element) → IsLowPart s high p g → IsClean p
-      → LegalAfter s g es xs → StaysApart s high (history_after g xs) → LooksApart s high (history_after g xs)
-      → LegalAfter s p (low_events s high es) (low_elements s high es xs)
-      × IsClean (history_after p (low_elements s high es xs))
-      × IsLowPart s high (history_after p (low_elements s high es xs)) (history_after g xs)
+      → LegalAfter s g es xs → StaysApart high (history_after g xs) → LooksApart high (history_after g xs)
+      → LegalAfter s p (low_events high es) (low_elements high es xs)
+      × IsClean (history_after p (low_elements high es xs))
+      × IsLowPart s high (history_after p (low_elements high es xs)) (history_after g xs)
   part-clean p g [] [] m clean legal stays looks = (tt, clean, m)
   part-clean p g [] (x ∷ xs) m clean legal stays looks = absurd legal
   part-clean p g (e ∷ es) [] m clean legal stays looks = absurd legal
   part-clean p g (e ∷ es) (x ∷ xs) m clean legal stays looks =
-      by (is_high s high (actor_of e)) refl
+      by (high (actor_of e)) refl
       (λ q part tidy. part-clean q (grown g x) es xs part tidy legal.1 stays looks)
     where
-      now : SharesNothing s high g × CopiesApart s high g
+      now : SharesNothing high g × CopiesApart high g
       now = now-apart s high g (stays-before s high g (x ∷ xs) stays)
 
-      by : (b : Bool) → is_high s high (actor_of e) ≡ b
+      by : (b : Bool) → high (actor_of e) ≡ b
           → ((q : History) → IsLowPart s high q (grown g x) → IsClean q
-          → LegalAfter s q (low_events s high es) (low_elements s high es xs)
-          × IsClean (history_after q (low_elements s high es xs))
-          × IsLowPart s high (history_after q (low_elements s high es xs)) (history_after (grown g x) xs))
-          → LegalAfter s p (cond b (low_events s high es) (e ∷ low_events s high es))
-          (cond b (low_elements s high es xs) (x ∷ low_elements s high es xs))
-          × IsClean (history_after p (cond b (low_elements s high es xs) (x ∷ low_elements s high es xs)))
+          → LegalAfter s q (low_events high es) (low_elements high es xs)
+          × IsClean (history_after q (low_elements high es xs))
+          × IsLowPart s high (history_after q (low_elements high es xs)) (history_after (grown g x) xs))
+          → LegalAfter s p (cond b (low_events high es) (e ∷ low_events high es))
+          (cond b (low_elements high es xs) (x ∷ low_elements high es xs))
+          × IsClean (history_after p (cond b (low_elements high es xs) (x ∷ low_elements high es xs)))
           × IsLowPart s high
-          (history_after p (cond b (low_elements s high es xs) (x ∷ low_elements s high es xs)))
+          (history_after p (cond b (low_elements high es xs) (x ∷ low_elements high es xs)))
           (history_after (grown g x) xs)
       by true up rest = rest p (high-event s high p g e x m now.0 now.1 up legal.0) clean
       by false low rest =
@@ -108,30 +109,30 @@ module _ (s : Setting) (high : TypeId → Bool) where
 
   -- ---- the step of a low domain is the same in both
 
-  pub bare-at : (z y : Step) → bare_step z ≡ bare_step y → IsAtLow s high z → IsAtLow s high y
-  bare-at z y same at = there y (subst (IsAtLow s high) same (here z at))
+  pub bare-at : (z y : Step) → bare_step z ≡ bare_step y → IsAtLow high z → IsAtLow high y
+  bare-at z y same at = there y (subst (IsAtLow high) same (here z at))
     where
-      here : (z : Step) → IsAtLow s high z → IsAtLow s high (bare_step z)
+      here : (z : Step) → IsAtLow high z → IsAtLow high (bare_step z)
       here (Unpin q (holders.Mapping handle)) at = tt
       here (Unpin q (holders.Leg number)) at = tt
       here z at = at
 
-      there : (y : Step) → IsAtLow s high (bare_step y) → IsAtLow s high y
+      there : (y : Step) → IsAtLow high (bare_step y) → IsAtLow high y
       there (Unpin q (holders.Mapping handle)) at = tt
       there (Unpin q (holders.Leg number)) at = tt
       there y at = at
 
   keyless-at : (i : Item) (z : Step) (v : Observation) → (keyless_item i).happened ≡ Stepped (bare_step z) v
-      → HappensAtLow s high i.happened → IsAtLow s high z
+      → HappensAtLow high i.happened → IsAtLow high z
   keyless-at i z v same at = by i.happened same at
     where
       by : (x : ItemEvent) → bare_happened x ≡ Stepped (bare_step z) v
-          → HappensAtLow s high x → IsAtLow s high z
+          → HappensAtLow high x → IsAtLow high z
       by (Began q) same at = absurd (let e = same in cc)
       by (Stepped y w) same at = let e : bare_step y ≡ bare_step z = cc in bare-at y z e at
 
   told-at : (x : Element) (t : KeylessItem) (z : Step) (v : Observation) → element_told x ≡ inr t
-      → t.happened ≡ Stepped (bare_step z) v → AtLow s high x → IsAtLow s high z
+      → t.happened ≡ Stepped (bare_step z) v → AtLow s high x → IsAtLow high z
   told-at (elements.Item i) t z v told is at =
       let same : keyless_item i ≡ t = cc in
       keyless-at i z v (ap (λ (k : KeylessItem). k.happened) same ∙ is) at
@@ -159,7 +160,7 @@ module _ (s : Setting) (high : TypeId → Bool) where
   item-at : (q p h : History) (d : DomId) (x : Element) (z : Step) (v : Observation) (a : Option Answer)
       → AreAlike s q p → IsLowPart s high p h → Lo d → MayDo s q (Tick d) x → AtLow s high x
       → domain_of s.domains d ≢ None → IsRight s h (record { actor = d; happened = Stepped z v; answer = a })
-      → IsAtLow s high z
+      → IsAtLow high z
   item-at q p h d x z v a alike m low may at named right =
       let next = step-at p h d z v a (open_call h d.0) (sym (known-low s high p h m d low)) right in
       let told : element_told x ≡ inr next.0 =
@@ -177,7 +178,7 @@ module _ (s : Setting) (high : TypeId → Bool) where
   other-at q p h e f x Busy alike m same low may at does-too = tt
   other-at q p h e f x Idle alike m same low may at does-too = tt
   other-at q p h e (Begin d r) x (elements.Item j) alike m same low may at does-too =
-      subst (HappensAtLow s high) (sym does-too.1.1) tt
+      subst (HappensAtLow high) (sym does-too.1.1) tt
   other-at q p h (Begin k r) (Tick d) x (elements.Item j) alike m same low may at does-too = absurd (let f = same in cc)
   other-at q p h (Tick k) (Tick d) x (elements.Item j) alike m same low may at does-too =
       by j.happened (subst (λ (a : DomId). IsRight s h (record j { actor = a })) does-too.1.0 does-too.2)
@@ -185,20 +186,20 @@ module _ (s : Setting) (high : TypeId → Bool) where
       tick : MayDo s q (Tick d) x
       tick = let e : k ≡ d = cc in subst (λ (a : DomId). MayDo s q (Tick a) x) e may
 
-      by : (z : ItemEvent) → IsRight s h (record { actor = d; happened = z; answer = j.answer }) → HappensAtLow s high z
+      by : (z : ItemEvent) → IsRight s h (record { actor = d; happened = z; answer = j.answer }) → HappensAtLow high z
       by (Began r) right = tt
       by (Stepped z v) right = item-at q p h d x z v j.answer alike m low tick at does-too.0 right
 
   -- ---- both runs
 
-  copies-before : (h : History) (ys : List Element) → CopiesStayApart s high (history_after h ys)
-      → CopiesStayApart s high h
+  copies-before : (h : History) (ys : List Element) → CopiesStayApart high (history_after h ys)
+      → CopiesStayApart high h
   unfolding CopiesStayApart
   copies-before h [] copies = copies
   copies-before h (elements.Item i ∷ ys) copies = (copies-before (i ∷ h) ys copies).1
   copies-before h (y ∷ ys) copies = copies-before h ys copies
 
-  copies-now : (h : History) → CopiesStayApart s high h → CopiesApart s high h
+  copies-now : (h : History) → CopiesStayApart high h → CopiesApart high h
   unfolding CopiesStayApart
   copies-now [] copies = copies
   copies-now (i ∷ h) copies = copies.0
@@ -209,25 +210,25 @@ module _ (s : Setting) (high : TypeId → Bool) where
 
   together : (q p h : History) (es : List Event) (xs : List Element) (fs : List Event) (ys : List Element)
       → AreAlike s q p → IsLowPart s high p h → LegalAfter s q es xs → IsClean (history_after q xs)
-      → NamesKnown q es xs → LegalAfter s h fs ys → NamesKnown p (low_events s high fs) (low_elements s high fs ys)
-      → CopiesStayApart s high (history_after h ys) → SameEvents es (low_events s high fs)
-      → SameElements xs (low_elements s high fs ys)
-      × AreAlike s (history_after q xs) (history_after p (low_elements s high fs ys))
-      × IsLowPart s high (history_after p (low_elements s high fs ys)) (history_after h ys)
+      → NamesKnown q es xs → LegalAfter s h fs ys → NamesKnown p (low_events high fs) (low_elements high fs ys)
+      → CopiesStayApart high (history_after h ys) → SameEvents es (low_events high fs)
+      → SameElements xs (low_elements high fs ys)
+      × AreAlike s (history_after q xs) (history_after p (low_elements high fs ys))
+      × IsLowPart s high (history_after p (low_elements high fs ys)) (history_after h ys)
   together q p h [] [] [] [] alike m legal clean known other names copies same = (tt, alike, m)
   together q p h [] (x ∷ xs) [] ys alike m legal clean known other names copies same = absurd legal
   together q p h (e ∷ es) xs [] ys alike m legal clean known other names copies same = absurd (let e = same in cc)
   together q p h [] [] [] (y ∷ ys) alike m legal clean known other names copies same = absurd other
   together q p h es xs (f ∷ fs) [] alike m legal clean known other names copies same = absurd other
   together q p h es xs (f ∷ fs) (y ∷ ys) alike m legal clean known other names copies same =
-      by (is_high s high (actor_of f)) refl es xs legal clean known names same
+      by (high (actor_of f)) refl es xs legal clean known names same
       (λ one two ds ws like part lawful tidy kin call match.
       together one two (grown h y) ds ws fs ys like part lawful tidy kin other.1 call copies match)
     where
-      copied : CopiesApart s high h
+      copied : CopiesApart high h
       copied = copies-now h (copies-before h (y ∷ ys) copies)
 
-      shared : IsClean q → SharesNothing s high h
+      shared : IsClean q → SharesNothing high h
       shared now = shares-part h q (λ t r low. sym (m.entry t r low) ∙ sym (alike-entry q p alike t.0 r))
           (clean-now q now)
 
@@ -235,29 +236,29 @@ module _ (s : Setting) (high : TypeId → Bool) where
       Rest : Type 0
       Rest = (one two : History) (ds : List Event) (ws : List Element) → AreAlike s one two
           → IsLowPart s high two (grown h y) → LegalAfter s one ds ws → IsClean (history_after one ws)
-          → NamesKnown one ds ws → NamesKnown two (low_events s high fs) (low_elements s high fs ys)
-          → SameEvents ds (low_events s high fs)
-          → SameElements ws (low_elements s high fs ys)
-          × AreAlike s (history_after one ws) (history_after two (low_elements s high fs ys))
-          × IsLowPart s high (history_after two (low_elements s high fs ys)) (history_after (grown h y) ys)
+          → NamesKnown one ds ws → NamesKnown two (low_events high fs) (low_elements high fs ys)
+          → SameEvents ds (low_events high fs)
+          → SameElements ws (low_elements high fs ys)
+          × AreAlike s (history_after one ws) (history_after two (low_elements high fs ys))
+          × IsLowPart s high (history_after two (low_elements high fs ys)) (history_after (grown h y) ys)
 
-      by : (b : Bool) → is_high s high (actor_of f) ≡ b → (es : List Event) (xs : List Element) → LegalAfter s q es xs
+      by : (b : Bool) → high (actor_of f) ≡ b → (es : List Event) (xs : List Element) → LegalAfter s q es xs
           → IsClean (history_after q xs) → NamesKnown q es xs
-          → NamesKnown p (cond b (low_events s high fs) (f ∷ low_events s high fs))
-          (cond b (low_elements s high fs ys) (y ∷ low_elements s high fs ys))
-          → SameEvents es (cond b (low_events s high fs) (f ∷ low_events s high fs)) → Rest
-          → SameElements xs (cond b (low_elements s high fs ys) (y ∷ low_elements s high fs ys))
+          → NamesKnown p (cond b (low_events high fs) (f ∷ low_events high fs))
+          (cond b (low_elements high fs ys) (y ∷ low_elements high fs ys))
+          → SameEvents es (cond b (low_events high fs) (f ∷ low_events high fs)) → Rest
+          → SameElements xs (cond b (low_elements high fs ys) (y ∷ low_elements high fs ys))
           × AreAlike s (history_after q xs)
-          (history_after p (cond b (low_elements s high fs ys) (y ∷ low_elements s high fs ys)))
+          (history_after p (cond b (low_elements high fs ys) (y ∷ low_elements high fs ys)))
           × IsLowPart s high
-          (history_after p (cond b (low_elements s high fs ys) (y ∷ low_elements s high fs ys)))
+          (history_after p (cond b (low_elements high fs ys) (y ∷ low_elements high fs ys)))
           (history_after (grown h y) ys)
       by true up es xs legal clean known names same rest =
           rest q p es xs alike (high-event s high p h f y m (shared (clean-before q xs clean)) copied up other.0) legal
           clean known names same
       by false low (e ∷ es) (x ∷ xs) legal clean known names same rest =
           let events = cons_parts (bare_event e) (bare_event f) (map bare_event es)
-          (map bare_event (low_events s high fs)) same in
+          (map bare_event (low_events high fs)) same in
           let before = clean-before (grown q x) xs clean in
           let at = other-at q p h e f x y alike m events.0 low legal.0 (clean-looks q x before) other.0 in
           let next = low-event s high p h f y m (shared (clean-before q (x ∷ xs) clean)) copied low at other.0 in
@@ -273,7 +274,7 @@ module _ (s : Setting) (high : TypeId → Bool) where
   unfolding IsRun keyless_items
   starts-alike = record { first = tt; second = tt; same = refl }
 
-  clean-starts : SharesNothing s high [] → IsClean []
+  clean-starts : SharesNothing high [] → IsClean []
   unfolding IsClean
   clean-starts shares = shares
 
@@ -283,7 +284,7 @@ module _ (s : Setting) (high : TypeId → Bool) where
   all-keep g q p h kept alike m = let one = bare-same q p alike.same in record {
     words = λ t r low. kept.words t r low ∙ sym (word-bare s q t.0 r alike.first)
         ∙ ap (λ (l : History). word_at s l t.0 r) one ∙ word-bare s p t.0 r alike.second
-        ∙ word-low s high p h m t r low;
+        ∙ word-same s Lo p h (agrees s high p h m) t r low;
     bodies = λ t r which low. kept.bodies t r which low ∙ sym ((bared q).body t.0 r which)
         ∙ ap (λ (l : History). body_at l t.0 r which) one ∙ (bared p).body t.0 r which ∙ m.body t r which low;
     tables = λ t low. kept.tables t low ∙ sym ((bared q).table s t)
@@ -293,20 +294,20 @@ module _ (s : Setting) (high : TypeId → Bool) where
   }
 
   pub high-calls-make-no-difference : (es fs : List Event) (xs ys : List Element) → Legal s es xs → Legal s fs ys
-      → NamesKnown [] (low_events s high es) (low_elements s high es xs)
-      → NamesKnown [] (low_events s high fs) (low_elements s high fs ys)
-      → SameEvents (low_events s high es) (low_events s high fs)
-      → StaysApart s high (history_after [] xs) → LooksApart s high (history_after [] xs)
-      → CopiesStayApart s high (history_after [] ys)
-      → SameElements (low_elements s high es xs) (low_elements s high fs ys)
+      → NamesKnown [] (low_events high es) (low_elements high es xs)
+      → NamesKnown [] (low_events high fs) (low_elements high fs ys)
+      → SameEvents (low_events high es) (low_events high fs)
+      → StaysApart high (history_after [] xs) → LooksApart high (history_after [] xs)
+      → CopiesStayApart high (history_after [] ys)
+      → SameElements (low_elements high es xs) (low_elements high fs ys)
       × LowDomainsKeep s high (history_after [] xs) (history_after [] ys)
   high-calls-make-no-difference es fs xs ys legal other known names same stays looks copies =
       let starts = clean-starts (now-apart s high [] (stays-before s high [] xs stays)).0 in
       let part = part-clean [] [] es xs (nothing-yet s high) starts legal stays looks in
-      let both = together [] [] [] (low_events s high es) (low_elements s high es xs) fs ys starts-alike
+      let both = together [] [] [] (low_events high es) (low_elements high es xs) fs ys starts-alike
       (nothing-yet s high) part.0 part.1 known other names copies same in (
         both.0,
-        all-keep (history_after [] xs) (history_after [] (low_elements s high es xs))
-            (history_after [] (low_elements s high fs ys)) (history_after [] ys)
-            (keeps s high (history_after [] (low_elements s high es xs)) (history_after [] xs) part.2) both.1 both.2,
+        all-keep (history_after [] xs) (history_after [] (low_elements high es xs))
+            (history_after [] (low_elements high fs ys)) (history_after [] ys)
+            (keeps s high (history_after [] (low_elements high es xs)) (history_after [] xs) part.2) both.1 both.2,
       )

@@ -1,39 +1,31 @@
 -- The part of a run that low domains make is a run, if no low domain shares with a high one or looks at its tables.
-use Rattle.gt_core.proofs.Words.{◌≡◌, inl, inr, ◌+◌, ◌<◌, ℕ, refl, Bool, true, false, List, [], ◌∷◌, ◌++◌}
+use Rattle.gt_core.proofs.Words.{◌≡◌, ◌+◌, ◌<◌, ℕ, refl, Bool, true, false, List, [], ◌∷◌, ◌++◌}
 use Rattle.gt_core.proofs.Words.{Option, Some, None, cond, ap, sym, ◌∙◌, subst, ◌==◌, ◌&&◌, length, count_by, gather}
-use Rattle.gt_core.proofs.Words.{by_leg, map, take, drop, reverse, mapping_named, true≢false, not, All, Any}
+use Rattle.gt_core.proofs.Words.{by_leg, take, drop, mapping_named, true≢false, not, All, Any}
 use Rattle.gt_core.proofs.Words.{All-head, All-tail, All-nil, append-nil, eqb-true}
-use Rattle.gt_core.proofs.Words.{DomId, TypeId, Dir, Entry, Header, EntryChange, BodyWord, Denial, asked, begun_of}
-use Rattle.gt_core.proofs.Words.{CallerKnowledge, OpenRequest, Map, Load, Store, Peek, Copy, SetupTable}
-use Rattle.gt_core.proofs.Words.{QuerySize, GetVersion, Word, Taken, Step, LookHeader, LookControl, LookBody}
+use Rattle.gt_core.proofs.Words.{DomId, Dir, Entry, Header, BodyWord, Denial, asked, begun_of}
+use Rattle.gt_core.proofs.Words.{CallerKnowledge, OpenRequest, Map, Load, Peek, Copy, SetupTable}
+use Rattle.gt_core.proofs.Words.{QuerySize, GetVersion, Taken, Step, LookHeader}
 use Rattle.gt_core.proofs.Words.{StoreHeader}
-use Rattle.gt_core.proofs.Words.{Exchange, Unpin, Read, Write, Control, HeldPin, Observation, StepsSoFar, path}
+use Rattle.gt_core.proofs.Words.{Unpin, Read, Write, HeldPin, Observation, path}
 use Rattle.gt_core.proofs.Words.{History, Setting, Underway, Pin, entry_at, changed_entry_of, change_of, raises_at}
 use Rattle.gt_core.proofs.Words.{raise_after, body_at, or_else, stored_at, table_at, header_or, header_stored}
-use Rattle.gt_core.proofs.Words.{header_word, open_call, underway_after, maps_answered_at, one_if_mapped, live, without}
-use Rattle.gt_core.proofs.Words.{is_holder, holder_after, is_pin_on, pinned_by, unpinned_by, known_at, seen_by, word_at}
-use Rattle.gt_core.proofs.Words.{reads_at, writes_at, control_at, mappings_at, mapping_of, legs_at, exchange_sees}
-use Rattle.gt_core.proofs.Words.{given_in, values, stood, stood_with, first_at, first_in_call, first_of_item, leg_at}
-use Rattle.gt_core.proofs.Words.{LegNow, leg_now, refusal_in, contents_at, patches_at, patches_by, written_by, written}
-use Rattle.gt_core.proofs.Words.{Patch, Spot, IsRight, StepsRightIn, AnsweredBy, GivesValue}
-use Rattle.gt_core.proofs.Words.{Justified, MayAsk, MayUseMapping, EndIsJustified, CopyIsJustified, Reaches, Forwards}
-use Rattle.gt_core.proofs.Words.{IsSafe, IsSafeChange, PinIsSound, NoneStands, IsSpelled, gives_back, verdict_in}
+use Rattle.gt_core.proofs.Words.{open_call, underway_after, maps_answered_at, one_if_mapped, live, without}
+use Rattle.gt_core.proofs.Words.{is_holder, holder_after, is_pin_on, pinned_by, unpinned_by, known_at}
+use Rattle.gt_core.proofs.Words.{legs_at}
+use Rattle.gt_core.proofs.Words.{given_in, values, stood, stood_with, first_in_call, first_of_item}
+use Rattle.gt_core.proofs.Words.{contents_at, patches_at, patches_by, written_by, written}
+use Rattle.gt_core.proofs.Words.{Patch, IsRight, StepsRightIn, AnsweredBy, GivesValue}
+use Rattle.gt_core.proofs.Words.{Justified, CopyIsJustified}
+use Rattle.gt_core.proofs.Words.{gives_back, verdict_in}
 use Rattle.gt_core.proofs.Words.{CallResult, MayDo, LegalAfter, grown, history_after, SpellsItsEntry, MAX_TABLE_FRAMES}
-use Rattle.gt_core.proofs.Words.{Handle, PinHolder, arith, suc, zero}
+use Rattle.gt_core.proofs.Words.{PinHolder, arith, suc, zero}
 use Rattle.gt_core.proofs.AgreementKept.{open_call-other, stood-other}
-use Rattle.gt_core.specs.Prelude.{GrantRef, Rule, N9, N18, N19, denial_of, size_of, stands, first, first_look}
-use Rattle.gt_core.specs.Prelude.{before_pin, pins_of, MAX_TRIES, StoreBody, Publish, resolved, is_source_granted}
-use Rattle.gt_core.specs.Prelude.{is_dest_granted}
+use Rattle.gt_core.specs.Prelude.{resolved, is_source_granted}
 use Rattle.gt_model.proofs.Observers.{all-without, known-as, other-body, other-entry, other-maps}
 use Rattle.gt_model.proofs.Observers.{other-raises, other-table}
-use Rattle.gt_model.specs.FirstRule.{at_entry, is_demote, is_in_body, is_other, looked_at, misses, rule_at_exchange}
-use Rattle.gt_model.specs.FirstRule.{rule_at_header, rule_at_look, rule_at_pin, rule_at_via}
-use Rattle.gt_model.specs.Justified.{MayAccess, ReachesThrough}
 use Rattle.gt_model.specs.Legal.{Legal, actor_of}
 use Rattle.gt_model.specs.declared.action.Step.TheVariants as call_steps
-use Rattle.gt_model.specs.declared.change.BodyWord.TheVariants as body_words
-use Rattle.gt_model.specs.declared.change.EntryChange.TheVariants as changes
-use Rattle.gt_model.specs.declared.request.PinHolder.TheVariants as holders
 use Rattle.gt_model.specs.declared.trace.Answer.{Answer}
 use Rattle.gt_model.specs.declared.trace.Answer.TheVariants as answers
 use Rattle.gt_model.specs.declared.trace.Element.{Element}
@@ -44,19 +36,15 @@ use Rattle.gt_model.specs.declared.trace.Event.TheVariants.{Begin, Tick}
 use Rattle.gt_model.specs.declared.trace.Item.{Item}
 use Rattle.gt_model.specs.declared.trace.ItemEvent.{ItemEvent}
 use Rattle.gt_model.specs.declared.trace.ItemEvent.TheVariants.{Began, Stepped}
-use Rattle.gt_types.specs.declared.Use.TheVariants as uses
-use Rattle.gt_types.specs.declared.denial.Facts.TheVariants as facts
-use Rattle.std.specs.Prelude.{filter, nat_le, nat_lt}
+use Rattle.std.specs.Prelude.{filter}
 use Rattle.std.proofs.Common.{slice_index_or}
 use Rattle.std.proofs.lemmas.List.Elements.{All-append, All-cons, filter-append}
 use Rattle.gt_flow.specs.Apart.{CopiesApart, LowDomainsKeep, SharesNothing, StaysApart}
-use Rattle.gt_flow.specs.Low.{is_high}
 use Rattle.gt_flow.specs.Separate.{HappensAtLow, IsAtLow, LooksApart, low_elements, low_events}
 use Rattle.gt_flow.proofs.Apart.{IsAmong, IsApart, access-of, count-one, end-of, frame-kept, now-apart, other-number}
 use Rattle.gt_flow.proofs.Apart.{pinned-apart, same-domain, skipped}
 use Rattle.gt_flow.proofs.Purged.{and-true}
-use Rattle.gt_flow.proofs.Frames.{hides}
-use Rattle.gt_flow.proofs.Matched.{four}
+use Rattle.gt_flow.proofs.Agreeing.{Agree, first-in, justified-same, safe-same, sees-same, sound-same, word-same}
 
 -- an element that passes a test is among those that do
 any-passing : {X : Type 0} (P : X → Type 0) (test : X → Bool) (xs : List X) → ((x : X) → P x → test x ≡ true) → Any P xs
@@ -77,38 +65,38 @@ any-passing {X} P test (x ∷ xs) passes any = by any.0 any.1 any.2 any.3 any.4 
     by zero y lt e p rest = here (subst P (sym e) p)
     by (suc k) y lt e p rest = later (test x) (rest (k, y, omega arith, e, p))
 
-module _ (s : Setting) (high : TypeId → Bool) where
+module _ (s : Setting) (high : DomId → Bool) where
   abbrev IsLow : DomId → Type 0
-  IsLow d = is_high s high d ≡ false
+  IsLow d = high d ≡ false
 
   abbrev IsHigh : DomId → Type 0
-  IsHigh d = is_high s high d ≡ true
+  IsHigh d = high d ≡ true
 
-  same-number : (d : DomId) (n : ℕ) → n ≡ d.0 → IsHigh d → hides s high n ≡ true
+  same-number : (d : DomId) (n : ℕ) → n ≡ d.0 → IsHigh d → high (record { 0 = n }) ≡ true
   same-number d n same up = same-domain s high IsHigh d (record { 0 = n }) (sym same) up
 
   -- ---- pins of low domains
 
   -- the pin is one of a low domain
   abbrev pub is_low_pin : Pin → Bool
-  is_low_pin p = not (hides s high p.actor)
+  is_low_pin p = not (high (record { 0 = p.actor }))
 
   abbrev pub low_pins : List Pin → List Pin
   low_pins ps = filter is_low_pin ps
 
-  kept-pin : (p : Pin) (ps : List Pin) → hides s high p.actor ≡ false → low_pins (p ∷ ps) ≡ p ∷ low_pins ps
+  kept-pin : (p : Pin) (ps : List Pin) → high (record { 0 = p.actor }) ≡ false → low_pins (p ∷ ps) ≡ p ∷ low_pins ps
   kept-pin p ps low = ap (λ (b : Bool). cond (not b) (p ∷ low_pins ps) (low_pins ps)) low
 
-  left-pin : (p : Pin) (ps : List Pin) → hides s high p.actor ≡ true → low_pins (p ∷ ps) ≡ low_pins ps
+  left-pin : (p : Pin) (ps : List Pin) → high (record { 0 = p.actor }) ≡ true → low_pins (p ∷ ps) ≡ low_pins ps
   left-pin p ps up = ap (λ (b : Bool). cond (not b) (p ∷ low_pins ps) (low_pins ps)) up
 
   gather-low : {A : Type 0} (give : PinHolder → HeldPin → List A) (d : DomId) (ps : List Pin) → IsLow d
       → gather give d.0 (low_pins ps) ≡ gather give d.0 ps
   unfolding gather
   gather-low give d [] low = refl
-  gather-low {A} give d (p ∷ ps) low = by (hides s high p.actor) refl (gather-low give d ps low)
+  gather-low {A} give d (p ∷ ps) low = by (high (record { 0 = p.actor })) refl (gather-low give d ps low)
     where
-      by : (b : Bool) → hides s high p.actor ≡ b → gather give d.0 (low_pins ps) ≡ gather give d.0 ps
+      by : (b : Bool) → high (record { 0 = p.actor }) ≡ b → gather give d.0 (low_pins ps) ≡ gather give d.0 ps
           → gather give d.0 (cond (not b) (p ∷ low_pins ps) (low_pins ps)) ≡ gather give d.0 (p ∷ ps)
       by false is rest = ap (λ (l : List A). cond (p.actor == d.0) (give p.holder p.held) [] ++ l) rest
       by true is rest = rest
@@ -119,9 +107,9 @@ module _ (s : Setting) (high : TypeId → Bool) where
       → count_by (is_pin_on t.0 r dir) (low_pins ps) ≡ count_by (is_pin_on t.0 r dir) ps
   counts-low t low r dir [] all = refl
   counts-low t low r dir (p ∷ ps) all =
-      by (hides s high p.actor) refl (counts-low t low r dir ps (All-tail (IsApart s high) p ps all))
+      by (high (record { 0 = p.actor })) refl (counts-low t low r dir ps (All-tail (IsApart s high) p ps all))
     where
-      by : (b : Bool) → hides s high p.actor ≡ b
+      by : (b : Bool) → high (record { 0 = p.actor }) ≡ b
           → count_by (is_pin_on t.0 r dir) (low_pins ps) ≡ count_by (is_pin_on t.0 r dir) ps
           → count_by (is_pin_on t.0 r dir) (cond (not b) (p ∷ low_pins ps) (low_pins ps))
           ≡ count_by (is_pin_on t.0 r dir) (p ∷ ps)
@@ -135,14 +123,14 @@ module _ (s : Setting) (high : TypeId → Bool) where
   unfolding without
   without-low d holder [] low = refl
   without-low d holder (p ∷ ps) low =
-      by (hides s high p.actor) refl ((p.actor == d.0) && is_holder p.holder holder) refl
+      by (high (record { 0 = p.actor })) refl ((p.actor == d.0) && is_holder p.holder holder) refl
       (without-low d holder ps low)
     where
       found : (c : Bool) → ((p.actor == d.0) && is_holder p.holder holder) ≡ c
           → without d.0 holder (p ∷ low_pins ps) ≡ cond c (low_pins ps) (p ∷ without d.0 holder (low_pins ps))
       found c own = ap (λ (c : Bool). cond c (low_pins ps) (p ∷ without d.0 holder (low_pins ps))) own
 
-      by : (b : Bool) → hides s high p.actor ≡ b → (c : Bool) → ((p.actor == d.0) && is_holder p.holder holder) ≡ c
+      by : (b : Bool) → high (record { 0 = p.actor }) ≡ b → (c : Bool) → ((p.actor == d.0) && is_holder p.holder holder) ≡ c
           → low_pins (without d.0 holder ps) ≡ without d.0 holder (low_pins ps)
           → low_pins (cond c ps (p ∷ without d.0 holder ps))
           ≡ without d.0 holder (cond (not b) (p ∷ low_pins ps) (low_pins ps))
@@ -188,7 +176,7 @@ module _ (s : Setting) (high : TypeId → Bool) where
   pinned-high d x a h ps up = refl
 
   pinned-low : (d : DomId) (x : ItemEvent) (a : Option Answer) (g p : History) (ps : List Pin) → IsLow d
-      → HappensAtLow s high x → ((t : DomId) (r : ℕ) → IsLow t → entry_at p t.0 r ≡ entry_at g t.0 r)
+      → HappensAtLow high x → ((t : DomId) (r : ℕ) → IsLow t → entry_at p t.0 r ≡ entry_at g t.0 r)
       → low_pins (pinned_by d x a g ps) ≡ pinned_by d x a p (low_pins ps)
   pinned-low d (Stepped (call_steps.Pin q) Taken) a g p ps low at entries =
       kept-pin (pin (length (gather by_leg d.0 ps)) (entry_at g q.dom.0 q.gref.0)) [] low
@@ -205,7 +193,7 @@ module _ (s : Setting) (high : TypeId → Bool) where
   IsAside p = IsLow (record { 0 = p.actor }) → IsLow p.held.dom
 
   pinned-aside : (h : History) (d : DomId) (x : ItemEvent) (a : Option Answer) (ps : List Pin)
-      → (IsLow d → HappensAtLow s high x) → All IsAside (pinned_by d x a h ps)
+      → (IsLow d → HappensAtLow high x) → All IsAside (pinned_by d x a h ps)
   pinned-aside h d (Stepped (call_steps.Pin p) Taken) a ps at = All-cons IsAside _ [] at (All-nil IsAside)
   pinned-aside h d x a ps at = All-nil IsAside
 
@@ -216,23 +204,23 @@ module _ (s : Setting) (high : TypeId → Bool) where
 
 -- Two histories, of which the first has the part of the second that low domains made. What low domains have is the same
 -- after both, and no pin is between a low domain and a high one.
-pub record IsLowPart (s : Setting) (high : TypeId → Bool) (p g : History) : Type 0 where
-  pub entry : (t : DomId) (r : ℕ) → is_high s high t ≡ false → entry_at p t.0 r ≡ entry_at g t.0 r
-  pub raises : (t : DomId) (r : ℕ) → is_high s high t ≡ false → raises_at p t.0 r ≡ raises_at g t.0 r
-  pub body : (t : DomId) (r : ℕ) (which : BodyWord) → is_high s high t ≡ false
+pub record IsLowPart (s : Setting) (high : DomId → Bool) (p g : History) : Type 0 where
+  pub entry : (t : DomId) (r : ℕ) → high t ≡ false → entry_at p t.0 r ≡ entry_at g t.0 r
+  pub raises : (t : DomId) (r : ℕ) → high t ≡ false → raises_at p t.0 r ≡ raises_at g t.0 r
+  pub body : (t : DomId) (r : ℕ) (which : BodyWord) → high t ≡ false
       → body_at p t.0 r which ≡ body_at g t.0 r which
-  pub table : (t : DomId) → is_high s high t ≡ false → table_at s p t ≡ table_at s g t
-  pub maps : (d : DomId) → is_high s high d ≡ false → maps_answered_at p d.0 ≡ maps_answered_at g d.0
-  pub calls : (d : DomId) → is_high s high d ≡ false → open_call p d.0 ≡ open_call g d.0
-  pub ruled : (d : DomId) → is_high s high d ≡ false → stood s p d.0 ≡ stood s g d.0
-  pub patches : (t : DomId) (f : ℕ) → is_high s high t ≡ false → patches_at p t.0 f ≡ patches_at g t.0 f
+  pub table : (t : DomId) → high t ≡ false → table_at s p t ≡ table_at s g t
+  pub maps : (d : DomId) → high d ≡ false → maps_answered_at p d.0 ≡ maps_answered_at g d.0
+  pub calls : (d : DomId) → high d ≡ false → open_call p d.0 ≡ open_call g d.0
+  pub ruled : (d : DomId) → high d ≡ false → stood s p d.0 ≡ stood s g d.0
+  pub patches : (t : DomId) (f : ℕ) → high t ≡ false → patches_at p t.0 f ≡ patches_at g t.0 f
   pub pins : live p ≡ low_pins s high (live g)
   pub apart : All (IsAmong s high true) (live g)
   pub aside : All (IsAmong s high false) (live g)
 
-module _ (s : Setting) (high : TypeId → Bool) (p g : History) (m : IsLowPart s high p g) where
+module _ (s : Setting) (high : DomId → Bool) (p g : History) (m : IsLowPart s high p g) where
   abbrev Low : DomId → Type 0
-  Low d = is_high s high d ≡ false
+  Low d = high d ≡ false
 
   -- ---- what low domains know and see
 
@@ -241,216 +229,32 @@ module _ (s : Setting) (high : TypeId → Bool) (p g : History) (m : IsLowPart s
       (ap (λ (ps : List Pin). gather mapping_named d.0 ps) m.pins ∙ gather-low s high mapping_named d (live g) low)
       (m.maps d low)
 
-  mappings-low : (d : DomId) → Low d → mappings_at p d.0 ≡ mappings_at g d.0
-  mappings-low d low =
-      ap (λ (ps : List Pin). gather mapping_named d.0 ps) m.pins ∙ gather-low s high mapping_named d (live g) low
-
-  legs-low : (d : DomId) → Low d → legs_at p d.0 ≡ legs_at g d.0
-  legs-low d low = ap (λ (ps : List Pin). gather by_leg d.0 ps) m.pins ∙ gather-low s high by_leg d (live g) low
-
-  reads-low : (t : DomId) (r : ℕ) → Low t → reads_at p t.0 r ≡ reads_at g t.0 r
-  reads-low t r low = ap (λ (ps : List Pin). count_by (is_pin_on t.0 r Read) ps) m.pins
-      ∙ counts-low s high t low r Read (live g) m.apart
-
-  writes-low : (t : DomId) (r : ℕ) → Low t → writes_at p t.0 r ≡ writes_at g t.0 r
-  writes-low t r low = ap (λ (ps : List Pin). count_by (is_pin_on t.0 r Write) ps) m.pins
-      ∙ counts-low s high t low r Write (live g) m.apart
-
-  control-low : (t : DomId) (r : ℕ) → Low t → control_at s p t.0 r ≡ control_at s g t.0 r
-  control-low t r low =
-      let e = m.entry t r low in let k = m.raises t r low in
-      let n = reads-low t r low in let w = writes-low t r low in cc
-
-  pub word-low : (t : DomId) (r : ℕ) → Low t → word_at s p t.0 r ≡ word_at s g t.0 r
-  word-low t r low =
-      let e = m.entry t r low in let k = m.raises t r low in
-      let n = reads-low t r low in let w = writes-low t r low in cc
-
-  sees-low : (d : DomId) (step : Step) → Low d → IsAtLow s high step → seen_by s p d step ≡ seen_by s g d step
-  sees-low d (LookHeader dom) low at = ap (λ (x : Header). Word (header_word x)) (m.table dom at)
-  sees-low d (LookControl dom gref) low at = ap (λ (w : ℕ). Word w) (word-low dom gref.0 at)
-  sees-low d (LookBody dom gref body_word) low at = ap (λ (w : ℕ). Word w) (m.body dom gref.0 body_word at)
-  sees-low d (call_steps.Pin q) low at = ap (λ (w : ℕ). exchange_sees w q.word) (word-low q.dom q.gref.0 at)
-  sees-low d (Exchange gref looked change) low at = ap (λ (w : ℕ). exchange_sees w looked) (word-low d gref.0 low)
-  sees-low d step low at = refl
-
-  -- ---- the first rule
-
-  leg-low : (d : DomId) (r : OpenRequest) → Low d → leg_at s p d r ≡ leg_at s g d r
-  leg-low d r low =
-      ap (λ (k : CallerKnowledge). leg_now k d r (map (λ (q : ℕ × HeldPin). q.1) (legs_at p d.0))) (known-low d low)
-      ∙ ap (λ (l : List (ℕ × HeldPin)). leg_now (known_at s g d) d r (map (λ (q : ℕ × HeldPin). q.1) l))
-      (legs-low d low)
-
-  look-low : (leg : Option LegNow) (dom : DomId) (gref : GrantRef) (so_far : StepsSoFar) → Low dom
-      → rule_at_look s p leg dom gref so_far ≡ rule_at_look s g leg dom gref so_far
-  look-low None dom gref so_far at = refl
-  look-low (Some n) dom gref so_far at =
-      four (λ (w : ℕ) (e : Entry) (k j : Control).
-      cond (is_in_body so_far) (cond (is_other w (looked_at so_far)) None (before_pin n.leg e (pins_of n.leg.dir k)))
-      (first_look n.leg j)) (word-low dom gref.0 at) (m.entry dom gref.0 at) (control-low dom gref.0 at)
-      (control-low dom gref.0 at)
-
-  header-low : (dom : DomId) (leg : Option LegNow) → Low dom
-      → rule_at_header s p dom leg ≡ rule_at_header s g dom leg
-  header-low dom None at = refl
-  header-low dom (Some n) at =
-      ap (λ (t : Header). cond {A = Option Denial} (nat_lt n.leg.gref.0 (size_of t)) None
-      (Some (denial_of N9 (facts.Header dom (header_word t))))) (m.table dom at)
-
-  pin-low : (d : DomId) (r : OpenRequest) (so_far : StepsSoFar) (q : HeldPin) (seen : Observation) → Low d → Low q.dom
-      → rule_at_pin s p d r so_far q seen ≡ rule_at_pin s g d r so_far q seen
-  pin-low d r so_far q Taken low at =
-      four (λ (k : CallerKnowledge) (l : Option LegNow) (e x : Entry). rule_at_via k l e) (known-low d low)
-      (leg-low d r low) (m.entry q.dom q.gref.0 at) (m.entry q.dom q.gref.0 at)
-  pin-low d r so_far q seen low at =
-      ap (λ (w : ℕ). at_entry q.dom q.gref w
-      (stands (nat_le MAX_TRIES (misses ((call_steps.Pin q, seen) ∷ so_far))) N18)) (word-low q.dom q.gref.0 at)
-
-  first-low : (d : DomId) (r : OpenRequest) (so_far : StepsSoFar) (step : Step) → Low d → IsAtLow s high step
-      → first_at s p d r so_far step ≡ first_at s g d r so_far step
-  first-low d r so_far (LookHeader dom) low at =
-      ap (λ (l : Option LegNow). rule_at_header s p dom l) (leg-low d r low) ∙ header-low dom (leg_at s g d r) at
-  first-low d r so_far (LookControl dom gref) low at =
-      four (λ (w n : ℕ) (rule : Option Rule) (v : Observation). at_entry dom gref w (first (
-      stands (is_demote r && nat_lt 0 n) N19
-      ∷ rule
-      ∷ stands (nat_le MAX_TRIES (misses ((LookControl dom gref, v) ∷ so_far))) N18 ∷ [])))
-      (word-low dom gref.0 at) (writes-low dom gref.0 at)
-      (ap (λ (l : Option LegNow). rule_at_look s p l dom gref so_far) (leg-low d r low)
-      ∙ look-low (leg_at s g d r) dom gref so_far at)
-      (sees-low d (LookControl dom gref) low at)
-  first-low d r so_far (call_steps.Pin q) low at =
-      ap (λ (v : Observation). rule_at_pin s p d r so_far q v) (sees-low d (call_steps.Pin q) low at)
-      ∙ pin-low d r so_far q (seen_by s g d (call_steps.Pin q)) low at
-  first-low d r so_far (Exchange gref looked change) low at =
-      four (λ (w n k : ℕ) (v : Observation). at_entry d gref w
-      (rule_at_exchange change (n + k) (misses ((Exchange gref looked change, v) ∷ so_far))))
-      (word-low d gref.0 low) (reads-low d gref.0 low) (writes-low d gref.0 low)
-      (sees-low d (Exchange gref looked change) low at)
-  first-low d r so_far step low at = refl
-
-  first-in : (d : DomId) (x : ItemEvent) (c : Option Underway) → Low d → HappensAtLow s high x
-      → first_in_call s p d x c ≡ first_in_call s g d x c
-  first-in d (Began q) c low at =
-      ap (λ (k : CallerKnowledge). refusal_in (begun_of k d q)) (known-low d low)
-  first-in d (Stepped z v) None low at = refl
-  first-in d (Stepped z v) (Some c) low at = first-low d c.request (reverse c.steps) z low at
-
-  first-of : (i : Item) → Low i.actor → HappensAtLow s high i.happened → first_of_item s p i ≡ first_of_item s g i
-  first-of i low at =
-      ap (λ (o : Option Underway). first_in_call s p i.actor i.happened o) (m.calls i.actor low)
-      ∙ first-in i.actor i.happened (open_call g i.actor.0) low at
-
-  -- ---- what a step of a low domain needs
-
   any-low : (P : Pin → Type 0) (d : DomId) → Low d → ((q : Pin) → P q → q.actor ≡ d.0) → Any P (live g)
       → Any P (live p)
   any-low P d low owns any = subst (Any P) (sym m.pins) (any-passing P (is_low_pin s high) (live g)
-      (λ q here. ap (λ (n : ℕ). not (hides s high n)) (owns q here) ∙ ap not low) any)
+      (λ q here. ap (λ (n : ℕ). not (high (record { 0 = n }))) (owns q here) ∙ ap not low) any)
 
-  any-more : (P Q : Pin → Type 0) (ps : List Pin) → ((q : Pin) → P q → Q q) → Any P ps → Any Q ps
-  any-more P Q ps more any = (any.0, any.1, any.2, any.3, more any.1 any.4)
+  pub agrees : Agree s Low p g
+  agrees = record {
+    entry = m.entry;
+    raises = m.raises;
+    body = m.body;
+    table = m.table;
+    reads = λ t r low. ap (λ (ps : List Pin). count_by (is_pin_on t.0 r Read) ps) m.pins
+        ∙ counts-low s high t low r Read (live g) m.apart;
+    writes = λ t r low. ap (λ (ps : List Pin). count_by (is_pin_on t.0 r Write) ps) m.pins
+        ∙ counts-low s high t low r Write (live g) m.apart;
+    known = known-low;
+    mappings = λ d low. ap (λ (ps : List Pin). gather mapping_named d.0 ps) m.pins
+        ∙ gather-low s high mapping_named d (live g) low;
+    legs = λ d low. ap (λ (ps : List Pin). gather by_leg d.0 ps) m.pins ∙ gather-low s high by_leg d (live g) low;
+    any = any-low;
+  }
 
-  may-access : (d : DomId) (dir : Dir) (at : Spot) (len : ℕ) → Low d → MayAccess g d dir at len
-      → MayAccess p d dir at len
-  may-access d dir at len low (inl own) = inl own
-  may-access d dir at len low (inr any) =
-      inr (any-low (Reaches d d dir uses.Map at len) d low (λ q reach. reach.of_actor) any)
-
-  through : (d : DomId) (dir : Dir) (at : Spot) (len : ℕ) (named : DomId) → Low d
-      → ReachesThrough g d dir at len named → ReachesThrough p d dir at len named
-  through d dir at len named low any =
-      any-low (λ q. Any (λ via. Forwards d dir named q via × Reaches d named dir uses.Copy at len q) (live p)) d low
-      (λ q here. here.4.1.of_actor)
-      (any-more (λ q. Any (λ via. Forwards d dir named q via × Reaches d named dir uses.Copy at len q) (live g))
-      (λ q. Any (λ via. Forwards d dir named q via × Reaches d named dir uses.Copy at len q) (live p)) (live g)
-      (λ q here. any-low (λ via. Forwards d dir named q via × Reaches d named dir uses.Copy at len q) d low
-      (λ via both. both.0.of_actor) here) any)
-
-  may-ask : (d : DomId) (r : OpenRequest) → Low d → MayAsk s g d r → MayAsk s p d r
-  may-ask d (Load handle off len) low x =
-      subst (λ (l : List (Handle × HeldPin)). MayUseMapping s d (mapping_of l handle)) (sym (mappings-low d low)) x
-  may-ask d (Store handle off len) low x =
-      subst (λ (l : List (Handle × HeldPin)). MayUseMapping s d (mapping_of l handle)) (sym (mappings-low d low)) x
-  may-ask d r low x = x
-
-  end-low : (d : DomId) (granted : Bool) (dir : Dir) (at : Spot) (len : ℕ) (named : DomId) (owners : DomId × DomId)
-      → Low d → EndIsJustified s g d granted dir at len named owners
-      → EndIsJustified s p d granted dir at len named owners
-  end-low d granted dir at len named owners low (inl e) = inl e
-  end-low d granted dir at len named owners low (inr (inl e)) =
-      inr (inl (e.0, e.1, any-low (Reaches d d dir uses.Copy at len) d low (λ q reach. reach.of_actor) e.2))
-  end-low d granted dir at len named owners low (inr (inr e)) =
-      inr (inr (e.0, through d dir at len named low e.1, e.2))
-
-  copy-low : (d : DomId) (r : OpenRequest) (from to : Spot) (len : ℕ) → Low d → CopyIsJustified s g d r from to len
-      → CopyIsJustified s p d r from to len
-  copy-low d (Copy c) from to len low x = (
-    x.0,
-    x.1,
-    x.2,
-    end-low d (is_source_granted c) Read from len (resolved d c.source.domid)
-        (from.frame.owner, resolved d c.dest.domid) low x.3,
-    end-low d (is_dest_granted c) Write to len (resolved d c.dest.domid) (from.frame.owner, to.frame.owner) low x.4,
-  )
-  copy-low d r from to len low x = absurd x
-
-  justified-low : (d : DomId) (r : OpenRequest) (step : Step) → Low d → Justified s g d r step → Justified s p d r step
-  justified-low d r (call_steps.Read dom frame off len) low x = (
-    x.0,
-    may-access d Read (record { frame = record { owner = dom; number = frame }; off = off }) len low x.1,
-    may-ask d r low x.2,
-  )
-  justified-low d r (call_steps.Write dom frame off len) low x = (
-    x.0,
-    may-access d Write (record { frame = record { owner = dom; number = frame }; off = off }) len low x.1,
-    may-ask d r low x.2,
-  )
-  justified-low d r (call_steps.Copy from to len) low x = copy-low d r from to len low x
-  justified-low d r (Unpin q (holders.Mapping handle)) low x = x
-  justified-low d r step low x = tt
-
-  change-low : (t : DomId) (r : ℕ) (change : EntryChange) → Low t → IsSafeChange g t.0 r change
-      → IsSafeChange p t.0 r change
-  change-low t r (Publish entry) low x = (
-    m.entry t r low ∙ x.0,
-    subst (λ (w : ℕ). IsSpelled entry w (body_at p t.0 r body_words.Second)) (sym (m.body t r body_words.First low))
-        (subst (λ (w : ℕ). IsSpelled entry (body_at g t.0 r body_words.First) w)
-        (sym (m.body t r body_words.Second low)) x.1),
-    reads-low t r low ∙ x.2,
-    writes-low t r low ∙ x.3,
-  )
-  change-low t r changes.Withdraw low x = tt
-  change-low t r changes.Revoke low x = (reads-low t r low ∙ x.0, writes-low t r low ∙ x.1)
-  change-low t r changes.Demote low x = writes-low t r low ∙ x
-  change-low t r changes.Promote low x = tt
-
-  safe-low : (d : DomId) (z : Step) (v : Observation) (a : Option Answer) → Low d
-      → IsSafe s g (record { actor = d; happened = Stepped z v; answer = a })
-      → IsSafe s p (record { actor = d; happened = Stepped z v; answer = a })
-  safe-low d (Exchange gref looked change) Taken a low x = change-low d gref.0 change low x
-  safe-low d (StoreBody gref body_word word) v a low x = m.entry d gref.0 low ∙ x
-  safe-low d z v a low x = tt
-
-  none-low : (q : HeldPin) (leg : Option LegNow) → Low q.dom → NoneStands s g q.dom q.gref leg
-      → NoneStands s p q.dom q.gref leg
-  none-low q None at x = absurd x
-  none-low q (Some n) at x = (
-    ap (λ (k : Control). first_look n.leg k) (control-low q.dom q.gref.0 at) ∙ x.0,
-    ap (λ (e : Entry). before_pin n.leg e (pins_of n.leg.dir (control_at s p q.dom.0 q.gref.0)))
-        (m.entry q.dom q.gref.0 at)
-        ∙ ap (λ (k : Control). before_pin n.leg (entry_at g q.dom.0 q.gref.0) (pins_of n.leg.dir k))
-        (control-low q.dom q.gref.0 at)
-        ∙ x.1,
-  )
-
-  sound-low : (d : DomId) (r : OpenRequest) (z : Step) (v : Observation) → Low d → IsAtLow s high z
-      → PinIsSound s g d r z v → PinIsSound s p d r z v
-  sound-low d r (call_steps.Pin q) Taken low at x =
-      subst (λ (l : Option LegNow). NoneStands s p q.dom q.gref l) (sym (leg-low d r low))
-      (none-low q (leg_at s g d r) at x)
-  sound-low d r z v low at x = tt
+  first-of : (i : Item) → Low i.actor → HappensAtLow high i.happened → first_of_item s p i ≡ first_of_item s g i
+  first-of i low at =
+      ap (λ (o : Option Underway). first_in_call s p i.actor i.happened o) (m.calls i.actor low)
+      ∙ first-in s Low p g agrees i.actor i.happened (open_call g i.actor.0) low at
 
   -- ---- answers
 
@@ -495,7 +299,7 @@ module _ (s : Setting) (high : TypeId → Bool) (p g : History) (m : IsLowPart s
   answered-low d r step giving (Some v) None against low at x = absurd x
   answered-low d r step giving (Some v) (Some z) against low at x = (x.0, x.1, value-low d r step z low at x.2)
 
-  reads-at-low : (d : DomId) (r : OpenRequest) (z : Step) → Low d → IsAtLow s high z → Justified s g d r z
+  reads-at-low : (d : DomId) (r : OpenRequest) (z : Step) → Low d → IsAtLow high z → Justified s g d r z
       → ReadsLow (Some z)
   reads-at-low d r (call_steps.Read t f o n) low at just =
       access-of s high false g d Read (record { frame = record { owner = t; number = f }; off = o }) n low m.aside
@@ -509,16 +313,16 @@ module _ (s : Setting) (high : TypeId → Bool) (p g : History) (m : IsLowPart s
   item d x a = record { actor = d; happened = x; answer = a }
 
   step-right : (d : DomId) (z : Step) (v : Observation) (a : Option Answer) (c : Option Underway) → Low d
-      → IsAtLow s high z → stood s (item d (Stepped z v) a ∷ p) d.0 ≡ stood s (item d (Stepped z v) a ∷ g) d.0
+      → IsAtLow high z → stood s (item d (Stepped z v) a ∷ p) d.0 ≡ stood s (item d (Stepped z v) a ∷ g) d.0
       → legs_at (item d (Stepped z v) a ∷ p) d.0 ≡ legs_at (item d (Stepped z v) a ∷ g) d.0
       → StepsRightIn s g (item d (Stepped z v) a) z v c → StepsRightIn s p (item d (Stepped z v) a) z v c
   step-right d z v a None low at ruled legs right = absurd right
   step-right d z v a (Some c) low at ruled legs right = record {
     continues = ap (λ (k : CallerKnowledge). path k d c.request (values c)) (known-low d low) ∙ right.continues;
-    sees = right.sees ∙ sym (sees-low d z low at);
-    justified = justified-low d c.request z low right.justified;
-    safe = safe-low d z v a low right.safe;
-    sound = sound-low d c.request z v low at right.sound;
+    sees = right.sees ∙ sym (sees-same s Low p g agrees d z low at);
+    justified = justified-same s Low p g agrees d c.request z low right.justified;
+    safe = safe-same s Low p g agrees d z v a a low right.safe;
+    sound = sound-same s Low p g agrees d c.request z v low at right.sound;
     soon = right.soon;
     left = λ refused. let l = right.left refused in (l.0, legs ∙ l.1);
     answered = subst (λ (o : Option Denial). AnsweredBy s p d c.request (Some z)
@@ -531,7 +335,7 @@ module _ (s : Setting) (high : TypeId → Bool) (p g : History) (m : IsLowPart s
         right.answered));
   }
 
-  item-right : (d : DomId) (x : ItemEvent) (a : Option Answer) → Low d → HappensAtLow s high x
+  item-right : (d : DomId) (x : ItemEvent) (a : Option Answer) → Low d → HappensAtLow high x
       → stood s (item d x a ∷ p) d.0 ≡ stood s (item d x a ∷ g) d.0
       → legs_at (item d x a ∷ p) d.0 ≡ legs_at (item d x a ∷ g) d.0
       → IsRight s g (item d x a) → IsRight s p (item d x a)
@@ -547,7 +351,7 @@ module _ (s : Setting) (high : TypeId → Bool) (p g : History) (m : IsLowPart s
       subst (λ (c : Option Underway). StepsRightIn s p (item d (Stepped z v) a) z v c) (sym (m.calls d low))
       (step-right d z v a (open_call g d.0) low at ruled legs right)
 
-  module _ (i : Item) (low : Low i.actor) (at : HappensAtLow s high i.happened) where
+  module _ (i : Item) (low : Low i.actor) (at : HappensAtLow high i.happened) where
     abbrev d : DomId
     d = i.actor
 
@@ -611,16 +415,16 @@ module _ (s : Setting) (high : TypeId → Bool) (p g : History) (m : IsLowPart s
           (pinned-aside s high g d i.happened i.answer (live g) (λ is. at));
     }
 
-module _ (s : Setting) (high : TypeId → Bool) where
+module _ (s : Setting) (high : DomId → Bool) where
   abbrev Lo : DomId → Type 0
-  Lo d = is_high s high d ≡ false
+  Lo d = high d ≡ false
 
   abbrev Hi : DomId → Type 0
-  Hi d = is_high s high d ≡ true
+  Hi d = high d ≡ true
 
   -- ---- one more item of a high domain
 
-  apart-grows : (g : History) (i : Item) → SharesNothing s high g → CopiesApart s high g → IsRight s g i
+  apart-grows : (g : History) (i : Item) → SharesNothing high g → CopiesApart high g → IsRight s g i
       → All (IsAmong s high true) (live g) → All (IsAmong s high true) (live (i ∷ g))
   unfolding live
   apart-grows g i shares copies right all = All-append (IsAmong s high true) (unpinned_by i.actor i.happened (live g))
@@ -658,8 +462,8 @@ module _ (s : Setting) (high : TypeId → Bool) where
   -- ---- events
 
   -- an event of a high domain leaves the low part
-  pub high-event : (p g : History) (e : Event) (x : Element) → IsLowPart s high p g → SharesNothing s high g
-      → CopiesApart s high g → Hi (actor_of e) → MayDo s g e x → IsLowPart s high p (grown g x)
+  pub high-event : (p g : History) (e : Event) (x : Element) → IsLowPart s high p g → SharesNothing high g
+      → CopiesApart high g → Hi (actor_of e) → MayDo s g e x → IsLowPart s high p (grown g x)
   high-event p g e NoDomain m shares copies up may = m
   high-event p g e Busy m shares copies up may = m
   high-event p g e Idle m shares copies up may = m
@@ -669,24 +473,24 @@ module _ (s : Setting) (high : TypeId → Bool) where
       high-grows p g i m (subst Hi (sym may.1.0) up) may.2 (apart-grows g i shares copies may.2 m.apart)
 
   -- an item of a low domain is right after the low part too
-  low-item : (p g : History) (i : Item) → IsLowPart s high p g → SharesNothing s high g → CopiesApart s high g
-      → Lo i.actor → HappensAtLow s high i.happened → IsRight s g i
+  low-item : (p g : History) (i : Item) → IsLowPart s high p g → SharesNothing high g → CopiesApart high g
+      → Lo i.actor → HappensAtLow high i.happened → IsRight s g i
       → IsRight s p i × IsLowPart s high (i ∷ p) (i ∷ g)
   low-item p g i m shares copies low at right =
       let next = low-grows s high p g m i low at right (apart-grows g i shares copies right m.apart) in (
         item-right s high p g m i.actor i.happened i.answer low at (next.ruled i.actor low)
-            (legs-low s high (i ∷ p) (i ∷ g) next i.actor low) right,
+            ((agrees s high (i ∷ p) (i ∷ g) next).legs i.actor low) right,
         next,
       )
 
   -- what an item of this element happened at
   abbrev pub AtLow : Element → Type 0
-  AtLow (elements.Item i) = HappensAtLow s high i.happened
+  AtLow (elements.Item i) = HappensAtLow high i.happened
   AtLow x = Unit {0}
 
   -- an event of a low domain does the same after the low part
-  pub low-event : (p g : History) (e : Event) (x : Element) → IsLowPart s high p g → SharesNothing s high g
-      → CopiesApart s high g → Lo (actor_of e) → AtLow x → MayDo s g e x
+  pub low-event : (p g : History) (e : Event) (x : Element) → IsLowPart s high p g → SharesNothing high g
+      → CopiesApart high g → Lo (actor_of e) → AtLow x → MayDo s g e x
       → MayDo s p e x × IsLowPart s high (grown p x) (grown g x)
   low-event p g e NoDomain m shares copies low at may = (may, m)
   low-event p g (Begin d q) Busy m shares copies low at may =
@@ -703,20 +507,20 @@ module _ (s : Setting) (high : TypeId → Bool) where
 
   -- ---- runs
 
-  pub stays-before : (h : History) (xs : List Element) → StaysApart s high (history_after h xs) → StaysApart s high h
+  pub stays-before : (h : History) (xs : List Element) → StaysApart high (history_after h xs) → StaysApart high h
   unfolding StaysApart
   stays-before h [] stays = stays
   stays-before h (elements.Item i ∷ xs) stays = (stays-before (i ∷ h) xs stays).1
   stays-before h (x ∷ xs) stays = stays-before h xs stays
 
-  pub looks-before : (h : History) (xs : List Element) → LooksApart s high (history_after h xs) → LooksApart s high h
+  pub looks-before : (h : History) (xs : List Element) → LooksApart high (history_after h xs) → LooksApart high h
   unfolding LooksApart
   looks-before h [] looks = looks
   looks-before h (elements.Item i ∷ xs) looks = (looks-before (i ∷ h) xs looks).1
   looks-before h (x ∷ xs) looks = looks-before h xs looks
 
   pub looks-now : (g : History) (e : Event) (x : Element) → Lo (actor_of e) → MayDo s g e x
-      → LooksApart s high (grown g x)
+      → LooksApart high (grown g x)
       → AtLow x
   unfolding LooksApart
   looks-now g (Begin d q) (elements.Item i) low may looks = looks.0 (subst Lo (sym may.1.0) low)
@@ -724,26 +528,26 @@ module _ (s : Setting) (high : TypeId → Bool) where
   looks-now g e x low may looks = tt
 
   low-part : (p g : History) (es : List Event) (xs : List Element) → IsLowPart s high p g → LegalAfter s g es xs
-      → StaysApart s high (history_after g xs) → LooksApart s high (history_after g xs)
-      → LegalAfter s p (low_events s high es) (low_elements s high es xs)
-      × IsLowPart s high (history_after p (low_elements s high es xs)) (history_after g xs)
+      → StaysApart high (history_after g xs) → LooksApart high (history_after g xs)
+      → LegalAfter s p (low_events high es) (low_elements high es xs)
+      × IsLowPart s high (history_after p (low_elements high es xs)) (history_after g xs)
   low-part p g [] [] m legal stays looks = (tt, m)
   low-part p g [] (x ∷ xs) m legal stays looks = absurd legal
   low-part p g (e ∷ es) [] m legal stays looks = absurd legal
   low-part p g (e ∷ es) (x ∷ xs) m legal stays looks =
-      by (is_high s high (actor_of e)) refl (λ q part. low-part q (grown g x) es xs part legal.1 stays looks)
+      by (high (actor_of e)) refl (λ q part. low-part q (grown g x) es xs part legal.1 stays looks)
     where
-      now : SharesNothing s high g × CopiesApart s high g
+      now : SharesNothing high g × CopiesApart high g
       now = now-apart s high g (stays-before g (x ∷ xs) stays)
 
-      by : (b : Bool) → is_high s high (actor_of e) ≡ b
+      by : (b : Bool) → high (actor_of e) ≡ b
           → ((q : History) → IsLowPart s high q (grown g x)
-          → LegalAfter s q (low_events s high es) (low_elements s high es xs)
-          × IsLowPart s high (history_after q (low_elements s high es xs)) (history_after (grown g x) xs))
-          → LegalAfter s p (cond b (low_events s high es) (e ∷ low_events s high es))
-          (cond b (low_elements s high es xs) (x ∷ low_elements s high es xs))
+          → LegalAfter s q (low_events high es) (low_elements high es xs)
+          × IsLowPart s high (history_after q (low_elements high es xs)) (history_after (grown g x) xs))
+          → LegalAfter s p (cond b (low_events high es) (e ∷ low_events high es))
+          (cond b (low_elements high es xs) (x ∷ low_elements high es xs))
           × IsLowPart s high
-          (history_after p (cond b (low_elements s high es xs) (x ∷ low_elements s high es xs)))
+          (history_after p (cond b (low_elements high es xs) (x ∷ low_elements high es xs)))
           (history_after (grown g x) xs)
       by true up rest = rest p (high-event p g e x m now.0 now.1 up legal.0)
       by false low rest =
@@ -770,16 +574,16 @@ module _ (s : Setting) (high : TypeId → Bool) where
 
   pub keeps : (p g : History) → IsLowPart s high p g → LowDomainsKeep s high g p
   keeps p g m = record {
-    words = λ t r low. sym (word-low s high p g m t r low);
+    words = λ t r low. sym (word-same s (λ d. high d ≡ false) p g (agrees s high p g m) t r low);
     bodies = λ t r which low. sym (m.body t r which low);
     tables = λ t low. sym (m.table t low);
     frames = λ t f low. ap written (sym (m.patches t f low));
   }
 
   pub low-parts-are-legal : (es : List Event) (xs : List Element) → Legal s es xs
-      → StaysApart s high (history_after [] xs) → LooksApart s high (history_after [] xs)
-      → Legal s (low_events s high es) (low_elements s high es xs)
-      × LowDomainsKeep s high (history_after [] xs) (history_after [] (low_elements s high es xs))
+      → StaysApart high (history_after [] xs) → LooksApart high (history_after [] xs)
+      → Legal s (low_events high es) (low_elements high es xs)
+      × LowDomainsKeep s high (history_after [] xs) (history_after [] (low_elements high es xs))
   low-parts-are-legal es xs legal stays looks =
       let part = low-part [] [] es xs nothing-yet legal stays looks in
-      (part.0, keeps (history_after [] (low_elements s high es xs)) (history_after [] xs) part.1)
+      (part.0, keeps (history_after [] (low_elements high es xs)) (history_after [] xs) part.1)
