@@ -64,7 +64,10 @@ fn block_to(alloc: Global, before: usize, lines: &[&str]) -> Result<Option<Vec<u
         IfOk result (λ block. option_map (λ b. b.items) block ≡ block_to before said (closing said)) }
 {
     match closing(alloc, lines)? {
-        Some(end) => Ok(Some(lines_after(alloc, before, &lines[..end])?)),
+        Some(end) => {
+            let text = lines_after(alloc, before, &lines[..end])?;
+            Ok(Some(text))
+        }
         None => Ok(None),
     }
 }

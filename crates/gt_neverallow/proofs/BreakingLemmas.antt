@@ -11,9 +11,8 @@ use Rattle.std.specs.Prelude.{if◌then◌else◌, filter, Contains}
 use Rattle.std.specs.List.{flat_map, list_any, AllZip}
 use Rattle.std.specs.Str.{bytes_eq}
 use Rattle.gt_types.specs.Names.{every_permission, permission_name}
-use Rattle.gt_policy.specs.Granting.{lists_word, statement_grants}
+use Rattle.gt_policy.specs.Granting.{statement_grants}
 use Rattle.gt_policy.specs.Lined.{statements_in}
-use Rattle.gt_policy.specs.Resolving.{has_grant}
 use Rattle.gt_policy.specs.Spelling.{types_in}
 use Rattle.gt_policy.specs.declared.lined.LinedStatement.{LinedStatement}
 use Rattle.gt_policy.specs.declared.statements.Allowance.{Allowance}

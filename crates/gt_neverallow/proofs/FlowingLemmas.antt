@@ -50,11 +50,11 @@ module _ (may : FlowPolicy) (members : List Member) where
 
   module _ (n : NeverStatement) (s t : TypeId) where
     pub not-forbidden : (b : Bool) (old : List FlowBreach) → b ≡ false → AddsFlows may members (flow_if b n s t) old old
-    not-forbidden b old no = subst (λ c. AddsFlows may members (flow_if c n s t) old old) (sym no) (adds-none old)
+    not-forbidden b old lacks = subst (λ c. AddsFlows may members (flow_if c n s t) old old) (sym lacks) (adds-none old)
 
     pub no-path : (b : Bool) (o : Option (List TypeId)) (old : List FlowBreach) → b ≡ true
         → HasPath may nobody s t o → o ≡ None → AddsFlows may members (flow_if b n s t) old old
-    no-path b o old yes has is = subst (λ c. AddsFlows may members (flow_if c n s t) old old) (sym yes) (
+    no-path b o old forbids has is = subst (λ c. AddsFlows may members (flow_if c n s t) old old) (sym forbids) (
       [],
       kept_apart (record { statement = n; source = s; target = t }) [] []
           (subst (λ p. HasPath may nobody s t p) is has) no_flow,
@@ -65,8 +65,8 @@ module _ (may : FlowPolicy) (members : List Member) where
         (old new : List FlowBreach) → b ≡ true → HasPath may nobody s t o → o ≡ Some p → q ≡ p
         → breach.forbidden ≡ n.line → breach.path.items ≡ names_on members s q → new ≡ old ++ breach ∷ []
         → AddsFlows may members (flow_if b n s t) old new
-    has-path b o p q breach old new yes has is same line names added =
-        subst (λ c. AddsFlows may members (flow_if c n s t) old new) (sym yes) (
+    has-path b o p q breach old new forbids has is same line names added =
+        subst (λ c. AddsFlows may members (flow_if c n s t) old new) (sym forbids) (
           breach ∷ [],
           reached (record { statement = n; source = s; target = t }) breach p [] []
               (subst (λ v. HasPath may nobody s t v) is has) line (names ∙ ap (λ v. names_on members s v) same) no_flow,
@@ -107,9 +107,9 @@ module _ (may : FlowPolicy) (members : List Member) where
   pub is-about : (targets : List TypeId) (s : TypeId) (n : NeverStatement) (old new : List FlowBreach)
       → flow_from members s n ≡ true → AddsFlows may members (flows_to members targets s n) old new
       → AddsFlows may members (flows_by members targets s n) old new
-  is-about targets s n old new yes adds =
+  is-about targets s n old new forbids adds =
       subst (λ (b : Bool). AddsFlows may members (map (flow_by n s) (filter (λ t. b && flow_to members s n t) targets))
-      old new) (sym yes) adds
+      old new) (sym forbids) adds
 
   none-kept : (targets : List TypeId) → filter (λ (t : TypeId). false) targets ≡ []
   none-kept [] = refl
@@ -117,14 +117,14 @@ module _ (may : FlowPolicy) (members : List Member) where
 
   no-flows : (targets : List TypeId) (s : TypeId) (n : NeverStatement) → flow_from members s n ≡ false
       → flows_by members targets s n ≡ []
-  no-flows targets s n no =
-      ap (λ (b : Bool). map (flow_by n s) (filter (λ t. b && flow_to members s n t) targets)) no
+  no-flows targets s n lacks =
+      ap (λ (b : Bool). map (flow_by n s) (filter (λ t. b && flow_to members s n t) targets)) lacks
       ∙ ap (λ (ts : List TypeId). map (flow_by n s) ts) (none-kept targets)
 
   pub is-of-others : (targets : List TypeId) (s : TypeId) (n : NeverStatement) (old : List FlowBreach)
       → flow_from members s n ≡ false → AddsFlows may members (flows_by members targets s n) old old
-  is-of-others targets s n old no =
-      subst (λ (fs : List ForbiddenFlow). AddsFlows may members fs old old) (sym (no-flows targets s n no))
+  is-of-others targets s n old lacks =
+      subst (λ (fs : List ForbiddenFlow). AddsFlows may members fs old old) (sym (no-flows targets s n lacks))
       (adds-none old)
 
   -- one statement more
@@ -140,21 +140,21 @@ module _ (may : FlowPolicy) (members : List Member) where
 
   -- no statement is about the source
   either : (a b : Bool) → (a || b) ≡ false → (a ≡ false) × (b ≡ false)
-  either false b no = (refl, no)
-  either true b no = absurd (true≢false no)
+  either false b lacks = (refl, lacks)
+  either true b lacks = absurd (true≢false lacks)
 
   none-about : (targets : List TypeId) (s : TypeId) (ns : List NeverStatement)
       → list_any (flow_from members s) ns ≡ false → flows_of members ns targets s ≡ []
-  none-about targets s [] no = refl
-  none-about targets s (n ∷ ns) no =
-      let both = either (flow_from members s n) (list_any (flow_from members s) ns) no in
+  none-about targets s [] lacks = refl
+  none-about targets s (n ∷ ns) lacks =
+      let both = either (flow_from members s n) (list_any (flow_from members s) ns) lacks in
       ap₂ (λ (one rest : List ForbiddenFlow). one ++ rest) (no-flows targets s n both.0)
       (none-about targets s ns both.1)
 
   pub adds-no-flows : (targets : List TypeId) (s : TypeId) (ns : List NeverStatement) (old : List FlowBreach)
       → list_any (flow_from members s) ns ≡ false → AddsFlows may members (flows_of members ns targets s) old old
-  adds-no-flows targets s ns old no =
-      subst (λ (fs : List ForbiddenFlow). AddsFlows may members fs old old) (sym (none-about targets s ns no))
+  adds-no-flows targets s ns old lacks =
+      subst (λ (fs : List ForbiddenFlow). AddsFlows may members fs old old) (sym (none-about targets s ns lacks))
       (adds-none old)
 
   -- one source more

@@ -39,5 +39,6 @@ all_added form file text never given found words breaches flows old mid next new
     subst (λ (l : List FlowBreach). IsFlowBreachReport form never given l third) equal last,
     refl,
   ),
-  rest ∙ ap (λ (l : List ℕ). l ++ third) more ∙ append_assoc mid second third ∙ ap (λ (l : List ℕ). l ++ (second ++ third)) put ∙ append_assoc old first (second ++ third),
+  rest ∙ ap (λ (l : List ℕ). l ++ third) (more ∙ ap (λ (l : List ℕ). l ++ second) put ∙ append_assoc old first second)
+      ∙ append_assoc old (first ++ second) third,
 )

@@ -20,7 +20,7 @@ use Rattle.gt_policy.specs.declared.statements.Statement.TheVariants.{Allow}
 use Rattle.gt_policy_check.specs.Check.{HasColumn, error_lines}
 use Rattle.gt_policy_check.specs.Words.{class_lines, unknown_line}
 use Rattle.gt_policy_check.specs.declared.findings.Finding.{Finding}
-use Rattle.gt_policy_check.specs.Granting.{elements_hold, gives_source, reaches_by}
+use Rattle.gt_policy_check.specs.Granting.{gives_source, reaches_by}
 use Rattle.gt_policy_check.specs.declared.members.Member.{Member}
 use Rattle.gt_neverallow.specs.Flowing.{AreFlowBreaches, chosen_by}
 use Rattle.gt_neverallow.specs.Naming.{ReadsAsNever}
@@ -120,6 +120,11 @@ denies_some Flow = true
 -- the statement forbids some permission of class `grant`, or flows
 abbrev pub forbids_some : NeverStatement → Bool
 forbids_some n = denies_some n.what
+
+-- the line of the first statement; 1 if there is none
+abbrev pub first_line : List NeverStatement → ℕ
+first_line [] = 1
+first_line (n ∷ ns) = n.line
 
 -- the breaches of a policy by a text of such statements, of which some forbids permissions of class `grant` or flows
 abbrev pub AreBreaches : List ℕ → List ℕ → NeverFindings → Type 0

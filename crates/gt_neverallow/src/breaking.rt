@@ -129,7 +129,7 @@ fn found_by(
 ) -> Result<NeverFindings, AllocError>
     ensures words { IfOk result (λ found. AreUnknown never.now nevers.now found.words.items) }
     ensures broken { IfOk result (λ found. AreBroken statements.now nevers.now found.breaches.items) }
-    ensures flows { IfOk result (λ found. found.flows.items ≡ flows.entry.items) }
+    ensures flows { IfOk result (λ found. found.flows.items ≡ flows.items) }
 {
     let words = unknown_words(alloc, never, nevers)?;
     let breaches = breaches_of(alloc, statements, nevers)?;
