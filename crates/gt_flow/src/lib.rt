@@ -4,12 +4,10 @@
 //! access leaves is called high. For each such set, two legal traces of `gt_core` whose events are the same without the
 //! loads, stores, peeks and pokes of high domains did the same at all other events, and all frames of low domains hold
 //! the same ([`high_accesses_never_reach_low_domains`]). Trusted domains may store bytes of their own choice across
-//! ([`trusted_domains_may_store`]). Where no low domain shares with a high one or names it, all calls of high domains
-//! may be made or not, and each answer, word and byte of low domains is the same
-//! ([`unshared_domains_make_no_difference`]). Each law is a function that does nothing, whose contract is the law.
+//! ([`trusted_domains_may_store`]). Each law is a function that does nothing, whose contract is the law. The laws about
+//! all calls of domains with which no other shares are in `gt_separation`.
 //!
-//! It uses `gt_core`, `gt_calls`, `gt_entry`, `gt_explore_state`, `gt_frames`, `gt_handles`, `gt_roster` and
-//! `gt_types`.
+//! It uses `gt_core`, `gt_calls`, `gt_entry`, `gt_frames`, `gt_handles`, `gt_roster` and `gt_types`.
 #![tactic(auto)]
 
 mod laws;
@@ -17,8 +15,6 @@ mod laws;
 pub use laws::{
     each_run_has_others, events_do_not_interfere, every_flow_is_allowed,
     high_accesses_never_reach_low_domains, high_bytes_never_reach_low_domains,
-    high_calls_make_no_difference, high_items_leave_low, high_items_show_only_pins,
-    low_frames_are_the_same, low_parts_are_legal, reached_types_are_closed,
-    reached_types_are_least, requests_keep_apart, trusted_domains_may_store,
-    unshared_domains_make_no_difference,
+    low_frames_are_the_same, reached_types_are_closed, reached_types_are_least,
+    trusted_domains_may_store,
 };

@@ -23,7 +23,7 @@ use Rattle.gt_model.specs.declared.trace.Event.{Event}
 use Rattle.gt_model.specs.declared.trace.Event.TheVariants.{Begin, Tick}
 use Rattle.gt_model.specs.declared.trace.ItemEvent.{ItemEvent}
 use Rattle.gt_model.specs.declared.trace.ItemEvent.TheVariants.{Began, Stepped}
-use Rattle.gt_flow.specs.Apart.{CopiesApart, CopiesHigh, LowDomainsKeep, NamesLow, StaysApart}
+use Rattle.gt_separation.specs.Apart.{CopiesApart, CopiesHigh, LowDomainsKeep, NamesLow, StaysApart}
 use Rattle.gt_flow.specs.Low.{NamesKnown}
 use Rattle.gt_flow.specs.Purged.{SameElements, SameEvents}
 

@@ -21,14 +21,14 @@ use Rattle.gt_model.specs.declared.trace.Event.TheVariants.{Begin, Tick}
 use Rattle.gt_model.specs.declared.trace.Item.{Item}
 use Rattle.gt_model.specs.declared.trace.ItemEvent.{ItemEvent}
 use Rattle.gt_model.specs.declared.trace.ItemEvent.TheVariants.{Began, Stepped}
-use Rattle.gt_flow.specs.Apart.{CopiesApart, LowDomainsKeep, NamesLow, SharesNothing, StaysApart}
+use Rattle.gt_separation.specs.Apart.{CopiesApart, LowDomainsKeep, NamesLow, SharesNothing, StaysApart}
 use Rattle.gt_flow.specs.Low.{NamesKnown}
 use Rattle.gt_flow.specs.Purged.{SameElements, SameEvents}
-use Rattle.gt_flow.specs.Separate.{CopiesStayApart, HappensAtLow, IsAtLow, LooksApart, low_elements, low_events}
-use Rattle.gt_flow.proofs.Apart.{now-apart}
-use Rattle.gt_flow.proofs.Separate.{AtLow, IsLowPart, high-event, keeps, known-low, looks-before, looks-now, low-event}
+use Rattle.gt_separation.specs.Separate.{CopiesStayApart, HappensAtLow, IsAtLow, LooksApart, low_elements, low_events}
+use Rattle.gt_separation.proofs.Apart.{now-apart}
+use Rattle.gt_separation.proofs.Separate.{AtLow, IsLowPart, high-event, keeps, known-low, looks-before, looks-now, low-event}
 use Rattle.gt_flow.proofs.Agreeing.{word-same}
-use Rattle.gt_flow.proofs.Separate.{agrees, contents-low, nothing-yet, stays-before}
+use Rattle.gt_separation.proofs.Separate.{agrees, contents-low, nothing-yet, stays-before}
 use Rattle.gt_flow.proofs.Steps.{step_told, stepped_told, tick_told, within-some}
 
 cons_parts : {A : Type 0} (x y : A) (xs ys : List A) → x ∷ xs ≡ y ∷ ys → (x ≡ y) × (xs ≡ ys)

@@ -49,8 +49,8 @@ use Rattle.gt_model.specs.declared.trace.Answer.{Answer}
 use Rattle.gt_model.specs.declared.trace.Item.{Item}
 use Rattle.gt_model.specs.declared.trace.ItemEvent.{ItemEvent}
 use Rattle.gt_model.specs.declared.trace.ItemEvent.TheVariants.{Stepped}
-use Rattle.gt_flow.specs.Apart.{CallCopiesHigh, CopiesApart, CopiesHigh, EndsAreHigh, LowDomainsKeep, NamesLow}
-use Rattle.gt_flow.specs.Apart.{SharesNothing, StaysApart, TakesOrReleasesPin}
+use Rattle.gt_separation.specs.Apart.{CallCopiesHigh, CopiesApart, CopiesHigh, EndsAreHigh, LowDomainsKeep, NamesLow}
+use Rattle.gt_separation.specs.Apart.{SharesNothing, StaysApart, TakesOrReleasesPin}
 
 pub any-meets : {X : Type 0} (P Q : X → Type 0) (xs : List X) → Any P xs → All Q xs → (x : X) × P x × Q x
 any-meets P Q xs any all = (any.1, any.4, subst Q any.3 (all any.0 any.1 any.2))

@@ -51,18 +51,18 @@ use Rattle.gt_model.specs.declared.trace.ItemEvent.{ItemEvent}
 use Rattle.gt_model.specs.declared.trace.ItemEvent.TheVariants.{Began, Stepped}
 use Rattle.gt_types.specs.declared.copies.CopyArgs.{CopyArgs}
 use Rattle.std.proofs.lemmas.List.Elements.{All-append}
-use Rattle.gt_flow.specs.Apart.{CopiesApart, NamesLow, SharesNothing, StaysApart}
+use Rattle.gt_separation.specs.Apart.{CopiesApart, NamesLow, SharesNothing, StaysApart}
 use Rattle.gt_flow.specs.Low.{NamesKnown}
-use Rattle.gt_flow.specs.Separate.{AsksLow, EndsAreLow, HappensAtLow, LooksApart, low_elements}
-use Rattle.gt_flow.specs.Separate.{AllAskApart, AsksApart, CopiesStayApart, RequestsKeepApart}
-use Rattle.gt_flow.specs.Separate.{UnsharedDomainsMakeNoDifference, low_events}
-use Rattle.gt_flow.specs.Apart.{CallCopiesHigh, CopiesHigh}
+use Rattle.gt_separation.specs.Separate.{AsksLow, EndsAreLow, HappensAtLow, LooksApart, low_elements}
+use Rattle.gt_separation.specs.Separate.{AllAskApart, AsksApart, CopiesStayApart, RequestsKeepApart}
+use Rattle.gt_separation.specs.Separate.{UnsharedDomainsMakeNoDifference, low_events}
+use Rattle.gt_separation.specs.Apart.{CallCopiesHigh, CopiesHigh}
 use Rattle.gt_core.proofs.Words.{EntryChange, Exchange, GrantRef, RestsOnWord, change_at, changed_entry_of, entry_at}
 use Rattle.gt_model.specs.Entries.{changed_entry, with_ro}
 use Rattle.gt_model.specs.declared.change.EntryChange.TheVariants.{Publish}
 use Rattle.gt_model.specs.declared.change.EntryChange.TheVariants as changes
-use Rattle.gt_flow.proofs.SameParts.{high-calls-make-no-difference, shares-part, step-at}
-use Rattle.gt_flow.proofs.Separate.{AtLow, IsLowPart, all-unpinned, high-event, known-low, low-event, nothing-yet}
+use Rattle.gt_separation.proofs.SameParts.{high-calls-make-no-difference, shares-part, step-at}
+use Rattle.gt_separation.proofs.Separate.{AtLow, IsLowPart, all-unpinned, high-event, known-low, low-event, nothing-yet}
 use Rattle.gt_flow.proofs.Steps.{stepped_told, tick_told, within-some}
 
 module _ (s : Setting) (high : DomId → Bool) where

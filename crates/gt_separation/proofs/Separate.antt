@@ -39,10 +39,10 @@ use Rattle.gt_model.specs.declared.trace.ItemEvent.TheVariants.{Began, Stepped}
 use Rattle.std.specs.Prelude.{filter}
 use Rattle.std.proofs.Common.{slice_index_or}
 use Rattle.std.proofs.lemmas.List.Elements.{All-append, All-cons, filter-append}
-use Rattle.gt_flow.specs.Apart.{CopiesApart, LowDomainsKeep, SharesNothing, StaysApart}
-use Rattle.gt_flow.specs.Separate.{HappensAtLow, IsAtLow, LooksApart, low_elements, low_events}
-use Rattle.gt_flow.proofs.Apart.{IsAmong, IsApart, access-of, count-one, end-of, frame-kept, now-apart, other-number}
-use Rattle.gt_flow.proofs.Apart.{pinned-apart, same-domain, skipped}
+use Rattle.gt_separation.specs.Apart.{CopiesApart, LowDomainsKeep, SharesNothing, StaysApart}
+use Rattle.gt_separation.specs.Separate.{HappensAtLow, IsAtLow, LooksApart, low_elements, low_events}
+use Rattle.gt_separation.proofs.Apart.{IsAmong, IsApart, access-of, count-one, end-of, frame-kept, now-apart, other-number}
+use Rattle.gt_separation.proofs.Apart.{pinned-apart, same-domain, skipped}
 use Rattle.gt_flow.proofs.Purged.{and-true}
 use Rattle.gt_flow.proofs.Agreeing.{Agree, first-in, justified-same, safe-same, sees-same, sound-same, word-same}
 

@@ -1,5 +1,0 @@
-use Rattle.gt_flow.proofs.Apart.{high-leaves-low}
-use Rattle.gt_flow.proofs.laws.high_items_leave_low.Goals as goal
-
-pub returns : goal.returns
-returns c = high-leaves-low

@@ -1,5 +1,0 @@
-use Rattle.gt_flow.proofs.Apart.{shows-only-pins}
-use Rattle.gt_flow.proofs.laws.high_items_show_only_pins.Goals as goal
-
-pub returns : goal.returns
-returns c = shows-only-pins

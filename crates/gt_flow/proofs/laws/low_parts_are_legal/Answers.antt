@@ -1,5 +1,0 @@
-use Rattle.gt_flow.proofs.Separate.{low-parts-are-legal}
-use Rattle.gt_flow.proofs.laws.low_parts_are_legal.Goals as goal
-
-pub returns : goal.returns
-returns c = low-parts-are-legal

@@ -1,0 +1,4 @@
+mod Apart
+mod Separate
+mod SameParts
+mod LowCalls
