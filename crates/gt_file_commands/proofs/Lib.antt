@@ -1,5 +1,3 @@
-pub mod BlockLemmas
-pub mod FlowLemmas
 pub mod FormatLemmas
 pub mod GivenLemmas
 pub mod JsonLemmas

@@ -1,5 +1,5 @@
 pub mod AsJson
-pub mod Blocks
+pub mod Flows
 pub mod Formats
 pub mod JsonNames
 pub mod Laws

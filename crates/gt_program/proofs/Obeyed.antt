@@ -40,7 +40,7 @@ use Rattle.gt_explore_verdict.specs.declared.judging.Verdict.TheVariants.{Holds,
 use Rattle.gt_explore_answers.specs.declared.asking.ExploreOptions.{ExploreOptions}
 use Rattle.gt_file_commands.specs.Laws.{nothing_without_memory, nothing_done}
 use Rattle.gt_file_commands.specs.Rules.{PrintsRules}
-use Rattle.gt_file_commands.specs.Blocks.{flow_format}
+use Rattle.gt_file_commands.specs.Flows.{flow_format}
 use Rattle.gt_file_commands.specs.Working.{AnswersDump, AnswersFlow, AnswersQuestion, ChecksAll, ChecksAs, ChecksFiles}
 use Rattle.gt_file_commands.specs.Working.{ChecksIn, ChecksNever, DoesOnFile, Doing, Ending, Lists, Plays, Works}
 use Rattle.gt_file_commands.specs.Working.{known_text}

@@ -6,7 +6,7 @@ use Rattle.gt_program.specs.Prelude.{to_list, to_play, to_run, to_tell_entries, 
 use Rattle.gt_program.specs.Prelude.{nothing, to_show_flow, mode_of, Sought, all_texts, a_claim, one_script, one_trace}
 use Rattle.gt_program.specs.Prelude.{one_diagram, all_scripts, Explored, ReadsAsRun, ExploreOptions, ExploreFormat}
 use Rattle.gt_program.specs.Prelude.{ExploreRequest, Verdict, Holds, Fails, Undecided, Outcome, No, Unknown, Yes}
-use Rattle.gt_file_commands.specs.Blocks.{flow_format}
+use Rattle.gt_file_commands.specs.Flows.{flow_format}
 use Rattle.gt_file_commands.specs.Names.{shown_name}
 use Rattle.gt_file_commands.specs.Rules.{PrintsRules}
 use Rattle.gt_file_commands.specs.Working.{AnswersDump, AnswersAboutFile, AnswersFlow, AnswersQuestion, ChecksAll}

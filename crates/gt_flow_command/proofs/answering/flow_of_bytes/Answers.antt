@@ -1,5 +1,5 @@
-use Rattle.gt_file_commands.proofs.FlowLemmas.{script-bytes, script-no}
-use Rattle.gt_file_commands.proofs.flows.flow_of_bytes.Goals as goal
+use Rattle.gt_flow_command.proofs.FlowLemmas.{script-bytes, script-no}
+use Rattle.gt_flow_command.proofs.answering.flow_of_bytes.Goals as goal
 
 pub returns-in-Ok : goal.returns-in-Ok
 returns-in-Ok g c = λ all e.

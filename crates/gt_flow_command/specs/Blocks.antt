@@ -5,15 +5,11 @@ use Rattle.std.specs.Io.KnownBytes.{Keeps}
 use Rattle.std.specs.Str.{IsUtf8}
 use Rattle.std.specs.Str.Lines.{lines}
 use Rattle.gt_types.specs.declared.limits.TheConstants.{LONGEST_TEXT}
-use Rattle.gt_command_line.specs.declared.invocation.Format.{Format}
-use Rattle.gt_command_line.specs.declared.invocation.Format.TheVariants as formats
 use Rattle.gt_script.specs.Blocks.{block_text, closing, opening}
 use Rattle.gt_policy_flow.specs.Answering.{Flowed}
 use Rattle.gt_policy_flow.specs.declared.asking.FlowQuestion.{FlowQuestion}
 use Rattle.gt_policy_flow.specs.declared.fault.FlowFault.{FlowFault}
 use Rattle.gt_policy_flow.specs.declared.fault.FlowFault.TheVariants as flow_faults
-use Rattle.gt_policy_flow.specs.declared.format.FlowFormat.{FlowFormat}
-use Rattle.gt_policy_flow.specs.declared.format.FlowFormat.TheVariants as flow_formats
 use Rattle.gt_policy_list.specs.Reading.{IsNoText}
 use Rattle.gt_policy_list.specs.declared.fault.ListingFault.{ListingFault}
 use Rattle.gt_policy_list.specs.declared.fault.ListingFault.TheVariants as listing_faults
@@ -57,8 +53,3 @@ FlowedScript q bytes old new r =
 abbrev pub FlowedAs : Bool → FlowQuestion → List ℕ → Option (List ℕ) → Option (List ℕ) → Result Bool FlowFault → Type 0
 FlowedAs false q bytes old new r = Flowed q bytes old new r
 FlowedAs true q bytes old new r = FlowedScript q bytes old new r
-
--- the form of an answer for the format of a command line
-abbrev pub flow_format : Format → FlowFormat
-flow_format formats.Text = flow_formats.Text
-flow_format formats.Json = flow_formats.Json

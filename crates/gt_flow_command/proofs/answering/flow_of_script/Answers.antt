@@ -1,8 +1,8 @@
 use Rattle.std.proofs.Common.{ℕ, List}
 use Rattle.gt_text.specs.Laws.{of_input}
-use Rattle.gt_file_commands.specs.Blocks.{FlowedScript}
-use Rattle.gt_file_commands.proofs.FlowLemmas.{script-unread}
-use Rattle.gt_file_commands.proofs.flows.flow_of_script.Goals as goal
+use Rattle.gt_flow_command.specs.Blocks.{FlowedScript}
+use Rattle.gt_flow_command.proofs.FlowLemmas.{script-unread}
+use Rattle.gt_flow_command.proofs.answering.flow_of_script.Goals as goal
 
 pub returns-in-Ok : goal.returns-in-Ok
 returns-in-Ok g c =

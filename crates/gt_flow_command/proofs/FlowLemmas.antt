@@ -13,7 +13,7 @@ use Rattle.gt_text.specs.Laws.{keeps_same, of_any_input, take_whole}
 use Rattle.gt_text.specs.Streams.{OfInput}
 use Rattle.gt_text.specs.declared.fault.ReadFault.{ReadFault}
 use Rattle.gt_text.specs.declared.fault.ReadFault.TheVariants as read_faults
-use Rattle.gt_file_commands.specs.Blocks.{FlowedAs, FlowedBlock, FlowedScript, policy_block}
+use Rattle.gt_flow_command.specs.Blocks.{FlowedAs, FlowedBlock, FlowedScript, policy_block}
 
 pub no-memory : (block : Option (List ℕ)) (q : FlowQuestion) (old : Option (List ℕ))
     → FlowedBlock block q old old (Err (flow_faults.Text listing_faults.Memory))
@@ -50,16 +50,16 @@ too-many all bytes read long =
 
 not-text : (all bytes : List ℕ) (fault : ListingFault) → bytes ≡ take 1048577 all → IsNoText bytes fault
     → IsNoText all fault
-not-text all bytes (listing_faults.Utf8 line) read no =
-    subst (λ (l : List ℕ). IsNoText l (listing_faults.Utf8 line)) (whole-read all bytes read no.0) no
-not-text all bytes (listing_faults.Policy shown) read no = (too-many all bytes read no.0, no.1)
-not-text all bytes listing_faults.Memory read no = absurd no
-not-text all bytes listing_faults.Read read no = absurd no
-not-text all bytes listing_faults.Write read no = absurd no
+not-text all bytes (listing_faults.Utf8 line) read bad =
+    subst (λ (l : List ℕ). IsNoText l (listing_faults.Utf8 line)) (whole-read all bytes read bad.0) bad
+not-text all bytes (listing_faults.Policy shown) read bad = (too-many all bytes read bad.0, bad.1)
+not-text all bytes listing_faults.Memory read bad = absurd bad
+not-text all bytes listing_faults.Read read bad = absurd bad
+not-text all bytes listing_faults.Write read bad = absurd bad
 
 pub script-no : (all bytes : List ℕ) (q : FlowQuestion) (fault : ListingFault) (old : Option (List ℕ))
     → bytes ≡ take 1048577 all → IsNoText bytes fault → FlowedScript q all old old (Err (flow_faults.Text fault))
-script-no all bytes q fault old read no = inr (inl (not-text all bytes fault read no), keeps_same old)
+script-no all bytes q fault old read bad = inr (inl (not-text all bytes fault read bad), keeps_same old)
 
 unread : (q : FlowQuestion) (all : List ℕ) (old : Option (List ℕ)) (error : ReadFault)
     → FlowedScript q all old old (Err (flow_faults.Text (listing_read_fault error)))

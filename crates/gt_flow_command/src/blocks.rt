@@ -2,7 +2,7 @@
 ghost use Rattle.std.specs.Prelude.{◌≡◌, ◌++◌, ◌<◌, map, length, replicate, IfOk, IfSome};
 ghost use Rattle.std.specs.Option.{option_map};
 ghost use Rattle.gt_script.specs.Blocks.{block_text, closing, is_just, opening};
-ghost use Rattle.gt_file_commands.specs.Blocks.{block_from, block_to, policy_block};
+ghost use Rattle.gt_flow_command.specs.Blocks.{block_from, block_to, policy_block};
 
 use gt_script_lines::{is_word, line_words, text_lines};
 use std::alloc::{AllocError, Global};
@@ -85,7 +85,7 @@ fn block_from(alloc: Global, lines: &[&str]) -> Result<Option<Vec<u8>>, AllocErr
 
 /// Returns the policy block of a script, with an empty line for each line before it, so that its lines have their
 /// numbers in the script. None if there is none, or if no line `end` closes it.
-pub(crate) fn policy_block(alloc: Global, text: &str) -> Result<Option<Vec<u8>>, AllocError>
+pub fn policy_block(alloc: Global, text: &str) -> Result<Option<Vec<u8>>, AllocError>
     ensures { IfOk result (λ block. option_map (λ b. b.items) block ≡ policy_block text.now) }
 {
     let lines = text_lines(alloc, text)?;
