@@ -1,6 +1,6 @@
 -- The output of `explore` for a script.
 use Rattle.std.specs.Prelude.{◌≡◌, ◌+◌, ◌++◌, ◌&&◌, ℕ, Bool, true, false, List, [], ◌∷◌, All, length, map, Option, Some}
-use Rattle.std.specs.Prelude.{◌⊎◌, None, Ok, Err, codes, decimal, if◌then◌else◌, is_some, nat_le, nat_lt, slice_get}
+use Rattle.std.specs.Prelude.{◌⊎◌, None, Ok, Err, codes, if◌then◌else◌, is_some, nat_le, nat_lt, slice_get}
 use Rattle.std.specs.List.{flat_map, position}
 use Rattle.std.specs.Str.{bytes_eq}
 use Rattle.gt_script.specs.Lists.{RunAction, RunTask}

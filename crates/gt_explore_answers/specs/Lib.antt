@@ -10,6 +10,7 @@ pub mod Moves
 pub mod Objects
 pub mod Outputs
 pub mod Places
+pub mod Refusals
 pub mod Steps
 pub mod Texts
 pub mod Tracing
