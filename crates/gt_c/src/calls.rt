@@ -178,6 +178,15 @@ pub(crate) fn refused_number(domain: &mut DomainHandle, rule: Rule) -> EncodedAn
     EncodedAnswer::of(AttachedOutcome::Denied(Denial::new(rule, Facts::None)))
 }
 
+// Stores the answer to a map with a number that does not fit: an answer that is returned would be cleared by each map.
+#[cold]
+#[inline(never)]
+fn store_refused_number(domain: &mut DomainHandle, answer: &mut EncodedAnswer)
+    ensures { RefusesNumber N1 answer.new domain.old.held.value domain.new.held.value }
+{
+    *answer = refused_number(domain, Rule::N1);
+}
+
 #[inline(always)]
 fn done(answer: Result<(), Denial>) -> AttachedOutcome
     ensures { result ≡ outcome answer }
@@ -449,7 +458,7 @@ pub extern "C" fn gthost_map_at(
         (Maps dom gref flags answer.new domain.old.held.value domain.new.held.value) }
 {
     if dom > MOST {
-        *answer = refused_number(domain, Rule::N1);
+        store_refused_number(domain, answer);
         return;
     }
     map_of(domain, dom as u16, gref, flags, answer);
