@@ -30,7 +30,7 @@ returns-in-NoTarget g c =
     let ok = c.in-Ok.ensures.ok in
     ((c.in-Ok.explanation, (ok.0, ok.1, ok.2, ok.3, ok.4, c.in-NoTarget.is)), keeps_same _)
 
-pub returns : goal.returns
-returns g c =
+pub returns-in-NoPermission : goal.returns-in-NoPermission
+returns-in-NoPermission g c =
     let ok = c.in-Ok.ensures.ok in
     ((c.in-Ok.explanation, (ok.0, ok.1, ok.2, ok.3, ok.4, c.in-NoPermission.is)), keeps_same _)
