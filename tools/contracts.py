@@ -51,7 +51,7 @@ def main():
     if sys.argv[1:] == ["--check"]:
         with open(f"{TOP}/README.md", encoding="utf-8") as file:
             text = " ".join(file.read().split())
-        for wanted in (f"More than {total // 100 * 100:,} functions", f"{share} in 100 of them have a contract"):
+        for wanted in (f"More than {(total - 1) // 100 * 100:,} functions", f"{share} in 100 of them have a contract"):
             if wanted not in text:
                 sys.exit(f"contracts: README.md does not have '{wanted}'")
 
