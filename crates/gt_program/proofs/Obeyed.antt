@@ -194,12 +194,12 @@ module _ (failed : Outcome) where
   failed_check (Some f) true (Some never) file more is = inl is
 
   failed_why : (source target permission : Option (List ℕ)) (each : Bool) (file : Option (List ℕ)) → failed ≡ Unknown → FailedFor (why_with source target permission each file) failed
-  failed_why None target permission file is = inl is
-  failed_why (Some source) None None None is = is
-  failed_why (Some source) None None (Some file) is = inl is
-  failed_why (Some source) None (Some permission) file is = inl is
-  failed_why (Some source) (Some target) None file is = inl is
-  failed_why (Some source) (Some target) (Some permission) file is = is
+  failed_why None target permission each file is = inl is
+  failed_why (Some source) None None each None is = is
+  failed_why (Some source) None None each (Some file) is = inl is
+  failed_why (Some source) None (Some permission) each file is = inl is
+  failed_why (Some source) (Some target) None each file is = inl is
+  failed_why (Some source) (Some target) (Some permission) each file is = is
 
   failed_flow : (f : Option Format) (script : Bool) (source target trusted file : Option (List ℕ)) → failed ≡ Unknown → FailedFor (flow_with f script source target trusted file) failed
   failed_flow None script source target trusted file is = inl is
@@ -222,7 +222,7 @@ module _ (failed : Outcome) where
   failed_read modes.Policy value is = failed_list _ _ _ is
   failed_read modes.Rules value is = is
   failed_read modes.Check value is = failed_check _ _ _ _ _ is
-  failed_read modes.Why value is = failed_why _ _ _ _ is
+  failed_read modes.Why value is = failed_why _ _ _ _ _ is
   failed_read modes.Flow value is = failed_flow _ _ _ _ _ _ is
   failed_read modes.Entries value is = failed_entries _ _ _ _ _ _ is
 

@@ -1,3 +1,8 @@
+use Rattle.std.proofs.Common.{subst}
+use Rattle.std.specs.Option.{option_map}
+use Rattle.gt_policy_flow.specs.declared.format.FlowFormat.{FlowFormat}
+use Rattle.gt_file_commands.specs.Working.{AnswersFlow, Works, known_text}
+use Rattle.gt_file_commands.specs.declared.outcome.Outcome.TheVariants.{Unknown}
 use Rattle.gt_program.proofs.Obeyed.{as_planned}
 use Rattle.gt_program.proofs.following.follow.Goals as goal
 
@@ -32,7 +37,11 @@ pub returns-in-WhyLines : goal.returns-in-WhyLines
 returns-in-WhyLines g c = λ failed. as_planned _ _ failed _ _ _ _ _ _ c.in-WhyLines.is c.answer_lines.ensures
 
 pub returns-in-Flow : goal.returns-in-Flow
-returns-in-Flow g c = λ failed. as_planned _ _ failed _ _ _ _ _ _ c.in-Flow.is c.show_flow.ensures
+returns-in-Flow g c = λ failed. as_planned _ _ failed _ _ _ _ _ _ c.in-Flow.is
+    (subst (λ (f : FlowFormat). Works (AnswersFlow c.in-Flow.options.script f (option_map (λ a. a.now) c.in-Flow.source) (option_map (λ a. a.now) c.in-Flow.target)
+    (option_map (λ a. a.now) c.in-Flow.options.trusted)) Unknown (option_map (λ a. a.now) c.in-Flow.file)
+    (known_text (g.T.TextSource.file c.args.context.now.texts.now) (g.T.TextSource.input c.args.context.now.texts.now) (option_map (λ a. a.now) c.in-Flow.file))
+    (g.W.Write.contents c.args.out.now) (g.W.Write.contents c.show_flow.new.out) c.show_flow.result) c.flow_format.ensures c.show_flow.ensures)
 
 pub returns-in-Entries : goal.returns-in-Entries
 returns-in-Entries g c = λ failed. as_planned _ _ failed _ _ _ _ _ _ c.in-Entries.is c.show_entries.ensures
