@@ -45,7 +45,7 @@ const DUMP: EntriesOptions = EntriesOptions {
     script: None,
 };
 
-static PLANS: [(&str, Invocation<'static>); 43] = [
+static PLANS: [(&str, Invocation<'static>); 44] = [
     ("gthost play", Invocation::Play(PLAIN)),
     (
         "gthost play first.gt",
