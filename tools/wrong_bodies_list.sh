@@ -102,7 +102,7 @@ $(count must-fail) of them (\`must-fail/\`), those that a definition of meaning 
 \`gt_command_line\`, \`gt_explore_verdict\`, \`gt_flow_command\` and \`gt_neverallow\`, most of \`gt_program\` and
 \`gt_file_commands\`, and some of other crates wait for such a run: six of \`gt_attached\`, twelve of \`gt_c\`, eight
 of \`gt_check_command\`, one of \`gt_explore\`, nine of \`gt_explore_answers\`, seven of \`gt_explore_moves\`, nine of
-\`gt_live\`, seven of \`gt_policy_check\`, six of \`gt_policy_flow\`, six of \`gt_start\` and two of \`gt_words\`.
+\`gt_live\`, six of \`gt_policy_flow\`, six of \`gt_start\` and two of \`gt_words\`.
 
 A lock round the words of an entry can't be written as an edit: taking one asks for a bound \`Wait\`, and
 no call of \`gt_words\` on words has it.
