@@ -8,6 +8,7 @@ use Rattle.std.proofs.lemmas.List.{map-append, take_more}
 use Rattle.std.proofs.lemmas.Option.{none-some, same_Some}
 use Rattle.gt_types.specs.Names.{permission_of}
 use Rattle.gt_script_lines.specs.Lines.{line_of, triple_of, wear_of, domain_line_of, body_of}
+use Rattle.gt_script_lines.specs.CallNames.{as_name}
 use Rattle.gt_script_lines.specs.Body.{body_line_of, flag_line_of, flag_of, tick_of}
 use Rattle.gt_script_lines.specs.Calls.{access_of, call_line_of, copy_end_of, copy_of, entry_of_kind, grant_bytes_of, grant_flag}
 use Rattle.gt_script_lines.specs.Calls.{grant_of, load_of, map_of, only_domain, only_number, only_reference, page_of, peek_of, poke_of}
@@ -107,7 +108,7 @@ all_at p (y ∷ ys) (suc at) x all there = all_at p ys at x (both (p y) (list_al
 
 -- each form has an example that can be read
 can_be_read : list_all (λ e. is_some (line_of e)) examples ≡ true
-unfolding examples example_of permission_of triple_of wear_of domain_line_of body_of body_line_of flag_line_of flag_of tick_of access_of call_line_of copy_end_of copy_of entry_of_kind grant_bytes_of grant_flag grant_of load_of map_of only_domain only_number only_reference page_of peek_of poke_of store_of sub_of table_of unmap_of via_of at_colon domain_word flags_word generation_word label_word mode_word name_word reference_word tick_word type_word u16_word u32_word u64_word hex_word decimal_number
+unfolding examples example_of as_name permission_of triple_of wear_of domain_line_of body_of body_line_of flag_line_of flag_of tick_of access_of call_line_of copy_end_of copy_of entry_of_kind grant_bytes_of grant_flag grant_of load_of map_of only_domain only_number only_reference page_of peek_of poke_of store_of sub_of table_of unmap_of via_of at_colon domain_word flags_word generation_word label_word mode_word name_word reference_word tick_word type_word u16_word u32_word u64_word hex_word decimal_number
 can_be_read = refl
 
 no_examples : examples ≡ [] → ⊥

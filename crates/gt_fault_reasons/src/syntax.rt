@@ -8,7 +8,7 @@ use crate::misfit::fitting;
 use crate::reason::Reason;
 use crate::texts::{is_listed, push_word};
 use gt_policy_check::{permission_names, push_hint};
-use gt_script_lines::{ScriptLine, is_word, line_words, read_line};
+use gt_script_lines::{ScriptLine, is_word, line_words, read_line, split_name};
 use gt_text::{push_text, text_of};
 use std::alloc::{AllocError, Global};
 
@@ -168,13 +168,45 @@ fn other_text(word: &[u8]) -> Option<&'static str> {
     }
 }
 
+// Returns the words of a line without the name of its call.
+fn unnamed<'w, 'l>(words: &'w [&'l [u8]]) -> &'w [&'l [u8]] {
+    match words {
+        [word, _, call @ ..] if is_word(*word, "do") || is_word(*word, "begin") => {
+            let (call, _) = split_name(call);
+            let count = call.len().saturating_add(2).min(words.len());
+            &words[..count]
+        }
+        _ => words,
+    }
+}
+
+// Returns the word after `as`, if it is the last word and this one is `as`.
+fn bad_name<'l>(words: &[&'l [u8]], number: usize) -> Option<&'l [u8]> {
+    match words {
+        [.., mark, name] if is_word(*mark, "as") && number.checked_add(2) == Some(words.len()) =>
+            Some(*name),
+        _ => None,
+    }
+}
+
 // Explains words that are not a line of a script.
 fn misfit_reason(alloc: Global, line: &str, words: &[&[u8]]) -> Result<Reason, AllocError> {
+    let words = unnamed(words);
     let number = first_misfit(alloc, words)?;
     if let (0, [first, ..]) = (number, words) {
         if let Some(text) = other_text(*first) {
             return Reason::of_line(alloc, text);
         }
+    }
+    if let Some(name) = bad_name(words, number) {
+        let mut message = Vec::new(alloc);
+        push_word(&mut message, name)?;
+        push_text(
+            &mut message,
+            ": expected a name, a letter and then letters, digits or _",
+        )?;
+        let column = column_of(line.as_bytes(), number.saturating_add(1));
+        return Ok(Reason::at(column, message));
     }
     let mut message = Vec::new(alloc);
     match words.get(number) {

@@ -1,4 +1,5 @@
 pub mod Body
+pub mod CallNames
 pub mod Calls
 pub mod Fields
 pub mod Hexadecimal

@@ -10,6 +10,7 @@
 #![tactic(auto)]
 
 mod body;
+mod call_names;
 mod calls;
 mod fields;
 mod hexadecimal;
@@ -20,6 +21,7 @@ mod texts;
 mod words;
 
 pub use body::BodyLine;
+pub use call_names::split_name;
 pub use calls::ScriptCall;
 pub use fields::is_word;
 pub use hexadecimal::hex_bytes;
