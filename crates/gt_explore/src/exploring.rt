@@ -15,6 +15,7 @@ use gt_explore_answers::{
     ExploreOptions, ExploreOutput, answer_request, conditions_asked, has_its_text, refused_text,
 };
 use gt_explore_faults::{ExploreFault, TextsFault};
+use gt_explore_search::SearchWatch;
 use gt_explore_verdict::{Operation, Verdict};
 use gt_script::{RunScript, parse_run};
 use gt_script_runs::PlayFault;
@@ -23,19 +24,20 @@ use std::alloc::Global;
 use std::io::{Read, Write};
 
 // Finds the texts of a script, and answers a request by them, which states these conditions.
-fn made_as(
+fn made_as<T: SearchWatch>(
     alloc: Global,
     asked: &ExploreOptions,
     source: &[u8],
     script: &RunScript,
     conditions: &[Operation<'_>],
+    watch: &mut T,
 ) -> Result<ExploreOutput, ExploreFault>
     requires fits { CanConfigure (contents_of script.now.head) }
     requires numbered { AreNumbered script.now.flags script.now.tasks }
     requires read { AreAsked (run_contents script.now) asked.now.request (map operation_asked conditions.now) }
     ensures { MakesOutput (run_contents script.now) asked.now result }
 {
-    let found = match texts_found(alloc, script, asked.states) {
+    let found = match texts_found(alloc, script, asked.states, watch) {
         Ok(found) => found,
         Err(fault) => return Err(ExploreFault::Texts(fault)),
     };
@@ -57,19 +59,20 @@ fn made_as(
 }
 
 // Explores a script that was parsed.
-fn explore_script<W: Write>(
+fn explore_script<W: Write, T: SearchWatch>(
     alloc: Global,
     asked: &ExploreOptions,
     source: &[u8],
     script: &RunScript,
     writer: &mut W,
+    watch: &mut T,
 ) -> Result<Verdict, ExploreFault>
     requires fits { CanConfigure (contents_of script.now.head) }
     requires numbered { AreNumbered script.now.flags script.now.tasks }
     ensures { Explores (run_contents script.now) asked.now (W.contents writer.old) (W.contents writer.new) result }
 {
     let conditions = conditions_asked(alloc, script, asked.request)?;
-    match made_as(alloc, asked, source, script, conditions.as_slice()) {
+    match made_as(alloc, asked, source, script, conditions.as_slice(), watch) {
         Err(fault) => Err(fault),
         Ok(made) => match write_text(writer, made.text.as_slice()) {
             Ok(()) => Ok(made.verdict),
@@ -78,18 +81,23 @@ fn explore_script<W: Write>(
     }
 }
 
-// Parses and explores the script in these bytes, which are those read up to the limit.
-fn explore_bytes<W: Write>(
+/// Answers a request as [`explore`] does, on the texts of the script in these bytes. They are a whole text, or the first
+/// 1,048,577 bytes of a longer one.
+///
+/// # Errors
+/// Those of [`explore`], but for failed reads.
+pub fn explore_bytes<W: Write, T: SearchWatch>(
     alloc: Global,
     asked: &ExploreOptions,
     input: &[u8],
     writer: &mut W,
+    watch: &mut T,
 ) -> Result<Verdict, ExploreFault>
     ensures { (all : List ℕ) → input.now ≡ take READ_LIMIT all →
         Explored asked.now (ReadsAsRun all) (W.contents writer.old) (W.contents writer.new) result }
 {
     match parse_run(alloc, input) {
-        Ok(script) => explore_script(alloc, asked, input, &script, writer),
+        Ok(script) => explore_script(alloc, asked, input, &script, writer, watch),
         Err(error) => Err(ExploreFault::Play(PlayFault::from(error))),
     }
 }
@@ -99,26 +107,28 @@ fn explore_bytes<W: Write>(
 /// script for `play` that is printed was played before, and each domain had the answers that it has in its text.
 ///
 /// The verdict on a claim and on a given text is what is known of it. On another request it is `Holds` if the search
-/// met all states, and otherwise `Undecided`. If the search did not meet all, the answer is by the texts found until
-/// then, and a list of texts ends with a line that has the words `not all texts`.
+/// met all states, and otherwise `Undecided`. If the search did not meet all, since it came to its limit, its watch ended
+/// it or memory was wanting, the answer is by the texts found until then, and a list of texts ends with a line that has
+/// the words `not all texts`.
 ///
 /// # Errors
 /// The script's first fault. If it has none: the first fault of the expression; that no text has the wanted number, or
 /// that none of those found has it, if these are not all; the first line of the given text that is not an answer line
 /// of the script, if it is not one of the texts; or that an order or a script for `play` does not give its text. Or an
 /// allocation, a read or a write failed. Only after a failed write was anything written: a prefix of the text.
-pub fn explore<R: Read, W: Write>(
+pub fn explore<R: Read, W: Write, T: SearchWatch>(
     alloc: Global,
     asked: &ExploreOptions,
     reader: &mut R,
     writer: &mut W,
+    watch: &mut T,
 ) -> Result<Verdict, ExploreFault>
     ensures text { OfInput (R.remaining reader.old) (λ input.
         Explored asked.now (ReadsAsRun input) (W.contents writer.old) (W.contents writer.new) result) }
     ensures read { ConsumesAtMost READ_LIMIT (R.remaining reader.old) (R.remaining reader.new) }
 {
     match read_text(alloc, reader) {
-        Ok(input) => explore_bytes(alloc, asked, input.as_slice(), writer),
+        Ok(input) => explore_bytes(alloc, asked, input.as_slice(), writer, watch),
         Err(error) => Err(ExploreFault::Play(PlayFault::from(error))),
     }
 }

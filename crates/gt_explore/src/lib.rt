@@ -6,8 +6,8 @@
 //! moves that lead to one.
 //!
 //! The texts returned or written are texts that the script may give (`MayGive` of `gt_explore_replay`), each of them
-//! once. They are all such texts, unless the search met more states than its limit (`FoundTexts::whole`). That a text
-//! is possible depends on the core, and that none is missing on the search.
+//! once. They are all such texts, unless the search met more states than its limit, its watch ended it, or memory was
+//! wanting (`FoundTexts::whole`). That a text is possible depends on the core, and that none is missing on the search.
 //!
 //! Besides these crates it uses `gt_explore_search` (orders), `gt_explore_verdict`, `gt_explore_faults`, `gt_script`,
 //! `gt_script_runs` and `gt_text` (reads and writes). Its definitions also name `gt_policy`.
@@ -16,7 +16,7 @@
 mod exploring;
 mod texts;
 
-pub use exploring::explore;
+pub use exploring::{explore, explore_bytes};
 pub use gt_explore_answers::{ExploreFormat, ExploreOptions, ExploreRequest, FoundTexts};
 pub use gt_explore_faults::{ExploreFault, TextsFault};
-pub use texts::{texts_of, texts_within};
+pub use texts::{texts_found, texts_of, texts_within};

@@ -16,7 +16,7 @@ use gt_explore_answers::FoundTexts;
 use gt_explore_faults::TextsFault;
 use gt_explore_moves::search_within;
 use gt_explore_replay::text_of;
-use gt_explore_search::FoundText;
+use gt_explore_search::{FoundText, SearchWatch, Unwatched};
 use gt_script::RunScript;
 use std::alloc::{AllocError, Global};
 use std::cmp::Ordering;
@@ -98,16 +98,18 @@ fn distinct(
     Ok(texts)
 }
 
-/// Returns texts that a script may give: all of them if the search meets at most `limit` states, and otherwise those
-/// that it found until then. They are complete only if the script's flags are numbered, as parsing numbers them.
+/// Returns texts that a script may give: all of them if the search meets at most `limit` states and its watch does not
+/// end it, and otherwise those that it found until then. They are complete only if the script's flags are numbered, as
+/// parsing numbers them.
 ///
 /// # Errors
 /// `Astray` if the search found an order that the core does not follow to its text, or a run that returned to a state;
 /// `States` if the search has too many states to number; and `Memory`.
-pub fn texts_within(
+pub fn texts_within<T: SearchWatch>(
     alloc: Global,
     script: &RunScript,
     limit: usize,
+    watch: &mut T,
 ) -> Result<FoundTexts, TextsFault>
     requires { CanConfigure (contents_of script.now.head) }
     ensures possible { IfOk result (λ all. All (MayGive (run_contents script.now)) (texts_of_orders all.texts.items)) }
@@ -117,7 +119,7 @@ pub fn texts_within(
     ensures ascending { IfOk result (λ all. AreAscending (texts_of_orders all.texts.items)) }
     ensures apart { IfOk result (λ all. AreDifferentTexts (texts_of_orders all.texts.items)) }
 {
-    let partial = search_within(alloc, script, limit)?;
+    let partial = search_within(alloc, script, limit, watch)?;
     let whole = partial.whole;
     let depth = partial.depth;
     let states = partial.found.states;
@@ -132,18 +134,59 @@ pub fn texts_within(
     })
 }
 
-/// Returns what [`texts_within`] does. It has one clause, so the proof goals of a caller are smaller.
-pub(crate) fn texts_found(
+// The watch of a search that keeps the number of states met.
+#[derive(Drop)]
+struct CountingWatch<'w, T> {
+    watch: &'w mut T,
+    states: usize,
+}
+
+impl<T: SearchWatch> SearchWatch for CountingWatch<'_, T> {
+    fn ends(&mut self, states: usize) -> bool {
+        self.states = states;
+        self.watch.ends(states)
+    }
+}
+
+// Returns what `texts_within` does. It has one clause, so the proof goals of a caller are smaller.
+fn texts_counted<T: SearchWatch>(
     alloc: Global,
     script: &RunScript,
     limit: usize,
+    watch: &mut CountingWatch<'_, T>,
 ) -> Result<FoundTexts, TextsFault>
     requires fits { CanConfigure (contents_of script.now.head) }
     requires numbered { AreNumbered script.now.flags script.now.tasks }
     ensures { IfOk result (λ all. AreTextsOf (run_contents script.now) (found_from all)) }
 {
-    let all = texts_within(alloc, script, limit)?;
+    let all = texts_within(alloc, script, limit, watch)?;
     Ok(all)
+}
+
+/// Returns texts that a script may give, as [`texts_within`] does. Want of memory ends a search as its limit does: the
+/// texts are then those of a search with a limit of half the states met.
+///
+/// # Errors
+/// Those of [`texts_within`]: `Memory` if there is none for a search of one state.
+pub fn texts_found<T: SearchWatch>(
+    alloc: Global,
+    script: &RunScript,
+    limit: usize,
+    watch: &mut T,
+) -> Result<FoundTexts, TextsFault>
+    requires fits { CanConfigure (contents_of script.now.head) }
+    requires numbered { AreNumbered script.now.flags script.now.tasks }
+    ensures { IfOk result (λ all. AreTextsOf (run_contents script.now) (found_from all)) }
+{
+    let mut counting = CountingWatch { watch, states: 0 };
+    let mut limit = limit;
+    for _ in 0..usize::BITS {
+        match texts_counted(alloc, script, limit, &mut counting) {
+            Err(TextsFault::Memory) => limit = counting.states / 2,
+            ending => return ending,
+        }
+    }
+    Err(TextsFault::Memory)
 }
 
 /// Returns the texts that a script may give, if the search meets at most `limit` states. These are all of them if the
@@ -160,7 +203,7 @@ pub fn texts_of(alloc: Global, script: &RunScript, limit: usize) -> Result<Found
         IfOk result (λ all. IsTextAmong text (texts_of_orders all.texts.items)) }
     ensures apart { IfOk result (λ all. AreDifferentTexts (texts_of_orders all.texts.items)) }
 {
-    let all = texts_within(alloc, script, limit)?;
+    let all = texts_within(alloc, script, limit, &mut Unwatched)?;
     if all.whole {
         Ok(all)
     } else {

@@ -11,6 +11,7 @@ use crate::sharing::{TriedTurn, tried_turn};
 use crate::spaces::{TransitionSystem, Turn, TurnResult};
 use crate::states::{StateIndex, WholeState};
 use crate::suffixes::{AnswerLine, AnswerLists};
+use crate::watching::Unwatched;
 use std::alloc::{AllocError, Global};
 
 mod orders;
@@ -371,7 +372,7 @@ impl<P: Drop> Explorer<P> {
             let ways = by_numbers (S.ways space.now) (S.parts space.now) all in
             SearchStarts ways self.old → OnOk result (SearchFinishes ways self.new) }
     {
-        match self.run_within(space, limit)? {
+        match self.run_within(space, limit, &mut Unwatched)? {
             Some(_) => Err(SearchFault::States),
             None => Ok(()),
         }

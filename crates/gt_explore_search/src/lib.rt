@@ -5,7 +5,8 @@
 //!
 //! It promises that each run from its beginning to an end has its text among those found (`AllTextsFound`). This is
 //! proved for every space that keeps the promises of `TransitionSystem`. That each text found is a run's is not proved
-//! here: replay its turns.
+//! here: replay its turns. [`search_within`] has a limit of states, and a [`SearchWatch`], which shows how far a search
+//! is and may end it.
 //!
 //! It uses `gt_types` (memory) and `indexmap`. It knows no script: `gt_explore_moves` gives it the runs of one.
 #![tactic(auto)]
@@ -20,7 +21,9 @@ mod sharing;
 mod spaces;
 mod states;
 mod suffixes;
+mod watching;
 
 pub use exploring::{FoundText, PartialResult, SearchResult, search, search_within};
 pub use fault::SearchFault;
 pub use spaces::{TransitionSystem, Turn, TurnResult};
+pub use watching::{SearchWatch, Unwatched};

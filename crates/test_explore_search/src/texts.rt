@@ -1,6 +1,6 @@
 //! The texts of two counters.
 use crate::counters::Counters;
-use gt_explore_search::{SearchResult, search, search_within};
+use gt_explore_search::{SearchResult, Unwatched, search, search_within};
 use std::test::Fail;
 
 // Returns whether an order has this text.
@@ -49,14 +49,14 @@ const WITHIN: [(usize, usize, usize); 5] = [(8, 6, 3), (7, 5, 2), (5, 2, 3), (4,
 fn some_texts_are_found_within_fewer_states(rt: HostRuntime) -> Result<(), Fail> {
     let alloc = rt.alloc();
     let counters = Counters { alloc, limit: 2 };
-    let Ok(all) = search_within(alloc, &counters, 9) else {
+    let Ok(all) = search_within(alloc, &counters, 9, &mut Unwatched) else {
         assert!(rt; false);
         return Ok(());
     };
     assert!(rt; all.whole);
     assert_eq!(rt; (all.found.orders.len(), all.depth), (6, 0));
     for (limit, texts, depth) in WITHIN {
-        let Ok(some) = search_within(alloc, &counters, limit) else {
+        let Ok(some) = search_within(alloc, &counters, limit, &mut Unwatched) else {
             assert!(rt; false);
             return Ok(());
         };

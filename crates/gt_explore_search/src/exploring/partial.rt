@@ -1,14 +1,15 @@
-//! A search that returns what it found until it met too many states.
+//! A search that returns what it found until it met too many states, or until its watch ended it.
 ghost use Rattle.std.specs.Prelude.{IfOk, IsTrue};
 ghost use Rattle.gt_explore_search.specs.Exploring.{AllTextsFound, SearchStarts};
 
 use crate::exploring::{Explorer, OpenNode, SearchResult, new_explorer};
 use crate::fault::SearchFault;
 use crate::spaces::TransitionSystem;
+use crate::watching::SearchWatch;
 use std::alloc::Global;
 
-/// What a search found: orders, and whether these are all. If not, the search met more states than the limit, and
-/// `depth` is the number of states on the way to the last of them.
+/// What a search found: orders, and whether these are all. If not, the search met more states than the limit, or its
+/// watch ended it, and `depth` is the number of states on the way to the last of them.
 #[derive(Drop)]
 pub struct PartialResult {
     pub found: SearchResult,
@@ -21,13 +22,14 @@ impl<P: Drop> Explorer<P> {
     ghost use Rattle.gt_explore_search.specs.Exploring.{SearchHolds, VisitHolds, Grew, PartsGrew, SearchStarts, SearchFinishes};
     ghost use Rattle.gt_explore_search.specs.Parts.{Extends, by_numbers};
 
-    // Visits all states that can be reached from this one, if there are no more than the limit. Otherwise returns the
-    // states whose moves are being tried.
-    fn walk_within<S: TransitionSystem<Part = P>>(
+    // Visits all states that can be reached from this one, if there are no more than the limit and the watch lets it.
+    // Otherwise returns the states whose moves are being tried.
+    fn walk_within<S: TransitionSystem<Part = P>, W: SearchWatch>(
         &mut self,
         space: &S,
         first: OpenNode,
         limit: usize,
+        watch: &mut W,
     ) -> Result<Option<Vec<OpenNode>>, SearchFault>
         ensures grows { OnOk result (PartsGrew self.old self.new) }
         ensures holds { (all : List P) → Extends self.new.states.parts.kept.items all →
@@ -39,7 +41,7 @@ impl<P: Drop> Explorer<P> {
         let mut stack = Vec::new(self.alloc);
         stack.push(first)?;
         'tries: for _ in 0..u64::MAX {
-            if self.states.len() > limit {
+            if self.states.len() > limit || watch.ends(self.states.len()) {
                 return Ok(Some(stack));
             }
             if !self.try_next(space, &mut hand, &mut stack)? {
@@ -49,12 +51,13 @@ impl<P: Drop> Explorer<P> {
         Err(SearchFault::States)
     }
 
-    // Visits the states of the space, if there are no more than the limit. Otherwise returns the states whose moves are
-    // being tried.
-    pub(super) fn run_within<S: TransitionSystem<Part = P>>(
+    // Visits the states of the space, if there are no more than the limit and the watch lets it. Otherwise returns the
+    // states whose moves are being tried.
+    pub(super) fn run_within<S: TransitionSystem<Part = P>, W: SearchWatch>(
         &mut self,
         space: &S,
         limit: usize,
+        watch: &mut W,
     ) -> Result<Option<Vec<OpenNode>>, SearchFault>
         ensures { (all : List P) → Extends self.new.states.parts.kept.items all →
             let ways = by_numbers (S.ways space.now) (S.parts space.now) all in
@@ -64,7 +67,7 @@ impl<P: Drop> Explorer<P> {
         let state = self.states.number(space, &world, 0)?;
         space.alike();
         let first = self.visit(space, state, &world)?;
-        self.walk_within(space, first, limit)
+        self.walk_within(space, first, limit, watch)
     }
 
     // Gathers the ends of the turn that is being tried, if it leads to a state that is done.
@@ -113,29 +116,29 @@ impl<P: Drop> Explorer<P> {
         ensures { IfOk result (λ partial. partial.whole ≡ false) }
     {
         let depth = stack.len();
+        let states = self.states.len().min(limit);
         self.unwind(space, stack)?;
         let orders = self.found(space)?.orders;
         Ok(PartialResult {
-            found: SearchResult {
-                orders,
-                states: limit,
-            },
+            found: SearchResult { orders, states },
             whole: false,
             depth,
         })
     }
 
-    // Visits the states of the space, at most `limit` of them, and returns what was found.
-    fn found_within<S: TransitionSystem<Part = P>>(
+    // Visits the states of the space, at most `limit` of them and as far as the watch lets it, and returns what was
+    // found.
+    fn found_within<S: TransitionSystem<Part = P>, W: SearchWatch>(
         &mut self,
         space: &S,
         limit: usize,
+        watch: &mut W,
     ) -> Result<PartialResult, SearchFault>
         ensures { (all : List P) → Extends self.new.states.parts.kept.items all →
             SearchStarts (by_numbers (S.ways space.now) (S.parts space.now) all) self.old →
             IfOk result (λ partial. IsTrue partial.whole → AllTextsFound (S.ways space.now) partial.found) }
     {
-        match self.run_within(space, limit)? {
+        match self.run_within(space, limit, watch)? {
             Some(stack) => self.found_until(space, stack, limit),
             None => {
                 let found = self.found(space)?;
@@ -150,18 +153,19 @@ impl<P: Drop> Explorer<P> {
 }
 
 /// Visits the states of a space, at most `limit` of them, and returns an order for each list of answers found. If there
-/// are more states, it returns the orders found until then, and that they are not all.
+/// are more states, or the watch ends the search, it returns the orders found until then, and that they are not all.
 ///
 /// # Errors
 /// `Circle` if a run returns to a state, `States` if a number is too large for its field, `Memory`, or a fault of the
 /// space.
-pub fn search_within<S: TransitionSystem>(
+pub fn search_within<S: TransitionSystem, W: SearchWatch>(
     alloc: Global,
     space: &S,
     limit: usize,
+    watch: &mut W,
 ) -> Result<PartialResult, SearchFault>
     ensures { IfOk result (λ partial. IsTrue partial.whole → AllTextsFound (S.ways space.now) partial.found) }
 {
     let mut explorer = new_explorer(alloc, space)?;
-    explorer.found_within(space, limit)
+    explorer.found_within(space, limit, watch)
 }
