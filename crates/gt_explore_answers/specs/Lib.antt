@@ -1,3 +1,5 @@
+pub mod AnswerForms
+pub mod AnswerWords
 pub mod Answering
 pub mod AsObjects
 pub mod Diagram

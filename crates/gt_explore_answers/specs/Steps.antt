@@ -92,22 +92,38 @@ copy_step_text form from to len =
     access_start form (codes "copy") ++ from_part form from ++ to_part form to
     ++ number_part form (codes "len") (decimal len)
 
+-- a load of the header word of a table
+abbrev pub header_look_text : TraceForm → DomId → List ℕ
+header_look_text form owner = move_part form (codes "H") ++ number_part form (codes "owner") (decimal owner.0)
+
+-- a step that takes a pin, and the word that it looked at
+abbrev pub taken_pin_text : TraceForm → HeldPin → List ℕ
+taken_pin_text form p = pin_text form (codes "P") p ++ word_part form (codes "from") p.word
+
+-- a store of a body word of an entry
+abbrev pub store_text : TraceForm → DomId → GrantRef → BodyWord → ℕ → List ℕ
+store_text form dom gref body_word word =
+    move_part form (store_letters body_word) ++ entry_part form dom gref ++ word_part form (codes "word") word
+
+-- a read and a write of bytes of a frame
+abbrev pub read_text : TraceForm → DomId → ℕ → ℕ → ℕ → List ℕ
+read_text form owner frame off len = access_start form (codes "read") ++ range_part form owner frame off len
+
+abbrev pub write_text : TraceForm → DomId → ℕ → ℕ → ℕ → List ℕ
+write_text form owner frame off len = access_start form (codes "write") ++ range_part form owner frame off len
+
 -- a step of a call of this domain
 unfoldable pub step_text : TraceForm → DomId → Step → List ℕ
-step_text form dom (call_steps.LookHeader owner) =
-    move_part form (codes "H") ++ number_part form (codes "owner") (decimal owner.0)
+step_text form dom (call_steps.LookHeader owner) = header_look_text form owner
 step_text form dom (call_steps.LookControl owner gref) = look_text form (codes "C") owner gref
 step_text form dom (call_steps.LookBody owner gref body_word) = look_text form (look_letters body_word) owner gref
-step_text form dom (call_steps.Pin p) = pin_text form (codes "P") p ++ word_part form (codes "from") p.word
+step_text form dom (call_steps.Pin p) = taken_pin_text form p
 step_text form dom (call_steps.Unpin p holder) = pin_text form (codes "U") p
-step_text form dom (call_steps.StoreBody gref body_word word) =
-    move_part form (store_letters body_word) ++ entry_part form dom gref ++ word_part form (codes "word") word
+step_text form dom (call_steps.StoreBody gref body_word word) = store_text form dom gref body_word word
 step_text form dom (call_steps.Exchange gref looked change) = exchange_text form dom gref looked change
 step_text form dom (call_steps.StoreHeader version frames) = header_text form dom version frames
-step_text form dom (call_steps.Read owner frame off len) =
-    access_start form (codes "read") ++ range_part form owner frame off len
-step_text form dom (call_steps.Write owner frame off len) =
-    access_start form (codes "write") ++ range_part form owner frame off len
+step_text form dom (call_steps.Read owner frame off len) = read_text form owner frame off len
+step_text form dom (call_steps.Write owner frame off len) = write_text form owner frame off len
 step_text form dom (call_steps.Copy from to len) = copy_step_text form from to len
 
 -- that an exchange was taken

@@ -30,8 +30,13 @@ mod witness;
 
 pub use answering::ExploreOutput;
 pub use asking::{ExploreFormat, ExploreOptions, ExploreRequest};
-pub use conditions::conditions_asked;
+pub use conditions::{conditions_asked, satisfied};
 pub use formats::answer_request;
 pub use found::{FoundTexts, has_its_text};
 pub use given::refused_text;
-pub use laws::every_refusal_is_by_a_rule_of_its_call;
+pub use laws::{
+    every_answer_has_a_form_of_its_call, every_ok_answer_is_written_in_its_form,
+    every_refusal_is_by_a_rule_of_its_call,
+};
+pub use objects::push_summary;
+pub use outputs::{push_heading, push_states_line};

@@ -1,3 +1,4 @@
+pub mod Joining
 pub mod Judged
 pub mod Parts
 pub mod Pieces

@@ -9,11 +9,12 @@ use Rattle.std.specs.List.{list_any}
 use Rattle.std.specs.Str.{bytes_eq}
 use Rattle.gt_explore_verdict.specs.Calls.{forms_of, may_answer}
 use Rattle.gt_explore_verdict.specs.Placing.{is_answered, is_call_at}
-use Rattle.gt_explore_verdict.specs.Expressions.{Asked, ConditionScope, agree, excludes_at, may_be, of_all, of_domain}
-use Rattle.gt_explore_verdict.specs.Expressions.{of_line}
+use Rattle.gt_explore_verdict.specs.Expressions.{Asked, ConditionScope, agree, excludes, excludes_at, may_be, of_all}
+use Rattle.gt_explore_verdict.specs.Expressions.{of_domain, of_line}
 use Rattle.gt_explore_verdict.specs.Forms.{begins_form, fits, fits_from, has_place, is_of_some, kind_at, may_begin}
 use Rattle.gt_explore_verdict.specs.Forms.{may_have}
-use Rattle.gt_explore_verdict.specs.Refusing.{AreNeverBothMet, HasAnswer, HasAnswerOf, HasItsWords, IsAnswerToCall}
+use Rattle.gt_explore_verdict.specs.Refusing.{AnswerOneLine, AreNeverBothMet, AreNeverBothSatisfied}
+use Rattle.gt_explore_verdict.specs.Refusing.{HasAnswer, HasAnswerOf, HasItsWords, IsAnswerToCall}
 use Rattle.gt_explore_verdict.specs.Refusing.{IsForm}
 use Rattle.gt_explore_verdict.specs.Refusing.{IsFormOfCall, IsNeverAnswered, IsNeverMet, IsOfPlace}
 use Rattle.gt_explore_verdict.specs.Satisfying.{begins, is_asked_answer, is_met_by, is_met_in, line_words, lines_in}
@@ -215,6 +216,56 @@ never_both one other e (line ∷ []) p = absurd (clash p)
 never_both one other e (line ∷ dom ∷ answer) p =
     is_false (is_asked_answer other.place other.words line dom answer)
     (λ q. both_asked one.place other.place one.words other.words line dom answer e p q)
+
+-- a line that meets a condition
+record MetAt (asked : Asked) (lines : List (List ℕ)) : Type 0 where
+  at : ℕ
+  line : List ℕ
+  there : slice_get lines at ≡ Some line
+  meets : is_met_by asked (line_words line) ≡ true
+
+met_at : (asked : Asked) (lines : List (List ℕ)) → is_met_in asked lines ≡ true → MetAt asked lines
+met_at asked [] is = absurd (clash is)
+met_at asked (line ∷ lines) is = by (met_at asked lines) (is_met_by asked (line_words line)) refl is
+  where
+    by : (is_met_in asked lines ≡ true → MetAt asked lines) → (b : Bool) → is_met_by asked (line_words line) ≡ b
+        → (b || is_met_in asked lines) ≡ true → MetAt asked (line ∷ lines)
+    by rest true here is = record { at = 0; line = line; there = refl; meets = here }
+    by rest false here is =
+        let m = rest is in record { at = suc m.at; line = m.line; there = m.there; meets = m.meets }
+
+-- lines that meet two conditions of which one excludes the other answer the same line
+one_line : (one other : ConditionScope) (words others : List (List ℕ)) (line dom line' dom' : List ℕ)
+    (answer answer' : List (List ℕ)) → excludes_at one other words others ≡ true
+    → is_asked_answer one words line dom answer ≡ true → is_asked_answer other others line' dom' answer' ≡ true
+    → line ≡ line'
+one_line (of_line n) (of_line m) words others line dom line' dom' answer answer' e p q =
+    (bytes_eq-Decides line n).0 (both (bytes_eq line n) (begins answer words) p).0
+    ∙ ((bytes_eq-Decides n m).0 (both (bytes_eq n m) (not (agree words others)) e).0
+    ∙ sym ((bytes_eq-Decides line' m).0 (both (bytes_eq line' m) (begins answer' others) q).0))
+one_line of_all other words others line dom line' dom' answer answer' e p q = absurd (clash e)
+one_line (of_domain n) other words others line dom line' dom' answer answer' e p q = absurd (clash e)
+one_line (of_line n) of_all words others line dom line' dom' answer answer' e p q = absurd (clash e)
+one_line (of_line n) (of_domain m) words others line dom line' dom' answer answer' e p q = absurd (clash e)
+
+answer_one_line : (one other : Asked) (words others : List (List ℕ)) → excludes one other ≡ true
+    → is_met_by one words ≡ true → is_met_by other others ≡ true → AnswerOneLine words others
+unfolding is_met_by
+answer_one_line one other [] others e p q = absurd (clash p)
+answer_one_line one other (line ∷ []) others e p q = absurd (clash p)
+answer_one_line one other (line ∷ dom ∷ answer) [] e p q = absurd (clash q)
+answer_one_line one other (line ∷ dom ∷ answer) (line' ∷ []) e p q = absurd (clash q)
+answer_one_line one other (line ∷ dom ∷ answer) (line' ∷ dom' ∷ answer') e p q =
+    one_line one.place other.place one.words other.words line dom line' dom' answer answer' e p q
+
+pub never_both_satisfied : (one other : Asked) → AreNeverBothSatisfied one other
+never_both_satisfied one other e text each p = is_false (is_met_in other (lines_in text)) (λ q.
+    let m = met_at one (lines_in text) p in
+    let n = met_at other (lines_in text) q in
+    let same = each m.at n.at m.line n.line m.there n.there
+    (answer_one_line one other (line_words m.line) (line_words n.line) e m.meets n.meets) in
+    clash (sym (never_both one other e (line_words m.line) m.meets)
+    ∙ subst (λ (l : List ℕ). is_met_by other (line_words l) ≡ true) (sym same) n.meets))
 
 -- a call can answer with words with which one of its answers begins
 may_answer_so : (call : CallName) (form : AnswerForm) (answer words : List (List ℕ)) → IsFormOfCall call form

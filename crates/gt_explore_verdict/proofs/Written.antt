@@ -13,7 +13,7 @@ use Rattle.gt_explore_verdict.specs.Grammar.{one_conjunction, one_operand, opera
 use Rattle.gt_explore_verdict.specs.Grammar.{piece_of_mark, pieces_between}
 use Rattle.gt_explore_verdict.specs.Grammar.{pieces_in, pieces_of_words, term_phrase, words_piece}
 use Rattle.gt_explore_verdict.specs.Reading.{LevelAsked, ReadSoFar, ReaderAsked, condition_read, end_read, first_mark}
-use Rattle.gt_explore_verdict.specs.Reading.{is_sign, later_marks, mark_read}
+use Rattle.gt_explore_verdict.specs.Reading.{is_sign, joined_outside, later_marks, mark_read, with_bracket}
 use Rattle.gt_explore_verdict.specs.Reading.{nothing_read, op_if, term_read, with_condition, with_operand}
 use Rattle.gt_explore_verdict.specs.declared.fault.ConditionFault.{ConditionFault}
 use Rattle.gt_explore_verdict.specs.declared.fault.ConditionFault.TheVariants as condition_faults
@@ -182,7 +182,8 @@ step_words word more ops any all true denied joined outer terms ps s has h =
         → HasRead s (ps ++ words_piece word more ∷ [])
     by false k =
         absurd (wrong (terms + 1, reason (condition_of_words word more).place (condition_of_words word more).words) s k)
-    by true k = excluded (if denied then false else is_excluded joined (condition_of_words word more)) k
+    by true k =
+        excluded (if denied then false else is_excluded (joined_outside outer ++ joined) (condition_of_words word more)) k
 
 -- the steps for the marks
 
@@ -287,8 +288,19 @@ step_close ops any all false denied joined [] terms ps s has h =
 step_close ops any all false denied joined (level ∷ outer) terms ps s has h =
     let d = as_disjunction any has.inside has.now.1 in
     let o = has.outer in
-    so (with_operand (record { ops = ops ++ op_if any op_or; now = level; outer = outer; terms = terms })) s
-    (ps ++ mark_piece 41 ∷ []) h (record {
+    let inner : LevelAsked = record {
+      has_any = any;
+      has_all = all;
+      wants = false;
+      negated = denied;
+      joined = joined;
+    } in
+    so (with_operand (record {
+      ops = ops ++ op_if any op_or;
+      now = with_bracket level inner;
+      outer = outer;
+      terms = terms;
+    })) s (ps ++ mark_piece 41 ∷ []) h (record {
       outside = o.0;
       inside = o.1 ++ phrase_pieces (bracket_phrase d.0);
       outer = o.2;

@@ -4,6 +4,7 @@ pub mod Faults
 pub mod Forms
 pub mod Formulas
 pub mod Grammar
+pub mod Joining
 pub mod Judging
 pub mod Placing
 pub mod Reading

@@ -16,8 +16,7 @@ abbrev pub is_sign : ℕ → Bool
 is_sign b = (b == 33) || (b == 38) || (b == 40) || (b == 41) || (b == 124)
 
 -- what was read since the last bracket that is open: whether a disjunction was, and a conjunction after it, whether an
--- operand comes next, whether it comes after an odd number of `!`, and the terms of the conjunction that come neither
--- after a `!` nor in a bracket
+-- operand comes next, whether it comes after an odd number of `!`, and the terms that must hold with the conjunction
 pub record LevelAsked : Type 0 where
   pub has_any : Bool
   pub has_all : Bool
@@ -88,12 +87,24 @@ next_fault r fault = Err (r.terms + 1, fault)
 abbrev pub last_fault : ReaderAsked → ConditionFault → ReadSoFar
 last_fault r fault = Err (r.terms, fault)
 
--- a condition is read, unless it comes without a `!` and an earlier one of its conjunction excludes it
+-- the terms outside of the last open bracket that must hold with those in it: none, if a `!` is before it
+abbrev pub joined_outside : List LevelAsked → List Asked
+joined_outside [] = []
+joined_outside (level ∷ outer) = if level.negated then [] else joined_outside outer ++ level.joined
+
+-- the terms that must hold with the next one
+abbrev pub all_joined : ReaderAsked → List Asked
+all_joined r = joined_outside r.outer ++ r.now.joined
+
+-- the next condition comes without a `!`, and an earlier one that must hold with it excludes it
+abbrev pub is_shut_out : ReaderAsked → Asked → Bool
+is_shut_out r asked = if r.now.negated then false else is_excluded (all_joined r) asked
+
+-- a condition is read, unless it is shut out
 abbrev pub condition_read : ReaderAsked → Result Asked ConditionFault → ReadSoFar
 condition_read r (Err fault) = next_fault r fault
 condition_read r (Ok asked) =
-    if (if r.now.negated then false else is_excluded r.now.joined asked) then next_fault r condition_faults.Excluded
-    else Ok (with_condition r asked)
+    if is_shut_out r asked then next_fault r condition_faults.Excluded else Ok (with_condition r asked)
 
 -- a term is read, if an operand comes next
 abbrev pub term_read : ReaderAsked → List (List ℕ) → ReadSoFar
@@ -112,10 +123,17 @@ after_operand r next = if r.now.wants then next_fault r condition_faults.Empty e
 abbrev pub ops_ended : ReaderAsked → List Op
 ops_ended r = r.ops ++ op_if r.now.has_any op_or
 
+-- the level outside of a bracket that is closed: what must hold in the bracket must hold with that level, if the bracket
+-- is one conjunction, and no `!` is before it
+abbrev pub with_bracket : LevelAsked → LevelAsked → LevelAsked
+with_bracket level inner =
+    record level { joined = if level.negated || inner.has_any then level.joined else level.joined ++ inner.joined }
+
 -- a bracket is closed: what is in it is an operand of the level outside
 abbrev pub closed_in : ReaderAsked → List LevelAsked → ReadSoFar
 closed_in r [] = last_fault r condition_faults.Unopened
-closed_in r (level ∷ outer) = Ok (with_operand (record r { ops = ops_ended r; now = level; outer = outer }))
+closed_in r (level ∷ outer) =
+    Ok (with_operand (record r { ops = ops_ended r; now = with_bracket level r.now; outer = outer }))
 
 -- a bracket is opened
 abbrev pub opened : ReaderAsked → ReaderAsked

@@ -43,6 +43,24 @@ abbrev pub AreNeverBothMet : Asked → Asked → Type 0
 AreNeverBothMet one other = excludes one other ≡ true
     → (words : List (List ℕ)) → is_met_by one words ≡ true → is_met_by other words ≡ false
 
+-- these words are of lines of a text that answer the same line of the script
+abbrev pub AnswerOneLine : List (List ℕ) → List (List ℕ) → Type 0
+AnswerOneLine [] others = ⊥
+AnswerOneLine (line ∷ words) [] = ⊥
+AnswerOneLine (line ∷ words) (other ∷ others) = line ≡ other
+
+-- each line of the script has at most one answer in a text
+abbrev pub HasOneAnswerEach : List ℕ → Type 0
+HasOneAnswerEach text =
+    (i j : ℕ) (one other : List ℕ) → slice_get (lines_in text) i ≡ Some one → slice_get (lines_in text) j ≡ Some other
+    → AnswerOneLine (line_words one) (line_words other) → one ≡ other
+
+-- no text with one answer to each line satisfies two conditions of which one excludes the other
+abbrev pub AreNeverBothSatisfied : Asked → Asked → Type 0
+AreNeverBothSatisfied one other =
+    excludes one other ≡ true → (text : List ℕ) → HasOneAnswerEach text
+    → satisfies (meets one) text ≡ true → satisfies (meets other) text ≡ false
+
 -- a form is one of those that an answer to such a call can have
 abbrev pub IsFormOfCall : CallName → AnswerForm → Type 0
 IsFormOfCall call form = (at : ℕ) × (slice_get (forms_of call) at ≡ Some form)

@@ -2,7 +2,7 @@
 ghost use Rattle.std.specs.Prelude.{◌≡◌, map, ◌∷◌};
 ghost use Rattle.gt_explore_verdict.specs.Calls.{form_begun, form_begun_in, forms_of, may_answer};
 
-use crate::forms::{AnswerForm, EVERY_FORM, begins_form};
+use crate::forms::{AnswerForm, EVERY_FORM, begins_form, begins_one};
 use gt_types::{DomId, Rule};
 
 /// A kind of call.
@@ -207,9 +207,7 @@ fn forms_of(call: CallName) -> &'static [AnswerForm]
 pub fn may_answer(call: CallName, first: &[u8], more: &[&[u8]]) -> bool
     ensures { result ≡ may_answer call (first.now ∷ map (λ w. w.now) more.now) }
 {
-    forms_of(call)
-        .iter()
-        .any(|form| begins_form(*form, first, more))
+    begins_one(forms_of(call), first, more)
 }
 
 // Returns the first of these forms with which an answer can begin with these words, `Done` if there is none.

@@ -323,6 +323,13 @@ pub(crate) fn begins_form(form: AnswerForm, first: &[u8], more: &[&[u8]]) -> boo
     fits(form, 0, first) && fits_after_first(form, more)
 }
 
+/// Returns whether an answer of one of these forms can begin with these words.
+pub(crate) fn begins_one(forms: &[AnswerForm], first: &[u8], more: &[&[u8]]) -> bool
+    ensures { result ≡ list_any (λ form. begins_form form (first.now ∷ map (λ w. w.now) more.now)) forms.now }
+{
+    forms.iter().any(|form| begins_form(*form, first, more))
+}
+
 // Returns whether an answer of this form can have this word.
 fn has_place(form: AnswerForm, word: &[u8]) -> bool
     ensures { result ≡ has_place form word.now }
@@ -339,9 +346,7 @@ fn has_place(form: AnswerForm, word: &[u8]) -> bool
 pub fn may_begin(first: &[u8], more: &[&[u8]]) -> bool
     ensures { result ≡ may_begin (first.now ∷ map (λ w. w.now) more.now) }
 {
-    EVERY_FORM
-        .iter()
-        .any(|form| begins_form(*form, first, more))
+    begins_one(&EVERY_FORM, first, more)
 }
 
 /// Returns whether some answer can have this word.

@@ -27,8 +27,9 @@ pub use forms::{AnswerForm, may_begin};
 pub use judging::{Claim, Judgement, Verdict, judge, verdict_at};
 pub use laws::{
     every_expression_is_read_as_it_is_written, every_expression_that_is_read_is_a_phrase,
-    every_impossible_condition_is_never_met, every_two_that_exclude_are_never_both_met,
-    every_unanswered_condition_is_never_met,
+    every_impossible_condition_is_never_met, every_joined_term_of_a_phrase_that_holds_is_met,
+    every_two_that_exclude_are_never_both_met, every_two_that_exclude_are_never_both_satisfied,
+    every_unanswered_condition_is_never_met, no_term_of_an_expression_that_is_read_is_excluded,
 };
 pub use lines::{line_words, lines_in};
 pub use operations::{Operation, satisfies};

@@ -3,6 +3,7 @@ ghost use Rattle.std.specs.Prelude.{◌≡◌, ◌++◌, ◌+◌, ◌<◌, ◌�
 ghost use Rattle.std.specs.List.{slice_split};
 ghost use Rattle.std.specs.Prelude.{[], ◌∷◌, false, if◌then◌else◌, IfErr, IfOk, Ok};
 ghost use Rattle.gt_explore_verdict.specs.Expressions.{condition_asked, is_excluded, words_in};
+ghost use Rattle.gt_explore_verdict.specs.Reading.{is_shut_out, joined_outside, with_bracket};
 ghost use Rattle.gt_explore_verdict.specs.Formulas.{operation_asked};
 ghost use Rattle.gt_explore_verdict.specs.Reading.{chosen, closed_in, end_read, infix_read, is_sign, level_asked};
 ghost use Rattle.gt_explore_verdict.specs.Reading.{level_begun, mark_read, nothing_read, op_if, opened};
@@ -28,7 +29,7 @@ struct Level<'e> {
     wants: bool,
     // It comes after an odd number of `!`.
     negated: bool,
-    // The terms of the last conjunction that come neither after a `!` nor in a bracket.
+    // The terms that must hold with the last conjunction.
     joined: Vec<Condition<'e>>,
 }
 
@@ -88,12 +89,30 @@ fn join<'e>(
     Ok(())
 }
 
-// Returns whether one of the conditions of a conjunction excludes this one.
-fn is_shut_out(level: &Level<'_>, condition: &Condition<'_>) -> bool
-    ensures { result ≡ (if (level_asked level.now).negated then false
-        else is_excluded (level_asked level.now).joined (condition_asked condition.now)) }
+// Returns whether a condition outside of the last open bracket that must hold with those in it excludes this one.
+fn is_excluded_outside(outer: &VecDeque<Level<'_>>, condition: &Condition<'_>) -> bool
+    ensures { result ≡ is_excluded (joined_outside (map level_asked outer.now.items)) (condition_asked condition.now) }
 {
-    !level.negated && is_excluded(level.joined.as_slice(), condition)
+    'levels: for level in outer {
+        if level.negated {
+            return false;
+        }
+        if is_excluded(level.joined.as_slice(), condition) {
+            return true;
+        }
+    }
+    false
+}
+
+// Returns whether an earlier condition that must hold with this one excludes it.
+fn is_shut_out(reader: &Reader<'_>, condition: &Condition<'_>) -> bool
+    ensures { result ≡ is_shut_out (reader_asked reader.entry.now) (condition_asked condition.now) }
+{
+    if reader.now.negated {
+        return false;
+    }
+    is_excluded(reader.now.joined.as_slice(), condition)
+        || is_excluded_outside(&reader.outer, condition)
 }
 
 // Ends an operand: appends the operations of the `!` and the `&` before it.
@@ -144,7 +163,7 @@ fn read_words<'e>(reader: &mut Reader<'e>, words: Vec<&'e [u8]>) -> Result<(), E
         Ok(condition) => condition,
         Err(fault) => return Err(ExpressionFault::Term { number, fault }),
     };
-    if is_shut_out(&reader.now, &condition) {
+    if is_shut_out(reader, &condition) {
         let fault = ConditionFault::Excluded;
         return Err(ExpressionFault::Term { number, fault });
     }
@@ -183,6 +202,16 @@ fn choose(reader: &mut Reader<'_>) -> Result<(), AllocError>
     Ok(())
 }
 
+// Joins the conditions of a bracket that is closed with those of the level outside of it.
+fn join_bracket<'e>(level: &mut Level<'e>, inner: Level<'e>) -> Result<(), AllocError>
+    ensures { OnOk result (level_asked level.new ≡ with_bracket (level_asked level.old) (level_asked inner.entry)) }
+{
+    if level.negated || inner.has_any {
+        return Ok(());
+    }
+    level.joined.extend(inner.joined)
+}
+
 // Closes a bracket.
 fn close(reader: &mut Reader<'_>) -> Result<(), ExpressionFault>
     ensures ok { OnOk result (closed_in (reader_asked reader.old) (reader_asked reader.old).outer
@@ -197,7 +226,8 @@ fn close(reader: &mut Reader<'_>) -> Result<(), ExpressionFault>
         return Err(ExpressionFault::Term { number, fault });
     };
     end_conjunction(reader)?;
-    reader.now = level;
+    let inner = mem::replace(&mut reader.now, level);
+    join_bracket(&mut reader.now, inner)?;
     end_operand(reader)?;
     Ok(())
 }
@@ -385,8 +415,9 @@ fn nothing_read<'e>(alloc: Global) -> Reader<'e>
 /// Reads an expression: terms, `!` before what is denied, `&` between what must hold together, `|` between what may
 /// hold instead, and brackets; `!` binds more tightly than `&`, and `&` than `|`. A term is a word, for an answer that
 /// has it; `LINE=ANSWER`, for an answer to this line of the script that begins with these words; or `ID:ANSWER`, for an
-/// answer of this domain that does. Two terms on one line that no answer meets are refused, if `&` joins them with no
-/// `!` and no bracket around one of them. So is each term that no answer can meet, also after a `!`.
+/// answer of this domain that does. A term that no answer can meet is refused, also after a `!`. So is a term without a
+/// `!` if no answer meets both it and an earlier term on its line that must hold with it: one that only `&` joins with
+/// it, also through brackets without a `!` before them.
 ///
 /// # Errors
 /// The first fault, with the number of its term, and `Memory`.

@@ -1,9 +1,10 @@
 //! The facts of a step of a call, and of what it saw.
 ghost use Rattle.std.specs.Prelude.{◌≡◌, ◌++◌, OnOk, codes};
 ghost use Rattle.gt_explore_answers.specs.Steps.{access_start, change_name, copy_step_text, dir_name, entry_part};
-ghost use Rattle.gt_explore_answers.specs.Steps.{exchange_text, from_part, header_text, look_letters, look_text};
-ghost use Rattle.gt_explore_answers.specs.Steps.{pin_text, range_part, seen_part};
-ghost use Rattle.gt_explore_answers.specs.Steps.{step_text, store_letters, taken_part, to_part};
+ghost use Rattle.gt_explore_answers.specs.Steps.{exchange_text, from_part, header_look_text, header_text, look_letters};
+ghost use Rattle.gt_explore_answers.specs.Steps.{look_text, pin_text, range_part, read_text, seen_part, step_text};
+ghost use Rattle.gt_explore_answers.specs.Steps.{store_letters, store_text, taken_part, taken_pin_text, to_part};
+ghost use Rattle.gt_explore_answers.specs.Steps.{write_text};
 
 use crate::trace::facts::{
     TraceForm, push_move_part, push_number_part, push_value_part, push_word_part,
@@ -193,6 +194,74 @@ fn push_copy(
     push_number_part(out, form, "len", len)
 }
 
+// Appends a load of the header word of a table.
+fn push_header_look(out: &mut Vec<u8>, form: TraceForm, owner: DomId) -> Result<(), AllocError>
+    ensures { OnOk result (out.new.items ≡ out.old.items ++ header_look_text form owner) }
+{
+    push_move_part(out, form, "H")?;
+    push_number_part(out, form, "owner", owner.0)
+}
+
+// Appends a step that takes a pin, and the word that it looked at.
+fn push_taken_pin(
+    alloc: Global,
+    out: &mut Vec<u8>,
+    form: TraceForm,
+    held: HeldPin,
+) -> Result<(), AllocError>
+    ensures { OnOk result (out.new.items ≡ out.old.items ++ taken_pin_text form held) }
+{
+    push_pin(out, form, "P", held)?;
+    push_word_part(alloc, out, form, "from", held.word)
+}
+
+// Appends a store of a body word of an entry.
+fn push_store(
+    alloc: Global,
+    out: &mut Vec<u8>,
+    form: TraceForm,
+    place: (DomId, GrantRef),
+    body_word: BodyWord,
+    word: u64,
+) -> Result<(), AllocError>
+    ensures { OnOk result (out.new.items ≡ out.old.items ++ store_text form place.0 place.1 body_word word) }
+{
+    let (dom, gref) = place;
+    push_move_part(out, form, store_letters(body_word))?;
+    push_entry(out, form, dom, gref)?;
+    push_word_part(alloc, out, form, "word", word)
+}
+
+// Appends a read of bytes of a frame.
+fn push_read(
+    out: &mut Vec<u8>,
+    form: TraceForm,
+    owner: DomId,
+    frame: u64,
+    off: u16,
+    len: u16,
+) -> Result<(), AllocError>
+    ensures { OnOk result (out.new.items ≡ out.old.items ++ read_text form owner frame off len) }
+{
+    push_access(out, form, "read")?;
+    push_range(out, form, owner, frame, off, usize::from(len))
+}
+
+// Appends a write of bytes of a frame.
+fn push_write(
+    out: &mut Vec<u8>,
+    form: TraceForm,
+    owner: DomId,
+    frame: u64,
+    off: u16,
+    len: usize,
+) -> Result<(), AllocError>
+    ensures { OnOk result (out.new.items ≡ out.old.items ++ write_text form owner frame off len) }
+{
+    push_access(out, form, "write")?;
+    push_range(out, form, owner, frame, off, len)
+}
+
 /// Appends a step of a call of this domain.
 #[tactic(auto, unfolding(crate::specs::Steps::step_text))]
 pub fn push_step(
@@ -205,54 +274,38 @@ pub fn push_step(
     ensures { OnOk result (out.new.items ≡ out.old.items ++ step_text form dom step) }
 {
     match step {
-        Step::LookHeader { dom: owner } => {
-            push_move_part(out, form, "H")?;
-            push_number_part(out, form, "owner", owner.0)
-        }
+        Step::LookHeader { dom: owner } => push_header_look(out, form, owner),
         Step::LookControl { dom: owner, gref } => push_look(out, form, "C", owner, gref),
         Step::LookBody {
             dom: owner,
             gref,
             body_word,
         } => push_look(out, form, look_letters(body_word), owner, gref),
-        Step::Pin { held } => {
-            push_pin(out, form, "P", held)?;
-            push_word_part(alloc, out, form, "from", held.word)
-        }
+        Step::Pin { held } => push_taken_pin(alloc, out, form, held),
         Step::Unpin { held, .. } => push_pin(out, form, "U", held),
         Step::StoreBody {
             gref,
             body_word,
             word,
-        } => {
-            push_move_part(out, form, store_letters(body_word))?;
-            push_entry(out, form, dom, gref)?;
-            push_word_part(alloc, out, form, "word", word)
-        }
+        } => push_store(alloc, out, form, (dom, gref), body_word, word),
         Step::Exchange {
             gref,
             looked,
             change,
-        } => { push_exchange(alloc, out, form, (dom, gref), looked, change) }
+        } => push_exchange(alloc, out, form, (dom, gref), looked, change),
         Step::StoreHeader { version, frames } => push_header(out, form, dom, version, frames),
         Step::Read {
             dom: owner,
             frame,
             off,
             len,
-        } => {
-            push_access(out, form, "read")?;
-            push_range(out, form, owner, frame, off, usize::from(len))
-        }
+        } => push_read(out, form, owner, frame, off, len),
         Step::Write {
             dom: owner,
             frame,
             off,
             len,
-        } => {
-            push_access(out, form, "write")?;
-            push_range(out, form, owner, frame, off, len)
-        }
+        } => push_write(out, form, owner, frame, off, len),
         Step::Copy { from, to, len } => push_copy(out, form, from, to, len),
     }
 }

@@ -51,6 +51,13 @@ fn push_words(out: &mut Vec<u8>, words: &[&[u8]], name: Option<&[u8]>) -> Result
         let shown = if at == LABEL { name } else { None };
         push_word(out, shown.unwrap_or(word))?;
     }
+    Ok(())
+}
+
+// Appends the end of the line of a call: the number of its line in the script, as a comment.
+fn push_origin(out: &mut Vec<u8>, number: usize) -> Result<(), AllocError> {
+    push_text(out, "  # line ")?;
+    push_number(out, number)?;
     push_text(out, "\n")
 }
 
@@ -66,7 +73,8 @@ fn push_begin(
         return Ok(());
     };
     let words = line_words(alloc, line)?;
-    push_words(out, words.as_slice(), name)
+    push_words(out, words.as_slice(), name)?;
+    push_origin(out, number)
 }
 
 // Appends the line that begins to unmap a mapping of this name at the end of a list.
