@@ -1,9 +1,12 @@
 -- The lines that the faults of an exploration print.
 use Rattle.std.specs.Prelude.{ℕ, List, ◌++◌, codes, decimal}
 use Rattle.gt_script_runs.specs.Faults.{play_fault_text}
+use Rattle.gt_script_runs.specs.declared.fault.PlayFault.TheVariants as play_faults
 use Rattle.gt_explore_verdict.specs.Faults.{expression_fault_text}
 use Rattle.gt_explore_verdict.specs.declared.fault.ExpressionFault.{ExpressionFault}
 use Rattle.gt_explore_verdict.specs.declared.fault.ExpressionFault.TheVariants as expression_faults
+use Rattle.gt_explore_faults.specs.declared.claims.ClaimsFault.{ClaimsFault}
+use Rattle.gt_explore_faults.specs.declared.claims.ClaimsFault.TheVariants as claims_faults
 use Rattle.gt_explore_faults.specs.declared.fault.ExploreFault.{ExploreFault}
 use Rattle.gt_explore_faults.specs.declared.fault.ExploreFault.TheVariants.{Play, Term, Text, Number, Unfound, Texts}
 use Rattle.gt_explore_faults.specs.declared.fault.TextFault.{TextFault}
@@ -35,3 +38,17 @@ explore_fault_text (Texts fault) = texts_fault_text fault
 abbrev pub expression_fault : ExpressionFault → ExploreFault
 expression_fault expression_faults.Memory = Texts Memory
 expression_fault (expression_faults.Term number fault) = Term number fault
+
+-- want of memory as the fault of an exploration with claims
+abbrev pub claims_memory : ClaimsFault
+claims_memory = claims_faults.Explore (Play play_faults.Memory)
+
+abbrev pub claims_fault_text : ClaimsFault → List ℕ
+claims_fault_text (claims_faults.Explore fault) = explore_fault_text fault
+claims_fault_text (claims_faults.Kind number) =
+    codes "claim " ++ decimal number ++ codes ": not find, never or always"
+claims_fault_text (claims_faults.Term claim number fault) =
+    codes "claim " ++ decimal claim ++ codes ": " ++ expression_fault_text (expression_faults.Term number fault)
+claims_fault_text (claims_faults.Repeated first second) =
+    codes "the same name on lines " ++ decimal first ++ codes " and " ++ decimal second
+claims_fault_text claims_faults.Astray = codes "astray"

@@ -1,0 +1,4 @@
+pub mod Answering
+pub mod Deciding
+pub mod Exploring
+pub mod Stating
