@@ -11,8 +11,8 @@ use Rattle.gt_policy_list.specs.Faults.{listing_fault_of, listing_read_fault}
 use Rattle.gt_policy_list.specs.Reading.{IsNoText}
 use Rattle.gt_policy_list.specs.declared.fault.ListingFault.{ListingFault}
 use Rattle.gt_policy_list.specs.declared.fault.ListingFault.TheVariants as listing_faults
-use Rattle.gt_neverallow.specs.Breaking.{AreBreaches}
-use Rattle.gt_neverallow.specs.declared.breaking.NeverFindings.{NeverFindings}
+use Rattle.gt_neverflow.specs.Finding.{AreBreaches}
+use Rattle.gt_neverflow.specs.declared.finding.NeverFindings.{NeverFindings}
 use Rattle.gt_text.specs.Laws.{keeps_same, of_any_input}
 use Rattle.gt_text.specs.Streams.{OfInput}
 use Rattle.gt_text.specs.declared.fault.ReadFault.{ReadFault}

@@ -7,9 +7,10 @@ use Rattle.gt_policy.specs.Whole.{ReadsAs}
 use Rattle.gt_policy.specs.declared.fault.TokenFault.{TokenFault}
 use Rattle.gt_policy_check.specs.declared.report.ReportForm.{ReportForm}
 use Rattle.gt_policy_list.specs.declared.fault.ListingFault.TheVariants as listing_faults
-use Rattle.gt_neverallow.specs.Breaking.{AreBreaches, IsNeverFault, has_no_breach}
-use Rattle.gt_neverallow.specs.Printing.{IsNeverReport}
-use Rattle.gt_neverallow.specs.declared.breaking.NeverFindings.{NeverFindings}
+use Rattle.gt_neverallow.specs.Breaking.{IsNeverFault}
+use Rattle.gt_neverflow.specs.Finding.{AreBreaches, has_no_breach}
+use Rattle.gt_neverflow.specs.Printing.{IsNeverReport}
+use Rattle.gt_neverflow.specs.declared.finding.NeverFindings.{NeverFindings}
 use Rattle.gt_neverallow.specs.declared.fault.NeverFault.TheVariants as never_faults
 use Rattle.gt_text.specs.Streams.{AppendsBeginning}
 use Rattle.gt_check_command.specs.Checking.{Checked}

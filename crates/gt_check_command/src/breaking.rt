@@ -1,12 +1,13 @@
 //! Checks a policy against `neverallow` and `neverflow` statements, and writes the breaches.
 ghost use Rattle.std.specs.Prelude.{◌≡◌, ◌+◌, ℕ, List, take, IfOk};
 ghost use Rattle.gt_types.specs.declared.limits.TheConstants.{LONGEST_TEXT};
-ghost use Rattle.gt_neverallow.specs.Printing.{IsNeverReport};
+ghost use Rattle.gt_neverflow.specs.Printing.{IsNeverReport};
 ghost use Rattle.gt_text.specs.Streams.{OfInput};
 ghost use Rattle.gt_check_command.specs.Breaking.{CheckedNever, CheckedNeverText, WritesBreaches};
 
 use crate::fault::BreachFault;
-use gt_neverallow::{BrokenTexts, NeverFault, NeverFindings, breaches, push_never_findings};
+use gt_neverallow::NeverFault;
+use gt_neverflow::{BrokenTexts, NeverFindings, breaches, push_never_findings};
 use gt_policy_check::ReportForm;
 use gt_policy_list::{ListingFault, policy_text};
 use gt_text::{finish, read_text};

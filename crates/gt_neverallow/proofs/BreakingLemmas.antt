@@ -29,8 +29,8 @@ use Rattle.gt_policy_check.specs.declared.members.Member.{Member}
 use Rattle.gt_policy_check.proofs.CheckLemmas.{filter_all}
 use Rattle.gt_policy_check.proofs.GrantLemmas.{any_and, any_asked, any_never, any_same, by_names, held}
 use Rattle.gt_neverallow.specs.Breaking.{breaks, breaks_by, breaks_some, breaks_with, broken, broken_by, example_text}
-use Rattle.gt_neverallow.specs.Flowing.{chosen_by}
-use Rattle.gt_neverallow.specs.Breaking.{chooses_self, classes_in, denies, forbids, forbids_source, forbids_target, is_chosen, is_example}
+use Rattle.gt_neverallow.specs.Breaking.{chooses_self, chosen_by, classes_in, denies, forbids, forbids_source, forbids_target}
+use Rattle.gt_neverallow.specs.Breaking.{is_chosen, is_example}
 use Rattle.gt_neverallow.specs.Breaking.{pairs_if, shows_by, shows_some, shows_with, AddsBreaches, AreBroken, AreUnknown, IsBreach, IsBrokenOn, BreachIsShown}
 use Rattle.gt_neverallow.specs.declared.breaking.Breach.{Breach}
 use Rattle.gt_neverallow.specs.declared.statement.NeverStatement.{NeverStatement}

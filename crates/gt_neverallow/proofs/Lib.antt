@@ -2,4 +2,3 @@ pub mod BreakingLemmas
 pub mod NamingLemmas
 pub mod PrintingLemmas
 pub mod ReadingLemmas
-mod FlowingLemmas

@@ -1,5 +1,5 @@
 -- Which allow statements of a policy break which neverallow statements.
-use Rattle.std.specs.Prelude.{◌≡◌, ◌==◌, ℕ, Bool, true, false, not, vec_len, ◌&&◌, ◌||◌, List, [], ◌∷◌, ◌++◌, map, filter, Some, Ok}
+use Rattle.std.specs.Prelude.{◌≡◌, ℕ, Bool, true, false, not, ◌&&◌, ◌||◌, List, [], ◌∷◌, ◌++◌, map, filter, Some, Ok}
 use Rattle.std.specs.Prelude.{Err, if◌then◌else◌, codes, All, Contains}
 use Rattle.std.specs.List.{flat_map, list_any, AllZip}
 use Rattle.std.specs.Str.{bytes_eq}
@@ -20,12 +20,10 @@ use Rattle.gt_policy.specs.declared.statements.Statement.TheVariants.{Allow}
 use Rattle.gt_policy_check.specs.Check.{HasColumn, error_lines}
 use Rattle.gt_policy_check.specs.Words.{class_lines, unknown_line}
 use Rattle.gt_policy_check.specs.declared.findings.Finding.{Finding}
-use Rattle.gt_policy_check.specs.Granting.{gives_source, reaches_by}
+use Rattle.gt_policy_check.specs.Granting.{elements_hold, gives_source, reaches_by}
 use Rattle.gt_policy_check.specs.declared.members.Member.{Member}
-use Rattle.gt_neverallow.specs.Flowing.{AreFlowBreaches, chosen_by}
 use Rattle.gt_neverallow.specs.Naming.{ReadsAsNever}
 use Rattle.gt_neverallow.specs.declared.breaking.Breach.{Breach}
-use Rattle.gt_neverallow.specs.declared.breaking.NeverFindings.{NeverFindings}
 use Rattle.gt_neverallow.specs.declared.fault.NeverFault.{NeverFault}
 use Rattle.gt_neverallow.specs.declared.fault.NeverFault.TheVariants.{ForbidsNothing, Policy, Statements}
 use Rattle.gt_neverallow.specs.declared.statement.Forbidden.{Forbidden}
@@ -126,16 +124,11 @@ abbrev pub first_line : List NeverStatement → ℕ
 first_line [] = 1
 first_line (n ∷ ns) = n.line
 
--- the breaches of a policy by a text of such statements, of which some forbids permissions of class `grant` or flows
-abbrev pub AreBreaches : List ℕ → List ℕ → NeverFindings → Type 0
-AreBreaches policy never found =
-    (m : Meaning) × (xs : List LinedStatement) × (ns : List NeverStatement) × ReadsAs policy (Ok m) × IsLined policy xs
-    × ReadsAsNever xs never (Ok ns) × (list_any forbids_some ns ≡ true) × AreUnknown never ns found.words.items
-    × AreBroken xs ns found.breaches.items × AreFlowBreaches m xs ns found.flows.items
-
--- there is no breach, of a neverallow or a neverflow statement
-abbrev pub has_no_breach : NeverFindings → Bool
-has_no_breach found = (vec_len found.breaches == 0) && (vec_len found.flows == 0)
+-- The statements of a policy and of a text about it, of which some forbids permissions of class `grant` or flows.
+abbrev pub ReadsTexts : List ℕ → List ℕ → List LinedStatement → List NeverStatement → Type 0
+ReadsTexts policy never xs ns =
+    (m : Meaning) × ReadsAs policy (Ok m) × IsLined policy xs × ReadsAsNever xs never (Ok ns)
+    × (list_any forbids_some ns ≡ true)
 
 -- why there is no answer: the first fault of the policy, or of the text of such statements for that policy, or no
 -- statement forbids permissions of class `grant` or flows; a fault that shows nothing is a failed allocation
@@ -149,6 +142,12 @@ IsNeverFault policy never (ForbidsNothing line) =
     × ReadsAsNever xs never (Ok ns) × (list_any forbids_some ns ≡ false) × (line ≡ first_line ns)
 
 -- ---- by types with the names that denote them
+
+-- the choice has a type, by the names that denote it: its own, and those of its attributes
+abbrev pub chosen_by : TypeChoice → List (List ℕ) → Bool
+chosen_by Every names = true
+chosen_by (Of items) names = elements_hold names items
+chosen_by (But items) names = not (elements_hold names items)
 
 abbrev pub forbids_source : List ℕ → Member → NeverStatement → Bool
 forbids_source w s n = denies n.what w && chosen_by n.source s.names

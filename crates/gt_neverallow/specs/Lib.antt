@@ -1,5 +1,4 @@
 pub mod Breaking
-pub mod Flowing
-pub mod Reading
 pub mod Naming
 pub mod Printing
+pub mod Reading

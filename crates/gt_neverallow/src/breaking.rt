@@ -1,19 +1,12 @@
-//! Which allow statements of a policy break which `neverallow` statements, and all findings about a text of these.
-ghost use Rattle.std.specs.Prelude.{◌≡◌, [], IfOk, IfErr, OnOk};
+//! Which allow statements of a policy break which `neverallow` statements.
+ghost use Rattle.std.specs.Prelude.{[], IfOk, OnOk};
 ghost use Rattle.std.specs.List.{flat_map};
-ghost use Rattle.gt_neverallow.specs.Breaking.{AddsBreaches, AreBreaches, AreBroken, AreUnknown, IsNeverFault};
-ghost use Rattle.gt_neverallow.specs.Breaking.{breaks_with};
-ghost use Rattle.gt_neverallow.specs.Breaking.{broken_by, pairs_if};
+ghost use Rattle.gt_neverallow.specs.Breaking.{AddsBreaches, AreBroken, breaks_with, broken_by, pairs_if};
 
 use crate::example::breach_example;
-use crate::fault::NeverFault;
-use crate::flowing::{FlowBreach, flow_breaches};
-use crate::forbidding::{first_line, some_forbids};
-use crate::reading::read_nevers;
 use crate::statement::NeverStatement;
-use crate::words::unknown_words;
-use gt_policy::{LinedStatement, PolicyFault, PolicyFaultKind};
-use gt_policy_check::{Finding, Member, members_of, read_policy};
+use gt_policy::LinedStatement;
+use gt_policy_check::{Member, members_of};
 use std::alloc::{AllocError, Global};
 
 /// An allow statement that grants what a `neverallow` statement forbids.
@@ -25,29 +18,6 @@ pub struct Breach {
     pub forbidden: u32,
     /// Some source, permission and target that the one grants and the other forbids, separated by blanks.
     pub example: Vec<u8>,
-}
-
-/// What was found in `neverallow` statements and by them.
-#[derive(Drop)]
-pub struct NeverFindings {
-    /// A finding of the text for each word of a statement that nothing knows.
-    pub words: Vec<Finding>,
-    /// The broken `neverallow` statements.
-    pub breaches: Vec<Breach>,
-    /// The broken `neverflow` statements.
-    pub flows: Vec<FlowBreach>,
-}
-
-impl NeverFindings {
-    ghost use Rattle.std.specs.Prelude.{◌≡◌};
-    ghost use Rattle.gt_neverallow.specs.Breaking.{has_no_breach};
-
-    /// Returns whether no statement is broken.
-    pub fn is_clean(&self) -> bool
-        ensures { result ≡ has_no_breach self.now }
-    {
-        self.breaches.is_empty() && self.flows.is_empty()
-    }
 }
 
 // Adds a breach, if the statement breaks the `neverallow` statement.
@@ -106,8 +76,10 @@ fn all_broken(
     Ok(found)
 }
 
-// Returns the breaches of the statements of a policy.
-fn breaches_of(
+/// Returns the breaches of these `neverallow` statements by the statements of a policy: each allow statement that grants
+/// something that a `neverallow` statement forbids, once for each such statement, in the order of the policy. An
+/// attribute means its types.
+pub fn breaches_of(
     alloc: Global,
     statements: &[LinedStatement],
     nevers: &[NeverStatement],
@@ -117,67 +89,4 @@ fn breaches_of(
     let members = members_of(alloc, statements, None)?;
     let found = all_broken(alloc, statements, nevers, members.as_slice())?;
     Ok(found)
-}
-
-// Returns the findings about these statements, which the text has, with these breaches of `neverflow` statements.
-fn found_by(
-    alloc: Global,
-    statements: &[LinedStatement],
-    never: &str,
-    nevers: &[NeverStatement],
-    flows: Vec<FlowBreach>,
-) -> Result<NeverFindings, AllocError>
-    ensures words { IfOk result (λ found. AreUnknown never.now nevers.now found.words.items) }
-    ensures broken { IfOk result (λ found. AreBroken statements.now nevers.now found.breaches.items) }
-    ensures flows { IfOk result (λ found. found.flows.items ≡ flows.items) }
-{
-    let words = unknown_words(alloc, never, nevers)?;
-    let breaches = breaches_of(alloc, statements, nevers)?;
-    Ok(NeverFindings {
-        words,
-        breaches,
-        flows,
-    })
-}
-
-/// Returns each allow statement of a policy that grants something that a `neverallow` statement of the other text
-/// forbids, once for each such statement, in the order of the policy; and each flow that a `neverflow` statement of
-/// that text forbids, if the policy has a path. An attribute means its types, and the names in the other text are those
-/// of the policy. A class in that text that Xen's FLASK policy doesn't have is a finding.
-///
-/// The error is the first fault of the policy, or else of the other text, or that no statement of the other text
-/// forbids permissions of class `grant` or flows. If an allocation fails, its kind is [`PolicyFaultKind::Memory`], with
-/// line 0.
-pub fn breaches(alloc: Global, policy: &str, never: &str) -> Result<NeverFindings, NeverFault>
-    ensures ok { IfOk result (λ found. AreBreaches policy.now never.now found) }
-    ensures fault { IfErr result (λ e. IsNeverFault policy.now never.now e) }
-{
-    let statements = match read_policy(alloc, policy) {
-        Ok(statements) => statements,
-        Err(fault) => return Err(NeverFault::Policy(fault)),
-    };
-    let nevers = match read_nevers(alloc, statements.as_slice(), never) {
-        Ok(nevers) => nevers,
-        Err(fault) => return Err(NeverFault::Statements(fault)),
-    };
-    if !some_forbids(nevers.as_slice()) {
-        return Err(NeverFault::ForbidsNothing(first_line(nevers.as_slice())));
-    }
-    let flows = match flow_breaches(alloc, policy, statements.as_slice(), nevers.as_slice()) {
-        Ok(flows) => flows,
-        Err(error) => return Err(NeverFault::Policy(error)),
-    };
-    match found_by(
-        alloc,
-        statements.as_slice(),
-        never,
-        nevers.as_slice(),
-        flows,
-    ) {
-        Ok(found) => Ok(found),
-        Err(_) => Err(NeverFault::Policy(PolicyFault {
-            line: 0,
-            kind: PolicyFaultKind::Memory,
-        })),
-    }
 }

@@ -3,9 +3,8 @@ ghost use Rattle.std.specs.Prelude.{◌≡◌};
 ghost use Rattle.std.specs.List.{list_any};
 ghost use Rattle.gt_types.specs.Names.{every_permission, permission_name};
 ghost use Rattle.gt_policy.specs.Granting.{lists_word};
-ghost use Rattle.gt_neverallow.specs.Breaking.{chooses_self, denies, first_line, forbids_some};
+ghost use Rattle.gt_neverallow.specs.Breaking.{chooses_self, chosen_by, denies, first_line, forbids_some};
 ghost use Rattle.gt_neverallow.specs.Breaking.{forbids_source, forbids_target};
-ghost use Rattle.gt_neverallow.specs.Flowing.{chosen_by};
 
 use crate::statement::{Forbidden, NeverStatement, TypeChoice};
 use gt_policy::Permissions;
@@ -13,7 +12,7 @@ use gt_policy_check::{Member, has_grant, has_self, holds, is_same, lists};
 use gt_types::Perms;
 
 /// Returns whether a choice of types has the type.
-pub(crate) fn is_chosen(choice: &TypeChoice, member: &Member) -> bool
+pub fn is_chosen(choice: &TypeChoice, member: &Member) -> bool
     ensures { result ≡ chosen_by choice.now member.now.names }
 {
     match choice {

@@ -1,9 +1,9 @@
 //! The `neverallow` statements of the SELinux policy language, and the allow statements of a policy that break them.
 //!
-//! A `neverallow` statement grants nothing: it lists what no allow statement of the policy may grant. [`breaches`]
-//! reads a policy and a text of such statements, and returns each pair of an allow statement and a `neverallow`
-//! statement that forbids something that the first one grants. [`push_never_findings`] prints them, in the layout of
-//! compilers or as JSON.
+//! A `neverallow` statement grants nothing: it lists what no allow statement of the policy may grant. [`read_texts`]
+//! reads a policy and a text of such statements, and [`breaches_of`] returns each pair of an allow statement and a
+//! `neverallow` statement that forbids something that the first one grants. [`push_breaches`] prints them, in the layout
+//! of compilers or as JSON. The text may have `neverflow` statements too, which `gt_neverflow` compares with the policy.
 //!
 //! It is proved that the pairs are exactly those for which some source, target and permission are granted by the one
 //! and forbidden by the other, and that the example of a pair is such a source, permission and target. The pairs have
@@ -17,7 +17,6 @@
 mod breaking;
 mod example;
 mod fault;
-mod flowing;
 mod forbidding;
 mod names;
 mod parser;
@@ -26,8 +25,10 @@ mod reading;
 mod statement;
 mod words;
 
-pub use breaking::{Breach, NeverFindings, breaches};
+pub use breaking::{Breach, breaches_of};
 pub use fault::NeverFault;
-pub use flowing::FlowBreach;
-pub use printing::{BrokenTexts, push_never_findings};
+pub use forbidding::is_chosen;
+pub use printing::{LinedTexts, push_breaches};
+pub use reading::{ReadTexts, read_texts};
 pub use statement::{Forbidden, NeverStatement, TypeChoice};
+pub use words::unknown_words;

@@ -1,20 +1,30 @@
-//! Reads the `neverallow` statements of a text, for a policy.
+//! Reads a policy, and the `neverallow` and `neverflow` statements of a text about it.
 ghost use Rattle.std.specs.Prelude.{◌≡◌, ◌≤◌, length, IfOk, IfErr, IfSome, Some, None, Ok, Err, [], ◌↔◌};
 ghost use Rattle.gt_policy.specs.Shown.{fault_shown, out_of_memory};
 ghost use Rattle.gt_policy.specs.declared.fault.TokenFault.{TokenFault};
 ghost use Rattle.gt_policy_text.specs.Lexing.{lexemes_of};
+ghost use Rattle.gt_neverallow.specs.Breaking.{IsNeverFault, ReadsTexts};
 ghost use Rattle.gt_neverallow.specs.Naming.{ReadsAsNever, named_with, mentions_of, undeclared};
 ghost use Rattle.gt_neverallow.specs.Reading.{ReadsTo};
 ghost use Rattle.std.specs.List.{flat_map};
 
-use crate::fault::{ParseError, TokenKind, fault_of};
+use crate::fault::{NeverFault, ParseError, TokenKind, fault_of};
+use crate::forbidding::{first_line, some_forbids};
 use crate::names::undeclared;
 use crate::parser::statements;
 use crate::statement::NeverStatement;
 use gt_policy::{Items, LinedStatement, PolicyFault, PolicyFaultKind};
+use gt_policy_check::read_policy;
 use gt_policy_text::Lexer;
 use gt_types::LONGEST_TEXT;
 use std::alloc::Global;
+
+/// The statements of a policy, and the `neverallow` and `neverflow` statements of a text about it.
+#[derive(Drop)]
+pub struct ReadTexts<'p, 'n> {
+    pub policy: Items<LinedStatement<'p>>,
+    pub nevers: Items<NeverStatement<'n>>,
+}
 
 fn parsed<'a>(alloc: Global, text: &'a [u8]) -> Result<Items<NeverStatement<'a>>, ParseError<'a>>
     requires { length text.now ≤ LONGEST_TEXT }
@@ -58,9 +68,9 @@ fn named<'a>(
     }
 }
 
-/// Returns the `neverallow` statements of a text, or its first fault, for the policy of these statements. If an
-/// allocation fails, the fault is [`PolicyFaultKind::Memory`] with line 0.
-pub(crate) fn read_nevers<'a>(
+// Returns the statements of a text, or its first fault, for the policy of these statements. If an allocation fails, the
+// fault is `Memory` with line 0.
+fn read_nevers<'a>(
     alloc: Global,
     policy: &[LinedStatement],
     text: &'a str,
@@ -79,5 +89,34 @@ pub(crate) fn read_nevers<'a>(
     match parsed(alloc, text.as_bytes()) {
         Ok(nevers) => named(alloc, policy, nevers),
         Err(error) => Err(fault_of(alloc, error)),
+    }
+}
+
+/// Returns the statements of a policy and of a text of `neverallow` and `neverflow` statements. The names in these are
+/// those of the policy.
+///
+/// # Errors
+/// The first fault of the policy, or else of the other text, or that no statement of the other text forbids permissions
+/// of class `grant` or flows. If an allocation fails, its kind is [`PolicyFaultKind::Memory`], with line 0.
+pub fn read_texts<'p, 'n>(
+    alloc: Global,
+    policy: &'p str,
+    never: &'n str,
+) -> Result<ReadTexts<'p, 'n>, NeverFault>
+    ensures ok { IfOk result (λ read. ReadsTexts policy.entry.now never.entry.now read.policy read.nevers) }
+    ensures fault { IfErr result (λ e. IsNeverFault policy.entry.now never.entry.now e) }
+{
+    let policy = match read_policy(alloc, policy) {
+        Ok(statements) => statements,
+        Err(fault) => return Err(NeverFault::Policy(fault)),
+    };
+    let nevers = match read_nevers(alloc, policy.as_slice(), never) {
+        Ok(nevers) => nevers,
+        Err(fault) => return Err(NeverFault::Statements(fault)),
+    };
+    if some_forbids(nevers.as_slice()) {
+        Ok(ReadTexts { policy, nevers })
+    } else {
+        Err(NeverFault::ForbidsNothing(first_line(nevers.as_slice())))
     }
 }

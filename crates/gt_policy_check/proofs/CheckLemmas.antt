@@ -18,7 +18,7 @@ use Rattle.gt_policy.specs.declared.statements.Statement.{Statement}
 use Rattle.gt_policy.specs.declared.statements.Statement.TheVariants.{DeclareType, DeclareAttribute, GiveAttributes}
 use Rattle.gt_policy.specs.declared.statements.Statement.TheVariants.{Allow}
 use Rattle.gt_policy_check.specs.declared.findings.Finding.{Finding}
-use Rattle.gt_policy_check.specs.Check.{is_useless_with, allows_nothing, useless_line, is_error, is_of_nothing, is_of_repeat}
+use Rattle.gt_policy_check.specs.Check.{is_useless_with, allows_nothing, useless_line, is_error, is_of_nothing, is_of_repeat, line_if}
 use Rattle.gt_policy_check.specs.Check.{error_lines, nothing_lines, repeat_lines, Quiet, AddsUseless, HasColumn, HasFaultColumn, Judges, faulty}
 use Rattle.gt_policy_check.specs.Check.{grants_something, grants_with, grants_no_more, no_more_with, repeats, repeats_with}
 use Rattle.gt_policy_check.specs.Check.{repeated_with, lines_repeated}
@@ -72,14 +72,8 @@ lines_more f old new x is = ap (λ (l : List Finding). flat_map f l) is ∙ flat
 no_line : (b : Bool) (n : ℕ) → b ≡ false → (if b then n ∷ [] else []) ≡ []
 no_line b n e = rw e refl
 
-a_line : (b : Bool) (n : ℕ) → b ≡ true → (if b then n ∷ [] else []) ≡ n ∷ []
-a_line b n e = rw e refl
-
 nothing_more : (old new added : List ℕ) → new ≡ old ++ added → added ≡ [] → new ≡ old
 nothing_more old new added e none = e ∙ ap (λ (l : List ℕ). old ++ l) none ∙ append-nil old
-
-no_more : (old new : List ℕ) → new ≡ old → new ≡ old ++ []
-no_more old new is = is ∙ sym (append-nil old)
 
 pub class_push : (old new : List Finding) (x : Finding) → new ≡ old ++ x ∷ [] → class_lines new ≡ class_lines old ++ class_line x.kind x.line
 class_push old new x is = lines_more (λ y. class_line y.kind y.line) old new x is
@@ -97,22 +91,21 @@ module _ (old new : List Finding) (x : Finding) (is : new ≡ old ++ x ∷ []) w
   no_repeat_more quiet =
       nothing_more (repeat_lines old) (repeat_lines new) (if is_of_repeat x.kind then x.line ∷ [] else []) (lines_more (λ y. if is_of_repeat y.kind then y.line ∷ [] else []) old new x is) (no_line (is_of_repeat x.kind) x.line quiet)
 
-  a_statement_more : is_of_nothing x.kind ≡ true → nothing_lines new ≡ nothing_lines old ++ x.line ∷ []
-  a_statement_more tells =
-      lines_more (λ y. if is_of_nothing y.kind then y.line ∷ [] else []) old new x is ∙ ap (λ (l : List ℕ). nothing_lines old ++ l) (a_line (is_of_nothing x.kind) x.line tells)
-
-  a_repeat_more : is_of_repeat x.kind ≡ true → repeat_lines new ≡ repeat_lines old ++ x.line ∷ []
-  a_repeat_more tells =
-      lines_more (λ y. if is_of_repeat y.kind then y.line ∷ [] else []) old new x is ∙ ap (λ (l : List ℕ). repeat_lines old ++ l) (a_line (is_of_repeat x.kind) x.line tells)
-
 pub quiet_push : (old new : List Finding) (x : Finding) → is_error x.kind ≡ false → is_of_nothing x.kind ≡ false → is_of_repeat x.kind ≡ false → new ≡ old ++ x ∷ [] → Quiet old new
 quiet_push old new x fine nothing repeat is = (no_error_more old new x is fine, no_statement_more old new x is nothing, no_repeat_more old new x is repeat)
 
-pub nothing_push : (old new : List Finding) (x : Finding) → is_error x.kind ≡ false → is_of_nothing x.kind ≡ true → is_of_repeat x.kind ≡ false → new ≡ old ++ x ∷ [] → AddsUseless old new (x.line ∷ []) []
-nothing_push old new x fine tells repeat is = (no_error_more old new x is fine, a_statement_more old new x is tells, no_more (repeat_lines old) (repeat_lines new) (no_repeat_more old new x is repeat))
+pub statement_push : (old new : List Finding) (x : Finding) → is_error x.kind ≡ false → new ≡ old ++ x ∷ []
+    → AddsUseless old new (line_if (is_of_nothing x.kind) x.line) (line_if (is_of_repeat x.kind) x.line)
+statement_push old new x fine is = (
+  no_error_more old new x is fine,
+  lines_more (λ y. line_if (is_of_nothing y.kind) y.line) old new x is,
+  lines_more (λ y. line_if (is_of_repeat y.kind) y.line) old new x is,
+)
 
-pub repeat_push : (old new : List Finding) (x : Finding) → is_error x.kind ≡ false → is_of_nothing x.kind ≡ false → is_of_repeat x.kind ≡ true → new ≡ old ++ x ∷ [] → AddsUseless old new [] (x.line ∷ [])
-repeat_push old new x fine nothing tells is = (no_error_more old new x is fine, no_more (nothing_lines old) (nothing_lines new) (no_statement_more old new x is nothing), a_repeat_more old new x is tells)
+-- no line was added
+pub adds_quietly : (old new : List Finding) → AddsUseless old new [] [] → Quiet old new
+adds_quietly old new (errors, nothing, repeated) =
+    (errors, nothing ∙ append-nil (nothing_lines old), repeated ∙ append-nil (repeat_lines old))
 
 -- a statement that repeats another, and then a note
 pub repeat_then_note : (a b c : List Finding) (repeated : List ℕ) → AddsUseless a b [] repeated → Quiet b c → AddsUseless a c [] repeated

@@ -4,7 +4,8 @@ use Rattle.std.specs.Prelude.{All}
 use Rattle.std.proofs.lemmas.List.{append-nil}
 use Rattle.std.proofs.lemmas.List.Concat.{flat_map-append}
 use Rattle.std.proofs.lemmas.List.Elements.{All-push}
-use Rattle.gt_policy_check.specs.Check.{HasColumn, HasColumnAs, IsAtQuoted, KeepsColumns, QuotesWord, error_columns, is_error, is_of_word}
+use Rattle.gt_policy_check.specs.Check.{HasColumn, HasColumnAs, IsAtAllow, IsAtQuoted, KeepsColumns, QuotesWord}
+use Rattle.gt_policy_check.specs.Check.{error_columns, is_error, is_of_statement, is_of_word}
 use Rattle.gt_policy_check.specs.Placing.{AddsSome}
 use Rattle.gt_policy_check.specs.Columns.{IsColumnOf}
 use Rattle.gt_policy_check.specs.declared.findings.Finding.{Finding}
@@ -56,3 +57,24 @@ keeps_word text word bytes number x old new kind quotes line is column added =
     let on_line : IsColumnOf text x.line bytes x.column = subst (λ (n : ℕ). IsColumnOf text n bytes x.column) line column in
     let of_word : IsColumnOf text x.line word x.column = subst (λ (w : List ℕ). IsColumnOf text x.line w x.column) is on_line in
     keeps_push text old new x (quoted_column text x.kind x kind (word, quotes, of_word)) added
+
+-- a finding about an allow statement
+allow_column : (text : List ℕ) (kind : FindingKind) (x : Finding) → is_of_statement kind ≡ true → IsAtAllow text x
+    → HasColumnAs kind text x
+allow_column text finding_kinds.Fault x is has = tt
+allow_column text finding_kinds.OtherClass x is has = absurd (cc)
+allow_column text finding_kinds.OtherPermission x is has = absurd (cc)
+allow_column text finding_kinds.AllowsNothing x is has = has
+allow_column text finding_kinds.NeverAsked x is has = absurd (cc)
+allow_column text finding_kinds.Repeats x is has = has
+allow_column text finding_kinds.NeverNamed x is has = absurd (cc)
+allow_column text finding_kinds.NoDomain x is has = absurd (cc)
+allow_column text finding_kinds.NeverMatters x is has = has
+allow_column text finding_kinds.NeverMapped x is has = tt
+allow_column text finding_kinds.AlwaysRefused x is has = tt
+allow_column text finding_kinds.Note x is has = absurd (cc)
+
+pub keeps_statement : (text : List ℕ) (old new : List Finding) (x : Finding) → is_of_statement x.kind ≡ true
+    → IsAtAllow text x → new ≡ old ++ x ∷ [] → KeepsColumns text old new
+keeps_statement text old new x kind column added =
+    keeps_push text old new x (allow_column text x.kind x kind column) added

@@ -94,3 +94,15 @@ as_text Text file found old new is adds = adds
 as_text Colored file found old new is adds = adds
 as_text Json file found old new (inl is) adds = absurd (cc is)
 as_text Json file found old new (inr is) adds = absurd (cc is)
+
+-- ---- one finding in a form
+
+pub object_alone : (form : ReportForm) (file : List ℕ) (x : Finding) (old new : List ℕ) → form ≡ Json
+    → new ≡ old ++ object_text file x → AddsText (IsReport form file (x ∷ [])) old new
+object_alone form file x old new is put =
+    as_json form file (x ∷ []) old new is (put ∙ ap (λ (l : List ℕ). old ++ l) (sym (append-nil (object_text file x))))
+
+pub text_alone : (form : ReportForm) (file : List ℕ) (x : Finding) (old new : List ℕ) → (form ≡ Text) ⊎ (form ≡ Colored)
+    → AddsText (IsFindingText form file x) old new → AddsText (IsReport form file (x ∷ [])) old new
+text_alone form file x old new is (text, one, put) =
+    as_text form file (x ∷ []) old new is (text, (text ∷ [], (one, tt), sym (append-nil text)), put)

@@ -58,6 +58,25 @@ is_of_repeat NeverMapped = false
 is_of_repeat AlwaysRefused = false
 is_of_repeat Note = false
 
+-- the finding is about an allow statement
+abbrev pub is_of_statement : FindingKind → Bool
+is_of_statement Fault = false
+is_of_statement OtherClass = false
+is_of_statement OtherPermission = false
+is_of_statement AllowsNothing = true
+is_of_statement NeverAsked = false
+is_of_statement Repeats = true
+is_of_statement NeverNamed = false
+is_of_statement NoDomain = false
+is_of_statement NeverMatters = true
+is_of_statement NeverMapped = false
+is_of_statement AlwaysRefused = false
+is_of_statement Note = false
+
+-- a line, if the finding there is of some kind
+abbrev pub line_if : Bool → ℕ → List ℕ
+line_if of_kind line = if of_kind then line ∷ [] else []
+
 -- the lines of the errors
 abbrev pub error_lines : List Finding → List ℕ
 error_lines found = flat_map (λ x. if is_error x.kind then x.line ∷ [] else []) found

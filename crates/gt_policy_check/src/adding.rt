@@ -1,7 +1,8 @@
 //! Adds findings.
-ghost use Rattle.std.specs.Prelude.{◌≡◌, ◌∷◌, ◌++◌, [], ℕ, List, true, false, codes, IfOk, OnOk};
+ghost use Rattle.std.specs.Prelude.{◌≡◌, ◌++◌, ℕ, List, true, false, codes, IfOk, OnOk};
 ghost use Rattle.gt_policy_check.specs.Check.{Quiet, AddsUseless, is_error, is_of_nothing, is_of_repeat, is_of_word};
-ghost use Rattle.gt_policy_check.specs.Check.{HasColumn, KeepsColumns, QuotesWord, error_columns};
+ghost use Rattle.gt_policy_check.specs.Check.{is_of_statement, line_if};
+ghost use Rattle.gt_policy_check.specs.Check.{KeepsColumns, QuotesWord, error_columns};
 ghost use Rattle.gt_policy_check.specs.Columns.{IsColumnOf};
 ghost use Rattle.gt_policy_check.specs.Placing.{HasLines, HasNoteColumn};
 ghost use Rattle.gt_policy_check.specs.Words.{class_line, class_lines};
@@ -45,37 +46,21 @@ pub(crate) fn statement_column(alloc: Global, place: &Place) -> Result<u32, Allo
     Ok(column_of_word(place.bytes, &tokens, b"allow".as_slice(), skipped))
 }
 
-/// Adds a finding other than an error, a statement that allows nothing, or a statement that repeats another.
-#[tactic(auto, using(crate::proofs::CheckLemmas::quiet_push, crate::proofs::KeepLemmas::keeps_push, crate::proofs::KeepLemmas::same_columns))]
-pub(crate) fn push_quiet(found: &mut Vec<Finding>, finding: Finding) -> Result<(), AllocError>
-    requires no_error { is_error finding.kind ≡ false }
-    requires no_statement { is_of_nothing finding.kind ≡ false }
-    requires no_repeat { is_of_repeat finding.kind ≡ false }
-    ensures quiet { OnOk result (Quiet found.old.items found.new.items) }
-    ensures errors { OnOk result (error_columns found.new.items ≡ error_columns found.old.items) }
-    ensures columns { (text : List ℕ) → HasColumn text finding
-        → OnOk result (KeepsColumns text found.old.items found.new.items) }
-{
-    found.push(finding)?;
-    Ok(())
-}
-
 /// Adds a note on the finding before it.
+#[tactic(auto, using(crate::proofs::CheckLemmas::quiet_push, crate::proofs::KeepLemmas::keeps_push, crate::proofs::KeepLemmas::same_columns))]
 pub(crate) fn push_note(found: &mut Vec<Finding>, note: FindingNote) -> Result<(), AllocError>
     ensures quiet { OnOk result (Quiet found.old.items found.new.items) }
     ensures errors { OnOk result (error_columns found.new.items ≡ error_columns found.old.items) }
     ensures columns { (text : List ℕ) → HasNoteColumn text note
         → OnOk result (KeepsColumns text found.old.items found.new.items) }
 {
-    push_quiet(
-        found,
-        Finding {
-            kind: FindingKind::Note,
-            line: note.line,
-            column: note.column,
-            message: note.message,
-        },
-    )
+    found.push(Finding {
+        kind: FindingKind::Note,
+        line: note.line,
+        column: note.column,
+        message: note.message,
+    })?;
+    Ok(())
 }
 
 /// Adds a finding about a word of a line. Its kind is other than an error, a statement that allows nothing, or a
@@ -111,30 +96,28 @@ pub(crate) fn push_of_word(
     Ok(())
 }
 
-/// Adds the finding that a statement allows nothing.
-#[tactic(auto, using(crate::proofs::CheckLemmas::nothing_push, crate::proofs::KeepLemmas::keeps_push))]
-pub(crate) fn push_nothing(found: &mut Vec<Finding>, finding: Finding) -> Result<(), AllocError>
-    requires no_error { is_error finding.kind ≡ false }
-    requires of_statement { is_of_nothing finding.kind ≡ true }
-    requires no_repeat { is_of_repeat finding.kind ≡ false }
-    ensures useless { OnOk result (AddsUseless found.old.items found.new.items (finding.line ∷ []) []) }
-    ensures columns { (text : List ℕ) → HasColumn text finding
-        → OnOk result (KeepsColumns text found.old.items found.new.items) }
+/// Adds a finding about the allow statement of a place, with the column at which it begins.
+#[tactic(auto, using(crate::proofs::CheckLemmas::statement_push, crate::proofs::KeepLemmas::keeps_statement))]
+pub(crate) fn push_of_statement(
+    alloc: Global,
+    found: &mut Vec<Finding>,
+    kind: FindingKind,
+    place: &Place,
+    message: Vec<u8>,
+) -> Result<(), AllocError>
+    requires no_error { is_error kind ≡ false }
+    requires of_statement { is_of_statement kind ≡ true }
+    requires lines { HasLines place.now }
+    ensures useless { OnOk result (AddsUseless found.old.items found.new.items
+        (line_if (is_of_nothing kind) place.now.line) (line_if (is_of_repeat kind) place.now.line)) }
+    ensures columns { OnOk result (KeepsColumns place.now.bytes.now found.old.items found.new.items) }
 {
-    found.push(finding)?;
-    Ok(())
-}
-
-/// Adds the finding that a statement repeats another.
-#[tactic(auto, using(crate::proofs::CheckLemmas::repeat_push, crate::proofs::KeepLemmas::keeps_push))]
-pub(crate) fn push_repeat(found: &mut Vec<Finding>, finding: Finding) -> Result<(), AllocError>
-    requires no_error { is_error finding.kind ≡ false }
-    requires no_statement { is_of_nothing finding.kind ≡ false }
-    requires of_repeat { is_of_repeat finding.kind ≡ true }
-    ensures useless { OnOk result (AddsUseless found.old.items found.new.items [] (finding.line ∷ [])) }
-    ensures columns { (text : List ℕ) → HasColumn text finding
-        → OnOk result (KeepsColumns text found.old.items found.new.items) }
-{
-    found.push(finding)?;
+    let column = statement_column(alloc, place)?;
+    found.push(Finding {
+        kind,
+        line: place.line,
+        column,
+        message,
+    })?;
     Ok(())
 }

@@ -3,11 +3,11 @@ ghost use Rattle.std.specs.Prelude.{OnOk};
 ghost use Rattle.gt_policy_check.specs.Check.{KeepsColumns, Quiet};
 ghost use Rattle.gt_policy_check.specs.Placing.{HasLines};
 
-use crate::adding::{Place, push_of_word, push_quiet, statement_column};
-use crate::fault::{message_of, said_of};
+use crate::adding::{Place, push_of_statement, push_of_word};
 use crate::findings::{Finding, FindingKind};
 use crate::granting::{gives_of, names_type};
 use crate::members::{Member, is_same, push_members};
+use crate::messages::{message_of, said_of};
 use crate::places::LineStarts;
 use crate::useless::allows_something;
 use gt_policy::{LinedStatement, Statement, TextPiece};
@@ -122,7 +122,7 @@ fn never_matters(statement: &Statement, policy: &Judged) -> bool {
 }
 
 /// Warns of a statement that allows something, but nothing to the domains of the script.
-#[tactic(auto, using(crate::proofs::KeepLemmas::keeps_same, crate::proofs::KeepLemmas::keeps_then))]
+#[tactic(auto, using(crate::proofs::CheckLemmas::adds_quietly, crate::proofs::KeepLemmas::keeps_same))]
 pub(crate) fn warn_matter(
     alloc: Global,
     found: &mut Vec<Finding>,
@@ -139,14 +139,5 @@ pub(crate) fn warn_matter(
     }
     let said = "this statement allows nothing to the domains in this script";
     let message = message_of(alloc, said)?;
-    let column = statement_column(alloc, place)?;
-    push_quiet(
-        found,
-        Finding {
-            kind: FindingKind::NeverMatters,
-            line: place.line,
-            column,
-            message,
-        },
-    )
+    push_of_statement(alloc, found, FindingKind::NeverMatters, place, message)
 }

@@ -1,38 +1,18 @@
 //! Explains the fault of a text: its position, and what was expected there.
-ghost use Rattle.std.specs.Prelude.{◌≡◌, ◌++◌, map, chars, codes, None, IfOk, IfSome, OnOk};
-ghost use Rattle.gt_types.specs.Names.{every_permission, permission_name};
-ghost use Rattle.gt_policy_check.specs.Check.{QuotesWord};
+ghost use Rattle.std.specs.Prelude.{◌≡◌, None, IfOk, IfSome, OnOk};
 ghost use Rattle.gt_policy_check.specs.Columns.{AreOfLine, IsColumnOf, IsEndOf};
-ghost use Rattle.gt_policy_check.specs.Placing.{AddsSome, HasNoteColumn, IsOfFault};
-ghost use Rattle.gt_policy_check.specs.Report.{shown_text};
+ghost use Rattle.gt_policy_check.specs.Placing.{HasNoteColumn, IsOfFault};
 
 use crate::declared::{Declared, declared_in};
-use crate::nearest::nearest;
-use crate::places::{
-    LineTokens, bytes_of, column_at, column_of, column_of_word, first_column, front_of,
-    line_tokens, tokens_in,
+use crate::messages::{push_meant, push_permission_hint, push_said, said_of};
+use crate::misfits::{
+    end_before, last_token, misfit, misfit_column, push_after, push_all_expected, push_stray_at,
 };
-use crate::report::push_all_shown;
-use crate::texts::push_both;
-use gt_policy::{Policy, PolicyFault, PolicyFaultKind};
-use gt_text::{push_number, push_text, text_of};
-use gt_types::Perms;
+use crate::nearest::nearest;
+use crate::places::{LineTokens, column_at, column_of_word, front_of, line_tokens};
+use gt_policy::{PolicyFault, PolicyFaultKind};
+use gt_text::{push_number, push_text};
 use std::alloc::{AllocError, Global};
-
-/// Tokens that may continue a statement, with what each is called. A permission represents any name, since it fits
-/// wherever a name fits.
-static CANDIDATES: [(&str, &str); 10] = [
-    ("allow", "a statement"),
-    (";", "\";\""),
-    (",", "\",\""),
-    (":", "\":\""),
-    ("{", "\"{\""),
-    ("}", "\"}\""),
-    ("map_read", "a name"),
-    ("self", "\"self\""),
-    ("-", "\"-\""),
-    ("*", "\"*\""),
-];
 
 /// A note on an error or a warning.
 #[derive(Drop)]
@@ -48,257 +28,6 @@ pub(crate) struct Explained {
     pub column: u32,
     pub message: Vec<u8>,
     pub note: Option<FindingNote>,
-}
-
-// Returns the line on which a text ends, counted from 1.
-fn last_line(bytes: &[u8]) -> u32 {
-    let mut line: u32 = 1;
-    for byte in bytes {
-        if *byte == b'\n' {
-            line = line.saturating_add(1);
-        }
-    }
-    line
-}
-
-// Returns whether a fault is beyond a line. An undeclared name doesn't count, since it may be declared further on.
-fn is_past(fault: &PolicyFault, last: u32) -> Result<bool, AllocError> {
-    match fault.kind {
-        PolicyFaultKind::Memory => Err(AllocError),
-        PolicyFaultKind::Unknown(_) => Ok(true),
-        _ => Ok(fault.line > last),
-    }
-}
-
-// Returns whether the text has no fault up to the end of `front`.
-fn fits_so_far(alloc: Global, front: &[u8]) -> Result<bool, AllocError> {
-    let Ok(text) = text_of(front) else {
-        return Ok(false);
-    };
-    match Policy::parse(alloc, text) {
-        Ok(_) => Ok(true),
-        Err(fault) => is_past(&fault, last_line(front)),
-    }
-}
-
-// Returns whether the text has no fault up to the end of `front` and a token on the next line.
-fn fits(alloc: Global, front: &[u8], token: &str) -> Result<bool, AllocError> {
-    let mut bytes = Vec::from_slice(alloc, front)?;
-    push_both(&mut bytes, "\n", token)?;
-    fits_so_far(alloc, bytes.as_slice())
-}
-
-// Finds the first token of a line that does not fit. Binary search serves, since a text with no fault up to a token has
-// none up to the tokens before it.
-fn misfit(alloc: Global, bytes: &[u8], line: &LineTokens) -> Result<usize, AllocError> {
-    let mut low = 0;
-    let mut high = line.tokens.len();
-    for _ in 0..64 {
-        if low >= high {
-            return Ok(low);
-        }
-        let middle = low + (high - low) / 2;
-        let Some(token) = line.tokens.get(middle) else {
-            return Ok(low);
-        };
-        if fits_so_far(alloc, front_of(bytes, line, token.end))? {
-            low = middle + 1;
-        } else {
-            high = middle;
-        }
-    }
-    Ok(low)
-}
-
-// Appends one of the expected things.
-fn push_expected(out: &mut Vec<u8>, shown: &str) -> Result<(), AllocError> {
-    if out.is_empty() {
-        push_both(out, "expected ", shown)
-    } else {
-        push_both(out, " or ", shown)
-    }
-}
-
-// Appends what may follow `front`.
-fn push_all_expected(alloc: Global, out: &mut Vec<u8>, front: &[u8]) -> Result<(), AllocError> {
-    for (token, shown) in CANDIDATES.iter() {
-        if fits(alloc, front, token)? {
-            push_expected(out, shown)?;
-        }
-    }
-    Ok(())
-}
-
-// Appends a word in quotes.
-fn push_quoted(out: &mut Vec<u8>, word: &str) -> Result<(), AllocError>
-    ensures { OnOk result (out.new.items ≡ out.old.items ++ codes "\"" ++ shown_text (chars word.now) ++ codes "\"") }
-{
-    push_text(out, "\"")?;
-    push_all_shown(out, word)?;
-    push_text(out, "\"")
-}
-
-// Appends the name that may be meant.
-fn push_meant(out: &mut Vec<u8>, meant: Option<&str>) -> Result<(), AllocError>
-    ensures { OnOk result (AddsSome out.old.items out.new.items) }
-{
-    let Some(name) = meant else {
-        return Ok(());
-    };
-    push_text(out, "; did you mean ")?;
-    push_quoted(out, name)?;
-    push_text(out, "?")
-}
-
-/// Appends `; did you mean "NAME"?` with the name that a misspelt word may be meant as, if there is one. After an Err,
-/// part of it may have been appended.
-pub fn push_hint(
-    alloc: Global,
-    out: &mut Vec<u8>,
-    word: &str,
-    names: &[&str],
-) -> Result<(), AllocError>
-    ensures { OnOk result (AddsSome out.old.items out.new.items) }
-{
-    let meant = nearest(alloc, word, names)?;
-    push_meant(out, meant)
-}
-
-/// Appends the permission that a misspelt word may be meant as, if there is one.
-pub(crate) fn push_permission_hint(
-    alloc: Global,
-    out: &mut Vec<u8>,
-    word: &str,
-) -> Result<(), AllocError>
-    ensures { OnOk result (AddsSome out.old.items out.new.items) }
-{
-    let names = permission_names(alloc)?;
-    push_hint(alloc, out, word, names.as_slice())
-}
-
-/// Returns whether a word may be meant as a permission.
-pub(crate) fn is_near_permission(alloc: Global, word: &str) -> Result<bool, AllocError> {
-    let names = permission_names(alloc)?;
-    let meant = nearest(alloc, word, names.as_slice())?;
-    Ok(meant.is_some())
-}
-
-// Adds the names of the permissions.
-fn push_permission_names(names: &mut Vec<&'static str>) -> Result<(), AllocError>
-    ensures { OnOk result (map (λ n. n.now) names.new.items
-        ≡ map (λ n. n.now) names.old.items ++ map permission_name every_permission) }
-{
-    'perms: for perm in Perms::EVERY {
-        names.push(perm.name())?;
-    }
-    Ok(())
-}
-
-/// Returns the names of the seven permissions of class `grant`.
-pub fn permission_names(alloc: Global) -> Result<Vec<&'static str>, AllocError>
-    ensures { IfOk result (λ names. map (λ n. n.now) names.items ≡ map permission_name every_permission) }
-{
-    let mut names: Vec<&'static str> = Vec::new(alloc);
-    push_permission_names(&mut names)?;
-    Ok(names)
-}
-
-// Appends a word in quotes and a text.
-fn push_said(out: &mut Vec<u8>, word: &str, said: &str) -> Result<(), AllocError>
-    ensures { OnOk result (out.new.items
-        ≡ out.old.items ++ codes "\"" ++ shown_text (chars word.now) ++ codes "\"" ++ said.now) }
-{
-    push_quoted(out, word)?;
-    push_text(out, said)
-}
-
-/// Makes a message of a word in quotes and a text. U+FFFD replaces control characters of the word, except tabs.
-pub fn said_of(alloc: Global, word: &str, said: &str) -> Result<Vec<u8>, AllocError>
-    ensures { IfOk result (λ v. QuotesWord word.now v.items) }
-{
-    let mut out = Vec::new(alloc);
-    push_said(&mut out, word, said)?;
-    Ok(out)
-}
-
-/// Makes a message of a text.
-pub(crate) fn message_of(alloc: Global, text: &str) -> Result<Vec<u8>, AllocError> {
-    let mut message = Vec::new(alloc);
-    push_text(&mut message, text)?;
-    Ok(message)
-}
-
-// Appends ` after` and the last token before the fault.
-fn push_after(out: &mut Vec<u8>, last: &[u8]) -> Result<(), AllocError> {
-    let Ok(word) = text_of(last) else {
-        return Ok(());
-    };
-    if word.is_empty() {
-        return Ok(());
-    }
-    push_text(out, " after ")?;
-    push_quoted(out, word)
-}
-
-// Finds the last token of a line. Returns `before` if it has none.
-fn last_token_in<'a>(
-    alloc: Global,
-    line: &'a [u8],
-    before: &'a [u8],
-) -> Result<&'a [u8], AllocError> {
-    let tokens = tokens_in(alloc, line)?;
-    match tokens.last() {
-        Some(token) => Ok(bytes_of(line, *token)),
-        None => Ok(before),
-    }
-}
-
-fn last_token<'a>(alloc: Global, text: &'a [u8]) -> Result<&'a [u8], AllocError> {
-    let mut last: &'a [u8] = &[];
-    let Ok(text) = text_of(text) else {
-        return Ok(last);
-    };
-    for line in text.lines() {
-        last = last_token_in(alloc, line.as_bytes(), last)?;
-    }
-    Ok(last)
-}
-
-// Returns the length of the line up to the token before the misfit, and the column there. For the first token of a line
-// the length is 0, and the column is that of the token.
-fn end_before(bytes: &[u8], line: &LineTokens, misfit: usize) -> (usize, u32)
-    requires { AreOfLine bytes.now line.now }
-    ensures { IsEndOf bytes.now line.now.number result.1 }
-{
-    if misfit > 0 {
-        if let Some(token) = line.tokens.get(misfit - 1) {
-            return (token.end, column_of(token.end));
-        }
-    }
-    (0, first_column(bytes_of(bytes, line.span)))
-}
-
-// Appends what a token is that begins nothing in a policy.
-fn push_stray(out: &mut Vec<u8>, token: &[u8]) -> Result<(), AllocError> {
-    match token {
-        [0xef, 0xbb, 0xbf, ..] => push_text(out, "; a byte order mark is not part of a policy"),
-        [b'/', ..] => push_text(out, "; a comment begins with #"),
-        [b'[', ..] => push_text(out, "; [ begins nothing in a policy"),
-        _ => Ok(()),
-    }
-}
-
-// Appends what the token of this number in a line is, if it begins nothing in a policy.
-fn push_stray_at(
-    out: &mut Vec<u8>,
-    bytes: &[u8],
-    line: &LineTokens,
-    number: usize,
-) -> Result<(), AllocError> {
-    match line.tokens.get(number) {
-        Some(token) => push_stray(out, bytes_of(bytes_of(bytes, line.span), *token)),
-        None => Ok(()),
-    }
 }
 
 // Explains a token that fits nowhere, by what was expected after the token before it.
@@ -319,23 +48,6 @@ fn explain_syntax(
     push_all_expected(alloc, &mut explained.message, front)?;
     push_after(&mut explained.message, last_token(alloc, front)?)?;
     push_stray_at(&mut explained.message, bytes, line, number)
-}
-
-// Returns the column of the token that does not fit, which is this word.
-fn misfit_column(
-    alloc: Global,
-    bytes: &[u8],
-    line: &LineTokens,
-    word: &str,
-) -> Result<u32, AllocError>
-    requires { AreOfLine bytes.now line.now }
-    ensures { IfOk result (λ column. IsColumnOf bytes.now line.now.number word.now column) }
-{
-    let place = misfit(alloc, bytes, line)?;
-    match line.tokens.get(place) {
-        Some(token) => Ok(column_at(bytes, line, word.as_bytes(), token.start)),
-        None => Ok(column_of_word(bytes, line, word.as_bytes(), 0)),
-    }
 }
 
 // Makes a note at the declaration of a name.

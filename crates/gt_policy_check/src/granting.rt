@@ -14,7 +14,7 @@ use gt_policy::{Allowance, Permissions, SetElement, Statement, TextPiece};
 use gt_types::Perms;
 
 /// Returns whether the word is among these.
-pub(crate) fn is_among(words: &[TextPiece], word: &[u8]) -> bool
+pub fn has_word(words: &[TextPiece], word: &[u8]) -> bool
     ensures { result ≡ list_any (λ v. bytes_eq v word.now) words.now }
 {
     'words: for listed in words {
@@ -29,7 +29,7 @@ pub(crate) fn is_among(words: &[TextPiece], word: &[u8]) -> bool
 pub fn has_grant(classes: &[TextPiece]) -> bool
     ensures { result ≡ has_grant classes.now }
 {
-    is_among(classes, "grant".as_bytes())
+    has_word(classes, "grant".as_bytes())
 }
 
 /// Returns whether the word is among the permissions. `*` has every word.
@@ -38,7 +38,7 @@ pub fn lists(perms: &Permissions, word: &str) -> bool
 {
     match perms {
         Permissions::Every => true,
-        Permissions::Named(words) => is_among(words.as_slice(), word.as_bytes()),
+        Permissions::Named(words) => has_word(words.as_slice(), word.as_bytes()),
     }
 }
 
@@ -47,7 +47,7 @@ pub(crate) fn puts_in(names: &[TextPiece], item: &SetElement) -> bool
     ensures { result ≡ puts_in names.now item.now }
 {
     match item {
-        SetElement::With(mention) => is_among(names, mention.name.as_bytes()),
+        SetElement::With(mention) => has_word(names, mention.name.as_bytes()),
         SetElement::Without(_) => false,
         SetElement::Itself => false,
     }
@@ -59,7 +59,7 @@ fn takes_out(names: &[TextPiece], item: &SetElement) -> bool
 {
     match item {
         SetElement::With(_) => false,
-        SetElement::Without(mention) => is_among(names, mention.name.as_bytes()),
+        SetElement::Without(mention) => has_word(names, mention.name.as_bytes()),
         SetElement::Itself => false,
     }
 }
@@ -259,8 +259,8 @@ pub(crate) fn near_of(
     }
 }
 
-// Returns whether a statement grants the permission to the source on the target.
-fn gives_one(statement: &Statement, source: &Member, target: &Member, perm: &str) -> bool
+/// Returns whether a statement grants the permission to the source on the target.
+pub fn gives_one(statement: &Statement, source: &Member, target: &Member, perm: &str) -> bool
     ensures { result ≡ gives_one perm.now source.now target.now statement.now }
 {
     match statement {

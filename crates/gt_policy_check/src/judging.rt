@@ -10,13 +10,14 @@ ghost use Rattle.gt_policy_check.specs.Placing.{HasLines};
 ghost use Rattle.gt_policy_check.specs.Check.{Quiet, AddsUseless, allows_nothing, error_lines, lines_repeated};
 ghost use Rattle.gt_policy_check.specs.Check.{nothing_lines, repeat_line, repeat_lines, repeated_with, useless_line};
 
-use crate::adding::{Place, push_note, push_nothing, push_repeat, statement_column};
+use crate::adding::{Place, push_note, push_of_statement, statement_column};
 use crate::domains::{Judged, warn_matter, warn_type, worn_members};
 use crate::earlier::{EarlierStatements, sources_of, triple_of};
-use crate::fault::{FindingNote, message_of};
+use crate::fault::FindingNote;
 use crate::findings::{Finding, FindingKind};
 use crate::listed::warn_words;
 use crate::members::{Member, members_of};
+use crate::messages::message_of;
 use crate::places::line_starts;
 use crate::useless::{UselessReason, is_useless, reason_of};
 use gt_policy::{LinedStatement, Statement};
@@ -63,16 +64,7 @@ fn warn_nothing(
     if is_useless(&it.stated.statement, it.allows, members) {
         let said = reason_text(reason_of(&it.stated.statement, members));
         let message = message_of(alloc, said)?;
-        let column = statement_column(alloc, place)?;
-        return push_nothing(
-            found,
-            Finding {
-                kind: FindingKind::AllowsNothing,
-                line: it.stated.line,
-                column,
-                message,
-            },
-        );
+        return push_of_statement(alloc, found, FindingKind::AllowsNothing, place, message);
     }
     Ok(())
 }
@@ -129,16 +121,7 @@ fn push_repeated(
     ensures columns { OnOk result (KeepsColumns place.now.bytes.now found.old.items found.new.items) }
 {
     let message = repeat_message(alloc, first)?;
-    let column = statement_column(alloc, place)?;
-    push_repeat(
-        found,
-        Finding {
-            kind: FindingKind::Repeats,
-            line: place.line,
-            column,
-            message,
-        },
-    )
+    push_of_statement(alloc, found, FindingKind::Repeats, place, message)
 }
 
 // Warns of a statement that repeats an earlier one.

@@ -2,14 +2,15 @@
 ghost use Rattle.std.specs.Prelude.{◌≡◌, ◌++◌, IfOk, OnOk};
 ghost use Rattle.std.specs.List.{flat_map};
 ghost use Rattle.gt_policy_check.specs.Check.{error_lines, KeepsColumns, QuotesWord, Quiet};
+ghost use Rattle.gt_policy_check.specs.Columns.{AreStarts};
 ghost use Rattle.gt_policy_check.specs.Placing.{HasLines};
 ghost use Rattle.gt_policy_check.specs.Words.{class_lines, is_flask_class, is_known_class, unknown_line};
 
 use crate::adding::{Place, push_of_word};
-use crate::fault::{is_near_permission, push_hint, push_permission_hint, said_of};
 use crate::findings::{Finding, FindingKind};
 use crate::granting::has_grant;
-use crate::places::line_starts;
+use crate::messages::{is_near_permission, push_hint, push_permission_hint, said_of};
+use crate::places::LinedText;
 use gt_policy::{Allowance, Permissions, TextPiece};
 use gt_types::Perms;
 use std::alloc::{AllocError, Global};
@@ -259,20 +260,20 @@ fn warn_unknown(
 pub fn push_unknown_words(
     alloc: Global,
     found: &mut Vec<Finding>,
-    text: &str,
+    lined: LinedText,
     line: u32,
     classes: &[TextPiece],
     perms: &Permissions,
 ) -> Result<(), AllocError>
+    requires { AreStarts lined.text.now lined.lines.now.starts.items }
     ensures errors { OnOk result (error_lines found.new.items ≡ error_lines found.old.items) }
-    ensures columns { OnOk result (KeepsColumns text.now found.old.items found.new.items) }
+    ensures columns { OnOk result (KeepsColumns lined.entry.text.now found.old.items found.new.items) }
     ensures classes { OnOk result (class_lines found.new.items
         ≡ class_lines found.old.items ++ flat_map (unknown_line line) classes.now) }
 {
-    let lines = line_starts(alloc, text.as_bytes())?;
     let place = Place {
-        bytes: text.as_bytes(),
-        lines: &lines,
+        bytes: lined.text.as_bytes(),
+        lines: lined.lines,
         line,
         before: &[],
     };

@@ -4,7 +4,7 @@ ghost use Rattle.std.specs.Option.{option_map};
 ghost use Rattle.std.specs.Str.{bytes_eq};
 ghost use Rattle.gt_policy_check.specs.Members.{names_given, names_in_lines, is_asked, members_in, members_of};
 
-use crate::granting::is_among;
+use crate::granting::has_word;
 use gt_policy::{Items, LinedStatement, Mention, Statement, TextPiece};
 use std::alloc::{AllocError, Global};
 
@@ -79,7 +79,7 @@ fn is_asked(asked: Option<&str>, names: &[TextPiece]) -> bool
     ensures { result ≡ is_asked (option_map (λ a. a.now) asked.entry) names.now }
 {
     match asked {
-        Some(wanted) => is_among(names, wanted.as_bytes()),
+        Some(wanted) => has_word(names, wanted.as_bytes()),
         None => true,
     }
 }

@@ -57,10 +57,17 @@ pub(crate) fn line_span(bytes: &[u8], line: u32) -> Span
     }
 }
 
-/// Where the lines of a text begin.
+/// The places where the lines of a text begin, in order.
 #[derive(Drop)]
-pub(crate) struct LineStarts {
+pub struct LineStarts {
     pub starts: Vec<usize>,
+}
+
+/// A text, and the places where its lines begin.
+#[derive(Clone, Copy)]
+pub struct LinedText<'t> {
+    pub text: &'t str,
+    pub lines: &'t LineStarts,
 }
 
 // Adds where the next line begins, if this byte is a line feed.
@@ -75,7 +82,7 @@ fn push_start(starts: &mut Vec<usize>, place: usize, byte: u8) -> Result<(), All
 }
 
 /// Returns where the lines of a text begin, so that the range of a line can be had without a walk through the text.
-pub(crate) fn line_starts(alloc: Global, bytes: &[u8]) -> Result<LineStarts, AllocError>
+pub fn line_starts(alloc: Global, bytes: &[u8]) -> Result<LineStarts, AllocError>
     ensures { IfOk result (λ l. AreStarts bytes.now l.starts.items) }
 {
     let mut starts = Vec::new(alloc);
@@ -249,11 +256,13 @@ pub(crate) fn tokens_of(
 
 /// Returns the column at which a word first occurs on a line, counted from 1; that of the line's first token if it does
 /// not occur.
-pub fn column_on(alloc: Global, text: &str, line: u32, word: &str) -> Result<u32, AllocError>
-    ensures { IfOk result (λ column. IsColumnOf text.now line word.now column) }
+pub fn column_on(alloc: Global, lined: LinedText, line: u32, word: &str) -> Result<u32, AllocError>
+    requires { AreStarts lined.text.now lined.lines.now.starts.items }
+    ensures { IfOk result (λ column. IsColumnOf lined.entry.text.now line word.now column) }
 {
-    let tokens = line_tokens(alloc, text.as_bytes(), line)?;
-    Ok(column_of_word(text.as_bytes(), &tokens, word.as_bytes(), 0))
+    let bytes = lined.text.as_bytes();
+    let tokens = tokens_of(alloc, bytes, lined.lines, line)?;
+    Ok(column_of_word(bytes, &tokens, word.as_bytes(), 0))
 }
 
 /// Returns the text up to an offset in one of its lines.

@@ -1,5 +1,5 @@
 //! Findings as text, in the layout of compilers, and as JSON.
-ghost use Rattle.std.specs.Prelude.{◌≡◌, ◌++◌, chars, codes, encode_utf8, OnOk};
+ghost use Rattle.std.specs.Prelude.{◌≡◌, ◌∷◌, ◌++◌, [], chars, codes, encode_utf8, OnOk};
 ghost use Rattle.std.specs.List.{flat_map, AllPass};
 ghost use Rattle.gt_json.specs.Strings.{quoted};
 ghost use Rattle.gt_policy_check.specs.Columns.{AreStarts};
@@ -9,7 +9,7 @@ ghost use Rattle.gt_policy_check.specs.Report.{IsTextOfAll};
 ghost use Rattle.gt_policy_check.specs.Report.{IsExcerpt, IsReport, IsFindingText, IsShownText};
 
 use crate::findings::{Finding, FindingKind};
-use crate::places::{LineStarts, bytes_of, line_starts, span_of};
+use crate::places::{LinedText, bytes_of, line_starts, span_of};
 use crate::texts::push_both;
 use gt_json::push_quoted;
 use gt_text::{push_number, push_text, text_of};
@@ -87,13 +87,6 @@ fn push_blank(out: &mut Vec<u8>, letter: char) -> Result<(), AllocError>
         push_text(out, " ")?;
     }
     Ok(())
-}
-
-// A text, and where its lines begin.
-#[derive(Clone, Copy)]
-struct LinedText<'t> {
-    text: &'t str,
-    lines: &'t LineStarts,
 }
 
 // Returns the text of a line, without its line end.
@@ -275,7 +268,7 @@ fn push_excerpt(
 }
 
 // Appends a finding in the layout of compilers.
-fn push_finding(
+fn push_finding_text(
     out: &mut Vec<u8>,
     file: &str,
     lined: LinedText,
@@ -307,7 +300,7 @@ pub fn push_report(
         lines: &lines,
     };
     'found: for finding in found {
-        push_finding(out, file, lined, finding, form)?;
+        push_finding_text(out, file, lined, finding, form)?;
     }
     Ok(())
 }
@@ -344,6 +337,25 @@ pub fn push_json(out: &mut Vec<u8>, file: &str, found: &[Finding]) -> Result<(),
         push_object(out, file, finding)?;
     }
     Ok(())
+}
+
+/// Appends a finding of a text in this form. After an Err, part of it may have been appended.
+pub fn push_finding(
+    out: &mut Vec<u8>,
+    form: ReportForm,
+    file: &str,
+    lined: LinedText,
+    finding: &Finding,
+) -> Result<(), AllocError>
+    requires { AreStarts lined.text.now lined.lines.now.starts.items }
+    ensures { OnOk result (AddsText (IsReport form file.now (finding.now ∷ [])) out.old.items out.new.items) }
+{
+    match form {
+        ReportForm::Json => push_object(out, file, finding),
+        ReportForm::Text | ReportForm::Colored => {
+            push_finding_text(out, file, lined, finding, form)
+        }
+    }
 }
 
 /// Appends the findings of a text in this form. After an Err, part of them may have been appended.

@@ -83,16 +83,23 @@ ReportsBy None zero targets Answered report = IsBare flow_answers.NoSource repor
 ReportsBy None (suc n) zero Answered report = IsBare flow_answers.NoTarget report
 ReportsBy None (suc n) (suc k) Answered report = Answered report
 
+-- the answer about the types that a question asks for, or that a name of it is not that of a type
+abbrev pub ReportsTypes : Option ℕ → FlowFormat → FlowPolicy → (TypeId → Bool) → ℕ → List LinedStatement → List Member
+    → FlowQuestion → FlowReport → Type 0
+ReportsTypes unknown format may trusted count xs members q report =
+    let sources = ids_asked members (option_map (λ a. a.now) q.source) count in
+    let targets = ids_asked members (option_map (λ a. a.now) q.target) count in
+    ReportsBy unknown (length sources) (length targets)
+    (Reports format may trusted xs members
+    (form_of (is_some q.source && is_some q.target) (length sources) (length targets)) sources targets) report
+
 -- the answer to a question, for a policy with this number of types
 abbrev pub IsFlowReport : FlowPolicy → ℕ → List LinedStatement → FlowQuestion → FlowReport → Type 0
 IsFlowReport may count xs q report =
     let members = members_of xs None in
-    let sources = ids_asked members (option_map (λ a. a.now) q.source) count in
-    let targets = ids_asked members (option_map (λ a. a.now) q.target) count in
     let names = names_in (option_map (λ t. t.now) q.trusted) in
-    ReportsBy (unknown_place members count names) (length sources) (length targets)
-    (Reports q.format may (is_among (trusted_by members count names)) xs members
-    (form_of (is_some q.source && is_some q.target) (length sources) (length targets)) sources targets) report
+    ReportsTypes (unknown_place members count names) q.format may (is_among (trusted_by members count names)) count xs
+    members q report
 
 -- what the types of a policy may do, by their numbers
 abbrev pub relation_of : Meaning → FlowPolicy

@@ -1,24 +1,23 @@
 //! Answers whether bytes of a type reach another one by a policy text.
 ghost use Rattle.std.specs.Prelude.{◌≡◌, ◌==◌, ◌&&◌, ◌++◌, ◌<◌, [], IfErr, IfOk, IfSome, None, Ok, Err, Some, is_some};
 ghost use Rattle.std.specs.Prelude.{length, map};
-ghost use Rattle.std.specs.List.{list_any, slice_split};
+ghost use Rattle.std.specs.List.{slice_split};
 ghost use Rattle.std.specs.Option.{option_map};
-ghost use Rattle.std.specs.Str.{bytes_eq};
 ghost use Rattle.gt_policy.specs.Kept.{may_of};
 ghost use Rattle.gt_policy.specs.Shown.{fault_shown, out_of_memory};
 ghost use Rattle.gt_policy.specs.Whole.{ReadsAs};
 ghost use Rattle.gt_policy.specs.declared.fault.TokenFault.{TokenFault};
 ghost use Rattle.gt_policy_check.specs.Members.{is_asked, members_of};
-ghost use Rattle.gt_policy_flow.specs.Asking.{IsFlowOf, IsFlowReport, Reports, asked_at, form_of, ids_asked, names_in};
-ghost use Rattle.gt_policy_flow.specs.Asking.{trusted_by, unknown_place};
+ghost use Rattle.gt_policy_flow.specs.Asking.{IsFlowOf, IsFlowReport, Reports, ReportsTypes, asked_at, form_of};
+ghost use Rattle.gt_policy_flow.specs.Asking.{ids_asked, names_in, trusted_by, unknown_place};
 ghost use Rattle.gt_policy_flow.specs.Flows.{AreAmong, is_among};
 
 use crate::format::FlowFormat;
 use crate::pairs::{PairForm, push_sources};
 use crate::steps::ReadPolicy;
 use gt_allow::AllowTable;
-use gt_policy::{LinedStatement, Policy, PolicyFault, PolicyFaultKind, TextPiece, statements_of};
-use gt_policy_check::{Member, members_of};
+use gt_policy::{LinedStatement, Policy, PolicyFault, PolicyFaultKind, statements_of};
+use gt_policy_check::{Member, has_word, members_of};
 use gt_types::{Allows, TypeId};
 use std::alloc::{AllocError, Global};
 
@@ -58,18 +57,6 @@ pub struct FlowReport {
     pub lines: Vec<u8>,
 }
 
-// Returns whether a name is among these.
-fn has_name(names: &[TextPiece], wanted: &[u8]) -> bool
-    ensures { result ≡ list_any (λ v. bytes_eq v wanted.now) names.now }
-{
-    'names: for name in names {
-        if name.as_bytes() == wanted {
-            return true;
-        }
-    }
-    false
-}
-
 // Returns whether the type of this number is asked for.
 fn is_asked_at(members: &[Member], asked: Option<&[u8]>, id: u16) -> bool
     ensures { result ≡ asked_at members.now (option_map (λ a. a.now) asked.entry) id }
@@ -77,7 +64,7 @@ fn is_asked_at(members: &[Member], asked: Option<&[u8]>, id: u16) -> bool
     match (members.get(id as usize), asked) {
         (None, _) => false,
         (Some(_), None) => true,
-        (Some(member), Some(wanted)) => has_name(member.names.as_slice(), wanted),
+        (Some(member), Some(wanted)) => has_word(member.names.as_slice(), wanted),
     }
 }
 
@@ -184,22 +171,44 @@ fn answered<P: Allows>(
     alloc: Global,
     read: &ReadPolicy<'_, '_, P>,
     form: PairForm,
-    count: u16,
     sources: &[TypeId],
     targets: &[TypeId],
 ) -> Result<FlowReport, AllocError>
-    requires { AreAmong count (P.may read.now.policy.now) }
+    requires { AreAmong read.now.count (P.may read.now.policy.now) }
     ensures { IfOk result (λ report. Reports read.now.format (P.may read.now.policy.now) (is_among read.now.trusted.now)
         read.now.statements.now read.now.members.now form sources.now targets.now report) }
 {
     let mut lines = Vec::new(alloc);
-    let has_path = push_sources(alloc, &mut lines, read, form, count, sources, targets)?;
+    let has_path = push_sources(alloc, &mut lines, read, form, sources, targets)?;
     let answer = if has_path {
         FlowAnswer::Path
     } else {
         FlowAnswer::NoPath
     };
     Ok(FlowReport { answer, lines })
+}
+
+// Answers a question whose trusted types are known.
+fn report_of<P: Allows>(
+    alloc: Global,
+    read: &ReadPolicy<'_, '_, P>,
+    question: &FlowQuestion,
+) -> Result<FlowReport, AllocError>
+    requires { AreAmong read.now.count (P.may read.now.policy.now) }
+    ensures { IfOk result (λ report. ReportsTypes None read.now.format (P.may read.now.policy.now)
+        (is_among read.now.trusted.now) read.now.count read.now.statements.now read.now.members.now question.now
+        report) }
+{
+    let sources = ids_asked(alloc, read.members, read.count, bytes_of(question.source))?;
+    let targets = ids_asked(alloc, read.members, read.count, bytes_of(question.target))?;
+    if sources.is_empty() {
+        return Ok(bare(alloc, FlowAnswer::NoSource));
+    }
+    if targets.is_empty() {
+        return Ok(bare(alloc, FlowAnswer::NoTarget));
+    }
+    let form = form_of(question, sources.as_slice(), targets.as_slice());
+    answered(alloc, read, form, sources.as_slice(), targets.as_slice())
 }
 
 // Answers a question about a policy that was read.
@@ -213,43 +222,23 @@ fn report<P: Allows>(
     requires { AreAmong count (P.may policy.now) }
     ensures { IfOk result (λ report. IsFlowReport (P.may policy.now) count statements.now question.now report) }
 {
-    let members = members_of(alloc, statements, None)?;
-    let sources = ids_asked(alloc, members.as_slice(), count, bytes_of(question.source))?;
-    let targets = ids_asked(alloc, members.as_slice(), count, bytes_of(question.target))?;
+    let types = members_of(alloc, statements, None)?;
+    let members = types.as_slice();
     let names = names_in(alloc, question.trusted)?;
     let mut trusted = Vec::new(alloc);
-    let unknown = push_trusted(
-        alloc,
-        &mut trusted,
-        members.as_slice(),
-        count,
-        names.as_slice(),
-    )?;
+    let unknown = push_trusted(alloc, &mut trusted, members, count, names.as_slice())?;
     if let Some(place) = unknown {
         return Ok(bare(alloc, FlowAnswer::NoTrusted(place)));
     }
-    if sources.is_empty() {
-        return Ok(bare(alloc, FlowAnswer::NoSource));
-    }
-    if targets.is_empty() {
-        return Ok(bare(alloc, FlowAnswer::NoTarget));
-    }
-    let form = form_of(question, sources.as_slice(), targets.as_slice());
     let read = ReadPolicy {
         policy,
-        members: members.as_slice(),
+        count,
+        members,
         statements,
         trusted: trusted.as_slice(),
         format: question.format,
     };
-    answered(
-        alloc,
-        &read,
-        form,
-        count,
-        sources.as_slice(),
-        targets.as_slice(),
-    )
+    report_of(alloc, &read, question)
 }
 
 // Returns the fault of a failed allocation.

@@ -39,7 +39,12 @@ fn stores<P: Allows>(policy: &P, x: TypeId, y: TypeId) -> bool
 pub fn is_among(ids: &[TypeId], x: TypeId) -> bool
     ensures { result ≡ is_among ids.now x }
 {
-    ids.iter().any(|t| t.0 == x.0)
+    'ids: for id in ids {
+        if id.0 == x.0 {
+            return true;
+        }
+    }
+    false
 }
 
 /// Returns the access that may bring bytes of a domain of type x to one of type y: a load if the policy allows one, or

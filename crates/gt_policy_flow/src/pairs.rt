@@ -23,6 +23,13 @@ pub(crate) enum PairForm {
     Reached,
 }
 
+// A source, with the types that its bytes reach.
+#[derive(Clone, Copy)]
+struct SearchedSource<'t> {
+    id: TypeId,
+    reached: &'t ReachedTypes,
+}
+
 // Appends the answer for a pair, by its path.
 fn push_block<P: Allows>(
     out: &mut Vec<u8>,
@@ -69,24 +76,25 @@ fn push_target<P: Allows>(
     out: &mut Vec<u8>,
     read: &ReadPolicy<'_, '_, P>,
     form: PairForm,
-    found: &ReachedTypes,
-    source: TypeId,
+    source: &SearchedSource,
     target: TypeId,
 ) -> Result<bool, AllocError>
-    requires { IsSearched (P.may read.now.policy.now) (is_among read.now.trusted.now) source found.now }
+    requires { IsSearched (P.may read.now.policy.now) (is_among read.now.trusted.now) source.now.id
+        source.now.reached.now }
     ensures { AppendsBlock read.now.format (P.may read.now.policy.now) (is_among read.now.trusted.now)
-        read.now.statements.now read.now.members.now form source target out.old.items out.new.items result }
+        read.now.statements.now read.now.members.now form source.now.id target out.old.items out.new.items
+        result }
 {
-    if leaves_out(form, source, target) {
+    if leaves_out(form, source.id, target) {
         return Ok(false);
     }
-    match found.path_to(alloc, target)? {
+    match source.reached.path_to(alloc, target)? {
         Some(path) => {
-            push_block(out, read, form, source, target, Some(path.as_slice()))?;
+            push_block(out, read, form, source.id, target, Some(path.as_slice()))?;
             Ok(true)
         }
         None => {
-            push_block(out, read, form, source, target, None)?;
+            push_block(out, read, form, source.id, target, None)?;
             Ok(false)
         }
     }
@@ -98,19 +106,20 @@ fn push_targets<P: Allows>(
     out: &mut Vec<u8>,
     read: &ReadPolicy<'_, '_, P>,
     form: PairForm,
-    found: &ReachedTypes,
-    source: TypeId,
+    source: &SearchedSource,
     targets: &[TypeId],
 ) -> Result<bool, AllocError>
-    requires { IsSearched (P.may read.now.policy.now) (is_among read.now.trusted.now) source found.now }
+    requires { IsSearched (P.may read.now.policy.now) (is_among read.now.trusted.now) source.now.id
+        source.now.reached.now }
     ensures { AppendsTargets read.now.format (P.may read.now.policy.now) (is_among read.now.trusted.now)
-        read.now.statements.now read.now.members.now form source targets.now out.old.items out.new.items result }
+        read.now.statements.now read.now.members.now form source.now.id targets.now out.old.items
+        out.new.items result }
 {
     match targets {
         [] => Ok(false),
         [target, rest @ ..] => {
-            let first = push_target(alloc, out, read, form, found, source, *target)?;
-            let others = push_targets(alloc, out, read, form, found, source, rest)?;
+            let first = push_target(alloc, out, read, form, source, *target)?;
+            let others = push_targets(alloc, out, read, form, source, rest)?;
             Ok(first || others)
         }
     }
@@ -123,21 +132,24 @@ pub(crate) fn push_sources<P: Allows>(
     out: &mut Vec<u8>,
     read: &ReadPolicy<'_, '_, P>,
     form: PairForm,
-    count: u16,
     sources: &[TypeId],
     targets: &[TypeId],
 ) -> Result<bool, AllocError>
-    requires { AreAmong count (P.may read.now.policy.now) }
+    requires { AreAmong read.now.count (P.may read.now.policy.now) }
     ensures { AppendsSources read.now.format (P.may read.now.policy.now) (is_among read.now.trusted.now)
         read.now.statements.now read.now.members.now form sources.now targets.now out.old.items out.new.items
         result }
 {
     match sources {
         [] => Ok(false),
-        [source, rest @ ..] => {
-            let found = search(alloc, read.policy, read.trusted, count, *source)?;
-            let first = push_targets(alloc, out, read, form, &found, *source, targets)?;
-            let others = push_sources(alloc, out, read, form, count, rest, targets)?;
+        [id, rest @ ..] => {
+            let reached = search(alloc, read.policy, read.trusted, read.count, *id)?;
+            let source = SearchedSource {
+                id: *id,
+                reached: &reached,
+            };
+            let first = push_targets(alloc, out, read, form, &source, targets)?;
+            let others = push_sources(alloc, out, read, form, rest, targets)?;
             Ok(first || others)
         }
     }

@@ -51,29 +51,36 @@ fn others(alloc: Global, count: u16, source: TypeId) -> Result<Vec<TypeId>, Allo
     Ok(left)
 }
 
-// Appends the types of `left` that one access from `x` reaches, and returns the others. `x` is at this place.
+// A type that bytes of the source reach, with its place among these.
+#[derive(Clone, Copy)]
+struct PlacedReach {
+    at: usize,
+    reach: Reach,
+}
+
+// Appends the types of `left` that one access from `x` reaches, and returns the others.
 fn reach_from<P: Allows>(
     alloc: Global,
     policy: &P,
     trusted: &[TypeId],
     reached: &mut Vec<Reach>,
     left: &[TypeId],
-    x: Reach,
-    at: usize,
+    x: PlacedReach,
 ) -> Result<Vec<TypeId>, AllocError>
-    requires near { x.distance ≤ at }
-    requires place { at < length reached.now.items }
-    ensures rest { IfOk result (λ rest.
-        rest.items ≡ filter (λ y. not (flows (P.may policy.now) (is_among trusted.now x.id) x.id y)) left.now) }
-    ensures found { OnOk result (reached.new.items ≡ reached.old.items
-        ++ map (hop_from at x) (filter (flows (P.may policy.now) (is_among trusted.now x.id) x.id) left.now)) }
+    requires near { x.reach.distance ≤ x.at }
+    requires place { x.at < length reached.now.items }
+    ensures rest { IfOk result (λ rest. rest.items
+        ≡ filter (λ y. not (flows (P.may policy.now) (is_among trusted.now x.reach.id) x.reach.id y)) left.now) }
+    ensures found { OnOk result (reached.new.items ≡ reached.old.items ++ map (hop_from x.at x.reach)
+        (filter (flows (P.may policy.now) (is_among trusted.now x.reach.id) x.reach.id) left.now)) }
 {
-    let is_trusted = is_among(trusted, x.id);
-    let distance = x.distance + 1;
+    let PlacedReach { at, reach } = x;
+    let is_trusted = is_among(trusted, reach.id);
+    let distance = reach.distance + 1;
     let mut rest = Vec::new(alloc);
     'left: for y in left {
         let id = *y;
-        if access_between(policy, is_trusted, x.id, id).is_some() {
+        if access_between(policy, is_trusted, reach.id, id).is_some() {
             reached.push(Reach {
                 id,
                 from: at,
@@ -109,8 +116,9 @@ pub fn search<P: Allows>(
     })?;
     let mut at = 0;
     'reached: while at < reached.len() {
-        let x = reached[at];
-        left = reach_from(alloc, policy, trusted, &mut reached, left.as_slice(), x, at)?;
+        let reach = reached[at];
+        let x = PlacedReach { at, reach };
+        left = reach_from(alloc, policy, trusted, &mut reached, left.as_slice(), x)?;
         at += 1;
     }
     Ok(ReachedTypes { reached })

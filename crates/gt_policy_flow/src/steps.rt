@@ -1,23 +1,23 @@
 //! A path as text: a line for each access, with the statements that allow it.
 ghost use Rattle.std.specs.Prelude.{◌≡◌, ◌++◌, codes, OnOk, find};
-ghost use Rattle.gt_policy_check.specs.Granting.{gives_one};
 ghost use Rattle.gt_policy_flow.specs.Flows.{is_among};
 ghost use Rattle.gt_policy_flow.specs.Steps.{access_text, accesses_text, first_granting_line, line_between};
 ghost use Rattle.gt_policy_flow.specs.Steps.{path_line_text, path_text, permission_text, type_name_in, type_pair_text};
 
 use crate::flows::{Access, access_between, is_among};
 use crate::format::{FlowFormat, push_mark, push_name};
-use gt_policy::{LinedStatement, Statement};
-use gt_policy_check::{Member, gives_source, reaches};
+use gt_policy::LinedStatement;
+use gt_policy_check::{Member, gives_one};
 use gt_text::{push_number, push_text};
 use gt_types::{Allows, Perms, TypeId};
 use std::alloc::AllocError;
 
-/// A policy with what it was read from: its types, in the order of their numbers, and its statements. And the types
-/// that are trusted, and the form of the answer.
+/// A policy with what it was read from: the number of its types, its types in the order of their numbers, and its
+/// statements. And the types that are trusted, and the format of the answer.
 #[derive(Clone, Copy)]
 pub(crate) struct ReadPolicy<'t, 'a, P> {
     pub policy: &'t P,
+    pub count: u16,
     pub members: &'t [Member<'a>],
     pub statements: &'t [LinedStatement<'a>],
     pub trusted: &'t [TypeId],
@@ -34,24 +34,12 @@ pub fn name_in<'t>(members: &'t [Member<'_>], id: TypeId) -> &'t str
     }
 }
 
-// Returns whether a statement grants the permission to the source on the target.
-fn grants(statement: &Statement, source: &Member, target: &Member, perm: &str) -> bool
-    ensures { result ≡ gives_one perm.now source.now target.now statement.now }
-{
-    match statement {
-        Statement::Allow(allowed) => {
-            gives_source(allowed, source, perm) && reaches(allowed, source, target)
-        }
-        _ => false,
-    }
-}
-
 // Returns the line of the first statement that grants the permission, or 0.
 fn first_line(statements: &[LinedStatement], source: &Member, target: &Member, perm: &str) -> u32
     ensures { result ≡ first_granting_line statements.now source.now target.now perm.now }
 {
     'statements: for stated in statements {
-        if grants(&stated.statement, source, target, perm) {
+        if gives_one(&stated.statement, source, target, perm) {
             return stated.line;
         }
     }

@@ -1,4 +1,4 @@
-use Rattle.gt_neverallow.specs.Printing.{IsNeverReport}
+use Rattle.gt_neverflow.specs.Printing.{IsNeverReport}
 use Rattle.gt_check_command.proofs.Advised.{began_out, went_out}
 use Rattle.gt_check_command.proofs.breaking.write_breaches.Goals as goal
 

@@ -5,5 +5,5 @@ use Rattle.gt_policy_flow.proofs.searching.reach_from.Given as goal
 
 abbrev pub invariant-left : goal.invariant-left
 invariant-left g l =
-    AreSplit (flows (g.P.Allows.may l.policy) l.is_trusted l.x.id) (hop_from l.at l.x) l.initial.reached.items l.left l.y-index
+    AreSplit (flows (g.P.Allows.may l.policy) l.is_trusted l.reach.id) (hop_from l.at l.reach) l.initial.reached.items l.left l.y-index
     l.reached.items l.rest.items

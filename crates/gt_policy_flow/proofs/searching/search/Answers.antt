@@ -7,7 +7,7 @@ use Rattle.gt_policy_flow.proofs.searching.search.Goals as goal
 
 pub reached-smaller : goal.reached-smaller
 reached-smaller g c =
-    let x = c.index-x.result.now in
+    let x = c.index-reach.result.now in
     less-to-do (flows (g.P.Allows.may c.args.policy.now) (is_among c.args.trusted.now x.id) x.id)
     (hop_from c.reached.at x) c.reached.reached.items c.reach_from.new.reached.items c.reached.left.items
     c.as_slice.result.now c.in_ok-left-2.left.items c.reached.at c.as_slice.ensures.value
@@ -15,11 +15,11 @@ reached-smaller g c =
 
 pub reached-preserved : goal.reached-preserved
 reached-preserved g c =
-    let x = c.index-x.result.now in
+    let x = c.index-reach.result.now in
     rw (c.in_ok-left-2.ensures.found, c.in_ok-left-2.ensures.rest, c.as_slice.ensures.value)
     (one-more (g.P.Allows.may c.args.policy.now) (is_among c.args.trusted.now) c.args.source c.args.count c.requires.among
     c.reached.at c.reached.reached.items c.reached.left.items c.reached.invariant x
-    (here-is c.reached.reached.items c.reached.at x (omega (arith, c.reached-test.true, c.len.ensures)) c.index-x.ensures))
+    (here-is c.reached.reached.items c.reached.at x (omega (arith, c.reached-test.true, c.len.ensures)) c.index-reach.ensures))
 
 pub returns : goal.returns
 returns g c = searched (g.P.Allows.may c.args.policy.now) (is_among c.args.trusted.now) c.args.source c.args.count

@@ -1,9 +1,0 @@
-use Rattle.gt_policy_check.proofs.ReportLemmas.{on_ok}
-use Rattle.gt_neverallow.proofs.PrintingLemmas.{flow_added}
-use Rattle.gt_neverallow.proofs.printing.push_flow_breach.Goals as goal
-
-pub returns : goal.returns
-returns c =
-    on_ok c.push_finding.result
-    (flow_added c.args.form c.args.texts.now.never_file.now c.args.texts.now.never.now c.args.breach.now c.in_ok-error.error _ c.push_finding.new.out.items c.in_ok-error.ensures)
-    c.push_finding.ensures

@@ -1,0 +1,2 @@
+mod FlowingLemmas
+mod PrintingLemmas

@@ -1,0 +1,111 @@
+//! The words of messages: quoted names, hints, and the names of permissions.
+ghost use Rattle.std.specs.Prelude.{◌≡◌, ◌++◌, map, chars, codes, IfOk, OnOk};
+ghost use Rattle.gt_types.specs.Names.{every_permission, permission_name};
+ghost use Rattle.gt_policy_check.specs.Check.{QuotesWord};
+ghost use Rattle.gt_policy_check.specs.Placing.{AddsSome};
+ghost use Rattle.gt_policy_check.specs.Report.{shown_text};
+
+use crate::nearest::nearest;
+use crate::report::push_all_shown;
+use gt_text::push_text;
+use gt_types::Perms;
+use std::alloc::{AllocError, Global};
+
+/// Appends a word in quotes.
+pub(crate) fn push_quoted(out: &mut Vec<u8>, word: &str) -> Result<(), AllocError>
+    ensures { OnOk result (out.new.items ≡ out.old.items ++ codes "\"" ++ shown_text (chars word.now) ++ codes "\"") }
+{
+    push_text(out, "\"")?;
+    push_all_shown(out, word)?;
+    push_text(out, "\"")
+}
+
+/// Appends the name that may be meant.
+pub(crate) fn push_meant(out: &mut Vec<u8>, meant: Option<&str>) -> Result<(), AllocError>
+    ensures { OnOk result (AddsSome out.old.items out.new.items) }
+{
+    let Some(name) = meant else {
+        return Ok(());
+    };
+    push_text(out, "; did you mean ")?;
+    push_quoted(out, name)?;
+    push_text(out, "?")
+}
+
+/// Appends `; did you mean "NAME"?` with the name that a misspelt word may be meant as, if there is one. After an Err,
+/// part of it may have been appended.
+pub fn push_hint(
+    alloc: Global,
+    out: &mut Vec<u8>,
+    word: &str,
+    names: &[&str],
+) -> Result<(), AllocError>
+    ensures { OnOk result (AddsSome out.old.items out.new.items) }
+{
+    let meant = nearest(alloc, word, names)?;
+    push_meant(out, meant)
+}
+
+/// Appends the permission that a misspelt word may be meant as, if there is one.
+pub(crate) fn push_permission_hint(
+    alloc: Global,
+    out: &mut Vec<u8>,
+    word: &str,
+) -> Result<(), AllocError>
+    ensures { OnOk result (AddsSome out.old.items out.new.items) }
+{
+    let names = permission_names(alloc)?;
+    push_hint(alloc, out, word, names.as_slice())
+}
+
+/// Returns whether a word may be meant as a permission.
+pub(crate) fn is_near_permission(alloc: Global, word: &str) -> Result<bool, AllocError> {
+    let names = permission_names(alloc)?;
+    let meant = nearest(alloc, word, names.as_slice())?;
+    Ok(meant.is_some())
+}
+
+// Adds the names of the permissions.
+fn push_permission_names(names: &mut Vec<&'static str>) -> Result<(), AllocError>
+    ensures { OnOk result (map (λ n. n.now) names.new.items
+        ≡ map (λ n. n.now) names.old.items ++ map permission_name every_permission) }
+{
+    'perms: for perm in Perms::EVERY {
+        names.push(perm.name())?;
+    }
+    Ok(())
+}
+
+/// Returns the names of the seven permissions of class `grant`.
+pub fn permission_names(alloc: Global) -> Result<Vec<&'static str>, AllocError>
+    ensures { IfOk result (λ names. map (λ n. n.now) names.items ≡ map permission_name every_permission) }
+{
+    let mut names: Vec<&'static str> = Vec::new(alloc);
+    push_permission_names(&mut names)?;
+    Ok(names)
+}
+
+/// Appends a word in quotes and a text.
+pub(crate) fn push_said(out: &mut Vec<u8>, word: &str, said: &str) -> Result<(), AllocError>
+    ensures { OnOk result (out.new.items
+        ≡ out.old.items ++ codes "\"" ++ shown_text (chars word.now) ++ codes "\"" ++ said.now) }
+{
+    push_quoted(out, word)?;
+    push_text(out, said)
+}
+
+/// Makes a message of a word in quotes and a text. U+FFFD replaces control characters of the word, except tabs.
+pub fn said_of(alloc: Global, word: &str, said: &str) -> Result<Vec<u8>, AllocError>
+    ensures { IfOk result (λ v. QuotesWord word.now v.items) }
+{
+    let mut out = Vec::new(alloc);
+    push_said(&mut out, word, said)?;
+    Ok(out)
+}
+
+/// Makes a message of a text.
+pub(crate) fn message_of(alloc: Global, text: &str) -> Result<Vec<u8>, AllocError> {
+    let mut message = Vec::new(alloc);
+    push_text(&mut message, text)?;
+    Ok(message)
+}
