@@ -10,13 +10,14 @@
 #   blk       the split block driver of examples/blk, with its hostile back end (where Xen's headers are installed)
 #   xen_front a guest that grants by stores into its own table, and a back end: examples/xen_front
 #   threads   four threads on one monitor
+#   renew     a reference is worn three times, and mappings live through each renewal of their run (gthost_renew.h)
 #   xengnttab the libraries of contrib/xengnttab: a network pair, libxenvchan unmodified, and its calls as a script
 #             (where libxen-dev is installed; VCHAN=DIR has what contrib/xengnttab/fetch.sh fetched, else it is fetched)
 #   rust      the wrapper of contrib/rust, its tests, and the program of its README (where there is a rustc)
 #   lists     LISTS random lists of calls (10,000) get the answers and the audit of `gthost play`
 #
 # All C is compiled with -Wall -Wextra -Wpedantic -Werror by each of gcc and clang that there is. smoke, memory, blk,
-# xen_front, threads, xengnttab and 200 of the lists run under AddressSanitizer and UBSan too, blk, xen_front, threads
+# xen_front, threads, renew, xengnttab and 200 of the lists run under AddressSanitizer and UBSan too, blk, xen_front, threads
 # and xengnttab under ThreadSanitizer, where the compiler has them. The sanitizers see the C side: the library is compiled
 # by its own compiler.
 # LIBRARY=DIR takes the library from DIR, where `./gthost library` left it, and PROGRAM=FILE the built program gthost.
@@ -53,7 +54,7 @@ has() {
 }
 
 headers() {
-  printf '#include "gthost.h"\nint main(void) { return 0; }\n' | tee "$work/only.c" >"$work/only.cpp"
+  printf '#include "gthost.h"\n#include "gthost_renew.h"\nint main(void) { return 0; }\n' | tee "$work/only.c" >"$work/only.cpp"
   "$1" -std=c99 "${warnings[@]}" -I"$library" -c "$work/only.c" -o "$work/only.o"
   local cxx="${1/gcc/g++}"
   cxx="${cxx/clang/clang++}"
@@ -82,7 +83,7 @@ vmm() {
   "$1" -std=c99 "${warnings[@]}" -I"$library" -c "$work/lines.c" -o "$work/lines.o"
 }
 
-programs=(smoke memory threads xen_front)
+programs=(smoke memory threads xen_front renew)
 [ "$xen" = no ] || programs+=(blk)
 
 # What a program is run with: fewer rounds under a sanitizer.
@@ -92,6 +93,8 @@ words_of() {
     "blk "*) echo 2000 ;;
     "xen_front plain") echo 100000 ;;
     "xen_front "*) echo 5000 ;;
+    "renew plain") echo 3 ;;
+    "renew "*) echo 1 ;;
     "threads plain") echo 1000000 ;;
     "threads "*) echo 50000 ;;
     *) echo ;;

@@ -17,7 +17,8 @@
  * A reference lasts for 1,048,575 changes if `first_gen` is 0. At 50,000 grants a second one that is used again at once
  * is worn after 21 seconds, 32 by turns after 11 minutes, and 8,192 by turns after 48 hours. Many guests use again what
  * they freed last. So keep the number that you pass here apart from the guest's, have more table frames than the guest,
- * and pass another number on N22, once the worn one has no pins (examples/xen_front/vmm.c).
+ * and pass another number on N22, once the worn one has no pins (examples/xen_front/vmm.c). When no number is left, move
+ * all domains to a new run, with their entries and mappings: gthost_renew.h.
  *
  * Memory comes from the program's malloc. Only gthost_start, gthost_type_of, gthost_map (for its mapping),
  * gthost_reserve_records and the records that are kept allocate. A run of one domain takes 1 MB. A run of 64 domains
@@ -146,6 +147,8 @@ struct gthost_answer gthost_demote_at(struct gthost_domain *domain, uint32_t gre
 struct gthost_answer gthost_promote_at(struct gthost_domain *domain, uint32_t gref);
 struct gthost_found_entry gthost_entry_at(struct gthost_domain *domain, uint32_t gref);
 struct gthost_answer gthost_unused_at(struct gthost_domain *domain, uint32_t from);
+struct gthost_answer gthost_grant_all_of_at(struct gthost_domain *domain, struct gthost_domain *other);
+struct gthost_answer gthost_difference_at(struct gthost_domain *domain, struct gthost_domain *other);
 void gthost_map_at(struct gthost_domain *domain, uint32_t dom, uint32_t gref, uint32_t flags,
                    struct gthost_answer *answer);
 void gthost_unmap_at(struct gthost_domain *domain, const struct gthost_handle *name, struct gthost_answer *answer);
@@ -322,6 +325,36 @@ static inline struct gthost_found_entry gthost_entry(struct gthost_domain *domai
 static inline struct gthost_answer gthost_unused(struct gthost_domain *domain, uint32_t from)
 {
     return domain ? gthost_unused_at(domain, from) : gthost_null_answer();
+}
+
+/*
+ * Grants each valid entry that the domain of another handle has, under the same reference, from the least one on: the
+ * first step of a renewal (gthost_renew.h), where `other` is a domain of the run before. Answers with the first refusal;
+ * the entries before it are granted. In a new run whose table has the version and the size of the other, none is
+ * refused. `other` is another handle than `domain`, and is unchanged. N9, N19 to N22.
+ */
+static inline struct gthost_answer gthost_grant_all_of(struct gthost_domain *domain, struct gthost_domain *other)
+{
+    if (!domain || !other || domain == other) {
+        return gthost_null_answer();
+    }
+    return gthost_grant_all_of_at(domain, other);
+}
+
+/*
+ * Compares the entries of the domains of two handles, and returns the least reference (GTHOST_REFERENCE) whose entry is
+ * not the same in both; GTHOST_ABSENT if there is none. An entry is the same if both domains last changed it to the same
+ * one, and a look at each finds the same kind, domain, right and pins, or if neither table has it. The generation may
+ * differ. It looks once at each entry of both. If no other domain of their runs makes a call meanwhile, GTHOST_ABSENT
+ * means that each pin on the one domain's entries has its counterpart: no mapping was left out. `other` is another
+ * handle than `domain`.
+ */
+static inline struct gthost_answer gthost_difference(struct gthost_domain *domain, struct gthost_domain *other)
+{
+    if (!domain || !other || domain == other) {
+        return gthost_null_answer();
+    }
+    return gthost_difference_at(domain, other);
 }
 
 /*

@@ -496,6 +496,7 @@ static void nothing_is_told(void)
 /* Each call of a null pointer. */
 static void nulls(void)
 {
+    struct gthost_domain none = {0};
     const struct gthost_handle name = {0, 0, 0, 0};
     const struct gthost_copy copy = {{0, 0, 0}, {0, 0, 0}, 0, 0};
     const struct gthost_entry_bytes entry = {8, {0}};
@@ -513,7 +514,10 @@ static void nulls(void)
         gthost_copy_begin(NULL, copy).answer,  gthost_copy_end(NULL),
         gthost_entry(NULL, 0).answer,          gthost_take_records(NULL),
         gthost_reset(NULL),                    gthost_finish(NULL),
-        gthost_unused(NULL, 0),
+        gthost_unused(NULL, 0),                gthost_grant_all_of(NULL, &none),
+        gthost_grant_all_of(&none, NULL),      gthost_grant_all_of(&none, &none),
+        gthost_difference(NULL, &none),        gthost_difference(&none, NULL),
+        gthost_difference(&none, &none),
     };
     for (size_t i = 0; i < COUNT(answers); i++) {
         struct gthost_answer answer = answers[i];

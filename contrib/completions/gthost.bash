@@ -25,6 +25,7 @@ _gthost() {
     "explore --find") mapfile -t COMPREPLY < <(compgen -W "N1 N2 N3 N4 N5 N6 N7 N8 N9 N10 N11 N12 N13 N14 N15 N16 N17 N18 N19 N20 N21 N22 N23 N24 N25 N26" -- "$word"); return ;;
     "explore --never") mapfile -t COMPREPLY < <(compgen -W "" -- "$word"); return ;;
     "explore --always") mapfile -t COMPREPLY < <(compgen -W "" -- "$word"); return ;;
+    "explore --claims") mapfile -t COMPREPLY < <(compgen -W "" -- "$word"); return ;;
     "explore --has") mapfile -t COMPREPLY < <(compgen -f -- "$word"); return ;;
     "explore --witness") mapfile -t COMPREPLY < <(compgen -W "all" -- "$word"); return ;;
     "explore --trace") mapfile -t COMPREPLY < <(compgen -W "" -- "$word"); return ;;
@@ -42,7 +43,7 @@ _gthost() {
   case "$command" in
     play) words="--audit --verbose -v --format --help" ;;
     run) words="--audit --verbose -v --format --help" ;;
-    explore) words="--verbose -v --find --never --always --has --witness --trace --states --format --help" ;;
+    explore) words="--verbose -v --find --never --always --claims --has --witness --trace --states --format --help" ;;
     policy) words="--verbose -v --format --help" ;;
     rules) words="--verbose -v --help" ;;
     check) words="--script --verbose -v --never --format --help" ;;

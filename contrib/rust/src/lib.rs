@@ -8,11 +8,13 @@
 //! The caller keeps the memory of the guests. Nothing here touches it, and nothing here stops the caller from touching
 //! more than a [`Mapping`] or [`Places`] allows.
 mod raw;
+mod renewal;
 mod rule;
 mod types;
 
 use std::fmt;
 
+pub use renewal::renew;
 pub use rule::{rule_text, Rule};
 pub use types::{Access, Call, End, Entry, Facts, Fault, Followed, Handle, Kind, Mapping, Place, Places, Record, Refusal};
 pub use types::{Released, Remains, Settings, Side, Size, Status, Taken};
@@ -203,6 +205,22 @@ impl Domain {
     /// Returns the least reference from this one on whose entry is invalid and still has pins. `ABSENT` if there is none.
     pub fn unused(&mut self, from: u32) -> Result<u32, Refusal> {
         self.call(|d| unsafe { raw::gthost_unused_at(d, from) }).map(|answer| answer.gref)
+    }
+
+    /// Grants each valid entry that a domain of another run has, under the same reference. After a refusal the entries
+    /// before it are granted.
+    pub fn grant_all_of(&mut self, other: &mut Domain) -> Result<(), Refusal> {
+        self.call(|d| unsafe { raw::gthost_grant_all_of_at(d, &mut other.raw) }).map(drop)
+    }
+
+    /// Returns the least reference whose entry is not the same in both domains: as each last changed it, and with the
+    /// same pins of each kind. Looks once at each entry of both.
+    pub fn difference(&mut self, other: &mut Domain) -> Result<Option<u32>, Refusal> {
+        match self.call(|d| unsafe { raw::gthost_difference_at(d, &mut other.raw) }) {
+            Ok(answer) => Ok(Some(answer.gref)),
+            Err(refusal) if refusal.rule == Rule::ABSENT => Ok(None),
+            Err(refusal) => Err(refusal),
+        }
     }
 
     /// Maps an entry of a domain.

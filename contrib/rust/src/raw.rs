@@ -134,6 +134,8 @@ extern "C" {
     pub fn gthost_reset_at(domain: &mut Domain) -> Answer;
     pub fn gthost_entry_at(domain: &mut Domain, gref: u32) -> FoundEntry;
     pub fn gthost_unused_at(domain: &mut Domain, from: u32) -> Answer;
+    pub fn gthost_grant_all_of_at(domain: &mut Domain, other: &mut Domain) -> Answer;
+    pub fn gthost_difference_at(domain: &mut Domain, other: &mut Domain) -> Answer;
     pub fn gthost_take_records_at(domain: &mut Domain) -> Answer;
     pub fn gthost_finish_at(domain: &mut Domain) -> Answer;
     pub fn gthost_grant_page_at(domain: &mut Domain, gref: u32, to: u32, frame: u64, ro: u32) -> Answer;

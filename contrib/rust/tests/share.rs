@@ -1,6 +1,5 @@
-use gthost::{
-    rule_text, start, type_of, version, Access, Call, Domain, Entry, Facts, Fault, Followed, Kind, Rule, Settings, Side,
-};
+use gthost::{renew, rule_text, start, type_of, version, Access, Call, Domain, Entry, Facts};
+use gthost::{Fault, Followed, Kind, Rule, Settings, Side};
 
 const POLICY: &str = "type a_t; allow a_t a_t:grant { map_read map_write unmap copy query };";
 
@@ -111,6 +110,33 @@ fn an_entry_follows_what_its_guest_has_written() {
     assert_eq!(front.follow(3, &entry(1, 5)), Ok(Followed::Promoted));
     assert_eq!(front.follow(3, &entry(0, 5)), Ok(Followed::Withdrawn));
     assert_eq!(front.follow(3, &entry(2, 5)).unwrap_err().facts, Facts::Field(2));
+}
+
+#[test]
+fn mappings_live_in_the_next_run() {
+    let domain = |id| Settings { id, label: 0, frames: 8, table_frames: 1, version: 1 };
+    let settings = [domain(1), domain(2)];
+    let mut all = start(&settings, 1_048_573, 1, POLICY).unwrap();
+    all[0].grant(3, Entry::Page { to: 2, frame: 4, read_only: false }).unwrap();
+    all[0].grant(5, Entry::Page { to: 2, frame: 6, read_only: true }).unwrap();
+    let mut names = [all[1].map(1, 3, Access::Write).unwrap(), all[1].map(1, 5, Access::Read).unwrap()];
+    all[0].withdraw(5).unwrap();
+    all[0].grant(0, Entry::Page { to: 2, frame: 1, read_only: false }).unwrap();
+    all[0].revoke(0).unwrap();
+    all[0].grant(0, Entry::Page { to: 2, frame: 1, read_only: false }).unwrap();
+    all[0].revoke(0).unwrap();
+    assert_eq!(all[0].grant(0, Entry::Page { to: 2, frame: 1, read_only: false }).unwrap_err().rule, Rule::N22);
+    let fresh = || start(&settings, 0, 2, POLICY).unwrap();
+    let left_out = renew(&settings, &mut all, fresh(), &mut names[..1]).unwrap_err();
+    assert_eq!((left_out.rule, left_out.facts), (Rule::ABSENT, Facts::Entry { dom: 1, gref: 5, word: 0 }));
+    let (written, read) = (all[1].mapping(names[0]).unwrap(), all[1].mapping(names[1]).unwrap());
+    renew(&settings, &mut all, fresh(), &mut names).unwrap();
+    assert_eq!((all[1].mapping(names[0]), all[1].mapping(names[1])), (Ok(written), Ok(read)));
+    assert_eq!((written.frame, written.writes(), read.frame, read.writes()), (4, true, 6, false));
+    assert_eq!((all[0].entry(5).unwrap().kind, all[0].unused(0)), (Kind::Invalid, Ok(5)));
+    all[0].grant(0, Entry::Page { to: 2, frame: 1, read_only: false }).unwrap();
+    assert_eq!(all[1].unmap(names[1]).unwrap().pins(), 0);
+    assert_eq!(all.remove(0).finish().in_use, 1);
 }
 
 #[test]

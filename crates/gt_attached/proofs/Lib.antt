@@ -1,4 +1,5 @@
 pub mod Beside
 pub mod ReadBack
 pub mod NoMapping
+mod Comparing
 mod Searching

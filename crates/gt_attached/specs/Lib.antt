@@ -1,6 +1,7 @@
 pub mod Decoding
 pub mod Encoding
 pub mod Recording
+pub mod Renewing
 pub mod Seated
 pub mod Starting
 pub mod Unused

@@ -93,7 +93,7 @@ impl<P: Allows + Drop> AttachedDomain<P> {
     ghost use Rattle.gt_model.specs.declared.request.Request.TheVariants as requests;
     ghost use Rattle.gt_live.specs.Domains.{Answered, AnswersQuietly, AnswersRecorded};
     ghost use Rattle.gt_live.specs.Closing.{LooksAtOwn, Resets};
-    ghost use Rattle.gt_live.specs.Following.{Follows};
+    ghost use Rattle.gt_live.specs.Following.{Follows, own_entry_at};
     ghost use Rattle.gt_live.specs.Domains.{KeepsPinned, outcome_of, reply_of, subject_of};
     ghost use Rattle.gt_live.specs.Releasing.{DropsTo, MapAdds};
     ghost use Rattle.gt_live.specs.Domains.{record_of_result, verdict_of, verdict_of_frames, verdict_of_size};
@@ -113,6 +113,8 @@ impl<P: Allows + Drop> AttachedDomain<P> {
     ///
     /// # Errors
     /// N9, N20, N21, N22 or N19. Nothing changes but the body words of an invalid entry.
+    // It has two callers. Inlined in both, it would leave a call below it in both.
+    #[inline(never)]
     pub fn grant(&mut self, gref: GrantRef, entry: &Entry) -> Result<(), Denial>
         requires idle { self.old.copying ≡ None }
         ensures stays { StaysIdle self.old self.new }
@@ -427,6 +429,14 @@ impl<P: Allows + Drop> AttachedDomain<P> {
         ensures looks { LooksAtOwn (words_of self.old.monitor).layout self.old.domain gref result self.new.domain }
     {
         self.attachment.domain.status(&self.monitor, gref)
+    }
+
+    /// Returns one of the domain's entries as the domain last changed it: `Invalid` if it has none of this reference. It
+    /// makes no look, so it has no pins.
+    pub fn entry_at(&self, gref: GrantRef) -> Entry
+        ensures { result ≡ own_entry_at self.now.domain gref }
+    {
+        self.attachment.domain.entry_at(gref)
     }
 
     /// Drops the domain's records. Keeps the room that they took, and the room that was free. Returns the number of

@@ -16,6 +16,7 @@ mod answer;
 mod attached;
 mod attachment;
 mod record;
+mod renewing;
 mod starting;
 mod unused;
 
@@ -26,4 +27,5 @@ pub use answer::{
 pub use attached::AttachedDomain;
 pub use attachment::{CopyPlaces, LeftDomain};
 pub use record::{CopyEnd, EncodedRecord};
+pub use renewing::domains_without_a_difference_have_the_same_entries;
 pub use starting::start;

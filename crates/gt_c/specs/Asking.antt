@@ -7,8 +7,8 @@ use Rattle.gt_live.specs.Mappings.{unused_handle}
 use Rattle.gt_attached.specs.Encoding.{encoded}
 use Rattle.gt_attached.specs.declared.answer.AttachedOutcome.{AttachedOutcome}
 use Rattle.gt_attached.specs.declared.answer.EncodedAnswer.{EncodedAnswer}
-use Rattle.gt_c.specs.declared.calls.EntryBytes.{EntryBytes}
-use Rattle.gt_c.specs.declared.calls.MapHandle.{MapHandle}
+use Rattle.gt_c.specs.declared.grants.EntryBytes.{EntryBytes}
+use Rattle.gt_c.specs.declared.mappings.MapHandle.{MapHandle}
 use Rattle.gt_c.specs.declared.c_domain.CDomain.{CDomain}
 
 -- the name is of a mapping of this domain in this run

@@ -5,6 +5,7 @@ pub mod Lending
 pub mod Owning
 pub mod Prelude
 pub mod Promises
+pub mod Renewing
 pub mod Rules
 pub mod Starting
 pub mod Reports

@@ -6,8 +6,8 @@ use Rattle.gt_model.specs.declared.entry.Entry.{Entry}
 use Rattle.gt_model.specs.declared.request.Request.TheVariants as requests
 use Rattle.gt_live.specs.Domains.{verdict_of, verdict_of_frames, verdict_of_size, verdict_of_version}
 use Rattle.gt_attached.specs.declared.answer.EncodedAnswer.{EncodedAnswer}
-use Rattle.gt_c.specs.declared.calls.EntryBytes.{EntryBytes}
-use Rattle.gt_c.specs.declared.calls.MapHandle.{MapHandle}
+use Rattle.gt_c.specs.declared.grants.EntryBytes.{EntryBytes}
+use Rattle.gt_c.specs.declared.mappings.MapHandle.{MapHandle}
 use Rattle.gt_c.specs.declared.copies.BegunReport.{BegunReport}
 use Rattle.gt_c.specs.declared.copies.CopySettings.{CopySettings}
 use Rattle.gt_c.specs.declared.c_domain.CDomain.{CDomain}

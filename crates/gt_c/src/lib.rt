@@ -18,12 +18,17 @@ mod c_domain;
 mod calls;
 mod copies;
 mod faults;
+mod grants;
 mod handle;
 mod held;
 mod lending;
+mod mappings;
 mod parts;
+mod renewing;
 mod reports;
 mod rules;
+mod tables;
 
-pub use calls::{EntryBytes, MapHandle};
+pub use grants::EntryBytes;
 pub use handle::DomainHandle;
+pub use mappings::MapHandle;

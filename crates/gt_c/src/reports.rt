@@ -6,9 +6,10 @@ ghost use Rattle.gt_c.specs.Promises.{SearchesUnused};
 ghost use Rattle.gt_c.specs.Reports.{entry_status, kept_record, kind_code, mapping_report, no_entry, no_mapping};
 ghost use Rattle.gt_c.specs.Reports.{no_record, outcome_present, outcome_reference, read_only_code};
 
-use crate::calls::{MapHandle, handle_named, turned_away};
+use crate::calls::turned_away;
 use crate::handle::DomainHandle;
 use crate::lending::lent_mut;
+use crate::mappings::{MapHandle, handle_named};
 use gt_attached::{AttachedOutcome, CopyEnd, EncodedAnswer, EncodedRecord, writes};
 use gt_calls::HeldPin;
 use gt_entry::{Control, EntryKind};
@@ -179,7 +180,7 @@ fn present<T>(found: &Option<T>) -> AttachedOutcome
     }
 }
 
-fn reference(found: Option<GrantRef>) -> AttachedOutcome
+pub(crate) fn reference(found: Option<GrantRef>) -> AttachedOutcome
     ensures { result ≡ outcome_reference found }
 {
     match found {

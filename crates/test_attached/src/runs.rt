@@ -5,7 +5,7 @@ use gt_calls::Handle;
 use gt_entry::{Control, Entry, EntryKind};
 use gt_live::Followed;
 use gt_start::{DomainSettings, begin, type_of};
-use gt_types::{DomId, GrantRef, Rule};
+use gt_types::{DomId, GrantRef, LAST_GENERATION, Rule};
 use std::alloc::{AllocError, Global};
 
 const POLICY: &[u8] =
@@ -391,6 +391,32 @@ static FOLLOWING: [Act; 18] = [
 fn an_entry_follows_the_bytes_of_its_guest(rt: HostRuntime) -> Result<(), AllocError> {
     let told = told(rt.alloc(), 0, &FOLLOWING)?;
     assert_eq!(rt; told, (None, [Some(0), Some(0)]));
+    Ok(())
+}
+
+// Lets the owner of a new run grant what that of the run before has granted. Returns whether it did.
+fn takes_over(next: &mut Pair, pair: &Pair) -> bool {
+    !next.owner.is_copying() && next.owner.grant_all_of(&pair.owner).is_ok()
+}
+
+// Returns the first entry that differs between the owners of two runs, or `None` if one of them is in a copy.
+fn difference(next: &mut Pair, pair: &mut Pair) -> Option<Option<GrantRef>> {
+    if next.owner.is_copying() || pair.owner.is_copying() {
+        return None;
+    }
+    Some(next.owner.first_difference(&mut pair.owner))
+}
+
+#[test]
+fn a_new_run_takes_over_what_the_one_before_has(rt: HostRuntime) -> Result<(), AllocError> {
+    let mut pair = begin_pair(rt.alloc(), LAST_GENERATION - 1)?;
+    let mut next = begin_pair(rt.alloc(), 0)?;
+    assert_eq!(rt; difference(&mut next, &mut pair), Some(None));
+    assert!(rt; grants(&mut pair.owner, 2) && maps_page(&mut pair));
+    assert!(rt; takes_over(&mut next, &pair) && !takes_over(&mut next, &pair));
+    assert_eq!(rt; difference(&mut next, &mut pair), Some(Some(PAGE)));
+    assert!(rt; maps_page(&mut next));
+    assert_eq!(rt; difference(&mut next, &mut pair), Some(None));
     Ok(())
 }
 

@@ -39,6 +39,7 @@ impl Domain {
     ghost use Rattle.gt_live.specs.Domains.{BelongsTo, StaysIn};
     ghost use Rattle.gt_live.specs.Closing.{AsksWithdrawal, Closes, ClosesRow, IsInvalidOrInUse, LooksAtOwn, Resets};
     ghost use Rattle.gt_live.specs.Closing.{ShutsRow, StaysQuiet};
+    ghost use Rattle.gt_live.specs.Following.{own_entry_at};
     ghost use Rattle.gt_live.specs.Rows.{row_changed};
     ghost use Rattle.gt_live.specs.Domains.{IsUnsettled};
     ghost use Rattle.gt_live.specs.Walks.{Made};
@@ -147,6 +148,17 @@ impl Domain {
     {
         self.release_all(monitor);
         self.close(monitor)
+    }
+
+    /// Returns one of the domain's entries as the domain last changed it: `Invalid` if it has none of this reference. It
+    /// makes no look, so it has no pins: a withdrawn entry is `Invalid` at once.
+    pub fn entry_at(&self, gref: GrantRef) -> Entry
+        ensures { result ≡ own_entry_at self.now gref }
+    {
+        match self.own.get(gref.0 as usize).copied() {
+            Some(row) => row.entry(),
+            None => Entry::Invalid,
+        }
     }
 
     /// Looks at one of the domain's entries: its kind, generation and pins of each kind, the domain's own pins

@@ -1,0 +1,186 @@
+//! The exports for a domain's mappings of other domains' pages, and the names of mappings.
+ghost use Rattle.std.specs.Prelude.{◌≡◌, true, false, None};
+ghost use Rattle.gt_attached.specs.Encoding.{encoded};
+ghost use Rattle.gt_attached.specs.declared.answer.AttachedOutcome.TheVariants as outcomes;
+ghost use Rattle.gt_handles.specs.Handles.{value_of};
+ghost use Rattle.gt_types.specs.declared.denial.Rule.TheVariants.{N1};
+ghost use Rattle.gt_c.specs.Asking.{handle_named, is_of_domain};
+ghost use Rattle.gt_c.specs.Calling.{MayBeCalled, TurnedAway, RefusesNumber, Within16, outcome_mapped};
+ghost use Rattle.gt_c.specs.Calling.{outcome_released};
+ghost use Rattle.gt_c.specs.Promises.{Maps, Unmaps};
+
+use crate::c_domain::CDomain;
+use crate::calls::{MOST, refused_number};
+use crate::handle::DomainHandle;
+use crate::lending::lent_mut;
+use gt_attached::{AttachedOutcome, EncodedAnswer, MappingName, NamedMapping};
+use gt_calls::Handle as Name;
+use gt_live::{LeftWord, NewMapping};
+use gt_types::{Denial, DomId, GrantRef, Rule};
+
+/// The name of a mapping: its handle, the number of its run, and the domain that has it.
+#[repr(C)]
+#[derive(Clone, Copy)]
+pub struct MapHandle {
+    pub serial: u64,
+    pub key: usize,
+    pub run: u32,
+    pub dom: u32,
+}
+
+// Returns the handle in a name, for a call of this domain. For a name of another domain or another run it returns a
+// handle under which the domain has no mapping.
+pub(crate) fn handle_named(lent: &CDomain, name: MapHandle) -> Name
+    ensures value { result ≡ handle_named lent.now name }
+    ensures foreign { is_of_domain lent.now name ≡ false → value_of lent.now.attached.domain.mappings result ≡ None }
+{
+    if name.run != lent.run || name.dom != u32::from(lent.attached.dom().0) {
+        return lent.attached.unused_handle();
+    }
+    Name {
+        serial: name.serial,
+        key: name.key,
+    }
+}
+
+// Map and unmap are the hot path, so they store their answer where the caller wants it. An answer that is returned has
+// one place for all its values, and each field goes through a register. These three functions store rare answers. They
+// are not inlined, so that an Ok has its stores for itself.
+#[cold]
+#[inline(never)]
+fn store_no_domain(answer: &mut EncodedAnswer)
+    ensures { answer.new ≡ encoded outcomes.NoDomain }
+{
+    *answer = EncodedAnswer::of(AttachedOutcome::NoDomain);
+}
+
+#[cold]
+#[inline(never)]
+fn store_busy(answer: &mut EncodedAnswer)
+    ensures { answer.new ≡ encoded outcomes.Busy }
+{
+    *answer = EncodedAnswer::of(AttachedOutcome::Busy);
+}
+
+#[cold]
+#[inline(never)]
+fn store_refusal(answer: &mut EncodedAnswer, denial: Denial)
+    ensures { answer.new ≡ encoded (outcomes.Denied denial) }
+{
+    *answer = EncodedAnswer::of(AttachedOutcome::Denied(denial));
+}
+
+// Stores why no call is made on a handle, and returns true; or returns false, and the call may be made.
+#[inline(always)]
+fn is_turned_away(domain: &mut DomainHandle, answer: &mut EncodedAnswer) -> bool
+    ensures away { result ≡ true → TurnedAway domain.old.held.value domain.new.held.value answer.new }
+    ensures may { result ≡ false → MayBeCalled domain.old.held.value domain.new.held.value }
+{
+    if !domain.is_live {
+        store_no_domain(answer);
+        return true;
+    }
+    let lent = lent_mut(&mut domain.held);
+    if lent.attached.is_copying() {
+        store_busy(answer);
+        return true;
+    }
+    false
+}
+
+#[inline(always)]
+fn store_mapped(
+    answer: &mut EncodedAnswer,
+    answered: Result<NewMapping, Denial>,
+    dom: DomId,
+    run: u32,
+)
+    ensures { answer.new ≡ encoded (outcome_mapped dom run answered) }
+{
+    match answered {
+        Ok(made) => {
+            *answer = EncodedAnswer::of(AttachedOutcome::Mapped(NamedMapping {
+                name: MappingName {
+                    handle: made.handle,
+                    dom,
+                    run,
+                },
+                owner: made.held.dom,
+                gref: made.held.gref,
+                frame: made.held.entry.frame(),
+                dir: made.held.dir,
+            }));
+        }
+        Err(denial) => store_refusal(answer, denial),
+    }
+}
+
+#[inline(always)]
+fn store_released(answer: &mut EncodedAnswer, answered: Result<LeftWord, Denial>)
+    ensures { answer.new ≡ encoded (outcome_released answered) }
+{
+    match answered {
+        Ok(left) => *answer = EncodedAnswer::of(AttachedOutcome::Released(left)),
+        Err(denial) => store_refusal(answer, denial),
+    }
+}
+
+// Stores the answer to a map with a number that does not fit: an answer that is returned would be cleared by each map.
+#[cold]
+#[inline(never)]
+fn store_refused_number(domain: &mut DomainHandle, answer: &mut EncodedAnswer)
+    ensures { RefusesNumber N1 answer.new domain.old.held.value domain.new.held.value }
+{
+    *answer = refused_number(domain, Rule::N1);
+}
+
+// Maps an entry of a domain whose number fits.
+#[inline(always)]
+fn map_of(domain: &mut DomainHandle, dom: u16, gref: u32, flags: u32, answer: &mut EncodedAnswer)
+    ensures { Maps dom gref flags answer.new domain.old.held.value domain.new.held.value }
+{
+    if is_turned_away(domain, answer) {
+        return;
+    }
+    let lent = lent_mut(&mut domain.held);
+    let caller = lent.attached.dom();
+    let answered = lent.attached.map(DomId(dom), GrantRef(gref), flags);
+    store_mapped(answer, answered, caller, lent.run);
+}
+
+/// Maps an entry of a domain, for reading and writing (flags 2) or for reading (flags 6).
+#[unsafe(no_mangle)]
+pub extern "C" fn gthost_map_at(
+    domain: &mut DomainHandle,
+    dom: u32,
+    gref: u32,
+    flags: u32,
+    answer: &mut EncodedAnswer,
+)
+    ensures { Within16 N1 dom answer.new domain.old.held.value domain.new.held.value
+        (Maps dom gref flags answer.new domain.old.held.value domain.new.held.value) }
+{
+    if dom > MOST {
+        store_refused_number(domain, answer);
+        return;
+    }
+    map_of(domain, dom as u16, gref, flags, answer);
+}
+
+/// Unmaps a mapping.
+#[unsafe(no_mangle)]
+pub extern "C" fn gthost_unmap_at(
+    domain: &mut DomainHandle,
+    name: &MapHandle,
+    answer: &mut EncodedAnswer,
+)
+    ensures { Unmaps name.now answer.new domain.old.held.value domain.new.held.value }
+{
+    if is_turned_away(domain, answer) {
+        return;
+    }
+    let lent = lent_mut(&mut domain.held);
+    let handle = handle_named(lent, *name);
+    let answered = lent.attached.unmap(handle);
+    store_released(answer, answered);
+}
