@@ -1,4 +1,5 @@
-//! Separation: a domain with which no other shares is to the others as if it were not there.
+//! Separation: a domain with which no other shares, and whose copies name no reference of another, is to the others as
+//! if it were not there.
 //!
 //! Any domains may be called high, and the others are low. Noninterference (`gt_flow`) is about accesses and bytes. Here
 //! all calls of high domains are left out: their grants, maps, copies and queries too. If no request of a low domain
