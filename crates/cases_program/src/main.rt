@@ -21,6 +21,7 @@ use std::io::{self, ErrorKind, Write};
 use std::rt::Runtime;
 use std::sync::Wait;
 use std::thread::Threads;
+use std::time::Clock;
 
 // The standard output, used as the standard error.
 #[derive(Drop)]
@@ -99,6 +100,7 @@ impl<'r, R: Runtime> TextSource for Asked<'r, R> {
 const TERMINAL: Style = Style {
     width: Some(60),
     is_colored: true,
+    shows_progress: false,
 };
 
 // How a command line is tried, by its prefix.
@@ -146,7 +148,7 @@ fn words_of(alloc: Global, line: &str) -> Result<Vec<String>, AllocError> {
 }
 
 // Runs a parsed command line on these files, with this style and this output.
-fn try_words<R: Print + AllocGlobal + Threads + Wait + Sync, T: TextSource, W: Write>(
+fn try_words<R: Print + AllocGlobal + Threads + Wait + Sync + Clock, T: TextSource, W: Write>(
     rt: &R,
     texts: &T,
     words: io::Result<Vec<String>>,

@@ -58,8 +58,8 @@ abbrev pub usage_of : Mode → Usage
 usage_of Play = runner_usage
 usage_of Run = runner_usage
 usage_of Explore = record common_usage {
-  options = codes "find" ∷ codes "never" ∷ codes "always" ∷ codes "has" ∷ codes "witness" ∷ codes "trace"
-      ∷ codes "states" ∷ codes "format" ∷ [];
+  options = codes "find" ∷ codes "never" ∷ codes "always" ∷ codes "claims" ∷ codes "has" ∷ codes "witness"
+      ∷ codes "trace" ∷ codes "states" ∷ codes "format" ∷ [];
 }
 usage_of Policy = record common_usage { options = one (codes "format") }
 usage_of Rules = common_usage
@@ -110,11 +110,12 @@ gthost_app = fold with_mode bare_app every_mode
 
 -- ---- requests
 
--- what an exploration seeks: all texts, the verdict on a claim, a script for the text of a number, one for each, or the
--- moves that lead to the text of a number, as lines or as a diagram
+-- what an exploration seeks: all texts, the verdict on a claim, the verdicts on the claims of a text, a script for the
+-- text of a number, one for each, or the moves that lead to the text of a number, as lines or as a diagram
 pub data Sought : Type 0 where
   all_texts : Sought
   a_claim : Claim → Text → Sought
+  several_claims : Text → Sought
   one_script : ℕ → Sought
   all_scripts : Sought
   one_trace : ℕ → Sought
@@ -195,6 +196,13 @@ claim_of (Some find) (Some never) always = None
 claim_of (Some find) None (Some always) = None
 claim_of None (Some never) (Some always) = None
 
+-- a claim, or `--claims CLAIMS`, of which only one may be given
+abbrev pub claims_of : Option (Option Sought) → Option Text → Option (Option Sought)
+claims_of one None = one
+claims_of None (Some claims) = None
+claims_of (Some None) (Some claims) = Some (Some (several_claims claims))
+claims_of (Some (Some claim)) (Some claims) = None
+
 -- `--states N`; 1,000,000 if it is left out
 abbrev pub states_of : Option Text → Option ℕ
 states_of None = Some 1000000
@@ -239,6 +247,7 @@ diagram_of (Some (one_trace number)) = Some (Some (one_diagram number), formats.
 diagram_of None = None
 diagram_of (Some all_texts) = None
 diagram_of (Some (a_claim claim expression)) = None
+diagram_of (Some (several_claims claims)) = None
 diagram_of (Some (one_script number)) = None
 diagram_of (Some all_scripts) = None
 diagram_of (Some (one_diagram number)) = None
@@ -315,7 +324,9 @@ read Run value = run_with (format_of (value (codes "format"))) (is_true (value (
     (is_true (value (codes "verbose"))) (value (codes "file"))
 read Explore value = explore_with
     (formed_of
-    (one_sought (claim_of (value (codes "find")) (value (codes "never")) (value (codes "always")))
+    (one_sought
+    (claims_of (claim_of (value (codes "find")) (value (codes "never")) (value (codes "always")))
+    (value (codes "claims")))
     (witness_of (value (codes "witness"))) (trace_option (value (codes "trace"))))
     (explore_form_of (value (codes "format")))) (value (codes "has"))
     (states_of (value (codes "states"))) (value (codes "file"))
@@ -376,6 +387,7 @@ refusals _ = []
 abbrev pub sought_by : Exploration → Sought
 sought_by explorations.Texts = all_texts
 sought_by (explorations.Decide claim expression) = a_claim claim expression.now
+sought_by (explorations.Claims claims) = several_claims claims.now
 sought_by (explorations.Witness number) = one_script number
 sought_by explorations.Witnesses = all_scripts
 sought_by (explorations.Trace number) = one_trace number

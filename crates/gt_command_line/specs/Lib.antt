@@ -3,5 +3,6 @@ pub mod Files
 pub mod Leading
 pub mod Letters
 pub mod Rules
+pub mod Claiming
 pub mod Commands
 pub mod Prelude

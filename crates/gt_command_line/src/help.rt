@@ -81,6 +81,7 @@ Options:
       --find <EXPR>      Print only the outputs that satisfy EXPR
       --never <EXPR>     Claim that no output satisfies EXPR
       --always <EXPR>    Claim that each output satisfies EXPR
+      --claims <CLAIMS>  Decide the claims of these lines: never EXPR, and so on
       --has <TEXT>       Print the number of the output in the file TEXT
       --witness <N|all>  Print a script for `play` that gives output N, or each
       --trace <N>        Print the steps that lead to output N, a line each
@@ -90,11 +91,13 @@ Options:
 
 EXPR is terms with ! (not), & (and), | (or) and brackets: WORD (an answer has
 it), LINE=ANSWER (the answer to this line of the script begins so), ID:ANSWER (an
-answer of this domain does). A term that no answer can meet is refused.
+answer of this domain does). LINE may be a NAME: `do 1 revoke 0 as NAME`. A term
+that no answer can meet is refused. Several claims are decided by one search, and
+print a line each.
 
-Exit status: 0 if the claim holds, TEXT is an output, or all were found; 1 if it
-does not hold, or TEXT is none of them; 2 if it is not decided, or TEXT has not
-the lines of an output. A claim that fails prints a script for `play`.
+Exit status: 0 if each claim holds, TEXT is an output, or all were found; 1 if one
+does not hold, or TEXT is none of them; 2 if one is not decided, or TEXT has not
+the lines of an output. A single claim that fails prints a script for `play`.
 ";
 
 pub(crate) const POLICY: &str =

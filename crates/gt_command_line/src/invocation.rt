@@ -75,6 +75,8 @@ pub enum Exploration<'a> {
     Texts,
     /// The verdict on a claim about the conditions of this expression.
     Decide { claim: Claim, expression: &'a str },
+    /// The verdicts on the claims of this text, one in each line: `find`, `never` or `always`, and an expression.
+    Claims(&'a str),
     /// A script for the text of this number.
     Witness(usize),
     /// A script for each text.

@@ -24,8 +24,12 @@ fn is_help_behind(flag: &str, word: &str) -> bool
     is_verbose(flag) && is_help(word)
 }
 
-// Returns these words and then the others.
-fn joined(alloc: Global, first: &[&str], others: &[String]) -> Result<Vec<String>, AllocError>
+/// Returns these words and then the others.
+pub(crate) fn joined(
+    alloc: Global,
+    first: &[&str],
+    others: &[String],
+) -> Result<Vec<String>, AllocError>
     ensures { IfOk result (λ all. map string_bytes all.items
         ≡ map (λ w. w.now) first.now ++ map string_bytes others.now) }
 {

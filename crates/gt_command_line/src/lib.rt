@@ -6,9 +6,11 @@
 //!
 //! A line that asks for a command is answered by its plan, and is refused only if an allocation fails. Any other line
 //! is refused, with an error of a kind that fits it. The proof shows that clap's own walk over the words has the same
-//! result, for any flags, options and words. The crate uses `clap`, and the claims of `gt_explore_verdict`.
+//! result, for any flags, options and words. Before that, [`command_first`], [`with_long_flags`] and [`with_claims`] put
+//! words in the order and the form in which the parser takes them. The crate uses `clap`, and the claims of `gt_explore_verdict`.
 #![tactic(auto)]
 
+mod claiming;
 mod exploring;
 mod help;
 mod invocation;
@@ -18,6 +20,7 @@ mod line;
 mod planning;
 mod values;
 
+pub use claiming::with_claims;
 pub use invocation::{
     CheckedFiles, EntriesOptions, Exploration, FlowOptions, Format, Invocation, Mode, MoreFiles,
     ScriptOptions, SearchOptions,

@@ -44,12 +44,13 @@ const FORMAT: Part = Part::Free("format", "text|json");
 // The parts of `play` and of `run`.
 static RUNNER_PARTS: [Part; 4] = [FILE, Part::Flag("audit"), VERBOSE, FORMAT];
 
-static EXPLORE_PARTS: [Part; 10] = [
+static EXPLORE_PARTS: [Part; 11] = [
     FILE,
     VERBOSE,
     Part::Free("find", "EXPR"),
     Part::Free("never", "EXPR"),
     Part::Free("always", "EXPR"),
+    Part::Free("claims", "CLAIMS"),
     Part::Free("has", "TEXT"),
     Part::Free("witness", "N|all"),
     Part::Free("trace", "N"),

@@ -19,7 +19,8 @@ use crate::invocation::{
 };
 use crate::line::gthost_command;
 use crate::values::{
-    claim_of, form_of, format_of, script_of, states_of, trace_of, type_of, version_of, witness_of,
+    claim_of, claims_of, form_of, format_of, script_of, states_of, trace_of, type_of, version_of,
+    witness_of,
 };
 use clap::error::ErrorKind;
 use clap::{ArgMatches, Error};
@@ -236,11 +237,12 @@ fn more_files<'a>(matches: &ArgMatches<'a>) -> MoreFiles<'a>
 fn read_explore<'a>(matches: &ArgMatches<'a>) -> Option<Invocation<'a>>
     ensures { asked_by_some result ≡ read modes.Explore (λ id. first_of id (rows_of (found_of matches.now))) }
 {
-    let claim = claim_of(
+    let one = claim_of(
         value_of(matches, "find"),
         value_of(matches, "never"),
         value_of(matches, "always"),
     );
+    let claim = claims_of(one, value_of(matches, "claims"));
     let witness = witness_of(value_of(matches, "witness"));
     let trace = trace_of(value_of(matches, "trace"));
     let form = form_of(value_of(matches, "format"));
@@ -378,7 +380,7 @@ fn refused_by_explore<'a>(matches: &ArgMatches<'a>) -> (&'static str, Option<&'a
         ("--format mermaid is only for --trace", None)
     } else {
         (
-            "only one of --find, --never, --always, --has, --witness and --trace can be given",
+            "only claims (--find, --never, --always), or one of --claims, --has, --witness and --trace can be given",
             None,
         )
     }

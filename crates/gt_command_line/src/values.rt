@@ -2,7 +2,7 @@
 ghost use Rattle.std.specs.Prelude.{◌≡◌};
 ghost use Rattle.std.specs.Option.{option_map};
 ghost use Rattle.gt_command_line.specs.Commands.{diagram_of, explore_form_of, format_of, formed, domain_number, number_up_to, script_of, states_of, type_of};
-ghost use Rattle.gt_command_line.specs.Commands.{claim_of, sought_of, sought_by, trace_option, version_of, witness_of};
+ghost use Rattle.gt_command_line.specs.Commands.{claim_of, claims_of, sought_of, sought_by, trace_option, version_of, witness_of};
 
 use crate::invocation::{Exploration, Format};
 use gt_explore_verdict::Claim;
@@ -52,7 +52,7 @@ fn diagram_of<'a>(sought: Option<Exploration<'a>>) -> Option<(Option<Exploration
         }
         None => None,
         Some(Exploration::Texts | Exploration::Witnesses) => None,
-        Some(Exploration::Decide { .. }) => None,
+        Some(Exploration::Decide { .. } | Exploration::Claims(_)) => None,
         Some(Exploration::Witness(_) | Exploration::Diagram(_)) => None,
     }
 }
@@ -191,4 +191,20 @@ pub(crate) fn claim_of<'a>(
         _ => return None,
     };
     Some(Some(Exploration::Decide { claim, expression }))
+}
+
+/// Returns the claim that is asked for, or the claims of this text, if some are. The outer result is None if there is
+/// more than one, or claims beside one.
+pub(crate) fn claims_of<'a>(
+    one: Option<Option<Exploration<'a>>>,
+    claims: Option<&'a str>,
+) -> Option<Option<Exploration<'a>>>
+    ensures { option_map (option_map sought_by) result
+        ≡ claims_of (option_map (option_map sought_by) one.entry) (option_map (λ v. v.now) claims.entry) }
+{
+    match (one, claims) {
+        (one, None) => one,
+        (Some(None), Some(claims)) => Some(Some(Exploration::Claims(claims))),
+        (Some(Some(_)) | None, Some(_)) => None,
+    }
 }

@@ -9,7 +9,7 @@ pub use Rattle.gt_command_line.specs.Commands.{type_of}
 pub use Rattle.gt_command_line.specs.declared.invocation.Format.{Format}
 pub use Rattle.gt_entries.specs.Faults.{dump_fault_text}
 pub use Rattle.gt_entries.specs.declared.asked.DumpOptions.{DumpOptions}
-pub use Rattle.gt_explore_faults.specs.Faults.{explore_fault_text}
+pub use Rattle.gt_explore_faults.specs.Faults.{claims_fault_text}
 pub use Rattle.gt_file_commands.specs.declared.checking.CheckKind.{CheckKind}
 pub use Rattle.gt_file_commands.specs.declared.commands.Work.{Work}
 pub use Rattle.gt_file_commands.specs.declared.failure.Failure.{Failure}

@@ -9,7 +9,7 @@ use Rattle.gt_file_commands.specs.Formats.{CheckedAs, IsFormOf, ListedAs, Played
 use Rattle.gt_file_commands.specs.Names.{shown_name}
 use Rattle.gt_file_commands.specs.Prelude.{Keeps, option_map, Appends, AppendsBeginning, Format, DumpOptions}
 use Rattle.gt_file_commands.specs.Prelude.{WhyRequest, perm_asked, source_asked, target_asked, Explained, CheckedNever}
-use Rattle.gt_file_commands.specs.Prelude.{type_of, words, play_fault_text, explore_fault_text, listing_fault_text}
+use Rattle.gt_file_commands.specs.Prelude.{type_of, words, play_fault_text, claims_fault_text, listing_fault_text}
 use Rattle.gt_file_commands.specs.Prelude.{why_fault_text, breach_fault_text, dump_fault_text, read_word}
 use Rattle.gt_file_commands.specs.Prelude.{CheckKind, Failure, Outcome, ReportForm, Work, No, Unknown, Yes}
 use Rattle.gt_flow_command.specs.Blocks.{FlowedAs}
@@ -24,7 +24,7 @@ use Rattle.gt_file_commands.specs.declared.failure.Failure.TheVariants as failur
 abbrev pub failure_text : Failure → List ℕ
 failure_text (failures.Play fault) = codes "gthost: " ++ play_fault_text fault
 failure_text failures.Thread = codes "gthost: thread"
-failure_text (failures.Explore fault) = codes "gthost: " ++ explore_fault_text fault
+failure_text (failures.Explore fault) = codes "gthost: " ++ claims_fault_text fault
 failure_text (failures.List fault) = codes "gthost: " ++ listing_fault_text fault
 failure_text (failures.Why fault) = codes "gthost: " ++ why_fault_text fault
 failure_text (failures.Flow fault) = codes "gthost: " ++ flow_fault_text fault

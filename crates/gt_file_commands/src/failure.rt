@@ -1,7 +1,7 @@
 //! Failures of commands.
 use gt_check_command::{BreachFault, WhyFault};
 use gt_entries::DumpFault;
-use gt_explore_faults::ExploreFault;
+use gt_explore_faults::ClaimsFault;
 use gt_policy_flow::FlowFault;
 use gt_policy_list::ListingFault;
 use gt_script_runs::PlayFault;
@@ -16,7 +16,7 @@ pub enum Failure {
     /// A thread of a run could not be started. Nothing was written.
     Thread,
     /// The texts of a script were not found, or not all written.
-    Explore(ExploreFault),
+    Explore(ClaimsFault),
     /// A policy was not listed, or a policy or a script not checked, to its end; a further text is not UTF-8; or the
     /// line before an answer was not written.
     List(ListingFault),

@@ -7,6 +7,8 @@ pub struct Style {
     pub width: Option<usize>,
     /// Whether carets are coloured.
     pub is_colored: bool,
+    /// Whether a long search shows on the standard error how far it is.
+    pub shows_progress: bool,
 }
 
 impl Style {
@@ -15,6 +17,7 @@ impl Style {
         Style {
             width: None,
             is_colored: false,
+            shows_progress: false,
         }
     }
 }

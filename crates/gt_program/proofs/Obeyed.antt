@@ -3,7 +3,7 @@ use Rattle.std.proofs.Common.{◌≡◌, ◌∙◌, ℕ, Bool, List, Option, Non
 use Rattle.std.proofs.Common.{inr, true, false, codes, cond, ◌∷◌, [], ap, Ok, ◌==◌, ◌⊎◌, arith}
 use Rattle.std.specs.Io.KnownBytes.{Appends, Keeps}
 use Rattle.std.proofs.lemmas.List.{append-nil}
-use Rattle.std.specs.Prelude.{drop}
+use Rattle.std.specs.Prelude.{◌++◌, drop, if◌then◌else◌}
 use Rattle.gt_text.specs.Laws.{keeps_same}
 use Rattle.gt_text.specs.Streams.{OfInput}
 use Rattle.clap.specs.Kinds.{HasKind}
@@ -24,6 +24,7 @@ use Rattle.gt_command_line.specs.Commands.{why_with}
 use Rattle.gt_command_line.specs.Commands.{entries_with}
 use Rattle.gt_command_line.specs.Leading.{command_first, first_or, flag_behind, help_first, is_help, is_verbose}
 use Rattle.gt_command_line.specs.Leading.{leading_word, word_behind}
+use Rattle.gt_command_line.specs.Claiming.{words_ended, no_words, plain_words, words_taken, with_claims, words_joined}
 use Rattle.gt_command_line.specs.Letters.{long_flag, long_word, with_long_flags}
 use Rattle.gt_command_line.specs.Usage.{Line, Word, asks_help, gives, line, long, mark, plain, short, usage_word}
 use Rattle.gt_command_line.specs.Usage.{value_given, wrong}
@@ -38,6 +39,8 @@ use Rattle.gt_file_commands.specs.Names.{shown_name}
 use Rattle.gt_explore_verdict.specs.declared.judging.Verdict.{Verdict}
 use Rattle.gt_explore_verdict.specs.declared.judging.Verdict.TheVariants.{Holds, Fails, Undecided}
 use Rattle.gt_explore_answers.specs.declared.asking.ExploreOptions.{ExploreOptions}
+use Rattle.gt_program.specs.declared.exploring.SearchAsked.{SearchAsked}
+use Rattle.gt_program.specs.declared.exploring.SearchAsked.TheVariants.{One}
 use Rattle.gt_file_commands.specs.Laws.{nothing_without_memory, nothing_done}
 use Rattle.gt_file_commands.specs.Rules.{PrintsRules}
 use Rattle.gt_file_commands.specs.Flows.{flow_format}
@@ -47,7 +50,7 @@ use Rattle.gt_file_commands.specs.Working.{known_text}
 use Rattle.gt_file_commands.specs.declared.outcome.Outcome.{Outcome}
 use Rattle.gt_file_commands.specs.declared.outcome.Outcome.TheVariants.{No, Unknown, Yes}
 use Rattle.gt_program.specs.Runs.{RunsDomains}
-use Rattle.gt_program.specs.Obeying.{AnswersVerdict, FitsKind, AsksAboutText, IsHelped, AreSearchOptions, Obeys}
+use Rattle.gt_program.specs.Obeying.{AnswersVerdict, FitsKind, AsksAboutText, IsAskedFor, IsHelped, Obeys}
 use Rattle.gt_program.specs.Obeying.{Searches, Seeks}
 use Rattle.gt_program.specs.Obeying.{SeeksText, explore_format, failed_command, failed_mode, failed_word, first_word}
 use Rattle.gt_program.specs.Obeying.{verdict_outcome}
@@ -71,13 +74,13 @@ as_planned p same failed width file input old new outcome is obeys = subst (λ (
 -- a text was sought among those of a script
 seeks_given : (asked : ExploreOptions) (text : List ℕ) (format : Format) (states : ℕ) (name : Option (List ℕ)) (input : List ℕ) (old new : Option (List ℕ)) (r : Ending) → AsksAboutText text asked.request
     → asked.format ≡ explore_format format → asked.states ≡ states
-    → DoesOnFile (Searches asked) name input old new r → DoesOnFile (SeeksText text format states) name input old new r
+    → DoesOnFile (Searches (One asked)) name input old new r → DoesOnFile (SeeksText text format states) name input old new r
 seeks_given asked text format states name input old new r given form same (inl does) = inl (asked, given, form, same, does)
 seeks_given asked text format states name input old new r given form same (inr unopened) = inr unopened
 
 pub found_so : (asked : ExploreOptions) (text : List ℕ) (format : Format) (states : ℕ) (name known old new : Option (List ℕ)) (outcome : Outcome) → AsksAboutText text asked.request
     → asked.format ≡ explore_format format → asked.states ≡ states
-    → Works (Searches asked) Unknown name known old new outcome → Works (SeeksText text format states) Unknown name known old new outcome
+    → Works (Searches (One asked)) Unknown name known old new outcome → Works (SeeksText text format states) Unknown name known old new outcome
 found_so asked text format states name None old new outcome given form same works = tt
 found_so asked text format states name (Some bytes) old new outcome given form same (r, is, inl does) = (r, is, inl (seeks_given asked text format states name bytes old new r given form same does))
 found_so asked text format states name (Some bytes) old new outcome given form same (r, is, inr none) = (r, is, inr none)
@@ -300,21 +303,38 @@ module _ (program : List ℕ) where
   any_words word rest true h = rw h (help_words word rest h)
   any_words word rest false h = rw h (flag_words word rest)
 
-leading : (words : List (List ℕ)) → failed_word (first_word (drop 1 (with_long_flags (command_first words)))) ≡ failed_word (leading_word words)
-leading [] = refl
-leading (program ∷ []) = refl
-leading (program ∷ (word ∷ rest)) = any_words program word rest (is_help word) refl
+leading_long : (words : List (List ℕ)) → failed_word (first_word (drop 1 (with_long_flags (command_first words)))) ≡ failed_word (leading_word words)
+leading_long [] = refl
+leading_long (program ∷ []) = refl
+leading_long (program ∷ (word ∷ rest)) = any_words program word rest (is_help word) refl
+
+-- claims that become one option leave the command first
+second_of : (b : Bool) (one other : List (List ℕ)) (word : List ℕ) → first_word (drop 1 one) ≡ Some word → first_word (drop 1 other) ≡ Some word
+    → first_word (drop 1 (if b then one else other)) ≡ Some word
+second_of true one other word first second = first
+second_of false one other word first second = second
+
+claims_behind : (words : List (List ℕ)) → first_word (drop 1 (with_claims words)) ≡ first_word (drop 1 words)
+claims_behind [] = refl
+claims_behind (program ∷ []) = refl
+claims_behind (program ∷ (word ∷ rest)) =
+    let all = words_ended (words_taken no_words rest) in
+    second_of (bytes_eq word (codes "explore")) (words_joined program word rest) (program ∷ (word ∷ rest)) word
+    (second_of all.has_several (program ∷ (word ∷ ((codes "--claims=" ++ all.text) ∷ all.others))) (program ∷ (word ∷ rest)) word refl refl) refl
+
+leading : (words : List (List ℕ)) → failed_word (first_word (drop 1 (plain_words words))) ≡ failed_word (leading_word words)
+leading words = ap failed_word (claims_behind (with_long_flags (command_first words))) ∙ leading_long words
 
 -- the same for the words that were made of them
-pub made_first : (words spelled : List (List ℕ)) (failed : Outcome) → failed ≡ failed_word (leading_word words) → spelled ≡ with_long_flags (command_first words) → failed ≡ failed_word (first_word (drop 1 spelled))
+pub made_first : (words spelled : List (List ℕ)) (failed : Outcome) → failed ≡ failed_word (leading_word words) → spelled ≡ plain_words words → failed ≡ failed_word (first_word (drop 1 spelled))
 made_first words spelled failed is made = is ∙ sym (leading words) ∙ ap (λ (ws : List (List ℕ)). failed_word (first_word (drop 1 ws))) (sym made)
 
 -- no memory was there for the words
 pub without_memory : (words : List (List ℕ)) (width : Option ℕ) (file : List ℕ → Option (List ℕ)) (input old : Option (List ℕ)) (failed outcome : Outcome) → failed ≡ failed_word (leading_word words) → outcome ≡ failed
-    → Obeys (request_in_words (drop 1 (with_long_flags (command_first words)))) (failed_word (leading_word words)) width file input old old outcome
+    → Obeys (request_in_words (drop 1 (plain_words words))) (failed_word (leading_word words)) width file input old old outcome
 without_memory words width file input old failed outcome is same =
-    out_of_memory (request_in_words (drop 1 (with_long_flags (command_first words)))) (failed_word (leading_word words)) width file input old old outcome
-    (failed_in_words (drop 1 (with_long_flags (command_first words))) (failed_word (leading_word words)) (sym (leading words))) (same ∙ is) (keeps_same old)
+    out_of_memory (request_in_words (drop 1 (plain_words words))) (failed_word (leading_word words)) width file input old old outcome
+    (failed_in_words (drop 1 (plain_words words)) (failed_word (leading_word words)) (sym (leading words))) (same ∙ is) (keeps_same old)
 
 -- the words that were made of a line were obeyed
 pub obeyed_plain : (words spelled : List (List ℕ)) (failed same : Outcome) (width : Option ℕ) (file : List ℕ → Option (List ℕ)) (input old new : Option (List ℕ)) (outcome : Outcome) → spelled ≡ words → failed ≡ same
@@ -383,12 +403,12 @@ pub refused_words : (words : List (List ℕ)) (width : Option ℕ) (file : List 
 refused_words words width file input old new error failed outcome is has fits = refused (request_in_words words) width file input old new error failed outcome (failed_in_words words failed is) has fits
 
 -- a script was explored as it was asked
-seeks_asked : (asked : ExploreOptions) (sought : Sought) (format : Format) (states : ℕ) (name : Option (List ℕ)) (input : List ℕ) (old new : Option (List ℕ)) (r : Ending) → AreSearchOptions sought format states asked
+seeks_asked : (asked : SearchAsked) (sought : Sought) (format : Format) (states : ℕ) (name : Option (List ℕ)) (input : List ℕ) (old new : Option (List ℕ)) (r : Ending) → IsAskedFor sought states (explore_format format) asked
     → DoesOnFile (Searches asked) name input old new r → DoesOnFile (Seeks sought format states) name input old new r
 seeks_asked asked sought format states name input old new r is (inl does) = inl (asked, is, does)
 seeks_asked asked sought format states name input old new r is (inr unopened) = inr unopened
 
-pub sought_so : (asked : ExploreOptions) (sought : Sought) (format : Format) (states : ℕ) (name known old new : Option (List ℕ)) (outcome : Outcome) → AreSearchOptions sought format states asked
+pub sought_so : (asked : SearchAsked) (sought : Sought) (format : Format) (states : ℕ) (name known old new : Option (List ℕ)) (outcome : Outcome) → IsAskedFor sought states (explore_format format) asked
     → Works (Searches asked) Unknown name known old new outcome → Works (Seeks sought format states) Unknown name known old new outcome
 sought_so asked sought format states name None old new outcome asks works = tt
 sought_so asked sought format states name (Some bytes) old new outcome asks (r, is, inl does) = (r, is, inl (seeks_asked asked sought format states name bytes old new r asks does))

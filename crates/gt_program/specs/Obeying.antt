@@ -4,14 +4,17 @@ use Rattle.gt_program.specs.Prelude.{Keeps, ErrorKind, DisplayHelp, DisplayVersi
 use Rattle.gt_program.specs.Prelude.{to_check, to_check_never, to_explain, to_explain_lines, to_explore, to_find_text}
 use Rattle.gt_program.specs.Prelude.{to_list, to_play, to_run, to_tell_entries, to_tell_rules, for_help, for_version}
 use Rattle.gt_program.specs.Prelude.{nothing, to_show_flow, mode_of, Sought, all_texts, a_claim, one_script, one_trace}
-use Rattle.gt_program.specs.Prelude.{one_diagram, all_scripts, Explored, ReadsAsRun, ExploreOptions, ExploreFormat}
+use Rattle.gt_program.specs.Prelude.{one_diagram, all_scripts, several_claims, ExploreOptions, ExploreFormat}
+use Rattle.gt_program.specs.Prelude.{ClaimsFault}
+use Rattle.gt_program.specs.Prelude.{ClaimsExplored, NamedExplored, SearchAsked, One, Several}
 use Rattle.gt_program.specs.Prelude.{ExploreRequest, Verdict, Holds, Fails, Undecided, Outcome, No, Unknown, Yes}
 use Rattle.gt_file_commands.specs.Flows.{flow_format}
 use Rattle.gt_file_commands.specs.Names.{shown_name}
 use Rattle.gt_file_commands.specs.Rules.{PrintsRules}
 use Rattle.gt_file_commands.specs.Working.{AnswersDump, AnswersAboutFile, AnswersFlow, AnswersQuestion, ChecksAll}
 use Rattle.gt_file_commands.specs.Working.{ChecksAs}
-use Rattle.gt_file_commands.specs.Working.{ChecksIn, ChecksNever, OutputEffect, Doing, Lists, Plays, WithFile, Works, known_text}
+use Rattle.gt_file_commands.specs.Working.{ChecksIn, ChecksNever, OutputEffect, Doing, Lists, Plays, WithFile, Works}
+use Rattle.gt_file_commands.specs.Working.{known_text}
 use Rattle.gt_file_commands.specs.declared.failure.Failure.TheVariants as failures
 use Rattle.gt_program.specs.Runs.{RunsDomains}
 use Rattle.gt_command_line.specs.declared.invocation.Format.TheVariants.{Text, Json}
@@ -61,10 +64,16 @@ AnswersVerdict Wrote Yes = Wrote (Ok Holds)
 AnswersVerdict Wrote No = Wrote (Ok Fails)
 AnswersVerdict Wrote Unknown = Wrote (Ok Undecided)
 
+-- what was written for what is asked: one request, in which calls may be named, or several claims
+abbrev pub AskedExplored : SearchAsked → List ℕ → Option (List ℕ) → Option (List ℕ) → Result Verdict ClaimsFault
+    → Type 0
+AskedExplored (One asked) = NamedExplored asked
+AskedExplored (Several asked) = ClaimsExplored asked
+
 -- the answer is the verdict
-abbrev pub Searches : ExploreOptions → Doing
-Searches asked input old new (Ok outcome) = AnswersVerdict (Explored asked (ReadsAsRun input) old new) outcome
-Searches asked input old new (Err (failures.Explore fault)) = Explored asked (ReadsAsRun input) old new (Err fault)
+abbrev pub Searches : SearchAsked → Doing
+Searches asked input old new (Ok outcome) = AnswersVerdict (AskedExplored asked input old new) outcome
+Searches asked input old new (Err (failures.Explore fault)) = AskedExplored asked input old new (Err fault)
 Searches asked input old new (Err failure) = ⊥
 
 -- help or the version: it was written, or not
@@ -101,15 +110,17 @@ abbrev pub explore_format : Format → ExploreFormat
 explore_format Text = explore_formats.Text
 explore_format Json = explore_formats.Json
 
--- the options for the texts of a script
-abbrev pub AreSearchOptions : Sought → Format → ℕ → ExploreOptions → Type 0
-AreSearchOptions sought format states asked =
-    IsRequestFor sought asked.request × (asked.format ≡ explore_format format) × (asked.states ≡ states)
+-- this is asked for what is sought, in a format, up to this number of states
+abbrev pub IsAskedFor : Sought → ℕ → ExploreFormat → SearchAsked → Type 0
+IsAskedFor sought states format (One asked) =
+    IsRequestFor sought asked.request × (asked.format ≡ format) × (asked.states ≡ states)
+IsAskedFor sought states format (Several asked) =
+    (sought ≡ several_claims asked.claims.now) × (asked.format ≡ format) × (asked.states ≡ states)
 
--- a script is explored with these options
+-- a script is explored so
 abbrev pub Seeks : Sought → Format → ℕ → Doing
 Seeks sought format states input old new r =
-    (asked : ExploreOptions) × AreSearchOptions sought format states asked × Searches asked input old new r
+    (asked : SearchAsked) × IsAskedFor sought states (explore_format format) asked × Searches asked input old new r
 
 -- the request is whether this text is one of those of a script
 abbrev pub AsksAboutText : List ℕ → ExploreRequest → Type 0
@@ -125,7 +136,7 @@ AsksAboutText text (explore_requests.Diagram number) = ⊥
 abbrev pub SeeksText : List ℕ → Format → ℕ → Doing
 SeeksText text format states input old new r =
     (asked : ExploreOptions) × AsksAboutText text asked.request × (asked.format ≡ explore_format format)
-    × (asked.states ≡ states) × Searches asked input old new r
+    × (asked.states ≡ states) × Searches (One asked) input old new r
 
 -- the text of a file is sought among those of a script
 abbrev pub FindsText : List ℕ → Format → ℕ → (List ℕ → Option (List ℕ)) → Option (List ℕ) → Option (List ℕ)

@@ -2,25 +2,34 @@
 ghost use Rattle.std.specs.Prelude.{◌≡◌, IfSome};
 ghost use Rattle.std.specs.Option.{option_map};
 ghost use Rattle.gt_text.specs.Streams.{OfInput};
-ghost use Rattle.gt_script.specs.RunScripts.{ReadsAsRun};
 ghost use Rattle.gt_command_line.specs.Commands.{sought_by};
-ghost use Rattle.gt_explore.specs.Writing.{Explored};
 ghost use Rattle.gt_command_line.specs.Files.{file_name_of};
 ghost use Rattle.gt_file_commands.specs.Working.{known_input, DoesOnFile, Works};
 ghost use Rattle.gt_file_commands.specs.declared.outcome.Outcome.TheVariants.{Unknown};
-ghost use Rattle.gt_program.specs.Obeying.{explore_format, verdict_outcome, FindsText, IsRequestFor, Searches, Seeks};
+ghost use Rattle.gt_program.specs.Obeying.{explore_format, verdict_outcome, AskedExplored, FindsText, IsAskedFor};
+ghost use Rattle.gt_program.specs.Obeying.{Searches, Seeks};
 ghost use Rattle.gt_program.specs.Obeying.{SeeksText};
 
+use crate::progress::Progress;
 use gt_command_line::{Exploration, Format, SearchOptions};
-use gt_explore::explore as explore_reader;
-use gt_explore_answers::{ExploreFormat, ExploreOptions as Searched, ExploreRequest};
-use gt_explore_faults::ExploreFault;
+use gt_explore_answers::{ExploreFormat, ExploreOptions, ExploreRequest};
+use gt_explore_claims::{ClaimsOptions, explore_claims, explore_named};
+use gt_explore_faults::ClaimsFault;
+use gt_explore_search::SearchWatch;
 use gt_explore_verdict::Verdict;
 use gt_file_commands::{
     Context, CopyingReader, Failure, Outcome, Reasons, TextSource, finish, read_fault, read_given,
 };
 use std::alloc::Global;
 use std::io::{Read, Write};
+use std::time::Clock;
+
+/// What is asked about the texts of a script: one request, or the verdicts on several claims.
+#[derive(Clone, Copy)]
+pub(crate) enum SearchAsked<'w> {
+    One(ExploreOptions<'w>),
+    Several(ClaimsOptions<'w>),
+}
 
 // Returns the format of an exploration.
 fn explore_format(format: Format) -> ExploreFormat
@@ -32,18 +41,30 @@ fn explore_format(format: Format) -> ExploreFormat
     }
 }
 
-// Returns the request for what is sought.
-fn request_of<'w>(asked: Exploration<'w>) -> ExploreRequest<'w>
-    ensures { IsRequestFor (sought_by asked.entry) result }
+// Returns what is asked for with these options.
+fn asked_for<'w>(asked: Exploration<'w>, states: usize, format: ExploreFormat) -> SearchAsked<'w>
+    ensures { IsAskedFor (sought_by asked.entry) states format result }
 {
-    match asked {
+    let request = match asked {
         Exploration::Texts => ExploreRequest::Texts,
         Exploration::Decide { claim, expression } => ExploreRequest::Decide { claim, expression },
+        Exploration::Claims(claims) => {
+            return SearchAsked::Several(ClaimsOptions {
+                claims,
+                states,
+                format,
+            });
+        }
         Exploration::Witness(number) => ExploreRequest::Witness(number),
         Exploration::Witnesses => ExploreRequest::Witnesses,
         Exploration::Trace(number) => ExploreRequest::Trace(number),
         Exploration::Diagram(number) => ExploreRequest::Diagram(number),
-    }
+    };
+    SearchAsked::One(ExploreOptions {
+        request,
+        states,
+        format,
+    })
 }
 
 // Returns the outcome of a verdict.
@@ -57,19 +78,37 @@ fn of_verdict(verdict: Verdict) -> Outcome
     }
 }
 
-// Answers a request on the texts that the script of a reader may give, and adds the reason of a fault.
-fn explore_explained<R: Read, W: Write>(
+// Answers what is asked on the texts that the script of a reader may give.
+fn explore_asked<R: Read, W: Write, X: SearchWatch>(
     alloc: Global,
-    asked: &Searched,
+    asked: &SearchAsked,
+    reader: &mut R,
+    out: &mut W,
+    watch: &mut X,
+) -> Result<Verdict, ClaimsFault>
+    ensures { OfInput (R.remaining reader.old) (λ input.
+        AskedExplored asked.now input (W.contents out.old) (W.contents out.new) result) }
+{
+    match asked {
+        SearchAsked::One(options) => explore_named(alloc, options, reader, out, watch),
+        SearchAsked::Several(options) => explore_claims(alloc, options, reader, out, watch),
+    }
+}
+
+// Answers what is asked on the texts that the script of a reader may give, and adds the reason of a fault.
+fn explore_explained<R: Read, W: Write, X: SearchWatch>(
+    alloc: Global,
+    asked: &SearchAsked,
     reader: &mut R,
     out: &mut W,
     reasons: &mut Reasons,
-) -> Result<Verdict, ExploreFault>
+    watch: &mut X,
+) -> Result<Verdict, ClaimsFault>
     ensures { OfInput (R.remaining reader.old) (λ input.
-        Explored asked.now (ReadsAsRun input) (W.contents out.old) (W.contents out.new) result) }
+        AskedExplored asked.now input (W.contents out.old) (W.contents out.new) result) }
 {
     let mut input = CopyingReader::new(alloc, reader);
-    let ending = explore_reader(alloc, asked, &mut input, out);
+    let ending = explore_asked(alloc, asked, &mut input, out, watch);
     if let Err(fault) = &ending {
         reasons.add_explore(&input.kept, fault);
     }
@@ -77,26 +116,27 @@ fn explore_explained<R: Read, W: Write>(
 }
 
 // Explores the script of a reader.
-fn search<R: Read, W: Write>(
+fn search<R: Read, W: Write, X: SearchWatch>(
     alloc: Global,
-    asked: &Searched,
+    asked: &SearchAsked,
     reader: &mut R,
     out: &mut W,
     reasons: &mut Reasons,
+    watch: &mut X,
 ) -> Result<Outcome, Failure>
     ensures { OfInput (R.remaining reader.old) (λ input.
         Searches asked.now input (W.contents out.old) (W.contents out.new) result) }
 {
-    match explore_explained(alloc, asked, reader, out, reasons) {
+    match explore_explained(alloc, asked, reader, out, reasons, watch) {
         Ok(verdict) => Ok(of_verdict(verdict)),
         Err(fault) => Err(Failure::Explore(fault)),
     }
 }
 
 // Explores the script of the named file, or of the standard input.
-fn search_on<R, T: TextSource, W: Write, E>(
+fn search_on<R: Clock, T: TextSource, W: Write, E: Eprint>(
     context: &Context<R, T, E>,
-    asked: &Searched,
+    asked: &SearchAsked,
     name: Option<&str>,
     out: &mut W,
     reasons: &mut Reasons,
@@ -105,6 +145,7 @@ fn search_on<R, T: TextSource, W: Write, E>(
         (λ input. DoesOnFile (Searches asked.now) (file_name_of name.entry) input (W.contents out.old)
         (W.contents out.new) result) }
 {
+    let mut watch = Progress::begin(context);
     let Some(name) = name else {
         return search(
             context.alloc,
@@ -112,10 +153,11 @@ fn search_on<R, T: TextSource, W: Write, E>(
             &mut context.texts.input(),
             out,
             reasons,
+            &mut watch,
         );
     };
     match context.texts.open(name) {
-        Ok(mut file) => search(context.alloc, asked, &mut file, out, reasons),
+        Ok(mut file) => search(context.alloc, asked, &mut file, out, reasons, &mut watch),
         Err(error) => {
             reasons.add_unread(&error);
             Err(Failure::File(read_fault(&error)))
@@ -124,9 +166,9 @@ fn search_on<R, T: TextSource, W: Write, E>(
 }
 
 // Explores the script of the named file, or of the standard input, and returns the outcome.
-fn search_asked<R, T: TextSource, W: Write, E: Eprint>(
+fn search_asked<R: Clock, T: TextSource, W: Write, E: Eprint>(
     context: &Context<R, T, E>,
-    asked: &Searched,
+    asked: &SearchAsked,
     file: Option<&str>,
     out: &mut W,
     reasons: &mut Reasons,
@@ -140,7 +182,7 @@ fn search_asked<R, T: TextSource, W: Write, E: Eprint>(
 }
 
 /// Explores the script of the named file, or of the standard input, and returns the outcome.
-pub(crate) fn explore<'a, R, T: TextSource, W: Write, E: Eprint>(
+pub(crate) fn explore<'a, R: Clock, T: TextSource, W: Write, E: Eprint>(
     context: &Context<R, T, E>,
     asked: Exploration<'a>,
     options: SearchOptions<'a>,
@@ -152,16 +194,12 @@ pub(crate) fn explore<'a, R, T: TextSource, W: Write, E: Eprint>(
         (known_input (T.file context.now.texts.now) (T.input context.now.texts.now) options.entry.file)
         (W.contents out.old) (W.contents out.new) result }
 {
-    let asked = Searched {
-        request: request_of(asked),
-        states: options.states,
-        format: explore_format(options.format),
-    };
+    let asked = asked_for(asked, options.states, explore_format(options.format));
     search_asked(context, &asked, options.file, out, reasons)
 }
 
 // Decides whether this text is one of those of the script in the named file, or in the standard input.
-fn find_bytes<'a, R, T: TextSource, W: Write, E: Eprint>(
+fn find_bytes<'a, R: Clock, T: TextSource, W: Write, E: Eprint>(
     context: &Context<R, T, E>,
     text: &[u8],
     options: SearchOptions<'a>,
@@ -173,17 +211,17 @@ fn find_bytes<'a, R, T: TextSource, W: Write, E: Eprint>(
         (known_input (T.file context.now.texts.now) (T.input context.now.texts.now) options.entry.file)
         (W.contents out.old) (W.contents out.new) result }
 {
-    let asked = Searched {
+    let asked = SearchAsked::One(ExploreOptions {
         request: ExploreRequest::Has(text),
         states: options.states,
         format: explore_format(options.format),
-    };
+    });
     reasons.begin(options.file);
     search_asked(context, &asked, options.file, out, reasons)
 }
 
 /// Decides whether the text of a file is one of those of a script.
-pub(crate) fn find_text<'a, R, T: TextSource, W: Write, E: Eprint>(
+pub(crate) fn find_text<'a, R: Clock, T: TextSource, W: Write, E: Eprint>(
     context: &Context<R, T, E>,
     given: &'a str,
     options: SearchOptions<'a>,

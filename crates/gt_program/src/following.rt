@@ -15,9 +15,10 @@ use gt_policy_flow::FlowQuestion;
 use std::io::Write;
 use std::sync::Wait;
 use std::thread::Threads;
+use std::time::Clock;
 
 /// Executes the plan. It asks for something, so its outcome does not depend on that of a wrong command line.
-pub(crate) fn follow<'a, R: Threads + Wait + Sync, T: TextSource, W: Write, E: Eprint>(
+pub(crate) fn follow<'a, R: Threads + Wait + Sync + Clock, T: TextSource, W: Write, E: Eprint>(
     context: &Context<R, T, E>,
     invocation: Invocation<'a>,
     out: &mut W,

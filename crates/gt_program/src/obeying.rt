@@ -3,8 +3,8 @@ ghost use Rattle.std.specs.Prelude.{◌≡◌, IfErr, IfOk, drop, map, string_by
 ghost use Rattle.std.specs.Io.KnownBytes.{Keeps};
 ghost use Rattle.clap.specs.Words.{kind_of};
 ghost use Rattle.gt_command_line.specs.Commands.{request_in_words};
-ghost use Rattle.gt_command_line.specs.Leading.{command_first, leading_word};
-ghost use Rattle.gt_command_line.specs.Letters.{with_long_flags};
+ghost use Rattle.gt_command_line.specs.Claiming.{plain_words};
+ghost use Rattle.gt_command_line.specs.Leading.{leading_word};
 ghost use Rattle.gt_program.specs.Obeying.{failed_mode, failed_word, first_word, FitsKind};
 ghost use Rattle.gt_program.specs.Obeying.{FitsUnread, IsHelped, Obeys};
 ghost use Rattle.std.specs.IoError.{error_kind};
@@ -12,13 +12,16 @@ ghost use Rattle.std.specs.IoError.{error_kind};
 use crate::following::follow;
 use clap::Error;
 use clap::error::ErrorKind;
-use gt_command_line::{Mode, command_first, leading_word, mode_of, plan, with_long_flags};
+use gt_command_line::{
+    Mode, command_first, leading_word, mode_of, plan, with_claims, with_long_flags,
+};
 use gt_file_commands::{Context, Failure, Outcome, Reasons, TextSource, report};
 use gt_text::WriteFault;
 use std::alloc::{AllocError, Global};
 use std::io::{self, Write};
 use std::sync::Wait;
 use std::thread::Threads;
+use std::time::Clock;
 
 // Returns the outcome of a failure of this command.
 fn failed_mode(mode: Mode) -> Outcome
@@ -73,7 +76,7 @@ fn refuse<W: Write, E: Eprint>(out: &mut W, err: &E, error: &Error, failed: Outc
 }
 
 // Does what words with the command before its long flags ask for. After a failed allocation the outcome is `failed`.
-fn obey_long<R: Threads + Wait + Sync, T: TextSource, W: Write, E: Eprint>(
+fn obey_long<R: Threads + Wait + Sync + Clock, T: TextSource, W: Write, E: Eprint>(
     context: &Context<R, T, E>,
     words: &[String],
     failed: Outcome,
@@ -95,13 +98,13 @@ fn obey_long<R: Threads + Wait + Sync, T: TextSource, W: Write, E: Eprint>(
     }
 }
 
-// Puts the command before its flags, and long flags in the place of letters.
+// Puts the command before its flags, long flags in the place of letters, and one option in that of several claims.
 fn plain_words(alloc: Global, words: &[String]) -> Result<Vec<String>, AllocError>
-    ensures { IfOk result (λ all. map string_bytes all.items
-        ≡ with_long_flags (command_first (map string_bytes words.now))) }
+    ensures { IfOk result (λ all. map string_bytes all.items ≡ plain_words (map string_bytes words.now)) }
 {
     let first = command_first(alloc, words)?;
-    let all = with_long_flags(alloc, first.as_slice())?;
+    let long = with_long_flags(alloc, first.as_slice())?;
+    let all = with_claims(alloc, long.as_slice())?;
     Ok(all)
 }
 
@@ -114,12 +117,12 @@ fn plain_words(alloc: Global, words: &[String]) -> Result<Vec<String>, AllocErro
 /// denied question and for a claim that does not hold, and unknown for a fault of another command and if the words ask
 /// for nothing that the program does.
 #[tactic(auto, using(crate::proofs::Obeyed::obeyed_plain, crate::proofs::Obeyed::without_memory))]
-pub fn obey<R: Threads + Wait + Sync, T: TextSource, W: Write, E: Eprint>(
+pub fn obey<R: Threads + Wait + Sync + Clock, T: TextSource, W: Write, E: Eprint>(
     context: &Context<R, T, E>,
     words: &[String],
     out: &mut W,
 ) -> Outcome
-    ensures { Obeys (request_in_words (drop 1 (with_long_flags (command_first (map string_bytes words.now)))))
+    ensures { Obeys (request_in_words (drop 1 (plain_words (map string_bytes words.now))))
         (failed_word (leading_word (map string_bytes words.now))) context.now.style.width
         (T.file context.now.texts.now) (T.input context.now.texts.now)
         (W.contents out.old) (W.contents out.new) result }
@@ -144,13 +147,13 @@ fn report_unread<E: Eprint>(err: &E, error: &io::Error) -> Outcome
 
 /// Does what words ask for that were read from the system, as [`obey`] does. If they could not be read, nothing is
 /// written. The outcome is then `No` if an allocation failed, and `Unknown` for a word that is not UTF-8.
-pub fn obey_read<R: Threads + Wait + Sync, T: TextSource, W: Write, E: Eprint>(
+pub fn obey_read<R: Threads + Wait + Sync + Clock, T: TextSource, W: Write, E: Eprint>(
     context: &Context<R, T, E>,
     words: io::Result<Vec<String>>,
     out: &mut W,
 ) -> Outcome
     ensures read { IfOk words (λ all.
-        Obeys (request_in_words (drop 1 (with_long_flags (command_first (map string_bytes all.items)))))
+        Obeys (request_in_words (drop 1 (plain_words (map string_bytes all.items))))
         (failed_word (leading_word (map string_bytes all.items))) context.now.style.width
         (T.file context.now.texts.now) (T.input context.now.texts.now) (W.contents out.old) (W.contents out.new)
         result) }

@@ -61,19 +61,29 @@ fn style_of<R: Runtime + AllocGlobal>(rt: &R, is_terminal: bool) -> Style {
     Style {
         width: Some(width_of(rt)),
         is_colored,
+        shows_progress: false,
     }
 }
 
 /// Does what the words of the program's command line ask for, and returns the outcome. `is_terminal` is true if the
-/// standard output is a terminal.
-pub fn run<R: Runtime + AllocGlobal + Threads + Wait + Sync>(rt: &R, is_terminal: bool) -> Outcome {
+/// standard output is a terminal. `shows_progress` is true if the standard error is one: a long search then shows how
+/// far it is.
+pub fn run<R: Runtime + AllocGlobal + Threads + Wait + Sync>(
+    rt: &R,
+    is_terminal: bool,
+    shows_progress: bool,
+) -> Outcome {
     let texts = System { rt };
+    let style = Style {
+        shows_progress,
+        ..style_of(rt, is_terminal)
+    };
     let context = Context {
         rt,
         alloc: rt.alloc(),
         texts: &texts,
         err: rt,
-        style: style_of(rt, is_terminal),
+        style,
     };
     obey_read(&context, words_of(rt), &mut io::writer(rt))
 }

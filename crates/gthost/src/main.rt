@@ -11,6 +11,6 @@ use std::io::IsTerminal;
 use std::process::ExitCode;
 
 fn main(rt: HostRuntime) -> ExitCode {
-    let outcome = gt_program::run(&rt, rt.stdout().is_terminal());
+    let outcome = gt_program::run(&rt, rt.stdout().is_terminal(), rt.stderr().is_terminal());
     ExitCode::from(outcome.exit_status())
 }

@@ -45,7 +45,7 @@ const DUMP: EntriesOptions = EntriesOptions {
     script: None,
 };
 
-static PLANS: [(&str, Invocation<'static>); 44] = [
+static PLANS: [(&str, Invocation<'static>); 45] = [
     ("gthost play", Invocation::Play(PLAIN)),
     (
         "gthost play first.gt",
@@ -369,6 +369,16 @@ static PLANS: [(&str, Invocation<'static>); 44] = [
                 claim: Claim::Never,
                 expression: "12=N19",
             },
+            options: SearchOptions {
+                file: Some("a.gt"),
+                ..SEARCH
+            },
+        },
+    ),
+    (
+        "gthost explore --claims=never~12=N19 a.gt",
+        Invocation::Explore {
+            asked: Exploration::Claims("never~12=N19"),
             options: SearchOptions {
                 file: Some("a.gt"),
                 ..SEARCH

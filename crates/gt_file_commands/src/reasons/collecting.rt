@@ -6,7 +6,7 @@ use super::names::shown_name;
 use gt_check_command::{BreachFault, WhyFault};
 use gt_command_line::Invocation;
 use gt_entries::{DumpFault, DumpLook, DumpOptions, look_of};
-use gt_explore_faults::{ExploreFault, TextsFault};
+use gt_explore_faults::{ClaimsFault, ExploreFault, TextsFault};
 use gt_fault_reasons::{
     push_block_reason, push_permission_reason, push_policy_reason, push_read_reason, push_refusals,
     push_script_reason, push_type_reason, push_utf8_reason,
@@ -262,6 +262,27 @@ fn explore_reason(
     }
 }
 
+// Returns the same for a script with claims.
+fn claims_reason(
+    alloc: Global,
+    file: &str,
+    is_line: bool,
+    input: &KeptInput,
+    fault: &ClaimsFault,
+) -> Result<Vec<u8>, AllocError> {
+    match fault {
+        ClaimsFault::Explore(fault) => explore_reason(alloc, file, is_line, input, fault),
+        ClaimsFault::Kind(_) | ClaimsFault::Term { .. } | ClaimsFault::Repeated { .. } => {
+            let words = format!(in alloc; "{fault}")?;
+            words_reason(alloc, file, words.as_str())
+        }
+        ClaimsFault::Astray => {
+            let words = "an expression went astray, which is a bug of gthost";
+            words_reason(alloc, file, words)
+        }
+    }
+}
+
 impl<'a> Reasons<'a> {
     /// Makes an empty collection of the reasons of this command.
     pub fn of(alloc: Global, invocation: &Invocation<'a>) -> Reasons<'a> {
@@ -425,9 +446,9 @@ impl<'a> Reasons<'a> {
     }
 
     /// Adds the reason for which the script that was read was not explored.
-    pub fn add_explore(&mut self, input: &KeptInput, fault: &ExploreFault) {
+    pub fn add_explore(&mut self, input: &KeptInput, fault: &ClaimsFault) {
         if let Some(file) = self.file {
-            let said = explore_reason(self.alloc, file, self.is_line, input, fault);
+            let said = claims_reason(self.alloc, file, self.is_line, input, fault);
             self.add(said);
         }
     }
