@@ -1,5 +1,6 @@
 #!/usr/bin/env bash
-# tools/library.sh DIR: leaves libgthost.a, gthost.h, gthost_types.h and gthost.pc in DIR, for a program in C:
+# tools/library.sh DIR: leaves libgthost.a, gthost.h, gthost_types.h, gthost_renew.h and gthost.pc in DIR, for a program
+# in C:
 #   cc vmm.c $(PKG_CONFIG_PATH=DIR pkg-config --cflags --libs gthost)
 set -euo pipefail
 dir=${1:?tools/library.sh DIR}
@@ -17,7 +18,7 @@ kit=$(dirname "$(rt doc)")
     echo end
 } | ar -M
 ranlib "$dir/libgthost.a"
-cp include/gthost.h include/gthost_types.h "$dir"
+cp include/gthost.h include/gthost_types.h include/gthost_renew.h "$dir"
 # the numbers of GTHOST_VERSION
 hex=$(sed -n 's/^#define GTHOST_VERSION 0x//p' include/gthost.h)
 version=$((16#$hex >> 16)).$((16#$hex >> 8 & 255)).$((16#$hex & 255))
@@ -32,4 +33,4 @@ Version: $version
 Cflags: -I\${prefix}
 Libs: -L\${prefix} -lgthost
 PC
-echo "$dir: libgthost.a gthost.h gthost_types.h gthost.pc"
+echo "$dir: libgthost.a gthost.h gthost_types.h gthost_renew.h gthost.pc"

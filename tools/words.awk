@@ -244,6 +244,36 @@ function walk_top(words, n,    i, word, marked, name, j, similar, count, order, 
   finish(4, text["gthost"])
 }
 
+# The option that states a claim of a kind, if the word is one: `--never`, or `--never=EXPR`.
+function claim_option(word) { return match(word, /^--(find|never|always)(=|$)/) ? substr(word, 1, RLENGTH) : "" }
+
+# Puts one option `--claims` in place of several claims of `explore`, as the program does. `origin` has for each word its
+# place among the words that were given.
+function join_claims(    i, m, marked, option, kept, from, claims, count, lines) {
+  kept[++m] = words[1]
+  for (i = 2; i <= n; i++) {
+    option = marked ? "" : claim_option(words[i])
+    if (option ~ /=$/) {
+      count++
+      lines = lines substr(option, 3, length(option) - 3) " " substr(words[i], length(option) + 1) "\n"
+    } else if (option != "" && i < n && words[i + 1] !~ /^-/) {
+      count++
+      lines = lines substr(option, 3) " " words[++i] "\n"
+    } else {
+      if (words[i] == "--") marked = 1
+      kept[++m] = words[i]
+      from[m] = i
+    }
+  }
+  if (count < 2) return
+  words[2] = "--claims=" lines
+  for (i = 2; i <= m; i++) { words[i + 1] = kept[i]; origin[i + 1] = from[i] }
+  n = m + 1
+}
+
+# The place of a word among those that were given.
+function place_of(i) { return (i in origin) ? origin[i] : i }
+
 # The words of a command.
 function walk_command(words, n, i,    word, marked, next_word, name, attached, has_attached, j, missing) {
   read_options(words[i])
@@ -267,7 +297,7 @@ function walk_command(words, n, i,    word, marked, next_word, name, attached, h
       waiting = name
       has_value = !(name in takes) || has_attached
       value = has_attached ? attached : "true"
-      if (has_attached) place[name] = i "@" (length(name) + 3)
+      if (has_attached) place[name] = place_of(i) "@" (length(name) + 3)
       if (has_value) settle(0)
       continue
     }
@@ -277,14 +307,14 @@ function walk_command(words, n, i,    word, marked, next_word, name, attached, h
       refuse("unexpected argument '" substr(word, 1, 2) "' found" \
         (word_count ? "\n\n  tip: to pass '" substr(word, 1, 2) "' as a value, use '-- " substr(word, 1, 2) "'" : ""), plain)
     }
-    if (!marked && waiting != "" && !has_value) { place[waiting] = i; value = word; has_value = 1; continue }
+    if (!marked && waiting != "" && !has_value) { place[waiting] = place_of(i); value = word; has_value = 1; continue }
     if (next_word > word_count) {
       settle(1)
       refuse("unexpected argument '" word "' found", plain)
     }
     settle(0)
     waiting = word_at[next_word++]
-    place[waiting] = i
+    place[waiting] = place_of(i)
     value = word
     has_value = 1
   }
@@ -322,8 +352,8 @@ function check_values(command) {
     if (("states" in given) && !is_number(given["states"], 0)) refuse_option("states", "a number")
     if (!is_format() && given["format"] != "mermaid") refuse_option("format", "text, json or mermaid")
     if (!is_format() && !("trace" in given)) refuse("--format mermaid is only for --trace", plain)
-    if (("find" in given) + ("never" in given) + ("always" in given) + ("has" in given) + ("witness" in given) + ("trace" in given) > 1)
-      refuse("only one of --find, --never, --always, --has, --witness and --trace can be given", plain)
+    if (("find" in given) + ("never" in given) + ("always" in given) + ("claims" in given) + ("has" in given) + ("witness" in given) + ("trace" in given) > 1)
+      refuse("only claims (--find, --never, --always), or one of --claims, --has, --witness and --trace can be given", plain)
   } else if (command == "check" && ("script" in given) && ("never" in given)) {
     refuse("only one of --script and --never can be given", plain)
   }
@@ -395,6 +425,7 @@ BEGIN {
     if (words[i] == "--") marked = 1
     if (!marked && words[i] == "-v") words[i] = "--verbose"
   }
+  if (words[1] == "explore") join_claims()
   at = walk_top(words, n)
   walk_command(words, n, at)
   check_values(words[at])
