@@ -113,8 +113,7 @@ impl<P: Allows + Drop> AttachedDomain<P> {
     ///
     /// # Errors
     /// N9, N20, N21, N22 or N19. Nothing changes but the body words of an invalid entry.
-    // It has two callers. Inlined in both, it would leave a call below it in both.
-    #[inline(never)]
+    #[inline(always)]
     pub fn grant(&mut self, gref: GrantRef, entry: &Entry) -> Result<(), Denial>
         requires idle { self.old.copying ≡ None }
         ensures stays { StaysIdle self.old self.new }

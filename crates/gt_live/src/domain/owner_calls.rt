@@ -155,6 +155,7 @@ impl Domain {
     ///
     /// # Errors
     /// N9, N20, N21, N22, or N19 with the word found. Nothing changes but the body words of an invalid entry.
+    #[inline(always)]
     pub fn grant<P: Allows>(
         &mut self,
         monitor: &Monitor<P>,
