@@ -71,7 +71,7 @@ fn stated_in<'w>(word: &'w str) -> Option<(Claim, &'w str)>
     }
 }
 
-// Returns whether a word begins with `-`, so that it is no value of an option.
+// Returns whether a word begins with `-`, and so can't be the value of an option.
 fn is_dashed(word: &str) -> bool
     ensures { result ≡ is_dashed word.now }
 {

@@ -167,7 +167,7 @@ fn texts_counted<T: SearchWatch>(
 /// texts are then those of a search with a limit of half the states met.
 ///
 /// # Errors
-/// Those of [`texts_within`]: `Memory` if there is none for a search of one state.
+/// Those of [`texts_within`]: `Memory` if even a search of one state lacks memory.
 pub fn texts_found<T: SearchWatch>(
     alloc: Global,
     script: &RunScript,

@@ -12,7 +12,7 @@ use gt_explore_verdict::Claim;
 use gt_script_lines::text_lines;
 use std::alloc::{AllocError, Global};
 
-/// A claim about the texts of a script: its kind, and its expression as it was written.
+/// A claim about the texts of a script: its kind, and its expression as the user wrote it.
 #[derive(Clone, Copy)]
 pub struct StatedClaim<'c> {
     pub claim: Claim,

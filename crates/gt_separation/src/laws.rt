@@ -42,8 +42,8 @@ pub fn requests_keep_apart()
 
 /// Proves separation by what domains ask. No request of a low domain names a high one, and no copy of a high domain an
 /// entry of a low one. Then all calls of high domains may be made or not, at any time, and each step, answer, word,
-/// table and frame of low domains is the same. So a guest with which nobody shares, and whose copies name no reference of
-/// another, is as if it were not there.
+/// table and frame of low domains is the same. So if no other guest shares with a guest, and its copies name no
+/// reference of another, the others run as they would without it.
 pub fn unshared_domains_make_no_difference()
     ensures { UnsharedDomainsMakeNoDifference }
 {}
