@@ -2,7 +2,7 @@
 # Times the loads of `bench live`, maps and unmaps on a running monitor, from C threads through the library
 # (bench/c/speed.c), beside `bench live` itself. Prints millions of operations a second (a map or an unmap is one), how
 # many times longer a round takes from C, and below the table the instructions of a round on one thread, as valgrind
-# counts them, also of a grant and a revocation by an owner.
+# counts them, also of a grant and a revocation by an owner, and of a copy in two halves, which is a call from C only.
 #
 # `bench/c_speed.sh [RUNS]` makes so many runs of each by turns (11), and takes from their time that of no rounds;
 # `PRIORITY='chrt -f 1' bench/c_speed.sh` runs them before other work; `bench/c_speed.sh 0` counts instructions only.
@@ -91,3 +91,4 @@ if [ "$runs" -gt 0 ]; then
 fi
 for audit in off ahead on; do count apart "$audit"; done
 count grants off
+echo "copies, off: $(instructions c copies off) instructions a round from C"

@@ -127,8 +127,8 @@ uint32_t gthost_version(void);
 
 /*
  * The calls of a domain as the library exports them: `domain` may not be null. The functions below have the same names
- * without _at, and test `domain` first. A program in C or C++ calls those. Two exports store their answer in `answer`.
- * No pointer of these two may be null, and what they point to may not overlap.
+ * without _at, and test `domain` first. A program in C or C++ calls those. Maps, unmaps and copies store their answer
+ * in `answer` or `begun`. No pointer of these four may be null, and what they point to may not overlap.
  */
 struct gthost_answer gthost_finish_at(struct gthost_domain *domain);
 struct gthost_answer gthost_reset_at(struct gthost_domain *domain);
@@ -153,8 +153,9 @@ void gthost_map_at(struct gthost_domain *domain, uint32_t dom, uint32_t gref, ui
                    struct gthost_answer *answer);
 void gthost_unmap_at(struct gthost_domain *domain, const struct gthost_handle *name, struct gthost_answer *answer);
 struct gthost_found_mapping gthost_mapping_at(struct gthost_domain *domain, struct gthost_handle name);
-struct gthost_begun_copy gthost_copy_begin_at(struct gthost_domain *domain, struct gthost_copy copy);
-struct gthost_answer gthost_copy_end_at(struct gthost_domain *domain);
+void gthost_copy_begin_at(struct gthost_domain *domain, const struct gthost_copy *copy,
+                          struct gthost_begun_copy *begun);
+void gthost_copy_end_at(struct gthost_domain *domain, struct gthost_answer *answer);
 struct gthost_answer gthost_set_version_at(struct gthost_domain *domain, uint32_t version);
 struct gthost_answer gthost_setup_table_at(struct gthost_domain *domain, uint32_t frames);
 struct gthost_answer gthost_query_size_at(struct gthost_domain *domain, uint32_t dom);
@@ -407,7 +408,13 @@ static inline struct gthost_found_mapping gthost_mapping(struct gthost_domain *d
  */
 static inline struct gthost_begun_copy gthost_copy_begin(struct gthost_domain *domain, struct gthost_copy copy)
 {
-    return domain ? gthost_copy_begin_at(domain, copy) : gthost_null_copy();
+    struct gthost_begun_copy begun;
+    if (domain) {
+        gthost_copy_begin_at(domain, &copy, &begun);
+    } else {
+        begun = gthost_null_copy();
+    }
+    return begun;
 }
 
 /*
@@ -416,7 +423,13 @@ static inline struct gthost_begun_copy gthost_copy_begin(struct gthost_domain *d
  */
 static inline struct gthost_answer gthost_copy_end(struct gthost_domain *domain)
 {
-    return domain ? gthost_copy_end_at(domain) : gthost_null_answer();
+    struct gthost_answer answer;
+    if (domain) {
+        gthost_copy_end_at(domain, &answer);
+    } else {
+        answer = gthost_null_answer();
+    }
+    return answer;
 }
 
 /* Gives the domain's table this version, 1 or 2, while all its entries are invalid. N2, N24. */

@@ -140,12 +140,16 @@ def parameters(declaration):
     return [" ".join(one.split()) for one in inside.split(",")]
 
 
+# Where an export stores what the function in front of it returns.
+RESULTS = ("struct gthost_answer *answer", "struct gthost_begun_copy *begun")
+
+
 def passed_as(param, params):
     """How a function of the header passes on an export's parameter: as it is, or a value or its answer by address."""
     name = re.search(r"\w+$", param).group()
     if param in params:
         return name
-    if param == "struct gthost_answer *answer" or param.removeprefix("const ").replace(" *", " ") in params:
+    if param in RESULTS or param.removeprefix("const ").replace(" *", " ") in params:
         return f"&{name}"
     raise SystemExit(f"header: the function in front of an export does not take {param}")
 
@@ -159,7 +163,7 @@ def compare_inline(header, exports):
         params, body = parameters(found.group(1)), found.group(2)
         passed = [passed_as(one, params) for one in parameters(re.search(rf"\b{export}\(.*?\);", header, re.S).group())]
         names = [re.search(r"\w+$", one).group() for one in params]
-        if [word.lstrip("&") for word in passed if word != "&answer"] != names:
+        if [word.lstrip("&") for word in passed if word not in ("&answer", "&begun")] != names:
             raise SystemExit(f"header: {name} takes other parameters than {export}")
         pointers = [word for word, one in zip(names, params) if "*" in one]
         untested = [word for word in pointers if not re.search(rf"return {word} \?|!{word}\b|if \({word}\)", body)]

@@ -76,7 +76,19 @@ case "$1" in
       full) echo "OSError: [Errno 28] No space left on device"; exit 1 ;;
     esac
     mkdir -p crates/gthost/out
-    printf '#!/bin/sh\necho "the program: $*"\nexit 3\n' >crates/gthost/out/gthost
+    cat >crates/gthost/out/gthost <<'PROGRAM'
+#!/bin/sh
+if [ "$STUB $1" = "searches explore" ]; then
+  echo "$$" >>"$WORK/children"
+  until [ -e "$GTHOST_STOP" ]; do sleep 0.1; done
+  if [ "$2" = goes_on ]; then while true; do sleep 0.1; done; fi
+  echo "the texts found"
+  exit 2
+fi
+echo "the program: $*"
+if [ "$*" = "explore -" ]; then cat; fi
+exit 3
+PROGRAM
     chmod 755 crates/gthost/out/gthost
     ;;
 esac
@@ -388,11 +400,56 @@ anew
 
 # Installing.
 try 'an installation' 0 install "$work/prefix"; has 'an installation' err 'proving and building'; has 'an installation' err "installed $work/prefix/bin/gthost.* cd $work/prefix/share/gthost && gthost play examples/first.gt$"
-for file in bin/gthost share/man/man1/gthost.1 share/bash-completion/completions/gthost share/zsh/site-functions/_gthost \
+for file in bin/gthost libexec/gthost share/man/man1/gthost.1 share/bash-completion/completions/gthost share/zsh/site-functions/_gthost \
   share/fish/vendor_completions.d/gthost.fish share/gthost/examples/first.gt; do
   [ -s "$work/prefix/$file" ] || wrong "an installation: no $file"
 done
-cmp -s "$out/gthost" "$work/prefix/bin/gthost" || wrong 'an installation: another program'
+cmp -s "$out/gthost" "$work/prefix/libexec/gthost" || wrong 'an installation: another program'
+ln -s "$work/prefix/bin/gthost" "$work/linked"
+for command in "$work/prefix/bin/gthost" "$work/linked" "$checkout/gthost"; do
+  for words in 'play x' 'explore x' 'explore -v x'; do
+    tried=$((tried + 1)) status=0
+    # shellcheck disable=SC2086
+    "$command" $words >"$work/out" 2>"$work/err" </dev/null || status=$?
+    [ "$status" -eq 3 ] || wrong "$words: status $status"
+    has "$words" out "^the program: $words$"; lines "$words" 0
+  done
+  tried=$((tried + 1))
+  echo 'a script' | "$command" explore - >"$work/out" 2>"$work/err" || true
+  has 'a search of the standard input' out '^a script$'
+done
+
+# SIGINT ends a search with the texts found, for the group as of a terminal and for the shell alone; a second one, and
+# another signal, end the program. Nothing goes on, and no file is left.
+signals() {
+  local wanted="$1" first="$2" second="$3"
+  shift 3
+  tried=$((tried + 1)) status=0
+  rm -rf "$work/children" "$work/temporary" && mkdir "$work/temporary"
+  TMPDIR="$work/temporary" setsid env --default-signal="$first" "$@" >"$work/out" 2>"$work/err" </dev/null &
+  launcher=$!
+  until [ -s "$work/children" ]; do sleep 0.05; done
+  kill -s "$first" -- "$launcher_sign$launcher"
+  if [ -n "$second" ]; then sleep 0.2 && kill -s "$second" -- "$launcher_sign$launcher"; fi
+  wait "$launcher" 2>/dev/null || status=$?
+  [ "$status" -eq "$wanted" ] || wrong "$first $second in a search: status $status"
+  for _ in $(seq 20); do is_alive || pgrep -s "$launcher" >/dev/null || break; sleep 0.1; done
+  if is_alive; then wrong "$first $second in a search: the program goes on"; fi
+  ! pgrep -s "$launcher" >/dev/null || wrong "$first $second in a search: something goes on"
+  [ -z "$(ls -A "$work/temporary")" ] || wrong "$first $second in a search: a file is left"
+}
+STUB=searches
+for command in "$work/prefix/bin/gthost" "$checkout/gthost"; do
+  for ((i = 0; i < 20; i++)); do
+    launcher_sign='-'
+    if [ $((i % 4)) -eq 3 ]; then launcher_sign=''; fi
+    signals 2 INT '' "$command" explore x; has 'SIGINT in a search' out '^the texts found$'; lines 'SIGINT in a search' 0
+  done
+  launcher_sign='-'
+  signals 130 INT INT "$command" explore goes_on
+  for signal in TERM HUP; do signals $((128 + $(kill -l "$signal"))) "$signal" '' "$command" explore goes_on; done
+done
+STUB=good
 try 'a second installation' 0 install "$work/prefix"; lines 'a second installation' 1
 try 'no folder to install below' 1 install "$work/out"; has 'no folder to install below' err 'cannot write .*Not a directory'; lines 'no folder to install below' 1
 

@@ -93,6 +93,7 @@ man() {
   stored --version | sed '1,2d' | { printf '.nf\n'; roff; printf '.fi\n'; }
   printf '.SH ENVIRONMENT\n.TP\n.B COLUMNS\nThe width of the terminal, to which the lines of rules are broken: 80 if it is not set.\n'
   printf '.TP\n.B NO_COLOR\nIf it is set and not empty, findings on a terminal have no colours.\n'
+  printf '.TP\n.B GTHOST_STOP\nThe name of a file: a search of explore ends as at its limit of states once it exists.\n'
   printf '.SH FILES\n.I share/gthost/examples\nbelow the folder of the installation: scripts, policies and a dump to try. The command\nlines of EXAMPLES are for the folder share/gthost.\n'
   printf '.SH EXAMPLES\n.nf\n'
   stored --help | sed -n '/^Try:/,$p' | sed -e 's/^Try: *//' -e 's/^ *//' | roff

@@ -337,6 +337,12 @@ function is_number(word, most) {
   return length(word) < 20 || (length(word) == 20 && word <= "18446744073709551615")
 }
 
+# Whether the text is two numbers of 64 bits with a comma between them.
+function are_numbers(word,    at) {
+  at = index(word, ",")
+  return at > 0 && is_number(substr(word, 1, at - 1), 0) && is_number(substr(word, at + 1), 0)
+}
+
 # Refuses the value of an option.
 function refuse_option(id, takes) { refuse("--" id " takes " takes ", not '" given[id] "'", plain) }
 
@@ -349,11 +355,12 @@ function check_values(command) {
   } else if (command == "explore") {
     if (("witness" in given) && given["witness"] != "all" && !is_number(given["witness"], 0)) refuse_option("witness", "a number or all")
     if (("trace" in given) && !is_number(given["trace"], 0)) refuse_option("trace", "a number")
+    if (("diff" in given) && !are_numbers(given["diff"])) refuse_option("diff", "two numbers, such as 1,2")
     if (("states" in given) && !is_number(given["states"], 0)) refuse_option("states", "a number")
     if (!is_format() && given["format"] != "mermaid") refuse_option("format", "text, json or mermaid")
     if (!is_format() && !("trace" in given)) refuse("--format mermaid is only for --trace", plain)
-    if (("find" in given) + ("never" in given) + ("always" in given) + ("claims" in given) + ("has" in given) + ("witness" in given) + ("trace" in given) > 1)
-      refuse("only claims (--find, --never, --always), or one of --claims, --has, --witness and --trace can be given", plain)
+    if (("find" in given) + ("never" in given) + ("always" in given) + ("claims" in given) + ("has" in given) + ("witness" in given) + ("trace" in given) + ("summary" in given) + ("diff" in given) > 1)
+      refuse("only claims (--find, --never, --always), or one of --claims, --has, --witness, --trace, --summary and --diff can be given", plain)
   } else if (command == "check" && ("script" in given) && ("never" in given)) {
     refuse("only one of --script and --never can be given", plain)
   }

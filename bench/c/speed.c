@@ -1,7 +1,8 @@
 /*
- * speed LOAD THREADS ROUNDS AUDIT: the loads of `bench live`, through the library. LOAD is apart, adjacent or grants,
- * AUDIT is on, ahead or off. Each thread maps an entry of the owner's and unmaps it, ROUNDS times. Under grants the
- * owner grants an entry and revokes it, in one thread. Prints how many rounds were done.
+ * speed LOAD THREADS ROUNDS AUDIT: the loads of `bench live`, through the library. LOAD is apart, adjacent, grants or
+ * copies, AUDIT is on, ahead or off. Each thread maps an entry of the owner's and unmaps it, ROUNDS times. Under grants
+ * the owner grants an entry and revokes it, in one thread. Under copies each thread begins a copy of 64 bytes from the
+ * entry to a page of its own and ends it, without moving the bytes. Prints how many rounds were done.
  */
 #include "gthost.h"
 
@@ -18,7 +19,7 @@ struct worker {
     uint32_t gref;
     unsigned long rounds, done;
     const char *audit;
-    bool grants;
+    bool grants, copies;
 };
 
 static const char POLICY[] = "type a_t; allow a_t a_t:grant { map_read map_write unmap copy };";
@@ -57,11 +58,23 @@ static unsigned long map(struct worker *worker)
     return done;
 }
 
+static unsigned long copy(struct worker *worker)
+{
+    const struct gthost_copy copy = {{worker->gref, OWNER, 0}, {2, GTHOST_DOMID_SELF, 0}, 64, GTHOST_COPY_SOURCE_GREF};
+    unsigned long done = 0;
+    while (done < worker->rounds) {
+        if (gthost_copy_begin(&worker->domain, copy).answer.rule == GTHOST_OK) {
+            done += gthost_copy_end(&worker->domain).rule == GTHOST_OK;
+        }
+    }
+    return done;
+}
+
 static void *work(void *arg)
 {
     struct worker *worker = arg;
     record_calls(worker);
-    worker->done = worker->grants ? grant(worker) : map(worker);
+    worker->done = worker->grants ? grant(worker) : worker->copies ? copy(worker) : map(worker);
     return NULL;
 }
 
@@ -83,7 +96,7 @@ int main(int argc, char **argv)
     size_t count = argc == 5 ? strtoul(argv[2], NULL, 10) : 0;
     const bool grants = count > 0 && strcmp(argv[1], "grants") == 0;
     if (count == 0 || count > (grants ? 1 : MOST)) {
-        fprintf(stderr, "speed apart|adjacent|grants THREADS ROUNDS on|ahead|off\n");
+        fprintf(stderr, "speed apart|adjacent|grants|copies THREADS ROUNDS on|ahead|off\n");
         return 2;
     }
     memset(domains, 0, sizeof domains);
@@ -101,6 +114,7 @@ int main(int argc, char **argv)
         workers[i].rounds = strtoul(argv[3], NULL, 10);
         workers[i].audit = argv[4];
         workers[i].grants = grants;
+        workers[i].copies = strcmp(argv[1], "copies") == 0;
         if (!grants) {
             gthost_grant_page(&domains[OWNER - 1], workers[i].gref, mapper, 5, false);
         }

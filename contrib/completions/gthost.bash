@@ -29,6 +29,7 @@ _gthost() {
     "explore --has") mapfile -t COMPREPLY < <(compgen -f -- "$word"); return ;;
     "explore --witness") mapfile -t COMPREPLY < <(compgen -W "all" -- "$word"); return ;;
     "explore --trace") mapfile -t COMPREPLY < <(compgen -W "" -- "$word"); return ;;
+    "explore --diff") mapfile -t COMPREPLY < <(compgen -W "" -- "$word"); return ;;
     "explore --states") mapfile -t COMPREPLY < <(compgen -W "" -- "$word"); return ;;
     "explore --format") mapfile -t COMPREPLY < <(compgen -W "text json mermaid" -- "$word"); return ;;
     "policy --format") mapfile -t COMPREPLY < <(compgen -W "text json" -- "$word"); return ;;
@@ -43,7 +44,7 @@ _gthost() {
   case "$command" in
     play) words="--audit --verbose -v --format --help" ;;
     run) words="--audit --verbose -v --format --help" ;;
-    explore) words="--verbose -v --find --never --always --claims --has --witness --trace --states --format --help" ;;
+    explore) words="--verbose -v --find --never --always --claims --has --witness --trace --summary --diff --states --format --help" ;;
     policy) words="--verbose -v --format --help" ;;
     rules) words="--verbose -v --help" ;;
     check) words="--script --verbose -v --never --format --help" ;;

@@ -27,6 +27,8 @@ complete -c gthost -n '__fish_seen_subcommand_from explore' -l claims -x -a '' -
 complete -c gthost -n '__fish_seen_subcommand_from explore' -l has -r -F -d 'Print the number of the output in the file TEXT'
 complete -c gthost -n '__fish_seen_subcommand_from explore' -l witness -x -a 'all' -d 'Print a script for `play` that gives output N, or each'
 complete -c gthost -n '__fish_seen_subcommand_from explore' -l trace -x -a '' -d 'Print the steps that lead to output N, a line each'
+complete -c gthost -n '__fish_seen_subcommand_from explore' -l summary -d 'Print the lines whose answers vary, and how often'
+complete -c gthost -n '__fish_seen_subcommand_from explore' -l diff -x -a '' -d 'Print the lines in which outputs K and L differ'
 complete -c gthost -n '__fish_seen_subcommand_from explore' -l states -x -a '' -d 'Stop after N states [default: 1000000]'
 complete -c gthost -n '__fish_seen_subcommand_from explore' -l format -x -a 'text json mermaid' -d 'Print text, json, or mermaid (--trace) [default: text]'
 complete -c gthost -n '__fish_seen_subcommand_from explore' -l help -d 'Print help'

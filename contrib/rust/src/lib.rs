@@ -260,7 +260,8 @@ impl Domain {
         };
         let ((source, by_source), (dest, by_dest)) = (end(from), end(to));
         let asked = raw::Copying { source, dest, len, flags: u32::from(by_source) | u32::from(by_dest) << 1 };
-        let begun = unsafe { raw::gthost_copy_begin_at(&mut self.raw, asked) };
+        let mut begun = raw::BegunCopy::default();
+        unsafe { raw::gthost_copy_begin_at(&mut self.raw, &asked, &mut begun) };
         judged(begun.answer)?;
         Ok(Copying { domain: self, places: begun.places })
     }
@@ -338,6 +339,7 @@ impl Copying<'_> {
 
 impl Drop for Copying<'_> {
     fn drop(&mut self) {
-        let _ = self.domain.call(|d| unsafe { raw::gthost_copy_end_at(d) });
+        let mut answer = raw::Answer::default();
+        unsafe { raw::gthost_copy_end_at(&mut self.domain.raw, &mut answer) };
     }
 }

@@ -69,7 +69,7 @@ pub struct FoundRecord {
 }
 
 #[repr(C)]
-#[derive(Clone, Copy)]
+#[derive(Clone, Copy, Default)]
 pub struct BegunCopy {
     pub answer: Answer,
     pub places: super::Places,
@@ -152,8 +152,8 @@ extern "C" {
     pub fn gthost_map_at(domain: &mut Domain, dom: u32, gref: u32, flags: u32, answer: &mut Answer);
     pub fn gthost_unmap_at(domain: &mut Domain, name: &super::Handle, answer: &mut Answer);
     pub fn gthost_mapping_at(domain: &mut Domain, name: super::Handle) -> FoundMapping;
-    pub fn gthost_copy_begin_at(domain: &mut Domain, copy: Copying) -> BegunCopy;
-    pub fn gthost_copy_end_at(domain: &mut Domain) -> Answer;
+    pub fn gthost_copy_begin_at(domain: &mut Domain, copy: &Copying, begun: &mut BegunCopy);
+    pub fn gthost_copy_end_at(domain: &mut Domain, answer: &mut Answer);
     pub fn gthost_set_version_at(domain: &mut Domain, version: u32) -> Answer;
     pub fn gthost_setup_table_at(domain: &mut Domain, frames: u32) -> Answer;
     pub fn gthost_query_size_at(domain: &mut Domain, dom: u32) -> Answer;

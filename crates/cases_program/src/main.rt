@@ -147,10 +147,11 @@ fn words_of(alloc: Global, line: &str) -> Result<Vec<String>, AllocError> {
     Ok(words)
 }
 
-// Runs a parsed command line on these files, with this style and this output.
-fn try_words<R: Print + AllocGlobal + Threads + Wait + Sync + Clock, T: TextSource, W: Write>(
-    rt: &R,
-    texts: &T,
+// Runs a parsed command line on these files, with this standard error, style and output.
+fn try_words<'c, R: Print + AllocGlobal + Threads + Wait + Sync + Clock, T: TextSource, W: Write>(
+    rt: &'c R,
+    texts: &'c T,
+    err: &'c Screen<'c, R>,
     words: io::Result<Vec<String>>,
     style: Style,
     out: &mut W,
@@ -159,8 +160,9 @@ fn try_words<R: Print + AllocGlobal + Threads + Wait + Sync + Clock, T: TextSour
         rt,
         alloc: rt.alloc(),
         texts,
-        err: &Screen { rt },
+        err,
         style,
+        stop: None,
     };
     obey_read(&context, words, out)
 }
@@ -172,7 +174,14 @@ fn try_counted<R: Runtime + AllocGlobal + Threads + Wait + Sync>(
     words: io::Result<Vec<String>>,
 ) -> io::Result<Outcome> {
     let mut counted = Counted::new(rt.alloc());
-    let outcome = try_words(rt, &Made, words, Style::plain(), &mut counted);
+    let outcome = try_words(
+        rt,
+        &Made,
+        &Screen { rt },
+        words,
+        Style::plain(),
+        &mut counted,
+    );
     counted.tell(rt.alloc(), rt)?;
     Ok(outcome)
 }
@@ -186,16 +195,24 @@ fn try_line<R: Runtime + AllocGlobal + Threads + Wait + Sync>(
     let words = Ok(words_of(rt.alloc(), line)?);
     let files = System { rt };
     let plain = Style::plain();
+    let err = Screen { rt };
     let mut screen = io::writer(rt);
     Ok(match setting {
-        Setting::Plain => try_words(rt, &files, words, plain, &mut screen),
-        Setting::Terminal => try_words(rt, &files, words, TERMINAL, &mut screen),
-        Setting::Full(mut full) => try_words(rt, &files, words, plain, &mut full),
-        Setting::Asked => try_words(rt, &Asked { rt }, words, plain, &mut screen),
+        Setting::Plain => try_words(rt, &files, &err, words, plain, &mut screen),
+        Setting::Terminal => try_words(rt, &files, &err, words, TERMINAL, &mut screen),
+        Setting::Full(mut full) => try_words(rt, &files, &err, words, plain, &mut full),
+        Setting::Asked => try_words(rt, &Asked { rt }, &err, words, plain, &mut screen),
         Setting::Unread(kind) => {
-            try_words(rt, &files, Err(io::Error::from(kind)), plain, &mut screen)
+            try_words(
+                rt,
+                &files,
+                &err,
+                Err(io::Error::from(kind)),
+                plain,
+                &mut screen,
+            )
         }
-        Setting::Made => try_words(rt, &Made, words, plain, &mut screen),
+        Setting::Made => try_words(rt, &Made, &err, words, plain, &mut screen),
         Setting::Counted => try_counted(rt, words)?,
     })
 }

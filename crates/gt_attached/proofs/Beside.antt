@@ -1,12 +1,13 @@
 -- What holds of a guest's domain beside the monitor that it was lent holds of the guest as contracts see it.
-use Rattle.std.proofs.Common.{◌≡◌, ◌∙◌, ap, subst, sym, Option, Some, None}
+use Rattle.std.proofs.Common.{◌≡◌, ◌∙◌, ap, refl, subst, sym, Bool, true, false, Option, Some, None, IsSome}
+use mathlib.Core.Bool.{true≢false}
 use Rattle.gt_live.specs.declared.domain.Domain.{Domain}
 use Rattle.gt_live.specs.declared.domain.copies.PendingCopy.{PendingCopy}
 use Rattle.gt_live.specs.declared.monitor.Monitor.{Monitor}
 use Rattle.gt_types.specs.declared.copies.CopyArgs.{CopyArgs}
 use Rattle.gt_live.specs.Domains.{AllowRelation, BelongsTo}
 use Rattle.gt_live.specs.Halves.{BecomesPending, IsPending}
-use Rattle.gt_attached.specs.Seated.{Seated, StandsBy}
+use Rattle.gt_attached.specs.Seated.{Seated, StandsBy, copy_in_place}
 
 pub beside : {P : Type 0} {m n : Monitor P} {d : Domain} {o : Option PendingCopy} {s : Seated P} (Q : Monitor P → Domain → Type 0)
     → m ≡ n → ◌≡◌ {A = Seated P} (record { monitor = n; domain = d; copying = o }) s → Q m d → Q s.monitor s.domain
@@ -31,7 +32,14 @@ pub stands-there : {P : Type 0} (may : P → AllowRelation) (m n : Monitor P) (d
 stands-there {P} may m n d e copy h q mine comes =
     subst (λ (k : Monitor P). IsPending may k h e) q (d, mine, subst (λ (x : CopyArgs). BecomesPending may m d x h e) (sym comes.asked) comes)
 
-pub at-access : {P : Type 0} (may : P → AllowRelation) {m n : Monitor P} {d : Domain} {o : Option PendingCopy} {h : PendingCopy}
-    → m ≡ n → o ≡ Some h → StandsBy may n d o → IsPending may m h d
-at-access {P} may {m} {n} {d} {o} {h} e there stands =
-    subst (λ (k : Monitor P). IsPending may k h d) (sym e) (subst (λ (x : Option PendingCopy). StandsBy may n d x) there stands)
+-- a domain in a copy is in the one that is kept
+pub is-in : (b : Bool) (h : PendingCopy) → IsSome (copy_in_place b h) → copy_in_place b h ≡ Some h
+is-in true h some = refl
+is-in false h some = absurd (true≢false (sym some))
+
+pub at-access : {P : Type 0} (may : P → AllowRelation) {m n : Monitor P} {d : Domain} {s : Seated P} (b : Bool) (h : PendingCopy)
+    → m ≡ n → ◌≡◌ {A = Seated P} (record { monitor = n; domain = d; copying = copy_in_place b h }) s → IsSome s.copying
+    → StandsBy may n d (copy_in_place b h) → IsPending may m h d
+at-access {P} may {m} {n} {d} {s} b h e v some stands =
+    let there : IsSome (copy_in_place b h) = subst (λ (o : Option PendingCopy). IsSome o) (sym (ap (λ (t : Seated P). t.copying) v)) some in
+    subst (λ (k : Monitor P). IsPending may k h d) (sym e) (subst (λ (x : Option PendingCopy). StandsBy may n d x) (is-in b h there) stands)

@@ -1,5 +1,5 @@
 -- What a contract sees of an attached domain, and how its copies begin and end.
-use Rattle.std.specs.Prelude.{◌≡◌, ◌⊎◌, length, Option, Some, None, Result, Ok, Err}
+use Rattle.std.specs.Prelude.{◌≡◌, ◌⊎◌, length, Bool, true, false, Option, Some, None, Result, Ok, Err}
 use Rattle.gt_types.specs.declared.denial.Denial.{Denial}
 use Rattle.gt_audit.specs.Trails.{TrailState, AppendsRecord}
 use Rattle.gt_model.specs.declared.action.CallResult.TheVariants.{Refused}
@@ -10,6 +10,7 @@ use Rattle.gt_live.specs.declared.domain.Domain.{Domain}
 use Rattle.gt_live.specs.declared.domain.copies.PendingCopy.{PendingCopy}
 use Rattle.gt_live.specs.declared.monitor.Monitor.{Monitor}
 use Rattle.gt_live.specs.Closing.{Resets}
+use Rattle.gt_live.specs.Copies.{pending_from, pending_to}
 use Rattle.gt_live.specs.Domains.{AllowRelation, Answered, BelongsTo, HasLeft, KeepsPinned, record_of_copy}
 use Rattle.gt_live.specs.Halves.{BecomesPending, EndsPending, IsPending, done_copy}
 use Rattle.gt_live.specs.Releasing.{PendingLeaves}
@@ -24,6 +25,11 @@ pub record Seated (P : Type 0) : Type 0 where
   pub monitor : Monitor P
   pub domain : Domain
   pub copying : Option PendingCopy
+
+-- the copy that a domain is in, if it is in one
+abbrev pub copy_in_place : Bool → PendingCopy → Option PendingCopy
+copy_in_place true h = Some h
+copy_in_place false h = None
 
 -- a domain beside its monitor, in this copy if there is one
 abbrev pub seated : {P : Type 0} → Monitor P → Domain → Option PendingCopy → Seated P
@@ -44,7 +50,7 @@ StaysIdle s t = (t.monitor ≡ s.monitor) × (t.copying ≡ None) × IsSameSeat 
 
 -- the places of a copy at its access
 abbrev pub copy_places_of : PendingCopy → CopyPlaces
-copy_places_of h = record { from = h.from; to = h.to; len = h.len }
+copy_places_of h = record { from = pending_from h; to = pending_to h; len = h.copy.len }
 
 -- the result of the beginning of a copy. Ok: it reached its access, where the domain now is, and returned its places.
 -- Refused: by its path; the domain keeps its mappings and pins, is in no copy, and recorded the call

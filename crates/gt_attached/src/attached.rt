@@ -21,13 +21,18 @@ pub struct AttachedDomain<P: Allows + Drop> {
 
 impl<P: Allows + Drop> Model for AttachedDomain<P> {
     ghost use Rattle.std.specs.Arc.{arc_value};
-    ghost use Rattle.gt_attached.specs.Seated.{Seated, StandsBy};
+    ghost use Rattle.gt_attached.specs.Seated.{Seated, StandsBy, copy_in_place};
 
     ghost Value = { Seated P };
 
-    ghost view = { λ g. record { monitor = arc_value g.monitor; domain = g.attachment.domain; copying = g.attachment.copying } };
+    ghost view = { λ g. record {
+      monitor = arc_value g.monitor;
+      domain = g.attachment.domain;
+      copying = copy_in_place g.attachment.is_copying g.attachment.pending;
+    } };
 
-    ghost invariant = { λ g. StandsBy P.may (arc_value g.monitor) g.attachment.domain g.attachment.copying };
+    ghost invariant = { λ g. StandsBy P.may (arc_value g.monitor) g.attachment.domain
+        (copy_in_place g.attachment.is_copying g.attachment.pending) };
 }
 
 impl<P: Allows + Drop> Drop for AttachedDomain<P> {

@@ -1,7 +1,8 @@
 //! A guest, which is a domain in its run and the copy that it is in, and the calls of an attached domain.
-ghost use Rattle.std.specs.Prelude.{◌≡◌, None};
+ghost use Rattle.std.specs.Prelude.{◌≡◌, None, false};
+ghost use Rattle.gt_live.specs.Copies.{no_pending};
 ghost use Rattle.gt_live.specs.Domains.{BelongsTo};
-ghost use Rattle.gt_attached.specs.Seated.{LeavesRun, LeavesSettled, Settles, StandsBy, seated};
+ghost use Rattle.gt_attached.specs.Seated.{LeavesRun, LeavesSettled, Settles, StandsBy, copy_in_place, seated};
 
 use crate::answer::{Departure, TakenCounts};
 use crate::attached::AttachedDomain;
@@ -22,9 +23,11 @@ pub struct CopyPlaces {
 
 /// A domain in its run, and the copy that it is in, if it is in one. It is not `Drop`, and its fields are private here, so
 /// whoever else has one can only let it leave. By each such body that compiles, it ends its copy and closes its table.
+/// `pending` is the copy while `is_copying` is set. Else it has a place for the next one, which is written there.
 pub(crate) struct Attachment {
     domain: Domain,
-    copying: Option<PendingCopy>,
+    is_copying: bool,
+    pending: PendingCopy,
 }
 
 /// A domain that has left its run: what remains of it, and its seat with its records. No seat can be made or changed.
@@ -36,12 +39,18 @@ pub struct LeftDomain {
 }
 
 // Ends the copy that the domain is in, if it is in one.
-fn settle<P: Allows>(monitor: &Monitor<P>, domain: &mut Domain, copying: Option<PendingCopy>)
-    requires stands { StandsBy P.may monitor.now domain.old copying }
+fn settle<P: Allows>(
+    monitor: &Monitor<P>,
+    domain: &mut Domain,
+    is_copying: bool,
+    pending: &PendingCopy,
+)
+    requires stands { StandsBy P.may monitor.now domain.old (copy_in_place is_copying pending.now) }
     ensures mine { BelongsTo P.may monitor.now domain.new }
-    ensures settles { Settles (seated monitor.now domain.old copying) (seated monitor.now domain.new None) }
+    ensures settles { Settles (seated monitor.now domain.old (copy_in_place is_copying pending.now))
+        (seated monitor.now domain.new None) }
 {
-    if let Some(pending) = copying {
+    if is_copying {
         domain.copy_end(monitor, pending);
     }
 }
@@ -62,25 +71,28 @@ fn depart<P: Allows>(monitor: &Monitor<P>, domain: Domain) -> LeftDomain
 impl Attachment {
     /// Makes a guest of a domain that is in no copy.
     pub(crate) fn new(domain: Domain) -> Attachment
-        ensures { result ≡ record { domain = domain; copying = None } }
+        ensures { result ≡ record { domain = domain; is_copying = false; pending = no_pending } }
     {
         Attachment {
             domain,
-            copying: None,
+            is_copying: false,
+            pending: PendingCopy::new(),
         }
     }
 
     /// Ends the copy that the domain is in, if it is in one. Then releases its mappings, closes its table and leaves its
     /// run.
     pub(crate) fn leave<P: Allows>(self, monitor: &Monitor<P>) -> LeftDomain
-        requires { StandsBy P.may monitor.now self.domain self.copying }
-        ensures { LeavesSettled P.may (seated monitor.now self.domain self.copying) result }
+        requires { StandsBy P.may monitor.now self.domain (copy_in_place self.is_copying self.pending) }
+        ensures { LeavesSettled P.may
+            (seated monitor.now self.domain (copy_in_place self.is_copying self.pending)) result }
     {
         let Attachment {
             mut domain,
-            copying,
+            is_copying,
+            pending,
         } = self;
-        settle(monitor, &mut domain, copying);
+        settle(monitor, &mut domain, is_copying, &pending);
         depart(monitor, domain)
     }
 }
@@ -365,7 +377,7 @@ impl<P: Allows + Drop> AttachedDomain<P> {
     pub fn is_copying(&self) -> bool
         ensures { result ≡ is_some self.now.copying }
     {
-        self.attachment.copying.is_some()
+        self.attachment.is_copying
     }
 
     /// Begins a copy: takes its pins, and returns the places where bytes may now be read and written. The domain is in
@@ -378,13 +390,17 @@ impl<P: Allows + Drop> AttachedDomain<P> {
         requires idle { self.old.copying ≡ None }
         ensures begins { BeginsAccess P.may self.old copy.now result self.new }
     {
-        match self.attachment.domain.copy_begin(&self.monitor, copy) {
-            Ok(pending) => {
-                self.attachment.copying = Some(pending);
+        let begun = self
+            .attachment
+            .domain
+            .copy_begin(&self.monitor, copy, &mut self.attachment.pending);
+        match begun {
+            Ok(()) => {
+                self.attachment.is_copying = true;
                 Ok(CopyPlaces {
-                    from: pending.from,
-                    to: pending.to,
-                    len: pending.len,
+                    from: self.attachment.pending.from(),
+                    to: self.attachment.pending.to(),
+                    len: self.attachment.pending.len(),
                 })
             }
             Err(denial) => Err(denial),
@@ -398,13 +414,12 @@ impl<P: Allows + Drop> AttachedDomain<P> {
         ensures ends { EndsAccess self.old self.new }
         ensures left { EndsAccessTo result self.old self.new }
     {
-        let copying = self.attachment.copying;
-        if let Some(pending) = copying {
-            let left = self.attachment.domain.copy_end(&self.monitor, pending);
-            self.attachment.copying = None;
-            return left;
-        }
-        CopyWords { source: 0, dest: 0 }
+        let left = self
+            .attachment
+            .domain
+            .copy_end(&self.monitor, &self.attachment.pending);
+        self.attachment.is_copying = false;
+        left
     }
 
     /// Releases each of the domain's mappings and closes its table, for the next guest in its place. Its records stay.

@@ -1,5 +1,5 @@
 //! A copy in two halves, for a program that keeps the frames: its beginning and its end.
-ghost use Rattle.std.specs.Prelude.{◌≡◌, ◌≤◌};
+ghost use Rattle.std.specs.Prelude.{◌≡◌, ◌≤◌, Ok};
 ghost use Rattle.gt_attached.specs.Encoding.{encoded};
 ghost use Rattle.gt_attached.specs.declared.answer.AttachedOutcome.TheVariants as outcomes;
 ghost use Rattle.gt_types.specs.Denial.{denial_of};
@@ -8,9 +8,10 @@ ghost use Rattle.gt_c.specs.Promises.{BeginsCopy};
 ghost use Rattle.gt_c.specs.Reports.{CopyEnds, copy_asked, end_asked, no_copy_places, outcome_begun, place_report};
 ghost use Rattle.gt_c.specs.Reports.{places_report};
 
-use crate::calls::{MOST, turned_away};
+use crate::calls::MOST;
 use crate::handle::DomainHandle;
 use crate::lending::lent_mut;
+use crate::mappings::{is_turned_away, store_no_domain};
 use gt_attached::{AttachedOutcome, CopyEnd, CopyPlaces, EncodedAnswer};
 use gt_calls::{CopyArgs, End, Spot};
 use gt_types::{Denial, DomId, Facts, Rule};
@@ -52,6 +53,7 @@ pub struct BegunReport {
     pub places: PlacesReport,
 }
 
+#[inline(always)]
 fn end_asked(end: CopyEnd) -> End
     requires fits { (end.dom ≤ 65535) × (end.off ≤ 65535) }
     ensures { result ≡ end_asked end }
@@ -64,6 +66,7 @@ fn end_asked(end: CopyEnd) -> End
 }
 
 // Returns the copy that C asks for, or the rule that refuses it because a number does not fit.
+#[inline(always)]
 fn copy_asked(copy: &CopySettings) -> Result<CopyArgs, Rule>
     ensures { result ≡ copy_asked copy.now }
 {
@@ -84,6 +87,7 @@ fn copy_asked(copy: &CopySettings) -> Result<CopyArgs, Rule>
     })
 }
 
+#[inline(always)]
 fn place_report(place: Spot) -> PlaceReport
     ensures { result ≡ place_report place }
 {
@@ -100,6 +104,18 @@ const NO_PLACE: PlaceReport = PlaceReport {
     off: 0,
 };
 
+// Converts the places of a copy.
+#[inline(always)]
+fn places_report(places: CopyPlaces) -> PlacesReport
+    ensures { result ≡ places_report (Ok places) }
+{
+    PlacesReport {
+        from: place_report(places.from),
+        to: place_report(places.to),
+        len: u32::from(places.len),
+    }
+}
+
 // Returns the places of a copy that did not begin: zeros.
 fn no_places() -> PlacesReport
     ensures { result ≡ no_copy_places }
@@ -111,74 +127,82 @@ fn no_places() -> PlacesReport
     }
 }
 
-// Converts the places of a copy; zeros if it was refused.
-fn places_report(begun: Result<CopyPlaces, Denial>) -> PlacesReport
-    ensures { result ≡ places_report begun }
+// Like those of a map, the answers to a copy are stored where the caller wants them, and the rare ones by functions that
+// are not inlined.
+#[cold]
+#[inline(never)]
+fn store_no_copy(answer: &mut EncodedAnswer)
+    ensures { answer.new ≡ encoded outcomes.NoCopy }
 {
-    match begun {
-        Ok(begun) => PlacesReport {
-            from: place_report(begun.from),
-            to: place_report(begun.to),
-            len: u32::from(begun.len),
-        },
-        Err(_) => no_places(),
+    *answer = EncodedAnswer::of(AttachedOutcome::NoCopy);
+}
+
+#[cold]
+#[inline(never)]
+fn store_refused_copy(begun: &mut BegunReport, denial: Denial)
+    ensures answer { begun.new.answer ≡ encoded (outcomes.Denied denial) }
+    ensures places { begun.new.places ≡ no_copy_places }
+{
+    let answer = EncodedAnswer::of(AttachedOutcome::Denied(denial));
+    let places = no_places();
+    *begun = BegunReport { answer, places };
+}
+
+// Stores whether a copy began, and its places.
+fn store_begun(begun: &mut BegunReport, answered: Result<CopyPlaces, Denial>)
+    ensures answer { begun.new.answer ≡ encoded (outcome_begun answered) }
+    ensures places { begun.new.places ≡ places_report answered }
+{
+    match answered {
+        Ok(places) => {
+            begun.answer = EncodedAnswer::of(AttachedOutcome::Done);
+            begun.places = places_report(places);
+        }
+        Err(denial) => store_refused_copy(begun, denial),
     }
 }
 
-fn begun(answer: Result<CopyPlaces, Denial>) -> AttachedOutcome
-    ensures { result ≡ outcome_begun answer }
-{
-    match answer {
-        Ok(_) => AttachedOutcome::Done,
-        Err(denial) => AttachedOutcome::Denied(denial),
-    }
-}
-
-// Returns the answer to a copy with a number that does not fit.
-fn refused_copy(rule: Rule) -> BegunReport
-    ensures answer { result.answer ≡ encoded (outcomes.Denied (denial_of rule facts.None)) }
-    ensures places { result.places ≡ no_copy_places }
-{
-    BegunReport {
-        answer: EncodedAnswer::of(AttachedOutcome::Denied(Denial::new(rule, Facts::None))),
-        places: no_places(),
-    }
-}
-
-/// Begins a copy: takes its pins, and returns the places where bytes may be read and written until it ends. After a
+/// Begins a copy: takes its pins, and stores the places where bytes may be read and written until it ends. After a
 /// refusal no pin is kept, and the places are all zeros. A domain's number above 65,535 is refused by N1, flags by N2, an
 /// offset or a length by N3.
 #[unsafe(no_mangle)]
-pub extern "C" fn gthost_copy_begin_at(domain: &mut DomainHandle, copy: CopySettings) -> BegunReport
-    ensures { BeginsCopy copy result domain.old.held.value domain.new.held.value }
+pub extern "C" fn gthost_copy_begin_at(
+    domain: &mut DomainHandle,
+    copy: &CopySettings,
+    begun: &mut BegunReport,
+)
+    ensures { BeginsCopy copy.now begun.new domain.old.held.value domain.new.held.value }
 {
-    if let Some(answer) = turned_away(domain) {
-        let places = no_places();
-        return BegunReport { answer, places };
+    if is_turned_away(domain, &mut begun.answer) {
+        begun.places = no_places();
+        return;
     }
     let lent = lent_mut(&mut domain.held);
-    let args = match copy_asked(&copy) {
+    let args = match copy_asked(copy) {
         Ok(args) => args,
-        Err(rule) => return refused_copy(rule),
+        Err(rule) => {
+            store_refused_copy(begun, Denial::new(rule, Facts::None));
+            return;
+        }
     };
-    let result = lent.attached.copy_begin(&args);
-    let answer = EncodedAnswer::of(begun(result));
-    let places = places_report(result);
-    BegunReport { answer, places }
+    let answered = lent.attached.copy_begin(&args);
+    store_begun(begun, answered);
 }
 
-/// Ends the copy that the domain is in: releases its pins, the last one first. Returns the control words that this left.
+/// Ends the copy that the domain is in: releases its pins, the last one first. Stores the control words that this left.
 #[unsafe(no_mangle)]
-pub extern "C" fn gthost_copy_end_at(domain: &mut DomainHandle) -> EncodedAnswer
-    ensures { CopyEnds result domain.old.held.value domain.new.held.value }
+pub extern "C" fn gthost_copy_end_at(domain: &mut DomainHandle, answer: &mut EncodedAnswer)
+    ensures { CopyEnds answer.new domain.old.held.value domain.new.held.value }
 {
     if !domain.is_live {
-        return EncodedAnswer::of(AttachedOutcome::NoDomain);
+        store_no_domain(answer);
+        return;
     }
     let lent = lent_mut(&mut domain.held);
     if !lent.attached.is_copying() {
-        return EncodedAnswer::of(AttachedOutcome::NoCopy);
+        store_no_copy(answer);
+        return;
     }
     let left = lent.attached.copy_end();
-    EncodedAnswer::of(AttachedOutcome::Ended(left))
+    *answer = EncodedAnswer::of(AttachedOutcome::Ended(left));
 }

@@ -48,7 +48,7 @@ pub(crate) fn handle_named(lent: &CDomain, name: MapHandle) -> Name
 // are not inlined, so that an Ok has its stores for itself.
 #[cold]
 #[inline(never)]
-fn store_no_domain(answer: &mut EncodedAnswer)
+pub(crate) fn store_no_domain(answer: &mut EncodedAnswer)
     ensures { answer.new ≡ encoded outcomes.NoDomain }
 {
     *answer = EncodedAnswer::of(AttachedOutcome::NoDomain);
@@ -72,7 +72,7 @@ fn store_refusal(answer: &mut EncodedAnswer, denial: Denial)
 
 // Stores why no call is made on a handle, and returns true; or returns false, and the call may be made.
 #[inline(always)]
-fn is_turned_away(domain: &mut DomainHandle, answer: &mut EncodedAnswer) -> bool
+pub(crate) fn is_turned_away(domain: &mut DomainHandle, answer: &mut EncodedAnswer) -> bool
     ensures away { result ≡ true → TurnedAway domain.old.held.value domain.new.held.value answer.new }
     ensures may { result ≡ false → MayBeCalled domain.old.held.value domain.new.held.value }
 {

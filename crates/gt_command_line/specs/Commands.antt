@@ -1,6 +1,7 @@
 -- The commands of the program, and the meaning of the words of a command line.
 use Rattle.std.specs.Prelude.{◌≡◌, ◌==◌, Bool, true, false, ℕ, List, [], ◌∷◌, Option, Some, None, Result, MatchResult}
-use Rattle.std.specs.Prelude.{codes, find, fold, if◌then◌else◌, map, option_map}
+use Rattle.std.specs.Prelude.{codes, find, fold, if◌then◌else◌, length, map, nat_lt, option_map}
+use Rattle.std.specs.List.{after_first, before_first, position_or_len}
 use Rattle.gt_command_line.specs.Prelude.{bytes_eq, digits_value, without_leading_plus, HasKind, Kinds, on_top}
 use Rattle.gt_command_line.specs.Prelude.{is_unsigned_in, App, Row, Text, first_of, new_app, with_subcommand, Error}
 use Rattle.gt_command_line.specs.Prelude.{ArgumentConflict, DisplayHelp, DisplayVersion, InvalidSubcommand, InvalidValue}
@@ -58,8 +59,9 @@ abbrev pub usage_of : Mode → Usage
 usage_of Play = runner_usage
 usage_of Run = runner_usage
 usage_of Explore = record common_usage {
+  flags = codes "summary" ∷ codes "verbose" ∷ [];
   options = codes "find" ∷ codes "never" ∷ codes "always" ∷ codes "claims" ∷ codes "has" ∷ codes "witness"
-      ∷ codes "trace" ∷ codes "states" ∷ codes "format" ∷ [];
+      ∷ codes "trace" ∷ codes "diff" ∷ codes "states" ∷ codes "format" ∷ [];
 }
 usage_of Policy = record common_usage { options = one (codes "format") }
 usage_of Rules = common_usage
@@ -111,7 +113,8 @@ gthost_app = fold with_mode bare_app every_mode
 -- ---- requests
 
 -- what an exploration seeks: all texts, the verdict on a claim, the verdicts on the claims of a text, a script for the
--- text of a number, one for each, or the moves that lead to the text of a number, as lines or as a diagram
+-- text of a number, one for each, the moves that lead to the text of a number, as lines or as a diagram, how many texts
+-- have each answer, or where the texts of two numbers differ
 pub data Sought : Type 0 where
   all_texts : Sought
   a_claim : Claim → Text → Sought
@@ -120,6 +123,8 @@ pub data Sought : Type 0 where
   all_scripts : Sought
   one_trace : ℕ → Sought
   one_diagram : ℕ → Sought
+  a_summary : Sought
+  a_difference : ℕ → ℕ → Sought
 
 -- To play a script, to run one, to explore one, to find the text of a file among its texts, to list a policy, to list
 -- the rules, to check a policy or a script, to check a policy against the neverallow statements of a file, to explain
@@ -186,6 +191,26 @@ abbrev pub trace_option : Option Text → Option (Option Sought)
 trace_option None = Some None
 trace_option (Some word) = option_map (λ n. Some (one_trace n)) (number_up_to 18446744073709551615 word)
 
+-- `--summary`, if it is given
+abbrev pub summary_option : Bool → Option (Option Sought)
+summary_option true = Some (Some a_summary)
+summary_option false = Some None
+
+-- two numbers
+abbrev pub both_numbers : Option ℕ → Option ℕ → Option (Option Sought)
+both_numbers None other = None
+both_numbers (Some one) None = None
+both_numbers (Some one) (Some other) = Some (Some (a_difference one other))
+
+-- `--diff K,L`, two numbers of 64 bits, if it is given
+abbrev pub diff_option : Option Text → Option (Option Sought)
+diff_option None = Some None
+diff_option (Some word) =
+    if nat_lt (position_or_len (λ b. b == 44) word) (length word)
+    then both_numbers (number_up_to 18446744073709551615 (before_first (λ b. b == 44) word))
+    (number_up_to 18446744073709551615 (after_first (λ b. b == 44) word))
+    else None
+
 -- `--find EXPR`, `--never EXPR` or `--always EXPR`, of which only one may be given
 abbrev pub claim_of : Option Text → Option Text → Option Text → Option (Option Sought)
 claim_of None None None = Some None
@@ -234,6 +259,14 @@ one_sought (Some claim) None trace = None
 one_sought (Some claim) (Some witness) None = None
 one_sought (Some claim) (Some witness) (Some trace) = sought_of claim witness trace
 
+-- the one of two that is given, if one is; nothing if both are, or if an option does not take its value
+abbrev pub sought_too : Option (Option Sought) → Option (Option Sought) → Option (Option Sought)
+sought_too None more = None
+sought_too (Some one) None = None
+sought_too (Some one) (Some None) = Some one
+sought_too (Some None) (Some (Some more)) = Some (Some more)
+sought_too (Some (Some one)) (Some (Some more)) = None
+
 -- `--format text`, `--format json` or `--format mermaid` of `explore`; text if it is left out
 abbrev pub explore_form_of : Option Text → Option ExploreForm
 explore_form_of None = Some explore_forms.Text
@@ -251,6 +284,8 @@ diagram_of (Some (several_claims claims)) = None
 diagram_of (Some (one_script number)) = None
 diagram_of (Some all_scripts) = None
 diagram_of (Some (one_diagram number)) = None
+diagram_of (Some a_summary) = None
+diagram_of (Some (a_difference one other)) = None
 
 -- what is sought in a form, with its format
 abbrev pub formed : ExploreForm → Option Sought → Option (Option Sought × Format)
@@ -324,10 +359,13 @@ read Run value = run_with (format_of (value (codes "format"))) (is_true (value (
     (is_true (value (codes "verbose"))) (value (codes "file"))
 read Explore value = explore_with
     (formed_of
+    (sought_too
+    (sought_too
     (one_sought
     (claims_of (claim_of (value (codes "find")) (value (codes "never")) (value (codes "always")))
     (value (codes "claims")))
     (witness_of (value (codes "witness"))) (trace_option (value (codes "trace"))))
+    (summary_option (is_true (value (codes "summary"))))) (diff_option (value (codes "diff"))))
     (explore_form_of (value (codes "format")))) (value (codes "has"))
     (states_of (value (codes "states"))) (value (codes "file"))
 read Policy value = list_with (format_of (value (codes "format"))) (is_true (value (codes "verbose")))
@@ -392,6 +430,8 @@ sought_by (explorations.Witness number) = one_script number
 sought_by explorations.Witnesses = all_scripts
 sought_by (explorations.Trace number) = one_trace number
 sought_by (explorations.Diagram number) = one_diagram number
+sought_by explorations.Summary = a_summary
+sought_by (explorations.Difference one other) = a_difference one other
 
 -- what a plan asks for
 abbrev pub asked_by_plan : Invocation → Request

@@ -85,6 +85,8 @@ Options:
       --has <TEXT>       Print the number of the output in the file TEXT
       --witness <N|all>  Print a script for `play` that gives output N, or each
       --trace <N>        Print the steps that lead to output N, a line each
+      --summary          Print the lines whose answers vary, and how often
+      --diff <K,L>       Print the lines in which outputs K and L differ
       --states <N>       Stop after N states [default: 1000000]
       --format <FORM>    Print text, json, or mermaid (--trace) [default: text]
   -h, --help             Print help
@@ -98,6 +100,7 @@ print a line each.
 Exit status: 0 if each claim holds, TEXT is an output, or all were found; 1 if one
 does not hold, or TEXT is none of them; 2 if one is not decided, or TEXT has not
 the lines of an output. A single claim that fails prints a script for `play`.
+Ctrl-C ends a search as --states does, with the outputs found until then.
 ";
 
 pub(crate) const POLICY: &str =

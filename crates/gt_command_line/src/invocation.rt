@@ -85,6 +85,10 @@ pub enum Exploration<'a> {
     Trace(usize),
     /// These moves as a sequence diagram.
     Diagram(usize),
+    /// The lines whose answers vary, and how many texts have each answer.
+    Summary,
+    /// The lines in which the texts of these numbers differ.
+    Difference(usize, usize),
 }
 
 /// The options of `explore` beside what it is asked for.

@@ -44,8 +44,9 @@ const FORMAT: Part = Part::Free("format", "text|json");
 // The parts of `play` and of `run`.
 static RUNNER_PARTS: [Part; 4] = [FILE, Part::Flag("audit"), VERBOSE, FORMAT];
 
-static EXPLORE_PARTS: [Part; 11] = [
+static EXPLORE_PARTS: [Part; 13] = [
     FILE,
+    Part::Flag("summary"),
     VERBOSE,
     Part::Free("find", "EXPR"),
     Part::Free("never", "EXPR"),
@@ -54,6 +55,7 @@ static EXPLORE_PARTS: [Part; 11] = [
     Part::Free("has", "TEXT"),
     Part::Free("witness", "N|all"),
     Part::Free("trace", "N"),
+    Part::Free("diff", "K,L"),
     Part::Free("states", "N"),
     Part::Free("format", "FORM"),
 ];

@@ -19,8 +19,8 @@ use crate::invocation::{
 };
 use crate::line::gthost_command;
 use crate::values::{
-    claim_of, claims_of, form_of, format_of, script_of, states_of, trace_of, type_of, version_of,
-    witness_of,
+    claim_of, claims_of, diff_of, form_of, format_of, script_of, sought_too, states_of, summary_of,
+    trace_of, type_of, version_of, witness_of,
 };
 use clap::error::ErrorKind;
 use clap::{ArgMatches, Error};
@@ -245,9 +245,12 @@ fn read_explore<'a>(matches: &ArgMatches<'a>) -> Option<Invocation<'a>>
     let claim = claims_of(one, value_of(matches, "claims"));
     let witness = witness_of(value_of(matches, "witness"));
     let trace = trace_of(value_of(matches, "trace"));
+    let summary = summary_of(is_set(matches, "summary"));
+    let diff = diff_of(value_of(matches, "diff"));
+    let sought = sought_too(sought_too(one_sought(claim, witness, trace), summary), diff);
     let form = form_of(value_of(matches, "format"));
     explore_with(
-        formed_of(one_sought(claim, witness, trace), form),
+        formed_of(sought, form),
         value_of(matches, "has"),
         states_of(value_of(matches, "states")),
         value_of(matches, "file"),
@@ -366,12 +369,15 @@ fn usage_text(mode: Option<Mode>) -> &'static str {
 fn refused_by_explore<'a>(matches: &ArgMatches<'a>) -> (&'static str, Option<&'a str>) {
     let witness = value_of(matches, "witness");
     let trace = value_of(matches, "trace");
+    let diff = value_of(matches, "diff");
     let states = value_of(matches, "states");
     let format = value_of(matches, "format");
     if witness_of(witness).is_none() {
         ("--witness takes a number or all", witness)
     } else if trace_of(trace).is_none() {
         ("--trace takes a number", trace)
+    } else if diff_of(diff).is_none() {
+        ("--diff takes two numbers, such as 1,2", diff)
     } else if states_of(states).is_none() {
         ("--states takes a number", states)
     } else if form_of(format).is_none() {
@@ -380,7 +386,7 @@ fn refused_by_explore<'a>(matches: &ArgMatches<'a>) -> (&'static str, Option<&'a
         ("--format mermaid is only for --trace", None)
     } else {
         (
-            "only claims (--find, --never, --always), or one of --claims, --has, --witness and --trace can be given",
+            "only claims (--find, --never, --always), or one of --claims, --has, --witness, --trace, --summary and --diff can be given",
             None,
         )
     }

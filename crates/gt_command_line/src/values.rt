@@ -2,7 +2,8 @@
 ghost use Rattle.std.specs.Prelude.{◌≡◌};
 ghost use Rattle.std.specs.Option.{option_map};
 ghost use Rattle.gt_command_line.specs.Commands.{diagram_of, explore_form_of, format_of, formed, domain_number, number_up_to, script_of, states_of, type_of};
-ghost use Rattle.gt_command_line.specs.Commands.{claim_of, claims_of, sought_of, sought_by, trace_option, version_of, witness_of};
+ghost use Rattle.gt_command_line.specs.Commands.{claim_of, claims_of, diff_option, sought_of, sought_by, sought_too};
+ghost use Rattle.gt_command_line.specs.Commands.{summary_option, trace_option, version_of, witness_of};
 
 use crate::invocation::{Exploration, Format};
 use gt_explore_verdict::Claim;
@@ -54,6 +55,7 @@ fn diagram_of<'a>(sought: Option<Exploration<'a>>) -> Option<(Option<Exploration
         Some(Exploration::Texts | Exploration::Witnesses) => None,
         Some(Exploration::Decide { .. } | Exploration::Claims(_)) => None,
         Some(Exploration::Witness(_) | Exploration::Diagram(_)) => None,
+        Some(Exploration::Summary | Exploration::Difference(_, _)) => None,
     }
 }
 
@@ -142,6 +144,49 @@ pub(crate) fn trace_of<'a>(value: Option<&'a str>) -> Option<Option<Exploration<
     match value {
         None => Some(None),
         Some(word) => Some(Some(Exploration::Trace(number_of(word)?))),
+    }
+}
+
+/// Returns what `--summary` asks for, if it is given.
+pub(crate) fn summary_of<'a>(is_given: bool) -> Option<Option<Exploration<'a>>>
+    ensures { option_map (option_map sought_by) result ≡ summary_option is_given }
+{
+    if is_given {
+        Some(Some(Exploration::Summary))
+    } else {
+        Some(None)
+    }
+}
+
+/// Returns what `--diff` asks for, if it is given. The outer result is None if the value is not two numbers of 64 bits
+/// with a comma between them.
+pub(crate) fn diff_of<'a>(value: Option<&'a str>) -> Option<Option<Exploration<'a>>>
+    ensures { option_map (option_map sought_by) result ≡ diff_option (option_map (λ v. v.now) value.entry) }
+{
+    match value {
+        None => Some(None),
+        Some(word) => match word.split_once(',') {
+            Some((one, other)) => {
+                Some(Some(Exploration::Difference(number_of(one)?, number_of(other)?)))
+            }
+            None => None,
+        },
+    }
+}
+
+/// Returns the one of two that is asked for, if one is. The outer result is None if an option does not take its value,
+/// or if both are asked for.
+pub(crate) fn sought_too<'a>(
+    one: Option<Option<Exploration<'a>>>,
+    more: Option<Option<Exploration<'a>>>,
+) -> Option<Option<Exploration<'a>>>
+    ensures { option_map (option_map sought_by) result
+        ≡ sought_too (option_map (option_map sought_by) one.entry) (option_map (option_map sought_by) more.entry) }
+{
+    match (one, more) {
+        (Some(one), Some(None)) => Some(one),
+        (Some(None), Some(Some(more))) => Some(Some(more)),
+        (Some(Some(_)), Some(Some(_))) | (None, _) | (Some(_), None) => None,
     }
 }
 

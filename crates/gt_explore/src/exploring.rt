@@ -1,5 +1,5 @@
 //! The command `explore`.
-ghost use Rattle.std.specs.Prelude.{◌≡◌, ℕ, List, map, take};
+ghost use Rattle.std.specs.Prelude.{◌≡◌, ℕ, List, IfOk, map, take};
 ghost use Rattle.gt_script.specs.Contents.{contents_of};
 ghost use Rattle.gt_script.specs.RunContents.{run_contents};
 ghost use Rattle.gt_script.specs.RunScripts.{CanConfigure, ReadsAsRun};
@@ -7,12 +7,15 @@ ghost use Rattle.gt_text.specs.Streams.{ConsumesAtMost, OfInput};
 ghost use Rattle.gt_text.specs.declared.streams.TheConstants.{READ_LIMIT};
 ghost use Rattle.gt_script.specs.Stuck.{AreNumbered};
 ghost use Rattle.gt_explore_verdict.specs.Formulas.{operation_asked};
-ghost use Rattle.gt_explore_answers.specs.Exploring.{AreAsked};
+ghost use Rattle.gt_explore_answers.specs.Exploring.{AreAsked, AreTextsOf};
+ghost use Rattle.gt_explore_answers.specs.Outputs.{found_from};
 ghost use Rattle.gt_explore.specs.Writing.{Explored, Explores, MakesOutput};
 
+use crate::deciding::{ClaimTest, texts_enough};
 use crate::texts::texts_found;
 use gt_explore_answers::{
-    ExploreOptions, ExploreOutput, answer_request, conditions_asked, has_its_text, refused_text,
+    ExploreOptions, ExploreOutput, ExploreRequest, FoundTexts, answer_request, conditions_asked,
+    has_its_text, refused_text,
 };
 use gt_explore_faults::{ExploreFault, TextsFault};
 use gt_explore_search::SearchWatch;
@@ -22,6 +25,27 @@ use gt_script_runs::PlayFault;
 use gt_text::{read_text, write_text};
 use std::alloc::Global;
 use std::io::{Read, Write};
+
+// Finds the texts of a script that a request needs, which states these conditions.
+fn texts_needed<T: SearchWatch>(
+    alloc: Global,
+    asked: &ExploreOptions,
+    script: &RunScript,
+    conditions: &[Operation<'_>],
+    watch: &mut T,
+) -> Result<FoundTexts, TextsFault>
+    requires fits { CanConfigure (contents_of script.now.head) }
+    requires numbered { AreNumbered script.now.flags script.now.tasks }
+    ensures { IfOk result (λ all. AreTextsOf (run_contents script.now) (found_from all)) }
+{
+    match asked.request {
+        ExploreRequest::Decide { claim, .. } => {
+            let test = ClaimTest { claim, conditions };
+            texts_enough(alloc, script, asked.states, &test, watch)
+        }
+        _ => texts_found(alloc, script, asked.states, watch),
+    }
+}
 
 // Finds the texts of a script, and answers a request by them, which states these conditions.
 fn made_as<T: SearchWatch>(
@@ -37,7 +61,7 @@ fn made_as<T: SearchWatch>(
     requires read { AreAsked (run_contents script.now) asked.now.request (map operation_asked conditions.now) }
     ensures { MakesOutput (run_contents script.now) asked.now result }
 {
-    let found = match texts_found(alloc, script, asked.states, watch) {
+    let found = match texts_needed(alloc, asked, script, conditions, watch) {
         Ok(found) => found,
         Err(fault) => return Err(ExploreFault::Texts(fault)),
     };
@@ -109,7 +133,8 @@ pub fn explore_bytes<W: Write, T: SearchWatch>(
 /// The verdict on a claim and on a given text is what is known of it. On another request it is `Holds` if the search
 /// met all states, and otherwise `Undecided`. If the search did not meet all, since it came to its limit, its watch ended
 /// it or memory was wanting, the answer is by the texts found until then, and a list of texts ends with a line that has
-/// the words `not all texts`.
+/// the words `not all texts`. A search for a claim ends after 1,000 or 32,000 states if the texts found until then decide
+/// it.
 ///
 /// # Errors
 /// The script's first fault. If it has none: the first fault of the expression; that no text has the wanted number, or

@@ -32,7 +32,7 @@ use Rattle.gt_explore_answers.specs.Tracing.{IsDiagram, IsTrace, ShowsMoves}
 use Rattle.gt_explore_answers.specs.Witness.{IsWitness, ShowsAfter}
 use Rattle.gt_explore_answers.specs.declared.asking.ExploreRequest.{ExploreRequest}
 use Rattle.gt_explore_answers.specs.declared.asking.ExploreRequest.TheVariants as explore_requests
-use Rattle.gt_explore_answers.specs.declared.trace.facts.TraceForm.{TraceForm}
+use Rattle.gt_explore_trace.specs.declared.facts.TraceForm.{TraceForm}
 
 -- these are texts that a script may give, in the order of their bytes, each of them once, and all of them if the search
 -- is over

@@ -11,7 +11,7 @@ use Rattle.gt_explore_verdict.specs.Satisfying.{line_words, lines_in}
 use Rattle.gt_explore_faults.specs.declared.fault.TextFault.{TextFault}
 use Rattle.gt_explore_faults.specs.declared.fault.TextFault.TheVariants.{Audit, CarriageReturn, Cut, Json, Line}
 use Rattle.gt_explore_answers.specs.Exploring.{is_call, index_of_text}
-use Rattle.gt_explore_answers.specs.GivingAnswers.{begins_with}
+use Rattle.gt_explore_witness.specs.GivingAnswers.{begins_with}
 use Rattle.gt_explore_answers.specs.Outputs.{Found}
 use Rattle.gt_explore_answers.specs.declared.asking.ExploreRequest.{ExploreRequest}
 use Rattle.gt_explore_answers.specs.declared.asking.ExploreRequest.TheVariants as explore_requests

@@ -1,15 +1,15 @@
 -- The moves that lead to a text.
 use Rattle.std.specs.Prelude.{◌≡◌, ◌++◌, ℕ, List, codes, length}
 use Rattle.gt_script.specs.RunContents.{RunContents}
-use Rattle.gt_explore_answers.specs.Diagram.{participants_text}
-use Rattle.gt_explore_answers.specs.Lines.{trace_output}
-use Rattle.gt_explore_answers.specs.Moves.{GivesText}
+use Rattle.gt_explore_trace.specs.Diagram.{participants_text}
+use Rattle.gt_explore_trace.specs.Lines.{trace_output}
+use Rattle.gt_explore_trace.specs.Moves.{GivesText}
 use Rattle.gt_explore_answers.specs.Objects.{text_object}
 use Rattle.gt_explore_answers.specs.Outputs.{Found, heading, states_line}
 use Rattle.gt_explore_answers.specs.Witness.{IsTextNumbered}
-use Rattle.gt_explore_answers.specs.declared.trace.facts.TraceForm.{TraceForm}
-use Rattle.gt_explore_answers.specs.declared.trace.facts.TraceForm.TheVariants.{Json, Mermaid, Text}
-use Rattle.gt_explore_answers.specs.declared.trace.moves.TracedMove.{TracedMove}
+use Rattle.gt_explore_trace.specs.declared.facts.TraceForm.{TraceForm}
+use Rattle.gt_explore_trace.specs.declared.facts.TraceForm.TheVariants.{Json, Mermaid, Text}
+use Rattle.gt_explore_trace.specs.declared.moves.TracedMove.{TracedMove}
 
 -- the number of the text
 abbrev pub heading_line : Found → ℕ → List ℕ

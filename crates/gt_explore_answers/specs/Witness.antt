@@ -3,7 +3,7 @@ use Rattle.std.specs.Prelude.{◌≡◌, ◌⊎◌, ◌+◌, ◌++◌, ℕ, true
 use Rattle.gt_types.specs.declared.DomId.{DomId}
 use Rattle.gt_script.specs.Contents.{Contents}
 use Rattle.gt_script_runs.specs.Rights.{may_in}
-use Rattle.gt_explore_answers.specs.GivingAnswers.{GivesAnswers, may_not_unmap}
+use Rattle.gt_explore_witness.specs.GivingAnswers.{GivesAnswers, may_not_unmap}
 use Rattle.gt_explore_answers.specs.Outputs.{unplayable_line}
 
 -- the line in place of a script for `play` that was not found: the policy does not let its domain unmap the entries of

@@ -25,12 +25,12 @@ use crate::outputs::{
     push_counterexample, push_found_texts, push_place, push_unplayable, push_verdict,
     push_witness_comment,
 };
-use crate::trace::TraceForm;
 use crate::tracing::{moves_shown, numbered};
-use crate::witness::{gives_answers, may_not_unmap, witness_of};
 use gt_explore_faults::TextsFault;
 use gt_explore_search::FoundText;
+use gt_explore_trace::TraceForm;
 use gt_explore_verdict::{Claim, Judgement, Operation, Verdict, judge, verdict_at};
+use gt_explore_witness::{gives_answers, may_not_unmap, witness_of};
 use gt_script::RunScript;
 use gt_text::text_of;
 use gt_types::DomId;

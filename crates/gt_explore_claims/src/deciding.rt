@@ -16,6 +16,7 @@ ghost use Rattle.gt_explore_claims.specs.Stating.{stated};
 use crate::answers::{ClaimAnswer, push_answer};
 use crate::stated::StatedClaim;
 use gt_call_names::{NameFault, numbered};
+use gt_explore::TextsTest;
 use gt_explore_answers::{ExploreFormat, ExploreRequest, FoundTexts, conditions_asked, satisfied};
 use gt_explore_faults::{ClaimsFault, TextsFault};
 use gt_explore_verdict::{Claim, ConditionFault, ExpressionFault, Judgement, Verdict, judge};
@@ -177,6 +178,24 @@ fn claim_answer(
         verdict: judgement.verdict,
         number,
     })
+}
+
+/// The test of whether texts decide each of these claims about a script.
+#[derive(Clone, Copy)]
+pub struct ClaimsTest<'t, 's, 'c> {
+    pub script: &'t RunScript<'s>,
+    pub claims: &'t [NumberedClaim<'c>],
+}
+
+impl TextsTest for ClaimsTest<'_, '_, '_> {
+    fn is_enough(&self, alloc: Global, found: &FoundTexts) -> Result<bool, TextsFault> {
+        for named in self.claims {
+            if judged(alloc, self.script, found, named)?.verdict == Verdict::Undecided {
+                return Ok(false);
+            }
+        }
+        Ok(true)
+    }
 }
 
 /// Appends what is printed of each claim, and returns their verdicts.

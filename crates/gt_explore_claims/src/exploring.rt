@@ -15,11 +15,11 @@ ghost use Rattle.gt_explore_claims.specs.Exploring.{AnswersClaims, AreClaimsOf, 
 ghost use Rattle.gt_explore_claims.specs.Exploring.{answers_ended, claims_output};
 
 use crate::deciding::{
-    NumberedClaim, first_fault, numbered_claims, push_answers, verdict_of_claims,
+    ClaimsTest, NumberedClaim, first_fault, numbered_claims, push_answers, verdict_of_claims,
 };
 use crate::naming::source_of;
 use crate::stated::{StatedClaim, claims_in};
-use gt_explore::texts_found;
+use gt_explore::texts_enough;
 use gt_explore_answers::{
     ExploreFormat, ExploreOutput, FoundTexts, push_states_line, push_summary,
 };
@@ -98,7 +98,8 @@ fn answered<T: SearchWatch>(
         }
         Err(fault) => return Err(ClaimsFault::Explore(ExploreFault::Texts(fault))),
     }
-    let found = match texts_found(alloc, script, asked.states, watch) {
+    let test = ClaimsTest { script, claims };
+    let found = match texts_enough(alloc, script, asked.states, &test, watch) {
         Ok(found) => found,
         Err(fault) => return Err(ClaimsFault::Explore(ExploreFault::Texts(fault))),
     };
@@ -188,7 +189,8 @@ fn explore_input<W: Write, T: SearchWatch>(
     }
 }
 
-/// Decides claims on the texts that the script of a reader may give. The texts are found once. Each claim has a line:
+/// Decides claims on the texts that the script of a reader may give. One search finds them, and ends after 1,000 or
+/// 32,000 states if the texts found until then decide each claim. Each claim has a line:
 /// the verdict, the claim, and the number of the first text that shows the verdict, if one does. In `Json` it is an
 /// object.
 ///

@@ -95,6 +95,12 @@ none-raised told n are flag is = none n flag (ap (λ (l : List Bool). slice_get 
 no-place : (at : ℕ) → at < 0 → ⊥
 no-place at lt = absurd (omega arith)
 
+pub scene-starts : (c : RunContents) (scene : SearchContext) → IsSceneOf c scene → IsLikeReached (setting_of_script c.head) []
+scene-starts c scene is = subst (λ (s : Setting). IsLikeReached s []) same (like-starts scene.roster (may_in c.head) is.limits) where
+  same : setting_of scene.roster (may_in c.head) ≡ setting_of_script c.head
+  same = ap (λ (ds : List DomainConfig). record { domains = ds; first_generation = scene.roster.first_gen; may = may_in c.head }) is.setting.domains
+      ∙ ap (λ (n : ℕ). record { domains = c.head.domains; first_generation = n; may = may_in c.head }) is.setting.first
+
 pub first-shows : (c : RunContents) (scene : SearchContext) (w : SearchState) → length w.actors.items ≡ length scene.roster.domains.items → All IsFirstActor w.actors.items
     → ((config : Config) (s : Setting) → IsSettingOf config s → IsWithinLimits config → config.domains.items ≡ scene.roster.domains.items → TablesShow s [] w.ground.tables.items)
     → PagesShow [] w.ground.pages.items → length w.told.items ≡ scene.flags → ((flag : ℕ) → slice_get w.told.items flag ≡ Some true → ⊥) → IsSceneOf c scene → SceneShows c scene [] (first_courses c) w
@@ -110,16 +116,12 @@ first-shows c scene w many first tables pages told none is = record {
       subst (WasAnsweredAll []) d.2 (record { named = tt; held = tt });
   tables = tables scene.roster (setting_of_script c.head) is.setting is.limits refl;
   pages = pages;
-  like = subst (λ (s : Setting). IsLikeReached s []) same (like-starts scene.roster (may_in c.head) is.limits);
+  like = scene-starts c scene is;
   asked = tt;
   flags = told ∙ is.flags;
   told = λ flag before. absurd (no-place before.0 before.2);
   heard = λ flag is. absurd (none flag is);
 }
-  where
-    same : setting_of scene.roster (may_in c.head) ≡ setting_of_script c.head
-    same = ap (λ (ds : List DomainConfig). record { domains = ds; first_generation = scene.roster.first_gen; may = may_in c.head }) is.setting.domains
-        ∙ ap (λ (n : ℕ). record { domains = c.head.domains; first_generation = n; may = may_in c.head }) is.setting.first
 
 -- as the space asks it
 pub first-shown : (scene : SearchContext) (w : SearchState) → ((c : RunContents) → IsSceneOf c scene → SceneShows c scene [] (first_courses c) w) → ShowsFirst (scene_ways scene) w

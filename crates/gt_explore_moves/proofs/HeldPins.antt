@@ -1,38 +1,38 @@
--- Along a legal history each open call holds the pins that its path took, and no pin is on a transitive entry unless a
--- call may grant one.
-use Rattle.std.proofs.Common.{◌≡◌, ℕ, suc, refl, Bool, true, false, cond, List, [], ◌∷◌, ◌++◌, ◌+◌, length, Option}
+-- Along a run of a script each open call holds the pins that its path took, and each entry, with that of each pin, is one
+-- that a line may grant.
+use Rattle.std.proofs.Common.{◌≡◌, ◌≢◌, ℕ, suc, refl, Bool, true, false, cond, List, [], ◌∷◌, ◌++◌, ◌+◌, length, Option}
 use Rattle.std.proofs.Common.{Some, None, sym, ap, ◌∙◌, subst, append-nil, arith, ◌⊎◌, inl, inr}
-use Rattle.std.specs.Prelude.{◌==◌, ◌*◌, ◌%◌, ◌/◌}
-use Rattle.std.proofs.lemmas.Bool.{eqb-true, true≢false}
-use Rattle.std.proofs.lemmas.Bool.Decides.{nat_tests}
+use Rattle.std.specs.Prelude.{◌==◌}
+use Rattle.std.proofs.lemmas.Bool.{eqb-true}
 use Rattle.std.proofs.lemmas.List.{length-append, map-append}
 use Rattle.std.proofs.lemmas.Option.{none-some, same_Some}
+use Rattle.gt_types.specs.Names.{resolved}
+use Rattle.gt_types.specs.declared.Dir.{Dir}
+use Rattle.gt_types.specs.declared.Dir.TheVariants as dirs
 use Rattle.gt_types.specs.declared.DomId.{DomId}
 use Rattle.gt_types.specs.declared.copies.CopyArgs.{CopyArgs}
 use Rattle.gt_types.specs.declared.GrantRef.{GrantRef}
 use Rattle.gt_types.specs.declared.denial.Denial.{Denial}
 use Rattle.gt_model.specs.declared.handle.Handle.{Handle}
-use Rattle.gt_model.specs.Entries.{with_ro}
-use Rattle.gt_model.specs.Spelling.{control_with, entry_of}
-use Rattle.gt_model.specs.Words.{control_of, control_word, flag, kind_bits, kind_of}
+use Rattle.gt_model.specs.Entries.{frame_of, with_ro}
+use Rattle.gt_model.specs.Spelling.{control_with}
 use Rattle.gt_model.specs.declared.change.EntryChange.{EntryChange}
 use Rattle.gt_model.specs.declared.change.EntryChange.TheVariants.{Publish}
 use Rattle.gt_model.specs.declared.change.EntryChange.TheVariants as changes
-use Rattle.gt_model.specs.declared.control.Control.{Control}
-use Rattle.gt_model.specs.declared.control.EntryKind.{EntryKind}
-use Rattle.gt_model.specs.declared.control.EntryKind.TheVariants as kinds
 use Rattle.gt_model.specs.declared.entry.Entry.{Entry}
+use Rattle.gt_model.specs.declared.entry.Entry.TheVariants.{Invalid}
 use Rattle.gt_model.specs.declared.entry.Entry.TheVariants as entries
+use Rattle.gt_model.specs.declared.leg.Leg.{Leg}
 use Rattle.gt_model.specs.Asking.{asked}
-use Rattle.gt_model.specs.Path.{Continuation, after_beginning, path, steps_of}
-use Rattle.gt_model.specs.Rules.{begun}
+use Rattle.gt_model.specs.Path.{Continuation, after_beginning, gref_of, path, steps_of}
+use Rattle.gt_model.specs.Rules.{begun, first_look}
 use Rattle.gt_model.specs.declared.action.Action.{Action}
 use Rattle.gt_model.specs.declared.action.Action.TheVariants.{Done}
 use Rattle.gt_model.specs.declared.action.Action.TheVariants as actions
 use Rattle.gt_model.specs.declared.action.CallResult.{CallResult}
 use Rattle.gt_model.specs.declared.action.CallResult.TheVariants as results
 use Rattle.gt_model.specs.declared.action.Observation.{Observation}
-use Rattle.gt_model.specs.declared.action.Observation.TheVariants.{Missed, Taken}
+use Rattle.gt_model.specs.declared.action.Observation.TheVariants.{Taken}
 use Rattle.gt_model.specs.declared.action.Step.{Step}
 use Rattle.gt_model.specs.declared.action.Step.TheVariants.{Exchange, Unpin}
 use Rattle.gt_model.specs.declared.action.Step.TheVariants as call_steps
@@ -41,12 +41,12 @@ use Rattle.gt_model.specs.declared.request.OpenRequest.{OpenRequest}
 use Rattle.gt_model.specs.declared.request.OpenRequest.TheVariants.{Copy, Grant, Load, Map, Probe, Store}
 use Rattle.gt_model.specs.declared.request.PinHolder.TheVariants as holders
 use Rattle.gt_model.specs.declared.request.Request.{Request}
-use Rattle.gt_model.specs.FirstRule.{refusal_in, stood}
+use Rattle.gt_model.specs.FirstRule.{LegNow, leg_at, refusal_in, stood}
 use Rattle.gt_model.specs.History.{History, Setting, Underway, by_leg, change_at, change_of, changed_entry_of}
-use Rattle.gt_model.specs.History.{entry_at, gather, holder_after, known_at, legs_at, live, exchange_sees}
-use Rattle.gt_model.specs.History.{generation_at, open_call, reads_at, seen_by, underway_after, values, without}
-use Rattle.gt_model.specs.History.{word_at, writes_at}
-use Rattle.gt_model.specs.Legal.{AnsweredBy, GivesValue, IsLegalHistory, IsRight, StepsRight, StepsRightIn}
+use Rattle.gt_model.specs.History.{entry_at, gather, holder_after, known_at, legs_at, live}
+use Rattle.gt_model.specs.History.{generation_at, open_call, reads_at, underway_after, values, without}
+use Rattle.gt_model.specs.History.{writes_at}
+use Rattle.gt_model.specs.Legal.{AnsweredBy, GivesValue, IsRight, NoneStands, PinIsSound, StepsRight, StepsRightIn}
 use Rattle.gt_model.specs.Legal.{gives_back, next_in, refusal_of, verdict_in}
 use Rattle.gt_core.specs.Phases.{numbered}
 use Rattle.gt_model.specs.declared.trace.Answer.{Answer}
@@ -60,11 +60,19 @@ use Rattle.gt_model.proofs.Observers.{exchanged-entry, other-pins, stepped, unpi
 use Rattle.gt_core.proofs.Steps.Pin.{leg-grows, map-legs}
 use Rattle.gt_core.proofs.Steps.Unpin.{leg-left, loses-leg, mapping-legs}
 use Rattle.gt_explore_moves.proofs.Swapping.{Releases}
-use Rattle.gt_explore_moves.specs.Transitive.{AllOfScript, BeginsOfScript, IsOfScript, is_via}
+use Rattle.gt_explore_moves.specs.Granting.{AllOfScript, IsGranted, IsItemOfScript, IsOfScript}
+use Rattle.gt_explore_moves.specs.Touches.{frame_touch}
+use Rattle.gt_explore_moves.specs.declared.granted.GrantedEntry.{GrantedEntry}
+use Rattle.gt_explore_moves.specs.declared.touches.Touch.{Touch}
+use Rattle.gt_explore_moves.proofs.LikeCore.{step-in-run}
+use Rattle.gt_explore_state.specs.Likeness.{IsLikeReached}
+use Rattle.gt_explore_state.proofs.GoingAlike.{like-goes-on}
+use Rattle.gt_core.specs.Alike.{IsRun}
 use Rattle.gt_explore_moves.specs.declared.touches.MappingUse.{MappingUse}
 use Rattle.gt_explore_moves.proofs.PathSteps.{TakesOf, TookOf, after_action, after_step, held-more, held_along}
 use Rattle.gt_explore_moves.proofs.PathSteps.{took-any, took-more}
-use Rattle.gt_explore_moves.proofs.Touching.{EndFacts, IsActionOf, IsPinning, PinRead, RequestTouches, StepFacts}
+use Rattle.gt_explore_moves.proofs.Touching.{BeyondTouches, EndFacts, EndTouches, IsActionOf, IsPinning, RequestTouches}
+use Rattle.gt_explore_moves.proofs.Touching.{StepFacts}
 use Rattle.gt_explore_moves.proofs.Touching.{each-step, path-opened, unmaps-release}
 
 -- pins with their numbers
@@ -184,123 +192,116 @@ module _ (h : History) (d : DomId) where
   last-released p n others last = subst (λ (m : ℕ). Releases h d (Unpin p (holders.Leg m))) (sym last.number)
       (loses-leg h d last.before (record p { entry = last.e }) last.legs)
 
--- transitive entries
+-- entries
 
--- the kind that the word of a control shows
-low-kind : (n : ℕ) (k : EntryKind) (ro : Bool) → kind_of (kind_bits k + flag ro + n * 16) ≡ k
-low-kind n kinds.Invalid true = let a : (4 + n * 16) % 4 ≡ 0 = omega arith in
-    let b : (4 + n * 16) / 8 % 2 ≡ 0 = omega arith in grind (arith, nat_tests)
-low-kind n kinds.Invalid false = let a : (0 + n * 16) % 4 ≡ 0 = omega arith in
-    let b : (0 + n * 16) / 8 % 2 ≡ 0 = omega arith in grind (arith, nat_tests)
-low-kind n kinds.Page true = let a : (5 + n * 16) % 4 ≡ 1 = omega arith in
-    let b : (5 + n * 16) / 8 % 2 ≡ 0 = omega arith in grind (arith, nat_tests)
-low-kind n kinds.Page false = let a : (1 + n * 16) % 4 ≡ 1 = omega arith in
-    let b : (1 + n * 16) / 8 % 2 ≡ 0 = omega arith in grind (arith, nat_tests)
-low-kind n kinds.Sub true = let a : (13 + n * 16) % 4 ≡ 1 = omega arith in
-    let b : (13 + n * 16) / 8 % 2 ≡ 1 = omega arith in grind (arith, nat_tests)
-low-kind n kinds.Sub false = let a : (9 + n * 16) % 4 ≡ 1 = omega arith in
-    let b : (9 + n * 16) / 8 % 2 ≡ 1 = omega arith in grind (arith, nat_tests)
-low-kind n kinds.Via true = let a : (7 + n * 16) % 4 ≡ 3 = omega arith in
-    let b : (7 + n * 16) / 8 % 2 ≡ 0 = omega arith in grind (arith, nat_tests)
-low-kind n kinds.Via false = let a : (3 + n * 16) % 4 ≡ 3 = omega arith in
-    let b : (3 + n * 16) / 8 % 2 ≡ 0 = omega arith in grind (arith, nat_tests)
+-- the entry is invalid, or one that a line may grant
+abbrev pub IsEntryOfScript : List GrantedEntry → ℕ → ℕ → Entry → Type 0
+IsEntryOfScript grants t r e = (e ≡ Invalid) ⊎ IsGranted grants t r e
 
-kind-shown : (c : Control) → kind_of (control_word c) ≡ c.kind
-kind-shown c =
-    let n : ℕ = c.reads + c.writes * 4096 + c.dom.0 * 16777216 + c.generation * 1099511627776 in
-    let e : control_word c ≡ kind_bits c.kind + flag c.ro + n * 16 = omega arith in
-    ap kind_of e ∙ low-kind n c.kind c.ro
+-- without its right to write it is the same entry
+with-ro-bare : (ro : Bool) (old : Entry) → with_ro false (with_ro ro old) ≡ with_ro false old
+with-ro-bare ro Invalid = refl
+with-ro-bare ro (entries.Page dom b frame) = refl
+with-ro-bare ro (entries.Sub dom b frame off len) = refl
+with-ro-bare ro (entries.Via dom b dom2 gref) = refl
 
--- the entry that words encode is transitive if the control word shows that kind
-abbrev is_via_kind : EntryKind → Bool
-is_via_kind kinds.Invalid = false
-is_via_kind kinds.Page = false
-is_via_kind kinds.Sub = false
-is_via_kind kinds.Via = true
+granted-ro : (grants : List GrantedEntry) (t r : ℕ) (ro : Bool) (old : Entry) → IsEntryOfScript grants t r old
+    → IsEntryOfScript grants t r (with_ro ro old)
+granted-ro grants t r ro old (inl none) = inl (ap (with_ro ro) none)
+granted-ro grants t r ro old (inr (n, g, at, owner, gref, same)) =
+    inr (n, g, at, owner, gref, same ∙ sym (with-ro-bare ro old))
 
-via-read : (c : Control) (body second : ℕ) → is_via (entry_of c body second) ≡ is_via_kind c.kind
-via-read c body second = by c.kind where
-  by : (k : EntryKind) → is_via (entry_of (record c { kind = k }) body second) ≡ is_via_kind k
-  by kinds.Invalid = refl
-  by kinds.Page = refl
-  by kinds.Sub = refl
-  by kinds.Via = refl
+changed-granted : (grants : List GrantedEntry) (t r : ℕ) (change : Option EntryChange) (old : Entry)
+    → ((entry : Entry) → change ≡ Some (Publish entry) → IsGranted grants t r entry) → IsEntryOfScript grants t r old
+    → IsEntryOfScript grants t r (changed_entry_of change old)
+changed-granted grants t r None old new was = was
+changed-granted grants t r (Some (Publish entry)) old new was = inr (new entry refl)
+changed-granted grants t r (Some changes.Revoke) old new was = inl refl
+changed-granted grants t r (Some changes.Withdraw) old new was = inl refl
+changed-granted grants t r (Some changes.Demote) old new was = granted-ro grants t r true old was
+changed-granted grants t r (Some changes.Promote) old new was = granted-ro grants t r false old was
 
-via-controlled : (e : Entry) (generation reads writes : ℕ)
-    → is_via_kind (control_with e generation reads writes).kind ≡ is_via e
-via-controlled entries.Invalid generation reads writes = refl
-via-controlled (entries.Page dom ro frame) generation reads writes = refl
-via-controlled (entries.Sub dom ro frame off len) generation reads writes = refl
-via-controlled (entries.Via dom ro dom2 gref) generation reads writes = refl
+-- an entry that passed a first look is valid
+passed-valid : (l : Leg) (e : Entry) (g r w : ℕ) → first_look l (control_with e g r w) ≡ None → e ≢ Invalid
+passed-valid l Invalid g r w passed e = cc
+passed-valid l z g r w passed e = cc
 
--- an entry that was read while this was its word is transitive if the entry is
-via-shown : (s : Setting) (h : History) (t r word body second : ℕ) → word_at s h t r ≡ word
-    → is_via (entry_of (control_of word) body second) ≡ is_via (entry_at h t r)
-via-shown s h t r word body second is =
-    let c = control_with (entry_at h t r) (generation_at s h t r) (reads_at h t r) (writes_at h t r) in
-    via-read (control_of word) body second
-    ∙ ap (λ (w : ℕ). is_via_kind (kind_of w)) (sym is)
-    ∙ ap is_via_kind (kind-shown c)
-    ∙ via-controlled (entry_at h t r) (generation_at s h t r) (reads_at h t r) (writes_at h t r)
+-- so is one on which a pin was taken
+pub pinned-valid : (s : Setting) (h : History) (p : HeldPin) (o : Option LegNow) → NoneStands s h p.dom p.gref o
+    → entry_at h p.dom.0 p.gref.0 ≢ Invalid
+pinned-valid s h p None none = absurd none
+pinned-valid s h p (Some n) none = let t = p.dom.0 in let r = p.gref.0 in
+    passed-valid n.leg (entry_at h t r) (generation_at s h t r) (reads_at h t r) (writes_at h t r) none.0
 
-with-ro-via : (ro : Bool) (old : Entry) → is_via (with_ro ro old) ≡ is_via old
-with-ro-via ro entries.Invalid = refl
-with-ro-via ro (entries.Page dom b frame) = refl
-with-ro-via ro (entries.Sub dom b frame off len) = refl
-with-ro-via ro (entries.Via dom b dom2 gref) = refl
-
-changed-via : (change : Option EntryChange) (old : Entry)
-    → ((entry : Entry) → change ≡ Some (Publish entry) → is_via entry ≡ false) → is_via old ≡ false
-    → is_via (changed_entry_of change old) ≡ false
-changed-via None old new none = none
-changed-via (Some (Publish entry)) old new none = new entry refl
-changed-via (Some changes.Revoke) old new none = refl
-changed-via (Some changes.Withdraw) old new none = refl
-changed-via (Some changes.Demote) old new none = with-ro-via true old ∙ none
-changed-via (Some changes.Promote) old new none = with-ro-via false old ∙ none
+pub valid-granted : (grants : List GrantedEntry) (t r : ℕ) (e : Entry) → e ≢ Invalid → IsEntryOfScript grants t r e
+    → IsGranted grants t r e
+valid-granted grants t r e valid (inl none) = absurd (valid none)
+valid-granted grants t r e valid (inr granted) = granted
 
 published : (x : ItemEvent) (r : ℕ) (entry : Entry) → change_at x r ≡ Some (Publish entry)
-    → (gref : GrantRef) × (looked : ℕ) × (x ≡ Stepped (Exchange gref looked (Publish entry)) Taken)
-published (Stepped (Exchange gref looked change) Taken) r entry e = by (gref.0 == r) e where
-  by : (b : Bool) → cond b (Some change) None ≡ Some (Publish entry)
+    → (gref : GrantRef) × (looked : ℕ) × (x ≡ Stepped (Exchange gref looked (Publish entry)) Taken) × (gref.0 ≡ r)
+published (Stepped (Exchange gref looked change) Taken) r entry e = by (gref.0 == r) refl e where
+  by : (b : Bool) → (gref.0 == r) ≡ b → cond b (Some change) None ≡ Some (Publish entry)
       → (g : GrantRef) × (l : ℕ)
-      × (Stepped (Exchange gref looked change) Taken ≡ Stepped (Exchange g l (Publish entry)) Taken)
-  by true f = (gref, looked, ap (λ c. Stepped (Exchange gref looked c) Taken) (same_Some change (Publish entry) f))
-  by false f = absurd (none-some (Publish entry) f)
+      × (Stepped (Exchange gref looked change) Taken ≡ Stepped (Exchange g l (Publish entry)) Taken) × (g.0 ≡ r)
+  by true at f = (
+    gref,
+    looked,
+    ap (λ c. Stepped (Exchange gref looked c) Taken) (same_Some change (Publish entry) f),
+    eqb-true gref.0 r at,
+  )
+  by false at f = absurd (none-some (Publish entry) f)
 published x r entry e = absurd (none-some (Publish entry) e)
 
 -- the facts of a path's actions
 
--- any use of mappings, and none of transitive entries by a copy
-abbrev any_use : OpenRequest → MappingUse
-any_use (Copy c) = record { loads = true; stores = true; vias = false }
-any_use r = record { loads = true; stores = true; vias = true }
+-- any use of mappings
+abbrev any_use : MappingUse
+any_use = record { loads = true; stores = true }
+
+-- any touch
+abbrev any : Touch → Type 0
+any touch = Unit {0}
 
 -- the request is no probe
 abbrev IsNoProbe : OpenRequest → Type 0
 IsNoProbe (Probe c) = ⊥
 IsNoProbe r = Unit {0}
 
-any-touch : (d : DomId) (r : OpenRequest) → IsNoProbe r → RequestTouches (λ touch. Unit {0}) (any_use r) d r
-any-touch d (Grant gref entry) unprobed = (tt, λ none. absurd (true≢false none))
-any-touch d (Map dom gref flags) unprobed = ((tt, tt), ((λ is t f. tt), (λ is t f. tt)))
-any-touch d (Load handle off len) unprobed = refl
-any-touch d (Store handle off len) unprobed = refl
-any-touch d (Copy c) unprobed = (
-  refl,
-  ((λ granted. ((tt, tt), (λ f. tt))), (λ own. tt)),
-  ((λ granted. ((tt, tt), (λ f. tt))), (λ own. tt)),
+any-beyond : (grants : List GrantedEntry) (dir : Dir) (t : DomId) (e : Entry) → BeyondTouches any grants dir t e
+any-beyond grants dir t Invalid = tt
+any-beyond grants dir t (entries.Page dom ro frame) = tt
+any-beyond grants dir t (entries.Sub dom ro frame off len) = tt
+any-beyond grants dir t (entries.Via dom ro dom2 gref) = ((tt, tt), λ e granted. tt)
+
+any-access : (dir : Dir) (t : DomId) (f : ℕ) → any (frame_touch dir t f)
+any-access dir t f = tt
+
+any-end : (grants : List GrantedEntry) (dir : Dir) (t : DomId) (r : GrantRef) → EndTouches any grants dir t r
+any-end grants dir t r = ((tt, tt), λ e granted. any-beyond grants dir t e)
+
+any-touch : (grants : List GrantedEntry) (d : DomId) (r : OpenRequest) → IsNoProbe r
+    → RequestTouches any grants any_use d r
+any-touch grants d (Map dom gref flags) unprobed = ((tt, tt), (λ e granted. ((λ is. tt), (λ is. tt))))
+any-touch grants d (Load handle off len) unprobed = refl
+any-touch grants d (Store handle off len) unprobed = refl
+any-touch grants d (Copy c) unprobed = (
+  ((λ granted. any-end grants dirs.Read (resolved d c.source.domid) (gref_of c.source.ptr)), (λ own. tt)),
+  ((λ granted. any-end grants dirs.Write (resolved d c.dest.domid) (gref_of c.dest.ptr)), (λ own. tt)),
 )
-any-touch d (Probe c) unprobed = absurd unprobed
-any-touch d r unprobed = tt
+any-touch grants d (Probe c) unprobed = absurd unprobed
+any-touch grants d r unprobed = tt
 
 module _ (s : Setting) (h : History) (d : DomId) (r : OpenRequest) (unprobed : IsNoProbe r) where
   facts-of : (vs : List Observation) (action : Action) → steps_of (known_at s h d) d r vs ≡ Some action
-      → IsActionOf (λ touch. Unit {0}) (any_use r) (known_at s h d) d r
+      → IsActionOf any [] any_use (known_at s h d) d r
       (held_along (steps_of (known_at s h d) d r) [] vs) action
-  facts-of vs action e = each-step (λ touch. Unit {0}) (any_use r) (known_at s h d) d (λ p. Unit {0})
-      (λ handle p found. (tt, (λ is. tt), (λ is. tt))) r (any-touch d r unprobed)
-      (λ copy p dom ro dom2 gref take via. ((tt, tt), (λ f. tt), (λ f. tt))) vs action
+  facts-of vs action e = each-step any [] any_use (known_at s h d) d (λ p. Unit {0})
+      (λ handle p found. (tt, (λ is. tt), (λ is. tt))) r (any-touch [] d r unprobed)
+      (λ copy. record {
+        beyond_is = λ dir p take all. any-beyond [] dir p.dom p.entry;
+        last_is = λ dir p take all. any-access dir p.dom (frame_of p.entry);
+      }) vs action
       (took-any (steps_of (known_at s h d) d r) vs) e
 
   step-facts : (vs : List Observation) (z : Step) → steps_of (known_at s h d) d r vs ≡ Some (actions.Step z)
@@ -325,10 +326,10 @@ ends-with s h d r z giving None answer against by = absurd by
 
 -- sound histories
 
-module _ (vias : Bool) (s : Setting) where
-  -- the pin is on no transitive entry, unless a call may grant one
+module _ (grants : List GrantedEntry) (s : Setting) where
+  -- the pin is on an entry that a line may grant
   abbrev pub IsPlain : HeldPin → Type 0
-  IsPlain p = vias ≡ false → is_via p.entry ≡ false
+  IsPlain p = IsGranted grants p.dom.0 p.gref.0 p.entry
 
   -- the part of a path that takes pins: it rests on nothing that a history changes
   abbrev pub pins_path : DomId → OpenRequest → Continuation
@@ -352,15 +353,15 @@ module _ (vias : Bool) (s : Setting) where
 
   abbrev pub CallSound : List (ℕ × HeldPin) → DomId → Option Underway → Type 0
   CallSound legs d None = legs ≡ []
-  CallSound legs d (Some c) = IsOfScript vias c.request × CallHolds legs d c.request (values c)
+  CallSound legs d (Some c) = IsOfScript grants d c.request × CallHolds legs d c.request (values c)
 
   pub record IsSound (h : History) : Type 0 where
-    pub entries : (t r : ℕ) → vias ≡ false → is_via (entry_at h t r) ≡ false
+    pub entries : (t r : ℕ) → IsEntryOfScript grants t r (entry_at h t r)
     pub calls : (d : DomId) → CallSound (legs_at h d.0) d (open_call h d.0)
 
-  no-probe : (r : OpenRequest) → IsOfScript vias r → IsNoProbe r
-  no-probe (Probe c) plain = plain
-  no-probe r plain = tt
+  no-probe : (d : DomId) (r : OpenRequest) → IsOfScript grants d r → IsNoProbe r
+  no-probe d (Probe c) plain = plain
+  no-probe d r plain = tt
 
   holds-first : (legs : List (ℕ × HeldPin)) (d : DomId) (r : OpenRequest) → legs ≡ [] → CallHolds legs d r []
   holds-first legs d (Map dom gref flags) none = (legs-first legs none, tt)
@@ -371,7 +372,8 @@ module _ (vias : Bool) (s : Setting) where
 
   module _ (h : History) (d : DomId) (z : Step) (v : Observation) (a : Option Answer) (c : Underway)
       (right : StepsRight s h (stepped d z v a) z v c)
-      (entries : (t r : ℕ) → vias ≡ false → is_via (entry_at h t r) ≡ false) where
+      (entries : (t r : ℕ) → IsEntryOfScript grants t r (entry_at h t r))
+      (pinning : (p : HeldPin) → z ≡ call_steps.Pin p → v ≡ Taken → p.entry ≡ entry_at h p.dom.0 p.gref.0) where
     abbrev legs_then : List (ℕ × HeldPin)
     legs_then = legs_at (stepped d z v a ∷ h) d.0
 
@@ -380,19 +382,14 @@ module _ (vias : Bool) (s : Setting) where
     After r = (a ≡ None → CallHolds legs_then d r (values c ++ v ∷ []))
         × ((answer : Answer) → a ≡ Some answer → legs_then ≡ [])
 
-    plain-pin : (p : HeldPin) → z ≡ call_steps.Pin p → v ≡ Taken → PinRead p → IsPlain p
-    plain-pin p pins took (body, second, read) none =
-        ap is_via read ∙ via-shown s h p.dom.0 p.gref.0 p.word body second word ∙ entries p.dom.0 p.gref.0 none
+    plain-pin : (p : HeldPin) → z ≡ call_steps.Pin p → v ≡ Taken → IsPlain p
+    plain-pin p pins took = subst (IsGranted grants p.dom.0 p.gref.0) (sym (pinning p pins took))
+        (valid-granted grants p.dom.0 p.gref.0 (entry_at h p.dom.0 p.gref.0) (pinned-valid s h p _ sound)
+        (entries p.dom.0 p.gref.0))
       where
-        sees : exchange_sees (word_at s h p.dom.0 p.gref.0) p.word ≡ Taken
-        sees = ap (λ (x : Step). seen_by s h d x) (sym pins) ∙ sym right.sees ∙ took
-
-        word : word_at s h p.dom.0 p.gref.0 ≡ p.word
-        word = by (word_at s h p.dom.0 p.gref.0 == p.word) refl sees where
-          by : (b : Bool) → (word_at s h p.dom.0 p.gref.0 == p.word) ≡ b
-              → cond b Taken (Missed (word_at s h p.dom.0 p.gref.0)) ≡ Taken → word_at s h p.dom.0 p.gref.0 ≡ p.word
-          by true e f = eqb-true (word_at s h p.dom.0 p.gref.0) p.word e
-          by false e f = absurd (cc)
+        sound : NoneStands s h p.dom p.gref (leg_at s h d c.request)
+        sound = subst (λ (x : Observation). PinIsSound s h d c.request (call_steps.Pin p) x) took
+            (subst (λ (y : Step). PinIsSound s h d c.request y v) pins right.sound)
 
     -- the pins of a call that takes pins
     module _ (r : OpenRequest) (same : c.request ≡ r) (unprobed : IsNoProbe r)
@@ -437,7 +434,7 @@ module _ (vias : Bool) (s : Setting) where
       takes-plain = subst (λ (o : Option Action). TakesOf IsPlain o v) (sym here) (by z v refl refl facts) where
         by : (y : Step) (w : Observation) → z ≡ y → v ≡ w → StepFacts (known_at s h d) r held_now y
             → TakesOf IsPlain (Some (actions.Step y)) w
-        by (call_steps.Pin p) Taken e f g = plain-pin p e f g.1
+        by (call_steps.Pin p) Taken e f g = plain-pin p e f
         by y w e f g = tt
 
       goes-on : a ≡ None → HoldsPins legs_then d r (values c ++ v ∷ [])
@@ -518,9 +515,9 @@ module _ (vias : Bool) (s : Setting) where
           → StepFacts (known_at s h d) (Map dom gref flags) held_map y
           → legs_at (stepped d y w (Some (Mapped handle)) ∷ h) d.0 ≡ []
       mapped-legs handle (call_steps.Pin p) Taken gives f = map-legs h d p handle
-          ∙ legs-none (legs_at h d.0) (subst (AreLegs (legs_at h d.0)) f.0 holds.0)
+          ∙ legs-none (legs_at h d.0) (subst (AreLegs (legs_at h d.0)) f holds.0)
       mapped-legs handle (call_steps.Pin p) w gives f = quiet-legs h d (call_steps.Pin p) w (Some (Mapped handle)) tt
-          ∙ legs-none (legs_at h d.0) (subst (AreLegs (legs_at h d.0)) f.0 holds.0)
+          ∙ legs-none (legs_at h d.0) (subst (AreLegs (legs_at h d.0)) f holds.0)
       mapped-legs handle y w gives f = absurd gives
 
       denied-over : (denial : Denial) (verdict : CallResult) (held : List HeldPin)
@@ -562,12 +559,12 @@ module _ (vias : Bool) (s : Setting) where
       by : (y : Step) (w : Observation)
           → StepFacts (known_at s h d) r (held_along (steps_of (known_at s h d) d r) [] (values c)) y
           → legs_at (stepped d y w a ∷ h) d.0 ≡ legs_at h d.0
-      by (call_steps.Pin p) w f = absurd (none _ f.0)
+      by (call_steps.Pin p) w f = absurd (none _ f)
       by (Unpin p (holders.Leg n)) w f = absurd (none _ f.0)
       by (Unpin p (holders.Mapping handle)) w f = mapping-legs h d p handle w a
       by y w f = quiet-legs h d y w a tt
 
-    after-step : (r : OpenRequest) → c.request ≡ r → IsOfScript vias r → CallHolds (legs_at h d.0) d r (values c)
+    after-step : (r : OpenRequest) → c.request ≡ r → IsOfScript grants d r → CallHolds (legs_at h d.0) d r (values c)
         → After r
     after-step (Map dom gref flags) same plain holds = after-map dom gref flags same holds
     after-step (Copy x) same plain holds = after-copy x same holds
@@ -575,7 +572,7 @@ module _ (vias : Bool) (s : Setting) where
     after-step r same plain holds = let none = unpinned-legs r same tt (λ held is. is) ∙ holds in
         ((λ e. none), (λ answer e. none))
 
-    stepped-sound : IsOfScript vias c.request → CallHolds (legs_at h d.0) d c.request (values c)
+    stepped-sound : IsOfScript grants d c.request → CallHolds (legs_at h d.0) d c.request (values c)
         → CallSound legs_then d (underway_after (stepped d z v a) (Some c))
     stepped-sound plain holds = by a refl (after-step c.request refl plain holds) where
       by : (b : Option Answer) → a ≡ b → After c.request
@@ -595,70 +592,78 @@ module _ (vias : Bool) (s : Setting) where
     called : (d : DomId) (z : Step) (v : Observation) (a : Option Answer) (o : Option Underway)
         → open_call h d.0 ≡ o → StepsRightIn s h (stepped d z v a) z v o
         → (c : Underway) × (open_call h d.0 ≡ Some c) × StepsRight s h (stepped d z v a) z v c
-        × IsOfScript vias c.request × CallHolds (legs_at h d.0) d c.request (values c)
+        × IsOfScript grants d c.request × CallHolds (legs_at h d.0) d c.request (values c)
     called d z v a None is right = absurd right
     called d z v a (Some c) is right =
         let both : CallSound (legs_at h d.0) d (Some c) = subst (CallSound (legs_at h d.0) d) is (sound.calls d) in
         (c, is, right, both.0, both.1)
 
     publishes-plain : (d : DomId) (gref : GrantRef) (looked : ℕ) (entry : Entry) (a : Option Answer)
-        → IsRight s h (stepped d (Exchange gref looked (Publish entry)) Taken a) → vias ≡ false → is_via entry ≡ false
-    publishes-plain d gref looked entry a right none =
+        → IsRight s h (stepped d (Exchange gref looked (Publish entry)) Taken a) → IsGranted grants d.0 gref.0 entry
+    publishes-plain d gref looked entry a right =
         let call = called d (Exchange gref looked (Publish entry)) Taken a (open_call h d.0) refl right in
         let opened = path-opened (known_at s h d) d call.0.request (values call.0)
         (Exchange gref looked (Publish entry)) call.2.continues in
-        let grants : call.0.request ≡ Grant gref entry = step-facts s h d call.0.request
-        (no-probe call.0.request call.3) (values call.0) (Exchange gref looked (Publish entry)) opened.1 in
-        subst (IsOfScript vias) grants call.3 none
+        let gives : call.0.request ≡ Grant gref entry = step-facts s h d call.0.request
+        (no-probe d call.0.request call.3) (values call.0) (Exchange gref looked (Publish entry)) opened.1 in
+        subst (IsOfScript grants d) gives call.3
 
-    entries-then : (i : Item) → IsRight s h i → (t r : ℕ) → vias ≡ false → is_via (entry_at (i ∷ h) t r) ≡ false
-    entries-then i right t r none = ap is_via (exchanged-entry h i t r)
-        ∙ changed-via (change_of i t r) (entry_at h t r) new (sound.entries t r none)
+    entries-then : (i : Item) → IsRight s h i → (t r : ℕ) → IsEntryOfScript grants t r (entry_at (i ∷ h) t r)
+    entries-then i right t r = subst (IsEntryOfScript grants t r) (sym (exchanged-entry h i t r))
+        (changed-granted grants t r (change_of i t r) (entry_at h t r) new (sound.entries t r))
       where
         own : (b : Bool) (entry : Entry) → cond b (change_at i.happened r) None ≡ Some (Publish entry)
-            → change_at i.happened r ≡ Some (Publish entry)
-        own true entry e = e
+            → (b ≡ true) × (change_at i.happened r ≡ Some (Publish entry))
+        own true entry e = (refl, e)
         own false entry e = absurd (none-some (Publish entry) e)
 
-        new : (entry : Entry) → change_of i t r ≡ Some (Publish entry) → is_via entry ≡ false
-        new entry e = let it = published i.happened r entry (own (i.actor.0 == t) entry e) in
-            publishes-plain i.actor it.0 it.1 entry i.answer
+        new : (entry : Entry) → change_of i t r ≡ Some (Publish entry) → IsGranted grants t r entry
+        new entry e =
+            let mine = own (i.actor.0 == t) entry e in
+            let it = published i.happened r entry mine.1 in
+            subst (λ (n : ℕ). IsGranted grants n r entry) (eqb-true i.actor.0 t mine.0)
+            (subst (λ (n : ℕ). IsGranted grants i.actor.0 n entry) it.3
+            (publishes-plain i.actor it.0 it.1 entry i.answer
             (subst (λ (x : ItemEvent). IsRight s h (record { actor = i.actor; happened = x; answer = i.answer })) it.2
-            right) none
+            right)))
 
-    began-sound : (d : DomId) (q : Request) (a : Option Answer) → open_call h d.0 ≡ None → IsOfScript vias (asked q)
+    began-sound : (d : DomId) (q : Request) (a : Option Answer) → open_call h d.0 ≡ None
+        → (a ≡ None → IsOfScript grants d (asked q))
         → CallSound (legs_at (record { actor = d; happened = Began q; answer = a } ∷ h) d.0) d
         (underway_after (record { actor = d; happened = Began q; answer = a }) (open_call h d.0))
     unfolding live
-    began-sound d q a rest plain = by a where
+    began-sound d q a rest plain = by a plain where
       none : legs_at h d.0 ≡ []
       none = subst (CallSound (legs_at h d.0) d) rest (sound.calls d)
 
       same : (b : Option Answer) → legs_at (record { actor = d; happened = Began q; answer = b } ∷ h) d.0 ≡ []
       same b = ap (λ ps. gather by_leg d.0 ps) (append-nil (live h)) ∙ none
 
-      by : (b : Option Answer) → CallSound (legs_at (record { actor = d; happened = Began q; answer = b } ∷ h) d.0) d
+      by : (b : Option Answer) → (b ≡ None → IsOfScript grants d (asked q))
+          → CallSound (legs_at (record { actor = d; happened = Began q; answer = b } ∷ h) d.0) d
           (underway_after (record { actor = d; happened = Began q; answer = b }) (open_call h d.0))
-      by None = (plain, holds-first _ d (asked q) (same None))
-      by (Some answer) = same (Some answer)
+      by None may = (may refl, holds-first _ d (asked q) (same None))
+      by (Some answer) may = same (Some answer)
 
-    own-sound : (d : DomId) (x : ItemEvent) (a : Option Answer)
-        → IsRight s h (record { actor = d; happened = x; answer = a }) → BeginsOfScript vias x
+    own-sound : (d : DomId) (x : ItemEvent) (a : Option Answer) → IsLikeReached s h
+        → IsRight s h (record { actor = d; happened = x; answer = a })
+        → IsItemOfScript s grants (record { actor = d; happened = x; answer = a })
         → CallSound (legs_at (record { actor = d; happened = x; answer = a } ∷ h) d.0) d
         (underway_after (record { actor = d; happened = x; answer = a }) (open_call h d.0))
-    own-sound d (Began q) a right plain = began-sound d q a right.0 plain
-    own-sound d (Stepped z v) a right plain =
+    own-sound d (Began q) a like right said = began-sound d q a right.0 said.begins
+    own-sound d (Stepped z v) a like right said =
         let call = called d z v a (open_call h d.0) refl right in
         subst (λ (o : Option Underway). CallSound (legs_at (stepped d z v a ∷ h) d.0) d
         (underway_after (stepped d z v a) o)) (sym call.1)
-        (stepped-sound h d z v a call.0 call.2 sound.entries call.3 call.4)
+        (stepped-sound h d z v a call.0 call.2 sound.entries
+        (step-in-run s h d call.0 z v a like said.in_run call.1 call.2).pinning call.3 call.4)
 
-    calls-then : (i : Item) → IsRight s h i → BeginsOfScript vias i.happened → (d : DomId)
+    calls-then : (i : Item) → IsLikeReached s h → IsRight s h i → IsItemOfScript s grants i → (d : DomId)
         → CallSound (legs_at (i ∷ h) d.0) d (open_call (i ∷ h) d.0)
-    calls-then i right plain d = by (i.actor.0 == d.0) refl where
+    calls-then i like right said d = by (i.actor.0 == d.0) refl where
       own : CallSound (legs_at (i ∷ h) i.actor.0) i.actor (open_call (i ∷ h) i.actor.0)
       own = subst (CallSound (legs_at (i ∷ h) i.actor.0) i.actor) (sym (open_call-own i h))
-          (own-sound i.actor i.happened i.answer right plain)
+          (own-sound i.actor i.happened i.answer like right said)
 
       by : (b : Bool) → (i.actor.0 == d.0) ≡ b → CallSound (legs_at (i ∷ h) d.0) d (open_call (i ∷ h) d.0)
       by true e = let same : i.actor ≡ d = ap (λ (n : ℕ). record { 0 = n }) (eqb-true i.actor.0 d.0 e) in
@@ -668,21 +673,29 @@ module _ (vias : Bool) (s : Setting) where
 
   sound-first : IsSound []
   unfolding entry_at live gather open_call
-  sound-first = record { entries = λ t r none. refl; calls = λ d. refl }
+  sound-first = record { entries = λ t r. inl refl; calls = λ d. refl }
 
-  pub is-sound : (h : History) → IsLegalHistory s h → AllOfScript vias h → IsSound h
-  unfolding IsLegalHistory
-  is-sound [] legal all = sound-first
-  is-sound (i ∷ h) legal all = let was = is-sound h legal.1 all.1 in record {
-    entries = entries-then h was i legal.0;
-    calls = calls-then h was i legal.0 all.0;
+  -- a history so far: it is like one that a core represents
+  pub record IsSoundRun (h : History) : Type 0 where
+    pub sound : IsSound h
+    pub like : IsLikeReached s h
+
+  pub is-sound : (h : History) → IsLikeReached s [] → IsRun s h → AllOfScript s grants h → IsSoundRun h
+  unfolding IsRun
+  is-sound [] start run all = record { sound = sound-first; like = start }
+  is-sound (i ∷ h) start run all = let was = is-sound h start run.2 all.1 in record {
+    sound = record {
+      entries = entries-then h was.sound i run.0;
+      calls = calls-then h was.sound i was.like run.0 all.0;
+    };
+    like = like-goes-on s h i was.like all.0.in_run run.0 run.1 all.0.fits;
   }
 
   -- the next step of an open call
 
   module _ (h : History) (sound : IsSound h) (d : DomId) (c : Underway) (is : open_call h d.0 ≡ Some c) (z : Step)
       (next : path (known_at s h d) d c.request (values c) ≡ Some (actions.Step z)) where
-    both : IsOfScript vias c.request × CallHolds (legs_at h d.0) d c.request (values c)
+    both : IsOfScript grants d c.request × CallHolds (legs_at h d.0) d c.request (values c)
     both = subst (CallSound (legs_at h d.0) d) is (sound.calls d)
 
     open-path : (begun (known_at s h d) d c.request ≡ None)
@@ -704,14 +717,14 @@ module _ (vias : Bool) (s : Setting) where
 
     -- it releases the pin that it names, if it releases one
     pub releases-own : Releases h d z
-    releases-own = by z (step-facts s h d c.request (no-probe c.request both.0) (values c) z open-path.1) where
+    releases-own = by z (step-facts s h d c.request (no-probe d c.request both.0) (values c) z open-path.1) where
       by : (y : Step) → StepFacts (known_at s h d) c.request
           (held_along (steps_of (known_at s h d) d c.request) [] (values c)) y → Releases h d y
       by (Unpin p (holders.Mapping handle)) f = unmaps-release h d p handle f
       by (Unpin p (holders.Leg n)) f = leg-released c.request (values c) p n both.1 f
       by y f = tt
 
-    -- the pins that a copy took are plain
+    -- the pins that a copy took are on such entries
     pub copy-took : (x : CopyArgs) → c.request ≡ Copy x
         → TookOf IsPlain (steps_of (known_at s h d) d (Copy x)) (values c)
     copy-took x same = subst (λ (g : Continuation). TookOf IsPlain g (values c)) (sym (copy-same h d x))

@@ -10,6 +10,7 @@ pub mod FirstWorld
 pub mod FlagLines
 pub mod GivingBack
 pub mod GoingOn
+pub mod GrantingTasks
 pub mod HandlesAnswered
 pub mod HeldPins
 pub mod Joining
@@ -37,6 +38,5 @@ pub mod Swapping
 pub mod Touching
 pub mod Undisturbed
 pub mod Unlabelled
-pub mod ViaTasks
 pub mod Ways
 pub mod Within

@@ -9,7 +9,7 @@ use Rattle.gt_core.proofs.Words.{Underway, open_call, values, known_at, seen_by,
 use Rattle.gt_core.proofs.Words.{table_at, contents_at, maps_answered_at, path, OpenAgrees, CallAgrees, StateAgrees}
 use Rattle.gt_core.proofs.Words.{StepsRight, AnsweredBy, GivesValue, AreAlike, IsRun, bare_step, action_at, phase_after}
 use Rattle.gt_core.proofs.Words.{last_first, refusal_in, verdict_in, stood, CallerKnowledge, HasShown, EntryChange}
-use Rattle.gt_core.proofs.Words.{IsQuiet, Poke, RestsOnRequest}
+use Rattle.gt_core.proofs.Words.{IsQuiet, Poke, RestsOnRequest, true, false, eqb-true, ◌==◌}
 use Rattle.gt_model.specs.declared.action.Action.TheVariants as actions
 use Rattle.gt_model.specs.declared.action.Step.TheVariants as call_steps
 use Rattle.gt_model.specs.declared.request.PinHolder.TheVariants as holders
@@ -174,6 +174,13 @@ taken-ends k way d r shown (Ending pins verdict) gref looked change a e =
 taken-ends k way d r shown (Last last verdict) gref looked change a e = absurd (subst IsQuiet (makes-same last (Exchange gref looked change) e) a.0)
 taken-ends k way d r shown phase gref looked change a e = absurd (let f = makes-same _ _ e in cc)
 
+-- an exchange that is taken has found the word that was looked at
+pub same-word : (found looked : ℕ) → exchange_sees found looked ≡ Taken → found ≡ looked
+same-word found looked took = by (found == looked) refl took where
+  by : (b : Bool) → (found == looked) ≡ b → cond b Taken (Missed found) ≡ Taken → found ≡ looked
+  by true e f = eqb-true found looked e
+  by false e f = absurd (cc)
+
 -- a step
 
 -- what is so of a step of an open call
@@ -185,6 +192,8 @@ pub record StepInRun (s : Setting) (h : History) (d : DomId) (c : Underway) (z :
   pub ending : (v : CallResult) → next_in s h d c seen ≡ Some (Done v) → (a : Answer) × (answer ≡ Some a) × EndsAs h d c.request z seen v a
   -- only a store or a poke writes what its call was given
   pub writing : (dom : DomId) (frame off len : ℕ) → z ≡ call_steps.Write dom frame off len → IsWriting c.request
+  -- a pin that is taken has the entry as it is
+  pub pinning : (m : HeldPin) → z ≡ call_steps.Pin m → seen ≡ Taken → m.entry ≡ entry_at h m.dom.0 m.gref.0
 
 none-answered : (s : Setting) (h : History) (d : DomId) (r : OpenRequest) (z : Step) (giving : Bool) (v : Option CallResult) (answer : Option Answer) (against : Option Denial) → v ≡ None → AnsweredBy s h d r (Some z) giving v answer against → answer ≡ None
 none-answered s h d r z giving v answer against none by = grind arith
@@ -323,8 +332,16 @@ module _ (s : Setting) (h g : History) (alike : AreAlike s h g) (reached : CanBe
         map,
       )
 
+  pinned-here : (m : HeldPin) → z ≡ call_steps.Pin m → seen ≡ Taken → m.entry ≡ entry_at h m.dom.0 m.gref.0
+  pinned-here m is taken =
+      let made : o.step ≡ call_steps.Pin m = no-key o.step (call_steps.Pin m) tt (ap bare_step (sym is) ∙ same-step) in
+      let pin = can-pin s g reached.0.domains x.id w.request (values w) (reverse w.steps) b.phase m (stands-at (call_steps.Pin m) made)
+      (same-word (word_at s g m.dom.0 m.gref.0) m.word (ap (seen_by s g x.id) (sym made) ∙ saw ∙ taken)) in
+      sym (ap (λ (p : HeldPin). p.entry) pin.is) ∙ sym (same-entry m.dom.0 m.gref.0)
+
   in-run : StepInRun s h x.id c z seen answer
   in-run = record {
+    pinning = pinned-here;
     going = λ y e. (none-answered s h x.id c.request z _ (verdict_in (next_in s h x.id c seen)) answer _ (ap verdict_in e) right.answered, no-single y e, no-taken y e);
     ending = λ v e. let against = stood s (stepped x.id z seen answer ∷ h) x.id.0 in let giving = gives_back (next_in s h x.id c seen) in
         let r = some-answered s h x.id c.request z giving v answer against (subst (λ (u : Option CallResult). AnsweredBy s h x.id c.request (Some z) giving u answer against) (ap verdict_in e) right.answered) in

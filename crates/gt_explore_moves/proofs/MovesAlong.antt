@@ -16,7 +16,7 @@ use Rattle.gt_model.specs.declared.request.Request.{Request}
 use Rattle.gt_model.specs.declared.request.Request.TheVariants.{Release}
 use Rattle.gt_core.specs.Alike.{HappensKnown}
 use Rattle.gt_core.specs.GoingOn.{beginning}
-use Rattle.gt_model.specs.History.{History, Setting, Underway, open_call}
+use Rattle.gt_model.specs.History.{table_at, History, Setting, Underway, open_call}
 use Rattle.gt_model.specs.Legal.{BeginsRight, IsItemOf, IsRight, MayDo}
 use Rattle.gt_model.specs.declared.trace.Answer.{Answer}
 use Rattle.gt_model.specs.declared.trace.Element.{Element}
@@ -59,8 +59,9 @@ use Rattle.gt_explore_state.proofs.Fitting.{beginnings-change-nothing}
 use Rattle.gt_explore_moves.proofs.HandlesAnswered.{after-dom, back-answered, back-dom, but-answered, left-answered}
 use Rattle.gt_explore_moves.proofs.HandlesAnswered.{line-answered}
 use Rattle.gt_explore_moves.proofs.MappingFound.{get-at}
-use Rattle.gt_explore_moves.proofs.ViaTasks.{said-of-script, task-vias}
-use Rattle.gt_explore_moves.specs.Transitive.{BeginsOfScript, IsOfScript, call_grants_via, action_grants_via}
+use Rattle.gt_explore_moves.proofs.GrantingTasks.{said-of-script, task-listed}
+use Rattle.gt_explore_moves.specs.declared.granted.GrantedEntry.{GrantedEntry}
+use Rattle.gt_explore_moves.specs.Granting.{BeginsOfScript, IsOfScript, ListsGrants}
 use Rattle.gt_explore_replay.proofs.Whole.{raised_or}
 use Rattle.gt_explore_moves.proofs.StateComesOn.{comes-event, comes-quiet, domain-at, of-run, raised-here}
 use Rattle.gt_explore_moves.proofs.StateComesOn.{raised-still, table-at, task-below, task-own}
@@ -105,9 +106,10 @@ step-known : (h : History) (d actor : DomId) (x : ItemEvent) (answer : Option An
 step-known h d actor (Began q) answer m = absurd m.1
 step-known h d actor (Stepped z seen) answer m = (tt, tt)
 
-step-of-script : (vias : Bool) (d actor : DomId) (x : ItemEvent) (answer : Option Answer) → IsItemOf (Tick d) (record { actor = actor; happened = x; answer = answer }) → BeginsOfScript vias x
-step-of-script vias d actor (Began q) answer m = absurd m.1
-step-of-script vias d actor (Stepped z seen) answer m = tt
+step-of-script : (grants : List GrantedEntry) (d actor : DomId) (x : ItemEvent) (answer : Option Answer) → IsItemOf (Tick d) (record { actor = actor; happened = x; answer = answer })
+    → BeginsOfScript grants (record { actor = actor; happened = x; answer = answer })
+step-of-script grants d actor (Began q) answer m = absurd m.1
+step-of-script grants d actor (Stepped z seen) answer m = tt
 
 -- the contracts of what a domain does, at this state
 
@@ -196,7 +198,7 @@ module _ (c : RunContents) (scene : SearchContext) (hs : List Happening) (ks : L
   Comes new led x j = Grows led k.text j.text × SceneShows c scene (hs ++ x ∷ []) (slice_set ks place j) new
 
   -- a call began
-  begun-to : (new : SearchState) (led : TurnResult) (q : Request) (answer : Option Answer) (j : Course) → BeginsRight s h (beginning k.dom q answer) q → HappensKnown h (beginning k.dom q answer) → FitsAsked (asked q) → IsOfScript scene.vias (asked q) → j.dom ≡ k.dom → WasAnsweredAll (beginning k.dom q answer ∷ h) j
+  begun-to : (new : SearchState) (led : TurnResult) (q : Request) (answer : Option Answer) (j : Course) → BeginsRight s h (beginning k.dom q answer) q → HappensKnown h (beginning k.dom q answer) → FitsAsked (asked q) → (answer ≡ None → IsOfScript scene.grants.items k.dom (asked q)) → j.dom ≡ k.dom → WasAnsweredAll (beginning k.dom q answer ∷ h) j
       → MovesAsRun s (beginning k.dom q answer ∷ h) tasks a k j old new place led → Comes new led (did (Begin k.dom q) (elements.Item (beginning k.dom q answer))) j
   begun-to new led q answer j right asks fits said dom answered moved = let i = beginning k.dom q answer in
       let same = beginnings-change-nothing s h i q old.ground.tables.items old.ground.pages.items is.setting.apart refl in (
@@ -243,7 +245,9 @@ module _ (c : RunContents) (scene : SearchContext) (hs : List Happening) (ks : L
         let q = run_action.0 in let e = run_action.1 in let says = run_action.2 in
         begins {P = Comes new led x j} q e (subst (λ (z : Happening). CanComeNext s hs z) run_action.3 may) (λ i e-is same right.
         let answer = i.answer in let one = beginning k.dom q answer in
-        let of-script : call_grants_via call ≡ true → scene.vias ≡ true = λ grants. task-vias c scene is place a.next task here (ap action_grants_via does ∙ grants) in
+        let own = task-own c scene hs ks old place k a is shows at there a.next task here in
+        let lists : ListsGrants scene.grants.items k.dom (Do call) = subst (λ (d : DomId). ListsGrants scene.grants.items d (Do call)) own
+        (subst (ListsGrants scene.grants.items task.dom) does (task-listed c scene is place a.next task here).lists) in
         let table = table-at c scene hs ks old place k a is shows at there in
         let next : IsNextCall k task left call = record { rest = rest.0; next = task-next task here; dom = task-own c scene hs ks old place k a is shows at there a.next task here; run_action = does } in
         let moved = meets s h k left a q table.0 answer there table.1 show table.2 next says right in
@@ -252,7 +256,7 @@ module _ (c : RunContents) (scene : SearchContext) (hs : List Happening) (ks : L
         ∙ sym (run_action.4 ∙ ap (λ (z : Element). course_after (type_names c.head) task.line call (given_up q) (record k { tasks = left }) (answer_in z)) e-is) in
         let dom : j.dom ≡ k.dom = ap (λ (z : Course). z.dom) (sym after) ∙ after-dom scene.types.items task.line call (given_up q) (record k { tasks = left }) answer in
         let answered = subst (WasAnsweredAll (one ∷ h)) after (line-answered scene.types.items task.line call (given_up q) h (record k { tasks = left }) one answer (left-answered h k left known) refl refl) in
-        let came = begun-to new led q answer j right (asks_answered h k.named k.dom call q known.named says) (fits k.named k.dom q says) (said-of-script scene.vias k.named k.dom call q says of-script) dom answered
+        let came = begun-to new led q answer j right (asks_answered h k.named k.dom call q known.named says) (fits k.named k.dom q says) (λ opens. said-of-script scene.grants.items (table_at s h k.dom) k.named k.dom call q says lists (right.2 opens)) dom answered
         (subst (λ (z : Course). MovesAsRun s (one ∷ h) tasks a k z old new place led) after moved) in
         subst (λ (z : Happening). Comes new led z j) (sym (run_action.3 ∙ ap (λ (z : Element). did (Begin k.dom q) z) (e-is ∙ ap (λ (z : Item). elements.Item z) same))) came)
 
@@ -270,7 +274,7 @@ module _ (c : RunContents) (scene : SearchContext) (hs : List Happening) (ks : L
         let after : back_after (held_but k choice) answer ≡ j = sym (gives.4 ∙ ap (λ (z : Element). back_after (held_but k choice) (answer_in z)) e-is) in
         let dom : j.dom ≡ k.dom = ap (λ (z : Course). z.dom) (sym after) ∙ back-dom (held_but k choice) answer in
         let answered = subst (WasAnsweredAll (one ∷ h)) after (back-answered h (held_but k choice) one answer (but-answered h k choice known)) in
-        let came = begun-to new led q answer j right (inl (held_here h k.dom.0 choice k.held handle gives.2 known.held)) tt tt dom answered
+        let came = begun-to new led q answer j right (inl (held_here h k.dom.0 choice k.held handle gives.2 known.held)) tt (λ opens. tt) dom answered
         (subst (λ (z : Course). MovesAsRun s (one ∷ h) tasks a k z old new place led) after moved) in
         subst (λ (z : Happening). Comes new led z j) (sym (gives.3 ∙ ap (λ (z : Element). did (Begin k.dom q) z) (e-is ∙ ap (λ (z : Item). elements.Item z) same))) came)
 
@@ -390,7 +394,7 @@ module _ (c : RunContents) (scene : SearchContext) (hs : List Happening) (ks : L
       let fits = step-known h k.dom i.actor i.happened i.answer of in (
         moved.grows,
         subst (λ (z : Happening). SceneShows c scene (hs ++ z ∷ []) (slice_set ks place j) new) (sym (led-so.1.0 ∙ ap (λ (z : Element). did (Tick k.dom) z) e-is))
-            (comes-event c scene hs ks old place k a is shows at there new (Tick k.dom) i j moved.actor of.0 right fits.0 fits.1 (step-of-script scene.vias k.dom i.actor i.happened i.answer of) moved.becomes to.1 moved.shows to.2 moved.tables moved.pages moved.told),
+            (comes-event c scene hs ks old place k a is shows at there new (Tick k.dom) i j moved.actor of.0 right fits.0 fits.1 (step-of-script scene.grants.items k.dom i.actor i.happened i.answer of) moved.becomes to.1 moved.shows to.2 moved.tables moved.pages moved.told),
       ))
 
 -- the moves

@@ -87,6 +87,11 @@ took-any cont (v ∷ vs) = (takes-any (cont []) v, took-any (λ us. cont (v ∷ 
 abbrev pub IsPinOf : Leg → HeldPin → Type 0
 IsPinOf l p = (body : ℕ) × (second : ℕ) × (p ≡ held_of l p.word body second)
 
+-- the entry is not transitive
+abbrev pub IsNoVia : Entry → Type 0
+IsNoVia (entries.Via dom ro dom2 gref) = ⊥
+IsNoVia entry = Unit {0}
+
 -- the actions of a path
 
 module _ (L : HeldPin → Type 0) (G : List HeldPin → Action → Type 0) where
@@ -203,7 +208,7 @@ module _ (L : HeldPin → Type 0) (G : List HeldPin → Action → Type 0) where
   -- an end of a copy is reached
   module _ (k : CallerKnowledge) (l : Leg) (pair : DomId → DomId × DomId) (held : List HeldPin)
       (reached : AccessPath → Continuation) where
-    each-beyond : (p : HeldPin) (entry : Entry) → Each (p ∷ held) (reached (Direct p))
+    each-beyond : (p : HeldPin) (entry : Entry) → (IsNoVia entry → Each (p ∷ held) (reached (Direct p)))
         → ((dom : DomId) (ro : Bool) (dom2 : DomId) (gref : GrantRef) → entry ≡ entries.Via dom ro dom2 gref
         → SecondIs k l held p dom2 gref reached) → Each (p ∷ held) (beyond k l pair held reached p entry)
     each-beyond p (entries.Via dom ro dom2 gref) direct second = by (via_judged k (pair dom2) dom2) where
@@ -216,14 +221,14 @@ module _ (L : HeldPin → Type 0) (G : List HeldPin → Action → Type 0) where
           (λ q. reached (Through p q))
           (λ denial. each-given (p ∷ held) (Refused denial) (is.gives (Refused denial))) is.on
       by (Some verdict) = each-given (p ∷ held) verdict (is.gives verdict)
-    each-beyond p entries.Invalid direct second = direct
-    each-beyond p (entries.Page dom ro frame) direct second = direct
-    each-beyond p (entries.Sub dom ro frame off len) direct second = direct
+    each-beyond p entries.Invalid direct second = direct tt
+    each-beyond p (entries.Page dom ro frame) direct second = direct tt
+    each-beyond p (entries.Sub dom ro frame off len) direct second = direct tt
 
     pub each-reached : (granted : Bool) → (granted ≡ true → LegIs held l)
         → ((verdict : CallResult) → GivesWell held verdict)
         → (granted ≡ false → Each held (reached Own))
-        → (granted ≡ true → (p : HeldPin) → IsPinOf l p → L p → Each (p ∷ held) (reached (Direct p)))
+        → (granted ≡ true → (p : HeldPin) → IsPinOf l p → L p → IsNoVia p.entry → Each (p ∷ held) (reached (Direct p)))
         → (granted ≡ true → (p : HeldPin) → IsPinOf l p → L p
         → (dom : DomId) (ro : Bool) (dom2 : DomId) (gref : GrantRef)
         → p.entry ≡ entries.Via dom ro dom2 gref → SecondIs k l held p dom2 gref reached)

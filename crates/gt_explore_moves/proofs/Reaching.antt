@@ -11,7 +11,7 @@ use Rattle.std.proofs.Common.{Option, Some, None}
 use Rattle.gt_explore_replay.specs.Abreast.{CanComeNext}
 use Rattle.gt_explore_replay.specs.Courses.{ActionLeads, Course, CourseLeads, OpenLeads, Opened, RestLeads}
 use Rattle.gt_explore_replay.specs.Courses.{back_after, calling, course_after, giving, resting}
-use Rattle.gt_explore_replay.specs.Orders.{Happening, did, given_up, passed, raised, IsRaisedBefore}
+use Rattle.gt_explore_replay.specs.Orders.{Happening, given_up, raised, IsRaisedBefore}
 use Rattle.gt_explore_replay.proofs.Whole.{raised_or}
 use Rattle.gt_script_runs.specs.Runs.{answer_in}
 use Rattle.gt_script.specs.Lists.{RunAction, RunTask}

@@ -36,7 +36,8 @@ use Rattle.gt_explore_moves.specs.Scenes.{IsSceneOf, SceneShows, WasAnsweredAll}
 use Rattle.gt_explore_moves.specs.declared.actor.Actor.{Actor}
 use Rattle.gt_explore_moves.specs.declared.scene.SearchContext.{SearchContext}
 use Rattle.gt_explore_moves.specs.declared.scene.SearchState.{SearchState}
-use Rattle.gt_explore_moves.specs.Transitive.{AllOfScript, BeginsOfScript}
+use Rattle.gt_explore_moves.specs.Granting.{AllOfScript, BeginsOfScript}
+use Rattle.gt_explore_state.specs.Shows.{IsInRun}
 use Rattle.gt_explore_moves.proofs.OthersStay.{others-stay}
 use Rattle.gt_explore_state.specs.Likeness.{AsksFit, IsLikeReached}
 use Rattle.gt_explore_state.specs.Shows.{PagesShow, TableShows, TablesShow}
@@ -149,7 +150,7 @@ module _ (c : RunContents) (scene : SearchContext) (hs : List Happening) (ks : L
       → new.actors.items ≡ slice_set old.actors.items place b → history_in (hs ++ x ∷ []) ≡ g → j.dom ≡ k.dom → ShowsCalls s g (tasks_at scene place) j b → WasAnsweredAll g j
       → ((tasks : List RunTask) (u : Course) (z : Actor) → u.dom.0 ≢ k.dom.0 → ShowsCalls s h tasks u z → ShowsCalls s g tasks u z)
       → ((u : Course) → WasAnsweredAll h u → WasAnsweredAll g u)
-      → TablesShow s g new.ground.tables.items → PagesShow g new.ground.pages.items → IsLikeReached s g → AllOfScript scene.vias g → length new.told.items ≡ c.flags
+      → TablesShow s g new.ground.tables.items → PagesShow g new.ground.pages.items → IsLikeReached s g → AllOfScript s scene.grants.items g → length new.told.items ≡ c.flags
       → ((flag : ℕ) → IsRaisedBefore (length (hs ++ x ∷ [])) flag (hs ++ x ∷ []) → slice_get new.told.items flag ≡ Some true)
       → ((flag : ℕ) → slice_get new.told.items flag ≡ Some true → IsRaisedBefore (length (hs ++ x ∷ [])) flag (hs ++ x ∷ []))
       → SceneShows c scene (hs ++ x ∷ []) (slice_set ks place j) new
@@ -163,7 +164,7 @@ module _ (c : RunContents) (scene : SearchContext) (hs : List Happening) (ks : L
     tables = subst (λ (l : History). TablesShow s l new.ground.tables.items) (sym history) tables;
     pages = subst (λ (l : History). PagesShow l new.ground.pages.items) (sym history) pages;
     like = subst (IsLikeReached s) (sym history) like;
-    asked = subst (AllOfScript scene.vias) (sym history) asked;
+    asked = subst (AllOfScript s scene.grants.items) (sym history) asked;
     flags = flags;
     told = told;
     heard = heard;
@@ -184,7 +185,7 @@ module _ (c : RunContents) (scene : SearchContext) (hs : List Happening) (ks : L
 
   -- by an event, which did this
   pub comes-event : (new : SearchState) (e : Event) (i : Item) (j : Course) (b : Actor)
-      → i.actor ≡ k.dom → IsRight s h i → HappensKnown h i → AsksFit i.happened → BeginsOfScript scene.vias i.happened
+      → i.actor ≡ k.dom → IsRight s h i → HappensKnown h i → AsksFit i.happened → BeginsOfScript scene.grants.items i
       → new.actors.items ≡ slice_set old.actors.items place b → j.dom ≡ k.dom → ShowsCalls s (i ∷ h) (tasks_at scene place) j b → WasAnsweredAll (i ∷ h) j
       → TablesShow s (i ∷ h) new.ground.tables.items → PagesShow (i ∷ h) new.ground.pages.items → new.told ≡ old.told
       → SceneShows c scene (hs ++ did e (elements.Item i) ∷ []) (slice_set ks place j) new
@@ -193,8 +194,8 @@ module _ (c : RunContents) (scene : SearchContext) (hs : List Happening) (ks : L
       (λ tasks u z other show. others-stay s h tasks u z i (ne_eqb i.actor.0 u.dom.0 (λ same. other (sym same ∙ ap (λ (d : DomId). d.0) own))) show)
       (λ u was. record { named = names_grown h (elements.Item i) u.named was.named; held = held_grown h (elements.Item i) u.dom.0 u.held was.held })
       tables pages
-      (like-goes-on s h i shows.like (subst (λ (d : DomId). domain_of c.head.domains d ≢ None) (sym own) of-run) right known fits)
-      (said, shows.asked)
+      (like-goes-on s h i shows.like in-run right known fits)
+      (record { in_run = in-run; fits = fits; begins = said }, shows.asked)
       (ap (λ w. length w.items) told ∙ shows.flags)
       (λ flag before. ap (λ w. slice_get w.items flag) told ∙ elim (raised_or hs (did e (elements.Item i)) flag before) [
         | inl was ↦ shows.told flag was
@@ -202,6 +203,9 @@ module _ (c : RunContents) (scene : SearchContext) (hs : List Happening) (ks : L
       ])
       (λ flag is. raised-still hs (did e (elements.Item i)) flag (shows.heard flag (ap (λ w. slice_get w.items flag) (sym told) ∙ is)))
     where
+      in-run : IsInRun s i.actor
+      in-run = subst (λ (d : DomId). domain_of c.head.domains d ≢ None) (sym own) of-run
+
       no-flag : (d : DomId) (flag : ℕ) → did e (elements.Item i) ≡ raised d flag → ⊥
       no-flag d flag same = cc
 

@@ -1,11 +1,13 @@
 -- What the steps of a call touch is what its request names, and what a next move doesn't meet is apart from it.
-use Rattle.std.proofs.Common.{◌≡◌, ◌⊎◌, inl, inr, ℕ, refl, Bool, true, false, cond, List, [], ◌∷◌, ◌++◌, length}
+use Rattle.std.proofs.Common.{◌≡◌, ◌⊎◌, inl, inr, ℕ, zero, suc, refl, Bool, true, false, cond, List, [], ◌∷◌, ◌++◌, length}
 use Rattle.std.proofs.Common.{Option, Some, None, sym, ap, ◌∙◌, subst, append-nil, arith}
-use Rattle.std.specs.Prelude.{◌==◌, ◌&&◌, ◌||◌}
-use Rattle.std.proofs.lemmas.Bool.{and_parts, eqb-true, false≢true}
-use Rattle.std.proofs.lemmas.Option.{none-some}
+use Rattle.std.specs.List.{list_any}
+use Rattle.std.specs.Prelude.{◌==◌, ◌&&◌, ◌||◌, slice_get}
+use Rattle.std.proofs.lemmas.Bool.{and_parts, eq-eqb, eqb-true, false≢true}
+use Rattle.std.proofs.lemmas.Option.{none-some, same_Some}
 use Rattle.gt_types.specs.Copies.{is_dest_granted, is_source_granted}
 use Rattle.gt_types.specs.Names.{resolved}
+use Rattle.gt_types.specs.declared.Dir.{Dir}
 use Rattle.gt_types.specs.declared.Dir.TheVariants as dirs
 use Rattle.gt_types.specs.declared.DomId.{DomId}
 use Rattle.gt_types.specs.declared.GrantRef.{GrantRef}
@@ -14,10 +16,8 @@ use Rattle.gt_model.specs.declared.change.EntryChange.TheVariants.{Publish}
 use Rattle.gt_model.specs.declared.change.EntryChange.TheVariants as changes
 use Rattle.gt_model.specs.declared.entry.Entry.TheVariants as entries
 use Rattle.gt_model.specs.declared.entry.Entry.{Entry}
-use Rattle.gt_model.specs.Spelling.{entry_of}
-use Rattle.gt_model.specs.Words.{control_of}
 use Rattle.gt_model.specs.declared.handle.Handle.{Handle}
-use Rattle.gt_model.specs.Asking.{asked, entry_spelled}
+use Rattle.gt_model.specs.Asking.{asked}
 use Rattle.gt_model.specs.Holding.{frame_by, held_by, owner_by}
 use Rattle.gt_model.specs.Path.{accesses, after_beginning, asks, copies, dest_pair, end_leg, ended, give_back}
 use Rattle.gt_model.specs.Path.{gref_of, map_leg, path, place_of, refused_holding, second_leg, source_pair, steps_of}
@@ -48,7 +48,7 @@ use Rattle.gt_model.specs.declared.request.OpenRequest.TheVariants.{SetupTable, 
 use Rattle.gt_model.specs.declared.request.OpenRequest.TheVariants.{Withdraw}
 use Rattle.gt_model.specs.declared.request.PinHolder.TheVariants as holders
 use Rattle.gt_model.specs.declared.request.Request.{Request}
-use Rattle.gt_model.specs.Entries.{frame_of}
+use Rattle.gt_model.specs.Entries.{frame_of, with_ro}
 use Rattle.gt_model.specs.History.{History, Setting, mapping_of, mappings_at, patches_at}
 use Rattle.gt_explore_moves.specs.Swapping.{AreApart, ReleasesNoPinOn, SameLook, TouchApart, looks_header}
 use Rattle.gt_explore_moves.specs.Swapping.{touches_entry}
@@ -64,11 +64,12 @@ use Rattle.gt_script_lines.specs.declared.calls.ScriptCall.TheVariants as script
 use Rattle.gt_script.specs.Lists.{RunAction, RunTask}
 use Rattle.gt_script.specs.declared.tasks.RunActionBy.TheVariants.{Await, Do, Tell}
 use Rattle.gt_explore_moves.specs.Touches.{is_access_step, is_load, is_on, is_store, is_write, meets, meets_bytes}
-use Rattle.gt_explore_moves.specs.Touches.{meets_call, meets_dest, meets_reads, meets_source, meets_writes, meets_leg}
+use Rattle.gt_explore_moves.specs.Touches.{frame_touch, is_grant_of, meets_beyond, meets_call, meets_dest, meets_end, meets_last, meets_leg}
+use Rattle.gt_explore_moves.specs.Touches.{meets_mapped, meets_source, meets_uses}
 use Rattle.gt_explore_moves.specs.Touches.{meets_mapping, meets_task, next_accesses, next_writes, reads_frame_at}
 use Rattle.gt_explore_moves.specs.Touches.{step_meets, writes_frame_at}
-use Rattle.gt_explore_moves.specs.Transitive.{grants_via, is_via, spells_via}
-use Rattle.gt_script_lines.specs.Hexadecimal.{hex_bytes}
+use Rattle.gt_explore_moves.specs.Granting.{AsksOnlyFitting, IsGranted, ListsGrants}
+use Rattle.gt_explore_moves.specs.declared.granted.GrantedEntry.{GrantedEntry}
 use Rattle.gt_explore_moves.specs.declared.touches.MappingUse.{MappingUse}
 use Rattle.gt_explore_moves.specs.Renaming.{step_under}
 use Rattle.gt_explore_moves.specs.declared.touches.NextMove.{NextMove}
@@ -76,7 +77,7 @@ use Rattle.gt_explore_moves.specs.declared.touches.NextMove.TheVariants as next_
 use Rattle.gt_explore_moves.specs.declared.touches.Touch.{Touch}
 use Rattle.gt_explore_moves.specs.declared.touches.Touch.TheVariants.{LooksHeader, Raises, Reads, StoresHeader, Writes}
 use Rattle.gt_explore_moves.specs.declared.touches.Touch.TheVariants as touches
-use Rattle.gt_explore_moves.proofs.PathSteps.{Each, GivesWell, IsPinOf, LegIs, each-ended, each-given, each-grant}
+use Rattle.gt_explore_moves.proofs.PathSteps.{Each, GivesWell, IsNoVia, IsPinOf, LegIs, each-ended, each-given, each-grant}
 use Rattle.gt_explore_moves.proofs.PathSteps.{each-leg, each-looks, each-makes, each-mapped, each-once, each-reached}
 use Rattle.gt_explore_moves.proofs.PathSteps.{each-turns}
 
@@ -86,54 +87,63 @@ use Rattle.gt_explore_moves.proofs.PathSteps.{each-turns}
 abbrev pub LegTouches : (Touch → Type 0) → DomId → GrantRef → Type 0
 LegTouches A dom gref = A (LooksHeader dom) × A (touches.Entry dom gref)
 
--- what is used so of some frame is such
-abbrev pub BytesTouch : (Touch → Type 0) → MappingUse → Type 0
-BytesTouch A uses = (uses.loads ≡ true → (t : DomId) (f : ℕ) → A (Reads t f))
-    × (uses.stores ≡ true → (t : DomId) (f : ℕ) → A (Writes t f))
+-- what is used so of each frame that this entry may grant is such
+abbrev pub FramesTouch : (Touch → Type 0) → List GrantedEntry → MappingUse → DomId → GrantRef → Type 0
+FramesTouch A grants uses t r = (e : Entry) → IsGranted grants t.0 r.0 e
+    → (uses.loads ≡ true → A (Reads t (frame_of e))) × (uses.stores ≡ true → A (Writes t (frame_of e)))
 
 -- what a mapping with this pin may touch is such
 abbrev pub PinTouches : (Touch → Type 0) → MappingUse → HeldPin → Type 0
 PinTouches A uses p = A (touches.Entry p.dom p.gref) × (uses.loads ≡ true → A (Reads p.dom (frame_of p.entry)))
     × (uses.stores ≡ true → A (Writes p.dom (frame_of p.entry)))
 
--- what the ends of a copy touch is such: for an end that a reference names, also each frame of the entry's owner
-abbrev pub SourceTouches : (Touch → Type 0) → DomId → CopyArgs → Type 0
-SourceTouches A d c =
-    (is_source_granted c ≡ true → LegTouches A (resolved d c.source.domid) (gref_of c.source.ptr)
-    × ((f : ℕ) → A (Reads (resolved d c.source.domid) f)))
+-- the access to each frame that this entry may grant is such
+abbrev pub LastTouches : (Touch → Type 0) → List GrantedEntry → Dir → DomId → GrantRef → Type 0
+LastTouches A grants dir t r = (e : Entry) → IsGranted grants t.0 r.0 e → A (frame_touch dir t (frame_of e))
+
+-- what comes after the pin on this entry of domain t is such: the access to its frame, or what it leads to
+abbrev pub BeyondTouches : (Touch → Type 0) → List GrantedEntry → Dir → DomId → Entry → Type 0
+BeyondTouches A grants dir t (entries.Via dom ro dom2 gref) =
+    LegTouches A dom2 gref × LastTouches A grants dir dom2 gref
+BeyondTouches A grants dir t e = A (frame_touch dir t (frame_of e))
+
+-- what a copy may touch at this end is such
+abbrev pub EndTouches : (Touch → Type 0) → List GrantedEntry → Dir → DomId → GrantRef → Type 0
+EndTouches A grants dir t r =
+    LegTouches A t r × ((e : Entry) → IsGranted grants t.0 r.0 e → BeyondTouches A grants dir t e)
+
+-- what the ends of a copy touch is such
+abbrev pub SourceTouches : (Touch → Type 0) → List GrantedEntry → DomId → CopyArgs → Type 0
+SourceTouches A grants d c =
+    (is_source_granted c ≡ true → EndTouches A grants dirs.Read (resolved d c.source.domid) (gref_of c.source.ptr))
     × (is_source_granted c ≡ false → A (Reads d c.source.ptr))
 
-abbrev pub DestTouches : (Touch → Type 0) → DomId → CopyArgs → Type 0
-DestTouches A d c =
-    (is_dest_granted c ≡ true → LegTouches A (resolved d c.dest.domid) (gref_of c.dest.ptr)
-    × ((f : ℕ) → A (Writes (resolved d c.dest.domid) f)))
+abbrev pub DestTouches : (Touch → Type 0) → List GrantedEntry → DomId → CopyArgs → Type 0
+DestTouches A grants d c =
+    (is_dest_granted c ≡ true → EndTouches A grants dirs.Write (resolved d c.dest.domid) (gref_of c.dest.ptr))
     × (is_dest_granted c ≡ false → A (Writes d c.dest.ptr))
 
--- an entry is not transitive, unless the script may grant such entries
-abbrev pub IsNoVia : MappingUse → Entry → Type 0
-IsNoVia uses entry = uses.vias ≡ false → is_via entry ≡ false
-
--- what a request of this domain may touch is such; if the script may grant a transitive entry, nothing is claimed of a
--- copy
-abbrev pub RequestTouches : (Touch → Type 0) → MappingUse → DomId → OpenRequest → Type 0
-RequestTouches A uses d (Grant gref entry) = A (touches.Entry d gref) × IsNoVia uses entry
-RequestTouches A uses d (Revoke gref) = A (touches.Entry d gref)
-RequestTouches A uses d (Withdraw gref) = A (touches.Entry d gref)
-RequestTouches A uses d (Demote gref) = A (touches.Entry d gref)
-RequestTouches A uses d (Promote gref) = A (touches.Entry d gref)
-RequestTouches A uses d (Map dom gref flags) = LegTouches A (resolved d dom) gref × BytesTouch A uses
-RequestTouches A uses d (Unmap handle) = Unit {0}
-RequestTouches A uses d (Release handle) = Unit {0}
-RequestTouches A uses d (Load handle off len) = uses.loads ≡ true
-RequestTouches A uses d (Store handle off len) = uses.stores ≡ true
-RequestTouches A uses d (Peek frame off len) = A (Reads d frame)
-RequestTouches A uses d (Poke frame off len) = A (Writes d frame)
-RequestTouches A uses d (Copy c) = (uses.vias ≡ false) × SourceTouches A d c × DestTouches A d c
-RequestTouches A uses d (Probe c) = ⊥
-RequestTouches A uses d (SetVersion version) = A (StoresHeader d)
-RequestTouches A uses d (SetupTable frames) = A (StoresHeader d)
-RequestTouches A uses d (QuerySize dom) = A (LooksHeader (resolved d dom))
-RequestTouches A uses d (GetVersion dom) = A (LooksHeader (resolved d dom))
+-- what a request of this domain may touch is such
+abbrev pub RequestTouches : (Touch → Type 0) → List GrantedEntry → MappingUse → DomId → OpenRequest → Type 0
+RequestTouches A grants uses d (Grant gref entry) = A (touches.Entry d gref)
+RequestTouches A grants uses d (Revoke gref) = A (touches.Entry d gref)
+RequestTouches A grants uses d (Withdraw gref) = A (touches.Entry d gref)
+RequestTouches A grants uses d (Demote gref) = A (touches.Entry d gref)
+RequestTouches A grants uses d (Promote gref) = A (touches.Entry d gref)
+RequestTouches A grants uses d (Map dom gref flags) =
+    LegTouches A (resolved d dom) gref × FramesTouch A grants uses (resolved d dom) gref
+RequestTouches A grants uses d (Unmap handle) = Unit {0}
+RequestTouches A grants uses d (Release handle) = Unit {0}
+RequestTouches A grants uses d (Load handle off len) = uses.loads ≡ true
+RequestTouches A grants uses d (Store handle off len) = uses.stores ≡ true
+RequestTouches A grants uses d (Peek frame off len) = A (Reads d frame)
+RequestTouches A grants uses d (Poke frame off len) = A (Writes d frame)
+RequestTouches A grants uses d (Copy c) = SourceTouches A grants d c × DestTouches A grants d c
+RequestTouches A grants uses d (Probe c) = ⊥
+RequestTouches A grants uses d (SetVersion version) = A (StoresHeader d)
+RequestTouches A grants uses d (SetupTable frames) = A (StoresHeader d)
+RequestTouches A grants uses d (QuerySize dom) = A (LooksHeader (resolved d dom))
+RequestTouches A grants uses d (GetVersion dom) = A (LooksHeader (resolved d dom))
 
 -- what a step of this domain touches is such
 abbrev pub StepTouches : (Touch → Type 0) → DomId → Step → Type 0
@@ -150,14 +160,14 @@ StepTouches A d (call_steps.Write dom frame off len) = A (Writes dom frame)
 StepTouches A d (call_steps.Copy from to len) =
     A (Reads from.frame.owner from.frame.number) × A (Writes to.frame.owner to.frame.number)
 
--- a pin of this request may be used so as a mapping
-abbrev pub MapsBytes : (Touch → Type 0) → MappingUse → OpenRequest → Type 0
-MapsBytes A uses (Map dom gref flags) = BytesTouch A uses
-MapsBytes A uses r = Unit {0}
+-- a pin of this request on this entry may be used so as a mapping
+abbrev pub MapsBytes : (Touch → Type 0) → List GrantedEntry → MappingUse → OpenRequest → DomId → GrantRef → Type 0
+MapsBytes A grants uses (Map dom gref flags) t r = FramesTouch A grants uses t r
+MapsBytes A grants uses request t r = Unit {0}
 
-abbrev pub PinsBytes : (Touch → Type 0) → MappingUse → OpenRequest → Step → Type 0
-PinsBytes A uses r (call_steps.Pin p) = MapsBytes A uses r
-PinsBytes A uses r step = Unit {0}
+abbrev pub PinsBytes : (Touch → Type 0) → List GrantedEntry → MappingUse → OpenRequest → Step → Type 0
+PinsBytes A grants uses r (call_steps.Pin p) = MapsBytes A grants uses r p.dom p.gref
+PinsBytes A grants uses r step = Unit {0}
 
 -- only a map and a copy take pins: a map one
 abbrev pub IsPinning : OpenRequest → List HeldPin → Type 0
@@ -165,14 +175,10 @@ IsPinning (Map dom gref flags) held = held ≡ []
 IsPinning (Copy c) held = Unit {0}
 IsPinning r held = ⊥
 
--- the pin has the entry that its word and two body words encode
-abbrev pub PinRead : HeldPin → Type 0
-PinRead p = (body : ℕ) × (second : ℕ) × (p.entry ≡ entry_of (control_of p.word) body second)
-
 -- what a step of a request is, by what the caller knows and by the pins that its call holds: an unpin releases the pin
 -- of a mapping, or the call's last one; only a grant publishes an entry
 abbrev pub StepFacts : CallerKnowledge → OpenRequest → List HeldPin → Step → Type 0
-StepFacts k r held (call_steps.Pin p) = IsPinning r held × PinRead p
+StepFacts k r held (call_steps.Pin p) = IsPinning r held
 StepFacts k r held (Unpin p (holders.Mapping handle)) = k.mapping handle ≡ Some p
 StepFacts k r held (Unpin p (holders.Leg number)) =
     IsPinning r held × ((others : List HeldPin) × (held ≡ p ∷ others) × (number ≡ length others))
@@ -185,32 +191,35 @@ EndFacts (Map dom gref flags) held (results.Mapped p) = held ≡ p ∷ []
 EndFacts r held verdict = held ≡ []
 
 -- what holds for an action of a call
-abbrev pub IsActionOf : (Touch → Type 0) → MappingUse → CallerKnowledge → DomId → OpenRequest → List HeldPin → Action
-    → Type 0
-IsActionOf A uses k d r held (actions.Step step) =
-    StepTouches A d step × PinsBytes A uses r step × StepFacts k r held step
-IsActionOf A uses k d r held (Done verdict) = EndFacts r held verdict
+abbrev pub IsActionOf : (Touch → Type 0) → List GrantedEntry → MappingUse → CallerKnowledge → DomId → OpenRequest
+    → List HeldPin → Action → Type 0
+IsActionOf A grants uses k d r held (actions.Step step) =
+    StepTouches A d step × PinsBytes A grants uses r step × StepFacts k r held step
+IsActionOf A grants uses k d r held (Done verdict) = EndFacts r held verdict
 
 -- the request is a copy
 abbrev pub IsCopy : OpenRequest → Type 0
 IsCopy (Copy c) = Unit {0}
 IsCopy r = ⊥
 
-module _ (A : Touch → Type 0) (uses : MappingUse) (k : CallerKnowledge) (d : DomId) (L : HeldPin → Type 0)
+module _ (A : Touch → Type 0) (grants : List GrantedEntry) (uses : MappingUse) (k : CallerKnowledge) (d : DomId)
+    (L : HeldPin → Type 0)
     (mapped : (handle : Handle) (p : HeldPin) → k.mapping handle ≡ Some p → PinTouches A uses p) where
   abbrev One : OpenRequest → List HeldPin → Action → Type 0
-  One r held action = IsActionOf A uses k d r held action
+  One r held action = IsActionOf A grants uses k d r held action
 
   -- each of these pins is on such an entry
   abbrev AllOn : List HeldPin → Type 0
   AllOn [] = Unit {0}
   AllOn (p ∷ ps) = A (touches.Entry p.dom p.gref) × AllOn ps
 
-  -- what a transitive entry leads to is such, if such a pin was taken on it
-  abbrev pub Beyond : Type 0
-  Beyond = (p : HeldPin) (dom : DomId) (ro : Bool) (dom2 : DomId) (gref : GrantRef) → L p
-      → p.entry ≡ entries.Via dom ro dom2 gref
-      → LegTouches A dom2 gref × ((f : ℕ) → A (Reads dom2 f)) × ((f : ℕ) → A (Writes dom2 f))
+  -- what holds for each entry that may be granted holds for that of such a pin
+  pub record Applies : Type 0 where
+    pub beyond_is : (dir : Dir) (p : HeldPin) → L p
+        → ((e : Entry) → IsGranted grants p.dom.0 p.gref.0 e → BeyondTouches A grants dir p.dom e)
+        → BeyondTouches A grants dir p.dom p.entry
+    pub last_is : (dir : Dir) (p : HeldPin) → L p → LastTouches A grants dir p.dom p.gref
+        → A (frame_touch dir p.dom (frame_of p.entry))
 
   pin-on : (l : Leg) (p : HeldPin) → IsPinOf l p → A (touches.Entry l.dom l.gref) → A (touches.Entry p.dom p.gref)
   pin-on l p of touch = subst (λ (q : HeldPin). A (touches.Entry q.dom q.gref)) (sym of.2) touch
@@ -218,17 +227,40 @@ module _ (A : Touch → Type 0) (uses : MappingUse) (k : CallerKnowledge) (d : D
   pin-dom : (l : Leg) (p : HeldPin) → IsPinOf l p → l.dom ≡ p.dom
   pin-dom l p of = sym (ap (λ (q : HeldPin). q.dom) of.2)
 
-  pin-read : (l : Leg) (p : HeldPin) → IsPinOf l p → PinRead p
-  pin-read l p of = (of.0, of.1, ap (λ (q : HeldPin). q.entry) of.2)
-
   leg-is : (r : OpenRequest) (held : List HeldPin) (l : Leg) → LegTouches A l.dom l.gref → IsPinning r held
-      → MapsBytes A uses r → LegIs L (One r) held l
+      → MapsBytes A grants uses r l.dom l.gref → LegIs L (One r) held l
   leg-is r held l touches pinning bytes = record {
     header = (touches.0, tt, tt);
     control = (touches.1, tt, tt);
     body = λ body_word. (touches.1, tt, tt);
-    pin = λ p of. (pin-on l p of touches.1, bytes, (pinning, pin-read l p of));
+    pin = λ p of. (
+      pin-on l p of touches.1,
+      subst (λ (q : HeldPin). MapsBytes A grants uses r q.dom q.gref) (sym of.2) bytes,
+      pinning,
+    );
   }
+
+  -- what comes after such a pin of a leg
+  after-pin : (dir : Dir) (l : Leg) → Applies → ((e : Entry) → IsGranted grants l.dom.0 l.gref.0 e
+      → BeyondTouches A grants dir l.dom e) → (p : HeldPin) → IsPinOf l p → L p
+      → BeyondTouches A grants dir p.dom p.entry
+  after-pin dir l applies all p of take = applies.beyond_is dir p take
+      (subst (λ (q : HeldPin). (e : Entry) → IsGranted grants q.dom.0 q.gref.0 e → BeyondTouches A grants dir q.dom e)
+      (sym of.2) all)
+
+  -- the access to the frame of an entry that is not transitive
+  direct-access : (dir : Dir) (t : DomId) (e : Entry) → IsNoVia e → BeyondTouches A grants dir t e
+      → A (frame_touch dir t (frame_of e))
+  direct-access dir t entries.Invalid none touch = touch
+  direct-access dir t (entries.Page dom ro frame) none touch = touch
+  direct-access dir t (entries.Sub dom ro frame off len) none touch = touch
+  direct-access dir t (entries.Via dom ro dom2 gref) none touch = absurd none
+
+  -- the access to the frame of a pin beyond a transitive entry
+  last-access : (dir : Dir) (l : Leg) → Applies → LastTouches A grants dir l.dom l.gref → (q : HeldPin) → IsPinOf l q
+      → L q → A (frame_touch dir q.dom (frame_of q.entry))
+  last-access dir l applies all q of take = applies.last_is dir q take
+      (subst (λ (p : HeldPin). LastTouches A grants dir p.dom p.gref) (sym of.2) all)
 
   each-asked : (r : OpenRequest) (question : HeaderQuery) (dom : DomId)
       → ((verdict : CallResult) → One r [] (Done verdict)) → A (LooksHeader dom)
@@ -236,7 +268,7 @@ module _ (A : Touch → Type 0) (uses : MappingUse) (k : CallerKnowledge) (d : D
   each-asked r question dom ends touches = each-looks L (One r) [] (LookHeader dom) _ (touches, tt, tt)
       (λ word. each-ended L (One r) [] _ (ends _))
 
-  module _ (c : CopyArgs) (from : SourceTouches A d c) (to : DestTouches A d c) (beyond-on : Beyond) where
+  module _ (c : CopyArgs) (from : SourceTouches A grants d c) (to : DestTouches A grants d c) (applies : Applies) where
     gives-well : (held : List HeldPin) → AllOn held → (verdict : CallResult) → GivesWell L (One (Copy c)) held verdict
     gives-well [] on verdict = refl
     gives-well (p ∷ ps) on verdict = ((on.0, tt, (tt, (ps, refl, refl))), gives-well ps on.1 verdict)
@@ -265,19 +297,19 @@ module _ (A : Touch → Type 0) (uses : MappingUse) (k : CallerKnowledge) (d : D
         (λ granted. leg-is (Copy c) (held_by source) dest_leg (to.0 granted).0 tt tt)
         (λ verdict. gives-well (held_by source) on verdict)
         (λ own. each-access source Own on reads (to.1 own))
-        (λ granted p of take. each-access source (Direct p) (pin-on dest_leg p of (to.0 granted).0.1, on) reads
-        (subst (λ (t : DomId). A (Writes t (frame_of p.entry))) (pin-dom dest_leg p of)
-        ((to.0 granted).1 (frame_of p.entry))))
+        (λ granted p of take none. each-access source (Direct p) (pin-on dest_leg p of (to.0 granted).0.1, on) reads
+        (direct-access dirs.Write p.dom p.entry none (after-pin dirs.Write dest_leg applies (to.0 granted).1 p of take)))
         (λ granted p of take dom ro dom2 gref via.
-        let there = beyond-on p dom ro dom2 gref take via in
+        let there : LegTouches A dom2 gref × LastTouches A grants dirs.Write dom2 gref =
+        subst (BeyondTouches A grants dirs.Write p.dom) via
+        (after-pin dirs.Write dest_leg applies (to.0 granted).1 p of take) in
         let second = second_leg k dest_leg dom2 gref in
         let first-on = pin-on dest_leg p of (to.0 granted).0.1 in record {
           leg_is = leg-is (Copy c) (p ∷ held_by source) second there.0 tt tt;
           gives = λ verdict. gives-well (p ∷ held_by source) (first-on, on) verdict;
           on = λ q of-second taken. each-access source (Through p q)
               (pin-on second q of-second there.0.1, (first-on, on)) reads
-              (subst (λ (t : DomId). A (Writes t (frame_of q.entry))) (pin-dom second q of-second)
-              (there.2 (frame_of q.entry)));
+              (last-access dirs.Write second applies there.1 q of-second taken);
         })
 
     each-copy : Each L (One (Copy c)) [] (copies k d c)
@@ -285,62 +317,62 @@ module _ (A : Touch → Type 0) (uses : MappingUse) (k : CallerKnowledge) (d : D
         (λ granted. leg-is (Copy c) [] source_leg (from.0 granted).0 tt tt)
         (λ verdict. gives-well [] tt verdict)
         (λ own. each-dest Own tt (from.1 own))
-        (λ granted p of take. each-dest (Direct p) (pin-on source_leg p of (from.0 granted).0.1, tt)
-        (subst (λ (t : DomId). A (Reads t (frame_of p.entry))) (pin-dom source_leg p of)
-        ((from.0 granted).1 (frame_of p.entry))))
+        (λ granted p of take none. each-dest (Direct p) (pin-on source_leg p of (from.0 granted).0.1, tt)
+        (direct-access dirs.Read p.dom p.entry none (after-pin dirs.Read source_leg applies (from.0 granted).1 p of take)))
         (λ granted p of take dom ro dom2 gref via.
-        let there = beyond-on p dom ro dom2 gref take via in
+        let there : LegTouches A dom2 gref × LastTouches A grants dirs.Read dom2 gref =
+        subst (BeyondTouches A grants dirs.Read p.dom) via
+        (after-pin dirs.Read source_leg applies (from.0 granted).1 p of take) in
         let second = second_leg k source_leg dom2 gref in
         let first-on = pin-on source_leg p of (from.0 granted).0.1 in record {
           leg_is = leg-is (Copy c) (p ∷ []) second there.0 tt tt;
           gives = λ verdict. gives-well (p ∷ []) (first-on, tt) verdict;
           on = λ q of-second taken. each-dest (Through p q) (pin-on second q of-second there.0.1, (first-on, tt))
-              (subst (λ (t : DomId). A (Reads t (frame_of q.entry))) (pin-dom second q of-second)
-              (there.1 (frame_of q.entry)));
+              (last-access dirs.Read second applies there.1 q of-second taken);
         })
 
   -- each action of a call touches only what its request names
-  pub each-step : (r : OpenRequest) → RequestTouches A uses d r → (IsCopy r → Beyond)
+  pub each-step : (r : OpenRequest) → RequestTouches A grants uses d r → (IsCopy r → Applies)
       → Each L (One r) [] (steps_of k d r)
-  each-step (Grant gref entry) t beyond-on = each-grant L (One (Grant gref entry)) [] (λ verdict. refl) k d gref entry
-      (λ body_word w. (t.0, tt, tt)) (λ looked. (t.0, tt, refl))
-  each-step (Revoke gref) t beyond-on = each-once L (One (Revoke gref)) [] (λ verdict. refl) d gref changes.Revoke
+  each-step (Grant gref entry) t applies = each-grant L (One (Grant gref entry)) [] (λ verdict. refl) k d gref entry
+      (λ body_word w. (t, tt, tt)) (λ looked. (t, tt, refl))
+  each-step (Revoke gref) t applies = each-once L (One (Revoke gref)) [] (λ verdict. refl) d gref changes.Revoke
       (λ looked. (t, tt, tt)) _
-  each-step (Withdraw gref) t beyond-on = each-turns L (One (Withdraw gref)) [] (λ verdict. refl) d gref changes.Withdraw
+  each-step (Withdraw gref) t applies = each-turns L (One (Withdraw gref)) [] (λ verdict. refl) d gref changes.Withdraw
       (λ looked. (t, tt, tt)) (t, tt, tt) MORE_TRIES
-  each-step (Demote gref) t beyond-on = each-turns L (One (Demote gref)) [] (λ verdict. refl) d gref changes.Demote
+  each-step (Demote gref) t applies = each-turns L (One (Demote gref)) [] (λ verdict. refl) d gref changes.Demote
       (λ looked. (t, tt, tt)) (t, tt, tt) MORE_TRIES
-  each-step (Promote gref) t beyond-on = each-turns L (One (Promote gref)) [] (λ verdict. refl) d gref changes.Promote
+  each-step (Promote gref) t applies = each-turns L (One (Promote gref)) [] (λ verdict. refl) d gref changes.Promote
       (λ looked. (t, tt, tt)) (t, tt, tt) MORE_TRIES
-  each-step (Map dom gref flags) t beyond-on = each-leg L (One (Map dom gref flags)) [] (map_leg k d dom gref flags)
+  each-step (Map dom gref flags) t applies = each-leg L (One (Map dom gref flags)) [] (map_leg k d dom gref flags)
       (leg-is (Map dom gref flags) [] (map_leg k d dom gref flags) t.0 refl t.1) (refused_holding [])
       (λ p. ended (results.Mapped p)) (λ denial. each-ended L (One (Map dom gref flags)) [] (Refused denial) refl)
       (λ p of take. each-ended L (One (Map dom gref flags)) (p ∷ []) (results.Mapped p) refl)
-  each-step (Unmap handle) t beyond-on = each-mapped L (One (Unmap handle)) (k.mapping handle)
+  each-step (Unmap handle) t applies = each-mapped L (One (Unmap handle)) (k.mapping handle)
       (λ m. Unpin m (holders.Mapping handle)) (λ verdict. refl) (λ m found. ((mapped handle m found).0, tt, found))
       (λ m. refl)
-  each-step (Release handle) t beyond-on = each-mapped L (One (Release handle)) (k.mapping handle)
+  each-step (Release handle) t applies = each-mapped L (One (Release handle)) (k.mapping handle)
       (λ m. Unpin m (holders.Mapping handle)) (λ verdict. refl) (λ m found. ((mapped handle m found).0, tt, found))
       (λ m. refl)
-  each-step (Load handle off len) t beyond-on = each-mapped L (One (Load handle off len)) (k.mapping handle)
+  each-step (Load handle off len) t applies = each-mapped L (One (Load handle off len)) (k.mapping handle)
       (λ m. call_steps.Read m.dom (frame_of m.entry) off len) (λ verdict. refl)
       (λ m found. ((mapped handle m found).1 t, tt, tt)) (λ m. refl)
-  each-step (Store handle off len) t beyond-on = each-mapped L (One (Store handle off len)) (k.mapping handle)
+  each-step (Store handle off len) t applies = each-mapped L (One (Store handle off len)) (k.mapping handle)
       (λ m. call_steps.Write m.dom (frame_of m.entry) off len) (λ verdict. refl)
       (λ m found. ((mapped handle m found).2 t, tt, tt)) (λ m. refl)
-  each-step (Peek frame off len) t beyond-on = each-makes L (One (Peek frame off len)) []
+  each-step (Peek frame off len) t applies = each-makes L (One (Peek frame off len)) []
       (call_steps.Read d frame off len) _ (t, tt, tt) (each-ended L (One (Peek frame off len)) [] Granted refl)
-  each-step (Poke frame off len) t beyond-on = each-makes L (One (Poke frame off len)) []
+  each-step (Poke frame off len) t applies = each-makes L (One (Poke frame off len)) []
       (call_steps.Write d frame off len) _ (t, tt, tt) (each-ended L (One (Poke frame off len)) [] Granted refl)
-  each-step (Copy c) t beyond-on = each-copy c t.1 t.2 (beyond-on tt)
-  each-step (Probe c) t beyond-on = absurd t
-  each-step (SetVersion version) t beyond-on = each-makes L (One (SetVersion version)) []
+  each-step (Copy c) t applies = each-copy c t.0 t.1 (applies tt)
+  each-step (Probe c) t applies = absurd t
+  each-step (SetVersion version) t applies = each-makes L (One (SetVersion version)) []
       (StoreHeader version k.header.frames) _ (t, tt, tt) (each-ended L (One (SetVersion version)) [] Granted refl)
-  each-step (SetupTable frames) t beyond-on = each-makes L (One (SetupTable frames)) []
+  each-step (SetupTable frames) t applies = each-makes L (One (SetupTable frames)) []
       (StoreHeader k.header.version frames) _ (t, tt, tt) (each-ended L (One (SetupTable frames)) [] _ refl)
-  each-step (QuerySize dom) t beyond-on =
+  each-step (QuerySize dom) t applies =
       each-asked (QuerySize dom) queries.Size (resolved d dom) (λ verdict. refl) t
-  each-step (GetVersion dom) t beyond-on =
+  each-step (GetVersion dom) t applies =
       each-asked (GetVersion dom) queries.Version (resolved d dom) (λ verdict. refl) t
 
 -- a call that makes a step was not answered at its beginning
@@ -361,37 +393,36 @@ path-opened k d r vs step e = by (begun k d r) refl e where
 -- calls of scripts
 
 -- what a call may touch is such
-abbrev pub CallTouches : (Touch → Type 0) → MappingUse → DomId → ScriptCall → Type 0
-CallTouches A uses d (script_calls.Grant gref entry) = A (touches.Entry d gref) × IsNoVia uses entry
-CallTouches A uses d (script_calls.GrantBytes gref hex) =
-    A (touches.Entry d gref) × IsNoVia uses (entry_spelled (hex_bytes hex))
-CallTouches A uses d (script_calls.Revoke gref) = A (touches.Entry d gref)
-CallTouches A uses d (script_calls.Withdraw gref) = A (touches.Entry d gref)
-CallTouches A uses d (script_calls.Demote gref) = A (touches.Entry d gref)
-CallTouches A uses d (script_calls.Promote gref) = A (touches.Entry d gref)
-CallTouches A uses d (script_calls.Map label dom gref flags) = LegTouches A (resolved d dom) gref × BytesTouch A uses
-CallTouches A uses d (script_calls.Unmap label) = Unit {0}
-CallTouches A uses d (script_calls.Load label off len) = uses.loads ≡ true
-CallTouches A uses d (script_calls.Store label off hex) = uses.stores ≡ true
-CallTouches A uses d (script_calls.Peek frame off len) = A (Reads d frame)
-CallTouches A uses d (script_calls.Poke frame off hex) = A (Writes d frame)
-CallTouches A uses d (script_calls.Copy c) = (uses.vias ≡ false) × SourceTouches A d c × DestTouches A d c
-CallTouches A uses d (script_calls.SetVersion version) = A (StoresHeader d)
-CallTouches A uses d (script_calls.SetupTable frames) = A (StoresHeader d)
-CallTouches A uses d (script_calls.QuerySize dom) = A (LooksHeader (resolved d dom))
-CallTouches A uses d (script_calls.GetVersion dom) = A (LooksHeader (resolved d dom))
+abbrev pub CallTouches : (Touch → Type 0) → List GrantedEntry → MappingUse → DomId → ScriptCall → Type 0
+CallTouches A grants uses d (script_calls.Grant gref entry) = A (touches.Entry d gref)
+CallTouches A grants uses d (script_calls.GrantBytes gref hex) = A (touches.Entry d gref)
+CallTouches A grants uses d (script_calls.Revoke gref) = A (touches.Entry d gref)
+CallTouches A grants uses d (script_calls.Withdraw gref) = A (touches.Entry d gref)
+CallTouches A grants uses d (script_calls.Demote gref) = A (touches.Entry d gref)
+CallTouches A grants uses d (script_calls.Promote gref) = A (touches.Entry d gref)
+CallTouches A grants uses d (script_calls.Map label dom gref flags) =
+    LegTouches A (resolved d dom) gref × FramesTouch A grants uses (resolved d dom) gref
+CallTouches A grants uses d (script_calls.Unmap label) = Unit {0}
+CallTouches A grants uses d (script_calls.Load label off len) = uses.loads ≡ true
+CallTouches A grants uses d (script_calls.Store label off hex) = uses.stores ≡ true
+CallTouches A grants uses d (script_calls.Peek frame off len) = A (Reads d frame)
+CallTouches A grants uses d (script_calls.Poke frame off hex) = A (Writes d frame)
+CallTouches A grants uses d (script_calls.Copy c) = SourceTouches A grants d c × DestTouches A grants d c
+CallTouches A grants uses d (script_calls.SetVersion version) = A (StoresHeader d)
+CallTouches A grants uses d (script_calls.SetupTable frames) = A (StoresHeader d)
+CallTouches A grants uses d (script_calls.QuerySize dom) = A (LooksHeader (resolved d dom))
+CallTouches A grants uses d (script_calls.GetVersion dom) = A (LooksHeader (resolved d dom))
 
-pub said-touches : (A : Touch
-    → Type 0) (uses : MappingUse) (named : List Named) (d : DomId) (call : ScriptCall) (q : Request)
-    → MakesRequest named d call q → CallTouches A uses d call → RequestTouches A uses d (asked q)
+pub said-touches : (A : Touch → Type 0) (grants : List GrantedEntry) (uses : MappingUse) (named : List Named)
+    (d : DomId) (call : ScriptCall) (q : Request) → MakesRequest named d call q → CallTouches A grants uses d call
+    → RequestTouches A grants uses d (asked q)
 unfolding request_of
-said-touches A uses named d call q (bytes, given, is) t = subst (λ r. RequestTouches A uses d (asked r)) (sym is)
+said-touches A grants uses named d call q (bytes, given, is) t = subst (λ r. RequestTouches A grants uses d (asked r)) (sym is)
     (by call given t) where
-      by : (c : ScriptCall) → bytes.now ≡ call_bytes c → CallTouches A uses d c
-          → RequestTouches A uses d (asked (request_of named d bytes c))
+      by : (c : ScriptCall) → bytes.now ≡ call_bytes c → CallTouches A grants uses d c
+          → RequestTouches A grants uses d (asked (request_of named d bytes c))
       by (script_calls.Grant gref entry) e t = t
-      by (script_calls.GrantBytes gref hex) e t =
-          (t.0, subst (λ (bs : List ℕ). IsNoVia uses (entry_spelled bs)) (sym e) t.1)
+      by (script_calls.GrantBytes gref hex) e t = t
       by (script_calls.Revoke gref) e t = t
       by (script_calls.Withdraw gref) e t = t
       by (script_calls.Demote gref) e t = t
@@ -409,15 +440,21 @@ said-touches A uses named d call q (bytes, given, is) t = subst (λ r. RequestTo
       by (script_calls.GetVersion dom) e t = t
 
 -- what the action of a line may touch is such
-abbrev pub ActionTouches : (Touch → Type 0) → MappingUse → DomId → RunAction → Type 0
-ActionTouches A uses d (Do call) = CallTouches A uses d call
-ActionTouches A uses d (Tell flag) = A (Raises flag)
-ActionTouches A uses d (Await flag) = Unit {0}
+abbrev pub ActionTouches : (Touch → Type 0) → List GrantedEntry → MappingUse → DomId → RunAction → Type 0
+ActionTouches A grants uses d (Do call) = CallTouches A grants uses d call
+ActionTouches A grants uses d (Tell flag) = A (Raises flag)
+ActionTouches A grants uses d (Await flag) = Unit {0}
 
--- what these tasks of a domain may touch is such
-abbrev pub TasksTouch : (Touch → Type 0) → MappingUse → DomId → List RunTask → Type 0
-TasksTouch A uses d [] = Unit {0}
-TasksTouch A uses d (t ∷ ts) = ActionTouches A uses d t.run_action × TasksTouch A uses d ts
+-- the entries that the line of this domain may grant are listed, and what it asks fits its types
+pub record IsListedLine (grants : List GrantedEntry) (d : DomId) (run_action : RunAction) : Type 0 where
+  pub lists : ListsGrants grants d run_action
+  pub fits : AsksOnlyFitting run_action
+
+-- what these tasks of a domain may touch is such, and each is listed
+abbrev pub TasksTouch : (Touch → Type 0) → List GrantedEntry → MappingUse → DomId → List RunTask → Type 0
+TasksTouch A grants uses d [] = Unit {0}
+TasksTouch A grants uses d (t ∷ ts) =
+    (ActionTouches A grants uses d t.run_action × IsListedLine grants d t.run_action) × TasksTouch A grants uses d ts
 
 -- touches that a next move doesn't meet
 
@@ -459,12 +496,60 @@ if-used : (a b : Bool) → (a && b) ≡ false → a ≡ true → b ≡ false
 if-used true b e is = e
 if-used false b e is = absurd (false≢true is)
 
-unmet-bytes : (uses : MappingUse) (move : NextMove) → meets_bytes uses move ≡ false → BytesTouch (Unmet move) uses
-unmet-bytes uses move e =
-    let both = or-parts (uses.loads && next_writes move) (uses.stores && next_accesses move) e in (
-      (λ is t f. unmet-reads move t f (if-used uses.loads (next_writes move) both.0 is)),
-      (λ is t f. unmet-writes move t f (if-used uses.stores (next_accesses move) both.1 is)),
+-- no entry of this list is such
+
+any-at : (f : GrantedEntry → Bool) (gs : List GrantedEntry) (n : ℕ) (g : GrantedEntry) → slice_get gs n ≡ Some g
+    → list_any f gs ≡ false → f g ≡ false
+any-at f [] n g at none = absurd (none-some g at)
+any-at f (h ∷ gs) zero g at none = ap f (sym (same_Some h g at)) ∙ (or-parts (f h) (list_any f gs) none).0
+any-at f (h ∷ gs) (suc n) g at none = any-at f gs n g at (or-parts (f h) (list_any f gs) none).1
+
+-- an entry that may be granted has what one in the list has
+frame-same : (a b : Entry) → with_ro false a ≡ with_ro false b → frame_of a ≡ frame_of b
+frame-same a b e = frame-bare a ∙ ap frame_of e ∙ sym (frame-bare b) where
+  frame-bare : (x : Entry) → frame_of x ≡ frame_of (with_ro false x)
+  frame-bare entries.Invalid = refl
+  frame-bare (entries.Page dom ro frame) = refl
+  frame-bare (entries.Sub dom ro frame off len) = refl
+  frame-bare (entries.Via dom ro dom2 gref) = refl
+
+is-of : (t : DomId) (r : GrantRef) (g : GrantedEntry) → g.owner.0 ≡ t.0 → g.gref.0 ≡ r.0 → is_grant_of t r g ≡ true
+is-of t r g owner gref = grind (arith, eq-eqb)
+
+-- what none of those listed does, none that may be granted does
+none-granted : (grants : List GrantedEntry) (t : DomId) (r : GrantRef) (f : Entry → Bool) (e : Entry)
+    → list_any (λ (g : GrantedEntry). is_grant_of t r g && f g.entry) grants ≡ false
+    → IsGranted grants t.0 r.0 e → (g : Entry) × (with_ro false g ≡ with_ro false e) × (f g ≡ false)
+none-granted grants t r f e none (n, g, at, owner, gref, same) = (
+  g.entry,
+  same,
+  if-used (is_grant_of t r g) (f g.entry)
+      (any-at (λ (g : GrantedEntry). is_grant_of t r g && f g.entry) grants n g at none) (is-of t r g owner gref),
+)
+
+unmet-uses : (uses : MappingUse) (move : NextMove) (t : DomId) (f : ℕ) → meets_uses uses move t f ≡ false
+    → (uses.loads ≡ true → Unmet move (Reads t f)) × (uses.stores ≡ true → Unmet move (Writes t f))
+unmet-uses uses move t f e =
+    let both = or-parts (uses.loads && meets move (Reads t f)) (uses.stores && meets move (Writes t f)) e in (
+      (λ is. if-used uses.loads (meets move (Reads t f)) both.0 is),
+      (λ is. if-used uses.stores (meets move (Writes t f)) both.1 is),
     )
+
+unmet-frames : (grants : List GrantedEntry) (uses : MappingUse) (move : NextMove) (t : DomId) (r : GrantRef)
+    → meets_mapped grants uses move t r ≡ false → FramesTouch (Unmet move) grants uses t r
+unmet-frames grants uses move t r e = by (meets_bytes uses move) refl e where
+  by : (b : Bool) → meets_bytes uses move ≡ b
+      → (b && list_any (λ (g : GrantedEntry). is_grant_of t r g && meets_uses uses move t (frame_of g.entry)) grants)
+      ≡ false → FramesTouch (Unmet move) grants uses t r
+  by false none f entry granted =
+      let both = or-parts (uses.loads && next_writes move) (uses.stores && next_accesses move) none in (
+        (λ is. unmet-reads move t (frame_of entry) (if-used uses.loads (next_writes move) both.0 is)),
+        (λ is. unmet-writes move t (frame_of entry) (if-used uses.stores (next_accesses move) both.1 is)),
+      )
+  by true some f entry granted =
+      let it = none-granted grants t r (λ (x : Entry). meets_uses uses move t (frame_of x)) entry f granted in
+      unmet-uses uses move t (frame_of entry)
+      (subst (λ (n : ℕ). meets_uses uses move t n ≡ false) (frame-same it.0 entry it.1) it.2)
 
 pub unmet-mapping : (uses : MappingUse) (move : NextMove) (p : HeldPin) → meets_mapping uses move p ≡ false
     → PinTouches (Unmet move) uses p
@@ -478,119 +563,124 @@ unmet-mapping uses move p e =
       (λ is. if-used uses.stores (meets move (Writes p.dom (frame_of p.entry))) both.1 is),
     )
 
-no-frame-written : (z : Step) (t f : ℕ) → writes_frames z t ≡ false → writes_frame_at z t f ≡ false
-no-frame-written (call_steps.Write dom frame off len) t f e = ap (λ x. x && (frame == f)) e
-no-frame-written (call_steps.Copy from to len) t f e = ap (λ x. x && (to.frame.number == f)) e
-no-frame-written z t f e = refl
-
-no-frame-read : (z : Step) (t f : ℕ) → reads_frames z t ≡ false → reads_frame_at z t f ≡ false
-no-frame-read (call_steps.Read dom frame off len) t f e = ap (λ x. x && (frame == f)) e
-no-frame-read (call_steps.Copy from to len) t f e = ap (λ x. x && (from.frame.number == f)) e
-no-frame-read z t f e = refl
-
-both-false : (a b : Bool) → a ≡ false → b ≡ false → (a || b) ≡ false
-both-false a b e f = ap (λ x. x || b) e ∙ f
-
-unmet-frames-read : (move : NextMove) (t : DomId) → meets_reads move t ≡ false → (f : ℕ) → Unmet move (Reads t f)
-unmet-frames-read (next_moves.Makes d z) t e f = no-frame-written z t.0 f e
-unmet-frames-read (next_moves.Awaits flag) t e f = refl
-unmet-frames-read next_moves.Free t e f = refl
-
-unmet-frames-written : (move : NextMove) (t : DomId) → meets_writes move t ≡ false → (f : ℕ)
-    → Unmet move (Writes t f)
-unmet-frames-written (next_moves.Makes d z) t e f =
-    let both = or-parts (reads_frames z t.0) (writes_frames z t.0) e in
-    both-false (reads_frame_at z t.0 f) (writes_frame_at z t.0 f) (no-frame-read z t.0 f both.0) (no-frame-written z t.0 f both.1)
-unmet-frames-written (next_moves.Awaits flag) t e f = refl
-unmet-frames-written next_moves.Free t e f = refl
-
 unmet-leg : (move : NextMove) (dom : DomId) (gref : GrantRef) → meets_leg move dom gref ≡ false
     → LegTouches (Unmet move) dom gref
 unmet-leg move dom gref e = or-parts (meets move (LooksHeader dom)) (meets move (touches.Entry dom gref)) e
 
-unmet-source : (move : NextMove) (d : DomId) (c : CopyArgs) → meets_source move d c ≡ false
-    → SourceTouches (Unmet move) d c
-unmet-source move d c e = by (resolved d c.source.domid) (is_source_granted c) e where
-  by : (owner : DomId) (b : Bool) → cond b (meets_leg move owner (gref_of c.source.ptr) || meets_reads move owner)
+unmet-last : (grants : List GrantedEntry) (move : NextMove) (dir : Dir) (t : DomId) (r : GrantRef)
+    → meets_last grants move dir t r ≡ false → LastTouches (Unmet move) grants dir t r
+unmet-last grants move dir t r e entry granted =
+    let it = none-granted grants t r (λ (x : Entry). meets move (frame_touch dir t (frame_of x))) entry e granted in
+    subst (λ (n : ℕ). meets move (frame_touch dir t n) ≡ false) (frame-same it.0 entry it.1) it.2
+
+unmet-beyond : (grants : List GrantedEntry) (move : NextMove) (dir : Dir) (t : DomId) (e : Entry)
+    → meets_beyond grants move dir t e ≡ false → BeyondTouches (Unmet move) grants dir t e
+unmet-beyond grants move dir t entries.Invalid e = e
+unmet-beyond grants move dir t (entries.Page dom ro frame) e = e
+unmet-beyond grants move dir t (entries.Sub dom ro frame off len) e = e
+unmet-beyond grants move dir t (entries.Via dom ro dom2 gref) e =
+    let both = or-parts (meets_leg move dom2 gref) (meets_last grants move dir dom2 gref) e in
+    (unmet-leg move dom2 gref both.0, unmet-last grants move dir dom2 gref both.1)
+
+-- what comes after the pin does not depend on the right to write
+beyond-bare : (grants : List GrantedEntry) (move : NextMove) (dir : Dir) (t : DomId) (e : Entry)
+    → meets_beyond grants move dir t (with_ro false e) ≡ meets_beyond grants move dir t e
+beyond-bare grants move dir t entries.Invalid = refl
+beyond-bare grants move dir t (entries.Page dom ro frame) = refl
+beyond-bare grants move dir t (entries.Sub dom ro frame off len) = refl
+beyond-bare grants move dir t (entries.Via dom ro dom2 gref) = refl
+
+unmet-end : (grants : List GrantedEntry) (move : NextMove) (dir : Dir) (t : DomId) (r : GrantRef)
+    → meets_end grants move dir t r ≡ false → EndTouches (Unmet move) grants dir t r
+unmet-end grants move dir t r e =
+    let both = or-parts (meets_leg move t r)
+    (list_any (λ (g : GrantedEntry). is_grant_of t r g && meets_beyond grants move dir t g.entry) grants) e in (
+      unmet-leg move t r both.0,
+      λ entry granted.
+          let it = none-granted grants t r (meets_beyond grants move dir t) entry both.1 granted in
+          unmet-beyond grants move dir t entry (sym (beyond-bare grants move dir t entry)
+          ∙ ap (meets_beyond grants move dir t) (sym it.1) ∙ beyond-bare grants move dir t it.0 ∙ it.2),
+    )
+
+unmet-source : (grants : List GrantedEntry) (move : NextMove) (d : DomId) (c : CopyArgs)
+    → meets_source grants move d c ≡ false → SourceTouches (Unmet move) grants d c
+unmet-source grants move d c e = by (is_source_granted c) e where
+  by : (b : Bool) → cond b (meets_end grants move dirs.Read (resolved d c.source.domid) (gref_of c.source.ptr))
       (meets move (Reads d c.source.ptr)) ≡ false
-      → (b ≡ true → LegTouches (Unmet move) owner (gref_of c.source.ptr) × ((f : ℕ) → Unmet move (Reads owner f)))
+      → (b ≡ true → EndTouches (Unmet move) grants dirs.Read (resolved d c.source.domid) (gref_of c.source.ptr))
       × (b ≡ false → Unmet move (Reads d c.source.ptr))
-  by owner true f = let both = or-parts (meets_leg move owner (gref_of c.source.ptr)) (meets_reads move owner) f in (
-    (λ is. (unmet-leg move owner (gref_of c.source.ptr) both.0, unmet-frames-read move owner both.1)),
+  by true f = (
+    (λ is. unmet-end grants move dirs.Read (resolved d c.source.domid) (gref_of c.source.ptr) f),
     (λ is. absurd (false≢true (sym is))),
   )
-  by owner false f = ((λ is. absurd (false≢true is)), (λ is. f))
+  by false f = ((λ is. absurd (false≢true is)), (λ is. f))
 
-unmet-dest : (move : NextMove) (d : DomId) (c : CopyArgs) → meets_dest move d c ≡ false
-    → DestTouches (Unmet move) d c
-unmet-dest move d c e = by (resolved d c.dest.domid) (is_dest_granted c) e where
-  by : (owner : DomId) (b : Bool) → cond b (meets_leg move owner (gref_of c.dest.ptr) || meets_writes move owner)
+unmet-dest : (grants : List GrantedEntry) (move : NextMove) (d : DomId) (c : CopyArgs)
+    → meets_dest grants move d c ≡ false → DestTouches (Unmet move) grants d c
+unmet-dest grants move d c e = by (is_dest_granted c) e where
+  by : (b : Bool) → cond b (meets_end grants move dirs.Write (resolved d c.dest.domid) (gref_of c.dest.ptr))
       (meets move (Writes d c.dest.ptr)) ≡ false
-      → (b ≡ true → LegTouches (Unmet move) owner (gref_of c.dest.ptr) × ((f : ℕ) → Unmet move (Writes owner f)))
+      → (b ≡ true → EndTouches (Unmet move) grants dirs.Write (resolved d c.dest.domid) (gref_of c.dest.ptr))
       × (b ≡ false → Unmet move (Writes d c.dest.ptr))
-  by owner true f = let both = or-parts (meets_leg move owner (gref_of c.dest.ptr)) (meets_writes move owner) f in (
-    (λ is. (unmet-leg move owner (gref_of c.dest.ptr) both.0, unmet-frames-written move owner both.1)),
+  by true f = (
+    (λ is. unmet-end grants move dirs.Write (resolved d c.dest.domid) (gref_of c.dest.ptr) f),
     (λ is. absurd (false≢true (sym is))),
   )
-  by owner false f = ((λ is. absurd (false≢true is)), (λ is. f))
+  by false f = ((λ is. absurd (false≢true is)), (λ is. f))
 
--- the uses that a call makes of mappings are among these, and it grants no transitive entry unless they have some
+-- the uses that a call makes of mappings are among these
 abbrev pub CallUses : MappingUse → ScriptCall → Type 0
-CallUses uses (script_calls.Grant gref entry) = IsNoVia uses entry
-CallUses uses (script_calls.GrantBytes gref hex) = IsNoVia uses (entry_spelled (hex_bytes hex))
 CallUses uses (script_calls.Load label off len) = uses.loads ≡ true
 CallUses uses (script_calls.Store label off hex) = uses.stores ≡ true
 CallUses uses call = Unit {0}
 
-unmet-call : (uses : MappingUse) (move : NextMove) (d : DomId) (call : ScriptCall) → CallUses uses call
-    → meets_call uses move d call ≡ false → CallTouches (Unmet move) uses d call
-unmet-call uses move d (script_calls.Grant gref entry) used e = (e, used)
-unmet-call uses move d (script_calls.GrantBytes gref hex) used e = (e, used)
-unmet-call uses move d (script_calls.Revoke gref) used e = e
-unmet-call uses move d (script_calls.Withdraw gref) used e = e
-unmet-call uses move d (script_calls.Demote gref) used e = e
-unmet-call uses move d (script_calls.Promote gref) used e = e
-unmet-call uses move d (script_calls.Map label dom gref flags) used e =
-    let both = or-parts (meets_leg move (resolved d dom) gref) (meets_bytes uses move) e in (
+unmet-call : (grants : List GrantedEntry) (uses : MappingUse) (move : NextMove) (d : DomId) (call : ScriptCall)
+    → CallUses uses call → meets_call grants uses move d call ≡ false → CallTouches (Unmet move) grants uses d call
+unmet-call grants uses move d (script_calls.Grant gref entry) used e = e
+unmet-call grants uses move d (script_calls.GrantBytes gref hex) used e = e
+unmet-call grants uses move d (script_calls.Revoke gref) used e = e
+unmet-call grants uses move d (script_calls.Withdraw gref) used e = e
+unmet-call grants uses move d (script_calls.Demote gref) used e = e
+unmet-call grants uses move d (script_calls.Promote gref) used e = e
+unmet-call grants uses move d (script_calls.Map label dom gref flags) used e =
+    let both = or-parts (meets_leg move (resolved d dom) gref) (meets_mapped grants uses move (resolved d dom) gref) e in (
       unmet-leg move (resolved d dom) gref both.0,
-      unmet-bytes uses move both.1,
+      unmet-frames grants uses move (resolved d dom) gref both.1,
     )
-unmet-call uses move d (script_calls.Unmap label) used e = tt
-unmet-call uses move d (script_calls.Load label off len) used e = used
-unmet-call uses move d (script_calls.Store label off hex) used e = used
-unmet-call uses move d (script_calls.Peek frame off len) used e = e
-unmet-call uses move d (script_calls.Poke frame off hex) used e = e
-unmet-call uses move d (script_calls.Copy c) used e =
-    let both = or-parts (uses.vias || meets_source move d c) (meets_dest move d c) e in
-    let first = or-parts uses.vias (meets_source move d c) both.0 in
-    (first.0, unmet-source move d c first.1, unmet-dest move d c both.1)
-unmet-call uses move d (script_calls.SetVersion version) used e = e
-unmet-call uses move d (script_calls.SetupTable frames) used e = e
-unmet-call uses move d (script_calls.QuerySize dom) used e = e
-unmet-call uses move d (script_calls.GetVersion dom) used e = e
+unmet-call grants uses move d (script_calls.Unmap label) used e = tt
+unmet-call grants uses move d (script_calls.Load label off len) used e = used
+unmet-call grants uses move d (script_calls.Store label off hex) used e = used
+unmet-call grants uses move d (script_calls.Peek frame off len) used e = e
+unmet-call grants uses move d (script_calls.Poke frame off hex) used e = e
+unmet-call grants uses move d (script_calls.Copy c) used e =
+    let both = or-parts (meets_source grants move d c) (meets_dest grants move d c) e in
+    (unmet-source grants move d c both.0, unmet-dest grants move d c both.1)
+unmet-call grants uses move d (script_calls.SetVersion version) used e = e
+unmet-call grants uses move d (script_calls.SetupTable frames) used e = e
+unmet-call grants uses move d (script_calls.QuerySize dom) used e = e
+unmet-call grants uses move d (script_calls.GetVersion dom) used e = e
 
--- the uses that a task makes of mappings are among these, and it grants no transitive entry unless they have some
+-- the uses that a task makes of mappings are among these
 abbrev pub TaskUses : MappingUse → RunTask → Type 0
 TaskUses uses t = (is_load t ≡ true → uses.loads ≡ true) × (is_store t ≡ true → uses.stores ≡ true)
-    × (grants_via t ≡ true → uses.vias ≡ true)
 
-pub unmet-run_action : (uses : MappingUse) (move : NextMove) (d : DomId) (t : RunTask) → t.dom ≡ d → TaskUses uses t
-    → meets_task uses move t ≡ false → ActionTouches (Unmet move) uses d t.run_action
-unmet-run_action uses move d t own used e = subst (λ x. ActionTouches (Unmet move) uses x t.run_action) own (by t.run_action used e) where
-  call-uses : (call : ScriptCall) → TaskUses uses (record t { run_action = Do call }) → CallUses uses call
-  call-uses (script_calls.Grant gref entry) u = λ none. not-true (is_via entry)
-      (λ is. false≢true (sym none ∙ u.2 is))
-  call-uses (script_calls.GrantBytes gref hex) u = λ none. not-true (spells_via (hex_bytes hex))
-      (λ is. false≢true (sym none ∙ u.2 is))
-  call-uses (script_calls.Load label off len) u = u.0 refl
-  call-uses (script_calls.Store label off hex) u = u.1 refl
-  call-uses call u = tt
+pub unmet-run_action : (grants : List GrantedEntry) (uses : MappingUse) (move : NextMove) (d : DomId) (t : RunTask)
+    → t.dom ≡ d → TaskUses uses t → meets_task grants uses move t ≡ false
+    → ActionTouches (Unmet move) grants uses d t.run_action
+unmet-run_action grants uses move d t own used e =
+    subst (λ x. ActionTouches (Unmet move) grants uses x t.run_action) own (by t.run_action used e)
+  where
+    call-uses : (call : ScriptCall) → TaskUses uses (record t { run_action = Do call }) → CallUses uses call
+    call-uses (script_calls.Load label off len) u = u.0 refl
+    call-uses (script_calls.Store label off hex) u = u.1 refl
+    call-uses call u = tt
 
-  by : (run_action : RunAction) → TaskUses uses (record t { run_action = run_action })
-      → meets_task uses move (record t { run_action = run_action }) ≡ false → ActionTouches (Unmet move) uses t.dom run_action
-  by (Do call) u f = unmet-call uses move t.dom call (call-uses call u) f
-  by (Tell flag) u f = f
-  by (Await flag) u f = tt
+    by : (run_action : RunAction) → TaskUses uses (record t { run_action = run_action })
+        → meets_task grants uses move (record t { run_action = run_action }) ≡ false
+        → ActionTouches (Unmet move) grants uses t.dom run_action
+    by (Do call) u f = unmet-call grants uses move t.dom call (call-uses call u) f
+    by (Tell flag) u f = f
+    by (Await flag) u f = tt
 
 pub or-false : (a b : Bool) → (a || b) ≡ false → (a ≡ false) × (b ≡ false)
 or-false a b e = or-parts a b e

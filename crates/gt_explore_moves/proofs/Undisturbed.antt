@@ -21,8 +21,7 @@ use Rattle.gt_model.specs.declared.request.Request.{Request}
 use Rattle.gt_model.specs.declared.request.Request.TheVariants as requests
 use Rattle.gt_model.specs.History.{History, Setting, Underway, known_at, maps_answered_at, mappings_at, open_call}
 use Rattle.gt_model.specs.History.{values}
-use Rattle.gt_core.specs.Alike.{IsRun}
-use Rattle.gt_model.specs.Legal.{IsItemOf, IsLegalHistory, IsRight, MayDo, StepsRightIn, actor_of, grown}
+use Rattle.gt_model.specs.Legal.{IsItemOf, IsRight, MayDo, StepsRightIn, actor_of, grown}
 use Rattle.gt_explore_moves.specs.Swapping.{AreApart, SameSeen}
 use Rattle.gt_model.specs.declared.trace.Element.{Element}
 use Rattle.gt_model.specs.declared.trace.Element.TheVariants.{Busy, Idle, NoDomain}
@@ -71,7 +70,7 @@ use Rattle.gt_explore_moves.specs.declared.touches.NextMove.{NextMove}
 use Rattle.gt_explore_moves.specs.declared.touches.NextMove.TheVariants.{Awaits, Free, Makes}
 use Rattle.gt_explore_moves.specs.declared.touches.Touch.{Touch}
 use Rattle.gt_explore_moves.proofs.CourseMoves.{course-moves, ends-done}
-use Rattle.gt_explore_moves.proofs.HandlesAnswered.{after-dom, back-dom}
+use Rattle.gt_explore_moves.proofs.HandlesAnswered.{after-dom, back-dom, left-answered}
 use Rattle.gt_explore_moves.proofs.LineBegins.{tasks-short}
 use Rattle.gt_explore_moves.proofs.MovesAlong.{none-open}
 use Rattle.gt_explore_moves.proofs.MovesListed.{turn-listed}
@@ -81,14 +80,20 @@ use Rattle.gt_explore_moves.proofs.Reaching.{reach-first, tell-later}
 use Rattle.gt_explore_moves.proofs.SameStep.{along-of}
 use Rattle.gt_explore_moves.proofs.SpaceMoves.{each-turn}
 use Rattle.gt_explore_moves.proofs.StateComesOn.{raised-here, raised-still, task-own}
-use Rattle.gt_explore_moves.proofs.Touching.{ActionTouches, RequestTouches, StepTouches, TasksTouch, Unmet, meets-under}
+use Rattle.gt_explore_moves.proofs.Touching.{ActionTouches, IsListedLine, RequestTouches, StepTouches, TasksTouch}
+use Rattle.gt_explore_moves.proofs.Touching.{Unmet, meets-under}
 use Rattle.gt_explore_moves.proofs.Touching.{or-false, PinTouches, said-touches, steps-apart, unmet-run_action}
 use Rattle.gt_explore_moves.proofs.Touching.{unmet-mapping}
 use Rattle.gt_explore_moves.proofs.HeldPins.{IsSound, releases-own}
-use Rattle.gt_explore_moves.proofs.ViaTasks.{task-vias}
-use Rattle.gt_explore_moves.specs.Transitive.{grants_via}
-use Rattle.gt_explore_moves.proofs.Within.{CallWithin, ElementTouches, Grew, HappeningTouches, ItemTouches, PinsTouch}
-use Rattle.gt_explore_moves.proofs.Within.{Within, course-within, grew-sound, happening-grew, others-within}
+use Rattle.gt_explore_moves.proofs.GrantingTasks.{task-listed}
+use Rattle.gt_explore_moves.proofs.FirstWorld.{scene-starts}
+use Rattle.gt_explore_moves.specs.Granting.{IsListed}
+use Rattle.gt_explore_moves.specs.Scenes.{WasAnsweredAll}
+use Rattle.gt_explore_moves.specs.declared.granted.GrantedEntry.{GrantedEntry}
+use Rattle.gt_explore_state.specs.Likeness.{IsLikeReached}
+use Rattle.gt_explore_moves.proofs.Within.{CallWithin, ElementTouches, Grew, HappeningSaid, HappeningTouches}
+use Rattle.gt_explore_moves.proofs.Within.{ItemTouches, PinsTouch, Within, course-answered, course-said, course-within}
+use Rattle.gt_explore_moves.proofs.Within.{grew-sound, happening-grew, others-answered, others-within, tasks-listed}
 use Rattle.gt_explore_search.specs.Ways.{EndsSoBy, GoesTo, HasEnoughTurns}
 use Rattle.gt_explore_search.proofs.Finding.{each_enough}
 
@@ -470,20 +475,20 @@ module _ (c : RunContents) where
     by (inr b) = inl b
 
   -- the step of an open call, and an item before it of another domain which touches nothing that the step meets
-  step-apart : (vias : Bool) (h : History) (i j : Item) (d : DomId) (step : Step) (u : Underway)
+  step-apart : (grants : List GrantedEntry) (h : History) (i j : Item) (d : DomId) (step : Step) (u : Underway)
       → (i.actor.0 == j.actor.0) ≡ false
-      → ItemTouches (Unmet (Makes d step)) vias h i.actor i.happened → j.actor ≡ d → open_call h d.0 ≡ Some u
+      → ItemTouches (Unmet (Makes d step)) h i.actor i.happened → j.actor ≡ d → open_call h d.0 ≡ Some u
       → ((z : Step) → path (known_at set h d) d u.request (values u) ≡ Some (actions.Step z)
       → (touch : Touch) → step_meets d z touch ≡ step_meets d step touch)
       → (z : Step) (w : Observation) → j.happened ≡ Stepped z w → StepsRightIn set (i ∷ h) j z w (open_call (i ∷ h) d.0)
-      → IsSound vias set h → AreApart set h i j
-  step-apart vias h i j d step u apart touches own is meets z w did-j right sound =
+      → IsSound grants set h → AreApart set h i j
+  step-apart grants h i j d step u apart touches own is meets z w did-j right sound =
       by-right (open_call (i ∷ h) d.0) (open_call-other i h d.0 off ∙ is) right
     where
       off : (i.actor.0 == d.0) ≡ false
       off = ap (λ (b : DomId). i.actor.0 == b.0) (sym own) ∙ apart
 
-      by-item : (x : ItemEvent) → i.happened ≡ x → ItemTouches (Unmet (Makes d step)) vias h i.actor x
+      by-item : (x : ItemEvent) → i.happened ≡ x → ItemTouches (Unmet (Makes d step)) h i.actor x
           → path (known_at set h d) d u.request (values u) ≡ Some (actions.Step z)
           → Releases h j.actor z → AreApart set h i j
       by-item (Began q) did-i t leads releases = began-apart set h i j q apart did-i
@@ -502,7 +507,7 @@ module _ (c : RunContents) where
           ∙ ap (λ (c : Underway). path (known_at set (i ∷ h) j.actor) j.actor c.request (values c)) (sym same)
           ∙ r.continues in
           by-item i.happened refl touches leads
-          (subst (λ b. Releases h b z) (sym own) (releases-own vias set h sound d u is z leads))
+          (subst (λ b. Releases h b z) (sym own) (releases-own grants set h sound d u is z leads))
 
   -- the next move of a domain, and what another domain does before it, of which it meets nothing
   abbrev ComesFree : List Happening → Happening → Happening → Type 0
@@ -521,18 +526,18 @@ module _ (c : RunContents) where
   begin-free hs (passed b flag) d q z may = tt
 
   -- a line of a domain that is not calling
-  line-free : (vias : Bool) (hs : List Happening) (k : Course) (move : NextMove) (t : RunTask) (ts : List RunTask)
-      (y x : Happening) (j : Course) → k.opened ≡ resting → k.tasks ≡ t ∷ ts → IsNext hs k move → HappeningTouches (Unmet move) vias hs y
+  line-free : (grants : List GrantedEntry) (hs : List Happening) (k : Course) (move : NextMove) (t : RunTask) (ts : List RunTask)
+      (y x : Happening) (j : Course) → k.opened ≡ resting → k.tasks ≡ t ∷ ts → IsNext hs k move → HappeningTouches (Unmet move) hs y
       → ActionLeads (type_names c.head) k t.line ts t.run_action x j → CanComeNext set (hs ++ y ∷ []) x → ComesFree hs y x
-  line-free vias hs k move t ts y x j rest tasks next touches leads may = by t.run_action refl leads where
-    flag-free : (m : NextMove) (flag : ℕ) → t.run_action ≡ Await flag → IsNext hs k m → HappeningTouches (Unmet m) vias hs y
+  line-free grants hs k move t ts y x j rest tasks next touches leads may = by t.run_action refl leads where
+    flag-free : (m : NextMove) (flag : ℕ) → t.run_action ≡ Await flag → IsNext hs k m → HappeningTouches (Unmet m) hs y
         → IsRaisedBefore (length (hs ++ y ∷ [])) flag (hs ++ y ∷ []) → IsRaisedBefore (length hs) flag hs
     flag-free (Makes d step) flag awaits n touch was = absurd (n.1 rest)
     flag-free Free flag awaits n touch was =
         subst (FreeLine hs) awaits (subst (FreeTasks hs) tasks n.1)
     flag-free (Awaits other) flag awaits n touch was = elim (raised_or hs y flag was) [
       | inl before ↦ before
-      | inr now ↦ absurd (false≢true (sym (subst (HappeningTouches (Unmet (Awaits other)) vias hs) now.1 touch)
+      | inr now ↦ absurd (false≢true (sym (subst (HappeningTouches (Unmet (Awaits other)) hs) now.1 touch)
           ∙ eq-eqb flag other (same-flag flag other (sym awaits ∙ ap (λ (u : RunTask). u.run_action)
           (head-same (sym tasks ∙ n.3)) ∙ n.4))))
     ] where
@@ -549,42 +554,42 @@ module _ (c : RunContents) where
     by (Do call) is (q, e, says, did-is, to) = subst (ComesFree hs y) (sym did-is)
         (tt, begin-free hs y k.dom q e (subst (CanComeNext set (hs ++ y ∷ [])) did-is may))
 
-  rest-free : (vias : Bool) (hs : List Happening) (k : Course) (move : NextMove) (tasks : List RunTask) (choice : ℕ)
-      (y x : Happening) (j : Course) → k.opened ≡ resting → k.tasks ≡ tasks → IsNext hs k move → HappeningTouches (Unmet move) vias hs y
+  rest-free : (grants : List GrantedEntry) (hs : List Happening) (k : Course) (move : NextMove) (tasks : List RunTask) (choice : ℕ)
+      (y x : Happening) (j : Course) → k.opened ≡ resting → k.tasks ≡ tasks → IsNext hs k move → HappeningTouches (Unmet move) hs y
       → RestLeads (type_names c.head) k tasks choice x j → CanComeNext set (hs ++ y ∷ []) x → ComesFree hs y x
-  rest-free vias hs k move [] choice y x j rest same next touches (handle, e, there, is, to) may =
+  rest-free grants hs k move [] choice y x j rest same next touches (handle, e, there, is, to) may =
       subst (ComesFree hs y) (sym is)
       (tt, begin-free hs y k.dom (requests.Release handle) e (subst (CanComeNext set (hs ++ y ∷ [])) is may))
-  rest-free vias hs k move (t ∷ ts) choice y x j rest same next touches leads may =
-      line-free vias hs k move t ts y x j rest same next touches leads.1 may
+  rest-free grants hs k move (t ∷ ts) choice y x j rest same next touches leads may =
+      line-free grants hs k move t ts y x j rest same next touches leads.1 may
 
   -- a step of an open call
-  tick-free : (vias : Bool) (hs : List Happening) (k : Course) (move : NextMove) (y : Happening) (z : Element)
+  tick-free : (grants : List GrantedEntry) (hs : List Happening) (k : Course) (move : NextMove) (y : Happening) (z : Element)
       → k.opened ≢ resting
-      → IsNext hs k move → HappeningTouches (Unmet move) vias hs y → IsSound vias set (history_in hs)
+      → IsNext hs k move → HappeningTouches (Unmet move) hs y → IsSound grants set (history_in hs)
       → CanComeNext set hs y → CanComeNext set (hs ++ y ∷ []) (did (Tick k.dom) z)
       → AreItemsApart set hs (did (Tick k.dom) z) y
-  tick-free vias hs k (Awaits flag) y z busy next touches sound first may = absurd (busy next.2)
-  tick-free vias hs k Free y z busy next touches sound first may = absurd (busy next.0)
-  tick-free vias hs k (Makes d step) (raised b flag) z busy next touches sound first may = tt
-  tick-free vias hs k (Makes d step) (passed b flag) z busy next touches sound first may = tt
-  tick-free vias hs k (Makes d step) (did e w) z busy (u, not-rest, own, is, same) touches sound first may =
+  tick-free grants hs k (Awaits flag) y z busy next touches sound first may = absurd (busy next.2)
+  tick-free grants hs k Free y z busy next touches sound first may = absurd (busy next.0)
+  tick-free grants hs k (Makes d step) (raised b flag) z busy next touches sound first may = tt
+  tick-free grants hs k (Makes d step) (passed b flag) z busy next touches sound first may = tt
+  tick-free grants hs k (Makes d step) (did e w) z busy (u, not-rest, own, is, same) touches sound first may =
       λ i j did-i did-j apart. by i j apart
       (mine i e (subst (MayDo set (history_in hs) e) did-i first)
-      (subst (ElementTouches (Unmet (Makes d step)) vias (history_in hs) (actor_of e)) did-i touches))
+      (subst (ElementTouches (Unmet (Makes d step)) (history_in hs) (actor_of e)) did-i touches))
       (subst (λ l. MayDo set l (Tick k.dom) (elements.Item j)) (history_did hs e w ∙ ap (grown (history_in hs)) did-i)
       (subst (MayDo set (history_in (hs ++ did e w ∷ [])) (Tick k.dom)) did-j may))
     where
       mine : (i : Item) (f : Event) → MayDo set (history_in hs) f (elements.Item i)
-          → ItemTouches (Unmet (Makes d step)) vias (history_in hs) (actor_of f) i.happened
-          → ItemTouches (Unmet (Makes d step)) vias (history_in hs) i.actor i.happened
-      mine i (Begin b q) m t = subst (λ a. ItemTouches (Unmet (Makes d step)) vias (history_in hs) a i.happened)
+          → ItemTouches (Unmet (Makes d step)) (history_in hs) (actor_of f) i.happened
+          → ItemTouches (Unmet (Makes d step)) (history_in hs) i.actor i.happened
+      mine i (Begin b q) m t = subst (λ a. ItemTouches (Unmet (Makes d step)) (history_in hs) a i.happened)
           (sym m.1.0) t
-      mine i (Tick b) m t = subst (λ a. ItemTouches (Unmet (Makes d step)) vias (history_in hs) a i.happened)
+      mine i (Tick b) m t = subst (λ a. ItemTouches (Unmet (Makes d step)) (history_in hs) a i.happened)
           (sym m.1.0) t
 
       by : (i j : Item) → (i.actor.0 == j.actor.0) ≡ false
-          → ItemTouches (Unmet (Makes d step)) vias (history_in hs) i.actor i.happened
+          → ItemTouches (Unmet (Makes d step)) (history_in hs) i.actor i.happened
           → MayDo set (i ∷ history_in hs) (Tick k.dom) (elements.Item j) → AreApart set (history_in hs) i j
       by i j apart t m = stepped j.happened m.1 m.2 where
         stepped : (x : ItemEvent) → IsItemOf (Tick k.dom) (record j { happened = x })
@@ -592,25 +597,25 @@ module _ (c : RunContents) where
             → AreApart set (history_in hs) i (record j { happened = x })
         stepped (Began q) of right = absurd of.1
         stepped (Stepped v seen) of right =
-            step-apart vias (history_in hs) i (record j { happened = Stepped v seen }) k.dom step u apart
-            (subst (λ b. ItemTouches (Unmet (Makes b step)) vias
+            step-apart grants (history_in hs) i (record j { happened = Stepped v seen }) k.dom step u apart
+            (subst (λ b. ItemTouches (Unmet (Makes b step))
             (history_in hs) i.actor i.happened) own t) of.0 is same v seen
             refl (subst (λ a. StepsRightIn set (i ∷ history_in hs) (record j { happened = Stepped v seen }) v seen
             (open_call (i ∷ history_in hs) a.0)) of.0 right) sound
 
   -- the next move of a domain is free to come before what another domain did, of which it meets nothing
-  move-free : (vias : Bool) (hs : List Happening) (k : Course) (move : NextMove) (choice : ℕ) (y x : Happening)
+  move-free : (grants : List GrantedEntry) (hs : List Happening) (k : Course) (move : NextMove) (choice : ℕ) (y x : Happening)
       (j : Course)
-      → IsNext hs k move → HappeningTouches (Unmet move) vias hs y → IsSound vias set (history_in hs)
+      → IsNext hs k move → HappeningTouches (Unmet move) hs y → IsSound grants set (history_in hs)
       → CourseLeads (type_names c.head) k choice x j
       → CanComeNext set hs y → CanComeNext set (hs ++ y ∷ []) x → ComesFree hs y x
-  move-free vias hs k move choice y x j next touches sound leads first may = by k.opened refl leads where
+  move-free grants hs k move choice y x j next touches sound leads first may = by k.opened refl leads where
     tick : (e : Element) → k.opened ≢ resting → x ≡ did (Tick k.dom) e → ComesFree hs y x
     tick e busy is = subst (ComesFree hs y) (sym is)
-        (tt, tick-free vias hs k move y e busy next touches sound first (subst (CanComeNext set (hs ++ y ∷ [])) is may))
+        (tt, tick-free grants hs k move y e busy next touches sound first (subst (CanComeNext set (hs ++ y ∷ [])) is may))
 
     by : (opened : Opened) → k.opened ≡ opened → OpenLeads (type_names c.head) k opened choice x j → ComesFree hs y x
-    by resting is l = rest-free vias hs k move k.tasks choice y x j is refl next touches l may
+    by resting is l = rest-free grants hs k move k.tasks choice y x j is refl next touches l may
     by (calling line call lost) is (none, e, did-is, to) =
         tick e (λ rest. let no : calling line call lost ≡ resting = sym is ∙ rest in cc) did-is
     by giving is (none, e, did-is, to) =
@@ -646,20 +651,24 @@ module _ (c : RunContents) where
           inr (is, it.4),
         )
 
-    module _ (p : ℕ) (k : Course) (move : NextMove) (on : inside p ≡ true) (use_at : ℕ → MappingUse) (vias : Bool)
-        (same_vias : (e : ℕ) → (use_at e).vias ≡ vias) (shut : List Bool) where
+    module _ (p : ℕ) (k : Course) (move : NextMove) (on : inside p ≡ true) (use_at : ℕ → MappingUse)
+        (grants : List GrantedEntry) (start : IsLikeReached set []) (shut : List Bool) where
       -- what the domains outside may touch before a shut flag is raised, the next move does not meet, and they raise none
       abbrev OthersUnmet : List Happening → List Course → Type 0
       OthersUnmet hs ks = (e : ℕ) (l : Course) → slice_get ks e ≡ Some l → inside e ≡ false
-          → Within (Unmet move) (use_at e) hs l.dom (reachable shut l.tasks) × TellNone shut (reachable shut l.tasks)
+          → Within (Unmet move) grants (use_at e) hs l.dom (reachable shut l.tasks) × TellNone shut (reachable shut l.tasks)
+
+      -- the handles of each domain were answered to it
+      abbrev AreAnswered : List Happening → List Course → Type 0
+      AreAnswered hs ks = (e : ℕ) (l : Course) → slice_get ks e ≡ Some l → WasAnsweredAll (history_in hs) l
 
       -- what the domain does can be pulled to the front
       pull : (hs : List Happening) (ks : List Course) (us : List Turn) (ls : List Course) → AllDiffer (numbers ks)
           → slice_get ks p ≡ Some k → IsNext hs k move → OthersUnmet hs ks → NoneRaised shut hs
-          → Grew (Unmet move) vias set (history_in hs)
+          → Grew grants set (history_in hs) → AreAnswered hs ks
           → IsFirst inside p us → Goes hs ks us ls → GoesFirst p k hs ks ls
-      pull hs ks [] ls differ here next unmet none grew first goes = absurd first
-      pull hs ks (u ∷ us) ls differ here next unmet none grew (inl same) (l, i, y, there, leads, may, goes) =
+      pull hs ks [] ls differ here next unmet none grew answered first goes = absurd first
+      pull hs ks (u ∷ us) ls differ here next unmet none grew answered (inl same) (l, i, y, there, leads, may, goes) =
           let is : l ≡ k = same_Some l k (sym there ∙ ap (λ n. slice_get ks n) same ∙ here) in (
             u.choice,
             i,
@@ -669,12 +678,12 @@ module _ (c : RunContents) where
             may,
             subst (λ n. Goes (hs ++ y ∷ []) (slice_set ks n i) us ls) same goes,
           )
-      pull hs ks (u ∷ us) ls differ here next unmet none grew (inr (out, first)) (l, i, y, there, leads, may, goes) =
+      pull hs ks (u ∷ us) ls differ here next unmet none grew answered (inr (out, first)) (l, i, y, there, leads, may, goes) =
           later (pull (hs ++ y ∷ []) (slice_set ks u.place i) us ls
           (subst AllDiffer (sym (numbers-set ks u.place l i there dom.0)) differ) (get-apart ks u.place p i apart
           ∙ here)
           (next-still hs k move y others may next) now (none-more shut hs y none told.1)
-          (happening-grew (Unmet move) vias set hs y may mine.1 grew) first goes)
+          (happening-grew grants set hs y may said grew) answered-now first goes)
         where
           dom : (i.dom ≡ l.dom) × (doer y ≡ l.dom)
           dom = leads-dom (type_names c.head) l i u.choice y leads
@@ -690,20 +699,31 @@ module _ (c : RunContents) where
           others : ((doer y).0 == k.dom.0) ≡ false
           others = differs p k here apart
 
-          sound : IsSound vias set (history_in hs)
-          sound = grew-sound (Unmet move) vias set (history_in hs) grew
+          sound : IsSound grants set (history_in hs)
+          sound = grew-sound grants set start (history_in hs) grew
 
           -- what the domain does before a shut flag is raised
           way : CourseLeads (type_names c.head) (cut shut l) u.choice y (cut shut i)
           way = cut-leads shut (type_names c.head) set hs none l i u.choice y may leads
 
-          mine : Within (Unmet move) (use_at u.place) (hs ++ y ∷ []) i.dom (reachable shut i.tasks)
-              × HappeningTouches (Unmet move) vias hs y
-          mine = subst (λ b. Within (Unmet move) (use_at u.place) (hs ++ y ∷ []) i.dom (reachable shut i.tasks)
-              × HappeningTouches (Unmet move) b hs y) (same_vias u.place)
-              (course-within (Unmet move) (use_at u.place) (type_names c.head) set hs (cut shut l) (cut shut i) u.choice y
-              way may (unmet u.place l there out).0
-              (subst (λ b. IsSound b set (history_in hs)) (sym (same_vias u.place)) sound))
+          mine : Within (Unmet move) grants (use_at u.place) (hs ++ y ∷ []) i.dom (reachable shut i.tasks)
+              × HappeningTouches (Unmet move) hs y
+          mine = course-within (Unmet move) grants (use_at u.place) (type_names c.head) set hs (cut shut l) (cut shut i)
+              u.choice y way may (unmet u.place l there out).0 sound
+
+          said : HappeningSaid grants set hs y
+          said = course-said grants set (type_names c.head) hs (cut shut l) (cut shut i) u.choice y way may
+              (tasks-listed (Unmet move) grants (use_at u.place) l.dom (reachable shut l.tasks)
+              (unmet u.place l there out).0.tasks_touch)
+              (left-answered (history_in hs) l (reachable shut l.tasks) (answered u.place l there))
+
+          answered-now : AreAnswered (hs ++ y ∷ []) (slice_set ks u.place i)
+          answered-now e m at = by (get_set ks u.place e i m at) where
+            by : ((e ≡ u.place) × (i ≡ m)) ⊎ ((e ≢ u.place) × (slice_get ks e ≡ Some m))
+                → WasAnsweredAll (history_in (hs ++ y ∷ [])) m
+            by (inl (same, is)) = subst (WasAnsweredAll (history_in (hs ++ y ∷ []))) is
+                (course-answered set hs l i (answered u.place l there) (type_names c.head) u.choice y leads may)
+            by (inr (other, was)) = others-answered hs y m (answered e m was)
 
           told : TellNone shut (reachable shut i.tasks) × RaisesNone shut y
           told = leads-tells shut (type_names c.head) (cut shut l) (cut shut i) u.choice y way (unmet u.place l there out).1
@@ -711,16 +731,16 @@ module _ (c : RunContents) where
           now : OthersUnmet (hs ++ y ∷ []) (slice_set ks u.place i)
           now e m at off = by (get_set ks u.place e i m at) where
             by : ((e ≡ u.place) × (i ≡ m)) ⊎ ((e ≢ u.place) × (slice_get ks e ≡ Some m))
-                → Within (Unmet move) (use_at e) (hs ++ y ∷ []) m.dom (reachable shut m.tasks)
+                → Within (Unmet move) grants (use_at e) (hs ++ y ∷ []) m.dom (reachable shut m.tasks)
                 × TellNone shut (reachable shut m.tasks)
             by (inl (same, is)) = (
-              subst (λ n. Within (Unmet move) (use_at n) (hs ++ y ∷ []) m.dom (reachable shut m.tasks)) (sym same)
-                  (subst (λ (z : Course). Within (Unmet move) (use_at u.place) (hs ++ y ∷ []) z.dom
+              subst (λ n. Within (Unmet move) grants (use_at n) (hs ++ y ∷ []) m.dom (reachable shut m.tasks)) (sym same)
+                  (subst (λ (z : Course). Within (Unmet move) grants (use_at u.place) (hs ++ y ∷ []) z.dom
                   (reachable shut z.tasks)) is mine.0),
               subst (λ (z : Course). TellNone shut (reachable shut z.tasks)) is told.0,
             )
             by (inr (other, was)) = (
-              others-within (Unmet move) (use_at e) set hs y m.dom (reachable shut m.tasks)
+              others-within (Unmet move) grants (use_at e) set hs y m.dom (reachable shut m.tasks)
                   (differs e m was (λ same. other (sym same))) may (unmet e m was off).0,
               (unmet e m was off).1,
             )
@@ -728,7 +748,7 @@ module _ (c : RunContents) where
           later : GoesFirst p k (hs ++ y ∷ []) (slice_set ks u.place i) ls → GoesFirst p k hs ks ls
           later (choice, j, x, more, lead, come, rest) =
               let own = leads-dom (type_names c.head) k j choice x lead in
-              let free = move-free vias hs k move choice y x j next mine.1 sound lead may come in
+              let free = move-free grants hs k move choice y x j next mine.1 sound lead may come in
               let both = swap-first set hs y x free.0 free.1
               (ap (λ (d : DomId). (doer y).0 == d.0) own.1 ∙ others) may come in (
                 choice,
@@ -929,29 +949,39 @@ module _ (c : RunContents) (scene : SearchContext) (hs : List Happening) (place 
 
   module _ (shut : List Bool) (move : NextMove)
       (own : (n : ℕ) (t : RunTask) → slice_get tasks n ≡ Some t → t.dom ≡ k.dom)
-      (some : (n : ℕ) (t : RunTask) → slice_get tasks n ≡ Some t → grants_via t ≡ true → scene.vias ≡ true) where
+      (some : (n : ℕ) (t : RunTask) → slice_get tasks n ≡ Some t → IsListed scene.grants.items t) where
+    abbrev grants : List GrantedEntry
+    grants = scene.grants.items
+
     abbrev uses : MappingUse
-    uses = use_of scene.vias (tasks_in_reach scene shut place a)
+    uses = use_of (tasks_in_reach scene shut place a)
 
     -- these tasks load and store only so, and the move meets none of them
     abbrev AreUnmet : List RunTask → Type 0
     AreUnmet ts = (list_any is_load ts ≡ true → uses.loads ≡ true) × (list_any is_store ts ≡ true → uses.stores ≡ true)
-        × (list_any (meets_task uses move) ts ≡ false)
+        × (list_any (meets_task grants uses move) ts ≡ false)
 
-    task-unmet : (t : RunTask) (ts : List RunTask) → t.dom ≡ k.dom → (grants_via t ≡ true → scene.vias ≡ true)
-        → (AreUnmet (reach shut ts) → TasksTouch (Unmet move) uses k.dom (reach shut ts))
-        → AreUnmet (reach shut (t ∷ ts)) → TasksTouch (Unmet move) uses k.dom (reach shut (t ∷ ts))
-    task-unmet t ts mine vias more = by (awaits_shut shut t) where
+    task-unmet : (t : RunTask) (ts : List RunTask) → t.dom ≡ k.dom → IsListed grants t
+        → (AreUnmet (reach shut ts) → TasksTouch (Unmet move) grants uses k.dom (reach shut ts))
+        → AreUnmet (reach shut (t ∷ ts)) → TasksTouch (Unmet move) grants uses k.dom (reach shut (t ∷ ts))
+    task-unmet t ts mine listed more = by (awaits_shut shut t) where
+      line : IsListedLine grants k.dom t.run_action
+      line = subst (λ (d : DomId). IsListedLine grants d t.run_action) mine
+          (record { lists = listed.lists; fits = listed.fits })
+
       by : (b : Bool) → AreUnmet (cond b [] (t ∷ reach shut ts))
-          → TasksTouch (Unmet move) uses k.dom (cond b [] (t ∷ reach shut ts))
+          → TasksTouch (Unmet move) grants uses k.dom (cond b [] (t ∷ reach shut ts))
       by true unmet = tt
       by false unmet =
-          let both = or-false (meets_task uses move t) (list_any (meets_task uses move) (reach shut ts)) unmet.2 in (
-            unmet-run_action uses move k.dom t mine (
-              (λ e. unmet.0 (or-first (is_load t) (list_any is_load (reach shut ts)) e)),
-              (λ e. unmet.1 (or-first (is_store t) (list_any is_store (reach shut ts)) e)),
-              vias,
-            ) both.0,
+          let both = or-false (meets_task grants uses move t) (list_any (meets_task grants uses move) (reach shut ts))
+          unmet.2 in (
+            (
+              unmet-run_action grants uses move k.dom t mine (
+                (λ e. unmet.0 (or-first (is_load t) (list_any is_load (reach shut ts)) e)),
+                (λ e. unmet.1 (or-first (is_store t) (list_any is_store (reach shut ts)) e)),
+              ) both.0,
+              line,
+            ),
             more (
               (λ e. unmet.0 (or-second (is_load t) (list_any is_load (reach shut ts)) e)),
               (λ e. unmet.1 (or-second (is_store t) (list_any is_store (reach shut ts)) e)),
@@ -960,19 +990,19 @@ module _ (c : RunContents) (scene : SearchContext) (hs : List Happening) (place 
           )
 
     tasks-unmet : (n : ℕ) (ts : List RunTask) → ((m : ℕ) (t : RunTask) → slice_get ts m ≡ Some t → t.dom ≡ k.dom)
-        → ((m : ℕ) (t : RunTask) → slice_get ts m ≡ Some t → grants_via t ≡ true → scene.vias ≡ true)
-        → AreUnmet (reach shut (drop n ts)) → TasksTouch (Unmet move) uses k.dom (reach shut (drop n ts))
-    tasks-unmet zero [] mine vias unmet = tt
-    tasks-unmet (suc n) [] mine vias unmet = tt
-    tasks-unmet zero (t ∷ ts) mine vias unmet =
-        task-unmet t ts (mine 0 t refl) (vias 0 t refl)
-        (tasks-unmet zero ts (λ m. mine (suc m)) (λ m. vias (suc m))) unmet
-    tasks-unmet (suc n) (t ∷ ts) mine vias unmet = tasks-unmet n ts (λ m. mine (suc m)) (λ m. vias (suc m)) unmet
+        → ((m : ℕ) (t : RunTask) → slice_get ts m ≡ Some t → IsListed grants t)
+        → AreUnmet (reach shut (drop n ts)) → TasksTouch (Unmet move) grants uses k.dom (reach shut (drop n ts))
+    tasks-unmet zero [] mine listed unmet = tt
+    tasks-unmet (suc n) [] mine listed unmet = tt
+    tasks-unmet zero (t ∷ ts) mine listed unmet =
+        task-unmet t ts (mine 0 t refl) (listed 0 t refl)
+        (tasks-unmet zero ts (λ m. mine (suc m)) (λ m. listed (suc m))) unmet
+    tasks-unmet (suc n) (t ∷ ts) mine listed unmet = tasks-unmet n ts (λ m. mine (suc m)) (λ m. listed (suc m)) unmet
 
     pins-unmet : (ls : List LabelledMapping) (ms : List (Handle × HeldPin))
         → mapping_pins ls ≡ map (λ (m : Handle × HeldPin). m.1) ms
         → list_any (λ (m : LabelledMapping). meets_mapping uses move m.held) ls ≡ false
-        → PinsTouch (Unmet move) uses ms
+        → PinsTouch (Unmet move) grants uses ms
     pins-unmet [] [] same none = tt
     pins-unmet [] (m ∷ ms) same none = absurd (cc)
     pins-unmet (l ∷ ls) [] same none = absurd (cc)
@@ -987,25 +1017,25 @@ module _ (c : RunContents) (scene : SearchContext) (hs : List Happening) (place 
 
     later-unmet : (o : ActorCall) (u : Underway) (opened : Opened)
         → ShowsOpen s h tasks k a.next opened (Some u) (Some o)
-        → TasksTouch (Unmet move) uses k.dom (reach shut (drop (first_of a.next o.task) tasks))
-        → RequestTouches (Unmet move) uses k.dom u.request
+        → TasksTouch (Unmet move) grants uses k.dom (reach shut (drop (first_of a.next o.task) tasks))
+        → RequestTouches (Unmet move) grants uses k.dom u.request
     later-unmet o u resting opens all = absurd opens
     later-unmet o u (calling line call lost) (along, task, said, held) all =
-        let whole = subst (TasksTouch (Unmet move) uses k.dom)
+        let whole = subst (TasksTouch (Unmet move) grants uses k.dom)
         (ap (λ (t : Option ℕ). reach shut (drop (first_of a.next t) tasks)) task.task_is
         ∙ ap (reach shut) (drop_here tasks task.place task.of_task task.there)
         ∙ reach-first shut task.of_task (drop (suc task.place) tasks)
         (line-on-way shut task.of_task call task.action_is))
         all in
-        subst (RequestTouches (Unmet move) uses k.dom) (sym said.asks)
-        (said-touches (Unmet move) uses said.named k.dom call said.request said.makes
-        (subst (ActionTouches (Unmet move) uses k.dom) task.action_is whole.0))
+        subst (RequestTouches (Unmet move) grants uses k.dom) (sym said.asks)
+        (said-touches (Unmet move) grants uses said.named k.dom call said.request said.makes
+        (subst (ActionTouches (Unmet move) grants uses k.dom) task.action_is whole.0.0))
     later-unmet o u giving (along, task, released) all =
-        subst (RequestTouches (Unmet move) uses k.dom) (sym released.1) tt
+        subst (RequestTouches (Unmet move) grants uses k.dom) (sym released.1) tt
 
     left-unmet : (o : Option ActorCall) (u : Option Underway) → ShowsOpen s h tasks k a.next k.opened u o
-        → TasksTouch (Unmet move) uses k.dom (reach shut (drop (first_left (record a { «open» = o })) tasks))
-        → CallWithin (Unmet move) uses k.dom u
+        → TasksTouch (Unmet move) grants uses k.dom (reach shut (drop (first_left (record a { «open» = o })) tasks))
+        → CallWithin (Unmet move) grants uses k.dom u
     left-unmet o None opens all = tt
     left-unmet None (Some u) opens all = absurd (closed k.opened opens) where
       closed : (opened : Opened) → ShowsOpen s h tasks k a.next opened (Some u) None → ⊥
@@ -1014,13 +1044,13 @@ module _ (c : RunContents) (scene : SearchContext) (hs : List Happening) (place 
       closed giving x = x
     left-unmet (Some o) (Some u) opens all = later-unmet o u k.opened opens all
 
-    pub is-within : may_meet move scene shut place a ≡ false → Within (Unmet move) uses hs k.dom (reach shut k.tasks)
+    pub is-within : may_meet move scene shut place a ≡ false → Within (Unmet move) grants uses hs k.dom (reach shut k.tasks)
     is-within none =
         let both = or-false (list_any (λ (m : LabelledMapping). meets_mapping uses move m.held) a.mappings.items)
-        (list_any (meets_task uses move) (tasks_in_reach scene shut place a)) none in
+        (list_any (meets_task grants uses move) (tasks_in_reach scene shut place a)) none in
         let all = tasks-unmet (first_left a) tasks own some ((λ e. e), (λ e. e), both.1) in
         record {
-          tasks_touch = not-begun shut (TasksTouch (Unmet move) uses k.dom) (λ t ts touch. touch.1) all;
+          tasks_touch = not-begun shut (TasksTouch (Unmet move) grants uses k.dom) (λ t ts touch. touch.1) all;
           past = record {
             maps = pins-unmet a.mappings.items (mappings_at h k.dom.0) show.pins both.0;
             call = left-unmet a.«open» (open_call h k.dom.0) show.opens all;
@@ -1045,12 +1075,6 @@ numbered : (c : RunContents) (ks : List Course) → map (λ (k : Course). k.dom)
 numbered c ks domains apart = subst AllDiffer (sym (numbers-as ks c.head.domains domains))
     (all-differ c.head.domains apart)
 
--- each item of a run is right after those before it
-run-legal : (s : Setting) (h : History) → IsRun s h → IsLegalHistory s h
-unfolding IsRun IsLegalHistory
-run-legal s [] run = tt
-run-legal s (i ∷ h) run = (run.0, run-legal s h run.2)
-
 module _ (scene : SearchContext) (w : SearchState) (turns : List Turn) (members shut : List Bool)
     (stay : StayShut scene w members shut) (undisturbed : AreUndisturbed scene w members shut) (c : RunContents) (hs : List Happening) (ks : List Course)
     (is : IsSceneOf c scene) (shows : SceneShows c scene hs ks w) where
@@ -1067,29 +1091,20 @@ module _ (scene : SearchContext) (w : SearchState) (turns : List Turn) (members 
 
   -- what the domain at this position does through its mappings
   abbrev use_in : Option Actor → ℕ → MappingUse
-  use_in None e = record { loads = true; stores = true; vias = scene.vias }
-  use_in (Some b) e = use_of scene.vias (tasks_in_reach scene shut e b)
+  use_in None e = record { loads = true; stores = true }
+  use_in (Some b) e = use_of (tasks_in_reach scene shut e b)
 
   abbrev use_at : ℕ → MappingUse
   use_at e = use_in (slice_get w.actors.items e) e
-
-  same-vias : (e : ℕ) → (use_at e).vias ≡ scene.vias
-  same-vias e = by (slice_get w.actors.items e) where
-    by : (o : Option Actor) → (use_in o e).vias ≡ scene.vias
-    by None = refl
-    by (Some b) = refl
 
   -- no shut flag was raised
   none-raised : NoneRaised shut hs
   none-raised flag is was = false≢true (sym (stay.unraised flag
       (told-get w.told.items flag (shows.told flag was))) ∙ is)
 
-  -- what happened is a legal history of calls of the script
-  grew : (move : NextMove) → Grew (Unmet move) scene.vias (setting_of_script c.head) (history_in hs)
-  grew move = record {
-    legal = run-legal (setting_of_script c.head) (history_in hs) shows.like.1.first;
-    asked = shows.asked;
-  }
+  -- what happened is a run of calls of the script
+  grew : Grew scene.grants.items (setting_of_script c.head) (history_in hs)
+  grew = record { run = shows.like.1.first; asked = shows.asked }
 
   -- a domain of the set goes first, by one of these turns
   by-first : (p : ℕ) (k : Course) (us : List Turn) (ls : List Course) → member p ≡ true → slice_get ks p ≡ Some k
@@ -1099,10 +1114,10 @@ module _ (scene : SearchContext) (w : SearchState) (turns : List Turn) (members 
   by-first p k us ls on here first way =
       let a = actor-at p k here in
       let show = shows.each p k a.0 here a.1 in
-      let it = pull c member p k (next_move scene w.told.items p a.0) on use_at scene.vias same-vias shut hs ks us ls
+      let it = pull c member p k (next_move scene w.told.items p a.0) on use_at scene.grants.items (scene-starts c scene is) shut hs ks us ls
       (numbered c ks shows.domains is.setting.apart) here
       (is-next c scene hs p k a.0 show w.told.items shows.heard) (others a.0 a.1) none-raised
-      (grew (next_move scene w.told.items p a.0)) first way in (
+      grew shows.answered first way in (
         a.0,
         a.1,
         (
@@ -1113,14 +1128,14 @@ module _ (scene : SearchContext) (w : SearchState) (turns : List Turn) (members 
       )
     where
       others : (a : Actor) → slice_get w.actors.items p ≡ Some a
-          → OthersUnmet c member p k (next_move scene w.told.items p a) on use_at scene.vias same-vias shut hs ks
+          → OthersUnmet c member p k (next_move scene w.told.items p a) on use_at scene.grants.items (scene-starts c scene is) shut hs ks
       others a there e l at out =
           let other = actor-at e l at in
           let show = shows.each e l other.0 at other.1 in (
-            subst (λ o. Within (Unmet (next_move scene w.told.items p a)) (use_in o e) hs l.dom
+            subst (λ o. Within (Unmet (next_move scene w.told.items p a)) scene.grants.items (use_in o e) hs l.dom
                 (reachable shut l.tasks)) (sym other.1)
                 (is-within c scene hs e l other.0 show shut (next_move scene w.told.items p a)
-                (task-own c scene hs ks w e l other.0 is shows at other.1) (task-vias c scene is e)
+                (task-own c scene hs ks w e l other.0 is shows at other.1) (task-listed c scene is e)
                 (undisturbed p e a other.0 there other.1 on out)),
             is-untold c scene hs e l other.0 show shut
                 (stay.untold e other.0 (slice_get_within w.actors.items e other.0 other.1) other.1 out),

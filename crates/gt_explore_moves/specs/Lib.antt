@@ -3,6 +3,7 @@ pub mod Calls
 pub mod Continuing
 pub mod Copies
 pub mod Ends
+pub mod Granting
 pub mod Mappings
 pub mod Parts
 pub mod Placing
@@ -14,4 +15,3 @@ pub mod Starting
 pub mod Swapping
 pub mod Ticking
 pub mod Touches
-pub mod Transitive

@@ -1,6 +1,5 @@
 -- When a state of a search shows a run of a script at some point.
-use Rattle.std.specs.Prelude.{◌≡◌, ◌++◌, ℕ, true, List, [], ◌∷◌, length, map, Some, slice_get, slice_set}
-use Rattle.std.specs.List.{list_any}
+use Rattle.std.specs.Prelude.{◌≡◌, ◌++◌, ℕ, true, List, [], ◌∷◌, length, map, Some, slice_get, slice_set, All}
 use Rattle.gt_explore_moves.specs.Prelude.{IsWithinLimits, History, setting_of_script, may_by, may_in, CanComeNext}
 use Rattle.gt_explore_moves.specs.Prelude.{HaveAnswered, WereAnswered, history_in, Course, CourseLeads, Happening}
 use Rattle.gt_explore_moves.specs.Prelude.{IsRaisedBefore, type_names, RunContents, list_of, AreNumbered, TurnResult, IsLikeReached}
@@ -8,7 +7,7 @@ use Rattle.gt_explore_moves.specs.Prelude.{IsSettingOf, PagesShow, TablesShow}
 use Rattle.gt_explore_moves.specs.Calls.{ShowsCalls}
 use Rattle.gt_explore_moves.specs.Ends.{tasks_at}
 use Rattle.gt_explore_moves.specs.Starting.{Grows}
-use Rattle.gt_explore_moves.specs.Transitive.{AllOfScript, grants_via}
+use Rattle.gt_explore_moves.specs.Granting.{AllOfScript, IsListed}
 use Rattle.gt_explore_moves.specs.declared.actor.Actor.{Actor}
 use Rattle.gt_explore_moves.specs.declared.scene.SearchContext.{SearchContext}
 use Rattle.gt_explore_moves.specs.declared.scene.SearchState.{SearchState}
@@ -23,7 +22,7 @@ pub record IsSceneOf (c : RunContents) (scene : SearchContext) : Type 0 where
       ≡ map (λ d. list_of c.tasks d.id) c.head.domains
   pub flags : scene.flags ≡ c.flags
   pub numbered : AreNumbered c.flags c.tasks
-  pub vias : scene.vias ≡ list_any grants_via c.tasks
+  pub grants : All (IsListed scene.grants.items) c.tasks
 
 -- the domain of a course was given each handle that its labels name, and each that it has
 pub record WasAnsweredAll (h : History) (k : Course) : Type 0 where
@@ -40,7 +39,7 @@ pub record SceneShows (c : RunContents) (scene : SearchContext) (hs : List Happe
   pub tables : TablesShow (setting_of_script c.head) (history_in hs) w.ground.tables.items
   pub pages : PagesShow (history_in hs) w.ground.pages.items
   pub like : IsLikeReached (setting_of_script c.head) (history_in hs)
-  pub asked : AllOfScript scene.vias (history_in hs)
+  pub asked : AllOfScript (setting_of_script c.head) scene.grants.items (history_in hs)
   pub flags : length w.told.items ≡ c.flags
   pub told : (flag : ℕ) → IsRaisedBefore (length hs) flag hs → slice_get w.told.items flag ≡ Some true
   pub heard : (flag : ℕ) → slice_get w.told.items flag ≡ Some true → IsRaisedBefore (length hs) flag hs

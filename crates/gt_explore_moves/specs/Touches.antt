@@ -5,6 +5,8 @@ use Rattle.std.specs.Prelude.{Option, Some, None, slice_get, get_or}
 use Rattle.std.specs.List.{list_any}
 use Rattle.gt_types.specs.Copies.{is_dest_granted, is_source_granted}
 use Rattle.gt_types.specs.Names.{resolved}
+use Rattle.gt_types.specs.declared.Dir.{Dir}
+use Rattle.gt_types.specs.declared.Dir.TheVariants as dirs
 use Rattle.gt_types.specs.declared.DomId.{DomId}
 use Rattle.gt_types.specs.declared.GrantRef.{GrantRef}
 use Rattle.gt_types.specs.declared.copies.CopyArgs.{CopyArgs}
@@ -13,8 +15,10 @@ use Rattle.gt_model.specs.declared.action.Step.TheVariants.{Unpin}
 use Rattle.gt_model.specs.declared.action.Step.TheVariants as call_steps
 use Rattle.gt_model.specs.declared.held.HeldPin.{HeldPin}
 use Rattle.gt_model.specs.Path.{gref_of}
-use Rattle.gt_explore_moves.specs.Swapping.{touches_entry, looks_header, reads_frames, stores_header, writes_frames}
+use Rattle.gt_explore_moves.specs.Swapping.{touches_entry, looks_header, stores_header}
 use Rattle.gt_model.specs.Entries.{frame_of}
+use Rattle.gt_model.specs.declared.entry.Entry.{Entry}
+use Rattle.gt_model.specs.declared.entry.Entry.TheVariants.{Via}
 use Rattle.gt_script_lines.specs.declared.calls.ScriptCall.{ScriptCall}
 use Rattle.gt_script_lines.specs.declared.calls.ScriptCall.TheVariants as script_calls
 use Rattle.gt_script.specs.Lists.{RunTask, RunAction}
@@ -22,13 +26,15 @@ use Rattle.gt_script.specs.declared.tasks.RunActionBy.TheVariants.{Await, Do, Te
 use Rattle.gt_explore_search.specs.declared.spaces.Turn.{Turn}
 use Rattle.gt_explore_moves.specs.Ends.{choices_in, is_done, tasks_at, turns_by, turns_from}
 use Rattle.gt_explore_moves.specs.declared.actor.Actor.{Actor}
+use Rattle.gt_explore_moves.specs.declared.granted.GrantedEntry.{GrantedEntry}
 use Rattle.gt_explore_moves.specs.declared.actor.ActorCall.{ActorCall}
 use Rattle.gt_explore_moves.specs.declared.actor.LabelledMapping.{LabelledMapping}
 use Rattle.gt_explore_moves.specs.declared.scene.SearchContext.{SearchContext}
 use Rattle.gt_explore_moves.specs.declared.scene.SearchState.{SearchState}
 use Rattle.gt_explore_moves.specs.declared.touches.Touch.{Touch}
-use Rattle.gt_explore_moves.specs.declared.touches.Touch.TheVariants.{Entry, LooksHeader, StoresHeader, Reads, Writes}
+use Rattle.gt_explore_moves.specs.declared.touches.Touch.TheVariants.{LooksHeader, StoresHeader, Reads, Writes}
 use Rattle.gt_explore_moves.specs.declared.touches.Touch.TheVariants.{Raises}
+use Rattle.gt_explore_moves.specs.declared.touches.Touch.TheVariants as touches
 use Rattle.gt_explore_moves.specs.declared.touches.MappingUse.{MappingUse}
 use Rattle.gt_explore_moves.specs.declared.touches.NextMove.{NextMove}
 use Rattle.gt_explore_moves.specs.declared.touches.NextMove.TheVariants.{Makes, Awaits, Free}
@@ -66,7 +72,7 @@ writes_frame_at step t f = false
 
 -- the step of domain d conflicts with this touch of another domain: both are of the same part, and one changes it
 abbrev pub step_meets : DomId → Step → Touch → Bool
-step_meets d z (Entry dom gref) = is_on d z dom.0 gref.0
+step_meets d z (touches.Entry dom gref) = is_on d z dom.0 gref.0
 step_meets d z (LooksHeader dom) = stores_header d z dom.0
 step_meets d z (StoresHeader dom) = looks_header z dom.0
 step_meets d z (Reads dom frame) = writes_frame_at z dom.0 frame
@@ -80,15 +86,6 @@ meets (Makes d z) touch = step_meets d z touch
 meets (Awaits flag) (Raises raised) = raised == flag
 meets (Awaits flag) touch = false
 meets Free touch = false
-
--- the next move writes to a frame of this domain; it reads or writes a frame of this domain
-abbrev pub meets_reads : NextMove → DomId → Bool
-meets_reads (Makes d z) t = writes_frames z t.0
-meets_reads next t = false
-
-abbrev pub meets_writes : NextMove → DomId → Bool
-meets_writes (Makes d z) t = reads_frames z t.0 || writes_frames z t.0
-meets_writes next t = false
 
 -- the next move writes bytes; it reads or writes bytes
 abbrev pub next_writes : NextMove → Bool
@@ -124,9 +121,9 @@ is_store t = by t.run_action
     by (Do call) = of_call call
     by run_action = false
 
--- what these tasks do through mappings; a copy may go through a transitive entry if the script may grant one
-abbrev pub use_of : Bool → List RunTask → MappingUse
-use_of vias ts = record { loads = list_any is_load ts; stores = list_any is_store ts; vias = vias }
+-- what these tasks do through mappings
+abbrev pub use_of : List RunTask → MappingUse
+use_of ts = record { loads = list_any is_load ts; stores = list_any is_store ts }
 
 -- the next move conflicts with these uses of a mapping, if both are of the same frame
 abbrev pub meets_bytes : MappingUse → NextMove → Bool
@@ -135,59 +132,93 @@ meets_bytes uses next = (uses.loads && next_writes next) || (uses.stores && next
 -- it meets the entry on which a mapping has its pin, or conflicts with these uses of the mapping's frame
 abbrev pub meets_mapping : MappingUse → NextMove → HeldPin → Bool
 meets_mapping uses next p =
-    meets next (Entry p.dom p.gref)
+    meets next (touches.Entry p.dom p.gref)
     || (uses.loads && meets next (Reads p.dom (frame_of p.entry)))
     || (uses.stores && meets next (Writes p.dom (frame_of p.entry)))
+
+-- entries that the script may grant
+
+-- the entry is one that this domain may grant under this reference
+abbrev pub is_grant_of : DomId → GrantRef → GrantedEntry → Bool
+is_grant_of t r g = (g.owner.0 == t.0) && (g.gref.0 == r.0)
+
+-- the next move conflicts with these uses of a frame
+abbrev pub meets_uses : MappingUse → NextMove → DomId → ℕ → Bool
+meets_uses uses next t f = (uses.loads && meets next (Reads t f)) || (uses.stores && meets next (Writes t f))
+
+-- it conflicts with these uses of a frame that the entry may grant
+abbrev pub meets_mapped : List GrantedEntry → MappingUse → NextMove → DomId → GrantRef → Bool
+meets_mapped grants uses next t r =
+    meets_bytes uses next && list_any (λ (g : GrantedEntry). is_grant_of t r g && meets_uses uses next t (frame_of g.entry)) grants
+
+-- a frame is read, or written
+abbrev pub frame_touch : Dir → DomId → ℕ → Touch
+frame_touch dirs.Read t f = Reads t f
+frame_touch dirs.Write t f = Writes t f
 
 -- the next move, and a call of another domain
 
 abbrev pub meets_leg : NextMove → DomId → GrantRef → Bool
-meets_leg next dom gref = meets next (LooksHeader dom) || meets next (Entry dom gref)
+meets_leg next dom gref = meets next (LooksHeader dom) || meets next (touches.Entry dom gref)
 
--- it meets an end of a copy of domain d: the entry that names the end and each frame of the entry's owner, or the own
--- frame that the end names
-abbrev pub meets_source : NextMove → DomId → CopyArgs → Bool
-meets_source next d c =
+-- it meets the access to a frame that the entry may grant
+abbrev pub meets_last : List GrantedEntry → NextMove → Dir → DomId → GrantRef → Bool
+meets_last grants next dir t r =
+    list_any (λ (g : GrantedEntry). is_grant_of t r g && meets next (frame_touch dir t (frame_of g.entry))) grants
+
+-- it meets what comes after the pin on such an entry of domain t: the access to its frame, or the entry that a
+-- transitive one leads to, with the access to a frame that this one may grant
+abbrev pub meets_beyond : List GrantedEntry → NextMove → Dir → DomId → Entry → Bool
+meets_beyond grants next dir t (Via dom ro dom2 gref) = meets_leg next dom2 gref || meets_last grants next dir dom2 gref
+meets_beyond grants next dir t e = meets next (frame_touch dir t (frame_of e))
+
+-- it meets what a copy may touch at this end: the entry that names the end, and what comes after the pin on it
+abbrev pub meets_end : List GrantedEntry → NextMove → Dir → DomId → GrantRef → Bool
+meets_end grants next dir t r =
+    meets_leg next t r
+    || list_any (λ (g : GrantedEntry). is_grant_of t r g && meets_beyond grants next dir t g.entry) grants
+
+-- it meets an end of a copy of domain d: one that a reference names, or the own frame that the end names
+abbrev pub meets_source : List GrantedEntry → NextMove → DomId → CopyArgs → Bool
+meets_source grants next d c =
     if is_source_granted c
-    then meets_leg next (resolved d c.source.domid) (gref_of c.source.ptr)
-    || meets_reads next (resolved d c.source.domid)
+    then meets_end grants next dirs.Read (resolved d c.source.domid) (gref_of c.source.ptr)
     else meets next (Reads d c.source.ptr)
 
-abbrev pub meets_dest : NextMove → DomId → CopyArgs → Bool
-meets_dest next d c =
+abbrev pub meets_dest : List GrantedEntry → NextMove → DomId → CopyArgs → Bool
+meets_dest grants next d c =
     if is_dest_granted c
-    then meets_leg next (resolved d c.dest.domid) (gref_of c.dest.ptr)
-    || meets_writes next (resolved d c.dest.domid)
+    then meets_end grants next dirs.Write (resolved d c.dest.domid) (gref_of c.dest.ptr)
     else meets next (Writes d c.dest.ptr)
 
 -- it meets something that the call of domain d may touch, or may touch through the mapping that it makes; what is done
 -- through other mappings is counted with those
-abbrev pub meets_call : MappingUse → NextMove → DomId → ScriptCall → Bool
-meets_call uses next d (script_calls.Grant gref entry) = meets next (Entry d gref)
-meets_call uses next d (script_calls.GrantBytes gref hex) = meets next (Entry d gref)
-meets_call uses next d (script_calls.Revoke gref) = meets next (Entry d gref)
-meets_call uses next d (script_calls.Withdraw gref) = meets next (Entry d gref)
-meets_call uses next d (script_calls.Demote gref) = meets next (Entry d gref)
-meets_call uses next d (script_calls.Promote gref) = meets next (Entry d gref)
-meets_call uses next d (script_calls.Map label dom gref flags) =
-    meets_leg next (resolved d dom) gref || meets_bytes uses next
-meets_call uses next d (script_calls.Unmap label) = false
-meets_call uses next d (script_calls.Load label off len) = false
-meets_call uses next d (script_calls.Store label off hex) = false
-meets_call uses next d (script_calls.Peek frame off len) = meets next (Reads d frame)
-meets_call uses next d (script_calls.Poke frame off hex) = meets next (Writes d frame)
-meets_call uses next d (script_calls.Copy c) = uses.vias || meets_source next d c || meets_dest next d c
-meets_call uses next d (script_calls.SetVersion version) = meets next (StoresHeader d)
-meets_call uses next d (script_calls.SetupTable frames) = meets next (StoresHeader d)
-meets_call uses next d (script_calls.QuerySize dom) = meets next (LooksHeader (resolved d dom))
-meets_call uses next d (script_calls.GetVersion dom) = meets next (LooksHeader (resolved d dom))
+abbrev pub meets_call : List GrantedEntry → MappingUse → NextMove → DomId → ScriptCall → Bool
+meets_call grants uses next d (script_calls.Grant gref entry) = meets next (touches.Entry d gref)
+meets_call grants uses next d (script_calls.GrantBytes gref hex) = meets next (touches.Entry d gref)
+meets_call grants uses next d (script_calls.Revoke gref) = meets next (touches.Entry d gref)
+meets_call grants uses next d (script_calls.Withdraw gref) = meets next (touches.Entry d gref)
+meets_call grants uses next d (script_calls.Demote gref) = meets next (touches.Entry d gref)
+meets_call grants uses next d (script_calls.Promote gref) = meets next (touches.Entry d gref)
+meets_call grants uses next d (script_calls.Map label dom gref flags) =
+    meets_leg next (resolved d dom) gref || meets_mapped grants uses next (resolved d dom) gref
+meets_call grants uses next d (script_calls.Unmap label) = false
+meets_call grants uses next d (script_calls.Load label off len) = false
+meets_call grants uses next d (script_calls.Store label off hex) = false
+meets_call grants uses next d (script_calls.Peek frame off len) = meets next (Reads d frame)
+meets_call grants uses next d (script_calls.Poke frame off hex) = meets next (Writes d frame)
+meets_call grants uses next d (script_calls.Copy c) = meets_source grants next d c || meets_dest grants next d c
+meets_call grants uses next d (script_calls.SetVersion version) = meets next (StoresHeader d)
+meets_call grants uses next d (script_calls.SetupTable frames) = meets next (StoresHeader d)
+meets_call grants uses next d (script_calls.QuerySize dom) = meets next (LooksHeader (resolved d dom))
+meets_call grants uses next d (script_calls.GetVersion dom) = meets next (LooksHeader (resolved d dom))
 
 -- it meets something that the task may touch
-abbrev pub meets_task : MappingUse → NextMove → RunTask → Bool
-meets_task uses next t = by t.run_action
+abbrev pub meets_task : List GrantedEntry → MappingUse → NextMove → RunTask → Bool
+meets_task grants uses next t = by t.run_action
   where
     by : RunAction → Bool
-    by (Do call) = meets_call uses next t.dom call
+    by (Do call) = meets_call grants uses next t.dom call
     by (Tell flag) = meets next (Raises flag)
     by (Await flag) = false
 
@@ -245,9 +276,8 @@ tasks_in_reach s shut place a = reachable shut (tasks_unfinished s place a)
 -- mapping has its pin, the frame of a mapping, or what a task in reach touches
 abbrev pub may_meet : NextMove → SearchContext → List Bool → ℕ → Actor → Bool
 may_meet next s shut place a =
-    list_any (λ (m : LabelledMapping). meets_mapping (use_of s.vias (tasks_in_reach s shut place a)) next m.held)
-    a.mappings.items
-    || list_any (meets_task (use_of s.vias (tasks_in_reach s shut place a)) next) (tasks_in_reach s shut place a)
+    list_any (λ (m : LabelledMapping). meets_mapping (use_of (tasks_in_reach s shut place a)) next m.held) a.mappings.items
+    || list_any (meets_task s.grants.items (use_of (tasks_in_reach s shut place a)) next) (tasks_in_reach s shut place a)
 
 -- what a domain without an open call does next: it waits, unless the flag was raised, or is free to go on
 abbrev pub next_at_rest : List Bool → Option RunTask → NextMove

@@ -18,6 +18,7 @@
 mod actor;
 mod calls;
 mod digests;
+mod granted;
 mod laws;
 mod moves;
 mod names;

@@ -36,8 +36,8 @@ fn entry_fits(entry: Entry)
     ensures { IsEntry entry }
 {}
 
-// A law: the request of a line's call fits its types.
-fn said_fits(call: &ScriptCall<'_>)
+/// A law: the request of a line's call fits its types.
+pub fn said_fits(call: &ScriptCall<'_>)
     ensures { (named : List Named) (dom : DomId) (request : Request) →
         MakesRequest named dom call.now request → FitsAsked (asked request) }
 {

@@ -8,7 +8,7 @@ ghost use Rattle.gt_types.specs.Config.{IsWithinLimits};
 ghost use Rattle.gt_explore_state.specs.Shows.{IsSettingOf};
 
 use crate::actor::Actor;
-use crate::touches::any_grants_via;
+use crate::granted::{GrantedEntry, entries_granted};
 use gt_explore_search::SearchFault;
 use gt_explore_state::SparseState;
 use gt_roster::Roster;
@@ -29,8 +29,8 @@ pub struct SearchContext<'s, 'a> {
     pub lists: Vec<Vec<&'s RunTask<'a>>>,
     /// The number of flags.
     pub flags: usize,
-    /// Whether a task may grant a transitive entry.
-    pub vias: bool,
+    /// The entries that the tasks may grant.
+    pub grants: Vec<GrantedEntry>,
 }
 
 /// A state: all that decides how a run can continue, without the answers so far.
@@ -118,7 +118,7 @@ impl<'s, 'a> SearchContext<'s, 'a> {
     {
         let head = script.head();
         let lists = lists_of(alloc, script, head.domains())?;
-        let vias = any_grants_via(alloc, script.tasks())?;
+        let grants = entries_granted(alloc, script.tasks())?;
         Ok(SearchContext {
             alloc,
             roster: roster_of(alloc, head)?,
@@ -126,7 +126,7 @@ impl<'s, 'a> SearchContext<'s, 'a> {
             types: head.type_names(alloc)?,
             lists,
             flags: script.flags(),
-            vias,
+            grants,
         })
     }
 

@@ -3,21 +3,23 @@ ghost use Rattle.std.specs.Prelude.{◌≡◌, IfOk};
 ghost use Rattle.std.specs.List.{list_any};
 ghost use Rattle.gt_explore_moves.specs.declared.actor.LabelledMapping.{LabelledMapping};
 ghost use Rattle.gt_model.specs.Path.{gref_of};
-ghost use Rattle.gt_explore_moves.specs.Swapping.{looks_header, reads_frames, stores_header, writes_frames};
+ghost use Rattle.gt_explore_moves.specs.Swapping.{looks_header, stores_header};
 ghost use Rattle.gt_explore_moves.specs.Touches.{is_access_step, is_load, is_on, is_store, is_write, meets};
 ghost use Rattle.gt_explore_moves.specs.Touches.{meets_bytes};
-ghost use Rattle.gt_explore_moves.specs.Touches.{meets_call, meets_dest, meets_leg, meets_mapping, meets_reads};
-ghost use Rattle.gt_explore_moves.specs.Touches.{meets_source, meets_task, meets_writes, next_accesses};
+ghost use Rattle.gt_explore_moves.specs.Touches.{meets_call, meets_dest, meets_leg, meets_mapping};
+ghost use Rattle.gt_explore_moves.specs.Touches.{meets_beyond, meets_end, meets_last, meets_mapped, meets_uses};
+ghost use Rattle.gt_explore_moves.specs.Touches.{frame_touch, is_grant_of, meets_source, meets_task, next_accesses};
 ghost use Rattle.gt_explore_moves.specs.Touches.{next_writes, reads_frame_at, step_meets, writes_frame_at};
-ghost use Rattle.gt_explore_moves.specs.Transitive.{call_grants_via, grants_via, is_via, spells_via};
+ghost use Rattle.gt_explore_moves.specs.declared.granted.GrantedEntry.{GrantedEntry};
+ghost use Rattle.gt_model.specs.Entries.{frame_of};
 
 use crate::actor::LabelledMapping;
+use crate::granted::GrantedEntry;
 use gt_calls::{CopyArgs, HeldPin, Step, resolve};
 use gt_entry::Entry;
 use gt_script::{RunAction, RunTask};
-use gt_script_lines::{ScriptCall, hex_bytes};
-use gt_types::{DomId, GrantRef};
-use std::alloc::{AllocError, Global};
+use gt_script_lines::ScriptCall;
+use gt_types::{Dir, DomId, GrantRef};
 
 /// A part of a run's state, and what is done to it.
 #[derive(Clone, Copy)]
@@ -36,13 +38,11 @@ pub enum Touch {
     Raises(usize),
 }
 
-/// The uses of mappings and of transitive entries by the tasks that a domain has not finished.
+/// The uses of mappings by the tasks that a domain has not finished.
 #[derive(Clone, Copy)]
 pub struct MappingUse {
     pub loads: bool,
     pub stores: bool,
-    /// Whether a copy may go through a transitive entry.
-    pub vias: bool,
 }
 
 /// The next action of a domain.
@@ -120,28 +120,6 @@ fn writes_at(step: Step, owner: DomId, number: u64) -> bool
     }
 }
 
-// Returns whether a step reads a frame of this domain.
-fn reads_frames(step: Step, owner: DomId) -> bool
-    ensures { result ≡ reads_frames step owner.0 }
-{
-    match step {
-        Step::Read { dom, .. } => dom.0 == owner.0,
-        Step::Copy { from, .. } => from.frame.owner.0 == owner.0,
-        _ => false,
-    }
-}
-
-// Returns whether a step writes to a frame of this domain.
-fn writes_frames(step: Step, owner: DomId) -> bool
-    ensures { result ≡ writes_frames step owner.0 }
-{
-    match step {
-        Step::Write { dom, .. } => dom.0 == owner.0,
-        Step::Copy { to, .. } => to.frame.owner.0 == owner.0,
-        _ => false,
-    }
-}
-
 // Returns whether a step of the first domain conflicts with a touch of another domain: both are of the same part, and
 // one of them changes it.
 fn step_meets(dom: DomId, step: Step, touch: Touch) -> bool
@@ -199,26 +177,6 @@ fn next_writes(next: NextMove) -> bool
     }
 }
 
-// Returns whether a next move writes to a frame of this domain.
-fn meets_reads(next: NextMove, owner: DomId) -> bool
-    ensures { result ≡ meets_reads next owner }
-{
-    match next {
-        NextMove::Makes(_, step) => writes_frames(step, owner),
-        _ => false,
-    }
-}
-
-// Returns whether a next move reads or writes a frame of this domain.
-fn meets_writes(next: NextMove, owner: DomId) -> bool
-    ensures { result ≡ meets_writes next owner }
-{
-    match next {
-        NextMove::Makes(_, step) => reads_frames(step, owner) || writes_frames(step, owner),
-        _ => false,
-    }
-}
-
 // Returns whether a next move meets a leg to this entry, or its header.
 fn meets_leg(next: NextMove, owner: DomId, gref: GrantRef) -> bool
     ensures { result ≡ meets_leg next owner gref }
@@ -251,26 +209,135 @@ fn gref_of(ptr: u64) -> GrantRef
     GrantRef(u32::try_from(ptr).unwrap_or(u32::MAX))
 }
 
-// Returns whether a next move meets the source of a copy of this other domain: the entry that names it and each frame
-// of the entry's owner, or the domain's own frame.
-fn meets_source(next: NextMove, dom: DomId, copy: CopyArgs) -> bool
-    ensures { result ≡ meets_source next dom copy }
+// Returns whether an entry is one that this domain may grant under this reference.
+fn is_grant_of(owner: DomId, gref: GrantRef, granted: &GrantedEntry) -> bool
+    ensures { result ≡ is_grant_of owner gref granted.now }
+{
+    granted.owner.0 == owner.0 && granted.gref.0 == gref.0
+}
+
+// Returns whether a next move conflicts with these uses of a frame.
+fn meets_uses(uses: MappingUse, next: NextMove, owner: DomId, frame: u64) -> bool
+    ensures { result ≡ meets_uses uses next owner frame }
+{
+    uses.loads && meets(next, Touch::Reads(owner, frame))
+        || uses.stores && meets(next, Touch::Writes(owner, frame))
+}
+
+// Returns whether a next move conflicts with these uses of a frame that the entry may grant.
+fn meets_mapped(
+    grants: &[GrantedEntry],
+    uses: MappingUse,
+    next: NextMove,
+    owner: DomId,
+    gref: GrantRef,
+) -> bool
+    ensures { result ≡ meets_mapped grants.now uses next owner gref }
+{
+    if !meets_bytes(uses, next) {
+        return false;
+    }
+    'grants: for granted in grants {
+        if is_grant_of(owner, gref, granted)
+            && meets_uses(uses, next, owner, granted.entry.frame())
+        {
+            return true;
+        }
+    }
+    false
+}
+
+// Returns the touch of a frame that is read, or written.
+fn frame_touch(dir: Dir, owner: DomId, frame: u64) -> Touch
+    ensures { result ≡ frame_touch dir owner frame }
+{
+    match dir {
+        Dir::Read => Touch::Reads(owner, frame),
+        Dir::Write => Touch::Writes(owner, frame),
+    }
+}
+
+// Returns whether a next move meets the access to a frame that the entry may grant.
+fn meets_last(
+    grants: &[GrantedEntry],
+    next: NextMove,
+    dir: Dir,
+    owner: DomId,
+    gref: GrantRef,
+) -> bool
+    ensures { result ≡ meets_last grants.now next dir owner gref }
+{
+    'grants: for granted in grants {
+        if is_grant_of(owner, gref, granted)
+            && meets(next, frame_touch(dir, owner, granted.entry.frame()))
+        {
+            return true;
+        }
+    }
+    false
+}
+
+// Returns whether a next move meets what a copy touches after the pin on this entry: the access to its frame, or the
+// entry that a transitive one leads to, with the access to a frame that this one may grant.
+fn meets_beyond(
+    grants: &[GrantedEntry],
+    next: NextMove,
+    dir: Dir,
+    owner: DomId,
+    entry: Entry,
+) -> bool
+    ensures { result ≡ meets_beyond grants.now next dir owner entry }
+{
+    match entry {
+        Entry::Via { dom2, gref, .. } => {
+            meets_leg(next, dom2, gref) || meets_last(grants, next, dir, dom2, gref)
+        }
+        _ => meets(next, frame_touch(dir, owner, entry.frame())),
+    }
+}
+
+// Returns whether a next move meets what a copy may touch at an end that this reference names.
+fn meets_end(
+    grants: &[GrantedEntry],
+    next: NextMove,
+    dir: Dir,
+    owner: DomId,
+    gref: GrantRef,
+) -> bool
+    ensures { result ≡ meets_end grants.now next dir owner gref }
+{
+    if meets_leg(next, owner, gref) {
+        return true;
+    }
+    'grants: for granted in grants {
+        if is_grant_of(owner, gref, granted)
+            && meets_beyond(grants, next, dir, owner, granted.entry)
+        {
+            return true;
+        }
+    }
+    false
+}
+
+// Returns whether a next move meets the source of a copy of this other domain.
+fn meets_source(grants: &[GrantedEntry], next: NextMove, dom: DomId, copy: CopyArgs) -> bool
+    ensures { result ≡ meets_source grants.now next dom copy }
 {
     if copy.is_source_granted() {
         let owner = resolve(dom, copy.source.domid);
-        meets_leg(next, owner, gref_of(copy.source.ptr)) || meets_reads(next, owner)
+        meets_end(grants, next, Dir::Read, owner, gref_of(copy.source.ptr))
     } else {
         meets(next, Touch::Reads(dom, copy.source.ptr))
     }
 }
 
-// Returns whether a next move meets the destination of a copy of this other domain, in the same way.
-fn meets_dest(next: NextMove, dom: DomId, copy: CopyArgs) -> bool
-    ensures { result ≡ meets_dest next dom copy }
+// Returns whether a next move meets the destination of a copy of this other domain.
+fn meets_dest(grants: &[GrantedEntry], next: NextMove, dom: DomId, copy: CopyArgs) -> bool
+    ensures { result ≡ meets_dest grants.now next dom copy }
 {
     if copy.is_dest_granted() {
         let owner = resolve(dom, copy.dest.domid);
-        meets_leg(next, owner, gref_of(copy.dest.ptr)) || meets_writes(next, owner)
+        meets_end(grants, next, Dir::Write, owner, gref_of(copy.dest.ptr))
     } else {
         meets(next, Touch::Writes(dom, copy.dest.ptr))
     }
@@ -278,8 +345,14 @@ fn meets_dest(next: NextMove, dom: DomId, copy: CopyArgs) -> bool
 
 // Returns whether a next move meets something that a call of this other domain may touch, or may touch through the
 // mapping that it makes.
-fn meets_call(uses: MappingUse, next: NextMove, dom: DomId, call: &ScriptCall<'_>) -> bool
-    ensures { result ≡ meets_call uses next dom call.now }
+fn meets_call(
+    grants: &[GrantedEntry],
+    uses: MappingUse,
+    next: NextMove,
+    dom: DomId,
+    call: &ScriptCall<'_>,
+) -> bool
+    ensures { result ≡ meets_call grants.now uses next dom call.now }
 {
     match call {
         ScriptCall::Grant { gref, .. }
@@ -292,12 +365,15 @@ fn meets_call(uses: MappingUse, next: NextMove, dom: DomId, call: &ScriptCall<'_
             dom: owner,
             gref,
             ..
-        } => meets_leg(next, resolve(dom, *owner), *gref) || meets_bytes(uses, next),
+        } => {
+            let owner = resolve(dom, *owner);
+            meets_leg(next, owner, *gref) || meets_mapped(grants, uses, next, owner, *gref)
+        }
         ScriptCall::Unmap { .. } | ScriptCall::Load { .. } | ScriptCall::Store { .. } => false,
         ScriptCall::Peek { frame, .. } => meets(next, Touch::Reads(dom, *frame)),
         ScriptCall::Poke { frame, .. } => meets(next, Touch::Writes(dom, *frame)),
         ScriptCall::Copy(copy) => {
-            uses.vias || meets_source(next, dom, *copy) || meets_dest(next, dom, *copy)
+            meets_source(grants, next, dom, *copy) || meets_dest(grants, next, dom, *copy)
         }
         ScriptCall::SetVersion { .. } | ScriptCall::SetupTable { .. } => {
             meets(next, Touch::StoresHeader(dom))
@@ -309,11 +385,16 @@ fn meets_call(uses: MappingUse, next: NextMove, dom: DomId, call: &ScriptCall<'_
 }
 
 /// Returns whether a next move meets something that a task of another domain may touch.
-pub fn meets_task(uses: MappingUse, next: NextMove, task: &RunTask<'_>) -> bool
-    ensures { result ≡ meets_task uses next task.now }
+pub fn meets_task(
+    grants: &[GrantedEntry],
+    uses: MappingUse,
+    next: NextMove,
+    task: &RunTask<'_>,
+) -> bool
+    ensures { result ≡ meets_task grants.now uses next task.now }
 {
     match &task.run_action {
-        RunAction::Do(call) => meets_call(uses, next, task.dom, call),
+        RunAction::Do(call) => meets_call(grants, uses, next, task.dom, call),
         RunAction::Tell(flag) => meets(next, Touch::Raises(*flag)),
         RunAction::Await(_) => false,
     }
@@ -343,57 +424,4 @@ pub fn any_mapping_meets(uses: MappingUse, next: NextMove, mappings: &[LabelledM
         }
     }
     false
-}
-
-// Returns whether an entry leads to another one.
-fn is_via(entry: Entry) -> bool
-    ensures { result ≡ is_via entry }
-{
-    matches!(entry, Entry::Via { .. })
-}
-
-// Returns whether bytes encode a transitive entry, if they encode an entry: 16 bytes whose type bits are 3.
-fn spells_via(bytes: &[u8]) -> bool
-    ensures { result ≡ spells_via bytes.now }
-{
-    bytes.len() == 16 && bytes[0] % 4 == 3
-}
-
-// Returns whether a call may grant a transitive entry.
-fn call_grants_via(alloc: Global, call: &ScriptCall<'_>) -> Result<bool, AllocError>
-    ensures { IfOk result (λ may. may ≡ call_grants_via call.now) }
-{
-    match call {
-        ScriptCall::Grant { entry, .. } => Ok(is_via(*entry)),
-        ScriptCall::GrantBytes { hex, .. } => {
-            let bytes = hex_bytes(alloc, hex)?;
-            Ok(spells_via(bytes.as_slice()))
-        }
-        _ => Ok(false),
-    }
-}
-
-// Returns whether a task may grant a transitive entry.
-fn grants_via(alloc: Global, task: &RunTask<'_>) -> Result<bool, AllocError>
-    ensures { IfOk result (λ may. may ≡ grants_via task.now) }
-{
-    match &task.run_action {
-        RunAction::Do(call) => call_grants_via(alloc, call),
-        _ => Ok(false),
-    }
-}
-
-/// Returns whether one of these tasks may grant a transitive entry.
-///
-/// # Errors
-/// An allocation failed.
-pub fn any_grants_via(alloc: Global, tasks: &[RunTask<'_>]) -> Result<bool, AllocError>
-    ensures { IfOk result (λ some. some ≡ list_any grants_via tasks.now) }
-{
-    'tasks: for task in tasks {
-        if grants_via(alloc, task)? {
-            return Ok(true);
-        }
-    }
-    Ok(false)
 }

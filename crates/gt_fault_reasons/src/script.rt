@@ -56,6 +56,8 @@ fn utf8_reason(alloc: Global, input: &[u8]) -> Result<Reason, AllocError> {
 fn end_reason(alloc: Global, lines: &[&str], kind: ScriptFaultKind) -> Result<Reason, AllocError> {
     let text = if kind == ScriptFaultKind::Config {
         "the script has no line domain"
+    } else if lines.iter().all(|line| line.is_empty()) {
+        "the text is empty, and a script begins with a policy block or a line triple"
     } else if has_policy(alloc, lines)? {
         "the policy block is not closed by a line end"
     } else if lines.iter().any(|line| line.as_bytes().contains(&b'\r')) {

@@ -122,6 +122,8 @@ pub struct Context<'c, R, T, E> {
     pub texts: &'c T,
     pub err: &'c E,
     pub style: Style,
+    /// The name of a file that ends a search as soon as it exists, or None if nothing is to end one.
+    pub stop: Option<&'c str>,
 }
 
 // Executes this with the text of the named file, or of the standard input.

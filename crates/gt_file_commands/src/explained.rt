@@ -97,7 +97,7 @@ pub fn check_never_explained<R: Read, W: Write>(
     let mut input = CopyingReader::new(alloc, reader);
     let ending = check_never(alloc, report.file, report.form, never, &mut input, out);
     if let Err(fault) = &ending {
-        reasons.add_breach(&input.kept, never.file, fault);
+        reasons.add_breach(&input.kept, &never, fault);
     }
     ending
 }

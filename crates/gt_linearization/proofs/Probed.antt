@@ -34,6 +34,7 @@ use Rattle.gt_model.specs.declared.held.HeldPin.{HeldPin}
 use Rattle.gt_model.specs.declared.request.Request.TheVariants as requests
 use Rattle.gt_calls.proofs.Probing.{here, on, past, same}
 use Rattle.gt_live.specs.Accesses.{EndsAfterAccess, IsAccess, IsUnmade, onward}
+use Rattle.gt_live.specs.Copies.{pending_call, pending_from, pending_to}
 use Rattle.gt_live.specs.Domains.{AllowRelation, knowledge}
 use Rattle.gt_live.specs.Walks.{AreMoments, Called, IsWalk, MakesStep, all_shown, shown_by, view_after}
 use Rattle.gt_live.specs.declared.monitor.Monitor.{Monitor}
@@ -168,8 +169,9 @@ lost-copies may m d e args access stays a kept =
 
 pub body_words-made : {P : Type 0} (may : P → AllowRelation) (m : Monitor P) → HalvesAreMade may m
 body_words-made may m d mid e args h before comes ends afterwards =
-    let c = knowledge m.config (may m.rights) d in let k = m.words.layout in let access = call_steps.Copy h.from h.to h.len in
-    let whole = whole-copy c k h.call h.from h.to h.len d.seat.view mid.seat.view e.seat.view comes.access ends.gives in
+    let c = knowledge m.config (may m.rights) d in let k = m.words.layout in let from = pending_from h in let to = pending_to h in
+    let access = call_steps.Copy from to h.copy.len in
+    let whole = whole-copy c k (pending_call h) from to h.copy.len d.seat.view mid.seat.view e.seat.view comes.access ends.gives in
     let way : EndsAfterAccess k (path_of c d.seat.dom (requests.Copy args)) access IsUnmade d.seat.view e.seat.view =
     subst (λ (y : Continuation). EndsAfterAccess k y access IsUnmade d.seat.view e.seat.view) (sym comes.way) whole.0 in
     let mappings : e.mappings ≡ d.mappings = ends.mappings ∙ comes.kept.mappings in

@@ -96,11 +96,6 @@ module _ (k : Layout) where
             (subst (λ (ps : List HeldPin). HasTaken k ps base v) (sym (append-nil all)) taken);
       }
 
-  -- the same, by what the pins are
-  pub gives-access_paths : (access_paths others : CallPins) (v w : View) → access_paths ≡ others → GivesBack k access_paths v w
-      → GivesBack k others v w
-  gives-access_paths access_paths others v w is x = subst (λ (p : CallPins). GivesBack k p v w) is x
-
   -- pins that were taken can be given back
   pub can-give : (ps rest : List HeldPin) (base v : View) → HasTaken k (ps ++ rest) base v → AreOfRun k ps
       → CanGiveBack k ps v

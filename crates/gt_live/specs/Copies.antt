@@ -3,7 +3,7 @@
 use Rattle.std.specs.Prelude.{◌≡◌, List, [], ◌∷◌, Some, None, Result, Ok, Err}
 use Rattle.gt_live.specs.Prelude.{DomId, Read, Write, GrantRef, Denial, Layout, View, Nothing, Unpin, Refused, Phase}
 use Rattle.gt_live.specs.Prelude.{Accessing, Ending, Walking, PinPurpose, Source, Dest, HeldPin, CallPins, AccessPath}
-use Rattle.gt_live.specs.Prelude.{Leg, Header, CopyArgs, Copy, Call, last_first, no_pins, pins_so_far, without_last}
+use Rattle.gt_live.specs.Prelude.{End, Leg, Header, Spot, CopyArgs, Copy, Call, last_first, no_pins, pins_so_far, without_last}
 use Rattle.gt_live.specs.Prelude.{after_pin_of, at_dest, end_leg, place_of, second_leg, CallerKnowledge, PendingCopy}
 use Rattle.gt_model.specs.declared.request.PinHolder.TheVariants as holders
 use Rattle.gt_model.specs.declared.held.AccessPath.TheVariants.{Own}
@@ -74,13 +74,20 @@ CanGiveBack k (p ∷ ps) v =
     CanMake k v (Unpin p (holders.Leg 0))
     × ((u : View) → Made k (Unpin p (holders.Leg 0)) Nothing v u → CanGiveBack k ps u)
 
--- a copy of this caller at its access, with these pins
-abbrev pub pending_with : DomId → CopyArgs → CallPins → PendingCopy
-pending_with caller copy pins =
-    record {
-      call = copy_call caller copy (Accessing copy pins.source pins.dest);
-      copy = copy;
-      from = place_of caller copy.source pins.source;
-      to = place_of caller copy.dest pins.dest;
-      len = copy.len;
-    }
+-- a place without a copy
+abbrev pub no_pending : PendingCopy
+no_pending =
+    let end : End = record { ptr = 0; domid = record { 0 = 0 }; offset = 0 } in
+    record { caller = record { 0 = 0 }; copy = record { source = end; dest = end; len = 0; flags = 0 }; pins = no_pins }
+
+-- the call of a copy at its access
+abbrev pub pending_call : PendingCopy → Call
+pending_call h = copy_call h.caller h.copy (Accessing h.copy h.pins.source h.pins.dest)
+
+-- the place where a copy at its access may read
+abbrev pub pending_from : PendingCopy → Spot
+pending_from h = place_of h.caller h.copy.source h.pins.source
+
+-- the place where it may write
+abbrev pub pending_to : PendingCopy → Spot
+pending_to h = place_of h.caller h.copy.dest h.pins.dest

@@ -9,6 +9,7 @@ use Rattle.gt_audit.specs.declared.record.Hypercall.TheVariants as hypercalls
 use Rattle.gt_audit.specs.declared.record.Reply.TheVariants as replies
 use Rattle.gt_model.specs.declared.request.Request.TheVariants as requests
 use Rattle.gt_live.specs.Accesses.{EndsAfterAccess, IsUnmade}
+use Rattle.gt_live.specs.Copies.{pending_call, pending_from, pending_to}
 use Rattle.gt_live.specs.Domains.{AllowRelation, BelongsTo, IsUnsettled, known_on}
 use Rattle.gt_live.specs.Underway.{AtAccess, GivesBack}
 
@@ -27,15 +28,16 @@ pub record BecomesPending {P : Type 0} (may : P → AllowRelation) (m : Monitor 
     (h : PendingCopy) (e : Domain) : Type 0 where
   pub asked : h.copy ≡ copy
   pub way : path_of (known_on may m d) d.seat.dom (requests.Copy copy)
-      ≡ path (known_on may m d) h.call.caller h.call.request
-  pub access : AtAccess (known_on may m d) m.words.layout h.call h.from h.to h.len d.seat.view e.seat.view
-  pub source : ReachesBy m.words.layout e.seat Read uses.Copy h.from.frame h.from.off h.len
-      (pins_by_call h.call).source
-  pub dest : ReachesBy m.words.layout e.seat Write uses.Copy h.to.frame h.to.off h.len
-      (pins_by_call h.call).dest
-  pub allowed : MayCopyBy m.config.domains.items (may m.rights) e.seat.dom (pins_by_call h.call)
-  pub source_range : h.from.off + h.len ≤ 4096
-  pub dest_range : h.to.off + h.len ≤ 4096
+      ≡ path (known_on may m d) (pending_call h).caller (pending_call h).request
+  pub access : AtAccess (known_on may m d) m.words.layout (pending_call h) (pending_from h) (pending_to h) h.copy.len
+      d.seat.view e.seat.view
+  pub source : ReachesBy m.words.layout e.seat Read uses.Copy (pending_from h).frame (pending_from h).off h.copy.len
+      h.pins.source
+  pub dest : ReachesBy m.words.layout e.seat Write uses.Copy (pending_to h).frame (pending_to h).off h.copy.len
+      h.pins.dest
+  pub allowed : MayCopyBy m.config.domains.items (may m.rights) e.seat.dom h.pins
+  pub source_range : (pending_from h).off + h.copy.len ≤ 4096
+  pub dest_range : (pending_to h).off + h.copy.len ≤ 4096
   pub kept : IsUnsettled d e
 
 -- the domain is at the access of this copy: it belonged to this monitor's run when it was asked for it
@@ -45,7 +47,7 @@ IsPending may m h e = (d : Domain) × BelongsTo may m d × BecomesPending may m 
 -- the pins of a copy at its access were released, one after another, the last one first, and nothing else changed but
 -- the trail
 pub record EndsPending (k : Layout) (h : PendingCopy) (e f : Domain) : Type 0 where
-  pub gives : GivesBack k (pins_by_call h.call) e.seat.view f.seat.view
+  pub gives : GivesBack k h.pins e.seat.view f.seat.view
   pub seat : IsSameSeat e.seat f.seat
   pub own : f.own ≡ e.own
   pub mappings : f.mappings ≡ e.mappings

@@ -2,7 +2,7 @@
 use Rattle.std.specs.Prelude.{◌≡◌, ℕ, Result, Ok, Err}
 use Rattle.gt_live.specs.Prelude.{CallPins, AccessPath, Denial, Direct, Domain, Handle, HandleMap, HeldPin, Layout}
 use Rattle.gt_live.specs.Prelude.{Mapped, Monitor, Nothing, Own, PendingCopy, Request, Unpin, View, generation_of}
-use Rattle.gt_live.specs.Prelude.{pins_by_call, position_in}
+use Rattle.gt_live.specs.Prelude.{position_in}
 use Rattle.gt_model.specs.declared.held.AccessPath.TheVariants.{Through}
 use Rattle.gt_model.specs.declared.request.PinHolder.TheVariants as holders
 use Rattle.gt_words.specs.Answers.{UnpinsTo}
@@ -44,4 +44,4 @@ CopyLeaves k pins left v w =
 
 -- the same for a copy that was at its access
 abbrev pub PendingLeaves : Layout → PendingCopy → CopyWords → Domain → Domain → Type 0
-PendingLeaves k h left d e = CopyLeaves k (pins_by_call h.call) left d.seat.view e.seat.view
+PendingLeaves k h left d e = CopyLeaves k h.pins left d.seat.view e.seat.view

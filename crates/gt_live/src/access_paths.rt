@@ -3,8 +3,7 @@ ghost use Rattle.std.specs.Prelude.{◌≡◌, ℕ, None};
 ghost use Rattle.gt_words.specs.Conditions.{IsSeatOf, IsSameSeat};
 ghost use Rattle.gt_word_history.specs.declared.view.View.{View};
 ghost use Rattle.gt_calls.specs.declared.copying.PinPurpose.{PinPurpose};
-ghost use Rattle.gt_model.specs.declared.held.AccessPath.TheVariants.{Own};
-ghost use Rattle.gt_model.specs.Holding.{held_by, last_first, no_pins};
+ghost use Rattle.gt_model.specs.Holding.{held_by, last_first};
 ghost use Rattle.gt_calls.specs.Machine.{at_dest, at_source, through_via};
 ghost use Rattle.gt_model.specs.Rules.{copy_begun};
 ghost use Rattle.gt_calls.specs.Known.{knows};
@@ -200,7 +199,6 @@ fn walk_to_dest<P: Allows>(
 ) -> Result<(), Denial>
     requires seat { IsSeatOf words.now seat.old }
     requires granted { granted ≡ is_dest_granted copy.now }
-    requires own { pins.old.dest ≡ Own }
     requires can { CanRun (knows P.may known.now) words.now.layout caller
         (at_dest (knows P.may known.now) caller copy.now pins.old.source) seat.old.view }
     ensures seat { IsSameSeat seat.old seat.new }
@@ -209,6 +207,7 @@ fn walk_to_dest<P: Allows>(
         (after_copy copy.now (filled result pins.new)) seat.new.view }
 {
     if !granted {
+        pins.dest = AccessPath::Own;
         return Ok(());
     }
     match reach_dest(words, known, seat, caller, copy, pins) {
@@ -233,7 +232,6 @@ fn walk<P: Allows>(
 ) -> Result<(), Denial>
     requires seat { IsSeatOf words.now seat.old }
     requires granted { granted ≡ is_dest_granted copy.now }
-    requires none { pins.old ≡ no_pins }
     requires can { CanRun (knows P.may known.now) words.now.layout caller
         (at_source (knows P.may known.now) caller copy.now) seat.old.view }
     ensures seat { IsSameSeat seat.old seat.new }
@@ -242,6 +240,7 @@ fn walk<P: Allows>(
         (after_copy copy.now (filled result pins.new)) seat.new.view }
 {
     if !copy.is_source_granted() {
+        pins.source = AccessPath::Own;
         return walk_to_dest(words, known, seat, caller, copy, granted, pins);
     }
     match reach_source(words, known, seat, caller, copy, &mut pins.source) {
@@ -264,7 +263,6 @@ pub(crate) fn drive_copy<P: Allows>(
 ) -> Result<(), Denial>
     requires seat { IsSeatOf words.now seat.old }
     requires granted { granted ≡ is_dest_granted copy.now }
-    requires none { pins.old ≡ no_pins }
     requires unanswered { copy_begun (knows P.may known.now) caller copy.now ≡ None }
     requires knows { Knows (knows P.may known.now) words.now.layout caller seat.old.view }
     ensures seat { IsSameSeat seat.old seat.new }

@@ -1,11 +1,13 @@
 -- What is printed of the breaches of neverallow statements.
 use Rattle.std.specs.Prelude.{◌≡◌, ℕ, List, [], ◌∷◌, ◌++◌, codes}
 use Rattle.gt_policy_check.specs.Columns.{AreStarts, IsColumnOf}
+use Rattle.gt_policy_check.specs.LineWords.{AreWordColumns}
 use Rattle.gt_policy_check.specs.Report.{IsTextOfAll, IsReport}
 use Rattle.gt_policy_check.specs.declared.findings.Finding.{Finding}
 use Rattle.gt_policy_check.specs.declared.findings.FindingKind.TheVariants.{Fault, Note}
 use Rattle.gt_policy_check.specs.declared.report.ReportForm.{ReportForm}
 use Rattle.gt_neverallow.specs.declared.breaking.Breach.{Breach}
+use Rattle.gt_neverallow.specs.declared.printing.BreachColumns.{BreachColumns}
 use Rattle.gt_neverallow.specs.declared.printing.LinedTexts.{LinedTexts}
 
 -- both texts have where their lines begin
@@ -13,6 +15,12 @@ abbrev pub HaveLines : LinedTexts → Type 0
 HaveLines texts =
     AreStarts texts.policy.text.now texts.policy.lines.now.starts.items
     × AreStarts texts.never.text.now texts.never.lines.now.starts.items
+
+-- the columns are those of the first words of the statements in the two texts
+abbrev pub HaveColumns : LinedTexts → BreachColumns → Type 0
+HaveColumns texts columns =
+    AreWordColumns texts.policy.text.now (codes "allow") columns.allows.columns.items
+    × AreWordColumns texts.never.text.now (codes "neverallow") columns.nevers.columns.items
 
 -- the message about a breach with this example
 abbrev pub breach_message : List ℕ → List ℕ

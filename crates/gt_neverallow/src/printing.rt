@@ -1,11 +1,14 @@
 //! Prints breaches of `neverallow` statements: each as an error at the allow statement, with a note at the `neverallow`
 //! statement.
-ghost use Rattle.std.specs.Prelude.{IfOk, OnOk};
+ghost use Rattle.std.specs.Prelude.{ℕ, List, codes, IfOk, OnOk};
+ghost use Rattle.gt_policy_check.specs.LineWords.{AreWordColumns};
 ghost use Rattle.gt_policy_check.specs.Report.{AddsText};
-ghost use Rattle.gt_neverallow.specs.Printing.{HaveLines, IsBreachError, IsBreachNote, IsBreachReport, IsBreachText};
+ghost use Rattle.gt_neverallow.specs.Printing.{HaveColumns, HaveLines, IsBreachError, IsBreachNote, IsBreachReport, IsBreachText};
 
 use crate::breaking::Breach;
-use gt_policy_check::{Finding, FindingKind, LinedText, ReportForm, column_on, push_finding};
+use gt_policy_check::{
+    Finding, FindingKind, LinedText, ReportForm, WordColumns, push_finding, word_columns,
+};
 use gt_text::push_text;
 use std::alloc::{AllocError, Global};
 
@@ -18,11 +21,31 @@ pub struct LinedTexts<'t> {
     pub never: LinedText<'t>,
 }
 
-// Makes the error at the allow statement.
-fn error_of(alloc: Global, texts: &LinedTexts, breach: &Breach) -> Result<Finding, AllocError>
+/// The columns of the first words of statements: of `allow` in the policy, and of `neverallow` in the other text.
+#[derive(Drop)]
+pub(crate) struct BreachColumns {
+    pub allows: WordColumns,
+    pub nevers: WordColumns,
+}
+
+// Returns the columns of the first words of the statements in these texts.
+fn columns_of(alloc: Global, texts: &LinedTexts) -> Result<BreachColumns, AllocError>
     requires { HaveLines texts.now }
-    ensures { IfOk result (λ x. IsBreachError texts.now.policy.text.now breach.now x) }
+    ensures { IfOk result (λ columns. HaveColumns texts.now columns) }
 {
+    let policy = texts.policy;
+    let never = texts.never;
+    let allows = word_columns(alloc, policy.text.as_bytes(), policy.lines, "allow")?;
+    let nevers = word_columns(alloc, never.text.as_bytes(), never.lines, "neverallow")?;
+    Ok(BreachColumns { allows, nevers })
+}
+
+// Makes the error at the allow statement, for a policy with these columns of `allow`.
+fn error_of(alloc: Global, allows: &WordColumns, breach: &Breach) -> Result<Finding, AllocError>
+    ensures { (text : List ℕ) → AreWordColumns text (codes "allow") allows.now.columns.items
+        → IfOk result (λ x. IsBreachError text breach.now x) }
+{
+    let column = allows.on_line(breach.allowed);
     let mut message = Vec::new(alloc);
     push_text(&mut message, "this statement allows ")?;
     message.extend_from_slice(breach.example.as_slice())?;
@@ -30,22 +53,23 @@ fn error_of(alloc: Global, texts: &LinedTexts, breach: &Breach) -> Result<Findin
     Ok(Finding {
         kind: FindingKind::Fault,
         line: breach.allowed,
-        column: column_on(alloc, texts.policy, breach.allowed, "allow")?,
+        column,
         message,
     })
 }
 
-// Makes the note at the `neverallow` statement.
-fn note_of(alloc: Global, texts: &LinedTexts, breach: &Breach) -> Result<Finding, AllocError>
-    requires { HaveLines texts.now }
-    ensures { IfOk result (λ x. IsBreachNote texts.now.never.text.now breach.now x) }
+// Makes the note at the `neverallow` statement, for a text with these columns of `neverallow`.
+fn note_of(alloc: Global, nevers: &WordColumns, breach: &Breach) -> Result<Finding, AllocError>
+    ensures { (text : List ℕ) → AreWordColumns text (codes "neverallow") nevers.now.columns.items
+        → IfOk result (λ x. IsBreachNote text breach.now x) }
 {
+    let column = nevers.on_line(breach.forbidden);
     let mut message = Vec::new(alloc);
     push_text(&mut message, "this statement forbids it")?;
     Ok(Finding {
         kind: FindingKind::Note,
         line: breach.forbidden,
-        column: column_on(alloc, texts.never, breach.forbidden, "neverallow")?,
+        column,
         message,
     })
 }
@@ -56,15 +80,17 @@ fn push_breach(
     out: &mut Vec<u8>,
     form: ReportForm,
     texts: &LinedTexts,
+    columns: &BreachColumns,
     breach: &Breach,
 ) -> Result<(), AllocError>
-    requires { HaveLines texts.now }
+    requires lines { HaveLines texts.now }
+    requires columns { HaveColumns texts.now columns.now }
     ensures { OnOk result (AddsText (IsBreachText form texts.now.file.now texts.now.policy.text.now
         texts.now.never_file.now texts.now.never.text.now breach.now) out.old.items out.new.items) }
 {
-    let error = error_of(alloc, texts, breach)?;
+    let error = error_of(alloc, &columns.allows, breach)?;
     push_finding(out, form, texts.file, texts.policy, &error)?;
-    let note = note_of(alloc, texts, breach)?;
+    let note = note_of(alloc, &columns.nevers, breach)?;
     push_finding(out, form, texts.never_file, texts.never, &note)
 }
 
@@ -81,8 +107,9 @@ pub fn push_breaches(
     ensures { OnOk result (AddsText (IsBreachReport form texts.now.file.now texts.now.policy.text.now
         texts.now.never_file.now texts.now.never.text.now found.now) out.old.items out.new.items) }
 {
+    let columns = columns_of(alloc, texts)?;
     'found: for breach in found {
-        push_breach(alloc, out, form, texts, breach)?;
+        push_breach(alloc, out, form, texts, &columns, breach)?;
     }
     Ok(())
 }

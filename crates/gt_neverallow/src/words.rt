@@ -2,30 +2,31 @@
 ghost use Rattle.std.specs.Prelude.{◌≡◌, ◌++◌, IfOk, OnOk};
 ghost use Rattle.std.specs.List.{flat_map};
 ghost use Rattle.gt_policy_check.specs.Check.{KeepsColumns, error_lines};
-ghost use Rattle.gt_policy_check.specs.Columns.{AreStarts};
+ghost use Rattle.gt_policy_check.specs.LineWords.{IsLineWords};
 ghost use Rattle.gt_policy_check.specs.Words.{class_lines, unknown_line};
 ghost use Rattle.gt_neverallow.specs.Breaking.{AreUnknown, classes_in};
 
 use crate::statement::{Forbidden, NeverStatement};
-use gt_policy_check::{Finding, LinedText, line_starts, push_unknown_words};
+use gt_policy_check::{Finding, LineWords, line_starts, line_words, push_unknown_words};
 use std::alloc::{AllocError, Global};
 
-// Adds the findings of the words of a statement.
+// Adds the findings of the words of a statement, which is on the line of these words.
 fn push_words_of(
     alloc: Global,
     found: &mut Vec<Finding>,
-    lined: LinedText,
+    words: &LineWords,
     never: &NeverStatement,
 ) -> Result<(), AllocError>
-    requires { AreStarts lined.text.now lined.lines.now.starts.items }
+    requires words { IsLineWords words.now }
+    requires on_line { words.now.number ≡ never.now.line }
     ensures errors { OnOk result (error_lines found.new.items ≡ error_lines found.old.items) }
     ensures classes { OnOk result (class_lines found.new.items
         ≡ class_lines found.old.items ++ flat_map (unknown_line never.now.line) (classes_in never.now.what)) }
-    ensures columns { OnOk result (KeepsColumns lined.entry.text.now found.old.items found.new.items) }
+    ensures columns { OnOk result (KeepsColumns words.now.bytes.now found.old.items found.new.items) }
 {
     match &never.what {
         Forbidden::Grants { classes, perms } => {
-            push_unknown_words(alloc, found, lined, never.line, classes.as_slice(), perms)
+            push_unknown_words(alloc, found, words, classes.as_slice(), perms)
         }
         Forbidden::Flow => Ok(()),
     }
@@ -41,13 +42,11 @@ pub fn unknown_words(
     ensures { IfOk result (λ found. AreUnknown text.now nevers.now found.items) }
 {
     let lines = line_starts(alloc, text.as_bytes())?;
-    let lined = LinedText {
-        text,
-        lines: &lines,
-    };
+    let mut words = line_words(alloc, text.as_bytes(), &lines, 0)?;
     let mut found = Vec::new(alloc);
     'nevers: for never in nevers {
-        push_words_of(alloc, &mut found, lined, never)?;
+        words.go_to(alloc, &lines, never.line)?;
+        push_words_of(alloc, &mut found, &words, never)?;
     }
     Ok(found)
 }

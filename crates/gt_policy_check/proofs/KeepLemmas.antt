@@ -47,6 +47,7 @@ quoted_column text finding_kinds.NeverNamed x is has = has
 quoted_column text finding_kinds.NoDomain x is has = has
 quoted_column text finding_kinds.NeverMatters x is has = absurd (cc)
 quoted_column text finding_kinds.NeverMapped x is has = tt
+quoted_column text finding_kinds.NoStatement x is has = absurd (cc)
 quoted_column text finding_kinds.AlwaysRefused x is has = absurd (cc)
 quoted_column text finding_kinds.Note x is has = absurd (cc)
 
@@ -71,6 +72,7 @@ allow_column text finding_kinds.NeverNamed x is has = absurd (cc)
 allow_column text finding_kinds.NoDomain x is has = absurd (cc)
 allow_column text finding_kinds.NeverMatters x is has = has
 allow_column text finding_kinds.NeverMapped x is has = tt
+allow_column text finding_kinds.NoStatement x is has = absurd (cc)
 allow_column text finding_kinds.AlwaysRefused x is has = tt
 allow_column text finding_kinds.Note x is has = absurd (cc)
 
@@ -78,3 +80,10 @@ pub keeps_statement : (text : List ℕ) (old new : List Finding) (x : Finding) �
     → IsAtAllow text x → new ≡ old ++ x ∷ [] → KeepsColumns text old new
 keeps_statement text old new x kind column added =
     keeps_push text old new x (allow_column text x.kind x kind column) added
+
+-- the finding of a policy without a statement
+pub keeps_first : (text : List ℕ) (old new : List Finding) (x : Finding) → x.kind ≡ finding_kinds.NoStatement
+    → x.line ≡ 1 → x.column ≡ 1 → new ≡ old ++ x ∷ [] → KeepsColumns text old new
+keeps_first text old new x kind line column added =
+    keeps_push text old new x
+    (subst (λ (k : FindingKind). HasColumnAs k text x) (sym kind) (line, column)) added

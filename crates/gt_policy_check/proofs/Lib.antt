@@ -4,5 +4,6 @@ pub mod EarlierLemmas
 pub mod GrantLemmas
 pub mod KeepLemmas
 pub mod KnownLemmas
+pub mod LineLemmas
 pub mod ReportLemmas
 pub mod WarningLemmas

@@ -1,13 +1,14 @@
 -- Texts that are appended one after the other.
 use Rattle.std.proofs.Common.{◌≡◌, ◌⊎◌, ℕ, ◌<◌, ◌+◌, List, [], ◌∷◌, ◌++◌, length, take, get_or, refl, sym, subst, ap, ◌∙◌}
-use Rattle.std.proofs.Common.{append_assoc, arith, codes, inl, inr, true, OnOk, Result, Ok, Err}
+use Rattle.std.proofs.Common.{append_assoc, arith, chars, codes, cond, inl, inr, nat_lt, true, false, Bool, ◌≤◌, OnOk, Result, Ok, Err}
+use Rattle.std.proofs.lemmas.Bool.Decides.{nat_tests}
 use Rattle.std.proofs.lemmas.List.{append-nil, take_more}
 use Rattle.std.proofs.lemmas.List.Concat.{flat_map-append}
 use Rattle.std.proofs.lemmas.List.Elements.{All-append}
 use Rattle.std.proofs.lemmas.Slice.Zip.{all_zipped_more}
 use Rattle.std.specs.List.{AllPass, concat, flat_map}
 use Rattle.gt_policy_check.specs.Report.{AddsText, IsTextOfAll, IsExcerpt, IsReport, IsFindingText, object_text, caret_text, excerpt_text, heading_text}
-use Rattle.gt_policy_check.specs.Report.{is_space_or_tab, shown_letter, shown_text, IsShownText}
+use Rattle.gt_policy_check.specs.Report.{is_space_or_tab, shown_letter, shown_text, shown_word, IsShownText}
 use Rattle.std.specs.Prelude.{encode_utf8}
 use Rattle.gt_policy_check.specs.declared.findings.Finding.{Finding}
 use Rattle.gt_policy_check.specs.declared.findings.FindingKind.{FindingKind}
@@ -106,3 +107,31 @@ pub text_alone : (form : ReportForm) (file : List ℕ) (x : Finding) (old new : 
     → AddsText (IsFindingText form file x) old new → AddsText (IsReport form file (x ∷ [])) old new
 text_alone form file x old new is (text, one, put) =
     as_text form file (x ∷ []) old new is (text, (text ∷ [], (one, tt), sym (append-nil text)), put)
+
+-- ---- words
+
+longer_test : (n : ℕ) → 160 < n → nat_lt 160 n ≡ true
+longer_test n h = grind (arith, nat_tests)
+
+shorter_test : (n : ℕ) → n ≤ 160 → nat_lt 160 n ≡ false
+shorter_test n h = grind (arith, nat_tests)
+
+-- a long word
+pub word_cut : (old out new word front : List ℕ) → out ≡ old ++ shown_text front → length front ≡ 160 → front ≡ take (length front) (chars word)
+    → length front < length (chars word) → new ≡ out ++ codes "..." → new ≡ old ++ shown_word word
+unfolding shown_word
+word_cut old out new word front written many is longer put =
+    let cut : front ≡ take 160 (chars word) = subst (λ (n : ℕ). front ≡ take n (chars word)) many is in
+    let long : nat_lt 160 (length (chars word)) ≡ true = longer_test (length (chars word)) (omega (arith, many, longer)) in
+    put ∙ ap (λ (l : List ℕ). l ++ codes "...") (written ∙ ap (λ (l : List ℕ). old ++ shown_text l) cut)
+    ∙ append_assoc old (shown_text (take 160 (chars word))) (codes "...")
+    ∙ ap (λ (b : Bool). old ++ cond b (shown_text (take 160 (chars word)) ++ codes "...") (shown_text (chars word))) (sym long)
+
+-- any other word
+pub word_whole : (old out word front : List ℕ) → out ≡ old ++ shown_text front → length front ≤ 160 → front ≡ chars word → out ≡ old ++ shown_word word
+unfolding shown_word
+word_whole old out word front written few is =
+    let same : length front ≡ length (chars word) = ap length is in
+    let short : nat_lt 160 (length (chars word)) ≡ false = shorter_test (length (chars word)) (omega (arith, same, few)) in
+    written ∙ ap (λ (l : List ℕ). old ++ shown_text l) is
+    ∙ ap (λ (b : Bool). old ++ cond b (shown_text (take 160 (chars word)) ++ codes "...") (shown_text (chars word))) (sym short)

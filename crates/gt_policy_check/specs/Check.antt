@@ -1,17 +1,17 @@
 -- The findings of a text: that it is not a policy, or what is useless in it.
 use Rattle.std.specs.Prelude.{◌≡◌, ℕ, Bool, true, false, not, ◌&&◌, List, [], ◌∷◌, ◌++◌, Ok, Err, map, filter}
-use Rattle.std.specs.Prelude.{if◌then◌else◌, ◌⊎◌, chars, codes, All}
+use Rattle.std.specs.Prelude.{if◌then◌else◌, ◌⊎◌, codes, All}
 use Rattle.gt_policy_check.specs.Prelude.{flat_map, list_any, every_permission, permission_name, Meaning}
 use Rattle.gt_policy_check.specs.Prelude.{statement_grants, IsLined, statements_in, has_grant, types_in, ReadsAs}
 use Rattle.gt_policy_check.specs.Prelude.{TokenFault, LinedStatement, Statement, DeclareType, DeclareAttribute}
 use Rattle.gt_policy_check.specs.Prelude.{GiveAttributes, Allow, Finding, FindingKind, Fault, OtherClass}
 use Rattle.gt_policy_check.specs.Prelude.{OtherPermission, AllowsNothing, NeverAsked, Repeats, NeverNamed, NoDomain}
-use Rattle.gt_policy_check.specs.Prelude.{NeverMatters, NeverMapped, AlwaysRefused, Note, Member}
+use Rattle.gt_policy_check.specs.Prelude.{NeverMatters, NeverMapped, NoStatement, AlwaysRefused, Note, Member}
 use Rattle.gt_policy.specs.declared.fault.TokenFaultKind.{TokenFaultKind}
 use Rattle.gt_policy.specs.declared.fault.TokenFaultKind.TheVariants as token_fault_kinds
 use Rattle.gt_policy_check.specs.Columns.{IsColumnOf, IsEndOf}
 use Rattle.gt_policy_check.specs.Granting.{exceeds_some, gives_some}
-use Rattle.gt_policy_check.specs.Report.{shown_text}
+use Rattle.gt_policy_check.specs.Report.{shown_word}
 
 -- the finding is an error
 abbrev pub is_error : FindingKind → Bool
@@ -25,6 +25,7 @@ is_error NeverNamed = false
 is_error NoDomain = false
 is_error NeverMatters = false
 is_error NeverMapped = false
+is_error NoStatement = false
 is_error AlwaysRefused = false
 is_error Note = false
 
@@ -40,6 +41,7 @@ is_of_nothing NeverNamed = false
 is_of_nothing NoDomain = false
 is_of_nothing NeverMatters = false
 is_of_nothing NeverMapped = false
+is_of_nothing NoStatement = false
 is_of_nothing AlwaysRefused = false
 is_of_nothing Note = false
 
@@ -55,6 +57,7 @@ is_of_repeat NeverNamed = false
 is_of_repeat NoDomain = false
 is_of_repeat NeverMatters = false
 is_of_repeat NeverMapped = false
+is_of_repeat NoStatement = false
 is_of_repeat AlwaysRefused = false
 is_of_repeat Note = false
 
@@ -70,6 +73,7 @@ is_of_statement NeverNamed = false
 is_of_statement NoDomain = false
 is_of_statement NeverMatters = true
 is_of_statement NeverMapped = false
+is_of_statement NoStatement = false
 is_of_statement AlwaysRefused = false
 is_of_statement Note = false
 
@@ -173,9 +177,9 @@ AddsUseless old new nothing repeated =
     (error_lines new ≡ error_lines old) × (nothing_lines new ≡ nothing_lines old ++ nothing)
     × (repeat_lines new ≡ repeat_lines old ++ repeated)
 
--- the message begins with the word in quotes
+-- the message begins with the word in quotes, as it is shown
 abbrev pub QuotesWord : List ℕ → List ℕ → Type 0
-QuotesWord word message = (rest : List ℕ) × (message ≡ codes "\"" ++ shown_text (chars word) ++ codes "\"" ++ rest)
+QuotesWord word message = (rest : List ℕ) × (message ≡ codes "\"" ++ shown_word word ++ codes "\"" ++ rest)
 
 -- the column of the finding is that of the word which its message begins with
 abbrev pub IsAtQuoted : List ℕ → Finding → Type 0
@@ -186,7 +190,8 @@ abbrev pub IsAtAllow : List ℕ → Finding → Type 0
 IsAtAllow text x = IsColumnOf text x.line (codes "allow") x.column
 
 -- The column of a warning or a note is that of the word that it is about: of an allow statement the word `allow`, and
--- otherwise the word that its message quotes. (A fault has a column of its kind, and labels and calls are those of a script.)
+-- otherwise the word that its message quotes. A policy without a statement
+-- has its warning at its beginning. (A fault has a column of its kind, and labels and calls are those of a script.)
 abbrev pub HasColumnAs : FindingKind → List ℕ → Finding → Type 0
 HasColumnAs Fault text x = Unit {0}
 HasColumnAs OtherClass text x = IsAtQuoted text x
@@ -198,6 +203,7 @@ HasColumnAs NeverNamed text x = IsAtQuoted text x
 HasColumnAs NoDomain text x = IsAtQuoted text x
 HasColumnAs NeverMatters text x = IsAtAllow text x
 HasColumnAs NeverMapped text x = Unit {0}
+HasColumnAs NoStatement text x = (x.line ≡ 1) × (x.column ≡ 1)
 HasColumnAs AlwaysRefused text x = Unit {0}
 HasColumnAs Note text x = IsAtAllow text x ⊎ IsAtQuoted text x
 
@@ -216,6 +222,7 @@ is_of_word NeverNamed = true
 is_of_word NoDomain = true
 is_of_word NeverMatters = false
 is_of_word NeverMapped = false
+is_of_word NoStatement = false
 is_of_word AlwaysRefused = false
 is_of_word Note = false
 

@@ -2,6 +2,7 @@ pub mod Check
 pub mod Columns
 pub mod Earlier
 pub mod Granting
+pub mod LineWords
 pub mod Members
 pub mod Placing
 pub mod Texts

@@ -2,7 +2,7 @@
 pub use Rattle.gt_policy_check.specs.declared.findings.Finding.{Finding}
 pub use Rattle.gt_policy_check.specs.declared.findings.FindingKind.{FindingKind}
 pub use Rattle.gt_policy_check.specs.declared.findings.FindingKind.TheVariants.{AllowsNothing, AlwaysRefused, Fault, NeverAsked}
-pub use Rattle.gt_policy_check.specs.declared.findings.FindingKind.TheVariants.{NeverMapped, NeverMatters, NeverNamed}
+pub use Rattle.gt_policy_check.specs.declared.findings.FindingKind.TheVariants.{NeverMapped, NoStatement, NeverMatters, NeverNamed}
 pub use Rattle.gt_policy_check.specs.declared.findings.FindingKind.TheVariants.{NoDomain, OtherClass, Note}
 pub use Rattle.gt_policy_check.specs.declared.findings.FindingKind.TheVariants.{OtherPermission, Repeats}
 pub use Rattle.gt_policy_check.specs.declared.members.Member.{Member}

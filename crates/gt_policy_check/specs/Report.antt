@@ -1,6 +1,6 @@
 -- Findings as text.
 use Rattle.std.specs.Prelude.{◌≡◌, ◌⊎◌, ℕ, ◌==◌, Bool, not, ◌&&◌, ◌||◌, List, [], ◌∷◌, ◌++◌, codes, if◌then◌else◌}
-use Rattle.std.specs.Prelude.{encode_utf8}
+use Rattle.std.specs.Prelude.{chars, encode_utf8, length, nat_lt, take}
 use Rattle.std.specs.Char.{is_control}
 use Rattle.std.specs.Fmt.{decimal}
 use Rattle.std.specs.List.{AllPass, AllZip, concat, flat_map}
@@ -10,7 +10,7 @@ use Rattle.gt_policy_check.specs.declared.findings.FindingKind.{FindingKind}
 use Rattle.gt_policy_check.specs.declared.findings.FindingKind.TheVariants.{Fault, OtherClass, OtherPermission}
 use Rattle.gt_policy_check.specs.declared.findings.FindingKind.TheVariants.{AllowsNothing, NeverAsked, Repeats}
 use Rattle.gt_policy_check.specs.declared.findings.FindingKind.TheVariants.{NeverNamed, NoDomain, NeverMatters}
-use Rattle.gt_policy_check.specs.declared.findings.FindingKind.TheVariants.{AlwaysRefused, NeverMapped, Note}
+use Rattle.gt_policy_check.specs.declared.findings.FindingKind.TheVariants.{AlwaysRefused, NeverMapped, NoStatement, Note}
 use Rattle.gt_policy_check.specs.declared.report.ReportForm.{ReportForm}
 use Rattle.gt_policy_check.specs.declared.report.ReportForm.TheVariants.{Colored, Json, Text}
 
@@ -26,6 +26,7 @@ severity_text NeverNamed = codes "warning"
 severity_text NoDomain = codes "warning"
 severity_text NeverMatters = codes "warning"
 severity_text NeverMapped = codes "warning"
+severity_text NoStatement = codes "warning"
 severity_text AlwaysRefused = codes "warning"
 severity_text Note = codes "note"
 
@@ -54,6 +55,11 @@ shown_letter c = if is_control c && not (c == 9) then 0xFFFD else c
 -- these characters as they are shown
 abbrev pub shown_text : List ℕ → List ℕ
 shown_text letters = flat_map (λ c. encode_utf8 (shown_letter c)) letters
+
+-- a word as it is shown in a message; of a long one the first 160 characters, and `...`
+unfoldable pub shown_word : List ℕ → List ℕ
+shown_word word = if nat_lt 160 (length (chars word)) then shown_text (take 160 (chars word)) ++ codes "..."
+    else shown_text (chars word)
 
 -- some characters as they are shown
 abbrev pub IsShownText : List ℕ → Type 0

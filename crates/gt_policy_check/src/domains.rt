@@ -1,7 +1,7 @@
 //! Warnings about types that no statement names, and about types and statements that no domain of a script uses.
 ghost use Rattle.std.specs.Prelude.{OnOk};
 ghost use Rattle.gt_policy_check.specs.Check.{KeepsColumns, Quiet};
-ghost use Rattle.gt_policy_check.specs.Placing.{HasLines};
+ghost use Rattle.gt_policy_check.specs.Placing.{IsPlace};
 
 use crate::adding::{Place, push_of_statement, push_of_word};
 use crate::findings::{Finding, FindingKind};
@@ -13,13 +13,14 @@ use crate::useless::allows_something;
 use gt_policy::{LinedStatement, Statement, TextPiece};
 use std::alloc::{AllocError, Global};
 
-/// A policy that is checked: its text with where the lines begin, its statements and types, and if it is that of a
-/// script, those types that a domain has.
+/// A policy that is checked: its text with where the lines begin, its statements with their columns, its types, and if it
+/// is that of a script, those types that a domain has.
 #[derive(Clone, Copy)]
 pub(crate) struct Judged<'p, 'a> {
     pub bytes: &'p [u8],
     pub lines: &'p LineStarts,
     pub statements: &'p [LinedStatement<'a>],
+    pub columns: &'p [u32],
     pub members: &'p [Member<'a>],
     pub of_script: bool,
     pub worn: &'p [Member<'a>],
@@ -100,18 +101,18 @@ pub(crate) fn warn_type(
     policy: &Judged,
     name: &TextPiece,
 ) -> Result<(), AllocError>
-    requires { HasLines place.now }
+    requires { IsPlace place.now }
     ensures quiet { OnOk result (Quiet found.old.items found.new.items) }
-    ensures columns { OnOk result (KeepsColumns place.now.bytes.now found.old.items found.new.items) }
+    ensures columns { OnOk result (KeepsColumns place.now.words.now.bytes.now found.old.items found.new.items) }
 {
     let word = name.as_str();
     if !is_named(policy, name) {
         let message = said_of(alloc, word, unnamed_text(policy))?;
-        return push_of_word(alloc, found, FindingKind::NeverNamed, place, word, message);
+        return push_of_word(found, FindingKind::NeverNamed, place, word, message);
     }
     if !is_worn(policy, name) {
         let message = said_of(alloc, word, " is not the type of any domain in this script")?;
-        return push_of_word(alloc, found, FindingKind::NoDomain, place, word, message);
+        return push_of_word(found, FindingKind::NoDomain, place, word, message);
     }
     Ok(())
 }
@@ -130,14 +131,14 @@ pub(crate) fn warn_matter(
     policy: &Judged,
     statement: &Statement,
 ) -> Result<(), AllocError>
-    requires { HasLines place.now }
+    requires { IsPlace place.now }
     ensures quiet { OnOk result (Quiet found.old.items found.new.items) }
-    ensures columns { OnOk result (KeepsColumns place.now.bytes.now found.old.items found.new.items) }
+    ensures columns { OnOk result (KeepsColumns place.now.words.now.bytes.now found.old.items found.new.items) }
 {
     if !never_matters(statement, policy) {
         return Ok(());
     }
     let said = "this statement allows nothing to the domains in this script";
     let message = message_of(alloc, said)?;
-    push_of_statement(alloc, found, FindingKind::NeverMatters, place, message)
+    push_of_statement(found, FindingKind::NeverMatters, place, message)
 }

@@ -9,6 +9,7 @@ use crate::misfits::{
     end_before, last_token, misfit, misfit_column, push_after, push_all_expected, push_stray_at,
 };
 use crate::nearest::nearest;
+use crate::outside::push_outside;
 use crate::places::{LineTokens, column_at, column_of_word, front_of, line_tokens};
 use gt_policy::{PolicyFault, PolicyFaultKind};
 use gt_text::{push_number, push_text};
@@ -254,18 +255,6 @@ fn explain_permission(
     push_permission_hint(alloc, &mut explained.message, word)
 }
 
-// Returns why a word is outside the supported part of the language.
-fn outside_text(word: &str) -> &'static str {
-    match word {
-        "policy" | "triple" | "domain" | "do" => {
-            " begins a line of a script; a script is checked with --script"
-        }
-        "alias" | "*" | "~" => " is not supported here",
-        _ =>
-            " is not supported; the supported statements are type, attribute, typeattribute and allow",
-    }
-}
-
 // Explains a part of the language that is not supported.
 fn explain_outside(
     alloc: Global,
@@ -279,7 +268,7 @@ fn explain_outside(
     ensures note { OnOk result (explained.new.note ≡ explained.old.note) }
 {
     explained.column = misfit_column(alloc, bytes, line, word)?;
-    push_said(&mut explained.message, word, outside_text(word))
+    push_outside(alloc, &mut explained.message, word)
 }
 
 /// Explains the fault of a text.

@@ -37,6 +37,8 @@ pub enum FindingKind {
     NeverMatters,
     /// A label of a script that no earlier map has.
     NeverMapped,
+    /// A policy without a statement.
+    NoStatement,
     /// A call of a script that is refused whatever comes before it.
     AlwaysRefused,
     /// A note on the error or warning before it.

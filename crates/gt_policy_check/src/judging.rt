@@ -1,16 +1,17 @@
 //! Warnings about the statements of a policy.
-ghost use Rattle.std.specs.Prelude.{◌≡◌, ◌+◌, ◌<◌, ◌∷◌, [], length, map, filter, slice_get, take, All, IfOk};
-ghost use Rattle.std.specs.Prelude.{Some, OnOk};
+ghost use Rattle.std.specs.Prelude.{◌≡◌, ◌+◌, ◌<◌, ◌≤◌, ◌∷◌, [], length, map, filter, slice_get, take, All, IfOk};
+ghost use Rattle.std.specs.Prelude.{ℕ, List, Some, OnOk};
 ghost use Rattle.std.specs.List.{flat_map};
 ghost use Rattle.gt_policy_check.specs.Check.{HasColumn, KeepsColumns};
-ghost use Rattle.gt_policy_check.specs.Columns.{AreStarts};
 ghost use Rattle.gt_policy_check.specs.Earlier.{IsStated, ListsEarlier};
 ghost use Rattle.gt_policy.specs.declared.lined.LinedStatement.{LinedStatement};
-ghost use Rattle.gt_policy_check.specs.Placing.{HasLines};
+ghost use Rattle.gt_policy_check.specs.LineWords.{AreStatementColumns, IsLineWords};
+ghost use Rattle.gt_policy_check.specs.Placing.{IsLinedPolicy, IsPlace};
 ghost use Rattle.gt_policy_check.specs.Check.{Quiet, AddsUseless, allows_nothing, error_lines, lines_repeated};
 ghost use Rattle.gt_policy_check.specs.Check.{nothing_lines, repeat_line, repeat_lines, repeated_with, useless_line};
 
-use crate::adding::{Place, push_note, push_of_statement, statement_column};
+use crate::adding::{Place, push_note, push_of_statement};
+use crate::allow_columns::statement_columns;
 use crate::domains::{Judged, warn_matter, warn_type, worn_members};
 use crate::earlier::{EarlierStatements, sources_of, triple_of};
 use crate::fault::FindingNote;
@@ -20,6 +21,7 @@ use crate::members::{Member, members_of};
 use crate::messages::message_of;
 use crate::places::line_starts;
 use crate::useless::{UselessReason, is_useless, reason_of};
+use crate::words::{LineWords, line_words};
 use gt_policy::{LinedStatement, Statement};
 use gt_text::{push_number, push_text};
 use gt_types::Memory;
@@ -55,16 +57,16 @@ fn warn_nothing(
     members: &[Member],
 ) -> Result<(), AllocError>
     requires judged { IsStated members.now it.now }
-    requires lines { HasLines place.now }
-    requires on_line { place.now.line ≡ it.now.stated.now.line }
+    requires position { IsPlace place.now }
+    requires on_line { place.now.words.now.number ≡ it.now.stated.now.line }
     ensures useless { OnOk result (AddsUseless found.old.items found.new.items
         (useless_line members.now it.now.stated.now) []) }
-    ensures columns { OnOk result (KeepsColumns place.now.bytes.now found.old.items found.new.items) }
+    ensures columns { OnOk result (KeepsColumns place.now.words.now.bytes.now found.old.items found.new.items) }
 {
     if is_useless(&it.stated.statement, it.allows, members) {
         let said = reason_text(reason_of(&it.stated.statement, members));
         let message = message_of(alloc, said)?;
-        return push_of_statement(alloc, found, FindingKind::AllowsNothing, place, message);
+        return push_of_statement(found, FindingKind::AllowsNothing, place, message);
     }
     Ok(())
 }
@@ -82,22 +84,15 @@ fn push_repeat_note(
     alloc: Global,
     found: &mut Vec<Finding>,
     policy: &Judged,
-    before: &[LinedStatement],
     first: usize,
 ) -> Result<(), AllocError>
-    requires lines { AreStarts policy.now.bytes.now policy.now.lines.now.starts.items }
-    requires within { first < length before.now }
+    requires columns { AreStatementColumns policy.now.bytes.now policy.now.statements.now policy.now.columns.now }
+    requires within { first < length policy.now.statements.now }
     ensures quiet { OnOk result (Quiet found.old.items found.new.items) }
     ensures columns { OnOk result (KeepsColumns policy.now.bytes.now found.old.items found.new.items) }
 {
-    let line = before[first].line;
-    let place = Place {
-        bytes: policy.bytes,
-        lines: policy.lines,
-        line,
-        before: &before[..first],
-    };
-    let column = statement_column(alloc, &place)?;
+    let line = policy.statements[first].line;
+    let column = policy.columns[first];
     let message = message_of(alloc, "this statement allows it first")?;
     push_note(
         found,
@@ -116,12 +111,12 @@ fn push_repeated(
     place: &Place,
     first: u32,
 ) -> Result<(), AllocError>
-    requires { HasLines place.now }
-    ensures useless { OnOk result (AddsUseless found.old.items found.new.items [] (place.now.line ∷ [])) }
-    ensures columns { OnOk result (KeepsColumns place.now.bytes.now found.old.items found.new.items) }
+    requires { IsPlace place.now }
+    ensures useless { OnOk result (AddsUseless found.old.items found.new.items [] (place.now.words.now.number ∷ [])) }
+    ensures columns { OnOk result (KeepsColumns place.now.words.now.bytes.now found.old.items found.new.items) }
 {
     let message = repeat_message(alloc, first)?;
-    push_of_statement(alloc, found, FindingKind::Repeats, place, message)
+    push_of_statement(found, FindingKind::Repeats, place, message)
 }
 
 // Warns of a statement that repeats an earlier one.
@@ -133,19 +128,20 @@ fn warn_repeat(
     policy: &Judged,
     it: &Stated,
 ) -> Result<(), AllocError>
-    requires text { place.now.bytes.now ≡ policy.now.bytes.now }
-    requires starts { AreStarts policy.now.bytes.now policy.now.lines.now.starts.items }
+    requires text { place.now.words.now.bytes.now ≡ policy.now.bytes.now }
+    requires statements { AreStatementColumns policy.now.bytes.now policy.now.statements.now policy.now.columns.now }
+    requires before { length it.now.before.now ≤ length policy.now.statements.now }
     requires judged { IsStated policy.now.members.now it.now }
-    requires lines { HasLines place.now }
-    requires on_line { place.now.line ≡ it.now.stated.now.line }
+    requires position { IsPlace place.now }
+    requires on_line { place.now.words.now.number ≡ it.now.stated.now.line }
     ensures useless { OnOk result (AddsUseless found.old.items found.new.items []
         (repeat_line policy.now.members.now it.now.before.now it.now.stated.now)) }
-    ensures columns { OnOk result (KeepsColumns place.now.bytes.now found.old.items found.new.items) }
+    ensures columns { OnOk result (KeepsColumns place.now.words.now.bytes.now found.old.items found.new.items) }
 {
     match it.repeats {
         Some(first) => {
             push_repeated(alloc, found, place, it.before[first].line)?;
-            push_repeat_note(alloc, found, policy, it.before, first)
+            push_repeat_note(alloc, found, policy, first)
         }
         None => Ok(()),
     }
@@ -160,9 +156,9 @@ fn warn_if_no_matter(
     policy: &Judged,
     it: &Stated,
 ) -> Result<(), AllocError>
-    requires { HasLines place.now }
+    requires { IsPlace place.now }
     ensures quiet { OnOk result (Quiet found.old.items found.new.items) }
-    ensures columns { OnOk result (KeepsColumns place.now.bytes.now found.old.items found.new.items) }
+    ensures columns { OnOk result (KeepsColumns place.now.words.now.bytes.now found.old.items found.new.items) }
 {
     if it.allows {
         warn_matter(alloc, found, place, policy, &it.stated.statement)
@@ -180,9 +176,9 @@ fn warn_parts(
     policy: &Judged,
     statement: &Statement,
 ) -> Result<(), AllocError>
-    requires { HasLines place.now }
+    requires { IsPlace place.now }
     ensures quiet { OnOk result (Quiet found.old.items found.new.items) }
-    ensures columns { OnOk result (KeepsColumns place.now.bytes.now found.old.items found.new.items) }
+    ensures columns { OnOk result (KeepsColumns place.now.words.now.bytes.now found.old.items found.new.items) }
 {
     match statement {
         Statement::Allow(allowed) => warn_words(alloc, found, place, allowed),
@@ -200,15 +196,16 @@ fn warn_at(
     policy: &Judged,
     it: &Stated,
 ) -> Result<(), AllocError>
-    requires text { place.now.bytes.now ≡ policy.now.bytes.now }
-    requires starts { AreStarts policy.now.bytes.now policy.now.lines.now.starts.items }
+    requires text { place.now.words.now.bytes.now ≡ policy.now.bytes.now }
+    requires statements { AreStatementColumns policy.now.bytes.now policy.now.statements.now policy.now.columns.now }
+    requires before { length it.now.before.now ≤ length policy.now.statements.now }
     requires judged { IsStated policy.now.members.now it.now }
-    requires lines { HasLines place.now }
-    requires on_line { place.now.line ≡ it.now.stated.now.line }
+    requires position { IsPlace place.now }
+    requires on_line { place.now.words.now.number ≡ it.now.stated.now.line }
     ensures useless { OnOk result (AddsUseless found.old.items found.new.items
         (useless_line policy.now.members.now it.now.stated.now)
         (repeat_line policy.now.members.now it.now.before.now it.now.stated.now)) }
-    ensures columns { OnOk result (KeepsColumns place.now.bytes.now found.old.items found.new.items) }
+    ensures columns { OnOk result (KeepsColumns place.now.words.now.bytes.now found.old.items found.new.items) }
 {
     warn_parts(alloc, found, place, policy, &it.stated.statement)?;
     warn_nothing(alloc, found, place, it, policy.members)?;
@@ -216,42 +213,30 @@ fn warn_at(
     warn_if_no_matter(alloc, found, place, policy, it)
 }
 
-// Warns of what is useless in a statement.
-fn warn(
-    alloc: Global,
-    found: &mut Vec<Finding>,
-    policy: &Judged,
-    it: &Stated,
-) -> Result<(), AllocError>
-    requires lines { AreStarts policy.now.bytes.now policy.now.lines.now.starts.items }
-    requires judged { IsStated policy.now.members.now it.now }
-    ensures useless { OnOk result (AddsUseless found.old.items found.new.items
-        (useless_line policy.now.members.now it.now.stated.now)
-        (repeat_line policy.now.members.now it.now.before.now it.now.stated.now)) }
-    ensures columns { OnOk result (KeepsColumns policy.now.bytes.now found.old.items found.new.items) }
-{
-    let place = Place {
-        bytes: policy.bytes,
-        lines: policy.lines,
-        line: it.stated.line,
-        before: it.before,
-    };
-    warn_at(alloc, found, &place, policy, it)
+// What is known of the statements before the next one: which may grant all that it does, and the words of the last line.
+#[derive(Drop)]
+struct Progress<'p> {
+    earlier: EarlierStatements,
+    words: LineWords<'p>,
 }
 
 // Warns of what is useless in the next statement, and adds it to the earlier ones.
-fn warn_next(
+fn warn_next<'p>(
     alloc: Global,
     found: &mut Vec<Finding>,
-    policy: &Judged,
-    earlier: &mut EarlierStatements,
+    policy: &Judged<'p, '_>,
+    progress: &mut Progress<'p>,
     number: usize,
 ) -> Result<(), AllocError>
-    requires lines { AreStarts policy.now.bytes.now policy.now.lines.now.starts.items }
+    requires policy { IsLinedPolicy policy.now }
     requires within { number < length policy.now.statements.now }
-    requires lists { ListsEarlier policy.now.members.now (take number policy.now.statements.now) earlier.old }
+    requires lists { ListsEarlier policy.now.members.now (take number policy.now.statements.now) progress.old.earlier }
+    requires words { IsLineWords progress.old.words }
+    requires text { progress.old.words.bytes.now ≡ policy.now.bytes.now }
     ensures lists { OnOk result
-        (ListsEarlier policy.now.members.now (take (number + 1) policy.now.statements.now) earlier.new) }
+        (ListsEarlier policy.now.members.now (take (number + 1) policy.now.statements.now) progress.new.earlier) }
+    ensures words { OnOk result (IsLineWords progress.new.words) }
+    ensures text { OnOk result (progress.new.words.bytes.now ≡ policy.now.bytes.now) }
     ensures useless { (x : LinedStatement) → slice_get policy.now.statements.now number ≡ Some x
         → OnOk result (AddsUseless found.old.items found.new.items
         (useless_line policy.now.members.now x)
@@ -267,16 +252,23 @@ fn warn_next(
         stated,
         before,
         allows: triple.is_some(),
-        repeats: earlier.repeated(&stated.statement, triple, before, members),
+        repeats: progress
+            .earlier
+            .repeated(&stated.statement, triple, before, members),
     };
-    warn(alloc, found, policy, &it)?;
-    earlier.add(number, sources.as_slice())
+    progress.words.go_to(alloc, policy.lines, stated.line)?;
+    let place = Place {
+        words: &progress.words,
+        column: policy.columns[number],
+    };
+    warn_at(alloc, found, &place, policy, &it)?;
+    progress.earlier.add(number, sources.as_slice())
 }
 
 // Warns of what is useless in the statements of a policy.
 #[tactic(auto, using(crate::proofs::KeepLemmas::keeps_same, crate::proofs::KeepLemmas::keeps_then))]
 fn warn_all(alloc: Global, policy: &Judged) -> Result<Vec<Finding>, Memory>
-    requires { AreStarts policy.now.bytes.now policy.now.lines.now.starts.items }
+    requires { IsLinedPolicy policy.now }
     ensures no_error { IfOk result (λ v. error_lines v.items ≡ []) }
     ensures nothing { IfOk result (λ v. nothing_lines v.items
         ≡ flat_map (λ x. useless_line policy.now.members.now x) policy.now.statements.now) }
@@ -285,11 +277,50 @@ fn warn_all(alloc: Global, policy: &Judged) -> Result<Vec<Finding>, Memory>
     ensures columns { IfOk result (λ v. All (HasColumn policy.now.bytes.now) v.items) }
 {
     let mut found = Vec::new(alloc);
-    let mut earlier = EarlierStatements::new(alloc, policy.members)?;
+    let mut progress = Progress {
+        earlier: EarlierStatements::new(alloc, policy.members)?,
+        words: line_words(alloc, policy.bytes, policy.lines, 0)?,
+    };
     'statements: for i in 0..policy.statements.len() {
-        warn_next(alloc, &mut found, policy, &mut earlier, i)?;
+        warn_next(alloc, &mut found, policy, &mut progress, i)?;
     }
     Ok(found)
+}
+
+// Adds the finding that a policy has no statement.
+#[tactic(auto, using(crate::proofs::CheckLemmas::quiet_push, crate::proofs::KeepLemmas::keeps_first))]
+fn push_no_statement(
+    alloc: Global,
+    found: &mut Vec<Finding>,
+    is_empty: bool,
+) -> Result<(), AllocError>
+    ensures quiet { OnOk result (Quiet found.old.items found.new.items) }
+    ensures columns { (text : List ℕ) → OnOk result (KeepsColumns text found.old.items found.new.items) }
+{
+    let message = if is_empty {
+        message_of(alloc, "the text is empty: it allows nothing")?
+    } else {
+        message_of(alloc, "the text has no statement: it allows nothing")?
+    };
+    found.push(Finding {
+        kind: FindingKind::NoStatement,
+        line: 1,
+        column: 1,
+        message,
+    })?;
+    Ok(())
+}
+
+// Warns of a policy that has no statement, unless it is that of a script.
+#[tactic(auto, using(crate::proofs::KeepLemmas::keeps_same))]
+fn warn_empty(alloc: Global, found: &mut Vec<Finding>, policy: &Judged) -> Result<(), AllocError>
+    ensures quiet { OnOk result (Quiet found.old.items found.new.items) }
+    ensures columns { OnOk result (KeepsColumns policy.now.bytes.now found.old.items found.new.items) }
+{
+    if policy.of_script || !policy.statements.is_empty() {
+        return Ok(());
+    }
+    push_no_statement(alloc, found, policy.bytes.is_empty())
 }
 
 /// Warns of what is useless in statements. `worn` has the names of the types of a script's domains.
@@ -307,15 +338,19 @@ pub(crate) fn warnings(
 {
     let members = members_of(alloc, statements, None)?;
     let lines = line_starts(alloc, bytes)?;
+    let columns = statement_columns(alloc, bytes, &lines, statements)?;
     let of_script = worn.is_some();
     let worn = worn_members(alloc, statements, worn)?;
     let policy = Judged {
         bytes,
         lines: &lines,
         statements,
+        columns: columns.as_slice(),
         members: members.as_slice(),
         of_script,
         worn: worn.as_slice(),
     };
-    warn_all(alloc, &policy)
+    let mut found = warn_all(alloc, &policy)?;
+    warn_empty(alloc, &mut found, &policy)?;
+    Ok(found)
 }

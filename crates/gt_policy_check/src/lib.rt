@@ -14,7 +14,9 @@
 #![tactic(auto)]
 
 mod adding;
+mod allow_columns;
 mod asking;
+mod columns;
 mod declared;
 mod domains;
 mod earlier;
@@ -27,13 +29,16 @@ mod members;
 mod messages;
 mod misfits;
 mod nearest;
+mod outside;
 mod places;
 mod reading;
 mod report;
 mod texts;
 mod useless;
+mod words;
 
 pub use asking::{Explanation, WhyAnswer, WhyQuestion, why};
+pub use columns::{WordColumns, word_columns};
 pub use findings::{Finding, FindingKind, check, check_worn};
 pub use granting::{gives_one, gives_source, has_grant, has_self, has_word, holds, lists, reaches};
 pub use listed::push_unknown_words;
@@ -42,3 +47,4 @@ pub use messages::{permission_names, push_hint, said_of};
 pub use places::{LineStarts, LinedText, column_on, line_starts};
 pub use reading::read_policy;
 pub use report::{ReportForm, push_finding, push_findings, push_json, push_report};
+pub use words::{LineWords, line_words};

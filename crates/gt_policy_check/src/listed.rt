@@ -2,15 +2,15 @@
 ghost use Rattle.std.specs.Prelude.{◌≡◌, ◌++◌, IfOk, OnOk};
 ghost use Rattle.std.specs.List.{flat_map};
 ghost use Rattle.gt_policy_check.specs.Check.{error_lines, KeepsColumns, QuotesWord, Quiet};
-ghost use Rattle.gt_policy_check.specs.Columns.{AreStarts};
-ghost use Rattle.gt_policy_check.specs.Placing.{HasLines};
+ghost use Rattle.gt_policy_check.specs.LineWords.{IsLineWords};
+ghost use Rattle.gt_policy_check.specs.Placing.{IsPlace};
 ghost use Rattle.gt_policy_check.specs.Words.{class_lines, is_flask_class, is_known_class, unknown_line};
 
 use crate::adding::{Place, push_of_word};
 use crate::findings::{Finding, FindingKind};
 use crate::granting::has_grant;
 use crate::messages::{is_near_permission, push_hint, push_permission_hint, said_of};
-use crate::places::LinedText;
+use crate::words::LineWords;
 use gt_policy::{Allowance, Permissions, TextPiece};
 use gt_types::Perms;
 use std::alloc::{AllocError, Global};
@@ -70,17 +70,17 @@ fn warn_class(
     place: &Place,
     class: &str,
 ) -> Result<(), AllocError>
-    requires { HasLines place.now }
+    requires { IsPlace place.now }
     ensures quiet { OnOk result (Quiet found.old.items found.new.items) }
-    ensures columns { OnOk result (KeepsColumns place.now.bytes.now found.old.items found.new.items) }
+    ensures columns { OnOk result (KeepsColumns place.now.words.now.bytes.now found.old.items found.new.items) }
     ensures classes { OnOk result (class_lines found.new.items
-        ≡ class_lines found.old.items ++ unknown_line place.now.line class.now) }
+        ≡ class_lines found.old.items ++ unknown_line place.now.words.now.number class.now) }
 {
     if is_known_class(class) {
         return Ok(());
     }
     let message = class_message(alloc, class)?;
-    push_of_word(alloc, found, FindingKind::OtherClass, place, class, message)
+    push_of_word(found, FindingKind::OtherClass, place, class, message)
 }
 
 // Makes the message about a word that is not a permission of class `grant`.
@@ -101,9 +101,9 @@ fn warn_other(
     word: &str,
     has_flask_class: bool,
 ) -> Result<(), AllocError>
-    requires { HasLines place.now }
+    requires { IsPlace place.now }
     ensures quiet { OnOk result (Quiet found.old.items found.new.items) }
-    ensures columns { OnOk result (KeepsColumns place.now.bytes.now found.old.items found.new.items) }
+    ensures columns { OnOk result (KeepsColumns place.now.words.now.bytes.now found.old.items found.new.items) }
     ensures classes { OnOk result (class_lines found.new.items ≡ class_lines found.old.items) }
 {
     if Perms::named(word.as_bytes()).is_some() {
@@ -113,14 +113,7 @@ fn warn_other(
         return Ok(());
     }
     let message = permission_message(alloc, word)?;
-    push_of_word(
-        alloc,
-        found,
-        FindingKind::OtherPermission,
-        place,
-        word,
-        message,
-    )
+    push_of_word(found, FindingKind::OtherPermission, place, word, message)
 }
 
 // Warns of a word that is not a permission of class `grant`, or that no call asks for.
@@ -132,13 +125,13 @@ fn warn_perm(
     word: &str,
     has_flask_class: bool,
 ) -> Result<(), AllocError>
-    requires { HasLines place.now }
+    requires { IsPlace place.now }
     ensures quiet { OnOk result (Quiet found.old.items found.new.items) }
-    ensures columns { OnOk result (KeepsColumns place.now.bytes.now found.old.items found.new.items) }
+    ensures columns { OnOk result (KeepsColumns place.now.words.now.bytes.now found.old.items found.new.items) }
 {
     if word == "transfer" {
         let message = said_of(alloc, word, " is not asked for by any call")?;
-        return push_of_word(alloc, found, FindingKind::NeverAsked, place, word, message);
+        return push_of_word(found, FindingKind::NeverAsked, place, word, message);
     }
     warn_other(alloc, found, place, word, has_flask_class)
 }
@@ -150,11 +143,11 @@ fn warn_classes(
     place: &Place,
     classes: &[TextPiece],
 ) -> Result<(), AllocError>
-    requires { HasLines place.now }
+    requires { IsPlace place.now }
     ensures quiet { OnOk result (Quiet found.old.items found.new.items) }
-    ensures columns { OnOk result (KeepsColumns place.now.bytes.now found.old.items found.new.items) }
+    ensures columns { OnOk result (KeepsColumns place.now.words.now.bytes.now found.old.items found.new.items) }
     ensures classes { OnOk result (class_lines found.new.items
-        ≡ class_lines found.old.items ++ flat_map (unknown_line place.now.line) classes.now) }
+        ≡ class_lines found.old.items ++ flat_map (unknown_line place.now.words.now.number) classes.now) }
 {
     'classes: for class in classes {
         warn_class(alloc, found, place, class.as_str())?;
@@ -170,9 +163,9 @@ fn warn_perms(
     perms: &[TextPiece],
     has_flask_class: bool,
 ) -> Result<(), AllocError>
-    requires { HasLines place.now }
+    requires { IsPlace place.now }
     ensures quiet { OnOk result (Quiet found.old.items found.new.items) }
-    ensures columns { OnOk result (KeepsColumns place.now.bytes.now found.old.items found.new.items) }
+    ensures columns { OnOk result (KeepsColumns place.now.words.now.bytes.now found.old.items found.new.items) }
 {
     'perms: for perm in perms {
         warn_perm(alloc, found, place, perm.as_str(), has_flask_class)?;
@@ -188,9 +181,9 @@ pub(crate) fn warn_words(
     place: &Place,
     allowed: &Allowance,
 ) -> Result<(), AllocError>
-    requires { HasLines place.now }
+    requires { IsPlace place.now }
     ensures quiet { OnOk result (Quiet found.old.items found.new.items) }
-    ensures columns { OnOk result (KeepsColumns place.now.bytes.now found.old.items found.new.items) }
+    ensures columns { OnOk result (KeepsColumns place.now.words.now.bytes.now found.old.items found.new.items) }
 {
     let classes = allowed.classes.as_slice();
     warn_classes(alloc, found, place, classes)?;
@@ -215,9 +208,9 @@ fn warn_others(
     perms: &[TextPiece],
     has_flask_class: bool,
 ) -> Result<(), AllocError>
-    requires { HasLines place.now }
+    requires { IsPlace place.now }
     ensures quiet { OnOk result (Quiet found.old.items found.new.items) }
-    ensures columns { OnOk result (KeepsColumns place.now.bytes.now found.old.items found.new.items) }
+    ensures columns { OnOk result (KeepsColumns place.now.words.now.bytes.now found.old.items found.new.items) }
     ensures classes { OnOk result (class_lines found.new.items ≡ class_lines found.old.items) }
 {
     'perms: for perm in perms {
@@ -235,11 +228,11 @@ fn warn_unknown(
     classes: &[TextPiece],
     perms: &Permissions,
 ) -> Result<(), AllocError>
-    requires { HasLines place.now }
+    requires { IsPlace place.now }
     ensures quiet { OnOk result (Quiet found.old.items found.new.items) }
-    ensures columns { OnOk result (KeepsColumns place.now.bytes.now found.old.items found.new.items) }
+    ensures columns { OnOk result (KeepsColumns place.now.words.now.bytes.now found.old.items found.new.items) }
     ensures classes { OnOk result (class_lines found.new.items
-        ≡ class_lines found.old.items ++ flat_map (unknown_line place.now.line) classes.now) }
+        ≡ class_lines found.old.items ++ flat_map (unknown_line place.now.words.now.number) classes.now) }
 {
     warn_classes(alloc, found, place, classes)?;
     match perms {
@@ -254,28 +247,25 @@ fn warn_unknown(
     }
 }
 
-/// Adds the findings of the classes and permissions of a statement on this line that Xen's FLASK policy doesn't have:
-/// one for each such class, and beside class `grant` one for each word that is not a permission and may be meant as
-/// one. None of them is an error. After an Err, some of them may have been added.
+/// Adds the findings of the classes and permissions of a statement on the line of these words that Xen's FLASK policy
+/// doesn't have: one for each such class, and beside class `grant` one for each word that is not a permission and may be
+/// meant as one. None of them is an error. After an Err, some of them may have been added.
 pub fn push_unknown_words(
     alloc: Global,
     found: &mut Vec<Finding>,
-    lined: LinedText,
-    line: u32,
+    words: &LineWords,
     classes: &[TextPiece],
     perms: &Permissions,
 ) -> Result<(), AllocError>
-    requires { AreStarts lined.text.now lined.lines.now.starts.items }
+    requires { IsLineWords words.now }
     ensures errors { OnOk result (error_lines found.new.items ≡ error_lines found.old.items) }
-    ensures columns { OnOk result (KeepsColumns lined.entry.text.now found.old.items found.new.items) }
+    ensures columns { OnOk result (KeepsColumns words.now.bytes.now found.old.items found.new.items) }
     ensures classes { OnOk result (class_lines found.new.items
-        ≡ class_lines found.old.items ++ flat_map (unknown_line line) classes.now) }
+        ≡ class_lines found.old.items ++ flat_map (unknown_line words.now.number) classes.now) }
 {
     let place = Place {
-        bytes: lined.text.as_bytes(),
-        lines: lined.lines,
-        line,
-        before: &[],
+        words,
+        column: words.column("allow"),
     };
     warn_unknown(alloc, found, &place, classes, perms)
 }

@@ -1,22 +1,22 @@
 //! The words of messages: quoted names, hints, and the names of permissions.
-ghost use Rattle.std.specs.Prelude.{◌≡◌, ◌++◌, map, chars, codes, IfOk, OnOk};
+ghost use Rattle.std.specs.Prelude.{◌≡◌, ◌++◌, map, codes, IfOk, OnOk};
 ghost use Rattle.gt_types.specs.Names.{every_permission, permission_name};
 ghost use Rattle.gt_policy_check.specs.Check.{QuotesWord};
 ghost use Rattle.gt_policy_check.specs.Placing.{AddsSome};
-ghost use Rattle.gt_policy_check.specs.Report.{shown_text};
+ghost use Rattle.gt_policy_check.specs.Report.{shown_word};
 
 use crate::nearest::nearest;
-use crate::report::push_all_shown;
+use crate::report::push_word;
 use gt_text::push_text;
 use gt_types::Perms;
 use std::alloc::{AllocError, Global};
 
-/// Appends a word in quotes.
+/// Appends a word in quotes, of a long word the first 160 characters.
 pub(crate) fn push_quoted(out: &mut Vec<u8>, word: &str) -> Result<(), AllocError>
-    ensures { OnOk result (out.new.items ≡ out.old.items ++ codes "\"" ++ shown_text (chars word.now) ++ codes "\"") }
+    ensures { OnOk result (out.new.items ≡ out.old.items ++ codes "\"" ++ shown_word word.now ++ codes "\"") }
 {
     push_text(out, "\"")?;
-    push_all_shown(out, word)?;
+    push_word(out, word)?;
     push_text(out, "\"")
 }
 
@@ -88,13 +88,14 @@ pub fn permission_names(alloc: Global) -> Result<Vec<&'static str>, AllocError>
 /// Appends a word in quotes and a text.
 pub(crate) fn push_said(out: &mut Vec<u8>, word: &str, said: &str) -> Result<(), AllocError>
     ensures { OnOk result (out.new.items
-        ≡ out.old.items ++ codes "\"" ++ shown_text (chars word.now) ++ codes "\"" ++ said.now) }
+        ≡ out.old.items ++ codes "\"" ++ shown_word word.now ++ codes "\"" ++ said.now) }
 {
     push_quoted(out, word)?;
     push_text(out, said)
 }
 
-/// Makes a message of a word in quotes and a text. U+FFFD replaces control characters of the word, except tabs.
+/// Makes a message of a word in quotes and a text. U+FFFD replaces control characters of the word, except
+/// tabs. Of a long word the message has the first 160 characters.
 pub fn said_of(alloc: Global, word: &str, said: &str) -> Result<Vec<u8>, AllocError>
     ensures { IfOk result (λ v. QuotesWord word.now v.items) }
 {

@@ -4,12 +4,12 @@ ghost use Rattle.std.specs.List.{flat_map, AllPass};
 ghost use Rattle.gt_json.specs.Strings.{quoted};
 ghost use Rattle.gt_policy_check.specs.Columns.{AreStarts};
 ghost use Rattle.gt_policy_check.specs.Report.{heading_text, object_text, position_text, said_text, severity_text};
-ghost use Rattle.gt_policy_check.specs.Report.{caret_text, is_space_or_tab, shown_letter, shown_text, AddsText};
+ghost use Rattle.gt_policy_check.specs.Report.{caret_text, is_space_or_tab, shown_letter, shown_text, shown_word, AddsText};
 ghost use Rattle.gt_policy_check.specs.Report.{IsTextOfAll};
 ghost use Rattle.gt_policy_check.specs.Report.{IsExcerpt, IsReport, IsFindingText, IsShownText};
 
 use crate::findings::{Finding, FindingKind};
-use crate::places::{LinedText, bytes_of, line_starts, span_of};
+use crate::places::{LinedText, Span, bytes_of, line_starts};
 use crate::texts::push_both;
 use gt_json::push_quoted;
 use gt_text::{push_number, push_text, text_of};
@@ -89,17 +89,6 @@ fn push_blank(out: &mut Vec<u8>, letter: char) -> Result<(), AllocError>
     Ok(())
 }
 
-// Returns the text of a line, without its line end.
-fn line_of<'t>(lined: LinedText<'t>, line: u32) -> &'t str
-    requires { AreStarts lined.text.now lined.lines.now.starts.items }
-{
-    let bytes = lined.text.as_bytes();
-    match text_of(bytes_of(bytes, span_of(bytes, lined.lines, line))) {
-        Ok(line) => line.trim_end_matches('\r'),
-        Err(_) => "",
-    }
-}
-
 /// Appends the characters of a line, with control characters replaced.
 pub(crate) fn push_all_shown(out: &mut Vec<u8>, line: &str) -> Result<(), AllocError>
     ensures { OnOk result (out.new.items ≡ out.old.items ++ shown_text (chars line.now)) }
@@ -110,27 +99,89 @@ pub(crate) fn push_all_shown(out: &mut Vec<u8>, line: &str) -> Result<(), AllocE
     Ok(())
 }
 
+// The most characters of a word that are shown.
+const LONGEST_WORD: usize = 160;
+
+/// Appends a word as it is shown in a message: its characters with control characters replaced, or of a long word the
+/// first 160, and `...`.
+pub(crate) fn push_word(out: &mut Vec<u8>, word: &str) -> Result<(), AllocError>
+    ensures { OnOk result (out.new.items ≡ out.old.items ++ shown_word word.now) }
+{
+    let mut count: usize = 0;
+    'letters: for letter in word.chars() {
+        if count == LONGEST_WORD {
+            return push_text(out, MORE);
+        }
+        push_shown(out, letter)?;
+        count += 1;
+    }
+    Ok(())
+}
+
 // The most bytes of a line that are shown.
 const SHOWN: usize = 160;
 
 // What marks that a line goes on.
 const MORE: &str = "...";
 
-// The bytes of a line that are shown, from `start` up to `end`.
+// The part of a line that is shown: its text, whether the line begins before it and goes on after it, and how many of
+// its bytes are before the column.
 #[derive(Clone, Copy)]
-struct Window {
-    start: usize,
-    end: usize,
+struct Shown<'t> {
+    text: &'t str,
+    begins_before: bool,
+    goes_on: bool,
+    before: usize,
 }
 
-// Returns the part of a line of this length that is shown: all of it, or if it is long the part around the column.
-fn window_of(length: usize, column: u32) -> Window {
+// Returns the bytes of a line without its line end, in the time of a look-up.
+fn row_of<'t>(lined: LinedText<'t>, line: u32) -> &'t [u8] {
+    let bytes = lined.text.as_bytes();
+    let last = bytes.len();
+    let number = line as usize;
+    let starts = lined.lines.starts.as_slice();
+    let start = starts
+        .get(number.saturating_sub(1))
+        .copied()
+        .unwrap_or(last);
+    let end = match starts.get(number) {
+        Some(next) => next.saturating_sub(1),
+        None => last,
+    };
+    match bytes_of(bytes, Span { start, end }) {
+        [row @ .., b'\r'] => row,
+        row => row,
+    }
+}
+
+// Returns the first place from this one on, at most three bytes further, at which a character of a line may begin.
+fn character_from(row: &[u8], place: usize) -> usize {
+    let mut place = place;
+    'bytes: for _ in 0..3 {
+        match row.get(place) {
+            Some(byte) if *byte >= 0x80 && *byte < 0xC0 => place = place.saturating_add(1),
+            _ => break,
+        }
+    }
+    place
+}
+
+// Returns the part of a line that is shown: all of it, or if it is long the part around the column.
+fn shown_of<'t>(row: &'t [u8], column: u32) -> Shown<'t> {
     let place = (column as usize).saturating_sub(1);
-    let last = length.saturating_sub(SHOWN);
-    let start = place.saturating_sub(SHOWN / 2).min(last);
-    Window {
-        start,
-        end: start.saturating_add(SHOWN).min(length),
+    let last = row.len().saturating_sub(SHOWN);
+    let from = place.saturating_sub(SHOWN / 2).min(last);
+    let start = character_from(row, from);
+    let end = character_from(row, from.saturating_add(SHOWN).min(row.len()));
+    let text = match text_of(bytes_of(row, Span { start, end })) {
+        Ok(text) => text.trim_end_matches('\r'),
+        Err(_) => "",
+    };
+    Shown {
+        text,
+        begins_before: start > 0,
+        goes_on: end < row.len(),
+        before: place.saturating_sub(start),
     }
 }
 
@@ -145,82 +196,38 @@ fn push_more(out: &mut Vec<u8>, goes_on: bool) -> Result<(), AllocError>
     Ok(())
 }
 
-// Appends a character of a line, if it is in a window or after it.
-#[tactic(auto, using(crate::proofs::ReportLemmas::shown_char, crate::proofs::ReportLemmas::shown_none))]
-fn push_shown_from(
-    out: &mut Vec<u8>,
-    window: Window,
-    place: usize,
-    letter: char,
-) -> Result<(), AllocError>
+// Appends the part of a line that is shown, with marks where the line goes on.
+#[tactic(auto, using(crate::proofs::ReportLemmas::shown_all))]
+fn push_shown_part(out: &mut Vec<u8>, shown: &Shown) -> Result<(), AllocError>
     ensures { OnOk result (AddsText IsShownText out.old.items out.new.items) }
 {
-    if place < window.start {
-        return Ok(());
-    }
-    push_shown(out, letter)
+    push_more(out, shown.begins_before)?;
+    push_all_shown(out, shown.text)?;
+    push_more(out, shown.goes_on)
 }
 
-// Appends the characters of a line in a window.
-fn push_inside(out: &mut Vec<u8>, line: &str, window: Window) -> Result<(), AllocError>
-    ensures { OnOk result (AddsText IsShownText out.old.items out.new.items) }
+// Appends blanks as wide as the characters of a text that are among its first bytes.
+fn push_blanks(out: &mut Vec<u8>, text: &str, before: usize) -> Result<(), AllocError>
+    ensures { OnOk result (AddsText (AllPass is_space_or_tab) out.old.items out.new.items) }
 {
-    'letters: for (place, letter) in line.char_indices() {
-        if place >= window.end {
+    'letters: for (place, letter) in text.char_indices() {
+        if place >= before {
             break;
         }
-        push_shown_from(out, window, place, letter)?;
+        push_blank(out, letter)?;
     }
     Ok(())
 }
 
-// Appends the part of a line in a window, with marks where the line goes on.
-fn push_window(out: &mut Vec<u8>, line: &str, window: Window) -> Result<(), AllocError>
-    ensures { OnOk result (AddsText IsShownText out.old.items out.new.items) }
-{
-    push_more(out, window.start > 0)?;
-    push_inside(out, line, window)?;
-    push_more(out, window.end < line.len())
-}
-
-// Appends blanks as wide as a character of a line, if it is in a window or after it.
-#[tactic(auto, using(crate::proofs::ReportLemmas::no_blanks))]
-fn push_blank_from(
-    out: &mut Vec<u8>,
-    window: Window,
-    place: usize,
-    letter: char,
-) -> Result<(), AllocError>
+// Appends the blanks below what is shown before a column, and below the mark that the line begins before it.
+fn push_indent(out: &mut Vec<u8>, shown: &Shown) -> Result<(), AllocError>
     ensures { OnOk result (AddsText (AllPass is_space_or_tab) out.old.items out.new.items) }
 {
-    if place < window.start {
-        return Ok(());
+    if shown.begins_before {
+        push_blanks(out, MORE, MORE.len())?;
+        return push_blanks(out, shown.text, shown.before);
     }
-    push_blank(out, letter)
-}
-
-// Appends blanks as wide as the characters of a line in a window before a column.
-fn push_blanks(out: &mut Vec<u8>, line: &str, window: Window, column: u32) -> Result<(), AllocError>
-    ensures { OnOk result (AddsText (AllPass is_space_or_tab) out.old.items out.new.items) }
-{
-    'letters: for (place, letter) in line.char_indices() {
-        if place + 1 >= column as usize {
-            break;
-        }
-        push_blank_from(out, window, place, letter)?;
-    }
-    Ok(())
-}
-
-// Appends the blanks below the mark that a line began before its window, and below the characters before a column.
-fn push_indent(out: &mut Vec<u8>, line: &str, window: Window, column: u32) -> Result<(), AllocError>
-    ensures { OnOk result (AddsText (AllPass is_space_or_tab) out.old.items out.new.items) }
-{
-    if window.start > 0 {
-        push_blanks(out, MORE, window_of(MORE.len(), 1), u32::MAX)?;
-        return push_blanks(out, line, window, column);
-    }
-    push_blanks(out, line, window, column)
+    push_blanks(out, shown.text, shown.before)
 }
 
 /// The form in which findings are printed.
@@ -256,14 +263,13 @@ fn push_excerpt(
     requires { AreStarts lined.text.now lined.lines.now.starts.items }
     ensures { OnOk result (AddsText (IsExcerpt form finding.now.kind) out.old.items out.new.items) }
 {
-    let line = line_of(lined, finding.line);
-    if line.is_empty() {
+    let shown = shown_of(row_of(lined, finding.line), finding.column);
+    if shown.text.is_empty() {
         return Ok(());
     }
-    let window = window_of(line.len(), finding.column);
-    push_window(out, line, window)?;
+    push_shown_part(out, &shown)?;
     push_text(out, "\n")?;
-    push_indent(out, line, window, finding.column)?;
+    push_indent(out, &shown)?;
     push_text(out, caret(finding.kind, form))
 }
 

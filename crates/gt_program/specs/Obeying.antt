@@ -6,7 +6,10 @@ use Rattle.gt_program.specs.Prelude.{to_list, to_play, to_run, to_tell_entries, 
 use Rattle.gt_program.specs.Prelude.{nothing, to_show_flow, mode_of, Sought, all_texts, a_claim, one_script, one_trace}
 use Rattle.gt_program.specs.Prelude.{one_diagram, all_scripts, several_claims, ExploreOptions, ExploreFormat}
 use Rattle.gt_program.specs.Prelude.{ClaimsFault}
-use Rattle.gt_program.specs.Prelude.{ClaimsExplored, NamedExplored, SearchAsked, One, Several}
+use Rattle.gt_program.specs.Prelude.{ClaimsExplored, NamedExplored, SearchAsked, One, Several, Together}
+use Rattle.gt_program.specs.Prelude.{Summarized, SummaryOptions, SummaryRequest, Answers, Difference, a_summary}
+use Rattle.gt_program.specs.Prelude.{a_difference, ReadsAsRun}
+use Rattle.gt_explore_faults.specs.declared.claims.ClaimsFault.TheVariants as claims_faults
 use Rattle.gt_program.specs.Prelude.{ExploreRequest, Verdict, Holds, Fails, Undecided, Outcome, No, Unknown, Yes}
 use Rattle.gt_file_commands.specs.Flows.{flow_format}
 use Rattle.gt_file_commands.specs.Names.{shown_name}
@@ -64,11 +67,23 @@ AnswersVerdict Wrote Yes = Wrote (Ok Holds)
 AnswersVerdict Wrote No = Wrote (Ok Fails)
 AnswersVerdict Wrote Unknown = Wrote (Ok Undecided)
 
--- what was written for what is asked: one request, in which calls may be named, or several claims
+-- what was written for a summary; its faults are those of a search
+abbrev pub SummaryExplored : SummaryOptions → List ℕ → Option (List ℕ) → Option (List ℕ) → Result Verdict ClaimsFault
+    → Type 0
+SummaryExplored asked input old new (Ok verdict) = Summarized asked (ReadsAsRun input) old new (Ok verdict)
+SummaryExplored asked input old new (Err (claims_faults.Explore fault)) =
+    Summarized asked (ReadsAsRun input) old new (Err fault)
+SummaryExplored asked input old new (Err (claims_faults.Kind number)) = ⊥
+SummaryExplored asked input old new (Err (claims_faults.Term claim number fault)) = ⊥
+SummaryExplored asked input old new (Err (claims_faults.Repeated first second)) = ⊥
+SummaryExplored asked input old new (Err claims_faults.Astray) = ⊥
+
+-- what was written for what is asked: one request, in which calls may be named, several claims, or a summary
 abbrev pub AskedExplored : SearchAsked → List ℕ → Option (List ℕ) → Option (List ℕ) → Result Verdict ClaimsFault
     → Type 0
 AskedExplored (One asked) = NamedExplored asked
 AskedExplored (Several asked) = ClaimsExplored asked
+AskedExplored (Together asked) = SummaryExplored asked
 
 -- the answer is the verdict
 abbrev pub Searches : SearchAsked → Doing
@@ -110,12 +125,19 @@ abbrev pub explore_format : Format → ExploreFormat
 explore_format Text = explore_formats.Text
 explore_format Json = explore_formats.Json
 
+-- what is sought by a summary
+abbrev pub sought_together : SummaryRequest → Sought
+sought_together Answers = a_summary
+sought_together (Difference one other) = a_difference one other
+
 -- this is asked for what is sought, in a format, up to this number of states
 abbrev pub IsAskedFor : Sought → ℕ → ExploreFormat → SearchAsked → Type 0
 IsAskedFor sought states format (One asked) =
     IsRequestFor sought asked.request × (asked.format ≡ format) × (asked.states ≡ states)
 IsAskedFor sought states format (Several asked) =
     (sought ≡ several_claims asked.claims.now) × (asked.format ≡ format) × (asked.states ≡ states)
+IsAskedFor sought states format (Together asked) =
+    (sought ≡ sought_together asked.request) × (asked.format ≡ format) × (asked.states ≡ states)
 
 -- a script is explored so
 abbrev pub Seeks : Sought → Format → ℕ → Doing

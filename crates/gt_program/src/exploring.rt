@@ -8,7 +8,7 @@ ghost use Rattle.gt_file_commands.specs.Working.{known_input, DoesOnFile, Works}
 ghost use Rattle.gt_file_commands.specs.declared.outcome.Outcome.TheVariants.{Unknown};
 ghost use Rattle.gt_program.specs.Obeying.{explore_format, verdict_outcome, AskedExplored, FindsText, IsAskedFor};
 ghost use Rattle.gt_program.specs.Obeying.{Searches, Seeks};
-ghost use Rattle.gt_program.specs.Obeying.{SeeksText};
+ghost use Rattle.gt_program.specs.Obeying.{SeeksText, SummaryExplored};
 
 use crate::progress::Progress;
 use gt_command_line::{Exploration, Format, SearchOptions};
@@ -16,6 +16,7 @@ use gt_explore_answers::{ExploreFormat, ExploreOptions, ExploreRequest};
 use gt_explore_claims::{ClaimsOptions, explore_claims, explore_named};
 use gt_explore_faults::ClaimsFault;
 use gt_explore_search::SearchWatch;
+use gt_explore_summary::{SummaryOptions, SummaryRequest, summarize};
 use gt_explore_verdict::Verdict;
 use gt_file_commands::{
     Context, CopyingReader, Failure, Outcome, Reasons, TextSource, finish, read_fault, read_given,
@@ -24,11 +25,12 @@ use std::alloc::Global;
 use std::io::{Read, Write};
 use std::time::Clock;
 
-/// What is asked about the texts of a script: one request, or the verdicts on several claims.
+/// What is asked about the texts of a script: one request, the verdicts on several claims, or a summary.
 #[derive(Clone, Copy)]
 pub(crate) enum SearchAsked<'w> {
     One(ExploreOptions<'w>),
     Several(ClaimsOptions<'w>),
+    Together(SummaryOptions),
 }
 
 // Returns the format of an exploration.
@@ -51,6 +53,20 @@ fn asked_for<'w>(asked: Exploration<'w>, states: usize, format: ExploreFormat) -
         Exploration::Claims(claims) => {
             return SearchAsked::Several(ClaimsOptions {
                 claims,
+                states,
+                format,
+            });
+        }
+        Exploration::Summary => {
+            return SearchAsked::Together(SummaryOptions {
+                request: SummaryRequest::Answers,
+                states,
+                format,
+            });
+        }
+        Exploration::Difference(one, other) => {
+            return SearchAsked::Together(SummaryOptions {
+                request: SummaryRequest::Difference(one, other),
                 states,
                 format,
             });
@@ -78,6 +94,23 @@ fn of_verdict(verdict: Verdict) -> Outcome
     }
 }
 
+// Summarizes the texts that the script of a reader may give.
+fn summary_asked<R: Read, W: Write, X: SearchWatch>(
+    alloc: Global,
+    options: &SummaryOptions,
+    reader: &mut R,
+    out: &mut W,
+    watch: &mut X,
+) -> Result<Verdict, ClaimsFault>
+    ensures { OfInput (R.remaining reader.old) (λ input.
+        SummaryExplored options.now input (W.contents out.old) (W.contents out.new) result) }
+{
+    match summarize(alloc, options, reader, out, watch) {
+        Ok(verdict) => Ok(verdict),
+        Err(fault) => Err(ClaimsFault::Explore(fault)),
+    }
+}
+
 // Answers what is asked on the texts that the script of a reader may give.
 fn explore_asked<R: Read, W: Write, X: SearchWatch>(
     alloc: Global,
@@ -92,6 +125,7 @@ fn explore_asked<R: Read, W: Write, X: SearchWatch>(
     match asked {
         SearchAsked::One(options) => explore_named(alloc, options, reader, out, watch),
         SearchAsked::Several(options) => explore_claims(alloc, options, reader, out, watch),
+        SearchAsked::Together(options) => summary_asked(alloc, options, reader, out, watch),
     }
 }
 

@@ -1,33 +1,37 @@
-//! The progress of a search.
+//! The progress of a search, and its end before it has met all states.
 use gt_explore_search::SearchWatch;
-use gt_file_commands::Context;
+use gt_file_commands::{Context, TextSource};
 use std::alloc::Global;
 use std::time::{Clock, Duration, Instant};
 
 // The time between two lines, in seconds.
 const PERIOD: u64 = 2;
 
-// The number of states between two looks at the clock.
-const STRIDE: usize = 64;
+// The number of turns between two looks at the clock and at the file.
+const STRIDE: u32 = 64;
 
-/// Prints every two seconds how many states a search has met, on a standard error that is a terminal. It ends no
-/// search.
+/// Prints every two seconds how many states a search has met, on a standard error that is a terminal. It ends the
+/// search once the file exists that the context names for that.
 #[derive(Drop)]
-pub(crate) struct Progress<'c, R, E> {
+pub(crate) struct Progress<'c, R, T, E> {
     alloc: Global,
     clock: &'c R,
+    texts: &'c T,
     err: &'c E,
+    // The name of the file that ends the search, if one does.
+    stop: Option<&'c str>,
+    is_stopped: bool,
     // When the search began, or None if nothing is to be shown.
     begun: Option<Instant>,
     // The seconds after which the next line is due.
     due: u64,
-    // The number of states at which to look at the clock.
-    next: usize,
+    // The number of turns before the next look.
+    left: u32,
 }
 
-impl<'c, R: Clock, E: Eprint> Progress<'c, R, E> {
+impl<'c, R: Clock, T: TextSource, E: Eprint> Progress<'c, R, T, E> {
     /// Begins to watch a search.
-    pub(crate) fn begin<T>(context: &Context<'c, R, T, E>) -> Progress<'c, R, E> {
+    pub(crate) fn begin(context: &Context<'c, R, T, E>) -> Progress<'c, R, T, E> {
         let begun = if context.style.shows_progress {
             Instant::now(context.rt).ok()
         } else {
@@ -36,15 +40,18 @@ impl<'c, R: Clock, E: Eprint> Progress<'c, R, E> {
         Progress {
             alloc: context.alloc,
             clock: context.rt,
+            texts: context.texts,
             err: context.err,
+            stop: context.stop,
+            is_stopped: false,
             begun,
             due: PERIOD,
-            next: STRIDE,
+            left: STRIDE,
         }
     }
 
     // Prints the number of states, if a line is due.
-    fn look(&mut self, begun: Instant, states: usize) {
+    fn show(&mut self, begun: Instant, states: usize) {
         let Ok(elapsed) = begun.elapsed(self.clock) else {
             return;
         };
@@ -57,17 +64,30 @@ impl<'c, R: Clock, E: Eprint> Progress<'c, R, E> {
             let _ = self.err.eprint(line);
         }
     }
+
+    // Shows how far the search is, and looks whether it is to end.
+    fn look(&mut self, states: usize) {
+        if let Some(begun) = self.begun {
+            self.show(begun, states);
+        }
+        if let Some(name) = self.stop {
+            self.is_stopped = self.texts.open(name).is_ok();
+        }
+    }
 }
 
-impl<R: Clock, E: Eprint> SearchWatch for Progress<'_, R, E> {
+impl<R: Clock, T: TextSource, E: Eprint> SearchWatch for Progress<'_, R, T, E> {
     fn ends(&mut self, states: usize) -> bool {
-        let Some(begun) = self.begun else {
-            return false;
-        };
-        if states >= self.next {
-            self.next = states.saturating_add(STRIDE);
-            self.look(begun, states);
+        if self.is_stopped {
+            return true;
         }
-        false
+        match self.left.checked_sub(1) {
+            Some(left) => self.left = left,
+            None => {
+                self.left = STRIDE;
+                self.look(states);
+            }
+        }
+        self.is_stopped
     }
 }

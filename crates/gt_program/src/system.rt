@@ -65,9 +65,18 @@ fn style_of<R: Runtime + AllocGlobal>(rt: &R, is_terminal: bool) -> Style {
     }
 }
 
+// Returns the value of an environment variable. It is None if it is not set, is not UTF-8, or an allocation fails.
+fn variable<R: Runtime + AllocGlobal>(rt: &R, name: &str) -> Option<String> {
+    match std::env::var(rt, name) {
+        Ok(value) => Some(value),
+        Err(_) => None,
+    }
+}
+
 /// Does what the words of the program's command line ask for, and returns the outcome. `is_terminal` is true if the
 /// standard output is a terminal. `shows_progress` is true if the standard error is one: a long search then shows how
-/// far it is.
+/// far it is. A search ends as at its limit of states once a file exists under the name in `GTHOST_STOP`, if that is
+/// set.
 pub fn run<R: Runtime + AllocGlobal + Threads + Wait + Sync>(
     rt: &R,
     is_terminal: bool,
@@ -78,12 +87,15 @@ pub fn run<R: Runtime + AllocGlobal + Threads + Wait + Sync>(
         shows_progress,
         ..style_of(rt, is_terminal)
     };
+    let file = variable(rt, "GTHOST_STOP");
+    let stop = file.as_ref().map(|name| name.as_str());
     let context = Context {
         rt,
         alloc: rt.alloc(),
         texts: &texts,
         err: rt,
         style,
+        stop,
     };
     obey_read(&context, words_of(rt), &mut io::writer(rt))
 }

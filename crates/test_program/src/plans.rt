@@ -45,7 +45,7 @@ const DUMP: EntriesOptions = EntriesOptions {
     script: None,
 };
 
-static PLANS: [(&str, Invocation<'static>); 45] = [
+static PLANS: [(&str, Invocation<'static>); 47] = [
     ("gthost play", Invocation::Play(PLAIN)),
     (
         "gthost play first.gt",
@@ -443,6 +443,20 @@ static PLANS: [(&str, Invocation<'static>); 45] = [
             options: SEARCH,
         },
     ),
+    (
+        "gthost explore --summary",
+        Invocation::Explore {
+            asked: Exploration::Summary,
+            options: SEARCH,
+        },
+    ),
+    (
+        "gthost explore --diff 2,13",
+        Invocation::Explore {
+            asked: Exploration::Difference(2, 13),
+            options: SEARCH,
+        },
+    ),
 ];
 
 #[test]
@@ -459,7 +473,7 @@ fn a_line_is_planned_as_it_asks(rt: HostRuntime) -> Result<(), Fail> {
 }
 
 // Lines without a plan, and whether they are faults.
-static REFUSED: [(&str, bool); 60] = [
+static REFUSED: [(&str, bool); 63] = [
     ("gthost --help", false),
     ("gthost --version", false),
     ("gthost -h", false),
@@ -516,6 +530,9 @@ static REFUSED: [(&str, bool); 60] = [
     ("gthost explore --trace one", true),
     ("gthost explore --trace 1 --witness 1", true),
     ("gthost explore --trace 1 --format xml", true),
+    ("gthost explore --summary --diff 1,2", true),
+    ("gthost explore --diff 1", true),
+    ("gthost explore --summary --never N19", true),
     ("gthost explore --witness 1 --format mermaid", true),
     ("gthost explore --states", true),
     ("gthost explore --states 1e5", true),

@@ -20,6 +20,7 @@ pub(crate) fn is_error(kind: FindingKind) -> bool
         | FindingKind::NoDomain
         | FindingKind::NeverMatters
         | FindingKind::NeverMapped
+        | FindingKind::NoStatement
         | FindingKind::AlwaysRefused
         | FindingKind::Note => false,
     }

@@ -183,10 +183,10 @@ impl<'s, 'a> SearchContext<'s, 'a> {
 
     // Returns whether the task at this index of a domain's list, if there is one, may touch what a next move meets.
     fn meets_task_at(&self, uses: MappingUse, next: NextMove, place: usize, at: usize) -> bool
-        ensures { result ≡ of_task (meets_task uses next) (slice_get (tasks_at self.now place) at) }
+        ensures { result ≡ of_task (meets_task self.now.grants.items uses next) (slice_get (tasks_at self.now place) at) }
     {
         match self.task(place, at) {
-            Some(task) => meets_task(uses, next, task),
+            Some(task) => meets_task(self.grants.as_slice(), uses, next, task),
             None => false,
         }
     }
@@ -201,7 +201,8 @@ impl<'s, 'a> SearchContext<'s, 'a> {
         place: usize,
         first: usize,
     ) -> bool
-        ensures { result ≡ list_any (meets_task uses next) (reachable shut.now (drop first (tasks_at self.now place))) }
+        ensures { result ≡ list_any (meets_task self.now.grants.items uses next)
+            (reachable shut.now (drop first (tasks_at self.now place))) }
     {
         for at in first..self.task_count(place) {
             if self.awaits_at(shut, place, at) {
@@ -222,7 +223,6 @@ impl<'s, 'a> SearchContext<'s, 'a> {
         let uses = MappingUse {
             loads: self.tasks_load(shut, place, first),
             stores: self.tasks_store(shut, place, first),
-            vias: self.vias,
         };
         any_mapping_meets(uses, next, actor.mappings.as_slice())
             || self.tasks_may_meet(uses, next, shut, place, first)

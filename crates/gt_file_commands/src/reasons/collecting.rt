@@ -3,7 +3,7 @@ use super::copying::KeptInput;
 use super::flows::flow_reason;
 use super::given::{given_reason, never_reason, nothing_reason, question_reason, text_reason};
 use super::names::shown_name;
-use gt_check_command::{BreachFault, WhyFault};
+use gt_check_command::{BreachFault, NeverText, WhyFault};
 use gt_command_line::Invocation;
 use gt_entries::{DumpFault, DumpLook, DumpOptions, look_of};
 use gt_explore_faults::{ClaimsFault, ExploreFault, TextsFault};
@@ -368,9 +368,9 @@ impl<'a> Reasons<'a> {
         }
     }
 
-    /// Adds the reason for which the policy that was read was not checked against the `neverallow` statements of this
-    /// file.
-    pub(crate) fn add_breach(&mut self, input: &KeptInput, never: &str, fault: &BreachFault) {
+    /// Adds the reason for which the policy that was read was not checked against these `neverallow`
+    /// statements.
+    pub(crate) fn add_breach(&mut self, input: &KeptInput, never: &NeverText, fault: &BreachFault) {
         let Some(file) = self.file else {
             return;
         };
@@ -378,7 +378,7 @@ impl<'a> Reasons<'a> {
             BreachFault::Policy(fault) => {
                 listing_reason(self.alloc, file, self.is_line, input, fault)
             }
-            BreachFault::Statements(fault) => never_reason(self.alloc, never, fault),
+            BreachFault::Statements(fault) => never_reason(self.alloc, never.file, fault),
             BreachFault::ForbidsNothing(line) => nothing_reason(self.alloc, never, *line),
         };
         self.add(said);

@@ -1,8 +1,10 @@
 //! The reasons of faults of texts beside the one that a command is about.
 use super::collecting::read_words;
 use super::copying::KeptInput;
+use gt_check_command::NeverText;
 use gt_fault_reasons::{push_policy_reason, push_read_reason, push_utf8_reason};
 use gt_policy::{PolicyFault, PolicyFaultKind};
+use gt_policy_check::{permission_names, push_hint, said_of};
 use gt_policy_list::ListingFault;
 use gt_text::ReadFault;
 use std::alloc::{AllocError, Global};
@@ -29,6 +31,23 @@ fn never_words(alloc: Global, kind: &PolicyFaultKind) -> Result<String, AllocErr
     }
 }
 
+// Returns that a word is not a permission, with the one that may be meant.
+fn permission_words(alloc: Global, word: &str) -> Result<Vec<u8>, AllocError> {
+    let mut words = said_of(alloc, word, " is not a permission of class grant")?;
+    let names = permission_names(alloc)?;
+    push_hint(alloc, &mut words, word, names.as_slice())?;
+    Ok(words)
+}
+
+// Returns what is wrong with `neverallow` and `neverflow` statements, with what may be meant.
+fn never_message(alloc: Global, kind: &PolicyFaultKind) -> Result<Vec<u8>, AllocError> {
+    if let PolicyFaultKind::Permission(word) = kind {
+        return permission_words(alloc, word.as_str());
+    }
+    let words = never_words(alloc, kind)?;
+    Vec::from_slice(alloc, words.as_bytes())
+}
+
 /// Returns the reason for which `neverallow` statements were refused, with their place.
 pub(crate) fn never_reason(
     alloc: Global,
@@ -39,20 +58,42 @@ pub(crate) fn never_reason(
     if let PolicyFaultKind::Memory = fault.kind {
         return Ok(said);
     }
-    let words = never_words(alloc, &fault.kind)?;
+    let words = never_message(alloc, &fault.kind)?;
     let place = format!(in alloc; "{never}:{}", fault.line)?;
-    push_read_reason(&mut said, place.as_str(), words.as_bytes())?;
+    push_read_reason(&mut said, place.as_str(), words.as_slice())?;
     Ok(said)
 }
 
+// Returns whether a line has no statement: it is blank, or a comment.
+fn is_bare(line: &str) -> bool {
+    let line = line.trim();
+    line.is_empty() || line.starts_with('#')
+}
+
+// Returns why a text forbids nothing of class `grant`.
+fn nothing_words(text: &str) -> &'static str {
+    if text.is_empty() {
+        "the text is empty: it forbids nothing"
+    } else if text.lines().all(|line| is_bare(line)) {
+        "the text has no statement: it forbids nothing"
+    } else {
+        "no statement forbids a permission of class grant"
+    }
+}
+
 /// Returns the reason for which `neverallow` statements that forbid nothing of class `grant` were refused.
-pub(crate) fn nothing_reason(alloc: Global, never: &str, line: u32) -> Result<Vec<u8>, AllocError> {
+pub(crate) fn nothing_reason(
+    alloc: Global,
+    never: &NeverText,
+    line: u32,
+) -> Result<Vec<u8>, AllocError> {
     let mut said = Vec::new(alloc);
-    let place = format!(in alloc; "{never}:{line}")?;
+    let file = never.file;
+    let place = format!(in alloc; "{file}:{line}")?;
     push_read_reason(
         &mut said,
         place.as_str(),
-        b"no statement forbids a permission of class grant",
+        nothing_words(never.text).as_bytes(),
     )?;
     Ok(said)
 }

@@ -1,5 +1,5 @@
 //! The call that copies bytes between frames, whole or in two halves.
-ghost use Rattle.std.specs.Prelude.{◌≡◌, ◌+◌, ◌≤◌, Err, IfOk, IfErr, None, OnErr, false, true};
+ghost use Rattle.std.specs.Prelude.{◌≡◌, ◌+◌, ◌≤◌, Err, IfOk, IfErr, None, OnErr, OnOk, false, true};
 ghost use Rattle.gt_types.specs.Copies.{is_dest_granted};
 ghost use Rattle.gt_types.specs.declared.Dir.TheVariants as dirs;
 ghost use Rattle.gt_types.specs.declared.Use.TheVariants as uses;
@@ -16,7 +16,7 @@ ghost use Rattle.gt_live.specs.Driving.{IsSame};
 ghost use Rattle.gt_live.specs.Domains.{AnswersWithAccess, Answered, BelongsTo, IsUnsettled, KeepsPinned, known_on};
 ghost use Rattle.gt_live.specs.Domains.{record_of_copy};
 ghost use Rattle.gt_live.specs.Halves.{copy_hypercall};
-ghost use Rattle.gt_live.specs.Copies.{CopyStopsWith, filled, pending_with};
+ghost use Rattle.gt_live.specs.Copies.{CopyStopsWith, filled, no_pending, pending_from, pending_to};
 ghost use Rattle.gt_live.specs.Halves.{BecomesPending, EndsPending, IsPending, done_copy};
 ghost use Rattle.gt_live.specs.Releasing.{CopyLeaves, PendingLeaves};
 ghost use Rattle.gt_live.specs.Underway.{AreOfRun, GivesBack, HasTaken};
@@ -28,10 +28,7 @@ use crate::access_paths::{CopyWords, drive_copy, give_back};
 use crate::monitor::Monitor;
 use gt_access::{CopyAccess, copy_under};
 use gt_audit::{Hypercall, Record, Reply};
-use gt_calls::{
-    AccessPath, Call, CallPins, CallResult, CopyArgs, OpenRequest, Phase, Spot, judge_copy,
-    place_of,
-};
+use gt_calls::{AccessPath, CallPins, CallResult, CopyArgs, End, Spot, judge_copy, place_of};
 use gt_frames::Copied;
 use gt_types::{Allows, Denial, DomId, FRAME_SIZE};
 use gt_words::Seat;
@@ -70,15 +67,59 @@ fn copy_through<R: Wait, P: Allows>(
     }
 }
 
-/// A copy at its access, with its pins: `len` bytes may now be read at `from` and written at `to`. [`Domain::copy_end`]
-/// releases the pins; until then the domain makes no other call.
+/// A copy at its access, with its pins. [`Domain::copy_begin`] writes it and [`Domain::copy_end`] releases the pins; until
+/// then the domain makes no other call. It has no more than its call is made of, since each copy writes it.
 #[derive(Clone, Copy)]
 pub struct PendingCopy {
-    call: Call,
+    caller: DomId,
     copy: CopyArgs,
-    pub from: Spot,
-    pub to: Spot,
-    pub len: u16,
+    pins: CallPins,
+}
+
+impl PendingCopy {
+    /// Makes a place for [`Domain::copy_begin`] to write a copy to.
+    pub fn new() -> PendingCopy
+        ensures { result ≡ no_pending }
+    {
+        let end = End {
+            ptr: 0,
+            domid: DomId(0),
+            offset: 0,
+        };
+        PendingCopy {
+            caller: DomId(0),
+            copy: CopyArgs {
+                source: end,
+                dest: end,
+                len: 0,
+                flags: 0,
+            },
+            pins: no_pins(),
+        }
+    }
+
+    /// Returns the place where bytes may be read.
+    #[inline(always)]
+    pub fn from(&self) -> Spot
+        ensures { result ≡ pending_from self.now }
+    {
+        place_of(self.caller, self.copy.source, self.pins.source)
+    }
+
+    /// Returns the place where bytes may be written.
+    #[inline(always)]
+    pub fn to(&self) -> Spot
+        ensures { result ≡ pending_to self.now }
+    {
+        place_of(self.caller, self.copy.dest, self.pins.dest)
+    }
+
+    /// Returns the number of bytes.
+    pub fn len(&self) -> u16
+        ensures { result ≡ (copy_at_access self.now).len }
+    {
+        self.copy.len
+    }
 }
 
 // Returns no pins, for a copy to replace with those that it takes.
@@ -89,28 +130,6 @@ fn no_pins() -> CallPins
     CallPins {
         source: AccessPath::Own,
         dest: AccessPath::Own,
-    }
-}
-
-// Makes a copy at its access, with the pins that it holds.
-fn at_access(caller: DomId, copy: CopyArgs, pins: CallPins) -> PendingCopy
-    ensures { result ≡ pending_with caller copy pins }
-{
-    let phase = Phase::Accessing {
-        copy,
-        source: pins.source,
-        dest: pins.dest,
-    };
-    PendingCopy {
-        call: Call {
-            caller,
-            request: OpenRequest::Copy(copy),
-            phase: Some(phase),
-        },
-        copy,
-        from: place_of(caller, copy.source, pins.source),
-        to: place_of(caller, copy.dest, pins.dest),
-        len: copy.len,
     }
 }
 
@@ -147,7 +166,6 @@ impl Domain {
     ) -> Result<(), Denial>
         requires mine { BelongsTo P.may monitor.now self.old }
         requires granted { granted ≡ is_dest_granted copy.now }
-        requires none { pins.old ≡ no_pins }
         requires unanswered { copy_begun (known_on P.may monitor.now self.old) self.old.seat.dom copy.now ≡ None }
         ensures kept { IsUnsettled self.old self.new }
         ensures stops { CopyStopsWith (known_on P.may monitor.now self.old) monitor.now.words.layout
@@ -320,13 +338,15 @@ impl Domain {
     }
 
     // Drives a copy to its access, without a record.
+    #[inline(always)]
     fn begin_pending<P: Allows>(
         &mut self,
         monitor: &Monitor<P>,
         copy: &CopyArgs,
-    ) -> Result<PendingCopy, Denial>
+        pending: &mut PendingCopy,
+    ) -> Result<(), Denial>
         requires mine { BelongsTo P.may monitor.now self.old }
-        ensures comes { IfOk result (λ h. BecomesPending P.may monitor.now self.old copy.now h self.new) }
+        ensures comes { OnOk result (BecomesPending P.may monitor.now self.old copy.now pending.new self.new) }
         ensures mine { OnErr result (BelongsTo P.may monitor.now self.new) }
         ensures refused { IfErr result
             (λ denial. Answered P.may monitor.now self.old (requests.Copy copy.now) (Refused denial) self.new) }
@@ -337,27 +357,31 @@ impl Domain {
         if let Some(verdict) = self.judge_copy(monitor, copy) {
             return Err(refusal_of(verdict));
         }
-        let mut pins = no_pins();
-        match self.drive_copy(monitor, copy, copy.is_dest_granted(), &mut pins) {
-            Ok(()) => Ok(at_access(self.seat.dom(), *copy, pins)),
+        pending.caller = self.seat.dom();
+        pending.copy = *copy;
+        match self.drive_copy(monitor, copy, copy.is_dest_granted(), &mut pending.pins) {
+            Ok(()) => Ok(()),
             Err(denial) => Err(denial),
         }
     }
 
-    /// Makes the first half of a copy, for a caller who keeps the frames: it reaches the access and stops there. Until
-    /// [`copy_end`](Domain::copy_end) the domain holds the copy's pins, and `len` bytes may be read at `from` and
-    /// written at `to`. A copy in two halves makes the steps of a whole one (`two_halves_make_a_copy`). The caller must
-    /// move those bytes, and no others.
+    /// Makes the first half of a copy, for a caller who keeps the frames: it reaches the access, stops there, and is
+    /// written to `pending`. Until [`copy_end`](Domain::copy_end) the domain holds the copy's pins, and bytes may be read
+    /// and written at the places of `pending`. A copy in two halves makes the steps of a whole one
+    /// (`two_halves_make_a_copy`). The caller must move those bytes, and no others.
     ///
     /// # Errors
-    /// The first rule that applies, as in [`copy`](Domain::copy). No pin is kept, and the refusal is recorded.
+    /// The first rule that applies, as in [`copy`](Domain::copy). No pin is kept, and the refusal is recorded. `pending`
+    /// may then be changed, and is the place for another copy.
+    #[inline(always)]
     pub fn copy_begin<P: Allows>(
         &mut self,
         monitor: &Monitor<P>,
         copy: &CopyArgs,
-    ) -> Result<PendingCopy, Denial>
+        pending: &mut PendingCopy,
+    ) -> Result<(), Denial>
         requires mine { BelongsTo P.may monitor.now self.old }
-        ensures comes { IfOk result (λ h. BecomesPending P.may monitor.now self.old copy.now h self.new) }
+        ensures comes { OnOk result (BecomesPending P.may monitor.now self.old copy.now pending.new self.new) }
         ensures mine { OnErr result (BelongsTo P.may monitor.now self.new) }
         ensures refused { IfErr result
             (λ denial. Answered P.may monitor.now self.old (requests.Copy copy.now) (Refused denial) self.new) }
@@ -366,50 +390,42 @@ impl Domain {
         ensures recorded { IfErr result (λ denial.
             AppendsRecord (trail_of self.old) (record_of_copy self.old copy.now (Err denial)) (trail_of self.new)) }
     {
-        match self.begin_pending(monitor, copy) {
-            Ok(pending) => Ok(pending),
+        match self.begin_pending(monitor, copy, pending) {
+            Ok(()) => Ok(()),
             Err(denial) => {
                 let dom = self.seat.dom();
-                self.trail.push(Record {
-                    dom,
-                    call: copy_hypercall(*copy),
-                    reply: Reply::Denied(denial),
-                });
+                record_refusal(&mut self.trail, dom, copy_hypercall(*copy), denial);
                 Err(denial)
             }
         }
     }
 
     // Releases the pins of a copy at its access, without a record. Returns the control words that this left.
-    fn end_pending<P: Allows>(&mut self, monitor: &Monitor<P>, pending: PendingCopy) -> CopyWords
-        requires pending { IsPending P.may monitor.now pending self.old }
+    #[inline(always)]
+    fn end_pending<P: Allows>(&mut self, monitor: &Monitor<P>, pending: &PendingCopy) -> CopyWords
+        requires pending { IsPending P.may monitor.now pending.now self.old }
         ensures mine { BelongsTo P.may monitor.now self.new }
-        ensures ends { EndsPending monitor.now.words.layout pending self.old self.new }
-        ensures left { PendingLeaves monitor.now.words.layout pending result self.old self.new }
+        ensures ends { EndsPending monitor.now.words.layout pending.now self.old self.new }
+        ensures left { PendingLeaves monitor.now.words.layout pending.now result self.old self.new }
         ensures silent { self.new.trail ≡ self.old.trail }
     {
-        let pins = pending.call.pins();
-        self.give_back(monitor, &pins)
+        self.give_back(monitor, &pending.pins)
     }
 
     /// Makes the second half of a copy: its pins are released, the last one first, and the copy is recorded as Ok.
     /// Returns the control words that this left in the entries that the copy named.
-    pub fn copy_end<P: Allows>(&mut self, monitor: &Monitor<P>, pending: PendingCopy) -> CopyWords
-        requires pending { IsPending P.may monitor.now pending self.old }
+    #[inline(always)]
+    pub fn copy_end<P: Allows>(&mut self, monitor: &Monitor<P>, pending: &PendingCopy) -> CopyWords
+        requires pending { IsPending P.may monitor.now pending.now self.old }
         ensures mine { BelongsTo P.may monitor.now self.new }
-        ensures ends { EndsPending (words_of monitor.now).layout pending self.old self.new }
-        ensures left { PendingLeaves (words_of monitor.now).layout pending result self.old self.new }
+        ensures ends { EndsPending (words_of monitor.now).layout pending.now self.old self.new }
+        ensures left { PendingLeaves (words_of monitor.now).layout pending.now result self.old self.new }
         ensures recorded { AppendsRecord (trail_of self.old)
-            (done_copy self.old (copy_at_access pending)) (trail_of self.new) }
+            (done_copy self.old (copy_at_access pending.now)) (trail_of self.new) }
     {
-        let copy = pending.copy;
         let left = self.end_pending(monitor, pending);
         let dom = self.seat.dom();
-        self.trail.push(Record {
-            dom,
-            call: copy_hypercall(copy),
-            reply: Reply::Done,
-        });
+        record_done(&mut self.trail, dom, copy_hypercall(pending.copy));
         left
     }
 }

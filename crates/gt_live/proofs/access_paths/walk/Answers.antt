@@ -1,6 +1,4 @@
-use Rattle.std.proofs.Common.{◌≡◌, ◌∙◌, ap, sym}
-use Rattle.gt_model.specs.declared.held.CallPins.{CallPins}
-use Rattle.gt_model.specs.declared.held.AccessPath.{AccessPath}
+use Rattle.std.proofs.Common.{◌∙◌, sym}
 use Rattle.gt_model.specs.declared.held.AccessPath.TheVariants.{Own}
 use Rattle.gt_calls.specs.Machine.{at_dest, at_source}
 use Rattle.gt_calls.specs.Known.{knows}
@@ -9,28 +7,19 @@ use Rattle.gt_live.proofs.Phases.{can-from, can-then, runs-from, runs-then}
 use Rattle.gt_live.proofs.Reaching.{source-own, source-walked}
 use Rattle.gt_live.proofs.access_paths.walk.Goals as goal
 
-pub walk_to_dest-requires-clause-own : goal.walk_to_dest-requires-clause-own
-walk_to_dest-requires-clause-own g c = ap (λ (p : CallPins). p.dest) c.requires.none
-
 pub walk_to_dest-requires-clause-can : goal.walk_to_dest-requires-clause-can
 walk_to_dest-requires-clause-can g c =
     let known = knows g.P.Allows.may c.args.known.now in let k = c.args.words.now.layout in
     let caller = c.args.caller in let copy = c.args.copy.now in
-    let own : c.args.pins.now.source ≡ Own = ap (λ (p : CallPins). p.source) c.requires.none in
-    can-from known k caller (at_source known caller copy) (at_dest known caller copy c.args.pins.now.source)
-    c.args.seat.now.view
-    (source-own known k caller copy (sym c.is_source_granted.ensures ∙ c.if-not-is_source_granted.true)
-    ∙ ap (λ (r : AccessPath). at_dest known caller copy r) (sym own)) c.requires.can
+    can-from known k caller (at_source known caller copy) (at_dest known caller copy Own) c.args.seat.now.view
+    (source-own known k caller copy (sym c.is_source_granted.ensures ∙ c.if-not-is_source_granted.true)) c.requires.can
 
 pub returns-then-not-is_source_granted-clause-goes : goal.returns-then-not-is_source_granted-clause-goes
 returns-then-not-is_source_granted-clause-goes g c =
     let known = knows g.P.Allows.may c.args.known.now in let k = c.args.words.now.layout in
     let caller = c.args.caller in let copy = c.args.copy.now in let v = c.args.seat.now.view in
-    let own : c.args.pins.now.source ≡ Own = ap (λ (p : CallPins). p.source) c.requires.none in
-    let there = at_dest known caller copy c.args.pins.now.source in
-    let is = source-own known k caller copy (sym c.is_source_granted.ensures ∙ c.if-not-is_source_granted.true)
-    ∙ ap (λ (r : AccessPath). at_dest known caller copy r) (sym own) in
-    runs-from known k caller there (at_source known caller copy)
+    let is = source-own known k caller copy (sym c.is_source_granted.ensures ∙ c.if-not-is_source_granted.true) in
+    runs-from known k caller (at_dest known caller copy Own) (at_source known caller copy)
     (after_copy copy (filled c.walk_to_dest.result c.walk_to_dest.new.pins)) v c.walk_to_dest.new.seat.view (sym is)
     c.walk_to_dest.ensures.goes
 
@@ -41,9 +30,6 @@ reach_source-requires-clause-can g c =
     can-from known k caller (at_source known caller copy) (source_leg known caller copy) c.args.seat.now.view
     (source-walked known k caller copy (sym c.is_source_granted.ensures ∙ c.if-not-is_source_granted.false))
     c.requires.can
-
-pub walk_to_dest-requires-in-Ok-clause-own : goal.walk_to_dest-requires-in-Ok-clause-own
-walk_to_dest-requires-in-Ok-clause-own g c = ap (λ (p : CallPins). p.dest) c.requires.none
 
 pub walk_to_dest-requires-in-Ok-clause-can : goal.walk_to_dest-requires-in-Ok-clause-can
 walk_to_dest-requires-in-Ok-clause-can g c =

@@ -1,8 +1,9 @@
-use Rattle.std.proofs.Common.{◌∙◌, ap, subst, sym}
+use Rattle.std.proofs.Common.{◌∙◌, subst, sym}
 use Rattle.std.specs.Prelude.{Err}
 use Rattle.gt_model.specs.declared.action.CallResult.TheVariants.{Refused}
 use Rattle.gt_calls.specs.declared.call.Phase.TheVariants.{Accessing, Ending}
 use Rattle.gt_model.specs.declared.held.AccessPath.{AccessPath}
+use Rattle.gt_model.specs.declared.held.AccessPath.TheVariants.{Own}
 use Rattle.gt_calls.specs.Machine.{at_dest}
 use Rattle.gt_calls.specs.Known.{knows}
 use Rattle.gt_model.specs.Holding.{held_by}
@@ -53,9 +54,8 @@ returns-then-not-granted-clause-goes g c =
     let known = knows g.P.Allows.may c.args.known.now in let k = c.args.words.now.layout in
     let caller = c.args.caller in let copy = c.args.copy.now in let pins = c.args.pins.now in
     let v = c.args.seat.now.view in let start = at_dest known caller copy pins.source in
-    runs-to known k caller start start (Accessing copy pins.source pins.dest) v v
-    (dest-own known k caller copy pins.source (sym c.requires.granted ∙ c.if-not-granted.true)
-    ∙ ap (λ (r : AccessPath). Accessing copy pins.source r) (sym c.requires.own))
+    runs-to known k caller start start (Accessing copy pins.source Own) v v
+    (dest-own known k caller copy pins.source (sym c.requires.granted ∙ c.if-not-granted.true))
     (runs-none known k caller start v)
 
 pub returns-in-Ok-clause-goes : goal.returns-in-Ok-clause-goes

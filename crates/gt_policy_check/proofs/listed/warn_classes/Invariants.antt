@@ -7,5 +7,5 @@ use Rattle.gt_policy_check.proofs.listed.warn_classes.Given as goal
 abbrev pub invariant-classes : goal.invariant-classes
 invariant-classes l =
     Quiet l.initial.found.items l.found.items
-    × (class_lines l.found.items ≡ class_lines l.initial.found.items ++ flat_map (unknown_line l.place.line) (take l.class-index l.classes))
-    × KeepsColumns l.place.bytes.now l.initial.found.items l.found.items
+    × (class_lines l.found.items ≡ class_lines l.initial.found.items ++ flat_map (unknown_line l.place.words.now.number) (take l.class-index l.classes))
+    × KeepsColumns l.place.words.now.bytes.now l.initial.found.items l.found.items

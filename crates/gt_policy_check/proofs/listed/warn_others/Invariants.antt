@@ -5,4 +5,4 @@ use Rattle.gt_policy_check.proofs.listed.warn_others.Given as goal
 
 abbrev pub invariant-perms : goal.invariant-perms
 invariant-perms l = Quiet l.initial.found.items l.found.items × (class_lines l.found.items ≡ class_lines l.initial.found.items)
-    × KeepsColumns l.place.bytes.now l.initial.found.items l.found.items
+    × KeepsColumns l.place.words.now.bytes.now l.initial.found.items l.found.items

@@ -13,3 +13,8 @@ pub returns-in-Several : goal.returns-in-Several
 returns-in-Several g c =
     subst (λ (a : SearchAsked). OfInput (g.R.Read.remaining c.args.reader.now) (λ (input : List ℕ). AskedExplored a input (g.W.Write.contents c.args.out.now) (g.W.Write.contents c.explore_claims.new.writer) c.explore_claims.result))
     (sym c.in-Several.is) c.explore_claims.ensures.text
+
+pub returns-in-Together : goal.returns-in-Together
+returns-in-Together g c =
+    subst (λ (a : SearchAsked). OfInput (g.R.Read.remaining c.args.reader.now) (λ (input : List ℕ). AskedExplored a input (g.W.Write.contents c.args.out.now) (g.W.Write.contents c.summary_asked.new.out) c.summary_asked.result))
+    (sym c.in-Together.is) c.summary_asked.ensures

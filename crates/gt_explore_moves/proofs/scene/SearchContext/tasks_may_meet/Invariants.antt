@@ -6,5 +6,5 @@ use Rattle.gt_explore_moves.proofs.scene.SearchContext.tasks_may_meet.Given as g
 
 abbrev pub invariant-loop-at : goal.invariant-loop-at
 invariant-loop-at l =
-    list_any (meets_task l.uses l.next) (reachable l.shut (drop l.at (tasks_at l.self l.place)))
-    ≡ list_any (meets_task l.uses l.next) (reachable l.shut (drop l.first (tasks_at l.self l.place)))
+    list_any (meets_task l.self.grants.items l.uses l.next) (reachable l.shut (drop l.at (tasks_at l.self l.place)))
+    ≡ list_any (meets_task l.self.grants.items l.uses l.next) (reachable l.shut (drop l.first (tasks_at l.self l.place)))

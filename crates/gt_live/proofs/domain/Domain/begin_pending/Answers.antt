@@ -5,7 +5,7 @@ use Rattle.gt_model.specs.declared.request.Request.TheVariants as requests
 use Rattle.gt_handles.specs.Handles.{HandleMap}
 use Rattle.gt_live.specs.Domains.{knowledge}
 use Rattle.gt_live.specs.declared.domain.copies.PendingCopy.{PendingCopy}
-use Rattle.gt_live.specs.Copies.{pending_with}
+use Rattle.gt_live.specs.Copies.{pending_from, pending_to}
 use Rattle.gt_live.specs.Halves.{BecomesPending}
 use Rattle.gt_live.proofs.Accessing.{refused-begun}
 use Rattle.gt_live.proofs.Copied.{access-dest, access-dest-range, access-may, access-source, access-source-range}
@@ -53,18 +53,18 @@ returns-in-Ok-clause-comes g c =
     let copy = c.args.copy.now in let pins = c.drive_copy.new.pins in let k = m.words.layout in
     let c0 = knowledge m.config may d in let f = c.drive_copy.new.self in let kept = c.drive_copy.ensures.kept in
     let me = kept.seat.dom in let a = c.in-Ok.ensures.stops in
-    let body_word = pending_with d.seat.dom copy pins in
-    let comes : BecomesPending g.P.Allows.may m d copy body_word f = record {
+    let h : PendingCopy = record { caller = d.seat.dom; copy = copy; pins = pins } in
+    let comes : BecomesPending g.P.Allows.may m d copy h f = record {
       asked = refl;
       way = refl;
       access = a;
-      source = access-source c0 k f.seat d.seat.dom copy pins d.seat.view me a body_word.from refl;
-      dest = access-dest c0 k f.seat d.seat.dom copy pins d.seat.view me a body_word.to refl;
+      source = access-source c0 k f.seat d.seat.dom copy pins d.seat.view me a (pending_from h) refl;
+      dest = access-dest c0 k f.seat d.seat.dom copy pins d.seat.view me a (pending_to h) refl;
       allowed = access-may c0 k f.seat d.seat.dom copy pins d.seat.view me a
           (sym c.judge_copy.ensures ∙ c.in_default.is);
-      source_range = access-source-range c0 k f.seat d.seat.dom copy pins d.seat.view me a body_word.from refl;
-      dest_range = access-dest-range c0 k f.seat d.seat.dom copy pins d.seat.view me a body_word.to refl;
+      source_range = access-source-range c0 k f.seat d.seat.dom copy pins d.seat.view me a (pending_from h) refl;
+      dest_range = access-dest-range c0 k f.seat d.seat.dom copy pins d.seat.view me a (pending_to h) refl;
       kept = kept;
     } in
-    subst (λ (h : PendingCopy). BecomesPending g.P.Allows.may m d copy h f)
-    (sym (c.at_access.ensures ∙ ap (λ (x : DomId). pending_with x copy pins) (c.dom.ensures ∙ me))) comes
+    subst (λ (x : DomId). BecomesPending g.P.Allows.may m d copy (record { caller = x; copy = copy; pins = pins }) f)
+    (sym c.dom-pending.ensures) comes

@@ -1,10 +1,4 @@
-use Rattle.std.proofs.Common.{ap, ◌∙◌, subst, sym}
-use Rattle.gt_model.specs.declared.held.CallPins.{CallPins}
-use Rattle.gt_model.specs.Holding.{last_first}
-use Rattle.gt_calls.specs.Standing.{pins_by_call}
-use Rattle.gt_live.specs.Releasing.{CopyLeaves}
-use Rattle.gt_live.specs.Underway.{AreOfRun, HasTaken}
-use Rattle.gt_live.proofs.GivingBack.{gives-access_paths}
+use Rattle.std.proofs.Common.{ap, ◌∙◌}
 use Rattle.gt_model.specs.declared.held.HeldPin.{HeldPin}
 use Rattle.gt_handles.specs.Handles.{HandleMap}
 use Rattle.gt_live.proofs.DomainKept.{looked}
@@ -18,28 +12,19 @@ give_back-requires g c =
     let mine = c.requires.pending.1 in let h = c.requires.pending.2 in
     record {
       seat = still_seat m.words d.seat e.seat mine.seat h.kept.seat;
-      taken = (
-        d.seat.view,
-        subst (λ (p : CallPins). HasTaken m.words.layout (last_first p) d.seat.view e.seat.view) (sym c.pins-pins.ensures)
-            h.access.taken,
-      );
-      of_run = subst (λ (p : CallPins). AreOfRun m.words.layout (last_first p)) (sym c.pins-pins.ensures) h.access.of_run;
+      taken = (d.seat.view, h.access.taken);
+      of_run = h.access.of_run;
     }
 
 pub returns-clause-mine : goal.returns-clause-mine
 returns-clause-mine g c =
     let m = c.args.monitor.now in let e = c.args.self.now in let f = c.give_back.new.self in let d = c.requires.pending.0 in let mine = c.requires.pending.1 in let h = c.requires.pending.2 in
     let one = h.kept in let two = c.give_back.ensures.kept in let may = g.P.Allows.may m.rights in
-    let same = all-back m.words.layout d.seat.view f.seat.view ((gives-access_paths m.words.layout c.pins-pins.result (pins_by_call c.args.pending.call) e.seat.view f.seat.view c.pins-pins.ensures c.give_back.ensures.gives).back d.seat.view h.access.taken) in
+    let same = all-back m.words.layout d.seat.view f.seat.view (c.give_back.ensures.gives.back d.seat.view h.access.taken) in
     let seat = same_seat-then d.seat e.seat f.seat one.seat two.seat in
     looked m.words m.config may d f mine (still_seat m.words d.seat f.seat mine.seat seat) seat.dom (ap (λ v. v.items) (two.own ∙ one.own)) (ap (λ (z : HandleMap HeldPin). z.slots) (two.mappings ∙ one.mappings)) same
 
 pub returns-clause-ends : goal.returns-clause-ends
 returns-clause-ends g c =
     let two = c.give_back.ensures.kept in
-    record { gives = gives-access_paths c.args.monitor.now.words.layout c.pins-pins.result (pins_by_call c.args.pending.call) c.args.self.now.seat.view c.give_back.new.self.seat.view c.pins-pins.ensures c.give_back.ensures.gives; seat = two.seat; own = two.own; mappings = two.mappings }
-
-pub returns-clause-left : goal.returns-clause-left
-returns-clause-left g c =
-    subst (λ (p : CallPins). CopyLeaves c.args.monitor.now.words.layout p c.give_back.result c.args.self.now.seat.view c.give_back.new.self.seat.view)
-    c.pins-pins.ensures c.give_back.ensures.left
+    record { gives = c.give_back.ensures.gives; seat = two.seat; own = two.own; mappings = two.mappings }

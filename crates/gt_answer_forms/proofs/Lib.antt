@@ -1,0 +1,3 @@
+pub mod AnswerForms
+pub mod AnswerWords
+pub mod Refusals

@@ -1,5 +1,0 @@
-use Rattle.gt_explore_answers.proofs.AnswerForms.{has_form_of_its_call}
-use Rattle.gt_explore_answers.proofs.laws.every_answer_has_a_form_of_its_call.Goals as goal
-
-pub returns : goal.returns
-returns c = has_form_of_its_call

@@ -1,0 +1,18 @@
+//! Summaries of the texts that a script for `run` may give: `explore --summary` and `explore --diff`.
+//!
+//! [`summarize`] reads a script, finds its texts once (`texts_found` of `gt_explore`), and writes the lines whose
+//! answers vary, each answer with the number of texts that have it; or the lines in which two of the texts differ, with
+//! both answers. The texts are compared line by line (`gt_explore_columns`).
+//!
+//! What is written is defined in `specs/`, for texts that the script may give: all of them, unless the search met more
+//! states than its limit, its watch ended it, or memory was wanting. It also uses `gt_explore_answers` (the texts, and
+//! the numbers of the search), `gt_explore_faults`, `gt_explore_search` (orders, and the watch over a search),
+//! `gt_explore_verdict`, `gt_script`, `gt_script_runs` and `gt_text`. Its definitions also name `gt_policy`.
+#![tactic(auto)]
+
+mod asking;
+mod summing;
+mod writing;
+
+pub use asking::{SummaryOptions, SummaryRequest};
+pub use writing::summarize;
