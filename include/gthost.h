@@ -20,8 +20,8 @@
  * and pass another number on N22, once the worn one has no pins (examples/xen_front/vmm.c). When no number is left, move
  * all domains to a new run, with their entries and mappings: gthost_renew.h.
  *
- * Memory comes from the program's malloc. Only gthost_start, gthost_type_of, gthost_map (for its mapping),
- * gthost_reserve_records and the records that are kept allocate. A run of one domain takes 1 MB. A run of 64 domains
+ * Memory comes from the program's malloc. Only gthost_start, gthost_type_of, gthost_type_name, gthost_map
+ * and gthost_map_all (for their mappings), gthost_reserve_records and the records that are kept allocate. A run of one domain takes 1 MB. A run of 64 domains
  * takes 51 MB, and 68 MB while it starts. A domain keeps no records until gthost_keep_at_most asks for some. Records
  * take 48 bytes each, in pieces of 12 KiB. They are kept until gthost_take_records, which keeps their room for later
  * ones, or until gthost_finish. A mapping takes less than 100 bytes. gthost_start needs 64 KiB of stack, and every other
@@ -118,6 +118,25 @@ static inline struct gthost_type gthost_type_of(const uint8_t *policy, size_t po
     return gthost_type_of_at(policy, policy_len, name, name_len);
 }
 
+/*
+ * Writes the name of the type with the number `label` in a policy's text to the front of `name`, without a final zero
+ * and as much of it as `name_size` bytes hold, and returns its length. So a refusal by N5 can be shown with names: its
+ * `source` and `target` are such numbers. After a fault `name` is unchanged and the length is 0. gthost_type_name tests
+ * for null pointers.
+ */
+struct gthost_name gthost_type_name_at(const uint8_t *policy, size_t policy_len, uint32_t label, uint8_t *name,
+                                       size_t name_size);
+
+static inline struct gthost_name gthost_type_name(const uint8_t *policy, size_t policy_len, uint32_t label,
+                                                  uint8_t *name, size_t name_size)
+{
+    if (!policy || !name) {
+        const struct gthost_name null_pointer = {{GTHOST_FAULT_NULL_POINTER, 0, 0}, 0};
+        return null_pointer;
+    }
+    return gthost_type_name_at(policy, policy_len, label, name, name_size);
+}
+
 /* Returns what a kind of fault means, in words. */
 struct gthost_text gthost_fault_text(uint32_t kind);
 /* Returns what a rule means: its name, its status, why it refuses, and what the caller may do. */
@@ -151,6 +170,8 @@ struct gthost_answer gthost_grant_all_of_at(struct gthost_domain *domain, struct
 struct gthost_answer gthost_difference_at(struct gthost_domain *domain, struct gthost_domain *other);
 void gthost_map_at(struct gthost_domain *domain, uint32_t dom, uint32_t gref, uint32_t flags,
                    struct gthost_answer *answer);
+struct gthost_answer gthost_map_all_at(struct gthost_domain *domain, struct gthost_map_request *requests, size_t count,
+                                       struct gthost_handle *names, size_t names_count);
 void gthost_unmap_at(struct gthost_domain *domain, const struct gthost_handle *name, struct gthost_answer *answer);
 struct gthost_found_mapping gthost_mapping_at(struct gthost_domain *domain, struct gthost_handle name);
 void gthost_copy_begin_at(struct gthost_domain *domain, const struct gthost_copy *copy,
@@ -373,6 +394,23 @@ static inline struct gthost_answer gthost_map(struct gthost_domain *domain, uint
         answer = gthost_null_answer();
     }
     return answer;
+}
+
+/*
+ * Makes the map of each of `count` requests, in order, or none. If all are Ok, the answer is a GTHOST_MAPPED_ALL, and
+ * names[i] is the name of the mapping of requests[i]; gthost_mapping returns what it maps. Otherwise the answer is the
+ * first refusal, as of gthost_map, with `value` 1 and in `more` the index of its request. Then no mapping is added and
+ * `names` is unchanged: the pins taken for the requests before it were released, the last one first, without asking for
+ * the permission unmap. Each map that is made or refused is recorded as by gthost_map, and no release is. No memory is
+ * taken but for the mappings. `requests` and `names` may not overlap. N1, N2, N5, N8 to N13, N16 to N18, N26.
+ */
+static inline struct gthost_answer gthost_map_all(struct gthost_domain *domain, struct gthost_map_request *requests,
+                                                  size_t count, struct gthost_handle *names)
+{
+    if (!domain || !requests || !names) {
+        return gthost_null_answer();
+    }
+    return gthost_map_all_at(domain, requests, count, names, count);
 }
 
 /*

@@ -59,7 +59,7 @@ enum gthost_fault_kind {
     GTHOST_FAULT_GENERATION = 17,  /* the first generation is above GTHOST_LAST_GENERATION */
     GTHOST_FAULT_NULL_POINTER = 18,/* a pointer is null */
     GTHOST_FAULT_LABEL = 19,       /* of `dom`: the policy has no such type */
-    GTHOST_FAULT_NO_TYPE = 20      /* the policy does not declare a type of this name */
+    GTHOST_FAULT_NO_TYPE = 20      /* the policy does not declare a type of this name or number */
 };
 
 struct gthost_fault {
@@ -132,7 +132,8 @@ enum gthost_kind {
     GTHOST_RELEASED = 12, /* Ok: an unmap; the control `word` of the entry `gref` of the domain `dom` just after it */
     GTHOST_ENDED = 13,    /* Ok: a copy ended; the control words of the entries that it named just after it: `word` of
                              the source, `value` of the destination, 0 for an end that is a frame */
-    GTHOST_REFERENCE = 14 /* Ok: the reference `gref` */
+    GTHOST_REFERENCE = 14, /* Ok: the reference `gref` */
+    GTHOST_MAPPED_ALL = 15 /* Ok: `value` mappings were added, one for each request */
 };
 
 /* What gthost_follow did to an entry. */
@@ -169,7 +170,8 @@ enum gthost_permission {
 };
 
 /*
- * The result of a call. A field without a meaning is 0. No two results have the same answer. The `word` of an entry has
+ * The result of a call. A field without a meaning is 0. No two results have the same answer. In the refusal of one map of
+ * several `value` is 1, and `more` the index of its request. The `word` of an entry has
  * bit 0 set if it is valid, its read pins in bits 4 to 15, its write pins in 16 to 27, the domain that it permits in 28
  * to 43, and its generation in 44 to 63. The `word` of a header has the version in bits 0 and 1, and the number of
  * frames in 2 to 9.
@@ -205,6 +207,15 @@ static inline struct gthost_handle gthost_handle_of(struct gthost_answer answer)
     const struct gthost_handle name = {answer.value, (size_t)answer.more, answer.detail, answer.dom};
     return name;
 }
+
+/* A map to make, as one of several (gthost_map_all): the arguments of gthost_map. The library writes the other two. */
+struct gthost_map_request {
+    uint32_t dom;
+    uint32_t gref;
+    uint32_t flags;
+    uint64_t serial;
+    size_t key;
+};
 
 /* What is mapped: the frame `frame` of `owner`, by its entry `gref`. `writes` is 1 if it may be written, else 0. */
 struct gthost_mapping {
@@ -351,6 +362,12 @@ struct gthost_text {
 struct gthost_rule_line {
     size_t len;
     uint8_t bytes[240];
+};
+
+/* The length of a type's name, or why it has none: GTHOST_FAULT_NO_TYPE, or a fault of the policy. */
+struct gthost_name {
+    struct gthost_fault fault;
+    size_t len;
 };
 
 /* The number of a type of a policy, or why there is none: GTHOST_FAULT_NO_TYPE, or a fault of the policy. */

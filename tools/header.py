@@ -21,7 +21,8 @@ STRUCTS = {
     "PlacesReport": "gthost_places", "EncodedRecord": "gthost_record", "MappingReport": "gthost_found_mapping",
     "RecordReport": "gthost_found_record", "BegunReport": "gthost_begun_copy", "EntryBytes": "gthost_entry_bytes",
     "FaultText": "gthost_text", "RuleText": "gthost_rule_line", "EntryStatus": "gthost_entry_status",
-    "EntryReport": "gthost_found_entry", "TypeReport": "gthost_type",
+    "EntryReport": "gthost_found_entry", "TypeReport": "gthost_type", "NameReport": "gthost_name",
+    "MapRequest": "gthost_map_request",
 }
 OF_RUST = {
     "Domain": "gthost_domain", "Settings": "gthost_settings", "Fault": "gthost_fault", "Answer": "gthost_answer",
@@ -30,6 +31,7 @@ OF_RUST = {
     "FoundMapping": "gthost_found_mapping", "FoundRecord": "gthost_found_record", "BegunCopy": "gthost_begun_copy",
     "EntryBytes": "gthost_entry_bytes", "Text": "gthost_text", "RuleLine": "gthost_rule_line",
     "EntryStatus": "gthost_entry_status", "FoundEntry": "gthost_found_entry", "Type": "gthost_type",
+    "Name": "gthost_name", "MapRequest": "gthost_map_request",
 }
 SCALARS = {
     "u8": ("uint8_t", 1), "u16": ("uint16_t", 2), "u32": ("uint32_t", 4), "u64": ("uint64_t", 8), "i32": ("int32_t", 4),
@@ -149,6 +151,8 @@ def passed_as(param, params):
     name = re.search(r"\w+$", param).group()
     if param in params:
         return name
+    if re.fullmatch(r"size_t \w+_count", param) and "size_t count" in params:
+        return "count"  # of two arrays that are of one length
     if param in RESULTS or param.removeprefix("const ").replace(" *", " ") in params:
         return f"&{name}"
     raise SystemExit(f"header: the function in front of an export does not take {param}")
@@ -163,7 +167,7 @@ def compare_inline(header, exports):
         params, body = parameters(found.group(1)), found.group(2)
         passed = [passed_as(one, params) for one in parameters(re.search(rf"\b{export}\(.*?\);", header, re.S).group())]
         names = [re.search(r"\w+$", one).group() for one in params]
-        if [word.lstrip("&") for word in passed if word not in ("&answer", "&begun")] != names:
+        if list(dict.fromkeys(word.lstrip("&") for word in passed if word not in ("&answer", "&begun"))) != names:
             raise SystemExit(f"header: {name} takes other parameters than {export}")
         pointers = [word for word, one in zip(names, params) if "*" in one]
         untested = [word for word in pointers if not re.search(rf"return {word} \?|!{word}\b|if \({word}\)", body)]

@@ -31,7 +31,7 @@ CALLS = {
     "setup": ["asked"],
     "copy": [end + part for end in ("from_", "to_") for part in ("kind", "owner", "at", "off")] + ["len", "flags"],
 }
-WITH_FORMAT = ["play", "run", "explore", "policy", "check", "entries"]
+WITH_FORMAT = ["play", "run", "explore", "policy", "check", "flow", "entries"]
 PLAIN_NUMBER = re.compile(r"-?(0|[1-9][0-9]*)\Z", re.ASCII)
 
 

@@ -451,6 +451,21 @@ for command in "$work/prefix/bin/gthost" "$checkout/gthost"; do
 done
 STUB=good
 try 'a second installation' 0 install "$work/prefix"; lines 'a second installation' 1
+# The version has the commit: that of the checkout, and after an installation that of the program.
+if command -v git >/dev/null; then
+  git init -q "$checkout"
+  git -C "$checkout" -c user.name=a -c user.email=a@a commit -q --allow-empty -m a
+  try 'the version in a repository' 0 --version; has 'the version in a repository' out '^commit [0-9a-f]{12}$'
+  try 'an installation of a repository' 0 install "$work/prefix"
+  for word in --version -V; do
+    tried=$((tried + 1)) status=0
+    "$work/prefix/bin/gthost" "$word" >"$work/out" 2>"$work/err" </dev/null || status=$?
+    [ "$status" -eq 3 ] || wrong "$word of an installation: status $status"
+    has "$word of an installation" out '^commit [0-9a-f]{12}$'
+    [ "$(sed -n 1p "$work/out")" = 'the program: --version' ] || wrong "$word of an installation: another first line"
+  done
+  rm -rf "$checkout/.git"
+fi
 try 'no folder to install below' 1 install "$work/out"; has 'no folder to install below' err 'cannot write .*Not a directory'; lines 'no folder to install below' 1
 
 # What bash offers: for the words, the last of which is being typed.

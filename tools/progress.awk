@@ -1,6 +1,7 @@
 # How far a build is: `12 of 36 crates, about 20 min more`. What each crate costs is read from the table of
-# docs/GATE.md. The estimate comes from a schedule of the crates on this number of lanes, in the order of crates.txt, in
-# which each takes the seconds of its row (a fifth more on several lanes, which share caches). How slow the machine is
+# docs/GATE.md. The estimate comes from a schedule of the crates on this number of lanes, in which those with the longest
+# chain of others behind them come first, as `rt ci` starts them, and each takes the seconds of its row (a fifth more on
+# several lanes, which share caches). How slow the machine is
 # follows from the crates that are done: it is the time so far by the time at which the schedule has done as much.
 #
 # usage: awk -v name=gthost -v lanes=4 -v seconds=600 -v changed='CRATE ..' -v then='CRATE=STAMP ..' \
@@ -12,7 +13,14 @@ function add_below(crate,    parts, n, i) {
   if ((crate in is_below) || !(crate in deps)) return
   is_below[crate] = 1
   n = split(deps[crate], parts, " ")
-  for (i = 1; i <= n; i++) add_below(parts[i])
+  for (i = 1; i <= n; i++) { uses[crate, parts[i]] = 1; add_below(parts[i]) }
+}
+
+# The seconds of a crate and of the longest chain of crates that wait for it.
+function chain(crate,    other, most) {
+  if (crate in chains) return chains[crate]
+  for (other in is_below) if (((other, crate) in uses) && chain(other) > most) most = chain(other)
+  return chains[crate] = most + cost[crate]
 }
 
 function is_stale(crate,    parts, n, i) {
@@ -41,11 +49,15 @@ function schedule(done,    is_done, until, crate, next_one, i, free, time, sum) 
   for (crate in done) is_done[crate] = 1
   free = lanes
   while (1) {
-    for (i = 1; i <= crate_count && free > 0; i++) {
-      crate = order[i]
-      if (!(crate in is_below) || (crate in is_done) || (crate in until) || !can_start(crate, is_done)) continue
-      until[crate] = time + cost[crate]
-      free--
+    for (; free > 0; free--) {
+      next_one = ""
+      for (i = 1; i <= crate_count; i++) {
+        crate = order[i]
+        if (!(crate in is_below) || (crate in is_done) || (crate in until) || !can_start(crate, is_done)) continue
+        if (next_one == "" || chain(crate) > chain(next_one)) next_one = crate
+      }
+      if (next_one == "") break
+      until[next_one] = time + cost[next_one]
     }
     next_one = ""
     for (crate in until) if (next_one == "" || until[crate] < until[next_one]) next_one = crate

@@ -151,6 +151,18 @@ function usage_of(    i, id, out, done) {
   return out (tail == "" ? "" : " " tail)
 }
 
+# A message with the usage of the command, in place of the one of the parser, where that would mislead.
+function refuse_instead(message) { refuse(message, plain) }
+function refuse_letters() { refuse_instead("unexpected argument '-v' found\n\n  tip: '-v' is given once, and as a word by itself") }
+function tell_of_version() { refuse_instead("unexpected argument '--version' found\n\n  tip: 'gthost --version' prints the version") }
+
+# A word at place i that is taken for a flag, if it was to be the value of the option before it.
+function refuse_value_word(words, i, shown_word,    option) {
+  option = i > 1 ? words[i - 1] : ""
+  if (option ~ /^--[a-z0-9]+$/ && (substr(option, 3) in takes))
+    refuse_instead("unexpected argument '" shown_word "' found\n\n  tip: a value that begins with - comes after =, as in '" option "=" words[i] "'")
+}
+
 function note_used(id) { if (!(id in is_used)) { is_used[id] = 1; used[++used_count] = id } }
 
 # Takes what waits: an option with its value, or without one, or a word. With `quiet` a fault is left for later.
@@ -173,6 +185,10 @@ function settle(quiet,    id) {
 # An option that no command has, with a hint.
 function unknown_option(name, i, words, n,    best, command, j, k, tip, hint) {
   settle(1)
+  if (head == "gthost" && name == "verbose")
+    refuse_instead("unexpected argument '--verbose' found\n\n  tip: it goes with a command, as in 'gthost play -v'")
+  if (head != "gthost" && name == "version") tell_of_version()
+  if (head != "gthost") refuse_value_word(words, i, "--" name)
   best = closest_option(name)
   if (best != "") {
     note_used(best)
@@ -223,10 +239,13 @@ function walk_top(words, n,    i, word, marked, name, j, similar, count, order, 
     if (!marked && word ~ /^-[^-]/) {
       if (word ~ /^-h/) show(whole_help())
       if (word ~ /^-V/) show(whole_version())
+      if (word ~ /^-v/) refuse_letters()
       refuse("unexpected argument '" substr(word, 1, 2) "' found", plain)
     }
     if (marked && (word in is_command))
       refuse("unexpected argument '" word "' found\n\n  tip: subcommand '" word "' exists; to use it, remove the '--' before it", plain)
+    if (word == "version") refuse_instead("unrecognized subcommand 'version'\n\n  tip: 'gthost --version' prints the version")
+    if (word == "help") refuse_instead("unrecognized subcommand 'help'\n\n  tip: 'gthost help' lists the commands")
     # The nearest comes last, as the parser has it.
     own_count = split(own, own_words, " ")
     for (j = 1; j <= command_count + own_count; j++) {
@@ -303,12 +322,15 @@ function walk_command(words, n, i,    word, marked, next_word, name, attached, h
     }
     if (!marked && word ~ /^-[^-]/) {
       if (word ~ /^-h/) { settle(0); show(text[head " -h"]) }
+      if (word ~ /^-v/) refuse_letters()
+      refuse_value_word(words, i, substr(word, 1, 2))
       settle(1)
       refuse("unexpected argument '" substr(word, 1, 2) "' found" \
         (word_count ? "\n\n  tip: to pass '" substr(word, 1, 2) "' as a value, use '-- " substr(word, 1, 2) "'" : ""), plain)
     }
     if (!marked && waiting != "" && !has_value) { place[waiting] = place_of(i); value = word; has_value = 1; continue }
     if (next_word > word_count) {
+      if (words[1] == "check") refuse_instead("check takes at most 8 FILEs, each checked alone, and '" word "' is one more")
       settle(1)
       refuse("unexpected argument '" word "' found", plain)
     }
@@ -356,7 +378,7 @@ function check_values(command) {
     if (("witness" in given) && given["witness"] != "all" && !is_number(given["witness"], 0)) refuse_option("witness", "a number or all")
     if (("trace" in given) && !is_number(given["trace"], 0)) refuse_option("trace", "a number")
     if (("diff" in given) && !are_numbers(given["diff"])) refuse_option("diff", "two numbers, such as 1,2")
-    if (("states" in given) && !is_number(given["states"], 0)) refuse_option("states", "a number")
+    if (("states" in given) && !is_number(given["states"], 0)) refuse_option("states", "a number in digits, such as 1000000")
     if (!is_format() && given["format"] != "mermaid") refuse_option("format", "text, json or mermaid")
     if (!is_format() && !("trace" in given)) refuse("--format mermaid is only for --trace", plain)
     if (("find" in given) + ("never" in given) + ("always" in given) + ("claims" in given) + ("has" in given) + ("witness" in given) + ("trace" in given) + ("summary" in given) + ("diff" in given) > 1)

@@ -5,6 +5,8 @@
  * `do` lines of the calls that the library has. `begin` and two lines `tick` are a copy in two halves: it begins, comes
  * to its access, and ends. A script that is out of this form is the fault of its writer, and ends the program.
  * Before each call it makes the same with each of its numbers above 65,535 in turn, which the library has to refuse.
+ * Before each map it makes the same map twice and one that must be refused, all or none: so none remains. Each second
+ * map is made as the only one of several.
  */
 #include "gthost.h"
 
@@ -25,6 +27,7 @@ struct member {
     struct gthost_domain *domain;
     struct named named[LABELS];
     size_t named_count, recorded;
+    uint64_t lost; /* records that are not kept, since the list does not have their calls */
     unsigned open; /* the line of a copy that has begun; 0 for none */
     bool is_refused;
     struct gthost_answer refusal; /* of a copy at a look of its leg */
@@ -284,11 +287,49 @@ static void copy_begin(struct gthost_domain *domain, struct gthost_answer *answe
 
 static void map(struct member *member, struct gthost_answer *answer)
 {
-    *answer = gthost_map(member->domain, dom(4), (uint32_t)number(5), flags(6));
-    if (answer->rule == GTHOST_OK) {
-        struct gthost_handle *to = handle(member, at(3), true);
-        *to = gthost_handle_of(*answer);
+    struct gthost_handle name = {0, 0, 0, 0};
+    if (line_number % 2) {
+        struct gthost_map_request request = {dom(4), (uint32_t)number(5), flags(6), 0, 0};
+        *answer = gthost_map_all(member->domain, &request, 1, &name);
+        if (answer->rule == GTHOST_OK ? answer->kind != GTHOST_MAPPED_ALL || answer->value != 1 : answer->more != 0) {
+            stop("the only map of several");
+        }
+    } else {
+        *answer = gthost_map(member->domain, dom(4), (uint32_t)number(5), flags(6));
+        name = gthost_handle_of(*answer);
     }
+    if (answer->rule == GTHOST_OK) {
+        *handle(member, at(3), true) = name;
+    }
+}
+
+/*
+ * The map of this line twice, and one that must be refused, all or none. So no mapping remains, nor any pin, as the
+ * answers to all later calls show. Returns the refusal, which is that of the map if it is refused alone.
+ */
+static struct gthost_answer undone(struct member *member)
+{
+    struct gthost_map_request requests[3] = {{dom(4), (uint32_t)number(5), flags(6), 0, 0}};
+    const struct gthost_handle mine = {3, 5, 7, 9};
+    struct gthost_handle names[3] = {mine, mine, mine};
+    requests[1] = requests[2] = requests[0];
+    requests[2].dom = 0x10000u << line_number % 16;
+    gthost_keep_at_most(member->domain, 0);
+    const struct gthost_answer answer = gthost_map_all(member->domain, requests, 3, names);
+    gthost_keep_at_most(member->domain, SIZE_MAX);
+    if (answer.rule == GTHOST_BUSY) {
+        return answer;
+    }
+    member->lost += answer.more < 2 ? answer.more + 1 : 2;
+    for (int i = 0; i < 3; i++) {
+        if (memcmp(&names[i], &mine, sizeof mine) != 0) {
+            stop("a refused map of several has changed a name");
+        }
+    }
+    if (answer.rule == GTHOST_OK || answer.value != 1 || (answer.more == 2 && answer.rule != GTHOST_N1)) {
+        stop("one map of several is not refused");
+    }
+    return answer;
 }
 
 static void call(struct member *member, struct gthost_answer *answer)
@@ -378,7 +419,11 @@ static void whole(struct member *member)
         stop("a call between a copy and its first tick");
     }
     refused_wide(member);
+    const struct gthost_answer several = is(2, "map") ? undone(member) : (struct gthost_answer){.more = 1};
     call(member, &answer);
+    if (several.more == 0 && several.rule != answer.rule) {
+        stop("the first map of several is refused by another rule");
+    }
     if ((answer.rule == GTHOST_BUSY) != (member->open != 0)) {
         stop("busy, or not");
     }
@@ -490,7 +535,7 @@ static void finish(void)
     }
     fwrite(audit, 1, audit_len, stdout);
     for (size_t i = 0; i < member_count; i++) {
-        if (gthost_finish(members[i].domain).value != 0) {
+        if (gthost_finish(members[i].domain).value != members[i].lost) {
             stop("records were lost");
         }
     }

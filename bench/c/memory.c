@@ -105,6 +105,11 @@ static void calls(struct gthost_domain *one, struct gthost_domain *two)
         NONE(GTHOST_OK, answer = gthost_unmap(two, name));
         NONE(6, answer = gthost_unmap(two, name));
     }
+    struct gthost_map_request requests[2] = {{1, 7, GTHOST_MAP_READ_ONLY, 0, 0}, {1, 20, GTHOST_MAP_READ_ONLY, 0, 0}};
+    struct gthost_handle names[2];
+    NONE(10, answer = gthost_map_all(two, requests, 2, names));
+    NONE(GTHOST_OK, answer = gthost_map_all(two, requests, 1, names));
+    NONE(GTHOST_OK, answer = gthost_unmap(two, names[0]));
     NONE(GTHOST_OK, answer = gthost_demote(one, 7));
     NONE(13, answer = gthost_map(two, 1, 7, GTHOST_MAP_WRITABLE));
     NONE(GTHOST_OK, answer = gthost_promote(one, 7));
@@ -168,13 +173,16 @@ static void refused(void)
     answer = gthost_keep_at_most(&domains[1], 100);
     answer = gthost_grant_page(&domains[0], 7, 2, 5, 0);
     left = 0;
+    struct gthost_map_request request = {1, 7, GTHOST_MAP_READ_ONLY, 0, 0};
+    struct gthost_handle name;
     NONE(26, answer = gthost_map(&domains[1], 1, 7, GTHOST_MAP_READ_ONLY));
+    NONE(26, answer = gthost_map_all(&domains[1], &request, 1, &name));
     NONE(GTHOST_NO_MEMORY, answer = gthost_reserve_records(&domains[1], 100));
     NONE(GTHOST_OK, answer = gthost_query_size(&domains[1], 1));
     left = -1;
     gthost_finish(&domains[0]);
-    if (gthost_finish(&domains[1]).value != 2) {
-        printf("not two records lost\n");
+    if (gthost_finish(&domains[1]).value != 3) {
+        printf("not three records lost\n");
         failures++;
     }
 }

@@ -194,6 +194,34 @@ static void types(void)
     HOLDS(fault.kind == GTHOST_FAULT_LABEL && fault.dom == 2 && !domain[0].is_live);
 }
 
+static struct gthost_name name_of(const char *policy, uint32_t label, char *name, size_t size)
+{
+    return gthost_type_name((const uint8_t *)policy, strlen(policy), label, (uint8_t *)name, size);
+}
+
+/* The names of types: a buffer gets as much of a name as it holds, and is as it was after a fault. */
+static void names(void)
+{
+    static const char *const wide[] = {"a_t", "b_t"};
+    char name[] = "------";
+    struct gthost_name found;
+    for (uint32_t label = 0; label < 2; label++) {
+        found = name_of(POLICY, label, name, 5);
+        HOLDS(found.fault.kind == GTHOST_FAULT_NONE && found.len == 3);
+        HOLDS(strncmp(name, wide[label], 3) == 0 && strcmp(name + 3, "---") == 0);
+    }
+    found = name_of("type long_name_t;", 0, name, 4);
+    HOLDS(found.fault.kind == GTHOST_FAULT_NONE && found.len == 11 && strcmp(name, "long--") == 0);
+    HOLDS(name_of(POLICY, 1, name, 0).len == 3 && strcmp(name, "long--") == 0);
+    static const uint32_t none[] = {2, 255, 256, 65535, 65536, UINT32_MAX};
+    for (size_t i = 0; i < COUNT(none); i++) {
+        found = name_of(POLICY, none[i], name, 5);
+        HOLDS(found.fault.kind == GTHOST_FAULT_NO_TYPE && found.len == 0 && strcmp(name, "long--") == 0);
+    }
+    found = name_of("type a_t;\nallow a_t c_t:grant copy;", 0, name, 5);
+    HOLDS(found.fault.kind == GTHOST_FAULT_UNKNOWN && found.fault.line == 2 && found.len == 0);
+}
+
 /* A guest leaves, another one comes in its place, and names are those of their domain and run alone. */
 static void leaves(void)
 {
@@ -461,6 +489,63 @@ static void records(void)
     HOLDS(gthost_finish(&domain[0]).value == 2);
 }
 
+static bool is_name(struct gthost_handle a, struct gthost_handle b)
+{
+    return a.serial == b.serial && a.key == b.key && a.run == b.run && a.dom == b.dom;
+}
+
+/* Several maps are made, or none remains. A release of what was made asks for no permission. */
+static void several(void)
+{
+    static const char no_unmap[] = "type a_t; allow a_t a_t:grant { map_read map_write };";
+    struct gthost_settings two[] = {{1, 0, 8, 1, 1}, {2, 0, 8, 1, 1}};
+    struct gthost_domain domain[2] = {{0}};
+    const struct gthost_handle mine = {1, 2, 3, 4};
+    struct gthost_handle names[4] = {mine, mine, mine, mine};
+    struct gthost_map_request requests[4] = {{1, 7, GTHOST_MAP_WRITABLE, 0, 0}, {1, 8, GTHOST_MAP_READ_ONLY, 0, 0},
+                                             {1, 7, GTHOST_MAP_READ_ONLY, 0, 0}, {1, 9, GTHOST_MAP_READ_ONLY, 0, 0}};
+    struct gthost_fault fault;
+    struct gthost_answer answer;
+    HOLDS(starts(two, 2, no_unmap, domain, 2, &fault));
+    answer = gthost_grant_page(&domain[0], 7, 2, 5, 0);
+    answer = gthost_grant_page(&domain[0], 8, 2, 6, 1);
+    answer = gthost_map_all(&domain[1], requests, 4, names);
+    WANT(GTHOST_N10, -1, GTHOST_ENTRY);
+    HOLDS(answer.gref == 9 && answer.value == 1 && answer.more == 3);
+    for (int i = 0; i < 4; i++) {
+        HOLDS(is_name(names[i], mine));
+    }
+    HOLDS(gthost_entry(&domain[0], 7).entry.writes == 0 && gthost_entry(&domain[0], 7).entry.reads == 0);
+    HOLDS(gthost_entry(&domain[0], 8).entry.reads == 0);
+    HOLDS(gthost_record(&domain[1], 3).kept.reply.rule == GTHOST_N10);
+    HOLDS(gthost_record(&domain[1], 2).kept.reply.rule == GTHOST_OK);
+    HOLDS(gthost_record(&domain[1], 4).answer.rule == GTHOST_ABSENT);
+    requests[0].dom = 0x10001;
+    answer = gthost_map_all(&domain[1], requests, 3, names);
+    WANT(GTHOST_N1, -2, GTHOST_NOTHING);
+    HOLDS(answer.value == 1 && answer.more == 0);
+    HOLDS(gthost_record(&domain[1], 4).answer.rule == GTHOST_ABSENT);
+    requests[0].dom = 1;
+    answer = gthost_map_all(&domain[1], requests, 3, names);
+    WANT(GTHOST_OK, 0, GTHOST_MAPPED_ALL);
+    HOLDS(answer.value == 3 && is_name(names[3], mine));
+    for (int i = 0; i < 3; i++) {
+        const struct gthost_found_mapping found = gthost_mapping(&domain[1], names[i]);
+        HOLDS(found.answer.rule == GTHOST_OK && found.mapping.gref == requests[i].gref);
+        HOLDS(found.mapping.frame == (i == 1 ? 6 : 5) && found.mapping.writes == (i == 0) && names[i].run == 7);
+    }
+    HOLDS(gthost_unmap(&domain[1], names[0]).rule == GTHOST_N5);
+    HOLDS(gthost_record(&domain[1], 6).kept.call == GTHOST_CALL_MAP);
+    answer = gthost_map_all(&domain[1], requests, 0, names);
+    WANT(GTHOST_OK, 0, GTHOST_MAPPED_ALL);
+    HOLDS(answer.value == 0);
+    answer = gthost_map_all_at(&domain[1], requests, 2, names, 1); /* a caller in another language */
+    WANT(GTHOST_ABSENT, 0, GTHOST_NOTHING);
+    HOLDS(gthost_finish(&domain[0]).more == 2 && gthost_finish(&domain[1]).rule == GTHOST_OK);
+    answer = gthost_map_all(&domain[1], requests, 2, names);
+    WANT(GTHOST_NO_DOMAIN, 0, GTHOST_NOTHING);
+}
+
 static bool is_nothing(struct gthost_answer a)
 {
     return !a.status && !a.kind && !a.dom && !a.gref && !a.source && !a.target && !a.detail && !a.word && !a.value &&
@@ -491,13 +576,20 @@ static void nothing_is_told(void)
     const struct gthost_type types[] = {gthost_type_of(NULL, 9, text, 3), gthost_type_of(text, 9, NULL, 3)};
     HOLDS(types[0].fault.kind == GTHOST_FAULT_NULL_POINTER && !types[0].fault.line && !types[0].fault.dom && !types[0].label);
     HOLDS(types[1].fault.kind == GTHOST_FAULT_NULL_POINTER && !types[1].fault.line && !types[1].fault.dom && !types[1].label);
+    uint8_t into[1] = {7};
+    const struct gthost_name named[] = {gthost_type_name(NULL, 9, 0, into, 1), gthost_type_name(text, 9, 0, NULL, 1)};
+    for (size_t i = 0; i < COUNT(named); i++) {
+        HOLDS(named[i].fault.kind == GTHOST_FAULT_NULL_POINTER && !named[i].fault.line && !named[i].fault.dom);
+        HOLDS(!named[i].len && into[0] == 7);
+    }
 }
 
 /* Each call of a null pointer. */
 static void nulls(void)
 {
     struct gthost_domain none = {0};
-    const struct gthost_handle name = {0, 0, 0, 0};
+    struct gthost_handle name = {0, 0, 0, 0};
+    struct gthost_map_request request = {1, 7, GTHOST_MAP_READ_ONLY, 0, 0};
     const struct gthost_copy copy = {{0, 0, 0}, {0, 0, 0}, 0, 0};
     const struct gthost_entry_bytes entry = {8, {0}};
     const struct gthost_answer answers[] = {
@@ -517,7 +609,8 @@ static void nulls(void)
         gthost_unused(NULL, 0),                gthost_grant_all_of(NULL, &none),
         gthost_grant_all_of(&none, NULL),      gthost_grant_all_of(&none, &none),
         gthost_difference(NULL, &none),        gthost_difference(&none, NULL),
-        gthost_difference(&none, &none),
+        gthost_difference(&none, &none),       gthost_map_all(NULL, &request, 1, &name),
+        gthost_map_all(&none, NULL, 1, &name), gthost_map_all(&none, &request, 1, NULL),
     };
     for (size_t i = 0; i < COUNT(answers); i++) {
         struct gthost_answer answer = answers[i];
@@ -532,6 +625,7 @@ int main(void)
     faults();
     texts();
     types();
+    names();
     leaves();
     nulls();
     shares();
@@ -539,6 +633,7 @@ int main(void)
     large();
     wide();
     records();
+    several();
     printf(failures ? "FAILED\n" : "smoke ok\n");
     return failures != 0;
 }

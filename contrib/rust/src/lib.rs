@@ -72,6 +72,21 @@ pub fn type_of(policy: &str, name: &str) -> Result<u32, Fault> {
     fault(report.fault).map(|()| report.label)
 }
 
+/// Returns the name of the type with this number in a policy's text: a label, or the `source` or `target` of a refusal by
+/// N5.
+///
+/// # Errors
+/// The first fault of the policy, or that it has no type of this number.
+pub fn type_name(policy: &str, label: u32) -> Result<String, Fault> {
+    let mut name = vec![0; policy.len()]; // a name is a part of its policy
+    let report = unsafe {
+        raw::gthost_type_name_at(policy.as_ptr(), policy.len(), label, name.as_mut_ptr(), name.len())
+    };
+    fault(report.fault)?;
+    name.truncate(report.len);
+    Ok(String::from_utf8_lossy(&name).into_owned())
+}
+
 /// Starts a run under a policy's text. All entries begin at the generation `first_gen`. The names of its mappings carry
 /// the number `run`, so give each run of a process another one.
 ///
@@ -237,6 +252,26 @@ impl Domain {
         let handle = Handle { serial: answer.value, key: answer.more as usize, run: answer.detail, dom: answer.dom };
         let mapping = Mapping { frame: answer.word, gref: answer.gref, owner: answer.source, writes: answer.target };
         Ok((handle, mapping))
+    }
+
+    /// Makes each of these maps, in order, or none: of an entry of a domain, with an access. Returns the names of the
+    /// mappings.
+    ///
+    /// # Errors
+    /// The first refusal, with the index of its map. The domain then has the mappings that it had.
+    pub fn map_all(&mut self, maps: &[(u32, u32, Access)]) -> Result<Vec<Handle>, (usize, Refusal)> {
+        let request = |&(dom, gref, access)| {
+            let flags = if access == Access::Write { 2 } else { 6 };
+            raw::MapRequest { dom, gref, flags, serial: 0, key: 0 }
+        };
+        let mut requests: Vec<raw::MapRequest> = maps.iter().map(request).collect();
+        let mut names = vec![Handle { serial: 0, key: 0, run: 0, dom: 0 }; maps.len()];
+        let answer = unsafe {
+            raw::gthost_map_all_at(
+                &mut self.raw, requests.as_mut_ptr(), requests.len(), names.as_mut_ptr(), names.len(),
+            )
+        };
+        judged(answer).map(|_| names).map_err(|refusal| (answer.more as usize, refusal))
     }
 
     /// Unmaps a mapping. If the entry has no pins then, this was the last one: tell its owner.

@@ -121,6 +121,23 @@ pub struct Type {
     pub label: u32,
 }
 
+#[repr(C)]
+#[derive(Clone, Copy)]
+pub struct Name {
+    pub fault: Fault,
+    pub len: usize,
+}
+
+#[repr(C)]
+#[derive(Clone, Copy)]
+pub struct MapRequest {
+    pub dom: u32,
+    pub gref: u32,
+    pub flags: u32,
+    pub serial: u64,
+    pub key: usize,
+}
+
 #[link(name = "gthost", kind = "static")]
 extern "C" {
     pub fn gthost_start_at(
@@ -128,6 +145,9 @@ extern "C" {
         policy_len: usize, out: *mut Domain, out_count: usize,
     ) -> Fault;
     pub fn gthost_type_of_at(policy: *const u8, policy_len: usize, name: *const u8, name_len: usize) -> Type;
+    pub fn gthost_type_name_at(
+        policy: *const u8, policy_len: usize, label: u32, name: *mut u8, name_size: usize,
+    ) -> Name;
     pub fn gthost_fault_text(kind: u32) -> Text;
     pub fn gthost_rule_text(rule: u32) -> RuleLine;
     pub fn gthost_version() -> u32;
@@ -150,6 +170,9 @@ extern "C" {
     pub fn gthost_demote_at(domain: &mut Domain, gref: u32) -> Answer;
     pub fn gthost_promote_at(domain: &mut Domain, gref: u32) -> Answer;
     pub fn gthost_map_at(domain: &mut Domain, dom: u32, gref: u32, flags: u32, answer: &mut Answer);
+    pub fn gthost_map_all_at(
+        domain: &mut Domain, requests: *mut MapRequest, count: usize, names: *mut super::Handle, names_count: usize,
+    ) -> Answer;
     pub fn gthost_unmap_at(domain: &mut Domain, name: &super::Handle, answer: &mut Answer);
     pub fn gthost_mapping_at(domain: &mut Domain, name: super::Handle) -> FoundMapping;
     pub fn gthost_copy_begin_at(domain: &mut Domain, copy: &Copying, begun: &mut BegunCopy);

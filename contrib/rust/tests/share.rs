@@ -1,4 +1,4 @@
-use gthost::{renew, rule_text, start, type_of, version, Access, Call, Domain, Entry, Facts};
+use gthost::{renew, rule_text, start, type_name, type_of, version, Access, Call, Domain, Entry, Facts};
 use gthost::{Fault, Followed, Kind, Rule, Settings, Side};
 
 const POLICY: &str = "type a_t; allow a_t a_t:grant { map_read map_write unmap copy query };";
@@ -48,6 +48,33 @@ fn a_page_in_use_is_not_revoked() {
     assert_eq!((taken.records, taken.lost), (5, 0));
     assert_eq!(back.reserve_records(usize::MAX).unwrap_err().rule, Rule::NO_MEMORY);
     assert_eq!((back.finish().lost, format!("{front:?}").as_str()), (0, "Domain { .. }"));
+}
+
+#[test]
+fn several_maps_are_made_or_none_remains() {
+    let (mut front, mut back) = two();
+    front.grant(7, Entry::Page { to: 2, frame: 5, read_only: false }).unwrap();
+    let (index, refusal) = back.map_all(&[(1, 7, Access::Write), (1, 7, Access::Read), (1, 8, Access::Read)]).unwrap_err();
+    assert_eq!((index, refusal.rule), (2, Rule::N10));
+    assert_eq!((front.entry(7).unwrap().reads, front.entry(7).unwrap().writes), (0, 0));
+    let names = back.map_all(&[(1, 7, Access::Write), (1, 7, Access::Read)]).unwrap();
+    let rights: Vec<bool> = names.iter().map(|&name| back.mapping(name).unwrap().writes()).collect();
+    assert_eq!(rights, [true, false]);
+    assert_eq!(back.unmap(names[0]).unwrap().pins(), 1);
+    assert_eq!(back.unmap(names[1]).unwrap().pins(), 0);
+    assert_eq!(back.map_all(&[]).unwrap(), []);
+}
+
+#[test]
+fn a_refusal_by_the_policy_has_names() {
+    let policy = "type front_t; type back_t; allow back_t front_t:grant map_read;";
+    let domain = |id, label| Settings { id, label, frames: 8, table_frames: 1, version: 1 };
+    let mut all = start(&[domain(1, 0), domain(2, 1)], 0, 0, policy).unwrap();
+    let refusal = all[1].map(1, 7, Access::Write).unwrap_err();
+    let Facts::Policy { source, target, .. } = refusal.facts else { panic!("{refusal}") };
+    assert_eq!(type_name(policy, source).as_deref(), Ok("back_t"));
+    assert_eq!(type_name(policy, target).as_deref(), Ok("front_t"));
+    assert_eq!(type_name(policy, 2), Err(Fault::Policy { kind: 20, line: 0 }));
 }
 
 #[test]

@@ -34,7 +34,7 @@ do 2 map page 1 0 ro
 
 const ENTRY: &str = "0100020005000000\n";
 
-static TEXTS: [Row; 16] = [
+static TEXTS: [Row; 19] = [
     ("questions", "", COMMENT, 1_000, "a_t b_t copy\n"),
     ("allows.te", "type a_t;\ntype b_t;\n", ALLOW, 800, ""),
     (
@@ -45,6 +45,21 @@ static TEXTS: [Row; 16] = [
         "allow a_t a_t:grant copy;\n",
     ),
     ("small.te", "type a_t;\ntype b_t;\n", ALLOW, 1, ""),
+    (
+        "one_line.te",
+        "type a_t; ",
+        "allow a_t a_t:grnat copy; ",
+        1_000,
+        "\n",
+    ),
+    ("flows_never.te", "", "neverflow b_t a_t; ", 1_000, "\n"),
+    (
+        "one_never.te",
+        "",
+        "neverallow a_t b_t:grant map_write; ",
+        1_000,
+        "\n",
+    ),
     ("broken.te", "type a_t;\ntype b_t;\n", ALLOW, 3, ""),
     ("never.te", STATEMENT, "", 0, ""),
     ("long_never.te", "", COMMENT, 1_000, STATEMENT),

@@ -3,3 +3,4 @@ pub mod ReadBack
 pub mod NoMapping
 mod Comparing
 mod Searching
+mod Undoing

@@ -1,5 +1,5 @@
--- An unmap of a handle under which the domain has no mapping is refused by N6.
-use Rattle.std.proofs.Common.{◌≡◌, ◌∙◌, ap, sym, List, [], ◌∷◌, Option, Some, None, Result, Ok, Err}
+-- An unmap of a handle under which the domain has no mapping is refused by N6, and a release of one that has is Ok.
+use Rattle.std.proofs.Common.{◌≡◌, ◌∙◌, ap, refl, sym, List, [], ◌∷◌, Option, Some, None, IsSome, Result, Ok, Err}
 use Rattle.std.specs.Prelude.{is_none}
 use Rattle.gt_types.specs.Denial.{denial_of}
 use Rattle.gt_types.specs.declared.DomId.{DomId}
@@ -7,14 +7,19 @@ use Rattle.gt_types.specs.declared.denial.Denial.{Denial}
 use Rattle.gt_types.specs.declared.denial.Facts.TheVariants as facts
 use Rattle.gt_types.specs.declared.denial.Rule.TheVariants.{N6}
 use Rattle.gt_model.specs.declared.handle.Handle.{Handle}
-use Rattle.gt_model.specs.Path.{after_beginning, ended, path_of, steps_of}
+use mathlib.Core.Bool.{true≢false}
+use Rattle.gt_model.specs.Path.{Continuation, after_beginning, by_mapping, ended, makes, path_of, steps_of}
 use Rattle.gt_model.specs.Asking.{asked, begun_of}
 use Rattle.gt_model.specs.Rules.{CallerKnowledge, first, refused_when, unmap_denied}
 use Rattle.gt_model.specs.declared.action.Action.TheVariants.{Done}
 use Rattle.gt_model.specs.declared.action.CallResult.{CallResult}
-use Rattle.gt_model.specs.declared.action.CallResult.TheVariants.{Refused}
+use Rattle.gt_model.specs.declared.action.CallResult.TheVariants.{Granted, Refused}
 use Rattle.gt_model.specs.declared.action.Observation.{Observation}
+use Rattle.gt_model.specs.declared.action.Observation.TheVariants.{Nothing, Word, Taken, Missed}
+use Rattle.gt_model.specs.declared.action.Step.{Step}
+use Rattle.gt_model.specs.declared.action.Step.TheVariants.{Unpin}
 use Rattle.gt_model.specs.declared.held.HeldPin.{HeldPin}
+use Rattle.gt_model.specs.declared.request.PinHolder.TheVariants as holders
 use Rattle.gt_model.specs.declared.request.Request.TheVariants as requests
 use Rattle.gt_live.specs.Domains.{outcome_of}
 use Rattle.gt_live.specs.Prelude.{Layout, View}
@@ -51,3 +56,27 @@ pub refused-by-n6 : {R : Type 0} (k : Layout) (n : CallerKnowledge) (caller : Do
     → result ≡ Err (denial_of N6 facts.None)
 refused-by-n6 k n caller h result v w e called =
     is-refused result (no-mapping k n caller h (outcome_of result) v w e called)
+
+-- a release ends Ok after its one step
+never-refused : (step : Step) (denial : Denial) (seen : List Observation)
+    → makes step (ended Granted) seen ≡ Some (Done (Refused denial)) → ⊥
+never-refused step denial [] e = absurd cc
+never-refused step denial (Nothing ∷ vs) e = absurd (let f = ends-with Granted (Refused denial) vs e in cc)
+never-refused step denial (Word w ∷ vs) e = absurd cc
+never-refused step denial (Taken ∷ vs) e = absurd cc
+never-refused step denial (Missed w ∷ vs) e = absurd cc
+
+-- the path of a release of a mapping
+abbrev way-of : Handle → Option HeldPin → Continuation
+way-of h o = after_beginning (refused_when (is_none o) N6) (by_mapping o (λ m. Unpin m (holders.Mapping h)))
+
+pub released : (k : Layout) (n : CallerKnowledge) (caller : DomId) (h : Handle) (result : Result (Unit {0}) Denial) (v w : View)
+    → IsSome (n.mapping h) → Called k (path_of n caller (requests.Release h)) (outcome_of result) v w → result ≡ Ok tt
+released k n caller h (Ok done) v w some called = refl
+released k n caller h (Err denial) v w some called = absurd (by (n.mapping h) refl some)
+  where
+    by : (o : Option HeldPin) → n.mapping h ≡ o → IsSome o → ⊥
+    by (Some p) e is =
+        never-refused (Unpin p (holders.Mapping h)) denial (all_shown called.steps)
+        (ap (λ (o : Option HeldPin). way-of h o (all_shown called.steps)) (sym e) ∙ called.answered)
+    by None e is = true≢false (sym is)

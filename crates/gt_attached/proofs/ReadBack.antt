@@ -6,6 +6,7 @@ use Rattle.gt_types.specs.declared.DomId.{DomId}
 use Rattle.gt_types.specs.declared.GrantRef.{GrantRef}
 use Rattle.gt_attached.specs.declared.answer.MappingName.{MappingName}
 use Rattle.std.specs.Prelude.{◌==◌, if◌then◌else◌}
+use Rattle.gt_types.specs.declared.denial.Denial.{Denial}
 use Rattle.gt_types.specs.declared.denial.Rule.{Rule}
 use Rattle.gt_types.specs.declared.denial.Rule.TheVariants.{N1, N2, N3, N4, N5, N6, N7, N8, N9, N10, N11, N12, N13, N14}
 use Rattle.gt_types.specs.declared.denial.Rule.TheVariants.{N15, N16, N17, N18, N19, N20, N21, N22, N23, N24, N25, N26}
@@ -46,54 +47,67 @@ named_field fields.Pat = refl
 named_field fields.SubPage = refl
 named_field fields.Reserved = refl
 
-same : (r : Rule) (s : Status) (f g : Facts) → f ≡ g
-    → Denied (record { rule = r; status = status_named (status_number s); facts = f })
-    ≡ Denied (record { rule = r; status = s; facts = g })
-same r s f g e = λ i. Denied (record { rule = r; status = named_status s i; facts = e i })
+same : (Refuses : Denial → AttachedOutcome) (r : Rule) (s : Status) (f g : Facts) → f ≡ g
+    → Refuses (record { rule = r; status = status_named (status_number s); facts = f })
+    ≡ Refuses (record { rule = r; status = s; facts = g })
+same Refuses r s f g e = λ i. Refuses (record { rule = r; status = named_status s i; facts = e i })
 
-denied : (r : Rule) (s : Status) (f g : Facts) (x : AttachedOutcome) → f ≡ g
+denied : (Refuses : Denial → AttachedOutcome) (r : Rule) (s : Status) (f g : Facts) (x : AttachedOutcome) → f ≡ g
     → (if rule_number r == 256 then NoDomain else if rule_number r == 257 then Busy else
     if rule_number r == 258 then NoMemory else if rule_number r == 259 then NoCopy else
     if rule_number r == 260 then Absent else
     if rule_number r == 0 then x else
-    Denied (record { rule = rule_named (rule_number r); status = status_named (status_number s); facts = f }))
-    ≡ Denied (record { rule = r; status = s; facts = g })
-denied N1 s f g x e = same N1 s f g e
-denied N2 s f g x e = same N2 s f g e
-denied N3 s f g x e = same N3 s f g e
-denied N4 s f g x e = same N4 s f g e
-denied N5 s f g x e = same N5 s f g e
-denied N6 s f g x e = same N6 s f g e
-denied N7 s f g x e = same N7 s f g e
-denied N8 s f g x e = same N8 s f g e
-denied N9 s f g x e = same N9 s f g e
-denied N10 s f g x e = same N10 s f g e
-denied N11 s f g x e = same N11 s f g e
-denied N12 s f g x e = same N12 s f g e
-denied N13 s f g x e = same N13 s f g e
-denied N14 s f g x e = same N14 s f g e
-denied N15 s f g x e = same N15 s f g e
-denied N16 s f g x e = same N16 s f g e
-denied N17 s f g x e = same N17 s f g e
-denied N18 s f g x e = same N18 s f g e
-denied N19 s f g x e = same N19 s f g e
-denied N20 s f g x e = same N20 s f g e
-denied N21 s f g x e = same N21 s f g e
-denied N22 s f g x e = same N22 s f g e
-denied N23 s f g x e = same N23 s f g e
-denied N24 s f g x e = same N24 s f g e
-denied N25 s f g x e = same N25 s f g e
-denied N26 s f g x e = same N26 s f g e
+    Refuses (record { rule = rule_named (rule_number r); status = status_named (status_number s); facts = f }))
+    ≡ Refuses (record { rule = r; status = s; facts = g })
+denied Refuses N1 s f g x e = same Refuses N1 s f g e
+denied Refuses N2 s f g x e = same Refuses N2 s f g e
+denied Refuses N3 s f g x e = same Refuses N3 s f g e
+denied Refuses N4 s f g x e = same Refuses N4 s f g e
+denied Refuses N5 s f g x e = same Refuses N5 s f g e
+denied Refuses N6 s f g x e = same Refuses N6 s f g e
+denied Refuses N7 s f g x e = same Refuses N7 s f g e
+denied Refuses N8 s f g x e = same Refuses N8 s f g e
+denied Refuses N9 s f g x e = same Refuses N9 s f g e
+denied Refuses N10 s f g x e = same Refuses N10 s f g e
+denied Refuses N11 s f g x e = same Refuses N11 s f g e
+denied Refuses N12 s f g x e = same Refuses N12 s f g e
+denied Refuses N13 s f g x e = same Refuses N13 s f g e
+denied Refuses N14 s f g x e = same Refuses N14 s f g e
+denied Refuses N15 s f g x e = same Refuses N15 s f g e
+denied Refuses N16 s f g x e = same Refuses N16 s f g e
+denied Refuses N17 s f g x e = same Refuses N17 s f g e
+denied Refuses N18 s f g x e = same Refuses N18 s f g e
+denied Refuses N19 s f g x e = same Refuses N19 s f g e
+denied Refuses N20 s f g x e = same Refuses N20 s f g e
+denied Refuses N21 s f g x e = same Refuses N21 s f g e
+denied Refuses N22 s f g x e = same Refuses N22 s f g e
+denied Refuses N23 s f g x e = same Refuses N23 s f g e
+denied Refuses N24 s f g x e = same Refuses N24 s f g e
+denied Refuses N25 s f g x e = same Refuses N25 s f g e
+denied Refuses N26 s f g x e = same Refuses N26 s f g e
 
 read_refusal : (r : Rule) (s : Status) (f : Facts)
     → decoded (encoded (Denied (record { rule = r; status = s; facts = f })))
     ≡ Denied (record { rule = r; status = s; facts = f })
-read_refusal r s facts.None = denied r s facts.None facts.None Done refl
-read_refusal r s (facts.Policy a b p) = denied r s (facts.Policy a b p) (facts.Policy a b p) Done refl
+read_refusal r s facts.None = denied Denied r s facts.None facts.None Done refl
+read_refusal r s (facts.Policy a b p) = denied Denied r s (facts.Policy a b p) (facts.Policy a b p) Done refl
 read_refusal r s (facts.Field f) =
-    denied r s (facts.Field (field_named (field_number f))) (facts.Field f) Done (λ i. facts.Field (named_field f i))
-read_refusal r s (facts.Header d w) = denied r s (facts.Header d w) (facts.Header d w) Done refl
-read_refusal r s (facts.Entry d g w) = denied r s (facts.Entry d g w) (facts.Entry d g w) Done refl
+    denied Denied r s (facts.Field (field_named (field_number f))) (facts.Field f) Done (λ i. facts.Field (named_field f i))
+read_refusal r s (facts.Header d w) = denied Denied r s (facts.Header d w) (facts.Header d w) Done refl
+read_refusal r s (facts.Entry d g w) = denied Denied r s (facts.Entry d g w) (facts.Entry d g w) Done refl
+
+abbrev one_of : ℕ → Denial → AttachedOutcome
+one_of n d = outcomes.RefusedAt (record { index = n; denial = d })
+
+read_one : (n : ℕ) (r : Rule) (s : Status) (f : Facts)
+    → decoded (encoded (outcomes.RefusedAt (record { index = n; denial = record { rule = r; status = s; facts = f } })))
+    ≡ outcomes.RefusedAt (record { index = n; denial = record { rule = r; status = s; facts = f } })
+read_one n r s facts.None = denied (one_of n) r s facts.None facts.None Done refl
+read_one n r s (facts.Policy a b p) = denied (one_of n) r s (facts.Policy a b p) (facts.Policy a b p) Done refl
+read_one n r s (facts.Field f) =
+    denied (one_of n) r s (facts.Field (field_named (field_number f))) (facts.Field f) Done (λ i. facts.Field (named_field f i))
+read_one n r s (facts.Header d w) = denied (one_of n) r s (facts.Header d w) (facts.Header d w) Done refl
+read_one n r s (facts.Entry d g w) = denied (one_of n) r s (facts.Entry d g w) (facts.Entry d g w) Done refl
 
 read_mapping : (name : MappingName) (owner : DomId) (gref : GrantRef) (frame : ℕ) (dir : Dir)
     → decoded (encoded (Mapped (record { name = name; owner = owner; gref = gref; frame = frame; dir = dir })))
@@ -123,3 +137,5 @@ read_back (outcomes.Followed follows.Granted) = refl
 read_back (outcomes.Released left) = refl
 read_back (outcomes.Ended left) = refl
 read_back (outcomes.Reference gref) = refl
+read_back (outcomes.MappedAll count) = refl
+read_back (outcomes.RefusedAt refused) = read_one refused.index refused.denial.rule refused.denial.status refused.denial.facts

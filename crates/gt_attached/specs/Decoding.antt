@@ -1,5 +1,6 @@
 -- How C reads an encoded result.
 use Rattle.std.specs.Prelude.{◌≡◌, ◌==◌, ℕ, ℤ, pos, negsuc, if◌then◌else◌}
+use Rattle.gt_types.specs.declared.denial.Denial.{Denial}
 use Rattle.gt_types.specs.declared.denial.Rule.{Rule}
 use Rattle.gt_types.specs.declared.denial.Rule.TheVariants.{N1, N2, N3, N4, N5, N6, N7, N8, N9, N10, N11, N12, N13, N14}
 use Rattle.gt_types.specs.declared.denial.Rule.TheVariants.{N15, N16, N17, N18, N19, N20, N21, N22, N23, N24, N25, N26}
@@ -135,7 +136,17 @@ decoded_answer a =
     outcomes.Released (record { dom = record { 0 = a.dom }; gref = record { 0 = a.gref }; word = a.word }) else
     if a.kind == 13 then outcomes.Ended (record { source = a.word; dest = a.value }) else
     if a.kind == 14 then outcomes.Reference (record { 0 = a.gref }) else
+    if a.kind == 15 then outcomes.MappedAll a.value else
     Done
+
+-- why a call is refused
+abbrev pub denial_read : EncodedAnswer → Denial
+denial_read a = record { rule = rule_named a.rule; status = status_named a.status; facts = facts_in a }
+
+-- the result of a call that a rule refuses, alone or as one map of several
+abbrev pub decoded_refusal : EncodedAnswer → AttachedOutcome
+decoded_refusal a =
+    if a.value == 1 then outcomes.RefusedAt (record { index = a.more; denial = denial_read a }) else Denied (denial_read a)
 
 -- the result that is encoded
 abbrev pub decoded : EncodedAnswer → AttachedOutcome
@@ -146,7 +157,7 @@ decoded a =
     if a.rule == 259 then NoCopy else
     if a.rule == 260 then Absent else
     if a.rule == 0 then decoded_answer a else
-    Denied (record { rule = rule_named a.rule; status = status_named a.status; facts = facts_in a })
+    decoded_refusal a
 
 -- each result is decoded from its encoding
 abbrev pub AnswersAreReadBack : Type 0

@@ -113,3 +113,5 @@ encoded (outcomes.Followed followed) = given 11 (followed_number followed) 0
 encoded (outcomes.Released left) = released left
 encoded (outcomes.Ended left) = record (given 13 left.dest 0) { word = left.source }
 encoded (outcomes.Reference gref) = record (given 14 0 0) { gref = gref.0 }
+encoded (outcomes.MappedAll count) = given 15 count 0
+encoded (outcomes.RefusedAt refused) = record (refusal refused.denial) { value = 1; more = refused.index }

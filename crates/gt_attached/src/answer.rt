@@ -42,6 +42,13 @@ pub struct TakenCounts {
     pub lost: u64,
 }
 
+/// The refusal of one map of several: the index of its request, starting at 0, and why it is refused.
+#[derive(Clone, Copy)]
+pub struct RefusedMap {
+    pub index: u64,
+    pub denial: Denial,
+}
+
 /// The result of a call.
 #[derive(Clone, Copy)]
 pub enum AttachedOutcome {
@@ -79,6 +86,10 @@ pub enum AttachedOutcome {
     Ended(CopyWords),
     /// Ok: this is the reference that was searched for.
     Reference(GrantRef),
+    /// Ok: this many mappings were added, one for each request.
+    MappedAll(u64),
+    /// A rule refuses one map of several. No mapping was added.
+    RefusedAt(RefusedMap),
 }
 
 /// The result of a call, in a layout that C reads. A field without a meaning is 0.
@@ -93,7 +104,7 @@ pub struct EncodedAnswer {
     /// The kind of the other fields: 0 none, 1 a handle, 2 a number of frames, 3 a version, 4 a size, 5 what the policy
     /// denies, 6 a field of an entry's bytes, 7 a header's word, 8 an entry's word, 9 what remains of a domain that
     /// left or was reset, 10 taken records, 11 what was done to an entry that followed its guest's bytes, 12 the word
-    /// that an unmap left, 13 the words that a copy left, 14 a reference.
+    /// that an unmap left, 13 the words that a copy left, 14 a reference, 15 a number of mappings that were added.
     pub kind: u32,
     /// The domain of the header or entry whose word this carries, or the domain that has the mapping.
     pub dom: u32,
@@ -109,10 +120,11 @@ pub struct EncodedAnswer {
     pub word: u64,
     /// The serial of a handle, a number of frames, a version, the number of records that a domain had lost when it left
     /// or was reset, the number of records taken, the number of what was done to an entry that followed its guest's
-    /// bytes, or the word that the end of a copy left at its destination.
+    /// bytes, the word that the end of a copy left at its destination, or the number of mappings that were added. For a
+    /// refused map of several it is 1.
     pub value: u64,
     /// The key of a handle, the maximum number of frames of a table, the number of entries still in use of a domain
-    /// that left or was reset, or the number of records lost before those taken.
+    /// that left or was reset, the number of records lost before those taken, or the index of a refused map of several.
     pub more: u64,
 }
 
@@ -316,6 +328,12 @@ impl EncodedAnswer {
                 kind: 14,
                 gref: found.0,
                 ..DONE
+            },
+            AttachedOutcome::MappedAll(count) => given(15, count, 0),
+            AttachedOutcome::RefusedAt(refused) => EncodedAnswer {
+                value: 1,
+                more: refused.index,
+                ..refusal(refused.denial)
             },
         }
     }

@@ -98,7 +98,7 @@ impl Attachment {
 }
 
 impl<P: Allows + Drop> AttachedDomain<P> {
-    ghost use Rattle.std.specs.Prelude.{◌≡◌, ◌≤◌, Err, IfOk, IsSome, None, OnOk, OnErr, is_some};
+    ghost use Rattle.std.specs.Prelude.{◌≡◌, ◌≤◌, Err, IfOk, IsSome, None, Ok, OnOk, OnErr, is_some};
     ghost use Rattle.gt_audit.specs.Trails.{HasNone, AppendsRecord, KeepsRoom};
     ghost use Rattle.gt_audit.specs.declared.pieces.TheConstants.{MOST_RESERVED};
     ghost use Rattle.gt_audit.specs.declared.record.Hypercall.TheVariants as hypercalls;
@@ -110,7 +110,8 @@ impl<P: Allows + Drop> AttachedDomain<P> {
     ghost use Rattle.gt_live.specs.Releasing.{DropsTo, MapAdds};
     ghost use Rattle.gt_live.specs.Domains.{record_of_result, verdict_of, verdict_of_frames, verdict_of_size};
     ghost use Rattle.gt_live.specs.Domains.{verdict_of_version};
-    ghost use Rattle.gt_live.specs.Mappings.{unused_handle};
+    ghost use Rattle.gt_live.specs.Mappings.{Removes, unused_handle};
+    ghost use Rattle.gt_model.specs.declared.held.HeldPin.{HeldPin as Pin};
     ghost use Rattle.gt_live.specs.Parts.{mappings_of, seat_of, trail_of, with_trail, words_of};
     ghost use Rattle.gt_types.specs.Denial.{denial_of};
     ghost use Rattle.gt_types.specs.declared.denial.Facts.TheVariants as facts;
@@ -273,6 +274,7 @@ impl<P: Allows + Drop> AttachedDomain<P> {
     ///
     /// # Errors
     /// N1, N2, N5, N8 to N13, N16 to N18, or N26. Mappings and pins are unchanged.
+    #[inline(always)]
     pub fn map(&mut self, dom: DomId, gref: GrantRef, flags: u32) -> Result<NewMapping, Denial>
         requires idle { self.old.copying ≡ None }
         ensures stays { StaysIdle self.old self.new }
@@ -313,6 +315,23 @@ impl<P: Allows + Drop> AttachedDomain<P> {
         self.attachment
             .domain
             .unmap_with_word(&self.monitor, handle)
+    }
+
+    /// Drops a mapping, and releases its pin, without asking the policy and without a record.
+    ///
+    /// # Errors
+    /// N6 if the handle names no mapping of the domain. Mappings and pins are unchanged.
+    pub(crate) fn release(&mut self, handle: Handle) -> Result<(), Denial>
+        requires idle { self.old.copying ≡ None }
+        ensures stays { StaysIdle self.old self.new }
+        ensures answered { Answered P.may self.old.monitor self.old.domain
+            (requests.Release handle) (verdict_of result) self.new.domain }
+        ensures removed { OnOk result ((p : Pin) ×
+            Removes (mappings_of self.old.domain) (mappings_of self.new.domain) handle p) }
+        ensures there { IsSome (value_of (mappings_of self.old.domain) handle) → result ≡ Ok tt }
+        ensures silent { trail_of self.new.domain ≡ trail_of self.old.domain }
+    {
+        self.attachment.domain.release(&self.monitor, handle)
     }
 
     /// Returns the mapping under a handle, or `None` if the domain has no such mapping.

@@ -17,15 +17,17 @@ mod attached;
 mod attachment;
 mod record;
 mod renewing;
+mod several;
 mod starting;
 mod unused;
 
 pub use answer::{
-    AttachedOutcome, Departure, EncodedAnswer, MappingName, NamedMapping, TakenCounts,
+    AttachedOutcome, Departure, EncodedAnswer, MappingName, NamedMapping, RefusedMap, TakenCounts,
     answers_are_read_back, writes,
 };
 pub use attached::AttachedDomain;
 pub use attachment::{CopyPlaces, LeftDomain};
 pub use record::{CopyEnd, EncodedRecord};
 pub use renewing::domains_without_a_difference_have_the_same_entries;
+pub use several::MapRequest;
 pub use starting::start;

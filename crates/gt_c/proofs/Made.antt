@@ -55,6 +55,21 @@ unmade {before = Some d} answer Q may holds =
       holds = holds d;
     })
 
+-- the same of a call that tells more than its answer
+pub unmade-telling : {before after : Option CDomain} (answer : EncodedAnswer) (N : Type 0) (Q : CDomain → CDomain → Type 0)
+    → MayBeCalled before after → ((d : CDomain) → Q d d) → CallsReporting before after answer N Q
+unmade-telling {before = None} answer N Q may holds = absurd may
+unmade-telling {before = Some d} answer N Q may holds =
+    inr (record {
+      was = d;
+      is = d;
+      before_is = refl;
+      after_is = may.0;
+      idle = may.1;
+      run = refl;
+      holds = holds d;
+    })
+
 pub idle-there : (before : Option CDomain) {between : Option CDomain} {x : CDomain} → MayBeCalled before between → Some x ≡ between
     → x.attached.copying ≡ None
 idle-there None may lent = absurd may

@@ -7,5 +7,6 @@ pub mod Prelude
 pub mod Promises
 pub mod Renewing
 pub mod Rules
+pub mod Several
 pub mod Starting
 pub mod Reports

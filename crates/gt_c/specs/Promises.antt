@@ -22,6 +22,8 @@ use Rattle.gt_c.specs.Asking.{RefusesForeign, handle_named, page, spelled, sub, 
 use Rattle.gt_c.specs.Calling.{CallsAttached, CallsReporting, EncodesDone, EncodesFollowed, EncodesMapped}
 use Rattle.gt_c.specs.Calling.{EncodesRecorded, EncodesUnmapped, KeepsAtMost, Reserves, TakesAll, dom_of, ref_at}
 use Rattle.gt_c.specs.Calling.{outcome, outcome_frames, outcome_size, outcome_version}
+use Rattle.gt_attached.specs.declared.several.MapRequest.{MapRequest}
+use Rattle.gt_c.specs.Several.{AreUnchanged, MapsNamed, Passed}
 use Rattle.gt_c.specs.Reports.{BeginsAsked, EncodesUnused}
 use Rattle.gt_c.specs.Reports.{EncodesEntry, EncodesMapping, EncodesRecord, copy_asked, no_entry}
 use Rattle.gt_c.specs.Reports.{no_mapping, no_copy_places, no_record}
@@ -77,6 +79,13 @@ Maps dom gref flags answer before after =
     CallsAttached before after answer
     (EncodesMapped (requests.Map (dom_of dom) (ref_at gref) flags)
     (hypercalls.Map (dom_of dom) (ref_at gref) flags) answer)
+
+-- the maps of these requests are made, and get these names, or none remains
+abbrev pub MapsEach : List MapRequest → List MapRequest → List MapHandle → List MapHandle → EncodedAnswer → Option CDomain
+    → Option CDomain → Type 0
+MapsEach rs rs_left names names_left answer before after =
+    let p : Passed = record { requests = rs; requests_left = rs_left; names = names; names_left = names_left } in
+    CallsReporting before after answer (AreUnchanged p) (MapsNamed p answer)
 
 -- a mapping is unmapped; by the name of another domain or run none is, and the answer is N6
 abbrev pub Unmaps : MapHandle → EncodedAnswer → Option CDomain → Option CDomain → Type 0

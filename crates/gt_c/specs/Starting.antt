@@ -3,8 +3,9 @@ use Rattle.std.specs.Prelude.{◌≡◌, ◌≢◌, ◌⊎◌, ℕ, true, List, 
 use Rattle.std.specs.List.{list_any}
 use Rattle.gt_c.specs.Prelude.{Begins, DomainSettings, EncodedFault, DomainHandle, CDomain, IsFaultOf, Seated, Table}
 use Rattle.gt_c.specs.Prelude.{no_fault, wrong_handles}
-use Rattle.gt_start.specs.Beginning.{IsNameFault, IsPolicyMeaning}
+use Rattle.gt_start.specs.Beginning.{IsLabelNamed, IsNameFault, IsNoLabel, IsPolicyMeaning}
 use Rattle.gt_policy.specs.Allowing.{Meaning, type_named}
+use Rattle.gt_c.specs.declared.beginning.NameReport.{NameReport}
 use Rattle.gt_c.specs.declared.beginning.TypeReport.{TypeReport}
 
 -- the domain of a handle, if it has one
@@ -49,3 +50,10 @@ ReportsType policy name report =
     ((report.fault ≡ no_fault)
     × ((m : Meaning) × IsPolicyMeaning policy m × (type_named m.types name ≡ Some (record { 0 = report.label }))))
     ⊎ ((report.label ≡ 0) × IsNameFault policy name report.fault)
+
+-- the length of the name of the type with this number, if the policy's text declares one, and as much of the name as fits
+-- was written; otherwise 0 and the reason, and nothing was written
+abbrev pub ReportsName : List ℕ → ℕ → NameReport → List ℕ → List ℕ → Type 0
+ReportsName policy label report old new =
+    ((report.fault ≡ no_fault) × IsLabelNamed policy label report.len old new)
+    ⊎ ((report.len ≡ 0) × (new ≡ old) × IsNoLabel policy label report.fault)

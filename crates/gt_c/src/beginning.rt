@@ -3,14 +3,15 @@ ghost use Rattle.std.specs.Prelude.{◌≡◌, All, length, map, IfOk, None};
 ghost use Rattle.std.specs.List.{list_any};
 ghost use Rattle.gt_c.specs.Calling.{Finishes, MakesReady, ResetsAttached};
 ghost use Rattle.gt_attached.specs.Seated.{Settles};
-ghost use Rattle.gt_c.specs.Starting.{StartsWith, ReportsType, domain_of_handle, c_domain_of, filled_handle};
+ghost use Rattle.gt_c.specs.Starting.{StartsWith, ReportsName, ReportsType, domain_of_handle, c_domain_of};
+ghost use Rattle.gt_c.specs.Starting.{filled_handle};
 
 use crate::c_domain::CDomain;
 use crate::handle::DomainHandle;
 use crate::lending::lent_mut;
 use gt_allow::AllowTable;
 use gt_attached::{AttachedDomain, AttachedOutcome, EncodedAnswer};
-use gt_start::{DomainSettings, EncodedFault, HANDLES, MEMORY, NONE, begin, type_of};
+use gt_start::{DomainSettings, EncodedFault, HANDLES, MEMORY, NONE, begin, type_name, type_of};
 use std::alloc::{AllocError, Global};
 
 // Puts each domain of the run with this number into a box, in order.
@@ -143,5 +144,30 @@ pub extern "C" fn gthost_type_of_at(alloc: Global, policy: &[u8], name: &[u8]) -
             label: u32::from(id.0),
         },
         Err(fault) => TypeReport { fault, label: 0 },
+    }
+}
+
+/// The length of a type's name, or why it was not found.
+#[repr(C)]
+#[derive(Clone, Copy)]
+pub struct NameReport {
+    pub fault: EncodedFault,
+    pub len: usize,
+}
+
+/// Writes the name of the type with this number in a policy's text to the front of `name`, as much of it as fits, and
+/// returns the name's length; or the fault and 0, and `name` is unchanged.
+#[unsafe(no_mangle)]
+pub extern "C" fn gthost_type_name_at(
+    alloc: Global,
+    policy: &[u8],
+    label: u32,
+    name: &mut [u8],
+) -> NameReport
+    ensures { ReportsName policy.now label result name.old name.new }
+{
+    match type_name(alloc, policy, label, name) {
+        Ok(len) => NameReport { fault: NONE, len },
+        Err(fault) => NameReport { fault, len: 0 },
     }
 }

@@ -1,5 +1,5 @@
 //! The exports for a domain's mappings of other domains' pages, and the names of mappings.
-ghost use Rattle.std.specs.Prelude.{◌≡◌, true, false, None};
+ghost use Rattle.std.specs.Prelude.{◌≡◌, length, map, true, false, None};
 ghost use Rattle.gt_attached.specs.Encoding.{encoded};
 ghost use Rattle.gt_attached.specs.declared.answer.AttachedOutcome.TheVariants as outcomes;
 ghost use Rattle.gt_handles.specs.Handles.{value_of};
@@ -7,13 +7,14 @@ ghost use Rattle.gt_types.specs.declared.denial.Rule.TheVariants.{N1};
 ghost use Rattle.gt_c.specs.Asking.{handle_named, is_of_domain};
 ghost use Rattle.gt_c.specs.Calling.{MayBeCalled, TurnedAway, RefusesNumber, Within16, outcome_mapped};
 ghost use Rattle.gt_c.specs.Calling.{outcome_released};
-ghost use Rattle.gt_c.specs.Promises.{Maps, Unmaps};
+ghost use Rattle.gt_c.specs.Promises.{Maps, MapsEach, Unmaps};
+ghost use Rattle.gt_c.specs.Several.{named_each};
 
 use crate::c_domain::CDomain;
-use crate::calls::{MOST, refused_number};
+use crate::calls::{MOST, refused_number, turned_away};
 use crate::handle::DomainHandle;
 use crate::lending::lent_mut;
-use gt_attached::{AttachedOutcome, EncodedAnswer, MappingName, NamedMapping};
+use gt_attached::{AttachedOutcome, EncodedAnswer, MapRequest, MappingName, NamedMapping};
 use gt_calls::Handle as Name;
 use gt_live::{LeftWord, NewMapping};
 use gt_types::{Denial, DomId, GrantRef, Rule};
@@ -183,4 +184,49 @@ pub extern "C" fn gthost_unmap_at(
     let handle = handle_named(lent, *name);
     let answered = lent.attached.unmap(handle);
     store_released(answer, answered);
+}
+
+// Writes the name of each request's mapping, in a run with this number, which this domain has.
+fn name_each(names: &mut [MapHandle], requests: &[MapRequest], dom: DomId, run: u32)
+    requires count { length names.old ≡ length requests.now }
+    ensures { names.new ≡ map (named_each dom run) requests.now }
+{
+    'names: for at in 0..names.len() {
+        let request = requests[at];
+        names[at] = MapHandle {
+            serial: request.serial,
+            key: request.key,
+            run,
+            dom: u32::from(dom.0),
+        };
+    }
+}
+
+/// Makes the map of each request, in order, and writes the name of its mapping to its place in `names`, which has a place
+/// for each. After the first refusal it releases the mappings that it made, without asking the policy, and `names` is
+/// unchanged: the answer is that refusal, with the index of its request. The fields `serial` and `key` of the requests
+/// are its own.
+#[unsafe(no_mangle)]
+pub extern "C" fn gthost_map_all_at(
+    domain: &mut DomainHandle,
+    requests: &mut [MapRequest],
+    names: &mut [MapHandle],
+) -> EncodedAnswer
+    ensures { MapsEach requests.old requests.new names.old names.new result
+        domain.old.held.value domain.new.held.value }
+{
+    if let Some(answer) = turned_away(domain) {
+        return answer;
+    }
+    if names.len() != requests.len() {
+        return EncodedAnswer::of(AttachedOutcome::Absent);
+    }
+    let lent = lent_mut(&mut domain.held);
+    match lent.attached.map_all(requests) {
+        Ok(()) => {
+            name_each(names, requests, lent.attached.dom(), lent.run);
+            EncodedAnswer::of(AttachedOutcome::MappedAll(requests.len() as u64))
+        }
+        Err(refused) => EncodedAnswer::of(AttachedOutcome::RefusedAt(refused)),
+    }
 }

@@ -4,10 +4,11 @@ use Rattle.std.proofs.Common.{Result, Ok, Err, Bool, true, false, not, refl, sym
 use Rattle.std.specs.List.{list_any}
 use Rattle.std.specs.Io.KnownBytes.{Appends}
 use Rattle.std.specs.Str.{IsUtf8}
-use Rattle.gt_policy_check.specs.Check.{Judges, faulty, sound, error_lines, is_error}
-use Rattle.gt_policy_check.specs.declared.asking.Explanation.{Explanation}
-use Rattle.gt_policy_check.specs.declared.findings.Finding.{Finding}
-use Rattle.gt_policy_check.specs.declared.report.ReportForm.{ReportForm}
+use Rattle.gt_policy_check.specs.Check.{Judges, faulty, sound}
+use Rattle.gt_findings.specs.Findings.{error_lines, is_error}
+use Rattle.gt_policy_statements.specs.declared.asking.Explanation.{Explanation}
+use Rattle.gt_findings.specs.declared.findings.Finding.{Finding}
+use Rattle.gt_findings.specs.declared.report.ReportForm.{ReportForm}
 use Rattle.gt_check_command.specs.Checking.{Checked, CheckedText, IsCleanText}
 use Rattle.gt_check_command.specs.Explaining.{AnswersWhy, AskedOf, Explained, WritesAnswer, WritesLines, answer_for}
 use Rattle.gt_check_command.specs.Explaining.{pairs_question, says_yes, why_text}

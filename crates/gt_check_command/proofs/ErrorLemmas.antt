@@ -3,8 +3,8 @@ use Rattle.std.proofs.Common.{◌≡◌, ℕ, Bool, false, List, [], ◌∷◌, 
 use Rattle.std.specs.Prelude.{if◌then◌else◌}
 use Rattle.std.proofs.lemmas.List.{append-nil}
 use Rattle.std.proofs.lemmas.List.Concat.{flat_map-append}
-use Rattle.gt_policy_check.specs.Check.{error_lines, is_error}
-use Rattle.gt_policy_check.specs.declared.findings.Finding.{Finding}
+use Rattle.gt_findings.specs.Findings.{error_lines, is_error}
+use Rattle.gt_findings.specs.declared.findings.Finding.{Finding}
 
 no_line : (b : Bool) (n : ℕ) → b ≡ false → (if b then n ∷ [] else []) ≡ []
 no_line b n e = rw e refl

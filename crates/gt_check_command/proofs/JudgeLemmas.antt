@@ -4,8 +4,8 @@ use Rattle.std.proofs.Common.{◌∙◌}
 use Rattle.std.specs.Prelude.{IfOk, option_map}
 use Rattle.std.specs.Option.{option_map_or}
 use Rattle.gt_policy.specs.declared.fault.TokenFault.{TokenFault}
-use Rattle.gt_policy_check.specs.Check.{error_lines}
-use Rattle.gt_policy_check.specs.declared.findings.Finding.{Finding}
+use Rattle.gt_findings.specs.Findings.{error_lines}
+use Rattle.gt_findings.specs.declared.findings.Finding.{Finding}
 use Rattle.gt_script.specs.Blocks.{block_fault_shown}
 use Rattle.gt_script.specs.Outcomes.{AnswersScript}
 use Rattle.gt_script.specs.RunScripts.{RunAnswers, ReadsAsRun}

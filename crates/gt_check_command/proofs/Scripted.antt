@@ -1,7 +1,7 @@
 -- From what was found in a script and written to what its check comes to.
 use Rattle.std.proofs.Common.{◌≡◌, ℕ, List, Option, Result, Ok, Err, Bool, not, max, sym, subst, inl, inr}
-use Rattle.gt_policy_check.specs.declared.findings.Finding.{Finding}
-use Rattle.gt_policy_check.specs.declared.report.ReportForm.{ReportForm}
+use Rattle.gt_findings.specs.declared.findings.Finding.{Finding}
+use Rattle.gt_findings.specs.declared.report.ReportForm.{ReportForm}
 use Rattle.gt_check_command.proofs.Advised.{errs, no_error, some_error}
 use Rattle.gt_check_command.specs.Scripts.{CheckedScript, IsScript}
 use Rattle.gt_check_command.specs.Reporting.{WritesFindings}

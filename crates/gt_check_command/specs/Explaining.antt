@@ -3,11 +3,11 @@ use Rattle.std.specs.Prelude.{◌≡◌, ℕ, ◌==◌, Bool, true, false, List,
 use Rattle.std.specs.Prelude.{None, Result, Ok, Err, if◌then◌else◌}
 use Rattle.std.specs.Io.KnownBytes.{Appends, Keeps}
 use Rattle.std.specs.Str.{IsUtf8}
-use Rattle.gt_policy_check.specs.Why.{IsExplained}
-use Rattle.gt_policy_check.specs.declared.asking.WhyAnswer.{WhyAnswer}
-use Rattle.gt_policy_check.specs.declared.asking.WhyAnswer.TheVariants as why_answers
-use Rattle.gt_policy_check.specs.declared.asking.Explanation.{Explanation}
-use Rattle.gt_policy_check.specs.declared.asking.WhyQuestion.{WhyQuestion}
+use Rattle.gt_policy_statements.specs.Why.{IsExplained}
+use Rattle.gt_policy_statements.specs.declared.asking.WhyAnswer.{WhyAnswer}
+use Rattle.gt_policy_statements.specs.declared.asking.WhyAnswer.TheVariants as why_answers
+use Rattle.gt_policy_statements.specs.declared.asking.Explanation.{Explanation}
+use Rattle.gt_policy_statements.specs.declared.asking.WhyQuestion.{WhyQuestion}
 use Rattle.gt_check_command.specs.declared.fault.WhyFault.{WhyFault}
 use Rattle.gt_check_command.specs.declared.fault.WhyFault.TheVariants.{Text, NoSource, NoTarget, NoPermission}
 use Rattle.gt_check_command.specs.declared.explaining.WhyRequest.{WhyRequest}
@@ -19,7 +19,7 @@ use Rattle.gt_policy.specs.Shown.{fault_shown}
 use Rattle.gt_policy.specs.Whole.{ReadsAs}
 use Rattle.gt_policy.specs.declared.fault.TokenFault.{TokenFault}
 use Rattle.gt_policy.specs.declared.lined.LinedStatement.{LinedStatement}
-use Rattle.gt_policy_check.specs.Why.{perm_asked}
+use Rattle.gt_policy_statements.specs.Why.{perm_asked}
 use Rattle.gt_policy_pairs.specs.Pairs.{ArePairsOf}
 use Rattle.gt_policy_pairs.specs.declared.asking.PairsQuestion.{PairsQuestion}
 use Rattle.gt_policy_pairs.specs.declared.asking.PairsReport.{PairsReport}

@@ -1,7 +1,7 @@
 -- The findings of bytes that should be a script.
 use Rattle.std.specs.Prelude.{◌≡◌, ℕ, max, List, [], ◌∷◌, Option, Some, None, Ok, Err}
-use Rattle.gt_policy_check.specs.Check.{error_lines}
-use Rattle.gt_policy_check.specs.declared.findings.Finding.{Finding}
+use Rattle.gt_findings.specs.Findings.{error_lines}
+use Rattle.gt_findings.specs.declared.findings.Finding.{Finding}
 use Rattle.gt_script.specs.Contents.{Contents}
 use Rattle.gt_script.specs.RunContents.{RunContents}
 use Rattle.gt_script.specs.RunScripts.{ReadsAsRun}

@@ -1,9 +1,9 @@
 -- What is written for a script that is checked.
 use Rattle.std.specs.Prelude.{◌⊎◌, ℕ, Bool, true, false, List, Option, Result, Ok, Err}
 use Rattle.std.specs.Io.KnownBytes.{Appends, Keeps}
-use Rattle.gt_policy_check.specs.Report.{IsReport}
-use Rattle.gt_policy_check.specs.declared.findings.Finding.{Finding}
-use Rattle.gt_policy_check.specs.declared.report.ReportForm.{ReportForm}
+use Rattle.gt_findings.specs.Report.{IsReport}
+use Rattle.gt_findings.specs.declared.findings.Finding.{Finding}
+use Rattle.gt_findings.specs.declared.report.ReportForm.{ReportForm}
 use Rattle.gt_policy_list.specs.declared.fault.ListingFault.{ListingFault}
 use Rattle.gt_policy_list.specs.declared.fault.ListingFault.TheVariants.{Utf8, Policy, Memory, Read, Write}
 use Rattle.gt_script.specs.Contents.{Contents}

@@ -3,12 +3,13 @@ ghost use Rattle.std.specs.Prelude.{◌≡◌, ◌+◌, ℕ, List, take, IfOk};
 ghost use Rattle.gt_types.specs.declared.limits.TheConstants.{LONGEST_TEXT};
 ghost use Rattle.gt_neverflow.specs.Printing.{IsNeverReport};
 ghost use Rattle.gt_text.specs.Streams.{OfInput};
-ghost use Rattle.gt_check_command.specs.Breaking.{CheckedNever, CheckedNeverText, WritesBreaches};
+ghost use Rattle.gt_check_command.specs.Breaking.{CheckedNever, CheckedNeverText, WritesBreaches, WritesWords};
 
 use crate::fault::BreachFault;
+use crate::reporting::write_findings;
+use gt_findings::{Finding, ReportForm};
 use gt_neverallow::NeverFault;
 use gt_neverflow::{BrokenTexts, NeverFindings, breaches, push_never_findings};
-use gt_policy_check::ReportForm;
 use gt_policy_list::{ListingFault, policy_text};
 use gt_text::{finish, read_text};
 use std::alloc::{AllocError, Global};
@@ -57,6 +58,24 @@ fn write_breaches<W: Write>(
     }
 }
 
+// Writes the findings of a text in which no statement forbids anything of class `grant`, and returns that fault.
+fn write_words<W: Write>(
+    alloc: Global,
+    form: ReportForm,
+    texts: &BrokenTexts,
+    line: u32,
+    words: &[Finding],
+    writer: &mut W,
+) -> BreachFault
+    ensures { WritesWords form texts.now.never_file.now words.now line
+        (W.contents writer.old) (W.contents writer.new) result }
+{
+    match write_findings(alloc, texts.never_file, form, texts.never, words, writer) {
+        Ok(_) => BreachFault::ForbidsNothing(line),
+        Err(fault) => BreachFault::Policy(fault),
+    }
+}
+
 // Checks a text.
 fn check_never_text<W: Write>(
     alloc: Global,
@@ -71,7 +90,9 @@ fn check_never_text<W: Write>(
         Ok(found) => write_breaches(alloc, form, texts, &found, writer),
         Err(NeverFault::Policy(fault)) => Err(BreachFault::Policy(ListingFault::from(fault))),
         Err(NeverFault::Statements(fault)) => Err(BreachFault::Statements(fault)),
-        Err(NeverFault::ForbidsNothing(line)) => Err(BreachFault::ForbidsNothing(line)),
+        Err(NeverFault::ForbidsNothing { line, words }) => {
+            Err(write_words(alloc, form, texts, line, words.as_slice(), writer))
+        }
     }
 }
 
@@ -109,8 +130,8 @@ fn check_never_bytes<W: Write>(
 ///
 /// # Errors
 /// The first fault of the policy, or else of the other statements, whose names must be those of the policy; or a
-/// read or an allocation that failed. Then nothing was written. After a failed write, a prefix of the breaches was
-/// written.
+/// read or an allocation that failed. Then nothing was written. If no statement forbids anything of class `grant`, the
+/// words in them that nothing knows were written. After a failed write, a prefix of what was found was written.
 pub fn check_never<R: Read, W: Write>(
     alloc: Global,
     file: &str,

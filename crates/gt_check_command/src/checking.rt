@@ -5,7 +5,7 @@ ghost use Rattle.gt_text.specs.Streams.{OfInput};
 ghost use Rattle.gt_check_command.specs.Checking.{Checked, CheckedText};
 
 use crate::reporting::write_findings;
-use gt_policy_check::ReportForm;
+use gt_findings::ReportForm;
 use gt_policy_list::{ListingFault, policy_text};
 use gt_text::read_text;
 use std::alloc::Global;

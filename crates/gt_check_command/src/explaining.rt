@@ -7,9 +7,9 @@ ghost use Rattle.gt_check_command.specs.Explaining.{AskedOf, Explained, WritesAn
 ghost use Rattle.gt_check_command.specs.Explaining.{pairs_perm, share_text, share_word, why_text};
 
 use crate::fault::WhyFault;
-use gt_policy_check::{Explanation, WhyAnswer, WhyQuestion};
 use gt_policy_list::{ListingFault, policy_text};
 use gt_policy_pairs::{PairsQuestion, PairsReport, pairs};
+use gt_policy_statements::{Explanation, WhyAnswer, WhyQuestion};
 use gt_text::{finish, push_number, push_text, read_text};
 use gt_types::Perms;
 use std::alloc::{AllocError, Global};
@@ -123,7 +123,7 @@ fn explain_text<W: Write>(
 ) -> Result<bool, WhyFault>
     ensures { AskedOf file.now request.now text.now (W.contents writer.old) (W.contents writer.new) result }
 {
-    let explanation = match gt_policy_check::why(alloc, file, text, &request.question) {
+    let explanation = match gt_policy_statements::why(alloc, file, text, &request.question) {
         Ok(explanation) => explanation,
         Err(fault) => return Err(WhyFault::Text(ListingFault::from(fault))),
     };

@@ -42,8 +42,8 @@ pub enum BreachFault {
     Policy(ListingFault),
     /// The first fault of the `neverallow` statements, or a failed allocation. Nothing was written.
     Statements(PolicyFault),
-    /// No `neverallow` statement forbids permissions of class `grant`. It has the line of the first one, or 1. Nothing
-    /// was written.
+    /// No `neverallow` statement forbids permissions of class `grant`. It has the line of the first one, or 1. The words
+    /// in the statements that nothing knows were written.
     ForbidsNothing(u32),
 }
 

@@ -10,7 +10,8 @@
 //! that `why` answers by the statements of the policy and writes the lines of those that grant what is asked, or of the
 //! near misses.
 //!
-//! It uses `gt_policy_check` (the findings in a policy, and their lines), `gt_neverflow` and `gt_neverallow` (breaches),
+//! It uses `gt_policy_check` (the findings in a policy), `gt_findings` (how they are printed), `gt_policy_statements`
+//! (what statements grant), `gt_neverflow` and `gt_neverallow` (breaches),
 //! `gt_policy_list` (the faults of a text), `gt_policy`, `gt_script` and `gt_script_lines` (scripts), `gt_fault_reasons`
 //! (the reasons for faults), `gt_text` (reads and writes) and `gt_types`. What it finds in a script is in
 //! `src/script_findings.rt`.

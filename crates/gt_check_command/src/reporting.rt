@@ -1,11 +1,11 @@
 //! Writes findings.
 ghost use Rattle.std.specs.Prelude.{◌≡◌, IfOk};
 ghost use Rattle.std.specs.List.{list_any};
-ghost use Rattle.gt_policy_check.specs.Check.{is_error};
-ghost use Rattle.gt_policy_check.specs.Report.{IsReport};
+ghost use Rattle.gt_findings.specs.Findings.{is_error};
+ghost use Rattle.gt_findings.specs.Report.{IsReport};
 ghost use Rattle.gt_check_command.specs.Reporting.{WritesFindings};
 
-use gt_policy_check::{Finding, FindingKind, ReportForm, push_findings};
+use gt_findings::{Finding, FindingKind, ReportForm, push_findings};
 use gt_policy_list::ListingFault;
 use gt_text::finish;
 use std::alloc::{AllocError, Global};

@@ -6,7 +6,7 @@ ghost use Rattle.gt_check_command.specs.Scripts.{CheckedScript};
 
 use crate::reporting::write_findings;
 use crate::script_findings::judge;
-use gt_policy_check::ReportForm;
+use gt_findings::ReportForm;
 use gt_policy_list::ListingFault;
 use gt_text::{read_text, text_of};
 use std::alloc::Global;

@@ -7,7 +7,8 @@
 //! A line that asks for a command is answered by its plan, and is refused only if an allocation fails. Any other line
 //! is refused, with an error of a kind that fits it. The proof shows that clap's own walk over the words has the same
 //! result, for any flags, options and words. Before that, [`command_first`], [`with_long_flags`] and [`with_claims`] put
-//! words in the order and the form in which the parser takes them. The crate uses `clap`, and the claims of `gt_explore_verdict`.
+//! words in the order and the form in which the parser takes them. [`refusal_text`] is the text of a refusal. The crate
+//! uses `clap`, and the claims of `gt_explore_verdict`.
 #![tactic(auto)]
 
 mod claiming;
@@ -18,6 +19,7 @@ mod leading;
 mod letters;
 mod line;
 mod planning;
+mod refused;
 mod values;
 
 pub use claiming::with_claims;
@@ -28,3 +30,4 @@ pub use invocation::{
 pub use leading::{command_first, leading_word};
 pub use letters::with_long_flags;
 pub use planning::{mode_of, plan};
+pub use refused::refusal_text;

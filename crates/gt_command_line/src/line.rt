@@ -108,6 +108,20 @@ static ENTRIES_PARTS: [Part; 7] = [
     FORMAT,
 ];
 
+/// Returns the parts of a command.
+pub(crate) fn parts_of(mode: Mode) -> &'static [Part] {
+    match mode {
+        Mode::Play | Mode::Run => &RUNNER_PARTS,
+        Mode::Explore => &EXPLORE_PARTS,
+        Mode::Policy => &POLICY_PARTS,
+        Mode::Rules => &RULES_PARTS,
+        Mode::Check => &CHECK_PARTS,
+        Mode::Why => &WHY_PARTS,
+        Mode::Flow => &FLOW_PARTS,
+        Mode::Entries => &ENTRIES_PARTS,
+    }
+}
+
 // Makes a word that may be left out.
 fn free_word<'a>(alloc: Global, id: &'a str, name: &'a str) -> Arg<'a>
     ensures rule { rule_of result ≡ free_word id.entry.now }

@@ -349,8 +349,8 @@ fn value_error(alloc: Global, usage: &str, message: &str) -> Result<Error, Error
     Ok(error)
 }
 
-// Returns the usage of a command, or of the program.
-fn usage_text(mode: Option<Mode>) -> &'static str {
+/// Returns the usage of a command, or of the program.
+pub(crate) fn usage_text(mode: Option<Mode>) -> &'static str {
     match mode {
         Some(Mode::Play) => "gthost play [OPTIONS] [FILE]",
         Some(Mode::Run) => "gthost run [OPTIONS] [FILE]",
@@ -379,7 +379,7 @@ fn refused_by_explore<'a>(matches: &ArgMatches<'a>) -> (&'static str, Option<&'a
     } else if diff_of(diff).is_none() {
         ("--diff takes two numbers, such as 1,2", diff)
     } else if states_of(states).is_none() {
-        ("--states takes a number", states)
+        ("--states takes a number in digits, such as 1000000", states)
     } else if form_of(format).is_none() {
         ("--format takes text, json or mermaid", format)
     } else if format == Some("mermaid") && trace.is_none() {

@@ -41,9 +41,11 @@ fn last_compared(texts: &[FoundText], text: &[u8]) -> Ordering
     }
 }
 
-// Adds an order whose text comes after all others, unless its text is the last. Fails with `Astray` if its text comes
-// before the last.
-fn add(texts: &mut Vec<FoundText>, order: FoundText) -> Result<(), TextsFault>
+/// Adds an order whose text comes after all others, unless its text is the last.
+///
+/// # Errors
+/// `Astray` if its text comes before the last, and `Memory`.
+pub fn add_order(texts: &mut Vec<FoundText>, order: FoundText) -> Result<(), TextsFault>
     ensures { OnOk result (AddsOrder texts.old.items order texts.new.items) }
 {
     match last_compared(texts.as_slice(), order.text.as_slice()) {
@@ -71,8 +73,11 @@ fn replayed(alloc: Global, script: &RunScript, order: FoundText) -> Result<Found
     Ok(order)
 }
 
-// Sorts orders by the bytes of their texts.
-fn in_order(mut orders: Vec<FoundText>) -> Result<Vec<FoundText>, AllocError>
+/// Sorts orders by the bytes of their texts.
+///
+/// # Errors
+/// An allocation failed.
+pub fn in_order(mut orders: Vec<FoundText>) -> Result<Vec<FoundText>, AllocError>
     ensures { IfOk result (λ sorted. IsPermutation orders.items sorted.items) }
 {
     orders.sort_by(|one, other| one.text.as_slice().cmp(other.text.as_slice()))?;
@@ -93,7 +98,7 @@ fn distinct(
 {
     let mut texts = Vec::new(alloc);
     'orders: for order in orders {
-        add(&mut texts, replayed(alloc, script, order)?)?;
+        add_order(&mut texts, replayed(alloc, script, order)?)?;
     }
     Ok(texts)
 }

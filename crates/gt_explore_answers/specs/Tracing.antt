@@ -26,7 +26,7 @@ title_text f number = codes "sequenceDiagram\n    title " ++ heading_line f numb
 -- a sequence diagram
 abbrev pub diagram_shown : RunContents → Found → ℕ → List TracedMove → List ℕ
 diagram_shown c f number moves =
-    title_text f number ++ participants_text c.head.domains ++ trace_output c Mermaid moves
+    title_text f number ++ participants_text moves c.head.domains ++ trace_output c Mermaid moves
     ++ (codes "    %% " ++ states_line f)
 
 -- the object of the text, and one for each move

@@ -106,7 +106,7 @@ fn push_diagram_shown(
         (found_from shown.entry.found.now) shown.entry.number moves.now) }
 {
     push_title(out, shown.found, shown.number)?;
-    push_participants(out, shown.script.head().domains())?;
+    push_participants(out, shown.script.head().domains(), moves)?;
     push_trace(alloc, out, shown.script, TraceForm::Mermaid, moves)?;
     push_last_comment(out, shown.found)
 }

@@ -1,10 +1,11 @@
 //! Sequence diagrams of mermaid.
 ghost use Rattle.std.specs.Prelude.{◌≡◌, ◌++◌, OnOk};
-ghost use Rattle.std.specs.List.{flat_map};
+ghost use Rattle.std.specs.List.{flat_map, list_any};
 ghost use Rattle.gt_explore_trace.specs.Diagram.{arrow_text, message_text, diagram_note, one_participant, owner_of};
 ghost use Rattle.gt_explore_trace.specs.Diagram.{participant_kind, participant_name};
-ghost use Rattle.gt_explore_trace.specs.Diagram.{participant_text, participants_text};
+ghost use Rattle.gt_explore_trace.specs.Diagram.{participant_text, participants_text, table_text, touches_table};
 
+use crate::moves::TracedMove;
 use gt_core::Step;
 use gt_explore_replay::Moved;
 use gt_text::{push_number, push_text};
@@ -88,21 +89,63 @@ fn push_one(out: &mut Vec<u8>, letter: &str, kind: &str, dom: DomId) -> Result<(
     push_kind(out, kind, dom)
 }
 
-// Appends a domain and its table as participants.
-#[tactic(auto, unfolding(crate::specs::Diagram::participant_text))]
-fn push_participant(out: &mut Vec<u8>, domain: &DomainConfig) -> Result<(), AllocError>
-    ensures { OnOk result (out.new.items ≡ out.old.items ++ participant_text domain.now) }
+// Returns whether a move touches the table of this domain, or a frame of it.
+fn touches_table(owner: DomId, traced: &TracedMove) -> bool
+    ensures { result ≡ touches_table owner traced.now }
 {
-    push_one(out, "D", "domain", domain.id)?;
-    push_one(out, "T", "table", domain.id)
+    match &traced.moved {
+        Moved::Raised | Moved::Passed | Moved::Began(_) => false,
+        Moved::Stepped(step, _, _) => owner_of(traced.dom, *step).0 == owner.0,
+    }
 }
 
-/// Appends each domain and its table as participants of a diagram. After an Err, part of them may have been appended.
-pub fn push_participants(out: &mut Vec<u8>, domains: &[DomainConfig]) -> Result<(), AllocError>
-    ensures { OnOk result (out.new.items ≡ out.old.items ++ participants_text domains.now) }
+// Returns whether one of these moves does.
+fn is_touched(owner: DomId, moves: &[TracedMove]) -> bool
+    ensures { result ≡ list_any (touches_table owner) moves.now }
+{
+    'moves: for traced in moves {
+        if touches_table(owner, traced) {
+            return true;
+        }
+    }
+    false
+}
+
+// Appends the table of a domain as a participant, if it is touched.
+fn push_table(out: &mut Vec<u8>, is_touched: bool, dom: DomId) -> Result<(), AllocError>
+    ensures { OnOk result (out.new.items ≡ out.old.items ++ table_text is_touched dom) }
+{
+    if is_touched {
+        push_one(out, "T", "table", dom)
+    } else {
+        Ok(())
+    }
+}
+
+// Appends a domain as a participant, and its table if one of these moves touches it.
+#[tactic(auto, unfolding(crate::specs::Diagram::participant_text))]
+fn push_participant(
+    out: &mut Vec<u8>,
+    domain: &DomainConfig,
+    moves: &[TracedMove],
+) -> Result<(), AllocError>
+    ensures { OnOk result (out.new.items ≡ out.old.items ++ participant_text moves.now domain.now) }
+{
+    push_one(out, "D", "domain", domain.id)?;
+    push_table(out, is_touched(domain.id, moves), domain.id)
+}
+
+/// Appends the participants of a diagram of these moves: each domain, and each table that one of them touches. After an
+/// Err, part of them may have been appended.
+pub fn push_participants(
+    out: &mut Vec<u8>,
+    domains: &[DomainConfig],
+    moves: &[TracedMove],
+) -> Result<(), AllocError>
+    ensures { OnOk result (out.new.items ≡ out.old.items ++ participants_text moves.now domains.now) }
 {
     'domains: for domain in domains {
-        push_participant(out, domain)?;
+        push_participant(out, domain, moves)?;
     }
     Ok(())
 }

@@ -1,1 +1,2 @@
 pub mod FittingLemmas
+mod Named

@@ -6,8 +6,8 @@ use crate::blocks::block_text;
 use crate::columns::column_of;
 use crate::reason::{Reason, ReasonNote};
 use crate::texts::push_word;
+use gt_findings::push_hint;
 use gt_policy::{LinedStatement, Statement, statements_of};
-use gt_policy_check::push_hint;
 use gt_script_lines::{BodyLine, DomainLine, Number, ScriptLine, line_words, read_line};
 use gt_text::{push_number, push_text, text_of};
 use gt_types::{

@@ -1,20 +1,28 @@
 //! The reasons for which a question about a policy has no answer.
 ghost use Rattle.std.specs.Prelude.{◌≡◌, ◌++◌, OnOk, codes};
-ghost use Rattle.gt_fault_reasons.specs.Reasons.{name_line, AppendsNameReason};
+ghost use Rattle.gt_findings.specs.Report.{AddsText};
+ghost use Rattle.gt_fault_reasons.specs.Reasons.{AppendsNameReason, IsNameLine};
 
 use crate::limits::push_undeclared;
 use crate::texts::push_word;
+use gt_findings::{permission_names, push_hint};
 use gt_policy::statements_of;
-use gt_policy_check::{permission_names, push_hint};
 use gt_text::{push_text, text_of};
 use std::alloc::{AllocError, Global};
 
-// Appends `FILE: "NAME"MESSAGE` and a line feed.
-fn push_name(out: &mut Vec<u8>, file: &str, name: &str, message: &[u8]) -> Result<(), AllocError>
-    ensures { OnOk result (out.new.items ≡ out.old.items ++ name_line file.now name.now message.now) }
+// Appends `FILE: `.
+fn push_file(out: &mut Vec<u8>, file: &str) -> Result<(), AllocError>
+    ensures { OnOk result (out.new.items ≡ out.old.items ++ file.now ++ codes ": ") }
 {
     push_text(out, file)?;
-    push_text(out, ": ")?;
+    push_text(out, ": ")
+}
+
+// Appends `FILE: "NAME"MESSAGE` and a line feed.
+fn push_name(out: &mut Vec<u8>, file: &str, name: &str, message: &[u8]) -> Result<(), AllocError>
+    ensures { OnOk result (AddsText (IsNameLine file.now name.now message.now) out.old.items out.new.items) }
+{
+    push_file(out, file)?;
     push_word(out, name.as_bytes())?;
     push_rest(out, message)
 }

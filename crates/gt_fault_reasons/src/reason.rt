@@ -29,7 +29,7 @@ impl Reason {
     }
 
     /// Makes a reason that is about a whole line.
-    pub(crate) fn of_line(alloc: Global, text: &str) -> Result<Reason, AllocError> {
+    pub fn of_line(alloc: Global, text: &str) -> Result<Reason, AllocError> {
         Ok(Reason::at(1, Vec::from_slice(alloc, text.as_bytes())?))
     }
 }

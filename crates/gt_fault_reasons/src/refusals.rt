@@ -2,7 +2,7 @@
 use crate::blocks::block_text;
 use crate::texts::{is_listed, push_word};
 use gt_policy::PolicyFaultKind;
-use gt_policy_check::{WhyQuestion, why};
+use gt_policy_statements::{WhyQuestion, why};
 use gt_script_lines::{ScriptLine, TripleLine, line_words, read_line, text_lines};
 use gt_text::{push_number, push_text, text_of};
 use std::alloc::{AllocError, Global};

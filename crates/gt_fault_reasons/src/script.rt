@@ -2,15 +2,13 @@
 ghost use Rattle.std.specs.Prelude.{◌≡◌, ◌++◌, OnOk, codes};
 ghost use Rattle.gt_fault_reasons.specs.Reasons.{AppendsReasonAt};
 
-use crate::blocks::{block_text, has_policy};
+use crate::blocks::has_policy;
 use crate::limits::{config_reason, mode_reason};
-use crate::reason::{Reason, ReasonNote};
+use crate::reason::Reason;
 use crate::syntax::syntax_reason;
 use crate::texts::push_heading;
 use crate::waits::stuck_reason;
-use gt_policy::PolicyFault;
-use gt_policy_check::{Finding, FindingKind, check};
-use gt_script::{BlockFault, ScriptFault, ScriptFaultKind};
+use gt_script::{ScriptFault, ScriptFaultKind};
 use gt_script_lines::text_lines;
 use gt_text::{push_number, push_text, text_of};
 use gt_types::LONGEST_TEXT;
@@ -24,7 +22,8 @@ fn push_limit(out: &mut Vec<u8>, what: &str) -> Result<(), AllocError> {
     push_text(out, " bytes")
 }
 
-fn limit_reason(alloc: Global, what: &str) -> Result<Reason, AllocError> {
+/// Returns the reason for a text, called `what`, with more bytes than are read.
+pub fn limit_reason(alloc: Global, what: &str) -> Result<Reason, AllocError> {
     let mut message = Vec::new(alloc);
     push_limit(&mut message, what)?;
     Ok(Reason::at(1, message))
@@ -43,8 +42,8 @@ fn column_after(front: &[u8]) -> usize {
     column
 }
 
-// Explains bytes that are not UTF-8, with the column of the first bad byte.
-fn utf8_reason(alloc: Global, input: &[u8]) -> Result<Reason, AllocError> {
+/// Returns the reason for bytes that are not UTF-8, with the column of the first bad byte.
+pub fn utf8_reason(alloc: Global, input: &[u8]) -> Result<Reason, AllocError> {
     let mut reason = Reason::of_line(alloc, "invalid UTF-8")?;
     if let Err(error) = str::from_utf8(input) {
         reason.column = column_after(&input[..error.valid_up_to()]);
@@ -100,8 +99,8 @@ pub fn script_reason(
     }
 }
 
-// Appends a reason for a line.
-fn push_reason(
+/// Appends a reason for a line: `FILE:LINE:COLUMN: REASON`. After an Err, part of it may have been appended.
+pub fn push_reason(
     out: &mut Vec<u8>,
     file: &str,
     line: usize,
@@ -127,91 +126,6 @@ pub fn push_script_reason(
 {
     let reason = script_reason(alloc, input, fault)?;
     push_reason(out, file, fault.line, &reason)
-}
-
-// Returns the note of an error, if this finding is a note.
-fn note_found(alloc: Global, finding: Option<&Finding>) -> Result<Option<ReasonNote>, AllocError> {
-    match finding {
-        Some(note) if matches!(note.kind, FindingKind::Note) => Ok(Some(ReasonNote {
-            line: note.line as usize,
-            column: note.column as usize,
-            message: Vec::from_slice(alloc, note.message.as_slice())?,
-        })),
-        _ => Ok(None),
-    }
-}
-
-// Makes the reason of the findings in a policy block: its error, and the note after it.
-fn reason_found(alloc: Global, found: &[Finding]) -> Result<Reason, AllocError> {
-    let [error, others @ ..] = found else {
-        return Reason::of_line(alloc, "the policy block has a fault");
-    };
-    Ok(Reason {
-        column: error.column as usize,
-        message: Vec::from_slice(alloc, error.message.as_slice())?,
-        note: note_found(alloc, others.first())?,
-    })
-}
-
-// Returns the reason for the fault of a text that is not a policy.
-fn text_reason(alloc: Global, text: &str) -> Result<Reason, AllocError> {
-    match check(alloc, text) {
-        Ok(found) => reason_found(alloc, found.as_slice()),
-        Err(_) => Err(AllocError),
-    }
-}
-
-/// Returns the reason for the fault of a script's policy block.
-pub fn block_reason(alloc: Global, input: &[u8]) -> Result<Reason, AllocError> {
-    let Ok(text) = text_of(input) else {
-        return utf8_reason(alloc, input);
-    };
-    let lines = text_lines(alloc, text)?;
-    match block_text(alloc, lines.as_slice())? {
-        Some(block) => text_reason(alloc, block.as_str()),
-        None => Reason::of_line(alloc, "the script has no policy block"),
-    }
-}
-
-/// Appends the reason for a fault of a script's policy block: a line `FILE:LINE:COLUMN: REASON`, at the line of the
-/// fault. After an Err, part of it may have been appended.
-pub fn push_block_reason(
-    alloc: Global,
-    out: &mut Vec<u8>,
-    file: &str,
-    input: &[u8],
-    fault: &BlockFault,
-) -> Result<(), AllocError>
-    ensures { OnOk result (AppendsReasonAt file.now fault.now.line out.old.items out.new.items) }
-{
-    let reason = block_reason(alloc, input)?;
-    push_reason(out, file, fault.line, &reason)
-}
-
-/// Returns the reason for the fault of a policy text.
-pub fn policy_reason(alloc: Global, input: &[u8]) -> Result<Reason, AllocError> {
-    if input.len() > LONGEST_TEXT {
-        return limit_reason(alloc, "a policy");
-    }
-    match text_of(input) {
-        Ok(text) => text_reason(alloc, text),
-        Err(_) => utf8_reason(alloc, input),
-    }
-}
-
-/// Appends the reason for a fault of a policy text: a line `FILE:LINE:COLUMN: REASON`, at the line of the fault. After
-/// an Err, part of it may have been appended.
-pub fn push_policy_reason(
-    alloc: Global,
-    out: &mut Vec<u8>,
-    file: &str,
-    input: &[u8],
-    fault: &PolicyFault,
-) -> Result<(), AllocError>
-    ensures { OnOk result (AppendsReasonAt file.now fault.now.line out.old.items out.new.items) }
-{
-    let reason = policy_reason(alloc, input)?;
-    push_reason(out, file, fault.line as usize, &reason)
 }
 
 /// Appends where bytes are not UTF-8: a line `FILE:LINE:COLUMN: REASON`, at this line. After an Err, part of it may

@@ -7,7 +7,7 @@ use crate::forms::{FORMS, example_word, expected_at};
 use crate::misfit::fitting;
 use crate::reason::Reason;
 use crate::texts::{is_listed, push_word};
-use gt_policy_check::{permission_names, push_hint};
+use gt_findings::{permission_names, push_hint};
 use gt_script_lines::{ScriptLine, is_word, line_words, read_line, split_name};
 use gt_text::{push_text, text_of};
 use std::alloc::{AllocError, Global};

@@ -2,7 +2,7 @@
 use crate::columns::column_of;
 use crate::reason::{Reason, ReasonNote};
 use crate::texts::push_word;
-use gt_policy_check::push_hint;
+use gt_findings::push_hint;
 use gt_script_lines::{is_word, line_words};
 use gt_text::{push_number, push_text, text_of};
 use std::alloc::{AllocError, Global};

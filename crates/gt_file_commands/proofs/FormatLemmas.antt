@@ -2,7 +2,7 @@
 use Rattle.std.proofs.Common.{◌≡◌, ℕ, Bool, List, Option, Result, sym, subst}
 use Rattle.gt_command_line.specs.declared.invocation.Format.{Format}
 use Rattle.gt_file_commands.specs.AsJson.{Promise}
-use Rattle.gt_policy_check.specs.declared.report.ReportForm.{ReportForm}
+use Rattle.gt_findings.specs.declared.report.ReportForm.{ReportForm}
 use Rattle.gt_policy_list.specs.declared.fault.ListingFault.{ListingFault}
 use Rattle.gt_text.specs.Streams.{OfInput}
 use Rattle.gt_file_commands.specs.Formats.{CheckedAs}

@@ -7,7 +7,7 @@ use Rattle.gt_policy_flow.specs.declared.asking.FlowQuestion.{FlowQuestion}
 use Rattle.gt_policy_flow.specs.declared.format.FlowFormat.{FlowFormat}
 use Rattle.gt_entries.specs.declared.asked.DumpOptions.{DumpOptions}
 use Rattle.gt_command_line.specs.declared.invocation.Format.{Format}
-use Rattle.gt_policy_check.specs.declared.report.ReportForm.{ReportForm}
+use Rattle.gt_findings.specs.declared.report.ReportForm.{ReportForm}
 use Rattle.gt_file_commands.specs.Formats.{IsFormOf}
 use Rattle.gt_file_commands.specs.Laws.{worked}
 use Rattle.gt_file_commands.specs.Working.{AnswersFlow, IsFlowQuestion, ShowsFlow}

@@ -10,8 +10,8 @@ use Rattle.gt_entries.specs.declared.asked.DumpOptions.{DumpOptions}
 use Rattle.gt_entries.specs.declared.fault.DumpFault.{DumpFault}
 use Rattle.gt_script_runs.specs.Playing.{Played}
 use Rattle.gt_script_runs.specs.declared.fault.PlayFault.{PlayFault}
-use Rattle.gt_policy_check.specs.declared.report.ReportForm.{ReportForm}
-use Rattle.gt_policy_check.specs.declared.report.ReportForm.TheVariants as report_forms
+use Rattle.gt_findings.specs.declared.report.ReportForm.{ReportForm}
+use Rattle.gt_findings.specs.declared.report.ReportForm.TheVariants as report_forms
 use Rattle.gt_policy_list.specs.Writing.{Listed}
 use Rattle.gt_policy_list.specs.declared.fault.ListingFault.{ListingFault}
 use Rattle.gt_script.specs.Script.{ReadsAsScript}

@@ -1,7 +1,7 @@
 -- Names of other crates, and of the code, that the definitions here use.
-pub use Rattle.gt_policy_check.specs.Why.{perm_asked, source_asked, target_asked}
+pub use Rattle.gt_policy_statements.specs.Why.{perm_asked, source_asked, target_asked}
 pub use Rattle.gt_check_command.specs.declared.explaining.WhyRequest.{WhyRequest}
-pub use Rattle.gt_policy_check.specs.declared.report.ReportForm.{ReportForm}
+pub use Rattle.gt_findings.specs.declared.report.ReportForm.{ReportForm}
 pub use Rattle.gt_check_command.specs.Explaining.{Explained}
 pub use Rattle.gt_check_command.specs.Breaking.{CheckedNever}
 pub use Rattle.gt_check_command.specs.Faults.{breach_fault_text, why_fault_text}

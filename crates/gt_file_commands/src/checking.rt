@@ -20,7 +20,7 @@ use crate::style::Style;
 use crate::texts::TextSource;
 use gt_check_command::NeverText;
 use gt_command_line::{CheckedFiles, Format};
-use gt_policy_check::ReportForm;
+use gt_findings::ReportForm;
 use gt_policy_list::policy_text;
 use std::alloc::Global;
 use std::io::{Read, Write};

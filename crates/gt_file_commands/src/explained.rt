@@ -38,7 +38,8 @@ pub fn play_with_reasons<R: Read, W: Write>(
     ending
 }
 
-/// Lists what the policy of a reader allows, and adds the reason of a fault, if it is asked for.
+/// Lists what the policy of a reader allows, and adds the reason of a fault, or that the policy has no statement, if
+/// reasons are asked for.
 pub fn list_with_reasons<R: Read, W: Write>(
     alloc: Global,
     format: Format,
@@ -54,8 +55,9 @@ pub fn list_with_reasons<R: Read, W: Write>(
     }
     let mut input = CopyingReader::new(alloc, reader);
     let ending = list_as(alloc, format, &mut input, out);
-    if let Err(fault) = &ending {
-        reasons.add_listing(&input.kept, fault);
+    match &ending {
+        Ok(()) => reasons.add_bare(&input.kept),
+        Err(fault) => reasons.add_listing(&input.kept, fault),
     }
     ending
 }

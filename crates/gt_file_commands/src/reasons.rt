@@ -8,6 +8,7 @@
 //! tests compare the lines. The words for scripts and policies are those of `gt_fault_reasons`.
 mod collecting;
 mod copying;
+mod dumps;
 mod flows;
 mod given;
 mod names;

@@ -19,15 +19,16 @@ use Rattle.gt_policy.specs.declared.statements.Allowance.{Allowance}
 use Rattle.gt_policy.specs.declared.statements.Statement.{Statement}
 use Rattle.gt_policy.specs.declared.statements.Statement.TheVariants.{DeclareType, DeclareAttribute, GiveAttributes}
 use Rattle.gt_policy.specs.declared.statements.Statement.TheVariants.{Allow}
-use Rattle.gt_policy_check.specs.Check.{KeepsColumns, error_lines}
-use Rattle.gt_policy_check.specs.Granting.{gives_source, reaches_by}
-use Rattle.gt_policy_check.specs.Members.{membership_of, members_of, names_in_lines}
-use Rattle.gt_policy_check.specs.Why.{types_asked}
-use Rattle.gt_policy_check.specs.Words.{class_lines, unknown_line}
-use Rattle.gt_policy_check.specs.declared.findings.Finding.{Finding}
-use Rattle.gt_policy_check.specs.declared.members.Member.{Member}
-use Rattle.gt_policy_check.proofs.CheckLemmas.{filter_all}
-use Rattle.gt_policy_check.proofs.GrantLemmas.{any_and, any_asked, any_never, any_same, by_names, held}
+use Rattle.gt_findings.specs.Findings.{KeepsColumns, error_lines}
+use Rattle.gt_policy_statements.specs.Granting.{gives_source, reaches_by}
+use Rattle.gt_policy_statements.specs.Members.{membership_of, members_of, names_in_lines}
+use Rattle.gt_policy_statements.specs.Why.{types_asked}
+use Rattle.gt_findings.specs.Findings.{class_lines}
+use Rattle.gt_policy_words.specs.Words.{unknown_line}
+use Rattle.gt_findings.specs.declared.findings.Finding.{Finding}
+use Rattle.gt_policy_statements.specs.declared.members.Member.{Member}
+use Rattle.gt_policy_statements.proofs.GrantLemmas.{filter_all}
+use Rattle.gt_policy_statements.proofs.GrantLemmas.{any_and, any_asked, any_never, any_same, by_names, held}
 use Rattle.gt_neverallow.specs.Breaking.{breaks, breaks_by, breaks_some, breaks_with, broken, broken_by, example_text}
 use Rattle.gt_neverallow.specs.Breaking.{chooses_self, chosen_by, classes_in, denies, forbids, forbids_source, forbids_target}
 use Rattle.gt_neverallow.specs.Breaking.{is_chosen, is_example}

@@ -1,8 +1,8 @@
 -- What is printed of a breach.
 use Rattle.std.proofs.Common.{ℕ, List, [], ◌∷◌, ◌++◌, refl, ap, ◌∙◌, append_assoc}
-use Rattle.gt_policy_check.specs.Report.{AddsText, IsReport}
-use Rattle.gt_policy_check.specs.declared.findings.Finding.{Finding}
-use Rattle.gt_policy_check.specs.declared.report.ReportForm.{ReportForm}
+use Rattle.gt_findings.specs.Report.{AddsText, IsReport}
+use Rattle.gt_findings.specs.declared.findings.Finding.{Finding}
+use Rattle.gt_findings.specs.declared.report.ReportForm.{ReportForm}
 use Rattle.gt_neverallow.specs.Printing.{IsBreachError, IsBreachNote, IsBreachText}
 use Rattle.gt_neverallow.specs.declared.breaking.Breach.{Breach}
 

@@ -1,6 +1,6 @@
 -- Which allow statements of a policy break which neverallow statements.
 use Rattle.std.specs.Prelude.{◌≡◌, ℕ, Bool, true, false, not, ◌&&◌, ◌||◌, List, [], ◌∷◌, ◌++◌, map, filter, Some, Ok}
-use Rattle.std.specs.Prelude.{Err, if◌then◌else◌, codes, All, Contains}
+use Rattle.std.specs.Prelude.{Err, if◌then◌else◌, codes, length, nat_lt, take, All, Contains}
 use Rattle.std.specs.List.{flat_map, list_any, AllZip}
 use Rattle.std.specs.Str.{bytes_eq}
 use Rattle.gt_types.specs.Names.{every_permission, permission_name}
@@ -8,7 +8,7 @@ use Rattle.gt_policy.specs.Allowing.{Meaning}
 use Rattle.gt_policy.specs.Granting.{is_self, lists_word, set_holds, statement_grants}
 use Rattle.gt_policy.specs.Lined.{IsLined, statements_in}
 use Rattle.gt_policy.specs.Resolving.{has_grant}
-use Rattle.gt_policy.specs.Shown.{fault_shown}
+use Rattle.gt_policy.specs.Shown.{fault_shown, out_of_memory}
 use Rattle.gt_policy.specs.Spelling.{types_in}
 use Rattle.gt_policy.specs.Whole.{ReadsAs}
 use Rattle.gt_policy.specs.declared.fault.TokenFault.{TokenFault}
@@ -17,11 +17,12 @@ use Rattle.gt_policy.specs.declared.statements.Allowance.{Allowance}
 use Rattle.gt_policy.specs.declared.statements.Statement.{Statement}
 use Rattle.gt_policy.specs.declared.statements.Statement.TheVariants.{DeclareType, DeclareAttribute, GiveAttributes}
 use Rattle.gt_policy.specs.declared.statements.Statement.TheVariants.{Allow}
-use Rattle.gt_policy_check.specs.Check.{HasColumn, error_lines}
-use Rattle.gt_policy_check.specs.Words.{class_lines, unknown_line}
-use Rattle.gt_policy_check.specs.declared.findings.Finding.{Finding}
-use Rattle.gt_policy_check.specs.Granting.{elements_hold, gives_source, reaches_by}
-use Rattle.gt_policy_check.specs.declared.members.Member.{Member}
+use Rattle.gt_findings.specs.Findings.{HasColumn, error_lines}
+use Rattle.gt_findings.specs.Findings.{class_lines}
+use Rattle.gt_policy_words.specs.Words.{unknown_line}
+use Rattle.gt_findings.specs.declared.findings.Finding.{Finding}
+use Rattle.gt_policy_statements.specs.Granting.{elements_hold, gives_source, reaches_by}
+use Rattle.gt_policy_statements.specs.declared.members.Member.{Member}
 use Rattle.gt_neverallow.specs.Naming.{ReadsAsNever}
 use Rattle.gt_neverallow.specs.declared.breaking.Breach.{Breach}
 use Rattle.gt_neverallow.specs.declared.fault.NeverFault.{NeverFault}
@@ -74,9 +75,13 @@ breaks xs n x = list_any
     && forbids (statements_in xs) s t (permission_name p) n) (types_in (statements_in xs)))
     (types_in (statements_in xs))) every_permission
 
+-- a name in a message; of a long one the first 160 bytes, and `...`
+abbrev pub short_name : List ℕ → List ℕ
+short_name name = take 160 name ++ (if nat_lt 160 (length name) then codes "..." else [])
+
 -- the names in the example of a breach
 abbrev pub example_text : List ℕ → List ℕ → List ℕ → List ℕ
-example_text source permission target = source ++ codes " " ++ permission ++ codes " " ++ target
+example_text source permission target = short_name source ++ codes " " ++ permission ++ codes " " ++ short_name target
 
 -- the text is an example: it names a declared source, a permission and a declared target, of which the statement grants
 -- what the neverallow statement forbids
@@ -130,6 +135,20 @@ ReadsTexts policy never xs ns =
     (m : Meaning) × ReadsAs policy (Ok m) × IsLined policy xs × ReadsAsNever xs never (Ok ns)
     × (list_any forbids_some ns ≡ true)
 
+-- no statement of the text forbids permissions of class `grant` or flows, the first one is on this line, and these are
+-- the findings of words that nothing knows
+abbrev pub ForbidNothing : List ℕ → List ℕ → ℕ → List Finding → Type 0
+ForbidNothing policy never line words =
+    (m : Meaning) × (xs : List LinedStatement) × (ns : List NeverStatement) × ReadsAs policy (Ok m) × IsLined policy xs
+    × ReadsAsNever xs never (Ok ns) × (list_any forbids_some ns ≡ false) × (line ≡ first_line ns)
+    × AreUnknown never ns words
+
+-- the fault of such statements of a text, or a failed allocation
+abbrev pub IsNothingForbidden : List ℕ → List NeverStatement → NeverFault → Type 0
+IsNothingForbidden never ns (Policy e) = ⊥
+IsNothingForbidden never ns (Statements e) = e ≡ out_of_memory
+IsNothingForbidden never ns (ForbidsNothing line words) = (line ≡ first_line ns) × AreUnknown never ns words.items
+
 -- why there is no answer: the first fault of the policy, or of the text of such statements for that policy, or no
 -- statement forbids permissions of class `grant` or flows; a fault that shows nothing is a failed allocation
 abbrev pub IsNeverFault : List ℕ → List ℕ → NeverFault → Type 0
@@ -137,9 +156,7 @@ IsNeverFault policy never (Policy e) = (f : TokenFault) → fault_shown e ≡ So
 IsNeverFault policy never (Statements e) =
     (m : Meaning) × (xs : List LinedStatement) × ReadsAs policy (Ok m) × IsLined policy xs
     × ((f : TokenFault) → fault_shown e ≡ Some f → ReadsAsNever xs never (Err f))
-IsNeverFault policy never (ForbidsNothing line) =
-    (m : Meaning) × (xs : List LinedStatement) × (ns : List NeverStatement) × ReadsAs policy (Ok m) × IsLined policy xs
-    × ReadsAsNever xs never (Ok ns) × (list_any forbids_some ns ≡ false) × (line ≡ first_line ns)
+IsNeverFault policy never (ForbidsNothing line words) = ForbidNothing policy never line words.items
 
 -- ---- by types with the names that denote them
 

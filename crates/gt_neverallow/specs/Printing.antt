@@ -1,11 +1,11 @@
 -- What is printed of the breaches of neverallow statements.
 use Rattle.std.specs.Prelude.{◌≡◌, ℕ, List, [], ◌∷◌, ◌++◌, codes}
-use Rattle.gt_policy_check.specs.Columns.{AreStarts, IsColumnOf}
-use Rattle.gt_policy_check.specs.LineWords.{AreWordColumns}
-use Rattle.gt_policy_check.specs.Report.{IsTextOfAll, IsReport}
-use Rattle.gt_policy_check.specs.declared.findings.Finding.{Finding}
-use Rattle.gt_policy_check.specs.declared.findings.FindingKind.TheVariants.{Fault, Note}
-use Rattle.gt_policy_check.specs.declared.report.ReportForm.{ReportForm}
+use Rattle.gt_findings.specs.Columns.{AreStarts, IsColumnOf}
+use Rattle.gt_findings.specs.LineWords.{AreWordColumns}
+use Rattle.gt_findings.specs.Report.{IsTextOfAll, IsReport}
+use Rattle.gt_findings.specs.declared.findings.Finding.{Finding}
+use Rattle.gt_findings.specs.declared.findings.FindingKind.TheVariants.{Fault, Note}
+use Rattle.gt_findings.specs.declared.report.ReportForm.{ReportForm}
 use Rattle.gt_neverallow.specs.declared.breaking.Breach.{Breach}
 use Rattle.gt_neverallow.specs.declared.printing.BreachColumns.{BreachColumns}
 use Rattle.gt_neverallow.specs.declared.printing.LinedTexts.{LinedTexts}

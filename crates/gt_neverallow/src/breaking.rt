@@ -6,7 +6,7 @@ ghost use Rattle.gt_neverallow.specs.Breaking.{AddsBreaches, AreBroken, breaks_w
 use crate::example::breach_example;
 use crate::statement::NeverStatement;
 use gt_policy::LinedStatement;
-use gt_policy_check::{Member, members_of};
+use gt_policy_statements::{Member, members_of};
 use std::alloc::{AllocError, Global};
 
 /// An allow statement that grants what a `neverallow` statement forbids.

@@ -1,14 +1,15 @@
 //! The example of a breach: what an allow statement grants though a `neverallow` statement forbids it.
-ghost use Rattle.std.specs.Prelude.{◌≡◌, ◌&&◌, true, is_some, Contains, IfOk, IfSome};
+ghost use Rattle.std.specs.Prelude.{◌≡◌, ◌++◌, ◌&&◌, true, is_some, take, Contains, IfOk, IfSome, OnOk};
 ghost use Rattle.std.specs.List.{list_any};
-ghost use Rattle.gt_policy_check.specs.Granting.{reaches_by};
+ghost use Rattle.gt_policy_statements.specs.Granting.{reaches_by};
 ghost use Rattle.gt_neverallow.specs.Breaking.{breaks_by, breaks_on, breaks_some, breaks_with, example_text};
-ghost use Rattle.gt_neverallow.specs.Breaking.{forbids_target, shows_by, shows_some, shows_with, IsBrokenOn};
+ghost use Rattle.gt_neverallow.specs.Breaking.{forbids_target, short_name, shows_by, shows_some, shows_with};
+ghost use Rattle.gt_neverallow.specs.Breaking.{IsBrokenOn};
 
 use crate::forbidding::{forbids_source, forbids_target};
 use crate::statement::NeverStatement;
 use gt_policy::{Allowance, Statement};
-use gt_policy_check::{Member, gives_source, reaches};
+use gt_policy_statements::{Member, gives_source, reaches};
 use gt_text::push_text;
 use gt_types::Perms;
 use std::alloc::{AllocError, Global};
@@ -50,6 +51,28 @@ fn target_of<'m, 'a>(
     }
 }
 
+// The most bytes of a name that are shown.
+const LONGEST_NAME: usize = 160;
+
+// Returns the first of these bytes, at most 160.
+fn first_bytes<'n>(bytes: &'n [u8]) -> &'n [u8]
+    ensures { result.now ≡ take 160 bytes.entry.now }
+{
+    if bytes.len() < LONGEST_NAME {
+        bytes
+    } else {
+        &bytes[..LONGEST_NAME]
+    }
+}
+
+/// Appends a name as it is shown in a message; of a long one the first 160 bytes, and `...`.
+pub fn push_short_name(out: &mut Vec<u8>, name: &str) -> Result<(), AllocError>
+    ensures { OnOk result (out.new.items ≡ out.old.items ++ short_name name.now) }
+{
+    out.extend_from_slice(first_bytes(name.as_bytes()))?;
+    push_text(out, if name.len() > LONGEST_NAME { "..." } else { "" })
+}
+
 // Returns the names of a source, a permission and a target, separated by blanks.
 fn example_text(
     alloc: Global,
@@ -60,11 +83,11 @@ fn example_text(
     ensures { IfOk result (λ text. text.items ≡ example_text source.now.name perm.now target.now.name) }
 {
     let mut out = Vec::new(alloc);
-    push_text(&mut out, source.name.as_str())?;
+    push_short_name(&mut out, source.name.as_str())?;
     push_text(&mut out, " ")?;
     push_text(&mut out, perm)?;
     push_text(&mut out, " ")?;
-    push_text(&mut out, target.name.as_str())?;
+    push_short_name(&mut out, target.name.as_str())?;
     Ok(out)
 }
 

@@ -4,18 +4,20 @@ ghost use Rattle.gt_policy.specs.Shown.{fault_shown, kind_shown, out_of_memory};
 ghost use Rattle.gt_policy.specs.declared.fault.TokenFault.{TokenFault};
 ghost use Rattle.gt_neverallow.specs.Reading.{parse_fault_in, fault_kind};
 
+use gt_findings::Finding;
 use gt_policy::{PolicyFault, PolicyFaultKind, TextPiece};
 use std::alloc::{AllocError, Global};
 
 /// The reason that a policy was not compared with `neverallow` statements.
-#[derive(Debug, Drop)]
+#[derive(Drop)]
 pub enum NeverFault {
     /// The first fault of the policy; its kind is `Memory` if an allocation failed.
     Policy(PolicyFault),
     /// The first fault of the `neverallow` statements; its kind is `Memory` if an allocation failed.
     Statements(PolicyFault),
-    /// No `neverallow` statement forbids permissions of class `grant`. It has the line of the first one, or 1.
-    ForbidsNothing(u32),
+    /// No `neverallow` statement forbids permissions of class `grant`. It has the line of the first one, or 1, and a
+    /// finding for each word of the statements that nothing knows.
+    ForbidsNothing { line: u32, words: Vec<Finding> },
 }
 
 /// The kind of a fault at a token.
@@ -46,7 +48,8 @@ impl<'a> From<AllocError> for ParseError<'a> {
     }
 }
 
-fn memory() -> PolicyFault
+/// Returns the fault of a failed allocation.
+pub(crate) fn memory() -> PolicyFault
     ensures { result ≡ out_of_memory }
 {
     PolicyFault {

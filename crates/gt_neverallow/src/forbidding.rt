@@ -8,7 +8,7 @@ ghost use Rattle.gt_neverallow.specs.Breaking.{forbids_source, forbids_target};
 
 use crate::statement::{Forbidden, NeverStatement, TypeChoice};
 use gt_policy::Permissions;
-use gt_policy_check::{Member, has_grant, has_self, holds, is_same, lists};
+use gt_policy_statements::{Member, has_grant, has_self, holds, is_same, lists};
 use gt_types::Perms;
 
 /// Returns whether a choice of types has the type.

@@ -8,10 +8,10 @@
 //! It is proved that the pairs are exactly those for which some source, target and permission are granted by the one
 //! and forbidden by the other, and that the example of a pair is such a source, permission and target. The pairs have
 //! the order of the policy. An error is the first fault of the policy or of the other text, or that the other text
-//! forbids no permission of class `grant`.
+//! forbids no permission of class `grant`, with the findings of the words in it that nothing knows.
 //!
-//! It uses `gt_policy` and `gt_policy_text` (statements and tokens), `gt_policy_check` (types, what a statement grants,
-//! findings), `gt_types` (permissions) and `gt_text` (text).
+//! It uses `gt_policy` and `gt_policy_text` (statements and tokens), `gt_policy_statements` (types, what a statement
+//! grants), `gt_findings` (findings), `gt_types` (permissions) and `gt_text` (text).
 #![tactic(auto)]
 
 mod breaking;
@@ -26,6 +26,7 @@ mod statement;
 mod words;
 
 pub use breaking::{Breach, breaches_of};
+pub use example::push_short_name;
 pub use fault::NeverFault;
 pub use forbidding::is_chosen;
 pub use printing::{LinedTexts, push_breaches};

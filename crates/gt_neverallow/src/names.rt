@@ -7,7 +7,7 @@ ghost use Rattle.gt_neverallow.specs.Naming.{undeclared as first_undeclared};
 
 use crate::statement::{NeverStatement, TypeChoice};
 use gt_policy::{LinedStatement, Mention, SetElement, Statement, TextPiece};
-use gt_policy_check::is_same;
+use gt_policy_statements::is_same;
 
 // Returns whether a statement declares the name.
 fn declares(statement: &Statement, name: &TextPiece) -> bool

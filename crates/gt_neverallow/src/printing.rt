@@ -1,12 +1,12 @@
 //! Prints breaches of `neverallow` statements: each as an error at the allow statement, with a note at the `neverallow`
 //! statement.
 ghost use Rattle.std.specs.Prelude.{ℕ, List, codes, IfOk, OnOk};
-ghost use Rattle.gt_policy_check.specs.LineWords.{AreWordColumns};
-ghost use Rattle.gt_policy_check.specs.Report.{AddsText};
+ghost use Rattle.gt_findings.specs.LineWords.{AreWordColumns};
+ghost use Rattle.gt_findings.specs.Report.{AddsText};
 ghost use Rattle.gt_neverallow.specs.Printing.{HaveColumns, HaveLines, IsBreachError, IsBreachNote, IsBreachReport, IsBreachText};
 
 use crate::breaking::Breach;
-use gt_policy_check::{
+use gt_findings::{
     Finding, FindingKind, LinedText, ReportForm, WordColumns, push_finding, word_columns,
 };
 use gt_text::push_text;

@@ -3,18 +3,19 @@ ghost use Rattle.std.specs.Prelude.{◌≡◌, ◌≤◌, length, IfOk, IfErr, I
 ghost use Rattle.gt_policy.specs.Shown.{fault_shown, out_of_memory};
 ghost use Rattle.gt_policy.specs.declared.fault.TokenFault.{TokenFault};
 ghost use Rattle.gt_policy_text.specs.Lexing.{lexemes_of};
-ghost use Rattle.gt_neverallow.specs.Breaking.{IsNeverFault, ReadsTexts};
+ghost use Rattle.gt_neverallow.specs.Breaking.{IsNeverFault, IsNothingForbidden, ReadsTexts};
 ghost use Rattle.gt_neverallow.specs.Naming.{ReadsAsNever, named_with, mentions_of, undeclared};
 ghost use Rattle.gt_neverallow.specs.Reading.{ReadsTo};
 ghost use Rattle.std.specs.List.{flat_map};
 
-use crate::fault::{NeverFault, ParseError, TokenKind, fault_of};
+use crate::fault::{NeverFault, ParseError, TokenKind, fault_of, memory};
 use crate::forbidding::{first_line, some_forbids};
 use crate::names::undeclared;
 use crate::parser::statements;
 use crate::statement::NeverStatement;
+use crate::words::unknown_words;
 use gt_policy::{Items, LinedStatement, PolicyFault, PolicyFaultKind};
-use gt_policy_check::read_policy;
+use gt_policy_statements::read_policy;
 use gt_policy_text::Lexer;
 use gt_types::LONGEST_TEXT;
 use std::alloc::Global;
@@ -92,6 +93,19 @@ fn read_nevers<'a>(
     }
 }
 
+// Returns the fault of statements that forbid no permissions of class `grant` and no flows. The text has the statements.
+fn nothing_forbidden(alloc: Global, text: &str, nevers: &[NeverStatement]) -> NeverFault
+    ensures { IsNothingForbidden text.now nevers.now result }
+{
+    match unknown_words(alloc, text, nevers) {
+        Ok(words) => NeverFault::ForbidsNothing {
+            line: first_line(nevers),
+            words,
+        },
+        Err(_) => NeverFault::Statements(memory()),
+    }
+}
+
 /// Returns the statements of a policy and of a text of `neverallow` and `neverflow` statements. The names in these are
 /// those of the policy.
 ///
@@ -117,6 +131,6 @@ pub fn read_texts<'p, 'n>(
     if some_forbids(nevers.as_slice()) {
         Ok(ReadTexts { policy, nevers })
     } else {
-        Err(NeverFault::ForbidsNothing(first_line(nevers.as_slice())))
+        Err(nothing_forbidden(alloc, never, nevers.as_slice()))
     }
 }

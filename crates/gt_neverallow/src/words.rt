@@ -1,13 +1,15 @@
 //! The words of `neverallow` statements that nothing knows.
 ghost use Rattle.std.specs.Prelude.{◌≡◌, ◌++◌, IfOk, OnOk};
 ghost use Rattle.std.specs.List.{flat_map};
-ghost use Rattle.gt_policy_check.specs.Check.{KeepsColumns, error_lines};
-ghost use Rattle.gt_policy_check.specs.LineWords.{IsLineWords};
-ghost use Rattle.gt_policy_check.specs.Words.{class_lines, unknown_line};
+ghost use Rattle.gt_findings.specs.Findings.{KeepsColumns, error_lines};
+ghost use Rattle.gt_findings.specs.LineWords.{IsLineWords};
+ghost use Rattle.gt_findings.specs.Findings.{class_lines};
+ghost use Rattle.gt_policy_words.specs.Words.{unknown_line};
 ghost use Rattle.gt_neverallow.specs.Breaking.{AreUnknown, classes_in};
 
 use crate::statement::{Forbidden, NeverStatement};
-use gt_policy_check::{Finding, LineWords, line_starts, line_words, push_unknown_words};
+use gt_findings::{Finding, LineWords, line_starts, line_words};
+use gt_policy_words::push_unknown_words;
 use std::alloc::{AllocError, Global};
 
 // Adds the findings of the words of a statement, which is on the line of these words.

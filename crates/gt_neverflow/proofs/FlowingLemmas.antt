@@ -12,8 +12,8 @@ use Rattle.gt_flow.specs.Flow.{FlowPolicy}
 use Rattle.gt_policy.specs.Allowing.{Allowed, Meaning}
 use Rattle.gt_policy.specs.Kept.{KeptPolicy, PolicyShows, may_of}
 use Rattle.gt_policy.specs.declared.lined.LinedStatement.{LinedStatement}
-use Rattle.gt_policy_check.specs.Members.{members_of}
-use Rattle.gt_policy_check.specs.declared.members.Member.{Member}
+use Rattle.gt_policy_statements.specs.Members.{members_of}
+use Rattle.gt_policy_statements.specs.declared.members.Member.{Member}
 use Rattle.gt_policy_flow.specs.Flows.{AreAmong}
 use Rattle.gt_policy_flow.specs.Paths.{HasPath}
 use Rattle.gt_neverflow.specs.Flowing.{AddsFlows, AreFlowBreaches, FlowsFound, ForbiddenFlow, flow_by, flow_from}

@@ -1,8 +1,8 @@
 -- What is printed of a breach of a neverflow statement, and of all that was found.
 use Rattle.std.proofs.Common.{◌≡◌, ℕ, List, [], ◌∷◌, ◌++◌, refl, ap, subst, ◌∙◌, append_assoc}
-use Rattle.gt_policy_check.specs.Report.{AddsText, IsReport}
-use Rattle.gt_policy_check.specs.declared.findings.Finding.{Finding}
-use Rattle.gt_policy_check.specs.declared.report.ReportForm.{ReportForm}
+use Rattle.gt_findings.specs.Report.{AddsText, IsReport}
+use Rattle.gt_findings.specs.declared.findings.Finding.{Finding}
+use Rattle.gt_findings.specs.declared.report.ReportForm.{ReportForm}
 use Rattle.gt_neverallow.specs.Printing.{IsBreachReport}
 use Rattle.gt_neverallow.specs.declared.breaking.Breach.{Breach}
 use Rattle.gt_neverflow.specs.Printing.{IsFlowBreachReport, IsFlowError, IsFlowText, IsNeverReport}

@@ -6,13 +6,13 @@ use Rattle.gt_types.specs.declared.TypeId.{TypeId}
 use Rattle.gt_flow.specs.Flow.{FlowPolicy}
 use Rattle.gt_policy.specs.Allowing.{Meaning}
 use Rattle.gt_policy.specs.declared.lined.LinedStatement.{LinedStatement}
-use Rattle.gt_policy_check.specs.Members.{members_of}
-use Rattle.gt_policy_check.specs.declared.members.Member.{Member}
+use Rattle.gt_policy_statements.specs.Members.{members_of}
+use Rattle.gt_policy_statements.specs.declared.members.Member.{Member}
 use Rattle.gt_policy_flow.specs.Asking.{relation_of}
 use Rattle.gt_policy_flow.specs.Flows.{is_among}
 use Rattle.gt_policy_flow.specs.Paths.{HasPath}
 use Rattle.gt_policy_flow.specs.Steps.{type_name_in}
-use Rattle.gt_neverallow.specs.Breaking.{chosen_by}
+use Rattle.gt_neverallow.specs.Breaking.{chosen_by, short_name}
 use Rattle.gt_neverallow.specs.declared.statement.Forbidden.{Forbidden}
 use Rattle.gt_neverallow.specs.declared.statement.Forbidden.TheVariants.{Flow, Grants}
 use Rattle.gt_neverallow.specs.declared.statement.NeverStatement.{NeverStatement}
@@ -66,10 +66,10 @@ flows_of members ns targets source = flat_map (flows_by members targets source) 
 abbrev pub forbidden_flows : List Member → List NeverStatement → List TypeId → List ForbiddenFlow
 forbidden_flows members ns types = flat_map (flows_of members ns types) types
 
--- the names of the types of a path
+-- the names of the types of a path, as messages show them
 abbrev pub names_on : List Member → TypeId → List TypeId → List ℕ
-names_on members x [] = type_name_in members x
-names_on members x (y ∷ path) = type_name_in members x ++ codes " -> " ++ names_on members y path
+names_on members x [] = short_name (type_name_in members x)
+names_on members x (y ∷ path) = short_name (type_name_in members x) ++ codes " -> " ++ names_on members y path
 
 -- no type is trusted
 abbrev pub nobody : TypeId → Bool

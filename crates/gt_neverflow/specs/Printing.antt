@@ -1,10 +1,10 @@
 -- What is printed of all that was found.
 use Rattle.std.specs.Prelude.{◌≡◌, ℕ, List, [], ◌∷◌, ◌++◌, codes}
-use Rattle.gt_policy_check.specs.Columns.{IsColumnOf}
-use Rattle.gt_policy_check.specs.Report.{IsTextOfAll, IsReport}
-use Rattle.gt_policy_check.specs.declared.findings.Finding.{Finding}
-use Rattle.gt_policy_check.specs.declared.findings.FindingKind.TheVariants.{Fault}
-use Rattle.gt_policy_check.specs.declared.report.ReportForm.{ReportForm}
+use Rattle.gt_findings.specs.Columns.{IsColumnOf}
+use Rattle.gt_findings.specs.Report.{IsTextOfAll, IsReport}
+use Rattle.gt_findings.specs.declared.findings.Finding.{Finding}
+use Rattle.gt_findings.specs.declared.findings.FindingKind.TheVariants.{Fault}
+use Rattle.gt_findings.specs.declared.report.ReportForm.{ReportForm}
 use Rattle.gt_neverallow.specs.Printing.{IsBreachReport}
 use Rattle.gt_neverflow.specs.declared.flowing.FlowBreach.{FlowBreach}
 use Rattle.gt_neverflow.specs.declared.finding.NeverFindings.{NeverFindings}

@@ -4,9 +4,9 @@ ghost use Rattle.gt_neverallow.specs.Breaking.{AreBroken, AreUnknown, IsNeverFau
 ghost use Rattle.gt_neverflow.specs.Finding.{AreBreaches};
 
 use crate::flowing::{FlowBreach, flow_breaches};
+use gt_findings::Finding;
 use gt_neverallow::{Breach, NeverFault, NeverStatement, breaches_of, read_texts, unknown_words};
 use gt_policy::{LinedStatement, PolicyFault, PolicyFaultKind};
-use gt_policy_check::Finding;
 use std::alloc::{AllocError, Global};
 
 /// What was found in `neverallow` and `neverflow` statements and by them.

@@ -13,10 +13,10 @@ ghost use Rattle.gt_neverflow.specs.Flowing.{flows_by, flows_of, flows_to, forbi
 ghost use Rattle.gt_neverflow.specs.Flowing.{names_on, nobody, types_numbered};
 
 use gt_allow::AllowTable;
-use gt_neverallow::{Forbidden, NeverStatement, TypeChoice, is_chosen};
+use gt_neverallow::{Forbidden, NeverStatement, TypeChoice, is_chosen, push_short_name};
 use gt_policy::{LinedStatement, Policy, PolicyFault, PolicyFaultKind};
-use gt_policy_check::{Member, members_of};
 use gt_policy_flow::{ReachedTypes, name_in, search};
+use gt_policy_statements::{Member, members_of};
 use gt_text::push_text;
 use gt_types::{Allows, Memory, TypeId};
 use std::alloc::{AllocError, Global};
@@ -26,7 +26,8 @@ use std::alloc::{AllocError, Global};
 pub struct FlowBreach {
     /// The line of the `neverflow` statement in the other text.
     pub forbidden: u32,
-    /// The names of the types on a shortest path with ` -> ` between them. The first is the type with the bytes.
+    /// The names of the types on a shortest path with ` -> ` between them, as messages show them. The first is the type
+    /// with the bytes.
     pub path: Vec<u8>,
 }
 
@@ -104,9 +105,9 @@ fn push_names(
     ensures { OnOk result (out.new.items ≡ out.old.items ++ names_on members.now from path.now) }
 {
     match path {
-        [] => push_text(out, name_in(members, from)),
+        [] => push_short_name(out, name_in(members, from)),
         [next, rest @ ..] => {
-            push_text(out, name_in(members, from))?;
+            push_short_name(out, name_in(members, from))?;
             push_text(out, " -> ")?;
             push_names(out, members, *next, rest)
         }

@@ -9,8 +9,8 @@
 //! Each is printed once, in their order.
 //!
 //! It uses `gt_neverallow` (the statements, their faults, and the breaches of `neverallow` statements), `gt_policy_flow`
-//! and `gt_flow` (paths), `gt_policy` and `gt_allow` (the policy and its table), `gt_policy_check` (types, findings),
-//! `gt_types` and `gt_text` (text).
+//! and `gt_flow` (paths), `gt_policy` and `gt_allow` (the policy and its table), `gt_policy_statements` (types),
+//! `gt_findings` (findings), `gt_types` and `gt_text` (text).
 #![tactic(auto)]
 
 mod finding;

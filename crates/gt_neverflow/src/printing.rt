@@ -1,17 +1,18 @@
 //! Prints all that was found: unknown words, breaches of `neverallow` statements, and then breaches of `neverflow`
 //! statements, each as an error at that statement.
-ghost use Rattle.std.specs.Prelude.{IfOk, OnOk};
-ghost use Rattle.gt_policy_check.specs.Columns.{AreStarts};
-ghost use Rattle.gt_policy_check.specs.Report.{AddsText};
+ghost use Rattle.std.specs.Prelude.{ℕ, List, codes, IfOk, OnOk};
+ghost use Rattle.gt_findings.specs.Columns.{AreStarts};
+ghost use Rattle.gt_findings.specs.LineWords.{AreWordColumns};
+ghost use Rattle.gt_findings.specs.Report.{AddsText};
 ghost use Rattle.gt_neverflow.specs.Printing.{IsFlowBreachReport, IsFlowError, IsFlowText, IsNeverReport};
 
 use crate::finding::NeverFindings;
 use crate::flowing::FlowBreach;
-use gt_neverallow::{LinedTexts, push_breaches};
-use gt_policy_check::{
-    Finding, FindingKind, LinedText, ReportForm, column_on, line_starts, push_finding,
-    push_findings,
+use gt_findings::{
+    Finding, FindingKind, LinedText, ReportForm, WordColumns, line_starts, push_finding,
+    push_findings, word_columns,
 };
+use gt_neverallow::{LinedTexts, push_breaches};
 use gt_text::push_text;
 use std::alloc::{AllocError, Global};
 
@@ -24,25 +25,23 @@ pub struct BrokenTexts<'t> {
     pub never: &'t str,
 }
 
-// Makes the error at a `neverflow` statement.
+// Makes the error at a `neverflow` statement, for a text with these columns of `neverflow`.
 fn flow_error_of(
     alloc: Global,
-    never: LinedText,
+    flows: &WordColumns,
     breach: &FlowBreach,
 ) -> Result<Finding, AllocError>
-    requires { AreStarts never.text.now never.lines.now.starts.items }
-    ensures { IfOk result (λ x. IsFlowError never.entry.text.now breach.now x) }
+    ensures { (text : List ℕ) → AreWordColumns text (codes "neverflow") flows.now.columns.items
+        → IfOk result (λ x. IsFlowError text breach.now x) }
 {
+    let column = flows.on_line(breach.forbidden);
     let mut message = Vec::new(alloc);
     push_text(&mut message, "the policy lets bytes flow ")?;
     message.extend_from_slice(breach.path.as_slice())?;
     push_text(&mut message, ", which this statement forbids")?;
-    let kind = FindingKind::Fault;
-    let line = breach.forbidden;
-    let column = column_on(alloc, never, line, "neverflow")?;
     Ok(Finding {
-        kind,
-        line,
+        kind: FindingKind::Fault,
+        line: breach.forbidden,
         column,
         message,
     })
@@ -55,13 +54,15 @@ fn push_flow_breach(
     form: ReportForm,
     file: &str,
     never: LinedText,
+    flows: &WordColumns,
     breach: &FlowBreach,
 ) -> Result<(), AllocError>
-    requires { AreStarts never.text.now never.lines.now.starts.items }
+    requires lines { AreStarts never.text.now never.lines.now.starts.items }
+    requires columns { AreWordColumns never.text.now (codes "neverflow") flows.now.columns.items }
     ensures { OnOk result (AddsText (IsFlowText form file.now never.entry.text.now breach.now)
         out.old.items out.new.items) }
 {
-    let error = flow_error_of(alloc, never, breach)?;
+    let error = flow_error_of(alloc, flows, breach)?;
     push_finding(out, form, file, never, &error)
 }
 
@@ -78,8 +79,9 @@ fn push_flow_breaches(
     ensures { OnOk result (AddsText (IsFlowBreachReport form file.now never.entry.text.now found.now)
         out.old.items out.new.items) }
 {
+    let flows = word_columns(alloc, never.text.as_bytes(), never.lines, "neverflow")?;
     'found: for breach in found {
-        push_flow_breach(alloc, out, form, file, never, breach)?;
+        push_flow_breach(alloc, out, form, file, never, &flows, breach)?;
     }
     Ok(())
 }

@@ -1,6 +1,6 @@
 -- Which statements allow nothing.
 use Rattle.std.proofs.Common.{◌≡◌, ℕ, Bool, true, false, ◌&&◌, not, List, [], ◌∷◌, ◌++◌, map, None, refl, sym, ap, ap₂}
-use Rattle.std.proofs.Common.{◌∙◌, ◌+◌, ◌<◌, get_or, length, take}
+use Rattle.std.proofs.Common.{◌∙◌}
 use Rattle.std.specs.Prelude.{if◌then◌else◌, filter, is_some, Some, Err, All}
 use Rattle.std.specs.List.{flat_map, list_any}
 use Rattle.gt_types.specs.Names.{every_permission, permission_name}
@@ -17,24 +17,18 @@ use Rattle.gt_policy.specs.declared.lined.LinedStatement.{LinedStatement}
 use Rattle.gt_policy.specs.declared.statements.Statement.{Statement}
 use Rattle.gt_policy.specs.declared.statements.Statement.TheVariants.{DeclareType, DeclareAttribute, GiveAttributes}
 use Rattle.gt_policy.specs.declared.statements.Statement.TheVariants.{Allow}
-use Rattle.gt_policy_check.specs.declared.findings.Finding.{Finding}
-use Rattle.gt_policy_check.specs.Check.{is_useless_with, allows_nothing, useless_line, is_error, is_of_nothing, is_of_repeat, line_if}
-use Rattle.gt_policy_check.specs.Check.{error_lines, nothing_lines, repeat_lines, Quiet, AddsUseless, HasColumn, HasFaultColumn, Judges, faulty}
+use Rattle.gt_findings.specs.declared.findings.Finding.{Finding}
+use Rattle.gt_policy_check.specs.Check.{is_useless_with, allows_nothing, useless_line}
+use Rattle.gt_findings.specs.Findings.{HasColumn, error_lines}
+use Rattle.gt_policy_check.specs.Check.{HasFaultColumn, Judges, faulty}
 use Rattle.gt_policy_check.specs.Check.{grants_something, grants_with, grants_no_more, no_more_with, repeats, repeats_with}
 use Rattle.gt_policy_check.specs.Check.{repeated_with, lines_repeated}
-use Rattle.std.proofs.lemmas.List.{append-nil, flat_map_more, take_more}
-use Rattle.std.proofs.lemmas.List.Concat.{flat_map-append}
-use Rattle.gt_policy_check.specs.Granting.{exceeds_on, exceeds_some, gives_one, gives_some, gives_source, reaches_by}
-use Rattle.gt_policy_check.specs.Members.{membership_of, members_of}
-use Rattle.gt_policy_check.specs.Why.{is_meant}
-use Rattle.gt_policy_check.specs.Why.{types_asked}
-use Rattle.gt_policy_check.specs.Words.{class_line, class_lines}
-use Rattle.gt_policy_check.proofs.GrantLemmas.{any_and, any_asked, any_never, any_same, by_names, gives_named}
-
--- all types are asked for
-pub filter_all : (ss : List Statement) (ts : List (List ℕ)) → filter (is_meant ss None) ts ≡ ts
-filter_all ss [] = refl
-filter_all ss (t ∷ ts) = ap (λ (l : List (List ℕ)). t ∷ l) (filter_all ss ts)
+use Rattle.gt_policy_statements.specs.Granting.{exceeds_on, exceeds_some, gives_one, gives_some, gives_source, reaches_by}
+use Rattle.gt_policy_statements.specs.Members.{membership_of, members_of}
+use Rattle.gt_policy_statements.specs.Why.{is_meant}
+use Rattle.gt_policy_statements.specs.Why.{types_asked}
+use Rattle.gt_policy_statements.proofs.GrantLemmas.{any_and, any_asked, any_never, any_same, by_names, filter_all}
+use Rattle.gt_policy_statements.proofs.GrantLemmas.{gives_named}
 
 -- a statement grants a permission to some type on some type
 gives_any_type : (xs : List LinedStatement) (w : List ℕ) (x : Statement) → gives_some w (members_of xs None) (members_of xs None) x
@@ -64,66 +58,6 @@ useless_lines all (x ∷ xs) =
     ap (λ (l : List ℕ). useless_line (members_of all None) x ++ l) (useless_lines all xs)
     ∙ ap (λ (b : Bool). (if b then x.line ∷ [] else []) ++ map (λ y. y.line) (filter (λ y. allows_nothing all y.statement) xs)) (useless_same all x.statement)
     ∙ one_line x (allows_nothing all x.statement) (filter (λ y. allows_nothing all y.statement) xs)
-
--- one finding more
-lines_more : (f : Finding → List ℕ) (old new : List Finding) (x : Finding) → new ≡ old ++ x ∷ [] → flat_map f new ≡ flat_map f old ++ f x
-lines_more f old new x is = ap (λ (l : List Finding). flat_map f l) is ∙ flat_map-append f old (x ∷ []) ∙ ap (λ (l : List ℕ). flat_map f old ++ l) (append-nil (f x))
-
-no_line : (b : Bool) (n : ℕ) → b ≡ false → (if b then n ∷ [] else []) ≡ []
-no_line b n e = rw e refl
-
-nothing_more : (old new added : List ℕ) → new ≡ old ++ added → added ≡ [] → new ≡ old
-nothing_more old new added e none = e ∙ ap (λ (l : List ℕ). old ++ l) none ∙ append-nil old
-
-pub class_push : (old new : List Finding) (x : Finding) → new ≡ old ++ x ∷ [] → class_lines new ≡ class_lines old ++ class_line x.kind x.line
-class_push old new x is = lines_more (λ y. class_line y.kind y.line) old new x is
-
-module _ (old new : List Finding) (x : Finding) (is : new ≡ old ++ x ∷ []) where
-  no_error_more : is_error x.kind ≡ false → error_lines new ≡ error_lines old
-  no_error_more fine =
-      nothing_more (error_lines old) (error_lines new) (if is_error x.kind then x.line ∷ [] else []) (lines_more (λ y. if is_error y.kind then y.line ∷ [] else []) old new x is) (no_line (is_error x.kind) x.line fine)
-
-  no_statement_more : is_of_nothing x.kind ≡ false → nothing_lines new ≡ nothing_lines old
-  no_statement_more quiet =
-      nothing_more (nothing_lines old) (nothing_lines new) (if is_of_nothing x.kind then x.line ∷ [] else []) (lines_more (λ y. if is_of_nothing y.kind then y.line ∷ [] else []) old new x is) (no_line (is_of_nothing x.kind) x.line quiet)
-
-  no_repeat_more : is_of_repeat x.kind ≡ false → repeat_lines new ≡ repeat_lines old
-  no_repeat_more quiet =
-      nothing_more (repeat_lines old) (repeat_lines new) (if is_of_repeat x.kind then x.line ∷ [] else []) (lines_more (λ y. if is_of_repeat y.kind then y.line ∷ [] else []) old new x is) (no_line (is_of_repeat x.kind) x.line quiet)
-
-pub quiet_push : (old new : List Finding) (x : Finding) → is_error x.kind ≡ false → is_of_nothing x.kind ≡ false → is_of_repeat x.kind ≡ false → new ≡ old ++ x ∷ [] → Quiet old new
-quiet_push old new x fine nothing repeat is = (no_error_more old new x is fine, no_statement_more old new x is nothing, no_repeat_more old new x is repeat)
-
-pub statement_push : (old new : List Finding) (x : Finding) → is_error x.kind ≡ false → new ≡ old ++ x ∷ []
-    → AddsUseless old new (line_if (is_of_nothing x.kind) x.line) (line_if (is_of_repeat x.kind) x.line)
-statement_push old new x fine is = (
-  no_error_more old new x is fine,
-  lines_more (λ y. line_if (is_of_nothing y.kind) y.line) old new x is,
-  lines_more (λ y. line_if (is_of_repeat y.kind) y.line) old new x is,
-)
-
--- no line was added
-pub adds_quietly : (old new : List Finding) → AddsUseless old new [] [] → Quiet old new
-adds_quietly old new (errors, nothing, repeated) =
-    (errors, nothing ∙ append-nil (nothing_lines old), repeated ∙ append-nil (repeat_lines old))
-
--- a statement that repeats another, and then a note
-pub repeat_then_note : (a b c : List Finding) (repeated : List ℕ) → AddsUseless a b [] repeated → Quiet b c → AddsUseless a c [] repeated
-repeat_then_note a b c repeated t q = (q.0 ∙ t.0, q.1 ∙ t.1, q.2 ∙ t.2)
-
-one_then_none : (a b c l : List ℕ) → b ≡ a ++ l → c ≡ b ++ [] → c ≡ a ++ l
-one_then_none a b c l p q = q ∙ append-nil b ∙ p
-
-none_then_one : (a b c l : List ℕ) → b ≡ a ++ [] → c ≡ b ++ l → c ≡ a ++ l
-none_then_one a b c l p q = q ∙ ap (λ (x : List ℕ). x ++ l) (p ∙ append-nil a)
-
--- nothing more, then what a statement has useless, and then nothing more
-pub tells_all : (a b c d e : List Finding) (nothing repeated : List ℕ) → Quiet a b → AddsUseless b c nothing [] → AddsUseless c d [] repeated → Quiet d e → AddsUseless a e nothing repeated
-tells_all a b c d e nothing repeated q n r m = (
-  m.0 ∙ r.0 ∙ n.0 ∙ q.0,
-  m.1 ∙ one_then_none (nothing_lines a) (nothing_lines c) (nothing_lines d) nothing (n.1 ∙ ap (λ (l : List ℕ). l ++ nothing) q.1) r.1,
-  m.2 ∙ none_then_one (repeat_lines a) (repeat_lines c) (repeat_lines d) repeated (n.2 ∙ ap (λ (l : List ℕ). l ++ []) q.2) r.2,
-)
 
 -- ---- statements that repeat another
 
@@ -208,9 +142,3 @@ is_shown line (policy_fault_kinds.Twice name) other = refl
 is_shown line (policy_fault_kinds.Permission name) other = refl
 is_shown line (policy_fault_kinds.Outside word) other = refl
 is_shown line policy_fault_kinds.Limit other = refl
-
--- the text of one more item is appended
-pub appended-more : {X : Type 0} (f : X → List ℕ) (xs : List X) (i : ℕ) (x : X) (before out : List ℕ) → i < length xs → x ≡ get_or xs i x → out ≡ before ++ flat_map f (take i xs) → out ++ f x ≡ before ++ flat_map f (take (i + 1) xs)
-appended-more f xs i x before out within is so =
-    ap (λ (l : List ℕ). l ++ f x) so ∙ flat_map_more f before (take i xs) x
-    ∙ ap (λ (l : List _). before ++ flat_map f l) (ap (λ (y : _). take i xs ++ y ∷ []) is ∙ sym (take_more xs i x within))

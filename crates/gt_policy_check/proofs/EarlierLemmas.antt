@@ -18,13 +18,13 @@ use Rattle.gt_policy.specs.declared.statements.SetElement.{SetElement}
 use Rattle.gt_policy.specs.declared.statements.Statement.{Statement}
 use Rattle.gt_policy.specs.declared.statements.Statement.TheVariants.{DeclareType, DeclareAttribute, GiveAttributes, Allow}
 use Rattle.gt_policy_check.specs.Check.{exceeds_with, grants_with, no_more_with}
-use Rattle.gt_policy_check.specs.Granting.{elements_hold, exceeds_on, exceeds_some, gives_by, gives_one, gives_some}
-use Rattle.gt_policy_check.specs.Granting.{gives_source, reaches_by}
+use Rattle.gt_policy_statements.specs.Granting.{elements_hold, exceeds_on, exceeds_some, gives_by, gives_one, gives_some}
+use Rattle.gt_policy_statements.specs.Granting.{gives_source, reaches_by}
 use Rattle.gt_policy_check.specs.Earlier.{has_source, member_at, triple_grants, AreHeld, GrantsTriple}
 use Rattle.gt_policy_check.specs.Earlier.{HasNoTarget, IsPair, ReachesType, IsRepeatAt}
 use Rattle.gt_policy_check.specs.declared.earlier.Pair.{Pair}
 use Rattle.gt_policy_check.specs.declared.earlier.Triple.{Triple}
-use Rattle.gt_policy_check.specs.declared.members.Member.{Member}
+use Rattle.gt_policy_statements.specs.declared.members.Member.{Member}
 
 -- ---- tests of lists
 

@@ -16,7 +16,7 @@ use Rattle.gt_policy_check.specs.Earlier.{has_source, list_at, member_at, AddsAt
 use Rattle.gt_policy_check.specs.Earlier.{IsRepeatAt, KeepsLists, ListsEarlier}
 use Rattle.gt_policy_check.specs.declared.earlier.EarlierStatements.{EarlierStatements}
 use Rattle.gt_policy_check.specs.declared.earlier.Triple.{Triple}
-use Rattle.gt_policy_check.specs.declared.members.Member.{Member}
+use Rattle.gt_policy_statements.specs.declared.members.Member.{Member}
 use Rattle.gt_policy_check.proofs.EarlierLemmas.{grants_some, grants_too, has_its_source}
 
 -- ---- lists

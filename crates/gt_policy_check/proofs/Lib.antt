@@ -1,9 +1,5 @@
+pub mod AllowLemmas
 pub mod CheckLemmas
-pub mod ColumnLemmas
 pub mod EarlierLemmas
-pub mod GrantLemmas
-pub mod KeepLemmas
 pub mod KnownLemmas
-pub mod LineLemmas
-pub mod ReportLemmas
 pub mod WarningLemmas

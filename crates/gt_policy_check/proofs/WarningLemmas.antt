@@ -14,11 +14,13 @@ use Rattle.gt_policy.specs.declared.fault.TokenFault.{TokenFault}
 use Rattle.gt_policy.specs.declared.lined.LinedStatement.{LinedStatement}
 use Rattle.gt_policy.specs.declared.parse.PolicyFaultKind.{PolicyFaultKind}
 use Rattle.gt_policy.specs.declared.statements.Statement.TheVariants.{DeclareAttribute}
-use Rattle.gt_policy_check.specs.declared.members.Member.{Member}
-use Rattle.gt_policy_check.specs.declared.findings.Finding.{Finding}
-use Rattle.gt_policy_check.specs.Check.{allows_nothing, error_lines, lines_repeated, nothing_lines, repeat_line, repeat_lines, repeated_with}
-use Rattle.gt_policy_check.specs.Check.{useless_line, AddsUseless, HasColumn, HasFaultColumn, Judges, sound}
-use Rattle.gt_policy_check.specs.Members.{members_of}
+use Rattle.gt_policy_statements.specs.declared.members.Member.{Member}
+use Rattle.gt_findings.specs.declared.findings.Finding.{Finding}
+use Rattle.gt_policy_check.specs.Check.{allows_nothing, lines_repeated, repeat_line, repeated_with}
+use Rattle.gt_findings.specs.Findings.{error_lines, nothing_lines, repeat_lines}
+use Rattle.gt_policy_check.specs.Check.{useless_line, HasFaultColumn, Judges, sound}
+use Rattle.gt_findings.specs.Findings.{AddsUseless, HasColumn}
+use Rattle.gt_policy_statements.specs.Members.{members_of}
 use Rattle.gt_policy_check.proofs.CheckLemmas.{judged_faulty, repeated_same, useless_lines}
 
 pub nothing_of : (xs : List LinedStatement) (ms : List Member) (found : List ℕ) → ms ≡ members_of xs None → found ≡ flat_map (λ x. useless_line ms x) xs

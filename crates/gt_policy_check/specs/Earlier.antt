@@ -10,12 +10,12 @@ use Rattle.gt_policy.specs.declared.statements.SetElement.{SetElement}
 use Rattle.gt_policy.specs.declared.statements.Statement.{Statement}
 use Rattle.gt_policy.specs.declared.statements.Statement.TheVariants.{Allow}
 use Rattle.gt_policy_check.specs.Check.{grants_with, no_more_with, repeats_with}
-use Rattle.gt_policy_check.specs.Granting.{elements_hold, gives_one, reaches_by}
+use Rattle.gt_policy_statements.specs.Granting.{elements_hold, gives_one, reaches_by}
 use Rattle.gt_policy_check.specs.declared.earlier.EarlierStatements.{EarlierStatements}
 use Rattle.gt_policy_check.specs.declared.earlier.Pair.{Pair}
 use Rattle.gt_policy_check.specs.declared.earlier.Triple.{Triple}
 use Rattle.gt_policy_check.specs.declared.judging.Stated.{Stated}
-use Rattle.gt_policy_check.specs.declared.members.Member.{Member}
+use Rattle.gt_policy_statements.specs.declared.members.Member.{Member}
 
 -- the type at this index
 abbrev pub member_at : List Member → ℕ → Member

@@ -1,13 +1,5 @@
+pub mod AllowColumns
 pub mod Check
-pub mod Columns
 pub mod Earlier
-pub mod Granting
-pub mod LineWords
-pub mod Members
 pub mod Placing
-pub mod Texts
-pub mod Why
-pub mod Report
-pub mod Prelude
 pub mod Useless
-pub mod Words

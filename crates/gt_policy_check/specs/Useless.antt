@@ -8,8 +8,8 @@ use Rattle.gt_policy.specs.declared.statements.SetElement.{SetElement}
 use Rattle.gt_policy.specs.declared.statements.Statement.{Statement}
 use Rattle.gt_policy.specs.declared.statements.Statement.TheVariants.{Allow, DeclareAttribute, DeclareType}
 use Rattle.gt_policy.specs.declared.statements.Statement.TheVariants.{GiveAttributes}
-use Rattle.gt_policy_check.specs.Granting.{elements_hold}
-use Rattle.gt_policy_check.specs.declared.members.Member.{Member}
+use Rattle.gt_policy_statements.specs.Granting.{elements_hold}
+use Rattle.gt_policy_statements.specs.declared.members.Member.{Member}
 use Rattle.gt_policy_check.specs.declared.useless.UselessReason.{UselessReason}
 use Rattle.gt_policy_check.specs.declared.useless.UselessReason.TheVariants.{NoPermission, NoSource, NoTarget}
 

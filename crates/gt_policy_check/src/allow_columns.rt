@@ -1,9 +1,9 @@
 //! The columns at which allow statements begin.
 ghost use Rattle.std.specs.Prelude.{◌≡◌, ◌<◌, length, slice_index_or, IfOk, IfSome, OnOk};
-ghost use Rattle.gt_policy_check.specs.Columns.{AreStarts, AreTokens, HasWord};
-ghost use Rattle.gt_policy_check.specs.LineWords.{AreStatementColumns, IsAllowWalk};
+ghost use Rattle.gt_findings.specs.Columns.{AreStarts, AreTokens, HasWord};
+ghost use Rattle.gt_policy_check.specs.AllowColumns.{AreStatementColumns, IsAllowWalk};
 
-use crate::places::{LineStarts, LineTokens, Span, bytes_of, column_of, column_of_word, tokens_of};
+use gt_findings::{LineStarts, LineTokens, Span, bytes_of, column_of, column_of_word, tokens_of};
 use gt_policy::{LinedStatement, Statement};
 use std::alloc::{AllocError, Global};
 

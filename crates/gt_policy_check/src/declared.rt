@@ -1,5 +1,5 @@
 //! The names that a text declares, with their lines and places there.
-use crate::places::{bytes_of, tokens_in};
+use gt_findings::{bytes_of, tokens_in};
 use gt_text::text_of;
 use std::alloc::{AllocError, Global};
 

@@ -1,16 +1,14 @@
 //! Warnings about types that no statement names, and about types and statements that no domain of a script uses.
 ghost use Rattle.std.specs.Prelude.{OnOk};
-ghost use Rattle.gt_policy_check.specs.Check.{KeepsColumns, Quiet};
-ghost use Rattle.gt_policy_check.specs.Placing.{IsPlace};
+ghost use Rattle.gt_findings.specs.Findings.{KeepsColumns, Quiet};
+ghost use Rattle.gt_findings.specs.Placing.{IsPlace};
 
-use crate::adding::{Place, push_of_statement, push_of_word};
-use crate::findings::{Finding, FindingKind};
-use crate::granting::{gives_of, names_type};
-use crate::members::{Member, is_same, push_members};
-use crate::messages::{message_of, said_of};
-use crate::places::LineStarts;
 use crate::useless::allows_something;
+use gt_findings::{
+    Finding, FindingKind, LineStarts, Place, message_of, push_of_statement, push_of_word, said_of,
+};
 use gt_policy::{LinedStatement, Statement, TextPiece};
+use gt_policy_statements::{Member, gives_of, is_same, names_type, push_members};
 use std::alloc::{AllocError, Global};
 
 /// A policy that is checked: its text with where the lines begin, its statements with their columns, its types, and if it
@@ -93,7 +91,7 @@ fn unnamed_text(policy: &Judged) -> &'static str {
 }
 
 /// Warns of a type that no allow statement names, or that no domain has.
-#[tactic(auto, using(crate::proofs::KeepLemmas::keeps_same, crate::proofs::KeepLemmas::keeps_then))]
+#[tactic(auto, using(gt_findings::proofs::KeepLemmas::keeps_same, gt_findings::proofs::KeepLemmas::keeps_then))]
 pub(crate) fn warn_type(
     alloc: Global,
     found: &mut Vec<Finding>,
@@ -123,7 +121,7 @@ fn never_matters(statement: &Statement, policy: &Judged) -> bool {
 }
 
 /// Warns of a statement that allows something, but nothing to the domains of the script.
-#[tactic(auto, using(crate::proofs::CheckLemmas::adds_quietly, crate::proofs::KeepLemmas::keeps_same))]
+#[tactic(auto, using(gt_findings::proofs::FindingLemmas::adds_quietly, gt_findings::proofs::KeepLemmas::keeps_same))]
 pub(crate) fn warn_matter(
     alloc: Global,
     found: &mut Vec<Finding>,

@@ -8,16 +8,15 @@ ghost use Rattle.std.specs.List.{list_any};
 ghost use Rattle.gt_types.specs.Names.{every_permission, permission_name};
 ghost use Rattle.gt_policy.specs.Granting.{lists_word};
 ghost use Rattle.gt_policy.specs.declared.statements.Statement.TheVariants as statements;
-ghost use Rattle.gt_policy_check.specs.declared.members.Member.{Member};
-ghost use Rattle.gt_policy_check.specs.Granting.{reaches_by, elements_hold, gives_one};
+ghost use Rattle.gt_policy_statements.specs.declared.members.Member.{Member};
+ghost use Rattle.gt_policy_statements.specs.Granting.{reaches_by, elements_hold, gives_one};
 ghost use Rattle.gt_policy_check.specs.Check.{grants_with, no_more_with, repeats_with};
 ghost use Rattle.gt_policy_check.specs.Earlier.{AddsAt, AddsAtAll, AreHeld, AreSources, GrantsTriple, HasNoTarget};
 ghost use Rattle.gt_policy_check.specs.Earlier.{IsPair, IsRepeatAt, ReachesType, member_at, triple_grants};
 
-use crate::granting::{gives_source, has_grant, holds, lists, reaches};
-use crate::members::Member;
 use crate::useless::grants_no_more;
 use gt_policy::{Allowance, LinedStatement, Permissions, SetElement, Statement};
+use gt_policy_statements::{Member, gives_source, has_grant, holds, lists, reaches};
 use gt_types::Perms;
 use std::alloc::{AllocError, Global};
 
@@ -282,7 +281,7 @@ impl EarlierStatements {
     ghost use Rattle.std.specs.Prelude.{◌≡◌, ◌<◌, ◌++◌, ◌∷◌, [], List, length, is_some, IfOk, IfSome};
     ghost use Rattle.std.specs.Prelude.{MatchOption, OnOk};
     ghost use Rattle.gt_policy.specs.declared.lined.LinedStatement.{LinedStatement};
-    ghost use Rattle.gt_policy_check.specs.declared.members.Member.{Member};
+    ghost use Rattle.gt_policy_statements.specs.declared.members.Member.{Member};
     ghost use Rattle.gt_policy_check.specs.Check.{grants_with, repeats_with};
     ghost use Rattle.gt_policy_check.specs.Earlier.{AreSources, GrantsTriple, ListsEarlier, list_at};
 

@@ -1,27 +1,21 @@
 //! Explains the fault of a text: its position, and what was expected there.
 ghost use Rattle.std.specs.Prelude.{◌≡◌, None, IfOk, IfSome, OnOk};
-ghost use Rattle.gt_policy_check.specs.Columns.{AreOfLine, IsColumnOf, IsEndOf};
-ghost use Rattle.gt_policy_check.specs.Placing.{HasNoteColumn, IsOfFault};
+ghost use Rattle.gt_findings.specs.Columns.{AreOfLine, IsColumnOf, IsEndOf};
+ghost use Rattle.gt_findings.specs.Placing.{HasNoteColumn};
+ghost use Rattle.gt_policy_check.specs.Placing.{IsOfFault};
 
 use crate::declared::{Declared, declared_in};
-use crate::messages::{push_meant, push_permission_hint, push_said, said_of};
 use crate::misfits::{
     end_before, last_token, misfit, misfit_column, push_after, push_all_expected, push_stray_at,
 };
-use crate::nearest::nearest;
 use crate::outside::push_outside;
-use crate::places::{LineTokens, column_at, column_of_word, front_of, line_tokens};
+use gt_findings::{
+    FindingNote, LineTokens, column_at, column_of_word, front_of, line_tokens, nearest_name,
+    push_meant, push_permission_hint, push_said, said_of,
+};
 use gt_policy::{PolicyFault, PolicyFaultKind};
 use gt_text::{push_number, push_text};
 use std::alloc::{AllocError, Global};
-
-/// A note on an error or a warning.
-#[derive(Drop)]
-pub(crate) struct FindingNote {
-    pub line: u32,
-    pub column: u32,
-    pub message: Vec<u8>,
-}
 
 /// The explanation of a fault: its column, the message, and perhaps a note.
 #[derive(Drop)]
@@ -125,7 +119,7 @@ fn nearest_declared<'a>(
     for one in declared {
         names.push(one.name)?;
     }
-    nearest(alloc, name, names.as_slice())
+    nearest_name(alloc, name, names.as_slice())
 }
 
 // Adds a note at the declaration of the name that may be meant.

@@ -2,27 +2,29 @@
 ghost use Rattle.std.specs.Prelude.{◌≡◌, ◌+◌, ◌<◌, ◌≤◌, ◌∷◌, [], length, map, filter, slice_get, take, All, IfOk};
 ghost use Rattle.std.specs.Prelude.{ℕ, List, Some, OnOk};
 ghost use Rattle.std.specs.List.{flat_map};
-ghost use Rattle.gt_policy_check.specs.Check.{HasColumn, KeepsColumns};
+ghost use Rattle.gt_findings.specs.Findings.{HasColumn, KeepsColumns};
 ghost use Rattle.gt_policy_check.specs.Earlier.{IsStated, ListsEarlier};
 ghost use Rattle.gt_policy.specs.declared.lined.LinedStatement.{LinedStatement};
-ghost use Rattle.gt_policy_check.specs.LineWords.{AreStatementColumns, IsLineWords};
-ghost use Rattle.gt_policy_check.specs.Placing.{IsLinedPolicy, IsPlace};
-ghost use Rattle.gt_policy_check.specs.Check.{Quiet, AddsUseless, allows_nothing, error_lines, lines_repeated};
-ghost use Rattle.gt_policy_check.specs.Check.{nothing_lines, repeat_line, repeat_lines, repeated_with, useless_line};
+ghost use Rattle.gt_policy_check.specs.AllowColumns.{AreStatementColumns};
+ghost use Rattle.gt_findings.specs.LineWords.{IsLineWords};
+ghost use Rattle.gt_policy_check.specs.Placing.{IsLinedPolicy};
+ghost use Rattle.gt_findings.specs.Placing.{IsPlace};
+ghost use Rattle.gt_findings.specs.Findings.{Quiet, AddsUseless, error_lines};
+ghost use Rattle.gt_policy_check.specs.Check.{allows_nothing, lines_repeated};
+ghost use Rattle.gt_findings.specs.Findings.{nothing_lines, repeat_lines};
+ghost use Rattle.gt_policy_check.specs.Check.{repeat_line, repeated_with, useless_line};
 
-use crate::adding::{Place, push_note, push_of_statement};
 use crate::allow_columns::statement_columns;
 use crate::domains::{Judged, warn_matter, warn_type, worn_members};
 use crate::earlier::{EarlierStatements, sources_of, triple_of};
-use crate::fault::FindingNote;
-use crate::findings::{Finding, FindingKind};
-use crate::listed::warn_words;
-use crate::members::{Member, members_of};
-use crate::messages::message_of;
-use crate::places::line_starts;
 use crate::useless::{UselessReason, is_useless, reason_of};
-use crate::words::{LineWords, line_words};
+use gt_findings::{
+    Finding, FindingKind, FindingNote, LineWords, Place, line_starts, line_words, message_of,
+    push_note, push_of_statement,
+};
 use gt_policy::{LinedStatement, Statement};
+use gt_policy_statements::{Member, members_of};
+use gt_policy_words::warn_words;
 use gt_text::{push_number, push_text};
 use gt_types::Memory;
 use std::alloc::{AllocError, Global};
@@ -48,7 +50,7 @@ fn reason_text(reason: UselessReason) -> &'static str {
     }
 }
 
-#[tactic(auto, using(crate::proofs::KeepLemmas::keeps_same, crate::proofs::KeepLemmas::keeps_then))]
+#[tactic(auto, using(gt_findings::proofs::KeepLemmas::keeps_same, gt_findings::proofs::KeepLemmas::keeps_then))]
 fn warn_nothing(
     alloc: Global,
     found: &mut Vec<Finding>,
@@ -120,7 +122,7 @@ fn push_repeated(
 }
 
 // Warns of a statement that repeats an earlier one.
-#[tactic(auto, using(crate::proofs::CheckLemmas::repeat_then_note, crate::proofs::KeepLemmas::keeps_same, crate::proofs::KeepLemmas::keeps_then))]
+#[tactic(auto, using(gt_findings::proofs::FindingLemmas::repeat_then_note, gt_findings::proofs::KeepLemmas::keeps_same, gt_findings::proofs::KeepLemmas::keeps_then))]
 fn warn_repeat(
     alloc: Global,
     found: &mut Vec<Finding>,
@@ -148,7 +150,7 @@ fn warn_repeat(
 }
 
 // Warns of a statement that allows something, but nothing to the domains of the script.
-#[tactic(auto, using(crate::proofs::KeepLemmas::keeps_same))]
+#[tactic(auto, using(gt_findings::proofs::KeepLemmas::keeps_same))]
 fn warn_if_no_matter(
     alloc: Global,
     found: &mut Vec<Finding>,
@@ -168,7 +170,7 @@ fn warn_if_no_matter(
 }
 
 // Warns of useless parts of a statement.
-#[tactic(auto, using(crate::proofs::KeepLemmas::keeps_same, crate::proofs::KeepLemmas::keeps_then))]
+#[tactic(auto, using(gt_findings::proofs::KeepLemmas::keeps_same, gt_findings::proofs::KeepLemmas::keeps_then))]
 fn warn_parts(
     alloc: Global,
     found: &mut Vec<Finding>,
@@ -188,7 +190,7 @@ fn warn_parts(
 }
 
 // Warns of what is useless in a statement at this position.
-#[tactic(auto, using(crate::proofs::CheckLemmas::tells_all, crate::proofs::KeepLemmas::keeps_then))]
+#[tactic(auto, using(gt_findings::proofs::FindingLemmas::tells_all, gt_findings::proofs::KeepLemmas::keeps_then))]
 fn warn_at(
     alloc: Global,
     found: &mut Vec<Finding>,
@@ -266,7 +268,7 @@ fn warn_next<'p>(
 }
 
 // Warns of what is useless in the statements of a policy.
-#[tactic(auto, using(crate::proofs::KeepLemmas::keeps_same, crate::proofs::KeepLemmas::keeps_then))]
+#[tactic(auto, using(gt_findings::proofs::KeepLemmas::keeps_same, gt_findings::proofs::KeepLemmas::keeps_then))]
 fn warn_all(alloc: Global, policy: &Judged) -> Result<Vec<Finding>, Memory>
     requires { IsLinedPolicy policy.now }
     ensures no_error { IfOk result (λ v. error_lines v.items ≡ []) }
@@ -288,7 +290,7 @@ fn warn_all(alloc: Global, policy: &Judged) -> Result<Vec<Finding>, Memory>
 }
 
 // Adds the finding that a policy has no statement.
-#[tactic(auto, using(crate::proofs::CheckLemmas::quiet_push, crate::proofs::KeepLemmas::keeps_first))]
+#[tactic(auto, using(gt_findings::proofs::FindingLemmas::quiet_push, gt_findings::proofs::KeepLemmas::keeps_first))]
 fn push_no_statement(
     alloc: Global,
     found: &mut Vec<Finding>,
@@ -312,7 +314,7 @@ fn push_no_statement(
 }
 
 // Warns of a policy that has no statement, unless it is that of a script.
-#[tactic(auto, using(crate::proofs::KeepLemmas::keeps_same))]
+#[tactic(auto, using(gt_findings::proofs::KeepLemmas::keeps_same))]
 fn warn_empty(alloc: Global, found: &mut Vec<Finding>, policy: &Judged) -> Result<(), AllocError>
     ensures quiet { OnOk result (Quiet found.old.items found.new.items) }
     ensures columns { OnOk result (KeepsColumns policy.now.bytes.now found.old.items found.new.items) }

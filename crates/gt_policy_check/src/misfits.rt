@@ -1,12 +1,11 @@
 //! The token of a line at which a text has its first fault: its place and column, and what was expected there.
 ghost use Rattle.std.specs.Prelude.{IfOk};
-ghost use Rattle.gt_policy_check.specs.Columns.{AreOfLine, IsColumnOf, IsEndOf};
+ghost use Rattle.gt_findings.specs.Columns.{AreOfLine, IsColumnOf, IsEndOf};
 
-use crate::messages::push_quoted;
-use crate::places::{
-    LineTokens, bytes_of, column_at, column_of, column_of_word, first_column, front_of, tokens_in,
+use gt_findings::{
+    LineTokens, bytes_of, column_at, column_of, column_of_word, first_column, front_of,
+    push_quoted_word, tokens_in,
 };
-use crate::texts::push_both;
 use gt_policy::{Policy, PolicyFault, PolicyFaultKind};
 use gt_text::{push_text, text_of};
 use std::alloc::{AllocError, Global};
@@ -60,7 +59,8 @@ fn fits_so_far(alloc: Global, front: &[u8]) -> Result<bool, AllocError> {
 // Returns whether the text has no fault up to the end of `front` and a token on the next line.
 fn fits(alloc: Global, front: &[u8], token: &str) -> Result<bool, AllocError> {
     let mut bytes = Vec::from_slice(alloc, front)?;
-    push_both(&mut bytes, "\n", token)?;
+    push_text(&mut bytes, "\n")?;
+    push_text(&mut bytes, token)?;
     fits_so_far(alloc, bytes.as_slice())
 }
 
@@ -119,11 +119,9 @@ pub(crate) fn end_before(bytes: &[u8], line: &LineTokens, misfit: usize) -> (usi
 
 // Appends one of the expected things.
 fn push_expected(out: &mut Vec<u8>, shown: &str) -> Result<(), AllocError> {
-    if out.is_empty() {
-        push_both(out, "expected ", shown)
-    } else {
-        push_both(out, " or ", shown)
-    }
+    let before = if out.is_empty() { "expected " } else { " or " };
+    push_text(out, before)?;
+    push_text(out, shown)
 }
 
 /// Appends what may follow `front`.
@@ -149,7 +147,7 @@ pub(crate) fn push_after(out: &mut Vec<u8>, last: &[u8]) -> Result<(), AllocErro
         return Ok(());
     }
     push_text(out, " after ")?;
-    push_quoted(out, word)
+    push_quoted_word(out, word)
 }
 
 // Finds the last token of a line. Returns `before` if it has none.

@@ -1,5 +1,5 @@
 //! What is said of a word that begins no statement that gthost reads.
-use crate::messages::{push_hint, push_quoted};
+use gt_findings::{push_hint, push_quoted_word};
 use gt_text::push_text;
 use std::alloc::{AllocError, Global};
 
@@ -75,7 +75,7 @@ fn known_text(word: &str) -> Option<&'static str> {
 /// Appends a word and why it is outside the supported part of the language, with the first word of a statement that may
 /// be meant.
 pub(crate) fn push_outside(alloc: Global, out: &mut Vec<u8>, word: &str) -> Result<(), AllocError> {
-    push_quoted(out, word)?;
+    push_quoted_word(out, word)?;
     if let Some(text) = known_text(word) {
         return push_text(out, text);
     }

@@ -3,9 +3,8 @@ ghost use Rattle.std.specs.Prelude.{◌≡◌};
 ghost use Rattle.gt_policy_check.specs.Check.{exceeds_with, grants_with, is_useless_with, no_more_with};
 ghost use Rattle.gt_policy_check.specs.Useless.{holds_some, lists_some, IsReason, IsUselessFor};
 
-use crate::granting::{exceeds_some, gives_any_permission, has_grant, holds, lists};
-use crate::members::Member;
 use gt_policy::{Allowance, SetElement, Statement};
+use gt_policy_statements::{Member, exceeds_some, gives_any_permission, has_grant, holds, lists};
 use gt_types::Perms;
 
 /// Returns whether a statement allows some of these types something on some of them.

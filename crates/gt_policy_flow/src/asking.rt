@@ -7,7 +7,7 @@ ghost use Rattle.gt_policy.specs.Kept.{may_of};
 ghost use Rattle.gt_policy.specs.Shown.{fault_shown, out_of_memory};
 ghost use Rattle.gt_policy.specs.Whole.{ReadsAs};
 ghost use Rattle.gt_policy.specs.declared.fault.TokenFault.{TokenFault};
-ghost use Rattle.gt_policy_check.specs.Members.{is_asked, members_of};
+ghost use Rattle.gt_policy_statements.specs.Members.{is_asked, members_of};
 ghost use Rattle.gt_policy_flow.specs.Asking.{IsFlowOf, IsFlowReport, Reports, ReportsTypes, asked_at, form_of};
 ghost use Rattle.gt_policy_flow.specs.Asking.{ids_asked, names_in, trusted_by, unknown_place};
 ghost use Rattle.gt_policy_flow.specs.Flows.{AreAmong, is_among};
@@ -17,7 +17,7 @@ use crate::pairs::{PairForm, push_sources};
 use crate::steps::ReadPolicy;
 use gt_allow::AllowTable;
 use gt_policy::{LinedStatement, Policy, PolicyFault, PolicyFaultKind, statements_of};
-use gt_policy_check::{Member, has_word, members_of};
+use gt_policy_statements::{Member, has_word, members_of};
 use gt_types::{Allows, TypeId};
 use std::alloc::{AllocError, Global};
 

@@ -1,7 +1,7 @@
 //! Whether one access may bring bytes of one type to another.
 ghost use Rattle.std.specs.Prelude.{◌≡◌};
 ghost use Rattle.std.specs.List.{list_any};
-ghost use Rattle.gt_policy_flow.specs.Flows.{allowed_access, may_copy, flows, may_load, may_store, is_among};
+ghost use Rattle.gt_policy_flow.specs.Flows.{allowed_access, is_among};
 
 use gt_types::{Allows, Perms, TypeId};
 
@@ -12,27 +12,6 @@ pub enum Access {
     Load,
     Copy,
     Store,
-}
-
-// Returns whether a domain of type y may load bytes of one of type x.
-fn loads<P: Allows>(policy: &P, x: TypeId, y: TypeId) -> bool
-    ensures { result ≡ may_load (P.may policy.now) x y }
-{
-    policy.allows(y, x, Perms::MAP_READ)
-}
-
-// Returns whether bytes of a domain of type x may be copied to frames of one of type y.
-fn copies<P: Allows>(policy: &P, x: TypeId, y: TypeId) -> bool
-    ensures { result ≡ may_copy (P.may policy.now) x y }
-{
-    policy.allows(x, y, Perms::COPY)
-}
-
-// Returns whether a domain of type x may store bytes in frames of one of type y.
-fn stores<P: Allows>(policy: &P, x: TypeId, y: TypeId) -> bool
-    ensures { result ≡ may_store (P.may policy.now) x y }
-{
-    policy.allows(x, y, Perms::MAP_READ) && policy.allows(x, y, Perms::MAP_WRITE)
 }
 
 /// Returns whether a type is one of these.
@@ -57,11 +36,14 @@ pub fn access_between<P: Allows>(
 ) -> Option<Access>
     ensures { result ≡ allowed_access (P.may policy.now) is_trusted x y }
 {
-    if loads(policy, x, y) {
+    if policy.allows(y, x, Perms::MAP_READ) {
         Some(Access::Load)
-    } else if copies(policy, x, y) {
+    } else if policy.allows(x, y, Perms::COPY) {
         Some(Access::Copy)
-    } else if !is_trusted && stores(policy, x, y) {
+    } else if !is_trusted
+        && policy.allows(x, y, Perms::MAP_READ)
+        && policy.allows(x, y, Perms::MAP_WRITE)
+    {
         Some(Access::Store)
     } else {
         None

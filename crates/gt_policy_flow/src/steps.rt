@@ -7,7 +7,7 @@ ghost use Rattle.gt_policy_flow.specs.Steps.{path_line_text, path_text, permissi
 use crate::flows::{Access, access_between, is_among};
 use crate::format::{FlowFormat, push_mark, push_name};
 use gt_policy::LinedStatement;
-use gt_policy_check::{Member, gives_one};
+use gt_policy_statements::{Member, gives_one};
 use gt_text::{push_number, push_text};
 use gt_types::{Allows, Perms, TypeId};
 use std::alloc::AllocError;

@@ -4,7 +4,7 @@ use Rattle.std.specs.List.{flat_map, list_any, slice_get}
 use Rattle.gt_types.specs.Names.{every_permission}
 use Rattle.gt_types.specs.declared.TypeId.{TypeId}
 use Rattle.gt_types.specs.declared.perms.Perms.{Perms}
-use Rattle.gt_policy_check.specs.declared.members.Member.{Member}
+use Rattle.gt_policy_statements.specs.declared.members.Member.{Member}
 use Rattle.gt_policy_pairs.specs.declared.listing.TypePair.{TypePair}
 
 -- what a policy allows to a type on a type

@@ -8,8 +8,8 @@ use Rattle.gt_policy.specs.Allowing.{Meaning, is_allowed}
 use Rattle.gt_policy.specs.Lined.{IsLined}
 use Rattle.gt_policy.specs.Whole.{ReadsAs}
 use Rattle.gt_policy.specs.declared.lined.LinedStatement.{LinedStatement}
-use Rattle.gt_policy_check.specs.Members.{is_asked, members_of}
-use Rattle.gt_policy_check.specs.declared.members.Member.{Member}
+use Rattle.gt_policy_statements.specs.Members.{is_asked, members_of}
+use Rattle.gt_policy_statements.specs.declared.members.Member.{Member}
 use Rattle.gt_policy_pairs.specs.Listing.{PairPolicy, is_pair_allowed, pair_line, pairs_between}
 use Rattle.gt_policy_pairs.specs.declared.asking.PairsQuestion.{PairsQuestion}
 use Rattle.gt_policy_pairs.specs.declared.asking.PairsReport.{PairsReport}

@@ -6,13 +6,13 @@ ghost use Rattle.std.specs.Str.{bytes_eq};
 ghost use Rattle.gt_policy.specs.Shown.{fault_shown, out_of_memory};
 ghost use Rattle.gt_policy.specs.Whole.{ReadsAs};
 ghost use Rattle.gt_policy.specs.declared.fault.TokenFault.{TokenFault};
-ghost use Rattle.gt_policy_check.specs.Members.{is_asked};
+ghost use Rattle.gt_policy_statements.specs.Members.{is_asked};
 ghost use Rattle.gt_policy_pairs.specs.Pairs.{AnswersPairs, ArePairsOf, is_type_asked, types_asked_of};
 
 use crate::listing::{allowed_pairs, pairs_between, push_lines};
 use gt_allow::AllowTable;
 use gt_policy::{LinedStatement, Policy, PolicyFault, PolicyFaultKind, TextPiece, statements_of};
-use gt_policy_check::{Member, members_of};
+use gt_policy_statements::{Member, members_of};
 use gt_types::{Allows, Perms, TypeId};
 use std::alloc::{AllocError, Global};
 

@@ -7,7 +7,7 @@
 //! the source on the target, that each pair of a source and a target that are asked for has one line, and that the two
 //! numbers are those of the allowed pairs and of all pairs.
 //!
-//! It uses `gt_allow` (one look for each pair), `gt_policy_check` and `gt_policy` (types and their attributes),
+//! It uses `gt_allow` (one look for each pair), `gt_policy_statements` and `gt_policy` (types and their attributes),
 //! `gt_text` (lines) and `gt_types` (permissions, the trait of policies).
 #![tactic(auto)]
 

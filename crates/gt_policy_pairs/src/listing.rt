@@ -3,7 +3,7 @@ ghost use Rattle.std.specs.Prelude.{◌≡◌, ◌++◌, OnOk, IfOk, filter};
 ghost use Rattle.std.specs.List.{flat_map};
 ghost use Rattle.gt_policy_pairs.specs.Listing.{is_pair_allowed, pair_line, pairs_between, pairs_of, pair_type_name};
 
-use gt_policy_check::Member;
+use gt_policy_statements::Member;
 use gt_text::push_text;
 use gt_types::{Allows, Perms, TypeId};
 use std::alloc::{AllocError, Global};

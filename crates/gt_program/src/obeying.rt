@@ -13,7 +13,7 @@ use crate::following::follow;
 use clap::Error;
 use clap::error::ErrorKind;
 use gt_command_line::{
-    Mode, command_first, leading_word, mode_of, plan, with_claims, with_long_flags,
+    Mode, command_first, leading_word, mode_of, plan, refusal_text, with_claims, with_long_flags,
 };
 use gt_file_commands::{Context, Failure, Outcome, Reasons, TextSource, report};
 use gt_text::WriteFault;
@@ -60,9 +60,28 @@ fn show_help<W: Write, E: Eprint>(out: &mut W, err: &E, help: &Error) -> Outcome
     }
 }
 
-// Writes the refusal of a command line, or the help or the version that it asks for. After a failed allocation the
+// Prints the text of the refusal of these words. A failed write is not reported.
+fn print_refusal<E: Eprint>(alloc: Global, err: &E, words: &[String], error: &Error) {
+    match refusal_text(alloc, words, error) {
+        Ok(text) => {
+            let _ = err.eprint(text);
+        }
+        Err(_) => {
+            let _ = err.eprint(error);
+        }
+    }
+}
+
+// Writes the refusal of these words, or the help or the version that they ask for. After a failed allocation the
 // outcome is `failed`.
-fn refuse<W: Write, E: Eprint>(out: &mut W, err: &E, error: &Error, failed: Outcome) -> Outcome
+fn refuse<W: Write, E: Eprint>(
+    alloc: Global,
+    out: &mut W,
+    err: &E,
+    words: &[String],
+    error: &Error,
+    failed: Outcome,
+) -> Outcome
     ensures { FitsKind failed (kind_of error.now) (W.contents out.old) (W.contents out.new) result }
 {
     if error.kind() == ErrorKind::OutOfMemory {
@@ -71,7 +90,7 @@ fn refuse<W: Write, E: Eprint>(out: &mut W, err: &E, error: &Error, failed: Outc
     if !error.use_stderr() {
         return show_help(out, err, error);
     }
-    let _ = err.eprint(error);
+    print_refusal(alloc, err, words, error);
     Outcome::Unknown
 }
 
@@ -94,7 +113,7 @@ fn obey_long<R: Threads + Wait + Sync + Clock, T: TextSource, W: Write, E: Eprin
             reasons.print_all(context.err);
             outcome
         }
-        Err(error) => refuse(out, context.err, &error, failed),
+        Err(error) => refuse(context.alloc, out, context.err, words, &error, failed),
     }
 }
 

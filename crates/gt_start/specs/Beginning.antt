@@ -1,6 +1,6 @@
 -- How a run starts, and why one does not.
-use Rattle.std.specs.Prelude.{◌≡◌, ◌⊎◌, ℕ, min, Bool, nat_le, List, length, map, position, slice_get, Some, None}
-use Rattle.std.specs.Prelude.{Ok, Err}
+use Rattle.std.specs.Prelude.{◌≡◌, ◌⊎◌, ◌++◌, ℕ, min, Bool, nat_le, List, length, map, position, slice_get, Some, None}
+use Rattle.std.specs.Prelude.{Ok, Err, take, drop}
 use Rattle.std.specs.Str.{IsUtf8}
 use Rattle.gt_roster.specs.Frameless.{HasOneFrameEach, IsRunnable}
 use Rattle.gt_types.specs.Config.{IsFirstFault}
@@ -105,3 +105,20 @@ abbrev pub IsNameFault : List ℕ → List ℕ → EncodedFault → Type 0
 IsNameFault text name fault =
     IsTextFault text fault
     ⊎ ((m : Meaning) × IsPolicyMeaning text m × (type_named m.types name ≡ None) × (fault ≡ no_type))
+
+-- the buffer with as much of the name as fits at its front, and the rest as it was
+abbrev pub with_front : List ℕ → List ℕ → List ℕ
+with_front name old =
+    let fits = min (length name) (length old) in take fits name ++ drop fits old
+
+-- the type with this number in the text has a name of this length, as much of which as fits was written to the buffer
+abbrev pub IsLabelNamed : List ℕ → ℕ → ℕ → List ℕ → List ℕ → Type 0
+IsLabelNamed text label len old new =
+    (m : Meaning) × (name : List ℕ) × IsPolicyMeaning text m × (slice_get m.types label ≡ Some name)
+    × (len ≡ length name) × (new ≡ with_front name old)
+
+-- why no type of this number was found: the text has a fault, or it is a policy without a type of this number
+abbrev pub IsNoLabel : List ℕ → ℕ → EncodedFault → Type 0
+IsNoLabel text label fault =
+    IsTextFault text fault
+    ⊎ ((m : Meaning) × IsPolicyMeaning text m × (slice_get m.types label ≡ None) × (fault ≡ no_type))

@@ -1,8 +1,9 @@
 //! The start of a run.
-ghost use Rattle.std.specs.Prelude.{◌≡◌, length, IfOk, IfErr, Some};
+ghost use Rattle.std.specs.Prelude.{◌≡◌, length, IfOk, IfErr, OnErr, Some};
 ghost use Rattle.gt_policy.specs.Allowing.{Meaning, type_named};
 ghost use Rattle.gt_policy.specs.Kept.{PolicyShows};
-ghost use Rattle.gt_start.specs.Beginning.{Begins, IsFaultOf, IsNameFault, IsPolicyMeaning, IsTextFault};
+ghost use Rattle.gt_start.specs.Beginning.{Begins, IsFaultOf, IsLabelNamed, IsNameFault, IsNoLabel, IsPolicyMeaning};
+ghost use Rattle.gt_start.specs.Beginning.{IsTextFault, with_front};
 
 use crate::faults::{EncodedFault, MEMORY, NO_TYPE, TEXT, config_fault, policy_fault};
 use crate::settings::{DomainSettings, configured, label_past};
@@ -76,6 +77,45 @@ pub fn type_of(alloc: Global, policy: &[u8], name: &[u8]) -> Result<TypeId, Enco
     };
     match policy.type_spelled(name) {
         Some(id) => Ok(id),
+        None => Err(NO_TYPE),
+    }
+}
+
+// Writes as much of a name as fits to the front of a buffer, and leaves the rest of the buffer as it is.
+fn write_front(name: &[u8], buffer: &mut [u8])
+    ensures { buffer.new ≡ with_front name.now buffer.old }
+{
+    let count = name.len().min(buffer.len());
+    buffer[..count].copy_from_slice(&name[..count]);
+}
+
+/// Writes the name of the type with this number in a policy's text to the front of `buffer`, as much of it as fits, and
+/// returns the length of the name. So a buffer that is longer than that has all of it.
+///
+/// # Errors
+/// The first fault of the text; or that it declares no type of this number; or `memory`. The buffer is unchanged.
+pub fn type_name(
+    alloc: Global,
+    policy: &[u8],
+    label: u32,
+    buffer: &mut [u8],
+) -> Result<usize, EncodedFault>
+    ensures named { IfOk result (λ len. IsLabelNamed policy.now label len buffer.old buffer.new) }
+    ensures fault { IfErr result (IsNoLabel policy.now label) }
+    ensures unchanged { OnErr result (buffer.new ≡ buffer.old) }
+{
+    let policy = match policy_of(alloc, policy) {
+        Ok(policy) => policy,
+        Err(fault) => return Err(fault),
+    };
+    if label >= u32::from(policy.count()) {
+        return Err(NO_TYPE);
+    }
+    match policy.name(TypeId(label as u16)) {
+        Some(name) => {
+            write_front(name.as_bytes(), buffer);
+            Ok(name.len())
+        }
         None => Err(NO_TYPE),
     }
 }

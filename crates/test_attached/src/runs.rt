@@ -1,10 +1,10 @@
 //! Whole runs, from their settings to the end of each guest.
 use gt_allow::AllowTable;
-use gt_attached::AttachedDomain;
+use gt_attached::{AttachedDomain, MapRequest};
 use gt_calls::Handle;
 use gt_entry::{Control, Entry, EntryKind};
 use gt_live::Followed;
-use gt_start::{DomainSettings, begin, type_of};
+use gt_start::{DomainSettings, begin, type_name, type_of};
 use gt_types::{DomId, GrantRef, LAST_GENERATION, Rule};
 use std::alloc::{AllocError, Global};
 
@@ -417,6 +417,148 @@ fn a_new_run_takes_over_what_the_one_before_has(rt: HostRuntime) -> Result<(), A
     assert_eq!(rt; difference(&mut next, &mut pair), Some(Some(PAGE)));
     assert!(rt; maps_page(&mut next));
     assert_eq!(rt; difference(&mut next, &mut pair), Some(None));
+    Ok(())
+}
+
+// A reference that its guest uses again at once.
+const HOT: GrantRef = GrantRef(0);
+
+// Grants an entry for the hot reference, and revokes it. Returns the rule of a refusal.
+fn uses_once(guest: &mut AttachedDomain<AllowTable>) -> Option<Rule> {
+    if guest.is_copying() {
+        return Some(Rule::N2);
+    }
+    let page = Entry::Page {
+        dom: DomId(2),
+        ro: false,
+        frame: 3,
+    };
+    if let Err(denial) = guest.grant(HOT, &page) {
+        return Some(denial.rule);
+    }
+    guest.revoke(HOT).err().map(|denial| denial.rule)
+}
+
+// Uses the hot reference until it is refused. Returns the number of grants, and the rule of the refusal.
+fn wears(guest: &mut AttachedDomain<AllowTable>) -> (u32, Option<Rule>) {
+    for grants in 0..LAST_GENERATION + 1 {
+        let refused = uses_once(guest);
+        if refused.is_some() {
+            return (grants, refused);
+        }
+    }
+    (LAST_GENERATION + 1, None)
+}
+
+// Renews a run of a pair: the owner takes over the entries, the mapper maps the page again, and the old pair leaves.
+// Returns the new pair, or `None` if the owners' entries differ then.
+fn renewed(alloc: Global, mut pair: Pair) -> Result<Option<Pair>, AllocError> {
+    let mut next = begin_pair(alloc, 0)?;
+    if !takes_over(&mut next, &pair) || !maps_page(&mut next) {
+        return Ok(None);
+    }
+    Ok(match difference(&mut next, &mut pair) {
+        Some(None) => Some(next),
+        _ => None,
+    })
+}
+
+// Wears the hot reference of a pair out and renews its run, three times. Returns the number of grants of all, and the
+// rule of the last refusal.
+fn worn_three_times(alloc: Global, pair: Pair) -> Result<Option<(Pair, u32)>, AllocError> {
+    let mut pair = pair;
+    let mut all = 0u32;
+    for _ in 0..3u32 {
+        let (grants, refused) = wears(&mut pair.owner);
+        let Some(next) = renewed(alloc, pair)? else {
+            return Ok(None);
+        };
+        pair = next;
+        if refused != Some(Rule::N22) {
+            return Ok(None);
+        }
+        all = all.saturating_add(grants);
+    }
+    Ok(Some((pair, all)))
+}
+
+#[test]
+fn a_mapping_lives_while_a_reference_is_worn_three_times(
+    rt: HostRuntime,
+) -> Result<(), AllocError> {
+    let mut pair = begin_pair(rt.alloc(), 0)?;
+    assert!(rt; grants(&mut pair.owner, 2) && maps_page(&mut pair));
+    match worn_three_times(rt.alloc(), pair)? {
+        Some((mut pair, all)) => {
+            assert_eq!(rt; all, 3 * LAST_GENERATION);
+            assert_eq!(rt; status(&mut pair.owner), Some((EntryKind::Page, 1)));
+            assert!(rt; goes(&mut pair, Act::Unmaps(EntryKind::Page)));
+        }
+        None => assert!(rt; false, "no renewal"),
+    }
+    Ok(())
+}
+
+fn request(gref: GrantRef, flags: u32) -> MapRequest {
+    MapRequest {
+        dom: 1,
+        gref: gref.0,
+        flags,
+        serial: 0,
+        key: 0,
+    }
+}
+
+// Makes several maps, or none. Returns the index and the rule of the refusal.
+fn maps_each(
+    guest: &mut AttachedDomain<AllowTable>,
+    requests: &mut [MapRequest],
+) -> Option<(u64, Rule)> {
+    if guest.is_copying() {
+        return Some((0, Rule::N2));
+    }
+    match guest.map_all(requests) {
+        Ok(()) => None,
+        Err(refused) => Some((refused.index, refused.denial.rule)),
+    }
+}
+
+fn named(request: MapRequest) -> Handle {
+    Handle {
+        serial: request.serial,
+        key: request.key,
+    }
+}
+
+#[test]
+fn several_maps_are_made_or_none_remains(rt: HostRuntime) -> Result<(), AllocError> {
+    let mut pair = begin_pair(rt.alloc(), 0)?;
+    assert!(rt; grants(&mut pair.owner, 2));
+    let mut three = [request(PAGE, 2), request(PAGE, 2), request(HOT, 2)];
+    let mut two = [request(PAGE, 2), request(PAGE, 2)];
+    assert_eq!(rt;
+        maps_each(&mut pair.mapper, &mut three),
+        Some((2, Rule::N10))
+    );
+    assert_eq!(rt; status(&mut pair.owner), Some((EntryKind::Page, 0)));
+    assert_eq!(rt; maps_each(&mut pair.mapper, &mut two), None);
+    assert_eq!(rt; status(&mut pair.owner), Some((EntryKind::Page, 2)));
+    for left in [1u16, 0] {
+        let handle = named(two[usize::from(left)]);
+        assert_eq!(rt;
+            left_by(&mut pair.mapper, handle),
+            Some((EntryKind::Page, left))
+        );
+    }
+    Ok(())
+}
+
+#[test]
+fn a_type_has_its_name(rt: HostRuntime) -> Result<(), AllocError> {
+    let mut name = [b'-'; 9];
+    let found = type_name(rt.alloc(), POLICY, 1, &mut name).map_err(|_| AllocError)?;
+    assert_eq!(rt; (found, name), (7, *b"guest_t--"));
+    assert!(rt; type_name(rt.alloc(), POLICY, 2, &mut name).is_err_and(|fault| fault.kind == 20));
     Ok(())
 }
 

@@ -1,6 +1,6 @@
 //! Reports of findings.
 use crate::compare::same;
-use gt_policy_check::{Finding, FindingKind, ReportForm, push_report};
+use gt_findings::{Finding, FindingKind, ReportForm, push_report};
 use std::alloc::{AllocError, Global};
 
 // Letters that take two columns and one, a combining mark, and a control character.

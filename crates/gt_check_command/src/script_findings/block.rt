@@ -1,10 +1,11 @@
 //! Warnings about the policy block of a script.
 ghost use Rattle.std.specs.Prelude.{◌≡◌, OnOk};
-ghost use Rattle.gt_policy_check.specs.Check.{error_lines};
+ghost use Rattle.gt_findings.specs.Findings.{error_lines};
 
 use crate::script_findings::warning::{is_error, push_warning};
 use gt_fault_reasons::block_text;
-use gt_policy_check::{Finding, check_worn};
+use gt_findings::Finding;
+use gt_policy_check::check_worn;
 use gt_types::Memory;
 use std::alloc::{AllocError, Global};
 

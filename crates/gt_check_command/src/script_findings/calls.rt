@@ -1,12 +1,12 @@
 //! Warnings about calls that are refused whatever comes before them, and about grants that permit no domain.
 ghost use Rattle.std.specs.Prelude.{◌≡◌, OnOk};
-ghost use Rattle.gt_policy_check.specs.Check.{error_lines};
+ghost use Rattle.gt_findings.specs.Findings.{error_lines};
 
 use crate::script_findings::configured::{Configured, ScriptDomains};
 use crate::script_findings::warning::{column_number, push_warning};
 use gt_fault_reasons::column_of;
+use gt_findings::{Finding, FindingKind};
 use gt_model::Entry;
-use gt_policy_check::{Finding, FindingKind};
 use gt_script_lines::{BodyLine, ScriptCall, ScriptLine, line_words, read_line};
 use gt_text::{push_number, push_text};
 use gt_types::{CopyArgs, DOMID_SELF, DomId, End, FRAME_SIZE, GrantRef, MAX_TABLE_FRAMES};

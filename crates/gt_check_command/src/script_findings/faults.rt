@@ -1,11 +1,12 @@
 //! The error of bytes that are not a script.
 ghost use Rattle.std.specs.Prelude.{◌≡◌, ◌⊎◌, ◌∷◌, [], ℕ, Some, IfOk, OnOk};
-ghost use Rattle.gt_policy_check.specs.Check.{error_lines};
+ghost use Rattle.gt_findings.specs.Findings.{error_lines};
 ghost use Rattle.gt_check_command.specs.Judging.{error_line, IsAtLater};
 
 use crate::script_findings::warning::{column_number, push_warning};
-use gt_fault_reasons::{Reason, ReasonNote, block_reason, script_reason};
-use gt_policy_check::{Finding, FindingKind};
+use gt_fault_reasons::{Reason, ReasonNote, script_reason};
+use gt_findings::{Finding, FindingKind};
+use gt_policy_reasons::block_reason;
 use gt_script::{ScriptError, ScriptFaultKind};
 use gt_types::Memory;
 use std::alloc::{AllocError, Global};

@@ -1,7 +1,7 @@
 //! Checks a script.
 ghost use Rattle.std.specs.Prelude.{◌≡◌, ◌+◌, [], ℕ, List, take, IfOk, OnOk};
 ghost use Rattle.gt_types.specs.declared.limits.TheConstants.{LONGEST_TEXT};
-ghost use Rattle.gt_policy_check.specs.Check.{error_lines};
+ghost use Rattle.gt_findings.specs.Findings.{error_lines};
 ghost use Rattle.gt_check_command.specs.Judging.{JudgesScript};
 
 use crate::script_findings::block::warn_block;
@@ -11,7 +11,7 @@ use crate::script_findings::faults::errors;
 use crate::script_findings::labels::{label_in, warn_label};
 use crate::script_findings::triples::warn_triple;
 use crate::script_findings::worn::{body_start, worn_types};
-use gt_policy_check::Finding;
+use gt_findings::Finding;
 use gt_script::{parse, parse_run};
 use gt_script_lines::text_lines;
 use gt_text::text_of;

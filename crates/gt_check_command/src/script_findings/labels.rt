@@ -1,10 +1,10 @@
 //! Warnings about labels that no earlier map has.
 ghost use Rattle.std.specs.Prelude.{◌≡◌, OnOk};
-ghost use Rattle.gt_policy_check.specs.Check.{error_lines};
+ghost use Rattle.gt_findings.specs.Findings.{error_lines};
 
 use crate::script_findings::warning::{column_number, push_warning};
 use gt_fault_reasons::column_of;
-use gt_policy_check::{Finding, FindingKind, push_hint, said_of};
+use gt_findings::{Finding, FindingKind, push_hint, said_of};
 use gt_script_lines::{BodyLine, Number, ScriptCall, ScriptLine, line_words, read_line};
 use gt_text::text_of;
 use std::alloc::{AllocError, Global};

@@ -1,10 +1,10 @@
 //! Warnings about triples that allow nothing to the domains of the script.
 ghost use Rattle.std.specs.Prelude.{◌≡◌, OnOk};
-ghost use Rattle.gt_policy_check.specs.Check.{error_lines};
+ghost use Rattle.gt_findings.specs.Findings.{error_lines};
 
 use crate::script_findings::warning::{column_number, push_warning};
 use gt_fault_reasons::column_of;
-use gt_policy_check::{Finding, FindingKind, said_of};
+use gt_findings::{Finding, FindingKind, said_of};
 use gt_script_lines::{ScriptLine, line_words, read_line};
 use gt_text::text_of;
 use std::alloc::{AllocError, Global};

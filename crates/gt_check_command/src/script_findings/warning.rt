@@ -1,8 +1,8 @@
 //! Findings other than errors.
 ghost use Rattle.std.specs.Prelude.{◌≡◌, false, OnOk};
-ghost use Rattle.gt_policy_check.specs.Check.{error_lines, is_error};
+ghost use Rattle.gt_findings.specs.Findings.{error_lines, is_error};
 
-use gt_policy_check::{Finding, FindingKind};
+use gt_findings::{Finding, FindingKind};
 use std::alloc::AllocError;
 
 /// Returns whether a finding of this kind is an error.

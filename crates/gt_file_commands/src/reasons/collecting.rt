@@ -1,20 +1,24 @@
 //! The reasons that are printed after the line of a fault, or as that line.
 use super::copying::KeptInput;
+use super::dumps::{dump_reason, look_said};
 use super::flows::flow_reason;
-use super::given::{given_reason, never_reason, nothing_reason, question_reason, text_reason};
+use super::given::{
+    bare_reason, given_reason, never_reason, nothing_reason, question_reason, text_reason,
+};
 use super::names::shown_name;
 use gt_check_command::{BreachFault, NeverText, WhyFault};
 use gt_command_line::Invocation;
-use gt_entries::{DumpFault, DumpLook, DumpOptions, look_of};
+use gt_entries::{DumpFault, DumpOptions};
 use gt_explore_faults::{ClaimsFault, ExploreFault, TextsFault};
 use gt_fault_reasons::{
-    push_block_reason, push_permission_reason, push_policy_reason, push_read_reason, push_refusals,
-    push_script_reason, push_type_reason, push_utf8_reason,
+    push_permission_reason, push_read_reason, push_refusals, push_script_reason, push_type_reason,
+    push_utf8_reason,
 };
 use gt_host::play;
-use gt_policy_check::WhyQuestion;
 use gt_policy_flow::{FlowFault, FlowQuestion};
 use gt_policy_list::ListingFault;
+use gt_policy_reasons::{push_block_reason, push_policy_reason};
+use gt_policy_statements::WhyQuestion;
 use gt_script_runs::PlayFault;
 use gt_text::ReadFault;
 use std::alloc::{AllocError, Global};
@@ -182,45 +186,6 @@ fn why_reason(
     Ok(said)
 }
 
-// Returns the reason for which a dump was not printed.
-fn dump_reason(
-    alloc: Global,
-    file: &str,
-    input: &KeptInput,
-    fault: DumpFault,
-) -> Result<Vec<u8>, AllocError> {
-    let mut said = Vec::new(alloc);
-    let words = match fault {
-        DumpFault::Limit => "more than 16 frames, which is 65536 bytes",
-        DumpFault::Syntax => "not hexadecimal text",
-        DumpFault::Read => {
-            push_read_reason(&mut said, file, read_words(input.fault()))?;
-            return Ok(said);
-        }
-        DumpFault::Memory | DumpFault::Write => return Ok(said),
-    };
-    push_read_reason(&mut said, file, words.as_bytes())?;
-    Ok(said)
-}
-
-// Returns what a dump that was printed looks like, unless it looks like a table.
-fn look_said(
-    alloc: Global,
-    file: &str,
-    input: &KeptInput,
-    asked: DumpOptions,
-) -> Result<Vec<u8>, AllocError> {
-    let mut said = Vec::new(alloc);
-    let words = match look_of(alloc, asked, input.bytes().unwrap_or(&[]))? {
-        DumpLook::Table => return Ok(said),
-        DumpLook::Hexadecimal => "this looks like hexadecimal text; try --hex",
-        DumpLook::NoTable => "none of these entries can be read; is this a table of that version?",
-    };
-    said.extend_from_slice(b"gthost: ")?;
-    push_read_reason(&mut said, file, words.as_bytes())?;
-    Ok(said)
-}
-
 // Returns a reason of these words.
 fn words_reason(alloc: Global, file: &str, words: &str) -> Result<Vec<u8>, AllocError> {
     let mut said = Vec::new(alloc);
@@ -364,6 +329,14 @@ impl<'a> Reasons<'a> {
     pub(crate) fn add_listing(&mut self, input: &KeptInput, fault: &ListingFault) {
         if let Some(file) = self.file {
             let said = listing_reason(self.alloc, file, self.is_line, input, fault);
+            self.add(said);
+        }
+    }
+
+    /// Adds that the policy that was read and listed allows nothing, if it has no statement.
+    pub(crate) fn add_bare(&mut self, input: &KeptInput) {
+        if let (Some(file), Some(bytes)) = (self.file, input.bytes()) {
+            let said = bare_reason(self.alloc, file, bytes);
             self.add(said);
         }
     }

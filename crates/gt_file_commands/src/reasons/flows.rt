@@ -1,10 +1,11 @@
 //! The reasons for which a question about flows was not answered.
 use super::collecting::{listing_reason, push_no_type};
 use super::copying::KeptInput;
-use gt_fault_reasons::{push_policy_reason, push_read_reason};
+use gt_fault_reasons::push_read_reason;
 use gt_flow_command::policy_block;
 use gt_policy_flow::{FlowFault, FlowQuestion};
 use gt_policy_list::ListingFault;
+use gt_policy_reasons::push_policy_reason;
 use gt_text::text_of;
 use std::alloc::{AllocError, Global};
 

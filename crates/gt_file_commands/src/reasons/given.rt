@@ -2,34 +2,13 @@
 use super::collecting::read_words;
 use super::copying::KeptInput;
 use gt_check_command::NeverText;
-use gt_fault_reasons::{push_policy_reason, push_read_reason, push_utf8_reason};
+use gt_fault_reasons::{push_read_reason, push_utf8_reason};
+use gt_findings::{permission_names, push_hint, said_of};
 use gt_policy::{PolicyFault, PolicyFaultKind};
-use gt_policy_check::{permission_names, push_hint, said_of};
 use gt_policy_list::ListingFault;
-use gt_text::ReadFault;
+use gt_policy_reasons::push_policy_reason;
+use gt_text::{ReadFault, text_of};
 use std::alloc::{AllocError, Global};
-
-// Returns what is wrong with `neverallow` and `neverflow` statements.
-fn never_words(alloc: Global, kind: &PolicyFaultKind) -> Result<String, AllocError> {
-    match kind {
-        PolicyFaultKind::Syntax => String::from_str(
-            alloc,
-            "expected neverallow SOURCE TARGET:CLASS PERMISSION; or neverflow SOURCE TARGET;",
-        ),
-        PolicyFaultKind::Unknown(name) => {
-            format!(in alloc; "\"{name}\" is not declared in the policy")
-        }
-        PolicyFaultKind::Twice(name) => format!(in alloc; "\"{name}\" is declared twice"),
-        PolicyFaultKind::Permission(word) => {
-            format!(in alloc; "\"{word}\" is not a permission of class grant")
-        }
-        PolicyFaultKind::Outside(word) => {
-            format!(in alloc; "\"{word}\" is not part of a neverallow or neverflow statement")
-        }
-        PolicyFaultKind::Limit => String::from_str(alloc, "more than 1048576 bytes"),
-        PolicyFaultKind::Memory => String::from_str(alloc, "memory"),
-    }
-}
 
 // Returns that a word is not a permission, with the one that may be meant.
 fn permission_words(alloc: Global, word: &str) -> Result<Vec<u8>, AllocError> {
@@ -39,13 +18,24 @@ fn permission_words(alloc: Global, word: &str) -> Result<Vec<u8>, AllocError> {
     Ok(words)
 }
 
+const NO_PART: &str = " is not part of a neverallow or neverflow statement";
+
 // Returns what is wrong with `neverallow` and `neverflow` statements, with what may be meant.
 fn never_message(alloc: Global, kind: &PolicyFaultKind) -> Result<Vec<u8>, AllocError> {
-    if let PolicyFaultKind::Permission(word) = kind {
-        return permission_words(alloc, word.as_str());
-    }
-    let words = never_words(alloc, kind)?;
-    Vec::from_slice(alloc, words.as_bytes())
+    let words: &[u8] = match kind {
+        PolicyFaultKind::Unknown(name) => {
+            return said_of(alloc, name.as_str(), " is not declared in the policy");
+        }
+        PolicyFaultKind::Twice(name) => return said_of(alloc, name.as_str(), " is declared twice"),
+        PolicyFaultKind::Permission(word) => return permission_words(alloc, word.as_str()),
+        PolicyFaultKind::Outside(word) => return said_of(alloc, word.as_str(), NO_PART),
+        PolicyFaultKind::Syntax => {
+            b"expected neverallow SOURCE TARGET:CLASS PERMISSION; or neverflow SOURCE TARGET;"
+        }
+        PolicyFaultKind::Limit => b"more than 1048576 bytes",
+        PolicyFaultKind::Memory => b"memory",
+    };
+    Vec::from_slice(alloc, words)
 }
 
 /// Returns the reason for which `neverallow` statements were refused, with their place.
@@ -79,6 +69,24 @@ fn nothing_words(text: &str) -> &'static str {
     } else {
         "no statement forbids a permission of class grant"
     }
+}
+
+/// Returns that a policy allows nothing, if its text has no statement.
+pub(crate) fn bare_reason(alloc: Global, file: &str, bytes: &[u8]) -> Result<Vec<u8>, AllocError> {
+    let mut said = Vec::new(alloc);
+    let Ok(text) = text_of(bytes) else {
+        return Ok(said);
+    };
+    if text.is_empty() {
+        push_read_reason(&mut said, file, b"the text is empty: it allows nothing")?;
+    } else if text.lines().all(|line| is_bare(line)) {
+        push_read_reason(
+            &mut said,
+            file,
+            b"the text has no statement: it allows nothing",
+        )?;
+    }
+    Ok(said)
 }
 
 /// Returns the reason for which `neverallow` statements that forbid nothing of class `grant` were refused.

@@ -1,5 +1,5 @@
 use Rattle.std.proofs.Common.{ap, not}
-use Rattle.gt_policy_check.specs.Report.{IsReport}
+use Rattle.gt_findings.specs.Report.{IsReport}
 use Rattle.gt_check_command.proofs.Advised.{began_out, went_out}
 use Rattle.gt_check_command.proofs.reporting.write_findings.Goals as goal
 

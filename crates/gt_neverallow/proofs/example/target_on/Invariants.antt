@@ -1,7 +1,7 @@
 use Rattle.std.proofs.Common.{◌≡◌, drop}
 use Rattle.std.specs.List.{list_any}
 use Rattle.std.specs.Prelude.{◌&&◌}
-use Rattle.gt_policy_check.specs.Granting.{reaches_by}
+use Rattle.gt_policy_statements.specs.Granting.{reaches_by}
 use Rattle.gt_neverallow.specs.Breaking.{forbids_target}
 use Rattle.gt_neverallow.proofs.example.target_on.Given as goal
 

@@ -1,4 +1,4 @@
-use Rattle.gt_policy_check.proofs.ReportLemmas.{on_ok}
+use Rattle.gt_findings.proofs.ReportLemmas.{on_ok}
 use Rattle.gt_neverallow.proofs.PrintingLemmas.{breach_added}
 use Rattle.gt_neverallow.proofs.printing.push_breach.Goals as goal
 

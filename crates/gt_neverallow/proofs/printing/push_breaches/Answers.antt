@@ -1,4 +1,4 @@
-use Rattle.gt_policy_check.proofs.ReportLemmas.{texts_more}
+use Rattle.gt_findings.proofs.ReportLemmas.{texts_more}
 use Rattle.gt_neverallow.specs.Printing.{IsBreachText}
 use Rattle.gt_neverallow.proofs.printing.push_breaches.Goals as goal
 

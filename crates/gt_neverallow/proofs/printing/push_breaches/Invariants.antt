@@ -1,5 +1,5 @@
 use Rattle.std.proofs.Common.{take}
-use Rattle.gt_policy_check.specs.Report.{AddsText}
+use Rattle.gt_findings.specs.Report.{AddsText}
 use Rattle.gt_neverallow.specs.Printing.{IsBreachReport}
 use Rattle.gt_neverallow.proofs.printing.push_breaches.Given as goal
 

@@ -1,5 +1,5 @@
 use Rattle.std.proofs.Common.{◌∙◌, ℕ, List, refl, subst}
-use Rattle.gt_policy_check.specs.Check.{KeepsColumns}
+use Rattle.gt_findings.specs.Findings.{KeepsColumns}
 use Rattle.gt_neverallow.proofs.BreakingLemmas.{unknown_more}
 use Rattle.gt_neverallow.proofs.words.unknown_words.Goals as goal
 

@@ -1,5 +1,5 @@
 use Rattle.std.proofs.Common.{◌≡◌, take}
-use Rattle.gt_policy_check.specs.LineWords.{IsLineWords}
+use Rattle.gt_findings.specs.LineWords.{IsLineWords}
 use Rattle.gt_neverallow.specs.Breaking.{AreUnknown}
 use Rattle.gt_neverallow.proofs.words.unknown_words.Given as goal
 

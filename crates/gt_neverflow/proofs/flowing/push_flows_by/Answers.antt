@@ -1,7 +1,7 @@
 use Rattle.std.proofs.Common.{sym, ◌∙◌}
 use Rattle.gt_neverflow.specs.Flowing.{types_numbered}
 use Rattle.gt_neverflow.proofs.FlowingLemmas.{is-about, is-of-others}
-use Rattle.gt_policy_check.proofs.ReportLemmas.{on_ok}
+use Rattle.gt_findings.proofs.ReportLemmas.{on_ok}
 use Rattle.gt_neverflow.proofs.flowing.push_flows_by.Goals as goal
 
 pub returns-then-flow_from : goal.returns-then-flow_from

@@ -1,4 +1,4 @@
-use Rattle.gt_policy_check.proofs.ReportLemmas.{texts_more}
+use Rattle.gt_findings.proofs.ReportLemmas.{texts_more}
 use Rattle.gt_neverflow.specs.Printing.{IsFlowText}
 use Rattle.gt_neverflow.proofs.printing.push_flow_breaches.Goals as goal
 

@@ -1,5 +1,5 @@
 use Rattle.std.proofs.Common.{take}
-use Rattle.gt_policy_check.specs.Report.{AddsText}
+use Rattle.gt_findings.specs.Report.{AddsText}
 use Rattle.gt_neverflow.specs.Printing.{IsFlowBreachReport}
 use Rattle.gt_neverflow.proofs.printing.push_flow_breaches.Given as goal
 

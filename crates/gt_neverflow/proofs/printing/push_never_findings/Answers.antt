@@ -1,4 +1,4 @@
-use Rattle.gt_policy_check.proofs.ReportLemmas.{on_ok}
+use Rattle.gt_findings.proofs.ReportLemmas.{on_ok}
 use Rattle.gt_neverflow.proofs.PrintingLemmas.{all_added}
 use Rattle.gt_neverflow.proofs.printing.push_never_findings.Goals as goal
 

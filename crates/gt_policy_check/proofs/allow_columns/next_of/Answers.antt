@@ -1,8 +1,8 @@
 use Rattle.std.proofs.Common.{arith}
 use Rattle.std.specs.Prelude.{slice_index_or}
-use Rattle.gt_policy_check.specs.Columns.{IsToken}
-use Rattle.gt_policy_check.specs.declared.places.Span.{Span}
-use Rattle.gt_policy_check.proofs.ColumnLemmas.{has_word, same_word}
+use Rattle.gt_findings.specs.Columns.{IsToken}
+use Rattle.gt_findings.specs.declared.places.Span.{Span}
+use Rattle.gt_findings.proofs.ColumnLemmas.{has_word, same_word}
 use Rattle.gt_policy_check.proofs.allow_columns.next_of.Goals as goal
 
 pub returns-then-eq : goal.returns-then-eq

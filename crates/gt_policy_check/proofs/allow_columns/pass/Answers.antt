@@ -1,8 +1,8 @@
 use Rattle.std.proofs.Common.{ℕ, List, codes, subst, sym}
 use Rattle.std.specs.Prelude.{slice_index_or}
-use Rattle.gt_policy_check.specs.Columns.{HasWord, IsColumnIn, of_word}
-use Rattle.gt_policy_check.specs.declared.places.Span.{Span}
-use Rattle.gt_policy_check.proofs.ColumnLemmas.{bounds_ordered, bounds_within, column_of_bounds}
+use Rattle.gt_findings.specs.Columns.{HasWord, IsColumnIn, of_word}
+use Rattle.gt_findings.specs.declared.places.Span.{Span}
+use Rattle.gt_findings.proofs.ColumnLemmas.{bounds_ordered, bounds_within, column_of_bounds}
 use Rattle.gt_policy_check.proofs.allow_columns.pass.Goals as goal
 
 pub returns-in-Some-clause-walk : goal.returns-in-Some-clause-walk

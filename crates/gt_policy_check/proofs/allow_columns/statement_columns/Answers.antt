@@ -1,6 +1,6 @@
 use Rattle.std.proofs.Common.{ℕ, codes, subst}
-use Rattle.gt_policy_check.specs.Columns.{IsColumnOf}
-use Rattle.gt_policy_check.proofs.LineLemmas.{columns_more}
+use Rattle.gt_findings.specs.Columns.{IsColumnOf}
+use Rattle.gt_policy_check.proofs.AllowLemmas.{columns_more}
 use Rattle.gt_policy_check.proofs.allow_columns.statement_columns.Goals as goal
 
 pub statements-preserved : goal.statements-preserved

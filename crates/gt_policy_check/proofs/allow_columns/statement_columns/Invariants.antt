@@ -1,7 +1,7 @@
 use Rattle.std.proofs.Common.{◌≡◌, ℕ, ◌<◌, codes, get_or, length}
 use Rattle.gt_policy.specs.declared.lined.LinedStatement.{LinedStatement}
-use Rattle.gt_policy_check.specs.Columns.{IsColumnOf}
-use Rattle.gt_policy_check.specs.LineWords.{IsAllowWalk}
+use Rattle.gt_findings.specs.Columns.{IsColumnOf}
+use Rattle.gt_policy_check.specs.AllowColumns.{IsAllowWalk}
 use Rattle.gt_policy_check.proofs.allow_columns.statement_columns.Given as goal
 
 abbrev pub invariant-statements : goal.invariant-statements

@@ -1,6 +1,6 @@
 use Rattle.std.proofs.Common.{◌≡◌, drop}
 use Rattle.std.specs.List.{list_any}
-use Rattle.gt_policy_check.specs.Granting.{reaches_by}
+use Rattle.gt_policy_statements.specs.Granting.{reaches_by}
 use Rattle.gt_policy_check.proofs.earlier.first_target.Given as goal
 
 abbrev pub invariant-targets : goal.invariant-targets

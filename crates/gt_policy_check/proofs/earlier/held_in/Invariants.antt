@@ -1,7 +1,7 @@
 use Rattle.std.proofs.Common.{◌≡◌, ℕ, ◌<◌, true, length}
 use Rattle.std.specs.Prelude.{All, Contains}
 use Rattle.gt_policy_check.specs.Earlier.{member_at}
-use Rattle.gt_policy_check.specs.Granting.{elements_hold}
+use Rattle.gt_policy_statements.specs.Granting.{elements_hold}
 use Rattle.gt_policy_check.proofs.earlier.held_in.Given as goal
 
 abbrev pub invariant-members : goal.invariant-members

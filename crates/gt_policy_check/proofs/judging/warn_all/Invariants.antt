@@ -1,9 +1,10 @@
 use Rattle.std.proofs.Common.{◌≡◌, ◌++◌, [], take, drop}
 use Rattle.std.specs.List.{flat_map}
 use Rattle.std.specs.Prelude.{All}
-use Rattle.gt_policy_check.specs.Check.{HasColumn, error_lines, nothing_lines, repeat_lines, repeated_with, useless_line}
+use Rattle.gt_findings.specs.Findings.{HasColumn, error_lines, nothing_lines, repeat_lines}
+use Rattle.gt_policy_check.specs.Check.{repeated_with, useless_line}
 use Rattle.gt_policy_check.specs.Earlier.{ListsEarlier}
-use Rattle.gt_policy_check.specs.LineWords.{IsLineWords}
+use Rattle.gt_findings.specs.LineWords.{IsLineWords}
 use Rattle.gt_policy_check.proofs.judging.warn_all.Given as goal
 
 abbrev pub invariant-statements : goal.invariant-statements

@@ -1,9 +1,10 @@
 use Rattle.std.proofs.Common.{◌∙◌, ap, get_or, refl, subst, sym, take}
 use Rattle.std.proofs.lemmas.Option.{get_or_from_slice_get}
 use Rattle.gt_policy.specs.declared.lined.LinedStatement.{LinedStatement}
-use Rattle.gt_policy_check.specs.Check.{repeat_line, useless_line, AddsUseless}
+use Rattle.gt_policy_check.specs.Check.{repeat_line, useless_line}
+use Rattle.gt_findings.specs.Findings.{AddsUseless}
 use Rattle.gt_policy_check.proofs.EarlierLemmas.{allows_is, always}
-use Rattle.gt_policy_check.proofs.LineLemmas.{place_column}
+use Rattle.gt_policy_check.proofs.AllowLemmas.{place_column}
 use Rattle.gt_policy_check.proofs.judging.warn_next.Goals as goal
 
 pub warn_at-requires-clause-judged : goal.warn_at-requires-clause-judged

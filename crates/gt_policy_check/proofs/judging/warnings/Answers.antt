@@ -1,6 +1,6 @@
 use Rattle.std.proofs.Common.{◌∙◌}
 use Rattle.gt_policy_check.proofs.WarningLemmas.{nothing_of, repeated_of}
-use Rattle.gt_policy_check.specs.Check.{nothing_lines, repeat_lines}
+use Rattle.gt_findings.specs.Findings.{nothing_lines, repeat_lines}
 use Rattle.gt_policy_check.proofs.judging.warnings.Goals as goal
 
 pub returns-clause-no_error : goal.returns-clause-no_error

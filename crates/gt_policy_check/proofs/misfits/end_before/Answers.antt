@@ -1,5 +1,5 @@
 use Rattle.std.proofs.Common.{◌-◌}
-use Rattle.gt_policy_check.proofs.ColumnLemmas.{bounds_ordered, bounds_within, end_of_first, end_of_read}
+use Rattle.gt_findings.proofs.ColumnLemmas.{bounds_ordered, bounds_within, end_of_first, end_of_read}
 use Rattle.gt_policy_check.proofs.misfits.end_before.Goals as goal
 
 pub returns-in-Some : goal.returns-in-Some

@@ -1,7 +1,7 @@
 use Rattle.std.proofs.Common.{◌≡◌, drop}
 use Rattle.std.specs.List.{list_any}
 use Rattle.gt_types.specs.Names.{every_permission, permission_name}
-use Rattle.gt_policy_check.specs.Granting.{exceeds_some}
+use Rattle.gt_policy_statements.specs.Granting.{exceeds_some}
 use Rattle.gt_policy_check.proofs.useless.exceeds.Given as goal
 
 abbrev pub invariant-perms : goal.invariant-perms

@@ -1,6 +1,6 @@
 use Rattle.std.proofs.Common.{◌≡◌, drop}
 use Rattle.std.specs.Prelude.{find}
-use Rattle.gt_policy_check.specs.Granting.{gives_one}
+use Rattle.gt_policy_statements.specs.Granting.{gives_one}
 use Rattle.gt_policy_flow.proofs.steps.first_line.Given as goal
 
 -- the first one is among those that are left

@@ -1,5 +1,5 @@
 use Rattle.std.proofs.Common.{◌≡◌}
-use Rattle.gt_policy_check.specs.Check.{error_lines}
+use Rattle.gt_findings.specs.Findings.{error_lines}
 use Rattle.gt_check_command.proofs.script_findings.block.push_warnings.Given as goal
 
 abbrev pub invariant-more : goal.invariant-more

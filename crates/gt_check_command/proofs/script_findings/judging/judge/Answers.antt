@@ -1,5 +1,5 @@
 use Rattle.std.proofs.Common.{◌≡◌, []}
-use Rattle.gt_policy_check.specs.Check.{error_lines}
+use Rattle.gt_findings.specs.Findings.{error_lines}
 use Rattle.gt_check_command.specs.Judging.{IsAtLater, JudgesScript, for_play, for_run}
 use Rattle.gt_check_command.proofs.JudgeLemmas.{judged_faulty, of_found}
 use Rattle.gt_check_command.proofs.script_findings.judging.judge.Goals as goal

@@ -1,5 +1,5 @@
 use Rattle.std.proofs.Common.{◌≡◌}
-use Rattle.gt_policy_check.specs.Check.{error_lines}
+use Rattle.gt_findings.specs.Findings.{error_lines}
 use Rattle.gt_check_command.proofs.script_findings.judging.warn_lines.Given as goal
 
 abbrev pub invariant-lines : goal.invariant-lines

@@ -1,0 +1,5 @@
+pub mod ColumnLemmas
+pub mod FindingLemmas
+pub mod KeepLemmas
+pub mod LineLemmas
+pub mod ReportLemmas

@@ -1,5 +1,0 @@
-use Rattle.gt_policy_check.specs.Check.{KeepsColumns, Quiet}
-use Rattle.gt_policy_check.proofs.listed.warn_perms.Given as goal
-
-abbrev pub invariant-perms : goal.invariant-perms
-invariant-perms l = Quiet l.initial.found.items l.found.items × KeepsColumns l.place.words.now.bytes.now l.initial.found.items l.found.items

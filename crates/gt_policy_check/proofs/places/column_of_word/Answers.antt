@@ -1,8 +1,0 @@
-use Rattle.gt_policy_check.proofs.ColumnLemmas.{bounds_ordered, bounds_within, column_of_bounds}
-use Rattle.gt_policy_check.proofs.places.column_of_word.Goals as goal
-
-pub returns : goal.returns
-returns c = let text = c.args.bytes.now in let line = c.args.line.now in
-    column_of_bounds text c.args.word.now c.bytes_of-text.result.now line.number line.span c.column_in.result c.requires.bounds
-    (c.bytes_of-text.ensures (bounds_ordered text line.number line.span c.requires.bounds) (bounds_within text line.number line.span c.requires.bounds))
-    c.column_in.ensures

@@ -1,6 +1,0 @@
-use Rattle.std.specs.List.{AllPass}
-use Rattle.gt_policy_check.specs.Report.{is_space_or_tab, AddsText}
-use Rattle.gt_policy_check.proofs.report.push_blanks.Given as goal
-
-abbrev pub invariant-letters : goal.invariant-letters
-invariant-letters l = AddsText (AllPass is_space_or_tab) l.initial.out.items l.out.items

@@ -1,6 +1,0 @@
-use Rattle.std.proofs.Common.{take}
-use Rattle.gt_policy_check.specs.Report.{AddsText, IsTextOfAll, IsFindingText}
-use Rattle.gt_policy_check.proofs.report.push_report.Given as goal
-
-abbrev pub invariant-found : goal.invariant-found
-invariant-found l = AddsText (IsTextOfAll (IsFindingText l.form l.file) (take l.finding-index l.found)) l.initial.out.items l.out.items

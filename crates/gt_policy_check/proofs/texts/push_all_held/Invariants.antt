@@ -1,6 +1,0 @@
-use Rattle.std.proofs.Common.{◌≡◌, ◌++◌, take}
-use Rattle.gt_policy_check.specs.Texts.{all_held_text}
-use Rattle.gt_policy_check.proofs.texts.push_all_held.Given as goal
-
-abbrev pub invariant-members : goal.invariant-members
-invariant-members l = l.out.items ≡ l.initial.out.items ++ all_held_text l.items (take l.member-index l.members)

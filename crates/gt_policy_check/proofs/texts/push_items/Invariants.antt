@@ -1,6 +1,0 @@
-use Rattle.std.proofs.Common.{◌≡◌, ◌++◌, take}
-use Rattle.gt_policy_check.specs.Texts.{items_text}
-use Rattle.gt_policy_check.proofs.texts.push_items.Given as goal
-
-abbrev pub invariant-items : goal.invariant-items
-invariant-items l = l.out.items ≡ l.initial.out.items ++ items_text (take l.item-index l.items)

@@ -1,0 +1,4 @@
+pub mod Granting
+pub mod Members
+pub mod Texts
+pub mod Why
