@@ -111,7 +111,7 @@ checking() {
   local name="$1" passed peak
   shift
   for _ in 1 2 3 4 5; do
-    "${priority[@]}" /usr/bin/time -a -o "$work/times" -f '%e %U %M' "$program" check "$@" >"$work/out" || [ $? -eq 1 ]
+    "${priority[@]}" /usr/bin/time -q -a -o "$work/times" -f '%e %U %M' "$program" check "$@" >"$work/out" || [ $? -eq 1 ]
   done
   passed=$(sort -n "$work/times" | head -n 1 | cut -d ' ' -f 1,2)
   peak=$(cut -d ' ' -f 3 "$work/times" | sort -n | tail -n 1)

@@ -201,7 +201,7 @@ static inline struct gthost_found_mapping gthost_null_mapping(void)
 
 static inline struct gthost_found_entry gthost_null_entry(void)
 {
-    const struct gthost_found_entry found = {gthost_null_answer(), {0, 0, 0, 0, 0, 0}};
+    const struct gthost_found_entry found = {gthost_null_answer(), {0, 0, 0, 0, 0, 0, 0}};
     return found;
 }
 
@@ -331,8 +331,9 @@ static inline struct gthost_answer gthost_promote(struct gthost_domain *domain, 
 }
 
 /*
- * Looks once at one of the domain's entries: its kind, its generation and its pins. A withdrawn entry keeps its pins
- * until the others release them; whom it permitted is then no longer known, and `to` is 0. GTHOST_ABSENT if the
+ * Looks once at one of the domain's entries: its kind, its generation and its pins. A withdrawn entry permits no one, so
+ * `to` is 0. It keeps its pins until the others release them, and `granted_to` is whom it permitted last: the pins are of
+ * that domain's maps and copies, or, if that was granted a transitive entry, of copies through it. GTHOST_ABSENT if the
  * reference is beyond the table.
  */
 static inline struct gthost_found_entry gthost_entry(struct gthost_domain *domain, uint32_t gref)

@@ -266,6 +266,8 @@ struct gthost_entry_status {
     uint32_t writes;     /* live pins for writing */
     uint32_t to;         /* the domain that it permits; 0 if it is invalid */
     uint32_t read_only;  /* 1 if it is read-only, else 0 */
+    uint32_t granted_to; /* the domain that it permits, or permitted last if it is invalid: its pins are of that domain's
+                            calls; 65,535 if it was never granted */
 };
 
 /* An end of a copy: `ptr` is a reference of the domain `dom`, or the number of one of the caller's own frames. */

@@ -258,6 +258,8 @@ def every_command_line(gthost):
     for words in lines:
         if words[:1] != ["gthost"] or words[1:2] not in [[name] for name in WITH_FORMAT]:
             continue
+        if "-h" in words or "--help" in words:
+            continue  # a help is no JSON
         forms = [] if any(word.startswith("--format") for word in words) else ["--format", "json"]
         with open(os.path.join(cases, "stdin"), "rb") as stdin:
             told = subprocess.run([gthost, words[1], *forms, *words[2:]], cwd=os.path.join(cases, "data"), stdin=stdin,

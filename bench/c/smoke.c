@@ -252,7 +252,7 @@ static void leaves(void)
     answer = found.answer;
     WANT(GTHOST_OK, 0, GTHOST_NOTHING);
     HOLDS(found.entry.kind == GTHOST_ENTRY_PAGE && found.entry.generation == 1 && found.entry.reads == 1);
-    HOLDS(found.entry.writes == 0 && found.entry.to == 2 && found.entry.read_only == 1);
+    HOLDS(found.entry.writes == 0 && found.entry.to == 2 && found.entry.read_only == 1 && found.entry.granted_to == 2);
     answer = gthost_entry(&domain[0], 512).answer;
     WANT(GTHOST_ABSENT, 0, GTHOST_NOTHING);
     answer = gthost_reset(&domain[0]);
@@ -262,6 +262,7 @@ static void leaves(void)
     WANT(GTHOST_N10, -1, GTHOST_ENTRY);
     found = gthost_entry(&domain[0], 7);
     HOLDS(found.entry.kind == GTHOST_ENTRY_INVALID && found.entry.reads == 1 && found.entry.to == 0);
+    HOLDS(found.entry.granted_to == 2 && gthost_entry(&domain[0], 9).entry.granted_to == 65535);
     answer = gthost_unused(&domain[0], 0);
     WANT(GTHOST_OK, 0, GTHOST_REFERENCE);
     HOLDS(answer.gref == 7);
@@ -566,6 +567,7 @@ static void nothing_is_told(void)
     HOLDS(!mapping.frame && !mapping.gref && !mapping.owner && !mapping.writes);
     const struct gthost_entry_status entry = gthost_entry(NULL, 0).entry;
     HOLDS(!entry.kind && !entry.generation && !entry.reads && !entry.writes && !entry.to && !entry.read_only);
+    HOLDS(!entry.granted_to);
     const struct gthost_record kept = gthost_record(NULL, 0).kept;
     HOLDS(!kept.call && !kept.caller && !kept.dom && !kept.gref && !kept.flags && !kept.len);
     HOLDS(is_no_end(kept.source) && is_no_end(kept.dest) && !kept.reply.rule && is_nothing(kept.reply));

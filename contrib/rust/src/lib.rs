@@ -144,6 +144,9 @@ fn called(record: &raw::Record) -> Call {
     }
 }
 
+// The domain of an entry that was never granted.
+const NOBODY: u32 = 65_535;
+
 fn status(entry: raw::EntryStatus) -> Status {
     let kind = match entry.kind {
         1 => Kind::Page,
@@ -151,8 +154,9 @@ fn status(entry: raw::EntryStatus) -> Status {
         3 => Kind::Via,
         _ => Kind::Invalid,
     };
-    let raw::EntryStatus { generation, reads, writes, to, read_only, .. } = entry;
-    Status { kind, generation, reads, writes, to, read_only: read_only != 0 }
+    let raw::EntryStatus { generation, reads, writes, to, read_only, granted_to, .. } = entry;
+    let granted_to = Some(granted_to).filter(|&dom| dom != NOBODY);
+    Status { kind, generation, reads, writes, to, read_only: read_only != 0, granted_to }
 }
 
 /// `gthost.h` names beside each call the rules that may refuse it.

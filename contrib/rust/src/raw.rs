@@ -98,6 +98,7 @@ pub struct EntryStatus {
     pub writes: u32,
     pub to: u32,
     pub read_only: u32,
+    pub granted_to: u32,
 }
 
 #[repr(C)]

@@ -141,6 +141,8 @@ pub struct Status {
     /// The domain that it permits, if it is valid.
     pub to: u32,
     pub read_only: bool,
+    /// The domain that it permits, or permitted last if it is invalid; `None` if it was never granted.
+    pub granted_to: Option<u32>,
 }
 
 /// What was done to an entry that followed its guest's bytes.

@@ -112,7 +112,9 @@ fn a_guest_that_leaves_is_mapped_no_more() {
     let entry = front.entry(3).unwrap();
     assert_eq!((entry.kind, entry.reads, entry.writes, entry.to, entry.read_only), (Kind::Page, 0, 1, 2, false));
     assert_eq!(front.entry(512).unwrap_err().rule, Rule::ABSENT);
+    assert_eq!((entry.granted_to, front.entry(9).unwrap().granted_to), (Some(2), None));
     assert_eq!(front.reset().in_use, 1);
+    assert_eq!((front.entry(3).unwrap().to, front.entry(3).unwrap().granted_to), (0, Some(2)));
     assert_eq!(front.unused(0), Ok(3));
     assert_eq!(back.map(1, 4, Access::Read).unwrap_err().rule, Rule::N10);
     assert_eq!(front.unmap(handle).unwrap_err().rule, Rule::N6);

@@ -274,7 +274,6 @@ impl<P: Allows + Drop> AttachedDomain<P> {
     ///
     /// # Errors
     /// N1, N2, N5, N8 to N13, N16 to N18, or N26. Mappings and pins are unchanged.
-    #[inline(always)]
     pub fn map(&mut self, dom: DomId, gref: GrantRef, flags: u32) -> Result<NewMapping, Denial>
         requires idle { self.old.copying ≡ None }
         ensures stays { StaysIdle self.old self.new }

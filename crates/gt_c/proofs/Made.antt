@@ -1,11 +1,13 @@
 -- A call that was made on a handle's domain, as its export states it.
-use Rattle.std.proofs.Common.{◌≡◌, ◌∙◌, ap, refl, subst, inr, Option, Some, None}
+use Rattle.std.proofs.Common.{◌≡◌, ◌∙◌, ap, refl, subst, sym, inr, Option, Some, None}
 use Rattle.std.specs.Prelude.{is_some, false}
 use mathlib.Core.Bool.{true≢false}
 use Rattle.std.proofs.lemmas.Option.{same_Some}
 use Rattle.gt_attached.specs.declared.answer.EncodedAnswer.{EncodedAnswer}
 use Rattle.gt_c.specs.declared.c_domain.CDomain.{CDomain}
-use Rattle.gt_c.specs.Calling.{CallsAttached, CallsReporting, MayBeCalled}
+use Rattle.gt_types.specs.declared.GrantRef.{GrantRef}
+use Rattle.gt_c.specs.Calling.{CallsAttached, CallsGranting, CallsReporting, MayBeCalled}
+use Rattle.gt_c.specs.Grantees.{NotesEntry, noted_at}
 use Rattle.gt_c.specs.Prelude.{Seated, Table}
 
 -- the call is made on the domain x that the handle lends, whose guest is g afterwards
@@ -21,7 +23,29 @@ made {before = Some d} {between} {x} {g} answer Q may lent holds =
       after_is = refl;
       idle = may.1;
       run = ap (λ (y : CDomain). y.run) (same_Some x d (lent ∙ may.0));
-      holds = subst (λ (y : CDomain). Q y (record x { attached = g })) (same_Some x d (lent ∙ may.0)) holds;
+      holds = (
+        ap (λ (y : CDomain). y.granted) (same_Some x d (lent ∙ may.0)),
+        subst (λ (y : CDomain). Q y (record x { attached = g })) (same_Some x d (lent ∙ may.0)) holds,
+      );
+    })
+
+-- the same of a call about an entry, which is noted
+pub made-granting : {before between : Option CDomain} {x y : CDomain} {g : Seated Table} (gref : GrantRef) (answer : EncodedAnswer)
+    (Q : CDomain → CDomain → Type 0) → MayBeCalled before between → Some x ≡ between
+    → y ≡ noted_at gref (record x { attached = g }) → Q x (noted_at gref (record x { attached = g }))
+    → CallsGranting gref before (Some y) answer Q
+made-granting {before = None} gref answer Q may lent is holds = absurd may
+made-granting {before = Some d} {between} {x} {y} {g} gref answer Q may lent is holds =
+    inr (record {
+      was = d;
+      is = y;
+      before_is = refl;
+      after_is = refl;
+      idle = may.1;
+      run = ap (λ (z : CDomain). z.run) is ∙ ap (λ (z : CDomain). z.run) (same_Some x d (lent ∙ may.0));
+      holds = subst (λ (z : CDomain). NotesEntry gref d z × Q d z) (sym is)
+          (subst (λ (z : CDomain). NotesEntry gref z (noted_at gref (record x { attached = g })) × Q z (noted_at gref (record x { attached = g })))
+          (same_Some x d (lent ∙ may.0)) (refl, holds));
     })
 
 -- the same of a call that tells more than its answer
@@ -37,7 +61,10 @@ made-telling {before = Some d} {between} {x} {g} answer N Q may lent holds =
       after_is = refl;
       idle = may.1;
       run = ap (λ (y : CDomain). y.run) (same_Some x d (lent ∙ may.0));
-      holds = subst (λ (y : CDomain). Q y (record x { attached = g })) (same_Some x d (lent ∙ may.0)) holds;
+      holds = (
+        ap (λ (y : CDomain). y.granted) (same_Some x d (lent ∙ may.0)),
+        subst (λ (y : CDomain). Q y (record x { attached = g })) (same_Some x d (lent ∙ may.0)) holds,
+      );
     })
 
 -- a call that changes nothing was made on the domain
@@ -52,7 +79,7 @@ unmade {before = Some d} answer Q may holds =
       after_is = may.0;
       idle = may.1;
       run = refl;
-      holds = holds d;
+      holds = (refl, holds d);
     })
 
 -- the same of a call that tells more than its answer
@@ -67,7 +94,7 @@ unmade-telling {before = Some d} answer N Q may holds =
       after_is = may.0;
       idle = may.1;
       run = refl;
-      holds = holds d;
+      holds = (refl, holds d);
     })
 
 pub idle-there : (before : Option CDomain) {between : Option CDomain} {x : CDomain} → MayBeCalled before between → Some x ≡ between

@@ -11,6 +11,7 @@ use Rattle.gt_attached.specs.declared.answer.AttachedOutcome.TheVariants as outc
 use Rattle.gt_audit.specs.declared.pieces.TheConstants.{MOST_RESERVED}
 use Rattle.gt_types.specs.declared.denial.Facts.TheVariants as facts
 use Rattle.gt_live.specs.Following.{Follows}
+use Rattle.gt_c.specs.Grantees.{KeepsGrantees, NotesEntry}
 use Rattle.gt_live.specs.declared.domain.following.Followed.{Followed}
 
 -- no call was made: the handle is unchanged, and the answer gives the reason: it has no domain, or one in a copy
@@ -39,15 +40,23 @@ pub record MadeOn (before after : Option CDomain) (Holds : CDomain → CDomain �
   pub run : KeepsRun was is
   pub holds : Holds was is
 
--- no call was made, or this one was
+-- no call was made, or this one was, and it granted no entry
 abbrev pub CallsAttached : Option CDomain → Option CDomain → EncodedAnswer → (CDomain → CDomain → Type 0) → Type 0
-CallsAttached before after answer Holds = TurnedAway before after answer ⊎ MadeOn before after Holds
+CallsAttached before after answer Holds =
+    TurnedAway before after answer ⊎ MadeOn before after (λ d e. KeepsGrantees d e × Holds d e)
+
+-- no call was made, or this one was, and it noted to whom this entry is then granted
+abbrev pub CallsGranting : GrantRef → Option CDomain → Option CDomain → EncodedAnswer → (CDomain → CDomain → Type 0)
+    → Type 0
+CallsGranting gref before after answer Holds =
+    TurnedAway before after answer ⊎ MadeOn before after (λ d e. NotesEntry gref d e × Holds d e)
 
 -- the same for a call that returns more than its answer: if no call was made, it returns nothing more
 abbrev pub CallsReporting : Option CDomain → Option CDomain → EncodedAnswer → Type 0 → (CDomain → CDomain → Type 0)
     → Type 0
 CallsReporting before after answer ReportsNothing Holds =
-    (TurnedAway before after answer × ReportsNothing) ⊎ MadeOn before after Holds
+    (TurnedAway before after answer × ReportsNothing)
+    ⊎ MadeOn before after (λ d e. KeepsGrantees d e × Holds d e)
 
 -- the call was not made, since a number does not fit: this rule refuses it, and nothing has changed
 abbrev pub RefusesNumber : Rule → EncodedAnswer → Option CDomain → Option CDomain → Type 0
@@ -203,7 +212,7 @@ pub record MakesReady (s t : Seated Table) (answer : EncodedAnswer) : Type 0 whe
 abbrev pub ResetsAttached : EncodedAnswer → Option CDomain → Option CDomain → Type 0
 ResetsAttached answer None after = (after ≡ None) × (answer ≡ encoded outcomes.NoDomain)
 ResetsAttached answer (Some d) None = ⊥
-ResetsAttached answer (Some d) (Some e) = KeepsRun d e × MakesReady d.attached e.attached answer
+ResetsAttached answer (Some d) (Some e) = KeepsRun d e × KeepsGrantees d e × MakesReady d.attached e.attached answer
 
 -- the records of a domain were dropped, the answer encodes their number and the number lost before, their room is kept,
 -- and nothing else changed

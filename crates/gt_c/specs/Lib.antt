@@ -1,6 +1,7 @@
 pub mod Asking
 pub mod Calling
 pub mod Faults
+pub mod Grantees
 pub mod Lending
 pub mod Owning
 pub mod Prelude

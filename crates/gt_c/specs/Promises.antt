@@ -19,7 +19,8 @@ use Rattle.gt_types.specs.declared.denial.Facts.TheVariants as facts
 use Rattle.gt_types.specs.declared.denial.Rule.TheVariants.{N6}
 use Rattle.gt_attached.specs.declared.answer.AttachedOutcome.TheVariants as outcomes
 use Rattle.gt_c.specs.Asking.{RefusesForeign, handle_named, page, spelled, sub, via}
-use Rattle.gt_c.specs.Calling.{CallsAttached, CallsReporting, EncodesDone, EncodesFollowed, EncodesMapped}
+use Rattle.gt_c.specs.Calling.{CallsAttached, CallsGranting, CallsReporting, EncodesDone, EncodesFollowed}
+use Rattle.gt_c.specs.Calling.{EncodesMapped}
 use Rattle.gt_c.specs.Calling.{EncodesRecorded, EncodesUnmapped, KeepsAtMost, Reserves, TakesAll, dom_of, ref_at}
 use Rattle.gt_c.specs.Calling.{outcome, outcome_frames, outcome_size, outcome_version}
 use Rattle.gt_attached.specs.declared.several.MapRequest.{MapRequest}
@@ -31,7 +32,7 @@ use Rattle.gt_c.specs.Reports.{no_mapping, no_copy_places, no_record}
 -- this entry is granted
 abbrev pub GrantsEntry : ℕ → Entry → EncodedAnswer → Option CDomain → Option CDomain → Type 0
 GrantsEntry gref entry answer before after =
-    CallsAttached before after answer (EncodesDone (requests.Grant (ref_at gref) entry) answer)
+    CallsGranting (ref_at gref) before after answer (EncodesDone (requests.Grant (ref_at gref) entry) answer)
 
 -- one of the domain's pages is granted
 abbrev pub GrantsPage : ℕ → ℕ → ℕ → ℕ → EncodedAnswer → Option CDomain → Option CDomain → Type 0
@@ -49,13 +50,13 @@ GrantsVia gref to dom2 ref2 ro answer before after = GrantsEntry gref (via to do
 -- the entry that the bytes encode is granted
 abbrev pub GrantsBytes : ℕ → EntryBytes → EncodedAnswer → Option CDomain → Option CDomain → Type 0
 GrantsBytes gref bytes answer before after =
-    CallsAttached before after answer (λ d e.
+    CallsGranting (ref_at gref) before after answer (λ d e.
     (s : Bor (List ℕ)) × (s.now ≡ spelled bytes) × EncodesDone (requests.GrantBytes (ref_at gref) s) answer d e)
 
 -- an entry follows the bytes that its guest keeps for it
 abbrev pub FollowsEntryBytes : ℕ → EntryBytes → EncodedAnswer → Option CDomain → Option CDomain → Type 0
 FollowsEntryBytes gref bytes answer before after =
-    CallsAttached before after answer (EncodesFollowed (ref_at gref) (spelled bytes) answer)
+    CallsGranting (ref_at gref) before after answer (EncodesFollowed (ref_at gref) (spelled bytes) answer)
 
 -- an entry is revoked, withdrawn, demoted, promoted
 abbrev pub RevokesEntry : ℕ → EncodedAnswer → Option CDomain → Option CDomain → Type 0

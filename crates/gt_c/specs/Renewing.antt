@@ -3,6 +3,7 @@ use Rattle.std.specs.Prelude.{◌≡◌, ◌⊎◌, Option}
 use Rattle.gt_attached.specs.Renewing.{FindsDifference, GrantsAllOf}
 use Rattle.gt_c.specs.Calling.{EncodesResult, MadeOn, MayBeCalled, TurnedAway, outcome}
 use Rattle.gt_c.specs.Prelude.{CDomain, EncodedAnswer, GrantRef, StaysIdle, encoded, may}
+use Rattle.gt_c.specs.Grantees.{KeepsGrantees, NotesAll}
 use Rattle.gt_c.specs.Reports.{outcome_reference}
 
 -- no call was made, since one of two handles has no domain, or one in a copy: both are unchanged, and the answer gives
@@ -19,10 +20,10 @@ CallsOnBoth answer before after other_before other_after Holds =
     BothTurnedAway answer before after other_before other_after
     ⊎ MadeOn before after (λ d e. MadeOn other_before other_after (λ f g. Holds d e f g))
 
--- the domain granted each valid entry of the other, which is unchanged, and the answer encodes the result
+-- the domain granted each valid entry of the other, which is unchanged, and noted to whom; the answer encodes the result
 abbrev pub EncodesGrants : EncodedAnswer → CDomain → CDomain → CDomain → CDomain → Type 0
 EncodesGrants answer d e f g =
-    (g ≡ f)
+    NotesAll d e × (g ≡ f)
     × EncodesResult outcome
     (λ r. GrantsAllOf may d.attached.monitor d.attached.domain f.attached.domain r e.attached.domain) answer d e
 
@@ -32,6 +33,8 @@ GrantsAllOfHandle answer before after other_before other_after =
 
 -- the entries of two domains were compared, and the answer encodes the least reference that is not alike in both
 pub record EncodesDifference (answer : EncodedAnswer) (d e f g : CDomain) : Type 0 where
+  pub grantees : KeepsGrantees d e
+  pub other_grantees : KeepsGrantees f g
   pub found : Option GrantRef
   pub encodes : answer ≡ encoded (outcome_reference found)
   pub stays : StaysIdle d.attached e.attached

@@ -8,11 +8,13 @@ use Rattle.gt_c.specs.Prelude.{slice_get, Denial, Record, Spot, HeldPin, CopyArg
 use Rattle.gt_c.specs.Prelude.{Handle, value_of, encoded, no_end, record_kept, BeginsAccess, EndsAccess, EncodedAnswer}
 use Rattle.gt_c.specs.Prelude.{AttachedOutcome, CopyPlaces, CopyEnd, may, Control, EntryKind, EntryStatus, GrantRef}
 use Rattle.gt_c.specs.Prelude.{LooksAtOwn, StaysIdle, EncodedRecord, CopySettings, PlaceReport, PlacesReport}
-use Rattle.gt_c.specs.Prelude.{MappedFrame, CDomain}
+use Rattle.gt_c.specs.Prelude.{MappedFrame, CDomain, DomId}
+use Rattle.gt_model.specs.Words.{is_kind}
 use Rattle.gt_model.specs.declared.control.EntryKind.TheVariants.{Invalid, Page, Sub, Via}
 use Rattle.gt_attached.specs.declared.answer.AttachedOutcome.TheVariants as outcomes
 use Rattle.gt_attached.specs.Unused.{FindsUnused}
 use Rattle.gt_c.specs.Calling.{KeepsRun}
+use Rattle.gt_c.specs.Grantees.{KeepsGrantees, grantee_of}
 
 -- an end of a copy as C passes it
 abbrev pub end_asked : CopyEnd → End
@@ -77,7 +79,7 @@ CopyEnds answer None after = (after ≡ None) × (answer ≡ encoded outcomes.No
 CopyEnds answer (Some d) None = ⊥
 CopyEnds answer (Some d) (Some e) =
     ((d.attached.copying ≡ None) × (e ≡ d) × (answer ≡ encoded outcomes.NoCopy))
-    ⊎ (KeepsRun d e × EndsAccess d.attached e.attached
+    ⊎ (KeepsRun d e × KeepsGrantees d e × EndsAccess d.attached e.attached
     × ((left : CopyWords) × EndsAccessTo left d.attached e.attached × (answer ≡ encoded (outcomes.Ended left))))
 
 -- no mapping
@@ -141,12 +143,16 @@ read_only_code false = 0
 
 -- no entry
 abbrev pub no_entry : EntryStatus
-no_entry = record { kind = 0; generation = 0; reads = 0; writes = 0; to = 0; read_only = 0 }
+no_entry = record { kind = 0; generation = 0; reads = 0; writes = 0; to = 0; read_only = 0; granted_to = 0 }
 
--- an entry as C reads it
-abbrev pub entry_status : Option Control → EntryStatus
-entry_status None = no_entry
-entry_status (Some c) =
+-- the domain that an entry with this control permits, or permitted last, which was this one if it is invalid
+abbrev pub granted_to : DomId → Control → DomId
+granted_to last c = if is_kind c.kind Invalid then last else c.dom
+
+-- an entry as C reads it; it was last granted to this domain
+abbrev pub entry_status : DomId → Option Control → EntryStatus
+entry_status last None = no_entry
+entry_status last (Some c) =
     record {
       kind = kind_code c.kind;
       generation = c.generation;
@@ -154,6 +160,7 @@ entry_status (Some c) =
       writes = c.writes;
       to = c.dom.0;
       read_only = read_only_code c.ro;
+      granted_to = (granted_to last c).0;
     }
 
 -- the result of a search for a reference
@@ -168,10 +175,10 @@ pub record EncodesUnused (from : ℕ) (answer : EncodedAnswer) (d e : CDomain) :
   pub stays : StaysIdle d.attached e.attached
   pub finds : FindsUnused d.attached.monitor.words.layout d.attached.domain from found e.attached.domain
 
--- a look at this entry, if the domain's table has it, found this
+-- a look at this entry, if the domain's table has it, found this, beside the domain to which it was last granted
 pub record EncodesEntry (gref : GrantRef) (entry : EntryStatus) (answer : EncodedAnswer) (d e : CDomain) : Type 0 where
   pub found : Option Control
   pub encodes : answer ≡ encoded (outcome_present found)
-  pub shown : entry ≡ entry_status found
+  pub shown : entry ≡ entry_status (grantee_of d gref) found
   pub stays : StaysIdle d.attached e.attached
   pub looks : LooksAtOwn d.attached.monitor.words.layout d.attached.domain gref found e.attached.domain

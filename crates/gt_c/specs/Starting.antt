@@ -3,6 +3,7 @@ use Rattle.std.specs.Prelude.{◌≡◌, ◌≢◌, ◌⊎◌, ℕ, true, List, 
 use Rattle.std.specs.List.{list_any}
 use Rattle.gt_c.specs.Prelude.{Begins, DomainSettings, EncodedFault, DomainHandle, CDomain, IsFaultOf, Seated, Table}
 use Rattle.gt_c.specs.Prelude.{no_fault, wrong_handles}
+use Rattle.gt_c.specs.Grantees.{unnoted}
 use Rattle.gt_start.specs.Beginning.{IsLabelNamed, IsNameFault, IsNoLabel, IsPolicyMeaning}
 use Rattle.gt_policy.specs.Allowing.{Meaning, type_named}
 use Rattle.gt_c.specs.declared.beginning.NameReport.{NameReport}
@@ -12,9 +13,9 @@ use Rattle.gt_c.specs.declared.beginning.TypeReport.{TypeReport}
 abbrev pub domain_of_handle : DomainHandle → Option CDomain
 domain_of_handle h = h.held.value
 
--- a domain of the run with this number, as a handle holds it
+-- a domain of the run with this number, as a handle holds it: it has granted no entry
 abbrev pub c_domain_of : ℕ → Seated Table → CDomain
-c_domain_of run g = record { attached = g; run = run }
+c_domain_of run g = record { attached = g; run = run; granted = unnoted }
 
 -- a handle has this domain
 abbrev pub filled_handle : CDomain → Option CDomain

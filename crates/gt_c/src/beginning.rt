@@ -7,6 +7,7 @@ ghost use Rattle.gt_c.specs.Starting.{StartsWith, ReportsName, ReportsType, doma
 ghost use Rattle.gt_c.specs.Starting.{filled_handle};
 
 use crate::c_domain::CDomain;
+use crate::grantees::Grantees;
 use crate::handle::DomainHandle;
 use crate::lending::lent_mut;
 use gt_allow::AllowTable;
@@ -24,7 +25,15 @@ fn boxed(
 {
     let mut all = Vec::new(alloc);
     for attached in guests {
-        let lent = Box::new(alloc, CDomain { attached, run })?;
+        let granted = Grantees::new(alloc)?;
+        let lent = Box::new(
+            alloc,
+            CDomain {
+                attached,
+                run,
+                granted,
+            },
+        )?;
         all.push(lent)?;
     }
     Ok(all)

@@ -2,10 +2,12 @@
 ghost use Rattle.std.specs.Prelude.{◌≡◌};
 ghost use Rattle.gt_types.specs.declared.denial.Rule.TheVariants.{N1, N21};
 ghost use Rattle.gt_c.specs.Asking.{page, spelled, sub, via};
-ghost use Rattle.gt_c.specs.Calling.{outcome_followed, Within16};
+ghost use Rattle.gt_c.specs.Calling.{outcome_followed, ref_at, Within16};
+ghost use Rattle.gt_c.specs.Grantees.{noted_at};
 ghost use Rattle.gt_c.specs.Promises.{DemotesEntry, FollowsEntryBytes, GrantsBytes, GrantsPage, GrantsEntry, GrantsSub};
 ghost use Rattle.gt_c.specs.Promises.{GrantsVia, Promotes, RevokesEntry, WithdrawsEntry};
 
+use crate::c_domain::CDomain;
 use crate::calls::{MOST, done, refused_number, turned_away};
 use crate::handle::DomainHandle;
 use crate::lending::lent_mut;
@@ -75,6 +77,16 @@ fn via(to: u16, dom2: u16, ref2: u32, ro: u32) -> Entry
     }
 }
 
+// Notes to whom this entry is granted, as the domain has it.
+#[inline(always)]
+pub(crate) fn note(lent: &mut CDomain, gref: u32)
+    ensures { lent.new ≡ noted_at (ref_at gref) lent.old }
+{
+    let gref = GrantRef(gref);
+    let entry = lent.attached.entry_at(gref);
+    lent.granted.note(gref, entry);
+}
+
 // Grants an entry of the caller.
 fn grant_entry(domain: &mut DomainHandle, gref: u32, entry: Entry) -> EncodedAnswer
     ensures { GrantsEntry gref entry result domain.old.held.value domain.new.held.value }
@@ -83,7 +95,9 @@ fn grant_entry(domain: &mut DomainHandle, gref: u32, entry: Entry) -> EncodedAns
         return answer;
     }
     let lent = lent_mut(&mut domain.held);
-    EncodedAnswer::of(done(lent.attached.grant(GrantRef(gref), &entry)))
+    let answer = EncodedAnswer::of(done(lent.attached.grant(GrantRef(gref), &entry)));
+    note(lent, gref);
+    answer
 }
 
 /// Grants a page of the caller to a domain, for reading only if `ro` is not 0.
@@ -172,7 +186,11 @@ pub extern "C" fn gthost_grant_bytes_at(
         return answer;
     }
     let lent = lent_mut(&mut domain.held);
-    EncodedAnswer::of(done(lent.attached.grant_bytes(GrantRef(gref), spelled(&bytes))))
+    let answer = EncodedAnswer::of(done(
+        lent.attached.grant_bytes(GrantRef(gref), spelled(&bytes)),
+    ));
+    note(lent, gref);
+    answer
 }
 
 /// Brings an entry of the caller to what its guest has written: the bytes are the guest's entry as its memory has them.
@@ -188,7 +206,10 @@ pub extern "C" fn gthost_follow_at(
         return answer;
     }
     let lent = lent_mut(&mut domain.held);
-    EncodedAnswer::of(followed_outcome(lent.attached.follow(GrantRef(gref), spelled(&bytes))))
+    let followed = lent.attached.follow(GrantRef(gref), spelled(&bytes));
+    let answer = EncodedAnswer::of(followed_outcome(followed));
+    note(lent, gref);
+    answer
 }
 
 /// Makes an entry of the caller invalid if it has no pins.

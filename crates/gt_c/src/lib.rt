@@ -18,6 +18,7 @@ mod c_domain;
 mod calls;
 mod copies;
 mod faults;
+mod grantees;
 mod grants;
 mod handle;
 mod held;
@@ -29,6 +30,7 @@ mod reports;
 mod rules;
 mod tables;
 
+pub use grantees::{Grantees, NOBODY};
 pub use grants::EntryBytes;
 pub use handle::DomainHandle;
 pub use mappings::MapHandle;

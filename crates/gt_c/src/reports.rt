@@ -3,7 +3,8 @@ ghost use Rattle.std.specs.Prelude.{◌≡◌};
 ghost use Rattle.gt_c.specs.Calling.{outcome_reserved};
 ghost use Rattle.gt_c.specs.Promises.{Bounds, MakesRoom, TakesRecords, ReportsEntry, ReportsMapping, ReportsRecord};
 ghost use Rattle.gt_c.specs.Promises.{SearchesUnused};
-ghost use Rattle.gt_c.specs.Reports.{entry_status, kept_record, kind_code, mapping_report, no_entry, no_mapping};
+ghost use Rattle.gt_c.specs.Reports.{entry_status, granted_to, kept_record, kind_code, mapping_report, no_entry};
+ghost use Rattle.gt_c.specs.Reports.{no_mapping};
 ghost use Rattle.gt_c.specs.Reports.{no_record, outcome_present, outcome_reference, read_only_code};
 
 use crate::calls::turned_away;
@@ -13,7 +14,7 @@ use crate::mappings::{MapHandle, handle_named};
 use gt_attached::{AttachedOutcome, CopyEnd, EncodedAnswer, EncodedRecord, writes};
 use gt_calls::HeldPin;
 use gt_entry::{Control, EntryKind};
-use gt_types::{GrantRef, Memory};
+use gt_types::{DomId, GrantRef, Memory};
 use std::alloc::Global;
 
 /// What is mapped: this frame of this owner, by this entry. `writes` is 1 if it may be written, else 0.
@@ -35,7 +36,7 @@ pub struct MappingReport {
 }
 
 /// What a look at an entry found: its kind (0 Invalid, 1 Page, 2 Sub, 3 Via), its generation, its pins, the domain that
-/// it permits, and 1 if it is read-only.
+/// it permits, 1 if it is read-only, and the domain to which it was last granted (65,535 if it never was).
 #[repr(C)]
 #[derive(Clone, Copy)]
 pub struct EntryStatus {
@@ -45,6 +46,7 @@ pub struct EntryStatus {
     pub writes: u32,
     pub to: u32,
     pub read_only: u32,
+    pub granted_to: u32,
 }
 
 /// Whether the table has such an entry, and what a look found: all zeros if it has none.
@@ -118,12 +120,24 @@ fn no_entry() -> EntryStatus
         writes: 0,
         to: 0,
         read_only: 0,
+        granted_to: 0,
     }
 }
 
-// Converts what a look found, if there is such an entry.
-fn entry_status(found: Option<Control>) -> EntryStatus
-    ensures { result ≡ entry_status found }
+// Returns the domain that an entry permits, or permitted last, which was `last` if it is invalid.
+fn granted_to(last: DomId, control: Control) -> DomId
+    ensures { result ≡ granted_to last control }
+{
+    if matches!(control.kind, EntryKind::Invalid) {
+        last
+    } else {
+        control.dom
+    }
+}
+
+// Converts what a look found, if there is such an entry, which was last granted to this domain.
+fn entry_status(last: DomId, found: Option<Control>) -> EntryStatus
+    ensures { result ≡ entry_status last found }
 {
     match found {
         None => no_entry(),
@@ -134,6 +148,7 @@ fn entry_status(found: Option<Control>) -> EntryStatus
             writes: u32::from(control.writes),
             to: u32::from(control.dom.0),
             read_only: read_only_code(control.ro),
+            granted_to: u32::from(granted_to(last, control).0),
         },
     }
 }
@@ -227,7 +242,7 @@ pub extern "C" fn gthost_entry_at(domain: &mut DomainHandle, gref: u32) -> Entry
     let lent = lent_mut(&mut domain.held);
     let found = lent.attached.status(GrantRef(gref));
     let answer = EncodedAnswer::of(present(&found));
-    let entry = entry_status(found);
+    let entry = entry_status(lent.granted.last(GrantRef(gref)), found);
     EntryReport { answer, entry }
 }
 

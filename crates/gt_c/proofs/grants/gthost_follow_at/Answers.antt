@@ -11,7 +11,7 @@ use Rattle.gt_c.specs.Asking.{spelled}
 use Rattle.gt_c.specs.Calling.{EncodesFollowed, outcome_followed, ref_at}
 use Rattle.gt_c.specs.Prelude.{may}
 use Rattle.gt_c.specs.declared.c_domain.CDomain.{CDomain}
-use Rattle.gt_c.proofs.Made.{idle-there, made}
+use Rattle.gt_c.proofs.Made.{idle-there, made-granting}
 use Rattle.gt_c.proofs.grants.gthost_follow_at.Goals as goal
 
 -- the bytes followed are those that C passed
@@ -26,11 +26,11 @@ passed d e gref bytes asked answer result same encodes stays follows =
       holds = subst (λ (xs : List ℕ). Follows may d.attached.monitor d.attached.domain gref xs result e.attached.domain) same follows;
     }
 
-pub follow-requires : goal.follow-requires
-follow-requires c = record { idle = idle-there c.args.domain.now.held.value (c.turned_away.ensures.may c.in_default.is) c.lent_mut-lent.ensures.value }
+pub follow-followed-requires : goal.follow-followed-requires
+follow-followed-requires c = record { idle = idle-there c.args.domain.now.held.value (c.turned_away.ensures.may c.in_default.is) c.lent_mut-lent.ensures.value }
 
 pub returns : goal.returns
 returns c =
-    made c.of.result (EncodesFollowed (ref_at c.args.gref) (spelled c.args.bytes) c.of.result) (c.turned_away.ensures.may c.in_default.is) c.lent_mut-lent.ensures.value
-    (passed _ _ (ref_at c.args.gref) c.spelled.result.now (spelled c.args.bytes) c.of.result c.follow.result c.spelled.ensures
-    (c.of.ensures ∙ ap encoded c.followed_outcome.ensures) c.follow.ensures.stays c.follow.ensures.follows)
+    made-granting (ref_at c.args.gref) c.of-answer.result (EncodesFollowed (ref_at c.args.gref) (spelled c.args.bytes) c.of-answer.result) (c.turned_away.ensures.may c.in_default.is) c.lent_mut-lent.ensures.value c.note.ensures
+    (passed _ _ (ref_at c.args.gref) c.spelled.result.now (spelled c.args.bytes) c.of-answer.result c.follow-followed.result c.spelled.ensures
+    (c.of-answer.ensures ∙ ap encoded c.followed_outcome.ensures) c.follow-followed.ensures.stays c.follow-followed.ensures.follows)

@@ -24,7 +24,7 @@ returns c =
     λ foreign. c.store_released.ensures
     ∙ ap (λ (r : Result LeftWord Denial). encoded (outcome_released r)) (c.unmap-answered.ensures.absent (c.handle_named-handle.ensures.foreign foreign)) in
     made answer (λ d e. EncodesUnmapped (requests.Unmap (handle_named d c.args.name.now)) hypercalls.Unmap (handle_named d c.args.name.now) answer d e × RefusesForeign d c.args.name.now (outcomes.Denied (denial_of N6 facts.None)) answer) (c.is_turned_away.ensures.may c.if-is_turned_away.false) c.lent_mut-lent.ensures.value (
-      subst (λ (h : Handle). EncodesUnmapped (requests.Unmap h) hypercalls.Unmap h answer x (record { attached = c.unmap-answered.new.self; run = x.run }))
+      subst (λ (h : Handle). EncodesUnmapped (requests.Unmap h) hypercalls.Unmap h answer x (record x { attached = c.unmap-answered.new.self }))
           c.handle_named-handle.ensures.value
           (record {
             result = c.unmap-answered.result;

@@ -1,4 +1,4 @@
-use Rattle.std.proofs.Common.{ap, ◌∙◌}
+use Rattle.std.proofs.Common.{ap, refl, ◌∙◌}
 use Rattle.gt_attached.specs.Encoding.{encoded}
 use Rattle.gt_c.specs.Renewing.{EncodesDifference}
 use Rattle.gt_c.proofs.BothMade.{made-both}
@@ -18,6 +18,8 @@ returns c =
     let may = c.both_turned_away.ensures.may c.in_default.is in
     made-both c.of.result (EncodesDifference c.of.result) may.0 c.lent_mut-lent.ensures.value may.1 c.lent_mut-compared.ensures.value
     (record {
+      grantees = refl;
+      other_grantees = refl;
       found = c.first_difference-found.result;
       encodes = c.of.ensures ∙ ap encoded c.reference.ensures;
       stays = c.first_difference-found.ensures.stays;

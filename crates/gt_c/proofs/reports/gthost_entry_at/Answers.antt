@@ -1,7 +1,8 @@
 use Rattle.std.proofs.Common.{◌≡◌, ap, ◌∙◌}
 use Rattle.gt_attached.specs.Encoding.{encoded}
 use Rattle.gt_c.specs.Calling.{ref_at}
-use Rattle.gt_c.specs.Reports.{no_entry, EncodesEntry}
+use Rattle.gt_types.specs.declared.DomId.{DomId}
+use Rattle.gt_c.specs.Reports.{entry_status, no_entry, EncodesEntry}
 use Rattle.gt_c.proofs.Made.{idle-there, made-telling}
 use Rattle.gt_c.proofs.reports.gthost_entry_at.Goals as goal
 
@@ -14,7 +15,7 @@ returns c =
     (record {
       found = c.status-found.result;
       encodes = c.of-answer.ensures ∙ ap encoded c.present.ensures;
-      shown = c.entry_status-entry.ensures;
+      shown = c.entry_status-entry.ensures ∙ ap (λ (d : DomId). entry_status d c.status-found.result) c.last.ensures;
       stays = c.status-found.ensures.stays;
       looks = c.status-found.ensures.looks;
     })
