@@ -99,11 +99,12 @@ Made by \`tools/wrong_bodies_list.sh\` from the edits themselves; don't edit it.
 Each line is a body that the proofs refuse: an edit of a crate, and what it would do. The gate tries
 $(count must-fail) of them (\`must-fail/\`), those that a definition of meaning refuses. The other $(count wrong-bodies)
 (\`wrong-bodies/\`) are tried by \`tools/wrong_bodies.sh CRATE\`, which whoever changes a crate runs for it. Those of
-\`gt_command_line\`, \`gt_flow_command\` and \`gt_neverallow\`, most of \`gt_program\` and
-\`gt_file_commands\`, and some of other crates wait for such a run: six of \`gt_attached\`, twelve of \`gt_c\`, nine
-of \`gt_check_command\`, one of \`gt_explore\`, three of \`gt_fault_reasons\`, three of \`gt_neverflow\`, ten of \`gt_explore_answers\`, seven of \`gt_explore_moves\`, one
-of \`gt_explore_verdict\` (\`a_choice_in_a_bracket_must_hold\`), nine of
-\`gt_live\`, six of \`gt_policy_flow\`, six of \`gt_start\` and two of \`gt_words\`.
+\`gt_command_line\`, \`gt_explore_choices\`, \`gt_flow_command\` and \`gt_neverallow\`, most of \`gt_program\` and
+\`gt_file_commands\`, and some of other crates wait for such a run: twelve of \`gt_attached\`, 22 of \`gt_c\`,
+nine of \`gt_check_command\`, one of \`gt_explore\`, ten of \`gt_explore_answers\`, seven of
+\`gt_explore_moves\`, one of \`gt_explore_verdict\` (\`a_choice_in_a_bracket_must_hold\`), three of
+\`gt_fault_reasons\`, two of \`gt_findings\`, nine of \`gt_live\`, three of \`gt_neverflow\`, ten of
+\`gt_policy_flow\`, nine of \`gt_start\` and two of \`gt_words\`.
 
 A lock round the words of an entry can't be written as an edit: taking one asks for a bound \`Wait\`, and
 no call of \`gt_words\` on words has it.
