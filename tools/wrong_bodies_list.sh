@@ -103,8 +103,8 @@ $(count must-fail) of them (\`must-fail/\`), those that a definition of meaning 
 \`gt_file_commands\`, and some of other crates wait for such a run: twelve of \`gt_attached\`, 22 of \`gt_c\`,
 nine of \`gt_check_command\`, one of \`gt_explore\`, ten of \`gt_explore_answers\`, seven of
 \`gt_explore_moves\`, one of \`gt_explore_verdict\` (\`a_choice_in_a_bracket_must_hold\`), three of
-\`gt_fault_reasons\`, two of \`gt_findings\`, nine of \`gt_live\`, three of \`gt_neverflow\`, ten of
-\`gt_policy_flow\`, nine of \`gt_start\` and two of \`gt_words\`.
+\`gt_fault_reasons\`, nine of \`gt_live\`, three of \`gt_neverflow\`, six of \`gt_policy_flow\`, nine of
+\`gt_start\` and two of \`gt_words\`.
 
 A lock round the words of an entry can't be written as an edit: taking one asks for a bound \`Wait\`, and
 no call of \`gt_words\` on words has it.
