@@ -73,8 +73,8 @@ fn united(alloc: Global, all: Gathered) -> Result<UnitedTexts, TextsFault>
 }
 
 /// Returns the texts that these choices of a script may give: all of them if the searches meet at most `limit` states
-/// together and their watch ends none, and otherwise those that they found until then. A choice in which a domain waits
-/// for ever is no script for `run`. It gives no text, and is counted.
+/// together and their watch ends none, and otherwise those that they found until then. `run` refuses a choice in which a
+/// domain waits for ever. Such a choice gives no text, and is counted.
 ///
 /// # Errors
 /// `Play` with the first fault of a choice as a script; `Texts` with a fault of a search, or if an allocation failed.
