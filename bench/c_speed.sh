@@ -21,6 +21,7 @@ if [ -z "$library" ]; then
   library="$work/library"
   ./tools/library.sh "$library" >"$work/log" 2>&1 || { cat "$work/log"; exit 1; }
 fi
+tools/inlined.py "$library/libgthost.a" # what the sources call inline(always) is inlined
 "${CC:-clang}" -std=c11 -O2 -pthread -I"$library" bench/c/speed.c "$library/libgthost.a" -o "$work/c"
 cp "$(built bench live apart 1 0)" "$work/rattle"
 

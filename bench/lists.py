@@ -179,6 +179,8 @@ class List:
         if self.rng.random() < 0.6:
             owner, gref, to = self.remembered(caller)
             return f"gref {owner} {gref} {self.off()}", to
+        if self.rng.random() < 0.3:
+            return "frame self 0 0", caller  # where the program in C has memory that is no frame
         dom = caller if self.rng.random() < 0.9 else self.dom()
         return f"frame {dom} {self.frame(caller)} {self.off()}", caller
 

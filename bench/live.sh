@@ -20,7 +20,7 @@
 # `bench/live.sh [RUNS] [TABLE]` makes so many runs of each program by turns (11), and takes from their time that of
 # no rounds. `PRIORITY='chrt -f 1' bench/live.sh` runs the programs before other work, but not those of as many threads
 # as there are processors: C's locks spin. `bench/live.sh 0` counts instructions alone. PROGRAM=FILE takes the built
-# program bench.
+# program bench. Before all that, tools/inlined.py sees that what the sources call `inline(always)` is inlined in it.
 set -euo pipefail
 
 # shellcheck source=bench/common.sh
@@ -31,6 +31,7 @@ work="$(mktemp -d)"
 trap 'rm -rf "$work"' EXIT
 
 cp "$(built bench live apart 1 0)" "$work/live"
+"$top/tools/inlined.py" "$work/live"
 ln "$work/live" "$work/words"
 "${CC:-clang}" -O2 -pthread -o "$work/counted" "$top/bench/live_tables.c"
 "${CC:-clang}" -O2 -pthread -DSPREAD -o "$work/spread" "$top/bench/live_tables.c"

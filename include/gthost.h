@@ -166,6 +166,7 @@ struct gthost_answer gthost_demote_at(struct gthost_domain *domain, uint32_t gre
 struct gthost_answer gthost_promote_at(struct gthost_domain *domain, uint32_t gref);
 struct gthost_found_entry gthost_entry_at(struct gthost_domain *domain, uint32_t gref);
 struct gthost_answer gthost_unused_at(struct gthost_domain *domain, uint32_t from);
+void gthost_mappings_at(struct gthost_domain *domain, size_t from, struct gthost_answer *answer);
 struct gthost_answer gthost_grant_all_of_at(struct gthost_domain *domain, struct gthost_domain *other);
 struct gthost_answer gthost_difference_at(struct gthost_domain *domain, struct gthost_domain *other);
 void gthost_map_at(struct gthost_domain *domain, uint32_t dom, uint32_t gref, uint32_t flags,
@@ -440,6 +441,23 @@ static inline struct gthost_found_mapping gthost_mapping(struct gthost_domain *d
 }
 
 /*
+ * Returns the mapping of the domain with the least key from `from` on: a GTHOST_HANDLE, as the answer to its map was, so
+ * that gthost_handle_of reads its name, and gthost_mapped_of what it maps. GTHOST_ABSENT if no key from there on has a
+ * mapping. A host that cleans up after a guest starts with 0, and goes on from the key of each name, plus 1. It looks at
+ * each key up to that one.
+ */
+static inline struct gthost_answer gthost_mappings(struct gthost_domain *domain, size_t from)
+{
+    struct gthost_answer answer;
+    if (domain) {
+        gthost_mappings_at(domain, from, &answer);
+    } else {
+        answer = gthost_null_answer();
+    }
+    return answer;
+}
+
+/*
  * Begins a copy: takes its pins, and returns the places that may be touched until gthost_copy_end. Until then every
  * other call on this handle gives GTHOST_BUSY, except gthost_finish and gthost_reset, which end the copy. Asks for the
  * permission copy. The program must touch only these bytes, and only until the end; the library can't check it. `len`
@@ -454,6 +472,26 @@ static inline struct gthost_begun_copy gthost_copy_begin(struct gthost_domain *d
         begun = gthost_null_copy();
     }
     return begun;
+}
+
+/*
+ * Begin a copy between a page of another domain and memory of the caller that is none of its frames: `grant.ptr` is a
+ * reference of the domain `grant.dom`. gthost_copy_in lets the program read `len` bytes at `places.from`, and
+ * gthost_copy_out lets it write them at `places.to`. It must touch no other place: the other end is its memory. The
+ * monitor decides these calls as copies whose other end is at offset 0 of the caller's frame 0, which each domain has. So
+ * their refusals and their pins are those of gthost_copy_begin, and a record names that frame. gthost_copy_end ends them.
+ */
+static inline struct gthost_begun_copy gthost_copy_in(struct gthost_domain *domain, struct gthost_end grant, uint32_t len)
+{
+    const struct gthost_copy copy = {grant, {0, GTHOST_DOMID_SELF, 0}, len, GTHOST_COPY_SOURCE_GREF};
+    return gthost_copy_begin(domain, copy);
+}
+
+static inline struct gthost_begun_copy gthost_copy_out(struct gthost_domain *domain, struct gthost_end grant,
+                                                       uint32_t len)
+{
+    const struct gthost_copy copy = {{0, GTHOST_DOMID_SELF, 0}, grant, len, GTHOST_COPY_DEST_GREF};
+    return gthost_copy_begin(domain, copy);
 }
 
 /*

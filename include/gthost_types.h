@@ -10,6 +10,7 @@
 struct gthost_domain {
     void *at;
     bool is_live;
+    bool is_ready;
 };
 
 /* The largest number of frames of a domain. The library keeps none of them. */
@@ -180,14 +181,14 @@ struct gthost_answer {
     uint32_t rule;   /* enum gthost_rule */
     int32_t status;  /* GNTST_ of xen/grant_table.h: 0, or negative if a rule refused the call */
     uint32_t kind;   /* enum gthost_kind */
-    uint32_t dom;
     uint32_t gref;
     uint32_t source;
     uint32_t target;
-    uint32_t detail;
     uint64_t word;
-    uint64_t value;
+    uint64_t value; /* this and the next three lie as in struct gthost_handle */
     uint64_t more;
+    uint32_t detail;
+    uint32_t dom;
 };
 
 /*

@@ -2,11 +2,11 @@
 """header.py: writes a C program that compiles only if the headers of include/ say what the Rattle side says.
 
 It reads the `#[repr(C)]` structs, the exports and the numbers of gt_c and of the crates below it, and declares and
-asserts them again, by the layout rules of C with pointers of 8 bytes: each export with its types, the size of each struct and the offset of each
-field, and the number of each name. A declaration that differs from the header's is an error of the compiler. What the
-one side has and the other has not is an error here, and so is an export of a pointer without a function of the header
-in front of it that tests the pointer. The same is done for the structs and functions of contrib/rust. The lines of the
-rules have to be those of `gthost rules`.
+asserts them again, by the layout rules of C with pointers of 8 bytes: each export with its types, the size of each
+struct and the offset of each field, and the number of each name. A declaration that differs from the header's is an
+error of the compiler. What the one side has and the other has not is an error here, and so is an export of a pointer
+without a function of the header in front of it that tests the pointer. The same is done for the structs and functions
+of contrib/rust. The lines of the rules have to be those of `gthost rules`. The version is the same wherever it stands.
 """
 
 import pathlib
@@ -40,10 +40,11 @@ SCALARS = {
 EMPTY = {"Global"}  # the allocator: it takes no bytes
 KINDS = {"Version": "TABLE_VERSION"}  # a name of the header, where it is no other spelling of the Rattle side's word
 ZEROS = {"GTHOST_OK", "GTHOST_NOTHING", "GTHOST_FAULT_NONE"}
-# Functions of the header that call no export.
+# Functions of the header that call no export, or only by another function of the header.
 OWN = {
-    "gthost_handle_of", "gthost_null_answer", "gthost_null_mapping", "gthost_null_entry", "gthost_null_record",
+    "gthost_copy_in", "gthost_copy_out", "gthost_handle_of", "gthost_null_answer", "gthost_null_mapping", "gthost_null_entry", "gthost_null_record",
     "gthost_null_copy", "gthost_mapped_of", "gthost_reads_in", "gthost_writes_in", "gthost_is_valid",
+    "gthost_copy_in", "gthost_copy_out",
 }
 # The limits of gt_types that the header names.
 LIMITS = {
@@ -259,14 +260,24 @@ def compare_free(said):
 
 
 def compare_versions(header, text):
-    """The version of the header, of the library and of the program is one."""
-    said = re.search(r"#define GTHOST_VERSION 0x(\w+)", header).group(1)
-    made = re.search(r"const VERSION: u32 = 0x(\w+);", text).group(1).replace("_", "")
-    line = (TOP / "crates" / "gt_command_line" / "src" / "line.rt").read_text(encoding="utf-8")
-    program = re.search(r'const VERSION: &str = "(\d+)\.(\d+)\.(\d+)', line).groups()
-    numbers = {int(said, 16), int(made, 16), sum(int(part) << shift for part, shift in zip(program, (16, 8, 0)))}
-    if len(numbers) > 1:
-        raise SystemExit(f"header: the versions of header, library and program differ: {sorted(numbers)}")
+    """The version of the header, of the library, of the program, of the wrapper in Rust and of the README is one."""
+    def number(*parts):
+        return sum(int(part) << shift for part, shift in zip(parts, (16, 8, 0)))
+
+    def of(path, line):
+        page = (TOP / path).read_text(encoding="utf-8")
+        return number(*re.search(line + r"(\d+)\.(\d+)\.(\d+)", page, re.M).groups())
+
+    said = {
+        "gthost.h": int(re.search(r"#define GTHOST_VERSION 0x(\w+)", header).group(1), 16),
+        "gt_c": int(re.search(r"const VERSION: u32 = 0x(\w+);", text).group(1).replace("_", ""), 16),
+        "gt_command_line": of("crates/gt_command_line/src/line.rt", '^const VERSION: &str = "'),
+        "contrib/rust": of("contrib/rust/Cargo.toml", '^version = "'),
+        "README.md": of("README.md", "Version "),
+        "CHANGELOG.md": of("CHANGELOG.md", r"^## \["),
+    }
+    if len(set(said.values())) > 1:
+        raise SystemExit(f"header: the versions differ: {', '.join(f'{at} {it:#08x}' for at, it in said.items())}")
 
 
 def compare_rules(text):

@@ -25,7 +25,7 @@ version=$((16#$hex >> 16)).$((16#$hex >> 8 & 255)).$((16#$hex & 255))
 # pkg-config --variable=commit gthost
 commit=$(git describe --always --abbrev=12 --exclude='*' --dirty=-changed 2>/dev/null || true)
 cat >"$dir/gthost.pc" <<PC
-prefix=$dir
+prefix=\${pcfiledir}
 commit=$commit
 Name: gthost
 Description: grant tables of a hypervisor

@@ -5,6 +5,8 @@
 # What is proved of those libraries already is taken over; the rest is proved first.
 # usage: tools/wrong_bodies.sh CRATE..                  all of them
 #        tools/wrong_bodies.sh CRATE=NAME,NAME..        these of a crate alone, from either folder
+#        tools/wrong_bodies.sh CRATE=waiting            those that wait for their first run
+# `tools/wrong_bodies_list.sh --tried CRATE [NAME..]` notes the day for those that were refused.
 set -euo pipefail
 top="$(cd "$(dirname "${BASH_SOURCE[0]}")/.." && pwd)"
 work="$(mktemp -d)"
@@ -34,6 +36,11 @@ try() {
     rm -rf "$room/crates/$name/must-fail"
   done
   mkdir "$room/crates/$crate/must-fail"
+  if [ "$names" = =waiting ]; then
+    names="=$(awk -v crate="$crate" '/^[^ #]/ { on = $1 == crate } on && /^ / { print $1 }' \
+      "$top/tools/wrong_bodies_tried.txt" | paste -sd,)"
+    [ "$names" != = ] || { echo "$crate has no body that waits" >&2; return 1; }
+  fi
   if [ -n "$names" ]; then
     for name in $(tr ',' ' ' <<<"${names#=}"); do
       cp "$top/crates/$crate"/{must-fail,wrong-bodies}/"$name".edit "$room/crates/$crate/must-fail/" 2>/dev/null || true

@@ -1,25 +1,89 @@
 #!/usr/bin/env bash
-# Writes docs/WRONG_BODIES.md from the edits, each of which says in its line `bug:` what it would do.
-# usage: tools/wrong_bodies_list.sh            writes the page
-#        tools/wrong_bodies_list.sh --check    says whether the page is as it would be written
+# Writes docs/WRONG_BODIES.md from the edits, each of which says in its line `bug:` what it would do, and from the table
+# of runs outside the gate. That has a line for each crate: its name, the day of its last run, and how many of its bodies
+# were refused. Below it are those that wait for their first run.
+# usage: tools/wrong_bodies_list.sh                         writes the page
+#        tools/wrong_bodies_list.sh --check                 says whether the page is as it would be written
+#        tools/wrong_bodies_list.sh --tried CRATE [NAME..]  notes that these were refused today, or all, and writes the page
+#        tools/wrong_bodies_list.sh --waits CRATE NAME..    notes that these new ones wait for a run, and writes the page
 set -euo pipefail
 cd "$(dirname "${BASH_SOURCE[0]}")/.."
 page=docs/WRONG_BODIES.md
+table=tools/wrong_bodies_tried.txt
 
 # The libraries of crates.txt in its order.
 crates() { sed -n 's/^\([a-z0-9_]*\)[ :].*/\1/p' crates.txt; }
 
-# One line for each edit of a folder.
+# One line for each edit of a folder. Those of the second argument wait for their first run.
 lines() {
-  local file
-  for file in "$1"/*.edit; do
-    [ -f "$file" ] || continue
-    grep -q '^bug: .' "$file" || { echo "$file has no line 'bug:'" >&2; return 1; }
-    printf -- '- `%s`: %s\n' "$(basename "$file" .edit)" "$(sed -n 's/^bug: //p' "$file" | head -n 1)"
-  done
+  awk -v waits=" $2 " '
+    function print_last() {
+      if (!bug) { print file " has no line '"'bug:'"'" >"/dev/stderr"; exit 1 }
+      name = file
+      gsub(/.*\/|\.edit$/, "", name)
+      printf "- `%s`%s: %s\n", name, index(waits, " " name " ") ? " (not tried yet)" : "", bug
+    }
+    FNR == 1 { if (file) print_last(); file = FILENAME; bug = "" }
+    /^bug: ./ && !bug { bug = substr($0, 6) }
+    END { if (file) print_last() }
+  ' "$1"/*.edit
 }
 
 count() { find crates/*/"$1" -name '*.edit' 2>/dev/null | wc -l; }
+
+# The names of a crate's edits outside the gate.
+outside() { find "crates/$1/wrong-bodies" -name '*.edit' 2>/dev/null | sed 's|.*/||; s/\.edit$//' | LC_ALL=C sort; }
+
+# The bodies of a crate that wait, the day of its last run, and how many were refused, by the table.
+waiting() { awk -v crate="$1" '/^[^ #]/ { on = $1 == crate } on && /^ / { print $1 }' "$table"; }
+day() { awk -v crate="$1" '$1 == crate && /^[^ #]/ { print $2 }' "$table"; }
+refused() { awk -v crate="$1" '$1 == crate && /^[^ #]/ { print $3 }' "$table"; }
+
+# Fails if the table has not each body outside the gate.
+check_table() {
+  local crate name
+  for crate in $(crates); do
+    for name in $(waiting "$crate"); do
+      [ -f "crates/$crate/wrong-bodies/$name.edit" ] || { echo "$table: $crate has no body $name" >&2; return 1; }
+    done
+    [ "$(outside "$crate" | wc -l)" -eq $(($(refused "$crate" | grep . || echo 0) + $(waiting "$crate" | wc -l))) ] ||
+      { echo "$table: $crate has other bodies: note new ones by $0 --tried or --waits" >&2; return 1; }
+  done
+}
+
+# The lines of the table on a crate: this day, and these bodies that wait.
+entry() {
+  local crate="$1" day="$2" count
+  shift 2
+  count=$(($(outside "$crate" | wc -l) - $#))
+  printf '%s %s %s\n' "$crate" "$day" "$count"
+  [ $# -eq 0 ] || printf '  %s\n' "$@"
+}
+
+# Puts bodies of a crate into the table: as refused today (`--tried`; no names: all), or as waiting (`--waits`).
+note() {
+  local kind="$1" crate="$2" names=("${@:3}") day rest=() name
+  [ -n "$(outside "$crate")" ] || { echo "$crate has no bodies outside the gate" >&2; return 1; }
+  [ ${#names[@]} -gt 0 ] || [ "$kind" = --waits ] || mapfile -t names < <(outside "$crate")
+  for name in "${names[@]}"; do
+    [ -f "crates/$crate/wrong-bodies/$name.edit" ] || { echo "$crate has no body $name" >&2; return 1; }
+  done
+  if [ "$kind" = --tried ]; then
+    day="$(date -u +%F)"
+    mapfile -t rest < <(comm -23 <(waiting "$crate" | LC_ALL=C sort) <(printf '%s\n' "${names[@]}" | LC_ALL=C sort))
+  else
+    day="$(day "$crate" | grep . || echo earlier)"
+    mapfile -t rest < <({ waiting "$crate" && printf '%s\n' "${names[@]}"; } | LC_ALL=C sort -u)
+  fi
+  {
+    sed '/^[^#]/,$d' "$table"
+    for name in $(crates); do
+      if [ "$name" = "$crate" ]; then entry "$crate" "$day" "${rest[@]}"; continue; fi
+      awk -v crate="$name" '/^[^ #]/ { on = $1 == crate } on && !/^#/' "$table"
+    done
+  } >"$table.new"
+  mv "$table.new" "$table"
+}
 
 # The bodies that were planted last, each in the words of who would suffer.
 planted() {
@@ -98,13 +162,8 @@ Made by \`tools/wrong_bodies_list.sh\` from the edits themselves; don't edit it.
 
 Each line is a body that the proofs refuse: an edit of a crate, and what it would do. The gate tries
 $(count must-fail) of them (\`must-fail/\`), those that a definition of meaning refuses. The other $(count wrong-bodies)
-(\`wrong-bodies/\`) are tried by \`tools/wrong_bodies.sh CRATE\`, which whoever changes a crate runs for it. Those of
-\`gt_command_line\`, \`gt_explore_choices\`, \`gt_flow_command\` and \`gt_neverallow\`, most of \`gt_program\` and
-\`gt_file_commands\`, and some of other crates wait for such a run: twelve of \`gt_attached\`, 22 of \`gt_c\`,
-nine of \`gt_check_command\`, one of \`gt_explore\`, ten of \`gt_explore_answers\`, seven of
-\`gt_explore_moves\`, one of \`gt_explore_verdict\` (\`a_choice_in_a_bracket_must_hold\`), three of
-\`gt_fault_reasons\`, nine of \`gt_live\`, three of \`gt_neverflow\`, six of \`gt_policy_flow\`, nine of
-\`gt_start\` and two of \`gt_words\`.
+(\`wrong-bodies/\`) are tried by \`tools/wrong_bodies.sh CRATE\`, which whoever changes a crate runs for it. Each crate
+has the day of its last run here, as far as it is known. $(grep -c '^ ' "$table") of the bodies wait for their first run: they are marked.
 
 A lock round the words of an entry can't be written as an edit: taking one asks for a bound \`Wait\`, and
 no call of \`gt_words\` on words has it.
@@ -144,15 +203,23 @@ END
   for crate in $(crates); do
     for folder in must-fail wrong-bodies; do
       [ -n "$(find "crates/$crate/$folder" -name '*.edit' 2>/dev/null | head -n 1)" ] || continue
-      if [ $folder = must-fail ]; then printf '\n## %s, in the gate\n\n' "$crate"; else printf '\n## %s, outside the gate\n\n' "$crate"; fi
-      lines "crates/$crate/$folder"
+      if [ $folder = must-fail ]; then
+        printf '\n## %s, in the gate\n\n' "$crate"
+        lines "crates/$crate/$folder" ""
+      else
+        printf '\n## %s, outside the gate\n\n' "$crate"
+        [[ "$(day "$crate")" != 2* ]] || printf 'Last run: %s.\n\n' "$(day "$crate")"
+        lines "crates/$crate/$folder" "$(waiting "$crate" | tr '\n' ' ')"
+      fi
     done
   done
 }
 
 if [ "${1:-}" = --check ]; then
+  check_table
   write | cmp - "$page" || { echo "$page is stale: run tools/wrong_bodies_list.sh" >&2; exit 1; }
 else
+  case "${1:-}" in --tried | --waits) note "$@" ;; esac
   write >"$page.new"
   mv "$page.new" "$page"
 fi

@@ -282,7 +282,15 @@ static void copy_begin(struct gthost_domain *domain, struct gthost_answer *answe
         narrow(11),
         (is(3, "gref") ? GTHOST_COPY_SOURCE_GREF : 0) | (is(7, "gref") ? GTHOST_COPY_DEST_GREF : 0),
     };
-    *answer = gthost_copy_begin(domain, copy).answer;
+    const bool is_home = copy.dest.ptr == 0 && copy.dest.off == 0 && copy.dest.dom == SELF;
+    const bool is_from_home = copy.source.ptr == 0 && copy.source.off == 0 && copy.source.dom == SELF;
+    if (copy.flags == GTHOST_COPY_SOURCE_GREF && is_home) {
+        *answer = gthost_copy_in(domain, copy.source, copy.len).answer;
+    } else if (copy.flags == GTHOST_COPY_DEST_GREF && is_from_home) {
+        *answer = gthost_copy_out(domain, copy.dest, copy.len).answer;
+    } else {
+        *answer = gthost_copy_begin(domain, copy).answer;
+    }
 }
 
 static void map(struct member *member, struct gthost_answer *answer)
@@ -300,6 +308,22 @@ static void map(struct member *member, struct gthost_answer *answer)
     }
     if (answer->rule == GTHOST_OK) {
         *handle(member, at(3), true) = name;
+        const struct gthost_handle next = gthost_handle_of(gthost_mappings(member->domain, name.key));
+        if (memcmp(&next, &name, sizeof name) != 0) {
+            stop("a mapping is not the next one from its key on");
+        }
+    }
+}
+
+static void unmap(struct member *member, struct gthost_answer *answer)
+{
+    const struct gthost_handle name = *handle(member, at(3), false);
+    *answer = gthost_unmap(member->domain, name);
+    if (answer->rule == GTHOST_OK) {
+        const struct gthost_answer next = gthost_mappings(member->domain, name.key);
+        if (next.rule == GTHOST_OK ? gthost_handle_of(next).key <= name.key : next.rule != GTHOST_ABSENT) {
+            stop("an unmapped mapping is still found");
+        }
     }
 }
 
@@ -350,7 +374,7 @@ static void call(struct member *member, struct gthost_answer *answer)
     } else if (is(2, "map")) {
         map(member, answer);
     } else if (is(2, "unmap")) {
-        *answer = gthost_unmap(domain, *handle(member, at(3), false));
+        unmap(member, answer);
     } else if (is(2, "copy")) {
         copy_begin(domain, answer);
         if (answer->rule == GTHOST_OK) {

@@ -270,9 +270,18 @@ static void leaves(void)
     WANT(GTHOST_ABSENT, 0, GTHOST_NOTHING);
     answer = gthost_unused(&domain[0], UINT32_MAX);
     WANT(GTHOST_ABSENT, 0, GTHOST_NOTHING);
+    answer = gthost_mappings(&domain[1], 0);
+    WANT(GTHOST_OK, 0, GTHOST_HANDLE);
+    HOLDS(gthost_handle_of(answer).key == name.key && gthost_handle_of(answer).serial == name.serial);
+    HOLDS(gthost_mapped_of(answer).owner == 1 && gthost_mapped_of(answer).gref == 7);
+    answer = gthost_mappings(&domain[1], name.key + 1);
+    WANT(GTHOST_ABSENT, 0, GTHOST_NOTHING);
     answer = gthost_unmap(&domain[1], name);
     WANT(GTHOST_OK, 0, GTHOST_RELEASED);
     HOLDS(!gthost_is_valid(answer.word) && gthost_reads_in(answer.word) == 0);
+    answer = gthost_mappings(&domain[1], 0);
+    WANT(GTHOST_ABSENT, 0, GTHOST_NOTHING);
+    HOLDS(gthost_mappings(&domain[1], SIZE_MAX).rule == GTHOST_ABSENT);
     HOLDS(gthost_entry(&domain[0], 7).entry.reads == 0);
     answer = gthost_grant_page(&domain[0], 7, 2, 5, 0);
     WANT(GTHOST_OK, 0, GTHOST_NOTHING);
@@ -370,6 +379,41 @@ static void copies(void)
     answer = gthost_copy_end(&domain[1]);
     WANT(GTHOST_NO_DOMAIN, 0, GTHOST_NOTHING);
     HOLDS(gthost_finish(&domain[0]).value == 0);
+}
+
+/* Copies between a granted page and memory of the program: the places of the page are those of any copy. */
+static void memory(void)
+{
+    struct gthost_settings two[] = {{1, 0, 8, 1, 2}, {2, 1, 1, 1, 1}};
+    const struct gthost_end grant = {7, 1, 100}, past = {7, 1, 4090}, none = {9, 1, 0};
+    struct gthost_domain domain[2] = {{0}};
+    struct gthost_begun_copy begun;
+    struct gthost_answer answer;
+    struct gthost_fault fault;
+    HOLDS(starts(two, 2, POLICY, domain, 2, &fault));
+    answer = gthost_grant_page(&domain[0], 7, 2, 5, 0);
+    WANT(GTHOST_OK, 0, GTHOST_NOTHING);
+    gthost_keep_at_most(&domain[1], 8);
+    begun = gthost_copy_in(&domain[1], grant, 30);
+    answer = begun.answer;
+    WANT(GTHOST_OK, 0, GTHOST_NOTHING);
+    HOLDS(begun.places.from.owner == 1 && begun.places.from.frame == 5 && begun.places.from.off == 100);
+    HOLDS(begun.places.len == 30 && gthost_entry(&domain[0], 7).entry.reads == 1);
+    answer = gthost_copy_end(&domain[1]);
+    WANT(GTHOST_OK, 0, GTHOST_ENDED);
+    begun = gthost_copy_out(&domain[1], grant, 3996);
+    answer = begun.answer;
+    WANT(GTHOST_OK, 0, GTHOST_NOTHING);
+    HOLDS(begun.places.to.owner == 1 && begun.places.to.frame == 5 && begun.places.to.off == 100);
+    HOLDS(begun.places.len == 3996 && gthost_entry(&domain[0], 7).entry.writes == 1);
+    answer = gthost_copy_end(&domain[1]);
+    WANT(GTHOST_OK, 0, GTHOST_ENDED);
+    HOLDS(gthost_entry(&domain[0], 7).entry.reads == 0 && gthost_entry(&domain[0], 7).entry.writes == 0);
+    HOLDS(gthost_copy_in(&domain[1], past, 7).answer.rule == GTHOST_N3);
+    HOLDS(gthost_copy_out(&domain[1], none, 7).answer.rule == GTHOST_N10);
+    const struct gthost_record record = gthost_record(&domain[1], 1).kept;
+    HOLDS(record.call == GTHOST_CALL_COPY && record.source.dom == GTHOST_DOMID_SELF && record.source.ptr == 0);
+    HOLDS(gthost_finish(&domain[1]).rule == GTHOST_OK && gthost_finish(&domain[0]).more == 0);
 }
 
 /* A guest of 16 TiB, and entries of frames that it doesn't have. A frame is only a number: the program keeps it. */
@@ -593,6 +637,7 @@ static void nulls(void)
     struct gthost_handle name = {0, 0, 0, 0};
     struct gthost_map_request request = {1, 7, GTHOST_MAP_READ_ONLY, 0, 0};
     const struct gthost_copy copy = {{0, 0, 0}, {0, 0, 0}, 0, 0};
+    const struct gthost_end end = {0, 0, 0};
     const struct gthost_entry_bytes entry = {8, {0}};
     const struct gthost_answer answers[] = {
         gthost_grant_page(NULL, 0, 0, 0, 0),   gthost_grant_sub(NULL, 0, 0, 0, 0, 0, 0),
@@ -613,6 +658,8 @@ static void nulls(void)
         gthost_difference(NULL, &none),        gthost_difference(&none, NULL),
         gthost_difference(&none, &none),       gthost_map_all(NULL, &request, 1, &name),
         gthost_map_all(&none, NULL, 1, &name), gthost_map_all(&none, &request, 1, NULL),
+        gthost_mappings(NULL, 0),              gthost_copy_in(NULL, end, 1).answer,
+        gthost_copy_out(NULL, end, 1).answer,
     };
     for (size_t i = 0; i < COUNT(answers); i++) {
         struct gthost_answer answer = answers[i];
@@ -632,6 +679,7 @@ int main(void)
     nulls();
     shares();
     copies();
+    memory();
     large();
     wide();
     records();

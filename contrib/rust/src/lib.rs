@@ -29,12 +29,22 @@ pub struct Domain {
 // what gthost.h asks.
 unsafe impl Send for Domain {}
 
+/// The mappings of a domain, each with its name, in the order of their keys.
+#[derive(Debug)]
+pub struct Mappings<'d> {
+    domain: &'d mut Domain,
+    from: usize,
+}
+
 /// A copy under way. When it is dropped, the copy ends and its pins are released.
 #[derive(Debug)]
 pub struct Copying<'d> {
     domain: &'d mut Domain,
     places: Places,
 }
+
+/// The number that names the caller.
+const DOMID_SELF: u32 = 0x7FF0;
 
 impl fmt::Debug for Domain {
     fn fmt(&self, f: &mut fmt::Formatter<'_>) -> fmt::Result {
@@ -119,6 +129,13 @@ fn judged(answer: raw::Answer) -> Result<raw::Answer, Refusal> {
         0 => Ok(answer),
         rule => Err(Refusal { rule: Rule::of(rule), status: answer.status, facts: facts(&answer) }),
     }
+}
+
+// The name and the mapping in the answer to a map, or to a search for a mapping.
+fn named(answer: raw::Answer) -> (Handle, Mapping) {
+    let handle = Handle { serial: answer.value, key: answer.more as usize, run: answer.detail, dom: answer.dom };
+    let mapping = Mapping { frame: answer.word, gref: answer.gref, owner: answer.source, writes: answer.target };
+    (handle, mapping)
 }
 
 // An entry of any other length than 8 or 16 bytes is refused, so no more of it is passed on.
@@ -252,10 +269,13 @@ impl Domain {
         let flags = if access == Access::Write { 2 } else { 6 };
         let mut answer = raw::Answer::default();
         unsafe { raw::gthost_map_at(&mut self.raw, dom, gref, flags, &mut answer) };
-        let answer = judged(answer)?;
-        let handle = Handle { serial: answer.value, key: answer.more as usize, run: answer.detail, dom: answer.dom };
-        let mapping = Mapping { frame: answer.word, gref: answer.gref, owner: answer.source, writes: answer.target };
-        Ok((handle, mapping))
+        judged(answer).map(named)
+    }
+
+    /// Returns its mappings, each with its name, in the order of their keys. There is none if the handle has no domain or
+    /// one in a copy.
+    pub fn mappings(&mut self) -> Mappings<'_> {
+        Mappings { domain: self, from: 0 }
     }
 
     /// Makes each of these maps, in order, or none: of an entry of a domain, with an access. Returns the names of the
@@ -296,6 +316,7 @@ impl Domain {
         let end = |side| match side {
             Side::Reference { dom, gref, off } => (End { ptr: gref.into(), dom, off }, true),
             Side::Frame { dom, frame, off } => (End { ptr: frame, dom, off }, false),
+            Side::Memory => (End { ptr: 0, dom: DOMID_SELF, off: 0 }, false),
         };
         let ((source, by_source), (dest, by_dest)) = (end(from), end(to));
         let asked = raw::Copying { source, dest, len, flags: u32::from(by_source) | u32::from(by_dest) << 1 };
@@ -373,6 +394,18 @@ impl Copying<'_> {
     /// Returns the bytes that may be touched while the copy is under way.
     pub fn places(&self) -> Places {
         self.places
+    }
+}
+
+impl Iterator for Mappings<'_> {
+    type Item = (Handle, Mapping);
+
+    fn next(&mut self) -> Option<Self::Item> {
+        let mut answer = raw::Answer::default();
+        unsafe { raw::gthost_mappings_at(&mut self.domain.raw, self.from, &mut answer) };
+        let found = judged(answer).ok().map(named)?;
+        self.from = found.0.key + 1;
+        Some(found)
     }
 }
 

@@ -21,14 +21,14 @@ pub struct Answer {
     pub rule: u32,
     pub status: i32,
     pub kind: u32,
-    pub dom: u32,
     pub gref: u32,
     pub source: u32,
     pub target: u32,
-    pub detail: u32,
     pub word: u64,
     pub value: u64,
     pub more: u64,
+    pub detail: u32,
+    pub dom: u32,
 }
 
 #[repr(C)]
@@ -155,6 +155,7 @@ extern "C" {
     pub fn gthost_reset_at(domain: &mut Domain) -> Answer;
     pub fn gthost_entry_at(domain: &mut Domain, gref: u32) -> FoundEntry;
     pub fn gthost_unused_at(domain: &mut Domain, from: u32) -> Answer;
+    pub fn gthost_mappings_at(domain: &mut Domain, from: usize, answer: &mut Answer);
     pub fn gthost_grant_all_of_at(domain: &mut Domain, other: &mut Domain) -> Answer;
     pub fn gthost_difference_at(domain: &mut Domain, other: &mut Domain) -> Answer;
     pub fn gthost_take_records_at(domain: &mut Domain) -> Answer;

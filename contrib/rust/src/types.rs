@@ -81,11 +81,14 @@ pub struct Mapping {
     pub(crate) writes: u32,
 }
 
-/// An end of a copy to ask for: a reference of a domain, or the number of one of the caller's own frames.
+/// An end of a copy to ask for: a reference of a domain, the number of one of the caller's own frames, or memory of the
+/// caller that is none of its frames. The place that is returned for memory means nothing: it is that of the caller's frame
+/// 0, which the record of the copy names too.
 #[derive(Clone, Copy, Debug, PartialEq, Eq)]
 pub enum Side {
     Reference { dom: u32, gref: u32, off: u32 },
     Frame { dom: u32, frame: u64, off: u32 },
+    Memory,
 }
 
 /// An end of a copy in a record: `ptr` is a reference, or the number of a frame, by the copy's flags.

@@ -88,6 +88,10 @@ fn a_copy_holds_its_pin_until_it_is_dropped() {
     assert_eq!((places.to.owner, places.to.frame, places.to.off, places.len), (1, 4, 100, 64));
     assert_eq!(front.revoke(3).unwrap_err().rule, Rule::N19);
     drop(copying);
+    let places = back.copy(theirs, Side::Memory, 64).unwrap().places();
+    assert_eq!((places.from.owner, places.from.frame, places.from.off, places.len), (1, 4, 100, 64));
+    let places = back.copy(Side::Memory, theirs, 64).unwrap().places();
+    assert_eq!((places.to.owner, places.to.frame, places.to.off, places.len), (1, 4, 100, 64));
     front.revoke(3).unwrap();
     assert_eq!(back.copy(own, theirs, 4000).err().unwrap().rule, Rule::N3);
 }
@@ -118,7 +122,10 @@ fn a_guest_that_leaves_is_mapped_no_more() {
     assert_eq!(front.unused(0), Ok(3));
     assert_eq!(back.map(1, 4, Access::Read).unwrap_err().rule, Rule::N10);
     assert_eq!(front.unmap(handle).unwrap_err().rule, Rule::N6);
+    let mapped: Vec<_> = back.mappings().map(|(name, mapping)| (name, mapping.owner, mapping.gref)).collect();
+    assert_eq!(mapped, [(handle, 1, 3)]);
     assert_eq!(back.unmap(handle).unwrap().pins(), 0);
+    assert_eq!(back.mappings().count(), 0);
     assert_eq!(front.entry(3).unwrap().writes, 0);
     assert_eq!(front.unused(0).unwrap_err().rule, Rule::ABSENT);
     assert_eq!(front.finish().in_use, 0);

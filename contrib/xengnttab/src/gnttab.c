@@ -968,7 +968,7 @@ static int16_t copy_one(struct dom *dom, const xengnttab_grant_copy_segment_t *s
                     : seg->source.virt, seg->len);
         return GNTST_okay;
     }
-    /* An end in plain memory is no frame of the domain: it is asked for as frame 0, which is kept free for this. */
+    /* An end in plain memory is asked for as gthost_copy_in and gthost_copy_out do: frame 0, which is kept free for this. */
     const struct gthost_end own = {0, dom->id, 0};
     struct gthost_copy copy = {own, own, seg->len, seg->flags};
     if (from) {

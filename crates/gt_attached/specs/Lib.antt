@@ -2,6 +2,7 @@ pub mod Decoding
 pub mod Encoding
 pub mod Recording
 pub mod Renewing
+pub mod Searching
 pub mod Seated
 pub mod Several
 pub mod Starting

@@ -106,16 +106,12 @@ pub struct EncodedAnswer {
     /// left or was reset, 10 taken records, 11 what was done to an entry that followed its guest's bytes, 12 the word
     /// that an unmap left, 13 the words that a copy left, 14 a reference, 15 a number of mappings that were added.
     pub kind: u32,
-    /// The domain of the header or entry whose word this carries, or the domain that has the mapping.
-    pub dom: u32,
     /// The reference of the entry whose word this carries, or of the entry that is mapped; or the reference found.
     pub gref: u32,
     /// The source type that the policy denies the permission, or the owner of the frame that is mapped.
     pub source: u32,
     /// The target type of the denied permission; or 1 for a mapping that may be written, else 0.
     pub target: u32,
-    /// The denied permission, as its bit; the number of the field, starting at 1; or the number of the mapping's run.
-    pub detail: u32,
     /// The word of the deciding look or exchange, the word that a release left, or the number of the mapped frame.
     pub word: u64,
     /// The serial of a handle, a number of frames, a version, the number of records that a domain had lost when it left
@@ -126,6 +122,10 @@ pub struct EncodedAnswer {
     /// The key of a handle, the maximum number of frames of a table, the number of entries still in use of a domain
     /// that left or was reset, the number of records lost before those taken, or the index of a refused map of several.
     pub more: u64,
+    /// The denied permission, as its bit; the number of the field, starting at 1; or the number of the mapping's run.
+    pub detail: u32,
+    /// The domain of the header or entry whose word this carries, or the domain that has the mapping.
+    pub dom: u32,
 }
 
 /// The `rule` of a call that was not made, since the handle has no domain.

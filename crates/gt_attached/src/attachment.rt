@@ -1,15 +1,18 @@
-//! A guest, which is a domain in its run and the copy that it is in, and the calls of an attached domain.
+//! A guest, which is a domain in its run and the copy that it is in, and the calls of an attached domain but those on
+//! mappings.
 ghost use Rattle.std.specs.Prelude.{◌≡◌, None, false};
 ghost use Rattle.gt_live.specs.Copies.{no_pending};
 ghost use Rattle.gt_live.specs.Domains.{BelongsTo};
 ghost use Rattle.gt_attached.specs.Seated.{LeavesRun, LeavesSettled, Settles, StandsBy, copy_in_place, seated};
 
+mod mappings;
+
 use crate::answer::{Departure, TakenCounts};
 use crate::attached::AttachedDomain;
 use gt_audit::{Record, Trail};
-use gt_calls::{CopyArgs, Handle, HeldPin, Spot};
+use gt_calls::{CopyArgs, Spot};
 use gt_entry::{Control, Entry};
-use gt_live::{CopyWords, Departed, Domain, Followed, LeftWord, Monitor, NewMapping, PendingCopy};
+use gt_live::{CopyWords, Departed, Domain, Followed, Monitor, PendingCopy};
 use gt_types::{Allows, Denial, DomId, GrantRef, Memory, Size};
 use std::alloc::Global;
 
@@ -98,25 +101,17 @@ impl Attachment {
 }
 
 impl<P: Allows + Drop> AttachedDomain<P> {
-    ghost use Rattle.std.specs.Prelude.{◌≡◌, ◌≤◌, Err, IfOk, IsSome, None, Ok, OnOk, OnErr, is_some};
+    ghost use Rattle.std.specs.Prelude.{◌≡◌, ◌≤◌, IsSome, None, OnOk, OnErr, is_some};
     ghost use Rattle.gt_audit.specs.Trails.{HasNone, AppendsRecord, KeepsRoom};
     ghost use Rattle.gt_audit.specs.declared.pieces.TheConstants.{MOST_RESERVED};
     ghost use Rattle.gt_audit.specs.declared.record.Hypercall.TheVariants as hypercalls;
     ghost use Rattle.gt_model.specs.declared.request.Request.TheVariants as requests;
-    ghost use Rattle.gt_live.specs.Domains.{Answered, AnswersQuietly, AnswersRecorded};
+    ghost use Rattle.gt_live.specs.Domains.{AnswersQuietly, AnswersRecorded};
     ghost use Rattle.gt_live.specs.Closing.{LooksAtOwn, Resets};
     ghost use Rattle.gt_live.specs.Following.{Follows, own_entry_at};
-    ghost use Rattle.gt_live.specs.Domains.{KeepsPinned, outcome_of, reply_of, subject_of};
-    ghost use Rattle.gt_live.specs.Releasing.{DropsTo, MapAdds};
-    ghost use Rattle.gt_live.specs.Domains.{record_of_result, verdict_of, verdict_of_frames, verdict_of_size};
+    ghost use Rattle.gt_live.specs.Domains.{verdict_of, verdict_of_frames, verdict_of_size};
     ghost use Rattle.gt_live.specs.Domains.{verdict_of_version};
-    ghost use Rattle.gt_live.specs.Mappings.{Removes, unused_handle};
-    ghost use Rattle.gt_model.specs.declared.held.HeldPin.{HeldPin as Pin};
-    ghost use Rattle.gt_live.specs.Parts.{mappings_of, seat_of, trail_of, with_trail, words_of};
-    ghost use Rattle.gt_types.specs.Denial.{denial_of};
-    ghost use Rattle.gt_types.specs.declared.denial.Facts.TheVariants as facts;
-    ghost use Rattle.gt_types.specs.declared.denial.Rule.TheVariants.{N6};
-    ghost use Rattle.gt_handles.specs.Handles.{value_of};
+    ghost use Rattle.gt_live.specs.Parts.{seat_of, trail_of, with_trail, words_of};
     ghost use Rattle.gt_attached.specs.Seated.{BeginsAccess, EndsAccess, EndsAccessTo, StaysIdle, taken_of};
     ghost use Rattle.std.specs.List.{slice_get};
 
@@ -267,86 +262,6 @@ impl<P: Allows + Drop> AttachedDomain<P> {
             (requests.GetVersion dom) (hypercalls.GetVersion dom) (verdict_of_version result) self.new.domain }
     {
         self.attachment.domain.get_version(&self.monitor, dom)
-    }
-
-    /// Maps an entry of a domain, for reading and writing (flags 2) or for reading (flags 6): `GNTMAP_host_map` and
-    /// `GNTMAP_readonly` of `grant_table.h`. Returns the mapping that was added.
-    ///
-    /// # Errors
-    /// N1, N2, N5, N8 to N13, N16 to N18, or N26. Mappings and pins are unchanged.
-    pub fn map(&mut self, dom: DomId, gref: GrantRef, flags: u32) -> Result<NewMapping, Denial>
-        requires idle { self.old.copying ≡ None }
-        ensures stays { StaysIdle self.old self.new }
-        ensures answered { MapAdds P.may self.old.monitor self.old.domain
-            (requests.Map dom gref flags) result self.new.domain }
-        ensures recorded { AppendsRecord (trail_of self.old.domain)
-            (record {
-              dom = (seat_of self.old.domain).dom;
-              call = hypercalls.Map dom gref flags;
-              reply = reply_of (outcome_of result);
-            })
-            (trail_of self.new.domain) }
-    {
-        self.attachment
-            .domain
-            .map_with_pin(&self.monitor, dom, gref, flags)
-    }
-
-    /// Unmaps a mapping, and releases its pin. Returns its entry, with the control word that this left.
-    ///
-    /// # Errors
-    /// N6 if the handle names no mapping of the domain, or N5. Mappings and pins are unchanged.
-    pub fn unmap(&mut self, handle: Handle) -> Result<LeftWord, Denial>
-        requires idle { self.old.copying ≡ None }
-        ensures stays { StaysIdle self.old self.new }
-        ensures answered { Answered P.may self.old.monitor self.old.domain
-            (requests.Unmap handle) (outcome_of result) self.new.domain }
-        ensures removed { IfOk result (λ left. DropsTo (words_of self.old.monitor).layout handle left
-            (mappings_of self.old.domain) (seat_of self.old.domain).view
-            (mappings_of self.new.domain) (seat_of self.new.domain).view) }
-        ensures refused { OnErr result (KeepsPinned self.old.domain self.new.domain) }
-        ensures absent { value_of (mappings_of self.old.domain) handle ≡ None → result ≡ Err (denial_of N6 facts.None) }
-        ensures recorded { AppendsRecord (trail_of self.old.domain)
-            (record_of_result self.old.domain
-            (hypercalls.Unmap (subject_of self.old.domain handle)) (outcome_of result))
-            (trail_of self.new.domain) }
-    {
-        self.attachment
-            .domain
-            .unmap_with_word(&self.monitor, handle)
-    }
-
-    /// Drops a mapping, and releases its pin, without asking the policy and without a record.
-    ///
-    /// # Errors
-    /// N6 if the handle names no mapping of the domain. Mappings and pins are unchanged.
-    pub(crate) fn release(&mut self, handle: Handle) -> Result<(), Denial>
-        requires idle { self.old.copying ≡ None }
-        ensures stays { StaysIdle self.old self.new }
-        ensures answered { Answered P.may self.old.monitor self.old.domain
-            (requests.Release handle) (verdict_of result) self.new.domain }
-        ensures removed { OnOk result ((p : Pin) ×
-            Removes (mappings_of self.old.domain) (mappings_of self.new.domain) handle p) }
-        ensures there { IsSome (value_of (mappings_of self.old.domain) handle) → result ≡ Ok tt }
-        ensures silent { trail_of self.new.domain ≡ trail_of self.old.domain }
-    {
-        self.attachment.domain.release(&self.monitor, handle)
-    }
-
-    /// Returns the mapping under a handle, or `None` if the domain has no such mapping.
-    pub fn mapping(&self, handle: Handle) -> Option<HeldPin>
-        requires idle { self.now.copying ≡ None }
-        ensures { result ≡ value_of (mappings_of self.now.domain) handle }
-    {
-        self.attachment.domain.mapping(&self.monitor, handle)
-    }
-
-    /// Returns a handle under which the domain has no mapping now. Its serial is that of the next mapping.
-    pub fn unused_handle(&self) -> Handle
-        ensures value { result ≡ unused_handle self.now.domain }
-        ensures unused { value_of (mappings_of self.now.domain) result ≡ None }
-    {
-        self.attachment.domain.unused_handle()
     }
 
     /// Bounds the trail: a call is recorded only while the trail has fewer than `records` records. With 0, the bound of a

@@ -73,7 +73,7 @@ impl<P: Allows + Drop> AttachedDomain<P> {
         if request.dom > LAST_DOM {
             return Err(Denial::new(Rule::N1, Facts::None));
         }
-        self.map(
+        self.map_at::<MapRequest>(
             DomId(request.dom as u16),
             GrantRef(request.gref),
             request.flags,

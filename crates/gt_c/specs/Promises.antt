@@ -25,7 +25,7 @@ use Rattle.gt_c.specs.Calling.{EncodesRecorded, EncodesUnmapped, KeepsAtMost, Re
 use Rattle.gt_c.specs.Calling.{outcome, outcome_frames, outcome_size, outcome_version}
 use Rattle.gt_attached.specs.declared.several.MapRequest.{MapRequest}
 use Rattle.gt_c.specs.Several.{AreUnchanged, MapsNamed, Passed}
-use Rattle.gt_c.specs.Reports.{BeginsAsked, EncodesUnused}
+use Rattle.gt_c.specs.Reports.{BeginsAsked, EncodesNext, EncodesUnused}
 use Rattle.gt_c.specs.Reports.{EncodesEntry, EncodesMapping, EncodesRecord, copy_asked, no_entry}
 use Rattle.gt_c.specs.Reports.{no_mapping, no_copy_places, no_record}
 
@@ -140,6 +140,10 @@ ReportsEntry gref report before after =
 -- an unused entry is searched for
 abbrev pub SearchesUnused : ℕ → EncodedAnswer → Option CDomain → Option CDomain → Type 0
 SearchesUnused from answer before after = CallsAttached before after answer (EncodesUnused from answer)
+
+-- a mapping is searched for
+abbrev pub SearchesMapping : ℕ → EncodedAnswer → Option CDomain → Option CDomain → Type 0
+SearchesMapping from answer before after = CallsAttached before after answer (EncodesNext from answer)
 
 -- the records are taken
 abbrev pub TakesRecords : EncodedAnswer → Option CDomain → Option CDomain → Type 0

@@ -8,12 +8,13 @@ use Rattle.gt_c.specs.Prelude.{slice_get, Denial, Record, Spot, HeldPin, CopyArg
 use Rattle.gt_c.specs.Prelude.{Handle, value_of, encoded, no_end, record_kept, BeginsAccess, EndsAccess, EncodedAnswer}
 use Rattle.gt_c.specs.Prelude.{AttachedOutcome, CopyPlaces, CopyEnd, may, Control, EntryKind, EntryStatus, GrantRef}
 use Rattle.gt_c.specs.Prelude.{LooksAtOwn, StaysIdle, EncodedRecord, CopySettings, PlaceReport, PlacesReport}
-use Rattle.gt_c.specs.Prelude.{MappedFrame, CDomain, DomId}
+use Rattle.gt_c.specs.Prelude.{MappedFrame, CDomain, DomId, NewMapping}
 use Rattle.gt_model.specs.Words.{is_kind}
 use Rattle.gt_model.specs.declared.control.EntryKind.TheVariants.{Invalid, Page, Sub, Via}
 use Rattle.gt_attached.specs.declared.answer.AttachedOutcome.TheVariants as outcomes
+use Rattle.gt_attached.specs.Searching.{FindsMapping}
 use Rattle.gt_attached.specs.Unused.{FindsUnused}
-use Rattle.gt_c.specs.Calling.{KeepsRun}
+use Rattle.gt_c.specs.Calling.{KeepsRun, named_mapping}
 use Rattle.gt_c.specs.Grantees.{KeepsGrantees, grantee_of}
 
 -- an end of a copy as C passes it
@@ -174,6 +175,19 @@ pub record EncodesUnused (from : ℕ) (answer : EncodedAnswer) (d e : CDomain) :
   pub encodes : answer ≡ encoded (outcome_reference found)
   pub stays : StaysIdle d.attached e.attached
   pub finds : FindsUnused d.attached.monitor.words.layout d.attached.domain from found e.attached.domain
+
+-- the result of a search for a mapping of this domain in this run
+abbrev pub outcome_next : DomId → ℕ → Option NewMapping → AttachedOutcome
+outcome_next dom run None = outcomes.Absent
+outcome_next dom run (Some n) = outcomes.Mapped (named_mapping dom run n)
+
+-- the first mapping of the domain from this key on was searched for, and the answer encodes what was found; nothing
+-- changed
+pub record EncodesNext (from : ℕ) (answer : EncodedAnswer) (d e : CDomain) : Type 0 where
+  pub found : Option NewMapping
+  pub encodes : answer ≡ encoded (outcome_next d.attached.domain.seat.dom d.run found)
+  pub finds : FindsMapping d.attached.domain.mappings from found
+  pub same : e ≡ d
 
 -- a look at this entry, if the domain's table has it, found this, beside the domain to which it was last granted
 pub record EncodesEntry (gref : GrantRef) (entry : EntryStatus) (answer : EncodedAnswer) (d e : CDomain) : Type 0 where

@@ -131,7 +131,9 @@ pub extern "C" fn gthost_reset_at(domain: &mut DomainHandle) -> EncodedAnswer
         return EncodedAnswer::of(AttachedOutcome::NoDomain);
     }
     let lent = lent_mut(&mut domain.held);
-    made_ready(&mut lent.attached)
+    let answer = made_ready(&mut lent.attached);
+    domain.is_ready = true;
+    answer
 }
 
 /// The label of a type, or why it was not found.

@@ -17,6 +17,9 @@ pub(crate) fn turned_away(domain: &mut DomainHandle) -> Option<EncodedAnswer>
     ensures away { IfSome result (λ a. TurnedAway domain.old.held.value domain.new.held.value a) }
     ensures may { result ≡ None → MayBeCalled domain.old.held.value domain.new.held.value }
 {
+    if domain.is_ready {
+        return None;
+    }
     if !domain.is_live {
         return Some(EncodedAnswer::of(AttachedOutcome::NoDomain));
     }

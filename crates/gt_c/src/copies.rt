@@ -186,6 +186,7 @@ pub extern "C" fn gthost_copy_begin_at(
         }
     };
     let answered = lent.attached.copy_begin(&args);
+    domain.is_ready = answered.is_err();
     store_begun(begun, answered);
 }
 
@@ -204,5 +205,6 @@ pub extern "C" fn gthost_copy_end_at(domain: &mut DomainHandle, answer: &mut Enc
         return;
     }
     let left = lent.attached.copy_end();
+    domain.is_ready = true;
     *answer = EncodedAnswer::of(AttachedOutcome::Ended(left));
 }

@@ -1,6 +1,7 @@
 //! The handle of a domain, which C holds.
 ghost use Rattle.std.specs.Prelude.{◌≡◌, Some, None, IsSome, true, false};
 ghost use Rattle.std.specs.Option.{option_map};
+ghost use Rattle.gt_c.specs.Lending.{can_be_called};
 
 use crate::c_domain::CDomain;
 use crate::held::RawBox;
@@ -8,14 +9,17 @@ use crate::parts::BoxParts;
 use std::alloc::Global;
 use std::mem;
 
-/// The handle of a domain. Without a domain it is all zeros, and owns nothing.
+/// The handle of a domain. Without a domain it is all zeros, and owns nothing. While `is_ready` is set, the domain is in
+/// no copy, so that a call needs no look at the domain for that.
 #[repr(C)]
 #[derive(Drop)]
 pub struct DomainHandle {
     pub held: RawBox,
     pub is_live: bool,
+    pub is_ready: bool,
     ghost live: { is_live ≡ true → IsSome held.value },
     ghost idle: { is_live ≡ false → held.value ≡ None },
+    ghost ready: { is_ready ≡ true → can_be_called held.value ≡ true },
 }
 
 impl DomainHandle {
@@ -33,6 +37,7 @@ impl DomainHandle {
         let none = DomainHandle {
             held: RawBox::none(alloc),
             is_live: false,
+            is_ready: false,
         };
         let DomainHandle { held, .. } = mem::replace(self, none);
         Some(held.into_parts().into_box())
@@ -43,9 +48,11 @@ impl DomainHandle {
         requires { self.old.held.value ≡ None }
         ensures { (self.new.is_live ≡ true) × (self.new.held.value ≡ Some lent.value) }
     {
+        let is_ready = !lent.attached.is_copying();
         *self = DomainHandle {
             held: RawBox::of_parts(BoxParts::of(lent)),
             is_live: true,
+            is_ready,
         };
     }
 }

@@ -5,9 +5,10 @@ ghost use Rattle.gt_attached.specs.declared.answer.AttachedOutcome.TheVariants a
 ghost use Rattle.gt_handles.specs.Handles.{value_of};
 ghost use Rattle.gt_types.specs.declared.denial.Rule.TheVariants.{N1};
 ghost use Rattle.gt_c.specs.Asking.{handle_named, is_of_domain};
-ghost use Rattle.gt_c.specs.Calling.{MayBeCalled, TurnedAway, RefusesNumber, Within16, outcome_mapped};
+ghost use Rattle.gt_c.specs.Calling.{MayBeCalled, TurnedAway, RefusesNumber, Within16, named_mapping, outcome_mapped};
 ghost use Rattle.gt_c.specs.Calling.{outcome_released};
-ghost use Rattle.gt_c.specs.Promises.{Maps, MapsEach, Unmaps};
+ghost use Rattle.gt_c.specs.Promises.{Maps, MapsEach, SearchesMapping, Unmaps};
+ghost use Rattle.gt_c.specs.Reports.{outcome_next};
 ghost use Rattle.gt_c.specs.Several.{named_each};
 
 use crate::c_domain::CDomain;
@@ -77,6 +78,19 @@ pub(crate) fn is_turned_away(domain: &mut DomainHandle, answer: &mut EncodedAnsw
     ensures away { result ≡ true → TurnedAway domain.old.held.value domain.new.held.value answer.new }
     ensures may { result ≡ false → MayBeCalled domain.old.held.value domain.new.held.value }
 {
+    if domain.is_ready {
+        return false;
+    }
+    is_barred(domain, answer)
+}
+
+// Stores why no call is made on a handle that is not ready, and returns true; or returns false if it is ready after all.
+#[cold]
+#[inline(never)]
+fn is_barred(domain: &mut DomainHandle, answer: &mut EncodedAnswer) -> bool
+    ensures away { result ≡ true → TurnedAway domain.old.held.value domain.new.held.value answer.new }
+    ensures may { result ≡ false → MayBeCalled domain.old.held.value domain.new.held.value }
+{
     if !domain.is_live {
         store_no_domain(answer);
         return true;
@@ -87,6 +101,21 @@ pub(crate) fn is_turned_away(domain: &mut DomainHandle, answer: &mut EncodedAnsw
         return true;
     }
     false
+}
+
+// Converts a mapping of this domain in this run, with its name.
+#[inline(always)]
+fn named_mapping(made: NewMapping, dom: DomId, run: u32) -> NamedMapping
+    ensures { result ≡ named_mapping dom run made }
+{
+    let handle = made.handle;
+    NamedMapping {
+        name: MappingName { handle, dom, run },
+        owner: made.held.dom,
+        gref: made.held.gref,
+        frame: made.held.entry.frame(),
+        dir: made.held.dir,
+    }
 }
 
 #[inline(always)]
@@ -100,17 +129,7 @@ fn store_mapped(
 {
     match answered {
         Ok(made) => {
-            *answer = EncodedAnswer::of(AttachedOutcome::Mapped(NamedMapping {
-                name: MappingName {
-                    handle: made.handle,
-                    dom,
-                    run,
-                },
-                owner: made.held.dom,
-                gref: made.held.gref,
-                frame: made.held.entry.frame(),
-                dir: made.held.dir,
-            }));
+            *answer = EncodedAnswer::of(AttachedOutcome::Mapped(named_mapping(made, dom, run)));
         }
         Err(denial) => store_refusal(answer, denial),
     }
@@ -184,6 +203,34 @@ pub extern "C" fn gthost_unmap_at(
     let handle = handle_named(lent, *name);
     let answered = lent.attached.unmap(handle);
     store_released(answer, answered);
+}
+
+// Returns the result of a search for a mapping of this domain in this run.
+fn next_outcome(found: Option<NewMapping>, dom: DomId, run: u32) -> AttachedOutcome
+    ensures { result ≡ outcome_next dom run found }
+{
+    match found {
+        None => AttachedOutcome::Absent,
+        Some(made) => AttachedOutcome::Mapped(named_mapping(made, dom, run)),
+    }
+}
+
+/// Returns the mapping with the least key from `from` on that the caller has, with its name, or that there is none. Looks
+/// at each key before it.
+#[unsafe(no_mangle)]
+pub extern "C" fn gthost_mappings_at(
+    domain: &mut DomainHandle,
+    from: usize,
+    answer: &mut EncodedAnswer,
+)
+    ensures { SearchesMapping from answer.new domain.old.held.value domain.new.held.value }
+{
+    if is_turned_away(domain, answer) {
+        return;
+    }
+    let lent = lent_mut(&mut domain.held);
+    let found = lent.attached.next_mapping(from);
+    *answer = EncodedAnswer::of(next_outcome(found, lent.attached.dom(), lent.run));
 }
 
 // Writes the name of each request's mapping, in a run with this number, which this domain has.

@@ -1,10 +1,10 @@
 -- The answers to requests about a script with choices.
 use Rattle.std.proofs.Common.{◌≡◌, ◌≢◌, ◌∙◌, ◌⊎◌, ◌+◌, ◌++◌, ℕ, zero, suc, Bool, true, false, List, [], ◌∷◌, All, Option, Some, None, ap}
 use Rattle.std.proofs.Common.{Global, IfSome, Vec}
-use Rattle.std.proofs.Common.{arith, IfOk, Result, Ok, Err, refl, slice_get, subst, sym, inl, inr, map}
+use Rattle.std.proofs.Common.{arith, IfOk, Result, Ok, Err, refl, slice_get, subst, sym, inl, inr}
 use Rattle.std.proofs.Math.Bool.{cond}
 use Rattle.std.specs.Prelude.{is_some}
-use Rattle.std.specs.List.{position, position_from}
+use Rattle.std.specs.List.{position_from}
 use Rattle.std.specs.Str.{bytes_eq}
 use Rattle.std.proofs.lemmas.Iterator.Adapters.{position_from-zero}
 use Rattle.std.proofs.lemmas.List.Elements.{All-cons, All-nil}

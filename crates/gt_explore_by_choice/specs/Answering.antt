@@ -1,5 +1,5 @@
 -- What `explore` writes for a script with choices.
-use Rattle.std.specs.Prelude.{◌≡◌, ◌==◌, ◌+◌, ◌++◌, ℕ, Bool, true, false, List, [], All, Option, Some, None, Ok, Result, Err}
+use Rattle.std.specs.Prelude.{◌≡◌, ◌==◌, ◌+◌, ◌++◌, ℕ, Bool, false, List, [], Option, Some, None}
 use Rattle.std.specs.Prelude.{codes, decimal, if◌then◌else◌, is_some, length, slice_get}
 use Rattle.gt_explore_answers.specs.Exploring.{GivesTexts, has_its_text, index_of_text, number_output, satisfied}
 use Rattle.gt_explore_answers.specs.Exploring.{verdict_line, verdict_of_all}

@@ -7,13 +7,10 @@ use Rattle.gt_script.specs.RunContents.{RunContents}
 use Rattle.gt_script.specs.RunScripts.{RunAnswers, ReadsAsRun}
 use Rattle.gt_script.specs.declared.faults.ScriptError.{ScriptError}
 use Rattle.gt_script.specs.declared.faults.ScriptError.TheVariants as script_errors
-use Rattle.gt_script_runs.specs.Faults.{fault_of, read_fault}
+use Rattle.gt_script_runs.specs.Faults.{fault_of}
 use Rattle.gt_script_runs.specs.declared.fault.PlayFault.{PlayFault}
 use Rattle.gt_script_runs.specs.declared.fault.PlayFault.TheVariants as play_faults
-use Rattle.gt_text.specs.Laws.{keeps_same, of_any_input}
-use Rattle.gt_text.specs.Streams.{OfInput}
-use Rattle.gt_text.specs.declared.fault.ReadFault.{ReadFault}
-use Rattle.gt_text.specs.declared.fault.ReadFault.TheVariants as read_faults
+use Rattle.gt_text.specs.Laws.{keeps_same}
 use Rattle.gt_text.specs.declared.streams.TheConstants.{READ_LIMIT}
 use Rattle.gt_explore_answers.specs.declared.asking.ExploreOptions.{ExploreOptions}
 use Rattle.gt_explore_answers.specs.declared.asking.ExploreRequest.{ExploreRequest}
@@ -47,7 +44,7 @@ answers_mean c f claims are = λ k d there.
 
 -- ---- one claim, or another request
 
--- what is written if nothing could be read, or memory was wanting before that, is written for each request
+-- what is written if memory was wanting is written for each request
 abbrev with_numbers : List ℕ → ExploreRequest → ExploreRequest
 with_numbers input explore_requests.Texts = explore_requests.Texts
 with_numbers input (explore_requests.Decide claim e) = explore_requests.Decide claim (record e { now = with_line_numbers (lines_in (take READ_LIMIT input)) e.now })
@@ -78,16 +75,6 @@ some_named input asked = (
 
 no_memory_named : (asked : ExploreOptions) (input : List ℕ) (old : Option (List ℕ)) → NamedExplored asked input old old (Err claims_memory)
 no_memory_named asked input old = let some = some_named input asked in (some.0, some.1, keeps_same old)
-
-unread : (asked : ExploreOptions) (input : List ℕ) (old : Option (List ℕ)) (error : ReadFault) → NamedExplored asked input old old (Err (claims_faults.Explore (Play (read_fault error))))
-unread asked input old read_faults.Memory = let some = some_named input asked in (some.0, some.1, keeps_same old)
-unread asked input old read_faults.Read = let some = some_named input asked in (some.0, some.1, keeps_same old)
-
-pub named_unread : (asked : ExploreOptions) (known old : Option (List ℕ)) (error : ReadFault) (fault : PlayFault) → fault ≡ read_fault error
-    → OfInput known (λ input. NamedExplored asked input old old (Err (claims_faults.Explore (Play fault))))
-named_unread asked known old error fault is =
-    of_any_input known (λ (input : List ℕ). NamedExplored asked input old old (Err (claims_faults.Explore (Play fault))))
-    (λ (input : List ℕ). subst (λ (f : PlayFault). NamedExplored asked input old old (Err (claims_faults.Explore (Play f)))) (sym is) (unread asked input old error))
 
 -- the names of the expression have a fault
 pub named_fault : (asked : ExploreOptions) (claim : Claim) (e : Bor (List ℕ)) (input : List ℕ) (lines : List (List ℕ)) (old : Option (List ℕ)) (fault : ClaimsFault) → asked.request ≡ explore_requests.Decide claim e
@@ -129,10 +116,6 @@ module _ (asked : ClaimsOptions) (input : List ℕ) where
       → ClaimsExplored asked input old old (Err (claims_faults.Explore (Play fault)))
   claims_nothing error fault old told is = subst (λ (f : PlayFault). ClaimsExplored asked input old old (Err (claims_faults.Explore (Play f)))) (sym is) (no_script error old told)
 
-  none_read : (error : ReadFault) (old : Option (List ℕ)) → ClaimsExplored asked input old old (Err (claims_faults.Explore (Play (read_fault error))))
-  none_read read_faults.Memory old = keeps_same old
-  none_read read_faults.Read old = keeps_same old
-
   -- a line states no claim
   pub claims_unstated : (fault : ClaimsFault) (old : Option (List ℕ)) → IsUnstatedFault (lines_in asked.claims.now) fault → ClaimsExplored asked input old old (Err fault)
   claims_unstated fault old (inl none) = subst (λ (f : ClaimsFault). ClaimsExplored asked input old old (Err f)) (sym none) (keeps_same old)
@@ -146,9 +129,3 @@ module _ (asked : ClaimsOptions) (input : List ℕ) where
   claims_named_twice lines stated fault old source read (inr (k, s, at, inr (both, is, first))) =
       subst (λ (f : ClaimsFault). ClaimsExplored asked input old old (Err f)) (sym is)
       (record { lines = lines; source = source; stated = stated; read = read; twice = inr (k, s, at, inr (both, refl, first)) }, keeps_same old)
-
-pub claims_unread : (asked : ClaimsOptions) (known old : Option (List ℕ)) (error : ReadFault) (fault : PlayFault) → fault ≡ read_fault error
-    → OfInput known (λ input. ClaimsExplored asked input old old (Err (claims_faults.Explore (Play fault))))
-claims_unread asked known old error fault is =
-    of_any_input known (λ (input : List ℕ). ClaimsExplored asked input old old (Err (claims_faults.Explore (Play fault))))
-    (λ (input : List ℕ). subst (λ (f : PlayFault). ClaimsExplored asked input old old (Err (claims_faults.Explore (Play f)))) (sym is) (none_read asked input error old))

@@ -1,7 +1,6 @@
 //! Several claims about a script, decided by one search.
 ghost use Rattle.std.specs.Prelude.{◌≡◌, ◌++◌, ℕ, List, IfOk, OnOk, map, take};
 ghost use Rattle.std.specs.Str.Lines.{lines as lines_in};
-ghost use Rattle.gt_text.specs.Streams.{ConsumesAtMost, OfInput};
 ghost use Rattle.gt_text.specs.declared.streams.TheConstants.{READ_LIMIT};
 ghost use Rattle.gt_script.specs.Contents.{contents_of};
 ghost use Rattle.gt_script.specs.RunContents.{run_contents};
@@ -28,9 +27,9 @@ use gt_explore_search::SearchWatch;
 use gt_explore_verdict::Verdict;
 use gt_script::{RunScript, parse_run};
 use gt_script_runs::PlayFault;
-use gt_text::{read_text, write_text};
+use gt_text::write_text;
 use std::alloc::{AllocError, Global};
-use std::io::{Read, Write};
+use std::io::Write;
 
 /// Several claims, one in each line: `find EXPRESSION`, `never EXPRESSION` or `always EXPRESSION`. `states` is the
 /// largest number of states that the search may meet.
@@ -172,8 +171,18 @@ fn explore_stated<W: Write, T: SearchWatch>(
     }
 }
 
-// Answers the claims of a text about the script in these bytes.
-fn explore_input<W: Write, T: SearchWatch>(
+/// Decides claims on the texts that a script may give. One search finds them, and ends after 1,000 or 32,000 states if
+/// the texts found until then decide each claim. Each claim has a line: the verdict, the claim, and the number of the
+/// first text that shows the verdict, if one does. In `Json` it is an object. The bytes of the script are a whole text,
+/// or the first 1,048,577 of a longer one.
+///
+/// The verdict fails if that on one of the claims does, is undecided if that on another is, and holds otherwise.
+///
+/// # Errors
+/// `Kind` for the first line that states no claim; `Repeated` if a name of an expression is that of two calls; the
+/// first fault of the script; `Term` for the first fault of an expression; and `Explore` with a fault of the search, or
+/// if an allocation or a write failed. Only after a failed write was anything written: a prefix of the text.
+pub fn explore_claims<W: Write, T: SearchWatch>(
     alloc: Global,
     asked: &ClaimsOptions<'_>,
     input: &[u8],
@@ -186,33 +195,5 @@ fn explore_input<W: Write, T: SearchWatch>(
     match claims_in(alloc, asked.claims) {
         Ok(claims) => explore_stated(alloc, asked, claims.as_slice(), input, writer, watch),
         Err(fault) => Err(fault),
-    }
-}
-
-/// Decides claims on the texts that the script of a reader may give. One search finds them, and ends after 1,000 or
-/// 32,000 states if the texts found until then decide each claim. Each claim has a line:
-/// the verdict, the claim, and the number of the first text that shows the verdict, if one does. In `Json` it is an
-/// object.
-///
-/// The verdict fails if that on one of the claims does, is undecided if that on another is, and holds otherwise.
-///
-/// # Errors
-/// `Kind` for the first line that states no claim; `Repeated` if a name of an expression is that of two calls; the
-/// first fault of the script; `Term` for the first fault of an expression; and `Explore` with a fault of the search, or
-/// if an allocation, a read or a write failed. Only after a failed write was anything written: a prefix of the text.
-pub fn explore_claims<R: Read, W: Write, T: SearchWatch>(
-    alloc: Global,
-    asked: &ClaimsOptions<'_>,
-    reader: &mut R,
-    writer: &mut W,
-    watch: &mut T,
-) -> Result<Verdict, ClaimsFault>
-    ensures text { OfInput (R.remaining reader.old) (λ input.
-        ClaimsExplored asked.now input (W.contents writer.old) (W.contents writer.new) result) }
-    ensures read { ConsumesAtMost READ_LIMIT (R.remaining reader.old) (R.remaining reader.new) }
-{
-    match read_text(alloc, reader) {
-        Ok(input) => explore_input(alloc, asked, input.as_slice(), writer, watch),
-        Err(error) => Err(ClaimsFault::Explore(ExploreFault::Play(PlayFault::from(error)))),
     }
 }

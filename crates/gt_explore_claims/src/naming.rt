@@ -1,20 +1,18 @@
 //! Requests whose expression names calls.
 ghost use Rattle.std.specs.Prelude.{◌≡◌, ℕ, List, take};
 ghost use Rattle.std.specs.Str.{IsUtf8};
-ghost use Rattle.gt_text.specs.Streams.{ConsumesAtMost, OfInput};
 ghost use Rattle.gt_text.specs.declared.streams.TheConstants.{READ_LIMIT};
 ghost use Rattle.gt_explore_claims.specs.Exploring.{AreOptionsNamed, NamedExplored};
 
 use crate::deciding::numbered_expression;
 use gt_explore::explore_bytes;
 use gt_explore_answers::{ExploreOptions, ExploreRequest};
-use gt_explore_faults::{ClaimsFault, ExploreFault};
+use gt_explore_faults::ClaimsFault;
 use gt_explore_search::SearchWatch;
 use gt_explore_verdict::Verdict;
-use gt_script_runs::PlayFault;
-use gt_text::{read_text, text_of};
+use gt_text::text_of;
 use std::alloc::Global;
-use std::io::{Read, Write};
+use std::io::Write;
 
 /// Returns bytes as the text of a script. Bytes that are no text have no lines, and no names.
 pub fn source_of<'i>(input: &'i [u8]) -> &'i str
@@ -43,8 +41,14 @@ fn explore_numbered<W: Write, T: SearchWatch>(
     }
 }
 
-// Answers a request on the texts of the script in these bytes, which are those read up to the limit.
-fn explore_input<W: Write, T: SearchWatch>(
+/// Answers a request on the texts that a script may give, as `explore` of `gt_explore` does. The expression of a claim
+/// may have the names of calls in place of the numbers of their lines. The bytes of the script are a whole text, or the
+/// first 1,048,577 of a longer one.
+///
+/// # Errors
+/// `Explore` with a fault of `explore`, but for failed reads; `Repeated` if a name of the expression is that of two
+/// calls. Nothing was written then, but for a prefix of the text if a write failed.
+pub fn explore_named<W: Write, T: SearchWatch>(
     alloc: Global,
     asked: &ExploreOptions,
     input: &[u8],
@@ -70,27 +74,4 @@ fn explore_input<W: Write, T: SearchWatch>(
         format: asked.format,
     };
     explore_numbered(alloc, &named, input, writer, watch)
-}
-
-/// Answers a request on the texts that the script of a reader may give, as `explore` of `gt_explore` does. The
-/// expression of a claim may have the names of calls in place of the numbers of their lines.
-///
-/// # Errors
-/// `Explore` with a fault of `explore`; `Repeated` if a name of the expression is that of two calls. Nothing was
-/// written then, but for a prefix of the text if a write failed.
-pub fn explore_named<R: Read, W: Write, T: SearchWatch>(
-    alloc: Global,
-    asked: &ExploreOptions,
-    reader: &mut R,
-    writer: &mut W,
-    watch: &mut T,
-) -> Result<Verdict, ClaimsFault>
-    ensures text { OfInput (R.remaining reader.old) (λ input.
-        NamedExplored asked.now input (W.contents writer.old) (W.contents writer.new) result) }
-    ensures read { ConsumesAtMost READ_LIMIT (R.remaining reader.old) (R.remaining reader.new) }
-{
-    match read_text(alloc, reader) {
-        Ok(input) => explore_input(alloc, asked, input.as_slice(), writer, watch),
-        Err(error) => Err(ClaimsFault::Explore(ExploreFault::Play(PlayFault::from(error)))),
-    }
 }

@@ -1,18 +1,15 @@
 -- From what was read to what was written.
 use Rattle.std.proofs.Common.{◌≡◌, ℕ, List, Option, Result}
 use Rattle.std.proofs.Common.{Ok, Err, sym, subst}
-use Rattle.gt_script_runs.specs.Faults.{fault_of, read_fault}
+use Rattle.gt_script_runs.specs.Faults.{fault_of}
 use Rattle.gt_script_runs.specs.declared.fault.PlayFault.{PlayFault}
 use Rattle.gt_script_runs.specs.declared.fault.PlayFault.TheVariants as play_faults
 use Rattle.gt_script.specs.RunContents.{RunContents}
-use Rattle.gt_script.specs.RunScripts.{RunAnswers, ReadsAsRun}
+use Rattle.gt_script.specs.RunScripts.{RunAnswers}
 use Rattle.gt_script.specs.Script.{Wrong}
 use Rattle.gt_script.specs.declared.faults.ScriptError.{ScriptError}
 use Rattle.gt_script.specs.declared.faults.ScriptError.TheVariants as script_errors
-use Rattle.gt_text.specs.Laws.{keeps_same, of_any_input}
-use Rattle.gt_text.specs.Streams.{OfInput}
-use Rattle.gt_text.specs.declared.fault.ReadFault.{ReadFault}
-use Rattle.gt_text.specs.declared.fault.ReadFault.TheVariants as read_faults
+use Rattle.gt_text.specs.Laws.{keeps_same}
 use Rattle.gt_explore_verdict.specs.declared.judging.Verdict.{Verdict}
 use Rattle.gt_explore_summary.specs.Written.{MakesSummary, Summarized, Sums}
 use Rattle.gt_explore_summary.specs.declared.asking.SummaryOptions.{SummaryOptions}
@@ -51,12 +48,3 @@ no_script asked Told (script_errors.Policy f) old (g, shown, told) = (g, shown, 
 
 pub summed_nothing : (asked : SummaryOptions) (Told : Result RunContents Wrong → Type 0) (error : ScriptError) (fault : PlayFault) (old : Option (List ℕ)) → RunAnswers (Err error) Told → fault ≡ fault_of error → Summarized asked Told old old (Err (Play fault))
 summed_nothing asked Told error fault old told is = subst (λ (f : PlayFault). Summarized asked Told old old (Err (Play f))) (sym is) (no_script asked Told error old told)
-
--- nothing could be read
-unread : (asked : SummaryOptions) (Told : Result RunContents Wrong → Type 0) (old : Option (List ℕ)) (error : ReadFault) → Summarized asked Told old old (Err (Play (read_fault error)))
-unread asked Told old read_faults.Memory = keeps_same old
-unread asked Told old read_faults.Read = keeps_same old
-
-pub summed_unread : (asked : SummaryOptions) (known old : Option (List ℕ)) (error : ReadFault) (fault : PlayFault) → fault ≡ read_fault error → OfInput known (λ input. Summarized asked (ReadsAsRun input) old old (Err (Play fault)))
-summed_unread asked known old error fault is =
-    of_any_input known (λ (input : List ℕ). Summarized asked (ReadsAsRun input) old old (Err (Play fault))) (λ (input : List ℕ). subst (λ (f : PlayFault). Summarized asked (ReadsAsRun input) old old (Err (Play f))) (sym is) (unread asked (ReadsAsRun input) old error))

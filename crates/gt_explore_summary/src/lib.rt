@@ -1,6 +1,6 @@
 //! Summaries of the texts that a script for `run` may give: `explore --summary` and `explore --diff`.
 //!
-//! [`summarize`] reads a script, finds its texts once (`texts_found` of `gt_explore`), and writes the lines whose
+//! [`summarize`] finds the texts of a script once (`texts_found` of `gt_explore`), and writes the lines whose
 //! answers vary, each answer with the number of texts that have it; or the lines in which two of the texts differ, with
 //! both answers. The texts are compared line by line (`gt_explore_columns`).
 //!

@@ -4,7 +4,6 @@ ghost use Rattle.gt_script.specs.Contents.{contents_of};
 ghost use Rattle.gt_script.specs.RunContents.{run_contents};
 ghost use Rattle.gt_script.specs.RunScripts.{CanConfigure, ReadsAsRun};
 ghost use Rattle.gt_script.specs.Stuck.{AreNumbered};
-ghost use Rattle.gt_text.specs.Streams.{ConsumesAtMost, OfInput};
 ghost use Rattle.gt_text.specs.declared.streams.TheConstants.{READ_LIMIT};
 ghost use Rattle.gt_explore_summary.specs.Written.{MakesSummary, Summarized, Sums};
 
@@ -17,9 +16,9 @@ use gt_explore_search::SearchWatch;
 use gt_explore_verdict::Verdict;
 use gt_script::{RunScript, parse_run};
 use gt_script_runs::PlayFault;
-use gt_text::{read_text, write_text};
+use gt_text::write_text;
 use std::alloc::Global;
-use std::io::{Read, Write};
+use std::io::Write;
 
 // Finds the texts of a script, and returns what is printed of them.
 fn summary_made<T: SearchWatch>(
@@ -70,8 +69,18 @@ fn summarize_script<W: Write, T: SearchWatch>(
     }
 }
 
-// Summarizes the texts of the script in these bytes, which are those read up to the limit.
-fn summarize_bytes<W: Write, T: SearchWatch>(
+/// Summarizes the texts that a script may give. Of each line whose answers vary it prints how many texts have each
+/// answer, and for a difference both answers. In the format `Json`, each line is an object. The last line has the
+/// numbers of the search. The bytes of the script are a whole text, or the first 1,048,577 of a longer one.
+///
+/// The verdict is `Holds` if the search met all states, and otherwise `Undecided`: the summary is then of the texts
+/// found until then.
+///
+/// # Errors
+/// The script's first fault. If it has none: `Number` if no text has a number that is named, `Unfound` if none of those
+/// found has it and these are not all, or `Texts` with a fault of the search. Or an allocation or a write failed. Only
+/// after a failed write was anything written: a prefix of the text.
+pub fn summarize<W: Write, T: SearchWatch>(
     alloc: Global,
     asked: &SummaryOptions,
     input: &[u8],
@@ -83,34 +92,6 @@ fn summarize_bytes<W: Write, T: SearchWatch>(
 {
     match parse_run(alloc, input) {
         Ok(script) => summarize_script(alloc, asked, &script, writer, watch),
-        Err(error) => Err(ExploreFault::Play(PlayFault::from(error))),
-    }
-}
-
-/// Summarizes the texts that the script of a reader may give. Of each line whose answers vary it prints how many texts
-/// have each answer, and for a difference both answers. In the format `Json`, each line is an object. The last line has
-/// the numbers of the search.
-///
-/// The verdict is `Holds` if the search met all states, and otherwise `Undecided`: the summary is then of the texts
-/// found until then.
-///
-/// # Errors
-/// The script's first fault. If it has none: `Number` if no text has a number that is named, `Unfound` if none of those
-/// found has it and these are not all, or `Texts` with a fault of the search. Or an allocation, a read or a write
-/// failed. Only after a failed write was anything written: a prefix of the text.
-pub fn summarize<R: Read, W: Write, T: SearchWatch>(
-    alloc: Global,
-    asked: &SummaryOptions,
-    reader: &mut R,
-    writer: &mut W,
-    watch: &mut T,
-) -> Result<Verdict, ExploreFault>
-    ensures text { OfInput (R.remaining reader.old) (λ input.
-        Summarized asked.now (ReadsAsRun input) (W.contents writer.old) (W.contents writer.new) result) }
-    ensures read { ConsumesAtMost READ_LIMIT (R.remaining reader.old) (R.remaining reader.new) }
-{
-    match read_text(alloc, reader) {
-        Ok(input) => summarize_bytes(alloc, asked, input.as_slice(), writer, watch),
         Err(error) => Err(ExploreFault::Play(PlayFault::from(error))),
     }
 }

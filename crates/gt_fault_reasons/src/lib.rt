@@ -8,7 +8,7 @@
 //! It is proved that the words before the printed one fit the example of a form, that the printed one does not fit the
 //! same example, and that of no other form more words fit. The texts of the reasons are tested.
 //!
-//! It uses `gt_script_lines` and `gt_script` (lines and faults), `gt_policy_statements` and `gt_policy` (policies),
+//! It uses `gt_script_lines` and `gt_script` (lines and faults), `gt_explore_choices` (lines that are only for `explore`), `gt_policy_statements` and `gt_policy` (policies),
 //! `gt_findings` (hints), `gt_types` (limits) and `gt_text` (texts).
 #![tactic(auto)]
 

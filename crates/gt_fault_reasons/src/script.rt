@@ -3,11 +3,13 @@ ghost use Rattle.std.specs.Prelude.{◌≡◌, ◌++◌, OnOk, codes};
 ghost use Rattle.gt_fault_reasons.specs.Reasons.{AppendsReasonAt};
 
 use crate::blocks::has_policy;
+use crate::columns::column_of;
 use crate::limits::{config_reason, mode_reason};
 use crate::reason::Reason;
 use crate::syntax::syntax_reason;
 use crate::texts::push_heading;
 use crate::waits::stuck_reason;
+use gt_explore_choices::{ChoiceWord, first_choice};
 use gt_script::{ScriptFault, ScriptFaultKind};
 use gt_script_lines::text_lines;
 use gt_text::{push_number, push_text, text_of};
@@ -83,6 +85,36 @@ fn line_reason(alloc: Global, lines: &[&str], fault: &ScriptFault) -> Result<Rea
     }
 }
 
+// Returns the word of the line of this number, if it is the first line of a script that is a choice.
+fn choice_word(alloc: Global, text: &str, line: usize) -> Result<Option<ChoiceWord>, AllocError> {
+    match first_choice(alloc, text)? {
+        Some(place) if place.line == line => Ok(Some(place.word)),
+        _ => Ok(None),
+    }
+}
+
+// Returns what a line is for that begins with this word.
+fn choice_text(word: ChoiceWord) -> &'static str {
+    match word {
+        ChoiceWord::Maybe => "maybe is for explore: the call may be left out",
+        ChoiceWord::Leave => "leave is for explore: the calls of the domain may end here",
+    }
+}
+
+// Explains that a line is a choice.
+fn choice_reason(
+    alloc: Global,
+    lines: &[&str],
+    line: usize,
+    word: ChoiceWord,
+) -> Result<Reason, AllocError> {
+    let mut reason = Reason::of_line(alloc, choice_text(word))?;
+    if let Some(line) = lines.get(line.saturating_sub(1)) {
+        reason.column = column_of(line.as_bytes(), 0);
+    }
+    Ok(reason)
+}
+
 /// Returns the reason for a fault that `parse` or `parse_run` found in these bytes.
 pub fn script_reason(
     alloc: Global,
@@ -94,7 +126,10 @@ pub fn script_reason(
         (_, Err(_)) => utf8_reason(alloc, input),
         (_, Ok(text)) => {
             let lines = text_lines(alloc, text)?;
-            line_reason(alloc, lines.as_slice(), fault)
+            match choice_word(alloc, text, fault.line)? {
+                Some(word) => choice_reason(alloc, lines.as_slice(), fault.line, word),
+                None => line_reason(alloc, lines.as_slice(), fault),
+            }
         }
     }
 }

@@ -12,6 +12,7 @@ use Rattle.gt_file_commands.specs.Prelude.{WhyRequest, perm_asked, source_asked,
 use Rattle.gt_file_commands.specs.Prelude.{type_of, words, play_fault_text, claims_fault_text, listing_fault_text}
 use Rattle.gt_file_commands.specs.Prelude.{why_fault_text, breach_fault_text, dump_fault_text, read_word}
 use Rattle.gt_file_commands.specs.Prelude.{CheckKind, Failure, Outcome, ReportForm, Work, No, Unknown, Yes}
+use Rattle.gt_explore_choices.specs.Choices.{choices_fault_text}
 use Rattle.gt_flow_command.specs.Blocks.{FlowedAs}
 use Rattle.gt_policy_flow.specs.Faults.{flow_fault_text}
 use Rattle.gt_policy_flow.specs.declared.asking.FlowQuestion.{FlowQuestion}
@@ -25,6 +26,7 @@ abbrev pub failure_text : Failure → List ℕ
 failure_text (failures.Play fault) = codes "gthost: " ++ play_fault_text fault
 failure_text failures.Thread = codes "gthost: thread"
 failure_text (failures.Explore fault) = codes "gthost: " ++ claims_fault_text fault
+failure_text (failures.Choices fault) = codes "gthost: " ++ choices_fault_text fault
 failure_text (failures.List fault) = codes "gthost: " ++ listing_fault_text fault
 failure_text (failures.Why fault) = codes "gthost: " ++ why_fault_text fault
 failure_text (failures.Flow fault) = codes "gthost: " ++ flow_fault_text fault

@@ -1,6 +1,7 @@
 //! Failures of commands.
 use gt_check_command::{BreachFault, WhyFault};
 use gt_entries::DumpFault;
+use gt_explore_choices::ChoicesFault;
 use gt_explore_faults::ClaimsFault;
 use gt_policy_flow::FlowFault;
 use gt_policy_list::ListingFault;
@@ -17,6 +18,8 @@ pub enum Failure {
     Thread,
     /// The texts of a script were not found, or not all written.
     Explore(ClaimsFault),
+    /// The choices of a script were not explored. Nothing was written.
+    Choices(ChoicesFault),
     /// A policy was not listed, or a policy or a script not checked, to its end; a further text is not UTF-8; or the
     /// line before an answer was not written.
     List(ListingFault),
@@ -48,6 +51,7 @@ impl fmt::Display for Failure {
             Failure::Play(fault) => write!(f, "gthost: {fault}"),
             Failure::Thread => f.write_str("gthost: thread"),
             Failure::Explore(fault) => write!(f, "gthost: {fault}"),
+            Failure::Choices(fault) => write!(f, "gthost: {fault}"),
             Failure::List(fault) => write!(f, "gthost: {fault}"),
             Failure::Why(fault) => write!(f, "gthost: {fault}"),
             Failure::Flow(fault) => write!(f, "gthost: {fault}"),

@@ -1,5 +1,5 @@
 -- What a contract sees of handles: a finite map from serial and key to values.
-use Rattle.std.specs.Prelude.{◌≡◌, ℕ, ◌<◌, ◌==◌, List, Option, Some, None, if◌then◌else◌, is_some, count_by}
+use Rattle.std.specs.Prelude.{◌≡◌, ℕ, ◌<◌, ◌≤◌, ◌==◌, List, Option, Some, None, if◌then◌else◌, is_some, count_by, IsSome}
 use Rattle.std.specs.Prelude.{slice_index_or, refl}
 use Rattle.std.specs.Coded.{Coded, code_by, coded×, coded_ℕ, coded_list, coded_option}
 use Rattle.gt_model.specs.declared.handle.Handle.{Handle}
@@ -59,6 +59,25 @@ module _ {T : Type 0} where
   -- no handle of a lower key has a value
   abbrev pub IsLeast : HandleMap T → ℕ → Type 0
   IsLeast s key = (lower : Handle) → lower.key < key → value_of s lower ≡ None
+
+  -- no handle of a key from `from` on and below `key` has a value
+  abbrev pub IsLeastFrom : HandleMap T → ℕ → ℕ → Type 0
+  IsLeastFrom s from key = (lower : Handle) → from ≤ lower.key → lower.key < key → value_of s lower ≡ None
+
+  -- no handle of a key from `from` on has a value
+  abbrev pub IsEmptyFrom : HandleMap T → ℕ → Type 0
+  IsEmptyFrom s from = (h : Handle) → from ≤ h.key → value_of s h ≡ None
+
+  -- the handle is the one of the least key from `from` on that has a value
+  pub record IsNextFrom (s : HandleMap T) (from : ℕ) (h : Handle) : Type 0 where
+    pub there : IsSome (value_of s h)
+    pub onwards : from ≤ h.key
+    pub least : IsLeastFrom s from h.key
+
+  -- what a search from a key on finds: the handle of the least key that has a value, or None if no key has one
+  abbrev pub FindsNext : HandleMap T → ℕ → Option Handle → Type 0
+  FindsNext s from None = IsEmptyFrom s from
+  FindsNext s from (Some h) = IsNextFrom s from h
 
   -- no handle has a value
   pub record IsEmpty (s : HandleMap T) : Type 0 where

@@ -41,7 +41,7 @@ impl<T> Model for Handles<T> {
 impl<T> Handles<T> {
     ghost use Rattle.std.specs.Prelude.{[]};
     ghost use Rattle.gt_handles.specs.Handles.{value_of, count_of, Updates, IsSpent, KeepsSpent, IsLeast};
-    ghost use Rattle.gt_handles.specs.Handles.{IsEmpty, HasSoundHandles};
+    ghost use Rattle.gt_handles.specs.Handles.{IsEmpty, FindsNext, HasSoundHandles};
 
     /// Returns a map with no values, which has given no serial. It does not allocate.
     pub fn new(alloc: Global) -> Self
@@ -153,6 +153,20 @@ impl<T> Handles<T> {
         for key in self.lowest..self.slab.capacity() {
             if self.slab.contains(key) {
                 return Some(key);
+            }
+        }
+        None
+    }
+
+    /// Returns the handle with the least key from `from` on that has a value. `None` if no such key has one. Looks at each
+    /// key before it.
+    pub fn next_from(&self, from: usize) -> Option<Handle>
+        ensures { FindsNext self.now from result }
+    {
+        'keys: for key in from..self.slab.capacity() {
+            if let Some(slot) = self.slab.get(key) {
+                let serial = slot.serial;
+                return Some(Handle { serial, key });
             }
         }
         None

@@ -239,7 +239,7 @@ impl Domain {
     ghost use Rattle.gt_model.specs.declared.held.AccessPath.TheVariants.{Direct};
     ghost use Rattle.gt_handles.specs.Handles.{value_of};
     ghost use Rattle.gt_model.specs.declared.held.HeldPin.{HeldPin};
-    ghost use Rattle.gt_handles.specs.Handles.{IsEmpty};
+    ghost use Rattle.gt_handles.specs.Handles.{FindsNext, IsEmpty};
 
     /// Makes the domain with this seat, which has made no call.
     pub(crate) fn new(
@@ -328,6 +328,14 @@ impl Domain {
             (Direct p)) }
     {
         self.mappings.get(handle).copied()
+    }
+
+    /// Returns the handle of the domain's mapping with the least key from `from` on, or `None` if no key from there on has a
+    /// mapping. Looks at each key before it.
+    pub fn next_mapping(&self, from: usize) -> Option<Handle>
+        ensures { FindsNext (mappings_of self.now) from result }
+    {
+        self.mappings.next_from(from)
     }
 
     /// Returns a handle under which the domain has no mapping now. Its serial is that of the next mapping.

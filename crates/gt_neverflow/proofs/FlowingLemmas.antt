@@ -9,13 +9,13 @@ use Rattle.std.specs.List.{flat_map, list_any}
 use Rattle.gt_types.specs.declared.TypeId.{TypeId}
 use Rattle.gt_types.specs.declared.perms.Perms.{Perms}
 use Rattle.gt_flow.specs.Flow.{FlowPolicy}
+use Rattle.gt_flow.specs.Accesses.{AreAmong}
+use Rattle.gt_flow.specs.Paths.{HasPath}
 use Rattle.gt_policy.specs.Allowing.{Allowed, Meaning}
 use Rattle.gt_policy.specs.Kept.{KeptPolicy, PolicyShows, may_of}
 use Rattle.gt_policy.specs.declared.lined.LinedStatement.{LinedStatement}
 use Rattle.gt_policy_statements.specs.Members.{members_of}
 use Rattle.gt_policy_statements.specs.declared.members.Member.{Member}
-use Rattle.gt_policy_flow.specs.Flows.{AreAmong}
-use Rattle.gt_policy_flow.specs.Paths.{HasPath}
 use Rattle.gt_neverflow.specs.Flowing.{AddsFlows, AreFlowBreaches, FlowsFound, ForbiddenFlow, flow_by, flow_from}
 use Rattle.gt_neverflow.specs.Flowing.{flow_if, flow_to, flows_by, flows_of, flows_to, forbidden_flows, kept_apart}
 use Rattle.gt_neverflow.specs.Flowing.{names_on, no_flow, nobody, reached, types_numbered}

@@ -4,13 +4,13 @@ use Rattle.std.specs.Prelude.{Option, Some, None, codes}
 use Rattle.std.specs.List.{flat_map, range_with_len, slice_get}
 use Rattle.gt_types.specs.declared.TypeId.{TypeId}
 use Rattle.gt_flow.specs.Flow.{FlowPolicy}
+use Rattle.gt_flow.specs.Accesses.{is_among}
+use Rattle.gt_flow.specs.Paths.{HasPath}
 use Rattle.gt_policy.specs.Allowing.{Meaning}
 use Rattle.gt_policy.specs.declared.lined.LinedStatement.{LinedStatement}
 use Rattle.gt_policy_statements.specs.Members.{members_of}
 use Rattle.gt_policy_statements.specs.declared.members.Member.{Member}
 use Rattle.gt_policy_flow.specs.Asking.{relation_of}
-use Rattle.gt_policy_flow.specs.Flows.{is_among}
-use Rattle.gt_policy_flow.specs.Paths.{HasPath}
 use Rattle.gt_policy_flow.specs.Steps.{type_name_in}
 use Rattle.gt_neverallow.specs.Breaking.{chosen_by, short_name}
 use Rattle.gt_neverallow.specs.declared.statement.Forbidden.{Forbidden}

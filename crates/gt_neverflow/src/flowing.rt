@@ -1,21 +1,22 @@
 //! Which `neverflow` statements a policy breaks: bytes of a type may reach another one though that is forbidden.
 ghost use Rattle.std.specs.Prelude.{◌≡◌, ◌++◌, [], IfErr, IfOk, OnOk, Some, None, Ok, Err};
 ghost use Rattle.std.specs.List.{list_any, slice_get};
+ghost use Rattle.gt_flow.specs.Accesses.{AreAmong};
+ghost use Rattle.gt_flow.specs.Paths.{IsSearched};
 ghost use Rattle.gt_policy.specs.Allowing.{Meaning};
 ghost use Rattle.gt_policy.specs.Kept.{PolicyShows};
 ghost use Rattle.gt_policy.specs.Shown.{fault_shown, out_of_memory};
 ghost use Rattle.gt_policy.specs.Whole.{ReadsAs};
 ghost use Rattle.gt_policy.specs.declared.fault.TokenFault.{TokenFault};
-ghost use Rattle.gt_policy_flow.specs.Flows.{AreAmong};
-ghost use Rattle.gt_policy_flow.specs.Paths.{IsSearched};
 ghost use Rattle.gt_neverflow.specs.Flowing.{AddsFlows, AreFlowBreaches, chosen_at, flow_from, flow_if, flow_to};
 ghost use Rattle.gt_neverflow.specs.Flowing.{flows_by, flows_of, flows_to, forbidden_flows, is_about_flows};
 ghost use Rattle.gt_neverflow.specs.Flowing.{names_on, nobody, types_numbered};
 
 use gt_allow::AllowTable;
+use gt_flow::{ReachedTypes, search};
 use gt_neverallow::{Forbidden, NeverStatement, TypeChoice, is_chosen, push_short_name};
 use gt_policy::{LinedStatement, Policy, PolicyFault, PolicyFaultKind};
-use gt_policy_flow::{ReachedTypes, name_in, search};
+use gt_policy_flow::name_in;
 use gt_policy_statements::{Member, members_of};
 use gt_text::push_text;
 use gt_types::{Allows, Memory, TypeId};

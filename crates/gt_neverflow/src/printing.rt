@@ -47,23 +47,30 @@ fn flow_error_of(
     })
 }
 
+/// The text of `neverflow` statements after its name, its columns of `neverflow`, and the form in which errors at it are
+/// printed.
+#[derive(Clone, Copy)]
+struct FlowStatements<'t> {
+    form: ReportForm,
+    file: &'t str,
+    never: LinedText<'t>,
+    flows: &'t WordColumns,
+}
+
 // Appends a breach of a `neverflow` statement: its error.
 fn push_flow_breach(
     alloc: Global,
     out: &mut Vec<u8>,
-    form: ReportForm,
-    file: &str,
-    never: LinedText,
-    flows: &WordColumns,
+    at: &FlowStatements,
     breach: &FlowBreach,
 ) -> Result<(), AllocError>
-    requires lines { AreStarts never.text.now never.lines.now.starts.items }
-    requires columns { AreWordColumns never.text.now (codes "neverflow") flows.now.columns.items }
-    ensures { OnOk result (AddsText (IsFlowText form file.now never.entry.text.now breach.now)
+    requires lines { AreStarts at.now.never.text.now at.now.never.lines.now.starts.items }
+    requires columns { AreWordColumns at.now.never.text.now (codes "neverflow") at.now.flows.now.columns.items }
+    ensures { OnOk result (AddsText (IsFlowText at.now.form at.now.file.now at.now.never.text.now breach.now)
         out.old.items out.new.items) }
 {
-    let error = flow_error_of(alloc, flows, breach)?;
-    push_finding(out, form, file, never, &error)
+    let error = flow_error_of(alloc, at.flows, breach)?;
+    push_finding(out, at.form, at.file, at.never, &error)
 }
 
 // Appends the breaches of `neverflow` statements.
@@ -80,8 +87,14 @@ fn push_flow_breaches(
         out.old.items out.new.items) }
 {
     let flows = word_columns(alloc, never.text.as_bytes(), never.lines, "neverflow")?;
+    let at = FlowStatements {
+        form,
+        file,
+        never,
+        flows: &flows,
+    };
     'found: for breach in found {
-        push_flow_breach(alloc, out, form, file, never, &flows, breach)?;
+        push_flow_breach(alloc, out, &at, breach)?;
     }
     Ok(())
 }

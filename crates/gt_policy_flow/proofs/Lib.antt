@@ -1,11 +1,5 @@
 pub mod Answered
 pub mod Asked
 pub mod Reported
-pub mod Flowing
 pub mod Meant
 pub mod Pairing
-pub mod Places
-pub mod Growing
-pub mod Looking
-pub mod Searched
-pub mod Walking

@@ -1,13 +1,13 @@
 -- From the table of a policy to what its text means.
 use Rattle.std.proofs.Common.{◌≡◌, ℕ, ◌<◌, Bool, true, List, length, Ok, ap, subst, sym, ◌∙◌}
 use Rattle.gt_types.specs.declared.perms.Perms.{Perms}
+use Rattle.gt_flow.specs.Accesses.{AreAmong}
 use Rattle.gt_policy.specs.Allowing.{Allowed, Meaning}
 use Rattle.gt_policy.specs.Kept.{KeptPolicy, PolicyShows, may_of}
 use Rattle.gt_policy.specs.Lined.{IsLined}
 use Rattle.gt_policy.specs.Whole.{ReadsAs}
 use Rattle.gt_policy.specs.declared.lined.LinedStatement.{LinedStatement}
 use Rattle.gt_policy_flow.specs.Asking.{IsFlowOf, IsFlowReport}
-use Rattle.gt_policy_flow.specs.Flows.{AreAmong}
 use Rattle.gt_policy_flow.specs.declared.asking.FlowQuestion.{FlowQuestion}
 use Rattle.gt_policy_flow.specs.declared.asking.FlowReport.{FlowReport}
 

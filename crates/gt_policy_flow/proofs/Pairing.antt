@@ -5,9 +5,9 @@ use Rattle.std.proofs.Math.Seq.{take-length}
 use Rattle.std.proofs.lemmas.List.{append-nil, append_assoc}
 use Rattle.gt_types.specs.declared.TypeId.{TypeId}
 use Rattle.gt_flow.specs.Flow.{FlowPolicy}
+use Rattle.gt_flow.specs.Paths.{HasPath}
 use Rattle.gt_policy.specs.declared.lined.LinedStatement.{LinedStatement}
 use Rattle.gt_policy_statements.specs.declared.members.Member.{Member}
-use Rattle.gt_policy_flow.specs.Paths.{HasPath}
 use Rattle.gt_policy_flow.specs.Pairs.{AnswersPair, AnswersAll, AnswersEach, answered, pair_answer_text, leaves_out}
 use Rattle.gt_policy_flow.specs.Pairs.{left_out}
 use Rattle.gt_policy_flow.specs.Pairs.{more_sources, more_targets, no_source, no_target}

@@ -4,11 +4,11 @@ use Rattle.std.proofs.Common.{IfOk, subst, option_map, ℕ}
 use Rattle.std.proofs.lemmas.Bool.{true≢false}
 use Rattle.gt_types.specs.declared.TypeId.{TypeId}
 use Rattle.gt_flow.specs.Flow.{FlowPolicy}
+use Rattle.gt_flow.specs.Accesses.{is_among}
 use Rattle.gt_policy.specs.declared.lined.LinedStatement.{LinedStatement}
 use Rattle.gt_policy_statements.specs.Members.{members_of}
 use Rattle.gt_policy_statements.specs.declared.members.Member.{Member}
 use Rattle.gt_policy_flow.specs.Asking.{IsFlowReport, ReportsBy, ReportsTypes, names_in, trusted_by, unknown_place}
-use Rattle.gt_policy_flow.specs.Flows.{is_among}
 use Rattle.gt_policy_flow.specs.declared.asking.FlowQuestion.{FlowQuestion}
 use Rattle.gt_policy_flow.specs.declared.asking.FlowReport.{FlowReport}
 

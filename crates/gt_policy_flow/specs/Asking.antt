@@ -5,13 +5,13 @@ use Rattle.std.specs.List.{flat_map, slice_get, slice_split}
 use Rattle.std.specs.Option.{option_map}
 use Rattle.gt_types.specs.declared.TypeId.{TypeId}
 use Rattle.gt_flow.specs.Flow.{FlowPolicy}
+use Rattle.gt_flow.specs.Accesses.{is_among}
 use Rattle.gt_policy.specs.Allowing.{Meaning, is_allowed}
 use Rattle.gt_policy.specs.Lined.{IsLined}
 use Rattle.gt_policy.specs.Whole.{ReadsAs}
 use Rattle.gt_policy.specs.declared.lined.LinedStatement.{LinedStatement}
 use Rattle.gt_policy_statements.specs.Members.{is_asked, members_of}
 use Rattle.gt_policy_statements.specs.declared.members.Member.{Member}
-use Rattle.gt_policy_flow.specs.Flows.{is_among}
 use Rattle.gt_policy_flow.specs.Pairs.{AnswersAll}
 use Rattle.gt_policy_flow.specs.declared.asking.FlowAnswer.{FlowAnswer}
 use Rattle.gt_policy_flow.specs.declared.asking.FlowAnswer.TheVariants as flow_answers

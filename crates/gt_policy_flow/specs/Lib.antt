@@ -1,7 +1,4 @@
 pub mod Format
-pub mod Flows
-pub mod Paths
-pub mod Laws
 pub mod Steps
 pub mod Pairs
 pub mod Asking

@@ -3,9 +3,9 @@ use Rattle.std.specs.Prelude.{◌≡◌, ℕ, ◌==◌, ◌||◌, Bool, true, fa
 use Rattle.std.specs.Prelude.{Option, Some, None, is_some, Result, Ok, Err}
 use Rattle.gt_types.specs.declared.TypeId.{TypeId}
 use Rattle.gt_flow.specs.Flow.{FlowPolicy}
+use Rattle.gt_flow.specs.Paths.{HasPath}
 use Rattle.gt_policy.specs.declared.lined.LinedStatement.{LinedStatement}
 use Rattle.gt_policy_statements.specs.declared.members.Member.{Member}
-use Rattle.gt_policy_flow.specs.Paths.{HasPath}
 use Rattle.gt_policy_flow.specs.Steps.{accesses_text, no_path_text, path_text, type_pair_text}
 use Rattle.gt_policy_flow.specs.declared.format.FlowFormat.{FlowFormat}
 use Rattle.gt_policy_flow.specs.declared.pairs.PairForm.{PairForm}

@@ -3,13 +3,13 @@ use Rattle.std.specs.Prelude.{ℕ, Bool, List, [], ◌∷◌, ◌++◌, codes, d
 use Rattle.std.specs.List.{slice_get}
 use Rattle.gt_types.specs.declared.TypeId.{TypeId}
 use Rattle.gt_flow.specs.Flow.{FlowPolicy}
+use Rattle.gt_flow.specs.Accesses.{allowed_access}
+use Rattle.gt_flow.specs.declared.accesses.Access.{Access}
+use Rattle.gt_flow.specs.declared.accesses.Access.TheVariants as accesses
 use Rattle.gt_policy.specs.declared.lined.LinedStatement.{LinedStatement}
 use Rattle.gt_policy_statements.specs.Granting.{gives_one}
 use Rattle.gt_policy_statements.specs.declared.members.Member.{Member}
-use Rattle.gt_policy_flow.specs.Flows.{allowed_access}
 use Rattle.gt_policy_flow.specs.Format.{by_format, name_text}
-use Rattle.gt_policy_flow.specs.declared.flows.Access.{Access}
-use Rattle.gt_policy_flow.specs.declared.flows.Access.TheVariants as accesses
 use Rattle.gt_policy_flow.specs.declared.format.FlowFormat.{FlowFormat}
 
 -- the name of a type, by its number

@@ -3,6 +3,7 @@ ghost use Rattle.std.specs.Prelude.{◌≡◌, ◌==◌, ◌&&◌, ◌++◌, ◌
 ghost use Rattle.std.specs.Prelude.{length, map};
 ghost use Rattle.std.specs.List.{slice_split};
 ghost use Rattle.std.specs.Option.{option_map};
+ghost use Rattle.gt_flow.specs.Accesses.{AreAmong, is_among};
 ghost use Rattle.gt_policy.specs.Kept.{may_of};
 ghost use Rattle.gt_policy.specs.Shown.{fault_shown, out_of_memory};
 ghost use Rattle.gt_policy.specs.Whole.{ReadsAs};
@@ -10,7 +11,6 @@ ghost use Rattle.gt_policy.specs.declared.fault.TokenFault.{TokenFault};
 ghost use Rattle.gt_policy_statements.specs.Members.{is_asked, members_of};
 ghost use Rattle.gt_policy_flow.specs.Asking.{IsFlowOf, IsFlowReport, Reports, ReportsTypes, asked_at, form_of};
 ghost use Rattle.gt_policy_flow.specs.Asking.{ids_asked, names_in, trusted_by, unknown_place};
-ghost use Rattle.gt_policy_flow.specs.Flows.{AreAmong, is_among};
 
 use crate::format::FlowFormat;
 use crate::pairs::{PairForm, push_sources};

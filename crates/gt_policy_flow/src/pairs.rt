@@ -1,14 +1,14 @@
 //! The answers for pairs of types: whether bytes of the one reach the other.
 ghost use Rattle.std.specs.Prelude.{◌≡◌, ◌++◌, OnOk};
 ghost use Rattle.std.specs.Option.{option_map};
-ghost use Rattle.gt_policy_flow.specs.Flows.{AreAmong, is_among};
+ghost use Rattle.gt_flow.specs.Accesses.{AreAmong, is_among};
+ghost use Rattle.gt_flow.specs.Paths.{IsSearched};
 ghost use Rattle.gt_policy_flow.specs.Pairs.{AppendsBlock, AppendsSources, AppendsTargets, pair_answer_text};
 ghost use Rattle.gt_policy_flow.specs.Pairs.{leaves_out};
-ghost use Rattle.gt_policy_flow.specs.Paths.{IsSearched};
 
 use crate::format::push_mark;
-use crate::searching::{ReachedTypes, search};
 use crate::steps::{ReadPolicy, push_accesses, push_pair, push_path};
+use gt_flow::{ReachedTypes, search};
 use gt_types::{Allows, TypeId};
 use std::alloc::{AllocError, Global};
 

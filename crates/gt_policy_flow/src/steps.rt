@@ -1,11 +1,11 @@
 //! A path as text: a line for each access, with the statements that allow it.
 ghost use Rattle.std.specs.Prelude.{◌≡◌, ◌++◌, codes, OnOk, find};
-ghost use Rattle.gt_policy_flow.specs.Flows.{is_among};
+ghost use Rattle.gt_flow.specs.Accesses.{is_among};
 ghost use Rattle.gt_policy_flow.specs.Steps.{access_text, accesses_text, first_granting_line, line_between};
 ghost use Rattle.gt_policy_flow.specs.Steps.{path_line_text, path_text, permission_text, type_name_in, type_pair_text};
 
-use crate::flows::{Access, access_between, is_among};
 use crate::format::{FlowFormat, push_mark, push_name};
+use gt_flow::{Access, access_between, is_among};
 use gt_policy::LinedStatement;
 use gt_policy_statements::{Member, gives_one};
 use gt_text::{push_number, push_text};

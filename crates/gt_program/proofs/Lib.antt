@@ -1,3 +1,4 @@
+pub mod Chosen
 pub mod Obeyed
 mod OneRun
 mod RelayLemmas

@@ -5,7 +5,6 @@ use Rattle.std.specs.Io.KnownBytes.{Appends, Keeps}
 use Rattle.std.proofs.lemmas.List.{append-nil}
 use Rattle.std.specs.Prelude.{◌++◌, drop, if◌then◌else◌}
 use Rattle.gt_text.specs.Laws.{keeps_same}
-use Rattle.gt_text.specs.Streams.{OfInput}
 use Rattle.clap.specs.Kinds.{HasKind}
 use Rattle.clap.specs.Words.{kind_of}
 use Rattle.clap.specs.declared.error.Error.{Error}
@@ -61,10 +60,8 @@ verdict_one Wrote Holds wrote = wrote
 verdict_one Wrote Fails wrote = wrote
 verdict_one Wrote Undecided wrote = wrote
 
-pub verdict_input : {F : Type 0} (known : Option (List ℕ)) (Wrote : List ℕ → Result Verdict F → Type 0) (verdict : Verdict) (outcome : Outcome) → outcome ≡ verdict_outcome verdict → OfInput known (λ input. Wrote input (Ok verdict))
-    → OfInput known (λ input. AnswersVerdict (Wrote input) outcome)
-verdict_input None Wrote verdict outcome is (input, few, wrote) = (input, few, subst (λ (o : Outcome). AnswersVerdict (Wrote input) o) (sym is) (verdict_one (Wrote input) verdict wrote))
-verdict_input (Some all) Wrote verdict outcome is wrote = subst (λ (o : Outcome). AnswersVerdict (Wrote all) o) (sym is) (verdict_one (Wrote all) verdict wrote)
+pub verdict_answer : {F : Type 0} (Wrote : Result Verdict F → Type 0) (verdict : Verdict) (outcome : Outcome) → outcome ≡ verdict_outcome verdict → Wrote (Ok verdict) → AnswersVerdict Wrote outcome
+verdict_answer Wrote verdict outcome is wrote = subst (AnswersVerdict Wrote) (sym is) (verdict_one Wrote verdict wrote)
 
 -- what a plan asks for is done
 pub as_planned : (p same : Invocation) (failed : Outcome) (width : Option ℕ) (file : List ℕ → Option (List ℕ)) (input old new : Option (List ℕ)) (outcome : Outcome) → p ≡ same → Obeys (asked_by_plan same) failed width file input old new outcome

@@ -1,5 +1,9 @@
 -- The result of a command line: the output, and the exit status.
-use Rattle.std.specs.Prelude.{◌≡◌, ◌⊎◌, ℕ, List, [], ◌∷◌, Option, Some, None, Result, Ok, Err}
+use Rattle.std.specs.Prelude.{◌≡◌, ◌⊎◌, ◌≤◌, ℕ, Bool, true, false, List, [], ◌∷◌, Option, Some, None, Result, Ok, Err}
+use Rattle.std.specs.Prelude.{is_some, length}
+use Rattle.std.specs.Borrow.{Bor}
+use Rattle.std.specs.Str.{IsUtf8}
+use Rattle.std.specs.Str.Lines.{lines as lines_in}
 use Rattle.gt_program.specs.Prelude.{Keeps, ErrorKind, DisplayHelp, DisplayVersion, OutOfMemory, Format, Mode, Request}
 use Rattle.gt_program.specs.Prelude.{to_check, to_check_never, to_explain, to_explain_lines, to_explore, to_find_text}
 use Rattle.gt_program.specs.Prelude.{to_list, to_play, to_run, to_tell_entries, to_tell_rules, for_help, for_version}
@@ -9,15 +13,26 @@ use Rattle.gt_program.specs.Prelude.{ClaimsFault}
 use Rattle.gt_program.specs.Prelude.{ClaimsExplored, NamedExplored, SearchAsked, One, Several, Together}
 use Rattle.gt_program.specs.Prelude.{Summarized, SummaryOptions, SummaryRequest, Answers, Difference, a_summary}
 use Rattle.gt_program.specs.Prelude.{a_difference, ReadsAsRun}
+use Rattle.gt_explore_by_choice.specs.Exploring.{ExploresByChoices}
+use Rattle.gt_explore_by_choice.specs.declared.fault.UnitedFault.{UnitedFault}
+use Rattle.gt_explore_by_choice.specs.declared.fault.UnitedFault.TheVariants as united_faults
+use Rattle.gt_explore_choices.specs.Kinds.{first_choice, marked_lines}
+use Rattle.gt_explore_choices.specs.declared.fault.ChoicesFault.TheVariants.{Unanswered}
+use Rattle.gt_explore_choices.specs.declared.fault.ChoicesFault.TheVariants as choices_faults
 use Rattle.gt_explore_faults.specs.declared.claims.ClaimsFault.TheVariants as claims_faults
+use Rattle.gt_explore_faults.specs.declared.fault.ExploreFault.TheVariants as explore_faults
+use Rattle.gt_script_runs.specs.Faults.{read_fault}
+use Rattle.gt_text.specs.declared.fault.ReadFault.{ReadFault}
+use Rattle.gt_types.specs.declared.limits.TheConstants.{LONGEST_TEXT}
 use Rattle.gt_program.specs.Prelude.{ExploreRequest, Verdict, Holds, Fails, Undecided, Outcome, No, Unknown, Yes}
 use Rattle.gt_file_commands.specs.Flows.{flow_format}
 use Rattle.gt_file_commands.specs.Names.{shown_name}
 use Rattle.gt_file_commands.specs.Rules.{PrintsRules}
 use Rattle.gt_file_commands.specs.Working.{AnswersDump, AnswersAboutFile, AnswersFlow, AnswersQuestion, ChecksAll}
 use Rattle.gt_file_commands.specs.Working.{ChecksAs}
-use Rattle.gt_file_commands.specs.Working.{ChecksIn, ChecksNever, OutputEffect, Doing, Lists, Plays, WithFile, Works}
+use Rattle.gt_file_commands.specs.Working.{ChecksIn, ChecksNever, OutputEffect, Doing, Ending, Lists, Plays, WithFile, Works}
 use Rattle.gt_file_commands.specs.Working.{known_text}
+use Rattle.gt_file_commands.specs.declared.failure.Failure.{Failure}
 use Rattle.gt_file_commands.specs.declared.failure.Failure.TheVariants as failures
 use Rattle.gt_program.specs.Runs.{RunsDomains}
 use Rattle.gt_command_line.specs.declared.invocation.Format.TheVariants.{Text, Json}
@@ -85,11 +100,66 @@ AskedExplored (One asked) = NamedExplored asked
 AskedExplored (Several asked) = ClaimsExplored asked
 AskedExplored (Together asked) = SummaryExplored asked
 
--- the answer is the verdict
+-- a text without choices is explored; the answer is the verdict
+abbrev pub SearchesPlain : SearchAsked → Doing
+SearchesPlain asked input old new (Ok outcome) = AnswersVerdict (AskedExplored asked input old new) outcome
+SearchesPlain asked input old new (Err (failures.Explore fault)) = AskedExplored asked input old new (Err fault)
+SearchesPlain asked input old new (Err failure) = ⊥
+
+-- the failure for a fault of a script with choices
+abbrev pub failure_united : UnitedFault → Failure
+failure_united (united_faults.Claims fault) = failures.Explore fault
+failure_united (united_faults.Choices fault) = failures.Choices fault
+
+-- a request about a script with choices is answered; the answer is the verdict
+abbrev pub SearchesOne : ExploreOptions → Doing
+SearchesOne asked source old new (Ok outcome) = AnswersVerdict (ExploresByChoices source asked old new) outcome
+SearchesOne asked source old new (Err failure) =
+    (fault : UnitedFault) × (failure ≡ failure_united fault) × ExploresByChoices source asked old new (Err fault)
+
+-- the same for several claims and summaries, which have no answer for such a script
+abbrev pub SearchesByChoices : SearchAsked → Doing
+SearchesByChoices (One asked) source old new r = SearchesOne asked source old new r
+SearchesByChoices (Several asked) source old new r = (r ≡ Err (failures.Choices Unanswered)) × Keeps old new
+SearchesByChoices (Together asked) source old new r = (r ≡ Err (failures.Choices Unanswered)) × Keeps old new
+
+-- a line of the text is a choice: `maybe` or `leave`
+abbrev pub has_choice_line : List ℕ → Bool
+has_choice_line text = is_some (first_choice 1 (marked_lines (lines_in text)))
+
+-- a line of the text is a choice, and the text is not longer than a script may be
+pub record HasChoice (input : List ℕ) : Type 0 where
+  pub few : length input ≤ LONGEST_TEXT
+  pub utf8 : IsUtf8 input
+  pub line : has_choice_line input ≡ true
+
+-- this text was returned, if a line of it is a choice
+abbrev pub IsWithChoice : List ℕ → Option (Bor (List ℕ)) → Type 0
+IsWithChoice text (Some found) = (found.now ≡ text) × (has_choice_line text ≡ true)
+IsWithChoice text None = has_choice_line text ≡ false
+
+abbrev pub IsSourceWithChoice : List ℕ → Option (Bor (List ℕ)) → Type 0
+IsSourceWithChoice input (Some source) = (source.now ≡ input) × HasChoice input
+IsSourceWithChoice input None = HasChoice input → ⊥
+
+-- a text is explored, by its choices if it has some
+abbrev pub SearchesText : SearchAsked → Doing
+SearchesText asked input old new r =
+    (HasChoice input × SearchesByChoices asked input old new r)
+    ⊎ ((HasChoice input → ⊥) × SearchesPlain asked input old new r)
+
+-- the failure that the text was not read
+abbrev pub unread_failure : ReadFault → Failure
+unread_failure error = failures.Explore (claims_faults.Explore (explore_faults.Play (read_fault error)))
+
+-- the text was not read, or an allocation failed before it was known whether it has choices
+abbrev pub IsUnsearched : Ending → Type 0
+IsUnsearched r =
+    ((error : ReadFault) × (r ≡ Err (unread_failure error))) ⊎ (r ≡ Err (failures.Choices choices_faults.Memory))
+
+-- a text is explored; or not, and then nothing is written
 abbrev pub Searches : SearchAsked → Doing
-Searches asked input old new (Ok outcome) = AnswersVerdict (AskedExplored asked input old new) outcome
-Searches asked input old new (Err (failures.Explore fault)) = AskedExplored asked input old new (Err fault)
-Searches asked input old new (Err failure) = ⊥
+Searches asked input old new r = SearchesText asked input old new r ⊎ (IsUnsearched r × Keeps old new)
 
 -- help or the version: it was written, or not
 abbrev pub IsHelped : Outcome → Type 0

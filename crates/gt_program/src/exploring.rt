@@ -1,26 +1,32 @@
 //! Explorations of scripts.
-ghost use Rattle.std.specs.Prelude.{◌≡◌, IfSome};
+ghost use Rattle.std.specs.Prelude.{◌≡◌, ℕ, List, IfSome, take};
 ghost use Rattle.std.specs.Option.{option_map};
 ghost use Rattle.gt_text.specs.Streams.{OfInput};
+ghost use Rattle.gt_text.specs.declared.streams.TheConstants.{READ_LIMIT};
 ghost use Rattle.gt_command_line.specs.Commands.{sought_by};
 ghost use Rattle.gt_command_line.specs.Files.{file_name_of};
 ghost use Rattle.gt_file_commands.specs.Working.{known_input, DoesOnFile, Works};
 ghost use Rattle.gt_file_commands.specs.declared.outcome.Outcome.TheVariants.{Unknown};
 ghost use Rattle.gt_program.specs.Obeying.{explore_format, verdict_outcome, AskedExplored, FindsText, IsAskedFor};
-ghost use Rattle.gt_program.specs.Obeying.{Searches, Seeks};
+ghost use Rattle.gt_program.specs.Obeying.{Searches, SearchesPlain, Seeks, unread_failure};
 ghost use Rattle.gt_program.specs.Obeying.{SeeksText, SummaryExplored};
 
+use crate::choosing::{search_choices, source_with_choice};
 use crate::progress::Progress;
 use gt_command_line::{Exploration, Format, SearchOptions};
 use gt_explore_answers::{ExploreFormat, ExploreOptions, ExploreRequest};
+use gt_explore_choices::ChoicesFault;
 use gt_explore_claims::{ClaimsOptions, explore_claims, explore_named};
-use gt_explore_faults::ClaimsFault;
+use gt_explore_faults::{ClaimsFault, ExploreFault};
 use gt_explore_search::SearchWatch;
 use gt_explore_summary::{SummaryOptions, SummaryRequest, summarize};
 use gt_explore_verdict::Verdict;
 use gt_file_commands::{
-    Context, CopyingReader, Failure, Outcome, Reasons, TextSource, finish, read_fault, read_given,
+    Context, CopyingReader, Failure, KeptInput, Outcome, Reasons, TextSource, finish, read_fault,
+    read_given,
 };
+use gt_script_runs::PlayFault;
+use gt_text::{ReadFault, read_text};
 use std::alloc::Global;
 use std::io::{Read, Write};
 use std::time::Clock;
@@ -83,8 +89,8 @@ fn asked_for<'w>(asked: Exploration<'w>, states: usize, format: ExploreFormat) -
     })
 }
 
-// Returns the outcome of a verdict.
-fn of_verdict(verdict: Verdict) -> Outcome
+/// Returns the outcome of a verdict.
+pub(crate) fn of_verdict(verdict: Verdict) -> Outcome
     ensures { result ≡ verdict_outcome verdict }
 {
     match verdict {
@@ -94,59 +100,88 @@ fn of_verdict(verdict: Verdict) -> Outcome
     }
 }
 
-// Summarizes the texts that the script of a reader may give.
-fn summary_asked<R: Read, W: Write, X: SearchWatch>(
+// Summarizes the texts that the script in these bytes may give.
+fn summary_asked<W: Write, X: SearchWatch>(
     alloc: Global,
     options: &SummaryOptions,
-    reader: &mut R,
+    input: &[u8],
     out: &mut W,
     watch: &mut X,
 ) -> Result<Verdict, ClaimsFault>
-    ensures { OfInput (R.remaining reader.old) (λ input.
-        SummaryExplored options.now input (W.contents out.old) (W.contents out.new) result) }
+    ensures { (all : List ℕ) → input.now ≡ take READ_LIMIT all →
+        SummaryExplored options.now all (W.contents out.old) (W.contents out.new) result }
 {
-    match summarize(alloc, options, reader, out, watch) {
+    match summarize(alloc, options, input, out, watch) {
         Ok(verdict) => Ok(verdict),
         Err(fault) => Err(ClaimsFault::Explore(fault)),
     }
 }
 
-// Answers what is asked on the texts that the script of a reader may give.
-fn explore_asked<R: Read, W: Write, X: SearchWatch>(
+// Answers what is asked on the texts that the script in these bytes may give.
+fn explore_asked<W: Write, X: SearchWatch>(
     alloc: Global,
     asked: &SearchAsked,
-    reader: &mut R,
+    input: &[u8],
     out: &mut W,
     watch: &mut X,
 ) -> Result<Verdict, ClaimsFault>
-    ensures { OfInput (R.remaining reader.old) (λ input.
-        AskedExplored asked.now input (W.contents out.old) (W.contents out.new) result) }
+    ensures { (all : List ℕ) → input.now ≡ take READ_LIMIT all →
+        AskedExplored asked.now all (W.contents out.old) (W.contents out.new) result }
 {
     match asked {
-        SearchAsked::One(options) => explore_named(alloc, options, reader, out, watch),
-        SearchAsked::Several(options) => explore_claims(alloc, options, reader, out, watch),
-        SearchAsked::Together(options) => summary_asked(alloc, options, reader, out, watch),
+        SearchAsked::One(options) => explore_named(alloc, options, input, out, watch),
+        SearchAsked::Several(options) => explore_claims(alloc, options, input, out, watch),
+        SearchAsked::Together(options) => summary_asked(alloc, options, input, out, watch),
     }
 }
 
-// Answers what is asked on the texts that the script of a reader may give, and adds the reason of a fault.
-fn explore_explained<R: Read, W: Write, X: SearchWatch>(
+// Explores a script without choices, and adds the reason of a fault.
+fn search_plain<W: Write, X: SearchWatch>(
     alloc: Global,
     asked: &SearchAsked,
-    reader: &mut R,
+    input: &[u8],
     out: &mut W,
     reasons: &mut Reasons,
     watch: &mut X,
-) -> Result<Verdict, ClaimsFault>
-    ensures { OfInput (R.remaining reader.old) (λ input.
-        AskedExplored asked.now input (W.contents out.old) (W.contents out.new) result) }
+) -> Result<Outcome, Failure>
+    ensures { (all : List ℕ) → input.now ≡ take READ_LIMIT all →
+        SearchesPlain asked.now all (W.contents out.old) (W.contents out.new) result }
 {
-    let mut input = CopyingReader::new(alloc, reader);
-    let ending = explore_asked(alloc, asked, &mut input, out, watch);
-    if let Err(fault) = &ending {
-        reasons.add_explore(&input.kept, fault);
+    match explore_asked(alloc, asked, input, out, watch) {
+        Ok(verdict) => Ok(of_verdict(verdict)),
+        Err(fault) => {
+            reasons.add_explore(&KeptInput::of(alloc, input), &fault);
+            Err(Failure::Explore(fault))
+        }
     }
-    ending
+}
+
+// Explores the script in these bytes, by its choices if it has some.
+fn search_text<W: Write, X: SearchWatch>(
+    alloc: Global,
+    asked: &SearchAsked,
+    input: &[u8],
+    out: &mut W,
+    reasons: &mut Reasons,
+    watch: &mut X,
+) -> Result<Outcome, Failure>
+    ensures { (all : List ℕ) → input.now ≡ take READ_LIMIT all →
+        Searches asked.now all (W.contents out.old) (W.contents out.new) result }
+{
+    match source_with_choice(alloc, input) {
+        Ok(Some(source)) => search_choices(alloc, asked, source, out, reasons, watch),
+        Ok(None) => search_plain(alloc, asked, input, out, reasons, watch),
+        Err(_) => Err(Failure::Choices(ChoicesFault::Memory)),
+    }
+}
+
+// Returns that the script of a reader was not read, and adds the reason.
+fn unread(error: ReadFault, kept: &KeptInput, reasons: &mut Reasons) -> Failure
+    ensures { result ≡ unread_failure error }
+{
+    let fault = ClaimsFault::Explore(ExploreFault::Play(PlayFault::from(error)));
+    reasons.add_explore(kept, &fault);
+    Failure::Explore(fault)
 }
 
 // Explores the script of a reader.
@@ -161,9 +196,10 @@ fn search<R: Read, W: Write, X: SearchWatch>(
     ensures { OfInput (R.remaining reader.old) (λ input.
         Searches asked.now input (W.contents out.old) (W.contents out.new) result) }
 {
-    match explore_explained(alloc, asked, reader, out, reasons, watch) {
-        Ok(verdict) => Ok(of_verdict(verdict)),
-        Err(fault) => Err(Failure::Explore(fault)),
+    let mut input = CopyingReader::new(alloc, reader);
+    match read_text(alloc, &mut input) {
+        Ok(text) => search_text(alloc, asked, text.as_slice(), out, reasons, watch),
+        Err(error) => Err(unread(error, &input.kept, reasons)),
     }
 }
 
@@ -180,22 +216,18 @@ fn search_on<R: Clock, T: TextSource, W: Write, E: Eprint>(
         (W.contents out.new) result) }
 {
     let mut watch = Progress::begin(context);
-    let Some(name) = name else {
-        return search(
-            context.alloc,
-            asked,
-            &mut context.texts.input(),
-            out,
-            reasons,
-            &mut watch,
-        );
-    };
-    match context.texts.open(name) {
-        Ok(mut file) => search(context.alloc, asked, &mut file, out, reasons, &mut watch),
-        Err(error) => {
-            reasons.add_unread(&error);
-            Err(Failure::File(read_fault(&error)))
+    match name {
+        None => {
+            let mut input = context.texts.input();
+            search(context.alloc, asked, &mut input, out, reasons, &mut watch)
         }
+        Some(name) => match context.texts.open(name) {
+            Ok(mut file) => search(context.alloc, asked, &mut file, out, reasons, &mut watch),
+            Err(error) => {
+                reasons.add_unread(&error);
+                Err(Failure::File(read_fault(&error)))
+            }
+        },
     }
 }
 

@@ -1,12 +1,15 @@
 //! Tests of parts of the program, over the public items of `gt_command_line` (the command line), `gt_script` (the parser of
-//! scripts) and `gt_host` (`play`, from a reader to a writer).
+//! scripts), `gt_host` (`play`, from a reader to a writer), `gt_explore_choices`, `gt_explore_united` and
+//! `gt_explore_by_choice` (scripts with choices).
 //!
-//! They test what no contract specifies: that a command line is answered if there is memory, and texts that are too
-//! long for a file and are made here by repetition: texts at the limits, and as many pins as there can be. Worked
-//! scripts are in `cases_play`: with their parsed form, whole and cut off, and played, also with their audit and over
-//! readers, writers and allocators that fail.
+//! They test what no contract specifies: that a command line is answered and choices are explored if there is memory,
+//! and texts that are too long for a file and are made here by repetition: texts at the limits, and as many pins as there
+//! can be. Worked scripts are in `cases_play`: with their parsed form, whole and cut off, and played, also with their
+//! audit and over readers, writers and allocators that fail.
 #![tactic(auto)]
 
+#[cfg(test)]
+mod choices;
 #[cfg(test)]
 mod limits;
 #[cfg(test)]

@@ -9,6 +9,7 @@ use super::names::shown_name;
 use gt_check_command::{BreachFault, NeverText, WhyFault};
 use gt_command_line::Invocation;
 use gt_entries::{DumpFault, DumpOptions};
+use gt_explore_choices::ChoicesFault;
 use gt_explore_faults::{ClaimsFault, ExploreFault, TextsFault};
 use gt_fault_reasons::{
     push_permission_reason, push_read_reason, push_refusals, push_script_reason, push_type_reason,
@@ -248,6 +249,15 @@ fn claims_reason(
     }
 }
 
+// Returns the reason for which the choices of a script were not explored, or nothing if memory ran out.
+fn choices_reason(alloc: Global, file: &str, fault: ChoicesFault) -> Result<Vec<u8>, AllocError> {
+    if fault == ChoicesFault::Memory {
+        return Ok(Vec::new(alloc));
+    }
+    let words = format!(in alloc; "{fault}")?;
+    words_reason(alloc, file, words.as_str())
+}
+
 impl<'a> Reasons<'a> {
     /// Makes an empty collection of the reasons of this command.
     pub fn of(alloc: Global, invocation: &Invocation<'a>) -> Reasons<'a> {
@@ -422,6 +432,14 @@ impl<'a> Reasons<'a> {
     pub fn add_explore(&mut self, input: &KeptInput, fault: &ClaimsFault) {
         if let Some(file) = self.file {
             let said = claims_reason(self.alloc, file, self.is_line, input, fault);
+            self.add(said);
+        }
+    }
+
+    /// Adds the reason for which the choices of the script that was read were not explored.
+    pub fn add_choices(&mut self, fault: ChoicesFault) {
+        if let Some(file) = self.file {
+            let said = choices_reason(self.alloc, file, fault);
             self.add(said);
         }
     }

@@ -19,6 +19,13 @@ impl KeptInput {
         }
     }
 
+    /// Returns these bytes as an input that was read.
+    pub fn of(alloc: Global, bytes: &[u8]) -> KeptInput {
+        let mut input = KeptInput::new(alloc);
+        input.keep(bytes);
+        input
+    }
+
     /// Returns all bytes, or None if some could not be allocated.
     pub(crate) fn bytes(&self) -> Option<&[u8]> {
         if self.is_whole {

@@ -161,7 +161,7 @@ impl Domain {
     // Maps an entry, without a record. Its leg is built before room is made: after an allocation the owner would have
     // to be looked up again.
     #[inline(always)]
-    fn make_mapping<P: Allows>(
+    fn make_mapping<P: Allows, Site>(
         &mut self,
         monitor: &Monitor<P>,
         dom: DomId,
@@ -193,12 +193,14 @@ impl Domain {
         }
     }
 
-    /// Maps an entry of a domain as [`map`](Domain::map) does, and returns the mapping that was added.
+    /// Maps an entry of a domain as [`map`](Domain::map) does, and returns the mapping that was added. `Site` is any type
+    /// that no other caller passes: each caller then has a map of its own to inline, while one map for several callers would
+    /// be too large for that.
     ///
     /// # Errors
     /// Those of [`map`](Domain::map).
     #[inline(always)]
-    pub fn map_with_pin<P: Allows>(
+    pub fn map_with_pin<P: Allows, Site>(
         &mut self,
         monitor: &Monitor<P>,
         dom: DomId,
@@ -218,7 +220,7 @@ impl Domain {
             (trail_of self.new) }
     {
         let caller = self.seat.dom();
-        match self.make_mapping(monitor, dom, gref, flags) {
+        match self.make_mapping::<P, Site>(monitor, dom, gref, flags) {
             Ok(made) => {
                 record_map(&mut self.trail, caller, dom, gref, flags);
                 Ok(made)
@@ -253,7 +255,7 @@ impl Domain {
             (record { dom = (seat_of self.old).dom; call = Hypercall.Map dom gref flags; reply = mapping_reply result })
             (trail_of self.new) }
     {
-        match self.map_with_pin(monitor, dom, gref, flags) {
+        match self.map_with_pin::<P, ()>(monitor, dom, gref, flags) {
             Ok(made) => Ok(made.handle),
             Err(denial) => Err(denial),
         }

@@ -1,4 +1,5 @@
-use Rattle.std.proofs.Common.{ap, refl, subst, sym, ◌∙◌}
+use Rattle.std.proofs.Common.{ap, not, refl, subst, sym, ◌∙◌, is_some, Option}
+use Rattle.gt_live.specs.declared.domain.copies.PendingCopy.{PendingCopy}
 use Rattle.gt_types.specs.declared.limits.TheConstants.{TABLE_ENTRIES}
 use Rattle.gt_attached.specs.Encoding.{encoded}
 use Rattle.gt_attached.specs.Renewing.{GrantsAllOf}
@@ -38,4 +39,8 @@ invariant_of-domain c =
     record {
       live = λ on. refl;
       idle = λ off. absurd (let none = c.both_turned_away.new.domain.idle off in let some = c.lent_mut-lent.ensures.value in cc);
+      ready = λ on.
+          let x = c.lent_mut-lent.result.now in let k = c.note_all.new.lent in let g = c.grant_all_of.new.self in
+          let same = noted-attached TABLE_ENTRIES x k g c.note_all.ensures in let idle = c.grant_all_of.ensures.stays.1 in
+          ap (λ (s : Seated Table). not (is_some s.copying)) same ∙ ap (λ (o : Option PendingCopy). not (is_some o)) idle;
     }

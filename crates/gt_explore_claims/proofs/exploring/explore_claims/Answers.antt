@@ -1,13 +1,8 @@
-use Rattle.std.proofs.Common.{ℕ, List}
-use Rattle.gt_text.specs.Laws.{of_input}
-use Rattle.gt_explore_claims.specs.Exploring.{ClaimsExplored}
-use Rattle.gt_explore_claims.proofs.Explored.{claims_unread}
+use Rattle.gt_explore_claims.proofs.Explored.{claims_unstated}
 use Rattle.gt_explore_claims.proofs.exploring.explore_claims.Goals as goal
 
-pub returns-in-Ok-clause-text : goal.returns-in-Ok-clause-text
-returns-in-Ok-clause-text g c =
-    let explored = rw c.as_slice.ensures.value at c.explore_input.ensures in
-    of_input _ c.in-Ok.input.items (λ (input : List ℕ). ClaimsExplored c.args.asked.now input _ _ c.explore_input.result) c.in-Ok.ensures.limit c.in-Ok.ensures.text explored
+pub returns-in-Ok : goal.returns-in-Ok
+returns-in-Ok g c = λ all e. c.explore_stated.ensures all e (rw c.as_slice.ensures.value c.in-Ok.ensures.ok)
 
-pub returns-in-Err-clause-text : goal.returns-in-Err-clause-text
-returns-in-Err-clause-text g c = claims_unread c.args.asked.now _ _ c.in-Err.error _ c.from.ensures
+pub returns-in-Err : goal.returns-in-Err
+returns-in-Err g c = λ all e. claims_unstated c.args.asked.now all c.in-Err.fault _ c.in-Err.ensures.fault

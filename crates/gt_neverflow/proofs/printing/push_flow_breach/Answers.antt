@@ -4,6 +4,7 @@ use Rattle.gt_neverflow.proofs.printing.push_flow_breach.Goals as goal
 
 pub returns : goal.returns
 returns c = on_ok c.push_finding.result
-    (flow_added c.args.form c.args.file.now c.args.never.text.now c.args.breach.now c.in_ok-error.error _
-    c.push_finding.new.out.items (c.in_ok-error.ensures c.args.never.text.now c.requires.columns))
+    (flow_added c.args.at.now.form c.args.at.now.file.now c.args.at.now.never.text.now c.args.breach.now
+    c.in_ok-error.error _ c.push_finding.new.out.items
+    (c.in_ok-error.ensures c.args.at.now.never.text.now c.requires.columns))
     c.push_finding.ensures

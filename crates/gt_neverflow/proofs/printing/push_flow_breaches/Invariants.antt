@@ -4,5 +4,5 @@ use Rattle.gt_neverflow.specs.Printing.{IsFlowBreachReport}
 use Rattle.gt_neverflow.proofs.printing.push_flow_breaches.Given as goal
 
 abbrev pub invariant-found : goal.invariant-found
-invariant-found l = AddsText (IsFlowBreachReport l.form l.file l.never.text.now (take l.breach-index l.found))
+invariant-found l = AddsText (IsFlowBreachReport l.fn.form l.file l.never.text.now (take l.breach-index l.found))
     l.initial.out.items l.out.items

@@ -1,7 +1,7 @@
 use Rattle.std.proofs.Common.{◌==◌, ◌&&◌, ◌∙◌, ap, ap₂, is_some, length, List, ℕ, option_map, subst, sym, IfOk, Option}
 use Rattle.gt_types.specs.declared.TypeId.{TypeId}
+use Rattle.gt_flow.specs.Accesses.{is_among}
 use Rattle.gt_policy_flow.specs.Asking.{Reports, form_of, ids_asked}
-use Rattle.gt_policy_flow.specs.Flows.{is_among}
 use Rattle.gt_policy_flow.specs.declared.asking.FlowReport.{FlowReport}
 use Rattle.gt_policy_flow.specs.declared.pairs.PairForm.{PairForm}
 use Rattle.gt_policy_flow.proofs.Reported.{all-asked}

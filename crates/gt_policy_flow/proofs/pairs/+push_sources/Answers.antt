@@ -1,5 +1,5 @@
 use Rattle.std.proofs.Common.{◌∙◌}
-use Rattle.gt_policy_flow.specs.Flows.{is_among}
+use Rattle.gt_flow.specs.Accesses.{is_among}
 use Rattle.gt_policy_flow.proofs.Pairing.{first-has, no-sources, one-source, other-has}
 use Rattle.gt_policy_flow.proofs.pairs.+push_sources.Goals.{then-first, else-first}
 use Rattle.gt_policy_flow.proofs.pairs.+push_sources.Goals as goal

@@ -1,4 +1,4 @@
-use Rattle.gt_policy_flow.specs.Flows.{is_among}
+use Rattle.gt_flow.specs.Accesses.{is_among}
 use Rattle.gt_policy_flow.proofs.Pairing.{first-has, no-targets, one-target, other-has}
 use Rattle.gt_policy_flow.proofs.pairs.+push_targets.Goals as goal
 

@@ -1,6 +1,6 @@
 use Rattle.std.proofs.Common.{ap, ◌∙◌, sym}
 use Rattle.std.specs.Option.{option_map}
-use Rattle.gt_policy_flow.specs.Flows.{is_among}
+use Rattle.gt_flow.specs.Accesses.{is_among}
 use Rattle.gt_policy_flow.proofs.Pairing.{left, with-path, without-path}
 use Rattle.gt_policy_flow.proofs.pairs.push_target.Goals as goal
 
